@@ -1,0 +1,58 @@
+-- How many pools go, in two parts and at once.
+use Rattle.std.proofs.Common.{◌≡◌, ℕ, ◌+◌, ◌<◌, Bool, true, false, ◌||◌, List, [], ◌∷◌, ◌++◌, sum_by, refl, sym, ap, ◌∙◌, arith}
+use Rattle.std.specs.Prelude.{if◌then◌else◌}
+use Rattle.std.proofs.Math.Path.{fun_ext}
+use Rattle.std.proofs.lemmas.List.Sums.{sum_by-append}
+use Rattle.std.proofs.lemmas.List.Folds.{list_any-append}
+use Rattle.gpu_descriptor.specs.Agreement.{Item, item_eq, count_of, AreOutstanding}
+use Rattle.gpu_descriptor.specs.Books.{Key, key_eq, Bucket}
+use Rattle.gpu_descriptor.specs.Release.{lies_in, entry_less, bucket_less, spent_front, released, ReleaseGone}
+use Rattle.gpu_descriptor.proofs.Fronts.{less-less, spent_front-less}
+use Rattle.gpu_descriptor_types.proofs.Counting.{count_by-append, count_by_alike}
+use Rattle.gpu_descriptor.proofs.Exact.{item_exact}
+use Rattle.gpu_descriptor.proofs.Places.{back, lies_in-at, kept}
+use Rattle.gpu_descriptor.proofs.Parts.{settled_if, names_key, quiet_key}
+
+count_law : (first second : Bool) (f g : ℕ → ℕ) (b : Bucket) → (second ≡ false → bucket_less (λ p. f p + g p) b ≡ bucket_less f b)
+    → (if first then spent_front (bucket_less f b) else 0) + (if second then spent_front (bucket_less g (settled_if first (bucket_less f b))) else 0) ≡ (if first || second then spent_front (bucket_less (λ p. f p + g p) b) else 0)
+count_law true true f g b quiet = sym (ap spent_front (sym (less-less f g b)) ∙ spent_front-less g (bucket_less f b))
+count_law true false f g b quiet = (let same = ap spent_front (quiet refl) in omega arith)
+count_law false true f g b quiet = (let same = ap spent_front (less-less f g b) in omega arith)
+count_law false false f g b quiet = omega arith
+
+sum_both : (f g h : Key → ℕ) → ((k : Key) → f k + g k ≡ h k) → (keys : List Key) → sum_by f keys + sum_by g keys ≡ sum_by h keys
+sum_both f g h each [] = omega arith
+sum_both f g h each (k ∷ keys) =
+    let a : sum_by f (k ∷ keys) ≡ f k + sum_by f keys = more f k keys in
+    let b : sum_by g (k ∷ keys) ≡ g k + sum_by g keys = more g k keys in
+    let c : sum_by h (k ∷ keys) ≡ h k + sum_by h keys = more h k keys in
+    let here = each k in
+    let rest = sum_both f g h each keys in
+    omega arith
+  where
+    more : (f : Key → ℕ) (k : Key) (keys : List Key) → sum_by f (k ∷ keys) ≡ f k + sum_by f keys
+    more f k keys = sum_by-append f (k ∷ []) keys ∙ (let one : sum_by f (k ∷ []) ≡ f k = omega arith in omega arith)
+
+pub gone : ReleaseGone
+gone keys m n s agree out =
+    let u = released m s in
+    let split : (t : Item) → count_of t (m ++ n) ≡ count_of t m + count_of t n = λ t. count_by-append (λ x. item_eq x t) m n in
+    let out_m : AreOutstanding m s = λ t. let a = split t in let b = out t in omega arith in
+    let lies : (pool : ℕ) (t : Item) → 0 < count_of t n → lies_in u.books pool t ≡ lies_in s.books pool t = λ pool t in_n.
+    let a = split t in
+    let b = out t in
+    let keeps = kept m s agree out_m t (omega arith) in
+    lies_in-at u.books pool t (entry_less (back m s keeps.0.pool) keeps.0) keeps.2 ∙ sym (lies_in-at s.books pool t keeps.0 keeps.1) in
+    let counts : back n u ≡ back n s = fun_ext (λ pool. count_by_alike item_exact (lies_in u.books pool) (lies_in s.books pool) n (lies pool)) in
+    let sums : back (m ++ n) s ≡ (λ pool. back m s pool + back n s pool) = fun_ext (λ pool. count_by-append (lies_in s.books pool) m n) in
+    sum_both
+    (λ k. if names_key m k then spent_front (bucket_less (back m s) (s.books k)) else 0)
+    (λ k. if names_key n k then spent_front (bucket_less (back n u) (u.books k)) else 0)
+    (λ k. if names_key (m ++ n) k then spent_front (bucket_less (back (m ++ n) s) (s.books k)) else 0)
+    (λ k.
+    let first : ℕ = if names_key m k then spent_front (bucket_less (back m s) (s.books k)) else 0 in
+    ap (λ (f : ℕ → ℕ). first + (if names_key n k then spent_front (bucket_less f (u.books k)) else 0)) counts
+    ∙ count_law (names_key m k) (names_key n k) (back m s) (back n s) (s.books k) (quiet_key m n s agree k)
+    ∙ ap (λ (f : ℕ → ℕ). if names_key m k || names_key n k then spent_front (bucket_less f (s.books k)) else 0) (sym sums)
+    ∙ ap (λ (x : Bool). if x then spent_front (bucket_less (back (m ++ n) s) (s.books k)) else 0) (sym (list_any-append (λ t. key_eq t.key k) m n)))
+    keys

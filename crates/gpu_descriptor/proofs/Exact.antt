@@ -1,0 +1,37 @@
+-- Keys and items are equal exactly where their tests say so.
+use Rattle.std.proofs.Common.{◌≡◌, true, ◌&&◌, ◌==◌, refl, arith, eqb-true, eq-eqb, nat_eq}
+use Rattle.std.proofs.lemmas.Bool.{and_parts, and_from}
+use Rattle.std.proofs.lemmas.Bool.Decides.{Decides-eqb}
+use Rattle.std.specs.Cmp.{booleans_Decides}
+use lib.Pointwise.{pointwise, pointwise_decides}
+use mathlib.Core.Bool.{beq}
+use Rattle.gpu_descriptor.specs.Books.{key_eq}
+use Rattle.gpu_descriptor.specs.Agreement.{Item, item_eq}
+use Rattle.gpu_descriptor_types.proofs.Counting.{IsExact}
+
+pub key_exact : IsExact key_eq
+key_exact = record {
+  same = λ a b h.
+      let both = and_parts (pointwise nat_eq a.counts b.counts) (beq a.marked b.marked) h in
+      let counts : a.counts ≡ b.counts = (pointwise_decides Decides-eqb a.counts b.counts).0 both.0 in
+      let marked : a.marked ≡ b.marked = (booleans_Decides a.marked b.marked).0 both.1 in
+      λ i. record { counts = counts i; marked = marked i };
+  self = λ a. and_from _ _ ((pointwise_decides Decides-eqb a.counts a.counts).1 refl) ((booleans_Decides a.marked a.marked).1 refl);
+}
+
+pub item_parts : (s t : Item) → item_eq s t ≡ true → (s.key ≡ t.key) × (s.number ≡ t.number) × (s.name ≡ t.name)
+item_parts s t h =
+    let outer = and_parts (key_eq s.key t.key && (s.number == t.number)) (s.name == t.name) h in
+    let inner = and_parts (key_eq s.key t.key) (s.number == t.number) outer.0 in
+    (key_exact.same s.key t.key inner.0, eqb-true s.number t.number inner.1, eqb-true s.name t.name outer.1)
+
+pub item_from : (s t : Item) → s.key ≡ t.key → s.number ≡ t.number → s.name ≡ t.name → item_eq s t ≡ true
+item_from s t key number name =
+    let keys : key_eq s.key t.key ≡ true = rw key (key_exact.self t.key) in
+    and_from _ _ (and_from _ _ keys (eq-eqb s.number t.number number)) (eq-eqb s.name t.name name)
+
+pub item_exact : IsExact item_eq
+item_exact = record {
+  same = λ s t h. let p = item_parts s t h in λ i. record { key = p.0 i; number = p.1 i; name = p.2 i };
+  self = λ s. item_from s s refl refl refl;
+}

@@ -1,0 +1,125 @@
+-- The front of a bucket: what giving back does to it, and which places keep their pools when it goes.
+use Rattle.std.proofs.Common.{◌≡◌, ℕ, zero, suc, ◌+◌, ◌-◌, ◌<◌, ◌≤◌, true, false, min, List, [], ◌∷◌, length, map, drop, slice_get, Option, Some, None, inl, inr, refl, sym, ap, ◌∙◌, subst, arith, eqb-true, eq-eqb, lt-ltb, le-ltb, drop-drop}
+use Rattle.std.specs.List.{prefix_len}
+use Rattle.std.proofs.lemmas.Bool.{cases_Bool, cases_lt}
+use Rattle.std.proofs.lemmas.List.{drop-map}
+use Rattle.gpu_descriptor.specs.Books.{Entry, Bucket, entry_at}
+use Rattle.gpu_descriptor.specs.Release.{entry_less, bucket_less, is_empty, empty_front, spent_front, without_front}
+
+-- the spent front of a list of pools
+abbrev pub spent : List Entry → ℕ
+spent es = min (prefix_len is_empty es) (length es - 1)
+
+pub spent_yes : (x y : Entry) (es : List Entry) → is_empty x ≡ true → spent (x ∷ y ∷ es) ≡ suc (spent (y ∷ es))
+spent_yes x y es h = rw h (omega arith)
+
+pub spent_no : (x : Entry) (es : List Entry) → is_empty x ≡ false → spent (x ∷ es) ≡ 0
+spent_no x es h = rw h (omega arith)
+
+pub spent_one : (x : Entry) → spent (x ∷ []) ≡ 0
+spent_one x = omega arith
+
+-- a change that leaves empty pools empty
+abbrev pub KeepsEmpty : (Entry → Entry) → Type 0
+KeepsEmpty g = (e : Entry) → is_empty e ≡ true → is_empty (g e) ≡ true
+
+-- The front after a change is the front before it, and then the front of what that leaves
+pub spent-map : (g : Entry → Entry) → KeepsEmpty g → (es : List Entry) → spent (map g es) ≡ spent es + spent (drop (spent es) (map g es))
+spent-map g keeps [] = refl
+spent-map g keeps (x ∷ []) = rw (spent_one x) (omega arith)
+spent-map g keeps (x ∷ y ∷ es) = elim (cases_Bool (is_empty x)) [
+  | inl h ↦ rw (spent_yes (g x) (g y) (map g es) (keeps x h), spent_yes x y es h) (omega (arith, spent-map g keeps (y ∷ es)))
+  | inr h ↦ rw (spent_no x (y ∷ es) h) (omega arith)
+]
+
+-- a pool in the front is empty
+pub front_empty : (es : List Entry) (i : ℕ) (e : Entry) → slice_get es i ≡ Some e → i < prefix_len is_empty es → is_empty e ≡ true
+front_empty [] i e at lt = absurd (omega arith)
+front_empty (x ∷ es) zero e at lt = elim (cases_Bool (is_empty x)) [
+  | inl h ↦ (let same : x ≡ e = cc in subst (λ (z : Entry). is_empty z ≡ true) same h)
+  | inr h ↦ (let none : prefix_len is_empty (x ∷ es) ≡ 0 = rw h refl in absurd (omega arith))
+]
+front_empty (x ∷ es) (suc i) e at lt = elim (cases_Bool (is_empty x)) [
+  | inl h ↦ (let more : prefix_len is_empty (x ∷ es) ≡ 1 + prefix_len is_empty es = rw h refl in front_empty es i e at (omega arith))
+  | inr h ↦ (let none : prefix_len is_empty (x ∷ es) ≡ 0 = rw h refl in absurd (omega arith))
+]
+
+pub slice_get-drop : {A : Type 0} (xs : List A) (n i : ℕ) → slice_get (drop n xs) i ≡ slice_get xs (n + i)
+slice_get-drop xs zero i = rw (let e : 0 + i ≡ i = omega arith in e) refl
+slice_get-drop [] (suc n) i = refl
+slice_get-drop (x ∷ xs) (suc n) i = slice_get-drop xs n i ∙ rw (let e : suc n + i ≡ suc (n + i) = omega arith in e) refl
+
+-- a place of the books, by its number
+pub entry_at-found : (b : Bucket) (n : ℕ) (e : Entry) → entry_at b n ≡ Some e → (b.first ≤ n) × (slice_get b.pools (n - b.first) ≡ Some e)
+entry_at-found b n e h = elim (cases_lt n b.first) [
+  | inl lt ↦ (let none : entry_at b n ≡ None = rw (lt-ltb n b.first lt) refl in absurd (let bad : ◌≡◌ {A = Option Entry} None (Some e) = sym none ∙ h in cc))
+  | inr le ↦ (le, (let here : entry_at b n ≡ slice_get b.pools (n - b.first) = rw (le-ltb n b.first le) refl in sym here ∙ h))
+]
+
+pub entry_at-from : (b : Bucket) (n : ℕ) (e : Entry) → b.first ≤ n → slice_get b.pools (n - b.first) ≡ Some e → entry_at b n ≡ Some e
+entry_at-from b n e le h = rw (le-ltb n b.first le) h
+
+-- what has a number after the front is gone had it before
+pub entry_at-without : (f : ℕ) (b : Bucket) (n : ℕ) (e : Entry) → entry_at (without_front f b) n ≡ Some e → (b.first + f ≤ n) × (entry_at b n ≡ Some e)
+entry_at-without f b n e h =
+    let found = entry_at-found (without_front f b) n e h in
+    let place : f + (n - (b.first + f)) ≡ n - b.first = omega (arith, found.0) in
+    (found.0, entry_at-from b n e (omega (arith, found.0)) (rw (← place) (sym (slice_get-drop b.pools f (n - (b.first + f))) ∙ found.1)))
+
+-- a pool with sets keeps its number when the front goes
+pub entry_at-kept : (b : Bucket) (f n : ℕ) (e : Entry) → f ≤ empty_front b → entry_at b n ≡ Some e → is_empty e ≡ false → entry_at (without_front f b) n ≡ Some e
+entry_at-kept b f n e le h full =
+    let found = entry_at-found b n e h in
+    elim (cases_lt (n - b.first) f) [
+      | inl lt ↦ (let empty : is_empty e ≡ true = front_empty b.pools (n - b.first) e found.1 (omega arith) in absurd (let bad : true ≡ false = sym empty ∙ full in cc))
+      | inr ge ↦ (
+          let place : f + (n - (b.first + f)) ≡ n - b.first = omega (arith, found.0) in
+          entry_at-from (without_front f b) n e (omega (arith, found.0)) (slice_get-drop b.pools f (n - (b.first + f)) ∙ rw place found.1))
+    ]
+
+pub entry_less-less : (a c : ℕ) (e : Entry) → entry_less c (entry_less a e) ≡ entry_less (a + c) e
+entry_less-less a c e =
+    let allocated : e.allocated - a - c ≡ e.allocated - (a + c) = omega arith in
+    let free : e.free + a + c ≡ e.free + (a + c) = omega arith in
+    λ i. record { pool = e.pool; allocated = allocated i; free = free i }
+
+pub less-less : (f g : ℕ → ℕ) (b : Bucket) → bucket_less g (bucket_less f b) ≡ bucket_less (λ p. f p + g p) b
+less-less f g b = λ i. record { first = b.first; pools = each b.pools i }
+  where
+    each : (es : List Entry) → map (λ e. entry_less (g e.pool) e) (map (λ e. entry_less (f e.pool) e) es) ≡ map (λ e. entry_less (f e.pool + g e.pool) e) es
+    each [] = refl
+    each (e ∷ es) = λ i. entry_less-less (f e.pool) (g e.pool) e i ∷ each es i
+
+pub less-without : (g : ℕ → ℕ) (n : ℕ) (b : Bucket) → bucket_less g (without_front n b) ≡ without_front n (bucket_less g b)
+less-without g n b = λ i. record { first = b.first + n; pools = sym (drop-map (λ (e : Entry). entry_less (g e.pool) e) n b.pools) i }
+
+pub without-without : (m n : ℕ) (b : Bucket) → without_front n (without_front m b) ≡ without_front (m + n) b
+without-without m n b =
+    let first : b.first + m + n ≡ b.first + (m + n) = omega arith in
+    λ i. record { first = first i; pools = drop-drop n m b.pools i }
+
+less-keeps_empty : (g : ℕ → ℕ) → KeepsEmpty (λ e. entry_less (g e.pool) e)
+less-keeps_empty g e h =
+    let none : e.allocated ≡ 0 = eqb-true e.allocated 0 h in
+    eq-eqb (e.allocated - g e.pool) 0 (omega arith)
+
+-- the spent front goes
+abbrev pub settled : Bucket → Bucket
+settled b = without_front (spent_front b) b
+
+-- The front after a second subtraction is the front after the first, and then the front of what that leaves
+pub spent_front-less : (g : ℕ → ℕ) (b : Bucket) → spent_front (bucket_less g b) ≡ spent_front b + spent_front (bucket_less g (settled b))
+spent_front-less g b =
+    spent-map (λ e. entry_less (g e.pool) e) (less-keeps_empty g) b.pools
+    ∙ ap (λ (es : List Entry). spent b.pools + spent es) (drop-map (λ (e : Entry). entry_less (g e.pool) e) (spent b.pools) b.pools)
+
+-- THE LAW FOR ONE KEY: two parts, the front gone after each, leave what both at once leave
+pub one_key : (f g : ℕ → ℕ) (b : Bucket) → settled (bucket_less g (settled (bucket_less f b))) ≡ settled (bucket_less (λ p. f p + g p) b)
+one_key f g b =
+    let c = bucket_less f b in
+    let d = bucket_less (λ p. f p + g p) b in
+    let twice : bucket_less g c ≡ d = less-less f g b in
+    let part : bucket_less g (settled c) ≡ without_front (spent_front c) d = less-without g (spent_front c) c ∙ ap (without_front (spent_front c)) twice in
+    let sizes : spent_front d ≡ spent_front c + spent_front (bucket_less g (settled c)) = ap spent_front (sym twice) ∙ spent_front-less g c in
+    ap settled part ∙ without-without (spent_front c) (spent_front (without_front (spent_front c) d)) d
+    ∙ ap (λ (n : ℕ). without_front n d) (ap (λ (x : Bucket). spent_front c + spent_front x) (sym part) ∙ sym sizes)

@@ -1,0 +1,9 @@
+pub mod Cleaning
+pub mod Counted
+pub mod Exact
+pub mod Fronts
+pub mod Kept
+pub mod Parts
+pub mod Places
+pub mod Runs
+pub mod Tables

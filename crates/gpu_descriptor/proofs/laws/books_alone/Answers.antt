@@ -1,0 +1,6 @@
+use Rattle.gpu_descriptor.proofs.Places.{empty_agrees}
+use Rattle.gpu_descriptor.proofs.Tables.{sum_by_books}
+use Rattle.gpu_descriptor.proofs.laws.books_alone.Goals as goal
+
+pub returns : goal.returns
+returns c = record { empty = empty_agrees; sums = sum_by_books }

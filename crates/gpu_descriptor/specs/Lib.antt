@@ -1,0 +1,14 @@
+pub mod Agreement
+pub mod Allocated
+pub mod Books
+pub mod Cleanup
+pub mod Errors
+pub mod Example
+pub mod LayoutFlags
+pub mod Load
+pub mod Release
+pub mod Runs
+pub mod Sets
+pub mod States
+pub mod Stored
+pub mod Values

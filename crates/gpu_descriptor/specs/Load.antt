@@ -1,0 +1,24 @@
+-- What is out in all keys: sets, and descriptors of marked sets.
+use Rattle.std.specs.Prelude.{ℕ, ◌*◌, if◌then◌else◌, List, sum, sum_by}
+use Rattle.gpu_descriptor.specs.Books.{Key, Entry, Bucket, AddsUp}
+use Rattle.gpu_descriptor.specs.Agreement.{State}
+
+-- the sets that are out of these pools
+abbrev pub held : List Entry → ℕ
+held pools = sum_by (λ e. e.allocated) pools
+
+-- the sets that are out of a key's pools
+abbrev pub sets_out : Key → Bucket → ℕ
+sets_out k b = held b.pools
+
+-- the descriptors of the sets that are out of a marked key's pools
+abbrev pub descriptors_out : Key → Bucket → ℕ
+descriptors_out k b = if k.marked then held b.pools * sum k.counts else 0
+
+-- so many sets are out
+abbrev pub IsOut : State → ℕ → Type 0
+IsOut s n = AddsUp sets_out s.books n
+
+-- so many descriptors of marked sets are out
+abbrev pub IsMarkedLoad : State → ℕ → Type 0
+IsMarkedLoad s n = AddsUp descriptors_out s.books n

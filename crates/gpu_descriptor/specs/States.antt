@@ -1,0 +1,32 @@
+-- Books and ledger of an allocator over a device.
+use Rattle.std.specs.Prelude.{ℕ, ◌+◌, if◌then◌else◌, map, List, [], ◌∷◌, slice_get, Option, option_map}
+use Rattle.gpu_descriptor_types.specs.Ledger.{Pool, Ledger}
+use Rattle.gpu_descriptor.specs.declared.view.PoolView.{PoolView}
+use Rattle.gpu_descriptor.specs.Books.{Key, key_eq, Entry, Bucket, books_of, sum_over}
+use Rattle.gpu_descriptor.specs.Agreement.{State, Agree}
+use Rattle.gpu_descriptor.specs.Load.{sets_out, descriptors_out}
+use Rattle.gpu_descriptor.specs.Values.{Kept, Row, Allocations}
+
+module _ {P : Type 0} (name : P → ℕ) where
+  -- a pool in the books, under the name that the device gives it
+  abbrev pub named : Kept P → Entry
+  named p = record { pool = name p.raw; allocated = p.allocated; free = p.free }
+
+  abbrev pub named_row : Row P → Key × Bucket
+  named_row r = (r.key, record { first = r.first; pools = map named r.pools })
+
+  -- the table of the books
+  abbrev pub table_of : Allocations P → List (Key × Bucket)
+  table_of a = map named_row a.table
+
+  -- the books, whatever the order of the keys, and the ledger's pools
+  abbrev pub state_of : Allocations P → Ledger → State
+  state_of a l = record { books = books_of (table_of a); ledger = l.pools }
+
+  -- books and ledger agree
+  abbrev pub Agrees : Allocations P → Ledger → Type 0
+  Agrees a l = Agree (state_of a l)
+
+-- the keys of an allocator, in the order in which they came
+abbrev pub keys_of : {P : Type 0} → Allocations P → List Key
+keys_of a = map (λ r. r.key) a.table

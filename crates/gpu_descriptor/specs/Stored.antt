@@ -1,0 +1,33 @@
+-- The table of keys, as the code has it.
+use Rattle.std.specs.Prelude.{◌≡◌, ℕ, ◌+◌, ◌*◌, ◌≤◌, if◌then◌else◌, List, map, sum, sum_by}
+use Rattle.gpu_descriptor_types.specs.Counts.{kinds}
+use Rattle.gpu_descriptor.specs.declared.set.BucketKey.{BucketKey}
+use Rattle.gpu_descriptor.specs.declared.bucket.DescriptorPool.{DescriptorPool}
+use Rattle.gpu_descriptor.specs.declared.bucket.DescriptorBucket.{DescriptorBucket}
+use Rattle.gpu_descriptor.specs.Books.{Entry, Bucket}
+use Rattle.gpu_descriptor.specs.Sets.{key_of}
+use Rattle.gpu_descriptor.specs.Values.{Kept, Row}
+
+module _ {P : Type 0} where
+  abbrev pub kept_of : DescriptorPool P → Kept P
+  kept_of p = record { raw = p.raw; allocated = p.allocated; free = p.available }
+
+  abbrev pub row_of : BucketKey × DescriptorBucket P → Row P
+  row_of r = record { key = key_of r.0; first = r.1.offset; pools = map kept_of r.1.pools.items }
+
+  -- the descriptors of a marked key's sets
+  abbrev pub load_in : BucketKey × DescriptorBucket P → ℕ
+  load_in r = if r.0.update_after_bind then r.1.total * sum (kinds r.0.size) else 0
+
+  -- the running totals are those of the table, and the marked descriptors keep the limit
+  pub record IsCounted (limit marked out : ℕ) (table : List (BucketKey × DescriptorBucket P)) : Type 0 where
+    pub is_load : marked ≡ sum_by load_in table
+    pub within : marked ≤ limit
+    pub is_out : out ≡ sum_by (λ r. r.1.total) table
+
+  module _ (name : P → ℕ) where
+    abbrev pub entry_of : DescriptorPool P → Entry
+    entry_of p = record { pool = name p.raw; allocated = p.allocated; free = p.available }
+
+    abbrev pub bucket_of : DescriptorBucket P → Bucket
+    bucket_of b = record { first = b.offset; pools = map entry_of b.pools.items }

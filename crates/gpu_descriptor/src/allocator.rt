@@ -1,0 +1,54 @@
+//! The allocator: a table from keys to their pools.
+ghost use Rattle.std.specs.Prelude.{◌≡◌, []};
+
+use crate::bucket::DescriptorBucket;
+use crate::set::BucketKey;
+use indexmap::IndexMap;
+use std::alloc::Global;
+use std::marker::{Model, PhantomData};
+
+/// Allocates descriptor sets for any layout.
+///
+/// Dropping it is silent and destroys no pool of the device: free all sets and call `cleanup`
+/// first. `outstanding` tells how many sets are still out.
+#[derive(Debug, Drop)]
+pub struct DescriptorAllocator<P, S> {
+    alloc: Global,
+    buckets: IndexMap<BucketKey, DescriptorBucket<P>>,
+    max_update_after_bind_descriptors_in_all_pools: u32,
+    current_update_after_bind_descriptors_in_all_pools: u32,
+    outstanding: u64,
+    sets: PhantomData<S>,
+}
+
+impl<P, S> Model for DescriptorAllocator<P, S> {
+    ghost use Rattle.gpu_descriptor.specs.Values.{Allocations, allocations_code};
+
+    ghost Value = { Allocations P };
+
+    ghost coded = { allocations_code P.code };
+
+    ghost use Rattle.std.specs.Prelude.{map};
+    ghost use Rattle.gpu_descriptor.specs.Stored.{row_of, IsCounted};
+
+    ghost view = { λ a. record { limit = a.max_update_after_bind_descriptors_in_all_pools; table = map row_of a.buckets.entries } };
+
+    ghost invariant = { λ a. IsCounted a.max_update_after_bind_descriptors_in_all_pools a.current_update_after_bind_descriptors_in_all_pools a.outstanding a.buckets.entries };
+}
+
+impl<P, S> DescriptorAllocator<P, S> {
+    /// An allocator without keys, under a limit on the update-after-bind descriptors of all
+    /// outstanding sets. It takes no memory.
+    pub fn new(alloc: Global, max_update_after_bind_descriptors_in_all_pools: u32) -> Self
+        ensures { result ≡ record { limit = max_update_after_bind_descriptors_in_all_pools; table = [] } }
+    {
+        DescriptorAllocator {
+            alloc,
+            buckets: IndexMap::new(alloc),
+            max_update_after_bind_descriptors_in_all_pools,
+            current_update_after_bind_descriptors_in_all_pools: 0,
+            outstanding: 0,
+            sets: PhantomData,
+        }
+    }
+}

@@ -1,0 +1,47 @@
+//! Why a request is refused.
+ghost use Rattle.std.specs.Prelude.{◌≡◌, Some, codes};
+ghost use Rattle.gpu_descriptor.specs.Errors.{error_of_create, error_text};
+
+use gpu_descriptor_types::CreatePoolError;
+use std::error::Error;
+use std::fmt;
+
+/// Why sets were not allocated.
+#[derive(Clone, Copy, Debug, PartialEq, Eq)]
+pub enum AllocationError {
+    /// The device has no memory of its own left.
+    OutOfDeviceMemory,
+
+    /// The host has no memory left: the device said so, or the allocator found none.
+    OutOfHostMemory,
+
+    /// The request would pass the limit on update-after-bind descriptors, or a number of 64 bits;
+    /// or the device's memory is too fragmented for a new pool.
+    Fragmentation,
+}
+
+impl fmt::Display for AllocationError {
+    ghost output = { λ error. Some (error_text error) };
+
+    fn fmt<W: fmt::Write>(&self, f: &mut fmt::Formatter<W>) -> fmt::Result {
+        match self {
+            AllocationError::OutOfDeviceMemory => write!(f, "Device memory exhausted"),
+            AllocationError::OutOfHostMemory => write!(f, "Host memory exhausted"),
+            AllocationError::Fragmentation => write!(f, "Fragmentation"),
+        }
+    }
+}
+
+impl Error for AllocationError {}
+
+impl From<CreatePoolError> for AllocationError {
+    ghost from_gives = { λ error result. result ≡ error_of_create error };
+
+    fn from(error: CreatePoolError) -> AllocationError {
+        match error {
+            CreatePoolError::OutOfDeviceMemory => AllocationError::OutOfDeviceMemory,
+            CreatePoolError::OutOfHostMemory => AllocationError::OutOfHostMemory,
+            CreatePoolError::Fragmentation => AllocationError::Fragmentation,
+        }
+    }
+}

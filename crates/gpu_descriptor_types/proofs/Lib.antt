@@ -1,0 +1,4 @@
+pub mod Counting
+mod Least
+mod Powers
+mod Sizes

@@ -1,0 +1,26 @@
+use Rattle.std.proofs.Common.{arith, map, refl}
+use Rattle.gpu_descriptor_types.specs.Counts.{kinds as kinds_of}
+use Rattle.gpu_descriptor_types.specs.PoolSize.{sets_of_kind}
+use Rattle.gpu_descriptor_types.proofs.Sizes.{pool_fits}
+use Rattle.gpu_descriptor_types.proofs.Least.{least_of-le-first}
+use Rattle.gpu_descriptor_types.proofs.pool_size.new_pool_size.Goals as goal
+
+pub counts_of_sets-requires : goal.counts_of_sets-requires
+counts_of_sets-requires c = λ k d within. rw (c.set_count-sets.ensures.least, c.to_array-kinds.ensures) (pool_fits (kinds_of c.args.size.now) c.rounded_up.result k d within)
+
+pub returns-clause-fits : goal.returns-clause-fits
+returns-clause-fits c = λ k d within. rw (c.set_count-sets.ensures.least, c.to_array-kinds.ensures) (pool_fits (kinds_of c.args.size.now) c.rounded_up.result k d within)
+
+pub returns-clause-sets : goal.returns-clause-sets
+returns-clause-sets c = record {
+  start = c.rounded_up.result;
+  rounded = rw c.start_size.ensures at c.rounded_up.ensures.rounded;
+  is_least = rw c.to_array-kinds.ensures at c.set_count-sets.ensures.least;
+}
+
+pub returns-clause-at_most : goal.returns-clause-at_most
+returns-clause-at_most c =
+    let first = least_of-le-first c.rounded_up.result (map sets_of_kind c.to_array-kinds.result) in
+    let is = c.set_count-sets.ensures.least in
+    let small = c.rounded_up.ensures.at_most in
+    omega arith

@@ -1,0 +1,23 @@
+-- Live sets, and multisets of them: how often each is live.
+use Rattle.std.specs.Prelude.{◌≡◌, ℕ, ◌≤◌, ◌==◌, ◌&&◌, List, Bool, nat_eq, count_by}
+use lib.Pointwise.{pointwise}
+
+-- a live set: its name, and the counts of its layout
+pub record LiveSet : Type 0 where
+  pub name : ℕ
+  pub counts : List ℕ
+
+abbrev pub set_eq : LiveSet → LiveSet → Bool
+set_eq x y = (x.name == y.name) && pointwise nat_eq x.counts y.counts
+
+-- how often a set stands in a list
+abbrev pub times : List LiveSet → LiveSet → ℕ
+times sets x = count_by (λ y. set_eq y x) sets
+
+-- the list spells the multiset: it has each set as often as it is live
+abbrev pub Spells : List LiveSet → (LiveSet → ℕ) → Type 0
+Spells sets live = (x : LiveSet) → times sets x ≡ live x
+
+-- each set of the list is live, as often as it stands there
+abbrev pub AreIn : List LiveSet → (LiveSet → ℕ) → Type 0
+AreIn sets live = (x : LiveSet) → times sets x ≤ live x

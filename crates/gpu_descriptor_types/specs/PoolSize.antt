@@ -1,0 +1,37 @@
+-- How many sets a new pool holds, and its counts.
+use Rattle.std.specs.Prelude.{◌≡◌, ℕ, ◌*◌, ◌/◌, ◌^◌, ◌≤◌, ◌==◌, max, min, List, map, sum, fold, slice_set, if◌then◌else◌, nat_le}
+
+-- how many sets a pool is to hold, whatever is counted: 64, what is wanting, or what is outstanding up to 512
+abbrev pub start_size : ℕ → ℕ → ℕ
+start_size total wanted = max (max 64 wanted) (min 512 total)
+
+-- power is the least power of two that is not below start
+pub record IsLeastPower (start power : ℕ) : Type 0 where
+  pub exponent : ℕ
+  pub is_power : power ≡ 2 ^ exponent
+  pub reaches : start ≤ power
+  pub least : (k : ℕ) → start ≤ 2 ^ k → power ≤ 2 ^ k
+
+-- start rounded up to a power of two, or 2147483647 where the power passes 32 bits
+pub record IsRounded (start size : ℕ) : Type 0 where
+  pub power : ℕ
+  pub rounded : IsLeastPower start power
+  pub fits : size ≡ (if nat_le power 4294967295 then power else 2147483647)
+
+-- how many sets keep the count of a kind within 32 bits
+abbrev pub sets_of_kind : ℕ → ℕ
+sets_of_kind count = 4294967295 / max 1 count
+
+-- the least of a number and a list
+abbrev pub least_of : ℕ → List ℕ → ℕ
+least_of n others = fold min n others
+
+-- how many sets a new pool of these counts holds, where total sets are outstanding and wanted are wanting
+pub record IsPoolSize (counts : List ℕ) (total wanted sets : ℕ) : Type 0 where
+  pub start : ℕ
+  pub rounded : IsRounded (start_size total wanted) start
+  pub is_least : sets ≡ least_of start (map sets_of_kind counts)
+
+-- the counts of a pool of so many sets. Without descriptors it has one sampler
+abbrev pub pool_counts : List ℕ → ℕ → List ℕ
+pool_counts counts sets = let products = map (λ count. count * sets) counts in if sum products == 0 then slice_set products 0 1 else products

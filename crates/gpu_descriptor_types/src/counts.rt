@@ -1,0 +1,81 @@
+//! How many descriptors a layout, a set or a pool has.
+ghost use Rattle.std.specs.Prelude.{◌≡◌, ◌<◌, sum, slice_set};
+ghost use Rattle.gpu_descriptor_types.specs.Counts.{kinds};
+
+/// How many descriptors there are of each of the fourteen kinds.
+///
+/// The last but one counts bytes of inline uniform blocks, and the last the blocks themselves.
+#[derive(Clone, Copy, Debug, PartialEq, Eq, Hash, Default)]
+pub struct DescriptorTotalCount {
+    pub sampler: u32,
+    pub combined_image_sampler: u32,
+    pub sampled_image: u32,
+    pub storage_image: u32,
+    pub uniform_texel_buffer: u32,
+    pub storage_texel_buffer: u32,
+    pub uniform_buffer: u32,
+    pub storage_buffer: u32,
+    pub uniform_buffer_dynamic: u32,
+    pub storage_buffer_dynamic: u32,
+    pub input_attachment: u32,
+    pub acceleration_structure: u32,
+    pub inline_uniform_block_bytes: u32,
+    pub inline_uniform_block_bindings: u32,
+}
+
+impl DescriptorTotalCount {
+    /// How many descriptors there are of all kinds together, at most 60129542130.
+    ///
+    /// The original counts in 32 bits, where the sum can wrap.
+    pub fn total(&self) -> u64
+        ensures { result ≡ sum (kinds self.now) }
+    {
+        self.to_array().iter().map(|kind| u64::from(*kind)).sum()
+    }
+
+    /// The fourteen counts, in the order of the fields.
+    pub fn to_array(&self) -> [u32; 14]
+        ensures { result ≡ kinds self.now }
+    {
+        [
+            self.sampler,
+            self.combined_image_sampler,
+            self.sampled_image,
+            self.storage_image,
+            self.uniform_texel_buffer,
+            self.storage_texel_buffer,
+            self.uniform_buffer,
+            self.storage_buffer,
+            self.uniform_buffer_dynamic,
+            self.storage_buffer_dynamic,
+            self.input_attachment,
+            self.acceleration_structure,
+            self.inline_uniform_block_bytes,
+            self.inline_uniform_block_bindings,
+        ]
+    }
+
+    /// Sets the count of one kind, by its place in the order of the fields.
+    pub fn set_kind(&mut self, place: usize, count: u32)
+        requires { place < 14 }
+        ensures { kinds self.new ≡ slice_set (kinds self.old) place count }
+    {
+        match place {
+            0 => self.sampler = count,
+            1 => self.combined_image_sampler = count,
+            2 => self.sampled_image = count,
+            3 => self.storage_image = count,
+            4 => self.uniform_texel_buffer = count,
+            5 => self.storage_texel_buffer = count,
+            6 => self.uniform_buffer = count,
+            7 => self.storage_buffer = count,
+            8 => self.uniform_buffer_dynamic = count,
+            9 => self.storage_buffer_dynamic = count,
+            10 => self.input_attachment = count,
+            11 => self.acceleration_structure = count,
+            12 => self.inline_uniform_block_bytes = count,
+            13 => self.inline_uniform_block_bindings = count,
+            _ => unreachable!(),
+        }
+    }
+}

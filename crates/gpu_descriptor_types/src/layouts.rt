@@ -1,0 +1,47 @@
+//! One layout, a number of times.
+ghost use Rattle.std.specs.Prelude.{◌≡◌};
+ghost use Rattle.std.specs.Iterator.{YieldsFirst, item_count};
+ghost use Rattle.gpu_descriptor_types.specs.Layouts.{layout as layout_of, left as left_of, to_come};
+
+/// Gives the same layout a number of times: one for each set that is to be allocated.
+#[derive(Drop)]
+pub struct Layouts<'a, L> {
+    layout: &'a L,
+    left: u32,
+}
+
+impl<'a, L> Layouts<'a, L> {
+    /// The layout, `count` times.
+    pub fn new(layout: &'a L, count: u32) -> Self
+        ensures layout { layout_of result ≡ layout.now }
+        ensures left { left_of result ≡ count }
+    {
+        Layouts {
+            layout,
+            left: count,
+        }
+    }
+
+    /// How many are still to come.
+    pub fn len(&self) -> u32
+        ensures { result ≡ left_of self.now }
+    {
+        self.left
+    }
+}
+
+impl<'a, L> Iterator for Layouts<'a, L> {
+    type Item = &'a L;
+
+    ghost next_gives = { YieldsFirst to_come };
+
+    ghost remaining = { item_count to_come };
+
+    fn next(&mut self) -> Option<&'a L> {
+        if self.left == 0 {
+            return None;
+        }
+        self.left -= 1;
+        Some(self.layout)
+    }
+}

@@ -1,0 +1,22 @@
+//! What a descriptor set allocator and its device share: counts of descriptors, the size of a new
+//! pool, and the interface of a device, said over a ledger of what it owes.
+#![tactic(auto)]
+
+mod counter;
+mod counts;
+mod device;
+mod errors;
+mod flags;
+pub mod laws;
+mod layouts;
+mod pool_size;
+mod sink;
+
+pub use counter::{Counter, Tally};
+pub use counts::DescriptorTotalCount;
+pub use device::DescriptorDevice;
+pub use errors::{CreatePoolError, DeviceAllocationError};
+pub use flags::DescriptorPoolCreateFlags;
+pub use layouts::Layouts;
+pub use pool_size::new_pool_size;
+pub use sink::SetSink;

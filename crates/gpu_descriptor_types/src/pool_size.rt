@@ -1,0 +1,106 @@
+//! The size of a new pool.
+ghost use Rattle.std.specs.Prelude.{◌≡◌, ℕ, ◌*◌, ◌<◌, ◌≤◌, ◌^◌, All, sum, map, length};
+ghost use Rattle.gpu_descriptor_types.specs.Counts.{kinds as kinds_of};
+ghost use Rattle.gpu_descriptor_types.specs.PoolSize.{IsPoolSize, IsRounded, least_of, pool_counts, sets_of_kind, start_size as start_size_of};
+
+use crate::counts::DescriptorTotalCount;
+
+/// Sets that a pool has at least, unless a kind's count is too great for so many.
+const MIN_SETS: u32 = 64;
+
+/// How many of a key's outstanding sets count at most towards the size of its next pool.
+const MAX_SETS: u32 = 512;
+
+/// The size of a new pool for sets of these counts: the pool's counts, and how many sets it holds.
+///
+/// `total` is how many sets of this key are outstanding, `wanted` how many are wanting. The pool
+/// holds as many sets as the least power of two that is not below 64, `wanted` and the smaller of
+/// 512 and `total`, or 2147483647 where that power passes 32 bits; and no more than keep each of
+/// its counts within 32 bits. So it may hold fewer than `wanted`, but at least one. A pool for sets
+/// without descriptors has one sampler.
+///
+/// In the original this is a private call of the bucket, over a total of 32 bits.
+pub fn new_pool_size(
+    size: &DescriptorTotalCount,
+    total: u64,
+    wanted: u32,
+) -> (DescriptorTotalCount, u32)
+    ensures sets { IsPoolSize (kinds_of size.now) total wanted result.1 }
+    ensures counts { kinds_of result.0 ≡ pool_counts (kinds_of size.now) result.1 }
+
+    ensures some { 1 ≤ result.1 }
+    ensures at_most { result.1 ≤ 2147483648 }
+    ensures fits { All (λ count. count * result.1 < 2 ^ 32) (kinds_of size.now) }
+{
+    let kinds = size.to_array();
+    let sets = set_count(&kinds, rounded_up(start_size(total, wanted)));
+    (counts_of_sets(size, sets), sets)
+}
+
+/// How many sets a pool is to hold, whatever is counted.
+fn start_size(total: u64, wanted: u32) -> u32
+    ensures { result ≡ start_size_of total wanted }
+{
+    let outstanding = total.min(u64::from(MAX_SETS)) as u32;
+    MIN_SETS.max(wanted).max(outstanding)
+}
+
+/// The least power of two that is not below `start`, or 2147483647 where it passes 32 bits.
+fn rounded_up(start: u32) -> u32
+    requires { 1 ≤ start }
+    ensures rounded { IsRounded start result }
+    ensures some { 1 ≤ result }
+    ensures at_most { result ≤ 2147483648 }
+{
+    start
+        .checked_next_power_of_two()
+        .unwrap_or(i32::MAX.cast_unsigned())
+}
+
+/// The least of `start` and what each kind allows.
+fn set_count(kinds: &[u32; 14], start: u32) -> u32
+    requires { 1 ≤ start }
+    ensures least { result ≡ least_of start (map sets_of_kind kinds.now) }
+    ensures some { 1 ≤ result }
+{
+    let mut sets = start;
+    for kind in kinds {
+        sets = sets.min(u32::MAX / (*kind).max(1));
+    }
+    sets
+}
+
+/// The counts of a pool of so many sets.
+fn counts_of_sets(size: &DescriptorTotalCount, sets: u32) -> DescriptorTotalCount
+    requires { All (λ count. count * sets < 2 ^ 32) (kinds_of size.now) }
+    ensures { kinds_of result ≡ pool_counts (kinds_of size.now) sets }
+{
+    let mut counts = products(size, sets);
+    if counts == DescriptorTotalCount::default() {
+        counts.sampler = 1;
+    }
+    counts
+}
+
+/// Each count times the number of sets.
+fn products(size: &DescriptorTotalCount, sets: u32) -> DescriptorTotalCount
+    requires { All (λ count. count * sets < 2 ^ 32) (kinds_of size.now) }
+    ensures { kinds_of result ≡ map (λ count. count * sets) (kinds_of size.now) }
+{
+    DescriptorTotalCount {
+        sampler: size.sampler * sets,
+        combined_image_sampler: size.combined_image_sampler * sets,
+        sampled_image: size.sampled_image * sets,
+        storage_image: size.storage_image * sets,
+        uniform_texel_buffer: size.uniform_texel_buffer * sets,
+        storage_texel_buffer: size.storage_texel_buffer * sets,
+        uniform_buffer: size.uniform_buffer * sets,
+        storage_buffer: size.storage_buffer * sets,
+        uniform_buffer_dynamic: size.uniform_buffer_dynamic * sets,
+        storage_buffer_dynamic: size.storage_buffer_dynamic * sets,
+        input_attachment: size.input_attachment * sets,
+        acceleration_structure: size.acceleration_structure * sets,
+        inline_uniform_block_bytes: size.inline_uniform_block_bytes * sets,
+        inline_uniform_block_bindings: size.inline_uniform_block_bindings * sets,
+    }
+}
