@@ -6,7 +6,7 @@ use Rattle.std.proofs.lemmas.Bool.Decides.{Decides-eqb}
 use Rattle.std.proofs.Common.{lt_of_lt_of_le, le_of_eq, lt-ltb}
 use Rattle.std.proofs.lemmas.List.Sums.{length-filter}
 use lib.Pointwise.{pointwise, pointwise_decides}
-use Rattle.gpu_descriptor_types.specs.Multiset.{set_eq}
+use Rattle.gpu_descriptor_types.specs.Multiset.{LiveSet, set_eq, times}
 
 -- tests alike in both directions are one
 pub bool_iff : (a b : Bool) → (a ≡ true → b ≡ true) → (b ≡ true → a ≡ true) → a ≡ b
@@ -161,3 +161,7 @@ any_found {A} {eq} exact p (y ∷ xs) h = elim (or_cases (p y) (list_any p xs) h
       let some : 0 < count_by (λ z. eq z x) (y ∷ xs) = omega arith in
       (x, some, found.2))
 ]
+
+-- as often in one list or the other
+pub times-append : (a b : List LiveSet) (x : LiveSet) → times (a ++ b) x ≡ times a x + times b x
+times-append a b x = count_by-append (λ y. set_eq y x) a b

@@ -1,4 +1,5 @@
 pub mod Counting
-mod Least
-mod Powers
-mod Sizes
+pub mod Drained
+pub mod Least
+pub mod Powers
+pub mod Sizes

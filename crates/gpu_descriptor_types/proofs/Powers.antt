@@ -1,10 +1,10 @@
 -- Least powers of two.
-use Rattle.std.proofs.Common.{◌≡◌, ℕ, suc, ◌+◌, ◌*◌, ◌/◌, ◌^◌, ◌<◌, ◌≤◌, inl, inr, max, arith, refl, Bool, true, false, Option, Some, None, MatchOption, unwrap_or}
-use Rattle.std.specs.Prelude.{if◌then◌else◌, nat_le}
+use Rattle.std.proofs.Common.{◌≡◌, ℕ, zero, suc, ◌*◌, ◌^◌, ◌<◌, ◌≤◌, inl, inr, arith, refl, ap, Bool, true, false, Option, Some, None, MatchOption, unwrap_or}
+use Rattle.std.specs.Prelude.{nat_le, min}
 use Rattle.std.specs.Int.{IsNextPowerOfTwo}
 use Rattle.std.proofs.Math.Nat.{pow-le-pow_right, pow-suc}
-use Rattle.std.proofs.lemmas.Bool.{cases_lt, le-leb, leb-true}
-use Rattle.std.proofs.lemmas.Nat.{pow_pos, pow_below}
+use Rattle.std.proofs.lemmas.Bool.{cases_lt, le-leb, leb-true, leb-false}
+use Rattle.std.proofs.lemmas.Nat.{pow_pos}
 use Rattle.gpu_descriptor_types.specs.PoolSize.{IsLeastPower, IsRounded}
 
 -- a power of two grows with its exponent
@@ -31,6 +31,46 @@ least_power start power next = record {
         let half = next.2 in
         let some = pow_pos k in
         omega arith
+
+-- it is below twice the start
+pub below_twice : (start power : ℕ) → 1 ≤ start → IsLeastPower start power → power < 2 * start
+below_twice start power some p = by_exponent p.exponent refl
+  where
+    by_exponent : (e : ℕ) → p.exponent ≡ e → power < 2 * start
+    by_exponent zero is = (let one : 2 ^ p.exponent ≡ 1 = ap (λ (n : ℕ). 2 ^ n) is in let power_is = p.is_power in omega arith)
+    by_exponent (suc e) is = elim (cases_lt (2 ^ e) start) [
+      | inl less ↦ (
+          let same : 2 ^ p.exponent ≡ 2 ^ suc e = ap (λ (n : ℕ). 2 ^ n) is in
+          let doubles : 2 ^ suc e ≡ 2 ^ e * 2 = pow-suc 2 e in
+          let power_is = p.is_power in
+          omega arith)
+      | inr more ↦ (
+          let same : 2 ^ p.exponent ≡ 2 ^ suc e = ap (λ (n : ℕ). 2 ^ n) is in
+          let doubles : 2 ^ suc e ≡ 2 ^ e * 2 = pow-suc 2 e in
+          let power_is = p.is_power in
+          let least = p.least e more in
+          let positive = pow_pos e in
+          absurd (omega arith))
+    ]
+
+-- so is the rounded start
+pub rounded_below : (start size : ℕ) → 1 ≤ start → IsRounded start size → size < 2 * start
+rounded_below start size some r = by_test (nat_le r.power 4294967295) refl
+  where
+    below : r.power < 2 * start
+    below = below_twice start r.power some r.rounded
+
+    by_test : (b : Bool) → nat_le r.power 4294967295 ≡ b → size < 2 * start
+    by_test true e = (let is : size ≡ r.power = rw e at r.fits in let low = below in omega arith)
+    by_test false e = (let is : size ≡ 2147483647 = rw e at r.fits in let past = leb-false r.power 4294967295 e in elim (cases_lt (2 ^ 31) start) [ inl more ↦ (omega arith) | inr less ↦ (let l = r.rounded.least 31 less in absurd (omega arith)) ])
+
+-- it is the start at least, where that fits
+pub rounded_above : (start size : ℕ) → IsRounded start size → min start 2147483647 ≤ size
+rounded_above start size r = by_test (nat_le r.power 4294967295) refl
+  where
+    by_test : (b : Bool) → nat_le r.power 4294967295 ≡ b → min start 2147483647 ≤ size
+    by_test true e = (let is : size ≡ r.power = rw e at r.fits in let reaches = r.rounded.reaches in omega arith)
+    by_test false e = (let is : size ≡ 2147483647 = rw e at r.fits in omega arith)
 
 -- past half of 32 bits the least power is the first that does not fit
 power_past_32_bits : (start : ℕ) → 2 ^ 31 < start → start < 2 ^ 32 → IsLeastPower start (2 ^ 32)

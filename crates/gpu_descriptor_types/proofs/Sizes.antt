@@ -1,9 +1,12 @@
 -- What the size of a new pool keeps.
-use Rattle.std.proofs.Common.{ℕ, ◌+◌, ◌*◌, ◌/◌, ◌^◌, ◌<◌, ◌≤◌, max, List, length, map, slice_index_or, arith}
-use Rattle.std.proofs.Math.Nat.{mul-div-le, mul-le-mul_left, mul-le-mul_right}
+use Rattle.std.proofs.Common.{ℕ, ◌*◌, ◌/◌, ◌^◌, ◌<◌, ◌≤◌, max, min, List, length, map, slice_index_or, arith}
+use Rattle.std.proofs.Math.Nat.{mul-div-le, div-mul-le_self, mul-le-mul_left, mul-le-mul_right}
+use Rattle.std.proofs.lemmas.Nat.{le-div}
 use Rattle.std.proofs.lemmas.List.{get_or-map, length-map}
-use Rattle.gpu_descriptor_types.specs.PoolSize.{least_of, sets_of_kind}
-use Rattle.gpu_descriptor_types.proofs.Least.{least_of-le}
+use Rattle.gpu_descriptor_types.specs.Counts.{greatest}
+use Rattle.gpu_descriptor_types.specs.PoolSize.{IsPoolSize, least_of, pool_size_floor, sets_of_kind, start_size}
+use Rattle.gpu_descriptor_types.proofs.Least.{least_of-le, least_of-le-first, le-least_of, greatest-ge}
+use Rattle.gpu_descriptor_types.proofs.Powers.{rounded_some, rounded_below, rounded_above}
 
 -- so many sets keep the count of a kind within 32 bits
 pub kind_fits : (count sets : ℕ) → sets ≤ sets_of_kind count → count * sets < 2 ^ 32
@@ -20,3 +23,43 @@ pool_fits counts start k d within =
     let is = get_or-map sets_of_kind counts k d 0 within in
     kind_fits (slice_index_or counts k d) (least_of start (map sets_of_kind counts)) (omega arith)
 
+-- a new pool has at most 2147483648 sets
+pub pool_size_small : (counts : List ℕ) (total wanted sets : ℕ) → IsPoolSize counts total wanted sets → sets ≤ 2147483648
+pool_size_small counts total wanted sets s =
+    let start = rounded_some (start_size total wanted) s.start (omega arith) s.rounded in
+    let below = least_of-le-first s.start (map sets_of_kind counts) in
+    let is = s.is_least in
+    let small = start.1 in
+    omega arith
+
+-- it has fewer than twice what it is to hold
+pub pool_size_below : (counts : List ℕ) (total wanted sets : ℕ) → IsPoolSize counts total wanted sets → sets < 2 * start_size total wanted
+pool_size_below counts total wanted sets s =
+    let start = rounded_below (start_size total wanted) s.start (omega arith) s.rounded in
+    let below = least_of-le-first s.start (map sets_of_kind counts) in
+    let is = s.is_least in
+    omega arith
+
+-- ---- what it has at least
+
+-- a kind with fewer descriptors allows more sets
+kind_allows : (a b : ℕ) → a ≤ b → sets_of_kind b ≤ sets_of_kind a
+kind_allows a b le =
+    let wider : sets_of_kind b * max 1 a ≤ sets_of_kind b * max 1 b = mul-le-mul_left (sets_of_kind b) (omega arith) in
+    let all = div-mul-le_self 4294967295 (max 1 b) in
+    le-div (sets_of_kind b) 4294967295 (max 1 a) (omega arith) (omega arith)
+
+-- it has what is wanting, or as many as it may have in any case
+pub pool_size_some : (counts : List ℕ) (total wanted sets : ℕ) → IsPoolSize counts total wanted sets → min wanted (pool_size_floor counts) ≤ sets
+pool_size_some counts total wanted sets s =
+    let m : ℕ = min wanted (pool_size_floor counts) in
+    let start = rounded_above (start_size total wanted) s.start s.rounded in
+    let is = s.is_least in
+    let each : (k : ℕ) → k < length (map sets_of_kind counts) → m ≤ slice_index_or (map sets_of_kind counts) k m = λ k within.
+    let long = length-map counts sets_of_kind in
+    let one = get_or-map sets_of_kind counts k 0 m (omega arith) in
+    let below = greatest-ge 0 counts k 0 (omega arith) in
+    let allows = kind_allows (slice_index_or counts k 0) (greatest counts) below in
+    omega arith in
+    let le = le-least_of m s.start (map sets_of_kind counts) (omega arith) each in
+    omega arith

@@ -1,4 +1,5 @@
 -- How many sets a new pool holds, and its counts.
+use Rattle.gpu_descriptor_types.specs.Counts.{greatest}
 use Rattle.std.specs.Prelude.{◌≡◌, ℕ, ◌*◌, ◌/◌, ◌^◌, ◌≤◌, ◌==◌, max, min, List, map, sum, fold, slice_set, if◌then◌else◌, nat_le}
 
 -- how many sets a pool is to hold, whatever is counted: 64, what is wanting, or what is outstanding up to 512
@@ -31,6 +32,10 @@ pub record IsPoolSize (counts : List ℕ) (total wanted sets : ℕ) : Type 0 whe
   pub start : ℕ
   pub rounded : IsRounded (start_size total wanted) start
   pub is_least : sets ≡ least_of start (map sets_of_kind counts)
+
+-- how many sets a new pool holds at least, unless fewer are wanting
+abbrev pub pool_size_floor : List ℕ → ℕ
+pool_size_floor counts = min 2147483647 (sets_of_kind (greatest counts))
 
 -- the counts of a pool of so many sets. Without descriptors it has one sampler
 abbrev pub pool_counts : List ℕ → ℕ → List ℕ

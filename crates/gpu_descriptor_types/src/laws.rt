@@ -11,5 +11,4 @@ pub fn counts_are_their_kinds()
     ensures equal { (a b : Counts) → IsTrue (⟦<DescriptorTotalCount as PartialEq>⟧.eq a b) ↔ (kinds a ≡ kinds b) }
     ensures hash { (a b : Counts) → kinds a ≡ kinds b → ⟦<DescriptorTotalCount as Hash>⟧.hash_input a ≡ ⟦<DescriptorTotalCount as Hash>⟧.hash_input b }
     ensures default { (a : Counts) → ⟦<DescriptorTotalCount as Default>⟧.is_default a → kinds a ≡ no_counts }
-{
-}
+{}

@@ -1,7 +1,7 @@
 //! The size of a new pool.
-ghost use Rattle.std.specs.Prelude.{◌≡◌, ℕ, ◌*◌, ◌<◌, ◌≤◌, ◌^◌, All, sum, map, length};
+ghost use Rattle.std.specs.Prelude.{◌≡◌, ℕ, ◌*◌, ◌<◌, ◌≤◌, ◌^◌, All, min, sum, map, length};
 ghost use Rattle.gpu_descriptor_types.specs.Counts.{kinds as kinds_of};
-ghost use Rattle.gpu_descriptor_types.specs.PoolSize.{IsPoolSize, IsRounded, least_of, pool_counts, sets_of_kind, start_size as start_size_of};
+ghost use Rattle.gpu_descriptor_types.specs.PoolSize.{IsPoolSize, IsRounded, least_of, pool_counts, pool_size_floor, sets_of_kind, start_size as start_size_of};
 
 use crate::counts::DescriptorTotalCount;
 
@@ -30,6 +30,8 @@ pub fn new_pool_size(
 
     ensures some { 1 ≤ result.1 }
     ensures at_most { result.1 ≤ 2147483648 }
+    ensures at_least { min wanted (pool_size_floor (kinds_of size.now)) ≤ result.1 }
+    ensures below_twice { result.1 < 2 * start_size_of total wanted }
     ensures fits { All (λ count. count * result.1 < 2 ^ 32) (kinds_of size.now) }
 {
     let kinds = size.to_array();

@@ -1,7 +1,7 @@
-use Rattle.std.proofs.Common.{arith, map, refl}
+use Rattle.std.proofs.Common.{arith, map}
 use Rattle.gpu_descriptor_types.specs.Counts.{kinds as kinds_of}
 use Rattle.gpu_descriptor_types.specs.PoolSize.{sets_of_kind}
-use Rattle.gpu_descriptor_types.proofs.Sizes.{pool_fits}
+use Rattle.gpu_descriptor_types.proofs.Sizes.{pool_fits, pool_size_below, pool_size_some}
 use Rattle.gpu_descriptor_types.proofs.Least.{least_of-le-first}
 use Rattle.gpu_descriptor_types.proofs.pool_size.new_pool_size.Goals as goal
 
@@ -24,3 +24,9 @@ returns-clause-at_most c =
     let is = c.set_count-sets.ensures.least in
     let small = c.rounded_up.ensures.at_most in
     omega arith
+
+pub returns-clause-below_twice : goal.returns-clause-below_twice
+returns-clause-below_twice c = pool_size_below (kinds_of c.args.size.now) c.args.total c.args.wanted _ (returns-clause-sets c)
+
+pub returns-clause-at_least : goal.returns-clause-at_least
+returns-clause-at_least c = pool_size_some (kinds_of c.args.size.now) c.args.total c.args.wanted _ (returns-clause-sets c)

@@ -1,6 +1,5 @@
 use Rattle.std.proofs.Common.{arith}
 use Rattle.gpu_descriptor_types.proofs.Powers.{is_rounded, rounded_some}
-use Rattle.gpu_descriptor_types.specs.PoolSize.{IsRounded}
 use Rattle.gpu_descriptor_types.proofs.pool_size.rounded_up.Goals as goal
 
 pub returns : goal.returns
