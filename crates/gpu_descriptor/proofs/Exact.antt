@@ -1,5 +1,5 @@
 -- Keys and items are equal exactly where their tests say so.
-use Rattle.std.proofs.Common.{◌≡◌, true, ◌&&◌, ◌==◌, refl, arith, eqb-true, eq-eqb, nat_eq}
+use Rattle.std.proofs.Common.{◌≡◌, true, ◌&&◌, ◌==◌, refl, eqb-true, eq-eqb, nat_eq}
 use Rattle.std.proofs.lemmas.Bool.{and_parts, and_from}
 use Rattle.std.proofs.lemmas.Bool.Decides.{Decides-eqb}
 use Rattle.std.specs.Cmp.{booleans_Decides}

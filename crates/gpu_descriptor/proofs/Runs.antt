@@ -5,6 +5,7 @@ use Rattle.std.proofs.Math.Path.{fun_ext}
 use Rattle.std.proofs.lemmas.Bool.{cases_Bool}
 use Rattle.gpu_descriptor.specs.Agreement.{set_of, State, Item, count_of, Agree}
 use Rattle.gpu_descriptor.specs.Books.{Key, Entry, Bucket, entry_at}
+use Rattle.gpu_descriptor.specs.Buckets.{HasDistinctNames}
 use Rattle.gpu_descriptor.specs.Release.{lies_in, entry_less, given_back, is_empty, spent_front, without_front}
 use Rattle.gpu_descriptor_types.specs.Multiset.{LiveSet, set_eq}
 use Rattle.gpu_descriptor.proofs.Fronts.{spent, spent_yes, spent_no, spent_one, entry_at-from}
@@ -44,10 +45,6 @@ less_none e =
     let allocated : e.allocated - 0 ≡ e.allocated = omega arith in
     let free : e.free + 0 ≡ e.free = omega arith in
     λ i. record { pool = e.pool; allocated = allocated i; free = free i }
-
--- no name stands at two places
-abbrev pub HasDistinctNames : List Entry → Type 0
-HasDistinctNames es = (i j : ℕ) (d e : Entry) → slice_get es i ≡ Some d → slice_get es j ≡ Some e → d.pool ≡ e.pool → i ≡ j
 
 pub untouched_rest : (n : ℕ) (pool : ℕ) (es : List Entry) → ((i : ℕ) (d : Entry) → slice_get es i ≡ Some d → pool ≢ d.pool) → map (λ d. entry_less (if pool == d.pool then n else 0) d) es ≡ es
 untouched_rest n pool [] h = refl

@@ -1,5 +1,5 @@
 -- What cleaning up leaves: each key loses the empty pools at its front, the last pool too.
-use Rattle.std.specs.Prelude.{◌≡◌, ℕ, Bool, true, false, ◌==◌, if◌then◌else◌, List, [], length, sum_by, None}
+use Rattle.std.specs.Prelude.{◌≡◌, ℕ, true, false, ◌==◌, if◌then◌else◌, List, [], length, sum_by, None}
 use Rattle.std.specs.List.{list_any}
 use Rattle.gpu_descriptor.specs.Books.{Key, key_eq, Bucket, no_pools}
 use Rattle.gpu_descriptor.specs.Agreement.{State, Item, Agree, outstanding}

@@ -1,7 +1,7 @@
 -- The definitions at one example: a key with four pools, of which the second and the last are empty.
-use Rattle.std.proofs.Common.{◌≡◌, ℕ, ◌==◌, false, [], ◌∷◌, Option, Some, None, refl}
+use Rattle.std.proofs.Common.{◌≡◌, ℕ, ◌==◌, false, [], ◌∷◌, Some, None, refl}
 use Rattle.std.specs.Prelude.{if◌then◌else◌}
-use Rattle.gpu_descriptor.specs.Agreement.{State, Item, Agree}
+use Rattle.gpu_descriptor.specs.Agreement.{State, Item}
 use Rattle.gpu_descriptor.specs.Books.{Key, key_eq, Entry, no_pools}
 use Rattle.gpu_descriptor.specs.Cleanup.{cleaned_bucket}
 use Rattle.gpu_descriptor.specs.Release.{released}
@@ -55,4 +55,3 @@ stays = refl
 
 cleaned_all : cleaned_bucket (record { first = 3; pools = entry 10 0 64 ∷ entry 11 0 64 ∷ [] }) ≡ record { first = 0; pools = [] }
 cleaned_all = refl
-

@@ -15,6 +15,10 @@ sets_out k b = held b.pools
 abbrev pub descriptors_out : Key → Bucket → ℕ
 descriptors_out k b = if k.marked then held b.pools * sum k.counts else 0
 
+-- the descriptors of so many sets of a key, if it is marked
+abbrev pub marked_load : Key → ℕ → ℕ
+marked_load k sets = if k.marked then sets * sum k.counts else 0
+
 -- so many sets are out
 abbrev pub IsOut : State → ℕ → Type 0
 IsOut s n = AddsUp sets_out s.books n

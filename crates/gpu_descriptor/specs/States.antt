@@ -1,10 +1,8 @@
 -- Books and ledger of an allocator over a device.
-use Rattle.std.specs.Prelude.{ℕ, ◌+◌, if◌then◌else◌, map, List, [], ◌∷◌, slice_get, Option, option_map}
-use Rattle.gpu_descriptor_types.specs.Ledger.{Pool, Ledger}
-use Rattle.gpu_descriptor.specs.declared.view.PoolView.{PoolView}
-use Rattle.gpu_descriptor.specs.Books.{Key, key_eq, Entry, Bucket, books_of, sum_over}
+use Rattle.std.specs.Prelude.{ℕ, ◌*◌, if◌then◌else◌, map, List, sum, sum_by}
+use Rattle.gpu_descriptor_types.specs.Ledger.{Ledger}
+use Rattle.gpu_descriptor.specs.Books.{Key, Entry, Bucket, books_of}
 use Rattle.gpu_descriptor.specs.Agreement.{State, Agree}
-use Rattle.gpu_descriptor.specs.Load.{sets_out, descriptors_out}
 use Rattle.gpu_descriptor.specs.Values.{Kept, Row, Allocations}
 
 module _ {P : Type 0} (name : P → ℕ) where
@@ -30,3 +28,20 @@ module _ {P : Type 0} (name : P → ℕ) where
 -- the keys of an allocator, in the order in which they came
 abbrev pub keys_of : {P : Type 0} → Allocations P → List Key
 keys_of a = map (λ r. r.key) a.table
+
+module _ {P : Type 0} where
+  -- how many sets are out of a key's pools
+  abbrev pub sets_in : Row P → ℕ
+  sets_in r = sum_by (λ p. p.allocated) r.pools
+
+  -- how many descriptors they have, if the key is marked
+  abbrev pub descriptors_in : Row P → ℕ
+  descriptors_in r = if r.key.marked then sets_in r * sum r.key.counts else 0
+
+  -- how many sets are out
+  abbrev pub outstanding_of : Allocations P → ℕ
+  outstanding_of a = sum_by sets_in a.table
+
+  -- how many descriptors the marked sets have that are out
+  abbrev pub marked_load_of : Allocations P → ℕ
+  marked_load_of a = sum_by descriptors_in a.table

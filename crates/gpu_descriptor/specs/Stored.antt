@@ -1,12 +1,17 @@
 -- The table of keys, as the code has it.
-use Rattle.std.specs.Prelude.{◌≡◌, ℕ, ◌+◌, ◌*◌, ◌≤◌, if◌then◌else◌, List, map, sum, sum_by}
+use Rattle.std.specs.Prelude.{◌≡◌, ℕ, ◌*◌, ◌≤◌, if◌then◌else◌, List, map, sum, sum_by}
 use Rattle.gpu_descriptor_types.specs.Counts.{kinds}
 use Rattle.gpu_descriptor.specs.declared.set.BucketKey.{BucketKey}
 use Rattle.gpu_descriptor.specs.declared.bucket.DescriptorPool.{DescriptorPool}
 use Rattle.gpu_descriptor.specs.declared.bucket.DescriptorBucket.{DescriptorBucket}
-use Rattle.gpu_descriptor.specs.Books.{Entry, Bucket}
+use Rattle.gpu_descriptor.specs.Books.{Key, Entry, Bucket, books_of}
+use Rattle.gpu_descriptor.specs.States.{named_row}
 use Rattle.gpu_descriptor.specs.Sets.{key_of}
 use Rattle.gpu_descriptor.specs.Values.{Kept, Row}
+
+-- the descriptors of so many sets of a key, if it is marked
+abbrev pub load_of : BucketKey → ℕ → ℕ
+load_of k sets = if k.update_after_bind then sets * sum (kinds k.size) else 0
 
 module _ {P : Type 0} where
   abbrev pub kept_of : DescriptorPool P → Kept P
@@ -17,7 +22,7 @@ module _ {P : Type 0} where
 
   -- the descriptors of a marked key's sets
   abbrev pub load_in : BucketKey × DescriptorBucket P → ℕ
-  load_in r = if r.0.update_after_bind then r.1.total * sum (kinds r.0.size) else 0
+  load_in r = load_of r.0 r.1.total
 
   -- the running totals are those of the table, and the marked descriptors keep the limit
   pub record IsCounted (limit marked out : ℕ) (table : List (BucketKey × DescriptorBucket P)) : Type 0 where
@@ -31,3 +36,7 @@ module _ {P : Type 0} where
 
     abbrev pub bucket_of : DescriptorBucket P → Bucket
     bucket_of b = record { first = b.offset; pools = map entry_of b.pools.items }
+
+-- the books that the entries of the map keep
+abbrev pub books_in : {P : Type 0} → (P → ℕ) → List (BucketKey × DescriptorBucket P) → Key → Bucket
+books_in name es = books_of (map (named_row name) (map row_of es))

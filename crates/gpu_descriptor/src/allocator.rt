@@ -1,6 +1,11 @@
 //! The allocator: a table from keys to their pools.
 ghost use Rattle.std.specs.Prelude.{◌≡◌, []};
 
+mod allocate;
+mod cleanup;
+mod free;
+mod readers;
+
 use crate::bucket::DescriptorBucket;
 use crate::set::BucketKey;
 use indexmap::IndexMap;

@@ -16,7 +16,7 @@ pub enum AllocationError {
     OutOfHostMemory,
 
     /// The request would pass the limit on update-after-bind descriptors, or a number of 64 bits;
-    /// or the device's memory is too fragmented for a new pool.
+    /// or the device's memory is too fragmented for a new pool, or a new pool refused.
     Fragmentation,
 }
 

@@ -18,8 +18,7 @@ pub fn release_parts()
 
     ensures agrees { ReleaseAgrees }
     ensures outstanding { ReleaseTakes }
-{
-}
+{}
 
 /// Cleaning up what was cleaned up changes nothing, and with nothing outstanding it leaves no pool.
 pub fn clean_again()
@@ -29,13 +28,11 @@ pub fn clean_again()
 
     ensures agrees { CleanAgrees }
     ensures outstanding { CleanTakesNone }
-{
-}
+{}
 
 /// An allocator without keys agrees with every ledger, and sums over all keys depend on the books
 /// alone.
 pub fn books_alone()
     ensures empty { EmptyAgrees }
     ensures sums { SumByBooks }
-{
-}
+{}

@@ -3,12 +3,18 @@
 //! Sets go out by layout from pools of a device, and each goes back to its own pool.
 #![tactic(auto)]
 
+mod allocation;
 mod allocator;
 mod bucket;
 mod errors;
 mod flags;
 pub mod laws;
+mod release;
+mod run;
 mod set;
+mod take;
+#[cfg(test)]
+mod tests;
 mod view;
 
 pub use allocator::DescriptorAllocator;

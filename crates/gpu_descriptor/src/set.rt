@@ -1,6 +1,8 @@
 //! Sets that were handed out, and the keys under which they went.
 ghost use Rattle.std.specs.Prelude.{◌≡◌, ◌↔◌, IsTrue};
-ghost use Rattle.gpu_descriptor.specs.Sets.{at_place};
+ghost use Rattle.std.specs.Borrow.{sem};
+ghost use Rattle.gpu_descriptor.specs.SetLends.{LendsRaw};
+ghost use Rattle.gpu_descriptor.specs.Sets.{at_place, raw_of};
 
 use gpu_descriptor_types::DescriptorTotalCount;
 
@@ -19,4 +21,30 @@ pub struct DescriptorSet<S> {
     pub(crate) raw: S,
     pub(crate) number: u64,
     pub(crate) key: BucketKey,
+}
+
+impl<S> DescriptorSet<S> {
+    /// The raw set.
+    pub fn raw(&self) -> &S
+        ensures { result.now ≡ raw_of self.now }
+    {
+        &self.raw
+    }
+
+    /// The raw set, to write. A set whose raw set was replaced by another can't be given to `free`,
+    /// unless the other is outstanding under the same key from the same pool.
+    pub fn raw_mut(&mut self) -> &mut S
+        ensures* writes_back { sem 𝓛 (LendsRaw S.row self.entry result) }
+        ensures value { result.now ≡ raw_of self.old }
+    {
+        &mut self.raw
+    }
+
+    /// Whether it lies under this key in the pool with this number.
+    #[tactic(auto, unfolding(crate::specs::Sets::at_place))]
+    pub(crate) fn is_at(&self, key: &BucketKey, number: u64) -> bool
+        ensures { result ≡ at_place key.now number self.now }
+    {
+        self.key == *key && self.number == number
+    }
 }

@@ -1,0 +1,186 @@
+-- A request that took sets is as the definitions say: kept whole, or given back.
+use Rattle.std.proofs.Common.{◌≡◌, ℕ, ◌+◌, ◌<◌, List, [], ◌∷◌, length, arith, Result, Ok, Err, refl, sym, ap, ◌∙◌, subst}
+use Rattle.std.proofs.lemmas.List.{length-map}
+use Rattle.std.specs.Prelude.{OnOk, IfErr}
+use Rattle.gpu_descriptor_types.specs.Ledger.{Ledger, Counters, alloc_refused, create_refused}
+use Rattle.gpu_descriptor.specs.declared.errors.AllocationError.{AllocationError}
+use Rattle.gpu_descriptor.specs.declared.set.DescriptorSet.{DescriptorSet}
+use Rattle.gpu_descriptor.specs.declared.take.Refusal.{Refusal}
+use Rattle.gpu_descriptor.specs.declared.take.Refusal.TheVariants as refusal
+use Rattle.gpu_descriptor.specs.declared.take.Stop.{Stop}
+use Rattle.gpu_descriptor.specs.declared.take.Stop.TheVariants as stop
+use Rattle.gpu_descriptor.specs.Agreement.{State, Item, Agree, AreOutstanding, outstanding}
+use Rattle.gpu_descriptor.specs.Books.{Key, Entry}
+use Rattle.gpu_descriptor.specs.Foreign.{IsForeign, KeepsForeign}
+use Rattle.gpu_descriptor.specs.Frees.{GivesBack}
+use Rattle.gpu_descriptor.specs.Grants.{Grant, items_in, granted}
+use Rattle.gpu_descriptor.specs.Grow.{IsTakenAll, IsTakenUpTo, IsGrowStopped, refusal_answer, stop_rise}
+use Rattle.gpu_descriptor.specs.Load.{marked_load}
+use Rattle.gpu_descriptor.specs.Outcomes.{Allocates, Call, Proceeds, IsBack, no_rise, risen, grant_rise, rollback_rise}
+use Rattle.gpu_descriptor.specs.Outcomes.Allocates.{done, stopped_at_pool, stopped_at_create, stopped_for_memory, stopped_at_fresh}
+use Rattle.gpu_descriptor.specs.Promises.{AreOutBesides, KeepsOutstanding, KeepsOtherKeys}
+use Rattle.gpu_descriptor.specs.Release.{released, given_back, pools_gone}
+use Rattle.gpu_descriptor.specs.Requests.{call_of, Takes}
+use Rattle.gpu_descriptor.specs.Runs.{runs}
+use Rattle.gpu_descriptor.specs.Sets.{item_of, items_of}
+use Rattle.gpu_descriptor.specs.States.{Agrees, state_of, table_of, keys_of, outstanding_of, marked_load_of}
+use Rattle.gpu_descriptor.specs.Values.{Allocations}
+use Rattle.gpu_descriptor.specs.Walk.{KeepsKey, HasTaken, IsWalkStopped, with_pools}
+use Rattle.gpu_descriptor.proofs.KeepState.{keeps_agree, keeps_given, keeps_outstanding}
+use Rattle.gpu_descriptor.proofs.Foreign.{taken_foreign, still_foreign, freed_foreign}
+use Rattle.gpu_descriptor.proofs.Kept.{takes}
+use Rattle.gpu_descriptor.proofs.Promises.{grant_many}
+use Rattle.gpu_descriptor.proofs.Meets.{is_done, stopped_state, stopped_at_state}
+use Rattle.gpu_descriptor.proofs.Requested.{load_is, out_is}
+use Rattle.gpu_descriptor.proofs.Rollback.{give_back_rise, alloc_rise, only_key, keys_table, other_key, unnamed_key, load_of_items}
+use Rattle.gpu_descriptor.proofs.Loads.{load_at}
+
+-- what a request took keeps the key's part of the agreement, wherever it stopped
+keeps_up_to : (why : Refusal) (k : Key) (n first : ℕ) (items : List Item) (old new : List Entry) (l m : Ledger) → IsTakenUpTo why k n first items old new l m → KeepsKey k first items old new l.pools m.pools
+keeps_up_to (refusal.Existing error) k n first items old new l m s = subst (KeepsKey k first items old new l.pools) (sym s.pools) s.walked.keeps
+keeps_up_to (refusal.New why) k n first items old new l m s = subst (KeepsKey k first items old new l.pools) (sym s.stopped.pools) s.keeps
+
+keeps_taken : (taken : Result (Unit {0}) Refusal) (k : Key) (n first : ℕ) (items : List Item) (old new : List Entry) (l m : Ledger) → OnOk taken (IsTakenAll k n first items old new l m) → IfErr taken (λ why. IsTakenUpTo why k n first items old new l m) → KeepsKey k first items old new l.pools m.pools
+keeps_taken (Ok x) k n first items old new l m all stopped = all.keeps
+keeps_taken (Err why) k n first items old new l m all stopped = keeps_up_to why k n first items old new l m stopped
+
+module _ {P S : Type 0} (name : P → ℕ) (set_name : S → ℕ) (k : Key) (count : ℕ) (sets : List (DescriptorSet S)) (taken : Result (Unit {0}) Refusal) (old new : Allocations P) (before after : Ledger)
+    (t : Takes name set_name k count sets taken old new before after) (agree : Agrees name old before) where
+  abbrev s : State
+  s = state_of name old before
+
+  abbrev items : List Item
+  items = items_of set_name sets
+
+  keeps : KeepsKey k (s.books k).first items (s.books k).pools t.pools s.ledger after.pools
+  keeps = keeps_taken taken k count (s.books k).first items (s.books k).pools t.pools before after t.done t.stopped
+
+  -- books and ledger agree after it
+  pub taken_agree : Agrees name new after
+  taken_agree = subst Agree (sym t.state) (keeps_agree k items t.pools s after.pools agree keeps)
+
+  -- and the sets may be given back
+  pub taken_given : AreOutstanding items (state_of name new after)
+  taken_given = subst (AreOutstanding items) (sym t.state) (keeps_given k items t.pools s after.pools agree keeps)
+
+  -- exactly these sets are outstanding besides
+  pub taken_out : AreOutBesides items s (state_of name new after)
+  taken_out u = ap (λ (w : State). outstanding w u) t.state ∙ keeps_outstanding k items t.pools s after.pools agree keeps u
+
+  pub taken_others : KeepsOtherKeys k s (state_of name new after)
+  taken_others l other = ap (λ (w : State). w.books l) t.state ∙ rw other refl
+
+  pub taken_leaves : KeepsForeign s (state_of name new after)
+  taken_leaves pool p foreign live = ap (λ (w : State). w.ledger pool) t.state ∙ taken_foreign k items t.pools s after.pools keeps pool p foreign live
+
+  pub proceeds : 0 < count → (last : Allocations P) (final : Ledger) (answer : Result (List Item) AllocationError) → Proceeds (call_of name k count old last before final answer)
+  proceeds some last final answer = record {
+    some = some;
+    limit = record { load = marked_load_of old; is_load = load_is name old before t.distinct; within = t.within };
+    bound = record { out = outstanding_of old; is_out = out_is name old before t.distinct; numbers = t.numbers; sets = t.fits };
+  }
+
+  -- ---- the sets went back
+
+  module _ (some : 0 < count) (last : Allocations P) (final : Ledger) (back : GivesBack name set_name sets (runs items) new last after final) where
+    -- which of the new allocator's pools go
+    gone : pools_gone (keys_of new) items (given_back items (state_of name new after)) ≡ pools_gone (k ∷ []) items (given_back items (state_of name new after))
+    gone = ap (λ (keys : List Key). pools_gone keys items (given_back items (state_of name new after))) (keys_table name new.table) ∙ only_key k items (state_of name new after) (table_of name new) t.still (λ l. refl) keeps.of_key
+
+    went : (m : List Item) (u : State) → m ≡ items → u ≡ state_of name new after → final.counters ≡ risen (rollback_rise m k u) after.counters
+    went m u is same = back.counters ∙ give_back_rise _ (runs items) after.counters ∙ (λ i. risen (record no_rise { released = runs (sym is i); destroyed = (gone ∙ (λ j. pools_gone (k ∷ []) (sym is j) (given_back (sym is j) (sym same j)))) i }) after.counters)
+
+    abbrev call : AllocationError → Call
+    call error = call_of name k count old last before final (Err error)
+
+    is_back : (g : Grant) (rise : Counters) (error : AllocationError) (walked : Ledger) → items_in k g.parts ≡ items → HasTaken k count (s.books k).first g (s.books k).pools t.pools before walked → with_pools k t.pools after.pools s ≡ granted k count g s
+        → after.counters ≡ risen rise (risen (grant_rise count g (s.books k).pools) before.counters) → IsBack (call error) g rise error
+    is_back g rise error walked came taken now counters = record {
+      taken = record { refusing = taken.refusing; parts = taken.parts; new = taken.is_new };
+      answer = refl;
+      state = back.state ∙ (λ i. released (sym came i) ((t.state ∙ now) i));
+      counters = went (items_in k g.parts) (granted k count g s) came (sym (t.state ∙ now)) ∙ ap (risen (rollback_rise (items_in k g.parts) k (granted k count g s))) counters;
+    }
+
+    back_from_pool : (error : _) → IsWalkStopped k count (s.books k).first error items (s.books k).pools t.pools before after → Allocates (call (refusal_answer (refusal.Existing error)))
+    back_from_pool error st =
+        let now = stopped_at_state k count error s t.pools items before after refl st in
+        stopped_at_pool (proceeds some last final _) (record {
+          older = st.older;
+          pool = st.pool;
+          newer = st.newer;
+          here = st.here;
+          grant = st.walked.grant;
+          left = st.walked.from;
+          no_fresh = st.walked.no_fresh;
+          asked = st.asked;
+          error = error;
+          memory = st.memory;
+          back = is_back st.walked.grant (alloc_refused error no_rise) _ st.before st.walked.came st.walked.taken now.0 (now.1 ∙ alloc_rise error _);
+        })
+
+    back_from_new : (why : Stop) → IsGrowStopped why k count (s.books k).first items (s.books k).pools t.pools before after → Allocates (call (refusal_answer (refusal.New why)))
+    back_from_new stop.Books st =
+        let now = stopped_state k count stop.Books s t.pools items before after refl st in
+        stopped_for_memory (proceeds some last final _) (record { grant = st.grant; front = record { all = st.all; front = st.front }; back = is_back st.grant no_rise _ st.before st.came st.taken now.0 now.1 })
+    back_from_new (stop.Create error) st =
+        let now = stopped_state k count (stop.Create error) s t.pools items before after refl st in
+        stopped_at_create (proceeds some last final _) (record { grant = st.grant; front = record { all = st.all; front = st.front }; error = error; back = is_back st.grant (create_refused error no_rise) _ st.before st.came st.taken now.0 now.1 })
+    back_from_new (stop.Fresh error) st =
+        let now = stopped_state k count (stop.Fresh error) s t.pools items before after refl st in
+        stopped_at_fresh (proceeds some last final _) (record { grant = st.grant; front = record { all = st.all; front = st.front }; error = error; back = is_back st.grant (stop_rise (stop.Fresh error)) _ st.before st.came st.taken now.0 now.1 })
+
+    pub went_back : (why : Refusal) → taken ≡ Err why → Allocates (call (refusal_answer why))
+    went_back why is = by_why why (subst (λ (r : Result (Unit {0}) Refusal). IfErr r (λ w. IsTakenUpTo w k count (s.books k).first items (s.books k).pools t.pools before after)) is t.stopped)
+      where
+        by_why : (why : Refusal) → IsTakenUpTo why k count (s.books k).first items (s.books k).pools t.pools before after → Allocates (call (refusal_answer why))
+        by_why (refusal.Existing error) st = back_from_pool error st
+        by_why (refusal.New why) st = back_from_new why st
+
+  module _ (last : Allocations P) (final : Ledger) (calls : ℕ) (back : GivesBack name set_name sets calls new last after final) where
+    -- the sets that went back are no longer outstanding
+    pub back_out : KeepsOutstanding s (state_of name last final)
+    back_out u =
+        let now = ap (λ (w : State). outstanding w u) back.state in
+        let less = takes items (state_of name new after) taken_agree taken_given u in
+        let more = taken_out u in
+        omega arith
+
+    pub back_others : KeepsOtherKeys k s (state_of name last final)
+    back_others l other = ap (λ (w : State). w.books l) back.state ∙ other_key items (state_of name new after) taken_agree l (unnamed_key k items keeps.of_key l other) ∙ taken_others l other
+
+    -- the totals are as before
+    pub back_totals : (outstanding_of last ≡ outstanding_of old) × (marked_load_of last ≡ marked_load_of old)
+    back_totals =
+        let out = back.outstanding in
+        let marked = back.marked in
+        let total = t.total in
+        let more = t.marked in
+        let load = load_of_items k items keeps.of_key in
+        let long = ap (load_at k) (length-map sets (λ (x : DescriptorSet S). item_of set_name x)) in
+        ((let e : outstanding_of last ≡ outstanding_of old = omega arith in e), (let e : marked_load_of last ≡ marked_load_of old = omega arith in e))
+
+    pub back_leaves : KeepsForeign s (state_of name last final)
+    back_leaves pool p foreign live =
+        let still : IsForeign (state_of name new after) pool = subst (λ (w : State). IsForeign w pool) (sym t.state) (still_foreign k items t.pools s after.pools keeps pool p foreign live) in
+        freed_foreign name set_name sets calls new last after final back pool p still (taken_leaves pool p foreign live)
+
+  -- ---- the sets are kept
+
+  pub kept_many : (x : Unit {0}) → taken ≡ Ok x → length sets ≡ count
+  kept_many x is =
+      let all = subst (λ (r : Result (Unit {0}) Refusal). OnOk r (IsTakenAll k count (s.books k).first items (s.books k).pools t.pools before after)) is t.done in
+      let many = grant_many k count _ (s.books k) all.grant all.taken.parts all.all all.fresh in
+      let same = ap length all.came in
+      let long = length-map sets (λ (x : DescriptorSet S). item_of set_name x) in
+      omega arith
+
+  pub kept_totals : (x : Unit {0}) → taken ≡ Ok x → (outstanding_of new ≡ outstanding_of old + count) × (marked_load_of new ≡ marked_load_of old + marked_load k count)
+  kept_totals x is =
+      let many = kept_many x is in
+      (t.total ∙ ap (λ n. outstanding_of old + n) many, t.marked ∙ ap (λ n. marked_load_of old + marked_load k n) many)
+
+  pub kept : 0 < count → (x : Unit {0}) → taken ≡ Ok x → Allocates (call_of name k count old new before after (Ok items))
+  kept some x is =
+      let all = subst (λ (r : Result (Unit {0}) Refusal). OnOk r (IsTakenAll k count (s.books k).first items (s.books k).pools t.pools before after)) is t.done in
+      done (proceeds some new after _) (is_done _ t.pools items before after refl refl t.state refl all (ap Ok (sym all.came)))

@@ -1,0 +1,100 @@
+-- What asking one pool does, from what the device did.
+use Rattle.std.proofs.Common.{◌≡◌, ℕ, zero, suc, ◌+◌, ◌-◌, ◌<◌, min, List, [], length, Bool, true, false, cond, ◌&&◌, Option, Some, None, nat_eq, nat_lt, refl, sym, ap, ◌∙◌, arith, lt-ltb, eqb-true}
+use Rattle.std.proofs.Math.Path.{fun_ext}
+use Rattle.std.proofs.lemmas.Bool.{and_from}
+use Rattle.gpu_descriptor.specs.Books.{Key, Entry}
+use Rattle.gpu_descriptor.specs.Grants.{pool_with}
+use Rattle.gpu_descriptor.specs.Outcomes.{no_rise, risen}
+use Rattle.gpu_descriptor.specs.Walk.{IsAsked, IsNoMemory}
+use Rattle.gpu_descriptor_types.specs.Ledger.{Pool, Ledger, Counters, live_sets, changed, on_pool, after_alloc, after_no_alloc, alloc_refused, pool_refusals}
+use Rattle.gpu_descriptor_types.specs.Multiset.{LiveSet}
+use Rattle.gpu_descriptor_types.specs.declared.errors.DeviceAllocationError.{DeviceAllocationError}
+use Rattle.gpu_descriptor_types.specs.declared.errors.DeviceAllocationError.TheVariants as alloc_error
+
+pub same_entry : (a b : Entry) → a.pool ≡ b.pool → a.allocated ≡ b.allocated → a.free ≡ b.free → a ≡ b
+same_entry a b pool allocated free = λ i. record { pool = pool i; allocated = allocated i; free = free i }
+
+pub same_counters : (a b : Counters) → a.created ≡ b.created → a.destroyed ≡ b.destroyed → a.asked ≡ b.asked → a.released ≡ b.released → a.device_memory ≡ b.device_memory → a.host_memory ≡ b.host_memory → a.fragmentation ≡ b.fragmentation → a.pool_refused ≡ b.pool_refused → a ≡ b
+same_counters a b e1 e2 e3 e4 e5 e6 e7 e8 = λ i. record { created = e1 i; destroyed = e2 i; asked = e3 i; released = e4 i; device_memory = e5 i; host_memory = e6 i; fragmentation = e7 i; pool_refused = e8 i }
+
+-- a pool that nothing came from and that did not refuse
+pub pool_same : (p : Pool) → pool_with [] false p ≡ p
+pool_same p = λ i. record p { live = fun_ext (λ (x : LiveSet). (let e : p.live x + 0 ≡ p.live x = omega arith in e)) i }
+
+asks_some : (free wanted : ℕ) → 0 < min wanted free → nat_lt 0 free && nat_lt 0 wanted ≡ true
+asks_some free wanted h = and_from _ _ (lt-ltb 0 free (omega arith)) (lt-ltb 0 wanted (omega arith))
+
+and_false : (b : Bool) → b && false ≡ false
+and_false true = refl
+and_false false = refl
+
+asks_none : (free wanted : ℕ) → min wanted free ≡ 0 → nat_lt 0 free && nat_lt 0 wanted ≡ false
+asks_none zero wanted h = refl
+asks_none (suc free) zero h = and_false (nat_lt 0 (suc free))
+asks_none (suc free) (suc wanted) h = absurd (omega arith)
+
+on_same : (name : ℕ) (pools : ℕ → Option Pool) → pools ≡ on_pool name (pool_with [] false) pools
+on_same name pools = fun_ext (λ q. at (nat_eq name q) q refl)
+  where
+    each : (o : Option Pool) → o ≡ changed (pool_with [] false) o
+    each None = refl
+    each (Some p) = ap (λ (x : Pool). Some x) (sym (pool_same p))
+
+    at : (b : Bool) (q : ℕ) → nat_eq name q ≡ b → pools q ≡ cond b (changed (pool_with [] false) (pools name)) (pools q)
+    at true q h = ap pools (sym (eqb-true name q h)) ∙ each (pools name)
+    at false q h = refl
+
+pub skipped : (k : Key) (wanted : ℕ) (e : Entry) (l : Ledger) → min wanted e.free ≡ 0 → IsAsked k wanted [] e e l l
+skipped k wanted e l h = record {
+  refused = false;
+  refusing = λ r. absurd (cc);
+  many = omega arith;
+  entry = same_entry _ _ refl (let a : e.allocated ≡ e.allocated + 0 = omega arith in a) (let a : e.free ≡ e.free - 0 = omega arith in a);
+  pools = on_same e.pool l.pools;
+  counters = (let t = asks_none e.free wanted h in rw t (let n = l.counters in same_counters _ _ (omega arith) (omega arith) (omega arith) (omega arith) (omega arith) (omega arith) (omega arith) (omega arith)));
+}
+
+pub given : (k : Key) (wanted : ℕ) (names : List ℕ) (e : Entry) (l m : Ledger) → 0 < min wanted e.free → length names ≡ min wanted e.free → m ≡ after_alloc e.pool (live_sets k.counts names) l → IsAsked k wanted names e (record e { allocated = e.allocated + min wanted e.free; free = e.free - min wanted e.free }) l m
+given k wanted names e l m some many is = record {
+  refused = false;
+  refusing = λ r. absurd (cc);
+  many = omega arith;
+  entry = same_entry _ _ refl (omega arith) (omega arith);
+  pools = ap (λ (x : Ledger). x.pools) is;
+  counters = ap (λ (x : Ledger). x.counters) is ∙ (let t = asks_some e.free wanted some in rw t (same_counters _ _ (omega arith) (omega arith) (omega arith) (omega arith) (omega arith) (omega arith) (omega arith) (omega arith)));
+}
+
+refused_counters : (error : DeviceAllocationError) (n : Counters) → pool_refusals error ≡ 1 → alloc_refused error n ≡ risen (record no_rise { asked = 1; pool_refused = 1 }) n
+refused_counters alloc_error.OutOfDeviceMemory n h = absurd (omega arith)
+refused_counters alloc_error.OutOfHostMemory n h = absurd (omega arith)
+refused_counters alloc_error.FragmentedPool n h = same_counters _ _ (omega arith) (omega arith) (omega arith) (omega arith) (omega arith) (omega arith) (omega arith) (omega arith)
+refused_counters alloc_error.OutOfPoolMemory n h = same_counters _ _ (omega arith) (omega arith) (omega arith) (omega arith) (omega arith) (omega arith) (omega arith) (omega arith)
+
+pub refuses : (k : Key) (wanted : ℕ) (error : DeviceAllocationError) (e : Entry) (l m : Ledger) → 0 < min wanted e.free → pool_refusals error ≡ 1 → m ≡ after_no_alloc e.pool error l → IsAsked k wanted [] e (record e { free = 0 }) l m
+refuses k wanted error e l m some pool_error is = record {
+  refused = true;
+  refusing = λ r. asks_some e.free wanted some;
+  many = omega arith;
+  entry = same_entry _ _ refl (let a : e.allocated ≡ e.allocated + 0 = omega arith in a) (let a : 0 ≡ 0 - 0 = omega arith in a);
+  pools = ap (λ (x : Ledger). x.pools) is ∙ ap (λ (f : Pool → Pool). on_pool e.pool f l.pools) (fun_ext (λ (p : Pool). λ i. record p { live = fun_ext (λ (x : LiveSet). (let a : p.live x ≡ p.live x + 0 = omega arith in a)) i; refusals = (let a : p.refusals + pool_refusals error ≡ p.refusals + 1 = omega arith in a) i }));
+  counters = ap (λ (x : Ledger). x.counters) is ∙ (let t = asks_some e.free wanted some in rw t (refused_counters error l.counters pool_error));
+}
+
+no_refusal : (name : ℕ) (error : DeviceAllocationError) (l : Ledger) → pool_refusals error ≡ 0 → (after_no_alloc name error l).pools ≡ l.pools
+no_refusal name error l h = fun_ext (λ q. at (nat_eq name q) q refl)
+  where
+    each : (o : Option Pool) → changed (λ pool. record pool { refusals = pool.refusals + pool_refusals error }) o ≡ o
+    each None = refl
+    each (Some p) = ap (λ (x : Pool). Some x) (λ i. record p { refusals = (let a : p.refusals + pool_refusals error ≡ p.refusals = omega arith in a) i })
+
+    at : (b : Bool) (q : ℕ) → nat_eq name q ≡ b → cond b (changed (λ pool. record pool { refusals = pool.refusals + pool_refusals error }) (l.pools name)) (l.pools q) ≡ l.pools q
+    at true q e = each (l.pools name) ∙ ap l.pools (eqb-true name q e)
+    at false q e = refl
+
+pub no_memory : (wanted : ℕ) (error : DeviceAllocationError) (e : Entry) (l m : Ledger) → 0 < min wanted e.free → pool_refusals error ≡ 0 → m ≡ after_no_alloc e.pool error l → IsNoMemory wanted e error l m
+no_memory wanted error e l m some memory is = record {
+  asked = asks_some e.free wanted some;
+  memory = memory;
+  pools = ap (λ (x : Ledger). x.pools) is ∙ no_refusal e.pool error l memory;
+  counters = ap (λ (x : Ledger). x.counters) is;
+}

@@ -1,0 +1,157 @@
+-- Giving one run back to a stored bucket.
+use Rattle.std.proofs.Common.{◌≡◌, ◌≢◌, ◌⊎◌, ℕ, zero, suc, ◌+◌, ◌-◌, ◌<◌, ◌≤◌, List, [], ◌∷◌, length, map, set, get_or, slice_get, Option, Some, None, option_map, inl, inr, refl, sym, ap, ◌∙◌, arith}
+use Rattle.std.specs.Prelude.{IfSome}
+use Rattle.std.proofs.lemmas.Bool.{cases_Bool}
+use Rattle.std.proofs.lemmas.Option.{slice_get_within}
+use Rattle.std.proofs.lemmas.List.{length-map}
+use Rattle.std.proofs.lemmas.List.Sums.{sum_by-cons}
+use Rattle.gpu_descriptor_types.specs.Flags.{CanFree}
+use Rattle.gpu_descriptor_types.specs.Ledger.{Pool}
+use Rattle.gpu_descriptor_types.specs.Multiset.{LiveSet, times, AreIn}
+use Rattle.gpu_descriptor.specs.declared.bucket.DescriptorPool.{DescriptorPool}
+use Rattle.gpu_descriptor.specs.Agreement.{live_in, flags_of, IsAsBooked}
+use Rattle.gpu_descriptor.specs.Allocated.{allocated_in}
+use Rattle.gpu_descriptor.specs.Books.{Key, Entry, Bucket}
+use Rattle.gpu_descriptor.specs.Buckets.{IsStored, IsTakenAt, sets_of}
+use Rattle.gpu_descriptor.specs.Release.{entry_less, pool_less}
+use Rattle.gpu_descriptor.specs.Stored.{entry_of}
+use Rattle.gpu_descriptor.proofs.LedgerPools.{taken_from, with_pool_same, with_pool_other, size_minus, only_these}
+use Rattle.gpu_descriptor.proofs.Turns.{bucket}
+
+-- what stands in a list with one place changed
+pub set_cases : {A : Type 0} (es : List A) (i : ℕ) (y : A) (j : ℕ) (d : A) → slice_get (set es i y) j ≡ Some d → ((j ≡ i) × (d ≡ y)) ⊎ ((j ≢ i) × (slice_get es j ≡ Some d))
+set_cases [] i y j d h = absurd (let bad : ◌≡◌ {A = Option _} None (Some d) = h in cc)
+set_cases (x ∷ es) zero y zero d h = inl (refl, (let is : Some y ≡ Some d = h in cc))
+set_cases (x ∷ es) zero y (suc j) d h = inr ((λ bad. omega arith), h)
+set_cases (x ∷ es) (suc i) y zero d h = inr ((λ bad. omega arith), h)
+set_cases (x ∷ es) (suc i) y (suc j) d h = elim (set_cases es i y j d h) [
+  | inl same ↦ (let e = same.0 in inl ((omega arith), same.1))
+  | inr other ↦ inr ((λ bad. other.0 (omega arith)), other.1)
+]
+
+-- a place that was read
+pub read_at : {P : Type 0} (name : P → ℕ) (items : List (DescriptorPool P)) (i : ℕ) (q : DescriptorPool P) → i < length items → q ≡ get_or items i q → slice_get (map (entry_of name) items) i ≡ Some (entry_of name q)
+read_at name [] i q lt is = absurd (omega arith)
+read_at {P = P} name (x ∷ items) zero q lt is = ap (λ (p : DescriptorPool P). Some (entry_of name p)) (sym is)
+read_at name (x ∷ items) (suc i) q lt is = read_at name items i q (omega arith) is
+
+-- the place after the counts moved
+pub changed_at : {P : Type 0} (name : P → ℕ) (items : List (DescriptorPool P)) (i : ℕ) (q : DescriptorPool P) (raw : P) (m n : ℕ) → name raw ≡ name q.raw → m ≡ n
+    → map (entry_of name) (set items i (record { raw = raw; allocated = q.allocated - m; available = q.available + m })) ≡ set (map (entry_of name) items) i (entry_less n (entry_of name q))
+changed_at name [] i q raw m n same e = refl
+changed_at name (x ∷ items) zero q raw m n same e = λ j. record { pool = same j; allocated = q.allocated - e j; free = q.available + e j } ∷ map (entry_of name) items
+changed_at name (x ∷ items) (suc i) q raw m n same e = ap (λ (l : List Entry). entry_of name x ∷ l) (changed_at name items i q raw m n same e)
+
+-- what a run may take of the place
+pub record CanTake (k : Key) (names : List ℕ) (pools : ℕ → Option Pool) (e : Entry) : Type 0 where
+  pub fits : length names ≤ e.allocated
+  pub live : (x : LiveSet) → times (sets_of k names) x ≤ live_in pools e.pool x
+
+pub can_take : (k : Key) (number : ℕ) (names : List ℕ) (b : Bucket) (pools : ℕ → Option Pool) (e : Entry) → IsTakenAt k number names b pools → slice_get b.pools (number - b.first) ≡ Some e → CanTake k names pools e
+can_take k number names b pools e t at =
+    let same : t.entry ≡ e = (let p = t.at in let q : Some t.entry ≡ Some e = sym p ∙ at in cc) in
+    rw (← same) (record { fits = t.fits; live = t.live })
+
+pub is_within : (k : Key) (number : ℕ) (names : List ℕ) (b : Bucket) (pools : ℕ → Option Pool) → IsTakenAt k number names b pools → number - b.first < length b.pools
+is_within k number names b pools t = slice_get_within b.pools (number - b.first) t.entry t.at
+
+-- ls are sets of these names, each live as often as it stands there
+pub record AreTaken (names : List ℕ) (live : LiveSet → ℕ) (ls : List LiveSet) : Type 0 where
+  pub are : map (λ x. x.name) ls ≡ names
+  pub within : (x : LiveSet) → times ls x ≤ live x
+
+-- the sets of which a release speaks, in a pool that is live
+pub are_taken : (k : Key) (b : Bucket) (pools : ℕ → Option Pool) (i : ℕ) (e : Entry) (names : List ℕ) (ls : List LiveSet) → IsStored k b pools → slice_get b.pools i ≡ Some e → map (λ x. x.name) ls ≡ names → IfSome (pools e.pool) (λ pool. AreIn ls pool.live) → AreTaken names (live_in pools e.pool) ls
+are_taken k b pools i e names ls stored at are live =
+    let booked = stored.booked i e at in
+    let within : AreIn ls booked.0.live = rw booked.1 at live in
+    record { are = are; within = λ x. let is : live_in pools e.pool x ≡ booked.0.live x = rw booked.1 refl in rw is (within x) }
+
+-- sets of a marked key's pools and of others may go back singly
+pub can_free : (k : Key) → CanFree (flags_of k)
+can_free k = elim (cases_Bool k.marked) [
+  | inl on ↦ rw on refl
+  | inr off ↦ rw off refl
+]
+
+-- the sets that a call took of the place are the key's sets of their names
+pub took_these : (k : Key) (b : Bucket) (pools : ℕ → Option Pool) (i : ℕ) (e : Entry) (names : List ℕ) (ls : List LiveSet) → IsStored k b pools → slice_get b.pools i ≡ Some e → AreTaken names (live_in pools e.pool) ls → ls ≡ sets_of k names
+took_these k b pools i e names ls stored at are = only_these k names ls are.are (λ x some.
+    let booked = stored.booked i e at in
+    let live : live_in pools e.pool x ≡ booked.0.live x = rw booked.1 refl in
+    let within = are.within x in
+    booked.2.sets x (omega arith))
+
+-- the bucket and the ledger after one run keep agreement
+pub stored_after : (k : Key) (first : ℕ) (es : List Entry) (pools : ℕ → Option Pool) (i : ℕ) (e : Entry) (ls : List LiveSet) → IsStored k (bucket first es) pools → slice_get es i ≡ Some e → ((x : LiveSet) → times ls x ≤ live_in pools e.pool x) → IsStored k (bucket first (set es i (entry_less (length ls) e))) (taken_from pools e.pool ls)
+stored_after k first es pools i e ls stored at within =
+    let y = entry_less (length ls) e in
+    let was : (j : ℕ) (d : Entry) → slice_get (set es i y) j ≡ Some d → (c : Entry) × (slice_get es j ≡ Some c) × (c.pool ≡ d.pool) = λ j d h. elim (set_cases es i y j d h) [
+      | inl same ↦ (e, (ap (slice_get es) same.0 ∙ at), ap (λ (x : Entry). x.pool) (sym same.1))
+      | inr other ↦ (d, other.1, refl)
+    ] in
+    record {
+      distinct = λ a b c d h h' same.
+          let p = was a c h in
+          let q = was b d h' in
+          stored.distinct a b p.0 q.0 p.1 q.1 (p.2 ∙ same ∙ sym q.2);
+      booked = λ j d h. elim (set_cases es i y j d h) [
+        | inl same ↦ (
+            let booked = stored.booked i e at in
+            let pool = booked.0 in
+            let live : (x : LiveSet) → times ls x ≤ pool.live x = λ x. (let is : live_in pools e.pool x ≡ pool.live x = rw booked.1 refl in let less = within x in omega arith) in
+            let size = size_minus pool.live e.allocated ls booked.2.allocated live in
+            let room = booked.2.room in
+            let fits = size.0 in
+            let after : Pool = pool_less (times ls) pool in
+            let is : IsAsBooked k after y = record {
+              flags = booked.2.flags;
+              at_least = booked.2.at_least;
+              small = booked.2.small;
+              counts = booked.2.counts;
+              sets = λ x some. booked.2.sets x (omega arith);
+              allocated = size.1;
+              room = omega arith;
+              full = λ none. (let whole = booked.2.full none in omega arith);
+            } in
+            (after, (ap (λ (x : Entry). taken_from pools e.pool ls x.pool) same.1 ∙ with_pool_same pools e.pool (option_map (pool_less (times ls)) (pools e.pool)) ∙ ap (option_map (pool_less (times ls))) booked.1), rw same.1 is))
+        | inr other ↦ (
+            let booked = stored.booked j d other.1 in
+            (booked.0, with_pool_other pools e.pool d.pool (option_map (pool_less (times ls)) (pools e.pool)) (λ same. other.0 (stored.distinct j i d e other.1 at same)) ∙ booked.1, booked.2))
+      ];
+    }
+
+pub read_first : {P : Type 0} (name : P → ℕ) (k : Key) (number : ℕ) (names : List ℕ) (first : ℕ) (items : List (DescriptorPool P)) (pools : ℕ → Option Pool) (q : DescriptorPool P) → IsTakenAt k number names (bucket first (map (entry_of name) items)) pools → q ≡ get_or items (number - first) q → slice_get (map (entry_of name) items) (number - first) ≡ Some (entry_of name q)
+read_first name k number names first items pools q t is =
+    let lt = is_within k number names (bucket first (map (entry_of name) items)) pools t in
+    let long = length-map items (entry_of name) in
+    read_at name items (number - first) q (omega arith) is
+
+pub place_room : (k : Key) (b : Bucket) (pools : ℕ → Option Pool) (i : ℕ) (e : Entry) → IsStored k b pools → slice_get b.pools i ≡ Some e → e.allocated + e.free ≤ 2147483648
+place_room k b pools i e stored at =
+    let booked = (stored.booked i e at).2 in
+    let room = booked.room in
+    let small = booked.small in
+    omega arith
+
+pub length_names : (k : Key) (names : List ℕ) → length (sets_of k names) ≡ length names
+length_names k names = length-map names (λ (name : ℕ). record { name = name; counts = k.counts })
+
+-- the sets that go back are no longer counted
+pub total_less : {P : Type 0} (items : List (DescriptorPool P)) (i : ℕ) (q : DescriptorPool P) (raw : P) (m : ℕ) → i < length items → q ≡ get_or items i q → m ≤ q.allocated
+    → (m ≤ allocated_in items) × (allocated_in (set items i (record { raw = raw; allocated = q.allocated - m; available = q.available + m })) + m ≡ allocated_in items)
+total_less [] i q raw m lt is fits = absurd (omega arith)
+total_less {P = P} (x ∷ items) zero q raw m lt is fits =
+    let e : q.allocated ≡ x.allocated = ap (λ (p : DescriptorPool P). p.allocated) is in
+    let old : allocated_in (x ∷ items) ≡ x.allocated + allocated_in items = sum_by-cons (λ (p : DescriptorPool P). p.allocated) x items in
+    let y : DescriptorPool P = record { raw = raw; allocated = q.allocated - m; available = q.available + m } in
+    let new : allocated_in (y ∷ items) ≡ y.allocated + allocated_in items = sum_by-cons (λ (p : DescriptorPool P). p.allocated) y items in
+    (omega arith, omega arith)
+total_less {P = P} (x ∷ items) (suc i) q raw m lt is fits =
+    let rest = total_less items i q raw m (omega arith) is fits in
+    let a = rest.0 in
+    let b = rest.1 in
+    let y : DescriptorPool P = record { raw = raw; allocated = q.allocated - m; available = q.available + m } in
+    let old : allocated_in (x ∷ items) ≡ x.allocated + allocated_in items = sum_by-cons (λ (p : DescriptorPool P). p.allocated) x items in
+    let new : allocated_in (x ∷ set items i y) ≡ x.allocated + allocated_in (set items i y) = sum_by-cons (λ (p : DescriptorPool P). p.allocated) x (set items i y) in
+    (omega arith, omega arith)

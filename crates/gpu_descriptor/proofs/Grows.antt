@@ -1,0 +1,73 @@
+-- What a new pool does to the ledger.
+use Rattle.std.proofs.Common.{◌≡◌, ℕ, ◌+◌, ◌-◌, ◌≤◌, min, List, [], ◌∷◌, ◌++◌, length, Bool, true, false, cond, nat_eq, Some, None, slice_index, refl, sym, ap, ◌∙◌, arith, eqb-true}
+use Rattle.std.proofs.Math.Nat.{mul-le-mul_right}
+use Rattle.std.proofs.Math.Path.{fun_ext}
+use Rattle.std.proofs.lemmas.Map.{update_here}
+use Rattle.std.specs.Map.{update}
+use Rattle.gpu_descriptor.specs.Agreement.{flags_of}
+use Rattle.gpu_descriptor.specs.Books.{Key, Entry}
+use Rattle.gpu_descriptor.specs.Grow.{IsGrown, IsNotGrown, stop_rise}
+use Rattle.gpu_descriptor.specs.Outcomes.{risen}
+use Rattle.gpu_descriptor_types.specs.Ledger.{Pool, Ledger, Counters, HasRoom, HasNoSets, live_sets, changed, fresh, after_create, after_alloc, after_no_alloc, after_destroy, alloc_refused, pool_refusals}
+use Rattle.gpu_descriptor_types.specs.PoolSize.{pool_counts, IsPoolSize}
+use Rattle.gpu_descriptor_types.specs.declared.errors.DeviceAllocationError.{DeviceAllocationError}
+use Rattle.gpu_descriptor_types.specs.declared.errors.DeviceAllocationError.TheVariants as alloc_error
+use Rattle.gpu_descriptor.specs.declared.take.Stop.TheVariants as stop
+use Rattle.gpu_descriptor.proofs.Asks.{same_counters}
+use Rattle.gpu_descriptor.proofs.Room.{key_with, wide, marked_flags}
+
+pub created_at : (k : Key) (size name : ℕ) (l m : Ledger) → m ≡ after_create (pool_counts k.counts size) size (flags_of k) name l → m.pools name ≡ Some (fresh (pool_counts k.counts size) size (flags_of k))
+created_at k size name l m is = ap (λ (x : Ledger). x.pools name) is ∙ update_here l.pools name (Some (fresh (pool_counts k.counts size) size (flags_of k)))
+
+pub fresh_room : (counts : List ℕ) (mark : Bool) (size name n : ℕ) (m : Ledger) → m.pools name ≡ Some (fresh (pool_counts counts size) size (flags_of (key_with counts mark))) → n ≤ size → HasRoom name n counts mark m
+fresh_room counts mark size name n m is few = record {
+  pool = fresh (pool_counts counts size) size (flags_of (key_with counts mark));
+  is_live = is;
+  marked = marked_flags counts mark;
+  sets = [];
+  spelled = λ x. refl;
+  places = omega arith;
+  each_kind = λ j. (let has = wide (key_with counts mark) size j in let some = mul-le-mul_right (slice_index counts j) few in omega arith);
+}
+
+pub no_sets : (k : Key) (size name : ℕ) (error : DeviceAllocationError) (m m' : Ledger) → m.pools name ≡ Some (fresh (pool_counts k.counts size) size (flags_of k)) → m' ≡ after_no_alloc name error m → HasNoSets name m'
+no_sets k size name error m m' at is =
+    let pool : Pool = fresh (pool_counts k.counts size) size (flags_of k) in
+    record {
+      pool = record pool { refusals = pool.refusals + pool_refusals error };
+      is_live = ap (λ (x : Ledger). x.pools name) is ∙ update_here m.pools name (changed (λ (pool : Pool). record pool { refusals = pool.refusals + pool_refusals error }) (m.pools name)) ∙ ap (changed (λ (pool : Pool). record pool { refusals = pool.refusals + pool_refusals error })) at;
+      empty = λ x. refl;
+    }
+
+pub grown : (k : Key) (total wanted size name : ℕ) (names : List ℕ) (old new : List Entry) (l m m' : Ledger) → IsPoolSize k.counts total wanted size → 1 ≤ size → length names ≡ min size wanted → l.pools name ≡ None → m ≡ after_create (pool_counts k.counts size) size (flags_of k) name l → m' ≡ after_alloc name (live_sets k.counts names) m → new ≡ old ++ record { pool = name; allocated = min size wanted; free = size - min size wanted } ∷ [] → IsGrown k total wanted names old new l m'
+grown k total wanted size name names old new l m m' sized some many none made is now = record {
+  pool = record { pool = name; size = size; given = min size wanted };
+  size = sized;
+  some = some;
+  given = refl;
+  many = many;
+  is_new = none;
+  entries = now;
+  pools = ap (λ (x : Ledger). x.pools) (is ∙ ap (after_alloc name (live_sets k.counts names)) made);
+  counters = ap (λ (x : Ledger). x.counters) (is ∙ ap (after_alloc name (live_sets k.counts names)) made) ∙ same_counters _ _ (omega arith) (omega arith) (omega arith) (omega arith) (omega arith) (omega arith) (omega arith) (omega arith);
+}
+
+fresh_counters : (error : DeviceAllocationError) (n : Counters) → (let made : Counters = record n { created = n.created + 1 } in let asked = alloc_refused error made in record asked { destroyed = asked.destroyed + 1 }) ≡ risen (stop_rise (stop.Fresh error)) n
+fresh_counters alloc_error.OutOfDeviceMemory n = same_counters _ _ (omega arith) (omega arith) (omega arith) (omega arith) (omega arith) (omega arith) (omega arith) (omega arith)
+fresh_counters alloc_error.OutOfHostMemory n = same_counters _ _ (omega arith) (omega arith) (omega arith) (omega arith) (omega arith) (omega arith) (omega arith) (omega arith)
+fresh_counters alloc_error.FragmentedPool n = same_counters _ _ (omega arith) (omega arith) (omega arith) (omega arith) (omega arith) (omega arith) (omega arith) (omega arith)
+fresh_counters alloc_error.OutOfPoolMemory n = same_counters _ _ (omega arith) (omega arith) (omega arith) (omega arith) (omega arith) (omega arith) (omega arith) (omega arith)
+
+-- a pool that was created, refused and was destroyed has left the ledger's pools as they were
+pub not_grown : (k : Key) (size name : ℕ) (error : DeviceAllocationError) (l m m' m'' : Ledger) → l.pools name ≡ None → m ≡ after_create (pool_counts k.counts size) size (flags_of k) name l → m' ≡ after_no_alloc name error m → m'' ≡ after_destroy name m' → IsNotGrown (stop.Fresh error) l m''
+not_grown k size name error l m m' m'' none made refused gone = record {
+  pools = ap (λ (x : Ledger). x.pools) all ∙ fun_ext (λ q. at (nat_eq name q) q refl);
+  counters = ap (λ (x : Ledger). x.counters) all ∙ fresh_counters error l.counters;
+}
+  where
+    all : m'' ≡ after_destroy name (after_no_alloc name error (after_create (pool_counts k.counts size) size (flags_of k) name l))
+    all = gone ∙ ap (after_destroy name) (refused ∙ ap (after_no_alloc name error) made)
+
+    at : (b : Bool) (q : ℕ) → nat_eq name q ≡ b → cond b None (cond b (changed (λ (pool : Pool). record pool { refusals = pool.refusals + pool_refusals error }) (update nat_eq l.pools name (Some (fresh (pool_counts k.counts size) size (flags_of k))) name)) (cond b (Some (fresh (pool_counts k.counts size) size (flags_of k))) (l.pools q))) ≡ l.pools q
+    at true q h = sym none ∙ ap l.pools (eqb-true name q h)
+    at false q h = refl

@@ -1,0 +1,154 @@
+-- What a request takes of a key keeps books and ledger of the whole allocator in agreement.
+use Rattle.std.proofs.Common.{◌≡◌, ◌≢◌, ℕ, suc, ◌+◌, ◌-◌, ◌≤◌, ◌==◌, inl, inr, List, [], ◌∷◌, length, Bool, true, false, Option, Some, None, refl, sym, ap, ◌∙◌, subst, arith, eqb-true, ne_eqb}
+use Rattle.std.proofs.lemmas.Bool.{cases_Bool, cases_lt, or_cases, or_from}
+use Rattle.std.specs.List.{slice_get, list_any}
+use Rattle.std.specs.Option.{option_map_or}
+use Rattle.std.specs.Prelude.{if◌then◌else◌}
+use Rattle.gpu_descriptor_types.specs.Ledger.{Pool}
+use Rattle.gpu_descriptor.specs.Books.{Key, key_eq, Entry, Bucket, entry_at}
+use Rattle.gpu_descriptor.specs.Agreement.{State, Item, set_of, count_of, live_in, outstanding, AreOutstanding, IsAsBooked, Agree}
+use Rattle.gpu_descriptor.specs.Walk.{with_pools, AreBookedIn, KeepsKey, live_at}
+use Rattle.gpu_descriptor.proofs.Exact.{key_exact}
+use Rattle.gpu_descriptor.proofs.Fronts.{entry_at-found, entry_at-from}
+
+-- the key's part of the agreement
+pub booked_of : (s : State) (k : Key) → Agree s → AreBookedIn k s.ledger (s.books k).pools
+booked_of s k agree = record {
+  distinct = λ i j d e at_i at_j same. (
+      let b = s.books k in
+      let both = agree.distinct k k (b.first + i) (b.first + j) d e (at b i d at_i) (at b j e at_j) same in
+      let number = both.1 in
+      omega arith);
+  each = λ i e at_i. (let b = s.books k in let found = agree.booked k (b.first + i) e (at b i e at_i) in record { pool = found.0; is_live = found.1; booked = found.2 });
+}
+  where
+    at : (b : Bucket) (i : ℕ) (e : Entry) → slice_get b.pools i ≡ Some e → entry_at b (b.first + i) ≡ Some e
+    at b i e there = entry_at-from b (b.first + i) e (omega arith) (ap (slice_get b.pools) (let n : b.first + i - b.first ≡ i = omega arith in n) ∙ there)
+
+module _ (k : Key) (items : List Item) (new : List Entry) (s : State) (after : ℕ → Option Pool) (agree : Agree s)
+    (h : KeepsKey k (s.books k).first items (s.books k).pools new s.ledger after) where
+  abbrev t : State
+  t = with_pools k new after s
+
+  own : t.books k ≡ record (s.books k) { pools = new }
+  own = ap (λ (b : Bool). if b then record (s.books k) { pools = new } else s.books k) (key_exact.self k)
+
+  other : (l : Key) → key_eq k l ≡ false → t.books l ≡ s.books l
+  other l ne = ap (λ (b : Bool). if b then record (s.books l) { pools = new } else s.books l) ne
+
+  -- a place of the key
+  in_new : (n : ℕ) (e : Entry) → entry_at (t.books k) n ≡ Some e → ((s.books k).first ≤ n) × (slice_get new (n - (s.books k).first) ≡ Some e)
+  in_new n e at = entry_at-found (record (s.books k) { pools = new }) n e (ap (λ (b : Bucket). entry_at b n) (sym own) ∙ at)
+
+  -- another key's pool isn't among the key's
+  foreign : (l : Key) (m : ℕ) (d : Entry) → key_eq k l ≡ false → entry_at (s.books l) m ≡ Some d → (i : ℕ) (e : Entry) → slice_get new i ≡ Some e → d.pool ≢ e.pool
+  foreign l m d ne at i e there same = elim (h.named i e there) [
+    | inl old ↦ (
+        let found = find (s.books k).pools old in
+        let b = s.books k in
+        let both = agree.distinct k l (b.first + found.0) m found.1 d (entry_at-from b (b.first + found.0) found.1 (omega arith) (ap (slice_get b.pools) (let n : b.first + found.0 - b.first ≡ found.0 = omega arith in n) ∙ found.2)) at (found.3 ∙ sym same) in
+        let bad : true ≡ false = sym (key_exact.self k) ∙ ap (key_eq k) both.0 ∙ ne in
+        absurd (cc))
+    | inr none ↦ (
+        let live = agree.booked l m d at in
+        let bad : ◌≡◌ {A = Option Pool} None (Some live.0) = sym none ∙ ap s.ledger (sym same) ∙ live.1 in
+        absurd (cc))
+  ]
+    where
+      find : (es : List Entry) → list_any (λ d. d.pool == e.pool) es ≡ true → (j : ℕ) × (c : Entry) × (slice_get es j ≡ Some c) × (c.pool ≡ e.pool)
+      find [] any = absurd (let bad : true ≡ false = sym any in cc)
+      find (c ∷ es) any = elim (or_cases (c.pool == e.pool) (list_any (λ d. d.pool == e.pool) es) any) [
+        | inl here ↦ (0, c, refl, eqb-true c.pool e.pool here)
+        | inr later ↦ (let f = find es later in (suc f.0, f.1, f.2, f.3))
+      ]
+
+  -- so it stays in the ledger
+  foreign_stays : (l : Key) (m : ℕ) (d : Entry) → key_eq k l ≡ false → entry_at (s.books l) m ≡ Some d → after d.pool ≡ s.ledger d.pool
+  foreign_stays l m d ne at = h.others d.pool (none new (λ i e there. foreign l m d ne at i e there))
+    where
+      none : (es : List Entry) → ((i : ℕ) (e : Entry) → slice_get es i ≡ Some e → d.pool ≢ e.pool) → list_any (λ e. e.pool == d.pool) es ≡ false
+      none [] apart = refl
+      none (e ∷ es) apart = or_from (e.pool == d.pool) (list_any (λ e. e.pool == d.pool) es) (ne_eqb e.pool d.pool (λ same. apart 0 e refl (sym same))) (none es (λ i c there. apart (suc i) c there))
+
+  pub keeps_agree : Agree t
+  keeps_agree = record {
+    distinct = λ a b m n d e at_a at_b same. elim (cases_Bool (key_eq k a)) [
+      | inl own_a ↦ (
+          let is_a : k ≡ a = key_exact.same k a own_a in
+          let here_a = in_new m d (ap (λ (x : Key). entry_at (t.books x) m) is_a ∙ at_a) in
+          elim (cases_Bool (key_eq k b)) [
+            | inl own_b ↦ (
+                let is_b : k ≡ b = key_exact.same k b own_b in
+                let here_b = in_new n e (ap (λ (x : Key). entry_at (t.books x) n) is_b ∙ at_b) in
+                let place = h.booked.distinct (m - (s.books k).first) (n - (s.books k).first) d e here_a.1 here_b.1 same in
+                let above_a = here_a.0 in
+                let above_b = here_b.0 in
+                (sym is_a ∙ is_b, (let e : m ≡ n = omega arith in e)))
+            | inr other_b ↦ absurd (foreign b n e other_b (ap (λ (x : Bucket). entry_at x n) (sym (other b other_b)) ∙ at_b) (m - (s.books k).first) d here_a.1 (sym same))
+          ])
+      | inr other_a ↦ (
+          let there_a = ap (λ (x : Bucket). entry_at x m) (sym (other a other_a)) ∙ at_a in
+          elim (cases_Bool (key_eq k b)) [
+            | inl own_b ↦ (
+                let is_b : k ≡ b = key_exact.same k b own_b in
+                let here_b = in_new n e (ap (λ (x : Key). entry_at (t.books x) n) is_b ∙ at_b) in
+                absurd (foreign a m d other_a there_a (n - (s.books k).first) e here_b.1 same))
+            | inr other_b ↦ agree.distinct a b m n d e there_a (ap (λ (x : Bucket). entry_at x n) (sym (other b other_b)) ∙ at_b) same
+          ])
+    ];
+    booked = λ a n e at. elim (cases_Bool (key_eq k a)) [
+      | inl own_a ↦ (
+          let is_a : k ≡ a = key_exact.same k a own_a in
+          let here = in_new n e (ap (λ (x : Key). entry_at (t.books x) n) is_a ∙ at) in
+          let b = h.booked.each (n - (s.books k).first) e here.1 in
+          (b.pool, b.is_live, subst (λ (x : Key). IsAsBooked x b.pool e) is_a b.booked))
+      | inr other_a ↦ (
+          let there = ap (λ (x : Bucket). entry_at x n) (sym (other a other_a)) ∙ at in
+          let b = agree.booked a n e there in
+          (b.0, foreign_stays a n e other_a there ∙ b.1, b.2))
+    ];
+    absent = λ a none. elim (cases_Bool (key_eq k a)) [
+      | inl own_a ↦ (
+          let is_a : k ≡ a = key_exact.same k a own_a in
+          let empty : new ≡ [] = ap (λ (b : Bucket). b.pools) (sym own) ∙ ap (λ (x : Key). (t.books x).pools) is_a ∙ none in
+          let longer = h.longer in
+          let short = ap length empty in
+          let was : (s.books k).pools ≡ [] = no_length (s.books k).pools (omega arith) in
+          ap (λ (x : Key). (t.books x).first) (sym is_a) ∙ ap (λ (b : Bucket). b.first) own ∙ agree.absent k was)
+      | inr other_a ↦ ap (λ (b : Bucket). b.first) (other a other_a) ∙ agree.absent a (ap (λ (b : Bucket). b.pools) (sym (other a other_a)) ∙ none)
+    ];
+  }
+    where
+      no_length : (es : List Entry) → length es ≡ 0 → es ≡ []
+      no_length [] e = refl
+      no_length (x ∷ es) e = absurd (omega arith)
+
+  -- exactly these sets are outstanding besides
+  pub keeps_outstanding : (u : Item) → outstanding t u ≡ outstanding s u + count_of u items
+  keeps_outstanding u = elim (cases_Bool (key_eq k u.key)) [
+    | inl own_u ↦ (
+        let is_u : k ≡ u.key = key_exact.same k u.key own_u in
+        let left : outstanding t u ≡ live_at after (record { first = (s.books k).first; pools = new }) u = ap (λ (b : Bucket). live_at after b u) (ap t.books (sym is_u) ∙ own) in
+        let right : outstanding s u ≡ live_at s.ledger (record { first = (s.books k).first; pools = (s.books k).pools }) u = ap (λ (x : Key). live_at s.ledger (s.books x) u) (sym is_u) in
+        let more = h.out u (sym is_u) in
+        omega arith)
+    | inr other_u ↦ (
+        let none : count_of u items ≡ 0 = nothing other_u in
+        let left : outstanding t u ≡ live_at after (s.books u.key) u = ap (λ (b : Bucket). live_at after b u) (other u.key other_u) in
+        let same = by_entry (entry_at (s.books u.key) u.number) refl other_u in
+        omega arith)
+  ]
+    where
+      nothing : key_eq k u.key ≡ false → count_of u items ≡ 0
+      nothing ne = elim (cases_lt 0 (count_of u items)) [
+        | inl some ↦ (let bad : true ≡ false = sym (key_exact.self k) ∙ ap (key_eq k) (sym (h.of_key u some)) ∙ ne in absurd (cc))
+        | inr none ↦ (omega arith)
+      ]
+
+      by_entry : (o : Option Entry) → entry_at (s.books u.key) u.number ≡ o → key_eq k u.key ≡ false → option_map_or (λ e. live_in after e.pool (set_of u)) o 0 ≡ option_map_or (λ e. live_in s.ledger e.pool (set_of u)) o 0
+      by_entry None is ne = refl
+      by_entry (Some e) is ne = ap (λ (o : Option Pool). option_map_or (λ (p : Pool). p.live (set_of u)) o 0) (foreign_stays u.key u.number e ne is)
+
+  -- so they may be given back
+  pub keeps_given : AreOutstanding items t
+  keeps_given u = (let e = keeps_outstanding u in omega arith)

@@ -1,0 +1,147 @@
+-- The running totals of a table, and what a run takes from them.
+use Rattle.std.proofs.Common.{◌≡◌, ℕ, ◌+◌, ◌*◌, ◌-◌, ◌≤◌, Bool, true, List, [], ◌∷◌, length, map, sum, sum_by, Option, Some, None, inl, inr, refl, sym, ap, ◌∙◌, arith}
+use Rattle.std.specs.Prelude.{if◌then◌else◌}
+use Rattle.std.specs.Map.{lookup, set_value}
+use Rattle.std.proofs.lemmas.Bool.{cases_Bool}
+use Rattle.std.proofs.lemmas.List.Sums.{sum_by-cons}
+use Rattle.gpu_descriptor.specs.declared.set.BucketKey.{BucketKey}
+use Rattle.gpu_descriptor.specs.declared.set.DescriptorSet.{DescriptorSet}
+use Rattle.gpu_descriptor.specs.declared.bucket.DescriptorPool.{DescriptorPool}
+use Rattle.gpu_descriptor.specs.declared.bucket.DescriptorBucket.{DescriptorBucket}
+use Rattle.gpu_descriptor.specs.Allocated.{allocated_in}
+use Rattle.gpu_descriptor.specs.Books.{Key, key_eq}
+use Rattle.gpu_descriptor.specs.Frees.{descriptors_of, marked_descriptors}
+use Rattle.gpu_descriptor.specs.Sets.{key_of, item_of, items_of}
+use Rattle.gpu_descriptor.specs.States.{sets_in, descriptors_in, outstanding_of, marked_load_of}
+use Rattle.gpu_descriptor.specs.Steps.{HaveKey}
+use Rattle.gpu_descriptor.specs.Stored.{kept_of, row_of, load_in, IsCounted}
+use Rattle.gpu_descriptor.specs.Values.{Allocations, Kept}
+use Rattle.gpu_descriptor.proofs.Exact.{key_exact}
+use Rattle.gpu_descriptor.proofs.WholeRun.{at_parts}
+
+-- the descriptors of so many sets of a key, if it is marked
+abbrev pub load_at : Key → ℕ → ℕ
+load_at k n = if k.marked then n * sum k.counts else 0
+
+pub load_at-none : (k : Key) → load_at k 0 ≡ 0
+load_at-none k = elim (cases_Bool k.marked) [ inl on ↦ rw on (omega arith) | inr off ↦ rw off refl ]
+
+pub load_at-add : (k : Key) (m n : ℕ) → load_at k (m + n) ≡ load_at k m + load_at k n
+load_at-add k m n = elim (cases_Bool k.marked) [ inl on ↦ rw on (grind arith) | inr off ↦ rw off refl ]
+
+pub load_at-le : (k : Key) (m n : ℕ) → m ≤ n → load_at k m ≤ load_at k n
+load_at-le k m n le =
+    let rest : m + (n - m) ≡ n = omega arith in
+    let parts = load_at-add k m (n - m) in
+    let whole : load_at k (m + (n - m)) ≡ load_at k n = ap (load_at k) rest in
+    omega arith
+
+module _ {P : Type 0} where
+  -- a write through the map, in a sum over its entries
+  pub sum_set : (f : BucketKey × DescriptorBucket P → ℕ) (test : BucketKey → Bool) (es : List (BucketKey × DescriptorBucket P)) (v w : DescriptorBucket P) → lookup test es ≡ Some v → (k : BucketKey) × (test k ≡ true) × (f (k, v) ≤ sum_by f es) × (sum_by f (set_value test es w) + f (k, v) ≡ sum_by f es + f (k, w))
+  sum_set f test [] v w found = absurd (let bad : ◌≡◌ {A = Option (DescriptorBucket P)} None (Some v) = found in cc)
+  sum_set f test (e ∷ es) v w found = elim (cases_Bool (test e.0)) [
+    | inl at ↦ (
+        let is : Some e.1 ≡ Some v = rw at at found in
+        let same : e.1 ≡ v = cc in
+        let own : f e ≡ f (e.0, v) = ap (λ (b : DescriptorBucket P). f (e.0, b)) same in
+        let old = sum_by-cons f e es in
+        let new = sum_by-cons f (e.0, w) es in
+        (e.0, at, (let le : f (e.0, v) ≤ sum_by f (e ∷ es) = omega arith in le), rw at (omega arith)))
+    | inr at ↦ (
+        let rest = sum_set f test es v w (rw at at found) in
+        let below = rest.2 in
+        let moved = rest.3 in
+        let old = sum_by-cons f e es in
+        let new = sum_by-cons f e (set_value test es w) in
+        (rest.0, rest.1, (let le : f (rest.0, v) ≤ sum_by f (e ∷ es) = omega arith in le), rw at (omega arith)))
+  ]
+
+  -- ---- the totals that the code keeps are those that callers see
+
+  pub pools_out : (b : DescriptorBucket P) → sum_by (λ (p : Kept P). p.allocated) (map kept_of b.pools.items) ≡ b.total
+  pools_out b = go b.pools.items ∙ sym b.counted
+    where
+      go : (ps : List (DescriptorPool P)) → sum_by (λ (p : Kept P). p.allocated) (map kept_of ps) ≡ allocated_in ps
+      go [] = refl
+      go (p ∷ ps) = sum_by-cons (λ (q : Kept P). q.allocated) (kept_of p) (map kept_of ps) ∙ ap (λ n. p.allocated + n) (go ps) ∙ sym (sum_by-cons (λ (q : DescriptorPool P). q.allocated) p ps)
+
+  pub rows_out : (es : List (BucketKey × DescriptorBucket P)) → sum_by sets_in (map row_of es) ≡ sum_by (λ r. r.1.total) es
+  rows_out [] = refl
+  rows_out (e ∷ es) =
+      let own = pools_out e.1 in
+      let rest = rows_out es in
+      let a = sum_by-cons sets_in (row_of e) (map row_of es) in
+      let b = sum_by-cons (λ (r : BucketKey × DescriptorBucket P). r.1.total) e es in
+      omega arith
+
+  pub rows_load : (es : List (BucketKey × DescriptorBucket P)) → sum_by descriptors_in (map row_of es) ≡ sum_by load_in es
+  rows_load [] = refl
+  rows_load (e ∷ es) =
+      let own : load_at (key_of e.0) (sets_in (row_of e)) ≡ load_at (key_of e.0) e.1.total = ap (load_at (key_of e.0)) (pools_out e.1) in
+      let rest = rows_load es in
+      let a = sum_by-cons descriptors_in (row_of e) (map row_of es) in
+      let b = sum_by-cons (load_in {P = P}) e es in
+      omega arith
+
+-- the descriptors of a run
+pub run_load : {S : Type 0} (name : S → ℕ) (k : BucketKey) (n : ℕ) (xs : List (DescriptorSet S)) → HaveKey k n xs → marked_descriptors (items_of name xs) ≡ load_at (key_of k) (length xs)
+run_load name k n [] have = sym (load_at-none (key_of k))
+run_load name k n (x ∷ xs) have =
+    let key : key_of x.key ≡ key_of k = (at_parts k n x have.0).0 in
+    let one : load_at (key_of k) 1 ≡ descriptors_of (item_of name x) = ap (λ (l : Key). load_at l 1) (sym key) ∙ single (key_of x.key) in
+    let rest = run_load name k n xs have.1 in
+    let a = sum_by-cons descriptors_of (item_of name x) (items_of name xs) in
+    let b = load_at-add (key_of k) 1 (length xs) in
+    let long : 1 + length xs ≡ length (x ∷ xs) = omega arith in
+    let c = ap (load_at (key_of k)) long in
+    omega arith
+  where
+    single : (l : Key) → load_at l 1 ≡ (if l.marked then sum l.counts else 0)
+    single l = elim (cases_Bool l.marked) [ inl on ↦ rw on (omega arith) | inr off ↦ rw off refl ]
+
+-- what a run takes from the totals
+pub record Taken {P : Type 0} (k : Key) (n : ℕ) (es fs : List (BucketKey × DescriptorBucket P)) : Type 0 where
+  pub out : sum_by (λ r. r.1.total) fs + n ≡ sum_by (λ r. r.1.total) es
+  pub load : sum_by load_in fs + load_at k n ≡ sum_by load_in es
+
+pub taken : {P : Type 0} (k : Key) (test : BucketKey → Bool) → ((l : BucketKey) → test l ≡ key_eq k (key_of l)) → (n : ℕ) (es : List (BucketKey × DescriptorBucket P)) (v w : DescriptorBucket P) → lookup test es ≡ Some v → w.total + n ≡ v.total → Taken k n es (set_value test es w)
+taken {P} k test same n es v w found total =
+    let a = sum_set (λ (r : BucketKey × DescriptorBucket P). r.1.total) test es v w found in
+    let b = sum_set (load_in {P = P}) test es v w found in
+    let is : k ≡ key_of b.0 = key_exact.same k (key_of b.0) (sym (same b.0) ∙ b.1) in
+    let old : load_in {P = P} (b.0, v) ≡ load_at k v.total = ap (λ (l : Key). load_at l v.total) (sym is) in
+    let new : load_in {P = P} (b.0, w) ≡ load_at k w.total = ap (λ (l : Key). load_at l w.total) (sym is) in
+    let parts : load_at k v.total ≡ load_at k w.total + load_at k n = ap (load_at k) (sym total) ∙ load_at-add k w.total n in
+    let moved_out = a.3 in
+    let moved_load = b.3 in
+    record { out = omega arith; load = omega arith }
+
+module _ {P : Type 0} (k : Key) (n : ℕ) (es fs : List (BucketKey × DescriptorBucket P)) (t : Taken k n es fs) where
+  -- what goes was there
+  pub load_fits : (limit marked out : ℕ) → IsCounted limit marked out es → load_at k n ≤ marked
+  load_fits limit marked out counted = (let is = counted.is_load in let load = t.load in omega arith)
+
+  pub counted_after : (limit marked out less fewer : ℕ) → IsCounted limit marked out es → less ≡ load_at k n → fewer ≡ n → IsCounted limit (marked - less) (out - fewer) fs
+  counted_after limit marked out less fewer counted load many =
+      let is_load = counted.is_load in
+      let is_out = counted.is_out in
+      let within = counted.within in
+      let a = t.load in
+      let b = t.out in
+      record { is_load = omega arith; within = omega arith; is_out = omega arith }
+
+  module _ (old : Allocations P) (is : old.table ≡ map row_of es) (gs : List (BucketKey × DescriptorBucket P)) (wrote : gs ≡ fs) where
+    pub out_after : sum_by sets_in (map row_of gs) + n ≡ outstanding_of old
+    out_after =
+        let a = ap (sum_by sets_in) is ∙ rows_out es in
+        let b = ap (λ (hs : List (BucketKey × DescriptorBucket P)). sum_by sets_in (map row_of hs)) wrote ∙ rows_out fs in
+        let out = t.out in
+        omega arith
+
+    pub load_after : (m : ℕ) → m ≡ load_at k n → sum_by descriptors_in (map row_of gs) + m ≡ marked_load_of old
+    load_after m same =
+        let a = ap (sum_by descriptors_in) is ∙ rows_load es in
+        let b = ap (λ (hs : List (BucketKey × DescriptorBucket P)). sum_by descriptors_in (map row_of hs)) wrote ∙ rows_load fs in
+        let load = t.load in
+        omega arith

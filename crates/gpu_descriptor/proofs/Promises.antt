@@ -1,0 +1,271 @@
+-- What every outcome of a request promises.
+use Rattle.std.proofs.Common.{◌≡◌, ℕ, suc, ◌+◌, ◌-◌, ◌*◌, ◌<◌, ◌≤◌, Bool, true, List, [], ◌∷◌, ◌++◌, map, length, drop, sum_by, count_by, Option, Some, None, option_map, inl, inr, eqb-true, ◌==◌, ◌&&◌, Result, Ok, Err, refl, sym, ap, ◌∙◌, subst, arith}
+use Rattle.std.proofs.lemmas.List.{length-map, length-append}
+use Rattle.std.proofs.lemmas.List.Sums.{sum_by-cons, sum_by-append}
+use Rattle.std.proofs.Math.Nat.{mul-le-mul_right}
+use Rattle.gpu_descriptor_types.proofs.Sizes.{pool_size_some}
+use Rattle.gpu_descriptor_types.specs.PoolSize.{pool_size_floor}
+use Rattle.std.specs.Prelude.{min, if◌then◌else◌, IfErr}
+use Rattle.gpu_descriptor_types.specs.Ledger.{Pool, Counters, live_sets, create_refused, alloc_refused, pool_refusals}
+use Rattle.gpu_descriptor_types.specs.declared.errors.CreatePoolError.{CreatePoolError}
+use Rattle.gpu_descriptor_types.specs.declared.errors.CreatePoolError.TheVariants as create_error
+use Rattle.gpu_descriptor_types.specs.declared.errors.DeviceAllocationError.{DeviceAllocationError}
+use Rattle.gpu_descriptor_types.specs.declared.errors.DeviceAllocationError.TheVariants as alloc_error
+use Rattle.gpu_descriptor.specs.declared.errors.AllocationError.{AllocationError}
+use Rattle.gpu_descriptor.specs.declared.errors.AllocationError.TheVariants.{OutOfHostMemory, Fragmentation}
+use Rattle.gpu_descriptor.specs.Agreement.{State, Item, set_of}
+use Rattle.gpu_descriptor.specs.Books.{Key, Entry, Bucket, next_number}
+use Rattle.gpu_descriptor.specs.Errors.{error_of_create, error_of_alloc}
+use Rattle.gpu_descriptor.specs.FreshPools.{Fresh, AreNew, AreSized, AreFull, IsFreshList, given_by, fresh_portions}
+use Rattle.gpu_descriptor.specs.Grants.{Grant, Part, portion_of, items_at, items_in, came, granted, fresh_or, pool_with}
+use Rattle.gpu_descriptor.specs.Outcomes.{Allocates, Call, IsBack, IsStoppedAtPool, IsStoppedAtCreate, IsStoppedAtFresh, IsFront, IsGrant, out_then, wanting, no_rise}
+use Rattle.gpu_descriptor.specs.Outcomes.Allocates.{none, limit, bound, start, done, stopped_at_pool, stopped_at_create, stopped_for_memory, stopped_at_fresh}
+use Rattle.gpu_descriptor.specs.FreshPools.IsFreshList.{none as no_fresh, some as some_fresh}
+use Rattle.gpu_descriptor.specs.Release.{released, given_back, spent_front, in_front, lies_in, pool_less}
+use Rattle.std.specs.List.{list_any}
+use Rattle.std.proofs.lemmas.Bool.{cases_Bool}
+use Rattle.gpu_descriptor_types.specs.Multiset.{set_eq}
+use Rattle.gpu_descriptor.specs.Promises.{HasCause, IsShort, CreatesOnlyWhereShort}
+use Rattle.gpu_descriptor.specs.Promises.IsFragmentation.{above_limit, past_bound, no_pool_created, new_pool_refused}
+use Rattle.gpu_descriptor.specs.Shares.{Portion, offer, rest, portions_of, refused_count, OnlyAskedRefuse}
+
+-- ---- how many sets
+
+abbrev sum_given : List Portion → ℕ
+sum_given ps = sum_by (λ p. p.given) ps
+
+length_items : (k : Key) (parts : List Part) → length (items_in k parts) ≡ sum_given (map portion_of parts)
+length_items k [] = refl
+length_items k (p ∷ parts) =
+    let a = length-append (items_at k p.number p.names) (items_in k parts) in
+    let b = length-map p.names (λ (name : ℕ). let t : Item = record { key = k; number = p.number; name = name } in t) in
+    let c = sum_by-cons (λ (q : Portion). q.given) (portion_of p) (map portion_of parts) in
+    let more = length_items k parts in
+    omega arith
+
+shares_sum : (refused : ℕ → Bool) (n number : ℕ) (pools : List Entry) → sum_given (portions_of refused n number pools) + rest refused n pools ≡ n
+shares_sum refused n number [] = omega arith
+shares_sum refused n number (e ∷ newer) =
+    let last : Portion = record { number = number; pool = e.pool; given = min (offer refused e) (rest refused n newer) } in
+    let a = sum_by-append (λ (q : Portion). q.given) (portions_of refused n (number + 1) newer) (last ∷ []) in
+    let one : sum_given (last ∷ []) ≡ last.given = omega arith in
+    let b = sum_by-cons (offer refused) e newer in
+    let more = shares_sum refused n (number + 1) newer in
+    omega arith
+
+fresh_sum : (number : ℕ) (pools : List Fresh) → sum_given (fresh_portions number pools) ≡ given_by pools
+fresh_sum number [] = refl
+fresh_sum number (f ∷ pools) =
+    let p : Portion = record { number = number; pool = f.pool; given = f.given } in
+    let a = sum_by-cons (λ (q : Portion). q.given) p (fresh_portions (number + 1) pools) in
+    let b = sum_by-cons (λ (g : Fresh). g.given) f pools in
+    let more = fresh_sum (number + 1) pools in
+    omega arith
+
+all_given : (counts : List ℕ) (total wanted : ℕ) (pools : List Fresh) → IsFreshList counts total wanted pools → given_by pools ≡ wanted
+all_given counts total wanted pools (no_fresh zero_wanted empty) = ap given_by empty ∙ sym zero_wanted
+all_given counts total wanted pools (some_fresh front last is short sized le given) = given
+
+-- what was had in all is what was asked for
+pub grant_many : (k : Key) (n total : ℕ) (b : Bucket) (g : Grant) → map portion_of g.parts ≡ portions_of g.refused n (b.first + g.left) (drop g.left b.pools) ++ fresh_portions (next_number b) g.fresh → g.left ≡ 0 → IsFreshList k.counts total (rest g.refused n b.pools) g.fresh → length (items_in k g.parts) ≡ n
+grant_many k n total b g parts none_left fresh =
+    let long = length_items k g.parts ∙ ap sum_given parts in
+    let two = sum_by-append (λ (q : Portion). q.given) (portions_of g.refused n (b.first + g.left) (drop g.left b.pools)) (fresh_portions (next_number b) g.fresh) in
+    let new = fresh_sum (next_number b) g.fresh ∙ all_given _ _ _ _ fresh in
+    let all : rest g.refused n (drop g.left b.pools) ≡ rest g.refused n b.pools = ap (λ i. rest g.refused n (drop i b.pools)) none_left in
+    let old = shares_sum g.refused n (b.first + g.left) (drop g.left b.pools) in
+    omega arith
+
+-- ---- the causes
+
+create_cause : (c : Call) (s : IsStoppedAtCreate c) → HasCause (error_of_create s.error) c
+create_cause c s = by_error s.error refl
+  where
+    by_error : (e : CreatePoolError) → s.error ≡ e → HasCause (error_of_create e) c
+    by_error create_error.OutOfDeviceMemory is =
+        let n = ap (λ (k : Counters). k.device_memory) s.back.counters in
+        let one = ap (λ (e : CreatePoolError). (create_refused e no_rise).device_memory) is in
+        omega arith
+    by_error create_error.OutOfHostMemory is = tt
+    by_error create_error.Fragmentation is =
+        let n = ap (λ (k : Counters). k.fragmentation) s.back.counters in
+        let one = ap (λ (e : CreatePoolError). (create_refused e no_rise).fragmentation) is in
+        no_pool_created s is (omega arith)
+
+pool_cause : (c : Call) (s : IsStoppedAtPool c) → HasCause (error_of_alloc s.error) c
+pool_cause c s = by_error s.error refl
+  where
+    by_error : (e : DeviceAllocationError) → s.error ≡ e → HasCause (error_of_alloc e) c
+    by_error alloc_error.OutOfDeviceMemory is =
+        let n = ap (λ (k : Counters). k.device_memory) s.back.counters in
+        let one = ap (λ (e : DeviceAllocationError). (alloc_refused e no_rise).device_memory) is in
+        omega arith
+    by_error alloc_error.OutOfHostMemory is = tt
+    by_error alloc_error.FragmentedPool is = (let m = s.memory in let one = ap pool_refusals is in absurd (omega arith))
+    by_error alloc_error.OutOfPoolMemory is = (let m = s.memory in let one = ap pool_refusals is in absurd (omega arith))
+
+fresh_cause : (c : Call) (s : IsStoppedAtFresh c) → HasCause (error_of_alloc s.error) c
+fresh_cause c s = by_error s.error refl
+  where
+    by_error : (e : DeviceAllocationError) → s.error ≡ e → HasCause (error_of_alloc e) c
+    by_error alloc_error.OutOfDeviceMemory is =
+        let n = ap (λ (k : Counters). k.device_memory) s.back.counters in
+        let one = ap (λ (e : DeviceAllocationError). (alloc_refused e no_rise).device_memory) is in
+        omega arith
+    by_error alloc_error.OutOfHostMemory is = tt
+    by_error alloc_error.FragmentedPool is =
+        let n = ap (λ (k : Counters). k.pool_refused) s.back.counters in
+        let one = ap (λ (e : DeviceAllocationError). (alloc_refused e no_rise).pool_refused) is in
+        new_pool_refused s (ap pool_refusals is) (omega arith)
+    by_error alloc_error.OutOfPoolMemory is =
+        let n = ap (λ (k : Counters). k.pool_refused) s.back.counters in
+        let one = ap (λ (e : DeviceAllocationError). (alloc_refused e no_rise).pool_refused) is in
+        new_pool_refused s (ap pool_refusals is) (omega arith)
+
+-- ---- which pools refused
+
+-- a pool that was live is none of the new ones
+old_pool : (k : Key) (fresh : List Fresh) (ledger : ℕ → Option Pool) (name : ℕ) (p : Pool) → AreNew ledger fresh → ledger name ≡ Some p → fresh_or k fresh name (Some p) ≡ Some p
+old_pool k [] ledger name p new live = refl
+old_pool k (f ∷ fresh) ledger name p new live = elim (cases_Bool (f.pool == name)) [
+  | inl same ↦ (let bad : ◌≡◌ {A = Option Pool} None (Some p) = sym new.0 ∙ ap ledger (eqb-true f.pool name same) ∙ live in absurd (cc))
+  | inr other ↦ rw other (old_pool k fresh ledger name p new.2 live)
+]
+
+granted_raises : (k : Key) (n : ℕ) (g : Grant) (s : State) (name : ℕ) (p q : Pool) → AreNew s.ledger g.fresh → g.refused name ≡ true → s.ledger name ≡ Some p → (granted k n g s).ledger name ≡ Some q → q.refusals ≡ p.refusals + 1
+granted_raises k n g s name p q new refused live after =
+    let f : Pool → Pool = pool_with (live_sets k.counts (came g.parts name)) (g.refused name) in
+    let is : (granted k n g s).ledger name ≡ Some (f p) = ap (λ (o : Option Pool). option_map f (fresh_or k g.fresh name o)) live ∙ ap (option_map f) (old_pool k g.fresh s.ledger name p new live) in
+    let same : Some (f p) ≡ Some q = sym is ∙ after in
+    let one : f p ≡ q = cc in
+    sym (ap (λ (x : Pool). x.refusals) one) ∙ ap (λ (b : Bool). if b then p.refusals + 1 else p.refusals) refused
+
+released_raises : (m : List Item) (t : State) (name : ℕ) (q : Pool) → (released m t).ledger name ≡ Some q → (o : Pool) × (t.ledger name ≡ Some o) × (q.refusals ≡ o.refusals)
+released_raises m t name q after = elim (cases_Bool (list_any (λ u. let b = (given_back m t).books u.key in in_front (spent_front b) b name) m)) [
+  | inl gone ↦ (let bad : ◌≡◌ {A = Option Pool} None (Some q) = rw gone at after in absurd (cc))
+  | inr kept ↦ (let left : (given_back m t).ledger name ≡ Some q = rw kept at after in by_pool (t.ledger name) refl left)
+]
+  where
+    by_pool : (o : Option Pool) → t.ledger name ≡ o → option_map (pool_less (λ x. count_by (λ u. lies_in t.books name u && set_eq (set_of u) x) m)) o ≡ Some q → (p : Pool) × (t.ledger name ≡ Some p) × (q.refusals ≡ p.refusals)
+    by_pool None is e = absurd (let bad : ◌≡◌ {A = Option Pool} None (Some q) = e in cc)
+    by_pool (Some p) is e = (p, is, (let one : pool_less (λ x. count_by (λ u. lies_in t.books name u && set_eq (set_of u) x) m) p ≡ q = cc in sym (ap (λ (x : Pool). x.refusals) one)))
+
+-- what a request that stopped raised
+back_raises : (c : Call) (g : Grant) (rise : Counters) (error : AllocationError) → IsBack c g rise error → (name : ℕ) (p q : Pool) → g.refused name ≡ true → c.old.ledger name ≡ Some p → c.new.ledger name ≡ Some q → q.refusals ≡ p.refusals + 1
+back_raises c g rise error b name p q refused live after =
+    let r = released_raises (items_in c.request.key g.parts) (granted c.request.key c.request.count g c.old) name q (sym (ap (λ (w : State). w.ledger name) b.state) ∙ after) in
+    r.2 ∙ granted_raises c.request.key c.request.count g c.old name p r.0 b.taken.new refused live r.1
+
+-- ---- pools are created only where the existing ones don't do
+
+times_more : (n m : ℕ) → suc n * m ≡ n * m + m
+times_more n m = grind arith
+
+-- new pools that gave all they have, and didn't do
+front_few : (counts : List ℕ) (total wanted : ℕ) (pools : List Fresh) → AreSized counts total wanted pools → AreFull pools → given_by pools < wanted → length pools * pool_size_floor counts ≤ given_by pools
+front_few counts total wanted [] sized full short = omega arith
+front_few counts total wanted (f ∷ pools) sized full short =
+    let sum = sum_by-cons (λ (g : Fresh). g.given) f pools in
+    let is = full.0 in
+    let some = pool_size_some counts total wanted f.size sized.0 in
+    let more = front_few counts (total + f.given) (wanted - f.given) pools sized.1 full.1 (omega arith) in
+    let product : length (f ∷ pools) * pool_size_floor counts ≡ length pools * pool_size_floor counts + pool_size_floor counts = times_more (length pools) (pool_size_floor counts) in
+    omega arith
+
+-- each pool that refused has one refusal more
+abbrev Raises : Call → Grant → Type 0
+Raises c g = (name : ℕ) (p q : Pool) → g.refused name ≡ true → c.old.ledger name ≡ Some p → c.new.ledger name ≡ Some q → q.refusals ≡ p.refusals + 1
+
+pools_short : (c : Call) (g : Grant) → IsGrant c.request c.old g → g.left ≡ 0 → 0 < wanting c.request c.old g → Raises c g → c.before.pool_refused + refused_count g.refused (drop g.left (c.old.books c.request.key).pools) ≤ c.after.pool_refused → (n : ℕ) → c.after.created ≡ c.before.created + n → n * pool_size_floor c.request.key.counts < wanting c.request c.old g + pool_size_floor c.request.key.counts → IsShort c
+pools_short c g is all some raises counted n rise few = record {
+  refused = g.refused;
+  raised = raises;
+  counted = subst (λ i. c.before.pool_refused + refused_count g.refused (drop i (c.old.books c.request.key).pools) ≤ c.after.pool_refused) all counted;
+  only_asked = subst (λ i. OnlyAskedRefuse g.refused c.request.count (drop i (c.old.books c.request.key).pools)) all is.refusing;
+  short = omega arith;
+  few = (
+      let m = pool_size_floor c.request.key.counts in
+      let same : c.after.created - c.before.created ≡ n = omega arith in
+      subst (λ i. i * m < wanting c.request c.old g + m) (sym same) few);
+}
+
+-- after a front, with one more or without
+front_short : (c : Call) (g : Grant) → IsGrant c.request c.old g → IsFront c.request c.old g → Raises c g → c.before.pool_refused + refused_count g.refused (drop g.left (c.old.books c.request.key).pools) ≤ c.after.pool_refused → (n : ℕ) → n ≤ 1 → c.after.created ≡ c.before.created + (length g.fresh + n) → IsShort c
+front_short c g is front raises counted n one rise =
+    let m : ℕ = pool_size_floor c.request.key.counts in
+    let short = front.front.short in
+    let few = front_few c.request.key.counts (out_then c.request c.old g) (wanting c.request c.old g) g.fresh front.front.sized front.front.full short in
+    let product = times_more (length g.fresh) m in
+    let below : (length g.fresh + n) * m ≤ suc (length g.fresh) * m = mul-le-mul_right m (omega arith) in
+    pools_short c g is front.all (omega arith) raises counted (length g.fresh + n) rise (omega arith)
+
+-- a list that gave all
+done_short : (c : Call) (g : Grant) → IsGrant c.request c.old g → g.left ≡ 0 → IsFreshList c.request.key.counts (out_then c.request c.old g) (wanting c.request c.old g) g.fresh → Raises c g → c.before.pool_refused + refused_count g.refused (drop g.left (c.old.books c.request.key).pools) ≤ c.after.pool_refused → c.after.created ≡ c.before.created + length g.fresh → 0 < length g.fresh → IsShort c
+done_short c g is all (no_fresh zero_wanted empty) raises counted rise some = (let e = ap length empty in absurd (omega arith))
+done_short c g is all (some_fresh front last parts short sized le given) raises counted rise some =
+    let m : ℕ = pool_size_floor c.request.key.counts in
+    let few = front_few c.request.key.counts (out_then c.request c.old g) (wanting c.request c.old g) front short.sized short.full short.short in
+    let below = short.short in
+    let long = ap length parts ∙ length-append front (last ∷ []) in
+    let product = times_more (length front) m in
+    let same : length g.fresh ≡ suc (length front) = omega arith in
+    let whole : length g.fresh * m ≡ suc (length front) * m = ap (λ n. n * m) same in
+    pools_short c g is all (omega arith) raises counted (length g.fresh) rise (omega arith)
+
+-- what an error adds to two of the counters
+alloc_creates : (e : DeviceAllocationError) → (alloc_refused e no_rise).created ≡ 0
+alloc_creates alloc_error.OutOfDeviceMemory = refl
+alloc_creates alloc_error.OutOfHostMemory = refl
+alloc_creates alloc_error.FragmentedPool = refl
+alloc_creates alloc_error.OutOfPoolMemory = refl
+
+create_creates : (e : CreatePoolError) → (create_refused e no_rise).created ≡ 0
+create_creates create_error.OutOfDeviceMemory = refl
+create_creates create_error.OutOfHostMemory = refl
+create_creates create_error.Fragmentation = refl
+
+module _ (c : Call) where
+  answered : (e : AllocationError) → c.answer ≡ Err e → HasCause e c → IfErr c.answer (λ f. HasCause f c)
+  answered e is cause = subst (λ (r : Result (List Item) AllocationError). IfErr r (λ f. HasCause f c)) (sym is) cause
+
+  given : (items : List Item) → c.answer ≡ Ok items → IfErr c.answer (λ f. HasCause f c)
+  given items is = subst (λ (r : Result (List Item) AllocationError). IfErr r (λ f. HasCause f c)) (sym is) tt
+
+  -- each error has its cause
+  pub has_cause : Allocates c → IfErr c.answer (λ e. HasCause e c)
+  has_cause (none zero_count answer stays) = given [] answer
+  has_cause (limit some above answer stays) = answered Fragmentation answer (above_limit above)
+  has_cause (bound some within past answer stays) = answered Fragmentation answer (past_bound past)
+  has_cause (start p answer stays) = answered OutOfHostMemory answer tt
+  has_cause (done p d) = given _ d.answer
+  has_cause (stopped_at_pool p s) = answered _ s.back.answer (pool_cause c s)
+  has_cause (stopped_at_create p s) = answered _ s.back.answer (create_cause c s)
+  has_cause (stopped_for_memory p s) = answered OutOfHostMemory s.back.answer tt
+  has_cause (stopped_at_fresh p s) = answered _ s.back.answer (fresh_cause c s)
+
+  -- a pool is created only where the existing ones don't do
+  pub short : Allocates c → CreatesOnlyWhereShort c
+  short (none zero_count answer stays) more = (let n = ap (λ (k : Counters). k.created) stays.counters in absurd (omega arith))
+  short (limit some above answer stays) more = (let n = ap (λ (k : Counters). k.created) stays.counters in absurd (omega arith))
+  short (bound some within past answer stays) more = (let n = ap (λ (k : Counters). k.created) stays.counters in absurd (omega arith))
+  short (start p answer stays) more = (let n = ap (λ (k : Counters). k.created) stays.counters in absurd (omega arith))
+  short (done p d) more =
+      let n = ap (λ (k : Counters). k.created) d.counters in
+      let r = ap (λ (k : Counters). k.pool_refused) d.counters in
+      let raises : Raises c d.grant = λ name p q refused live after. granted_raises c.request.key c.request.count d.grant c.old name p q d.taken.new refused live (sym (ap (λ (w : State). w.ledger name) d.state) ∙ after) in
+      done_short c d.grant d.taken d.all d.fresh raises (omega arith) (omega arith) (omega arith)
+  short (stopped_at_pool p s) more =
+      let n = ap (λ (k : Counters). k.created) s.back.counters in
+      let e = alloc_creates s.error in
+      let f = ap length s.no_fresh in
+      absurd (omega arith)
+  short (stopped_at_create p s) more =
+      let n = ap (λ (k : Counters). k.created) s.back.counters in
+      let e = create_creates s.error in
+      (let r = ap (λ (k : Counters). k.pool_refused) s.back.counters in front_short c s.grant s.back.taken s.front (back_raises c s.grant _ _ s.back) (omega arith) 0 (omega arith) (omega arith))
+  short (stopped_for_memory p s) more =
+      let n = ap (λ (k : Counters). k.created) s.back.counters in
+      (let r = ap (λ (k : Counters). k.pool_refused) s.back.counters in front_short c s.grant s.back.taken s.front (back_raises c s.grant _ _ s.back) (omega arith) 0 (omega arith) (omega arith))
+  short (stopped_at_fresh p s) more =
+      let n = ap (λ (k : Counters). k.created) s.back.counters in
+      (let r = ap (λ (k : Counters). k.pool_refused) s.back.counters in front_short c s.grant s.back.taken s.front (back_raises c s.grant _ _ s.back) (omega arith) 1 (omega arith) (omega arith))

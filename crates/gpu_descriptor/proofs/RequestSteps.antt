@@ -1,0 +1,107 @@
+-- What a request takes of one key, in the table of keys.
+use Rattle.std.proofs.Common.{◌≡◌, ℕ, ◌+◌, ◌≤◌, Bool, true, false, List, [], ◌∷◌, ◌++◌, length, map, Option, Some, None, is_some, Result, inl, inr, refl, sym, ap, ◌∙◌, subst, arith, ◌-◌, ◌&&◌, lt-ltb, le-ltb}
+use Rattle.std.specs.Map.{lookup, set_value}
+use Rattle.std.specs.Option.{option_map_or}
+use Rattle.std.specs.Prelude.{nat_lt, sum_by, if◌then◌else◌, OnOk, IfErr}
+use Rattle.std.proofs.lemmas.Bool.{cases_Bool, cases_lt}
+use Rattle.std.proofs.lemmas.List.Sums.{sum_by-append}
+use Rattle.gpu_descriptor_types.specs.Ledger.{Ledger}
+use Rattle.gpu_descriptor.specs.declared.set.BucketKey.{BucketKey}
+use Rattle.gpu_descriptor.specs.declared.set.DescriptorSet.{DescriptorSet}
+use Rattle.gpu_descriptor.specs.declared.bucket.DescriptorBucket.{DescriptorBucket}
+use Rattle.gpu_descriptor.specs.declared.take.Refusal.{Refusal}
+use Rattle.gpu_descriptor.specs.Books.{Key, key_eq, Bucket, no_pools, next_number}
+use Rattle.gpu_descriptor.specs.Sets.{key_of, items_of}
+use Rattle.gpu_descriptor.specs.Stored.{books_in, entry_of, bucket_of, load_of, load_in}
+use Rattle.gpu_descriptor.specs.Grow.{IsTakenAll, IsTakenUpTo}
+use Rattle.gpu_descriptor.specs.Serves.{Serves, ServesKey}
+use Rattle.gpu_descriptor.proofs.Exact.{key_exact}
+use Rattle.gpu_descriptor.proofs.Loads.{sum_set, load_at, load_at-add}
+use Rattle.gpu_descriptor.proofs.TableBooks.{put_books, written, looked_up, row_bucket}
+
+-- a new key goes last
+books_end : {P : Type 0} (name : P → ℕ) (k : BucketKey) (w : DescriptorBucket P) (test : BucketKey → Bool) → ((l : BucketKey) → test l ≡ key_eq (key_of k) (key_of l)) → (es : List (BucketKey × DescriptorBucket P)) → lookup test es ≡ None → (l : Key)
+    → books_in name (es ++ (k, w) ∷ []) l ≡ put_books (books_in name es) (key_of k) (bucket_of name w) l
+books_end name k w test same [] none l = ap (λ (b : Bucket). if key_eq (key_of k) l then b else no_pools) (row_bucket name (k, w))
+books_end {P} name k w test same (e ∷ es) none l = elim (cases_Bool (test e.0)) [
+  | inl at ↦ (let found : Some e.1 ≡ None = rw at at none in absurd (cc))
+  | inr at ↦ (
+      let rest : lookup test es ≡ None = rw at at none in
+      let ih = books_end name k w test same es rest l in
+      elim (cases_Bool (key_eq (key_of e.0) l)) [
+        | inl here ↦ (
+            let other : key_eq (key_of k) l ≡ false = ap (key_eq (key_of k)) (sym (key_exact.same (key_of e.0) l here)) ∙ sym (same e.0) ∙ at in
+            rw (here, other) refl)
+        | inr there ↦ rw there ih
+      ])
+]
+
+module _ {P S : Type 0} (name : P → ℕ) (set_name : S → ℕ) (k : BucketKey) (test : BucketKey → Bool) (same : (l : BucketKey) → test l ≡ key_eq (key_of k) (key_of l))
+    (es : List (BucketKey × DescriptorBucket P)) where
+  -- a key that is there
+  pub present : (v : DescriptorBucket P) → lookup test es ≡ Some v → books_in name es (key_of k) ≡ bucket_of name v
+  present v at = looked_up name test (key_of k) same es ∙ ap (λ (o : Option (DescriptorBucket P)). option_map_or (bucket_of name) o no_pools) at
+
+  -- a key that isn't
+  pub missing : lookup test es ≡ None → books_in name es (key_of k) ≡ no_pools
+  missing at = looked_up name test (key_of k) same es ∙ ap (λ (o : Option (DescriptorBucket P)). option_map_or (bucket_of name) o no_pools) at
+
+  load_grows : (v w : DescriptorBucket P) (l : BucketKey) (n : ℕ) → key_of l ≡ key_of k → w.total ≡ v.total + n → load_in (l, w) ≡ load_in (l, v) + load_of k n
+  load_grows v w l n is more =
+      ap (λ (x : Key). load_at x w.total) is ∙ ap (load_at (key_of k)) more ∙ load_at-add (key_of k) v.total n ∙ ap (λ (x : Key). load_at x v.total + load_at (key_of k) n) (sym is)
+
+  pub serves_present : (v w : DescriptorBucket P) (count : ℕ) (sets : List (DescriptorSet S)) (taken : Result (Unit {0}) Refusal) (before after : Ledger) → lookup test es ≡ Some v
+      → Serves name set_name (key_of k) count sets taken v w before after → ServesKey name set_name k count sets taken es (set_value test es w) before after
+  serves_present v w count sets taken before after at s =
+      let is : books_in name es (key_of k) ≡ bucket_of name v = present v at in
+      let out = sum_set (λ r. r.1.total) test es v w at in
+      let load = sum_set load_in test es v w at in
+      let total = s.total in
+      let key : key_of load.0 ≡ key_of k = sym (key_exact.same (key_of k) (key_of load.0) (sym (same load.0) ∙ load.1)) in
+      let grows = load_grows v w load.0 (length sets) key total in
+      let bucket : bucket_of name w ≡ record (bucket_of name v) { pools = (bucket_of name w).pools } = λ i. record { first = s.offset i; pools = (bucket_of name w).pools } in
+      record {
+        numbers = (let n = s.numbers in let e = ap next_number is in omega arith);
+        few = s.few;
+        pools = (bucket_of name w).pools;
+        books = λ l. written name test (key_of k) same es w (ap is_some at) l ∙ ap (λ (b : Bucket). put_books (books_in name es) (key_of k) b l) (bucket ∙ ap (λ (b : Bucket). let r : Bucket = record b { pools = (bucket_of name w).pools } in r) (sym is));
+        out = (let a = out.2 in let b = out.3 in omega arith);
+        load = (let a = load.2 in let b = load.3 in omega arith);
+        done = subst (λ (b : Bucket). OnOk taken (IsTakenAll (key_of k) count b.first (items_of set_name sets) b.pools (bucket_of name w).pools before after)) (sym is) s.done;
+        stopped = subst (λ (b : Bucket). IfErr taken (λ why. IsTakenUpTo why (key_of k) count b.first (items_of set_name sets) b.pools (bucket_of name w).pools before after)) (sym is) s.stopped;
+      }
+
+  pub serves_new : (v w : DescriptorBucket P) (count : ℕ) (sets : List (DescriptorSet S)) (taken : Result (Unit {0}) Refusal) (before after : Ledger) → lookup test es ≡ None → v.offset ≡ 0 → v.pools.items ≡ [] → v.total ≡ 0
+      → Serves name set_name (key_of k) count sets taken v w before after → ServesKey name set_name k count sets taken es (es ++ (k, w) ∷ []) before after
+  serves_new v w count sets taken before after at offset pools none s =
+      let is : books_in name es (key_of k) ≡ bucket_of name v = missing at ∙ (λ i. record { first = sym offset i; pools = map (entry_of name) (sym pools i) }) in
+      let total = s.total in
+      let bucket : bucket_of name w ≡ record (bucket_of name v) { pools = (bucket_of name w).pools } = λ i. record { first = s.offset i; pools = (bucket_of name w).pools } in
+      record {
+        numbers = (let n = s.numbers in let e = ap next_number is in omega arith);
+        few = s.few;
+        pools = (bucket_of name w).pools;
+        books = λ l. books_end name k w test same es at l ∙ ap (λ (b : Bucket). put_books (books_in name es) (key_of k) b l) (bucket ∙ ap (λ (b : Bucket). let r : Bucket = record b { pools = (bucket_of name w).pools } in r) (sym is));
+        out = (let a = sum_by-append (λ (r : BucketKey × DescriptorBucket P). r.1.total) es ((k, w) ∷ []) in let one : sum_by (λ (r : BucketKey × DescriptorBucket P). r.1.total) ((k, w) ∷ []) ≡ w.total = omega arith in omega arith);
+        load = (let a = sum_by-append load_in es ((k, w) ∷ []) in let one : sum_by load_in ((k, w) ∷ []) ≡ load_of k w.total = omega arith in let n : w.total ≡ length sets = omega arith in let e = ap (load_of k) n in omega arith);
+        done = subst (λ (b : Bucket). OnOk taken (IsTakenAll (key_of k) count b.first (items_of set_name sets) b.pools (bucket_of name w).pools before after)) (sym is) s.done;
+        stopped = subst (λ (b : Bucket). IfErr taken (λ why. IsTakenUpTo why (key_of k) count b.first (items_of set_name sets) b.pools (bucket_of name w).pools before after)) (sym is) s.stopped;
+      }
+
+-- a write of what is there
+pub set_value-same : {P : Type 0} (test : BucketKey → Bool) (es : List (BucketKey × DescriptorBucket P)) (v : DescriptorBucket P) → lookup test es ≡ Some v → set_value test es v ≡ es
+set_value-same test [] v at = refl
+set_value-same {P} test (e ∷ es) v at = elim (cases_Bool (test e.0)) [
+  | inl here ↦ (
+      let found : Some e.1 ≡ Some v = rw here at at in
+      let is : e.1 ≡ v = cc in
+      rw here (ap (λ (b : DescriptorBucket P). (e.0, b) ∷ es) (sym is)))
+  | inr there ↦ (let rest : lookup test es ≡ Some v = rw there at at in rw there (ap (λ (x : List (BucketKey × DescriptorBucket P)). e ∷ x) (set_value-same test es v rest)))
+]
+
+-- a test against what is left of the limit
+pub above-limit : (key : Bool) (left product limit current load count : ℕ) → key ≡ true → left ≡ limit - current → current ≡ load → current ≤ limit → product ≡ count → nat_lt left product ≡ key && nat_lt limit (count + load)
+above-limit key left product limit current load count on is same within alike = elim (cases_lt left product) [
+  | inl more ↦ lt-ltb left product more ∙ sym (ap (λ (b : Bool). b && nat_lt limit (count + load)) on ∙ lt-ltb limit (count + load) (omega arith))
+  | inr less ↦ le-ltb left product less ∙ sym (ap (λ (b : Bool). b && nat_lt limit (count + load)) on ∙ le-ltb limit (count + load) (omega arith))
+]

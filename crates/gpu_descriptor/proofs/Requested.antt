@@ -1,0 +1,124 @@
+-- What a request leaves of an allocator: why it is declined before the walk, and what it took.
+use Rattle.std.proofs.Common.{◌≡◌, ℕ, ◌+◌, ◌*◌, ◌<◌, ◌≤◌, ◌&&◌, Bool, true, false, List, map, length, sum, sum_by, Result, Err, inl, inr, refl, sym, ap, subst, ◌∙◌, arith}
+use Rattle.std.proofs.Math.Path.{fun_ext}
+use Rattle.std.proofs.Math.Nat.{mul-le-mul_right}
+use Rattle.std.proofs.lemmas.Bool.{cases_Bool, ltb-false}
+use Rattle.std.specs.List.{IsDistinct}
+use Rattle.std.specs.Map.{keys_of as map_keys}
+use Rattle.std.specs.Prelude.{if◌then◌else◌, nat_lt, ◌⊎◌}
+use Rattle.gpu_descriptor_types.specs.Counts.{kinds}
+use Rattle.gpu_descriptor_types.specs.Ledger.{Ledger}
+use Rattle.gpu_descriptor.specs.declared.errors.AllocationError.{AllocationError}
+use Rattle.gpu_descriptor.specs.declared.errors.AllocationError.TheVariants.{Fragmentation}
+use Rattle.gpu_descriptor.specs.declared.set.BucketKey.{BucketKey}
+use Rattle.gpu_descriptor.specs.declared.set.DescriptorSet.{DescriptorSet}
+use Rattle.gpu_descriptor.specs.declared.bucket.DescriptorBucket.{DescriptorBucket}
+use Rattle.gpu_descriptor.specs.declared.take.Refusal.{Refusal}
+use Rattle.gpu_descriptor.specs.Books.{Key, key_eq, Bucket, HasDistinctKeys, books_of, next_number}
+use Rattle.gpu_descriptor.specs.Load.{IsOut, IsMarkedLoad}
+use Rattle.gpu_descriptor.specs.Outcomes.{Allocates, IsWithinLimit, Stays}
+use Rattle.gpu_descriptor.specs.Outcomes.Allocates.{limit, bound, start}
+use Rattle.gpu_descriptor.specs.Requests.{call_of, Takes}
+use Rattle.gpu_descriptor.specs.Serves.{ServesKey, IsUnserved}
+use Rattle.gpu_descriptor.specs.Sets.{key_of}
+use Rattle.gpu_descriptor.specs.States.{named_row, sets_in, descriptors_in, state_of, table_of, outstanding_of, marked_load_of}
+use Rattle.gpu_descriptor.specs.Stored.{IsCounted, row_of, load_in, load_of, books_in}
+use Rattle.gpu_descriptor.specs.Values.{Allocations, Row}
+use Rattle.gpu_descriptor.proofs.Exact.{key_exact}
+use Rattle.gpu_descriptor.proofs.Loads.{rows_out, rows_load}
+use Rattle.gpu_descriptor.proofs.TableBooks.{rows_are, distinct_keys}
+use Rattle.gpu_descriptor.proofs.TableSums.{outstanding_of-table, marked_load_of-table}
+
+-- what a test that failed says
+pub within_of : (marked : Bool) (most count : ℕ) → (marked && nat_lt most count) ≡ false → marked ≡ true → count ≤ most
+within_of marked most count off on = ltb-false most count (let seen : (marked && nat_lt most count) ≡ nat_lt most count = ap (λ (b : Bool). b && nat_lt most count) on in sym seen ∙ off)
+
+-- what a table of the map says of an allocator that has it
+module _ {P : Type 0} (a : Allocations P) (es : List (BucketKey × DescriptorBucket P)) (is : a.table ≡ map row_of es) where
+  pub out_of : outstanding_of a ≡ sum_by (λ r. r.1.total) es
+  out_of = ap (sum_by sets_in) is ∙ rows_out es
+
+  pub load_of_rows : marked_load_of a ≡ sum_by load_in es
+  load_of_rows = ap (sum_by descriptors_in) is ∙ rows_load es
+
+  pub books_at : (name : P → ℕ) (before : Ledger) (k : Key) → (state_of name a before).books k ≡ books_in name es k
+  books_at name before k = ap (λ (t : List (Row P)). books_of (map (named_row name) t) k) is
+
+  pub keys_apart : (name : P → ℕ) (eq : BucketKey → BucketKey → Bool) → ((k l : BucketKey) → eq k l ≡ key_eq (key_of k) (key_of l)) → IsDistinct eq (map_keys es) → HasDistinctKeys (table_of name a)
+  keys_apart name eq same unique = subst HasDistinctKeys (sym (rows_are name es) ∙ ap (map (named_row name)) (sym is)) (distinct_keys name eq same es unique)
+
+-- how the totals of the table grow, by so many sets of a key
+module _ {P S : Type 0} (name : P → ℕ) (set_name : S → ℕ) (key : BucketKey) (count : ℕ) (sets : List (DescriptorSet S)) (taken : Result (Unit {0}) Refusal) (es fs : List (BucketKey × DescriptorBucket P)) (before after : Ledger)
+    (s : ServesKey name set_name key count sets taken es fs before after) where
+  pub load_below : (most marked out : ℕ) → IsCounted most marked out es → (key.update_after_bind ≡ true → count * sum (kinds key.size) + marked ≤ most) → load_of key (length sets) + marked ≤ most
+  load_below most marked out counted within = elim (cases_Bool key.update_after_bind) [
+    | inl on ↦ (
+        let few = s.few in
+        let all = within on in
+        let is : load_of key (length sets) ≡ length sets * sum (kinds key.size) = rw on refl in
+        let le = mul-le-mul_right (sum (kinds key.size)) few in
+        omega arith)
+    | inr off ↦ (let is : load_of key (length sets) ≡ 0 = rw off refl in let all = counted.within in omega arith)
+  ]
+
+  pub counted_more : (most marked out more many : ℕ) → IsCounted most marked out es → more ≡ load_of key (length sets) → many ≡ length sets → more + marked ≤ most → IsCounted most (marked + more) (out + many) fs
+  counted_more most marked out more many counted load given fits =
+      let a = counted.is_load in
+      let b = counted.is_out in
+      let c = s.load in
+      let d = s.out in
+      record { is_load = omega arith; within = omega arith; is_out = omega arith }
+
+module _ {P : Type 0} (name : P → ℕ) (a : Allocations P) (before : Ledger) (distinct : HasDistinctKeys (table_of name a)) where
+  pub load_is : IsMarkedLoad (state_of name a before) (marked_load_of a)
+  load_is = record { table = table_of name a; distinct = distinct; keeps = λ k. refl; total = sym (marked_load_of-table name a) }
+
+  pub out_is : IsOut (state_of name a before) (outstanding_of a)
+  out_is = record { table = table_of name a; distinct = distinct; keeps = λ k. refl; total = sym (outstanding_of-table name a) }
+
+  module _ (k : Key) (count : ℕ) (some : 0 < count) (b : Allocations P) (after : Ledger) (same : b ≡ a) (kept : after ≡ before) where
+    stays : (answer : Result _ AllocationError) → Stays (call_of name k count a b before after answer)
+    stays answer = record { state = λ i. state_of name (same i) (kept i); counters = λ i. (kept i).counters }
+
+    pub above_limit : k.marked ≡ true → a.limit < count * sum k.counts + marked_load_of a → Allocates (call_of name k count a b before after (Err Fragmentation))
+    above_limit marked above = limit some (record { marked = marked; load = marked_load_of a; is_load = load_is; above = above }) refl (stays _)
+
+    module _ (within : k.marked ≡ true → count * sum k.counts + marked_load_of a ≤ a.limit) where
+      in_limit : (answer : Result _ AllocationError) → IsWithinLimit (call_of name k count a b before after answer)
+      in_limit answer = record { load = marked_load_of a; is_load = load_is; within = within }
+
+      pub past_bound : (18446744073709551615 < next_number ((state_of name a before).books k) + count) ⊎ (18446744073709551615 < outstanding_of a + count) → Allocates (call_of name k count a b before after (Err Fragmentation))
+      past_bound past = bound some (in_limit _) (record { out = outstanding_of a; is_out = out_is; past = past }) refl (stays _)
+
+      pub unserved : outstanding_of a + count ≤ 18446744073709551615 → (e : AllocationError) → IsUnserved count e ((state_of name a before).books k) → Allocates (call_of name k count a b before after (Err e))
+      unserved sets e why = elim why [
+        | inl memory ↦ (rw memory.0 (start (record { some = some; limit = in_limit _; bound = record { out = outstanding_of a; is_out = out_is; numbers = memory.1; sets = sets } }) refl (stays _)))
+        | inr past ↦ (rw past.0 (past_bound (inl past.1)))
+      ]
+
+module _ {P S : Type 0} (name : P → ℕ) (set_name : S → ℕ) (most : ℕ) (es fs : List (BucketKey × DescriptorBucket P)) where
+  abbrev old : Allocations P
+  old = record { limit = most; table = map row_of es }
+
+  abbrev new : Allocations P
+  new = record { limit = most; table = map row_of fs }
+
+  pub takes : (key : BucketKey) (count : ℕ) (sets : List (DescriptorSet S)) (taken : Result (Unit {0}) Refusal) (before after : Ledger) → HasDistinctKeys (table_of name old) → HasDistinctKeys (table_of name new) → ServesKey name set_name key count sets taken es fs before after
+      → ((key_of key).marked ≡ true → count * sum (key_of key).counts + marked_load_of old ≤ most) → outstanding_of old + count ≤ 18446744073709551615 → Takes name set_name (key_of key) count sets taken old new before after
+  takes key count sets taken before after distinct still s within fits = record {
+    distinct = distinct;
+    still = still;
+    within = within;
+    numbers = s.numbers;
+    fits = fits;
+    total = (let a = rows_out es in let b = rows_out fs in let c = s.out in omega arith);
+    marked = (let a = rows_load es in let b = rows_load fs in let c = s.load in omega arith);
+    pools = s.pools;
+    state = λ i. record { books = fun_ext (λ l. s.books l ∙ at l (key_eq (key_of key) l) refl) i; ledger = after.pools };
+    done = s.done;
+    stopped = s.stopped;
+  }
+    where
+      at : (l : Key) (b : Bool) → key_eq (key_of key) l ≡ b → (if b then record (books_in name es (key_of key)) { pools = s.pools } else books_in name es l) ≡ (if b then record (books_in name es l) { pools = s.pools } else books_in name es l)
+      at l true h = ap (λ (x : Key). let r : Bucket = record (books_in name es x) { pools = s.pools } in r) (key_exact.same (key_of key) l h)
+      at l false h = refl

@@ -1,0 +1,40 @@
+-- The totals that callers see are sums over the table of the books.
+use Rattle.std.proofs.Common.{◌≡◌, ℕ, ◌+◌, List, [], ◌∷◌, map, sum_by, inl, inr, refl, ap, ◌∙◌, sym}
+use Rattle.std.proofs.lemmas.Bool.{cases_Bool}
+use Rattle.std.proofs.lemmas.List.Sums.{sum_by-cons}
+use Rattle.gpu_descriptor.specs.Books.{Key, key_eq, Entry, Bucket, books_of, sum_over}
+use Rattle.gpu_descriptor.specs.Load.{held, sets_out, descriptors_out}
+use Rattle.gpu_descriptor.specs.States.{named, named_row, table_of, sets_in, descriptors_in, outstanding_of, marked_load_of}
+use Rattle.gpu_descriptor.specs.Values.{Kept, Row, Allocations}
+use Rattle.gpu_descriptor.specs.Views.{first_at, pools_at}
+use Rattle.gpu_descriptor.proofs.Loads.{load_at}
+
+module _ {P : Type 0} (name : P → ℕ) where
+  held_named : (ps : List (Kept P)) → held (map (named name) ps) ≡ sum_by (λ p. p.allocated) ps
+  held_named [] = refl
+  held_named (p ∷ ps) = sum_by-cons (λ (e : Entry). e.allocated) (named name p) (map (named name) ps) ∙ ap (λ n. p.allocated + n) (held_named ps) ∙ sym (sum_by-cons (λ (q : Kept P). q.allocated) p ps)
+
+  -- a sum over the rows of the books is one over the rows that callers see
+  sum_named : (f : Key → Bucket → ℕ) (g : Row P → ℕ) → ((r : Row P) → f r.key (named_row name r).1 ≡ g r) → (rows : List (Row P)) → sum_over f (map (named_row name) rows) ≡ sum_by g rows
+  sum_named f g same [] = refl
+  sum_named f g same (r ∷ rows) =
+      sum_by-cons (λ (row : Key × Bucket). f row.0 row.1) (named_row name r) (map (named_row name) rows)
+      ∙ (λ i. same r i + sum_named f g same rows i)
+      ∙ sym (sum_by-cons g r rows)
+
+  pub outstanding_of-table : (a : Allocations P) → outstanding_of a ≡ sum_over sets_out (table_of name a)
+  outstanding_of-table a = sym (sum_named sets_out sets_in (λ r. held_named r.pools) a.table)
+
+  pub marked_load_of-table : (a : Allocations P) → marked_load_of a ≡ sum_over descriptors_out (table_of name a)
+  marked_load_of-table a = sym (sum_named descriptors_out descriptors_in (λ r. ap (load_at r.key) (held_named r.pools)) a.table)
+
+  -- a key's pools that readers see are those of the books
+  pub books_of-table : (a : Allocations P) (k : Key) → books_of (table_of name a) k ≡ record { first = first_at a.table k; pools = map (named name) (pools_at a.table k) }
+  books_of-table a k = go a.table
+    where
+      go : (rows : List (Row P)) → books_of (map (named_row name) rows) k ≡ record { first = first_at rows k; pools = map (named name) (pools_at rows k) }
+      go [] = refl
+      go (r ∷ rows) = elim (cases_Bool (key_eq r.key k)) [
+        | inl at ↦ rw at refl
+        | inr at ↦ rw at (go rows)
+      ]

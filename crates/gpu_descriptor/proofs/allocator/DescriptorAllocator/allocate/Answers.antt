@@ -1,0 +1,150 @@
+use Rattle.std.proofs.Common.{◌+◌, ap, ◌≡◌, arith, List, Ok, Err, sym, ◌∙◌, subst}
+use Rattle.std.proofs.IntoIterSteps.{All-taken}
+use Rattle.std.specs.Vec.Iter.{into_iter_items}
+use Rattle.gpu_descriptor_types.proofs.Drained.{taken_front}
+use Rattle.gpu_descriptor_types.specs.Ledger.{Ledger}
+use Rattle.gpu_descriptor.specs.declared.set.DescriptorSet.{DescriptorSet}
+use Rattle.gpu_descriptor.specs.Agreement.{State, Agree, AreOutstanding}
+use Rattle.gpu_descriptor.specs.Books.{Key}
+use Rattle.gpu_descriptor.specs.Frees.{GivesBack}
+use Rattle.gpu_descriptor.specs.Load.{marked_load}
+use Rattle.gpu_descriptor.specs.Outcomes.{Allocates}
+use Rattle.gpu_descriptor.specs.Grow.{refusal_answer}
+use Rattle.gpu_descriptor.specs.Walk.{layout_key}
+use Rattle.gpu_descriptor.specs.Requests.{call_of}
+use Rattle.gpu_descriptor.specs.Runs.{runs}
+use Rattle.gpu_descriptor.specs.Sets.{key_of, items_of}
+use Rattle.gpu_descriptor.specs.States.{state_of, marked_load_of}
+use Rattle.gpu_descriptor.specs.Promises.{KeepsOtherKeys}
+use Rattle.gpu_descriptor.proofs.Allocating.{taken_agree, taken_given, taken_out, taken_others, taken_leaves, went_back, back_out, back_leaves, back_others, back_totals, kept, kept_many, kept_totals}
+use Rattle.gpu_descriptor.proofs.Promises.{has_cause, short}
+use Rattle.gpu_descriptor.proofs.Rollback.{front_out}
+use Rattle.gpu_descriptor.proofs.allocator.DescriptorAllocator.allocate.Goals as goal
+
+pub returns-in-Err-clause-outcome : goal.returns-in-Err-clause-outcome
+returns-in-Err-clause-outcome g c =
+    let same : key_of (record { size = c.args.layout_descriptor_count.now; update_after_bind = c.contains.result }) ≡ layout_key g.D.DescriptorDevice.layout_counts g.D.DescriptorDevice.layout_mark c.args.layout.now = λ i. record { counts = c.requires.counts i; marked = (c.contains.ensures tt ∙ c.requires.mark) i } in
+    subst (λ (k : Key). Allocates (call_of g.D.DescriptorDevice.pool_name k c.args.count c.args.self.now c.request.new.self (g.D.DescriptorDevice.ledger c.args.device.now) (g.D.DescriptorDevice.ledger c.request.new.device) (Err c.in-Err.error))) same c.in-Err.ensures.declined
+
+pub returns-in-Err-clause-agree : goal.returns-in-Err-clause-agree
+returns-in-Err-clause-agree g c = subst Agree (λ i. state_of g.D.DescriptorDevice.pool_name (sym c.in-Err.ensures.allocator i) (sym c.in-Err.ensures.ledger i)) c.requires.agree
+
+pub free_from-requires-clause-agree : goal.free_from-requires-clause-agree
+free_from-requires-clause-agree g c =
+    taken_agree g.D.DescriptorDevice.pool_name g.D.DescriptorDevice.set_name _ _ _ _ _ _ _ _ c.in-Ok.ensures.taken c.requires.agree
+
+pub free_from-requires-clause-outstanding : goal.free_from-requires-clause-outstanding
+free_from-requires-clause-outstanding g c xs t y =
+    let name = g.D.DescriptorDevice.pool_name in
+    let set_name = g.D.DescriptorDevice.set_name in
+    let now : State = state_of name c.request.new.self (g.D.DescriptorDevice.ledger c.request.new.device) in
+    let out : AreOutstanding (items_of set_name c.in-Ok.given.0.items) now = taken_given name set_name _ _ _ _ _ _ _ _ c.in-Ok.ensures.taken c.requires.agree in
+    front_out set_name xs (into_iter_items t) c.in-Ok.given.0.items now (sym c.into_iter-back.ensures.rest ∙ taken_front c.into_iter-back.result xs t y) out
+
+pub returns-in-Ok-taken-clause-outcome : goal.returns-in-Ok-taken-clause-outcome
+returns-in-Ok-taken-clause-outcome g c =
+    let same : key_of (record { size = c.args.layout_descriptor_count.now; update_after_bind = c.contains.result }) ≡ layout_key g.D.DescriptorDevice.layout_counts g.D.DescriptorDevice.layout_mark c.args.layout.now = λ i. record { counts = c.requires.counts i; marked = (c.contains.ensures tt ∙ c.requires.mark) i } in
+    subst (λ (k : Key). Allocates (call_of g.D.DescriptorDevice.pool_name k c.args.count c.args.self.now c.request.new.self (g.D.DescriptorDevice.ledger c.args.device.now) (g.D.DescriptorDevice.ledger c.request.new.device) (Ok (items_of g.D.DescriptorDevice.set_name c.in-Ok.given.0.items)))) same
+    (kept g.D.DescriptorDevice.pool_name g.D.DescriptorDevice.set_name _ _ _ _ _ _ _ _ c.in-Ok.ensures.taken c.requires.agree (let n = c.if-count-eq0.false in omega arith) c.in-Ok-taken.field-0 c.in-Ok-taken.is)
+
+pub returns-in-Ok-taken-clause-agree : goal.returns-in-Ok-taken-clause-agree
+returns-in-Ok-taken-clause-agree g c =
+    taken_agree g.D.DescriptorDevice.pool_name g.D.DescriptorDevice.set_name _ _ _ _ _ _ _ _ c.in-Ok.ensures.taken c.requires.agree
+
+pub returns-in-Err-taken-clause-outcome : goal.returns-in-Err-taken-clause-outcome
+returns-in-Err-taken-clause-outcome g c =
+    let name = g.D.DescriptorDevice.pool_name in
+    let set_name = g.D.DescriptorDevice.set_name in
+    let l : Ledger = g.D.DescriptorDevice.ledger c.args.device.now in
+    let m : Ledger = g.D.DescriptorDevice.ledger c.request.new.device in
+    let n : Ledger = g.D.DescriptorDevice.ledger c.free_from.new.device in
+    let same : key_of (record { size = c.args.layout_descriptor_count.now; update_after_bind = c.contains.result }) ≡ layout_key g.D.DescriptorDevice.layout_counts g.D.DescriptorDevice.layout_mark c.args.layout.now = λ i. record { counts = c.requires.counts i; marked = (c.contains.ensures tt ∙ c.requires.mark) i } in
+    let f = c.free_from.ensures.frees in
+    let all : f.sets ≡ c.in-Ok.given.0.items = All-taken c.into_iter-back.result f.sets (c.free_from.new.sets, f.drained) ∙ c.into_iter-back.ensures.rest in
+    let back : GivesBack name set_name c.in-Ok.given.0.items (runs (items_of set_name c.in-Ok.given.0.items)) c.request.new.self c.free_from.new.self m n = subst (λ (x : List (DescriptorSet g.row.S.Denot)). GivesBack name set_name x (runs (items_of set_name x)) c.request.new.self c.free_from.new.self m n) all f.back in
+    let answer : Allocates (call_of name (key_of (record { size = c.args.layout_descriptor_count.now; update_after_bind = c.contains.result })) c.args.count c.args.self.now c.free_from.new.self l n (Err (refusal_answer c.in-Err-taken.refusal))) =
+    went_back name set_name _ _ _ _ _ _ _ _ c.in-Ok.ensures.taken c.requires.agree (let n = c.if-count-eq0.false in omega arith) c.free_from.new.self n back c.in-Err-taken.refusal c.in-Err-taken.is in
+    rw c.error_of_refusal.ensures (subst (λ (k : Key). Allocates (call_of name k c.args.count c.args.self.now c.free_from.new.self l n (Err (refusal_answer c.in-Err-taken.refusal)))) same answer)
+
+pub returns-in-Err-clause-cause : goal.returns-in-Err-clause-cause
+returns-in-Err-clause-cause g c = has_cause _ (returns-in-Err-clause-outcome g c)
+
+pub returns-in-Ok-taken-clause-many : goal.returns-in-Ok-taken-clause-many
+returns-in-Ok-taken-clause-many g c =
+    kept_many g.D.DescriptorDevice.pool_name g.D.DescriptorDevice.set_name _ _ _ _ _ _ _ _ c.in-Ok.ensures.taken c.requires.agree c.in-Ok-taken.field-0 c.in-Ok-taken.is
+
+pub returns-in-Ok-taken-clause-given : goal.returns-in-Ok-taken-clause-given
+returns-in-Ok-taken-clause-given g c =
+    taken_out g.D.DescriptorDevice.pool_name g.D.DescriptorDevice.set_name _ _ _ _ _ _ _ _ c.in-Ok.ensures.taken c.requires.agree
+
+pub returns-in-Ok-taken-clause-creates : goal.returns-in-Ok-taken-clause-creates
+returns-in-Ok-taken-clause-creates g c = short _ (returns-in-Ok-taken-clause-outcome g c)
+
+pub returns-in-Ok-taken-clause-other_keys : goal.returns-in-Ok-taken-clause-other_keys
+returns-in-Ok-taken-clause-other_keys g c =
+    let same : key_of (record { size = c.args.layout_descriptor_count.now; update_after_bind = c.contains.result }) ≡ layout_key g.D.DescriptorDevice.layout_counts g.D.DescriptorDevice.layout_mark c.args.layout.now = λ i. record { counts = c.requires.counts i; marked = (c.contains.ensures tt ∙ c.requires.mark) i } in
+    let old : State = state_of g.D.DescriptorDevice.pool_name c.args.self.now (g.D.DescriptorDevice.ledger c.args.device.now) in
+    let now : State = state_of g.D.DescriptorDevice.pool_name c.request.new.self (g.D.DescriptorDevice.ledger c.request.new.device) in
+    subst (λ (k : Key). KeepsOtherKeys k old now) same (taken_others g.D.DescriptorDevice.pool_name g.D.DescriptorDevice.set_name _ _ _ _ _ _ _ _ c.in-Ok.ensures.taken c.requires.agree)
+
+pub returns-in-Err-taken-clause-back : goal.returns-in-Err-taken-clause-back
+returns-in-Err-taken-clause-back g c =
+    let name = g.D.DescriptorDevice.pool_name in
+    let set_name = g.D.DescriptorDevice.set_name in
+    let m : Ledger = g.D.DescriptorDevice.ledger c.request.new.device in
+    let n : Ledger = g.D.DescriptorDevice.ledger c.free_from.new.device in
+    let f = c.free_from.ensures.frees in
+    let all : f.sets ≡ c.in-Ok.given.0.items = All-taken c.into_iter-back.result f.sets (c.free_from.new.sets, f.drained) ∙ c.into_iter-back.ensures.rest in
+    let back : GivesBack name set_name c.in-Ok.given.0.items (runs (items_of set_name c.in-Ok.given.0.items)) c.request.new.self c.free_from.new.self m n = subst (λ (x : List (DescriptorSet g.row.S.Denot)). GivesBack name set_name x (runs (items_of set_name x)) c.request.new.self c.free_from.new.self m n) all f.back in
+    back_out name set_name _ _ _ _ _ _ _ _ c.in-Ok.ensures.taken c.requires.agree c.free_from.new.self n _ back
+
+pub returns-in-Err-taken-clause-cause : goal.returns-in-Err-taken-clause-cause
+returns-in-Err-taken-clause-cause g c = has_cause _ (returns-in-Err-taken-clause-outcome g c)
+
+pub returns-in-Err-taken-clause-creates : goal.returns-in-Err-taken-clause-creates
+returns-in-Err-taken-clause-creates g c = short _ (returns-in-Err-taken-clause-outcome g c)
+
+pub returns-in-Err-taken-clause-other_keys : goal.returns-in-Err-taken-clause-other_keys
+returns-in-Err-taken-clause-other_keys g c =
+    let same : key_of (record { size = c.args.layout_descriptor_count.now; update_after_bind = c.contains.result }) ≡ layout_key g.D.DescriptorDevice.layout_counts g.D.DescriptorDevice.layout_mark c.args.layout.now = λ i. record { counts = c.requires.counts i; marked = (c.contains.ensures tt ∙ c.requires.mark) i } in
+    let name = g.D.DescriptorDevice.pool_name in
+    let set_name = g.D.DescriptorDevice.set_name in
+    let m : Ledger = g.D.DescriptorDevice.ledger c.request.new.device in
+    let n : Ledger = g.D.DescriptorDevice.ledger c.free_from.new.device in
+    let f = c.free_from.ensures.frees in
+    let all : f.sets ≡ c.in-Ok.given.0.items = All-taken c.into_iter-back.result f.sets (c.free_from.new.sets, f.drained) ∙ c.into_iter-back.ensures.rest in
+    let back : GivesBack name set_name c.in-Ok.given.0.items (runs (items_of set_name c.in-Ok.given.0.items)) c.request.new.self c.free_from.new.self m n = subst (λ (x : List (DescriptorSet g.row.S.Denot)). GivesBack name set_name x (runs (items_of set_name x)) c.request.new.self c.free_from.new.self m n) all f.back in
+    let old : State = state_of name c.args.self.now (g.D.DescriptorDevice.ledger c.args.device.now) in
+    subst (λ (k : Key). KeepsOtherKeys k old (state_of name c.free_from.new.self n)) same (back_others name set_name _ _ _ _ _ _ _ _ c.in-Ok.ensures.taken c.requires.agree c.free_from.new.self n _ back)
+
+pub returns-in-Err-taken-clause-foreign : goal.returns-in-Err-taken-clause-foreign
+returns-in-Err-taken-clause-foreign g c =
+    let name = g.D.DescriptorDevice.pool_name in
+    let set_name = g.D.DescriptorDevice.set_name in
+    let m : Ledger = g.D.DescriptorDevice.ledger c.request.new.device in
+    let n : Ledger = g.D.DescriptorDevice.ledger c.free_from.new.device in
+    let f = c.free_from.ensures.frees in
+    let all : f.sets ≡ c.in-Ok.given.0.items = All-taken c.into_iter-back.result f.sets (c.free_from.new.sets, f.drained) ∙ c.into_iter-back.ensures.rest in
+    let back : GivesBack name set_name c.in-Ok.given.0.items (runs (items_of set_name c.in-Ok.given.0.items)) c.request.new.self c.free_from.new.self m n = subst (λ (x : List (DescriptorSet g.row.S.Denot)). GivesBack name set_name x (runs (items_of set_name x)) c.request.new.self c.free_from.new.self m n) all f.back in
+    back_leaves name set_name _ _ _ _ _ _ _ _ c.in-Ok.ensures.taken c.requires.agree c.free_from.new.self n _ back
+
+pub returns-in-Ok-taken-clause-foreign : goal.returns-in-Ok-taken-clause-foreign
+returns-in-Ok-taken-clause-foreign g c =
+    taken_leaves g.D.DescriptorDevice.pool_name g.D.DescriptorDevice.set_name _ _ _ _ _ _ _ _ c.in-Ok.ensures.taken c.requires.agree
+
+pub returns-in-Err-taken-clause-totals_stay : goal.returns-in-Err-taken-clause-totals_stay
+returns-in-Err-taken-clause-totals_stay g c =
+    let name = g.D.DescriptorDevice.pool_name in
+    let set_name = g.D.DescriptorDevice.set_name in
+    let m : Ledger = g.D.DescriptorDevice.ledger c.request.new.device in
+    let n : Ledger = g.D.DescriptorDevice.ledger c.free_from.new.device in
+    let f = c.free_from.ensures.frees in
+    let all : f.sets ≡ c.in-Ok.given.0.items = All-taken c.into_iter-back.result f.sets (c.free_from.new.sets, f.drained) ∙ c.into_iter-back.ensures.rest in
+    let back : GivesBack name set_name c.in-Ok.given.0.items (runs (items_of set_name c.in-Ok.given.0.items)) c.request.new.self c.free_from.new.self m n = subst (λ (x : List (DescriptorSet g.row.S.Denot)). GivesBack name set_name x (runs (items_of set_name x)) c.request.new.self c.free_from.new.self m n) all f.back in
+    back_totals name set_name _ _ _ _ _ _ _ _ c.in-Ok.ensures.taken c.requires.agree c.free_from.new.self n _ back
+
+pub returns-in-Ok-taken-clause-totals : goal.returns-in-Ok-taken-clause-totals
+returns-in-Ok-taken-clause-totals g c =
+    let same : key_of (record { size = c.args.layout_descriptor_count.now; update_after_bind = c.contains.result }) ≡ layout_key g.D.DescriptorDevice.layout_counts g.D.DescriptorDevice.layout_mark c.args.layout.now = λ i. record { counts = c.requires.counts i; marked = (c.contains.ensures tt ∙ c.requires.mark) i } in
+    let both = kept_totals g.D.DescriptorDevice.pool_name g.D.DescriptorDevice.set_name _ _ _ _ _ _ _ _ c.in-Ok.ensures.taken c.requires.agree c.in-Ok-taken.field-0 c.in-Ok-taken.is in
+    (both.0, both.1 ∙ ap (λ (k : Key). marked_load_of c.args.self.now + marked_load k c.args.count) same)

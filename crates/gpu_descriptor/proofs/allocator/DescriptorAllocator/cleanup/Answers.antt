@@ -1,0 +1,71 @@
+use Rattle.std.proofs.Common.{◌≡◌, ◌≤◌, ◌+◌, suc, rules, sym, ap, subst, ◌∙◌, arith, length}
+use Rattle.indexmap.proofs.CallerLemmas.{filter-RetainsPairs}
+use Rattle.indexmap.specs.Layout.{length-set_value_at}
+use Rattle.gpu_descriptor.specs.Buckets.{IsStored, has_pools}
+use Rattle.gpu_descriptor.specs.States.{outstanding_of, marked_load_of}
+use Rattle.gpu_descriptor.specs.Values.{Allocations}
+use Rattle.gpu_descriptor.proofs.Cleaning.{clean_agrees}
+use Rattle.gpu_descriptor.proofs.Loads.{rows_out, rows_load}
+use Rattle.gpu_descriptor.proofs.RowsCleaned.{next, next_stored, step_rows, step_less, agree_is, ledger_less, cleared, whole_clean, whole_count, counted_put, counted_filter}
+use Rattle.gpu_descriptor.proofs.TableBooks.{rows_in, distinct_keys}
+use Rattle.gpu_descriptor.proofs.allocator.DescriptorAllocator.cleanup.Goals as goal
+
+pub drop_empty-requires : goal.drop_empty-requires
+drop_empty-requires g c =
+    let name = g.D.DescriptorDevice.pool_name in
+    let ledger = g.D.DescriptorDevice.ledger in
+    let h = c.loop-place.invariant in
+    let es = c.self.inside.buckets.entries in
+    let n = next name c.loop-place.place c.loop-place.self-inside.buckets.entries (rows_in name es) c.index_mut-bucket.result.now h.rows c.index_mut-bucket.ensures.value in
+    let distinct = distinct_keys name _ (λ k l. search rules) es c.len-place-end.ensures.unique in
+    let agree = agree_is name c.args.self.now (ledger c.args.device.now) es (ap (λ (a : Allocations _). a.table) (sym c.self.view_is)) c.requires in
+    let there = next_stored (rows_in name es) (ledger c.args.device.now).pools c.loop-place.place n.row distinct agree n.at in
+    (n.row.0, subst (λ b. IsStored n.row.0 b (ledger c.loop-place.device).pools) (sym n.is) (subst (λ l. IsStored n.row.0 n.row.1 l.pools) (sym h.ledger) there))
+
+pub loop-place-preserved : goal.loop-place-preserved
+loop-place-preserved g c =
+    let name = g.D.DescriptorDevice.pool_name in
+    let ledger = g.D.DescriptorDevice.ledger in
+    let h = c.loop-place.invariant in
+    let es = c.self.inside.buckets.entries in
+    let now = c.loop-place.self-inside.buckets.entries in
+    let i = c.loop-place.place in
+    let n = next name i now (rows_in name es) c.index_mut-bucket.result.now h.rows c.index_mut-bucket.ensures.value in
+    let more : suc i ≡ i + 1 = omega arith in
+    record {
+      rows = step_rows name i now (rows_in name es) c.index_mut-bucket.result.now c.drop_empty.new.self h.rows c.index_mut-bucket.ensures.value c.drop_empty.ensures.books ∙ ap (λ m. cleared m (rows_in name es)) more;
+      ledger = step_less i (rows_in name es) n.row (ledger c.args.device.now) (ledger c.loop-place.device) (ledger c.drop_empty.new.device) _ n.at n.is h.ledger c.drop_empty.ensures.ledger ∙ ap (λ m. ledger_less m (rows_in name es) (ledger c.args.device.now)) more;
+      counted = counted_put _ _ _ now i c.index_mut-bucket.result.now c.drop_empty.new.self c.index_mut-bucket.ensures.value c.drop_empty.ensures.total h.counted;
+      long = length-set_value_at now i c.drop_empty.new.self ∙ h.long;
+      out = h.out;
+      marked = h.marked;
+      limit = h.limit;
+    }
+
+pub invariant_of-self : goal.invariant_of-self
+invariant_of-self g c =
+    let kept = filter-RetainsPairs _ (λ e. has_pools e.1) _ (λ k v b w f call. search rules) _ _ c.retain.ensures.filtered in
+    counted_filter _ _ _ _ _ kept c.loop-place.invariant.counted
+
+pub returns : goal.returns
+returns g c =
+    let name = g.D.DescriptorDevice.pool_name in
+    let ledger = g.D.DescriptorDevice.ledger in
+    let h = c.loop-place.invariant in
+    let es = c.self.inside.buckets.entries in
+    let was = ap (λ (a : Allocations _). a.table) (sym c.self.view_is) in
+    let distinct = distinct_keys name _ (λ k l. search rules) es c.len-place-end.ensures.unique in
+    let kept = filter-RetainsPairs _ (λ e. has_pools e.1) _ (λ k v b w f call. search rules) _ _ c.retain.ensures.filtered in
+    let le : length es ≤ c.loop-place.place = omega arith in
+    let counted = counted_filter _ _ _ _ _ kept h.counted in
+    let clean = whole_clean name c.args.self.now (ledger c.args.device.now) (ledger c.loop-place.device) es c.loop-place.self-inside.buckets.entries _ c.loop-place.place c.loop-place.self-inside.max_update_after_bind_descriptors_in_all_pools was distinct le h.rows h.ledger kept in
+    record {
+      cleaned = clean;
+      destroyed = whole_count name c.args.self.now (ledger c.args.device.now) (ledger c.loop-place.device) es c.loop-place.place was distinct le h.ledger;
+      totals_stay = (
+        rows_out c.retain.new.self.entries ∙ sym counted.is_out ∙ h.out ∙ c.self.invariant.is_out ∙ sym (rows_out es) ∙ ap outstanding_of c.self.view_is,
+        rows_load c.retain.new.self.entries ∙ sym counted.is_load ∙ h.marked ∙ c.self.invariant.is_load ∙ sym (rows_load es) ∙ ap marked_load_of c.self.view_is,
+      );
+      agree = clean_agrees _ _ c.requires clean;
+      limit = h.limit ∙ ap (λ (a : Allocations _). a.limit) c.self.view_is;
+    }

@@ -1,0 +1,21 @@
+use Rattle.std.proofs.Common.{◌≡◌, length}
+use Rattle.gpu_descriptor.specs.Stored.{IsCounted}
+use Rattle.gpu_descriptor.proofs.RowsCleaned.{cleared, ledger_less}
+use Rattle.gpu_descriptor.proofs.TableBooks.{rows_in}
+use Rattle.gpu_descriptor.proofs.allocator.DescriptorAllocator.cleanup.Given as goal
+
+-- the first rows are cleared, and their empty fronts are gone
+abbrev pub invariant-loop-place : goal.invariant-loop-place
+invariant-loop-place g l =
+    let name = g.D.DescriptorDevice.pool_name in
+    let ledger = g.D.DescriptorDevice.ledger in
+    let start = rows_in name l.initial.self-inside.buckets.entries in
+    record {
+      rows : rows_in name l.self-inside.buckets.entries ≡ cleared l.place start;
+      ledger : ledger l.device ≡ ledger_less l.place start (ledger l.fn.device);
+      counted : IsCounted l.self-inside.max_update_after_bind_descriptors_in_all_pools l.self-inside.current_update_after_bind_descriptors_in_all_pools l.self-inside.outstanding l.self-inside.buckets.entries;
+      long : length l.self-inside.buckets.entries ≡ length l.initial.self-inside.buckets.entries;
+      out : l.self-inside.outstanding ≡ l.initial.self-inside.outstanding;
+      marked : l.self-inside.current_update_after_bind_descriptors_in_all_pools ≡ l.initial.self-inside.current_update_after_bind_descriptors_in_all_pools;
+      limit : l.self-inside.max_update_after_bind_descriptors_in_all_pools ≡ l.initial.self-inside.max_update_after_bind_descriptors_in_all_pools;
+    }

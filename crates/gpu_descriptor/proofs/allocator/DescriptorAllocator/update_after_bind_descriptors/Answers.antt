@@ -1,0 +1,22 @@
+use Rattle.std.proofs.Common.{◌≤◌, rules, refl, sym, ap, subst, ◌∙◌}
+use Rattle.gpu_descriptor.specs.States.{marked_load_of, table_of}
+use Rattle.gpu_descriptor.specs.Values.{Allocations}
+use Rattle.gpu_descriptor.proofs.Loads.{rows_load}
+use Rattle.gpu_descriptor.proofs.Requested.{keys_apart}
+use Rattle.gpu_descriptor.proofs.TableSums.{marked_load_of-table}
+use Rattle.gpu_descriptor.proofs.allocator.DescriptorAllocator.update_after_bind_descriptors.Goals as goal
+
+pub returns : goal.returns
+returns g c =
+    let sum = c.self.invariant.is_load ∙ sym (rows_load c.self.inside.buckets.entries) ∙ ap marked_load_of c.self.view_is in
+    let was = ap (λ (a : Allocations _). a.table) (sym c.self.view_is) in
+    record {
+      sum = sum;
+      books = λ name. record {
+        table = table_of name c.args.self.now;
+        distinct = keys_apart c.args.self.now c.self.inside.buckets.entries was name _ (λ k l. search rules) c.len-keys.ensures.unique;
+        keeps = λ k. refl;
+        total = sym (marked_load_of-table name c.args.self.now) ∙ sym sum;
+      };
+      within = subst (λ (a : Allocations _). c.self.inside.current_update_after_bind_descriptors_in_all_pools ≤ a.limit) c.self.view_is c.self.invariant.within;
+    }

@@ -1,0 +1,20 @@
+use Rattle.std.proofs.Common.{◌≡◌, length}
+use Rattle.gpu_descriptor.specs.Books.{Key}
+use Rattle.gpu_descriptor.specs.Buckets.{IsStored, cleared_bucket, cleared_ledger}
+use Rattle.gpu_descriptor.specs.Stored.{bucket_of}
+use Rattle.gpu_descriptor.proofs.bucket.DescriptorBucket.drop_empty.Given as goal
+
+-- what is left to drop is what there was to drop
+abbrev pub invariant-loop-self : goal.invariant-loop-self
+invariant-loop-self g l =
+    let ledger = g.D.DescriptorDevice.ledger in
+    let name = g.D.DescriptorDevice.pool_name in
+    record {
+      stored : (k : Key) × IsStored k (bucket_of name l.self) (ledger l.device).pools;
+      books : cleared_bucket (bucket_of name l.self) ≡ cleared_bucket (bucket_of name l.fn.self);
+      ledger : cleared_ledger (bucket_of name l.self) (ledger l.device) ≡ cleared_ledger (bucket_of name l.fn.self) (ledger l.fn.device);
+      total : l.self.total ≡ l.fn.self.total;
+    }
+
+abbrev pub decreases-loop-self : goal.decreases-loop-self
+decreases-loop-self g l = length l.self.pools.items

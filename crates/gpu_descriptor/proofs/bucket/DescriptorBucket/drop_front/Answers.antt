@@ -1,0 +1,55 @@
+use Rattle.std.proofs.Common.{◌≡◌, ℕ, ◌<◌, ◌≤◌, ◌∙◌, sym, ap, arith, length, get_or, Some}
+use Rattle.gpu_descriptor_types.specs.Ledger.{Ledger}
+use Rattle.gpu_descriptor.specs.Books.{Bucket}
+use Rattle.gpu_descriptor.specs.Buckets.{ledger_without}
+use Rattle.gpu_descriptor.specs.Release.{spent_front}
+use Rattle.gpu_descriptor.specs.Stored.{bucket_of}
+use Rattle.gpu_descriptor.proofs.Turns.{IsFront, is_front, turn_unused, turn, stop_full, stop_last, ledger_without_none}
+use Rattle.gpu_descriptor.proofs.bucket.DescriptorBucket.drop_front.Goals.{After-unwrap-front}
+use Rattle.gpu_descriptor.proofs.bucket.DescriptorBucket.drop_front.Goals as goal
+
+front : (g : _) (c : After-unwrap-front g) → IsFront g.D.DescriptorDevice.pool_name c.loop-self.self.pools.items c.unwrap-front.result
+front g c =
+    let items = c.loop-self.self.pools.items in
+    let many : 1 < length items = omega (arith, c.loop-self.self.pools.ok.0) in
+    let some : c.pop_front.result ≡ Some (get_or items 0 c.unwrap-front.result) = c.pop_front.ensures.value c.unwrap-front.result (omega arith) in
+    let was : c.pop_front.result ≡ Some c.unwrap-front.result = search (Rattle.std.proofs.Common.rules) in
+    let is : c.unwrap-front.result ≡ get_or items 0 c.unwrap-front.result = cc (some, was) in
+    is_front g.D.DescriptorDevice.pool_name items c.unwrap-front.result c.index.result.now many is c.index.ensures c.if-index-eq0.true
+
+pub destroy_descriptor_pool-requires : goal.destroy_descriptor_pool-requires
+destroy_descriptor_pool-requires g c =
+    let d = (goal.at.destroy_descriptor_pool-requires g c).After-unwrap-front in
+    turn_unused g.D.DescriptorDevice.pool_name c.loop-self.invariant.stored.0 c.loop-self.self.offset c.loop-self.self.pools.items c.unwrap-front.result (g.D.DescriptorDevice.ledger c.loop-self.device) (front g d) c.loop-self.invariant.stored.1
+
+pub loop-self-preserved : goal.loop-self-preserved
+loop-self-preserved g c =
+    let d = (goal.at.loop-self-preserved g c).After-unwrap-front in
+    let done = turn g.D.DescriptorDevice.pool_name c.loop-self.invariant.stored.0 c.loop-self.self.offset c.loop-self.self.pools.items c.pop_front.new.self.items c.unwrap-front.result (g.D.DescriptorDevice.ledger c.loop-self.device) (g.D.DescriptorDevice.ledger c.destroy_descriptor_pool.new.self)
+    (front g d) c.pop_front.ensures.rest c.destroy_descriptor_pool.ensures c.loop-self.invariant.stored.1 in
+    record {
+      stored = (c.loop-self.invariant.stored.0, done.agree);
+      books = done.books ∙ c.loop-self.invariant.books;
+      ledger = done.ledger ∙ c.loop-self.invariant.ledger;
+      total = c.loop-self.invariant.total;
+    }
+
+-- a front that stays
+abbrev still : (n : ℕ) → n ≡ 0 → (b : Bucket) (l : Ledger) → ledger_without n b l ≡ l
+still n none b l = ap (λ (m : ℕ). ledger_without m b l) none ∙ ledger_without_none b l
+
+pub returns-else-index-eq0-clause-ledger : goal.returns-else-index-eq0-clause-ledger
+returns-else-index-eq0-clause-ledger g c =
+    let name = g.D.DescriptorDevice.pool_name in
+    let items = c.loop-self.self.pools.items in
+    let many : 1 < length items = omega (arith, c.loop-self.self.pools.ok.0) in
+    let none = stop_full name c.loop-self.self.offset items c.index.result.now many c.index.ensures c.if-index-eq0.false in
+    sym (still (spent_front (bucket_of name c.loop-self.self)) none (bucket_of name c.loop-self.self) (g.D.DescriptorDevice.ledger c.loop-self.device)) ∙ c.loop-self.invariant.ledger
+
+pub returns-after-loop-self-clause-ledger : goal.returns-after-loop-self-clause-ledger
+returns-after-loop-self-clause-ledger g c =
+    let name = g.D.DescriptorDevice.pool_name in
+    let items = c.loop-self.self.pools.items in
+    let short : length items ≤ 1 = omega (arith, c.loop-self.self.pools.ok.0) in
+    let none = stop_last name c.loop-self.self.offset items short in
+    sym (still (spent_front (bucket_of name c.loop-self.self)) none (bucket_of name c.loop-self.self) (g.D.DescriptorDevice.ledger c.loop-self.device)) ∙ c.loop-self.invariant.ledger

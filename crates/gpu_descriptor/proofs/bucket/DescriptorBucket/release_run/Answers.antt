@@ -1,0 +1,178 @@
+use Rattle.std.proofs.Common.{◌≡◌, ℕ, List, set, ◌+◌, ◌<◌, ◌≤◌, ◌-◌, rules, arith, sym, refl, ◌∙◌, ap, subst, length, map, slice_get, [], ◌∷◌, Some, length-set}
+use Rattle.std.specs.Prelude.{IfSome}
+use Rattle.std.proofs.lemmas.List.{length-map}
+use Rattle.gpu_descriptor_types.specs.Ledger.{Ledger, after_release}
+use Rattle.gpu_descriptor_types.specs.Multiset.{LiveSet, AreIn}
+use Rattle.gpu_descriptor.specs.declared.set.DescriptorSet.{DescriptorSet}
+use Rattle.gpu_descriptor.specs.Agreement.{live_in}
+use Rattle.gpu_descriptor.specs.Books.{Entry}
+use Rattle.gpu_descriptor.specs.Buckets.{IsStored, IsTakenAt, names_of, settled_bucket, settled_ledger}
+use Rattle.gpu_descriptor.specs.Release.{entry_less}
+use Rattle.gpu_descriptor.specs.Sets.{key_of}
+use Rattle.gpu_descriptor.specs.Stored.{bucket_of, entry_of}
+use Rattle.gpu_descriptor.proofs.BucketRun.{AreTaken, are_taken, is_within, read_first, changed_at, stored_after, total_less, place_room}
+use Rattle.gpu_descriptor.proofs.LedgerPools.{taken_from, release_pools}
+use Rattle.gpu_descriptor.proofs.OneRun.{run_counts, run_live, run_ends, run_goes, done}
+use Rattle.gpu_descriptor.proofs.Turns.{bucket}
+use Rattle.gpu_descriptor.proofs.bucket.DescriptorBucket.release_run.Goals.{Start, After-index_mut-pool}
+use Rattle.gpu_descriptor.proofs.bucket.DescriptorBucket.release_run.Goals as goal
+
+-- one set alone is in the place
+first_taken : (g : _) (c : Start g) → IsTakenAt (key_of c.args.first.key) c.args.first.number (g.D.DescriptorDevice.set_name c.args.first.raw ∷ []) (bucket_of g.D.DescriptorDevice.pool_name c.args.self.now) (g.D.DescriptorDevice.ledger c.args.device.now).pools
+first_taken g c = c.requires.taken [] c.args.sets.now refl tt
+
+within : (g : _) (c : Start g) → c.args.first.number - c.args.self.now.offset < length c.args.self.now.pools.items
+within g c =
+    let items = c.args.self.now.pools.items in
+    let at = is_within (key_of c.args.first.key) c.args.first.number (g.D.DescriptorDevice.set_name c.args.first.raw ∷ []) (bucket_of g.D.DescriptorDevice.pool_name c.args.self.now) (g.D.DescriptorDevice.ledger c.args.device.now).pools (first_taken g c) in
+    let long = length-map items (entry_of g.D.DescriptorDevice.pool_name) in
+    omega arith
+
+pub overflow_sub-place : goal.overflow_sub-place
+overflow_sub-place g c = (first_taken g (goal.at.overflow_sub-place g c).Start).above
+
+pub index_mut-pool-requires : goal.index_mut-pool-requires
+index_mut-pool-requires g c = let lt = within g (goal.at.index_mut-pool-requires g c).Start in omega (arith, c.args.self.now.pools.ok.0)
+
+-- the place that was read
+at : (g : _) (c : After-index_mut-pool g) → slice_get (bucket_of g.D.DescriptorDevice.pool_name c.args.self.now).pools (c.args.first.number - c.args.self.now.offset) ≡ Some (entry_of g.D.DescriptorDevice.pool_name c.index_mut-pool.result.now)
+at g c = read_first g.D.DescriptorDevice.pool_name (key_of c.args.first.key) c.args.first.number (g.D.DescriptorDevice.set_name c.args.first.raw ∷ []) c.args.self.now.offset c.args.self.now.pools.items (g.D.DescriptorDevice.ledger c.args.device.now).pools c.index_mut-pool.result.now
+    (c.requires.taken [] c.args.sets.now refl tt) c.index_mut-pool.ensures.value
+
+room : (g : _) (c : After-index_mut-pool g) → c.index_mut-pool.result.now.allocated + c.index_mut-pool.result.now.available ≤ 2147483648
+room g c = place_room (key_of c.args.first.key) (bucket_of g.D.DescriptorDevice.pool_name c.args.self.now) (g.D.DescriptorDevice.ledger c.args.device.now).pools (c.args.first.number - c.args.self.now.offset) (entry_of g.D.DescriptorDevice.pool_name c.index_mut-pool.result.now) c.requires.stored (at g c)
+
+-- the place is within
+here : (g : _) (c : After-index_mut-pool g) → c.args.first.number - c.args.self.now.offset < length c.args.self.now.pools.items
+here g c =
+    let items = c.args.self.now.pools.items in
+    let at = is_within (key_of c.args.first.key) c.args.first.number (g.D.DescriptorDevice.set_name c.args.first.raw ∷ []) (bucket_of g.D.DescriptorDevice.pool_name c.args.self.now) (g.D.DescriptorDevice.ledger c.args.device.now).pools (c.requires.taken [] c.args.sets.now refl tt) in
+    let long = length-map items (entry_of g.D.DescriptorDevice.pool_name) in
+    omega arith
+
+-- the sets of which the release speaks are live in the place
+taken : (g : _) (c : After-index_mut-pool g) (ls : List LiveSet) (ys : List _) → map (λ x. x.name) ls ≡ map g.D.DescriptorDevice.set_name ys → IfSome ((g.D.DescriptorDevice.ledger c.args.device.now).pools (g.D.DescriptorDevice.pool_name c.index_mut-pool.result.now.raw)) (λ pool. AreIn ls pool.live)
+    → AreTaken (map g.D.DescriptorDevice.set_name ys) (live_in (g.D.DescriptorDevice.ledger c.args.device.now).pools (g.D.DescriptorDevice.pool_name c.index_mut-pool.result.now.raw)) ls
+taken g c ls ys are live = are_taken (key_of c.args.first.key) (bucket_of g.D.DescriptorDevice.pool_name c.args.self.now) (g.D.DescriptorDevice.ledger c.args.device.now).pools (c.args.first.number - c.args.self.now.offset) (entry_of g.D.DescriptorDevice.pool_name c.index_mut-pool.result.now) (map g.D.DescriptorDevice.set_name ys) ls c.requires.stored (at g c) are live
+
+pub dealloc_descriptor_sets-requires-clause-can : goal.dealloc_descriptor_sets-requires-clause-can
+dealloc_descriptor_sets-requires-clause-can g c =
+    let d = (goal.at.dealloc_descriptor_sets-requires-clause-can g c).After-index_mut-pool in
+    let fits = room g d in
+    (c.requires.can, run_counts g.I.Iterator.next_gives g.I.Iterator.can_next g.I.Iterator.remaining g.D.DescriptorDevice.set_name c.args.sets.now c.args.first (bucket_of g.D.DescriptorDevice.pool_name c.args.self.now) (g.D.DescriptorDevice.ledger c.args.device.now).pools (entry_of g.D.DescriptorDevice.pool_name c.index_mut-pool.result.now) (at g d) (omega arith) c.requires.taken)
+
+pub dealloc_descriptor_sets-requires-clause-live : goal.dealloc_descriptor_sets-requires-clause-live
+dealloc_descriptor_sets-requires-clause-live g c =
+    let d = (goal.at.dealloc_descriptor_sets-requires-clause-live g c).After-index_mut-pool in
+    run_live g.I.Iterator.next_gives g.I.Iterator.can_next g.I.Iterator.remaining g.D.DescriptorDevice.set_name (bucket_of g.D.DescriptorDevice.pool_name c.args.self.now) (g.D.DescriptorDevice.ledger c.args.device.now) c.args.first (entry_of g.D.DescriptorDevice.pool_name c.index_mut-pool.result.now) _ refl refl refl c.requires.stored (at g d) c.requires.taken
+
+pub overflow_sub-pool : goal.overflow_sub-pool
+overflow_sub-pool g c =
+    let r = (goal.at.overflow_sub-pool g c).After-index_mut-pool in
+    let t = c.dealloc_descriptor_sets.ensures.released in
+    let d = done g.I.Iterator.next_gives g.I.Iterator.can_next g.I.Iterator.remaining g.D.DescriptorDevice.set_name _ c.args.first (bucket_of g.D.DescriptorDevice.pool_name c.args.self.now) (g.D.DescriptorDevice.ledger c.args.device.now).pools (entry_of g.D.DescriptorDevice.pool_name c.index_mut-pool.result.now) c.dealloc_descriptor_sets.new.sets t.items t.gone refl refl refl refl c.requires.stored (at g r) c.requires.taken t.drained (taken g r t.gone t.items t.named t.live) in
+    let fits = d.fits in
+    let count = d.count in
+    let is = c.finish-count.ensures.count in
+    omega arith
+
+pub overflow_add-pool : goal.overflow_add-pool
+overflow_add-pool g c =
+    let r = (goal.at.overflow_add-pool g c).After-index_mut-pool in
+    let t = c.dealloc_descriptor_sets.ensures.released in
+    let d = done g.I.Iterator.next_gives g.I.Iterator.can_next g.I.Iterator.remaining g.D.DescriptorDevice.set_name _ c.args.first (bucket_of g.D.DescriptorDevice.pool_name c.args.self.now) (g.D.DescriptorDevice.ledger c.args.device.now).pools (entry_of g.D.DescriptorDevice.pool_name c.index_mut-pool.result.now) c.dealloc_descriptor_sets.new.sets t.items t.gone refl refl refl refl c.requires.stored (at g r) c.requires.taken t.drained (taken g r t.gone t.items t.named t.live) in
+    let fits = d.fits in
+    let count = d.count in
+    let is = c.finish-count.ensures.count in
+    let small = room g r in
+    omega arith
+
+pub overflow_sub-self : goal.overflow_sub-self
+overflow_sub-self g c =
+    let r = (goal.at.overflow_sub-self g c).After-index_mut-pool in
+    let t = c.dealloc_descriptor_sets.ensures.released in
+    let d = done g.I.Iterator.next_gives g.I.Iterator.can_next g.I.Iterator.remaining g.D.DescriptorDevice.set_name _ c.args.first (bucket_of g.D.DescriptorDevice.pool_name c.args.self.now) (g.D.DescriptorDevice.ledger c.args.device.now).pools (entry_of g.D.DescriptorDevice.pool_name c.index_mut-pool.result.now) c.dealloc_descriptor_sets.new.sets t.items t.gone refl refl refl refl c.requires.stored (at g r) c.requires.taken t.drained (taken g r t.gone t.items t.named t.live) in
+    let fits = d.fits in
+    let count = d.count in
+    let is = c.finish-count.ensures.count in
+    let less = total_less c.args.self.now.pools.items (c.args.first.number - c.args.self.now.offset) c.index_mut-pool.result.now c.dealloc_descriptor_sets.new.pool c.finish-count.result (here g r) c.index_mut-pool.ensures.value (omega arith) in
+    let few = less.0 in
+    let total = c.args.self.now.counted in
+    let from = c.from.ensures in
+    omega arith
+
+pub drop_front-requires : goal.drop_front-requires
+drop_front-requires g c =
+    let r = (goal.at.drop_front-requires g c).After-index_mut-pool in
+    let t = c.dealloc_descriptor_sets.ensures.released in
+    let d = done g.I.Iterator.next_gives g.I.Iterator.can_next g.I.Iterator.remaining g.D.DescriptorDevice.set_name _ c.args.first (bucket_of g.D.DescriptorDevice.pool_name c.args.self.now) (g.D.DescriptorDevice.ledger c.args.device.now).pools (entry_of g.D.DescriptorDevice.pool_name c.index_mut-pool.result.now) c.dealloc_descriptor_sets.new.sets t.items t.gone refl refl refl refl c.requires.stored (at g r) c.requires.taken t.drained (taken g r t.gone t.items t.named t.live) in
+    let n : c.finish-count.result ≡ length t.gone = c.finish-count.ensures.count ∙ d.count ∙ sym d.long in
+    let es : List Entry = map (entry_of g.D.DescriptorDevice.pool_name) c.args.self.now.pools.items in
+    let place : ℕ = c.args.first.number - c.args.self.now.offset in
+    let e = entry_of g.D.DescriptorDevice.pool_name c.index_mut-pool.result.now in
+    let changed = changed_at g.D.DescriptorDevice.pool_name c.args.self.now.pools.items place c.index_mut-pool.result.now c.dealloc_descriptor_sets.new.pool c.finish-count.result (length t.gone) c.dealloc_descriptor_sets.ensures.name n in
+    let pools : (g.D.DescriptorDevice.ledger c.dealloc_descriptor_sets.new.self).pools ≡ taken_from (g.D.DescriptorDevice.ledger c.args.device.now).pools e.pool t.gone = ap (λ (l : Ledger). l.pools) t.ledger ∙ release_pools e.pool t.gone (g.D.DescriptorDevice.ledger c.args.device.now) in
+    let after = stored_after (key_of c.args.first.key) c.args.self.now.offset es (g.D.DescriptorDevice.ledger c.args.device.now).pools place e t.gone c.requires.stored (at g r) (taken g r t.gone t.items t.named t.live).within in
+    let there = subst (λ (x : List Entry). IsStored (key_of c.args.first.key) (bucket c.args.self.now.offset x) (taken_from (g.D.DescriptorDevice.ledger c.args.device.now).pools e.pool t.gone)) (sym changed) after in
+    (key_of c.args.first.key, rw pools there)
+
+pub invariant_of-self : goal.invariant_of-self
+invariant_of-self g c =
+    let r = (goal.at.invariant_of-self g c).After-index_mut-pool in
+    let t = c.dealloc_descriptor_sets.ensures.released in
+    let d = done g.I.Iterator.next_gives g.I.Iterator.can_next g.I.Iterator.remaining g.D.DescriptorDevice.set_name _ c.args.first (bucket_of g.D.DescriptorDevice.pool_name c.args.self.now) (g.D.DescriptorDevice.ledger c.args.device.now).pools (entry_of g.D.DescriptorDevice.pool_name c.index_mut-pool.result.now) c.dealloc_descriptor_sets.new.sets t.items t.gone refl refl refl refl c.requires.stored (at g r) c.requires.taken t.drained (taken g r t.gone t.items t.named t.live) in
+    let fits = d.fits in
+    let count = d.count in
+    let is = c.finish-count.ensures.count in
+    let less = total_less c.args.self.now.pools.items (c.args.first.number - c.args.self.now.offset) c.index_mut-pool.result.now c.dealloc_descriptor_sets.new.pool c.finish-count.result (here g r) c.index_mut-pool.ensures.value (omega arith) in
+    let few = less.0 in
+    let left = less.1 in
+    let total = c.args.self.now.counted in
+    let from = c.from.ensures in
+    let numbered = c.args.self.now.numbered in
+    record { numbered = simp length-set numbered; counted = omega arith }
+
+pub returns-clause-ran : goal.returns-clause-ran
+returns-clause-ran g c =
+    let r = (goal.at.returns-clause-ran g c).After-index_mut-pool in
+    let t = c.dealloc_descriptor_sets.ensures.released in
+    let d = done g.I.Iterator.next_gives g.I.Iterator.can_next g.I.Iterator.remaining g.D.DescriptorDevice.set_name _ c.args.first (bucket_of g.D.DescriptorDevice.pool_name c.args.self.now) (g.D.DescriptorDevice.ledger c.args.device.now).pools (entry_of g.D.DescriptorDevice.pool_name c.index_mut-pool.result.now) c.dealloc_descriptor_sets.new.sets t.items t.gone refl refl refl refl c.requires.stored (at g r) c.requires.taken t.drained (taken g r t.gone t.items t.named t.live) in
+    let n : c.finish-count.result ≡ length t.gone = c.finish-count.ensures.count ∙ d.count ∙ sym d.long in
+    let es : List Entry = map (entry_of g.D.DescriptorDevice.pool_name) c.args.self.now.pools.items in
+    let place : ℕ = c.args.first.number - c.args.self.now.offset in
+    let e = entry_of g.D.DescriptorDevice.pool_name c.index_mut-pool.result.now in
+    let changed = changed_at g.D.DescriptorDevice.pool_name c.args.self.now.pools.items place c.index_mut-pool.result.now c.dealloc_descriptor_sets.new.pool c.finish-count.result (length t.gone) c.dealloc_descriptor_sets.ensures.name n in
+    let m = sym d.run.aname in
+    let h = c.finish-count.ensures.ahead in
+    let v = sym d.run.name in
+    let f = c.finish-count.ensures.source in
+    let fits = d.fits in
+    let count = d.count in
+    let is = c.finish-count.ensures.count in
+    let less = total_less c.args.self.now.pools.items place c.index_mut-pool.result.now c.dealloc_descriptor_sets.new.pool c.finish-count.result (here g r) c.index_mut-pool.ensures.value (omega arith) in
+    let long = length-map d.run.xs (λ (x : DescriptorSet _). g.D.DescriptorDevice.set_name x.raw) in
+    let entries = changed ∙ ap (λ (l : ℕ). set es place (entry_less l e)) d.long in
+    record {
+      sets = d.run.xs;
+      came = run_ends g.I.Iterator.next_gives g.I.Iterator.can_next g.I.Iterator.remaining g.D.DescriptorDevice.set_name c.args.first _ c.dealloc_descriptor_sets.new.sets t.items d.run _ _ (search (rules, m, h)) (search (rules, v, f));
+      went = record {
+        entry = e;
+        above = (c.requires.taken [] c.args.sets.now refl tt).above;
+        at = at g r;
+        books = c.drop_front.ensures.books ∙ ap (λ (x : List Entry). settled_bucket (bucket c.args.self.now.offset x)) entries;
+        ledger = c.drop_front.ensures.ledger ∙ ap (λ (x : List Entry). settled_ledger (bucket c.args.self.now.offset x) (g.D.DescriptorDevice.ledger c.dealloc_descriptor_sets.new.self)) entries
+            ∙ ap (λ (l : Ledger). settled_ledger (bucket c.args.self.now.offset (set es place (entry_less (length (names_of g.D.DescriptorDevice.set_name (c.args.first ∷ d.run.xs))) e))) l) (t.ledger ∙ ap (λ (ls : List LiveSet). after_release e.pool ls (g.D.DescriptorDevice.ledger c.args.device.now)) d.sets);
+      };
+      total = (let total = c.drop_front.ensures.total in let from = c.from.ensures in let few = less.0 in let sum = c.args.self.now.counted in omega arith);
+    }
+
+pub returns-clause-goes : goal.returns-clause-goes
+returns-clause-goes g c =
+    let r = (goal.at.returns-clause-goes g c).After-index_mut-pool in
+    let t = c.dealloc_descriptor_sets.ensures.released in
+    let d = done g.I.Iterator.next_gives g.I.Iterator.can_next g.I.Iterator.remaining g.D.DescriptorDevice.set_name _ c.args.first (bucket_of g.D.DescriptorDevice.pool_name c.args.self.now) (g.D.DescriptorDevice.ledger c.args.device.now).pools (entry_of g.D.DescriptorDevice.pool_name c.index_mut-pool.result.now) c.dealloc_descriptor_sets.new.sets t.items t.gone refl refl refl refl c.requires.stored (at g r) c.requires.taken t.drained (taken g r t.gone t.items t.named t.live) in
+    let m = sym d.run.aname in
+    let h = c.finish-count.ensures.ahead in
+    let v = sym d.run.name in
+    let f = c.finish-count.ensures.source in
+    run_goes g.I.Iterator.next_gives g.I.Iterator.can_next g.I.Iterator.remaining g.D.DescriptorDevice.set_name c.args.first _ c.dealloc_descriptor_sets.new.sets t.items d.run _ _ (search (rules, m, h)) (search (rules, v, f)) c.requires.ends

@@ -1,0 +1,13 @@
+-- Pools of the device that are none of the allocator's.
+use Rattle.std.specs.Prelude.{◌≡◌, ◌≢◌, ℕ, Some}
+use Rattle.gpu_descriptor_types.specs.Ledger.{Pool}
+use Rattle.gpu_descriptor.specs.Books.{Key, Entry, entry_at}
+use Rattle.gpu_descriptor.specs.Agreement.{State}
+
+-- no place of the books names the pool
+abbrev pub IsForeign : State → ℕ → Type 0
+IsForeign s pool = (k : Key) (n : ℕ) (e : Entry) → entry_at (s.books k) n ≡ Some e → e.pool ≢ pool
+
+-- a live pool that isn't in the books stays as it is
+abbrev pub KeepsForeign : State → State → Type 0
+KeepsForeign old new = (name : ℕ) (pool : Pool) → IsForeign old name → old.ledger name ≡ Some pool → new.ledger name ≡ Some pool

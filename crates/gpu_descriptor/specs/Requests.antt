@@ -1,0 +1,47 @@
+-- A request of an allocator over a device, in the words of the books.
+use Rattle.std.specs.Prelude.{◌≡◌, ℕ, ◌+◌, ◌*◌, ◌≤◌, true, List, length, sum, OnOk, IfErr, Result, Ok, Err}
+use Rattle.std.specs.Global.{Vec}
+use Rattle.gpu_descriptor_types.specs.Ledger.{Ledger}
+use Rattle.gpu_descriptor.specs.declared.errors.AllocationError.{AllocationError}
+use Rattle.gpu_descriptor.specs.declared.set.DescriptorSet.{DescriptorSet}
+use Rattle.gpu_descriptor.specs.declared.take.Refusal.{Refusal}
+use Rattle.gpu_descriptor.specs.Books.{Key, Entry, HasDistinctKeys, next_number}
+use Rattle.gpu_descriptor.specs.Agreement.{Item}
+use Rattle.gpu_descriptor.specs.Sets.{items_of}
+use Rattle.gpu_descriptor.specs.States.{state_of, table_of, outstanding_of, marked_load_of}
+use Rattle.gpu_descriptor.specs.Values.{Allocations}
+use Rattle.gpu_descriptor.specs.Load.{marked_load}
+use Rattle.gpu_descriptor.specs.Outcomes.{Call}
+use Rattle.gpu_descriptor.specs.Walk.{with_pools}
+use Rattle.gpu_descriptor.specs.Grow.{IsTakenAll, IsTakenUpTo}
+
+-- the answer, as the books see it
+abbrev pub answer_of : {S : Type 0} → (S → ℕ) → Result (Vec (DescriptorSet S)) AllocationError → Result (List Item) AllocationError
+answer_of name (Ok sets) = Ok (items_of name sets.items)
+answer_of name (Err e) = Err e
+
+-- a request of so many sets of a key, and what it left
+abbrev pub call_of : {P : Type 0} → (P → ℕ) → Key → ℕ → Allocations P → Allocations P → Ledger → Ledger → Result (List Item) AllocationError → Call
+call_of name k count old new before after answer = record {
+  request = record { key = k; count = count; limit = old.limit };
+  old = state_of name old before;
+  new = state_of name new after;
+  before = before.counters;
+  after = after.counters;
+  answer = answer;
+}
+
+-- what a request took of its key's pools, before any of it goes back
+pub record Takes {P S : Type 0} (pool_name : P → ℕ) (set_name : S → ℕ) (k : Key) (count : ℕ) (sets : List (DescriptorSet S)) (taken : Result (Unit {0}) Refusal) (old new : Allocations P) (before after : Ledger) : Type 0 where
+  -- no key has two rows, before and after
+  pub distinct : HasDistinctKeys (table_of pool_name old)
+  pub still : HasDistinctKeys (table_of pool_name new)
+  pub within : k.marked ≡ true → count * sum k.counts + marked_load_of old ≤ old.limit
+  pub numbers : next_number ((state_of pool_name old before).books k) + count ≤ 18446744073709551615
+  pub fits : outstanding_of old + count ≤ 18446744073709551615
+  pub total : outstanding_of new ≡ outstanding_of old + length sets
+  pub marked : marked_load_of new ≡ marked_load_of old + marked_load k (length sets)
+  pub pools : List Entry
+  pub state : state_of pool_name new after ≡ with_pools k pools after.pools (state_of pool_name old before)
+  pub done : OnOk taken (let b = (state_of pool_name old before).books k in IsTakenAll k count b.first (items_of set_name sets) b.pools pools before after)
+  pub stopped : IfErr taken (λ why. let b = (state_of pool_name old before).books k in IsTakenUpTo why k count b.first (items_of set_name sets) b.pools pools before after)

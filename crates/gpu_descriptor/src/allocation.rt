@@ -1,0 +1,82 @@
+//! Where a request puts the sets that come from the device.
+ghost use Rattle.std.specs.Prelude.{◌≡◌, ◌+◌, ◌≤◌, [], IfOk, vec_len, vec_capacity};
+
+use crate::set::{BucketKey, DescriptorSet};
+use gpu_descriptor_types::SetSink;
+use std::alloc::{AllocError, Global};
+
+/// The sets of a request, over room that was taken before the first device call. Each set that is
+/// put gets the key and the number of the pool that is asked.
+#[derive(Drop)]
+pub(crate) struct Allocation<S> {
+    pub(crate) sets: Vec<DescriptorSet<S>>,
+    pub(crate) left: usize,
+    pub(crate) key: BucketKey,
+    pub(crate) number: u64,
+    ghost fits: { vec_len sets + left ≤ vec_capacity sets },
+}
+
+impl<S> Allocation<S> {
+    /// Room for so many sets of a key.
+    pub(crate) fn with_room(alloc: Global, key: BucketKey, count: u32) -> Result<Self, AllocError>
+        ensures sets { IfOk result (λ sink. sink.sets.items ≡ []) }
+        ensures left { IfOk result (λ sink. sink.left ≡ count) }
+    {
+        Ok(Allocation {
+            sets: Vec::with_capacity(alloc, count as usize)?,
+            left: count as usize,
+            key,
+            number: 0,
+        })
+    }
+
+    /// The sets that were put.
+    pub(crate) fn into_sets(self) -> Vec<DescriptorSet<S>>
+        ensures { result.items ≡ self.sets.items }
+    {
+        let Allocation {
+            sets,
+            left: _,
+            key: _,
+            number: _,
+        } = self;
+        sets
+    }
+
+    /// The next sets come from the pool of this key that has this number.
+    pub(crate) fn aim(&mut self, key: BucketKey, number: u64)
+        ensures sets { self.new.sets.items ≡ self.old.sets.items }
+        ensures left { self.new.left ≡ self.old.left }
+        ensures key { self.new.key ≡ key }
+        ensures number { self.new.number ≡ number }
+    {
+        self.key = key;
+        self.number = number;
+    }
+}
+
+impl<S> SetSink<S> for Allocation<S> {
+    type Kept = DescriptorSet<S>;
+
+    ghost kept = { λ sink. sink.sets.items };
+
+    ghost kept_as = { λ sink raw. record { raw = raw; number = sink.number; key = sink.key } };
+
+    ghost room_left = { λ sink. sink.left };
+
+    fn room(&self) -> usize {
+        self.left
+    }
+
+    fn put(&mut self, set: S) {
+        let set = DescriptorSet {
+            raw: set,
+            number: self.number,
+            key: self.key,
+        };
+        match self.sets.push(set) {
+            Ok(()) => self.left -= 1,
+            Err(_) => unreachable!(),
+        }
+    }
+}

@@ -1,0 +1,270 @@
+//! Handing sets out, whole or not at all.
+ghost use Rattle.std.specs.Prelude.{◌≡◌, ◌+◌, ◌*◌, ◌^◌, ◌<◌, ◌≤◌, ◌&&◌, nat_lt, length, sum, sum_by, Err, IfOk, IfErr, OnErr};
+ghost use Rattle.gpu_descriptor_types.specs.Counts.{kinds};
+ghost use Rattle.gpu_descriptor.specs.LayoutFlags.{is_marked};
+ghost use Rattle.gpu_descriptor.specs.Foreign.{KeepsForeign};
+ghost use Rattle.gpu_descriptor.specs.Load.{marked_load};
+ghost use Rattle.gpu_descriptor.specs.Promises.{AreOutBesides, CreatesOnlyWhereShort, HasCause, KeepsOtherKeys, KeepsOutstanding};
+ghost use Rattle.gpu_descriptor.specs.Sets.{items_of, key_of};
+ghost use Rattle.gpu_descriptor.specs.States.{Agrees, marked_load_of, outstanding_of, state_of};
+ghost use Rattle.gpu_descriptor.specs.Outcomes.{Allocates};
+ghost use Rattle.gpu_descriptor.specs.Requests.{answer_of, call_of, Takes};
+ghost use Rattle.gpu_descriptor.specs.Walk.{layout_key, AreBookedIn};
+ghost use Rattle.gpu_descriptor.specs.Grow.{refusal_answer};
+ghost use Rattle.gpu_descriptor.specs.Errors.{error_of_alloc as alloc_answer};
+ghost use Rattle.gpu_descriptor.specs.Stored.{bucket_of, books_in};
+ghost use Rattle.gpu_descriptor.specs.Serves.{Serves, ServesKey, IsUnserved};
+
+use super::DescriptorAllocator;
+use super::free::marked_descriptors;
+use crate::allocation::Allocation;
+use crate::bucket::DescriptorBucket;
+use crate::errors::AllocationError;
+use crate::flags::DescriptorSetLayoutCreateFlags;
+use crate::set::{BucketKey, DescriptorSet};
+use crate::take::{Refusal, Stop};
+use bitflags::Flags;
+use gpu_descriptor_types::{DescriptorDevice, DescriptorTotalCount, DeviceAllocationError};
+use indexmap::IndexMap;
+use std::alloc::Global;
+use std::collections::VecDeque;
+
+impl<P: Drop, S: Drop> DescriptorAllocator<P, S> {
+    /// Allocates `count` sets of a layout, and hands them out in the order in which they came.
+    ///
+    /// The newest pools of the layout's key are asked first, each once, for what it is known to
+    /// have. For what is still wanting new pools are created, each of the size that `new_pool_size`
+    /// says. `count` 0 changes nothing and takes no memory.
+    ///
+    /// Where the request can't be met, all that it took goes back, in one release call for each run
+    /// of neighbours, and the new pools before the key's last one that are then empty are destroyed:
+    ///
+    /// - `Fragmentation`: the sets of a marked layout would pass the limit, a number would pass 64
+    ///   bits, the device refused a new pool so, or a new pool refused for its own sake;
+    /// - `OutOfDeviceMemory`: the device said so, at an existing or a new pool;
+    /// - `OutOfHostMemory`: the device said so, or there was no memory for the answer or the books.
+    ///
+    /// `flags` and `layout_descriptor_count` must be those of the layout. In the original the product
+    /// that is held against the limit is taken in 32 bits; here it is exact.
+    pub fn allocate<L, D: DescriptorDevice<L, P, S>>(
+        &mut self,
+        device: &mut D,
+        layout: &L,
+        flags: DescriptorSetLayoutCreateFlags,
+        layout_descriptor_count: &DescriptorTotalCount,
+        count: u32,
+    ) -> Result<Vec<DescriptorSet<S>>, AllocationError>
+        requires counts { kinds layout_descriptor_count.now ≡ D.layout_counts layout.now }
+        requires mark { is_marked flags ≡ D.layout_mark layout.now }
+        requires agree { Agrees D.pool_name self.old (D.ledger device.old) }
+
+        // Everything at once: which of its outcomes the request had.
+        ensures outcome { Allocates (call_of D.pool_name
+            (layout_key D.layout_counts D.layout_mark layout.now) count
+            self.old self.new (D.ledger device.old) (D.ledger device.new)
+            (answer_of D.set_name result)) }
+
+        ensures many { IfOk result (λ sets. length sets.items ≡ count) }
+        ensures given { IfOk result (λ sets. AreOutBesides (items_of D.set_name sets.items)
+            (state_of D.pool_name self.old (D.ledger device.old))
+            (state_of D.pool_name self.new (D.ledger device.new))) }
+        ensures totals { IfOk result (λ _. (outstanding_of self.new ≡ outstanding_of self.old + count)
+            × (marked_load_of self.new ≡ marked_load_of self.old
+            + marked_load (layout_key D.layout_counts D.layout_mark layout.now) count)) }
+        ensures totals_stay { OnErr result ((outstanding_of self.new ≡ outstanding_of self.old)
+            × (marked_load_of self.new ≡ marked_load_of self.old)) }
+        ensures back { OnErr result (KeepsOutstanding
+            (state_of D.pool_name self.old (D.ledger device.old))
+            (state_of D.pool_name self.new (D.ledger device.new))) }
+        ensures cause { IfErr result (λ e. HasCause e (call_of D.pool_name
+            (layout_key D.layout_counts D.layout_mark layout.now) count
+            self.old self.new (D.ledger device.old) (D.ledger device.new)
+            (answer_of D.set_name result))) }
+        ensures creates { CreatesOnlyWhereShort (call_of D.pool_name
+            (layout_key D.layout_counts D.layout_mark layout.now) count
+            self.old self.new (D.ledger device.old) (D.ledger device.new)
+            (answer_of D.set_name result)) }
+        ensures other_keys { KeepsOtherKeys (layout_key D.layout_counts D.layout_mark layout.now)
+            (state_of D.pool_name self.old (D.ledger device.old))
+            (state_of D.pool_name self.new (D.ledger device.new)) }
+        ensures foreign { KeepsForeign (state_of D.pool_name self.old (D.ledger device.old))
+            (state_of D.pool_name self.new (D.ledger device.new)) }
+        ensures load { marked_load_of self.new ≤ self.new.limit }
+        ensures agree { Agrees D.pool_name self.new (D.ledger device.new) }
+        ensures limit { self.new.limit ≡ self.old.limit }
+    {
+        if count == 0 {
+            return Ok(Vec::new(self.alloc));
+        }
+        let key = BucketKey {
+            size: *layout_descriptor_count,
+            update_after_bind: flags.contains(DescriptorSetLayoutCreateFlags::UPDATE_AFTER_BIND),
+        };
+        let (sets, taken) = match self.request(device, layout, key, count) {
+            Ok(given) => given,
+            Err(error) => return Err(error),
+        };
+        match taken {
+            Ok(()) => Ok(sets),
+            Err(refusal) => {
+                let mut back = sets.into_iter();
+                self.free_from(device, &mut back);
+                Err(error_of_refusal(refusal))
+            }
+        }
+    }
+
+    /// Takes sets, and hands over those that came. Where it stopped short, they have to go back.
+    fn request<L, D: DescriptorDevice<L, P, S>>(
+        &mut self,
+        device: &mut D,
+        layout: &L,
+        key: BucketKey,
+        count: u32,
+    ) -> Result<(Vec<DescriptorSet<S>>, Result<(), Refusal>), AllocationError>
+        requires same { key_of key ≡ layout_key D.layout_counts D.layout_mark layout.now }
+        requires some { 0 < count }
+        requires agree { Agrees D.pool_name self.old (D.ledger device.old) }
+        ensures taken { IfOk result (λ r. Takes D.pool_name D.set_name (key_of key) count
+            r.0.items r.1 self.old self.new (D.ledger device.old) (D.ledger device.new)) }
+        ensures declined { IfErr result (λ e. Allocates (call_of D.pool_name (key_of key) count
+            self.old self.new (D.ledger device.old) (D.ledger device.new) (Err e))) }
+        ensures allocator { OnErr result (self.new ≡ self.old) }
+        ensures ledger { OnErr result (D.ledger device.new ≡ D.ledger device.old) }
+        ensures load { marked_load_of self.new ≤ self.new.limit }
+        ensures limit { self.new.limit ≡ self.old.limit }
+    {
+        // The proof reads from the lengths that no key stands in the table twice.
+        let _keys_before = self.buckets.len();
+        if self.is_above_limit(&key, count) {
+            return Err(AllocationError::Fragmentation);
+        }
+        if is_past_bound(self.outstanding, count) {
+            return Err(AllocationError::Fragmentation);
+        }
+        let served = serve_key(&mut self.buckets, device, layout, key, count, self.alloc);
+        let (sets, taken) = match served {
+            Ok(served) => served,
+            Err(error) => return Err(error),
+        };
+        let _keys_after = self.buckets.len();
+        let given = sets.len() as u64;
+        self.outstanding += given;
+        self.current_update_after_bind_descriptors_in_all_pools += marked_descriptors(
+            &key, given,
+        ) as u32;
+        Ok((sets, taken))
+    }
+
+    /// Whether so many sets would pass the limit on marked descriptors.
+    fn is_above_limit(&self, key: &BucketKey, count: u32) -> bool
+        ensures { result ≡ (key.now.update_after_bind && nat_lt (self.now.limit)
+            (count * sum (kinds key.now.size) + marked_load_of self.now)) }
+    {
+        let left = self.max_update_after_bind_descriptors_in_all_pools
+            - self.current_update_after_bind_descriptors_in_all_pools;
+        key.update_after_bind && u128::from(count) * u128::from(key.size.total()) > u128::from(left)
+    }
+}
+
+/// Whether so many more would pass the greatest number of 64 bits.
+fn is_past_bound(number: u64, count: u32) -> bool
+    ensures { result ≡ nat_lt 18446744073709551615 (number + count) }
+{
+    number.checked_add(u64::from(count)).is_none()
+}
+
+/// Takes sets of a key. If the key is absent, it is put last.
+fn serve_key<L, P: Drop, S: Drop, D: DescriptorDevice<L, P, S>>(
+    buckets: &mut IndexMap<BucketKey, DescriptorBucket<P>>,
+    device: &mut D,
+    layout: &L,
+    key: BucketKey,
+    count: u32,
+    alloc: Global,
+) -> Result<(Vec<DescriptorSet<S>>, Result<(), Refusal>), AllocationError>
+    requires same { key_of key ≡ layout_key D.layout_counts D.layout_mark layout.now }
+    requires booked { AreBookedIn (key_of key) (D.ledger device.old).pools
+        (books_in D.pool_name buckets.old.entries (key_of key)).pools }
+    requires bound { sum_by (λ r. r.1.total) buckets.old.entries + count < 2 ^ 64 }
+    ensures served { IfOk result (λ r. ServesKey D.pool_name D.set_name key count r.0.items r.1
+        buckets.old.entries buckets.new.entries (D.ledger device.old) (D.ledger device.new)) }
+    ensures refused { IfErr result (λ e. IsUnserved count e
+        (books_in D.pool_name buckets.old.entries (key_of key))) }
+    ensures entries { OnErr result (buckets.new.entries ≡ buckets.old.entries) }
+    ensures ledger { OnErr result (D.ledger device.new ≡ D.ledger device.old) }
+{
+    match buckets.get_mut(&key) {
+        Some(bucket) => return serve(bucket, device, layout, &key, count, alloc),
+        None => {}
+    }
+    if buckets.reserve(1).is_err() {
+        return Err(AllocationError::OutOfHostMemory);
+    }
+    let mut bucket = DescriptorBucket {
+        offset: 0,
+        pools: VecDeque::new(alloc),
+        total: 0,
+    };
+    let served = match serve(&mut bucket, device, layout, &key, count, alloc) {
+        Ok(served) => served,
+        Err(error) => return Err(error),
+    };
+    match buckets.insert(key, bucket) {
+        Ok(_) => Ok(served),
+        Err(_) => unreachable!(),
+    }
+}
+
+/// Takes sets from a key's pools, and from new ones, over room that is taken first.
+fn serve<L, P: Drop, S: Drop, D: DescriptorDevice<L, P, S>>(
+    bucket: &mut DescriptorBucket<P>,
+    device: &mut D,
+    layout: &L,
+    key: &BucketKey,
+    count: u32,
+    alloc: Global,
+) -> Result<(Vec<DescriptorSet<S>>, Result<(), Refusal>), AllocationError>
+    requires same { key_of key.now ≡ layout_key D.layout_counts D.layout_mark layout.now }
+    requires booked { AreBookedIn (key_of key.now) (D.ledger device.old).pools
+        (bucket_of D.pool_name bucket.old).pools }
+    requires bound { bucket.old.total + count < 2 ^ 64 }
+    ensures served { IfOk result (λ r. Serves D.pool_name D.set_name (key_of key.now) count
+        r.0.items r.1 bucket.old bucket.new (D.ledger device.old) (D.ledger device.new)) }
+    ensures refused { IfErr result (λ e. IsUnserved count e (bucket_of D.pool_name bucket.old)) }
+    ensures bucket { OnErr result (bucket.new ≡ bucket.old) }
+    ensures ledger { OnErr result (D.ledger device.new ≡ D.ledger device.old) }
+{
+    if is_past_bound(bucket.offset + bucket.pools.len() as u64, count) {
+        return Err(AllocationError::Fragmentation);
+    }
+    let Ok(mut sink) = Allocation::with_room(alloc, *key, count) else {
+        return Err(AllocationError::OutOfHostMemory);
+    };
+    let taken = bucket.take(device, layout, key, count, &mut sink);
+    Ok((sink.into_sets(), taken))
+}
+
+/// The error of a request that stopped.
+fn error_of_refusal(refusal: Refusal) -> AllocationError
+    ensures { result ≡ refusal_answer refusal }
+{
+    match refusal {
+        Refusal::Existing(error) | Refusal::New(Stop::Fresh(error)) => error_of_alloc(error),
+        Refusal::New(Stop::Books) => AllocationError::OutOfHostMemory,
+        Refusal::New(Stop::Create(error)) => AllocationError::from(error),
+    }
+}
+
+/// A pool that refuses for its own sake counts as fragmentation.
+fn error_of_alloc(error: DeviceAllocationError) -> AllocationError
+    ensures { result ≡ alloc_answer error }
+{
+    match error {
+        DeviceAllocationError::OutOfDeviceMemory => AllocationError::OutOfDeviceMemory,
+        DeviceAllocationError::OutOfHostMemory => AllocationError::OutOfHostMemory,
+        DeviceAllocationError::FragmentedPool | DeviceAllocationError::OutOfPoolMemory => {
+            AllocationError::Fragmentation
+        }
+    }
+}

@@ -1,0 +1,62 @@
+//! Cleaning up: the pools that stand empty are destroyed.
+ghost use Rattle.std.specs.Prelude.{◌≡◌};
+ghost use Rattle.gpu_descriptor.specs.Books.{Key};
+ghost use Rattle.gpu_descriptor.specs.Buckets.{IsStored, has_pools, cleared_bucket, cleared_ledger, more_destroyed};
+ghost use Rattle.gpu_descriptor.specs.Cleanup.{IsCleaned, pools_cleaned};
+ghost use Rattle.gpu_descriptor.specs.States.{Agrees, keys_of, marked_load_of, outstanding_of, state_of};
+ghost use Rattle.gpu_descriptor.specs.Stored.{bucket_of};
+
+use super::DescriptorAllocator;
+use crate::bucket::DescriptorBucket;
+use crate::set::BucketKey;
+use gpu_descriptor_types::DescriptorDevice;
+
+impl<P: Drop, S> DescriptorAllocator<P, S> {
+    /// Destroys the oldest pools of each key up to the first that has a set, the last pool too, and
+    /// forgets the keys that then have none. It takes no memory and can't be refused.
+    ///
+    /// The keys are gone through in the order in which they came. A key that was forgotten numbers
+    /// its pools from 0 again.
+    pub fn cleanup<L, D: DescriptorDevice<L, P, S>>(&mut self, device: &mut D)
+        requires { Agrees D.pool_name self.old (D.ledger device.old) }
+        ensures cleaned { IsCleaned (state_of D.pool_name self.old (D.ledger device.old))
+            (state_of D.pool_name self.new (D.ledger device.new)) }
+
+        // All other counters stay.
+        ensures destroyed { (D.ledger device.new).counters ≡ more_destroyed
+            (pools_cleaned (keys_of self.old) (state_of D.pool_name self.old (D.ledger device.old)))
+            (D.ledger device.old).counters }
+
+        ensures totals_stay { (outstanding_of self.new ≡ outstanding_of self.old)
+            × (marked_load_of self.new ≡ marked_load_of self.old) }
+        ensures agree { Agrees D.pool_name self.new (D.ledger device.new) }
+        ensures limit { self.new.limit ≡ self.old.limit }
+    {
+        for place in 0..self.buckets.len() {
+            let bucket = &mut self.buckets[place];
+            bucket.drop_empty(device);
+        }
+        self.buckets.retain(
+            |_key: &BucketKey, bucket: &mut DescriptorBucket<P>| -> bool
+                ensures { (result ≡ has_pools bucket.old) × (bucket.new ≡ bucket.old) }
+            { !bucket.pools.is_empty() },
+        );
+    }
+}
+
+impl<P> DescriptorBucket<P> {
+    /// Destroys the pools without sets at the front, the last pool too.
+    fn drop_empty<L, S, D: DescriptorDevice<L, P, S>>(&mut self, device: &mut D)
+        requires { (k : Key) × IsStored k (bucket_of D.pool_name self.old) (D.ledger device.old).pools }
+        ensures books { bucket_of D.pool_name self.new ≡ cleared_bucket (bucket_of D.pool_name self.old) }
+        ensures ledger { D.ledger device.new
+            ≡ cleared_ledger (bucket_of D.pool_name self.old) (D.ledger device.old) }
+        ensures total { self.new.total ≡ self.old.total }
+    {
+        while !self.pools.is_empty() && self.pools[0].allocated == 0 {
+            let front = self.pools.pop_front().unwrap();
+            device.destroy_descriptor_pool(front.raw);
+            self.offset += 1;
+        }
+    }
+}

@@ -1,0 +1,112 @@
+//! Giving sets back.
+ghost use Rattle.std.specs.Prelude.{◌≡◌, ◌<◌, ◌^◌, ◌∷◌, OnSome};
+ghost use Rattle.std.specs.Iterator.{HoldsAlong, IsFinite, IsNearerEnd};
+ghost use Rattle.gpu_descriptor.specs.Agreement.{AreOutstanding};
+ghost use Rattle.gpu_descriptor.specs.Foreign.{KeepsForeign};
+ghost use Rattle.gpu_descriptor.specs.Frees.{Frees, FreesRun};
+ghost use Rattle.gpu_descriptor.specs.Sets.{items_of};
+ghost use Rattle.gpu_descriptor.specs.States.{Agrees, keys_of, state_of};
+ghost use Rattle.gpu_descriptor.specs.Stored.{load_of};
+
+use super::DescriptorAllocator;
+use crate::set::{BucketKey, DescriptorSet};
+use gpu_descriptor_types::DescriptorDevice;
+
+impl<P, S> DescriptorAllocator<P, S> {
+    /// Gives sets back. It takes no memory and can't be refused.
+    ///
+    /// Neighbours of one pool go back in one call of the device. Whenever the oldest pools of their
+    /// key have no set left, these are destroyed, but never the key's last pool.
+    pub fn free<L, D: DescriptorDevice<L, P, S>, I: IntoIterator<Item = DescriptorSet<S>>>(
+        &mut self,
+        device: &mut D,
+        sets: I,
+    )
+        requires can { (iter : I.IntoIter) → I.into_iter_gives sets iter → I.IntoIter.can_next iter }
+        requires ends { (iter : I.IntoIter) → I.into_iter_gives sets iter → IsFinite (I.IntoIter.remaining iter) }
+        requires agree { Agrees D.pool_name self.old (D.ledger device.old) }
+        requires outstanding { (iter : I.IntoIter) → I.into_iter_gives sets iter → HoldsAlong I.IntoIter.next_gives iter
+            (λ xs. AreOutstanding (items_of D.set_name xs) (state_of D.pool_name self.old (D.ledger device.old))) }
+        ensures frees { (iter : I.IntoIter) × (left : I.IntoIter) × I.into_iter_gives sets iter
+            × Frees I.IntoIter.next_gives D.pool_name D.set_name iter left self.old self.new (D.ledger device.old) (D.ledger device.new) }
+        ensures agree { Agrees D.pool_name self.new (D.ledger device.new) }
+        ensures keys { keys_of self.new ≡ keys_of self.old }
+        ensures foreign { KeepsForeign (state_of D.pool_name self.old (D.ledger device.old))
+            (state_of D.pool_name self.new (D.ledger device.new)) }
+        ensures limit { self.new.limit ≡ self.old.limit }
+    {
+        let mut sets = sets.into_iter();
+        self.free_from(device, &mut sets);
+    }
+
+    /// The same as `free`, for the sets that the iterator gives up to its end.
+    pub fn free_from<L, D: DescriptorDevice<L, P, S>, I: Iterator<Item = DescriptorSet<S>>>(
+        &mut self,
+        device: &mut D,
+        sets: &mut I,
+    )
+        requires can { I.can_next sets.old }
+        requires ends { IsFinite (I.remaining sets.old) }
+        requires agree { Agrees D.pool_name self.old (D.ledger device.old) }
+        requires outstanding { HoldsAlong I.next_gives sets.old
+            (λ xs. AreOutstanding (items_of D.set_name xs) (state_of D.pool_name self.old (D.ledger device.old))) }
+        ensures frees { Frees I.next_gives D.pool_name D.set_name sets.old sets.new
+            self.old self.new (D.ledger device.old) (D.ledger device.new) }
+        ensures agree { Agrees D.pool_name self.new (D.ledger device.new) }
+        ensures keys { keys_of self.new ≡ keys_of self.old }
+        ensures foreign { KeepsForeign (state_of D.pool_name self.old (D.ledger device.old))
+            (state_of D.pool_name self.new (D.ledger device.new)) }
+        ensures limit { self.new.limit ≡ self.old.limit }
+    {
+        let mut ahead = sets.next();
+        while let Some(first) = ahead {
+            ahead = self.release_run(device, first, sets);
+        }
+    }
+
+    /// Gives back one run, from `first` to before the first set that lies elsewhere, which is handed
+    /// back.
+    fn release_run<L, D: DescriptorDevice<L, P, S>, I: Iterator<Item = DescriptorSet<S>>>(
+        &mut self,
+        device: &mut D,
+        first: DescriptorSet<S>,
+        sets: &mut I,
+    ) -> Option<DescriptorSet<S>>
+        requires can { I.can_next sets.old }
+        requires ends { IsFinite (I.remaining sets.old) }
+        requires agree { Agrees D.pool_name self.old (D.ledger device.old) }
+        requires outstanding { HoldsAlong I.next_gives sets.old
+            (λ xs. AreOutstanding (items_of D.set_name (first ∷ xs)) (state_of D.pool_name self.old (D.ledger device.old))) }
+        ensures ran { FreesRun I.next_gives D.pool_name D.set_name first sets.old result sets.new
+            self.old self.new (D.ledger device.old) (D.ledger device.new) }
+        ensures goes { OnSome result (IsNearerEnd I.can_next I.remaining sets.old sets.new) }
+        ensures keys { keys_of self.new ≡ keys_of self.old }
+        ensures limit { self.new.limit ≡ self.old.limit }
+    {
+        let key = first.key;
+        match self.buckets.get_mut(&key) {
+            Some(bucket) => {
+                let before = bucket.total;
+                let ahead = bucket.release_run(device, first, sets);
+                let released = before - bucket.total;
+                self.outstanding -= released;
+                let descriptors = marked_descriptors(&key, released) as u32;
+                self.current_update_after_bind_descriptors_in_all_pools -= descriptors;
+                ahead
+            }
+            None => unreachable!(),
+        }
+    }
+}
+
+/// How many descriptors so many sets of a key have, if the key is marked, and else 0.
+pub(super) fn marked_descriptors(key: &BucketKey, sets: u64) -> u64
+    requires { load_of key.now sets < 2 ^ 64 }
+    ensures { result ≡ load_of key.now sets }
+{
+    if key.update_after_bind {
+        sets * key.size.total()
+    } else {
+        0
+    }
+}

@@ -1,0 +1,74 @@
+//! What the allocator tells of itself. The readers take no memory.
+ghost use Rattle.std.specs.Prelude.{◌≡◌, ℕ, ◌≤◌, length};
+ghost use Rattle.gpu_descriptor_types.specs.Counts.{kinds};
+ghost use Rattle.gpu_descriptor.specs.Books.{AddsUp, books_of};
+ghost use Rattle.gpu_descriptor.specs.Load.{descriptors_out, sets_out};
+ghost use Rattle.gpu_descriptor.specs.States.{marked_load_of, outstanding_of, table_of};
+ghost use Rattle.gpu_descriptor.specs.Views.{pools_at, view_at};
+
+use super::DescriptorAllocator;
+use crate::set::BucketKey;
+use crate::view::PoolView;
+use gpu_descriptor_types::DescriptorTotalCount;
+
+impl<P, S> DescriptorAllocator<P, S> {
+    /// How many sets are outstanding.
+    pub fn outstanding(&self) -> u64
+        ensures total { result ≡ outstanding_of self.now }
+        ensures books { (name : P → ℕ) → AddsUp sets_out (books_of (table_of name self.now)) result }
+    {
+        // The proof reads from the length that no key stands in the table twice.
+        let _keys = self.buckets.len();
+        self.outstanding
+    }
+
+    /// How many descriptors the outstanding sets of layouts have that are marked as
+    /// update-after-bind.
+    pub fn update_after_bind_descriptors(&self) -> u32
+        ensures sum { result ≡ marked_load_of self.now }
+        ensures books { (name : P → ℕ) → AddsUp descriptors_out (books_of (table_of name self.now)) result }
+        ensures within { result ≤ self.now.limit }
+    {
+        let _keys = self.buckets.len();
+        self.current_update_after_bind_descriptors_in_all_pools
+    }
+
+    /// How many pools there are for sets of layouts with these counts and this mark.
+    pub fn pool_count(&self, size: &DescriptorTotalCount, update_after_bind: bool) -> usize
+        ensures { result ≡ length
+            (pools_at self.now.table (record { counts = kinds size.now; marked = update_after_bind })) }
+    {
+        let key = BucketKey {
+            size: *size,
+            update_after_bind,
+        };
+        match self.buckets.get(&key) {
+            Some(bucket) => bucket.pools.len(),
+            None => 0,
+        }
+    }
+
+    /// The books of the pool at this place among those for sets of layouts with these counts and
+    /// this mark, oldest first; `None` past the last.
+    pub fn pool(
+        &self,
+        size: &DescriptorTotalCount,
+        update_after_bind: bool,
+        index: usize,
+    ) -> Option<PoolView>
+        ensures { result ≡ view_at self.now.table
+            (record { counts = kinds size.now; marked = update_after_bind }) index }
+    {
+        let key = BucketKey {
+            size: *size,
+            update_after_bind,
+        };
+        let bucket = self.buckets.get(&key)?;
+        let pool = bucket.pools.get(index)?;
+        Some(PoolView {
+            number: bucket.offset + index as u64,
+            allocated: pool.allocated,
+            available: pool.available,
+        })
+    }
+}

@@ -1,0 +1,69 @@
+//! Giving a run back to the pools of its key.
+ghost use Rattle.std.specs.Prelude.{◌≡◌, ◌∷◌, OnSome};
+ghost use Rattle.std.specs.Iterator.{HoldsAlong, IsFinite, IsNearerEnd};
+ghost use Rattle.gpu_descriptor.specs.Books.{Key};
+ghost use Rattle.gpu_descriptor.specs.Buckets.{IsStored, IsTakenAt, ReleasesRun, names_of, settled_bucket, settled_ledger};
+ghost use Rattle.gpu_descriptor.specs.Sets.{key_of};
+ghost use Rattle.gpu_descriptor.specs.Steps.{HaveKey};
+ghost use Rattle.gpu_descriptor.specs.Stored.{bucket_of};
+
+use crate::bucket::DescriptorBucket;
+use crate::run::Run;
+use crate::set::DescriptorSet;
+use gpu_descriptor_types::DescriptorDevice;
+
+impl<P> DescriptorBucket<P> {
+    /// Gives back one run of this key in one device call, and then drops the front.
+    ///
+    /// The run goes from `first` to before the first set that lies elsewhere, which is handed back.
+    pub(crate) fn release_run<
+        L,
+        S,
+        D: DescriptorDevice<L, P, S>,
+        I: Iterator<Item = DescriptorSet<S>>,
+    >(&mut self, device: &mut D, first: DescriptorSet<S>, sets: &mut I) -> Option<DescriptorSet<S>>
+        requires can { I.can_next sets.old }
+        requires ends { IsFinite (I.remaining sets.old) }
+        requires stored { IsStored (key_of first.key) (bucket_of D.pool_name self.old) (D.ledger device.old).pools }
+        requires taken { HoldsAlong I.next_gives sets.old (λ xs. HaveKey first.key first.number xs
+            → IsTakenAt (key_of first.key) first.number (names_of D.set_name (first ∷ xs))
+            (bucket_of D.pool_name self.old) (D.ledger device.old).pools) }
+        ensures ran { ReleasesRun I.next_gives D.pool_name D.set_name first sets.old result sets.new
+            self.old self.new (D.ledger device.old) (D.ledger device.new) }
+        ensures goes { OnSome result (IsNearerEnd I.can_next I.remaining sets.old sets.new) }
+    {
+        let key = first.key;
+        let number = first.number;
+        let place = (number - self.offset) as usize;
+        let mut ahead = Some(first);
+        let pool = &mut self.pools[place];
+        let mut run = Run {
+            source: sets,
+            ahead: &mut ahead,
+            key,
+            number,
+            count: 0,
+        };
+        device.dealloc_descriptor_sets(&mut pool.raw, &mut run);
+        let count = run.finish();
+        pool.allocated -= count;
+        pool.available += count;
+        self.total -= u64::from(count);
+        self.drop_front(device);
+        ahead
+    }
+
+    /// Destroys the pools without sets at the front, but never the last pool.
+    fn drop_front<L, S, D: DescriptorDevice<L, P, S>>(&mut self, device: &mut D)
+        requires { (k : Key) × IsStored k (bucket_of D.pool_name self.old) (D.ledger device.old).pools }
+        ensures books { bucket_of D.pool_name self.new ≡ settled_bucket (bucket_of D.pool_name self.old) }
+        ensures ledger { D.ledger device.new ≡ settled_ledger (bucket_of D.pool_name self.old) (D.ledger device.old) }
+        ensures total { self.new.total ≡ self.old.total }
+    {
+        while self.pools.len() > 1 && self.pools[0].allocated == 0 {
+            let front = self.pools.pop_front().unwrap();
+            device.destroy_descriptor_pool(front.raw);
+            self.offset += 1;
+        }
+    }
+}

@@ -1,0 +1,65 @@
+//! A run: sets of one pool that come one after another.
+ghost use Rattle.std.specs.Prelude.{◌≡◌, ◌+◌};
+ghost use Rattle.std.specs.Iterator.{count_map};
+ghost use Rattle.std.specs.Option.{option_len};
+ghost use Rattle.gpu_descriptor.specs.Steps.{CountsFrom, RunStep};
+
+use crate::set::{BucketKey, DescriptorSet};
+
+/// Gives the raw sets of one run: those of `source` up to the first that lies elsewhere, which stays
+/// in `ahead`. What `ahead` has at first comes before those of `source`.
+#[derive(Drop)]
+pub(crate) struct Run<'a, 'b, I, S> {
+    pub(crate) source: &'a mut I,
+    pub(crate) ahead: &'b mut Option<DescriptorSet<S>>,
+
+    /// The key of the run's sets.
+    pub(crate) key: BucketKey,
+
+    /// The number of their pool.
+    pub(crate) number: u64,
+
+    /// How many came so far.
+    pub(crate) count: u32,
+}
+
+impl<S, I: Iterator<Item = DescriptorSet<S>>> Iterator for Run<'_, '_, I, S> {
+    type Item = S;
+
+    ghost can_next = { λ s. I.can_next s.source.now × CountsFrom I.next_gives s.key s.number s.source.now (s.count + option_len s.ahead.now) };
+
+    ghost next_gives = { RunStep I.next_gives I.can_next I.remaining };
+
+    ghost remaining = { λ s. count_map (λ n. n + option_len s.ahead.now) (I.remaining s.source.now) };
+
+    fn next(&mut self) -> Option<S> {
+        let set = match self.ahead.take() {
+            Some(set) => set,
+            None => self.source.next()?,
+        };
+        if set.is_at(&self.key, self.number) {
+            self.count += 1;
+            let DescriptorSet {
+                raw,
+                number: _,
+                key: _,
+            } = set;
+            return Some(raw);
+        }
+        match self.ahead.replace(set) {
+            None => None,
+            Some(_) => unreachable!(),
+        }
+    }
+}
+
+impl<S, I: Iterator<Item = DescriptorSet<S>>> Run<'_, '_, I, S> {
+    /// Gives the borrows back, and how many sets came.
+    pub(crate) fn finish(self) -> u32
+        ensures count { result ≡ self.entry.count }
+        ensures source { self.exit.0.now ≡ self.entry.source.now }
+        ensures ahead { self.exit.1.0.now ≡ self.entry.ahead.now }
+    {
+        self.count
+    }
+}

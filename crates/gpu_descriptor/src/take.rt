@@ -1,0 +1,289 @@
+//! How a request takes sets from the pools of its key.
+ghost use Rattle.std.specs.Prelude.{◌≡◌, ◌+◌, ◌<◌, ◌≤◌, ◌++◌, ◌^◌, List, [], length, map, if◌then◌else◌, IfOk, IfErr, OnOk};
+ghost use Rattle.gpu_descriptor_types.specs.Counts.{kinds};
+ghost use Rattle.gpu_descriptor_types.specs.Flags.{bits};
+ghost use Rattle.gpu_descriptor_types.specs.Ledger.{pool_refusals};
+ghost use Rattle.gpu_descriptor.specs.declared.set.DescriptorSet.{DescriptorSet};
+ghost use Rattle.gpu_descriptor.specs.Load.{held};
+ghost use Rattle.gpu_descriptor.specs.Sets.{key_of, items_of};
+ghost use Rattle.gpu_descriptor.specs.Stored.{bucket_of, entry_of};
+ghost use Rattle.gpu_descriptor.specs.Books.{next_number};
+ghost use Rattle.gpu_descriptor.specs.Shares.{rest};
+ghost use Rattle.gpu_descriptor.specs.Walk.{entries_of, layout_key, sets_at, IsBookedIn, AreBookedIn, IsAsked, IsNoMemory, IsWalked, IsWalkStopped};
+ghost use Rattle.gpu_descriptor.specs.Grow.{IsGrown, IsNotGrown, IsTakenAll, IsTakenUpTo};
+
+use crate::allocation::Allocation;
+use crate::bucket::{DescriptorBucket, DescriptorPool};
+use crate::set::BucketKey;
+use bitflags::Flags;
+use gpu_descriptor_types::{
+    CreatePoolError, DescriptorDevice, DescriptorPoolCreateFlags, DeviceAllocationError, Layouts,
+    new_pool_size,
+};
+use std::collections::VecDeque;
+
+/// Why no new pool came.
+#[derive(Clone, Copy)]
+pub(crate) enum Stop {
+    /// No room for the books of a new pool.
+    Books,
+
+    /// The pool wasn't created.
+    Create(CreatePoolError),
+
+    /// The new pool refused, and was destroyed.
+    Fresh(DeviceAllocationError),
+}
+
+/// Why a request stops.
+#[derive(Clone, Copy)]
+pub(crate) enum Refusal {
+    /// An existing pool answered want of memory.
+    Existing(DeviceAllocationError),
+
+    /// No new pool came.
+    New(Stop),
+}
+
+/// Whether a refusal speaks of the pool alone, and not of want of memory.
+fn is_of_pool(error: DeviceAllocationError) -> bool
+    ensures { pool_refusals error ≡ (if result then 1 else 0) }
+{
+    match error {
+        DeviceAllocationError::FragmentedPool | DeviceAllocationError::OutOfPoolMemory => true,
+        DeviceAllocationError::OutOfDeviceMemory | DeviceAllocationError::OutOfHostMemory => false,
+    }
+}
+
+/// Asks a pool for what it has of so many sets. It answers how many came.
+///
+/// Where the pool refuses, its places are no longer known, and none came.
+fn ask<L, P, S, D: DescriptorDevice<L, P, S>>(
+    device: &mut D,
+    pool: &mut DescriptorPool<P>,
+    layout: &L,
+    key: &BucketKey,
+    wanted: u32,
+    sink: &mut Allocation<S>,
+) -> Result<u32, DeviceAllocationError>
+    requires same { key_of key.now ≡ layout_key D.layout_counts D.layout_mark layout.now }
+    requires booked { IsBookedIn (key_of key.now) (D.ledger device.old).pools (entry_of D.pool_name pool.old) }
+    requires room { wanted ≤ sink.old.left }
+    ensures asked { IfOk result (λ given. (put : List S)
+        × (length put ≡ given)
+        × (sink.new.sets.items ≡ sink.old.sets.items ++ sets_at sink.old.key sink.old.number put)
+        × (sink.new.left + given ≡ sink.old.left)
+        × IsAsked (key_of key.now) wanted (map D.set_name put) (entry_of D.pool_name pool.old) (entry_of D.pool_name pool.new) (D.ledger device.old) (D.ledger device.new)) }
+    ensures err { IfErr result (λ e.
+        (sink.new.sets.items ≡ sink.old.sets.items)
+        × (entry_of D.pool_name pool.new ≡ entry_of D.pool_name pool.old)
+        × IsNoMemory wanted (entry_of D.pool_name pool.old) e (D.ledger device.old) (D.ledger device.new)) }
+{
+    let count = wanted.min(pool.available);
+    if count == 0 {
+        return Ok(0);
+    }
+    match device.alloc_descriptor_sets(&mut pool.raw, Layouts::new(layout, count), sink) {
+        Ok(()) => {
+            pool.allocated += count;
+            pool.available -= count;
+            Ok(count)
+        }
+        Err(error) => {
+            if is_of_pool(error) {
+                pool.available = 0;
+                Ok(0)
+            } else {
+                Err(error)
+            }
+        }
+    }
+}
+
+/// Asks the pools for sets, the newest first, until none are wanting. It answers how many are
+/// wanting then. The first pool has the number `offset`.
+fn walk<L, P, S, D: DescriptorDevice<L, P, S>>(
+    device: &mut D,
+    pools: &mut VecDeque<DescriptorPool<P>>,
+    offset: u64,
+    layout: &L,
+    key: &BucketKey,
+    count: u32,
+    sink: &mut Allocation<S>,
+) -> Result<u32, DeviceAllocationError>
+    requires same { key_of key.now ≡ layout_key D.layout_counts D.layout_mark layout.now }
+    requires booked { AreBookedIn (key_of key.now) (D.ledger device.old).pools (entries_of D.pool_name pools.old.items) }
+    requires numbers { offset + length pools.old.items < 2 ^ 64 }
+    requires room { count ≤ sink.old.left }
+    ensures walked { IfOk result (λ wanting. (put : List (DescriptorSet S))
+        × (sink.new.sets.items ≡ sink.old.sets.items ++ put)
+        × (sink.new.left + count ≡ sink.old.left + wanting)
+        × (walked : IsWalked (key_of key.now) count offset 0 (items_of D.set_name put) (entries_of D.pool_name pools.old.items) (entries_of D.pool_name pools.new.items) (D.ledger device.old) (D.ledger device.new))
+        × (wanting ≡ rest walked.grant.refused count (entries_of D.pool_name pools.old.items))
+        × (length put + wanting ≡ count)) }
+    ensures stopped { IfErr result (λ e. (put : List (DescriptorSet S))
+        × (sink.new.sets.items ≡ sink.old.sets.items ++ put)
+        × IsWalkStopped (key_of key.now) count offset e (items_of D.set_name put) (entries_of D.pool_name pools.old.items) (entries_of D.pool_name pools.new.items) (D.ledger device.old) (D.ledger device.new)) }
+    ensures pools { length pools.new.items ≡ length pools.old.items }
+    ensures given { length sink.new.sets.items ≤ length sink.old.sets.items + count }
+{
+    let mut wanting = count;
+    for at in (0..pools.len()).rev() {
+        if wanting == 0 {
+            return Ok(0);
+        }
+        sink.aim(*key, offset + at as u64);
+        match ask(device, &mut pools[at], layout, key, wanting, sink) {
+            Ok(given) => wanting -= given,
+            Err(error) => return Err(error),
+        }
+    }
+    Ok(wanting)
+}
+
+/// The flags of a new pool: sets go back singly.
+fn pool_flags(update_after_bind: bool) -> DescriptorPoolCreateFlags
+    ensures { bits result ≡ (if update_after_bind then 3 else 1) }
+{
+    let mut flags = DescriptorPoolCreateFlags::FREE_DESCRIPTOR_SET;
+    flags.set(
+        DescriptorPoolCreateFlags::UPDATE_AFTER_BIND,
+        update_after_bind,
+    );
+    flags
+}
+
+/// Creates a pool, and asks it for what it has of so many sets. It answers how many came.
+///
+/// `total` sets of the key are out already, and the first pool has the number `offset`.
+fn grow_one<L, P: Drop, S, D: DescriptorDevice<L, P, S>>(
+    device: &mut D,
+    pools: &mut VecDeque<DescriptorPool<P>>,
+    offset: u64,
+    layout: &L,
+    key: &BucketKey,
+    total: u64,
+    wanted: u32,
+    sink: &mut Allocation<S>,
+) -> Result<u32, Stop>
+    requires same { key_of key.now ≡ layout_key D.layout_counts D.layout_mark layout.now }
+    requires numbers { offset + length pools.old.items < 2 ^ 64 }
+    requires room { wanted ≤ sink.old.left }
+    ensures grown { IfOk result (λ given. (put : List S)
+        × (length put ≡ given)
+        × (sink.new.sets.items ≡ sink.old.sets.items ++ sets_at key.now (offset + length pools.old.items) put)
+        × (sink.new.left + given ≡ sink.old.left)
+        × IsGrown (key_of key.now) total wanted (map D.set_name put) (entries_of D.pool_name pools.old.items) (entries_of D.pool_name pools.new.items) (D.ledger device.old) (D.ledger device.new)) }
+    ensures err { IfErr result (λ why.
+        (sink.new.sets.items ≡ sink.old.sets.items)
+        × (pools.new.items ≡ pools.old.items)
+        × IsNotGrown why (D.ledger device.old) (D.ledger device.new)) }
+{
+    if pools.reserve(1).is_err() {
+        return Err(Stop::Books);
+    }
+    let (pool_counts, size) = new_pool_size(&key.size, total, wanted);
+    let flags = pool_flags(key.update_after_bind);
+    let mut raw = match device.create_descriptor_pool(&pool_counts, size, flags) {
+        Ok(raw) => raw,
+        Err(error) => return Err(Stop::Create(error)),
+    };
+    let given = size.min(wanted);
+    sink.aim(*key, offset + pools.len() as u64);
+    match device.alloc_descriptor_sets(&mut raw, Layouts::new(layout, given), sink) {
+        Ok(()) => {
+            pools.push_back_reserved(DescriptorPool {
+                raw,
+                allocated: given,
+                available: size - given,
+            });
+            Ok(given)
+        }
+        Err(error) => {
+            device.destroy_descriptor_pool(raw);
+            Err(Stop::Fresh(error))
+        }
+    }
+}
+
+/// Takes sets from a key's pools: from the existing ones, the newest first, and then from new ones.
+///
+/// `total` sets of the key are out already, and the first pool has the number `offset`.
+pub(crate) fn take<L, P: Drop, S, D: DescriptorDevice<L, P, S>>(
+    device: &mut D,
+    pools: &mut VecDeque<DescriptorPool<P>>,
+    offset: u64,
+    layout: &L,
+    key: &BucketKey,
+    total: u64,
+    count: u32,
+    sink: &mut Allocation<S>,
+) -> Result<(), Refusal>
+    requires same { key_of key.now ≡ layout_key D.layout_counts D.layout_mark layout.now }
+    requires booked { AreBookedIn (key_of key.now) (D.ledger device.old).pools (entries_of D.pool_name pools.old.items) }
+    requires total { total ≡ held (entries_of D.pool_name pools.old.items) }
+    requires bound { total + count < 2 ^ 64 }
+    requires numbers { offset + length pools.old.items + count < 2 ^ 64 }
+    requires room { count ≤ sink.old.left }
+    ensures done { OnOk result ((put : List (DescriptorSet S))
+        × (sink.new.sets.items ≡ sink.old.sets.items ++ put)
+        × IsTakenAll (key_of key.now) count offset (items_of D.set_name put) (entries_of D.pool_name pools.old.items) (entries_of D.pool_name pools.new.items) (D.ledger device.old) (D.ledger device.new)) }
+    ensures stopped { IfErr result (λ why. (put : List (DescriptorSet S))
+        × (sink.new.sets.items ≡ sink.old.sets.items ++ put)
+        × IsTakenUpTo why (key_of key.now) count offset (items_of D.set_name put) (entries_of D.pool_name pools.old.items) (entries_of D.pool_name pools.new.items) (D.ledger device.old) (D.ledger device.new)) }
+    ensures pools { length pools.new.items ≤ length pools.old.items + count }
+    ensures given { length sink.new.sets.items ≤ length sink.old.sets.items + count }
+{
+    let mut wanting = match walk(device, pools, offset, layout, key, count, sink) {
+        Ok(wanting) => wanting,
+        Err(error) => return Err(Refusal::Existing(error)),
+    };
+    let mut out = total + u64::from(count - wanting);
+    while wanting > 0 {
+        match grow_one(device, pools, offset, layout, key, out, wanting, sink) {
+            Ok(given) => {
+                wanting -= given;
+                out += u64::from(given);
+            }
+            Err(why) => return Err(Refusal::New(why)),
+        }
+    }
+    Ok(())
+}
+
+impl<P: Drop> DescriptorBucket<P> {
+    /// Takes sets from the pools, and from new ones.
+    pub(crate) fn take<L, S, D: DescriptorDevice<L, P, S>>(
+        &mut self,
+        device: &mut D,
+        layout: &L,
+        key: &BucketKey,
+        count: u32,
+        sink: &mut Allocation<S>,
+    ) -> Result<(), Refusal>
+        requires same { key_of key.now ≡ layout_key D.layout_counts D.layout_mark layout.now }
+        requires booked { AreBookedIn (key_of key.now) (D.ledger device.old).pools (bucket_of D.pool_name self.old).pools }
+        requires bound { self.old.total + count < 2 ^ 64 }
+        requires numbers { next_number (bucket_of D.pool_name self.old) + count < 2 ^ 64 }
+        requires empty { sink.old.sets.items ≡ [] }
+        requires room { count ≤ sink.old.left }
+        ensures offset { self.new.offset ≡ self.old.offset }
+        ensures total { self.new.total ≡ self.old.total + length sink.new.sets.items }
+        ensures few { length sink.new.sets.items ≤ count }
+        ensures done { OnOk result (IsTakenAll (key_of key.now) count self.old.offset (items_of D.set_name sink.new.sets.items) (bucket_of D.pool_name self.old).pools (bucket_of D.pool_name self.new).pools (D.ledger device.old) (D.ledger device.new)) }
+        ensures stopped { IfErr result (λ why. IsTakenUpTo why (key_of key.now) count self.old.offset (items_of D.set_name sink.new.sets.items) (bucket_of D.pool_name self.old).pools (bucket_of D.pool_name self.new).pools (D.ledger device.old) (D.ledger device.new)) }
+    {
+        let taken = take(
+            device,
+            &mut self.pools,
+            self.offset,
+            layout,
+            key,
+            self.total,
+            count,
+            sink,
+        );
+        self.total += sink.sets.len() as u64;
+        taken
+    }
+}
