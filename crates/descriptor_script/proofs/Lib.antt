@@ -1,0 +1,6 @@
+mod Calls
+mod Entries
+mod Filling
+pub mod Holding
+mod Trips
+mod Written

@@ -1,0 +1,83 @@
+-- A pool that is written in the table of the live pools.
+use Rattle.std.proofs.Common.{◌≡◌, ℕ, ◌+◌, ◌≤◌, Bool, true, false, cond, nat_eq, eqb-true, Option, Some, None, is_some, inl, inr, List, [], ◌∷◌, ◌++◌, map, refl, sym, ap, ◌∙◌, arith, subst}
+use Rattle.std.proofs.Math.Path.{fun_ext}
+use Rattle.std.specs.List.{range_with_len}
+use Rattle.std.specs.Option.{option_map}
+use Rattle.std.proofs.lemmas.Bool.{cases_Bool}
+use Rattle.std.proofs.lemmas.List.{map-append}
+use Rattle.indexmap.specs.IndexMap.{IndexMap, get, WritesThrough}
+use Rattle.gpu_descriptor_types.specs.Counts.{kinds}
+use Rattle.gpu_descriptor_types.specs.Ledger.{Pool, changed, on_pool, live_sets}
+use Rattle.gpu_descriptor_types.specs.Multiset.{times, set_eq}
+use Rattle.gpu_descriptor_types.specs.declared.counts.DescriptorTotalCount.{DescriptorTotalCount}
+use Rattle.gpu_descriptor_types.proofs.Counting.{count_by-append}
+use Rattle.descriptor_script.specs.Live.{live_set_of, live_sets_of, entries_named}
+use Rattle.descriptor_script.specs.Raw.{set_id, raw_set, raw_sets}
+use Rattle.descriptor_script.specs.Table.{seen, pools_in, has_set, PoolsAreBelow, SetsAreBelow}
+use Rattle.descriptor_script.specs.declared.live.LivePool.{LivePool}
+
+-- the pool of this name was old and is now new, and the others stay
+pub record IsWritten {S : Type 0} (m n : IndexMap ℕ LivePool S) (name : ℕ) (old new : LivePool) : Type 0 where
+  pub was : get nat_eq m name ≡ Some old
+  pub now : (q : ℕ) → get nat_eq n q ≡ cond (nat_eq name q) (Some new) (get nat_eq m q)
+
+pub written : {S : Type 0} (m n : IndexMap ℕ LivePool S) (name : ℕ) (old new : LivePool) → Some old ≡ get nat_eq m name → WritesThrough nat_eq (nat_eq name) m new n → IsWritten m n name old new
+written m n name old new was through = record { was = sym was; now = (through.3 (ap is_some (sym was))).0 }
+
+none_from : {X : Type 0} (o : Option X) → is_some o ≡ false → o ≡ None
+none_from None h = refl
+none_from (Some x) h = absurd (cc)
+
+module _ {S : Type 0} {m n : IndexMap ℕ LivePool S} {name : ℕ} {old new : LivePool} (h : IsWritten m n name old new) where
+  -- the old pool is found under each name that is its own
+  was_at : (q : ℕ) → nat_eq name q ≡ true → get nat_eq m q ≡ Some old
+  was_at q same = subst (λ k. get nat_eq m k ≡ Some old) (eqb-true name q same) h.was
+
+  pub pools_below : (next : ℕ) → PoolsAreBelow m next → PoolsAreBelow n next
+  pools_below next below q above = elim (cases_Bool (nat_eq name q)) [
+    | inl same ↦ absurd (let bad : true ≡ false = sym (ap is_some (was_at q same)) ∙ below q above in cc)
+    | inr other ↦ ap is_some (h.now q ∙ ap (λ b. cond b (Some new) (get nat_eq m q)) other) ∙ below q above
+  ]
+
+  pub sets_below : (next later : ℕ) → next ≤ later → SetsAreBelow m next → ((j : ℕ) → later ≤ j → get nat_eq new.sets j ≡ None) → SetsAreBelow n later
+  sets_below next later le below fresh q j above = elim (cases_Bool (nat_eq name q)) [
+    | inl same ↦ ap (has_set j) (h.now q ∙ ap (λ b. cond b (Some new) (get nat_eq m q)) same) ∙ ap is_some (fresh j above)
+    | inr other ↦ ap (has_set j) (h.now q ∙ ap (λ b. cond b (Some new) (get nat_eq m q)) other) ∙ below q j (omega arith)
+  ]
+
+  pub free_names : (next : ℕ) → SetsAreBelow m next → (j : ℕ) → next ≤ j → get nat_eq old.sets j ≡ None
+  free_names next below j above = none_from (get nat_eq old.sets j) (sym (ap (has_set j) h.was) ∙ below name j above)
+
+  -- no set was put
+  pub sets_still_below : (next : ℕ) → SetsAreBelow m next → ((j : ℕ) → get nat_eq old.sets j ≡ None → get nat_eq new.sets j ≡ None) → SetsAreBelow n next
+  sets_still_below next below fresh = sets_below next next (omega arith) below (λ j above. fresh j (free_names next below j above))
+
+  pub seen_was : pools_in m name ≡ Some (seen old)
+  seen_was = ap (option_map seen) h.was
+
+  -- the ledger's pool is changed so, and the others stay
+  pub on_written : (f : Pool → Pool) → seen new ≡ f (seen old) → pools_in n ≡ on_pool name f (pools_in m)
+  on_written f is = fun_ext (λ q. ap (option_map seen) (h.now q) ∙ chosen (nat_eq name q) (get nat_eq m q) ∙ ap (λ o. cond (nat_eq name q) o (pools_in m q)) (ap (λ p. Some p) is ∙ sym (ap (changed f) seen_was)))
+    where
+      chosen : (b : Bool) (o : Option LivePool) → option_map seen (cond b (Some new) o) ≡ cond b (Some (seen new)) (option_map seen o)
+      chosen true o = refl
+      chosen false o = refl
+
+-- the sets that were put under names are those of their entries
+entries_sets : (c : DescriptorTotalCount) (pool : ℕ) (names : List ℕ) → live_sets_of (entries_named c names) ≡ live_sets (kinds c) (map set_id (map (raw_set pool) names))
+entries_sets c pool [] = refl
+entries_sets c pool (n ∷ names) = ap (λ l. live_set_of (n, c) ∷ l) (entries_sets c pool names)
+
+pub more_live : (old new : List (ℕ × DescriptorTotalCount)) (c : DescriptorTotalCount) (pool first many : ℕ) → new ≡ old ++ entries_named c (range_with_len first many)
+    → times (live_sets_of new) ≡ (λ x. times (live_sets_of old) x + times (live_sets (kinds c) (map set_id (raw_sets pool first many))) x)
+more_live old new c pool first many is = fun_ext (λ x.
+    let names : List ℕ = range_with_len first many in
+    ap (λ l. times (live_sets_of l) x) is ∙ ap (λ l. times l x) (map-append live_set_of old (entries_named c names)) ∙ count_by-append (λ y. set_eq y x) (live_sets_of old) (live_sets_of (entries_named c names)) ∙ ap (λ l. times (live_sets_of old) x + times l x) (entries_sets c pool names))
+
+-- the ledger shows the pool that the table has
+pub same_pool : {S : Type 0} (m : IndexMap ℕ LivePool S) (name : ℕ) (old : LivePool) (pool : Pool) → Some old ≡ get nat_eq m name → pools_in m name ≡ Some pool → pool ≡ seen old
+same_pool m name old pool was live = (let h : Some pool ≡ Some (seen old) = sym live ∙ ap (option_map seen) (sym was) in cc)
+
+-- a pool that the ledger shows is in the table
+pub none_is_live : {S : Type 0} (m : IndexMap ℕ LivePool S) (name : ℕ) (pool : Pool) → None ≡ get nat_eq m name → pools_in m name ≡ Some pool → ⊥
+none_is_live m name pool was live = (let h : None ≡ Some pool = ap (option_map seen) was ∙ live in cc)

@@ -1,0 +1,37 @@
+use Rattle.std.proofs.Common.{refl, sym, ap, subst, ◌∙◌}
+use Rattle.gpu_descriptor_types.specs.Counts.{kinds}
+use Rattle.gpu_descriptor_types.specs.Layouts.{layout, left}
+use Rattle.gpu_descriptor_types.specs.Ledger.{Sink}
+use Rattle.descriptor_script.specs.Counters.{counters_of}
+use Rattle.descriptor_script.specs.Pools.{IsSameSink, pools_of}
+use Rattle.descriptor_script.specs.declared.device.ScriptedDevice.{ScriptedDevice}
+use Rattle.descriptor_script.specs.declared.raw.RawSet.{RawSet}
+use Rattle.descriptor_script.proofs.Calls.{puts, puts_none, IsUntouched}
+use Rattle.descriptor_script.proofs.device.ScriptedDeviceDescriptorDeviceScriptLayoutRawPoolRawSet.alloc_descriptor_sets.Goals as goal
+use Rattle.descriptor_script.proofs.device.ScriptedDeviceDescriptorDeviceScriptLayoutRawPoolRawSet.alloc_descriptor_sets.Goals.{then-eq+in_default, else-eq}
+
+pub returns-in-Ok-clause-ok : goal.returns-in-Ok-clause-ok
+returns-in-Ok-clause-ok g c =
+    let shown : Sink g.row.K.Denot RawSet g.row.K-Kept.Denot = record { kept = g.K.SetSink.kept; kept_as = g.K.SetSink.kept_as; room_left = g.K.SetSink.room_left } in
+    let old : ScriptedDevice = c.args.self.now in
+    let new : ScriptedDevice = record { script = c.read-word.new.self; pools = c.grant.new.self; counters = record old.counters { asked = c.rise.new.self } } in
+    puts shown c.args.sets.now c.grant.new.sink old new c.args.pool.now.id (left c.args.layouts) (kinds (layout c.args.layouts).counts) c.in-Ok.ensures.ok (ap (λ n. record (counters_of old.counters) { asked = n }) c.rise.ensures)
+
+pub returns-clause-err : goal.returns-clause-err
+returns-clause-err g c =
+    let shown : Sink g.row.K.Denot RawSet g.row.K-Kept.Denot = record { kept = g.K.SetSink.kept; kept_as = g.K.SetSink.kept_as; room_left = g.K.SetSink.room_left } in
+    let old : ScriptedDevice = c.args.self.now in
+    let new : ScriptedDevice = record { script = c.if-eq.self.script; pools = c.refuse.new.self; counters = c.refuse_alloc.new.self } in
+    let untouched : IsUntouched shown c.args.sets.now c.if-eq.sets old c.if-eq.self = elim c.if-eq.branch [
+      | then-eq+in_default w ↦ record {
+        pools = ap (λ (d : ScriptedDevice). pools_of d.pools) w.self-is ∙ w.in_default.ensures.err.pools;
+        counters = ap (λ (d : ScriptedDevice). counters_of d.counters) w.self-is;
+        same_sink = subst (IsSameSink shown c.args.sets.now) (sym w.sets-is) w.in_default.ensures.err_sink;
+      }
+      | else-eq w ↦ record {
+        pools = ap (λ (d : ScriptedDevice). pools_of d.pools) w.self-is;
+        counters = ap (λ (d : ScriptedDevice). counters_of d.counters) w.self-is;
+        same_sink = subst (IsSameSink shown c.args.sets.now) (sym w.sets-is) (record { kept = refl; alike = refl; room = refl });
+      }
+    ] in
+    puts_none shown c.args.sets.now c.if-eq.sets old c.if-eq.self new c.args.pool.now.id c.alloc_error-error.result untouched c.refuse_alloc.ensures c.refuse.ensures.pools

@@ -1,0 +1,19 @@
+-- The counters of a ledger, as a device keeps them.
+use Rattle.gpu_descriptor_types.specs.Ledger as ledger
+use Rattle.descriptor_script.specs.declared.counters.Counters.{Counters}
+
+abbrev pub counters_of : Counters → ledger.Counters
+counters_of n = record {
+  created = n.created.tally.count;
+  destroyed = n.destroyed.tally.count;
+  asked = n.asked.tally.count;
+  released = n.released.tally.count;
+  device_memory = n.device_memory.tally.count;
+  host_memory = n.host_memory.tally.count;
+  fragmentation = n.fragmentation.tally.count;
+  pool_refused = n.pool_refused.tally.count;
+}
+
+-- nothing was done yet
+abbrev pub no_counters : ledger.Counters
+no_counters = record { created = 0; destroyed = 0; asked = 0; released = 0; device_memory = 0; host_memory = 0; fragmentation = 0; pool_refused = 0 }

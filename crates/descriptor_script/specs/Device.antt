@@ -1,0 +1,24 @@
+-- What a scripted device owes, and what it is to answer.
+use Rattle.std.specs.Prelude.{List, None}
+use Rattle.gpu_descriptor_types.specs.Ledger.{Ledger}
+use Rattle.descriptor_script.specs.Counters.{counters_of, no_counters}
+use Rattle.descriptor_script.specs.Pools.{pools_of, names_of}
+use Rattle.descriptor_script.specs.Table.{Names}
+use Rattle.descriptor_script.specs.Words.{words_of}
+use Rattle.descriptor_script.specs.declared.answer.Answer.{Answer}
+use Rattle.descriptor_script.specs.declared.device.ScriptedDevice.{ScriptedDevice}
+
+abbrev pub ledger_of : ScriptedDevice → Ledger
+ledger_of d = record { pools = pools_of d.pools; counters = counters_of d.counters }
+
+-- the words that are still to be read
+abbrev pub script_of : ScriptedDevice → List Answer
+script_of d = words_of d.script
+
+-- how many names were given to pools and to sets
+abbrev pub names_given : ScriptedDevice → Names
+names_given d = names_of d.pools
+
+-- no pool, and nothing done
+abbrev pub empty_ledger : Ledger
+empty_ledger = record { pools = λ _. None; counters = no_counters }

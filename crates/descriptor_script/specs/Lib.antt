@@ -1,0 +1,9 @@
+pub mod Counters
+pub mod Device
+pub mod Finite
+pub mod Live
+pub mod Pools
+pub mod Raw
+pub mod Script
+pub mod Table
+pub mod Words

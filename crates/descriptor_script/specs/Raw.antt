@@ -1,0 +1,25 @@
+-- Names of raw pools and raw sets.
+use Rattle.std.specs.Prelude.{ℕ, List, map}
+use Rattle.std.specs.List.{range_with_len}
+use Rattle.descriptor_script.specs.declared.raw.RawPool.{RawPool}
+use Rattle.descriptor_script.specs.declared.raw.RawSet.{RawSet}
+
+-- the name of the pool
+abbrev pub pool_id : RawPool → ℕ
+pool_id pool = pool.id
+
+-- the name of the set
+abbrev pub set_id : RawSet → ℕ
+set_id set = set.id
+
+-- the name of the set's pool
+abbrev pub set_pool : RawSet → ℕ
+set_pool set = set.pool
+
+-- the set of this name in this pool
+abbrev pub raw_set : ℕ → ℕ → RawSet
+raw_set pool id = record { id = id; pool = pool }
+
+-- many sets of this pool, under names from first up
+abbrev pub raw_sets : ℕ → ℕ → ℕ → List RawSet
+raw_sets pool first many = map (raw_set pool) (range_with_len first many)

@@ -1,0 +1,34 @@
+-- What the words of a script mean.
+use Rattle.std.specs.Prelude.{List, [], ◌∷◌}
+use Rattle.gpu_descriptor_types.specs.declared.errors.CreatePoolError.{CreatePoolError}
+use Rattle.gpu_descriptor_types.specs.declared.errors.CreatePoolError.TheVariants as create
+use Rattle.gpu_descriptor_types.specs.declared.errors.DeviceAllocationError.{DeviceAllocationError}
+use Rattle.gpu_descriptor_types.specs.declared.errors.DeviceAllocationError.TheVariants as alloc
+use Rattle.descriptor_script.specs.declared.answer.Answer.{Answer}
+use Rattle.descriptor_script.specs.declared.answer.Answer.TheVariants.{Ok, Device, Host, Frag, Pool}
+
+-- the word that is read next. After the end it is Ok
+abbrev pub next_word : List Answer → Answer
+next_word [] = Ok
+next_word (word ∷ words) = word
+
+-- the words behind it
+abbrev pub rest_words : List Answer → List Answer
+rest_words [] = []
+rest_words (word ∷ words) = words
+
+-- the error of a create that isn't granted at this word. At Ok names or memory are wanting
+abbrev pub create_error : Answer → CreatePoolError
+create_error Ok = create.OutOfHostMemory
+create_error Device = create.OutOfDeviceMemory
+create_error Host = create.OutOfHostMemory
+create_error Frag = create.Fragmentation
+create_error Pool = create.Fragmentation
+
+-- the error of an alloc that isn't granted at this word. At Ok names or memory are wanting
+abbrev pub alloc_error : Answer → DeviceAllocationError
+alloc_error Ok = alloc.OutOfHostMemory
+alloc_error Device = alloc.OutOfDeviceMemory
+alloc_error Host = alloc.OutOfHostMemory
+alloc_error Frag = alloc.FragmentedPool
+alloc_error Pool = alloc.OutOfPoolMemory

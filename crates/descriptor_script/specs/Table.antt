@@ -1,0 +1,43 @@
+-- The live pools of a table, as a ledger shows them, and the names that were given.
+use Rattle.std.specs.Prelude.{◌≡◌, ℕ, ◌≤◌, List, map, Bool, false, Option, None, Some, is_some, nat_eq}
+use Rattle.std.specs.Option.{option_map}
+use Rattle.indexmap.specs.IndexMap.{IndexMap, get}
+use Rattle.gpu_descriptor_types.specs.Counts.{kinds}
+use Rattle.gpu_descriptor_types.specs.Flags.{bits}
+use Rattle.gpu_descriptor_types.specs.Ledger.{Pool}
+use Rattle.gpu_descriptor_types.specs.Multiset.{LiveSet, times, AreIn}
+use Rattle.descriptor_script.specs.Live.{live_sets_of}
+use Rattle.descriptor_script.specs.declared.live.LivePool.{LivePool}
+
+-- what the ledger shows of a pool
+abbrev pub seen : LivePool → Pool
+seen p = record { counts = kinds p.counts; capacity = p.max_sets; flags = bits p.flags; refusals = p.refusals.count; live = times (live_sets_of p.sets.entries) }
+
+abbrev pub pools_in : {S : Type 0} → IndexMap ℕ LivePool S → ℕ → Option Pool
+pools_in live q = option_map seen (get nat_eq live q)
+
+-- whether the pool has a set of this name
+abbrev pub has_set : ℕ → Option LivePool → Bool
+has_set n None = false
+has_set n (Some p) = is_some (get nat_eq p.sets n)
+
+-- no live pool has this name or a later one
+abbrev pub PoolsAreBelow : {S : Type 0} → IndexMap ℕ LivePool S → ℕ → Type 0
+PoolsAreBelow live next = (q : ℕ) → next ≤ q → is_some (get nat_eq live q) ≡ false
+
+-- no live set has this name or a later one
+abbrev pub SetsAreBelow : {S : Type 0} → IndexMap ℕ LivePool S → ℕ → Type 0
+SetsAreBelow live next = (q n : ℕ) → next ≤ n → has_set n (get nat_eq live q) ≡ false
+
+-- how many names were given to pools and to sets
+pub record Names : Type 0 where
+  pub pools : ℕ
+  pub sets : ℕ
+
+-- sets of these names are live in the pool of this name
+pub record AreNamed (name : ℕ) (names : List ℕ) (pools : ℕ → Option Pool) : Type 0 where
+  pub pool : Pool
+  pub is_live : pools name ≡ Some pool
+  pub gone : List LiveSet
+  pub named : map (λ s. s.name) gone ≡ names
+  pub live : AreIn gone pool.live

@@ -1,0 +1,203 @@
+//! The scripted device.
+ghost use Rattle.std.specs.Prelude.{◌≡◌, ℕ, ◌+◌, ◌-◌, ◌<◌, ◌≤◌, ◌^◌, ◌++◌, min, map, None, IfOk, IfErr, OnOk, OnErr};
+ghost use Rattle.std.specs.Iterator.{IsFinite, HoldsAlong};
+ghost use Rattle.gpu_descriptor_types.specs.Counts.{kinds};
+ghost use Rattle.gpu_descriptor_types.specs.Flags.{bits};
+ghost use Rattle.gpu_descriptor_types.specs.Layouts.{layout, left};
+ghost use Rattle.gpu_descriptor_types.specs.Ledger.{AreLive, HasNoSets, HasRoom, Puts, PutsNone, Releases, after_create, after_destroy, after_no_create};
+ghost use Rattle.descriptor_script.specs.Raw.{pool_id, raw_sets, set_id};
+ghost use Rattle.descriptor_script.specs.Script.{alloc_error, create_error, next_word, rest_words};
+
+use crate::answer::Answer;
+use crate::counters::Counters;
+use crate::pools::Pools;
+use crate::raw::{RawPool, RawSet, ScriptLayout};
+use crate::script::Script;
+use gpu_descriptor_types::{
+    CreatePoolError, DescriptorDevice, DescriptorPoolCreateFlags, DescriptorTotalCount,
+    DeviceAllocationError, Layouts, SetSink,
+};
+use std::alloc::Global;
+
+/// A device that answers by a script.
+///
+/// Each call that creates a pool or allocates sets reads one word, and is granted exactly where the
+/// word is `Ok` and names and memory are there; else it is refused as the word says. Where names or
+/// memory are wanting the error is that the host has no memory. After the end of the script each
+/// word is `Ok`.
+///
+/// Pools and sets are named from 0 up, and no name is given twice. The greatest is
+/// 18446744073709551614.
+#[derive(Drop)]
+pub struct ScriptedDevice {
+    script: Script,
+    pools: Pools,
+    counters: Counters,
+}
+
+impl ScriptedDevice {
+    ghost use Rattle.descriptor_script.specs.Device.{empty_ledger, ledger_of, names_given, script_of};
+
+    /// A device without pools, which begins with this script.
+    pub fn new(alloc: Global, script: Vec<Answer>) -> Self
+        ensures ledger { ledger_of result ≡ empty_ledger }
+        ensures script { script_of result ≡ script.items }
+        ensures names { names_given result ≡ record { pools = 0; sets = 0 } }
+    {
+        ScriptedDevice {
+            script: Script::new(script),
+            pools: Pools::new(alloc),
+            counters: Counters::zero(),
+        }
+    }
+
+    /// Gives up the words that are still to come, and begins with this script.
+    pub fn load(&mut self, script: Vec<Answer>)
+        ensures script { script_of self.new ≡ script.items }
+        ensures ledger { ledger_of self.new ≡ ledger_of self.old }
+        ensures names { names_given self.new ≡ names_given self.old }
+    {
+        self.script = Script::new(script);
+    }
+
+    /// How many pools were created, up to the greatest `u64`.
+    pub fn created(&self) -> u64
+        ensures { result ≡ min (ledger_of self.now).counters.created (2 ^ 64 - 1) }
+    {
+        self.counters.created.shown()
+    }
+
+    /// How many pools were destroyed, up to the greatest `u64`.
+    pub fn destroyed(&self) -> u64
+        ensures { result ≡ min (ledger_of self.now).counters.destroyed (2 ^ 64 - 1) }
+    {
+        self.counters.destroyed.shown()
+    }
+
+    /// How many calls asked for sets, up to the greatest `u64`.
+    pub fn asked(&self) -> u64
+        ensures { result ≡ min (ledger_of self.now).counters.asked (2 ^ 64 - 1) }
+    {
+        self.counters.asked.shown()
+    }
+
+    /// How many calls released sets, up to the greatest `u64`.
+    pub fn released(&self) -> u64
+        ensures { result ≡ min (ledger_of self.now).counters.released (2 ^ 64 - 1) }
+    {
+        self.counters.released.shown()
+    }
+}
+
+impl DescriptorDevice<ScriptLayout, RawPool, RawSet> for ScriptedDevice {
+    ghost use Rattle.descriptor_script.specs.Device.{ledger_of, names_given, script_of};
+    ghost use Rattle.descriptor_script.specs.Finite.{scripted_finite};
+
+    ghost pool_name = { pool_id };
+
+    ghost set_name = { set_id };
+
+    ghost layout_counts = { λ l. kinds l.counts };
+
+    ghost layout_mark = { λ l. l.mark };
+
+    ghost ledger = { ledger_of };
+
+    ghost finite = { scripted_finite };
+
+    fn create_descriptor_pool(
+        &mut self,
+        counts: &DescriptorTotalCount,
+        max_sets: u32,
+        flags: DescriptorPoolCreateFlags,
+    ) -> Result<RawPool, CreatePoolError>
+        ensures new_name { IfOk result (λ pool. (ledger_of self.old).pools (pool_id pool) ≡ None) }
+        ensures ok { IfOk result (λ pool. ledger_of self.new ≡ after_create (kinds counts.now) max_sets (bits flags) (pool_id pool) (ledger_of self.old)) }
+        ensures err { IfErr result (λ e. ledger_of self.new ≡ after_no_create e (ledger_of self.old)) }
+
+        // One word is read, and decides.
+        ensures rest { script_of self.new ≡ rest_words (script_of self.old) }
+        ensures granted { OnOk result (next_word (script_of self.old) ≡ Answer.Ok) }
+        ensures refused { IfErr result (λ e. e ≡ create_error (next_word (script_of self.old))) }
+
+        // The pool has the next name.
+        ensures next_name { IfOk result (λ pool. pool_id pool ≡ (names_given self.old).pools) }
+        ensures in_range { IfOk result (λ pool. pool_id pool < 2 ^ 64 - 1) }
+        ensures named { OnOk result (names_given self.new ≡ record (names_given self.old) { pools = (names_given self.old).pools + 1 }) }
+        ensures unnamed { OnErr result (names_given self.new ≡ names_given self.old) }
+    {
+        let word = self.script.read();
+        if word == Answer::Ok {
+            if let Ok(id) = self.pools.create(counts, max_sets, flags) {
+                self.counters.created.rise();
+                return Ok(RawPool { id });
+            }
+        }
+        let error = word.create_error();
+        self.counters.refuse_create(error);
+        Err(error)
+    }
+
+    fn destroy_descriptor_pool(&mut self, pool: RawPool)
+        requires { HasNoSets (pool_id pool) (ledger_of self.old) }
+        ensures ledger { ledger_of self.new ≡ after_destroy (pool_id pool) (ledger_of self.old) }
+        ensures script { script_of self.new ≡ script_of self.old }
+        ensures names { names_given self.new ≡ names_given self.old }
+    {
+        self.pools.destroy(pool.id);
+        self.counters.destroyed.rise();
+    }
+
+    fn alloc_descriptor_sets<K: SetSink<RawSet>>(
+        &mut self,
+        pool: &mut RawPool,
+        layouts: Layouts<'_, ScriptLayout>,
+        sets: &mut K,
+    ) -> Result<(), DeviceAllocationError>
+        requires fits { HasRoom (pool_id pool.old) (left layouts) (kinds (layout layouts).counts) (layout layouts).mark (ledger_of self.old) }
+        requires room { left layouts ≤ K.room_left sets.old }
+        ensures name { pool_id pool.new ≡ pool_id pool.old }
+        ensures ok { OnOk result (Puts (record { kept = K.kept; kept_as = K.kept_as; room_left = K.room_left }) set_id (pool_id pool.old) (left layouts.entry) (kinds (layout layouts.entry).counts) sets.old sets.new (ledger_of self.old) (ledger_of self.new)) }
+        ensures err { IfErr result (λ e. PutsNone (record { kept = K.kept; kept_as = K.kept_as; room_left = K.room_left }) (pool_id pool.old) e sets.old sets.new (ledger_of self.old) (ledger_of self.new)) }
+
+        // One word is read, and decides.
+        ensures rest { script_of self.new ≡ rest_words (script_of self.old) }
+        ensures granted { OnOk result (next_word (script_of self.old) ≡ Answer.Ok) }
+        ensures refused { IfErr result (λ e. e ≡ alloc_error (next_word (script_of self.old))) }
+
+        // The sets have the next names, and name their pool.
+        ensures sets { OnOk result (K.kept sets.new ≡ K.kept sets.old ++ map (K.kept_as sets.old) (raw_sets (pool_id pool.old) (names_given self.old).sets (left layouts.entry))) }
+        ensures in_range { OnOk result ((names_given self.old).sets + left layouts.entry < 2 ^ 64) }
+        ensures named { OnOk result (names_given self.new ≡ record (names_given self.old) { sets = (names_given self.old).sets + left layouts.entry }) }
+        ensures unnamed { OnErr result (names_given self.new ≡ names_given self.old) }
+    {
+        let word = self.script.read();
+        if word == Answer::Ok {
+            if let Ok(()) = self.pools.grant(pool.id, layouts, sets) {
+                self.counters.asked.rise();
+                return Ok(());
+            }
+        }
+        let error = word.alloc_error();
+        self.counters.refuse_alloc(error);
+        self.pools.refuse(pool.id, error);
+        Err(error)
+    }
+
+    fn dealloc_descriptor_sets<I: Iterator<Item = RawSet>>(
+        &mut self,
+        pool: &mut RawPool,
+        sets: &mut I,
+    )
+        requires can { I.can_next sets.old }
+        requires ends { IsFinite (I.remaining sets.old) }
+        requires live { HoldsAlong I.next_gives sets.old (λ xs. AreLive (pool_id pool.old) (map set_id xs) (ledger_of self.old)) }
+        ensures name { pool_id pool.new ≡ pool_id pool.old }
+        ensures released { Releases I.next_gives set_id (pool_id pool.old) sets.old sets.new (ledger_of self.old) (ledger_of self.new) }
+        ensures script { script_of self.new ≡ script_of self.old }
+        ensures names { names_given self.new ≡ names_given self.old }
+    {
+        self.pools.release(pool.id, sets);
+        self.counters.released.rise();
+    }
+}

@@ -1,0 +1,67 @@
+//! A live pool, and its live sets.
+ghost use Rattle.std.specs.Prelude.{◌≡◌, ℕ, ◌+◌, ◌<◌, ◌≤◌, ◌^◌, ◌++◌, map, None, nat_eq};
+ghost use Rattle.std.specs.List.{range_with_len};
+ghost use Rattle.std.specs.Iterator.{IsFinite, HoldsAlong};
+ghost use Rattle.indexmap.specs.IndexMap.{get, spare};
+ghost use Rattle.gpu_descriptor_types.specs.Layouts.{layout, left};
+ghost use Rattle.descriptor_script.specs.Raw.{raw_sets, set_id};
+ghost use Rattle.descriptor_script.specs.Live.{HasNamed, TakesBack, entries_named, live_sets_of};
+
+use crate::raw::{RawSet, ScriptLayout};
+use gpu_descriptor_types::{
+    DescriptorPoolCreateFlags, DescriptorTotalCount, Layouts, SetSink, Tally,
+};
+use indexmap::IndexMap;
+
+/// The live sets of a pool, by name.
+pub type LiveSets = IndexMap<u64, DescriptorTotalCount>;
+
+/// A live pool, as it was created, with its live sets.
+#[derive(Drop)]
+pub struct LivePool {
+    pub counts: DescriptorTotalCount,
+    pub max_sets: u32,
+    pub flags: DescriptorPoolCreateFlags,
+    pub sets: LiveSets,
+    pub refusals: Tally,
+}
+
+/// Puts a set of this pool for each layout, under names from `first` up, among the live sets and
+/// into the sink.
+pub fn fill<K: SetSink<RawSet>>(
+    live: &mut LiveSets,
+    pool: u64,
+    first: u64,
+    layouts: Layouts<'_, ScriptLayout>,
+    sink: &mut K,
+)
+    requires space { left layouts ≤ spare live.old }
+    requires names { first + left layouts < 2 ^ 64 }
+    requires fresh { (n : ℕ) → first ≤ n → get nat_eq live.old n ≡ None }
+    requires room { left layouts ≤ K.room_left sink.old }
+    ensures live { live.new.entries ≡ live.old.entries ++ entries_named (layout layouts.entry).counts (range_with_len first (left layouts.entry)) }
+    ensures fresh { (n : ℕ) → first + left layouts.entry ≤ n → get nat_eq live.new n ≡ None }
+    ensures sets { K.kept sink.new ≡ K.kept sink.old ++ map (K.kept_as sink.old) (raw_sets pool first (left layouts.entry)) }
+    ensures alike { K.kept_as sink.new ≡ K.kept_as sink.old }
+    ensures room { K.room_left sink.new + left layouts.entry ≡ K.room_left sink.old }
+{
+    let mut name = first;
+    for layout in layouts {
+        let _ = live.insert(name, layout.counts);
+        sink.put(RawSet { id: name, pool });
+        name += 1;
+    }
+}
+
+/// Takes each set that the iterator gives from the live sets.
+pub fn take_back<I: Iterator<Item = RawSet>>(live: &mut LiveSets, sets: &mut I)
+    requires can { I.can_next sets.old }
+    requires ends { IsFinite (I.remaining sets.old) }
+    requires live { HoldsAlong I.next_gives sets.old (λ xs. HasNamed (map set_id xs) (live_sets_of live.old.entries)) }
+    ensures back { TakesBack I.next_gives sets.old sets.new (live_sets_of live.old.entries) (live_sets_of live.new.entries) }
+    ensures fresh { (n : ℕ) → get nat_eq live.old n ≡ None → get nat_eq live.new n ≡ None }
+{
+    while let Some(set) = sets.next() {
+        live.swap_remove(&set.id);
+    }
+}

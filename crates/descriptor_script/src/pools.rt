@@ -1,0 +1,156 @@
+//! The live pools of a device, by name.
+ghost use Rattle.std.specs.Prelude.{◌≡◌, ℕ, ◌+◌, ◌-◌, ◌<◌, ◌≤◌, ◌^◌, map, Some, None, IsSome, IfOk, OnOk, OnErr, nat_eq};
+ghost use Rattle.std.specs.Iterator.{IsFinite, HoldsAlong};
+ghost use Rattle.std.specs.Map.{update};
+ghost use Rattle.gpu_descriptor_types.specs.Counts.{kinds};
+ghost use Rattle.gpu_descriptor_types.specs.Flags.{bits};
+ghost use Rattle.gpu_descriptor_types.specs.Layouts.{layout, left};
+ghost use Rattle.gpu_descriptor_types.specs.Ledger.{fresh as fresh_pool, on_pool, pool_refusals};
+ghost use Rattle.descriptor_script.specs.Raw.{set_id};
+ghost use Rattle.descriptor_script.specs.Table.{AreNamed, PoolsAreBelow, SetsAreBelow};
+
+use crate::live::{LivePool, fill, take_back};
+use crate::raw::{RawSet, ScriptLayout};
+use gpu_descriptor_types::{
+    DescriptorPoolCreateFlags, DescriptorTotalCount, DeviceAllocationError, Layouts, SetSink, Tally,
+};
+use indexmap::IndexMap;
+use std::alloc::Global;
+
+/// Names or memory are wanting.
+#[derive(Clone, Copy, Debug)]
+pub struct Wanting;
+
+/// The live pools, and the names that come next.
+#[derive(Drop)]
+pub struct Pools {
+    alloc: Global,
+    live: IndexMap<u64, LivePool>,
+    next_pool: u64,
+    next_set: u64,
+    ghost pools_named: { PoolsAreBelow live next_pool },
+    ghost sets_named: { SetsAreBelow live next_set },
+}
+
+impl Pools {
+    ghost use Rattle.descriptor_script.specs.Pools.{Grants, GivesBack, IsNew, IsSame, IsSameSink, names_of, pools_of};
+
+    pub fn new(alloc: Global) -> Self
+        ensures { IsNew result }
+    {
+        Pools {
+            alloc,
+            live: IndexMap::new(alloc),
+            next_pool: 0,
+            next_set: 0,
+        }
+    }
+
+    /// Makes a pool under the next name.
+    pub fn create(
+        &mut self,
+        counts: &DescriptorTotalCount,
+        max_sets: u32,
+        flags: DescriptorPoolCreateFlags,
+    ) -> Result<u64, Wanting>
+        ensures name { IfOk result (λ name. name ≡ (names_of self.old).pools) }
+        ensures in_range { IfOk result (λ name. name < 2 ^ 64 - 1) }
+        ensures new_name { IfOk result (λ name. pools_of self.old name ≡ None) }
+        ensures ok { IfOk result (λ name. pools_of self.new ≡ update nat_eq (pools_of self.old) name (Some (fresh_pool (kinds counts.now) max_sets (bits flags)))) }
+        ensures names { OnOk result (names_of self.new ≡ record (names_of self.old) { pools = (names_of self.old).pools + 1 }) }
+        ensures err { OnErr result (IsSame self.old self.new) }
+    {
+        let name = self.next_pool;
+        if name == u64::MAX {
+            return Err(Wanting);
+        }
+        let pool = LivePool {
+            counts: *counts,
+            max_sets,
+            flags,
+            sets: IndexMap::new(self.alloc),
+            refusals: Tally::zero(),
+        };
+        match self.live.insert(name, pool) {
+            Ok(_) => {
+                self.next_pool += 1;
+                Ok(name)
+            }
+            Err(_) => Err(Wanting),
+        }
+    }
+
+    /// Drops a pool.
+    pub fn destroy(&mut self, pool: u64)
+        ensures pools { pools_of self.new ≡ update nat_eq (pools_of self.old) pool None }
+        ensures names { names_of self.new ≡ names_of self.old }
+    {
+        self.live.swap_remove(&pool);
+    }
+
+    /// Counts an alloc that was refused, if it was the pool that refused.
+    pub fn refuse(&mut self, pool: u64, error: DeviceAllocationError)
+        ensures pools { pools_of self.new ≡ on_pool pool (λ p. record p { refusals = p.refusals + pool_refusals error }) (pools_of self.old) }
+        ensures names { names_of self.new ≡ names_of self.old }
+    {
+        match error {
+            DeviceAllocationError::OutOfDeviceMemory | DeviceAllocationError::OutOfHostMemory => {}
+            DeviceAllocationError::FragmentedPool | DeviceAllocationError::OutOfPoolMemory => {
+                self.count_refusal(pool);
+            }
+        }
+    }
+
+    fn count_refusal(&mut self, pool: u64)
+        ensures pools { pools_of self.new ≡ on_pool pool (λ p. record p { refusals = p.refusals + 1 }) (pools_of self.old) }
+        ensures names { names_of self.new ≡ names_of self.old }
+    {
+        if let Some(live) = self.live.get_mut(&pool) {
+            live.refusals = Tally::next(&live.refusals);
+        }
+    }
+
+    /// Puts a set of the pool for each layout, under the next names.
+    pub fn grant<K: SetSink<RawSet>>(
+        &mut self,
+        pool: u64,
+        layouts: Layouts<'_, ScriptLayout>,
+        sink: &mut K,
+    ) -> Result<(), Wanting>
+        requires live { IsSome (pools_of self.old pool) }
+        requires room { left layouts ≤ K.room_left sink.old }
+        ensures ok { OnOk result (Grants (record { kept = K.kept; kept_as = K.kept_as; room_left = K.room_left }) pool (left layouts.entry) (kinds (layout layouts.entry).counts) sink.old sink.new self.old self.new) }
+        ensures in_range { OnOk result ((names_of self.old).sets + left layouts.entry < 2 ^ 64) }
+        ensures err { OnErr result (IsSame self.old self.new) }
+        ensures err_sink { OnErr result (IsSameSink (record { kept = K.kept; kept_as = K.kept_as; room_left = K.room_left }) sink.old sink.new) }
+    {
+        let first = self.next_set;
+        let count = layouts.len();
+        if u64::MAX - first < u64::from(count) {
+            return Err(Wanting);
+        }
+        let Some(live) = self.live.get_mut(&pool) else {
+            unreachable!()
+        };
+        if live.sets.reserve(count as usize).is_err() {
+            return Err(Wanting);
+        }
+        fill(&mut live.sets, pool, first, layouts, sink);
+        self.next_set += u64::from(count);
+        Ok(())
+    }
+
+    /// Takes the sets that the iterator gives from the pool.
+    pub fn release<I: Iterator<Item = RawSet>>(&mut self, pool: u64, sets: &mut I)
+        requires can { I.can_next sets.old }
+        requires ends { IsFinite (I.remaining sets.old) }
+        requires live { HoldsAlong I.next_gives sets.old (λ xs. AreNamed pool (map set_id xs) (pools_of self.old)) }
+        ensures released { GivesBack I.next_gives pool sets.old sets.new self.old self.new }
+        ensures names { names_of self.new ≡ names_of self.old }
+    {
+        let Some(live) = self.live.get_mut(&pool) else {
+            unreachable!()
+        };
+        take_back(&mut live.sets, sets);
+    }
+}
