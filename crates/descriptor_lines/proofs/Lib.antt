@@ -1,0 +1,4 @@
+pub mod NameLemmas
+pub mod WordLemmas
+pub mod NumberLemmas
+pub mod AnswerLemmas

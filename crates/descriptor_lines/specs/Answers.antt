@@ -1,0 +1,36 @@
+-- What the output says.
+use Rattle.std.specs.Prelude.{◌≡◌, ℕ, List, [], ◌∷◌, ◌++◌, codes, if◌then◌else◌, ◌==◌}
+use Rattle.std.specs.Fmt.{decimal}
+use Rattle.std.specs.List.{flat_map, zip}
+use Rattle.gpu_descriptor_types.specs.PoolSize.{IsPoolSize, pool_counts}
+use Rattle.descriptor_lines.specs.declared.command.Fault.{Fault}
+use Rattle.descriptor_lines.specs.Fault.{words_of_fault}
+use Rattle.descriptor_lines.specs.Kinds.{kind_names}
+
+-- the answer of `layout`, with the sum of the counts
+abbrev pub layout_answer : List ℕ → ℕ → List ℕ
+layout_answer name total = codes "layout " ++ name ++ codes " total " ++ decimal total ++ 10 ∷ []
+
+-- a kind with its count, where that is not 0
+abbrev pub kind_answer : List ℕ × ℕ → List ℕ
+kind_answer (name, count) =
+    if count == 0 then [] else codes " " ++ name ++ codes "=" ++ decimal count
+
+-- the kinds of which the counts are not 0, in the order of the fields
+unfoldable pub kinds_answer : List ℕ → List ℕ
+kinds_answer counts = flat_map kind_answer (zip kind_names counts)
+
+-- the answer of `size`, with the counts of the pool
+abbrev pub size_answer : ℕ → List ℕ → List ℕ
+size_answer sets counts = codes "size " ++ decimal sets ++ kinds_answer counts ++ 10 ∷ []
+
+-- a text got behind it the answer of `size` for a pool of these counts
+pub record AnswersSize (counts : List ℕ) (total wanted : ℕ) (old new : List ℕ) : Type 0 where
+  pub sets : ℕ
+  pub is_size : IsPoolSize counts total wanted sets
+  pub text : new ≡ old ++ size_answer sets (pool_counts counts sets)
+
+-- the last line of a run that ended at a fault
+abbrev pub fault_line : ℕ → Fault → List ℕ
+fault_line number fault =
+    codes "line " ++ decimal number ++ codes ": " ++ words_of_fault fault ++ 10 ∷ []

@@ -1,0 +1,36 @@
+-- The words of a line.
+use Rattle.std.specs.Prelude.{ℕ, Bool, true, false, List, [], ◌∷◌, ◌≢◌, codes, ◌==◌, ◌||◌, filter, slice_index}
+use Rattle.std.specs.List.{slice_split}
+use Rattle.descriptor_lines.specs.declared.text.Words.{Words}
+
+-- a space or a tab
+abbrev pub is_blank : ℕ → Bool
+is_blank byte = byte == 32 || byte == 9
+
+-- whether a piece is not empty
+abbrev pub has_bytes : List ℕ → Bool
+has_bytes [] = false
+has_bytes (byte ∷ bytes) = true
+
+-- the longest stretches without blanks, in order: the pieces between the blanks that are not empty
+abbrev pub words : List ℕ → List (List ℕ)
+words line = filter has_bytes (slice_split is_blank line)
+
+-- what parts a kind from its count
+abbrev pub is_equals : ℕ → Bool
+is_equals byte = byte == 61
+
+-- the words that are still to come
+abbrev pub words_left : Words → List (List ℕ)
+words_left left = words left.rest.now
+
+-- whether a line of these words gives no output: it has none, or the first begins with `#`
+abbrev pub is_silent : List (List ℕ) → Bool
+is_silent [] = true
+is_silent (word ∷ words) = slice_index word 0 == 35
+
+-- the first word of a line is no command, and begins no comment
+abbrev pub IsUnknown : List (List ℕ) → Type 0
+IsUnknown [] = ⊥
+IsUnknown (word ∷ words) =
+    (slice_index word 0 ≢ 35) × (word ≢ codes "layout") × (word ≢ codes "size")

@@ -1,0 +1,14 @@
+//! The lines of the program: it reads commands about layouts and pools from any reader, and writes
+//! an answer for each to any writer.
+#![tactic(auto)]
+
+mod answer;
+mod command;
+mod exit;
+mod input;
+mod layouts;
+mod program;
+pub mod text;
+
+pub use exit::Exit;
+pub use program::run_lines;
