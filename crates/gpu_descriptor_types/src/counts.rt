@@ -1,5 +1,5 @@
 //! How many descriptors a layout, a set or a pool has.
-ghost use Rattle.std.specs.Prelude.{◌≡◌, ◌<◌, sum, slice_set};
+ghost use Rattle.std.specs.Prelude.{◌≡◌, ◌<◌, ◌≤◌, sum, slice_set};
 ghost use Rattle.gpu_descriptor_types.specs.Counts.{kinds};
 
 /// How many descriptors there are of each of the fourteen kinds.
@@ -28,7 +28,8 @@ impl DescriptorTotalCount {
     ///
     /// The original counts in 32 bits, where the sum can wrap.
     pub fn total(&self) -> u64
-        ensures { result ≡ sum (kinds self.now) }
+        ensures sum { result ≡ sum (kinds self.now) }
+        ensures at_most { result ≤ 60129542130 }
     {
         self.to_array().iter().map(|kind| u64::from(*kind)).sum()
     }

@@ -1,6 +1,8 @@
-//! Worked values of the counts, the size of a new pool, the flags and the layouts.
-use crate::{Counter, DescriptorPoolCreateFlags, DescriptorTotalCount, Layouts, new_pool_size};
-use bitflags::Flags;
+//! Worked values of the counts, the size of a new pool and the layouts.
+mod derives;
+mod flags;
+
+use crate::{Counter, DescriptorTotalCount, Layouts, new_pool_size};
 
 /// So many samplers, and no other descriptors.
 fn samplers(count: u32) -> DescriptorTotalCount {
@@ -125,34 +127,6 @@ fn pool_sizes(rt: HostRuntime) {
             (counts, sets),
             "of {size:?} at {total} and {wanted}"
         );
-    }
-}
-
-#[test]
-fn flags_have_their_bits(rt: HostRuntime) {
-    let free = DescriptorPoolCreateFlags::FREE_DESCRIPTOR_SET;
-    let marked = DescriptorPoolCreateFlags::UPDATE_AFTER_BIND;
-    assert_eq!(rt; free.bits(), 0x1);
-    assert_eq!(rt; marked.bits(), 0x2);
-    assert_eq!(rt; (free | marked).bits(), 0x3);
-    assert_eq!(rt; DescriptorPoolCreateFlags::all().bits(), 0x3);
-    assert_eq!(rt; DescriptorPoolCreateFlags::from_bits(0x4), None);
-    let name = "UPDATE_AFTER_BIND";
-    assert_eq!(rt; DescriptorPoolCreateFlags::from_name(name), Some(marked));
-}
-
-#[test]
-fn the_operator_is_the_union(rt: HostRuntime) {
-    for left in 0..4 {
-        for right in 0..4 {
-            let left = DescriptorPoolCreateFlags::from_bits_retain(left);
-            let right = DescriptorPoolCreateFlags::from_bits_retain(right);
-            assert_eq!(rt;
-                left | right,
-                left.union(right),
-                "of {left:?} and {right:?}"
-            );
-        }
     }
 }
 
