@@ -1,5 +1,5 @@
 -- A request that took sets is as the definitions say: kept whole, or given back.
-use Rattle.std.proofs.Common.{◌≡◌, ℕ, ◌+◌, ◌<◌, List, [], ◌∷◌, length, arith, Result, Ok, Err, refl, sym, ap, ◌∙◌, subst}
+use Rattle.std.proofs.Common.{◌≡◌, ◌≢◌, ℕ, ◌+◌, ◌<◌, true, false, Some, List, [], ◌∷◌, length, arith, Result, Ok, Err, refl, sym, ap, ◌∙◌, subst}
 use Rattle.std.proofs.lemmas.List.{length-map}
 use Rattle.std.specs.Prelude.{OnOk, IfErr}
 use Rattle.gpu_descriptor_types.specs.Ledger.{Ledger, Counters, alloc_refused, create_refused}
@@ -10,15 +10,16 @@ use Rattle.gpu_descriptor.specs.declared.take.Refusal.TheVariants as refusal
 use Rattle.gpu_descriptor.specs.declared.take.Stop.{Stop}
 use Rattle.gpu_descriptor.specs.declared.take.Stop.TheVariants as stop
 use Rattle.gpu_descriptor.specs.Agreement.{State, Item, Agree, AreOutstanding, outstanding}
-use Rattle.gpu_descriptor.specs.Books.{Key, Entry}
-use Rattle.gpu_descriptor.specs.Foreign.{IsForeign, KeepsForeign}
+use Rattle.gpu_descriptor.specs.Books.{Key, key_eq, Entry, entry_at}
+use Rattle.gpu_descriptor.specs.Foreign.{KeepsForeign}
 use Rattle.gpu_descriptor.specs.Frees.{GivesBack}
 use Rattle.gpu_descriptor.specs.Grants.{Grant, items_in, granted}
 use Rattle.gpu_descriptor.specs.Grow.{IsTakenAll, IsTakenUpTo, IsGrowStopped, refusal_answer, stop_rise}
 use Rattle.gpu_descriptor.specs.Load.{marked_load}
 use Rattle.gpu_descriptor.specs.Outcomes.{Allocates, Call, Proceeds, IsBack, no_rise, risen, grant_rise, rollback_rise}
 use Rattle.gpu_descriptor.specs.Outcomes.Allocates.{done, stopped_at_pool, stopped_at_create, stopped_for_memory, stopped_at_fresh}
-use Rattle.gpu_descriptor.specs.Promises.{AreOutBesides, KeepsOutstanding, KeepsOtherKeys}
+use Rattle.gpu_descriptor.specs.OtherKeys.{IsUntouched, KeepsOtherKeys}
+use Rattle.gpu_descriptor.specs.Promises.{AreOfKey, AreOutBesides, KeepsOutstanding}
 use Rattle.gpu_descriptor.specs.Release.{released, given_back, pools_gone}
 use Rattle.gpu_descriptor.specs.Requests.{call_of, Takes}
 use Rattle.gpu_descriptor.specs.Runs.{runs}
@@ -27,12 +28,14 @@ use Rattle.gpu_descriptor.specs.States.{Agrees, state_of, table_of, keys_of, out
 use Rattle.gpu_descriptor.specs.Values.{Allocations}
 use Rattle.gpu_descriptor.specs.Walk.{KeepsKey, HasTaken, IsWalkStopped, with_pools}
 use Rattle.gpu_descriptor.proofs.KeepState.{keeps_agree, keeps_given, keeps_outstanding}
-use Rattle.gpu_descriptor.proofs.Foreign.{taken_foreign, still_foreign, freed_foreign}
+use Rattle.gpu_descriptor.proofs.Foreign.{taken_apart, taken_foreign, freed_foreign, foreign_through}
+use Rattle.gpu_descriptor.proofs.Exact.{key_exact}
 use Rattle.gpu_descriptor.proofs.Kept.{takes}
+use Rattle.gpu_descriptor.proofs.OtherKeys.{release_others, untouched_twice}
 use Rattle.gpu_descriptor.proofs.Promises.{grant_many}
 use Rattle.gpu_descriptor.proofs.Meets.{is_done, stopped_state, stopped_at_state}
 use Rattle.gpu_descriptor.proofs.Requested.{load_is, out_is}
-use Rattle.gpu_descriptor.proofs.Rollback.{give_back_rise, alloc_rise, only_key, keys_table, other_key, unnamed_key, load_of_items}
+use Rattle.gpu_descriptor.proofs.Rollback.{give_back_rise, alloc_rise, only_key, keys_table, unnamed_key, load_of_items}
 use Rattle.gpu_descriptor.proofs.Loads.{load_at}
 
 -- what a request took keeps the key's part of the agreement, wherever it stopped
@@ -67,11 +70,22 @@ module _ {P S : Type 0} (name : P → ℕ) (set_name : S → ℕ) (k : Key) (cou
   pub taken_out : AreOutBesides items s (state_of name new after)
   taken_out u = ap (λ (w : State). outstanding w u) t.state ∙ keeps_outstanding k items t.pools s after.pools agree keeps u
 
+  pub taken_own : AreOfKey k items
+  taken_own = keeps.of_key
+
   pub taken_others : KeepsOtherKeys k s (state_of name new after)
-  taken_others l other = ap (λ (w : State). w.books l) t.state ∙ rw other refl
+  taken_others l other = record {
+    books = ap (λ (w : State). w.books l) t.state ∙ rw other refl;
+    pools = λ n e at. (
+        let booked = agree.booked l n e at in
+        let apart : (m : ℕ) (d : Entry) → entry_at (s.books k) m ≡ Some d → d.pool ≢ e.pool = λ m d there same.
+        let bad : true ≡ false = sym (ap (key_eq k) (sym (agree.distinct k l m n d e there at same).0) ∙ key_exact.self k) ∙ other in
+        absurd (cc) in
+        ap (λ (w : State). w.ledger e.pool) t.state ∙ taken_apart k items t.pools s after.pools keeps e.pool booked.0 apart booked.1);
+  }
 
   pub taken_leaves : KeepsForeign s (state_of name new after)
-  taken_leaves pool p foreign live = ap (λ (w : State). w.ledger pool) t.state ∙ taken_foreign k items t.pools s after.pools keeps pool p foreign live
+  taken_leaves = subst (KeepsForeign s) (sym t.state) (taken_foreign k items t.pools s after.pools keeps)
 
   pub proceeds : 0 < count → (last : Allocations P) (final : Ledger) (answer : Result (List Item) AllocationError) → Proceeds (call_of name k count old last before final answer)
   proceeds some last final answer = record {
@@ -147,7 +161,9 @@ module _ {P S : Type 0} (name : P → ℕ) (set_name : S → ℕ) (k : Key) (cou
         omega arith
 
     pub back_others : KeepsOtherKeys k s (state_of name last final)
-    back_others l other = ap (λ (w : State). w.books l) back.state ∙ other_key items (state_of name new after) taken_agree l (unnamed_key k items keeps.of_key l other) ∙ taken_others l other
+    back_others l other =
+        let left = release_others items (state_of name new after) taken_agree l (unnamed_key k items keeps.of_key l other) in
+        subst (IsUntouched l s) (sym back.state) (untouched_twice l s (state_of name new after) (released items (state_of name new after)) (taken_others l other) left)
 
     -- the totals are as before
     pub back_totals : (outstanding_of last ≡ outstanding_of old) × (marked_load_of last ≡ marked_load_of old)
@@ -161,9 +177,7 @@ module _ {P S : Type 0} (name : P → ℕ) (set_name : S → ℕ) (k : Key) (cou
         ((let e : outstanding_of last ≡ outstanding_of old = omega arith in e), (let e : marked_load_of last ≡ marked_load_of old = omega arith in e))
 
     pub back_leaves : KeepsForeign s (state_of name last final)
-    back_leaves pool p foreign live =
-        let still : IsForeign (state_of name new after) pool = subst (λ (w : State). IsForeign w pool) (sym t.state) (still_foreign k items t.pools s after.pools keeps pool p foreign live) in
-        freed_foreign name set_name sets calls new last after final back pool p still (taken_leaves pool p foreign live)
+    back_leaves = foreign_through s (state_of name new after) (state_of name last final) taken_leaves (freed_foreign name set_name sets calls new last after final back)
 
   -- ---- the sets are kept
 

@@ -1,12 +1,12 @@
 -- Cleaning up: the whole empty front of each key goes.
-use Rattle.std.proofs.Common.{◌≡◌, ℕ, suc, ◌+◌, ◌-◌, ◌<◌, ◌≤◌, Bool, true, false, List, [], ◌∷◌, length, drop, count_by, slice_get, Option, Some, None, ◌⊎◌, inl, inr, refl, sym, ap, ◌∙◌, arith, eq-eqb, ne_eqb, length-drop}
+use Rattle.std.proofs.Common.{◌≡◌, ℕ, zero, suc, ◌==◌, ◌+◌, ◌-◌, ◌<◌, ◌≤◌, Bool, true, false, List, [], ◌∷◌, length, take, drop, count_by, slice_get, Option, Some, None, ◌⊎◌, inl, inr, refl, sym, ap, ◌∙◌, arith, eq-eqb, ne_eqb, length-drop}
 use Rattle.std.proofs.Math.Path.{fun_ext}
 use Rattle.std.specs.List.{list_any, prefix_len}
-use Rattle.std.proofs.lemmas.Bool.{cases_Bool, cases_eq, false_from_ne_true}
-use Rattle.std.proofs.lemmas.List.Sums.{prefix_len-le-length}
+use Rattle.std.proofs.lemmas.Bool.{cases_Bool, cases_eq, false_from_ne_true, or_left, or_right}
+use Rattle.std.proofs.lemmas.List.Sums.{prefix_len-le-length, sum_by-cons}
 use Rattle.gpu_descriptor.specs.Agreement.{set_of, Item, State, live_in, outstanding, HasSize, Agree}
 use Rattle.gpu_descriptor.specs.Books.{Key, key_eq, Entry, Bucket, entry_at}
-use Rattle.gpu_descriptor.specs.Cleanup.{IsCleaned, cleaned_bucket, CleanAgain, CleanAll, CleanAgrees, CleanTakesNone, CleanOnce}
+use Rattle.gpu_descriptor.specs.Cleanup.{IsCleaned, cleaned_bucket, CleanAgain, CleanAgainNone, CleanAll, CleanAllGone, CleanAgrees, CleanTakesNone, CleanOnce}
 use Rattle.gpu_descriptor.specs.Release.{is_empty, empty_front, without_front, in_front}
 use Rattle.gpu_descriptor_types.specs.Multiset.{LiveSet, set_eq}
 use Rattle.gpu_descriptor.proofs.Fronts.{entry_at-found, entry_at-from, entry_at-without, entry_at-kept}
@@ -64,6 +64,12 @@ again s t u first second =
     let ledger : u.ledger ≡ t.ledger = fun_ext (λ pool. second.kept pool (λ k. ap (λ (n : ℕ). in_front n (t.books k) pool) (still k))) in
     λ i. record { books = books i; ledger = ledger i }
 
+pub again_none : CleanAgainNone
+again_none [] s t clean = refl
+again_none (k ∷ keys) s t clean =
+    let here : empty_front (t.books k) ≡ 0 = ap empty_front (clean.books k) ∙ front_cleaned (s.books k) in
+    sum_by-cons (λ (l : Key). empty_front (t.books l)) k keys ∙ (λ i. here i + again_none keys s t clean i)
+
 -- a pool without live sets has none allocated
 none_live : (live : LiveSet → ℕ) (a : ℕ) → HasSize live a → ((name : LiveSet) → live name ≡ 0) → a ≡ 0
 none_live live a size none = elim size.0 as (λ xs. length xs ≡ a → ((name : LiveSet) → count_by (λ x. set_eq x name) xs ≡ live name) → a ≡ 0) [
@@ -80,10 +86,11 @@ all_front : (es : List Entry) → ((i : ℕ) (e : Entry) → slice_get es i ≡ 
 all_front [] h = refl
 all_front (x ∷ es) h = front_yes x es (h 0 x refl) ∙ ap suc (all_front es (λ i. h (suc i)))
 
-pub nothing_left : CleanAll
-nothing_left s t agree nothing clean k =
+-- with nothing outstanding each front is the whole
+whole_front : (s : State) → Agree s → ((i : Item) → outstanding s i ≡ 0) → (k : Key) → empty_front (s.books k) ≡ length (s.books k).pools
+whole_front s agree nothing k =
     let b = s.books k in
-    let empty : (i : ℕ) (e : Entry) → slice_get b.pools i ≡ Some e → is_empty e ≡ true = λ i e at.
+    all_front b.pools (λ i e at.
     let place : b.first + i - b.first ≡ i = omega arith in
     let here : entry_at b (b.first + i) ≡ Some e = entry_at-from b (b.first + i) e (omega arith) (rw place at) in
     let booked = agree.booked k (b.first + i) e here in
@@ -95,11 +102,27 @@ nothing_left s t agree nothing clean k =
           let one : set_of t ≡ x = λ j. record { name = x.name; counts = sym counts j } in
           ap booked.0.live (sym one) ∙ sym (outstanding_at s t e booked.0 here booked.1) ∙ nothing t)
     ] in
-    eq-eqb e.allocated 0 (none_live booked.0.live e.allocated booked.2.allocated zero_live) in
-    elim (cleaned_cases b) [
-      | inl all ↦ clean.books k ∙ all.1
-      | inr some ↦ (let whole : empty_front b ≡ length b.pools = all_front b.pools empty in let bad = some.0 in absurd (omega arith))
-    ]
+    eq-eqb e.allocated 0 (none_live booked.0.live e.allocated booked.2.allocated zero_live))
+
+pub nothing_left : CleanAll
+nothing_left s t agree nothing clean k = elim (cleaned_cases (s.books k)) [
+  | inl all ↦ clean.books k ∙ all.1
+  | inr some ↦ (let whole = whole_front s agree nothing k in let bad = some.0 in absurd (omega arith))
+]
+
+-- a pool of the list is among them all
+among_all : (es : List Entry) (i : ℕ) (e : Entry) → slice_get es i ≡ Some e → list_any (λ d. d.pool == e.pool) (take (length es) es) ≡ true
+among_all [] i e at = absurd (let bad : ◌≡◌ {A = Option Entry} None (Some e) = at in cc)
+among_all (x ∷ es) zero e at =
+    let is : x ≡ e = cc in
+    or_left (x.pool == e.pool) (list_any (λ d. d.pool == e.pool) (take (length es) es)) (eq-eqb x.pool e.pool (ap (λ (d : Entry). d.pool) is))
+among_all (x ∷ es) (suc i) e at = or_right (x.pool == e.pool) (list_any (λ d. d.pool == e.pool) (take (length es) es)) (among_all es i e at)
+
+pub all_gone : CleanAllGone
+all_gone s t agree nothing clean k n e at =
+    let b = s.books k in
+    let found = entry_at-found b n e at in
+    clean.gone k e.pool (ap (λ (m : ℕ). in_front m b e.pool) (whole_front s agree nothing k) ∙ among_all b.pools (n - b.first) e found.1)
 
 -- what has a number afterwards had it before
 pub was_kept : (b : Bucket) (i : ℕ) (e : Entry) → entry_at (cleaned_bucket b) i ≡ Some e → (b.first + empty_front b ≤ i) × (entry_at b i ≡ Some e)

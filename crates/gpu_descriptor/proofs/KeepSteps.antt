@@ -35,20 +35,20 @@ keeps_start k first old pools booked = record {
 }
 
 -- how often a set is live in an entry's pool, if there is an entry
-abbrev live_of : (ℕ → Option Pool) → Option Entry → LiveSet → ℕ
+abbrev pub live_of : (ℕ → Option Pool) → Option Entry → LiveSet → ℕ
 live_of pools o x = option_map_or (λ e. live_in pools e.pool x) o 0
 
 -- what is live in the pool with a number
-live_below : (pools : ℕ → Option Pool) (first : ℕ) (es : List Entry) (t : Item) → t.number < first → live_at pools (record { first = first; pools = es }) t ≡ 0
+pub live_below : (pools : ℕ → Option Pool) (first : ℕ) (es : List Entry) (t : Item) → t.number < first → live_at pools (record { first = first; pools = es }) t ≡ 0
 live_below pools first es t lt = rw (lt-ltb t.number first lt) refl
 
-live_from : (pools : ℕ → Option Pool) (first : ℕ) (es : List Entry) (t : Item) → first ≤ t.number → live_at pools (record { first = first; pools = es }) t ≡ live_of pools (slice_get es (t.number - first)) (set_of t)
+pub live_from : (pools : ℕ → Option Pool) (first : ℕ) (es : List Entry) (t : Item) → first ≤ t.number → live_at pools (record { first = first; pools = es }) t ≡ live_of pools (slice_get es (t.number - first)) (set_of t)
 live_from pools first es t le = rw (le-ltb t.number first le) refl
 
 same_name : (a b : ℕ → Option Pool) (e : Entry) (x : LiveSet) → a e.pool ≡ b e.pool → live_in a e.pool x ≡ live_in b e.pool x
 same_name a b e x same = ap (λ (o : Option Pool). option_map_or (λ (p : Pool). p.live x) o 0) same
 
-count_append : (t : Item) (a b : List Item) → count_of t (a ++ b) ≡ count_of t a + count_of t b
+pub count_append : (t : Item) (a b : List Item) → count_of t (a ++ b) ≡ count_of t a + count_of t b
 count_append t a b = count_by-append (λ u. item_eq u t) a b
 
 module _ (k : Key) (first i wanted : ℕ) (items : List Item) (old new : List Entry) (before : ℕ → Option Pool) (names : List ℕ) (e f : Entry) (l m : Ledger)

@@ -7,7 +7,7 @@ use Rattle.std.proofs.lemmas.Bool.{cases_Bool, cases_lt, and_parts, or_cases, fa
 use Rattle.std.proofs.lemmas.List.{length-map}
 use Rattle.gpu_descriptor.specs.Agreement.{set_of, State, Item, item_eq, count_of, outstanding, AreOutstanding, IsAsBooked, Agree}
 use Rattle.gpu_descriptor.specs.Books.{Key, key_eq, Entry, Bucket, entry_at}
-use Rattle.gpu_descriptor.specs.Release.{lies_in, entry_less, bucket_less, pool_less, given_back, spent_front, without_front, in_front, fronts_gone, released, ReleaseAgrees, ReleaseTakes, ReleaseOrder, ReleaseNone, ReleaseEach}
+use Rattle.gpu_descriptor.specs.Release.{lies_in, entry_less, bucket_less, pool_less, given_back, spent_front, without_front, in_front, fronts_gone, released, singly, ReleaseAgrees, ReleaseTakes, ReleaseOrder, ReleaseNone, ReleaseEach, ReleaseSingly}
 use Rattle.gpu_descriptor_types.specs.Ledger.{Pool}
 use Rattle.gpu_descriptor_types.specs.Multiset.{LiveSet, set_eq}
 use Rattle.gpu_descriptor.proofs.Fronts.{entry_at-from}
@@ -191,6 +191,18 @@ each (m ∷ ms) s agree out =
     let rest = flat_map (λ (n : List Item). n) ms in
     let parted = rest_outstanding m rest s agree out in
     each ms (released m s) (agrees m s agree parted.0) parted.1 ∙ parts m rest s agree out
+
+singly_whole : (m : List Item) → flat_map (λ (n : List Item). n) (singly m) ≡ m
+singly_whole [] = refl
+singly_whole (t ∷ m) = ap (λ (n : List Item). t ∷ n) (singly_whole m)
+
+pub one_by_one : ReleaseSingly
+one_by_one m turned s agree out alike =
+    let whole = singly_whole turned in
+    let turned_out : AreOutstanding turned s = λ t. let a = alike t in let b = out t in omega arith in
+    each (singly turned) s agree (subst (λ (n : List Item). AreOutstanding n s) (sym whole) turned_out)
+    ∙ ap (λ (n : List Item). released n s) whole
+    ∙ order turned m s alike
 
 -- before any front goes, books and ledger agree too
 pub given_agrees : (m : List Item) (s : State) → Agree s → AreOutstanding m s → Agree (given_back m s)

@@ -19,7 +19,11 @@ pub mod Lent
 pub mod Loads
 pub mod Looks
 pub mod Meets
+pub mod NewPools
 pub mod OneRun
+pub mod OtherKeys
+pub mod Others
+pub mod OutSets
 pub mod Parts
 pub mod Places
 pub mod Promises

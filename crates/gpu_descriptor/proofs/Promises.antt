@@ -1,11 +1,11 @@
 -- What every outcome of a request promises.
-use Rattle.std.proofs.Common.{◌≡◌, ℕ, suc, ◌+◌, ◌-◌, ◌*◌, ◌<◌, ◌≤◌, Bool, true, List, [], ◌∷◌, ◌++◌, map, length, drop, sum_by, count_by, Option, Some, None, option_map, inl, inr, eqb-true, ◌==◌, ◌&&◌, Result, Ok, Err, refl, sym, ap, ◌∙◌, subst, arith}
+use Rattle.std.proofs.Common.{◌≡◌, ℕ, suc, ◌+◌, ◌-◌, ◌*◌, ◌<◌, ◌≤◌, Bool, true, List, [], ◌∷◌, ◌++◌, map, length, drop, sum_by, Option, Some, None, option_map, inl, inr, eqb-true, ◌==◌, Result, Ok, Err, refl, sym, ap, ◌∙◌, subst, arith}
 use Rattle.std.proofs.lemmas.List.{length-map, length-append}
 use Rattle.std.proofs.lemmas.List.Sums.{sum_by-cons, sum_by-append}
 use Rattle.std.proofs.Math.Nat.{mul-le-mul_right}
 use Rattle.gpu_descriptor_types.proofs.Sizes.{pool_size_some}
 use Rattle.gpu_descriptor_types.specs.PoolSize.{pool_size_floor}
-use Rattle.std.specs.Prelude.{min, if◌then◌else◌, IfErr}
+use Rattle.std.specs.Prelude.{min, if◌then◌else◌, OnOk, IfErr}
 use Rattle.gpu_descriptor_types.specs.Ledger.{Pool, Counters, live_sets, create_refused, alloc_refused, pool_refusals}
 use Rattle.gpu_descriptor_types.specs.declared.errors.CreatePoolError.{CreatePoolError}
 use Rattle.gpu_descriptor_types.specs.declared.errors.CreatePoolError.TheVariants as create_error
@@ -13,20 +13,19 @@ use Rattle.gpu_descriptor_types.specs.declared.errors.DeviceAllocationError.{Dev
 use Rattle.gpu_descriptor_types.specs.declared.errors.DeviceAllocationError.TheVariants as alloc_error
 use Rattle.gpu_descriptor.specs.declared.errors.AllocationError.{AllocationError}
 use Rattle.gpu_descriptor.specs.declared.errors.AllocationError.TheVariants.{OutOfHostMemory, Fragmentation}
-use Rattle.gpu_descriptor.specs.Agreement.{State, Item, set_of}
+use Rattle.gpu_descriptor.specs.Agreement.{State, Item}
 use Rattle.gpu_descriptor.specs.Books.{Key, Entry, Bucket, next_number}
 use Rattle.gpu_descriptor.specs.Errors.{error_of_create, error_of_alloc}
 use Rattle.gpu_descriptor.specs.FreshPools.{Fresh, AreNew, AreSized, AreFull, IsFreshList, given_by, fresh_portions}
 use Rattle.gpu_descriptor.specs.Grants.{Grant, Part, portion_of, items_at, items_in, came, granted, fresh_or, pool_with}
-use Rattle.gpu_descriptor.specs.Outcomes.{Allocates, Call, IsBack, IsStoppedAtPool, IsStoppedAtCreate, IsStoppedAtFresh, IsFront, IsGrant, out_then, wanting, no_rise}
+use Rattle.gpu_descriptor.specs.Outcomes.{Allocates, Call, IsBack, IsDone, IsStoppedAtPool, IsStoppedAtCreate, IsStoppedAtFresh, IsFront, IsGrant, out_then, wanting, no_rise}
 use Rattle.gpu_descriptor.specs.Outcomes.Allocates.{none, limit, bound, start, done, stopped_at_pool, stopped_at_create, stopped_for_memory, stopped_at_fresh}
 use Rattle.gpu_descriptor.specs.FreshPools.IsFreshList.{none as no_fresh, some as some_fresh}
-use Rattle.gpu_descriptor.specs.Release.{released, given_back, spent_front, in_front, lies_in, pool_less}
-use Rattle.std.specs.List.{list_any}
 use Rattle.std.proofs.lemmas.Bool.{cases_Bool}
-use Rattle.gpu_descriptor_types.specs.Multiset.{set_eq}
-use Rattle.gpu_descriptor.specs.Promises.{HasCause, IsShort, CreatesOnlyWhereShort}
+use Rattle.gpu_descriptor.specs.Promises.{HasCause, HasNewPools, IsShort, CreatesOnlyWhereShort, last_refusal}
 use Rattle.gpu_descriptor.specs.Promises.IsFragmentation.{above_limit, past_bound, no_pool_created, new_pool_refused}
+use Rattle.gpu_descriptor.specs.Promises.IsHostMemory.{device_refused, no_room_at_start, no_room_for_a_pool}
+use Rattle.gpu_descriptor.proofs.NewPools.{AreFilled, met, unmet, shares_used, done_new_pools, done_filled, released_pool, back_new_pools}
 use Rattle.gpu_descriptor.specs.Shares.{Portion, offer, rest, portions_of, refused_count, OnlyAskedRefuse}
 
 -- ---- how many sets
@@ -86,7 +85,10 @@ create_cause c s = by_error s.error refl
         let n = ap (λ (k : Counters). k.device_memory) s.back.counters in
         let one = ap (λ (e : CreatePoolError). (create_refused e no_rise).device_memory) is in
         omega arith
-    by_error create_error.OutOfHostMemory is = tt
+    by_error create_error.OutOfHostMemory is =
+        let n = ap (λ (k : Counters). k.host_memory) s.back.counters in
+        let one = ap (λ (e : CreatePoolError). (create_refused e no_rise).host_memory) is in
+        device_refused (omega arith)
     by_error create_error.Fragmentation is =
         let n = ap (λ (k : Counters). k.fragmentation) s.back.counters in
         let one = ap (λ (e : CreatePoolError). (create_refused e no_rise).fragmentation) is in
@@ -100,7 +102,10 @@ pool_cause c s = by_error s.error refl
         let n = ap (λ (k : Counters). k.device_memory) s.back.counters in
         let one = ap (λ (e : DeviceAllocationError). (alloc_refused e no_rise).device_memory) is in
         omega arith
-    by_error alloc_error.OutOfHostMemory is = tt
+    by_error alloc_error.OutOfHostMemory is =
+        let n = ap (λ (k : Counters). k.host_memory) s.back.counters in
+        let one = ap (λ (e : DeviceAllocationError). (alloc_refused e no_rise).host_memory) is in
+        device_refused (omega arith)
     by_error alloc_error.FragmentedPool is = (let m = s.memory in let one = ap pool_refusals is in absurd (omega arith))
     by_error alloc_error.OutOfPoolMemory is = (let m = s.memory in let one = ap pool_refusals is in absurd (omega arith))
 
@@ -112,7 +117,10 @@ fresh_cause c s = by_error s.error refl
         let n = ap (λ (k : Counters). k.device_memory) s.back.counters in
         let one = ap (λ (e : DeviceAllocationError). (alloc_refused e no_rise).device_memory) is in
         omega arith
-    by_error alloc_error.OutOfHostMemory is = tt
+    by_error alloc_error.OutOfHostMemory is =
+        let n = ap (λ (k : Counters). k.host_memory) s.back.counters in
+        let one = ap (λ (e : DeviceAllocationError). (alloc_refused e no_rise).host_memory) is in
+        device_refused (omega arith)
     by_error alloc_error.FragmentedPool is =
         let n = ap (λ (k : Counters). k.pool_refused) s.back.counters in
         let one = ap (λ (e : DeviceAllocationError). (alloc_refused e no_rise).pool_refused) is in
@@ -140,20 +148,10 @@ granted_raises k n g s name p q new refused live after =
     let one : f p ≡ q = cc in
     sym (ap (λ (x : Pool). x.refusals) one) ∙ ap (λ (b : Bool). if b then p.refusals + 1 else p.refusals) refused
 
-released_raises : (m : List Item) (t : State) (name : ℕ) (q : Pool) → (released m t).ledger name ≡ Some q → (o : Pool) × (t.ledger name ≡ Some o) × (q.refusals ≡ o.refusals)
-released_raises m t name q after = elim (cases_Bool (list_any (λ u. let b = (given_back m t).books u.key in in_front (spent_front b) b name) m)) [
-  | inl gone ↦ (let bad : ◌≡◌ {A = Option Pool} None (Some q) = rw gone at after in absurd (cc))
-  | inr kept ↦ (let left : (given_back m t).ledger name ≡ Some q = rw kept at after in by_pool (t.ledger name) refl left)
-]
-  where
-    by_pool : (o : Option Pool) → t.ledger name ≡ o → option_map (pool_less (λ x. count_by (λ u. lies_in t.books name u && set_eq (set_of u) x) m)) o ≡ Some q → (p : Pool) × (t.ledger name ≡ Some p) × (q.refusals ≡ p.refusals)
-    by_pool None is e = absurd (let bad : ◌≡◌ {A = Option Pool} None (Some q) = e in cc)
-    by_pool (Some p) is e = (p, is, (let one : pool_less (λ x. count_by (λ u. lies_in t.books name u && set_eq (set_of u) x) m) p ≡ q = cc in sym (ap (λ (x : Pool). x.refusals) one)))
-
 -- what a request that stopped raised
 back_raises : (c : Call) (g : Grant) (rise : Counters) (error : AllocationError) → IsBack c g rise error → (name : ℕ) (p q : Pool) → g.refused name ≡ true → c.old.ledger name ≡ Some p → c.new.ledger name ≡ Some q → q.refusals ≡ p.refusals + 1
 back_raises c g rise error b name p q refused live after =
-    let r = released_raises (items_in c.request.key g.parts) (granted c.request.key c.request.count g c.old) name q (sym (ap (λ (w : State). w.ledger name) b.state) ∙ after) in
+    let r = released_pool (items_in c.request.key g.parts) (granted c.request.key c.request.count g c.old) name q (sym (ap (λ (w : State). w.ledger name) b.state) ∙ after) in
     r.2 ∙ granted_raises c.request.key c.request.count g c.old name p r.0 b.taken.new refused live r.1
 
 -- ---- pools are created only where the existing ones don't do
@@ -176,13 +174,20 @@ front_few counts total wanted (f ∷ pools) sized full short =
 abbrev Raises : Call → Grant → Type 0
 Raises c g = (name : ℕ) (p q : Pool) → g.refused name ≡ true → c.old.ledger name ≡ Some p → c.new.ledger name ≡ Some q → q.refusals ≡ p.refusals + 1
 
-pools_short : (c : Call) (g : Grant) → IsGrant c.request c.old g → g.left ≡ 0 → 0 < wanting c.request c.old g → Raises c g → c.before.pool_refused + refused_count g.refused (drop g.left (c.old.books c.request.key).pools) ≤ c.after.pool_refused → (n : ℕ) → c.after.created ≡ c.before.created + n → n * pool_size_floor c.request.key.counts < wanting c.request c.old g + pool_size_floor c.request.key.counts → IsShort c
-pools_short c g is all some raises counted n rise few = record {
+-- the refusals of pools and creates in the call
+abbrev IsCounted : Call → Grant → ℕ → Type 0
+IsCounted c g i = c.after.pool_refused + c.after.fragmentation ≡ c.before.pool_refused + c.before.fragmentation + refused_count g.refused (drop i (c.old.books c.request.key).pools) + last_refusal c.answer
+
+pools_short : (c : Call) (g : Grant) → IsGrant c.request c.old g → g.left ≡ 0 → 0 < wanting c.request c.old g → HasNewPools c (wanting c.request c.old g) → OnOk c.answer (AreFilled c) → Raises c g → IsCounted c g g.left → (n : ℕ) → c.after.created ≡ c.before.created + n → n * pool_size_floor c.request.key.counts < wanting c.request c.old g + pool_size_floor c.request.key.counts → IsShort c
+pools_short c g is all some new filled raises counted n rise few = record {
   refused = g.refused;
   raised = raises;
-  counted = subst (λ i. c.before.pool_refused + refused_count g.refused (drop i (c.old.books c.request.key).pools) ≤ c.after.pool_refused) all counted;
+  counted = subst (IsCounted c g) all counted;
   only_asked = subst (λ i. OnlyAskedRefuse g.refused c.request.count (drop i (c.old.books c.request.key).pools)) all is.refusing;
   short = omega arith;
+  used_up = shares_used g.refused c.request.count (c.old.books c.request.key).pools some;
+  filled = filled;
+  new_pools = new;
   few = (
       let m = pool_size_floor c.request.key.counts in
       let same : c.after.created - c.before.created ≡ n = omega arith in
@@ -190,19 +195,22 @@ pools_short c g is all some raises counted n rise few = record {
 }
 
 -- after a front, with one more or without
-front_short : (c : Call) (g : Grant) → IsGrant c.request c.old g → IsFront c.request c.old g → Raises c g → c.before.pool_refused + refused_count g.refused (drop g.left (c.old.books c.request.key).pools) ≤ c.after.pool_refused → (n : ℕ) → n ≤ 1 → c.after.created ≡ c.before.created + (length g.fresh + n) → IsShort c
-front_short c g is front raises counted n one rise =
+front_short : (c : Call) (g : Grant) (rise : Counters) (error : AllocationError) → IsBack c g rise error → IsFront c.request c.old g → IsCounted c g g.left → (n : ℕ) → n ≤ 1 → c.after.created ≡ c.before.created + (length g.fresh + n) → IsShort c
+front_short c g rise error back front counted n one created =
     let m : ℕ = pool_size_floor c.request.key.counts in
     let short = front.front.short in
     let few = front_few c.request.key.counts (out_then c.request c.old g) (wanting c.request c.old g) g.fresh front.front.sized front.front.full short in
     let product = times_more (length g.fresh) m in
     let below : (length g.fresh + n) * m ≤ suc (length g.fresh) * m = mul-le-mul_right m (omega arith) in
-    pools_short c g is front.all (omega arith) raises counted (length g.fresh + n) rise (omega arith)
+    let new = back_new_pools c g rise error back front n one created in
+    let filled : OnOk c.answer (AreFilled c) = unmet (AreFilled c) c.answer _ back.answer in
+    pools_short c g back.taken front.all (omega arith) new filled (back_raises c g rise error back) counted (length g.fresh + n) created (omega arith)
 
 -- a list that gave all
-done_short : (c : Call) (g : Grant) → IsGrant c.request c.old g → g.left ≡ 0 → IsFreshList c.request.key.counts (out_then c.request c.old g) (wanting c.request c.old g) g.fresh → Raises c g → c.before.pool_refused + refused_count g.refused (drop g.left (c.old.books c.request.key).pools) ≤ c.after.pool_refused → c.after.created ≡ c.before.created + length g.fresh → 0 < length g.fresh → IsShort c
-done_short c g is all (no_fresh zero_wanted empty) raises counted rise some = (let e = ap length empty in absurd (omega arith))
-done_short c g is all (some_fresh front last parts short sized le given) raises counted rise some =
+done_short : (c : Call) (d : IsDone c) → IsFreshList c.request.key.counts (out_then c.request c.old d.grant) (wanting c.request c.old d.grant) d.grant.fresh → 0 < length d.grant.fresh → IsShort c
+done_short c d (no_fresh zero_wanted empty) some = (let e = ap length empty in absurd (omega arith))
+done_short c d (some_fresh front last parts short sized le given) some =
+    let g : Grant = d.grant in
     let m : ℕ = pool_size_floor c.request.key.counts in
     let few = front_few c.request.key.counts (out_then c.request c.old g) (wanting c.request c.old g) front short.sized short.full short.short in
     let below = short.short in
@@ -210,9 +218,15 @@ done_short c g is all (some_fresh front last parts short sized le given) raises 
     let product = times_more (length front) m in
     let same : length g.fresh ≡ suc (length front) = omega arith in
     let whole : length g.fresh * m ≡ suc (length front) * m = ap (λ n. n * m) same in
-    pools_short c g is all (omega arith) raises counted (length g.fresh) rise (omega arith)
+    let created = ap (λ (k : Counters). k.created) d.counters in
+    let refused = ap (λ (k : Counters). k.pool_refused) d.counters in
+    let fragmented = ap (λ (k : Counters). k.fragmentation) d.counters in
+    let none = ap last_refusal d.answer in
+    let raises : Raises c g = λ name p q refused live after. granted_raises c.request.key c.request.count g c.old name p q d.taken.new refused live (sym (ap (λ (w : State). w.ledger name) d.state) ∙ after) in
+    let filled : OnOk c.answer (AreFilled c) = met (AreFilled c) c.answer _ d.answer (done_filled c d some) in
+    pools_short c g d.taken d.all (omega arith) (done_new_pools c d) filled raises (omega arith) (length g.fresh) (omega arith) (omega arith)
 
--- what an error adds to two of the counters
+-- what an error adds to some of the counters
 alloc_creates : (e : DeviceAllocationError) → (alloc_refused e no_rise).created ≡ 0
 alloc_creates alloc_error.OutOfDeviceMemory = refl
 alloc_creates alloc_error.OutOfHostMemory = refl
@@ -223,6 +237,17 @@ create_creates : (e : CreatePoolError) → (create_refused e no_rise).created �
 create_creates create_error.OutOfDeviceMemory = refl
 create_creates create_error.OutOfHostMemory = refl
 create_creates create_error.Fragmentation = refl
+
+create_last : (e : CreatePoolError) → (create_refused e no_rise).pool_refused + (create_refused e no_rise).fragmentation ≡ last_refusal (Err (error_of_create e))
+create_last create_error.OutOfDeviceMemory = refl
+create_last create_error.OutOfHostMemory = refl
+create_last create_error.Fragmentation = refl
+
+alloc_last : (e : DeviceAllocationError) → (alloc_refused e no_rise).pool_refused + (alloc_refused e no_rise).fragmentation ≡ last_refusal (Err (error_of_alloc e))
+alloc_last alloc_error.OutOfDeviceMemory = refl
+alloc_last alloc_error.OutOfHostMemory = refl
+alloc_last alloc_error.FragmentedPool = refl
+alloc_last alloc_error.OutOfPoolMemory = refl
 
 module _ (c : Call) where
   answered : (e : AllocationError) → c.answer ≡ Err e → HasCause e c → IfErr c.answer (λ f. HasCause f c)
@@ -236,11 +261,11 @@ module _ (c : Call) where
   has_cause (none zero_count answer stays) = given [] answer
   has_cause (limit some above answer stays) = answered Fragmentation answer (above_limit above)
   has_cause (bound some within past answer stays) = answered Fragmentation answer (past_bound past)
-  has_cause (start p answer stays) = answered OutOfHostMemory answer tt
+  has_cause (start p answer stays) = answered OutOfHostMemory answer (no_room_at_start p stays)
   has_cause (done p d) = given _ d.answer
   has_cause (stopped_at_pool p s) = answered _ s.back.answer (pool_cause c s)
   has_cause (stopped_at_create p s) = answered _ s.back.answer (create_cause c s)
-  has_cause (stopped_for_memory p s) = answered OutOfHostMemory s.back.answer tt
+  has_cause (stopped_for_memory p s) = answered OutOfHostMemory s.back.answer (no_room_for_a_pool s)
   has_cause (stopped_at_fresh p s) = answered _ s.back.answer (fresh_cause c s)
 
   -- a pool is created only where the existing ones don't do
@@ -249,11 +274,7 @@ module _ (c : Call) where
   short (limit some above answer stays) more = (let n = ap (λ (k : Counters). k.created) stays.counters in absurd (omega arith))
   short (bound some within past answer stays) more = (let n = ap (λ (k : Counters). k.created) stays.counters in absurd (omega arith))
   short (start p answer stays) more = (let n = ap (λ (k : Counters). k.created) stays.counters in absurd (omega arith))
-  short (done p d) more =
-      let n = ap (λ (k : Counters). k.created) d.counters in
-      let r = ap (λ (k : Counters). k.pool_refused) d.counters in
-      let raises : Raises c d.grant = λ name p q refused live after. granted_raises c.request.key c.request.count d.grant c.old name p q d.taken.new refused live (sym (ap (λ (w : State). w.ledger name) d.state) ∙ after) in
-      done_short c d.grant d.taken d.all d.fresh raises (omega arith) (omega arith) (omega arith)
+  short (done p d) more = (let n = ap (λ (k : Counters). k.created) d.counters in done_short c d d.fresh (omega arith))
   short (stopped_at_pool p s) more =
       let n = ap (λ (k : Counters). k.created) s.back.counters in
       let e = alloc_creates s.error in
@@ -262,10 +283,21 @@ module _ (c : Call) where
   short (stopped_at_create p s) more =
       let n = ap (λ (k : Counters). k.created) s.back.counters in
       let e = create_creates s.error in
-      (let r = ap (λ (k : Counters). k.pool_refused) s.back.counters in front_short c s.grant s.back.taken s.front (back_raises c s.grant _ _ s.back) (omega arith) 0 (omega arith) (omega arith))
+      let refused = ap (λ (k : Counters). k.pool_refused) s.back.counters in
+      let fragmented = ap (λ (k : Counters). k.fragmentation) s.back.counters in
+      let last = ap last_refusal s.back.answer in
+      let rise = create_last s.error in
+      front_short c s.grant _ _ s.back s.front (omega arith) 0 (omega arith) (omega arith)
   short (stopped_for_memory p s) more =
       let n = ap (λ (k : Counters). k.created) s.back.counters in
-      (let r = ap (λ (k : Counters). k.pool_refused) s.back.counters in front_short c s.grant s.back.taken s.front (back_raises c s.grant _ _ s.back) (omega arith) 0 (omega arith) (omega arith))
+      let refused = ap (λ (k : Counters). k.pool_refused) s.back.counters in
+      let fragmented = ap (λ (k : Counters). k.fragmentation) s.back.counters in
+      let last = ap last_refusal s.back.answer in
+      front_short c s.grant _ _ s.back s.front (omega arith) 0 (omega arith) (omega arith)
   short (stopped_at_fresh p s) more =
       let n = ap (λ (k : Counters). k.created) s.back.counters in
-      (let r = ap (λ (k : Counters). k.pool_refused) s.back.counters in front_short c s.grant s.back.taken s.front (back_raises c s.grant _ _ s.back) (omega arith) 1 (omega arith) (omega arith))
+      let refused = ap (λ (k : Counters). k.pool_refused) s.back.counters in
+      let fragmented = ap (λ (k : Counters). k.fragmentation) s.back.counters in
+      let last = ap last_refusal s.back.answer in
+      let rise = alloc_last s.error in
+      front_short c s.grant _ _ s.back s.front (omega arith) 1 (omega arith) (omega arith)

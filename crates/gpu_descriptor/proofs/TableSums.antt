@@ -1,12 +1,15 @@
 -- The totals that callers see are sums over the table of the books.
-use Rattle.std.proofs.Common.{◌≡◌, ℕ, ◌+◌, List, [], ◌∷◌, map, sum_by, inl, inr, refl, ap, ◌∙◌, sym}
+use Rattle.std.proofs.Common.{◌≡◌, ℕ, ◌+◌, List, [], ◌∷◌, length, map, slice_get, sum_by, Option, Some, None, option_map, inl, inr, refl, ap, ◌∙◌, sym}
 use Rattle.std.proofs.lemmas.Bool.{cases_Bool}
+use Rattle.std.proofs.lemmas.List.{length-map}
 use Rattle.std.proofs.lemmas.List.Sums.{sum_by-cons}
+use Rattle.std.proofs.lemmas.Option.{slice_get-map}
+use Rattle.gpu_descriptor.specs.declared.view.PoolView.{PoolView}
 use Rattle.gpu_descriptor.specs.Books.{Key, key_eq, Entry, Bucket, books_of, sum_over}
 use Rattle.gpu_descriptor.specs.Load.{held, sets_out, descriptors_out}
 use Rattle.gpu_descriptor.specs.States.{named, named_row, table_of, sets_in, descriptors_in, outstanding_of, marked_load_of}
 use Rattle.gpu_descriptor.specs.Values.{Kept, Row, Allocations}
-use Rattle.gpu_descriptor.specs.Views.{first_at, pools_at}
+use Rattle.gpu_descriptor.specs.Views.{first_at, pools_at, view_at, view_in}
 use Rattle.gpu_descriptor.proofs.Loads.{load_at}
 
 module _ {P : Type 0} (name : P → ℕ) where
@@ -38,3 +41,17 @@ module _ {P : Type 0} (name : P → ℕ) where
         | inl at ↦ rw at refl
         | inr at ↦ rw at (go rows)
       ]
+
+  -- so are their number, and what readers see of each
+  pub pools_of-table : (a : Allocations P) (k : Key) → length (pools_at a.table k) ≡ length (books_of (table_of name a) k).pools
+  pools_of-table a k = sym (ap (λ (b : Bucket). length b.pools) (books_of-table a k) ∙ length-map (pools_at a.table k) (named name))
+
+  pub view_of-table : (a : Allocations P) (k : Key) (i : ℕ) → view_at a.table k i ≡ view_in (books_of (table_of name a) k) i
+  view_of-table a k i = sym (ap (λ (b : Bucket). view_in b i) (books_of-table a k) ∙ ap (option_map (λ (e : Entry). seen e.allocated e.free)) (slice_get-map (named name) (pools_at a.table k) i) ∙ same (slice_get (pools_at a.table k) i))
+    where
+      seen : ℕ → ℕ → PoolView
+      seen allocated free = record { number = first_at a.table k + i; allocated = allocated; available = free }
+
+      same : (o : Option (Kept P)) → option_map (λ (e : Entry). seen e.allocated e.free) (option_map (named name) o) ≡ option_map (λ (p : Kept P). seen p.allocated p.free) o
+      same None = refl
+      same (Some p) = refl

@@ -74,3 +74,16 @@ pub record Agree (s : State) : Type 0 where
 -- an allocator without keys agrees with every ledger
 abbrev pub EmptyAgrees : Type 0
 EmptyAgrees = (ledger : ℕ → Option Pool) → Agree (record { books = λ _. no_pools; ledger = ledger })
+
+-- the books stay, and so do the ledger's records of the pools that they name. Whatever other pools the device has may change
+pub record KeepsOwn (old new : State) : Type 0 where
+  pub books : (k : Key) → new.books k ≡ old.books k
+  pub pools : (k : Key) (n : ℕ) (e : Entry) → entry_at (old.books k) n ≡ Some e → new.ledger e.pool ≡ old.ledger e.pool
+
+-- then books and ledger agree as before
+abbrev pub OwnAgrees : Type 0
+OwnAgrees = (s t : State) → KeepsOwn s t → Agree s → Agree t
+
+-- and the same sets are outstanding
+abbrev pub OwnOutstanding : Type 0
+OwnOutstanding = (s t : State) → KeepsOwn s t → (i : Item) → outstanding t i ≡ outstanding s i

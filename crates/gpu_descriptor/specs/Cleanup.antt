@@ -1,7 +1,7 @@
 -- What cleaning up leaves: each key loses the empty pools at its front, the last pool too.
-use Rattle.std.specs.Prelude.{◌≡◌, ℕ, true, false, ◌==◌, if◌then◌else◌, List, [], length, sum_by, None}
+use Rattle.std.specs.Prelude.{◌≡◌, ℕ, true, false, ◌==◌, if◌then◌else◌, List, [], length, sum_by, Some, None}
 use Rattle.std.specs.List.{list_any}
-use Rattle.gpu_descriptor.specs.Books.{Key, key_eq, Bucket, no_pools}
+use Rattle.gpu_descriptor.specs.Books.{Key, key_eq, Entry, Bucket, entry_at, no_pools}
 use Rattle.gpu_descriptor.specs.Agreement.{State, Item, Agree, outstanding}
 use Rattle.gpu_descriptor.specs.Release.{empty_front, without_front, in_front}
 
@@ -23,6 +23,10 @@ CleanAgain = (s t u : State) → IsCleaned s t → IsCleaned t u → u ≡ t
 abbrev pub CleanAll : Type 0
 CleanAll = (s t : State) → Agree s → ((i : Item) → outstanding s i ≡ 0) → IsCleaned s t → (k : Key) → t.books k ≡ no_pools
 
+-- and the ledger has none of those that the books named
+abbrev pub CleanAllGone : Type 0
+CleanAllGone = (s t : State) → Agree s → ((i : Item) → outstanding s i ≡ 0) → IsCleaned s t → (k : Key) (n : ℕ) (e : Entry) → entry_at (s.books k) n ≡ Some e → t.ledger e.pool ≡ None
+
 -- cleaning up keeps agreement, and what is outstanding
 abbrev pub CleanAgrees : Type 0
 CleanAgrees = (s t : State) → Agree s → IsCleaned s t → Agree t
@@ -41,3 +45,7 @@ CleanOnce = (keys : List Key) (s t u : State) → Covers keys s → IsCleaned s 
 -- how many pools of these keys go
 abbrev pub pools_cleaned : List Key → State → ℕ
 pools_cleaned keys s = sum_by (λ k. empty_front (s.books k)) keys
+
+-- cleaning up what was cleaned up destroys no pool
+abbrev pub CleanAgainNone : Type 0
+CleanAgainNone = (keys : List Key) (s t : State) → IsCleaned s t → pools_cleaned keys t ≡ 0

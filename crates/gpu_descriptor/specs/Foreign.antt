@@ -8,6 +8,6 @@ use Rattle.gpu_descriptor.specs.Agreement.{State}
 abbrev pub IsForeign : State → ℕ → Type 0
 IsForeign s pool = (k : Key) (n : ℕ) (e : Entry) → entry_at (s.books k) n ≡ Some e → e.pool ≢ pool
 
--- a live pool that isn't in the books stays as it is
+-- a live pool that isn't in the books stays as it is, and doesn't come into them
 abbrev pub KeepsForeign : State → State → Type 0
-KeepsForeign old new = (name : ℕ) (pool : Pool) → IsForeign old name → old.ledger name ≡ Some pool → new.ledger name ≡ Some pool
+KeepsForeign old new = (name : ℕ) (pool : Pool) → IsForeign old name → old.ledger name ≡ Some pool → (new.ledger name ≡ Some pool) × IsForeign new name

@@ -17,7 +17,7 @@ pub record Part : Type 0 where
 abbrev pub portion_of : Part → Portion
 portion_of p = record { number = p.number; pool = p.pool; given = length p.names }
 
--- what a request took: how many of the oldest pools it left alone, which pools refused, the new pools, and the sets as they came
+-- what a request took: how many of the oldest pools gave nothing because it stopped, which pools refused, the new pools, and the sets as they came
 pub record Grant : Type 0 where
   pub left : ℕ
   pub refused : ℕ → Bool

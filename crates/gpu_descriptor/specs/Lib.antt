@@ -12,6 +12,7 @@ pub mod Grants
 pub mod Grow
 pub mod LayoutFlags
 pub mod Load
+pub mod OtherKeys
 pub mod Outcomes
 pub mod Promises
 pub mod Release

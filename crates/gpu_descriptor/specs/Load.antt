@@ -1,7 +1,7 @@
 -- What is out in all keys: sets, and descriptors of marked sets.
-use Rattle.std.specs.Prelude.{ℕ, ◌*◌, if◌then◌else◌, List, sum, sum_by}
+use Rattle.std.specs.Prelude.{◌≡◌, ℕ, ◌*◌, if◌then◌else◌, List, length, sum, sum_by}
 use Rattle.gpu_descriptor.specs.Books.{Key, Entry, Bucket, AddsUp}
-use Rattle.gpu_descriptor.specs.Agreement.{State}
+use Rattle.gpu_descriptor.specs.Agreement.{State, Item, Agree, count_of, outstanding}
 
 -- the sets that are out of these pools
 abbrev pub held : List Entry → ℕ
@@ -26,3 +26,11 @@ IsOut s n = AddsUp sets_out s.books n
 -- so many descriptors of marked sets are out
 abbrev pub IsMarkedLoad : State → ℕ → Type 0
 IsMarkedLoad s n = AddsUp descriptors_out s.books n
+
+-- where books and ledger agree, as many sets are out as are outstanding: those of a list of this length
+abbrev pub OutIsSize : Type 0
+OutIsSize = (s : State) (n : ℕ) → Agree s → IsOut s n → (items : List Item) × (length items ≡ n) × ((t : Item) → count_of t items ≡ outstanding s t)
+
+-- and every list that has each as often has this length
+abbrev pub OutIsLength : Type 0
+OutIsLength = (s : State) (n : ℕ) → Agree s → IsOut s n → (items : List Item) → ((t : Item) → count_of t items ≡ outstanding s t) → length items ≡ n

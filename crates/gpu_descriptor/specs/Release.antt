@@ -89,6 +89,14 @@ released_each (m ∷ ms) s = released_each ms (released m s)
 abbrev pub ReleaseEach : Type 0
 ReleaseEach = (ms : List (List Item)) (s : State) → Agree s → AreOutstanding (flat_map (λ m. m) ms) s → released_each ms s ≡ released (flat_map (λ m. m) ms) s
 
+-- each set of a list, in a list of its own
+abbrev pub singly : List Item → List (List Item)
+singly m = map (λ t. t ∷ []) m
+
+-- given back one by one, in whatever order, sets leave what they leave at once
+abbrev pub ReleaseSingly : Type 0
+ReleaseSingly = (m order : List Item) (s : State) → Agree s → AreOutstanding m s → ((t : Item) → count_of t order ≡ count_of t m) → released_each (singly order) s ≡ released m s
+
 -- how many pools of these keys go
 abbrev pub pools_gone : List Key → List Item → State → ℕ
 pools_gone keys m s = sum_by (λ k. if list_any (λ t. key_eq t.key k) m then spent_front (s.books k) else 0) keys

@@ -1,8 +1,12 @@
 -- What readers see of one key's pools.
 use Rattle.std.specs.Prelude.{ℕ, ◌+◌, if◌then◌else◌, List, [], ◌∷◌, slice_get, Option, option_map}
 use Rattle.gpu_descriptor.specs.declared.view.PoolView.{PoolView}
-use Rattle.gpu_descriptor.specs.Books.{Key, key_eq}
+use Rattle.gpu_descriptor.specs.Books.{Key, key_eq, Bucket}
 use Rattle.gpu_descriptor.specs.Values.{Kept, Row}
+
+-- what the books of a key say of the pool at this place
+abbrev pub view_in : Bucket → ℕ → Option PoolView
+view_in b i = option_map (λ e. record { number = b.first + i; allocated = e.allocated; available = e.free }) (slice_get b.pools i)
 
 module _ {P : Type 0} where
   -- the pools of a key, oldest first

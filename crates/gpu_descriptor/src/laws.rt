@@ -1,15 +1,32 @@
 //! Laws of giving sets back and of cleaning up, over the books of an allocator and the ledger of a
-//! device. The functions do nothing: their contracts are the laws.
+//! device, and of the types, which their derives keep. The functions do nothing: their contracts are
+//! the laws.
 
-ghost use Rattle.gpu_descriptor.specs.Release.{ReleaseParts, ReleaseGone, ReleaseOrder, ReleaseEach, ReleaseNone, ReleaseAgrees, ReleaseTakes};
-ghost use Rattle.gpu_descriptor.specs.Cleanup.{CleanAgain, CleanAll, CleanOnce, CleanAgrees, CleanTakesNone};
-ghost use Rattle.gpu_descriptor.specs.Agreement.{EmptyAgrees};
-ghost use Rattle.gpu_descriptor.specs.Books.{SumByBooks};
+ghost use Rattle.std.specs.Prelude.{◌≡◌, ◌↔◌, ℕ, IsTrue};
+ghost use Rattle.gpu_descriptor_types.specs.Ledger.{Ledger};
+ghost use Rattle.gpu_descriptor.specs.Release.{ReleaseParts, ReleaseGone, ReleaseOrder, ReleaseEach, ReleaseSingly, ReleaseNone, ReleaseAgrees, ReleaseTakes};
+ghost use Rattle.gpu_descriptor.specs.OtherKeys.{ReleaseOthers};
+ghost use Rattle.gpu_descriptor.specs.Cleanup.{CleanAgain, CleanAgainNone, CleanAll, CleanAllGone, CleanOnce, CleanAgrees, CleanTakesNone};
+ghost use Rattle.gpu_descriptor.specs.Agreement.{EmptyAgrees, OwnAgrees, OwnOutstanding};
+ghost use Rattle.gpu_descriptor.specs.Books.{HasDistinctKeys, SumByBooks};
+ghost use Rattle.gpu_descriptor.specs.Load.{IsMarkedLoad, IsOut, OutIsLength, OutIsSize};
+ghost use Rattle.gpu_descriptor.specs.States.{marked_load_of, outstanding_of, state_of, table_of};
+ghost use Rattle.gpu_descriptor.specs.Values.{Allocations};
+ghost use Rattle.gpu_descriptor.specs.LayoutFlags.{layout_bits};
+ghost use Rattle.gpu_descriptor.specs.declared.errors.AllocationError.{AllocationError as Error};
+ghost use Rattle.gpu_descriptor.specs.declared.flags.DescriptorSetLayoutCreateFlags.{DescriptorSetLayoutCreateFlags as LayoutFlags};
+ghost use Rattle.gpu_descriptor.specs.declared.view.PoolView.{PoolView as View};
+
+use crate::errors::AllocationError;
+use crate::flags::DescriptorSetLayoutCreateFlags;
+use crate::view::PoolView;
+use std::hash::Hash;
 
 /// Sets that go back in parts, and in any order, leave what they leave at once.
 pub fn release_parts()
     ensures parts { ReleaseParts }
     ensures cut_anywhere { ReleaseEach }
+    ensures one_by_one { ReleaseSingly }
     ensures order { ReleaseOrder }
     ensures none { ReleaseNone }
 
@@ -18,12 +35,18 @@ pub fn release_parts()
 
     ensures agrees { ReleaseAgrees }
     ensures outstanding { ReleaseTakes }
+
+    // Keys of which no set goes back keep their pools as they are.
+    ensures other_keys { ReleaseOthers }
 {}
 
-/// Cleaning up what was cleaned up changes nothing, and with nothing outstanding it leaves no pool.
+/// Cleaning up what was cleaned up changes nothing and destroys no pool. With nothing outstanding
+/// no pool is left, in the books and in the ledger.
 pub fn clean_again()
     ensures again { CleanAgain }
+    ensures again_none { CleanAgainNone }
     ensures all { CleanAll }
+    ensures all_gone { CleanAllGone }
     ensures one_result { CleanOnce }
 
     ensures agrees { CleanAgrees }
@@ -35,4 +58,53 @@ pub fn clean_again()
 pub fn books_alone()
     ensures empty { EmptyAgrees }
     ensures sums { SumByBooks }
+{}
+
+/// Where no key has two rows, the sets and the marked descriptors that an allocator's rows add up to
+/// are those of its books.
+pub fn rows_add_up<P>()
+    ensures out { (name : P → ℕ) (a : Allocations P) (l : Ledger) → HasDistinctKeys (table_of name a)
+        → IsOut (state_of name a l) (outstanding_of a) }
+    ensures load { (name : P → ℕ) (a : Allocations P) (l : Ledger) → HasDistinctKeys (table_of name a)
+        → IsMarkedLoad (state_of name a l) (marked_load_of a) }
+{}
+
+/// Where books and ledger agree, as many sets are out as are outstanding: a list has each set as
+/// often as it is outstanding, and each such list has as many sets as are out.
+pub fn out_is_outstanding()
+    ensures size { OutIsSize }
+    ensures any_list { OutIsLength }
+{}
+
+/// Pools of the device that are none of the allocator's may come, go and change between its calls:
+/// books and ledger agree as before, and the same sets are outstanding.
+pub fn others_are_free()
+    ensures agrees { OwnAgrees }
+    ensures outstanding { OwnOutstanding }
+{}
+
+/// Flags of a layout are equal exactly where their bits are, and equal flags hash alike. A clone
+/// always succeeds, and is equal.
+pub fn flags_are_their_bits()
+    ensures equal { (a b : LayoutFlags) → IsTrue (⟦<DescriptorSetLayoutCreateFlags as PartialEq>⟧.eq a b) ↔ (layout_bits a ≡ layout_bits b) }
+    ensures clone { (a b : LayoutFlags) → ⟦<DescriptorSetLayoutCreateFlags as Clone>⟧.is_clone a b → b ≡ a }
+    ensures clone_succeeds { (a : LayoutFlags) → ⟦<DescriptorSetLayoutCreateFlags as Clone>⟧.is_infallible a }
+    ensures hash { (a b : LayoutFlags) → layout_bits a ≡ layout_bits b → ⟦<DescriptorSetLayoutCreateFlags as Hash>⟧.hash_input a ≡ ⟦<DescriptorSetLayoutCreateFlags as Hash>⟧.hash_input b }
+{}
+
+/// Errors of a request are equal exactly where they are the same case. A clone always succeeds, and
+/// is equal.
+pub fn errors_are_their_cases()
+    ensures equal { (a b : Error) → IsTrue (⟦<AllocationError as PartialEq>⟧.eq a b) ↔ (a ≡ b) }
+    ensures clone { (a b : Error) → ⟦<AllocationError as Clone>⟧.is_clone a b → b ≡ a }
+    ensures clone_succeeds { (a : Error) → ⟦<AllocationError as Clone>⟧.is_infallible a }
+{}
+
+/// Views of pools are equal exactly where their three numbers are. A clone always succeeds, and is
+/// equal.
+pub fn views_are_their_numbers()
+    ensures equal { (a b : View) → IsTrue (⟦<PoolView as PartialEq>⟧.eq a b)
+        ↔ ((a.number ≡ b.number) × (a.allocated ≡ b.allocated) × (a.available ≡ b.available)) }
+    ensures clone { (a b : View) → ⟦<PoolView as Clone>⟧.is_clone a b → b ≡ a }
+    ensures clone_succeeds { (a : View) → ⟦<PoolView as Clone>⟧.is_infallible a }
 {}

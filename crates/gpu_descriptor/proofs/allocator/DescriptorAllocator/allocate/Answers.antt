@@ -1,4 +1,4 @@
-use Rattle.std.proofs.Common.{◌+◌, ap, ◌≡◌, arith, List, Ok, Err, sym, ◌∙◌, subst}
+use Rattle.std.proofs.Common.{◌+◌, rules, ap, ◌≡◌, arith, List, Ok, Err, sym, ◌∙◌, subst}
 use Rattle.std.proofs.IntoIterSteps.{All-taken}
 use Rattle.std.specs.Vec.Iter.{into_iter_items}
 use Rattle.gpu_descriptor_types.proofs.Drained.{taken_front}
@@ -15,9 +15,13 @@ use Rattle.gpu_descriptor.specs.Requests.{call_of}
 use Rattle.gpu_descriptor.specs.Runs.{runs}
 use Rattle.gpu_descriptor.specs.Sets.{key_of, items_of}
 use Rattle.gpu_descriptor.specs.States.{state_of, marked_load_of}
-use Rattle.gpu_descriptor.specs.Promises.{KeepsOtherKeys}
-use Rattle.gpu_descriptor.proofs.Allocating.{taken_agree, taken_given, taken_out, taken_others, taken_leaves, went_back, back_out, back_leaves, back_others, back_totals, kept, kept_many, kept_totals}
+use Rattle.gpu_descriptor.specs.OtherKeys.{KeepsOtherKeys}
+use Rattle.gpu_descriptor.specs.Promises.{AreOfKey}
+use Rattle.gpu_descriptor.specs.Values.{Allocations}
+use Rattle.gpu_descriptor.proofs.Allocating.{taken_agree, taken_given, taken_out, taken_own, taken_others, taken_leaves, went_back, back_out, back_leaves, back_others, back_totals, kept, kept_many, kept_totals}
+use Rattle.gpu_descriptor.proofs.Foreign.{foreign_same}
 use Rattle.gpu_descriptor.proofs.Promises.{has_cause, short}
+use Rattle.gpu_descriptor.proofs.Requested.{keys_apart, load_of_rows}
 use Rattle.gpu_descriptor.proofs.Rollback.{front_out}
 use Rattle.gpu_descriptor.proofs.allocator.DescriptorAllocator.allocate.Goals as goal
 
@@ -28,6 +32,9 @@ returns-in-Err-clause-outcome g c =
 
 pub returns-in-Err-clause-agree : goal.returns-in-Err-clause-agree
 returns-in-Err-clause-agree g c = subst Agree (λ i. state_of g.D.DescriptorDevice.pool_name (sym c.in-Err.ensures.allocator i) (sym c.in-Err.ensures.ledger i)) c.requires.agree
+
+pub returns-in-Err-clause-foreign : goal.returns-in-Err-clause-foreign
+returns-in-Err-clause-foreign g c = foreign_same _ _ (λ i. state_of g.D.DescriptorDevice.pool_name (c.in-Err.ensures.allocator i) (c.in-Err.ensures.ledger i))
 
 pub free_from-requires-clause-agree : goal.free_from-requires-clause-agree
 free_from-requires-clause-agree g c =
@@ -76,6 +83,12 @@ returns-in-Ok-taken-clause-many g c =
 pub returns-in-Ok-taken-clause-given : goal.returns-in-Ok-taken-clause-given
 returns-in-Ok-taken-clause-given g c =
     taken_out g.D.DescriptorDevice.pool_name g.D.DescriptorDevice.set_name _ _ _ _ _ _ _ _ c.in-Ok.ensures.taken c.requires.agree
+
+pub returns-in-Ok-taken-clause-own : goal.returns-in-Ok-taken-clause-own
+returns-in-Ok-taken-clause-own g c =
+    let same : key_of (record { size = c.args.layout_descriptor_count.now; update_after_bind = c.contains.result }) ≡ layout_key g.D.DescriptorDevice.layout_counts g.D.DescriptorDevice.layout_mark c.args.layout.now = λ i. record { counts = c.requires.counts i; marked = (c.contains.ensures tt ∙ c.requires.mark) i } in
+    subst (λ (k : Key). AreOfKey k (items_of g.D.DescriptorDevice.set_name c.in-Ok.given.0.items)) same
+    (taken_own g.D.DescriptorDevice.pool_name g.D.DescriptorDevice.set_name _ _ _ _ _ _ _ _ c.in-Ok.ensures.taken c.requires.agree)
 
 pub returns-in-Ok-taken-clause-creates : goal.returns-in-Ok-taken-clause-creates
 returns-in-Ok-taken-clause-creates g c = short _ (returns-in-Ok-taken-clause-outcome g c)
@@ -148,3 +161,15 @@ returns-in-Ok-taken-clause-totals g c =
     let same : key_of (record { size = c.args.layout_descriptor_count.now; update_after_bind = c.contains.result }) ≡ layout_key g.D.DescriptorDevice.layout_counts g.D.DescriptorDevice.layout_mark c.args.layout.now = λ i. record { counts = c.requires.counts i; marked = (c.contains.ensures tt ∙ c.requires.mark) i } in
     let both = kept_totals g.D.DescriptorDevice.pool_name g.D.DescriptorDevice.set_name _ _ _ _ _ _ _ _ c.in-Ok.ensures.taken c.requires.agree c.in-Ok-taken.field-0 c.in-Ok-taken.is in
     (both.0, both.1 ∙ ap (λ (k : Key). marked_load_of c.args.self.now + marked_load k c.args.count) same)
+
+pub returns-then-count-eq0-clause-rows : goal.returns-then-count-eq0-clause-rows
+returns-then-count-eq0-clause-rows g c =
+    keys_apart c.args.self.now c.self.inside.buckets.entries (ap (λ (a : Allocations g.row.P.Denot). a.table) (sym c.self.view_is)) g.D.DescriptorDevice.pool_name _ (λ k l. search rules) c.len-keys.ensures.unique
+
+pub returns-then-count-eq0-clause-load : goal.returns-then-count-eq0-clause-load
+returns-then-count-eq0-clause-load g c =
+    let load = load_of_rows c.args.self.now c.self.inside.buckets.entries (ap (λ (a : Allocations g.row.P.Denot). a.table) (sym c.self.view_is)) in
+    let limit : c.self.inside.max_update_after_bind_descriptors_in_all_pools ≡ c.args.self.now.limit = ap (λ (a : Allocations g.row.P.Denot). a.limit) c.self.view_is in
+    let is = c.self.invariant.is_load in
+    let within = c.self.invariant.within in
+    omega arith

@@ -1,11 +1,14 @@
-use Rattle.std.proofs.Common.{◌≡◌, ◌≤◌, ◌+◌, suc, rules, sym, ap, subst, ◌∙◌, arith, length}
+use Rattle.std.proofs.Common.{◌≡◌, ◌≤◌, ◌+◌, suc, rules, refl, sym, ap, subst, ◌∙◌, arith, length, map}
 use Rattle.indexmap.proofs.CallerLemmas.{filter-RetainsPairs}
 use Rattle.indexmap.specs.Layout.{length-set_value_at}
 use Rattle.gpu_descriptor.specs.Buckets.{IsStored, has_pools}
 use Rattle.gpu_descriptor.specs.States.{outstanding_of, marked_load_of}
+use Rattle.gpu_descriptor.specs.Stored.{row_of}
 use Rattle.gpu_descriptor.specs.Values.{Allocations}
 use Rattle.gpu_descriptor.proofs.Cleaning.{clean_agrees}
+use Rattle.gpu_descriptor.proofs.Foreign.{cleaned_foreign}
 use Rattle.gpu_descriptor.proofs.Loads.{rows_out, rows_load}
+use Rattle.gpu_descriptor.proofs.Requested.{keys_apart}
 use Rattle.gpu_descriptor.proofs.RowsCleaned.{next, next_stored, step_rows, step_less, agree_is, ledger_less, cleared, whole_clean, whole_count, counted_put, counted_filter}
 use Rattle.gpu_descriptor.proofs.TableBooks.{rows_in, distinct_keys}
 use Rattle.gpu_descriptor.proofs.allocator.DescriptorAllocator.cleanup.Goals as goal
@@ -58,6 +61,7 @@ returns g c =
     let kept = filter-RetainsPairs _ (λ e. has_pools e.1) _ (λ k v b w f call. search rules) _ _ c.retain.ensures.filtered in
     let le : length es ≤ c.loop-place.place = omega arith in
     let counted = counted_filter _ _ _ _ _ kept h.counted in
+    let now : Allocations _ = record { limit = c.loop-place.self-inside.max_update_after_bind_descriptors_in_all_pools; table = map row_of c.retain.new.self.entries } in
     let clean = whole_clean name c.args.self.now (ledger c.args.device.now) (ledger c.loop-place.device) es c.loop-place.self-inside.buckets.entries _ c.loop-place.place c.loop-place.self-inside.max_update_after_bind_descriptors_in_all_pools was distinct le h.rows h.ledger kept in
     record {
       cleaned = clean;
@@ -66,6 +70,9 @@ returns g c =
         rows_out c.retain.new.self.entries ∙ sym counted.is_out ∙ h.out ∙ c.self.invariant.is_out ∙ sym (rows_out es) ∙ ap outstanding_of c.self.view_is,
         rows_load c.retain.new.self.entries ∙ sym counted.is_load ∙ h.marked ∙ c.self.invariant.is_load ∙ sym (rows_load es) ∙ ap marked_load_of c.self.view_is,
       );
+      rows = keys_apart now c.retain.new.self.entries refl name _ (λ k l. search rules) c.len-keys.ensures.unique;
+      load = (let load = rows_load c.retain.new.self.entries in let is = counted.is_load in let within = counted.within in omega arith);
       agree = clean_agrees _ _ c.requires clean;
+      foreign = cleaned_foreign _ _ clean;
       limit = h.limit ∙ ap (λ (a : Allocations _). a.limit) c.self.view_is;
     }

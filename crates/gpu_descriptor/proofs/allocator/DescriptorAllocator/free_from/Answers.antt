@@ -1,5 +1,7 @@
-use Rattle.std.proofs.Common.{◌∙◌, Some}
+use Rattle.std.proofs.Common.{rules, sym, ap, ◌∙◌, Some}
+use Rattle.gpu_descriptor.specs.Values.{Allocations}
 use Rattle.gpu_descriptor.proofs.Foreign.{freed_foreign}
+use Rattle.gpu_descriptor.proofs.Requested.{keys_apart}
 use Rattle.gpu_descriptor.proofs.Freed.{Freed, freed_none, call_out, freed_more, less}
 use Rattle.gpu_descriptor.proofs.allocator.DescriptorAllocator.free_from.Goals.{In-Some}
 use Rattle.gpu_descriptor.proofs.allocator.DescriptorAllocator.free_from.Goals as goal
@@ -35,3 +37,8 @@ pub returns-clause-foreign : goal.returns-clause-foreign
 returns-clause-foreign g c =
     let r = c.loop-ahead.invariant.freed in
     freed_foreign g.D.DescriptorDevice.pool_name g.D.DescriptorDevice.set_name r.sets _ c.args.self.now c.loop-ahead.self (g.D.DescriptorDevice.ledger c.args.device.now) (g.D.DescriptorDevice.ledger c.loop-ahead.device) r.back
+
+pub returns-clause-rows : goal.returns-clause-rows
+returns-clause-rows g c =
+    let was = ap (λ (a : Allocations _). a.table) (sym c.self.view_is) in
+    keys_apart c.loop-ahead.self c.self.inside.buckets.entries was g.D.DescriptorDevice.pool_name _ (λ k l. search rules) c.len-keys.ensures.unique

@@ -1,4 +1,5 @@
-use Rattle.std.proofs.Common.{rules, refl, sym, ap, ◌∙◌}
+use Rattle.std.proofs.Common.{ℕ, rules, refl, sym, ap, ◌∙◌}
+use Rattle.gpu_descriptor.specs.Books.{HasDistinctKeys}
 use Rattle.gpu_descriptor.specs.States.{outstanding_of, table_of}
 use Rattle.gpu_descriptor.specs.Values.{Allocations}
 use Rattle.gpu_descriptor.proofs.Loads.{rows_out}
@@ -10,12 +11,14 @@ pub returns : goal.returns
 returns g c =
     let total = c.self.invariant.is_out ∙ sym (rows_out c.self.inside.buckets.entries) ∙ ap outstanding_of c.self.view_is in
     let was = ap (λ (a : Allocations _). a.table) (sym c.self.view_is) in
+    let rows : (name : g.row.P.Denot → ℕ) → HasDistinctKeys (table_of name c.args.self.now) = λ name. keys_apart c.args.self.now c.self.inside.buckets.entries was name _ (λ k l. search rules) c.len-keys.ensures.unique in
     record {
       total = total;
       books = λ name. record {
         table = table_of name c.args.self.now;
-        distinct = keys_apart c.args.self.now c.self.inside.buckets.entries was name _ (λ k l. search rules) c.len-keys.ensures.unique;
+        distinct = rows name;
         keeps = λ k. refl;
         total = sym (outstanding_of-table name c.args.self.now) ∙ sym total;
       };
+      rows = rows;
     }

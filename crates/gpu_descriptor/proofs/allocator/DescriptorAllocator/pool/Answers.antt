@@ -2,23 +2,29 @@ use Rattle.std.proofs.Common.{◌<◌, ◌≤◌, arith, rules, ap, sym, ◌∙�
 use Rattle.std.proofs.lemmas.Bool.{cases_lt}
 use Rattle.std.specs.Option.{option_copied}
 use Rattle.gpu_descriptor.specs.Values.{Allocations}
+use Rattle.gpu_descriptor.specs.Books.{Key}
 use Rattle.gpu_descriptor.specs.Sets.{key_of}
 use Rattle.gpu_descriptor.proofs.Readings.{view_none, view_past, view_here}
+use Rattle.gpu_descriptor.proofs.TableSums.{view_of-table}
 use Rattle.gpu_descriptor.proofs.allocator.DescriptorAllocator.pool.Goals as goal
 
 pub returns-in_err-bucket : goal.returns-in_err-bucket
 returns-in_err-bucket g c =
-    c.from_residual.ensures ∙ sym (view_none _ (key_of (record { size = c.args.size.now; update_after_bind = c.args.update_after_bind })) (λ l. search rules) c.args.self.now c.self.inside.buckets.entries (ap (λ (a : Allocations _). a.table) c.self.view_is) c.args.index (sym c.get.ensures.value ∙ ap option_copied c.in_err-bucket.was))
+    let k : Key = key_of (record { size = c.args.size.now; update_after_bind = c.args.update_after_bind }) in
+    let view = c.from_residual.ensures ∙ sym (view_none _ k (λ l. search rules) c.args.self.now c.self.inside.buckets.entries (ap (λ (a : Allocations _). a.table) c.self.view_is) c.args.index (sym c.get.ensures.value ∙ ap option_copied c.in_err-bucket.was)) in
+    record { view = view; books = λ name. view ∙ view_of-table name c.args.self.now k c.args.index }
 
 pub returns-in_err-pool : goal.returns-in_err-pool
 returns-in_err-pool g c =
+    let k : Key = key_of (record { size = c.args.size.now; update_after_bind = c.args.update_after_bind }) in
     let q = c.in_ok-bucket.bucket.now.pools in
     let long = q.ok.0 in
     let short : length q.items ≤ c.args.index = elim (cases_lt c.args.index q.len) [
       | inl lt ↦ absurd (let bad : false ≡ true = c.in_err-pool.ensures.variant.1 lt in cc)
       | inr le ↦ omega arith
     ] in
-    c.from_residual-in_err-pool.ensures ∙ sym (view_past _ (key_of (record { size = c.args.size.now; update_after_bind = c.args.update_after_bind })) (λ l. search rules) c.args.self.now c.self.inside.buckets.entries (ap (λ (a : Allocations _). a.table) c.self.view_is) c.args.index c.in_ok-bucket.bucket.now (sym c.get.ensures.value ∙ ap option_copied c.in_ok-bucket.was) short)
+    let view = c.from_residual-in_err-pool.ensures ∙ sym (view_past _ k (λ l. search rules) c.args.self.now c.self.inside.buckets.entries (ap (λ (a : Allocations _). a.table) c.self.view_is) c.args.index c.in_ok-bucket.bucket.now (sym c.get.ensures.value ∙ ap option_copied c.in_ok-bucket.was) short) in
+    record { view = view; books = λ name. view ∙ view_of-table name c.args.self.now k c.args.index }
 
 pub overflow_add-result : goal.overflow_add-result
 overflow_add-result g c =
@@ -28,5 +34,7 @@ overflow_add-result g c =
 
 pub returns : goal.returns
 returns g c =
+    let k : Key = key_of (record { size = c.args.size.now; update_after_bind = c.args.update_after_bind }) in
     let lt : c.args.index < length c.in_ok-bucket.bucket.now.pools.items = (let lt = c.in_ok-pool.ensures.variant.0 refl in omega (arith, c.in_ok-bucket.bucket.now.pools.ok.0)) in
-    sym (view_here _ (key_of (record { size = c.args.size.now; update_after_bind = c.args.update_after_bind })) (λ l. search rules) c.args.self.now c.self.inside.buckets.entries (ap (λ (a : Allocations _). a.table) c.self.view_is) c.args.index c.in_ok-bucket.bucket.now (sym c.get.ensures.value ∙ ap option_copied c.in_ok-bucket.was) c.in_ok-pool.pool.now lt c.in_ok-pool.ensures.lookup)
+    let view = sym (view_here _ k (λ l. search rules) c.args.self.now c.self.inside.buckets.entries (ap (λ (a : Allocations _). a.table) c.self.view_is) c.args.index c.in_ok-bucket.bucket.now (sym c.get.ensures.value ∙ ap option_copied c.in_ok-bucket.was) c.in_ok-pool.pool.now lt c.in_ok-pool.ensures.lookup) in
+    record { view = view; books = λ name. view ∙ view_of-table name c.args.self.now k c.args.index }

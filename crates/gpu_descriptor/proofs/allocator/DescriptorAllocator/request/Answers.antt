@@ -161,3 +161,21 @@ returns-clause-taken g c =
     let new : Allocations g.row.P.Denot = record { limit = c.self.inside.max_update_after_bind_descriptors_in_all_pools; table = map row_of c.serve_key-served.new.buckets.entries } in
     subst (λ (a : Allocations g.row.P.Denot). (c.args.key.update_after_bind ≡ true → c.args.count * sum (kinds c.args.key.size) + marked_load_of a ≤ a.limit) → outstanding_of a + c.args.count ≤ 18446744073709551615 → Takes name set_name (key_of c.args.key) c.args.count c.in-Ok.served.0.items c.in-Ok.served.1 a new l m) c.self.view_is
     (λ w f. takes name set_name c.self.inside.max_update_after_bind_descriptors_in_all_pools c.self.inside.buckets.entries c.serve_key-served.new.buckets.entries c.args.key c.args.count c.in-Ok.served.0.items c.in-Ok.served.1 l m (keys_apart old c.self.inside.buckets.entries refl name _ (λ k l. search rules) c.len-keys_before.ensures.unique) (keys_apart new c.serve_key-served.new.buckets.entries refl name _ (λ k l. search rules) c.len-keys_after.ensures.unique) c.in-Ok.ensures.served w f) within (omega arith)
+
+pub returns-then-is_above_limit-clause-rows : goal.returns-then-is_above_limit-clause-rows
+returns-then-is_above_limit-clause-rows g c =
+    keys_apart c.args.self.now c.self.inside.buckets.entries (ap (λ (a : Allocations g.row.P.Denot). a.table) (sym c.self.view_is)) g.D.DescriptorDevice.pool_name _ (λ k l. search rules) c.len-keys_before.ensures.unique
+
+pub returns-then-is_past_bound-clause-rows : goal.returns-then-is_past_bound-clause-rows
+returns-then-is_past_bound-clause-rows g c =
+    keys_apart c.args.self.now c.self.inside.buckets.entries (ap (λ (a : Allocations g.row.P.Denot). a.table) (sym c.self.view_is)) g.D.DescriptorDevice.pool_name _ (λ k l. search rules) c.len-keys_before.ensures.unique
+
+pub returns-in-Err-clause-rows : goal.returns-in-Err-clause-rows
+returns-in-Err-clause-rows g c =
+    let new : Allocations g.row.P.Denot = record { limit = c.self.inside.max_update_after_bind_descriptors_in_all_pools; table = map row_of c.serve_key-served.new.buckets.entries } in
+    keys_apart new c.self.inside.buckets.entries (ap (map row_of) c.in-Err.ensures.entries) g.D.DescriptorDevice.pool_name _ (λ k l. search rules) c.len-keys_before.ensures.unique
+
+pub returns-clause-rows : goal.returns-clause-rows
+returns-clause-rows g c =
+    let new : Allocations g.row.P.Denot = record { limit = c.self.inside.max_update_after_bind_descriptors_in_all_pools; table = map row_of c.serve_key-served.new.buckets.entries } in
+    keys_apart new c.serve_key-served.new.buckets.entries refl g.D.DescriptorDevice.pool_name _ (λ k l. search rules) c.len-keys_after.ensures.unique

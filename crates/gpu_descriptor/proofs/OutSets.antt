@@ -1,0 +1,157 @@
+-- As many sets are out as are outstanding.
+use Rattle.std.proofs.Common.{◌≡◌, ℕ, suc, ◌+◌, ◌-◌, ◌<◌, ◌≤◌, true, false, List, [], ◌∷◌, ◌++◌, length, map, count_by, slice_get, Option, Some, None, inl, inr, refl, sym, ap, ◌∙◌, arith, length-append}
+use Rattle.std.specs.List.{list_any}
+use Rattle.std.specs.Option.{option_map_or}
+use Rattle.std.proofs.lemmas.Bool.{cases_Bool, cases_eq, cases_lt}
+use Rattle.std.proofs.lemmas.List.{length-map}
+use Rattle.std.proofs.lemmas.List.Sums.{sum_by-cons}
+use Rattle.gpu_descriptor_types.specs.Ledger.{Pool, live_sets}
+use Rattle.gpu_descriptor_types.specs.Multiset.{LiveSet, set_eq, times}
+use Rattle.gpu_descriptor_types.proofs.Counting.{count_by_yes, count_by_no, counts_alike, set_exact}
+use Rattle.gpu_descriptor.specs.Agreement.{Item, set_of, count_of}
+use Rattle.gpu_descriptor.specs.Books.{Key, key_eq, Entry, Bucket, no_pools, books_of, HasDistinctKeys, sum_over}
+use Rattle.gpu_descriptor.specs.Grants.{items_at}
+use Rattle.gpu_descriptor.specs.Load.{held, sets_out, OutIsLength, OutIsSize}
+use Rattle.gpu_descriptor.specs.Walk.{IsBookedIn, live_at}
+use Rattle.gpu_descriptor.proofs.Exact.{item_exact, key_exact}
+use Rattle.gpu_descriptor.proofs.KeepKey.{place_of_items, count_of_items, count_elsewhere}
+use Rattle.gpu_descriptor.proofs.KeepState.{booked_of}
+use Rattle.gpu_descriptor.proofs.KeepSteps.{live_of, live_below, live_from, count_append}
+use Rattle.gpu_descriptor.proofs.Tables.{absent}
+
+names_in : List LiveSet → List ℕ
+names_in sets = map (λ (x : LiveSet). x.name) sets
+
+-- sets that all have these counts are known by their names
+by_name : (counts : List ℕ) (sets : List LiveSet) → ((x : LiveSet) → 0 < times sets x → x.counts ≡ counts) → live_sets counts (names_in sets) ≡ sets
+unfolding names_in
+by_name counts [] all = refl
+by_name counts (x ∷ sets) all =
+    let own : times (x ∷ sets) x ≡ suc (times sets x) = count_by_yes (λ y. set_eq y x) x sets (set_exact.self x) in
+    let here : counts ≡ x.counts = sym (all x (omega arith)) in
+    let rest = by_name counts sets (λ y some. all y (let m = more y in omega arith)) in
+    λ i. record { name = x.name; counts = here i } ∷ rest i
+  where
+    more : (y : LiveSet) → times sets y ≤ times (x ∷ sets) y
+    more y = elim (cases_Bool (set_eq x y)) [
+      | inl h ↦ (let e : times (x ∷ sets) y ≡ suc (times sets y) = count_by_yes (λ z. set_eq z y) x sets h in omega arith)
+      | inr h ↦ (let e : times (x ∷ sets) y ≡ times sets y = count_by_no (λ z. set_eq z y) x sets h in omega arith)
+    ]
+
+-- the sets that are out of a key's pools
+record OutOf (k : Key) (b : Bucket) (ledger : ℕ → Option Pool) : Type 0 where
+  items : List Item
+  many : length items ≡ held b.pools
+  of_key : (t : Item) → 0 < count_of t items → t.key ≡ k
+  each : (t : Item) → t.key ≡ k → count_of t items ≡ live_at ledger b t
+
+abbrev bucket : ℕ → List Entry → Bucket
+bucket first es = record { first = first; pools = es }
+
+none_out : (ledger : ℕ → Option Pool) (first : ℕ) (t : Item) → live_at ledger (bucket first []) t ≡ 0
+none_out ledger first t = elim (cases_lt t.number first) [
+  | inl below ↦ live_below ledger first [] t below
+  | inr above ↦ live_from ledger first [] t above
+]
+
+key_out : (k : Key) (first : ℕ) (es : List Entry) (ledger : ℕ → Option Pool) → ((i : ℕ) (e : Entry) → slice_get es i ≡ Some e → IsBookedIn k ledger e) → OutOf k (bucket first es) ledger
+unfolding names_in
+key_out k first [] ledger booked = record { items = []; many = refl; of_key = λ t some. absurd (omega arith); each = λ t key. sym (none_out ledger first t) }
+key_out k first (e ∷ es) ledger booked =
+    let own = booked 0 e refl in
+    let size = own.booked.allocated in
+    let names = names_in size.0 in
+    let same = by_name k.counts size.0 (λ x some. own.booked.sets x (let is = size.2 x in omega arith)) in
+    let rest = key_out k (first + 1) es ledger (λ i. booked (suc i)) in
+    record {
+      items = items_at k first names ++ rest.items;
+      many = (
+          let both = length-append (items_at k first names) rest.items in
+          let named : length (items_at k first names) ≡ length names = length-map names (λ n. let t : Item = record { key = k; number = first; name = n } in t) in
+          let all : length names ≡ length size.0 = length-map size.0 (λ (x : LiveSet). x.name) in
+          let long = size.1 in
+          let later = rest.many in
+          let whole = sum_by-cons (λ (d : Entry). d.allocated) e es in
+          omega arith);
+      of_key = λ t some. elim (cases_lt 0 (count_of t (items_at k first names))) [
+        | inl here ↦ (place_of_items k first names t here).0
+        | inr none ↦ (let sum = count_append t (items_at k first names) rest.items in rest.of_key t (omega arith))
+      ];
+      each = λ t key.
+          let sum = count_append t (items_at k first names) rest.items in
+          let later = rest.each t key in
+          elim (cases_lt t.number first) [
+            | inl below ↦ (
+                let none = count_elsewhere k first names t (λ bad. omega arith) in
+                let left = live_below ledger (first + 1) es t (omega arith) in
+                let right = live_below ledger first (e ∷ es) t below in
+                omega arith)
+            | inr above ↦ (elim (cases_eq t.number first) [
+              | inl here ↦ (
+                  let counted = count_of_items k first names t key here in
+                  let spelled : times (live_sets k.counts names) (set_of t) ≡ own.pool.live (set_of t) = ap (λ (l : List LiveSet). times l (set_of t)) same ∙ size.2 (set_of t) in
+                  let place : t.number - first ≡ 0 = omega arith in
+                  let left = live_below ledger (first + 1) es t (omega arith) in
+                  let right : live_at ledger (bucket first (e ∷ es)) t ≡ own.pool.live (set_of t) = live_from ledger first (e ∷ es) t above ∙ ap (λ (n : ℕ). live_of ledger (slice_get (e ∷ es) n) (set_of t)) place ∙ ap (λ (o : Option Pool). option_map_or (λ (p : Pool). p.live (set_of t)) o 0) own.is_live in
+                  omega arith)
+              | inr there ↦ (
+                  let none = count_elsewhere k first names t there in
+                  let place : t.number - first ≡ suc (t.number - (first + 1)) = omega arith in
+                  let left = live_from ledger (first + 1) es t (omega arith) in
+                  let right : live_at ledger (bucket first (e ∷ es)) t ≡ live_of ledger (slice_get es (t.number - (first + 1))) (set_of t) = live_from ledger first (e ∷ es) t above ∙ ap (λ (n : ℕ). live_of ledger (slice_get (e ∷ es) n) (set_of t)) place in
+                  omega arith)
+            ])
+          ];
+    }
+
+-- the sets that are out of all keys of a table
+table_out : (ledger : ℕ → Option Pool) (table : List (Key × Bucket)) → HasDistinctKeys table → ((k : Key) (i : ℕ) (e : Entry) → slice_get (books_of table k).pools i ≡ Some e → IsBookedIn k ledger e) → (items : List Item) × (length items ≡ sum_over sets_out table) × ((t : Item) → count_of t items ≡ live_at ledger (books_of table t.key) t)
+table_out ledger [] distinct booked = ([], refl, λ t. sym (none_out ledger 0 t))
+table_out ledger (row ∷ table) distinct booked =
+    let here = key_out row.0 row.1.first row.1.pools ledger (λ i e at. booked row.0 i e (ap (λ (b : Bucket). slice_get b.pools i) own ∙ at)) in
+    let rest = table_out ledger table distinct.1 (λ k i e at. booked k i e (behind k i e at)) in (
+      here.items ++ rest.0,
+      (let both = length-append here.items rest.0 in let first = here.many in let later = rest.1 in let whole = sum_by-cons (λ (r : Key × Bucket). sets_out r.0 r.1) row table in omega arith),
+      λ t.
+          let sum = count_append t here.items rest.0 in
+          let later = rest.2 t in
+          elim (cases_Bool (key_eq row.0 t.key)) [
+            | inl at ↦ (
+                let first = here.each t (sym (key_exact.same row.0 t.key at)) in
+                let none : live_at ledger (books_of table t.key) t ≡ 0 = ap (λ (b : Bucket). live_at ledger b t) (gone t.key at) ∙ none_out ledger 0 t in
+                let is : live_at ledger (books_of (row ∷ table) t.key) t ≡ live_at ledger row.1 t = rw at refl in
+                omega arith)
+            | inr other ↦ (
+                let is : live_at ledger (books_of (row ∷ table) t.key) t ≡ live_at ledger (books_of table t.key) t = rw other refl in
+                elim (cases_lt 0 (count_of t here.items)) [
+                  | inl some ↦ absurd (let bad : true ≡ false = sym (key_exact.self row.0) ∙ ap (key_eq row.0) (sym (here.of_key t some)) ∙ other in cc)
+                  | inr none ↦ omega arith
+                ])
+          ],
+    )
+  where
+    own : books_of (row ∷ table) row.0 ≡ row.1
+    own = rw (key_exact.self row.0) refl
+
+    gone : (k : Key) → key_eq row.0 k ≡ true → books_of table k ≡ no_pools
+    gone k at = absent k table (ap (λ (l : Key). list_any (λ other. key_eq other.0 l) table) (sym (key_exact.same row.0 k at)) ∙ distinct.0)
+
+    behind : (k : Key) (i : ℕ) (e : Entry) → slice_get (books_of table k).pools i ≡ Some e → slice_get (books_of (row ∷ table) k).pools i ≡ Some e
+    behind k i e at = elim (cases_Bool (key_eq row.0 k)) [
+      | inl same ↦ absurd (let bad : ◌≡◌ {A = Option Entry} None (Some e) = ap (λ (b : Bucket). slice_get b.pools i) (sym (gone k same)) ∙ at in cc)
+      | inr other ↦ rw other at
+    ]
+
+pub out_is_size : OutIsSize
+out_is_size s n agree out =
+    let all = table_out s.ledger out.table out.distinct (λ k i e at. (booked_of s k agree).each i e (ap (λ (b : Bucket). slice_get b.pools i) (sym (out.keeps k)) ∙ at)) in
+    (all.0, all.1 ∙ out.total, λ t. all.2 t ∙ ap (λ (b : Bucket). live_at s.ledger b t) (out.keeps t.key))
+
+every : (items : List Item) → count_by (λ t. true) items ≡ length items
+every [] = refl
+every (t ∷ items) = count_by_yes (λ u. true) t items refl ∙ ap suc (every items)
+
+pub out_is_length : OutIsLength
+out_is_length s n agree out items alike =
+    let all = out_is_size s n agree out in
+    sym (every items) ∙ counts_alike item_exact items all.0 (λ t. alike t ∙ sym (all.2 t)) (λ u. true) ∙ every all.0 ∙ all.1
