@@ -1,6 +1,12 @@
 mod Calls
+mod Cleared
+mod Emptied
 mod Entries
 mod Filling
-pub mod Holding
+mod Given
+mod Held
+mod Promised
+mod Running
 mod Trips
 mod Written
+pub mod Holding

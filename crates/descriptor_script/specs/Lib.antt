@@ -1,9 +1,17 @@
 pub mod Counters
 pub mod Device
 pub mod Finite
+pub mod Headline
 pub mod Live
 pub mod Pools
 pub mod Raw
+pub mod Ready
 pub mod Script
+pub mod Session
+pub mod SessionRun
+pub mod Slots
+pub mod Steps
 pub mod Table
+pub mod Taking
+pub mod Tickets
 pub mod Words

@@ -147,20 +147,6 @@ impl Desk {
         gpu_descriptor::laws::clean_again();
         self.allocator.cleanup(&mut self.device);
     }
-
-    /// From which pools of the device the held sets from this place on came, and how many one after
-    /// another.
-    pub fn origins(&self, alloc: Global, from: usize) -> Result<Vec<(u64, u32)>, AllocError> {
-        let mut origins: Vec<(u64, u32)> = Vec::new(alloc);
-        for set in self.held.iter().skip(from) {
-            let pool = set.raw().pool();
-            match origins.last_mut() {
-                Some(last) if last.0 == pool => last.1 = last.1.saturating_add(1),
-                _ => origins.push((pool, 1))?,
-            }
-        }
-        Ok(origins)
-    }
 }
 
 /// Compares the pools of a layout: the number, the allocated and the available of each.
@@ -183,6 +169,19 @@ pub fn expect_pools(
     }
     let past = allocator.pool(&layout.counts, layout.mark, pools.len());
     assert_eq!(rt; past, None);
+}
+
+/// Compares from which pools of the device the held sets from this place on came: how many from
+/// each, one after another.
+pub fn expect_origins(rt: &impl Abort, desk: &Desk, from: usize, origins: &[(u64, u32)]) {
+    let mut sets = desk.held.iter().skip(from);
+    for (pool, count) in origins {
+        for _ in 0..*count {
+            let seen = sets.next().map(|set| set.raw().pool());
+            assert_eq!(rt; seen, Some(*pool), "of {origins:?}");
+        }
+    }
+    assert!(rt; sets.next().is_none(), "after {origins:?}");
 }
 
 /// Compares how many pools were created and destroyed, and how many calls asked for sets and

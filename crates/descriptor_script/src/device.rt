@@ -8,6 +8,8 @@ ghost use Rattle.gpu_descriptor_types.specs.Ledger.{AreLive, HasNoSets, HasRoom,
 ghost use Rattle.descriptor_script.specs.Raw.{pool_id, raw_sets, set_id};
 ghost use Rattle.descriptor_script.specs.Script.{alloc_error, create_error, next_word, rest_words};
 
+mod wrapped;
+
 use crate::answer::Answer;
 use crate::counters::Counters;
 use crate::pools::Pools;

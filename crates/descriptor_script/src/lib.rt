@@ -1,12 +1,16 @@
-//! A device that answers by a script, for tests and for programs without a graphics card.
+//! A device that answers by a script, for tests and for programs without a graphics card, and
+//! sessions that run commands on any device.
 #![tactic(auto)]
 
 mod answer;
+mod command;
 mod counters;
 #[cfg(test)]
 mod desk;
 mod device;
+pub mod headline;
 mod live;
+mod marks;
 mod pools;
 mod raw;
 #[cfg(test)]
@@ -16,13 +20,16 @@ mod requests;
 #[cfg(test)]
 mod returns;
 mod script;
+mod session;
+mod slots;
+mod taking;
 #[cfg(test)]
 mod tests;
-#[cfg(test)]
-mod texts;
 #[cfg(test)]
 mod trip;
 
 pub use answer::Answer;
+pub use command::{Command, Reply};
 pub use device::ScriptedDevice;
 pub use raw::{RawPool, RawSet, ScriptLayout};
+pub use session::Session;

@@ -1,11 +1,12 @@
 //! The live pools of a device, by name.
-ghost use Rattle.std.specs.Prelude.{◌≡◌, ℕ, ◌+◌, ◌-◌, ◌<◌, ◌≤◌, ◌^◌, map, Some, None, IsSome, IfOk, OnOk, OnErr, nat_eq};
+ghost use Rattle.std.specs.Prelude.{◌≡◌, ℕ, ◌+◌, ◌-◌, ◌<◌, ◌≤◌, ◌^◌, map, Some, None, IsSome, IfOk, IfSome, OnOk, OnErr, nat_eq};
 ghost use Rattle.std.specs.Iterator.{IsFinite, HoldsAlong};
 ghost use Rattle.std.specs.Map.{update};
 ghost use Rattle.gpu_descriptor_types.specs.Counts.{kinds};
 ghost use Rattle.gpu_descriptor_types.specs.Flags.{bits};
 ghost use Rattle.gpu_descriptor_types.specs.Layouts.{layout, left};
 ghost use Rattle.gpu_descriptor_types.specs.Ledger.{fresh as fresh_pool, on_pool, pool_refusals};
+ghost use Rattle.gpu_descriptor.specs.Agreement.{HasSize};
 ghost use Rattle.descriptor_script.specs.Raw.{set_id};
 ghost use Rattle.descriptor_script.specs.Table.{AreNamed, PoolsAreBelow, SetsAreBelow};
 
@@ -86,6 +87,16 @@ impl Pools {
         ensures names { names_of self.new ≡ names_of self.old }
     {
         self.live.swap_remove(&pool);
+    }
+
+    /// How many sets are live in the pool; 0 where the pool isn't live.
+    pub fn live_sets(&self, pool: u64) -> usize
+        ensures { IfSome (pools_of self.now pool) (λ p. HasSize p.live result) }
+    {
+        match self.live.get(&pool) {
+            Some(live) => live.sets.len(),
+            None => 0,
+        }
     }
 
     /// Counts an alloc that was refused, if it was the pool that refused.

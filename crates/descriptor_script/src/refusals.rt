@@ -1,6 +1,6 @@
 //! Requests that the device refuses: what goes back, and what stands then.
 use crate::Answer;
-use crate::desk::{Desk, expect_device, expect_held, expect_pools, layout_of};
+use crate::desk::{Desk, expect_device, expect_held, expect_origins, expect_pools, layout_of};
 use gpu_descriptor::AllocationError;
 use std::test::Fail;
 
@@ -9,6 +9,7 @@ fn existing_pool_without_memory(rt: HostRuntime) -> Result<(), Fail> {
     let plain = layout_of(1, false);
     let mut desk = Desk::new(rt.alloc(), 0);
     assert_eq!(rt; desk.allocate(&plain, 60)?, Ok(()));
+    expect_origins(&rt, &desk, 0, &[(0, 60)]);
     desk.load(vec![in rt.alloc(); Answer::Device]?);
     assert_eq!(rt;
         desk.allocate(&plain, 10)?,
@@ -61,6 +62,7 @@ fn one_run_goes_back_in_one_call(rt: HostRuntime) -> Result<(), Fail> {
     let plain = layout_of(1, false);
     let mut desk = Desk::new(rt.alloc(), 0);
     assert_eq!(rt; desk.allocate(&plain, 60)?, Ok(()));
+    expect_origins(&rt, &desk, 0, &[(0, 60)]);
     desk.load(vec![in rt.alloc(); Answer::Ok, Answer::Device]?);
     assert_eq!(rt;
         desk.allocate(&plain, 10)?,
@@ -77,13 +79,11 @@ fn rollback_drops_an_older_empty_pool(rt: HostRuntime) -> Result<(), Fail> {
     let plain = layout_of(1, false);
     let mut desk = Desk::new(rt.alloc(), 0);
     assert_eq!(rt; desk.allocate(&plain, 1)?, Ok(()));
+    expect_origins(&rt, &desk, 0, &[(0, 1)]);
     desk.free_last(1)?;
     desk.load(vec![in rt.alloc(); Answer::Pool]?);
     assert_eq!(rt; desk.allocate(&plain, 1)?, Ok(()));
-    assert_eq!(rt;
-        desk.origins(rt.alloc(), 0)?.as_slice(),
-        [(1, 1)].as_slice()
-    );
+    expect_origins(&rt, &desk, 0, &[(1, 1)]);
     expect_pools(&rt, &desk, &plain, &[(0, 0, 0), (1, 1, 63)]);
     expect_device(&rt, &desk, 2, 0, 3, 1);
     expect_held(&rt, &desk, 1, 0);
@@ -103,14 +103,13 @@ fn rollback_of_no_sets_drops_no_pool(rt: HostRuntime) -> Result<(), Fail> {
     let plain = layout_of(1, false);
     let mut desk = Desk::new(rt.alloc(), 0);
     assert_eq!(rt; desk.allocate(&plain, 1)?, Ok(()));
+    expect_origins(&rt, &desk, 0, &[(0, 1)]);
     desk.free_last(1)?;
     desk.load(vec![in rt.alloc(); Answer::Pool]?);
     assert_eq!(rt; desk.allocate(&plain, 1)?, Ok(()));
+    expect_origins(&rt, &desk, 0, &[(1, 1)]);
     assert_eq!(rt; desk.allocate(&plain, 63)?, Ok(()));
-    assert_eq!(rt;
-        desk.origins(rt.alloc(), 0)?.as_slice(),
-        [(1, 64)].as_slice()
-    );
+    expect_origins(&rt, &desk, 1, &[(1, 63)]);
     desk.load(vec![in rt.alloc(); Answer::Host]?);
     assert_eq!(rt;
         desk.allocate(&plain, 1)?,
@@ -127,7 +126,9 @@ fn grant_of_the_newer_pool_goes_back(rt: HostRuntime) -> Result<(), Fail> {
     let plain = layout_of(1, false);
     let mut desk = Desk::new(rt.alloc(), 0);
     assert_eq!(rt; desk.allocate(&plain, 64)?, Ok(()));
+    expect_origins(&rt, &desk, 0, &[(0, 64)]);
     assert_eq!(rt; desk.allocate(&plain, 64)?, Ok(()));
+    expect_origins(&rt, &desk, 64, &[(1, 64)]);
     desk.swap(0, 126);
     desk.swap(64, 127);
     desk.free_last(2)?;

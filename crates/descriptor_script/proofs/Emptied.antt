@@ -1,0 +1,183 @@
+-- Sets that are taken out of their slots, one by one.
+use Rattle.std.proofs.Common.{◌≡◌, ◌≢◌, ℕ, zero, suc, ◌+◌, ◌<◌, true, false, List, [], ◌∷◌, length, map, get_or, set, Option, None, Some, inl, inr, refl, sym, ap, ◌∙◌, arith}
+use Rattle.std.proofs.lemmas.Bool.{cases_eq}
+use Rattle.std.proofs.lemmas.List.{get_or-set_other}
+use Rattle.std.proofs.lemmas.Option.{same_Some}
+use Rattle.std.specs.Iterator.{HoldsAlong, Yields}
+use Rattle.std.specs.Option.{IsSome, is_some}
+use Rattle.gpu_descriptor_types.proofs.Counting.{count_by-append}
+use Rattle.gpu_descriptor.specs.Agreement.{Agree, AreOutstanding, Item, State, count_of, item_eq, outstanding}
+use Rattle.gpu_descriptor.specs.Release.{released}
+use Rattle.gpu_descriptor.specs.Sets.{item_of, items_of}
+use Rattle.gpu_descriptor.specs.declared.set.DescriptorSet.{DescriptorSet}
+use Rattle.gpu_descriptor.proofs.Kept.{takes}
+use Rattle.descriptor_script.specs.Session.{AreAllHeld}
+use Rattle.descriptor_script.specs.Taking.{TakesNext, slots_in, to_come}
+use Rattle.descriptor_script.specs.Tickets.{AreHeldOnce, CanTake, emptied, held_sets, set_at}
+use Rattle.descriptor_script.specs.declared.taking.Taking.{Taking}
+
+module _ {X : Type 0} where
+  -- the sum of f over the list
+  abbrev pub tally : (X → ℕ) → List X → ℕ
+  tally f [] = 0
+  tally f (x ∷ xs) = f x + tally f xs
+
+  pub tally-length : (xs : List X) → tally (λ _. 1) xs ≡ length xs
+  tally-length [] = refl
+  tally-length (x ∷ xs) = let h = tally-length xs in omega arith
+
+  pub none_at : (slots : List (Option X)) (n : ℕ) → get_or (set slots n None) n None ≡ None
+  none_at [] n = refl
+  none_at (o ∷ slots) zero = refl
+  none_at (o ∷ slots) (suc n) = none_at slots n
+
+  pub some_at : (o : Option X) → IsSome o → (x : X) × (o ≡ Some x)
+  some_at None bad = absurd (let b : false ≡ true = bad in cc)
+  some_at (Some x) h = (x, refl)
+
+  -- a set lies within the slots
+  pub some_within : (slots : List (Option X)) (n : ℕ) → IsSome (get_or slots n None) → n < length slots
+  some_within [] n bad = absurd (let b : false ≡ true = bad in cc)
+  some_within (o ∷ slots) zero h = omega arith
+  some_within (o ∷ slots) (suc n) h = let below = some_within slots n h in omega arith
+
+  -- a set that is taken is held no longer
+  pub held_less : (f : X → ℕ) (slots : List (Option X)) (n : ℕ) (x : X) → get_or slots n None ≡ Some x → f x + tally f (held_sets (set slots n None)) ≡ tally f (held_sets slots)
+  held_less f [] n x at = absurd (let bad : ◌≡◌ {A = Option X} None (Some x) = at in cc)
+  held_less f (None ∷ slots) zero x at = absurd (let bad : ◌≡◌ {A = Option X} None (Some x) = at in cc)
+  held_less f (Some y ∷ slots) zero x at = ap (λ z. f z + tally f (held_sets slots)) (sym (same_Some y x at))
+  held_less f (None ∷ slots) (suc n) x at = held_less f slots n x at
+  held_less f (Some y ∷ slots) (suc n) x at = let h = held_less f slots n x at in omega arith
+
+  pub held_one_less : (slots : List (Option X)) (n : ℕ) → IsSome (get_or slots n None) → length (held_sets (set slots n None)) + 1 ≡ length (held_sets slots)
+  held_one_less slots n h =
+      let x = some_at (get_or slots n None) h in
+      let less = held_less (λ _. 1) slots n x.0 x.1 in
+      let before = tally-length (held_sets slots) in
+      let after = tally-length (held_sets (set slots n None)) in
+      omega arith
+
+  -- what is held when another is taken was held before
+  still : (slots : List (Option X)) (n m : ℕ) (x : X) → get_or (set slots n None) m None ≡ Some x → get_or slots m None ≡ Some x
+  still slots n m x h = elim (cases_eq m n) [
+    | inl same ↦ absurd (let bad : ◌≡◌ {A = Option X} None (Some x) = sym (none_at slots n) ∙ ap (λ k. get_or (set slots n None) k None) (sym same) ∙ h in cc)
+    | inr other ↦ sym (get_or-set_other slots n m None None other) ∙ h
+  ]
+
+  still_each : (slots : List (Option X)) (n : ℕ) (xs : List X) (ns : List ℕ) → map Some xs ≡ map (set_at (set slots n None)) ns → map Some xs ≡ map (set_at slots) ns
+  still_each slots n [] [] h = refl
+  still_each slots n [] (m ∷ ns) h = absurd (cc)
+  still_each slots n (x ∷ xs) [] h = absurd (cc)
+  still_each slots n (x ∷ xs) (m ∷ ns) h =
+      let here : Some x ≡ get_or (set slots n None) m None = cc in
+      let rest : map Some xs ≡ map (set_at (set slots n None)) ns = cc in
+      let a : Some x ≡ get_or slots m None = sym (still slots n m x (sym here)) in
+      let b = still_each slots n xs ns rest in
+      cc
+
+  -- when the first ticket's set is taken, the others are still held once
+  rest_once : (slots : List (Option X)) (n : ℕ) (ns : List ℕ) → AreHeldOnce slots (n ∷ ns) → AreHeldOnce (set slots n None) ns
+  rest_once slots n ns h = record {
+    held = λ i lt.
+        let e = get_or-set_other slots n (get_or ns i 0) None None (λ same. h.once 0 (suc i) (omega arith) (omega arith) (sym same)) in
+        ap (λ o. is_some o) e ∙ h.held (suc i) (omega arith);
+    once = λ i j below lt. h.once (suc i) (suc j) (omega arith) (omega arith);
+  }
+
+  -- distinct tickets of held sets can be taken one by one
+  pub can_take : (slots : List (Option X)) (tickets : List ℕ) → AreHeldOnce slots tickets → CanTake slots tickets
+  can_take slots [] h = tt
+  can_take slots (n ∷ ns) h = (h.held 0 (omega arith), can_take (set slots n None) ns (rest_once slots n ns h))
+
+  same_elsewhere : (slots : List (Option X)) (n : ℕ) (ns : List ℕ) → ((i : ℕ) → i < length ns → get_or ns i 0 ≢ n) → map (set_at (set slots n None)) ns ≡ map (set_at slots) ns
+  same_elsewhere slots n [] apart = refl
+  same_elsewhere slots n (m ∷ ms) apart =
+      let here = get_or-set_other slots n m None None (apart 0 (omega arith)) in
+      let rest = same_elsewhere slots n ms (λ i lt. apart (suc i) (omega arith)) in
+      λ i. here i ∷ rest i
+
+  -- the sets of a list of tickets and what is held without them make up what is held
+  listed_from : (f : X → ℕ) (slots : List (Option X)) (tickets : List ℕ) (xs : List X) → AreHeldOnce slots tickets → map Some xs ≡ map (set_at slots) tickets → tally f xs + tally f (held_sets (emptied slots tickets)) ≡ tally f (held_sets slots)
+  listed_from f slots [] [] h each = omega arith
+  listed_from f slots [] (x ∷ xs) h each = absurd (cc)
+  listed_from f slots (n ∷ ns) [] h each = absurd (cc)
+  listed_from f slots (n ∷ ns) (x ∷ xs) h each =
+      let here : Some x ≡ get_or slots n None = cc in
+      let others : map Some xs ≡ map (set_at slots) ns = cc in
+      let same = same_elsewhere slots n ns (λ i lt same. h.once 0 (suc i) (omega arith) (omega arith) (sym same)) in
+      let rest = listed_from f (set slots n None) ns xs (rest_once slots n ns h) (others ∙ sym same) in
+      let less = held_less f slots n x (sym here) in
+      omega arith
+
+module _ {S : Type 0} where
+  -- what was taken and what is held make up what was held
+  pub taken_from : (f : DescriptorSet S → ℕ) (xs : List (DescriptorSet S)) (s t : Taking S) → Yields TakesNext s xs t → tally f xs + tally f (held_sets (slots_in t)) ≡ tally f (held_sets (slots_in s))
+  taken_from f [] s t y = let same = ap (λ (u : Taking S). tally f (held_sets (slots_in u))) y in omega arith
+  taken_from f (x ∷ xs) s t y =
+      let next = taken_from f xs y.0 t y.2 in
+      let less = held_less f (slots_in s) y.1.0 x y.1.2 in
+      let left = ap (λ l. tally f (held_sets l)) y.1.3 in
+      omega arith
+
+  pub fewer_held : (xs : List (DescriptorSet S)) (s t : Taking S) → Yields TakesNext s xs t → length (held_sets (slots_in t)) + length xs ≡ length (held_sets (slots_in s))
+  fewer_held xs s t y =
+      let all = taken_from (λ _. 1) xs s t y in
+      let a = tally-length xs in
+      let b = tally-length (held_sets (slots_in t)) in
+      let c = tally-length (held_sets (slots_in s)) in
+      omega arith
+
+  -- the set of each ticket came
+  pub each_taken : (xs : List (DescriptorSet S)) (s t : Taking S) → Yields TakesNext s xs t → to_come t ≡ [] → map Some xs ≡ map (set_at (slots_in s)) (to_come s)
+  each_taken [] s t y none = sym (ap (map (set_at (slots_in s))) (ap to_come y ∙ none))
+  each_taken (x ∷ xs) s t y none =
+      let n = y.1.0 in
+      let rest = each_taken xs y.0 t y.2 none ∙ ap (λ l. map (set_at l) (to_come y.0)) y.1.3 in
+      let same = still_each (slots_in s) n xs (to_come y.0) rest in
+      ap (λ o. o ∷ map Some xs) (sym y.1.2) ∙ ap (λ l. set_at (slots_in s) n ∷ l) same ∙ sym (ap (map (set_at (slots_in s))) y.1.1)
+
+  -- the slots of the tickets are empty
+  pub all_emptied : (xs : List (DescriptorSet S)) (s t : Taking S) → Yields TakesNext s xs t → to_come t ≡ [] → slots_in t ≡ emptied (slots_in s) (to_come s)
+  all_emptied [] s t y none = ap slots_in (sym y) ∙ sym (ap (emptied (slots_in s)) (ap to_come y ∙ none))
+  all_emptied (x ∷ xs) s t y none =
+      all_emptied xs y.0 t y.2 none ∙ ap (λ l. emptied l (to_come y.0)) y.1.3 ∙ sym (ap (emptied (slots_in s)) y.1.1)
+
+  tally-items : (name : S → ℕ) (i : Item) (xs : List (DescriptorSet S)) → tally (λ x. count_of i (item_of name x ∷ [])) xs ≡ count_of i (items_of name xs)
+  tally-items name i [] = refl
+  tally-items name i (x ∷ xs) = ap (λ n. count_of i (item_of name x ∷ []) + n) (tally-items name i xs) ∙ sym (count_by-append (λ j. item_eq j i) (item_of name x ∷ []) (items_of name xs))
+
+  counted : (name : S → ℕ) (i : Item) (xs : List (DescriptorSet S)) (s t : Taking S) → Yields TakesNext s xs t → count_of i (items_of name xs) + count_of i (items_of name (held_sets (slots_in t))) ≡ count_of i (items_of name (held_sets (slots_in s)))
+  counted name i xs s t y =
+      let all = taken_from (λ x. count_of i (item_of name x ∷ [])) xs s t y in
+      let a = tally-items name i xs in
+      let b = tally-items name i (held_sets (slots_in t)) in
+      let c = tally-items name i (held_sets (slots_in s)) in
+      omega arith
+
+  -- what comes is outstanding
+  pub all_out : (name : S → ℕ) (s : Taking S) (state : State) → AreAllHeld name (slots_in s) state → HoldsAlong TakesNext s (λ xs. AreOutstanding (items_of name xs) state)
+  all_out name s state held xs t y i =
+      let all = counted name i xs s t y in
+      let h = held i in
+      omega arith
+
+  -- the sets of a list of tickets are outstanding
+  pub listed_out : (name : S → ℕ) (slots : List (Option (DescriptorSet S))) (tickets : List ℕ) (xs : List (DescriptorSet S)) (state : State) → AreHeldOnce slots tickets → map Some xs ≡ map (set_at slots) tickets → AreAllHeld name slots state → AreOutstanding (items_of name xs) state
+  listed_out name slots tickets xs state once each held i =
+      let all = listed_from (λ x. count_of i (item_of name x ∷ [])) slots tickets xs once each in
+      let a = tally-items name i xs in
+      let b = tally-items name i (held_sets slots) in
+      let h = held i in
+      omega arith
+
+  -- what went back is held no longer
+  pub all_held_less : (name : S → ℕ) (xs : List (DescriptorSet S)) (s t : Taking S) (old new : State) → Agree old → AreAllHeld name (slots_in s) old → Yields TakesNext s xs t → new ≡ released (items_of name xs) old → AreAllHeld name (slots_in t) new
+  all_held_less name xs s t old new agree held y gone i =
+      let back = takes (items_of name xs) old agree (all_out name s old held xs t y) i in
+      let all = counted name i xs s t y in
+      let h = held i in
+      let e = ap (λ (w : State). outstanding w i) gone in
+      omega arith
+
+  pub held_as : (name : S → ℕ) (a b : List (Option (DescriptorSet S))) (state : State) → a ≡ b → AreAllHeld name b state → AreAllHeld name a state
+  held_as name a b state same held i = held i ∙ sym (ap (λ l. count_of i (items_of name (held_sets l))) same)

@@ -1,0 +1,68 @@
+-- Tickets are given once.
+use Rattle.std.proofs.Common.{◌≡◌, ℕ, List, [], ◌∷◌, length, length-append, map, get_or, set, Option, None, Some, Bool, inl, inr, refl, ap, ◌∙◌, arith}
+use Rattle.std.proofs.lemmas.Bool.{cases_eq}
+use Rattle.std.proofs.lemmas.List.{get_or-set_other, get_or_append_left, length-set}
+use Rattle.gpu_descriptor_types.specs.Ledger.{Ledger}
+use Rattle.descriptor_script.specs.Session.{sets_of}
+use Rattle.descriptor_script.specs.Steps.{AllocatesTo, CleansTo, FreesTo, KeepsTickets}
+use Rattle.descriptor_script.specs.Tickets.{emptied, set_at}
+use Rattle.descriptor_script.specs.declared.command.Reply.{Reply}
+use Rattle.descriptor_script.specs.declared.command.Reply.TheVariants.{Sets, Refused, Freed, BadTicket, BadLayout, NoMemory, Clean}
+use Rattle.descriptor_script.specs.declared.session.Session.{Session}
+use Rattle.descriptor_script.proofs.Emptied.{none_at}
+
+module _ {X : Type 0} where
+  emptied_length : (slots : List (Option X)) (tickets : List ℕ) → length (emptied slots tickets) ≡ length slots
+  emptied_length slots [] = refl
+  emptied_length slots (n ∷ ns) = emptied_length (set slots n None) ns ∙ length-set slots n None
+
+  none_set : (slots : List (Option X)) (n m : ℕ) → get_or slots m None ≡ None → get_or (set slots n None) m None ≡ None
+  none_set slots n m none = elim (cases_eq m n) [
+    | inl same ↦ ap (λ k. get_or (set slots n None) k None) same ∙ none_at slots n
+    | inr other ↦ get_or-set_other slots n m None None other ∙ none
+  ]
+
+  emptied_none : (slots : List (Option X)) (tickets : List ℕ) (m : ℕ) → get_or slots m None ≡ None → get_or (emptied slots tickets) m None ≡ None
+  emptied_none slots [] m none = none
+  emptied_none slots (n ∷ ns) m none = emptied_none (set slots n None) ns m (none_set slots n m none)
+
+module _ {L P S : Type 0} where
+  same : (old new : Session L P S) → sets_of new ≡ sets_of old → KeepsTickets old new
+  same old new e = record {
+    next = (let l = ap length e in omega arith);
+    freed = λ ticket lt none. ap (λ s. set_at s ticket) e ∙ none;
+  }
+
+  -- no command gives a ticket twice
+  pub allocating_keeps : (pool_name : P → ℕ) (set_name : S → ℕ) (counts : L → List ℕ) (mark : L → Bool) (layout count : ℕ) (reply : Reply) (old new : Session L P S) (before after : Ledger) → AllocatesTo pool_name set_name counts mark layout count old new before after reply → KeepsTickets old new
+  allocating_keeps pool_name set_name counts mark layout count (Sets next many) old new before after h = record {
+    next = (let l = ap length h.sets in let a = length-append (sets_of old) (map Some h.given) in omega arith);
+    freed = λ ticket lt none. ap (λ s. set_at s ticket) h.sets ∙ get_or_append_left (sets_of old) (map Some h.given) None ticket lt ∙ none;
+  }
+  allocating_keeps pool_name set_name counts mark layout count (Refused e) old new before after h = same old new h.sets
+  allocating_keeps pool_name set_name counts mark layout count (Freed n) old new before after h = absurd h
+  allocating_keeps pool_name set_name counts mark layout count BadTicket old new before after h = absurd h
+  allocating_keeps pool_name set_name counts mark layout count BadLayout old new before after h = same old new h.1.sets
+  allocating_keeps pool_name set_name counts mark layout count NoMemory old new before after h = same old new h.2.sets
+  allocating_keeps pool_name set_name counts mark layout count Clean old new before after h = absurd h
+
+  pub freeing_keeps : (pool_name : P → ℕ) (set_name : S → ℕ) (tickets : List ℕ) (reply : Reply) (old new : Session L P S) (before after : Ledger) → FreesTo pool_name set_name tickets old new before after reply → KeepsTickets old new
+  freeing_keeps pool_name set_name tickets (Sets next many) old new before after h = absurd h
+  freeing_keeps pool_name set_name tickets (Refused e) old new before after h = absurd h
+  freeing_keeps pool_name set_name tickets (Freed n) old new before after h = record {
+    next = (let l = ap length h.sets in let a = emptied_length (sets_of old) tickets in omega arith);
+    freed = λ ticket lt none. ap (λ s. set_at s ticket) h.sets ∙ emptied_none (sets_of old) tickets ticket none;
+  }
+  freeing_keeps pool_name set_name tickets BadTicket old new before after h = same old new h.1.sets
+  freeing_keeps pool_name set_name tickets BadLayout old new before after h = absurd h
+  freeing_keeps pool_name set_name tickets NoMemory old new before after h = absurd h
+  freeing_keeps pool_name set_name tickets Clean old new before after h = absurd h
+
+  pub cleaning_keeps : (pool_name : P → ℕ) (reply : Reply) (old new : Session L P S) (before after : Ledger) → CleansTo pool_name old new before after reply → KeepsTickets old new
+  cleaning_keeps pool_name (Sets next many) old new before after h = absurd h
+  cleaning_keeps pool_name (Refused e) old new before after h = absurd h
+  cleaning_keeps pool_name (Freed n) old new before after h = absurd h
+  cleaning_keeps pool_name BadTicket old new before after h = absurd h
+  cleaning_keeps pool_name BadLayout old new before after h = absurd h
+  cleaning_keeps pool_name NoMemory old new before after h = absurd h
+  cleaning_keeps pool_name Clean old new before after h = same old new h.sets

@@ -1,0 +1,35 @@
+-- What the steps of a session leave outstanding.
+use Rattle.std.proofs.Common.{◌≡◌, ℕ, ◌+◌, ◌≤◌, List, [], ◌∷◌, ◌++◌, length, length-append, map, Option, None, Some, refl, sym, ap, ◌∙◌, arith}
+use Rattle.gpu_descriptor_types.proofs.Counting.{count_by-append}
+use Rattle.gpu_descriptor.specs.Agreement.{State, count_of, item_eq}
+use Rattle.gpu_descriptor.specs.Promises.{AreOutBesides}
+use Rattle.gpu_descriptor.specs.Sets.{item_of, items_of}
+use Rattle.gpu_descriptor.specs.declared.set.DescriptorSet.{DescriptorSet}
+use Rattle.descriptor_script.specs.Session.{AreAllHeld}
+use Rattle.descriptor_script.specs.Tickets.{held_sets}
+
+module _ {X : Type 0} where
+  pub held_more : (slots : List (Option X)) (given : List X) → held_sets (slots ++ map Some given) ≡ held_sets slots ++ given
+  held_more [] [] = refl
+  held_more [] (x ∷ given) = ap (λ l. x ∷ l) (held_more [] given)
+  held_more (None ∷ slots) given = held_more slots given
+  held_more (Some x ∷ slots) given = ap (λ l. x ∷ l) (held_more slots given)
+
+  pub held_sum : (slots : List (Option X)) (given : List X) → length (held_sets (slots ++ map Some given)) ≡ length (held_sets slots) + length given
+  held_sum slots given = ap length (held_more slots given) ∙ length-append (held_sets slots) given
+
+  -- at most as many are held as there are slots
+  pub held_few : (slots : List (Option X)) → length (held_sets slots) ≤ length slots
+  held_few [] = omega arith
+  held_few (None ∷ slots) = let h = held_few slots in omega arith
+  held_few (Some x ∷ slots) = let h = held_few slots in omega arith
+
+items_more : {S : Type 0} (name : S → ℕ) (xs ys : List (DescriptorSet S)) → items_of name (xs ++ ys) ≡ items_of name xs ++ items_of name ys
+items_more name [] ys = refl
+items_more name (x ∷ xs) ys = ap (λ l. item_of name x ∷ l) (items_more name xs ys)
+
+-- given sets are held besides
+pub all_held_more : {S : Type 0} (name : S → ℕ) (slots : List (Option (DescriptorSet S))) (given : List (DescriptorSet S)) (s t : State) → AreAllHeld name slots s → AreOutBesides (items_of name given) s t → AreAllHeld name (slots ++ map Some given) t
+all_held_more name slots given s t held besides x =
+    let e : items_of name (held_sets (slots ++ map Some given)) ≡ items_of name (held_sets slots) ++ items_of name given = ap (items_of name) (held_more slots given) ∙ items_more name (held_sets slots) given in
+    besides x ∙ ap (λ n. n + count_of x (items_of name given)) (held x) ∙ sym (ap (count_of x) e ∙ count_by-append (λ i. item_eq i x) (items_of name (held_sets slots)) (items_of name given))

@@ -1,0 +1,144 @@
+-- The parts of the headline hold at each step of a run.
+use Rattle.std.proofs.Common.{ℕ, Bool, List, [], ◌∷◌, refl, sym, ap, ◌∙◌, arith}
+use Rattle.std.proofs.lemmas.Option.{slice_get_within}
+use Rattle.std.specs.Prelude.{IfOk, Result, Ok, Err}
+use Rattle.gpu_descriptor_types.specs.Ledger.{Ledger, Counters}
+use Rattle.gpu_descriptor.specs.Sets.{items_of}
+use Rattle.gpu_descriptor.specs.States.{Agrees, state_of}
+use Rattle.gpu_descriptor.proofs.Kept.{one_by_one}
+use Rattle.descriptor_script.specs.Headline.{CallsOnceARun, FailsForCause, FreesOneByOne, HoldsExactly, HoldsWhatIsOut, KeepsLimit, TurnsDownBad}
+use Rattle.descriptor_script.specs.Session.{AreAllHeld, allocator_of, sets_of}
+use Rattle.descriptor_script.specs.SessionRun.{AfterEach, IsStep, Step}
+use Rattle.descriptor_script.specs.Steps.{StepsTo}
+use Rattle.descriptor_script.specs.declared.command.Command.{Command}
+use Rattle.descriptor_script.specs.declared.command.Command.TheVariants.{Allocate, Free, Cleanup}
+use Rattle.descriptor_script.specs.declared.command.Reply.{Reply}
+use Rattle.descriptor_script.specs.declared.command.Reply.TheVariants.{Sets, Refused, Freed, BadTicket, BadLayout, NoMemory, Clean}
+use Rattle.descriptor_script.specs.declared.session.Session.{Session}
+use Rattle.descriptor_script.proofs.Emptied.{listed_out}
+
+pub if_ok : {T E : Type 0} {A : T → Type 0} (r : Result T E) → ((x : T) → A x) → IfOk r A
+if_ok (Ok x) f = f x
+if_ok (Err e) f = tt
+
+module _ {L P S : Type 0} (pool_name : P → ℕ) (set_name : S → ℕ) (counts : L → List ℕ) (mark : L → Bool) where
+  abbrev pub step_of : Command → Reply → Session L P S → Session L P S → Ledger → Ledger → Step L P S
+  step_of command reply old new before after = record { command = command; reply = reply; old = old; new = new; before = before; after = after }
+
+  -- the promise is kept at each step that is made where books and ledger agree and exactly the outstanding sets are held
+  abbrev pub IsKept : (Step L P S → Type 0) → Type 0
+  IsKept promise = (command : Command) (reply : Reply) (old new : Session L P S) (before after : Ledger) → Agrees pool_name (allocator_of old) before → AreAllHeld set_name (sets_of old) (state_of pool_name (allocator_of old) before)
+      → IsStep {L = L} {P = P} {S = S} pool_name set_name counts mark command reply old new before after → promise (step_of command reply old new before after)
+
+  -- and then it is kept all along a run
+  pub after_each : (promise : Step L P S → Type 0) → IsKept promise → (commands : List Command) (replies : List Reply) (old new : Session L P S) (before after : Ledger) → Agrees pool_name (allocator_of old) before → AreAllHeld set_name (sets_of old) (state_of pool_name (allocator_of old) before)
+      → AfterEach pool_name set_name counts mark promise commands replies old new before after
+  after_each promise keeps [] rs old new before after agree held = tt
+  after_each promise keeps (c ∷ cs) [] old new before after agree held = tt
+  after_each promise keeps (c ∷ cs) (r ∷ rs) old new before after agree held = λ next between step rest. (keeps c r old next before between agree held step, after_each promise keeps cs rs next new between after step.agree step.held)
+
+  pub holds_exactly : IsKept (HoldsExactly pool_name set_name)
+  holds_exactly command reply old new before after agree held s = (s.held, s.count)
+
+  pub keeps_limit : IsKept KeepsLimit
+  keeps_limit command reply old new before after agree held s = (s.load, s.limit)
+
+  abbrev Steps : Command → Reply → Session L P S → Session L P S → Ledger → Ledger → Type 0
+  Steps = StepsTo pool_name set_name counts mark
+
+  pub holds_what_is_out : IsKept HoldsWhatIsOut
+  holds_what_is_out command reply old new before after agree held s = go command reply s.step
+    where
+      go : (command : Command) (reply : Reply) → Steps command reply old new before after → HoldsWhatIsOut (step_of command reply old new before after)
+      go (Allocate layout count) (Sets first many) h = (h.asked, h.first, h.given, h.all_given ∙ sym h.asked, h.sets)
+      go (Allocate layout count) (Refused e) h = h.sets
+      go (Allocate layout count) (Freed n) h = absurd h
+      go (Allocate layout count) BadTicket h = absurd h
+      go (Allocate layout count) BadLayout h = h.1.sets
+      go (Allocate layout count) NoMemory h = h.2.sets
+      go (Allocate layout count) Clean h = absurd h
+      go (Free tickets) (Sets first many) h = absurd h
+      go (Free tickets) (Refused e) h = absurd h
+      go (Free tickets) (Freed n) h = (h.all, h.sets)
+      go (Free tickets) BadTicket h = h.1.sets
+      go (Free tickets) BadLayout h = absurd h
+      go (Free tickets) NoMemory h = absurd h
+      go (Free tickets) Clean h = absurd h
+      go Cleanup (Sets first many) h = absurd h
+      go Cleanup (Refused e) h = absurd h
+      go Cleanup (Freed n) h = absurd h
+      go Cleanup BadTicket h = absurd h
+      go Cleanup BadLayout h = absurd h
+      go Cleanup NoMemory h = absurd h
+      go Cleanup Clean h = h.sets
+
+  pub frees_one_by_one : IsKept (FreesOneByOne pool_name set_name)
+  frees_one_by_one command reply old new before after agree held s = go command reply s.step
+    where
+      go : (command : Command) (reply : Reply) → Steps command reply old new before after → FreesOneByOne pool_name set_name (step_of command reply old new before after)
+      go (Free tickets) (Freed n) h =
+          let start = state_of pool_name (allocator_of old) before in
+          let out = listed_out set_name (sets_of old) tickets.items h.given start h.good h.each held in
+          (h.given, h.each, (λ order alike. h.back.state ∙ sym (one_by_one (items_of set_name h.given) order start agree out alike)))
+      go (Allocate layout count) (Freed n) h = absurd h
+      go Cleanup (Freed n) h = absurd h
+      go command (Sets first many) h = tt
+      go command (Refused e) h = tt
+      go command BadTicket h = tt
+      go command BadLayout h = tt
+      go command NoMemory h = tt
+      go command Clean h = tt
+
+  pub calls_once_a_run : IsKept (CallsOnceARun set_name)
+  calls_once_a_run command reply old new before after agree held s = go command reply s.step
+    where
+      go : (command : Command) (reply : Reply) → Steps command reply old new before after → CallsOnceARun set_name (step_of command reply old new before after)
+      go (Free tickets) (Freed n) h = (h.given, h.each, ap (λ (c : Counters). c.released) h.back.counters)
+      go (Allocate layout count) (Freed n) h = absurd h
+      go Cleanup (Freed n) h = absurd h
+      go command (Sets first many) h = tt
+      go command (Refused e) h = tt
+      go command BadTicket h = tt
+      go command BadLayout h = tt
+      go command NoMemory h = tt
+      go command Clean h = tt
+
+  pub fails_for_cause : IsKept (FailsForCause pool_name counts mark)
+  fails_for_cause command reply old new before after agree held s = go command reply s.step
+    where
+      go : (command : Command) (reply : Reply) → Steps command reply old new before after → FailsForCause pool_name counts mark (step_of command reply old new before after)
+      go (Allocate layout count) (Refused e) h = (h.known, h.at, h.cause)
+      go (Allocate layout count) (Sets first many) h = tt
+      go (Allocate layout count) (Freed n) h = tt
+      go (Allocate layout count) BadTicket h = tt
+      go (Allocate layout count) BadLayout h = tt
+      go (Allocate layout count) NoMemory h = tt
+      go (Allocate layout count) Clean h = tt
+      go (Free tickets) reply h = tt
+      go Cleanup reply h = tt
+
+  pub turns_down_bad : IsKept TurnsDownBad
+  turns_down_bad command reply old new before after agree held s = go command reply s.step
+    where
+      go : (command : Command) (reply : Reply) → Steps command reply old new before after → TurnsDownBad (step_of command reply old new before after)
+      go (Allocate layout count) (Sets first many) h = ((((λ bad. absurd (cc)), (λ le. (let lt = slice_get_within _ layout h.known h.at in absurd (omega arith)))), (λ bad. absurd (cc))), tt)
+      go (Allocate layout count) (Refused e) h = ((((λ bad. absurd (cc)), (λ le. (let lt = slice_get_within _ layout h.known h.at in absurd (omega arith)))), (λ bad. absurd (cc))), tt)
+      go (Allocate layout count) (Freed n) h = absurd h
+      go (Allocate layout count) BadTicket h = absurd h
+      go (Allocate layout count) BadLayout h = ((((λ same. h.0), (λ le. refl)), (λ bad. absurd (cc))), h.1)
+      go (Allocate layout count) NoMemory h = ((((λ bad. absurd (cc)), (λ le. (let lt = h.0 in absurd (omega arith)))), (λ same. h.1)), h.2)
+      go (Allocate layout count) Clean h = absurd h
+      go (Free tickets) (Sets first many) h = absurd h
+      go (Free tickets) (Refused e) h = absurd h
+      go (Free tickets) (Freed n) h = (((λ bad. absurd (cc)), (λ bad. absurd (bad h.good))), tt)
+      go (Free tickets) BadTicket h = (((λ same. h.0), (λ bad. refl)), h.1)
+      go (Free tickets) BadLayout h = absurd h
+      go (Free tickets) NoMemory h = absurd h
+      go (Free tickets) Clean h = absurd h
+      go Cleanup (Sets first many) h = absurd h
+      go Cleanup (Refused e) h = absurd h
+      go Cleanup (Freed n) h = absurd h
+      go Cleanup BadTicket h = absurd h
+      go Cleanup BadLayout h = absurd h
+      go Cleanup NoMemory h = absurd h
+      go Cleanup Clean h = (refl, tt)

@@ -1,0 +1,34 @@
+use Rattle.std.proofs.Common.{◌≡◌, ◌≢◌, ℕ, ◌<◌, true, false, List, Bool, length, get_or, inl, inr, sym, ap, ◌∙◌, arith, rules, below_more}
+use Rattle.std.proofs.lemmas.Bool.{cases_eq}
+use Rattle.std.proofs.lemmas.List.{get_or-set_other, get_or-set_same}
+use Rattle.std.specs.Prelude.{IsSome}
+use Rattle.descriptor_script.specs.Tickets.{set_at}
+use Rattle.descriptor_script.proofs.Emptied.{some_within}
+use Rattle.descriptor_script.proofs.marks.mark_each.Goals as goal
+
+pub loop-ticket-preserved : goal.loop-ticket-preserved
+loop-ticket-preserved g c =
+    let inv = c.loop-ticket.invariant in
+    let i : ℕ = c.loop-ticket.ticket-index in
+    let ts : List ℕ = c.args.tickets.now in
+    let n : ℕ = get_or ts i 0 in
+    let marks : List Bool = c.loop-ticket.marks in
+    let unmarked : get_or marks n false ≡ false = search rules in
+    let here : IsSome (set_at c.args.sets.now n) = search rules in
+    let inside = some_within c.args.sets.now n here in
+    let long = c.requires.long in
+    let same_length = c.loop-ticket.auto.marks in
+    let within : n < length marks = omega arith in
+    let apart : (j : ℕ) → j < i → get_or ts j 0 ≢ n = λ j below same. (let bad : true ≡ false = sym (inv.marked j below) ∙ ap (λ k. get_or marks k false) same ∙ unmarked in cc) in
+    record {
+      held = below_more _ _ inv.held here;
+      marked = below_more _ _ (λ j below. get_or-set_other marks n (get_or ts j 0) true false (apart j below) ∙ inv.marked j below) (get_or-set_same marks n true false within);
+      once = λ a b below lt. elim (cases_eq b i) [
+        | inl last ↦ (λ same. apart a (omega arith) (same ∙ ap (λ k. get_or ts k 0) last))
+        | inr other ↦ inv.once a b below (omega arith)
+      ];
+      only = λ m marked. elim (cases_eq m n) [
+        | inl same ↦ (i, omega arith, sym same)
+        | inr other ↦ (let was = inv.only m (sym (get_or-set_other marks n m true false other) ∙ marked) in (was.0, (let lt = was.1 in omega arith), was.2))
+      ];
+    }

@@ -1,0 +1,72 @@
+use Rattle.std.proofs.Common.{◌≡◌, length, map, ap, ◌∙◌, arith, rules}
+use Rattle.gpu_descriptor.specs.Agreement.{State}
+use Rattle.gpu_descriptor.specs.States.{state_of}
+use Rattle.descriptor_script.specs.Session.{AreAllHeld}
+use Rattle.descriptor_script.specs.Slots.{slots_of}
+use Rattle.descriptor_script.specs.Taking.{to_come}
+use Rattle.descriptor_script.specs.Tickets.{AreHeldOnce, emptied, held_sets, set_at}
+use Rattle.descriptor_script.specs.declared.taking.Taking.{Taking}
+use Rattle.descriptor_script.proofs.Emptied.{all_emptied, all_held_less, all_out, can_take, each_taken, fewer_held, held_as}
+use Rattle.descriptor_script.proofs.session.Session.free.Goals.{After-iter}
+use Rattle.descriptor_script.proofs.session.Session.free.Goals as goal
+
+slots_are : (g : _) (c : After-iter g) → slots_of c.replace-slots.result ≡ slots_of c.args.self.now.slots
+slots_are g c = ap slots_of c.replace-slots.ensures.value ∙ c.are_held_once.ensures.sets
+
+good : (g : _) (c : After-iter g) → AreHeldOnce (slots_of c.args.self.now.slots) c.args.tickets.now
+good g c = c.are_held_once.ensures.answer.0 c.if-not-are_held_once.false
+
+held : (g : _) (c : After-iter g) → AreAllHeld g.D.DescriptorDevice.set_name (slots_of c.replace-slots.result) (state_of g.D.DescriptorDevice.pool_name c.args.self.now.allocator (g.D.DescriptorDevice.ledger c.args.device.now))
+held g c = held_as g.D.DescriptorDevice.set_name _ _ (state_of g.D.DescriptorDevice.pool_name c.args.self.now.allocator (g.D.DescriptorDevice.ledger c.args.device.now)) (slots_are g c) c.requires.held
+
+pub free_from-requires-clause-can : goal.free_from-requires-clause-can
+free_from-requires-clause-can g c =
+    let d = (goal.at.free_from-requires-clause-can g c).After-iter in
+    rw (slots_are g d, c.iter.ensures.rest) (can_take _ _ (good g d))
+
+pub free_from-requires-clause-outstanding : goal.free_from-requires-clause-outstanding
+free_from-requires-clause-outstanding g c =
+    let d = (goal.at.free_from-requires-clause-outstanding g c).After-iter in
+    all_out g.D.DescriptorDevice.set_name (record { slots = c.replace-slots.result; tickets = c.iter.result }) (state_of g.D.DescriptorDevice.pool_name c.args.self.now.allocator (g.D.DescriptorDevice.ledger c.args.device.now)) (held g d)
+
+pub returns-clause-step : goal.returns-clause-step
+returns-clause-step g c =
+    let d = (goal.at.returns-clause-step g c).After-iter in
+    let s : Taking g.row.S.Denot = record { slots = c.replace-slots.result; tickets = c.iter.result } in
+    let frees = c.free_from.ensures.frees in
+    let drained = frees.drained in
+    record {
+      good = good g d;
+      all = search rules;
+      given = frees.sets;
+      each = each_taken frees.sets s drained.0 drained.1 drained.2.0 ∙ ap (λ l. map (set_at l) (to_come s)) (slots_are g d) ∙ ap (map (set_at (slots_of c.args.self.now.slots))) c.iter.ensures.rest;
+      back = frees.back;
+      sets = drained.2.2 ∙ all_emptied frees.sets s drained.0 drained.1 drained.2.0 ∙ ap (λ l. emptied l (to_come s)) (slots_are g d) ∙ ap (emptied (slots_of c.args.self.now.slots)) c.iter.ensures.rest;
+    }
+
+pub returns-clause-held : goal.returns-clause-held
+returns-clause-held g c =
+    let d = (goal.at.returns-clause-held g c).After-iter in
+    let s : Taking g.row.S.Denot = record { slots = c.replace-slots.result; tickets = c.iter.result } in
+    let frees = c.free_from.ensures.frees in
+    let drained = frees.drained in
+    let old : State = state_of g.D.DescriptorDevice.pool_name c.args.self.now.allocator (g.D.DescriptorDevice.ledger c.args.device.now) in
+    let new : State = state_of g.D.DescriptorDevice.pool_name c.free_from.new.self (g.D.DescriptorDevice.ledger c.free_from.new.device) in
+    held_as g.D.DescriptorDevice.set_name _ _ new drained.2.2 (all_held_less g.D.DescriptorDevice.set_name frees.sets s drained.0 old new c.requires.agree (held g d) drained.1 frees.back.state)
+
+pub invariant_of-self-2 : goal.invariant_of-self-2
+invariant_of-self-2 g c =
+    let d = (goal.at.invariant_of-self-2 g c).After-iter in
+    let s : Taking g.row.S.Denot = record { slots = c.replace-slots.result; tickets = c.iter.result } in
+    let frees = c.free_from.ensures.frees in
+    let drained = frees.drained in
+    let now = c.free_from.new.sets.slots.counted ∙ ap (λ l. length (held_sets l)) drained.2.2 in
+    let fewer = fewer_held frees.sets s drained.0 drained.1 in
+    let before = ap (λ l. length (held_sets l)) (slots_are g d) in
+    let was = c.args.self.now.slots.counted in
+    let out = frees.back.outstanding in
+    let marked = frees.back.marked in
+    let limit = c.free_from.ensures.limit in
+    let counted = c.args.self.now.counted in
+    let within = c.args.self.now.within in
+    record { counted = omega arith; within = omega arith }

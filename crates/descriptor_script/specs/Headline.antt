@@ -1,0 +1,97 @@
+-- The parts of the headline: what holds after each command of a run.
+use Rattle.std.specs.Prelude.{◌≡◌, ℕ, ◌+◌, ◌<◌, ◌≤◌, ◌↔◌, Bool, List, [], ◌++◌, length, map, slice_get, Option, Some, Err}
+use Rattle.gpu_descriptor_types.specs.Ledger.{Ledger}
+use Rattle.gpu_descriptor.specs.Agreement.{Item, State, count_of}
+use Rattle.gpu_descriptor.specs.Promises.{HasCause}
+use Rattle.gpu_descriptor.specs.Release.{released_each, singly}
+use Rattle.gpu_descriptor.specs.Requests.{call_of}
+use Rattle.gpu_descriptor.specs.Runs.{runs}
+use Rattle.gpu_descriptor.specs.Sets.{items_of}
+use Rattle.gpu_descriptor.specs.States.{marked_load_of, outstanding_of, state_of}
+use Rattle.gpu_descriptor.specs.Walk.{layout_key}
+use Rattle.gpu_descriptor.specs.declared.set.DescriptorSet.{DescriptorSet}
+use Rattle.descriptor_script.specs.Session.{AreAllHeld, allocator_of, layouts_of, sets_of}
+use Rattle.descriptor_script.specs.SessionRun.{Step}
+use Rattle.descriptor_script.specs.Steps.{IsAsBefore}
+use Rattle.descriptor_script.specs.Tickets.{AreHeldOnce, emptied, held_sets, set_at}
+use Rattle.descriptor_script.specs.declared.command.Command.{Command}
+use Rattle.descriptor_script.specs.declared.command.Command.TheVariants.{Allocate, Free, Cleanup}
+use Rattle.descriptor_script.specs.declared.command.Reply.{Reply}
+use Rattle.descriptor_script.specs.declared.command.Reply.TheVariants.{Sets, Refused, Freed, BadTicket, BadLayout, NoMemory, Clean}
+use Rattle.descriptor_script.specs.declared.session.KnownLayout.{KnownLayout}
+use Rattle.descriptor_script.specs.declared.session.Session.{Session}
+
+-- the tickets that a command frees
+abbrev pub tickets_of : Command → List ℕ
+tickets_of (Free tickets) = tickets.items
+tickets_of _ = []
+
+-- the fact holds where sets went back
+abbrev pub IfFreed : Reply → Type 0 → Type 0
+IfFreed (Freed many) fact = fact
+IfFreed _ fact = Unit {0}
+
+-- the fact holds where a command was turned down without a request to the allocator
+abbrev pub IfTurnedDown : Reply → Type 0 → Type 0
+IfTurnedDown BadTicket fact = fact
+IfTurnedDown BadLayout fact = fact
+IfTurnedDown NoMemory fact = fact
+IfTurnedDown _ fact = Unit {0}
+
+-- in whatever order they are given back one by one, the sets leave this
+abbrev pub LeaveOneByOne : List Item → State → State → Type 0
+LeaveOneByOne items old new = (order : List Item) → ((t : Item) → count_of t order ≡ count_of t items) → new ≡ released_each (singly order) old
+
+-- what a reply leaves held: the sets that were handed out stand under the next tickets, and those that were freed are gone
+abbrev pub AreHeldAfter : {S : Type 0} → Command → Reply → List (Option (DescriptorSet S)) → List (Option (DescriptorSet S)) → Type 0
+AreHeldAfter {S} (Allocate layout count) (Sets first many) old new = (many ≡ count) × (first ≡ length old) × (sets : List (DescriptorSet S)) × (length sets ≡ many) × (new ≡ old ++ map Some sets)
+AreHeldAfter command (Freed many) old new = (many ≡ length (tickets_of command)) × (new ≡ emptied old (tickets_of command))
+AreHeldAfter command _ old new = new ≡ old
+
+module _ {L P S : Type 0} where
+  -- these are the sets of the tickets that a command frees, in their order
+  abbrev pub AreOfTickets : List (DescriptorSet S) → Step L P S → Type 0
+  AreOfTickets sets s = map Some sets ≡ map (set_at (sets_of s.old)) (tickets_of s.command)
+
+  -- a free calls the device once for each run of its sets
+  abbrev pub CallsOnceARun : (S → ℕ) → Step L P S → Type 0
+  CallsOnceARun set_name s = IfFreed s.reply ((sets : List (DescriptorSet S)) × AreOfTickets sets s × (s.after.counters.released ≡ s.before.counters.released + runs (items_of set_name sets)))
+
+  module _ (pool_name : P → ℕ) (set_name : S → ℕ) where
+    -- the sets that are outstanding are exactly those that are held, and the allocator counts as many
+    abbrev pub HoldsExactly : Step L P S → Type 0
+    HoldsExactly s = AreAllHeld set_name (sets_of s.new) (state_of pool_name (allocator_of s.new) s.after) × (length (held_sets (sets_of s.new)) ≡ outstanding_of (allocator_of s.new))
+
+    -- a free leaves what freeing its sets one by one leaves
+    abbrev pub FreesOneByOne : Step L P S → Type 0
+    FreesOneByOne s = IfFreed s.reply ((sets : List (DescriptorSet S)) × AreOfTickets sets s × LeaveOneByOne (items_of set_name sets) (state_of pool_name (allocator_of s.old) s.before) (state_of pool_name (allocator_of s.new) s.after))
+
+  -- what is held is what the replies handed out, less what was freed
+  abbrev pub HoldsWhatIsOut : Step L P S → Type 0
+  HoldsWhatIsOut s = AreHeldAfter s.command s.reply (sets_of s.old) (sets_of s.new)
+
+  -- the marked load is at most the limit, and that is as it was
+  abbrev pub KeepsLimit : Step L P S → Type 0
+  KeepsLimit s = (marked_load_of (allocator_of s.new) ≤ (allocator_of s.new).limit) × ((allocator_of s.new).limit ≡ (allocator_of s.old).limit)
+
+  -- where a layout or a ticket is bad is where it is said to be
+  abbrev pub IsBadExactly : Command → Reply → Session L P S → Type 0
+  IsBadExactly (Allocate layout count) reply old = ((reply ≡ BadLayout) ↔ (length (layouts_of old) ≤ layout)) × (reply ≡ NoMemory → 0 < count)
+  IsBadExactly (Free tickets) reply old = (reply ≡ BadTicket) ↔ (¬ AreHeldOnce (sets_of old) tickets.items)
+  IsBadExactly Cleanup reply old = reply ≡ Clean
+
+  -- BadLayout and BadTicket come exactly where a layout or a ticket is bad, NoMemory only where sets are asked for, and with all three nothing changes
+  abbrev pub TurnsDownBad : Step L P S → Type 0
+  TurnsDownBad s = IsBadExactly s.command s.reply s.old × IfTurnedDown s.reply (IsAsBefore s.old s.new s.before s.after)
+
+module _ {L P S : Type 0} (pool_name : P → ℕ) (counts : L → List ℕ) (mark : L → Bool) where
+  -- the allocator's answer to the request has its cause
+  abbrev pub HasCauseIfRefused : Command → Reply → Session L P S → Session L P S → Ledger → Ledger → Type 0
+  HasCauseIfRefused (Allocate layout count) (Refused error) old new before after =
+      (known : KnownLayout L) × (slice_get (layouts_of old) layout ≡ Some known)
+      × HasCause error (call_of pool_name (layout_key counts mark known.layout) count (allocator_of old) (allocator_of new) before after (Err error))
+  HasCauseIfRefused _ _ old new before after = Unit {0}
+
+  -- a request that the allocator refused has a named cause
+  abbrev pub FailsForCause : Step L P S → Type 0
+  FailsForCause s = HasCauseIfRefused s.command s.reply s.old s.new s.before s.after

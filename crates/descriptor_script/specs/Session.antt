@@ -1,0 +1,36 @@
+-- What a session keeps.
+use Rattle.std.specs.Prelude.{◌≡◌, ℕ, Bool, List, slice_get, Option, Some}
+use Rattle.gpu_descriptor_types.specs.Counts.{kinds}
+use Rattle.gpu_descriptor_types.specs.declared.counts.DescriptorTotalCount.{DescriptorTotalCount}
+use Rattle.gpu_descriptor.specs.Agreement.{Item, State, count_of, outstanding}
+use Rattle.gpu_descriptor.specs.LayoutFlags.{is_marked}
+use Rattle.gpu_descriptor.specs.Sets.{items_of}
+use Rattle.gpu_descriptor.specs.Values.{Allocations}
+use Rattle.gpu_descriptor.specs.declared.flags.DescriptorSetLayoutCreateFlags.{DescriptorSetLayoutCreateFlags}
+use Rattle.gpu_descriptor.specs.declared.set.DescriptorSet.{DescriptorSet}
+use Rattle.descriptor_script.specs.Slots.{slots_of}
+use Rattle.descriptor_script.specs.Tickets.{held_sets}
+use Rattle.descriptor_script.specs.declared.session.KnownLayout.{KnownLayout}
+use Rattle.descriptor_script.specs.declared.session.Session.{Session}
+
+module _ {L P S : Type 0} where
+  abbrev pub allocator_of : Session L P S → Allocations P
+  allocator_of s = s.allocator
+
+  abbrev pub layouts_of : Session L P S → List (KnownLayout L)
+  layouts_of s = s.layouts.items
+
+  -- a slot for each ticket that was given, with its set if that is held. The next ticket is their number
+  abbrev pub sets_of : Session L P S → List (Option (DescriptorSet S))
+  sets_of s = slots_of s.slots
+
+abbrev pub known : {L : Type 0} → L → DescriptorTotalCount → DescriptorSetLayoutCreateFlags → KnownLayout L
+known layout counts flags = record { layout = layout; counts = counts; flags = flags }
+
+-- the counts and the mark of each layout are those of the device's meaning
+abbrev pub AreMeant : {L : Type 0} → (L → List ℕ) → (L → Bool) → List (KnownLayout L) → Type 0
+AreMeant {L} counts mark layouts = (i : ℕ) (k : KnownLayout L) → slice_get layouts i ≡ Some k → (kinds k.counts ≡ counts k.layout) × (is_marked k.flags ≡ mark k.layout)
+
+-- the held sets are exactly the outstanding sets
+abbrev pub AreAllHeld : {S : Type 0} → (S → ℕ) → List (Option (DescriptorSet S)) → State → Type 0
+AreAllHeld name slots s = (t : Item) → outstanding s t ≡ count_of t (items_of name (held_sets slots))

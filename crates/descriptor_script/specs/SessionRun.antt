@@ -1,0 +1,51 @@
+-- A run of a session: commands one after another, each with its reply.
+use Rattle.std.specs.Prelude.{◌≡◌, ℕ, ◌≤◌, Bool, List, [], ◌∷◌, length}
+use Rattle.gpu_descriptor_types.specs.Ledger.{Ledger}
+use Rattle.gpu_descriptor.specs.Books.{HasDistinctKeys}
+use Rattle.gpu_descriptor.specs.Foreign.{KeepsForeign}
+use Rattle.gpu_descriptor.specs.States.{Agrees, marked_load_of, outstanding_of, state_of, table_of}
+use Rattle.descriptor_script.specs.Session.{AreAllHeld, allocator_of, layouts_of, sets_of}
+use Rattle.descriptor_script.specs.Steps.{StepsTo}
+use Rattle.descriptor_script.specs.Tickets.{held_sets}
+use Rattle.descriptor_script.specs.declared.command.Command.{Command}
+use Rattle.descriptor_script.specs.declared.command.Reply.{Reply}
+use Rattle.descriptor_script.specs.declared.session.Session.{Session}
+
+-- a command that was done, its reply, and the session and the ledger before it and after it
+pub record Step (L P S : Type 0) : Type 0 where
+  pub command : Command
+  pub reply : Reply
+  pub old : Session L P S
+  pub new : Session L P S
+  pub before : Ledger
+  pub after : Ledger
+
+module _ {L P S : Type 0} (pool_name : P → ℕ) (set_name : S → ℕ) (counts : L → List ℕ) (mark : L → Bool) where
+  -- one command, and what holds after it
+  pub record IsStep (command : Command) (reply : Reply) (old new : Session L P S) (before after : Ledger) : Type 0 where
+    pub step : StepsTo pool_name set_name counts mark command reply old new before after
+    pub agree : Agrees pool_name (allocator_of new) after
+    pub held : AreAllHeld set_name (sets_of new) (state_of pool_name (allocator_of new) after)
+    pub count : length (held_sets (sets_of new)) ≡ outstanding_of (allocator_of new)
+    pub load : marked_load_of (allocator_of new) ≤ (allocator_of new).limit
+    pub limit : (allocator_of new).limit ≡ (allocator_of old).limit
+    pub layouts : layouts_of new ≡ layouts_of old
+    -- no key has two rows
+    pub rows : HasDistinctKeys (table_of pool_name (allocator_of new))
+    pub foreign : KeepsForeign (state_of pool_name (allocator_of old) before) (state_of pool_name (allocator_of new) after)
+
+  -- the commands were done in order, each with the reply at its place
+  abbrev pub RunsTo : List Command → List Reply → Session L P S → Session L P S → Ledger → Ledger → Type 0
+  RunsTo [] [] old new before after = (new ≡ old) × (after ≡ before)
+  RunsTo [] (reply ∷ replies) old new before after = ⊥
+  RunsTo (command ∷ commands) [] old new before after = ⊥
+  RunsTo (command ∷ commands) (reply ∷ replies) old new before after =
+      (next : Session L P S) × (between : Ledger) × IsStep command reply old next before between × RunsTo commands replies next new between after
+
+  -- at whatever states a run comes by between its commands, the promise is kept at each command
+  abbrev pub AfterEach : (Step L P S → Type 0) → List Command → List Reply → Session L P S → Session L P S → Ledger → Ledger → Type 0
+  AfterEach promise [] replies old new before after = Unit {0}
+  AfterEach promise (command ∷ commands) [] old new before after = Unit {0}
+  AfterEach promise (command ∷ commands) (reply ∷ replies) old new before after =
+      (next : Session L P S) (between : Ledger) → IsStep command reply old next before between → RunsTo commands replies next new between after
+      → promise (record { command = command; reply = reply; old = old; new = next; before = before; after = between }) × AfterEach promise commands replies next new between after

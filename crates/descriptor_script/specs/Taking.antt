@@ -1,0 +1,20 @@
+-- Taking sets out of their slots, ticket by ticket.
+use Rattle.std.specs.Prelude.{◌≡◌, ℕ, List, [], ◌∷◌, slice_set, Option, None, Some, MatchOption}
+use Rattle.std.specs.Slice.Iter.{iter_rest}
+use Rattle.gpu_descriptor.specs.declared.set.DescriptorSet.{DescriptorSet}
+use Rattle.descriptor_script.specs.Slots.{slots_of}
+use Rattle.descriptor_script.specs.Tickets.{set_at}
+use Rattle.descriptor_script.specs.declared.taking.Taking.{Taking}
+
+module _ {S : Type 0} where
+  -- the tickets that are still to come
+  abbrev pub to_come : Taking S → List ℕ
+  to_come s = iter_rest s.tickets
+
+  abbrev pub slots_in : Taking S → List (Option (DescriptorSet S))
+  slots_in s = slots_of s.slots
+
+  -- the set of the next ticket was taken, or no ticket was left
+  abbrev pub TakesNext : Taking S → Option (DescriptorSet S) → Taking S → Type 0
+  TakesNext s r t = MatchOption r ((to_come s ≡ []) × (to_come t ≡ []) × (slots_in t ≡ slots_in s))
+      (λ x. (n : ℕ) × (to_come s ≡ n ∷ to_come t) × (set_at (slots_in s) n ≡ Some x) × (slots_in t ≡ slice_set (slots_in s) n None))

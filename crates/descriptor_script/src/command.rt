@@ -1,0 +1,40 @@
+//! What a session is asked, and what it replies.
+use gpu_descriptor::AllocationError;
+
+/// What a session is asked to do.
+#[derive(Debug, PartialEq, Eq, Drop)]
+pub enum Command {
+    /// Allocates so many sets of the layout at this place.
+    Allocate { layout: usize, count: u32 },
+
+    /// Gives back the sets of these tickets.
+    Free { tickets: Vec<usize> },
+
+    /// Destroys the empty pools at the front of each key, as `DescriptorAllocator::cleanup` does.
+    Cleanup,
+}
+
+/// What a session did.
+#[derive(Clone, Copy, Debug, PartialEq, Eq)]
+pub enum Reply {
+    /// Sets were handed out, under so many tickets from `first` up.
+    Sets { first: usize, count: u32 },
+
+    /// The allocator refused.
+    Refused(AllocationError),
+
+    /// So many sets went back.
+    Freed(usize),
+
+    /// A ticket was never given, or is freed, or stands twice in the list. Nothing changed.
+    BadTicket,
+
+    /// There is no layout at this place. Nothing changed.
+    BadLayout,
+
+    /// There is no memory for the tickets. Nothing changed.
+    NoMemory,
+
+    /// The empty pools at the front of each key are gone.
+    Clean,
+}

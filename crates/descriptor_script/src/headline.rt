@@ -1,0 +1,67 @@
+//! The headline: for every device that keeps its interface, however it refuses, and every list of
+//! calls that keep their conditions, the allocator's pools hold exactly the sets handed out and not
+//! returned, batched frees, with one device call per run, leave what freeing one by one leaves, marked
+//! descriptors never pass the limit, and a request fails only for a named cause.
+ghost use Rattle.std.specs.Prelude.{◌≡◌, IfOk, OnErr};
+ghost use Rattle.gpu_descriptor.specs.Books.{HasDistinctKeys};
+ghost use Rattle.gpu_descriptor.specs.Foreign.{KeepsForeign};
+ghost use Rattle.gpu_descriptor.specs.States.{Agrees, state_of, table_of};
+ghost use Rattle.descriptor_script.specs.Headline.{CallsOnceARun, FailsForCause, FreesOneByOne, HoldsExactly, HoldsWhatIsOut, KeepsLimit, TurnsDownBad};
+ghost use Rattle.descriptor_script.specs.Session.{AreAllHeld, AreMeant, allocator_of, layouts_of, sets_of};
+ghost use Rattle.descriptor_script.specs.SessionRun.{AfterEach, RunsTo};
+
+use crate::{Command, Reply, Session};
+use gpu_descriptor::DescriptorDevice;
+use std::alloc::AllocError;
+
+/// Runs commands as `Session::run` does. Its contract is the headline, a clause for each part.
+///
+/// What `AfterEach` says holds after each command of the list, refused ones too. It follows from
+/// `runs`, which binds the body, and is there to be read. The conditions are
+/// those of `Session::run`: a session that was just made meets them, with layouts as the device
+/// means them, and each call leaves them met.
+pub fn headline<L, P: Drop, S: Drop, D: DescriptorDevice<L, P, S>>(
+    session: &mut Session<L, P, S>,
+    device: &mut D,
+    commands: &[Command],
+) -> Result<Vec<Reply>, AllocError>
+    requires agree { Agrees D.pool_name (allocator_of session.old) (D.ledger device.old) }
+    requires held { AreAllHeld D.set_name (sets_of session.old) (state_of D.pool_name (allocator_of session.old) (D.ledger device.old)) }
+    requires meant { AreMeant D.layout_counts D.layout_mark (layouts_of session.old) }
+
+    // The replies are those of a run: the commands were done in order, each as its reply says.
+    ensures runs { IfOk result (λ replies. RunsTo D.pool_name D.set_name D.layout_counts D.layout_mark
+        commands.now replies.items session.old session.new (D.ledger device.old) (D.ledger device.new)) }
+
+    // The pools hold exactly the sets that are held ..
+    ensures exactly { IfOk result (λ replies. AfterEach D.pool_name D.set_name D.layout_counts D.layout_mark (HoldsExactly D.pool_name D.set_name)
+        commands.now replies.items session.old session.new (D.ledger device.old) (D.ledger device.new)) }
+
+    // .. and these are the sets that were handed out and not returned.
+    ensures handed_out { IfOk result (λ replies. AfterEach D.pool_name D.set_name D.layout_counts D.layout_mark HoldsWhatIsOut
+        commands.now replies.items session.old session.new (D.ledger device.old) (D.ledger device.new)) }
+
+    ensures one_by_one { IfOk result (λ replies. AfterEach D.pool_name D.set_name D.layout_counts D.layout_mark (FreesOneByOne D.pool_name D.set_name)
+        commands.now replies.items session.old session.new (D.ledger device.old) (D.ledger device.new)) }
+    ensures one_call_a_run { IfOk result (λ replies. AfterEach D.pool_name D.set_name D.layout_counts D.layout_mark (CallsOnceARun D.set_name)
+        commands.now replies.items session.old session.new (D.ledger device.old) (D.ledger device.new)) }
+    ensures limit { IfOk result (λ replies. AfterEach D.pool_name D.set_name D.layout_counts D.layout_mark KeepsLimit
+        commands.now replies.items session.old session.new (D.ledger device.old) (D.ledger device.new)) }
+    ensures cause { IfOk result (λ replies. AfterEach D.pool_name D.set_name D.layout_counts D.layout_mark (FailsForCause D.pool_name D.layout_counts D.layout_mark)
+        commands.now replies.items session.old session.new (D.ledger device.old) (D.ledger device.new)) }
+    ensures turned_down { IfOk result (λ replies. AfterEach D.pool_name D.set_name D.layout_counts D.layout_mark TurnsDownBad
+        commands.now replies.items session.old session.new (D.ledger device.old) (D.ledger device.new)) }
+
+    // Without memory for the replies nothing is done.
+    ensures session { OnErr result (session.new ≡ session.old) }
+    ensures ledger { OnErr result (D.ledger device.new ≡ D.ledger device.old) }
+
+    // Pools of others stay over the whole run, and the next call may be made.
+    ensures foreign { KeepsForeign (state_of D.pool_name (allocator_of session.old) (D.ledger device.old)) (state_of D.pool_name (allocator_of session.new) (D.ledger device.new)) }
+    ensures agree { Agrees D.pool_name (allocator_of session.new) (D.ledger device.new) }
+    ensures held { AreAllHeld D.set_name (sets_of session.new) (state_of D.pool_name (allocator_of session.new) (D.ledger device.new)) }
+    ensures rows { HasDistinctKeys (table_of D.pool_name (allocator_of session.new)) }
+    ensures layouts { layouts_of session.new ≡ layouts_of session.old }
+{
+    session.run(device, commands)
+}

@@ -1,0 +1,119 @@
+//! A session: commands on an allocator, whose sets are named by tickets.
+ghost use Rattle.std.specs.Prelude.{◌≡◌, ◌≤◌, ◌++◌, [], ◌∷◌, length, IfOk, IfErr, OnOk, OnErr};
+ghost use Rattle.std.specs.Option.{option_copied};
+ghost use Rattle.gpu_descriptor.specs.States.{marked_load_of, outstanding_of};
+ghost use Rattle.descriptor_script.specs.Tickets.{held_sets, set_at};
+
+#[cfg(test)]
+mod memory;
+mod run;
+mod step;
+#[cfg(test)]
+mod tests;
+
+use crate::slots::Slots;
+use gpu_descriptor::{
+    DescriptorAllocator, DescriptorSet, DescriptorSetLayoutCreateFlags, DescriptorTotalCount,
+};
+use std::alloc::Global;
+
+/// A layout, with its counts and flags.
+#[derive(Drop)]
+pub(crate) struct KnownLayout<L> {
+    pub(crate) layout: L,
+    pub(crate) counts: DescriptorTotalCount,
+    pub(crate) flags: DescriptorSetLayoutCreateFlags,
+}
+
+/// Runs commands on an allocator, and keeps the sets that are out.
+///
+/// Each set has a ticket. Tickets begin at 0, and none is used again: a session keeps a slot for
+/// each ticket that it ever gave. All steps of a session are made with one device.
+#[derive(Drop)]
+pub struct Session<L, P, S> {
+    pub(crate) allocator: DescriptorAllocator<P, S>,
+    pub(crate) layouts: Vec<KnownLayout<L>>,
+    pub(crate) slots: Slots<S>,
+    ghost counted: { slots.held ≡ outstanding_of allocator },
+    ghost within: { marked_load_of allocator ≤ allocator.limit },
+}
+
+impl<L, P, S> Session<L, P, S> {
+    ghost use Rattle.descriptor_script.specs.Session.{allocator_of, known, layouts_of, sets_of};
+
+    /// A session without layouts and sets, whose allocator has this limit on update-after-bind
+    /// descriptors. It takes no memory.
+    pub fn new(alloc: Global, max: u32) -> Self
+        ensures allocator { allocator_of result ≡ record { limit = max; table = [] } }
+        ensures layouts { layouts_of result ≡ [] }
+        ensures sets { sets_of result ≡ [] }
+    {
+        Session {
+            allocator: DescriptorAllocator::new(alloc, max),
+            layouts: Vec::new(alloc),
+            slots: Slots::new(alloc),
+        }
+    }
+
+    /// Puts a layout last, and answers its place. For want of memory it hands the layout back.
+    pub fn add_layout(
+        &mut self,
+        layout: L,
+        counts: DescriptorTotalCount,
+        flags: DescriptorSetLayoutCreateFlags,
+    ) -> Result<usize, L>
+        ensures place { IfOk result (λ place. place ≡ length (layouts_of self.old)) }
+        ensures last { OnOk result (layouts_of self.new ≡ layouts_of self.old ++ known layout counts flags ∷ []) }
+        ensures back { IfErr result (λ l. l ≡ layout) }
+        ensures layouts { OnErr result (layouts_of self.new ≡ layouts_of self.old) }
+        ensures allocator { allocator_of self.new ≡ allocator_of self.old }
+        ensures sets { sets_of self.new ≡ sets_of self.old }
+    {
+        let place = self.layouts.len();
+        let known = KnownLayout {
+            layout,
+            counts,
+            flags,
+        };
+        match self.layouts.push(known) {
+            Ok(()) => Ok(place),
+            Err(failed) => {
+                let KnownLayout {
+                    layout,
+                    counts: _,
+                    flags: _,
+                } = failed.value;
+                Err(layout)
+            }
+        }
+    }
+
+    /// The allocator.
+    pub fn allocator(&self) -> &DescriptorAllocator<P, S>
+        ensures { result.now ≡ allocator_of self.now }
+    {
+        &self.allocator
+    }
+
+    /// How many sets are held.
+    pub fn held(&self) -> u64
+        ensures held { result ≡ length (held_sets (sets_of self.now)) }
+        ensures outstanding { result ≡ outstanding_of (allocator_of self.now) }
+    {
+        self.slots.held()
+    }
+
+    /// The ticket that comes next.
+    pub fn next_ticket(&self) -> usize
+        ensures { result ≡ length (sets_of self.now) }
+    {
+        self.slots.next()
+    }
+
+    /// The set of a ticket; `None` where the ticket was never given or its set is freed.
+    pub fn set(&self, ticket: usize) -> Option<&DescriptorSet<S>>
+        ensures { option_copied result ≡ set_at (sets_of self.now) ticket }
+    {
+        self.slots.get(ticket)
+    }
+}

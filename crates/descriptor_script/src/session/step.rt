@@ -1,0 +1,126 @@
+//! One command of a session.
+ghost use Rattle.std.specs.Prelude.{◌≡◌, ◌≤◌, length};
+ghost use Rattle.gpu_descriptor.specs.Books.{HasDistinctKeys};
+ghost use Rattle.gpu_descriptor.specs.Foreign.{KeepsForeign};
+ghost use Rattle.gpu_descriptor.specs.States.{Agrees, marked_load_of, outstanding_of, state_of, table_of};
+ghost use Rattle.descriptor_script.specs.Session.{AreAllHeld, AreMeant, allocator_of, layouts_of, sets_of};
+ghost use Rattle.descriptor_script.specs.Steps.{AllocatesTo, CleansTo, FreesTo, KeepsTickets, StepsTo};
+ghost use Rattle.descriptor_script.specs.Tickets.{held_sets};
+
+use super::Session;
+use crate::command::{Command, Reply};
+use crate::slots::Slots;
+use crate::taking::Taking;
+use gpu_descriptor::DescriptorDevice;
+use std::mem;
+
+impl<L, P: Drop, S: Drop> Session<L, P, S> {
+    /// Does what a command says. `Free` and `Cleanup` take no memory.
+    ///
+    /// A reply of `BadTicket`, `BadLayout` or `NoMemory` says that nothing changed.
+    pub fn step<D: DescriptorDevice<L, P, S>>(&mut self, device: &mut D, command: &Command) -> Reply
+        requires agree { Agrees D.pool_name (allocator_of self.old) (D.ledger device.old) }
+        requires held { AreAllHeld D.set_name (sets_of self.old) (state_of D.pool_name (allocator_of self.old) (D.ledger device.old)) }
+        requires meant { AreMeant D.layout_counts D.layout_mark (layouts_of self.old) }
+        ensures step { StepsTo D.pool_name D.set_name D.layout_counts D.layout_mark command.now result self.old self.new (D.ledger device.old) (D.ledger device.new) }
+        ensures agree { Agrees D.pool_name (allocator_of self.new) (D.ledger device.new) }
+        ensures held { AreAllHeld D.set_name (sets_of self.new) (state_of D.pool_name (allocator_of self.new) (D.ledger device.new)) }
+        ensures count { length (held_sets (sets_of self.new)) ≡ outstanding_of (allocator_of self.new) }
+        ensures load { marked_load_of (allocator_of self.new) ≤ (allocator_of self.new).limit }
+        ensures foreign { KeepsForeign (state_of D.pool_name (allocator_of self.old) (D.ledger device.old)) (state_of D.pool_name (allocator_of self.new) (D.ledger device.new)) }
+        ensures tickets { KeepsTickets self.old self.new }
+        ensures layouts { layouts_of self.new ≡ layouts_of self.old }
+        ensures rows { HasDistinctKeys (table_of D.pool_name (allocator_of self.new)) }
+        ensures limit { (allocator_of self.new).limit ≡ (allocator_of self.old).limit }
+    {
+        match command {
+            Command::Allocate { layout, count } => self.allocate(device, *layout, *count),
+            Command::Free { tickets } => self.free(device, tickets),
+            Command::Cleanup => self.cleanup(device),
+        }
+    }
+
+    /// Allocates sets of the layout at a place, and holds them under the next tickets.
+    fn allocate<D: DescriptorDevice<L, P, S>>(
+        &mut self,
+        device: &mut D,
+        layout: usize,
+        count: u32,
+    ) -> Reply
+        requires agree { Agrees D.pool_name (allocator_of self.old) (D.ledger device.old) }
+        requires held { AreAllHeld D.set_name (sets_of self.old) (state_of D.pool_name (allocator_of self.old) (D.ledger device.old)) }
+        requires meant { AreMeant D.layout_counts D.layout_mark (layouts_of self.old) }
+        ensures step { AllocatesTo D.pool_name D.set_name D.layout_counts D.layout_mark layout count self.old self.new (D.ledger device.old) (D.ledger device.new) result }
+        ensures agree { Agrees D.pool_name (allocator_of self.new) (D.ledger device.new) }
+        ensures held { AreAllHeld D.set_name (sets_of self.new) (state_of D.pool_name (allocator_of self.new) (D.ledger device.new)) }
+        ensures foreign { KeepsForeign (state_of D.pool_name (allocator_of self.old) (D.ledger device.old)) (state_of D.pool_name (allocator_of self.new) (D.ledger device.new)) }
+        ensures layouts { layouts_of self.new ≡ layouts_of self.old }
+        ensures rows { HasDistinctKeys (table_of D.pool_name (allocator_of self.new)) }
+        ensures limit { (allocator_of self.new).limit ≡ (allocator_of self.old).limit }
+    {
+        // The proof reads from this that no key has two rows.
+        let _out = self.allocator.outstanding();
+        let Some(known) = self.layouts.get(layout) else {
+            return Reply::BadLayout;
+        };
+        if self.slots.reserve(count).is_err() {
+            return Reply::NoMemory;
+        }
+        let first = self.slots.next();
+        match self
+            .allocator
+            .allocate(device, &known.layout, known.flags, &known.counts, count)
+        {
+            Ok(sets) => {
+                self.slots.append(sets);
+                Reply::Sets { first, count }
+            }
+            Err(error) => Reply::Refused(error),
+        }
+    }
+
+    /// Gives back the sets of these tickets.
+    fn free<D: DescriptorDevice<L, P, S>>(&mut self, device: &mut D, tickets: &[usize]) -> Reply
+        requires agree { Agrees D.pool_name (allocator_of self.old) (D.ledger device.old) }
+        requires held { AreAllHeld D.set_name (sets_of self.old) (state_of D.pool_name (allocator_of self.old) (D.ledger device.old)) }
+        ensures step { FreesTo D.pool_name D.set_name tickets.now self.old self.new (D.ledger device.old) (D.ledger device.new) result }
+        ensures agree { Agrees D.pool_name (allocator_of self.new) (D.ledger device.new) }
+        ensures held { AreAllHeld D.set_name (sets_of self.new) (state_of D.pool_name (allocator_of self.new) (D.ledger device.new)) }
+        ensures foreign { KeepsForeign (state_of D.pool_name (allocator_of self.old) (D.ledger device.old)) (state_of D.pool_name (allocator_of self.new) (D.ledger device.new)) }
+        ensures layouts { layouts_of self.new ≡ layouts_of self.old }
+        ensures rows { HasDistinctKeys (table_of D.pool_name (allocator_of self.new)) }
+        ensures limit { (allocator_of self.new).limit ≡ (allocator_of self.old).limit }
+    {
+        let _out = self.allocator.outstanding();
+        if !self.slots.are_held_once(tickets) {
+            return Reply::BadTicket;
+        }
+        // The iterator owns the slots while the allocator reads it.
+        let none = Slots::new(self.slots.alloc);
+        let slots = mem::replace(&mut self.slots, none);
+        let mut sets = Taking {
+            slots,
+            tickets: tickets.iter(),
+        };
+        self.allocator.free_from(device, &mut sets);
+        let Taking { slots, tickets: _ } = sets;
+        self.slots = slots;
+        Reply::Freed(tickets.len())
+    }
+
+    /// Destroys the empty pools at the front of each key.
+    fn cleanup<D: DescriptorDevice<L, P, S>>(&mut self, device: &mut D) -> Reply
+        requires agree { Agrees D.pool_name (allocator_of self.old) (D.ledger device.old) }
+        requires held { AreAllHeld D.set_name (sets_of self.old) (state_of D.pool_name (allocator_of self.old) (D.ledger device.old)) }
+        ensures step { CleansTo D.pool_name self.old self.new (D.ledger device.old) (D.ledger device.new) result }
+        ensures agree { Agrees D.pool_name (allocator_of self.new) (D.ledger device.new) }
+        ensures held { AreAllHeld D.set_name (sets_of self.new) (state_of D.pool_name (allocator_of self.new) (D.ledger device.new)) }
+        ensures foreign { KeepsForeign (state_of D.pool_name (allocator_of self.old) (D.ledger device.old)) (state_of D.pool_name (allocator_of self.new) (D.ledger device.new)) }
+        ensures layouts { layouts_of self.new ≡ layouts_of self.old }
+        ensures rows { HasDistinctKeys (table_of D.pool_name (allocator_of self.new)) }
+        ensures limit { (allocator_of self.new).limit ≡ (allocator_of self.old).limit }
+    {
+        self.allocator.cleanup(device);
+        Reply::Clean
+    }
+}

@@ -1,0 +1,118 @@
+//! Sets by ticket.
+ghost use Rattle.std.specs.Prelude.{◌≡◌, ◌++◌, ◌∷◌, ◌<◌, ◌↔◌, [], length, map, slice_set, Some, None, IsSome, IsTrue, OnOk, OnErr, vec_len};
+ghost use Rattle.std.specs.Option.{option_copied};
+ghost use Rattle.descriptor_script.specs.Tickets.{AreClear, AreHeldOnce, held_sets, set_at};
+
+use crate::marks::{clear_each, mark_each};
+use gpu_descriptor::DescriptorSet;
+use std::alloc::{AllocError, Global};
+
+/// A slot for each ticket that was given, with its set until that is freed.
+#[derive(Drop)]
+pub(crate) struct Slots<S> {
+    pub(crate) alloc: Global,
+    pub(crate) sets: Vec<Option<DescriptorSet<S>>>,
+
+    /// Marks for a walk over a list of tickets. Between the walks none is set.
+    pub(crate) listed: Vec<bool>,
+
+    /// How many slots have a set.
+    pub(crate) held: u64,
+    ghost as_long: { vec_len listed ≡ vec_len sets },
+    ghost clear: { AreClear listed.items },
+    ghost counted: { held ≡ length (held_sets sets.items) },
+}
+
+impl<S> Slots<S> {
+    ghost use Rattle.descriptor_script.specs.Slots.{HasRoom, KeepsRoom, slots_of};
+
+    /// No ticket was given. It takes no memory.
+    pub(crate) fn new(alloc: Global) -> Self
+        ensures { slots_of result ≡ [] }
+    {
+        Slots {
+            alloc,
+            sets: Vec::new(alloc),
+            listed: Vec::new(alloc),
+            held: 0,
+        }
+    }
+
+    /// The set of a ticket.
+    pub(crate) fn get(&self, ticket: usize) -> Option<&DescriptorSet<S>>
+        ensures { option_copied result ≡ set_at (slots_of self.now) ticket }
+    {
+        match self.sets.get(ticket) {
+            Some(slot) => slot.as_ref(),
+            None => None,
+        }
+    }
+
+    /// How many slots have a set.
+    pub(crate) fn held(&self) -> u64
+        ensures { result ≡ length (held_sets (slots_of self.now)) }
+    {
+        self.held
+    }
+
+    /// The next ticket.
+    pub(crate) fn next(&self) -> usize
+        ensures { result ≡ length (slots_of self.now) }
+    {
+        self.sets.len()
+    }
+
+    /// Takes room for so many tickets.
+    pub(crate) fn reserve(&mut self, count: u32) -> Result<(), AllocError>
+        ensures room { OnOk result (HasRoom count self.new) }
+        ensures some { OnErr result (0 < count) }
+        ensures sets { slots_of self.new ≡ slots_of self.old }
+    {
+        self.sets.reserve(count as usize)?;
+        self.listed.reserve(count as usize)
+    }
+
+    /// Puts sets under the next tickets, over room that was taken.
+    pub(crate) fn append(&mut self, sets: Vec<DescriptorSet<S>>)
+    where
+        S: Drop,
+        requires { HasRoom (length sets.items) self.old }
+        ensures { slots_of self.new ≡ slots_of self.old ++ map Some sets.items }
+    {
+        for set in sets {
+            self.push(set);
+        }
+    }
+
+    /// Puts a set under the next ticket, over room that was taken.
+    fn push(&mut self, set: DescriptorSet<S>)
+        requires { HasRoom 1 self.old }
+        ensures sets { slots_of self.new ≡ slots_of self.old ++ Some set ∷ [] }
+        ensures room { KeepsRoom 1 self.old self.new }
+    {
+        self.sets.push_reserved(Some(set));
+        self.listed.push_reserved(false);
+        self.held += 1;
+    }
+
+    /// Takes the set of a ticket out of its slot.
+    pub(crate) fn take(&mut self, ticket: usize) -> Option<DescriptorSet<S>>
+        requires { IsSome (set_at (slots_of self.old) ticket) }
+        ensures set { result ≡ set_at (slots_of self.old) ticket }
+        ensures sets { slots_of self.new ≡ slice_set (slots_of self.old) ticket None }
+    {
+        let set = self.sets[ticket].take();
+        self.held -= 1;
+        set
+    }
+
+    /// Whether each ticket of the list has a set, and none stands twice.
+    pub(crate) fn are_held_once(&mut self, tickets: &[usize]) -> bool
+        ensures answer { IsTrue result ↔ AreHeldOnce (slots_of self.old) tickets.now }
+        ensures sets { slots_of self.new ≡ slots_of self.old }
+    {
+        let good = mark_each(&self.sets, &mut self.listed, tickets);
+        clear_each(&mut self.listed, tickets);
+        good
+    }
+}
