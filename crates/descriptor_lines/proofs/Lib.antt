@@ -2,3 +2,5 @@ pub mod NameLemmas
 pub mod WordLemmas
 pub mod NumberLemmas
 pub mod AnswerLemmas
+pub mod SessionLemmas
+pub mod TicketLemmas

@@ -3,9 +3,14 @@ use Rattle.std.specs.Prelude.{◌≡◌, ℕ, List, [], ◌∷◌, ◌++◌, cod
 use Rattle.std.specs.Fmt.{decimal}
 use Rattle.std.specs.List.{flat_map, zip}
 use Rattle.gpu_descriptor_types.specs.PoolSize.{IsPoolSize, pool_counts}
-use Rattle.descriptor_lines.specs.declared.command.Fault.{Fault}
+use Rattle.gpu_descriptor.specs.declared.view.PoolView.{PoolView}
+use Rattle.descriptor_lines.specs.declared.fault.Fault.{Fault}
 use Rattle.descriptor_lines.specs.Fault.{words_of_fault}
 use Rattle.descriptor_lines.specs.Kinds.{kind_names}
+
+-- the answer of `limit`
+abbrev pub limit_answer : ℕ → List ℕ
+limit_answer max = codes "limit " ++ decimal max ++ 10 ∷ []
 
 -- the answer of `layout`, with the sum of the counts
 abbrev pub layout_answer : List ℕ → ℕ → List ℕ
@@ -29,6 +34,24 @@ pub record AnswersSize (counts : List ℕ) (total wanted : ℕ) (old new : List 
   pub sets : ℕ
   pub is_size : IsPoolSize counts total wanted sets
   pub text : new ≡ old ++ size_answer sets (pool_counts counts sets)
+
+-- the answer of `script`, with the number of its words
+abbrev pub script_answer : ℕ → List ℕ
+script_answer words = codes "script " ++ decimal words ++ 10 ∷ []
+
+-- the line of `show` for a pool of the layout of this name
+abbrev pub pool_answer : List ℕ → PoolView → List ℕ
+pool_answer name pool =
+    codes "pool " ++ name ++ codes " " ++ decimal pool.number ++ codes " " ++ decimal pool.allocated ++ codes "/" ++ decimal pool.available ++ 10 ∷ []
+
+-- the line of `show` for the calls that the device had
+abbrev pub device_answer : ℕ → ℕ → ℕ → ℕ → List ℕ
+device_answer created destroyed asked released =
+    codes "device created " ++ decimal created ++ codes " destroyed " ++ decimal destroyed ++ codes " asked " ++ decimal asked ++ codes " released " ++ decimal released ++ 10 ∷ []
+
+-- the line of `show` for the sets that are out, and the descriptors of those that are marked
+abbrev pub held_answer : ℕ → ℕ → List ℕ
+held_answer held marked = codes "held " ++ decimal held ++ codes " marked " ++ decimal marked ++ 10 ∷ []
 
 -- the last line of a run that ended at a fault
 abbrev pub fault_line : ℕ → Fault → List ℕ

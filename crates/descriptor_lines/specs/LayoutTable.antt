@@ -1,16 +1,25 @@
 -- The layouts by name.
-use Rattle.std.specs.Prelude.{◌≡◌, ℕ, List, Option}
-use Rattle.std.specs.HashMap.{get_by_text, hash_map_len}
+use Rattle.std.specs.Prelude.{◌≡◌, ◌<◌, ℕ, List, map, length, Option, string_bytes}
+use Rattle.std.specs.Option.{option_map}
+use Rattle.indexmap.specs.IndexMap.{get_by_text, spare}
 use Rattle.descriptor_lines.specs.declared.layouts.Layout.{Layout}
 use Rattle.descriptor_lines.specs.declared.layouts.Layouts.{Layouts}
 
+-- the layouts with their names, in the order in which they came
+abbrev pub layouts_in : Layouts → List (List ℕ × Layout)
+layouts_in layouts = map (λ e. (string_bytes e.0, e.1.layout)) layouts.by_name.entries
+
 -- the layout of this name
 abbrev pub layout_named : Layouts → List ℕ → Option Layout
-layout_named layouts name = get_by_text layouts.by_name name
+layout_named layouts name = option_map (λ e. e.layout) (get_by_text layouts.by_name name)
 
 abbrev pub layout_count : Layouts → ℕ
-layout_count layouts = hash_map_len layouts.by_name
+layout_count layouts = length layouts.by_name.entries
 
--- each name has the layout that it had
+-- one more layout needs no memory
+abbrev pub HasRoom : Layouts → Type 0
+HasRoom layouts = 0 < spare layouts.by_name
+
+-- the same layouts under the same names, in the same order
 abbrev pub SameLayouts : Layouts → Layouts → Type 0
-SameLayouts old new = (name : List ℕ) → layout_named new name ≡ layout_named old name
+SameLayouts old new = new.by_name.entries ≡ old.by_name.entries

@@ -1,8 +1,13 @@
 pub mod Answers
+pub mod Commands
 pub mod Exit
 pub mod Fault
 pub mod Kinds
 pub mod LayoutTable
 pub mod Names
 pub mod Numbers
+pub mod Programs
+pub mod Replies
+pub mod ScriptWords
+pub mod Tickets
 pub mod Words

@@ -1,5 +1,5 @@
 -- The words of a line.
-use Rattle.std.specs.Prelude.{ℕ, Bool, true, false, List, [], ◌∷◌, ◌≢◌, codes, ◌==◌, ◌||◌, filter, slice_index}
+use Rattle.std.specs.Prelude.{◌≡◌, ℕ, Bool, true, false, List, [], ◌∷◌, ◌≢◌, codes, ◌==◌, ◌||◌, filter, slice_index}
 use Rattle.std.specs.List.{slice_split}
 use Rattle.descriptor_lines.specs.declared.text.Words.{Words}
 
@@ -16,9 +16,9 @@ has_bytes (byte ∷ bytes) = true
 abbrev pub words : List ℕ → List (List ℕ)
 words line = filter has_bytes (slice_split is_blank line)
 
--- what parts a kind from its count
-abbrev pub is_equals : ℕ → Bool
-is_equals byte = byte == 61
+-- whether a byte has this value
+abbrev pub is_byte : ℕ → ℕ → Bool
+is_byte value byte = byte == value
 
 -- the words that are still to come
 abbrev pub words_left : Words → List (List ℕ)
@@ -29,8 +29,13 @@ abbrev pub is_silent : List (List ℕ) → Bool
 is_silent [] = true
 is_silent (word ∷ words) = slice_index word 0 == 35
 
+-- the first word of a line is `limit`
+abbrev pub IsLimit : List (List ℕ) → Type 0
+IsLimit [] = ⊥
+IsLimit (word ∷ words) = word ≡ codes "limit"
+
 -- the first word of a line is no command, and begins no comment
 abbrev pub IsUnknown : List (List ℕ) → Type 0
 IsUnknown [] = ⊥
 IsUnknown (word ∷ words) =
-    (slice_index word 0 ≢ 35) × (word ≢ codes "layout") × (word ≢ codes "size")
+    (slice_index word 0 ≢ 35) × (word ≢ codes "limit") × (word ≢ codes "layout") × (word ≢ codes "size") × (word ≢ codes "script") × (word ≢ codes "alloc") × (word ≢ codes "free") × (word ≢ codes "cleanup") × (word ≢ codes "show")

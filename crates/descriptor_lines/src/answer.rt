@@ -1,15 +1,26 @@
 //! What the output says: an answer or a fault for a line.
 ghost use Rattle.std.specs.Prelude.{◌≡◌, ◌++◌, OnOk, sum, string_bytes};
 ghost use Rattle.gpu_descriptor_types.specs.Counts.{kinds};
-ghost use Rattle.descriptor_lines.specs.Answers.{layout_answer as layout_answer_of, size_answer as size_answer_of, kind_answer as kind_answer_of, kinds_answer as kinds_answer_of, fault_line as fault_line_of};
+ghost use Rattle.descriptor_lines.specs.Answers.{limit_answer as limit_answer_of, layout_answer as layout_answer_of, size_answer as size_answer_of, kind_answer as kind_answer_of, kinds_answer as kinds_answer_of, script_answer as script_answer_of, pool_answer as pool_answer_of, device_answer as device_answer_of, held_answer as held_answer_of, fault_line as fault_line_of};
 
-use crate::command::Fault;
+mod reply;
+
+use crate::fault::Fault;
 use crate::text;
+use gpu_descriptor::PoolView;
 use gpu_descriptor_types::DescriptorTotalCount;
+pub use reply::{reply_answer, room_for_sets};
 use std::alloc::AllocError;
 
 /// The answer where there was no memory to run a line.
 pub const NO_MEMORY: &str = "refused: no memory\n";
+
+/// The answer of `limit`.
+pub fn limit_answer(answer: &mut String, max: u32) -> Result<(), AllocError>
+    ensures { OnOk result (string_bytes answer.new ≡ string_bytes answer.old ++ limit_answer_of max) }
+{
+    writeln!(answer, "limit {max}")
+}
 
 /// The answer of `layout`.
 pub fn layout_answer(
@@ -54,6 +65,48 @@ fn kind_answer(answer: &mut String, name: &str, count: u32) -> Result<(), AllocE
         return Ok(());
     }
     write!(answer, " {name}={count}")
+}
+
+/// The answer of `script`, with the number of its words.
+pub fn script_answer(answer: &mut String, words: usize) -> Result<(), AllocError>
+    ensures { OnOk result (string_bytes answer.new ≡ string_bytes answer.old ++ script_answer_of words) }
+{
+    writeln!(answer, "script {words}")
+}
+
+/// The line of `show` for a pool of the layout of this name.
+pub fn pool_answer(answer: &mut String, name: &str, pool: &PoolView) -> Result<(), AllocError>
+    ensures { OnOk result (string_bytes answer.new ≡ string_bytes answer.old ++ pool_answer_of name.now pool.now) }
+{
+    let PoolView {
+        number,
+        allocated,
+        available,
+    } = *pool;
+    writeln!(answer, "pool {name} {number} {allocated}/{available}")
+}
+
+/// The line of `show` for the calls that the device had.
+pub fn device_answer(
+    answer: &mut String,
+    created: u64,
+    destroyed: u64,
+    asked: u64,
+    released: u64,
+) -> Result<(), AllocError>
+    ensures { OnOk result (string_bytes answer.new ≡ string_bytes answer.old ++ device_answer_of created destroyed asked released) }
+{
+    writeln!(
+        answer,
+        "device created {created} destroyed {destroyed} asked {asked} released {released}"
+    )
+}
+
+/// The line of `show` for the sets that are out, and the descriptors of those that are marked.
+pub fn held_answer(answer: &mut String, held: u64, marked: u32) -> Result<(), AllocError>
+    ensures { OnOk result (string_bytes answer.new ≡ string_bytes answer.old ++ held_answer_of held marked) }
+{
+    writeln!(answer, "held {held} marked {marked}")
 }
 
 /// The last line of the output of a run that ended at a fault. Lines are numbered from 1.

@@ -1,72 +1,87 @@
-//! The commands that lines give, and what can be wrong with a line.
-ghost use Rattle.std.specs.Prelude.{◌≡◌, ◌≢◌, ◌<◌, ◌↔◌, length, true, false, IsTrue, IsOk, IfOk, IfErr, codes, Ok, Err, None};
-ghost use Rattle.descriptor_lines.specs.Fault.{words_of_fault, IsFaultOfKind};
+//! The commands that lines give.
+ghost use Rattle.std.specs.Prelude.{◌≡◌, ◌≢◌, ◌↔◌, ◌<◌, length, false, IsTrue, IsFalse, IsOk, IfOk, IfErr, IfSome, Ok, Err, None};
+ghost use Rattle.descriptor_lines.specs.Commands.{IsNumberOf, IsRunnable};
+ghost use Rattle.descriptor_lines.specs.Fault.{IsOfArguments, faulty};
+ghost use Rattle.descriptor_lines.specs.LayoutTable.{layout_count};
 ghost use Rattle.descriptor_lines.specs.Numbers.{WritesNumberWithin, value_of};
-ghost use Rattle.descriptor_lines.specs.Words.{words as words_of, words_left, is_silent, IsUnknown};
+ghost use Rattle.descriptor_lines.specs.Words.{words as words_of, words_left, is_silent, IsLimit, IsUnknown};
 
+mod layout;
+mod script;
+mod tickets;
+
+use crate::fault::{Fault, Refusal};
 use crate::layouts::{Layout, Layouts};
 use crate::text;
 use crate::text::Words;
+use descriptor_script::Answer;
 use gpu_descriptor_types::DescriptorTotalCount;
+use layout::parse_layout;
+use script::parse_script;
+use std::alloc::Global;
+use tickets::parse_free;
 
-/// What is wrong with a line.
-#[derive(Clone, Copy, Debug, PartialEq, Eq)]
-pub enum Fault {
-    LineTooLong,
-    UnknownCommand,
-    BadWordCount,
-    BadName,
-    NameIsTaken,
-    NoSuchLayout,
-    BadMark,
-    BadKind,
-    KindTwice,
-    BadNumber,
-    TooManyLayouts,
-}
-
-impl Fault {
-    /// What the output says of the fault.
-    pub fn words(&self) -> &'static str
-        ensures { result.now ≡ words_of_fault self.now }
-    {
-        match self {
-            Fault::LineTooLong => "line too long",
-            Fault::UnknownCommand => "unknown command",
-            Fault::BadWordCount => "bad word count",
-            Fault::BadName => "bad name",
-            Fault::NameIsTaken => "name is taken",
-            Fault::NoSuchLayout => "no such layout",
-            Fault::BadMark => "bad mark",
-            Fault::BadKind => "bad kind",
-            Fault::KindTwice => "kind twice",
-            Fault::BadNumber => "bad number",
-            Fault::TooManyLayouts => "too many layouts",
-        }
-    }
-}
+/// The greatest count of sets that a line may ask for.
+const MAX_SETS: u64 = 1_000_000;
 
 /// A command, with all that its line says.
-#[derive(Clone, Copy, Debug)]
+#[derive(Debug, Drop)]
 pub enum Command<'a> {
+    /// Begins with this limit on marked descriptors.
+    Limit {
+        max: u32,
+    },
+
     /// Makes a layout of a new name.
     Layout {
         name: &'a str,
         layout: Layout,
     },
+
     /// Asks for the size of a new pool of a layout with these counts.
     Size {
         counts: DescriptorTotalCount,
         total: u64,
         wanted: u32,
     },
+
+    /// Gives the device a new script.
+    Script {
+        script: Vec<Answer>,
+    },
+
+    /// Allocates so many sets of the layout at this place.
+    Alloc {
+        layout: usize,
+        count: u32,
+    },
+
+    /// Gives back the sets of these tickets.
+    Free {
+        tickets: Vec<usize>,
+    },
+
+    /// Destroys the empty pools at the front of each key.
+    Cleanup,
+
+    /// Asks for the pools and the counters.
+    Show,
 }
 
 impl<'a> Command<'a> {
-    /// The command of a line, or `None` where the line has no words or is a comment.
-    pub fn parse(line: &'a [u8], layouts: &Layouts) -> Result<Option<Command<'a>>, Fault>
-        ensures unknown { result ≡ Err Fault.UnknownCommand ↔ IsUnknown (words_of line.now) }
+    /// The command of a line, or `None` where the line has no words or is a comment. A limit may
+    /// come only where `has_begun` is false: where no line before it had a command.
+    pub fn parse(
+        alloc: Global,
+        line: &'a [u8],
+        layouts: &Layouts,
+        has_begun: bool,
+    ) -> Result<Option<Command<'a>>, Refusal>
+        requires fresh { IsFalse has_begun → layout_count layouts.now ≡ 0 }
+        ensures unknown { result ≡ Err (faulty Fault.UnknownCommand) ↔ IsUnknown (words_of line.now) }
+        ensures first { result ≡ Err (faulty Fault.LimitNotFirst) ↔ (IsLimit (words_of line.now) × IsTrue has_begun) }
         ensures silent { result ≡ Ok None ↔ IsTrue (is_silent (words_of line.now)) }
+        ensures runnable { IfOk result (λ command. IfSome command (IsRunnable layouts.now)) }
     {
         let mut words = Words::new(line);
         let Some(command) = words.next() else {
@@ -74,38 +89,55 @@ impl<'a> Command<'a> {
         };
         match command {
             [b'#', ..] => Ok(None),
+            b"limit" => {
+                let max = parse_limit(words, has_begun)?;
+                Ok(Some(Command::Limit { max }))
+            }
             b"layout" => Ok(Some(parse_layout(words, layouts)?)),
             b"size" => Ok(Some(parse_size(words, layouts)?)),
-            _ => Err(Fault::UnknownCommand),
+            b"script" => {
+                let script = parse_script(alloc, words)?;
+                Ok(Some(Command::Script { script }))
+            }
+            b"alloc" => Ok(Some(parse_alloc(words, layouts)?)),
+            b"free" => {
+                let tickets = parse_free(alloc, words)?;
+                Ok(Some(Command::Free { tickets }))
+            }
+            b"cleanup" => {
+                expect_end(words)?;
+                Ok(Some(Command::Cleanup))
+            }
+            b"show" => {
+                expect_end(words)?;
+                Ok(Some(Command::Show))
+            }
+            _ => Err(Refusal::Fault(Fault::UnknownCommand)),
         }
     }
 }
 
-/// `layout NAME plain` or `mark`, and the kinds with their counts.
-fn parse_layout<'a>(mut words: Words<'a>, layouts: &Layouts) -> Result<Command<'a>, Fault>
-    ensures known { result ≢ Err Fault.UnknownCommand }
-    ensures count { result ≡ Err Fault.BadWordCount ↔ (length (words_left words.entry) < 2) }
+/// `limit N`.
+fn parse_limit(mut words: Words<'_>, has_begun: bool) -> Result<u32, Refusal>
+    ensures known { result ≢ Err (faulty Fault.UnknownCommand) }
+    ensures first { result ≡ Err (faulty Fault.LimitNotFirst) ↔ IsTrue has_begun }
+    ensures count { result ≡ Err (faulty Fault.BadWordCount) ↔ (IsFalse has_begun × (length (words_left words.entry) ≢ 1)) }
+    ensures value { IfOk result (IsNumberOf (words_left words.entry)) }
 {
-    let (Some(name), Some(mark)) = (words.next(), words.next()) else {
-        return Err(Fault::BadWordCount);
+    if has_begun {
+        return Err(Refusal::Fault(Fault::LimitNotFirst));
+    }
+    let (Some(max), None) = (words.next(), words.next()) else {
+        return Err(Refusal::Fault(Fault::BadWordCount));
     };
-    let name = text::name(name).ok_or(Fault::BadName)?;
-    if layouts.get(name).is_some() {
-        return Err(Fault::NameIsTaken);
-    }
-    let mark = parse_mark(mark)?;
-    let counts = parse_counts(words)?;
-    if layouts.is_full() {
-        return Err(Fault::TooManyLayouts);
-    }
-    let layout = Layout { counts, mark };
-    Ok(Command::Layout { name, layout })
+    Ok(parse_u32(max)?)
 }
 
 /// `size NAME TOTAL WANTED`.
-fn parse_size<'a>(mut words: Words<'a>, layouts: &Layouts) -> Result<Command<'a>, Fault>
-    ensures known { result ≢ Err Fault.UnknownCommand }
-    ensures count { result ≡ Err Fault.BadWordCount ↔ (length (words_left words.entry) ≢ 3) }
+fn parse_size<'a>(mut words: Words<'a>, layouts: &Layouts) -> Result<Command<'a>, Refusal>
+    ensures arguments { IfErr result IsOfArguments }
+    ensures count { result ≡ Err (faulty Fault.BadWordCount) ↔ (length (words_left words.entry) ≢ 3) }
+    ensures runnable { IfOk result (IsRunnable layouts.now) }
 {
     let (Some(name), Some(total), Some(wanted), None) = (
         words.next(),
@@ -113,7 +145,7 @@ fn parse_size<'a>(mut words: Words<'a>, layouts: &Layouts) -> Result<Command<'a>
         words.next(),
         words.next(),
     ) else {
-        return Err(Fault::BadWordCount);
+        return Err(Refusal::Fault(Fault::BadWordCount));
     };
     let name = text::name(name).ok_or(Fault::BadName)?;
     let counts = layouts.get(name).ok_or(Fault::NoSuchLayout)?.counts;
@@ -126,34 +158,30 @@ fn parse_size<'a>(mut words: Words<'a>, layouts: &Layouts) -> Result<Command<'a>
     })
 }
 
-fn parse_mark(word: &[u8]) -> Result<bool, Fault>
-    ensures plain { result ≡ Ok false ↔ (word.now ≡ codes "plain") }
-    ensures mark { result ≡ Ok true ↔ (word.now ≡ codes "mark") }
-    ensures fault { IfErr result (λ fault. fault ≡ Fault.BadMark) }
+/// `alloc NAME N`.
+fn parse_alloc<'a>(mut words: Words<'a>, layouts: &Layouts) -> Result<Command<'a>, Refusal>
+    ensures arguments { IfErr result IsOfArguments }
+    ensures count { result ≡ Err (faulty Fault.BadWordCount) ↔ (length (words_left words.entry) ≢ 2) }
+    ensures runnable { IfOk result (IsRunnable layouts.now) }
 {
-    match word {
-        b"plain" => Ok(false),
-        b"mark" => Ok(true),
-        _ => Err(Fault::BadMark),
-    }
+    let (Some(name), Some(count), None) = (words.next(), words.next(), words.next()) else {
+        return Err(Refusal::Fault(Fault::BadWordCount));
+    };
+    let name = text::name(name).ok_or(Fault::BadName)?;
+    let layout = layouts.place(name).ok_or(Fault::NoSuchLayout)?;
+    let count = text::number_within(count, MAX_SETS).ok_or(Fault::BadNumber)? as u32;
+    Ok(Command::Alloc { layout, count })
 }
 
-/// The counts out of words `KIND=N`, each kind at most once.
-fn parse_counts(words: Words<'_>) -> Result<DescriptorTotalCount, Fault>
-    ensures { IfErr result IsFaultOfKind }
+/// The end of a line whose command has no arguments.
+fn expect_end(mut words: Words<'_>) -> Result<(), Refusal>
+    ensures arguments { IfErr result IsOfArguments }
+    ensures count { result ≡ Err (faulty Fault.BadWordCount) ↔ (length (words_left words.entry) ≢ 0) }
 {
-    let mut counts = DescriptorTotalCount::default();
-    let mut is_named = [false; text::KIND_COUNT];
-    for word in words {
-        let (kind, count) = text::around_equals(word).ok_or(Fault::BadKind)?;
-        let kind = text::kind(kind).ok_or(Fault::BadKind)?;
-        if is_named[kind] {
-            return Err(Fault::KindTwice);
-        }
-        is_named[kind] = true;
-        counts.set_kind(kind, parse_u32(count)?);
+    if words.next().is_some() {
+        return Err(Refusal::Fault(Fault::BadWordCount));
     }
-    Ok(counts)
+    Ok(())
 }
 
 fn parse_u32(word: &[u8]) -> Result<u32, Fault>

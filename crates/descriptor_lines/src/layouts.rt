@@ -1,10 +1,11 @@
 //! The layouts that the lines made, by name.
-ghost use Rattle.std.specs.Prelude.{◌≡◌, ◌≢◌, ◌+◌, ◌≤◌, ◌↔◌, ℕ, List, IsTrue, OnOk, OnErr, Some, None};
-ghost use Rattle.descriptor_lines.specs.LayoutTable.{layout_named, layout_count, SameLayouts};
+ghost use Rattle.std.specs.Prelude.{◌≡◌, ◌+◌, ◌<◌, ◌≤◌, ◌↔◌, ◌++◌, ◌∷◌, [], IsTrue, IfOk, IfSome, OnOk, None, is_some, string_bytes};
+ghost use Rattle.descriptor_lines.specs.LayoutTable.{layout_named, layouts_in, layout_count, HasRoom, SameLayouts};
 
 use gpu_descriptor_types::DescriptorTotalCount;
+use indexmap::IndexMap;
+use indexmap::map::Iter;
 use std::alloc::{AllocError, Global};
-use std::collections::HashMap;
 
 /// The greatest number of layouts.
 pub const MAX_LAYOUTS: usize = 1024;
@@ -16,21 +17,29 @@ pub struct Layout {
     pub mark: bool,
 }
 
-/// The layouts by name.
+/// A layout in the table.
+#[derive(Clone, Copy, Debug)]
+pub struct Entry {
+    pub layout: Layout,
+
+    /// Whether no earlier layout has the same counts and mark, and so the same pools.
+    pub is_first: bool,
+}
+
+/// The layouts by name, in the order in which they came.
 #[derive(Drop)]
 pub struct Layouts {
     alloc: Global,
-    by_name: HashMap<String, Layout>,
+    by_name: IndexMap<String, Entry>,
 }
 
 impl Layouts {
     pub fn new(alloc: Global) -> Self
-        ensures empty { (name : List ℕ) → layout_named result name ≡ None }
-        ensures count { layout_count result ≡ 0 }
+        ensures { layouts_in result ≡ [] }
     {
         Layouts {
             alloc,
-            by_name: HashMap::new(alloc),
+            by_name: IndexMap::new(alloc),
         }
     }
 
@@ -45,18 +54,45 @@ impl Layouts {
     pub fn get(&self, name: &str) -> Option<Layout>
         ensures { result ≡ layout_named self.now name.now }
     {
-        self.by_name.get(name).copied()
+        self.by_name.get(name).map(|entry| entry.layout)
     }
 
-    /// Puts the layout under the name. An error changes nothing.
-    pub fn insert(&mut self, name: &str, layout: Layout) -> Result<(), AllocError>
-        ensures named { OnOk result (layout_named self.new name.now ≡ Some layout) }
-        ensures others { (other : List ℕ) → other ≢ name.now → layout_named self.new other ≡ layout_named self.old other }
-        ensures count { OnOk result (layout_named self.old name.now ≡ None → layout_count self.new ≡ layout_count self.old + 1) }
-        ensures err { OnErr result (SameLayouts self.old self.new) }
+    /// The place of the layout of this name, in the order in which they came.
+    pub fn place(&self, name: &str) -> Option<usize>
+        ensures found { is_some result ≡ is_some (layout_named self.now name.now) }
+        ensures within { IfSome result (λ place. place < layout_count self.now) }
     {
-        let name = String::from_str(self.alloc, name)?;
-        self.by_name.insert(name, layout)?;
-        Ok(())
+        self.by_name.get_index_of(name)
+    }
+
+    /// The layouts with their names, in the order in which they came.
+    pub fn iter(&self) -> Iter<'_, String, Entry> {
+        self.by_name.iter()
+    }
+
+    /// Takes room for one more layout.
+    pub fn reserve(&mut self) -> Result<(), AllocError>
+        ensures room { OnOk result (HasRoom self.new) }
+        ensures same { SameLayouts self.old self.new }
+    {
+        self.by_name.reserve(1)
+    }
+
+    /// The name as the table keeps it.
+    pub fn kept_name(&self, name: &str) -> Result<String, AllocError>
+        ensures { IfOk result (λ kept. string_bytes kept ≡ name.now) }
+    {
+        String::from_str(self.alloc, name)
+    }
+
+    /// Puts a layout of a new name last, over room that was taken.
+    pub fn push(&mut self, name: String, layout: Layout)
+        requires room { HasRoom self.old }
+        requires absent { layout_named self.old (string_bytes name) ≡ None }
+        ensures { layouts_in self.new ≡ layouts_in self.old ++ (string_bytes name, layout) ∷ [] }
+    {
+        let is_first = !self.by_name.values().any(|entry| entry.layout == layout);
+        // There is room, and the name is new.
+        let _ = self.by_name.insert(name, Entry { layout, is_first });
     }
 }

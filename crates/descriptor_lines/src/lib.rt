@@ -1,10 +1,11 @@
-//! The lines of the program: it reads commands about layouts and pools from any reader, and writes
-//! an answer for each to any writer.
+//! The lines of the program: it reads commands on layouts, sets and pools from any reader, and
+//! writes an answer for each to any writer.
 #![tactic(auto)]
 
 mod answer;
 mod command;
 mod exit;
+mod fault;
 mod input;
 mod layouts;
 mod program;

@@ -1,11 +1,11 @@
 //! The parts of a line: words, numbers, names and kinds.
-ghost use Rattle.std.specs.Prelude.{◌≡◌, ℕ, ◌≤◌, ◌<◌, ◌≢◌, ◌↔◌, ◌++◌, ◌∷◌, length, All, Contains, IsTrue, IsSome, IfSome, IfNone, position, slice_get, slice_index, Some, false};
+ghost use Rattle.std.specs.Prelude.{◌≡◌, ℕ, ◌≤◌, ◌<◌, ◌≢◌, ◌↔◌, ◌++◌, ◌∷◌, length, All, Contains, IsTrue, is_some, IsSome, IfSome, IfNone, position, slice_get, slice_index, Some, false};
 ghost use Rattle.std.specs.Iterator.{YieldsFirstBy, item_count};
 ghost use Rattle.std.specs.List.{before_first, after_first};
 ghost use Rattle.descriptor_lines.specs.Kinds.{kind_names};
 ghost use Rattle.descriptor_lines.specs.Names.{IsName, IsNameByte};
 ghost use Rattle.descriptor_lines.specs.Numbers.{WritesNumberWithin, value_of};
-ghost use Rattle.descriptor_lines.specs.Words.{words as words_of, is_blank as is_blank_of, is_equals, words_left};
+ghost use Rattle.descriptor_lines.specs.Words.{words as words_of, is_blank as is_blank_of, is_byte, words_left};
 
 use std::str;
 
@@ -166,20 +166,21 @@ pub fn kind(word: &[u8]) -> Option<usize>
     None
 }
 
-/// The place of the first `=`.
-fn first_equals(word: &[u8]) -> Option<usize>
-    ensures place { result ≡ position is_equals word.now }
-    ensures found { IsSome result ↔ Contains word.now 61 }
+/// The place of the first byte of this value.
+fn first_of(word: &[u8], value: u8) -> Option<usize>
+    ensures place { result ≡ position (is_byte value) word.now }
+    ensures found { IsSome result ↔ Contains word.now value }
 {
-    word.iter().position(|byte| *byte == b'=')
+    word.iter().position(|byte| *byte == value)
 }
 
-/// What stands before and after the first `=` of a word, where it has one.
-pub fn around_equals(word: &[u8]) -> Option<(&[u8], &[u8])>
-    ensures found { IsSome result ↔ Contains word.now 61 }
-    ensures before { IfSome result (λ parts. parts.0.now ≡ before_first is_equals word.now) }
-    ensures after { IfSome result (λ parts. parts.1.now ≡ after_first is_equals word.now) }
+/// What stands before and after the first byte of this value, where the word has one.
+pub fn around(word: &[u8], value: u8) -> Option<(&[u8], &[u8])>
+    ensures found { IsSome result ↔ Contains word.now value }
+    ensures at { is_some result ≡ is_some (position (is_byte value) word.now) }
+    ensures before { IfSome result (λ parts. parts.0.now ≡ before_first (is_byte value) word.now) }
+    ensures after { IfSome result (λ parts. parts.1.now ≡ after_first (is_byte value) word.now) }
 {
-    let place = first_equals(word)?;
+    let place = first_of(word, value)?;
     Some((&word[..place], &word[place + 1..]))
 }

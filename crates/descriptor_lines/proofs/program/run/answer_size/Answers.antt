@@ -2,7 +2,7 @@ use Rattle.std.proofs.Common.{ap, ◌∙◌, ◌++◌}
 use Rattle.std.proofs.lemmas.Result.{IfOk-weaker}
 use Rattle.std.specs.String.{string_bytes}
 use Rattle.descriptor_lines.specs.Answers.{size_answer}
-use Rattle.descriptor_lines.proofs.program.answer_size.Goals as goal
+use Rattle.descriptor_lines.proofs.program.run.answer_size.Goals as goal
 
 pub returns : goal.returns
 returns c =

@@ -1,0 +1,133 @@
+-- Sessions that are ready, and the replies of their steps.
+use Rattle.std.proofs.Common.{◌≡◌, ℕ, zero, suc, ◌+◌, ◌-◌, ◌<◌, ◌≤◌, ◌^◌, Bool, true, false, cond, List, [], ◌∷◌, ◌++◌, length, length-append, map, get_or, slice_index_or, Option, None, Some, IsSome, refl, sym, ap, ◌∙◌, arith}
+use Rattle.std.proofs.lemmas.List.{get_or-append_right, length-map}
+use Rattle.gpu_descriptor_types.specs.Counts.{kinds}
+use Rattle.gpu_descriptor_types.specs.Ledger.{Ledger}
+use Rattle.gpu_descriptor.specs.Agreement.{Item, outstanding}
+use Rattle.gpu_descriptor.specs.LayoutFlags.{is_marked}
+use Rattle.gpu_descriptor.specs.States.{Agrees, state_of}
+use Rattle.gpu_descriptor.proofs.Places.{empty_agrees}
+use Rattle.descriptor_script.specs.Device.{ledger_of}
+use Rattle.descriptor_script.specs.Raw.{pool_id, set_id}
+use Rattle.descriptor_script.specs.Ready.{IsReady}
+use Rattle.descriptor_script.specs.Session.{AreAllHeld, AreMeant, allocator_of, layouts_of, sets_of}
+use Rattle.descriptor_script.specs.SessionRun.{RunsTo}
+use Rattle.descriptor_script.specs.Steps.{IsAsBefore, StepsTo}
+use Rattle.descriptor_script.specs.declared.command.Command.{Command}
+use Rattle.descriptor_script.specs.declared.command.Command.TheVariants.{Allocate, Free, Cleanup}
+use Rattle.descriptor_script.specs.declared.command.Reply.{Reply}
+use Rattle.descriptor_script.specs.declared.command.Reply.TheVariants.{Sets, Refused, Freed, BadTicket, BadLayout, NoMemory, Clean}
+use Rattle.descriptor_script.specs.declared.device.ScriptedDevice.{ScriptedDevice}
+use Rattle.descriptor_script.specs.declared.raw.RawPool.{RawPool}
+use Rattle.descriptor_script.specs.declared.raw.ScriptLayout.{ScriptLayout}
+use Rattle.descriptor_script.specs.declared.session.KnownLayout.{KnownLayout}
+use Rattle.descriptor_lines.specs.Commands.{IsKnown}
+use Rattle.descriptor_lines.specs.LayoutTable.{layout_count, layouts_in}
+use Rattle.descriptor_lines.specs.Programs.{CanRun}
+use Rattle.descriptor_lines.specs.Replies.{LineSession, HasAnswer}
+use Rattle.descriptor_lines.specs.declared.layouts.Layouts.{Layouts}
+use Rattle.descriptor_lines.specs.declared.program.Program.{Program}
+
+same_branches : {X : Type 0} (b : Bool) (x : X) → cond b x x ≡ x
+same_branches true x = refl
+same_branches false x = refl
+
+none_out : (max : ℕ) (l : Ledger) (t : Item) → outstanding (state_of {P = RawPool} pool_id (record { limit = max; table = [] }) l) t ≡ 0
+none_out max l t = simp same_branches
+
+-- a new session can make a step on any device
+pub new_is_ready : (s : LineSession) (d : ScriptedDevice) (max : ℕ) → allocator_of s ≡ record { limit = max; table = [] } → layouts_of s ≡ [] → sets_of s ≡ [] → IsReady s d
+new_is_ready s d max allocator layouts sets = record {
+  agree = rw allocator (empty_agrees (ledger_of d).pools);
+  held = rw (allocator, sets) (λ t. none_out max (ledger_of d) t);
+  meant = rw layouts (λ i k at. (cc));
+}
+
+-- after a step the program can run the next line
+pub still_runs : (p : Program) (s : LineSession) (d : ScriptedDevice) → CanRun p → Agrees pool_id (allocator_of s) (ledger_of d) → AreAllHeld set_id (sets_of s) (state_of pool_id (allocator_of s) (ledger_of d)) → layouts_of s ≡ layouts_of p.session → CanRun (record p { session = s; device = d })
+still_runs p s d can agree held layouts = record {
+  ready = record { agree = agree; held = held; meant = rw layouts can.ready.meant };
+  layouts = rw layouts can.layouts;
+  fresh = can.fresh;
+}
+
+-- a session with the same books and sets is ready as well
+pub same_is_ready : (s t : LineSession) (d : ScriptedDevice) → IsReady s d → allocator_of t ≡ allocator_of s → sets_of t ≡ sets_of s → AreMeant (λ l. kinds l.counts) (λ l. l.mark) (layouts_of t) → IsReady t d
+same_is_ready s t d ready allocator sets meant = record {
+  agree = rw allocator ready.agree;
+  held = rw (allocator, sets) ready.held;
+  meant = meant;
+}
+
+-- one more layout that is meant
+pub meant_more : (ks : List (KnownLayout ScriptLayout)) (k : KnownLayout ScriptLayout) → AreMeant (λ l. kinds l.counts) (λ l. l.mark) ks → (kinds k.counts ≡ kinds k.layout.counts) × (is_marked k.flags ≡ k.layout.mark) → AreMeant (λ l. kinds l.counts) (λ l. l.mark) (ks ++ k ∷ [])
+meant_more [] k meant is zero x at = let same : k ≡ x = (cc) in rw (← same) is
+meant_more [] k meant is (suc i) x at = (cc)
+meant_more (y ∷ ks) k meant is zero x at = meant zero x at
+meant_more (y ∷ ks) k meant is (suc i) x at = meant_more ks k (λ j z there. meant (suc j) z there) is i x at
+
+module _ {X : Type 0} where
+  some_at : (given : List X) (i : ℕ) → i < length given → IsSome (get_or (map Some given) i None)
+  some_at [] i inside = absurd (omega arith)
+  some_at (x ∷ given) zero inside = refl
+  some_at (x ∷ given) (suc i) inside = some_at given i (omega arith)
+
+  -- the slots at the end have sets
+  some_behind : (slots : List (Option X)) (given : List X) (n : ℕ) → length slots ≤ n → n < length slots + length given → IsSome (get_or (slots ++ map Some given) n None)
+  some_behind slots given n past inside =
+      rw (get_or-append_right slots (map Some given) (length slots) n None refl past) (some_at given (n - length slots) (omega arith))
+
+-- a step of a session over the scripted device
+abbrev Steps : Command → Reply → LineSession → LineSession → Ledger → Ledger → Type 0
+Steps command reply old new before after = StepsTo pool_id set_id (λ l. kinds l.counts) (λ l. l.mark) command reply old new before after
+
+-- the one step of a run of one command
+pub step_of_one : (command : Command) (replies : List Reply) (reply : Reply) (old new : LineSession) (before after : Ledger) → RunsTo pool_id set_id (λ l. kinds l.counts) (λ l. l.mark) (command ∷ []) replies old new before after → reply ≡ slice_index_or replies 0 reply → Steps command reply old new before after
+step_of_one command [] reply old new before after run is = absurd run
+step_of_one command (r ∷ []) reply old new before after run is = rw (is, run.3.0, run.3.1) run.2.step
+step_of_one command (r ∷ s ∷ rest) reply old new before after run is = absurd run.3
+
+-- a reply that memory is wanting changes nothing
+pub no_memory_changes_nothing : (command : Command) (old new : LineSession) (before after : Ledger) → Steps command NoMemory old new before after → IsAsBefore old new before after
+no_memory_changes_nothing (Allocate layout count) old new before after step = step.2
+no_memory_changes_nothing (Free tickets) old new before after step = absurd step
+no_memory_changes_nothing Cleanup old new before after step = absurd step
+
+-- the reply to a command whose layout is there has an answer
+pub has_answer : (command : Command) (reply : Reply) (old new : LineSession) (before after : Ledger) → Steps command reply old new before after → IsKnown (length (layouts_of old)) command → length (sets_of new) < 2 ^ 64 → HasAnswer new reply
+has_answer command (Refused error) old new before after step known small = tt
+has_answer command (Freed count) old new before after step known small = tt
+has_answer command BadTicket old new before after step known small = tt
+has_answer command NoMemory old new before after step known small = tt
+has_answer command Clean old new before after step known small = tt
+has_answer (Allocate layout count) (Sets first many) old new before after step known small =
+    let longer : length (sets_of new) ≡ length (sets_of old) + length step.given = ap length step.sets ∙ length-append (sets_of old) (map Some step.given) ∙ ap (λ n. length (sets_of old) + n) (length-map step.given Some) in
+    record {
+      held = λ ticket from to. rw step.sets (some_behind (sets_of old) step.given ticket (omega (arith, step.first)) (omega (arith, step.first, step.asked, step.all_given)));
+      fits = omega (arith, longer, step.first, step.asked, step.all_given);
+    }
+has_answer (Allocate layout count) BadLayout old new before after step known small = absurd (omega (arith, step.0, known))
+has_answer (Free tickets) (Sets first many) old new before after step known small = absurd step
+has_answer (Free tickets) BadLayout old new before after step known small = absurd step
+has_answer Cleanup (Sets first many) old new before after step known small = absurd step
+has_answer Cleanup BadLayout old new before after step known small = absurd step
+
+-- the tickets of a session fit in 64 bits
+pub few_tickets : (s : LineSession) → length (sets_of s) < 2 ^ 64
+few_tickets s = let fits = s.slots.sets.small in let long = s.slots.sets.ok.0 in omega arith
+
+nil_from_length : {X : Type 0} (xs : List X) → length xs ≡ 0 → xs ≡ []
+nil_from_length [] none = refl
+nil_from_length (x ∷ xs) none = absurd (omega arith)
+
+-- no layout is in a table of none
+pub none_in : (layouts : Layouts) → layout_count layouts ≡ 0 → layouts_in layouts ≡ []
+none_in layouts none = rw (nil_from_length layouts.by_name.entries none) refl
+
+pub none_counted : (layouts : Layouts) → layouts_in layouts ≡ [] → layout_count layouts ≡ 0
+none_counted layouts none = sym (length-map layouts.by_name.entries _) ∙ ap length none
+
+-- the session has as many layouts as the table
+pub as_many : (p : Program) → CanRun p → layout_count p.layouts ≡ length (layouts_of p.session)
+as_many p can =
+    sym (length-map p.layouts.by_name.entries _) ∙ sym (length-map (layouts_in p.layouts) _) ∙ sym (ap length can.layouts) ∙ length-map (layouts_of p.session) _

@@ -1,0 +1,26 @@
+-- What the parser knows of the command of a line.
+use Rattle.std.specs.Prelude.{◌≡◌, ◌≤◌, ◌<◌, ℕ, List, [], ◌∷◌, None}
+use Rattle.descriptor_script.specs.declared.command.Command as session
+use Rattle.descriptor_script.specs.declared.command.Command.TheVariants as step
+use Rattle.descriptor_lines.specs.LayoutTable.{layout_named, layout_count}
+use Rattle.descriptor_lines.specs.Numbers.{WritesNumberWithin, value_of}
+use Rattle.descriptor_lines.specs.declared.command.Command.{Command}
+use Rattle.descriptor_lines.specs.declared.command.Command.TheVariants.{Limit, Layout, Alloc}
+use Rattle.descriptor_lines.specs.declared.layouts.Layouts.{Layouts}
+
+-- the command can be run where these layouts are
+abbrev pub IsRunnable : Layouts → Command → Type 0
+IsRunnable layouts (Limit max) = layout_count layouts ≡ 0
+IsRunnable layouts (Layout name layout) = layout_named layouts name.now ≡ None
+IsRunnable layouts (Alloc layout count) = (layout < layout_count layouts) × (count ≤ 1000000)
+IsRunnable layouts _ = Unit {0}
+
+-- there is one word, which writes this number
+abbrev pub IsNumberOf : List (List ℕ) → ℕ → Type 0
+IsNumberOf (word ∷ []) number = WritesNumberWithin 4294967295 word × (number ≡ value_of word)
+IsNumberOf _ number = ⊥
+
+-- the session has the layout that the command asks for, where there are so many
+abbrev pub IsKnown : ℕ → session.Command → Type 0
+IsKnown layouts (step.Allocate layout count) = layout < layouts
+IsKnown layouts _ = Unit {0}

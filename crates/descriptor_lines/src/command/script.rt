@@ -1,0 +1,41 @@
+//! The command that gives the device a new script.
+ghost use Rattle.std.specs.Prelude.{◌≡◌, ◌≢◌, map, IfOk, IfErr, OnErr, Err};
+ghost use Rattle.descriptor_lines.specs.Fault.{IsOfArguments, faulty};
+ghost use Rattle.descriptor_lines.specs.ScriptWords.{word_of_answer};
+ghost use Rattle.descriptor_lines.specs.Words.{words_left};
+ghost use Rattle.descriptor_script.specs.declared.answer.Answer.{Answer as AnswerWord};
+
+use crate::fault::{Fault, Refusal};
+use crate::text::Words;
+use descriptor_script::Answer;
+use std::alloc::Global;
+
+/// `script WORD ..`.
+pub fn parse_script(alloc: Global, words: Words<'_>) -> Result<Vec<Answer>, Refusal>
+    ensures arguments { IfErr result IsOfArguments }
+    ensures count { result ≢ Err (faulty Fault.BadWordCount) }
+    ensures script { IfOk result (λ script. map word_of_answer script.items ≡ words_left words.entry) }
+{
+    let mut script = Vec::new(alloc);
+    for word in words {
+        let answer = parse_answer(word)?;
+        script.reserve(1)?;
+        script.push_reserved(answer);
+    }
+    Ok(script)
+}
+
+fn parse_answer(word: &[u8]) -> Result<Answer, Fault>
+    ensures answer { IfOk result (λ answer. word.now ≡ word_of_answer answer) }
+    ensures unknown { OnErr result ((answer : AnswerWord) → word.now ≢ word_of_answer answer) }
+    ensures fault { IfErr result (λ fault. fault ≡ Fault.BadAnswerWord) }
+{
+    match word {
+        b"ok" => Ok(Answer::Ok),
+        b"device" => Ok(Answer::Device),
+        b"host" => Ok(Answer::Host),
+        b"frag" => Ok(Answer::Frag),
+        b"pool" => Ok(Answer::Pool),
+        _ => Err(Fault::BadAnswerWord),
+    }
+}

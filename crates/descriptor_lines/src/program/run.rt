@@ -1,0 +1,162 @@
+//! The commands, run.
+ghost use Rattle.std.specs.Prelude.{◌≡◌, ◌<◌, ◌++◌, ◌∷◌, [], None, IsTrue, OnOk, OnErr, sum, string_bytes};
+ghost use Rattle.gpu_descriptor_types.specs.Counts.{kinds};
+ghost use Rattle.gpu_descriptor.specs.LayoutFlags.{is_marked};
+ghost use Rattle.descriptor_script.specs.Device.{script_of};
+ghost use Rattle.descriptor_script.specs.Session.{allocator_of};
+ghost use Rattle.descriptor_script.specs.declared.command.Command.TheVariants.{Allocate};
+ghost use Rattle.descriptor_lines.specs.Answers.{layout_answer as layout_answer_of, AnswersSize};
+ghost use Rattle.descriptor_lines.specs.Commands.{IsKnown, IsRunnable};
+ghost use Rattle.descriptor_lines.specs.LayoutTable.{layout_count, layout_named, layouts_in};
+ghost use Rattle.descriptor_lines.specs.Programs.{CanRun, Does, DoesLine, IsUnchanged};
+
+use super::Program;
+use crate::answer;
+use crate::command::Command;
+use crate::layouts::Layout;
+use bitflags::Flags;
+use descriptor_script::{Answer, Command as SessionCommand, Reply, ScriptLayout, Session};
+use gpu_descriptor::DescriptorSetLayoutCreateFlags;
+use gpu_descriptor_types::{DescriptorTotalCount, new_pool_size};
+use std::alloc::AllocError;
+
+impl Program {
+    /// Runs a command, and puts its answer behind the text. An error changes nothing.
+    pub(super) fn run(
+        &mut self,
+        command: Command<'_>,
+        answer: &mut String,
+    ) -> Result<(), AllocError>
+        requires ready { CanRun self.old }
+        requires begun { IsTrue self.old.has_begun }
+        requires runnable { IsRunnable self.old.layouts command }
+        ensures ready { CanRun self.new }
+        ensures does { OnOk result (DoesLine command.entry self.old self.new) }
+        ensures err { OnErr result (IsUnchanged self.old self.new) }
+    {
+        match command {
+            Command::Limit { max } => self.begin(max, answer),
+            Command::Layout { name, layout } => self.add_layout(name, layout, answer),
+            Command::Size {
+                counts,
+                total,
+                wanted,
+            } => answer_size(&counts, total, wanted, answer),
+            Command::Script { script } => self.load(script, answer),
+            Command::Alloc { layout, count } => self.allocate(layout, count, answer),
+            Command::Free { tickets } => self.ask(SessionCommand::Free { tickets }, answer),
+            Command::Cleanup => self.ask(SessionCommand::Cleanup, answer),
+            Command::Show => self.show(answer),
+        }
+    }
+
+    /// Begins with this limit on marked descriptors.
+    fn begin(&mut self, max: u32, answer: &mut String) -> Result<(), AllocError>
+        requires ready { CanRun self.old }
+        requires empty { layout_count self.old.layouts ≡ 0 }
+        ensures ready { CanRun self.new }
+        ensures limit { OnOk result ((allocator_of self.new.session).limit ≡ max) }
+        ensures err { OnErr result (IsUnchanged self.old self.new) }
+    {
+        answer::limit_answer(answer, max)?;
+        self.session = Session::new(self.alloc, max);
+        Ok(())
+    }
+
+    /// Keeps a layout, and puts the answer behind the text.
+    fn add_layout(
+        &mut self,
+        name: &str,
+        layout: Layout,
+        answer: &mut String,
+    ) -> Result<(), AllocError>
+        requires ready { CanRun self.old }
+        requires begun { IsTrue self.old.has_begun }
+        requires absent { layout_named self.old.layouts name.now ≡ None }
+        ensures ready { CanRun self.new }
+        ensures named { OnOk result (layouts_in self.new.layouts ≡ layouts_in self.old.layouts ++ (name.now, layout) ∷ []) }
+        ensures answered { OnOk result (string_bytes answer.new ≡ string_bytes answer.old ++ layout_answer_of name.now (sum (kinds layout.counts))) }
+        ensures err { OnErr result (IsUnchanged self.old self.new) }
+    {
+        answer::layout_answer(answer, name, &layout.counts)?;
+        let name = self.layouts.kept_name(name)?;
+        self.layouts.reserve()?;
+        let Layout { counts, mark } = layout;
+        let scripted = ScriptLayout { counts, mark };
+        match self.session.add_layout(scripted, counts, flags_of(mark)) {
+            Ok(_) => {
+                self.layouts.push(name, layout);
+                Ok(())
+            }
+            Err(_) => Err(AllocError),
+        }
+    }
+
+    /// Gives the device a new script.
+    fn load(&mut self, script: Vec<Answer>, answer: &mut String) -> Result<(), AllocError>
+        requires ready { CanRun self.old }
+        ensures ready { CanRun self.new }
+        ensures loaded { OnOk result (script_of self.new.device ≡ script.items) }
+        ensures err { OnErr result (IsUnchanged self.old self.new) }
+    {
+        answer::script_answer(answer, script.len())?;
+        self.device.load(script);
+        Ok(())
+    }
+
+    /// Allocates sets of the layout at a place.
+    fn allocate(&mut self, layout: usize, count: u32, answer: &mut String) -> Result<(), AllocError>
+        requires ready { CanRun self.old }
+        requires known { layout < layout_count self.old.layouts }
+        ensures ready { CanRun self.new }
+        ensures does { OnOk result (Does (Allocate layout count) self.old self.new) }
+        ensures err { OnErr result (IsUnchanged self.old self.new) }
+    {
+        // The text has its room before the command is run.
+        answer.reserve(answer::room_for_sets(count))?;
+        self.ask(SessionCommand::Allocate { layout, count }, answer)
+    }
+
+    /// Runs a command of the session, and puts the answer behind the text, which has room for it.
+    fn ask(&mut self, command: SessionCommand, answer: &mut String) -> Result<(), AllocError>
+        requires ready { CanRun self.old }
+        requires known { IsKnown (layout_count self.old.layouts) command }
+        ensures ready { CanRun self.new }
+        ensures does { OnOk result (Does command self.old self.new) }
+        ensures err { OnErr result (IsUnchanged self.old self.new) }
+    {
+        let replies = self.session.run(&mut self.device, &[command])?;
+        match replies[0] {
+            Reply::NoMemory => Err(AllocError),
+            reply => {
+                // There is room for it.
+                let _ = answer::reply_answer(answer, &self.session, &reply);
+                Ok(())
+            }
+        }
+    }
+}
+
+/// The flags of a layout that is marked for updates after binding, or is not.
+fn flags_of(mark: bool) -> DescriptorSetLayoutCreateFlags
+    ensures { is_marked result ≡ mark }
+{
+    if mark {
+        DescriptorSetLayoutCreateFlags::UPDATE_AFTER_BIND
+    } else {
+        DescriptorSetLayoutCreateFlags::empty()
+    }
+}
+
+/// Puts the size of a new pool for these counts behind the text.
+fn answer_size(
+    counts: &DescriptorTotalCount,
+    total: u64,
+    wanted: u32,
+    answer: &mut String,
+) -> Result<(), AllocError>
+    ensures { OnOk result (AnswersSize (kinds counts.now) total wanted (string_bytes answer.old) (string_bytes answer.new)) }
+{
+    let (pool, sets) = new_pool_size(counts, total, wanted);
+    answer::size_answer(answer, &pool, sets)
+}

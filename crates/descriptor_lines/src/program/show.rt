@@ -1,0 +1,44 @@
+//! The command that shows the pools and the counters.
+
+use super::Program;
+use crate::answer;
+use crate::layouts::Layout;
+use std::alloc::AllocError;
+
+impl Program {
+    /// Puts the pools of each key behind the text, under the first layout that has it, and then the
+    /// counters.
+    pub(super) fn show(&self, answer: &mut String) -> Result<(), AllocError> {
+        for (name, entry) in self.layouts.iter() {
+            if entry.is_first {
+                self.show_pools(name.as_str(), &entry.layout, answer)?;
+            }
+        }
+        let device = &self.device;
+        answer::device_answer(
+            answer,
+            device.created(),
+            device.destroyed(),
+            device.asked(),
+            device.released(),
+        )?;
+        let marked = self.session.allocator().update_after_bind_descriptors();
+        answer::held_answer(answer, self.session.held(), marked)
+    }
+
+    /// Puts the pools of a layout behind the text, oldest first.
+    fn show_pools(
+        &self,
+        name: &str,
+        layout: &Layout,
+        answer: &mut String,
+    ) -> Result<(), AllocError> {
+        let allocator = self.session.allocator();
+        for index in 0..allocator.pool_count(&layout.counts, layout.mark) {
+            if let Some(pool) = allocator.pool(&layout.counts, layout.mark, index) {
+                answer::pool_answer(answer, name, &pool)?;
+            }
+        }
+        Ok(())
+    }
+}
