@@ -1,0 +1,4 @@
+mod Beside
+mod OnePools
+mod Owing
+mod Used

@@ -1,0 +1,15 @@
+use Rattle.descriptor_vectors.specs.Logged.{ledger_logged}
+use Rattle.descriptor_vectors.proofs.Beside.{new_ready, none_shared}
+use Rattle.descriptor_vectors.proofs.traces.pair.Pair.new.Goals as goal
+
+pub returns : goal.returns
+returns c =
+    let one = c.in_ok-one_layout.field-0 in
+    let other = c.in_ok-one_layout-2.field-0 in
+    let ledger = ledger_logged c.new.result in
+    let fresh = c.in_ok-one_layout.ensures in
+    record {
+      one = new_ready one ledger fresh;
+      other = new_ready other ledger c.in_ok-one_layout-2.ensures;
+      apart = none_shared one other ledger fresh.limit fresh.allocator;
+    }
