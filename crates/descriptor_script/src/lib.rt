@@ -11,6 +11,8 @@ mod device;
 pub mod headline;
 mod live;
 mod marks;
+#[cfg(test)]
+mod moves;
 mod pools;
 mod raw;
 #[cfg(test)]

@@ -2,7 +2,7 @@
 //! `rt try --test --fail-alloc N` the Nth of each test is refused, and the next ones are granted.
 ghost use Rattle.descriptor_script.specs.Ready.{IsReady};
 
-use super::tests::{Bench, allocate, free};
+use super::tests::{Ask, Bench, sets};
 use crate::{Command, Reply};
 use gpu_descriptor::{AllocationError, DescriptorTotalCount};
 use std::process::Abort;
@@ -49,31 +49,23 @@ fn expect_step(rt: &impl Abort, bench: &mut Bench, command: &Command, wanted: Re
 
 #[test]
 fn steps_where_memory_is_wanting(rt: HostRuntime) -> Result<(), Fail> {
-    let alloc = rt.alloc();
-    let tickets = vec![in alloc; 0, 65, 64, 3]?;
-    let mut bench = Bench::new(alloc, u32::MAX, 1, Vec::new(alloc))?;
-    let sets = Reply::Sets {
-        first: 0,
-        count: 60,
-    };
-    expect_step(&rt, &mut bench, &allocate(60), sets);
-    let sets = Reply::Sets {
-        first: 60,
-        count: 200,
-    };
-    expect_step(&rt, &mut bench, &allocate(200), sets);
-    expect_step(&rt, &mut bench, &free(tickets), Reply::Freed(4));
-    expect_step(&rt, &mut bench, &Command::Cleanup, Reply::Clean);
+    let mut bench = Bench::new(rt.alloc(), u32::MAX, 1, &[])?;
+    for (ask, wanted) in [
+        (Ask::Allocate(0, 60), sets(0, 60)),
+        (Ask::Allocate(0, 200), sets(60, 200)),
+        (Ask::Free(&[0, 65, 64, 3]), Reply::Freed(4)),
+        (Ask::Cleanup, Reply::Clean),
+    ] {
+        expect_step(&rt, &mut bench, &ask.command(rt.alloc())?, wanted);
+    }
     assert_eq!(rt; bench.session.held(), 256);
     Ok(())
 }
 
 #[test]
 fn runs_where_memory_is_wanting(rt: HostRuntime) -> Result<(), Fail> {
-    let alloc = rt.alloc();
-    let commands = vec![in alloc; allocate(2), Command::Cleanup]?;
-    let mut bench = Bench::new(alloc, u32::MAX, 1, Vec::new(alloc))?;
-    match bench.run(&commands) {
+    let mut bench = Bench::new(rt.alloc(), u32::MAX, 1, &[])?;
+    match bench.run(rt.alloc(), &[Ask::Allocate(0, 2), Ask::Cleanup]) {
         Ok(replies) => {
             assert_eq!(rt; replies.len(), 2);
             assert!(rt; bench.session.held() == 2 || is_out_of_memory(replies[0]));
