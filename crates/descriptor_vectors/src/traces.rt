@@ -1,124 +1,146 @@
 //! What a device sees: its calls in their order, and what stands then.
+ghost use Rattle.gpu_descriptor.specs.States.{Agrees};
+ghost use Rattle.descriptor_script.specs.Raw.{pool_id};
+ghost use Rattle.descriptor_vectors.specs.Logged.{ledger_logged};
+
 mod bench;
 mod pair;
 
 use crate::log::Call;
 use crate::log_device::LogDevice;
 use crate::own_device::OnePool;
-use crate::proper_use::{borrow_pool, borrow_set};
+use crate::proper_use::{borrow_pool, borrow_set, flags_of};
 use bench::{Bench, expect_pools, samplers};
-use descriptor_script::{Command, Reply, ScriptLayout};
+use descriptor_script::{Command, RawPool, RawSet, Reply, ScriptLayout};
 use gpu_descriptor::{AllocationError, DescriptorAllocator};
 use pair::Pair;
 use std::alloc::{AllocError, Global};
+use std::process::Abort;
 use std::test::Fail;
 
 #[test]
 fn two_allocators_on_one_device(rt: HostRuntime) -> Result<(), Fail> {
     let alloc = rt.alloc();
+    let pair = taken_in_turns(&rt, alloc)?;
+    expect_pools(&rt, pair.one.allocator(), 1, &[(1, 1, 63)]);
+    expect_pools(&rt, pair.other.allocator(), 1, &[(0, 1, 63)]);
+    expect_counts(&rt, &pair.device, [3, 1, 3, 1]);
+    expect_calls(&rt, alloc, &pair.device, Kind::Create, &[0, 1, 2])?;
+    expect_calls(&rt, alloc, &pair.device, Kind::Release, &[0])?;
+    expect_calls(&rt, alloc, &pair.device, Kind::Destroy, &[0])?;
+    Ok(())
+}
+
+/// A pair of which the first took 64 sets, the other one, the first one more, and the first gave
+/// its 64 back.
+fn taken_in_turns(rt: &impl Abort, alloc: Global) -> Result<Pair, Fail> {
     let mut pair = Pair::new(alloc)?;
     pair.step_one(allocate(64));
     pair.step_other(allocate(1));
     pair.step_one(allocate(1));
     let tickets = first_tickets(alloc, 64)?;
-    assert_eq!(rt; pair.step_one(Command::Free { tickets }), Reply::Freed(64));
-    expect_pools(&rt, pair.one.allocator(), 1, &[(1, 1, 63)]);
-    expect_pools(&rt, pair.other.allocator(), 1, &[(0, 1, 63)]);
-    assert_eq!(rt; pair.device.created(), 3);
-    assert_eq!(rt; pair.device.destroyed(), 1);
-    assert_eq!(rt; pair.device.asked(), 3);
-    assert_eq!(rt; pair.device.released(), 1);
-    let device = &pair.device;
-    assert_eq!(rt;
-        pools(alloc, device, Kind::Create)?.as_slice(),
-        [0, 1, 2].as_slice()
-    );
-    assert_eq!(rt;
-        pools(alloc, device, Kind::Release)?.as_slice(),
-        [0].as_slice()
-    );
-    assert_eq!(rt;
-        pools(alloc, device, Kind::Destroy)?.as_slice(),
-        [0].as_slice()
-    );
-    Ok(())
+    let freed = pair.step_one(Command::Free { tickets });
+    assert_eq!(rt; freed, Reply::Freed(64));
+    Ok(pair)
 }
 
 #[test]
 fn cleanup_goes_through_keys_in_their_order(rt: HostRuntime) -> Result<(), Fail> {
     let alloc = rt.alloc();
+    let bench = cleaned_twice(&rt, alloc)?;
+    expect_pools(&rt, bench.session.allocator(), 2, &[]);
+    expect_pools(&rt, bench.session.allocator(), 1, &[]);
+    expect_calls(&rt, alloc, &bench.device, Kind::Destroy, &[0, 1, 2])?;
+    Ok(())
+}
+
+/// A bench with a set of each of two keys, of which the first key's went back, was cleaned up and
+/// came once more, and then both went back and were cleaned up.
+fn cleaned_twice(rt: &impl Abort, alloc: Global) -> Result<Bench, Fail> {
     let mut bench = Bench::new(alloc);
     let first = bench.add_layout(2)?;
     let second = bench.add_layout(1)?;
     bench.allocate(first, 1);
     bench.allocate(second, 1);
-    bench.free(vec![in alloc; 0]?);
-    bench.step(Command::Cleanup);
+    bench.free_and_clean(alloc, &[0])?;
     bench.allocate(first, 1);
-    expect_pools(&rt, bench.session.allocator(), 2, &[(0, 1, 63)]);
-    bench.free(vec![in alloc; 2, 1]?);
-    bench.step(Command::Cleanup);
-    expect_pools(&rt, bench.session.allocator(), 2, &[]);
-    expect_pools(&rt, bench.session.allocator(), 1, &[]);
-    assert_eq!(rt;
-        pools(alloc, &bench.device, Kind::Destroy)?.as_slice(),
-        [0, 1, 2].as_slice()
-    );
-    Ok(())
+    expect_pools(rt, bench.session.allocator(), 2, &[(0, 1, 63)]);
+    bench.free_and_clean(alloc, &[2, 1])?;
+    Ok(bench)
 }
 
 #[test]
 fn newer_pool_first_however_it_comes_back(rt: HostRuntime) -> Result<(), Fail> {
-    let alloc = rt.alloc();
-    let mut tickets = Vec::new(alloc);
-    for ticket in 64..128 {
-        tickets.push(ticket)?;
+    let mut tickets = [0; 128];
+    for (place, ticket) in tickets.iter_mut().enumerate() {
+        *ticket = place;
     }
-    for ticket in 0..64 {
-        tickets.push(ticket)?;
-    }
-    let bench = given_back(alloc, 1, &[64, 64], &tickets, false)?;
-    assert_eq!(rt;
-        pools(alloc, &bench.device, Kind::Release)?.as_slice(),
-        [1, 0].as_slice()
-    );
+    tickets.rotate_left(64);
+    let taken = Taken {
+        count: 1,
+        requests: &[64, 64],
+        tickets: &tickets,
+    };
+    let stands = (1, 0, 64);
+    expect_however(&rt, rt.alloc(), &taken, &[1, 0], stands)
+}
+
+#[test]
+fn pools_in_turn_however_they_come_back(rt: HostRuntime) -> Result<(), Fail> {
+    let taken = Taken {
+        count: 2147483647,
+        requests: &[4],
+        tickets: &[0, 2, 1, 3],
+    };
+    let stands = (1, 0, 2);
+    expect_however(&rt, rt.alloc(), &taken, &[0, 1, 0, 1], stands)
+}
+
+/// Sets of so many samplers that come by these requests, and the order in which they go back.
+#[derive(Clone, Copy)]
+struct Taken<'a> {
+    count: u32,
+    requests: &'a [u32],
+    tickets: &'a [usize],
+}
+
+/// Compares the pools of the releases where the sets go back in one call, and the pool that is left
+/// where they go back in one call or a call for each, in this order or the other.
+fn expect_however(
+    rt: &impl Abort,
+    alloc: Global,
+    taken: &Taken<'_>,
+    releases: &[u64],
+    stands: (u64, u32, u32),
+) -> Result<(), Fail> {
+    let bench = given_back(alloc, taken, false)?;
+    expect_calls(rt, alloc, &bench.device, Kind::Release, releases)?;
+    let mut tickets = taken.tickets.to_vec(alloc)?;
     for _ in 0..2 {
-        for singly in [false, true] {
-            let bench = given_back(alloc, 1, &[64, 64], &tickets, singly)?;
-            expect_pools(&rt, bench.session.allocator(), 1, &[(1, 0, 64)]);
-            assert_eq!(rt; bench.session.allocator().outstanding(), 0);
-            assert_eq!(rt;
-                bench.session.allocator().update_after_bind_descriptors(),
-                0
-            );
-        }
+        let turned = Taken {
+            tickets: &tickets,
+            ..*taken
+        };
+        expect_left(rt, alloc, &turned, false, stands)?;
+        expect_left(rt, alloc, &turned, true, stands)?;
         tickets.reverse();
     }
     Ok(())
 }
 
-#[test]
-fn pools_in_turn_however_they_come_back(rt: HostRuntime) -> Result<(), Fail> {
-    let alloc = rt.alloc();
-    let count = 2147483647;
-    let mut tickets = vec![in alloc; 0, 2, 1, 3]?;
-    let bench = given_back(alloc, count, &[4], &tickets, false)?;
-    assert_eq!(rt;
-        pools(alloc, &bench.device, Kind::Release)?.as_slice(),
-        [0, 1, 0, 1].as_slice()
-    );
-    for _ in 0..2 {
-        for singly in [false, true] {
-            let bench = given_back(alloc, count, &[4], &tickets, singly)?;
-            expect_pools(&rt, bench.session.allocator(), count, &[(1, 0, 2)]);
-            assert_eq!(rt; bench.session.allocator().outstanding(), 0);
-            assert_eq!(rt;
-                bench.session.allocator().update_after_bind_descriptors(),
-                0
-            );
-        }
-        tickets.reverse();
-    }
+/// Compares what is left where the sets went back in one call, or in a call for each.
+fn expect_left(
+    rt: &impl Abort,
+    alloc: Global,
+    taken: &Taken<'_>,
+    singly: bool,
+    stands: (u64, u32, u32),
+) -> Result<(), Fail> {
+    let bench = given_back(alloc, taken, singly)?;
+    let allocator = bench.session.allocator();
+    expect_pools(rt, allocator, taken.count, &[stands]);
+    assert_eq!(rt; allocator.outstanding(), 0);
+    assert_eq!(rt; allocator.update_after_bind_descriptors(), 0);
     Ok(())
 }
 
@@ -128,7 +150,7 @@ fn device_without_memory_for_sets_refuses(rt: HostRuntime) {
     gpu_descriptor::laws::books_alone();
     let mut allocator: DescriptorAllocator<u64, u64> = DescriptorAllocator::new(rt.alloc(), 0);
     let layout = samplers(1);
-    let flags = crate::proper_use::flags_of(false);
+    let flags = flags_of(false);
     match allocator.allocate(&mut device, &layout, flags, &layout, 1) {
         Ok(_) => assert!(rt; false),
         Err(error) => assert_eq!(rt; error, AllocationError::OutOfDeviceMemory),
@@ -142,14 +164,31 @@ fn used_once(rt: HostRuntime) -> Result<(), Fail> {
     let mut device = LogDevice::new(rt.alloc());
     gpu_descriptor::laws::books_alone();
     let mut allocator = DescriptorAllocator::new(rt.alloc(), 0);
+    let counts = samplers(1);
     let layout = ScriptLayout {
-        counts: samplers(1),
+        counts,
         mark: false,
     };
-    assert_eq!(rt; borrow_set(&mut allocator, &mut device, &layout)?, 0);
-    assert_eq!(rt; borrow_set(&mut allocator, &mut device, &layout)?, 1);
+    for name in 0..2 {
+        expect_borrowed(&rt, &mut allocator, &mut device, &layout, name)?;
+    }
+    assert_eq!(rt; borrow_pool(&mut device, &counts)?, 1);
+    Ok(())
+}
+
+/// Borrows a set, and sees that it has this name and is back.
+fn expect_borrowed(
+    rt: &impl Abort,
+    allocator: &mut DescriptorAllocator<RawPool, RawSet>,
+    device: &mut LogDevice,
+    layout: &ScriptLayout,
+    name: u64,
+) -> Result<(), AllocationError>
+    requires { Agrees pool_id allocator.old (ledger_logged device.old) }
+    ensures { Agrees pool_id allocator.new (ledger_logged device.new) }
+{
+    assert_eq!(rt; borrow_set(allocator, device, layout)?, name);
     assert_eq!(rt; allocator.outstanding(), 0);
-    assert_eq!(rt; borrow_pool(&mut device, &layout.counts)?, 1);
     Ok(())
 }
 
@@ -165,22 +204,15 @@ fn first_tickets(alloc: Global, count: usize) -> Result<Vec<usize>, AllocError> 
     Ok(tickets)
 }
 
-/// A bench on which sets of so many samplers were allocated by these requests, and given back in one
-/// call or in a call for each.
-fn given_back(
-    alloc: Global,
-    count: u32,
-    requests: &[u32],
-    tickets: &[usize],
-    singly: bool,
-) -> Result<Bench, Fail> {
+/// A bench on which the sets came, and went back in one call or in a call for each.
+fn given_back(alloc: Global, taken: &Taken<'_>, singly: bool) -> Result<Bench, Fail> {
     let mut bench = Bench::new(alloc);
-    bench.add_layout(count)?;
-    bench.run(&allocates(alloc, requests)?)?;
+    bench.add_layout(taken.count)?;
+    bench.run(&allocates(alloc, taken.requests)?)?;
     if singly {
-        bench.run(&frees(alloc, tickets)?)?;
+        bench.run(&frees(alloc, taken.tickets)?)?;
     } else {
-        bench.free(tickets.to_vec(alloc)?);
+        bench.free(taken.tickets.to_vec(alloc)?);
     }
     Ok(bench)
 }
@@ -224,4 +256,28 @@ fn pools(alloc: Global, device: &LogDevice, kind: Kind) -> Result<Vec<u64>, Allo
         }
     }
     Ok(pools)
+}
+
+/// Compares the pools of the calls of this kind, in the order of the calls.
+fn expect_calls(
+    rt: &impl Abort,
+    alloc: Global,
+    device: &LogDevice,
+    kind: Kind,
+    wanted: &[u64],
+) -> Result<(), AllocError> {
+    let seen = pools(alloc, device, kind)?;
+    assert_eq!(rt; seen.as_slice(), wanted);
+    Ok(())
+}
+
+/// Compares the pools created and destroyed, and the calls that asked for sets and released some.
+fn expect_counts(rt: &impl Abort, device: &LogDevice, wanted: [u64; 4]) {
+    let seen = [
+        device.created(),
+        device.destroyed(),
+        device.asked(),
+        device.released(),
+    ];
+    assert_eq!(rt; seen, wanted);
 }

@@ -72,6 +72,16 @@ impl Bench {
         self.step(Command::Free { tickets })
     }
 
+    /// Gives the sets of these tickets back, and cleans up.
+    pub fn free_and_clean(&mut self, alloc: Global, tickets: &[usize]) -> Result<(), AllocError>
+        requires { IsReady self.old.session (ledger_logged self.old.device) }
+        ensures { IsReady self.new.session (ledger_logged self.new.device) }
+    {
+        self.free(tickets.to_vec(alloc)?);
+        self.step(Command::Cleanup);
+        Ok(())
+    }
+
     pub fn run(&mut self, commands: &[Command]) -> Result<Vec<Reply>, AllocError>
         requires { IsReady self.old.session (ledger_logged self.old.device) }
         ensures { IsReady self.new.session (ledger_logged self.new.device) }
