@@ -6,13 +6,13 @@ use Rattle.std.proofs.lemmas.Option.{slice_get_within}
 use Rattle.std.proofs.lemmas.List.{length-map}
 use Rattle.std.proofs.lemmas.List.Sums.{sum_by-cons}
 use Rattle.gpu_descriptor_types.specs.Flags.{CanFree}
-use Rattle.gpu_descriptor_types.specs.Ledger.{Pool}
+use Rattle.gpu_descriptor_types.specs.Ledger.{Pool, live_sets}
 use Rattle.gpu_descriptor_types.specs.Multiset.{LiveSet, times, AreIn}
 use Rattle.gpu_descriptor.specs.declared.bucket.DescriptorPool.{DescriptorPool}
 use Rattle.gpu_descriptor.specs.Agreement.{live_in, flags_of, IsAsBooked}
 use Rattle.gpu_descriptor.specs.Allocated.{allocated_in}
 use Rattle.gpu_descriptor.specs.Books.{Key, Entry, Bucket}
-use Rattle.gpu_descriptor.specs.Buckets.{IsStored, IsTakenAt, sets_of}
+use Rattle.gpu_descriptor.specs.Buckets.{AreBookedIn, IsTakenAt}
 use Rattle.gpu_descriptor.specs.Release.{entry_less, pool_less}
 use Rattle.gpu_descriptor.specs.Stored.{entry_of}
 use Rattle.gpu_descriptor.proofs.LedgerPools.{taken_from, with_pool_same, with_pool_other, size_minus, only_these}
@@ -45,7 +45,7 @@ changed_at name (x ∷ items) (suc i) q raw m n same e = ap (λ (l : List Entry)
 -- what a run may take of the place
 pub record CanTake (k : Key) (names : List ℕ) (pools : ℕ → Option Pool) (e : Entry) : Type 0 where
   pub fits : length names ≤ e.allocated
-  pub live : (x : LiveSet) → times (sets_of k names) x ≤ live_in pools e.pool x
+  pub live : (x : LiveSet) → times (live_sets k.counts names) x ≤ live_in pools e.pool x
 
 pub can_take : (k : Key) (number : ℕ) (names : List ℕ) (b : Bucket) (pools : ℕ → Option Pool) (e : Entry) → IsTakenAt k number names b pools → slice_get b.pools (number - b.first) ≡ Some e → CanTake k names pools e
 can_take k number names b pools e t at =
@@ -61,11 +61,11 @@ pub record AreTaken (names : List ℕ) (live : LiveSet → ℕ) (ls : List LiveS
   pub within : (x : LiveSet) → times ls x ≤ live x
 
 -- the sets of which a release speaks, in a pool that is live
-pub are_taken : (k : Key) (b : Bucket) (pools : ℕ → Option Pool) (i : ℕ) (e : Entry) (names : List ℕ) (ls : List LiveSet) → IsStored k b pools → slice_get b.pools i ≡ Some e → map (λ x. x.name) ls ≡ names → IfSome (pools e.pool) (λ pool. AreIn ls pool.live) → AreTaken names (live_in pools e.pool) ls
+pub are_taken : (k : Key) (b : Bucket) (pools : ℕ → Option Pool) (i : ℕ) (e : Entry) (names : List ℕ) (ls : List LiveSet) → AreBookedIn k pools b.pools → slice_get b.pools i ≡ Some e → map (λ x. x.name) ls ≡ names → IfSome (pools e.pool) (λ pool. AreIn ls pool.live) → AreTaken names (live_in pools e.pool) ls
 are_taken k b pools i e names ls stored at are live =
-    let booked = stored.booked i e at in
-    let within : AreIn ls booked.0.live = rw booked.1 at live in
-    record { are = are; within = λ x. let is : live_in pools e.pool x ≡ booked.0.live x = rw booked.1 refl in rw is (within x) }
+    let booked = stored.each i e at in
+    let within : AreIn ls booked.pool.live = rw booked.is_live at live in
+    record { are = are; within = λ x. let is : live_in pools e.pool x ≡ booked.pool.live x = rw booked.is_live refl in rw is (within x) }
 
 -- sets of a marked key's pools and of others may go back singly
 pub can_free : (k : Key) → CanFree (flags_of k)
@@ -75,15 +75,15 @@ can_free k = elim (cases_Bool k.marked) [
 ]
 
 -- the sets that a call took of the place are the key's sets of their names
-pub took_these : (k : Key) (b : Bucket) (pools : ℕ → Option Pool) (i : ℕ) (e : Entry) (names : List ℕ) (ls : List LiveSet) → IsStored k b pools → slice_get b.pools i ≡ Some e → AreTaken names (live_in pools e.pool) ls → ls ≡ sets_of k names
+pub took_these : (k : Key) (b : Bucket) (pools : ℕ → Option Pool) (i : ℕ) (e : Entry) (names : List ℕ) (ls : List LiveSet) → AreBookedIn k pools b.pools → slice_get b.pools i ≡ Some e → AreTaken names (live_in pools e.pool) ls → ls ≡ live_sets k.counts names
 took_these k b pools i e names ls stored at are = only_these k names ls are.are (λ x some.
-    let booked = stored.booked i e at in
-    let live : live_in pools e.pool x ≡ booked.0.live x = rw booked.1 refl in
+    let booked = stored.each i e at in
+    let live : live_in pools e.pool x ≡ booked.pool.live x = rw booked.is_live refl in
     let within = are.within x in
-    booked.2.sets x (omega arith))
+    booked.booked.sets x (omega arith))
 
 -- the bucket and the ledger after one run keep agreement
-pub stored_after : (k : Key) (first : ℕ) (es : List Entry) (pools : ℕ → Option Pool) (i : ℕ) (e : Entry) (ls : List LiveSet) → IsStored k (bucket first es) pools → slice_get es i ≡ Some e → ((x : LiveSet) → times ls x ≤ live_in pools e.pool x) → IsStored k (bucket first (set es i (entry_less (length ls) e))) (taken_from pools e.pool ls)
+pub stored_after : (k : Key) (first : ℕ) (es : List Entry) (pools : ℕ → Option Pool) (i : ℕ) (e : Entry) (ls : List LiveSet) → AreBookedIn k pools es → slice_get es i ≡ Some e → ((x : LiveSet) → times ls x ≤ live_in pools e.pool x) → AreBookedIn k (taken_from pools e.pool ls) (set es i (entry_less (length ls) e))
 stored_after k first es pools i e ls stored at within =
     let y = entry_less (length ls) e in
     let was : (j : ℕ) (d : Entry) → slice_get (set es i y) j ≡ Some d → (c : Entry) × (slice_get es j ≡ Some c) × (c.pool ≡ d.pool) = λ j d h. elim (set_cases es i y j d h) [
@@ -95,29 +95,37 @@ stored_after k first es pools i e ls stored at within =
           let p = was a c h in
           let q = was b d h' in
           stored.distinct a b p.0 q.0 p.1 q.1 (p.2 ∙ same ∙ sym q.2);
-      booked = λ j d h. elim (set_cases es i y j d h) [
+      each = λ j d h. elim (set_cases es i y j d h) [
         | inl same ↦ (
-            let booked = stored.booked i e at in
-            let pool = booked.0 in
-            let live : (x : LiveSet) → times ls x ≤ pool.live x = λ x. (let is : live_in pools e.pool x ≡ pool.live x = rw booked.1 refl in let less = within x in omega arith) in
-            let size = size_minus pool.live e.allocated ls booked.2.allocated live in
-            let room = booked.2.room in
+            let booked = stored.each i e at in
+            let pool = booked.pool in
+            let live : (x : LiveSet) → times ls x ≤ pool.live x = λ x. (let is : live_in pools e.pool x ≡ pool.live x = rw booked.is_live refl in let less = within x in omega arith) in
+            let size = size_minus pool.live e.allocated ls booked.booked.allocated live in
+            let room = booked.booked.room in
             let fits = size.0 in
             let after : Pool = pool_less (times ls) pool in
             let is : IsAsBooked k after y = record {
-              flags = booked.2.flags;
-              at_least = booked.2.at_least;
-              small = booked.2.small;
-              counts = booked.2.counts;
-              sets = λ x some. booked.2.sets x (omega arith);
+              flags = booked.booked.flags;
+              at_least = booked.booked.at_least;
+              small = booked.booked.small;
+              counts = booked.booked.counts;
+              sets = λ x some. booked.booked.sets x (omega arith);
               allocated = size.1;
               room = omega arith;
-              full = λ none. (let whole = booked.2.full none in omega arith);
+              full = λ none. (let whole = booked.booked.full none in omega arith);
             } in
-            (after, (ap (λ (x : Entry). taken_from pools e.pool ls x.pool) same.1 ∙ with_pool_same pools e.pool (option_map (pool_less (times ls)) (pools e.pool)) ∙ ap (option_map (pool_less (times ls))) booked.1), rw same.1 is))
+            record {
+              pool = after;
+              is_live = ap (λ (x : Entry). taken_from pools e.pool ls x.pool) same.1 ∙ with_pool_same pools e.pool (option_map (pool_less (times ls)) (pools e.pool)) ∙ ap (option_map (pool_less (times ls))) booked.is_live;
+              booked = rw same.1 is;
+            })
         | inr other ↦ (
-            let booked = stored.booked j d other.1 in
-            (booked.0, with_pool_other pools e.pool d.pool (option_map (pool_less (times ls)) (pools e.pool)) (λ same. other.0 (stored.distinct j i d e other.1 at same)) ∙ booked.1, booked.2))
+            let booked = stored.each j d other.1 in
+            record {
+              pool = booked.pool;
+              is_live = with_pool_other pools e.pool d.pool (option_map (pool_less (times ls)) (pools e.pool)) (λ same. other.0 (stored.distinct j i d e other.1 at same)) ∙ booked.is_live;
+              booked = booked.booked;
+            })
       ];
     }
 
@@ -127,14 +135,14 @@ read_first name k number names first items pools q t is =
     let long = length-map items (entry_of name) in
     read_at name items (number - first) q (omega arith) is
 
-pub place_room : (k : Key) (b : Bucket) (pools : ℕ → Option Pool) (i : ℕ) (e : Entry) → IsStored k b pools → slice_get b.pools i ≡ Some e → e.allocated + e.free ≤ 2147483648
+pub place_room : (k : Key) (b : Bucket) (pools : ℕ → Option Pool) (i : ℕ) (e : Entry) → AreBookedIn k pools b.pools → slice_get b.pools i ≡ Some e → e.allocated + e.free ≤ 2147483648
 place_room k b pools i e stored at =
-    let booked = (stored.booked i e at).2 in
+    let booked = (stored.each i e at).booked in
     let room = booked.room in
     let small = booked.small in
     omega arith
 
-pub length_names : (k : Key) (names : List ℕ) → length (sets_of k names) ≡ length names
+pub length_names : (k : Key) (names : List ℕ) → length (live_sets k.counts names) ≡ length names
 length_names k names = length-map names (λ (name : ℕ). record { name = name; counts = k.counts })
 
 -- the sets that go back are no longer counted

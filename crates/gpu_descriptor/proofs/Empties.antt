@@ -4,7 +4,7 @@ use Rattle.std.specs.List.{prefix_len}
 use Rattle.gpu_descriptor_types.specs.Ledger.{Pool, Ledger, HasNoSets, after_destroy}
 use Rattle.gpu_descriptor.specs.declared.bucket.DescriptorPool.{DescriptorPool}
 use Rattle.gpu_descriptor.specs.Books.{Key, Entry}
-use Rattle.gpu_descriptor.specs.Buckets.{IsStored, cleared_bucket, cleared_ledger, ledger_without}
+use Rattle.gpu_descriptor.specs.Buckets.{AreBookedIn, cleared_bucket, cleared_ledger, ledger_without}
 use Rattle.gpu_descriptor.specs.Release.{is_empty, empty_front, without_front}
 use Rattle.gpu_descriptor.specs.Stored.{entry_of}
 use Rattle.gpu_descriptor.proofs.Turns.{bucket, front_unused, step_stored, step_without}
@@ -38,7 +38,7 @@ module _ {P : Type 0} (name : P → ℕ) where
   is_first (x ∷ items) p q some is other empty = record { some = some; is = is; empty = ap (λ (y : DescriptorPool P). y.allocated) (is ∙ sym other) ∙ empty }
 
   abbrev pub stored : Key → ℕ → List (DescriptorPool P) → (ℕ → Option Pool) → Type 0
-  stored k first items pools = IsStored k (bucket first (map (entry_of name) items)) pools
+  stored k first items pools = AreBookedIn k pools (map (entry_of name) items)
 
   pub turn_unused : (k : Key) (first : ℕ) (items : List (DescriptorPool P)) (p : DescriptorPool P) (l : Ledger) → IsFirst items p → stored k first items l.pools → HasNoSets (name p.raw) l
   turn_unused k first [] p l front agree = (let bad = front.some in absurd (omega arith))

@@ -18,7 +18,8 @@ use Rattle.gpu_descriptor.specs.Grow.{IsGrown, IsNotGrown, IsTakenAll, IsGrowSto
 use Rattle.gpu_descriptor.specs.Load.{held}
 use Rattle.gpu_descriptor.specs.Outcomes.{no_rise, risen, grant_rise}
 use Rattle.gpu_descriptor.specs.Shares.{offer, rest, share, shared, all_shared, Portion, portions_of}
-use Rattle.gpu_descriptor.specs.Walk.{HasTaken, KeepsKey, IsWalked, AreBookedIn}
+use Rattle.gpu_descriptor.specs.Buckets.{AreBookedIn}
+use Rattle.gpu_descriptor.specs.Walk.{HasTaken, KeepsKey, IsWalked}
 use Rattle.gpu_descriptor_types.specs.Ledger.{Pool, Ledger, Counters, live_sets, changed, on_pool}
 use Rattle.gpu_descriptor_types.specs.PoolSize.{pool_counts, IsPoolSize}
 use Rattle.gpu_descriptor_types.specs.Ledger as ledgers

@@ -13,7 +13,8 @@ use Rattle.gpu_descriptor.specs.Books.{Key, key_eq, Entry}
 use Rattle.gpu_descriptor.specs.Agreement.{Item, item_eq, set_of, count_of, IsAsBooked}
 use Rattle.gpu_descriptor.specs.Grants.{items_at, pool_with}
 use Rattle.gpu_descriptor.specs.Load.{held}
-use Rattle.gpu_descriptor.specs.Walk.{IsBookedIn, IsAsked}
+use Rattle.gpu_descriptor.specs.Buckets.{IsBookedIn}
+use Rattle.gpu_descriptor.specs.Walk.{IsAsked}
 use Rattle.gpu_descriptor.proofs.Exact.{item_exact, item_from}
 
 -- a set that stands among sets of these counts has them

@@ -19,7 +19,8 @@ use Rattle.gpu_descriptor.specs.Agreement.{Item, item_eq, set_of, count_of, live
 use Rattle.gpu_descriptor.specs.FreshPools.{fresh_entry}
 use Rattle.gpu_descriptor.specs.Grants.{items_at, pool_with}
 use Rattle.gpu_descriptor.specs.Load.{held}
-use Rattle.gpu_descriptor.specs.Walk.{IsBookedIn, AreBookedIn, IsAsked, KeepsKey, live_at}
+use Rattle.gpu_descriptor.specs.Buckets.{IsBookedIn, AreBookedIn}
+use Rattle.gpu_descriptor.specs.Walk.{IsAsked, KeepsKey, live_at}
 use Rattle.gpu_descriptor.specs.Grow.{IsGrown}
 use Rattle.gpu_descriptor.proofs.KeepKey.{pool_booked, on_pool_here, asked_booked, any_at, not_any, set_got, set_here, set_there, any_written, held_written, end_got, end_before, end_here, end_past, place_of_items, count_of_items, count_elsewhere}
 

@@ -2,12 +2,12 @@
 use Rattle.std.proofs.Common.{◌≡◌, ◌≢◌, ℕ, ◌+◌, ◌-◌, ◌≤◌, List, [], ◌∷◌, length, map, Option, None, Some, nat_eq, option_map, inl, inr, refl, sym, ap, ◌∙◌, arith, eq-eqb, ne_eqb}
 use Rattle.std.specs.Map.{update}
 use Rattle.std.proofs.lemmas.Bool.{cases_Bool}
-use Rattle.gpu_descriptor_types.specs.Ledger.{Pool, Counters, Ledger, changed, after_release}
+use Rattle.gpu_descriptor_types.specs.Ledger.{Pool, Counters, Ledger, changed, after_release, live_sets}
 use Rattle.gpu_descriptor_types.specs.Multiset.{LiveSet, set_eq, times}
 use Rattle.gpu_descriptor_types.proofs.Counting.{set_exact, count_by_yes, count_by_no, all_taken_out}
 use Rattle.gpu_descriptor.specs.Agreement.{HasSize}
 use Rattle.gpu_descriptor.specs.Books.{Key}
-use Rattle.gpu_descriptor.specs.Buckets.{sets_of, more_destroyed}
+use Rattle.gpu_descriptor.specs.Buckets.{more_destroyed}
 use Rattle.gpu_descriptor.specs.Release.{pool_less}
 
 -- the pools with this at a name, and all else as it was
@@ -61,10 +61,10 @@ times_more l ls x = elim (cases_Bool (set_eq l x)) [
 ]
 
 -- sets that all have the key's counts are those of their names
-pub only_these : (k : Key) (names : List ℕ) (ls : List LiveSet) → map (λ x. x.name) ls ≡ names → ((x : LiveSet) → 1 ≤ times ls x → x.counts ≡ k.counts) → ls ≡ sets_of k names
-only_these k names ls is each = go ls each ∙ ap (sets_of k) is
+pub only_these : (k : Key) (names : List ℕ) (ls : List LiveSet) → map (λ x. x.name) ls ≡ names → ((x : LiveSet) → 1 ≤ times ls x → x.counts ≡ k.counts) → ls ≡ live_sets k.counts names
+only_these k names ls is each = go ls each ∙ ap (live_sets k.counts) is
   where
-    go : (ls : List LiveSet) → ((x : LiveSet) → 1 ≤ times ls x → x.counts ≡ k.counts) → ls ≡ sets_of k (map (λ x. x.name) ls)
+    go : (ls : List LiveSet) → ((x : LiveSet) → 1 ≤ times ls x → x.counts ≡ k.counts) → ls ≡ live_sets k.counts (map (λ x. x.name) ls)
     go [] each = refl
     go (l ∷ ls) each =
         let own : times (l ∷ ls) l ≡ times ls l + 1 = count_by_yes (λ y. set_eq y l) l ls (set_exact.self l) ∙ omega arith in

@@ -3,13 +3,13 @@ use Rattle.std.proofs.Common.{◌≡◌, ℕ, ◌-◌, Bool, List, [], ◌∷◌
 use Rattle.std.proofs.Math.Path.{fun_ext}
 use Rattle.std.specs.Map.{lookup, set_value}
 use Rattle.std.specs.Option.{option_map_or}
-use Rattle.gpu_descriptor_types.specs.Ledger.{Ledger}
+use Rattle.gpu_descriptor_types.specs.Ledger.{Ledger, live_sets}
 use Rattle.gpu_descriptor.specs.declared.set.BucketKey.{BucketKey}
 use Rattle.gpu_descriptor.specs.declared.set.DescriptorSet.{DescriptorSet}
 use Rattle.gpu_descriptor.specs.declared.bucket.DescriptorBucket.{DescriptorBucket}
 use Rattle.gpu_descriptor.specs.Agreement.{Agree, AreOutstanding}
 use Rattle.gpu_descriptor.specs.Books.{Key, key_eq, Entry, Bucket, no_pools, books_of, HasDistinctKeys}
-use Rattle.gpu_descriptor.specs.Buckets.{IsStored, IsTakenAt, RunsInto, names_of, sets_of, bucket_back, more_destroyed, more_released}
+use Rattle.gpu_descriptor.specs.Buckets.{AreBookedIn, IsTakenAt, RunsInto, names_of, bucket_back, more_destroyed, more_released}
 use Rattle.gpu_descriptor.specs.Release.{given_back, released, pools_gone}
 use Rattle.gpu_descriptor.specs.Sets.{key_of, items_of}
 use Rattle.gpu_descriptor.specs.States.{named_row, state_of, keys_of}
@@ -18,7 +18,8 @@ use Rattle.gpu_descriptor.specs.Stored.{books_in, row_of, bucket_of}
 use Rattle.gpu_descriptor.specs.Values.{Allocations}
 use Rattle.gpu_descriptor.proofs.LedgerPools.{taken_from, release_pools}
 use Rattle.gpu_descriptor.proofs.TableBooks.{put_books, rows_in, looked_up, written, key_once, keys_are}
-use Rattle.gpu_descriptor.proofs.WholeRun.{settled_pools, stored_of, taken_of, whole_run, gone_run}
+use Rattle.gpu_descriptor.proofs.KeepState.{booked_of}
+use Rattle.gpu_descriptor.proofs.WholeRun.{settled_pools, taken_of, whole_run, gone_run}
 
 module _ {P S : Type 0} (name : P → ℕ) (set_name : S → ℕ) (a : Allocations P) (l : Ledger) (es : List (BucketKey × DescriptorBucket P)) (is : a.table ≡ map row_of es) (agree : Agree (state_of name a l)) (x : DescriptorSet S)
     (test : BucketKey → Bool) (same : (k : BucketKey) → test k ≡ key_eq (key_of x.key) (key_of k)) where
@@ -37,8 +38,8 @@ module _ {P S : Type 0} (name : P → ℕ) (set_name : S → ℕ) (a : Allocatio
       let worse : ◌≡◌ {A = Option Entry} None (Some t.entry) = bad in cc
 
   module _ (bucket : DescriptorBucket P) (found : lookup test es ≡ Some bucket) where
-    pub row_stored : IsStored (key_of x.key) (bucket_of name bucket) l.pools
-    row_stored = subst (λ b. IsStored (key_of x.key) b l.pools) (at_key (Some bucket) found) (stored_of (state_of name a l) agree (key_of x.key))
+    pub row_stored : AreBookedIn (key_of x.key) l.pools (bucket_of name bucket).pools
+    row_stored = subst (λ (b : Bucket). AreBookedIn (key_of x.key) l.pools b.pools) (at_key (Some bucket) found) (booked_of (state_of name a l) (key_of x.key) agree)
 
     pub row_taken : (xs : List (DescriptorSet S)) → HaveKey x.key x.number xs → AreOutstanding (items_of set_name (x ∷ xs)) (state_of name a l) → IsTakenAt (key_of x.key) x.number (names_of set_name (x ∷ xs)) (bucket_of name bucket) l.pools
     row_taken xs have out = subst (λ b. IsTakenAt (key_of x.key) x.number (names_of set_name (x ∷ xs)) b l.pools) (at_key (Some bucket) found) (taken_of set_name (state_of name a l) agree x xs have out)
@@ -56,7 +57,7 @@ module _ {P S : Type 0} (name : P → ℕ) (set_name : S → ℕ) (a : Allocatio
           let some : IsSome (lookup test es) = rw found refl in
           let books : (state_of name new after).books ≡ put_books s.books k (bucket_of name w) = ap (books_in name) wrote ∙ fun_ext (written name test k same es w some) ∙ ap (λ (f : Key → Bucket). put_books f k (bucket_of name w)) (sym books_are) in
           let b = bucket_back (s.books k) x.number (length (names_of set_name (x ∷ xs))) into.entry in
-          let pools : after.pools ≡ settled_pools b (taken_from l.pools into.entry.pool (sets_of k (names_of set_name (x ∷ xs)))) = ap (λ (m : Ledger). m.pools) into.ledger ∙ ap (settled_pools b) (release_pools into.entry.pool (sets_of k (names_of set_name (x ∷ xs))) l) in
+          let pools : after.pools ≡ settled_pools b (taken_from l.pools into.entry.pool (live_sets k.counts (names_of set_name (x ∷ xs)))) = ap (λ (m : Ledger). m.pools) into.ledger ∙ ap (settled_pools b) (release_pools into.entry.pool (live_sets k.counts (names_of set_name (x ∷ xs))) l) in
           let left : state_of name new after ≡ record { books = put_books s.books k (bucket_of name w); ledger = after.pools } = λ i. record { books = books i; ledger = after.pools } in
           left ∙ whole_run set_name s agree x xs have into.entry into.above into.at (bucket_of name w) after.pools into.books pools
 

@@ -3,14 +3,14 @@ use Rattle.std.proofs.Common.{◌≡◌, ℕ, ◌+◌, ◌-◌, ◌≤◌, true,
 use Rattle.std.specs.Iterator.{Count, HoldsAlong, IsFinite, IsNearerEnd, Yields, YieldsThen}
 use Rattle.std.proofs.lemmas.Bool.{and_from}
 use Rattle.std.proofs.lemmas.List.{length-map}
-use Rattle.gpu_descriptor_types.specs.Ledger.{Pool, Ledger, AreLive}
+use Rattle.gpu_descriptor_types.specs.Ledger.{Pool, Ledger, AreLive, live_sets}
 use Rattle.gpu_descriptor_types.specs.Flags.{CanFree}
 use Rattle.gpu_descriptor_types.specs.Multiset.{LiveSet}
 use Rattle.gpu_descriptor.specs.declared.set.DescriptorSet.{DescriptorSet}
 use Rattle.gpu_descriptor.specs.declared.run.Run.{Run}
 use Rattle.gpu_descriptor.specs.Agreement.{live_in}
 use Rattle.gpu_descriptor.specs.Books.{Key, Entry, Bucket}
-use Rattle.gpu_descriptor.specs.Buckets.{IsStored, IsTakenAt, sets_of, names_of}
+use Rattle.gpu_descriptor.specs.Buckets.{AreBookedIn, IsTakenAt, names_of}
 use Rattle.gpu_descriptor.specs.Sets.{key_of, at_place}
 use Rattle.gpu_descriptor.specs.Steps.{RunStep, CountsFrom, EndsRun, HaveKey}
 use Rattle.gpu_descriptor.proofs.BucketRun.{AreTaken, can_free, can_take, took_these, length_names}
@@ -38,22 +38,22 @@ module _ {T S : Type 0} (steps : T → Option (DescriptorSet S) → T → Type 0
       omega arith
 
   -- all that a run gives is live in the place
-  pub run_live : (b : Bucket) (l : Ledger) (x : DescriptorSet S) (e : Entry) (s : Run T S) → s.ahead.now ≡ Some x → x.key ≡ s.key → x.number ≡ s.number → IsStored (key_of x.key) b l.pools → slice_get b.pools (x.number - b.first) ≡ Some e → Takes s.source.now x b l.pools
+  pub run_live : (b : Bucket) (l : Ledger) (x : DescriptorSet S) (e : Entry) (s : Run T S) → s.ahead.now ≡ Some x → x.key ≡ s.key → x.number ≡ s.number → AreBookedIn (key_of x.key) l.pools b.pools → slice_get b.pools (x.number - b.first) ≡ Some e → Takes s.source.now x b l.pools
       → HoldsAlong (RunStep steps can left) s (λ ys. AreLive e.pool (map name ys) l)
   run_live b l x e s a k i stored at h ys t z =
-      let booked = stored.booked (x.number - b.first) e at in
-      let free = subst CanFree (sym booked.2.flags) (can_free (key_of x.key)) in
+      let booked = stored.each (x.number - b.first) e at in
+      let free = subst CanFree (sym booked.booked.flags) (can_free (key_of x.key)) in
       let gone = live_names ys t z in
       record {
-        pool = booked.0;
-        is_live = booked.1;
+        pool = booked.pool;
+        is_live = booked.is_live;
         can_free = free;
         gone = gone.0;
         named = gone.1.are;
-        live = λ y. (let is : live_in l.pools e.pool y ≡ booked.0.live y = rw booked.1 refl in let within = gone.1.within y in omega arith);
+        live = λ y. (let is : live_in l.pools e.pool y ≡ booked.pool.live y = rw booked.is_live refl in let within = gone.1.within y in omega arith);
       }
     where
-      of_names : (k : Key) (ns : List ℕ) → map (λ (l : LiveSet). l.name) (sets_of k ns) ≡ ns
+      of_names : (k : Key) (ns : List ℕ) → map (λ (l : LiveSet). l.name) (live_sets k.counts ns) ≡ ns
       of_names k [] = refl
       of_names k (n ∷ ns) = ap (λ l. n ∷ l) (of_names k ns)
 
@@ -64,7 +64,7 @@ module _ {T S : Type 0} (steps : T → Option (DescriptorSet S) → T → Type 0
           let m : names_of name (x ∷ f.xs) ≡ map name (v ∷ vs) = sym (names name (x ∷ f.xs)) ∙ ap (λ ws. map name ws) f.raws in
           let have : HaveKey x.key x.number f.xs = subst (λ l. HaveKey l x.number f.xs) (sym k) (subst (λ j. HaveKey s.key j f.xs) (sym i) f.keys) in
           let take = can_take (key_of x.key) x.number (names_of name (x ∷ f.xs)) b l.pools e (h f.xs f.source f.came have) at in
-          subst (λ ns. (ls : List LiveSet) × AreTaken ns (live_in l.pools e.pool) ls) m (sets_of (key_of x.key) (names_of name (x ∷ f.xs)), record { are = of_names (key_of x.key) (names_of name (x ∷ f.xs)); within = take.live })
+          subst (λ ns. (ls : List LiveSet) × AreTaken ns (live_in l.pools e.pool) ls) m (live_sets (key_of x.key).counts (names_of name (x ∷ f.xs)), record { are = of_names (key_of x.key) (names_of name (x ∷ f.xs)); within = take.live })
 
   pub run_names : (x : DescriptorSet S) (s u : Run T S) (ys : List S) (w : Whole steps can left s x ys u) → map name ys ≡ names_of name (x ∷ w.xs)
   run_names x s u ys w = ap (λ zs. map name zs) (sym w.raws) ∙ names name (x ∷ w.xs)
@@ -95,16 +95,16 @@ module _ {T S : Type 0} (steps : T → Option (DescriptorSet S) → T → Type 0
     pub have : HaveKey x.key x.number run.xs
     pub fits : length (names_of name (x ∷ run.xs)) ≤ e.allocated
     pub count : u.count ≡ length (names_of name (x ∷ run.xs))
-    pub sets : ls ≡ sets_of (key_of x.key) (names_of name (x ∷ run.xs))
+    pub sets : ls ≡ live_sets (key_of x.key).counts (names_of name (x ∷ run.xs))
     pub long : length ls ≡ length (names_of name (x ∷ run.xs))
 
   pub done : (s : Run T S) (x : DescriptorSet S) (b : Bucket) (pools : ℕ → Option Pool) (e : Entry) (u : Run T S) (ys : List S) (ls : List LiveSet) → s.ahead.now ≡ Some x → s.key ≡ x.key → s.number ≡ x.number → s.count ≡ 0
-      → IsStored (key_of x.key) b pools → slice_get b.pools (x.number - b.first) ≡ Some e → Takes s.source.now x b pools
+      → AreBookedIn (key_of x.key) pools b.pools → slice_get b.pools (x.number - b.first) ≡ Some e → Takes s.source.now x b pools
       → YieldsThen (RunStep steps can left) s ys None u → AreTaken (map name ys) (live_in pools e.pool) ls → Done s x b pools e u ys ls
   done s x b pools e u ys ls ahead k i zero_count stored at h gives are =
       let own : at_place s.key s.number x ≡ true = rw (k, i) (at_own x) in
       let w = whole steps can left s x ys u ahead own gives in
       let have : HaveKey x.key x.number w.xs = subst (λ l. HaveKey l x.number w.xs) k (subst (λ j. HaveKey s.key j w.xs) i w.keys) in
       let take = can_take (key_of x.key) x.number (names_of name (x ∷ w.xs)) b pools e (h w.xs w.source w.came have) at in
-      let sets : ls ≡ sets_of (key_of x.key) (names_of name (x ∷ w.xs)) = took_these (key_of x.key) b pools (x.number - b.first) e (names_of name (x ∷ w.xs)) ls stored at (subst (λ ns. AreTaken ns (live_in pools e.pool) ls) (run_names x s u ys w) are) in
+      let sets : ls ≡ live_sets (key_of x.key).counts (names_of name (x ∷ w.xs)) = took_these (key_of x.key) b pools (x.number - b.first) e (names_of name (x ∷ w.xs)) ls stored at (subst (λ ns. AreTaken ns (live_in pools e.pool) ls) (run_names x s u ys w) are) in
       record { run = w; have = have; fits = take.fits; count = run_long x s u ys w zero_count; sets = sets; long = ap (λ (l : List LiveSet). length l) sets ∙ length_names (key_of x.key) (names_of name (x ∷ w.xs)) }

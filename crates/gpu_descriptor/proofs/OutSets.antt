@@ -12,7 +12,8 @@ use Rattle.gpu_descriptor.specs.Agreement.{Item, set_of, count_of}
 use Rattle.gpu_descriptor.specs.Books.{Key, key_eq, Entry, Bucket, no_pools, books_of, HasDistinctKeys, sum_over}
 use Rattle.gpu_descriptor.specs.Grants.{items_at}
 use Rattle.gpu_descriptor.specs.Load.{held, sets_out, OutIsLength, OutIsSize}
-use Rattle.gpu_descriptor.specs.Walk.{IsBookedIn, live_at}
+use Rattle.gpu_descriptor.specs.Buckets.{IsBookedIn}
+use Rattle.gpu_descriptor.specs.Walk.{live_at}
 use Rattle.gpu_descriptor.proofs.Exact.{item_exact, key_exact}
 use Rattle.gpu_descriptor.proofs.KeepKey.{place_of_items, count_of_items, count_elsewhere}
 use Rattle.gpu_descriptor.proofs.KeepState.{booked_of}

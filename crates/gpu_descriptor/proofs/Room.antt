@@ -6,7 +6,7 @@ use Rattle.std.proofs.lemmas.List.Sums.{sum_by-cons}
 use Rattle.std.specs.Prelude.{IsTrue, sum, sum_by, ◌==◌, if◌then◌else◌}
 use Rattle.gpu_descriptor.specs.Agreement.{flags_of}
 use Rattle.gpu_descriptor.specs.Books.{Key, Entry}
-use Rattle.gpu_descriptor.specs.Walk.{IsBookedIn}
+use Rattle.gpu_descriptor.specs.Buckets.{IsBookedIn}
 use Rattle.gpu_descriptor_types.proofs.Counting.{count_by_yes, count_by_no, set_exact}
 use Rattle.gpu_descriptor_types.specs.Flags.{IsUpdateAfterBind}
 use Rattle.gpu_descriptor_types.specs.Ledger.{Ledger, HasRoom}

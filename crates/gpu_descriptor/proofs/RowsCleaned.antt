@@ -15,7 +15,7 @@ use Rattle.gpu_descriptor.specs.declared.bucket.DescriptorBucket.{DescriptorBuck
 use Rattle.gpu_descriptor.specs.Agreement.{State, Agree}
 use Rattle.gpu_descriptor.specs.Allocated.{allocated_in}
 use Rattle.gpu_descriptor.specs.Books.{Key, key_eq, Bucket, entry_at, no_pools, books_of, HasDistinctKeys}
-use Rattle.gpu_descriptor.specs.Buckets.{IsStored, has_pools, cleared_bucket, cleared_ledger, pools_without, more_destroyed}
+use Rattle.gpu_descriptor.specs.Buckets.{AreBookedIn, has_pools, cleared_bucket, cleared_ledger, pools_without, more_destroyed}
 use Rattle.gpu_descriptor.specs.Cleanup.{cleaned_bucket, IsCleaned, pools_cleaned}
 use Rattle.gpu_descriptor.specs.Release.{empty_front, in_front}
 use Rattle.gpu_descriptor.specs.Sets.{key_of}
@@ -30,7 +30,7 @@ use Rattle.gpu_descriptor.proofs.LedgerPools.{destroyed_both, destroyed_none}
 use Rattle.gpu_descriptor.proofs.Loads.{load_at-none}
 use Rattle.gpu_descriptor.proofs.TableBooks.{rows_in, rows_are, keys_are}
 use Rattle.gpu_descriptor.proofs.Tables.{key_eq_symm, absent}
-use Rattle.gpu_descriptor.proofs.WholeRun.{stored_of}
+use Rattle.gpu_descriptor.proofs.KeepState.{booked_of}
 
 abbrev pub Rows : Type 0
 Rows = List (Key × Bucket)
@@ -179,15 +179,15 @@ row_books (x ∷ rows) (suc i) r h at =
     rw other (row_books rows i r h.1 at)
 
 -- the next row stands in the ledger still
-pub next_stored : (rows : Rows) (pools : ℕ → Option Pool) (i : ℕ) (r : Key × Bucket) → HasDistinctKeys rows → Agree (record { books = books_of rows; ledger = pools }) → slice_get rows i ≡ Some r → IsStored r.0 r.1 (pools_less i rows pools)
+pub next_stored : (rows : Rows) (pools : ℕ → Option Pool) (i : ℕ) (r : Key × Bucket) → HasDistinctKeys rows → Agree (record { books = books_of rows; ledger = pools }) → slice_get rows i ≡ Some r → AreBookedIn r.0 (pools_less i rows pools) r.1.pools
 next_stored rows pools i r distinct agree at =
     let s : State = record { books = books_of rows; ledger = pools } in
     let own : books_of rows r.0 ≡ r.1 = row_books rows i r distinct at in
-    let was : IsStored r.0 r.1 pools = subst (λ b. IsStored r.0 b pools) own (stored_of s agree r.0) in
+    let was : AreBookedIn r.0 pools r.1.pools = subst (λ (b : Bucket). AreBookedIn r.0 pools b.pools) own (booked_of s r.0 agree) in
     record {
       distinct = was.distinct;
-      booked = λ j e here.
-          let booked = was.booked j e here in
+      each = λ j e here.
+          let booked = was.each j e here in
           let stays : gone i rows e.pool ≡ false = false_from_ne_true (gone i rows e.pool) (λ h.
           let found = gone_found i rows e.pool h in
           let q = found.1 in
@@ -199,7 +199,11 @@ next_stored rows pools i r distinct agree at =
           let mine : entry_at r.1 (r.1.first + j) ≡ Some e = entry_at-from r.1 (r.1.first + j) e (omega arith) (rw b here) in
           let same = (agree.distinct q.0 r.0 (q.1.first + inside.0) (r.1.first + j) inside.1 e (ap (λ (x : Bucket). entry_at x (q.1.first + inside.0)) other ∙ there) (ap (λ (x : Bucket). entry_at x (r.1.first + j)) own ∙ mine) inside.4).0 in
           apart rows found.0 i q r distinct found.2 found.3 at same) in
-          (booked.0, (let kept : pools_less i rows pools e.pool ≡ pools e.pool = rw stays refl in kept ∙ booked.1), booked.2);
+          record {
+            pool = booked.pool;
+            is_live = (let kept : pools_less i rows pools e.pool ≡ pools e.pool = rw stays refl in kept ∙ booked.is_live);
+            booked = booked.booked;
+          };
     }
 
 any_gone : (n : ℕ) (rows : Rows) (k : Key) (p : ℕ) → length rows ≤ n → front (books_of rows k) p ≡ true → gone n rows p ≡ true

@@ -9,7 +9,7 @@ use Rattle.gpu_descriptor_types.specs.Ledger.{Pool, Ledger, HasNoSets, after_des
 use Rattle.gpu_descriptor_types.specs.Multiset.{set_eq}
 use Rattle.gpu_descriptor.specs.declared.bucket.DescriptorPool.{DescriptorPool}
 use Rattle.gpu_descriptor.specs.Books.{Key, Entry, Bucket}
-use Rattle.gpu_descriptor.specs.Buckets.{IsStored, settled_bucket, settled_ledger, ledger_without, pools_without, more_destroyed}
+use Rattle.gpu_descriptor.specs.Buckets.{AreBookedIn, settled_bucket, settled_ledger, ledger_without, pools_without, more_destroyed}
 use Rattle.gpu_descriptor.specs.Release.{is_empty, spent_front, without_front, in_front}
 use Rattle.gpu_descriptor.specs.Stored.{entry_of}
 use Rattle.gpu_descriptor.proofs.Fronts.{spent, spent_yes, spent_no, spent_one}
@@ -42,13 +42,13 @@ pub step_ledger : (first : ℕ) (x y : Entry) (es : List Entry) (l : Ledger) →
 step_ledger first x y es l empty =
     step_without (spent (y ∷ es)) first x (y ∷ es) l ∙ ap (λ (n : ℕ). ledger_without n (bucket first (x ∷ y ∷ es)) l) (sym (spent_yes x y es empty))
 
-pub front_unused : (k : Key) (first : ℕ) (x : Entry) (es : List Entry) (l : Ledger) → IsStored k (bucket first (x ∷ es)) l.pools → x.allocated ≡ 0 → HasNoSets x.pool l
+pub front_unused : (k : Key) (first : ℕ) (x : Entry) (es : List Entry) (l : Ledger) → AreBookedIn k l.pools (x ∷ es) → x.allocated ≡ 0 → HasNoSets x.pool l
 front_unused k first x es l stored none =
-    let found = stored.booked 0 x refl in
-    let size = found.2.allocated in
+    let found = stored.each 0 x refl in
+    let size = found.booked.allocated in
     record {
-      pool = found.0;
-      is_live = found.1;
+      pool = found.pool;
+      is_live = found.is_live;
       empty = λ name.
           let count = count_by-le-length (λ n. set_eq n name) size.0 in
           let long = size.1 in
@@ -56,13 +56,13 @@ front_unused k first x es l stored none =
           omega arith;
     }
 
-pub step_stored : (k : Key) (first : ℕ) (x : Entry) (es : List Entry) (pools : ℕ → Option Pool) → IsStored k (bucket first (x ∷ es)) pools → IsStored k (bucket (first + 1) es) (with_pool pools x.pool None)
+pub step_stored : (k : Key) (first : ℕ) (x : Entry) (es : List Entry) (pools : ℕ → Option Pool) → AreBookedIn k pools (x ∷ es) → AreBookedIn k (with_pool pools x.pool None) es
 step_stored k first x es pools stored = record {
   distinct = λ i j d e at at' same. let both : suc i ≡ suc j = stored.distinct (suc i) (suc j) d e at at' same in let one : i ≡ j = omega arith in one;
-  booked = λ i e at.
-      let had = stored.booked (suc i) e at in
+  each = λ i e at.
+      let had = stored.each (suc i) e at in
       let other : e.pool ≢ x.pool = λ same. let both : suc i ≡ 0 = stored.distinct (suc i) 0 e x at refl same in omega arith in
-      (had.0, with_pool_other pools x.pool e.pool None other ∙ had.1, had.2);
+      record { pool = had.pool; is_live = with_pool_other pools x.pool e.pool None other ∙ had.is_live; booked = had.booked };
 }
 
 -- nothing goes of a front without pools
@@ -86,7 +86,7 @@ module _ {P : Type 0} (name : P → ℕ) where
   is_front (x ∷ items) p q long is other empty = record { long = long; is = is; empty = ap (λ (y : DescriptorPool P). y.allocated) (is ∙ sym other) ∙ empty }
 
   abbrev pub stored : Key → ℕ → List (DescriptorPool P) → (ℕ → Option Pool) → Type 0
-  stored k first items pools = IsStored k (bucket first (map (entry_of name) items)) pools
+  stored k first items pools = AreBookedIn k pools (map (entry_of name) items)
 
   pub turn_unused : (k : Key) (first : ℕ) (items : List (DescriptorPool P)) (p : DescriptorPool P) (l : Ledger) → IsFront items p → stored k first items l.pools → HasNoSets (name p.raw) l
   turn_unused k first [] p l front agree = (let bad = front.long in absurd (omega arith))

@@ -12,7 +12,8 @@ use Rattle.gpu_descriptor.specs.Sets.{key_of, items_of}
 use Rattle.gpu_descriptor.specs.Agreement.{Item}
 use Rattle.gpu_descriptor.specs.Grants.{Part, items_at, items_in, pool_with, ledger_with}
 use Rattle.gpu_descriptor.specs.Shares.{rest, all_shared, portions_of, asked_count, refused_count}
-use Rattle.gpu_descriptor.specs.Walk.{sets_at, KeepsKey, IsAsked, IsNoMemory, HasTaken, IsBookedIn, AreBookedIn, IsWalked, IsWalkStopped}
+use Rattle.gpu_descriptor.specs.Buckets.{IsBookedIn, AreBookedIn}
+use Rattle.gpu_descriptor.specs.Walk.{sets_at, KeepsKey, IsAsked, IsNoMemory, HasTaken, IsWalked, IsWalkStopped}
 use Rattle.gpu_descriptor_types.specs.Ledger.{Pool, Ledger, live_sets, changed}
 use Rattle.gpu_descriptor_types.specs.declared.errors.DeviceAllocationError.{DeviceAllocationError}
 use Rattle.std.proofs.lemmas.Option.{slice_get_within}

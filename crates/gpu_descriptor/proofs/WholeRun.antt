@@ -6,14 +6,14 @@ use Rattle.std.specs.List.{list_any}
 use Rattle.std.proofs.lemmas.Bool.{cases_Bool, cases_eq, and_parts, and_from, false_from_ne_true}
 use Rattle.std.proofs.lemmas.List.{length-map}
 use Rattle.std.proofs.lemmas.List.Sums.{sum_by-cons}
-use Rattle.gpu_descriptor_types.specs.Ledger.{Pool}
+use Rattle.gpu_descriptor_types.specs.Ledger.{Pool, live_sets}
 use Rattle.gpu_descriptor_types.specs.Multiset.{LiveSet, set_eq, times}
 use Rattle.gpu_descriptor_types.proofs.Counting.{bool_iff, any_found, any_from, count_by_yes, count_by_no}
 use Rattle.gpu_descriptor.specs.declared.set.BucketKey.{BucketKey}
 use Rattle.gpu_descriptor.specs.declared.set.DescriptorSet.{DescriptorSet}
 use Rattle.gpu_descriptor.specs.Agreement.{set_of, State, Item, item_eq, count_of, live_in, AreOutstanding, Agree}
 use Rattle.gpu_descriptor.specs.Books.{Key, key_eq, Entry, Bucket, entry_at}
-use Rattle.gpu_descriptor.specs.Buckets.{IsStored, IsTakenAt, sets_of, names_of, settled_bucket, pools_without, bucket_back}
+use Rattle.gpu_descriptor.specs.Buckets.{IsTakenAt, names_of, settled_bucket, pools_without, bucket_back}
 use Rattle.gpu_descriptor.specs.Release.{entry_less, pool_less, given_back, fronts_gone, released, spent_front, pools_gone}
 use Rattle.gpu_descriptor.specs.Sets.{key_of, at_place, item_of, items_of}
 use Rattle.gpu_descriptor.specs.Steps.{HaveKey}
@@ -24,7 +24,7 @@ use Rattle.gpu_descriptor.proofs.LedgerPools.{taken_from, with_pool_same, with_p
 use Rattle.gpu_descriptor.proofs.OneRun.{at_own}
 use Rattle.gpu_descriptor.proofs.Parts.{names_key, any_key, key_any, goes}
 use Rattle.gpu_descriptor.proofs.Places.{back, back_named, part_fits}
-use Rattle.gpu_descriptor.proofs.Runs.{IsRun, run_back, run_named, run_books, untouched_rest, distinct_names}
+use Rattle.gpu_descriptor.proofs.Runs.{IsRun, run_back, run_named, run_books, untouched_rest}
 use Rattle.gpu_descriptor.proofs.TableBooks.{put_books}
 
 -- the pools without those of a bucket's spent front
@@ -36,16 +36,6 @@ unfolding at_place
 at_parts k n x h =
     let both = and_parts (key_eq (key_of x.key) (key_of k)) (x.number == n) h in
     (key_exact.same (key_of x.key) (key_of k) both.0, eqb-true x.number n both.1)
-
--- a bucket of the books stands in the ledger
-pub stored_of : (s : State) → Agree s → (k : Key) → IsStored k (s.books k) s.ledger
-stored_of s agree k = record {
-  distinct = distinct_names s agree k;
-  booked = λ i e at.
-      let b = s.books k in
-      let place : b.first + i - b.first ≡ i = omega arith in
-      agree.booked k (b.first + i) e (entry_at-from b (b.first + i) e (omega arith) (rw place at));
-}
 
 module _ {S : Type 0} (name : S → ℕ) where
   in_run : (k : BucketKey) (n : ℕ) (xs : List (DescriptorSet S)) → HaveKey k n xs → (t : Item) → 0 < count_of t (items_of name xs) → (t.key ≡ key_of k) × (t.number ≡ n)
@@ -64,7 +54,7 @@ module _ {S : Type 0} (name : S → ℕ) where
   is_run k n xs have t h = in_run k n xs have t h
 
   -- the sets of a run, counted
-  pub named_times : (k : BucketKey) (n : ℕ) (xs : List (DescriptorSet S)) → HaveKey k n xs → (x : LiveSet) → count_by (λ t. set_eq (set_of t) x) (items_of name xs) ≡ times (sets_of (key_of k) (names_of name xs)) x
+  pub named_times : (k : BucketKey) (n : ℕ) (xs : List (DescriptorSet S)) → HaveKey k n xs → (x : LiveSet) → count_by (λ t. set_eq (set_of t) x) (items_of name xs) ≡ times (live_sets (key_of k).counts (names_of name xs)) x
   named_times k n [] have x = refl
   named_times k n (y ∷ ys) have x =
       let one : Item = item_of name y in
@@ -72,8 +62,8 @@ module _ {S : Type 0} (name : S → ℕ) where
       let parts = at_parts k n y have.0 in
       let same : set_of one ≡ it = λ i. record { name = name y.raw; counts = (parts.0 i).counts } in
       elim (cases_Bool (set_eq (set_of one) x)) [
-        | inl h ↦ count_by_yes (λ t. set_eq (set_of t) x) one (items_of name ys) h ∙ ap suc (named_times k n ys have.1 x) ∙ sym (count_by_yes (λ z. set_eq z x) it (sets_of (key_of k) (names_of name ys)) (ap (λ (z : LiveSet). set_eq z x) (sym same) ∙ h))
-        | inr h ↦ count_by_no (λ t. set_eq (set_of t) x) one (items_of name ys) h ∙ named_times k n ys have.1 x ∙ sym (count_by_no (λ z. set_eq z x) it (sets_of (key_of k) (names_of name ys)) (ap (λ (z : LiveSet). set_eq z x) (sym same) ∙ h))
+        | inl h ↦ count_by_yes (λ t. set_eq (set_of t) x) one (items_of name ys) h ∙ ap suc (named_times k n ys have.1 x) ∙ sym (count_by_yes (λ z. set_eq z x) it (live_sets (key_of k).counts (names_of name ys)) (ap (λ (z : LiveSet). set_eq z x) (sym same) ∙ h))
+        | inr h ↦ count_by_no (λ t. set_eq (set_of t) x) one (items_of name ys) h ∙ named_times k n ys have.1 x ∙ sym (count_by_no (λ z. set_eq z x) it (live_sets (key_of k).counts (names_of name ys)) (ap (λ (z : LiveSet). set_eq z x) (sym same) ∙ h))
       ]
 
   first_of : (x : DescriptorSet S) (xs : List (DescriptorSet S)) → 0 < count_of (item_of name x) (items_of name (x ∷ xs))
@@ -123,14 +113,14 @@ module _ {S : Type 0} (name : S → ℕ) where
   pub given_run : (s : State) → Agree s → (x : DescriptorSet S) (xs : List (DescriptorSet S)) → HaveKey x.key x.number xs → (e : Entry) → (s.books (key_of x.key)).first ≤ x.number → slice_get (s.books (key_of x.key)).pools (x.number - (s.books (key_of x.key)).first) ≡ Some e
       → given_back (items_of name (x ∷ xs)) s ≡ record {
         books = put_books s.books (key_of x.key) (bucket_back (s.books (key_of x.key)) x.number (length (names_of name (x ∷ xs))) e);
-        ledger = taken_from s.ledger e.pool (sets_of (key_of x.key) (names_of name (x ∷ xs)));
+        ledger = taken_from s.ledger e.pool (live_sets (key_of x.key).counts (names_of name (x ∷ xs)));
       }
   given_run s agree x xs have e above place =
       let k = key_of x.key in
       let n = x.number in
       let m = items_of name (x ∷ xs) in
       let b = s.books k in
-      let ls = sets_of k (names_of name (x ∷ xs)) in
+      let ls = live_sets k.counts (names_of name (x ∷ xs)) in
       let run = is_run x.key n (x ∷ xs) (all_have x xs have) in
       let at : entry_at b n ≡ Some e = entry_at-from b n e above place in
       let long : length m ≡ length (names_of name (x ∷ xs)) = same_length (x ∷ xs) in
@@ -196,12 +186,12 @@ module _ {S : Type 0} (name : S → ℕ) where
 
   -- THE STATE AFTER ONE RUN
   pub whole_run : (s : State) → Agree s → (x : DescriptorSet S) (xs : List (DescriptorSet S)) → HaveKey x.key x.number xs → (e : Entry) → (s.books (key_of x.key)).first ≤ x.number → slice_get (s.books (key_of x.key)).pools (x.number - (s.books (key_of x.key)).first) ≡ Some e
-      → (c : Bucket) (pools : ℕ → Option Pool) → c ≡ settled_bucket (bucket_back (s.books (key_of x.key)) x.number (length (names_of name (x ∷ xs))) e) → pools ≡ settled_pools (bucket_back (s.books (key_of x.key)) x.number (length (names_of name (x ∷ xs))) e) (taken_from s.ledger e.pool (sets_of (key_of x.key) (names_of name (x ∷ xs))))
+      → (c : Bucket) (pools : ℕ → Option Pool) → c ≡ settled_bucket (bucket_back (s.books (key_of x.key)) x.number (length (names_of name (x ∷ xs))) e) → pools ≡ settled_pools (bucket_back (s.books (key_of x.key)) x.number (length (names_of name (x ∷ xs))) e) (taken_from s.ledger e.pool (live_sets (key_of x.key).counts (names_of name (x ∷ xs))))
       → ◌≡◌ {A = State} (record { books = put_books s.books (key_of x.key) c; ledger = pools }) (released (items_of name (x ∷ xs)) s)
   whole_run s agree x xs have e above place c pools is are =
       let k = key_of x.key in
       let b = bucket_back (s.books k) x.number (length (names_of name (x ∷ xs))) e in
-      let after = taken_from s.ledger e.pool (sets_of k (names_of name (x ∷ xs))) in
+      let after = taken_from s.ledger e.pool (live_sets k.counts (names_of name (x ∷ xs))) in
       let left : ◌≡◌ {A = State} (record { books = put_books s.books k c; ledger = pools }) (record { books = put_books s.books k (settled_bucket b); ledger = settled_pools b after }) = λ i. record { books = put_books s.books k (is i); ledger = are i } in
       left ∙ sym (front_run x xs have s.books b after) ∙ ap (fronts_gone (items_of name (x ∷ xs))) (sym (given_run s agree x xs have e above place))
 

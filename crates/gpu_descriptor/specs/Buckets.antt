@@ -1,6 +1,6 @@
 -- One key's pools over a ledger: how they stand in it, and what a run and a front that goes do to both.
 use Rattle.std.specs.Prelude.{Bool, not, ◌==◌, ◌≡◌, ℕ, ◌+◌, ◌-◌, ◌≤◌, if◌then◌else◌, List, ◌∷◌, map, set, length, slice_get, Option, None, Some}
-use Rattle.gpu_descriptor_types.specs.Ledger.{Pool, Counters, Ledger, after_release}
+use Rattle.gpu_descriptor_types.specs.Ledger.{Pool, Counters, Ledger, after_release, live_sets}
 use Rattle.gpu_descriptor_types.specs.Multiset.{LiveSet, times}
 use Rattle.gpu_descriptor.specs.declared.bucket.DescriptorBucket.{DescriptorBucket}
 use Rattle.gpu_descriptor.specs.declared.set.DescriptorSet.{DescriptorSet}
@@ -23,14 +23,16 @@ more_destroyed n c = record c { destroyed = c.destroyed + n }
 abbrev pub HasDistinctNames : List Entry → Type 0
 HasDistinctNames es = (i j : ℕ) (d e : Entry) → slice_get es i ≡ Some d → slice_get es j ≡ Some e → d.pool ≡ e.pool → i ≡ j
 
--- the pools of a key stand in the ledger as the books say
-pub record IsStored (k : Key) (b : Bucket) (pools : ℕ → Option Pool) : Type 0 where
-  pub distinct : HasDistinctNames b.pools
-  pub booked : (i : ℕ) (e : Entry) → slice_get b.pools i ≡ Some e → (pool : Pool) × (pools e.pool ≡ Some pool) × IsAsBooked k pool e
+-- an entry has its pool in the ledger
+pub record IsBookedIn (k : Key) (pools : ℕ → Option Pool) (e : Entry) : Type 0 where
+  pub pool : Pool
+  pub is_live : pools e.pool ≡ Some pool
+  pub booked : IsAsBooked k pool e
 
--- the sets of these names, under the key's counts
-abbrev pub sets_of : Key → List ℕ → List LiveSet
-sets_of k names = map (λ name. record { name = name; counts = k.counts }) names
+-- one key's part of the agreement: its pools stand in the ledger as the books say
+pub record AreBookedIn (k : Key) (pools : ℕ → Option Pool) (entries : List Entry) : Type 0 where
+  pub distinct : HasDistinctNames entries
+  pub each : (i : ℕ) (e : Entry) → slice_get entries i ≡ Some e → IsBookedIn k pools e
 
 -- the sets of these names are live in the key's pool with the number
 pub record IsTakenAt (k : Key) (number : ℕ) (names : List ℕ) (b : Bucket) (pools : ℕ → Option Pool) : Type 0 where
@@ -38,7 +40,7 @@ pub record IsTakenAt (k : Key) (number : ℕ) (names : List ℕ) (b : Bucket) (p
   pub above : b.first ≤ number
   pub at : slice_get b.pools (number - b.first) ≡ Some entry
   pub fits : length names ≤ entry.allocated
-  pub live : (x : LiveSet) → times (sets_of k names) x ≤ live_in pools entry.pool x
+  pub live : (x : LiveSet) → times (live_sets k.counts names) x ≤ live_in pools entry.pool x
 
 -- the bucket without its spent front
 abbrev pub settled_bucket : Bucket → Bucket
@@ -74,7 +76,7 @@ pub record RunsInto (k : Key) (number : ℕ) (names : List ℕ) (b : Bucket) (be
   pub above : b.first ≤ number
   pub at : slice_get b.pools (number - b.first) ≡ Some entry
   pub books : c ≡ settled_bucket (bucket_back b number (length names) entry)
-  pub ledger : after ≡ settled_ledger (bucket_back b number (length names) entry) (after_release entry.pool (sets_of k names) before)
+  pub ledger : after ≡ settled_ledger (bucket_back b number (length names) entry) (after_release entry.pool (live_sets k.counts names) before)
 
 -- the names of the raw sets
 abbrev pub names_of : {S : Type 0} → (S → ℕ) → List (DescriptorSet S) → List ℕ

@@ -7,8 +7,9 @@ use Rattle.gpu_descriptor_types.specs.declared.errors.DeviceAllocationError.{Dev
 use Rattle.gpu_descriptor.specs.declared.bucket.DescriptorPool.{DescriptorPool}
 use Rattle.gpu_descriptor.specs.declared.set.BucketKey.{BucketKey}
 use Rattle.gpu_descriptor.specs.declared.set.DescriptorSet.{DescriptorSet}
+use Rattle.gpu_descriptor.specs.Buckets.{AreBookedIn}
 use Rattle.gpu_descriptor.specs.Books.{Key, key_eq, Entry, Bucket, entry_at}
-use Rattle.gpu_descriptor.specs.Agreement.{State, Item, IsAsBooked, count_of, set_of, live_in}
+use Rattle.gpu_descriptor.specs.Agreement.{State, Item, count_of, set_of, live_in}
 use Rattle.gpu_descriptor.specs.Load.{held}
 use Rattle.gpu_descriptor.specs.Stored.{entry_of}
 use Rattle.gpu_descriptor.specs.Shares.{is_asked, OnlyAskedRefuse, portions_of}
@@ -30,17 +31,6 @@ layout_key counts mark layout = record { counts = counts layout; marked = mark l
 -- sets of one pool, out of the raw ones
 abbrev pub sets_at : {S : Type 0} → BucketKey → ℕ → List S → List (DescriptorSet S)
 sets_at key number raws = map (λ raw. record { raw = raw; number = number; key = key }) raws
-
--- an entry has its pool in the ledger
-pub record IsBookedIn (k : Key) (pools : ℕ → Option Pool) (e : Entry) : Type 0 where
-  pub pool : Pool
-  pub is_live : pools e.pool ≡ Some pool
-  pub booked : IsAsBooked k pool e
-
--- one key's part of the agreement
-pub record AreBookedIn (k : Key) (pools : ℕ → Option Pool) (entries : List Entry) : Type 0 where
-  pub distinct : (i j : ℕ) (d e : Entry) → slice_get entries i ≡ Some d → slice_get entries j ≡ Some e → d.pool ≡ e.pool → i ≡ j
-  pub each : (i : ℕ) (e : Entry) → slice_get entries i ≡ Some e → IsBookedIn k pools e
 
 -- how often a set is live in the pool of the bucket that its number names
 abbrev pub live_at : (ℕ → Option Pool) → Bucket → Item → ℕ

@@ -2,7 +2,7 @@
 ghost use Rattle.std.specs.Prelude.{◌≡◌, ◌∷◌, OnSome};
 ghost use Rattle.std.specs.Iterator.{HoldsAlong, IsFinite, IsNearerEnd};
 ghost use Rattle.gpu_descriptor.specs.Books.{Key};
-ghost use Rattle.gpu_descriptor.specs.Buckets.{IsStored, IsTakenAt, ReleasesRun, names_of, settled_bucket, settled_ledger};
+ghost use Rattle.gpu_descriptor.specs.Buckets.{AreBookedIn, IsTakenAt, ReleasesRun, names_of, settled_bucket, settled_ledger};
 ghost use Rattle.gpu_descriptor.specs.Sets.{key_of};
 ghost use Rattle.gpu_descriptor.specs.Steps.{HaveKey};
 ghost use Rattle.gpu_descriptor.specs.Stored.{bucket_of};
@@ -24,7 +24,7 @@ impl<P> DescriptorBucket<P> {
     >(&mut self, device: &mut D, first: DescriptorSet<S>, sets: &mut I) -> Option<DescriptorSet<S>>
         requires can { I.can_next sets.old }
         requires ends { IsFinite (I.remaining sets.old) }
-        requires stored { IsStored (key_of first.key) (bucket_of D.pool_name self.old) (D.ledger device.old).pools }
+        requires stored { AreBookedIn (key_of first.key) (D.ledger device.old).pools (bucket_of D.pool_name self.old).pools }
         requires taken { HoldsAlong I.next_gives sets.old (λ xs. HaveKey first.key first.number xs
             → IsTakenAt (key_of first.key) first.number (names_of D.set_name (first ∷ xs))
             (bucket_of D.pool_name self.old) (D.ledger device.old).pools) }
@@ -55,7 +55,7 @@ impl<P> DescriptorBucket<P> {
 
     /// Destroys the pools without sets at the front, but never the last pool.
     fn drop_front<L, S, D: DescriptorDevice<L, P, S>>(&mut self, device: &mut D)
-        requires { (k : Key) × IsStored k (bucket_of D.pool_name self.old) (D.ledger device.old).pools }
+        requires { (k : Key) × AreBookedIn k (D.ledger device.old).pools (bucket_of D.pool_name self.old).pools }
         ensures books { bucket_of D.pool_name self.new ≡ settled_bucket (bucket_of D.pool_name self.old) }
         ensures ledger { D.ledger device.new ≡ settled_ledger (bucket_of D.pool_name self.old) (D.ledger device.old) }
         ensures total { self.new.total ≡ self.old.total }

@@ -9,7 +9,8 @@ ghost use Rattle.gpu_descriptor.specs.Sets.{key_of, items_of};
 ghost use Rattle.gpu_descriptor.specs.Stored.{bucket_of, entry_of};
 ghost use Rattle.gpu_descriptor.specs.Books.{next_number};
 ghost use Rattle.gpu_descriptor.specs.Shares.{rest};
-ghost use Rattle.gpu_descriptor.specs.Walk.{entries_of, layout_key, sets_at, IsBookedIn, AreBookedIn, IsAsked, IsNoMemory, IsWalked, IsWalkStopped};
+ghost use Rattle.gpu_descriptor.specs.Buckets.{IsBookedIn, AreBookedIn};
+ghost use Rattle.gpu_descriptor.specs.Walk.{entries_of, layout_key, sets_at, IsAsked, IsNoMemory, IsWalked, IsWalkStopped};
 ghost use Rattle.gpu_descriptor.specs.Grow.{IsGrown, IsNotGrown, IsTakenAll, IsTakenUpTo};
 
 use crate::allocation::Allocation;

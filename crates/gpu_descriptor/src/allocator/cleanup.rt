@@ -1,7 +1,7 @@
 //! Cleaning up: the empty pools at the front of each key are destroyed.
 ghost use Rattle.std.specs.Prelude.{◌≡◌, ◌≤◌};
 ghost use Rattle.gpu_descriptor.specs.Books.{HasDistinctKeys, Key};
-ghost use Rattle.gpu_descriptor.specs.Buckets.{IsStored, has_pools, cleared_bucket, cleared_ledger, more_destroyed};
+ghost use Rattle.gpu_descriptor.specs.Buckets.{AreBookedIn, has_pools, cleared_bucket, cleared_ledger, more_destroyed};
 ghost use Rattle.gpu_descriptor.specs.Cleanup.{IsCleaned, pools_cleaned};
 ghost use Rattle.gpu_descriptor.specs.Foreign.{KeepsForeign};
 ghost use Rattle.gpu_descriptor.specs.States.{Agrees, keys_of, marked_load_of, outstanding_of, state_of, table_of};
@@ -55,7 +55,7 @@ impl<P: Drop, S> DescriptorAllocator<P, S> {
 impl<P> DescriptorBucket<P> {
     /// Destroys the pools without sets at the front, the last pool too.
     fn drop_empty<L, S, D: DescriptorDevice<L, P, S>>(&mut self, device: &mut D)
-        requires { (k : Key) × IsStored k (bucket_of D.pool_name self.old) (D.ledger device.old).pools }
+        requires { (k : Key) × AreBookedIn k (D.ledger device.old).pools (bucket_of D.pool_name self.old).pools }
         ensures books { bucket_of D.pool_name self.new ≡ cleared_bucket (bucket_of D.pool_name self.old) }
         ensures ledger { D.ledger device.new
             ≡ cleared_ledger (bucket_of D.pool_name self.old) (D.ledger device.old) }

@@ -5,7 +5,8 @@ use Rattle.gpu_descriptor_types.specs.Ledger.{Ledger, after_alloc, live_sets, po
 use Rattle.gpu_descriptor.specs.Books.{Entry, Key}
 use Rattle.gpu_descriptor.specs.Sets.{key_of}
 use Rattle.gpu_descriptor.specs.Stored.{entry_of}
-use Rattle.gpu_descriptor.specs.Walk.{IsBookedIn, IsAsked}
+use Rattle.gpu_descriptor.specs.Buckets.{IsBookedIn}
+use Rattle.gpu_descriptor.specs.Walk.{IsAsked}
 use Rattle.gpu_descriptor.proofs.Room.{has_room}
 use Rattle.gpu_descriptor.proofs.Asks.{same_entry, skipped, given, refuses}
 use Rattle.gpu_descriptor.proofs.take.ask.Goals as goal

@@ -1,7 +1,9 @@
 use Rattle.std.proofs.Common.{◌≡◌, ◌≤◌, ◌+◌, suc, rules, refl, sym, ap, subst, ◌∙◌, arith, length, map}
 use Rattle.indexmap.proofs.CallerLemmas.{filter-RetainsPairs}
 use Rattle.indexmap.specs.Layout.{length-set_value_at}
-use Rattle.gpu_descriptor.specs.Buckets.{IsStored, has_pools}
+use Rattle.gpu_descriptor_types.specs.Ledger.{Ledger}
+use Rattle.gpu_descriptor.specs.Books.{Bucket}
+use Rattle.gpu_descriptor.specs.Buckets.{AreBookedIn, has_pools}
 use Rattle.gpu_descriptor.specs.States.{outstanding_of, marked_load_of}
 use Rattle.gpu_descriptor.specs.Stored.{row_of}
 use Rattle.gpu_descriptor.specs.Values.{Allocations}
@@ -23,7 +25,7 @@ drop_empty-requires g c =
     let distinct = distinct_keys name _ (λ k l. search rules) es c.len-place-end.ensures.unique in
     let agree = agree_is name c.args.self.now (ledger c.args.device.now) es (ap (λ (a : Allocations _). a.table) (sym c.self.view_is)) c.requires in
     let there = next_stored (rows_in name es) (ledger c.args.device.now).pools c.loop-place.place n.row distinct agree n.at in
-    (n.row.0, subst (λ b. IsStored n.row.0 b (ledger c.loop-place.device).pools) (sym n.is) (subst (λ l. IsStored n.row.0 n.row.1 l.pools) (sym h.ledger) there))
+    (n.row.0, subst (λ (b : Bucket). AreBookedIn n.row.0 (ledger c.loop-place.device).pools b.pools) (sym n.is) (subst (λ (l : Ledger). AreBookedIn n.row.0 l.pools n.row.1.pools) (sym h.ledger) there))
 
 pub loop-place-preserved : goal.loop-place-preserved
 loop-place-preserved g c =

@@ -10,7 +10,7 @@ use Rattle.gpu_descriptor.specs.Sets.{key_of}
 use Rattle.gpu_descriptor.specs.States.{state_of, marked_load_of, outstanding_of}
 use Rattle.gpu_descriptor.specs.Stored.{row_of, load_of}
 use Rattle.gpu_descriptor.specs.Values.{Allocations}
-use Rattle.gpu_descriptor.specs.Walk.{AreBookedIn}
+use Rattle.gpu_descriptor.specs.Buckets.{AreBookedIn}
 use Rattle.gpu_descriptor.proofs.KeepState.{booked_of}
 use Rattle.gpu_descriptor.proofs.Loads.{rows_load}
 use Rattle.gpu_descriptor.proofs.Requested.{within_of, out_of, load_of_rows, books_at, keys_apart, load_below, counted_more, above_limit, past_bound, unserved, takes}

@@ -9,7 +9,7 @@ use Rattle.gpu_descriptor.specs.declared.set.BucketKey.{BucketKey}
 use Rattle.gpu_descriptor.specs.declared.bucket.DescriptorBucket.{DescriptorBucket}
 use Rattle.gpu_descriptor.specs.Books.{Bucket, no_pools, next_number}
 use Rattle.gpu_descriptor.specs.Sets.{key_of}
-use Rattle.gpu_descriptor.specs.Walk.{AreBookedIn}
+use Rattle.gpu_descriptor.specs.Buckets.{AreBookedIn}
 use Rattle.gpu_descriptor.specs.Stored.{entry_of}
 use Rattle.gpu_descriptor.specs.Serves.{ServesKey, IsUnserved}
 use Rattle.gpu_descriptor.proofs.Loads.{sum_set}

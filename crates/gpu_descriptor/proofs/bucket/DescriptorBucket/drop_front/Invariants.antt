@@ -1,6 +1,6 @@
 use Rattle.std.proofs.Common.{◌≡◌, length}
 use Rattle.gpu_descriptor.specs.Books.{Key}
-use Rattle.gpu_descriptor.specs.Buckets.{IsStored, settled_bucket, settled_ledger}
+use Rattle.gpu_descriptor.specs.Buckets.{AreBookedIn, settled_bucket, settled_ledger}
 use Rattle.gpu_descriptor.specs.Stored.{bucket_of}
 use Rattle.gpu_descriptor.proofs.bucket.DescriptorBucket.drop_front.Given as goal
 
@@ -10,7 +10,7 @@ invariant-loop-self g l =
     let ledger = g.D.DescriptorDevice.ledger in
     let name = g.D.DescriptorDevice.pool_name in
     record {
-      stored : (k : Key) × IsStored k (bucket_of name l.self) (ledger l.device).pools;
+      stored : (k : Key) × AreBookedIn k (ledger l.device).pools (bucket_of name l.self).pools;
       books : settled_bucket (bucket_of name l.self) ≡ settled_bucket (bucket_of name l.fn.self);
       ledger : settled_ledger (bucket_of name l.self) (ledger l.device) ≡ settled_ledger (bucket_of name l.fn.self) (ledger l.fn.device);
       total : l.self.total ≡ l.fn.self.total;

@@ -6,7 +6,7 @@ use Rattle.gpu_descriptor_types.specs.Multiset.{LiveSet, AreIn}
 use Rattle.gpu_descriptor.specs.declared.set.DescriptorSet.{DescriptorSet}
 use Rattle.gpu_descriptor.specs.Agreement.{live_in}
 use Rattle.gpu_descriptor.specs.Books.{Entry}
-use Rattle.gpu_descriptor.specs.Buckets.{IsStored, IsTakenAt, names_of, settled_bucket, settled_ledger}
+use Rattle.gpu_descriptor.specs.Buckets.{AreBookedIn, IsTakenAt, names_of, settled_bucket, settled_ledger}
 use Rattle.gpu_descriptor.specs.Release.{entry_less}
 use Rattle.gpu_descriptor.specs.Sets.{key_of}
 use Rattle.gpu_descriptor.specs.Stored.{bucket_of, entry_of}
@@ -113,7 +113,7 @@ drop_front-requires g c =
     let changed = changed_at g.D.DescriptorDevice.pool_name c.args.self.now.pools.items place c.index_mut-pool.result.now c.dealloc_descriptor_sets.new.pool c.finish-count.result (length t.gone) c.dealloc_descriptor_sets.ensures.name n in
     let pools : (g.D.DescriptorDevice.ledger c.dealloc_descriptor_sets.new.self).pools ≡ taken_from (g.D.DescriptorDevice.ledger c.args.device.now).pools e.pool t.gone = ap (λ (l : Ledger). l.pools) t.ledger ∙ release_pools e.pool t.gone (g.D.DescriptorDevice.ledger c.args.device.now) in
     let after = stored_after (key_of c.args.first.key) c.args.self.now.offset es (g.D.DescriptorDevice.ledger c.args.device.now).pools place e t.gone c.requires.stored (at g r) (taken g r t.gone t.items t.named t.live).within in
-    let there = subst (λ (x : List Entry). IsStored (key_of c.args.first.key) (bucket c.args.self.now.offset x) (taken_from (g.D.DescriptorDevice.ledger c.args.device.now).pools e.pool t.gone)) (sym changed) after in
+    let there = subst (λ (x : List Entry). AreBookedIn (key_of c.args.first.key) (taken_from (g.D.DescriptorDevice.ledger c.args.device.now).pools e.pool t.gone) x) (sym changed) after in
     (key_of c.args.first.key, rw pools there)
 
 pub invariant_of-self : goal.invariant_of-self
