@@ -4,3 +4,4 @@ pub mod NumberLemmas
 pub mod AnswerLemmas
 pub mod SessionLemmas
 pub mod TicketLemmas
+pub mod FaultLemmas

@@ -32,3 +32,13 @@ faulty fault = refusal.Fault fault
 -- the fault is not one of the first word
 abbrev pub IsOfArguments : Refusal → Type 0
 IsOfArguments reason = (reason ≢ faulty UnknownCommand) × (reason ≢ faulty LimitNotFirst)
+
+-- where it is for a fault, this holds of the fault
+abbrev pub IfFault : Refusal → (Fault → Type 0) → Type 0
+IfFault (refusal.Fault fault) P = P fault
+IfFault refusal.NoMemory P = Unit {0}
+
+-- it is for a fault, of which this holds
+abbrev pub IsFaultAnd : Refusal → (Fault → Type 0) → Type 0
+IsFaultAnd (refusal.Fault fault) P = P fault
+IsFaultAnd refusal.NoMemory P = ⊥

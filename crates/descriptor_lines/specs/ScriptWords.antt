@@ -1,7 +1,10 @@
 -- The words of a script.
-use Rattle.std.specs.Prelude.{ℕ, List, codes}
+use Rattle.std.specs.Prelude.{◌≡◌, ℕ, List, codes, All}
 use Rattle.descriptor_script.specs.declared.answer.Answer.{Answer}
 use Rattle.descriptor_script.specs.declared.answer.Answer.TheVariants.{Ok, Device, Host, Frag, Pool}
+use Rattle.descriptor_lines.specs.Words.{AtWord}
+use Rattle.descriptor_lines.specs.declared.fault.Fault.{Fault}
+use Rattle.descriptor_lines.specs.declared.fault.Fault.TheVariants.{BadAnswerWord}
 
 -- the word of an answer
 abbrev pub word_of_answer : Answer → List ℕ
@@ -10,3 +13,16 @@ word_of_answer Device = codes "device"
 word_of_answer Host = codes "host"
 word_of_answer Frag = codes "frag"
 word_of_answer Pool = codes "pool"
+
+-- the word is one of the five
+abbrev pub IsAnswerWord : List ℕ → Type 0
+IsAnswerWord word = (answer : Answer) × (word ≡ word_of_answer answer)
+
+-- the first word that is none of them
+abbrev pub IsFirstUnknown : List (List ℕ) → List ℕ → Type 0
+IsFirstUnknown before word = All IsAnswerWord before × ¬ IsAnswerWord word
+
+-- what is wrong with the words of a script
+abbrev pub IsFaultOfScript : List (List ℕ) → Fault → Type 0
+IsFaultOfScript words BadAnswerWord = AtWord IsFirstUnknown words
+IsFaultOfScript words _ = ⊥

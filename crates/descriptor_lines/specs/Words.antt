@@ -1,5 +1,5 @@
 -- The words of a line.
-use Rattle.std.specs.Prelude.{◌≡◌, ℕ, Bool, true, false, List, [], ◌∷◌, ◌≢◌, codes, ◌==◌, ◌||◌, filter, slice_index}
+use Rattle.std.specs.Prelude.{◌≡◌, ℕ, Bool, true, false, List, [], ◌∷◌, ◌++◌, ◌≢◌, codes, ◌==◌, ◌||◌, filter, slice_index}
 use Rattle.std.specs.List.{slice_split}
 use Rattle.descriptor_lines.specs.declared.text.Words.{Words}
 
@@ -39,3 +39,11 @@ abbrev pub IsUnknown : List (List ℕ) → Type 0
 IsUnknown [] = ⊥
 IsUnknown (word ∷ words) =
     (slice_index word 0 ≢ 35) × (word ≢ codes "limit") × (word ≢ codes "layout") × (word ≢ codes "size") × (word ≢ codes "script") × (word ≢ codes "alloc") × (word ≢ codes "free") × (word ≢ codes "cleanup") × (word ≢ codes "show")
+
+-- this holds of a word, with the words before it
+pub record AtWord (P : List (List ℕ) → List ℕ → Type 0) (words : List (List ℕ)) : Type 0 where
+  pub before : List (List ℕ)
+  pub word : List ℕ
+  pub after : List (List ℕ)
+  pub split : words ≡ before ++ word ∷ after
+  pub holds : P before word
