@@ -1,8 +1,10 @@
 -- The tickets of a line that gives sets back.
-use Rattle.std.specs.Prelude.{ℕ, ◌+◌, ◌-◌, List, reverse, position, Option, is_some, if◌then◌else◌, nat_le}
-use Rattle.std.specs.List.{range_with_len, before_first, after_first}
+use Rattle.std.specs.Prelude.{ℕ, ◌+◌, ◌-◌, ◌<◌, ◌≤◌, List, [], ◌∷◌, ◌++◌, All, length, reverse, position, Option, is_some, if◌then◌else◌, nat_le}
+use Rattle.std.specs.List.{flat_map, range_with_len, before_first, after_first}
 use Rattle.descriptor_lines.specs.Numbers.{WritesNumberWithin, value_of}
-use Rattle.descriptor_lines.specs.Words.{is_byte}
+use Rattle.descriptor_lines.specs.Words.{AtWord, is_byte}
+use Rattle.descriptor_lines.specs.declared.fault.Fault.{Fault}
+use Rattle.descriptor_lines.specs.declared.fault.Fault.TheVariants.{BadNumber, TooManyTickets}
 
 -- the place of the first `-`
 abbrev pub dash : List ℕ → Option ℕ
@@ -48,3 +50,23 @@ last_of word = value_of (last_side word)
 -- the tickets of a word
 abbrev pub tickets_of : List ℕ → List ℕ
 tickets_of word = tickets_between (first_of word) (last_of word)
+
+-- each word writes tickets, and together they are not too many
+pub record AreTickets (words : List (List ℕ)) : Type 0 where
+  pub written : All WritesTickets words
+  pub few : length (flat_map tickets_of words) ≤ 1000000
+
+-- the first word that writes no tickets
+abbrev pub IsFirstWithout : List (List ℕ) → List ℕ → Type 0
+IsFirstWithout before word = AreTickets before × ¬ WritesTickets word
+
+-- the first word with which the tickets are too many
+abbrev pub IsFirstTooMany : List (List ℕ) → List ℕ → Type 0
+IsFirstTooMany before word =
+    AreTickets before × WritesTickets word × 1000000 < length (flat_map tickets_of (before ++ word ∷ []))
+
+-- what is wrong with the words of `free`
+abbrev pub IsFaultOfFree : List (List ℕ) → Fault → Type 0
+IsFaultOfFree words BadNumber = AtWord IsFirstWithout words
+IsFaultOfFree words TooManyTickets = AtWord IsFirstTooMany words
+IsFaultOfFree words _ = ⊥

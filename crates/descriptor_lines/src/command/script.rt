@@ -1,6 +1,6 @@
 //! The command that gives the device a new script.
 ghost use Rattle.std.specs.Prelude.{◌≡◌, ◌≢◌, map, IfOk, IfErr, OnErr, Err};
-ghost use Rattle.descriptor_lines.specs.Fault.{IfFault, IsOfArguments, faulty};
+ghost use Rattle.descriptor_lines.specs.Fault.{IfFault};
 ghost use Rattle.descriptor_lines.specs.ScriptWords.{IsFaultOfScript, word_of_answer};
 ghost use Rattle.descriptor_lines.specs.Words.{words_left};
 ghost use Rattle.descriptor_script.specs.declared.answer.Answer.{Answer as AnswerWord};
@@ -12,8 +12,6 @@ use std::alloc::Global;
 
 /// `script WORD ..`.
 pub fn parse_script(alloc: Global, words: Words<'_>) -> Result<Vec<Answer>, Refusal>
-    ensures arguments { IfErr result IsOfArguments }
-    ensures count { result ≢ Err (faulty Fault.BadWordCount) }
     ensures fault { IfErr result (λ reason. IfFault reason (IsFaultOfScript (words_left words.entry))) }
     ensures script { IfOk result (λ script. map word_of_answer script.items ≡ words_left words.entry) }
 {

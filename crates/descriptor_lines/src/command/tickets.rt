@@ -1,9 +1,9 @@
 //! The command that gives sets back, by their tickets.
 ghost use Rattle.std.specs.Prelude.{◌≡◌, ◌≢◌, ◌+◌, ◌^◌, ◌≤◌, ◌<◌, ◌↔◌, ◌++◌, vec_len, vec_capacity, IsOk, IfOk, IfErr, OnOk, Err};
 ghost use Rattle.std.specs.List.{flat_map};
-ghost use Rattle.descriptor_lines.specs.Fault.{IsOfArguments, faulty};
+ghost use Rattle.descriptor_lines.specs.Fault.{IfFault, faulty};
 ghost use Rattle.descriptor_lines.specs.Numbers.{WritesNumberWithin, value_of};
-ghost use Rattle.descriptor_lines.specs.Tickets.{WritesTickets, falling, first_of, first_side, last_of, last_side, rising, span_length, tickets_between, tickets_of};
+ghost use Rattle.descriptor_lines.specs.Tickets.{AreTickets, IsFaultOfFree, WritesTickets, falling, first_of, first_side, last_of, last_side, rising, span_length, tickets_between, tickets_of};
 ghost use Rattle.descriptor_lines.specs.Words.{words_left};
 
 use crate::fault::{Fault, Refusal};
@@ -23,8 +23,8 @@ struct Span {
 
 /// `free WORD ..`.
 pub fn parse_free(alloc: Global, words: Words<'_>) -> Result<Vec<usize>, Refusal>
-    ensures arguments { IfErr result IsOfArguments }
-    ensures count { result ≢ Err (faulty Fault.BadWordCount) }
+    ensures fault { IfErr result (λ reason. IfFault reason (IsFaultOfFree (words_left words.entry))) }
+    ensures accepted { OnOk result (AreTickets (words_left words.entry)) }
     ensures tickets { IfOk result (λ tickets. tickets.items ≡ flat_map tickets_of (words_left words.entry)) }
     ensures few { IfOk result (λ tickets. vec_len tickets ≤ 1000000) }
 {
@@ -72,8 +72,7 @@ fn parse_ticket(word: &[u8]) -> Result<usize, Fault>
 /// Puts the tickets behind the others. A fault comes before any of them is written.
 fn add_tickets(tickets: &mut Vec<usize>, span: Span) -> Result<(), Refusal>
     requires { vec_len tickets.old ≤ 1000000 }
-    ensures arguments { IfErr result IsOfArguments }
-    ensures count { result ≢ Err (faulty Fault.BadWordCount) }
+    ensures fault { IfErr result (λ reason. IfFault reason (λ fault. fault ≡ Fault.TooManyTickets)) }
     ensures too_many { result ≡ Err (faulty Fault.TooManyTickets) ↔ (1000000 < vec_len tickets.old + span_length span.first span.last) }
     ensures added { OnOk result (tickets.new.items ≡ tickets.old.items ++ tickets_between span.first span.last) }
     ensures few { OnOk result (vec_len tickets.new ≤ 1000000) }
