@@ -1,4 +1,5 @@
 pub mod Answers
+pub mod Arguments
 pub mod Commands
 pub mod Exit
 pub mod Fault

@@ -1,7 +1,8 @@
 //! The commands that lines give.
 ghost use Rattle.std.specs.Prelude.{◌≡◌, ◌≢◌, ◌↔◌, ◌<◌, length, false, IsTrue, IsFalse, IsOk, IfOk, IfErr, IfSome, Ok, Err, None};
+ghost use Rattle.descriptor_lines.specs.Arguments.{IsFaultOfAlloc, IsFaultOfLimit, IsFaultOfSize};
 ghost use Rattle.descriptor_lines.specs.Commands.{IsNumberOf, IsRunnable};
-ghost use Rattle.descriptor_lines.specs.Fault.{IsOfArguments, faulty};
+ghost use Rattle.descriptor_lines.specs.Fault.{IsFaultAnd, IsOfArguments, faulty};
 ghost use Rattle.descriptor_lines.specs.LayoutTable.{layout_count};
 ghost use Rattle.descriptor_lines.specs.Numbers.{WritesNumberWithin, value_of};
 ghost use Rattle.descriptor_lines.specs.Words.{words as words_of, words_left, is_silent, IsLimit, IsUnknown};
@@ -122,6 +123,7 @@ fn parse_limit(mut words: Words<'_>, has_begun: bool) -> Result<u32, Refusal>
     ensures known { result ≢ Err (faulty Fault.UnknownCommand) }
     ensures first { result ≡ Err (faulty Fault.LimitNotFirst) ↔ IsTrue has_begun }
     ensures count { result ≡ Err (faulty Fault.BadWordCount) ↔ (IsFalse has_begun × (length (words_left words.entry) ≢ 1)) }
+    ensures fault { IfErr result (λ reason. IsFaultAnd reason (IsFaultOfLimit has_begun (words_left words.entry))) }
     ensures value { IfOk result (IsNumberOf (words_left words.entry)) }
 {
     if has_begun {
@@ -137,6 +139,7 @@ fn parse_limit(mut words: Words<'_>, has_begun: bool) -> Result<u32, Refusal>
 fn parse_size<'a>(mut words: Words<'a>, layouts: &Layouts) -> Result<Command<'a>, Refusal>
     ensures arguments { IfErr result IsOfArguments }
     ensures count { result ≡ Err (faulty Fault.BadWordCount) ↔ (length (words_left words.entry) ≢ 3) }
+    ensures fault { IfErr result (λ reason. IsFaultAnd reason (IsFaultOfSize layouts.now (words_left words.entry))) }
     ensures runnable { IfOk result (IsRunnable layouts.now) }
 {
     let (Some(name), Some(total), Some(wanted), None) = (
@@ -162,6 +165,7 @@ fn parse_size<'a>(mut words: Words<'a>, layouts: &Layouts) -> Result<Command<'a>
 fn parse_alloc<'a>(mut words: Words<'a>, layouts: &Layouts) -> Result<Command<'a>, Refusal>
     ensures arguments { IfErr result IsOfArguments }
     ensures count { result ≡ Err (faulty Fault.BadWordCount) ↔ (length (words_left words.entry) ≢ 2) }
+    ensures fault { IfErr result (λ reason. IsFaultAnd reason (IsFaultOfAlloc layouts.now (words_left words.entry))) }
     ensures runnable { IfOk result (IsRunnable layouts.now) }
 {
     let (Some(name), Some(count), None) = (words.next(), words.next(), words.next()) else {
