@@ -1,5 +1,5 @@
 -- Refusals for a fault.
-use Rattle.std.proofs.Common.{◌≡◌, Result, Ok, Err, IfErr, IsErrAnd, ap}
+use Rattle.std.proofs.Common.{◌≡◌, Result, Ok, Err, IfErr, IsErrAnd, ap, ◌∙◌}
 use Rattle.descriptor_lines.specs.Fault.{IfFault, faulty}
 use Rattle.descriptor_lines.specs.declared.fault.Fault.{Fault}
 use Rattle.descriptor_lines.specs.declared.fault.Refusal.{Refusal}
@@ -19,3 +19,8 @@ handed_on (Err handed) reason P is holds = rw is holds
 pub only_for : (reason : Refusal) (fault : Fault) (P : Fault → Type 0) → IfFault reason (λ f. f ≡ fault) → (reason ≡ faulty fault → P fault) → IfFault reason P
 only_for (refusal.Fault f) fault P is holds = rw is (holds (ap faulty is))
 only_for refusal.NoMemory fault P is holds = tt
+
+-- a fault that was handed on
+pub fault_of : {T : Type 0} (r : Result T Fault) (fault is : Fault) (P : Fault → Type 0) → IsErrAnd r (λ handed. handed ≡ fault) → fault ≡ is → P is → IfErr r P
+fault_of (Ok x) fault is P same known holds = tt
+fault_of (Err handed) fault is P same known holds = rw (same ∙ known) holds

@@ -5,3 +5,4 @@ pub mod AnswerLemmas
 pub mod SessionLemmas
 pub mod TicketLemmas
 pub mod FaultLemmas
+pub mod KindLemmas

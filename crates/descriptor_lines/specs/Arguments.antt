@@ -1,10 +1,11 @@
 -- What can be wrong with the arguments of a command, and what a command says otherwise.
-use Rattle.std.specs.Prelude.{◌≡◌, ℕ, Bool, true, false, List, [], ◌∷◌, None, IsSome}
-use Rattle.descriptor_lines.specs.LayoutTable.{layout_named}
+use Rattle.std.specs.Prelude.{◌≡◌, ◌≤◌, codes, ℕ, Bool, true, false, List, [], ◌∷◌, None, IsSome}
+use Rattle.descriptor_lines.specs.Kinds.{AreKinds, IsFaultOfKinds}
+use Rattle.descriptor_lines.specs.LayoutTable.{layout_count, layout_named}
 use Rattle.descriptor_lines.specs.Names.{IsName}
 use Rattle.descriptor_lines.specs.Numbers.{WritesNumberWithin}
 use Rattle.descriptor_lines.specs.declared.fault.Fault.{Fault}
-use Rattle.descriptor_lines.specs.declared.fault.Fault.TheVariants.{LimitNotFirst, BadWordCount, BadName, NoSuchLayout, BadNumber}
+use Rattle.descriptor_lines.specs.declared.fault.Fault.TheVariants.{LimitNotFirst, BadWordCount, BadName, NameIsTaken, NoSuchLayout, BadMark, BadNumber, TooManyLayouts}
 use Rattle.descriptor_lines.specs.declared.layouts.Layouts.{Layouts}
 
 -- what is wrong with the words of `limit`, which comes too late where a line had a command
@@ -37,3 +38,32 @@ abbrev pub IsFaultOfAlloc : Layouts → List (List ℕ) → Fault → Type 0
 IsFaultOfAlloc layouts (name ∷ count ∷ []) fault =
     IsFaultOfUse layouts name (WritesNumberWithin 1000000 count) fault
 IsFaultOfAlloc layouts words fault = fault ≡ BadWordCount
+
+-- the word of a mark, or of none
+abbrev pub word_of_mark : Bool → List ℕ
+word_of_mark false = codes "plain"
+word_of_mark true = codes "mark"
+
+abbrev pub IsMarkWord : List ℕ → Type 0
+IsMarkWord word = (mark : Bool) × (word ≡ word_of_mark mark)
+
+-- a name that no layout has
+pub record IsNew (layouts : Layouts) (name : List ℕ) : Type 0 where
+  pub is_name : IsName name
+  pub absent : layout_named layouts name ≡ None
+
+-- what is wrong with a new name, a mark and the words behind them
+abbrev pub IsFaultOfNew : Layouts → List ℕ → List ℕ → List (List ℕ) → Fault → Type 0
+IsFaultOfNew layouts name mark words BadName = ¬ IsName name
+IsFaultOfNew layouts name mark words NameIsTaken =
+    IsName name × IsSome (layout_named layouts name)
+IsFaultOfNew layouts name mark words BadMark = IsNew layouts name × ¬ IsMarkWord mark
+IsFaultOfNew layouts name mark words TooManyLayouts =
+    IsNew layouts name × IsMarkWord mark × AreKinds words × 1024 ≤ layout_count layouts
+IsFaultOfNew layouts name mark words fault =
+    IsNew layouts name × IsMarkWord mark × IsFaultOfKinds words fault
+
+-- what is wrong with the words of `layout`
+abbrev pub IsFaultOfLayout : Layouts → List (List ℕ) → Fault → Type 0
+IsFaultOfLayout layouts (name ∷ mark ∷ words) fault = IsFaultOfNew layouts name mark words fault
+IsFaultOfLayout layouts words fault = fault ≡ BadWordCount

@@ -1,7 +1,10 @@
 //! The command that makes a layout.
-ghost use Rattle.std.specs.Prelude.{◌≡◌, ◌<◌, ◌↔◌, length, true, false, IfOk, IfErr, codes, Ok, Err};
+ghost use Rattle.std.specs.Prelude.{◌≡◌, ◌<◌, ◌↔◌, length, true, false, IfOk, IfErr, OnOk, codes, Ok, Err};
+ghost use Rattle.gpu_descriptor_types.specs.Counts.{kinds};
+ghost use Rattle.descriptor_lines.specs.Arguments.{IsFaultOfLayout};
 ghost use Rattle.descriptor_lines.specs.Commands.{IsRunnable};
-ghost use Rattle.descriptor_lines.specs.Fault.{IsFaultOfKind, IsOfArguments, faulty};
+ghost use Rattle.descriptor_lines.specs.Fault.{IsFaultAnd, IsOfArguments, faulty};
+ghost use Rattle.descriptor_lines.specs.Kinds.{AreKinds, GiveCounts, IsFaultOfKinds};
 ghost use Rattle.descriptor_lines.specs.Words.{words_left};
 
 use super::{Command, parse_u32};
@@ -15,6 +18,7 @@ use gpu_descriptor_types::DescriptorTotalCount;
 pub fn parse_layout<'a>(mut words: Words<'a>, layouts: &Layouts) -> Result<Command<'a>, Refusal>
     ensures arguments { IfErr result IsOfArguments }
     ensures count { result ≡ Err (faulty Fault.BadWordCount) ↔ (length (words_left words.entry) < 2) }
+    ensures fault { IfErr result (λ reason. IsFaultAnd reason (IsFaultOfLayout layouts.now (words_left words.entry))) }
     ensures runnable { IfOk result (IsRunnable layouts.now) }
 {
     let (Some(name), Some(mark)) = (words.next(), words.next()) else {
@@ -47,7 +51,9 @@ fn parse_mark(word: &[u8]) -> Result<bool, Fault>
 
 /// The counts out of words `KIND=N`, each kind at most once.
 fn parse_counts(words: Words<'_>) -> Result<DescriptorTotalCount, Fault>
-    ensures { IfErr result IsFaultOfKind }
+    ensures fault { IfErr result (IsFaultOfKinds (words_left words.entry)) }
+    ensures accepted { OnOk result (AreKinds (words_left words.entry)) }
+    ensures counts { IfOk result (λ counts. GiveCounts (words_left words.entry) (kinds counts)) }
 {
     let mut counts = DescriptorTotalCount::default();
     let mut is_named = [false; text::KIND_COUNT];
