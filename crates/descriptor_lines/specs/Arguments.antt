@@ -1,11 +1,16 @@
 -- What can be wrong with the arguments of a command, and what a command says otherwise.
-use Rattle.std.specs.Prelude.{◌≡◌, ◌≤◌, codes, ℕ, Bool, true, false, List, [], ◌∷◌, None, IsSome}
+use Rattle.std.specs.Prelude.{◌≡◌, ◌⊎◌, ◌≤◌, codes, ℕ, Bool, true, false, List, [], ◌∷◌, None, IsSome}
+use Rattle.descriptor_lines.specs.Fault.{IfFault, IsFaultAnd, faulty}
 use Rattle.descriptor_lines.specs.Kinds.{AreKinds, IsFaultOfKinds}
 use Rattle.descriptor_lines.specs.LayoutTable.{layout_count, layout_named}
 use Rattle.descriptor_lines.specs.Names.{IsName}
 use Rattle.descriptor_lines.specs.Numbers.{WritesNumberWithin}
+use Rattle.descriptor_lines.specs.ScriptWords.{IsFaultOfScript}
+use Rattle.descriptor_lines.specs.Tickets.{IsFaultOfFree}
+use Rattle.descriptor_lines.specs.Words.{IsUnknown}
 use Rattle.descriptor_lines.specs.declared.fault.Fault.{Fault}
-use Rattle.descriptor_lines.specs.declared.fault.Fault.TheVariants.{LimitNotFirst, BadWordCount, BadName, NameIsTaken, NoSuchLayout, BadMark, BadNumber, TooManyLayouts}
+use Rattle.descriptor_lines.specs.declared.fault.Fault.TheVariants.{UnknownCommand, LimitNotFirst, BadWordCount, BadName, NameIsTaken, NoSuchLayout, BadMark, BadNumber, TooManyLayouts}
+use Rattle.descriptor_lines.specs.declared.fault.Refusal.{Refusal}
 use Rattle.descriptor_lines.specs.declared.layouts.Layouts.{Layouts}
 
 -- what is wrong with the words of `limit`, which comes too late where a line had a command
@@ -67,3 +72,14 @@ IsFaultOfNew layouts name mark words fault =
 abbrev pub IsFaultOfLayout : Layouts → List (List ℕ) → Fault → Type 0
 IsFaultOfLayout layouts (name ∷ mark ∷ words) fault = IsFaultOfNew layouts name mark words fault
 IsFaultOfLayout layouts words fault = fault ≡ BadWordCount
+
+-- what is wrong with the words of a command that takes none
+abbrev pub IsFaultOfEnd : List (List ℕ) → Fault → Type 0
+IsFaultOfEnd [] fault = ⊥
+IsFaultOfEnd (word ∷ words) fault = fault ≡ BadWordCount
+
+-- why a line of these words is refused, by its first word: memory can be wanting for `script` and `free`
+abbrev pub IsRefusalOf : Layouts → Bool → List (List ℕ) → Refusal → Type 0
+IsRefusalOf layouts has_begun [] reason = ⊥
+IsRefusalOf layouts has_begun (word ∷ words) reason =
+    (word ≡ codes "limit") × IsFaultAnd reason (IsFaultOfLimit has_begun words) ⊎ (word ≡ codes "layout") × IsFaultAnd reason (IsFaultOfLayout layouts words) ⊎ (word ≡ codes "size") × IsFaultAnd reason (IsFaultOfSize layouts words) ⊎ (word ≡ codes "script") × IfFault reason (IsFaultOfScript words) ⊎ (word ≡ codes "alloc") × IsFaultAnd reason (IsFaultOfAlloc layouts words) ⊎ (word ≡ codes "free") × IfFault reason (IsFaultOfFree words) ⊎ (word ≡ codes "cleanup") × IsFaultAnd reason (IsFaultOfEnd words) ⊎ (word ≡ codes "show") × IsFaultAnd reason (IsFaultOfEnd words) ⊎ IsUnknown (word ∷ words) × (reason ≡ faulty UnknownCommand)

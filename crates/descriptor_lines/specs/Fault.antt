@@ -1,5 +1,5 @@
 -- What the output says of each fault.
-use Rattle.std.specs.Prelude.{◌≡◌, ◌≢◌, ◌⊎◌, ℕ, List, codes}
+use Rattle.std.specs.Prelude.{◌≢◌, ℕ, List, codes}
 use Rattle.descriptor_lines.specs.declared.fault.Fault.{Fault}
 use Rattle.descriptor_lines.specs.declared.fault.Fault.TheVariants.{LineTooLong, UnknownCommand, LimitNotFirst, BadWordCount, BadName, NameIsTaken, NoSuchLayout, BadMark, BadKind, KindTwice, BadNumber, BadAnswerWord, TooManyTickets, TooManyLayouts}
 use Rattle.descriptor_lines.specs.declared.fault.Refusal.{Refusal}
@@ -20,10 +20,6 @@ words_of_fault BadNumber = codes "bad number"
 words_of_fault BadAnswerWord = codes "bad answer word"
 words_of_fault TooManyTickets = codes "too many tickets"
 words_of_fault TooManyLayouts = codes "too many layouts"
-
--- what can be wrong with the kinds of a layout
-abbrev pub IsFaultOfKind : Fault → Type 0
-IsFaultOfKind fault = (fault ≡ BadKind) ⊎ (fault ≡ KindTwice) ⊎ (fault ≡ BadNumber)
 
 -- the line is refused for this fault
 abbrev pub faulty : Fault → Refusal

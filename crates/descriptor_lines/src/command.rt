@@ -1,6 +1,6 @@
 //! The commands that lines give.
 ghost use Rattle.std.specs.Prelude.{◌≡◌, ◌≢◌, ◌↔◌, ◌<◌, length, false, IsTrue, IsFalse, IsOk, IfOk, IfErr, IfSome, Ok, Err, None};
-ghost use Rattle.descriptor_lines.specs.Arguments.{IsFaultOfAlloc, IsFaultOfLimit, IsFaultOfSize};
+ghost use Rattle.descriptor_lines.specs.Arguments.{IsFaultOfAlloc, IsFaultOfEnd, IsFaultOfLimit, IsFaultOfSize, IsRefusalOf};
 ghost use Rattle.descriptor_lines.specs.Commands.{IsNumberOf, IsRunnable};
 ghost use Rattle.descriptor_lines.specs.Fault.{IsFaultAnd, IsOfArguments, faulty};
 ghost use Rattle.descriptor_lines.specs.LayoutTable.{layout_count};
@@ -81,6 +81,7 @@ impl<'a> Command<'a> {
         requires fresh { IsFalse has_begun → layout_count layouts.now ≡ 0 }
         ensures unknown { result ≡ Err (faulty Fault.UnknownCommand) ↔ IsUnknown (words_of line.now) }
         ensures first { result ≡ Err (faulty Fault.LimitNotFirst) ↔ (IsLimit (words_of line.now) × IsTrue has_begun) }
+        ensures refusal { IfErr result (IsRefusalOf layouts.now has_begun (words_of line.now)) }
         ensures silent { result ≡ Ok None ↔ IsTrue (is_silent (words_of line.now)) }
         ensures runnable { IfOk result (λ command. IfSome command (IsRunnable layouts.now)) }
     {
@@ -181,6 +182,7 @@ fn parse_alloc<'a>(mut words: Words<'a>, layouts: &Layouts) -> Result<Command<'a
 fn expect_end(mut words: Words<'_>) -> Result<(), Refusal>
     ensures arguments { IfErr result IsOfArguments }
     ensures count { result ≡ Err (faulty Fault.BadWordCount) ↔ (length (words_left words.entry) ≢ 0) }
+    ensures fault { IfErr result (λ reason. IsFaultAnd reason (IsFaultOfEnd (words_left words.entry))) }
 {
     if words.next().is_some() {
         return Err(Refusal::Fault(Fault::BadWordCount));
