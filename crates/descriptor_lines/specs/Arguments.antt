@@ -1,12 +1,20 @@
 -- What can be wrong with the arguments of a command, and what a command says otherwise.
-use Rattle.std.specs.Prelude.{◌≡◌, ◌⊎◌, ◌≤◌, codes, ℕ, Bool, true, false, List, [], ◌∷◌, None, IsSome}
+use Rattle.std.specs.Prelude.{◌≡◌, ◌⊎◌, ◌<◌, Some, map, ◌≤◌, codes, ℕ, Bool, true, false, List, [], ◌∷◌, None, IsSome}
+use Rattle.std.specs.List.{flat_map}
+use Rattle.std.specs.Option.{option_map}
+use Rattle.gpu_descriptor_types.specs.Counts.{kinds}
+use Rattle.gpu_descriptor_types.specs.declared.counts.DescriptorTotalCount.{DescriptorTotalCount}
+use Rattle.descriptor_lines.specs.Commands.{IsNumberOf}
+use Rattle.descriptor_lines.specs.declared.command.Command.{Command}
+use Rattle.descriptor_lines.specs.declared.command.Command.TheVariants.{Limit, Layout as MakesLayout, Size, Script, Alloc, Free, Cleanup, Show}
+use Rattle.descriptor_lines.specs.declared.layouts.Layout.{Layout}
 use Rattle.descriptor_lines.specs.Fault.{IfFault, IsFaultAnd, faulty}
-use Rattle.descriptor_lines.specs.Kinds.{AreKinds, IsFaultOfKinds}
-use Rattle.descriptor_lines.specs.LayoutTable.{layout_count, layout_named}
+use Rattle.descriptor_lines.specs.Kinds.{AreKinds, GiveCounts, IsFaultOfKinds}
+use Rattle.descriptor_lines.specs.LayoutTable.{layout_at, layout_count, layout_named}
 use Rattle.descriptor_lines.specs.Names.{IsName}
-use Rattle.descriptor_lines.specs.Numbers.{WritesNumberWithin}
-use Rattle.descriptor_lines.specs.ScriptWords.{IsFaultOfScript}
-use Rattle.descriptor_lines.specs.Tickets.{IsFaultOfFree}
+use Rattle.descriptor_lines.specs.Numbers.{WritesNumberWithin, value_of}
+use Rattle.descriptor_lines.specs.ScriptWords.{IsFaultOfScript, word_of_answer}
+use Rattle.descriptor_lines.specs.Tickets.{AreTickets, IsFaultOfFree, tickets_of}
 use Rattle.descriptor_lines.specs.Words.{IsUnknown}
 use Rattle.descriptor_lines.specs.declared.fault.Fault.{Fault}
 use Rattle.descriptor_lines.specs.declared.fault.Fault.TheVariants.{UnknownCommand, LimitNotFirst, BadWordCount, BadName, NameIsTaken, NoSuchLayout, BadMark, BadNumber, TooManyLayouts}
@@ -83,3 +91,44 @@ abbrev pub IsRefusalOf : Layouts → Bool → List (List ℕ) → Refusal → Ty
 IsRefusalOf layouts has_begun [] reason = ⊥
 IsRefusalOf layouts has_begun (word ∷ words) reason =
     (word ≡ codes "limit") × IsFaultAnd reason (IsFaultOfLimit has_begun words) ⊎ (word ≡ codes "layout") × IsFaultAnd reason (IsFaultOfLayout layouts words) ⊎ (word ≡ codes "size") × IsFaultAnd reason (IsFaultOfSize layouts words) ⊎ (word ≡ codes "script") × IfFault reason (IsFaultOfScript words) ⊎ (word ≡ codes "alloc") × IsFaultAnd reason (IsFaultOfAlloc layouts words) ⊎ (word ≡ codes "free") × IfFault reason (IsFaultOfFree words) ⊎ (word ≡ codes "cleanup") × IsFaultAnd reason (IsFaultOfEnd words) ⊎ (word ≡ codes "show") × IsFaultAnd reason (IsFaultOfEnd words) ⊎ IsUnknown (word ∷ words) × (reason ≡ faulty UnknownCommand)
+
+-- the words of `layout` give this new layout
+pub record GiveLayout (layouts : Layouts) (name mark : List ℕ) (words : List (List ℕ)) (layout : Layout) : Type 0 where
+  pub new : IsNew layouts name
+  pub fits : layout_count layouts < 1024
+  pub mark_is : mark ≡ word_of_mark layout.mark
+  pub kinds_are : AreKinds words
+  pub counts_are : GiveCounts words (kinds layout.counts)
+
+-- the words of `size` give the counts of a layout and these numbers
+pub record GiveSize (layouts : Layouts) (name total wanted : List ℕ) (counts : DescriptorTotalCount) (all sets : ℕ) : Type 0 where
+  pub is_name : IsName name
+  pub counts_are : option_map (λ l. l.counts) (layout_named layouts name) ≡ Some counts
+  pub numbers : WriteSize total wanted
+  pub total_is : all ≡ value_of total
+  pub wanted_is : sets ≡ value_of wanted
+
+-- the words of `alloc` give the place of a layout and this number
+pub record GiveAlloc (layouts : Layouts) (name count : List ℕ) (place sets : ℕ) : Type 0 where
+  pub is_name : IsName name
+  pub known : IsSome (layout_named layouts name)
+  pub place_is : layout_at layouts place ≡ layout_named layouts name
+  pub number : WritesNumberWithin 1000000 count
+  pub count_is : sets ≡ value_of count
+
+-- a line of these words gives the command
+abbrev pub IsCommandOf : Layouts → List (List ℕ) → Command → Type 0
+IsCommandOf layouts (word ∷ words) (Limit max) = (word ≡ codes "limit") × IsNumberOf words max
+IsCommandOf layouts (word ∷ name ∷ mark ∷ words) (MakesLayout named layout) =
+    (word ≡ codes "layout") × (named.now ≡ name) × GiveLayout layouts name mark words layout
+IsCommandOf layouts (word ∷ name ∷ total ∷ wanted ∷ []) (Size counts all sets) =
+    (word ≡ codes "size") × GiveSize layouts name total wanted counts all sets
+IsCommandOf layouts (word ∷ words) (Script script) =
+    (word ≡ codes "script") × (map word_of_answer script.items ≡ words)
+IsCommandOf layouts (word ∷ name ∷ count ∷ []) (Alloc place sets) =
+    (word ≡ codes "alloc") × GiveAlloc layouts name count place sets
+IsCommandOf layouts (word ∷ words) (Free tickets) =
+    (word ≡ codes "free") × AreTickets words × (tickets.items ≡ flat_map tickets_of words)
+IsCommandOf layouts (word ∷ []) Cleanup = word ≡ codes "cleanup"
+IsCommandOf layouts (word ∷ []) Show = word ≡ codes "show"
+IsCommandOf layouts words command = ⊥

@@ -1,5 +1,5 @@
 -- The layouts by name.
-use Rattle.std.specs.Prelude.{◌≡◌, ◌<◌, ℕ, List, map, length, Option, string_bytes}
+use Rattle.std.specs.Prelude.{◌≡◌, ◌<◌, ℕ, List, map, length, Option, slice_get, string_bytes}
 use Rattle.std.specs.Option.{option_map}
 use Rattle.indexmap.specs.IndexMap.{get_by_text, spare}
 use Rattle.descriptor_lines.specs.declared.layouts.Layout.{Layout}
@@ -12,6 +12,10 @@ layouts_in layouts = map (λ e. (string_bytes e.0, e.1.layout)) layouts.by_name.
 -- the layout of this name
 abbrev pub layout_named : Layouts → List ℕ → Option Layout
 layout_named layouts name = option_map (λ e. e.layout) (get_by_text layouts.by_name name)
+
+-- the layout at this place
+abbrev pub layout_at : Layouts → ℕ → Option Layout
+layout_at layouts place = option_map (λ l. l.1) (slice_get (layouts_in layouts) place)
 
 abbrev pub layout_count : Layouts → ℕ
 layout_count layouts = length layouts.by_name.entries

@@ -1,6 +1,6 @@
 //! The commands that lines give.
-ghost use Rattle.std.specs.Prelude.{◌≡◌, ◌≢◌, ◌↔◌, ◌<◌, length, false, IsTrue, IsFalse, IsOk, IfOk, IfErr, IfSome, Ok, Err, None};
-ghost use Rattle.descriptor_lines.specs.Arguments.{IsFaultOfAlloc, IsFaultOfEnd, IsFaultOfLimit, IsFaultOfSize, IsRefusalOf};
+ghost use Rattle.std.specs.Prelude.{◌≡◌, ◌≢◌, ◌↔◌, ◌<◌, ◌∷◌, codes, length, false, IsTrue, IsFalse, IsOk, IfOk, IfErr, IfSome, Ok, Err, None};
+ghost use Rattle.descriptor_lines.specs.Arguments.{IsCommandOf, IsFaultOfAlloc, IsFaultOfEnd, IsFaultOfLimit, IsFaultOfSize, IsRefusalOf};
 ghost use Rattle.descriptor_lines.specs.Commands.{IsNumberOf, IsRunnable};
 ghost use Rattle.descriptor_lines.specs.Fault.{IsFaultAnd, IsOfArguments, faulty};
 ghost use Rattle.descriptor_lines.specs.LayoutTable.{layout_count};
@@ -82,6 +82,7 @@ impl<'a> Command<'a> {
         ensures unknown { result ≡ Err (faulty Fault.UnknownCommand) ↔ IsUnknown (words_of line.now) }
         ensures first { result ≡ Err (faulty Fault.LimitNotFirst) ↔ (IsLimit (words_of line.now) × IsTrue has_begun) }
         ensures refusal { IfErr result (IsRefusalOf layouts.now has_begun (words_of line.now)) }
+        ensures command { IfOk result (λ command. IfSome command (IsCommandOf layouts.now (words_of line.now))) }
         ensures silent { result ≡ Ok None ↔ IsTrue (is_silent (words_of line.now)) }
         ensures runnable { IfOk result (λ command. IfSome command (IsRunnable layouts.now)) }
     {
@@ -141,6 +142,7 @@ fn parse_size<'a>(mut words: Words<'a>, layouts: &Layouts) -> Result<Command<'a>
     ensures arguments { IfErr result IsOfArguments }
     ensures count { result ≡ Err (faulty Fault.BadWordCount) ↔ (length (words_left words.entry) ≢ 3) }
     ensures fault { IfErr result (λ reason. IsFaultAnd reason (IsFaultOfSize layouts.now (words_left words.entry))) }
+    ensures value { IfOk result (IsCommandOf layouts.now (codes "size" ∷ words_left words.entry)) }
     ensures runnable { IfOk result (IsRunnable layouts.now) }
 {
     let (Some(name), Some(total), Some(wanted), None) = (
@@ -167,6 +169,7 @@ fn parse_alloc<'a>(mut words: Words<'a>, layouts: &Layouts) -> Result<Command<'a
     ensures arguments { IfErr result IsOfArguments }
     ensures count { result ≡ Err (faulty Fault.BadWordCount) ↔ (length (words_left words.entry) ≢ 2) }
     ensures fault { IfErr result (λ reason. IsFaultAnd reason (IsFaultOfAlloc layouts.now (words_left words.entry))) }
+    ensures value { IfOk result (IsCommandOf layouts.now (codes "alloc" ∷ words_left words.entry)) }
     ensures runnable { IfOk result (IsRunnable layouts.now) }
 {
     let (Some(name), Some(count), None) = (words.next(), words.next(), words.next()) else {

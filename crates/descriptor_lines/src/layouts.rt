@@ -1,6 +1,6 @@
 //! The layouts that the lines made, by name.
 ghost use Rattle.std.specs.Prelude.{◌≡◌, ◌+◌, ◌<◌, ◌≤◌, ◌↔◌, ◌++◌, ◌∷◌, [], IsTrue, IfOk, IfSome, OnOk, None, is_some, string_bytes};
-ghost use Rattle.descriptor_lines.specs.LayoutTable.{layout_named, layouts_in, layout_count, HasRoom, SameLayouts};
+ghost use Rattle.descriptor_lines.specs.LayoutTable.{layout_at, layout_named, layouts_in, layout_count, HasRoom, SameLayouts};
 
 use gpu_descriptor_types::DescriptorTotalCount;
 use indexmap::IndexMap;
@@ -61,6 +61,7 @@ impl Layouts {
     pub fn place(&self, name: &str) -> Option<usize>
         ensures found { is_some result ≡ is_some (layout_named self.now name.now) }
         ensures within { IfSome result (λ place. place < layout_count self.now) }
+        ensures layout { IfSome result (λ place. layout_at self.now place ≡ layout_named self.now name.now) }
     {
         self.by_name.get_index_of(name)
     }
