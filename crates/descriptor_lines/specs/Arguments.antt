@@ -86,11 +86,19 @@ abbrev pub IsFaultOfEnd : List (List ℕ) → Fault → Type 0
 IsFaultOfEnd [] fault = ⊥
 IsFaultOfEnd (word ∷ words) fault = fault ≡ BadWordCount
 
--- why a line of these words is refused, by its first word: memory can be wanting for `script` and `free`
+-- why a command is refused, by its word: memory can be wanting for `script` and `free` alone
 abbrev pub IsRefusalOf : Layouts → Bool → List (List ℕ) → Refusal → Type 0
 IsRefusalOf layouts has_begun [] reason = ⊥
 IsRefusalOf layouts has_begun (word ∷ words) reason =
-    (word ≡ codes "limit") × IsFaultAnd reason (IsFaultOfLimit has_begun words) ⊎ (word ≡ codes "layout") × IsFaultAnd reason (IsFaultOfLayout layouts words) ⊎ (word ≡ codes "size") × IsFaultAnd reason (IsFaultOfSize layouts words) ⊎ (word ≡ codes "script") × IfFault reason (IsFaultOfScript words) ⊎ (word ≡ codes "alloc") × IsFaultAnd reason (IsFaultOfAlloc layouts words) ⊎ (word ≡ codes "free") × IfFault reason (IsFaultOfFree words) ⊎ (word ≡ codes "cleanup") × IsFaultAnd reason (IsFaultOfEnd words) ⊎ (word ≡ codes "show") × IsFaultAnd reason (IsFaultOfEnd words) ⊎ IsUnknown (word ∷ words) × (reason ≡ faulty UnknownCommand)
+    ((word ≡ codes "limit") × IsFaultAnd reason (IsFaultOfLimit has_begun words))
+    ⊎ ((word ≡ codes "layout") × IsFaultAnd reason (IsFaultOfLayout layouts words))
+    ⊎ ((word ≡ codes "size") × IsFaultAnd reason (IsFaultOfSize layouts words))
+    ⊎ ((word ≡ codes "script") × IfFault reason (IsFaultOfScript words))
+    ⊎ ((word ≡ codes "alloc") × IsFaultAnd reason (IsFaultOfAlloc layouts words))
+    ⊎ ((word ≡ codes "free") × IfFault reason (IsFaultOfFree words))
+    ⊎ ((word ≡ codes "cleanup") × IsFaultAnd reason (IsFaultOfEnd words))
+    ⊎ ((word ≡ codes "show") × IsFaultAnd reason (IsFaultOfEnd words))
+    ⊎ (IsUnknown (word ∷ words) × (reason ≡ faulty UnknownCommand))
 
 -- the words of `layout` give this new layout
 pub record GiveLayout (layouts : Layouts) (name mark : List ℕ) (words : List (List ℕ)) (layout : Layout) : Type 0 where
