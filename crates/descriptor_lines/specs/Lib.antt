@@ -7,6 +7,7 @@ pub mod Kinds
 pub mod LayoutTable
 pub mod Names
 pub mod Numbers
+pub mod Outcomes
 pub mod Programs
 pub mod Replies
 pub mod ScriptWords

@@ -1,6 +1,7 @@
 //! What there is to say of a line, on its way out.
-ghost use Rattle.std.specs.Prelude.{◌≡◌, ◌≢◌, IfErr, OnOk};
+ghost use Rattle.std.specs.Prelude.{◌≡◌, ◌⊎◌, [], Err, IfErr, OnOk, string_bytes};
 ghost use Rattle.std.specs.Io.KnownBytes.{Appends};
+ghost use Rattle.descriptor_lines.specs.Outcomes.{IsNoFault, said_of};
 
 use crate::answer;
 use crate::exit::Exit;
@@ -14,7 +15,17 @@ pub fn answer_line<W: Write>(
     number: u64,
     outcome: Result<(), Refusal>,
 ) -> Result<(), Exit>
-    ensures { IfErr result (λ exit. exit ≢ Exit.NoMemory) }
+    // Where the line is not faulty.
+    ensures ok { OnOk result (IsNoFault outcome) }
+    ensures answered { OnOk result (Appends (W.contents output.old) (W.contents output.new)
+        (said_of number outcome (string_bytes answer.old))) }
+    ensures emptied { OnOk result (string_bytes answer.new ≡ []) }
+
+    // Where it is, and where a write fails.
+    ensures bad_line { result ≡ Err Exit.BadLine → ¬ (IsNoFault outcome) }
+    ensures told { result ≡ Err Exit.BadLine → Appends (W.contents output.old)
+        (W.contents output.new) (said_of number outcome (string_bytes answer.old)) }
+    ensures err { IfErr result (λ exit. (exit ≡ Exit.BadLine) ⊎ (exit ≡ Exit.WriteFault)) }
 {
     match outcome {
         Ok(()) => write_text(output, answer.as_str())?,
@@ -22,7 +33,7 @@ pub fn answer_line<W: Write>(
         Err(Refusal::Fault(fault)) => {
             answer.clear();
             // There is room for it since the start.
-            let _ = answer::fault_line(answer, number, fault);
+            answer::fault_line(answer, number, fault).map_err(|_| Exit::WriteFault)?;
             write_text(output, answer.as_str())?;
             return Err(Exit::BadLine);
         }

@@ -1,0 +1,15 @@
+-- What the output says of a line that was run.
+use Rattle.std.specs.Prelude.{◌≡◌, List, ℕ, [], ◌∷◌, ◌++◌, codes, Result, Ok, Err, IfErr}
+use Rattle.descriptor_lines.specs.Answers.{fault_line}
+use Rattle.descriptor_lines.specs.declared.fault.Refusal.{Refusal}
+use Rattle.descriptor_lines.specs.declared.fault.Refusal.TheVariants as refusal
+
+-- the line is not faulty: it ran, or there was no memory to run it
+abbrev pub IsNoFault : Result Unit Refusal → Type 0
+IsNoFault outcome = IfErr outcome (λ reason. reason ≡ refusal.NoMemory)
+
+-- what there is to say of the line: the text that it made, or why it made none
+abbrev pub said_of : ℕ → Result Unit Refusal → List ℕ → List ℕ
+said_of number (Ok done) text = text
+said_of number (Err refusal.NoMemory) text = codes "refused: no memory" ++ 10 ∷ []
+said_of number (Err (refusal.Fault fault)) text = fault_line number fault
