@@ -1,8 +1,9 @@
-pub mod NameLemmas
-pub mod WordLemmas
-pub mod NumberLemmas
 pub mod AnswerLemmas
-pub mod SessionLemmas
-pub mod TicketLemmas
 pub mod FaultLemmas
 pub mod KindLemmas
+pub mod LineLemmas
+pub mod NameLemmas
+pub mod NumberLemmas
+pub mod SessionLemmas
+pub mod TicketLemmas
+pub mod WordLemmas

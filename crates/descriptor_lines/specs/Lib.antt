@@ -5,6 +5,8 @@ pub mod Exit
 pub mod Fault
 pub mod Kinds
 pub mod LayoutTable
+pub mod LineBuffers
+pub mod Lines
 pub mod Names
 pub mod Numbers
 pub mod Outcomes

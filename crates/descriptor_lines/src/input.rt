@@ -1,6 +1,10 @@
 //! Lines out of a reader.
-ghost use Rattle.std.specs.Prelude.{◌≡◌, ◌+◌, ◌-◌, ◌<◌, ◌≤◌, IfOk, IfSome, IfErr, IfNone, OnErr, OnOk, Err, length, vec_len};
+ghost use Rattle.std.specs.Prelude.{◌≡◌, ◌+◌, ◌-◌, ◌<◌, ◌≤◌, [], IfOk, IfSome, IfErr, IfNone, OnErr, OnOk, Err, IsFalse, length, vec_len, slice_range};
+ghost use Rattle.std.specs.Io.BufRead.{strip_last};
+ghost use Rattle.std.specs.Io.KnownBytes.{IsAtEnd, Keeps};
+ghost use Rattle.descriptor_lines.specs.Lines.{HasEnd, HasNoEnd, LosesLine, BeginsTooLong, before_end, after_end};
 
+use crate::text;
 use std::alloc::{AllocError, Global};
 use std::io::Read;
 
@@ -24,9 +28,11 @@ pub enum InputFault {
 
 /// The place of a line among the bytes that were read.
 #[derive(Clone, Copy, Debug)]
-struct Span {
+pub struct Span {
     start: usize,
     end: usize,
+    ghost ordered: { start ≤ end },
+    ghost within: { end ≤ 65536 },
 }
 
 /// Bytes that were read and are in no line yet.
@@ -43,13 +49,17 @@ pub struct LineBuffer {
     ghost from_start: { start ≤ searched },
     ghost to_end: { searched ≤ end },
     ghost within: { end ≤ 65536 },
+    ghost unended: { HasNoEnd (slice_range bytes.items start searched) },
 }
 
 impl LineBuffer {
+    ghost use Rattle.descriptor_lines.specs.LineBuffers.{buffered, bytes_at, unread, SeesEndOf};
+
     /// A buffer for a reader that may be called `reads` times.
     pub fn new(alloc: Global, reads: u32) -> Result<Self, AllocError>
         ensures empty { IfOk result (λ buffer. buffer.start ≡ buffer.end) }
         ensures reads { IfOk result (λ buffer. buffer.reads_left ≡ reads) }
+        ensures open { IfOk result (λ buffer. IsFalse buffer.is_at_end) }
     {
         Ok(LineBuffer {
             bytes: vec![in alloc; 0; BUFFER_LEN]?,
@@ -61,25 +71,22 @@ impl LineBuffer {
         })
     }
 
-    /// The next line without its end, or `None` at the end of the input.
+    /// The place of the next line, or `None` at the end of the input.
     ///
     /// After an error the lines that were complete have been given, and the next one is not.
-    pub fn next_line<R: Read>(&mut self, input: &mut R) -> Result<Option<&[u8]>, InputFault>
-        ensures { IfOk result (λ line. IfSome line (λ line. length line.now ≤ 4096)) }
-    {
-        let Some(span) = self.next_span(input)? else {
-            return Ok(None);
-        };
-        let line = &self.bytes[span.start..span.end];
-        Ok(Some(line.strip_suffix(b"\r").unwrap_or(line)))
-    }
-
-    /// The place of the next line, which is then no longer among the bytes that are in no line.
-    fn next_span<R: Read>(&mut self, input: &mut R) -> Result<Option<Span>, InputFault>
-        ensures ordered { IfOk result (λ span. IfSome span (λ span. span.start ≤ span.end)) }
+    pub fn next_line<R: Read>(&mut self, input: &mut R) -> Result<Option<Span>, InputFault>
         ensures short { IfOk result (λ span. IfSome span (λ span. span.end - span.start ≤ 4096)) }
-        ensures inside { IfOk result (λ span. IfSome span (λ span. span.end ≤ 65536)) }
-        ensures too_long { result ≡ Err InputFault.LineTooLong → 4096 < self.new.end - self.new.start }
+
+        // Where the reader's bytes are known.
+        ensures line { IfOk result (λ span. IfSome span (λ span.
+            IfSome (unread self.old (R.remaining input.old)) (λ bytes. bytes_at self.new span ≡ before_end bytes))) }
+        ensures rest { IfOk result (λ span. IfSome span (λ _.
+            LosesLine (unread self.old (R.remaining input.old)) (unread self.new (R.remaining input.new)))) }
+        ensures none { IfOk result (λ span. IfNone span (IsAtEnd (unread self.old (R.remaining input.old)))) }
+        ensures end { IfOk result (λ span. IfNone span (SeesEndOf self.old (R.remaining input.old) → IsAtEnd (R.remaining input.new))) }
+        ensures kept { OnErr result (Keeps (unread self.old (R.remaining input.old)) (unread self.new (R.remaining input.new))) }
+        ensures too_long { result ≡ Err InputFault.LineTooLong → BeginsTooLong (unread self.old (R.remaining input.old)) }
+        ensures sees { SeesEndOf self.old (R.remaining input.old) → SeesEndOf self.new (R.remaining input.new) }
     {
         loop {
             if let Some(span) = self.take_line()? {
@@ -92,24 +99,38 @@ impl LineBuffer {
         }
     }
 
+    /// The line at this place, without the carriage return that it may end in.
+    pub fn line(&self, span: Span) -> &[u8]
+        ensures bytes { result.now ≡ strip_last 13 (bytes_at self.now span) }
+        ensures short { length result.now ≤ span.end - span.start }
+    {
+        let line = &self.bytes[span.start..span.end];
+        line.strip_suffix(b"\r").unwrap_or(line)
+    }
+
     /// The line that ends among the bytes.
     fn take_line(&mut self) -> Result<Option<Span>, InputFault>
-        ensures ordered { IfOk result (λ span. IfSome span (λ span. span.start ≤ span.end)) }
         ensures short { IfOk result (λ span. IfSome span (λ span. span.end - span.start ≤ 4096)) }
-        ensures inside { IfOk result (λ span. IfSome span (λ span. span.end ≤ 65536)) }
-        ensures rest { IfOk result (λ span. IfNone span (self.new.end - self.new.start ≤ 4096)) }
+        ensures found { IfOk result (λ span. IfSome span (λ _. HasEnd (buffered self.old))) }
+        ensures line { IfOk result (λ span. IfSome span (λ span. bytes_at self.new span ≡ before_end (buffered self.old))) }
+        ensures rest { IfOk result (λ span. IfSome span (λ _. buffered self.new ≡ after_end (buffered self.old))) }
+        ensures none { IfOk result (λ span. IfNone span (HasNoEnd (buffered self.old))) }
+        ensures kept { IfOk result (λ span. IfNone span (buffered self.new ≡ buffered self.old)) }
+        ensures few { IfOk result (λ span. IfNone span (self.new.end - self.new.start ≤ 4096)) }
         ensures fault { IfErr result (λ fault. fault ≡ InputFault.LineTooLong) }
-        ensures too_long { OnErr result (4096 < self.new.end - self.new.start) }
+        ensures too_long { OnErr result (4096 < length (before_end (buffered self.old))) }
+        ensures kept_whole { OnErr result (buffered self.new ≡ buffered self.old) }
         ensures reads { self.new.reads_left ≡ self.old.reads_left }
+        ensures end { self.new.is_at_end ≡ self.old.is_at_end }
     {
         let start = self.start;
         let unsearched = &self.bytes[self.searched..self.end];
-        let length = unsearched.iter().position(|byte| *byte == b'\n');
-        let end = length.map_or(self.end, |length| self.searched + length);
+        let found = text::first_of(unsearched, b'\n');
+        let end = self.searched + found.unwrap_or(unsearched.len());
         if MAX_LINE_LEN < end - start {
             return Err(InputFault::LineTooLong);
         }
-        if length.is_none() {
+        if found.is_none() {
             self.searched = self.end;
             return Ok(None);
         }
@@ -118,11 +139,15 @@ impl LineBuffer {
         Ok(Some(Span { start, end }))
     }
 
-    /// The bytes as a last line, where there are some.
+    /// The bytes, in which no line ends, as a last line, where there are some.
     fn take_rest(&mut self) -> Option<Span>
+        requires { HasNoEnd (buffered self.old) }
         ensures whole { IfSome result (λ span. span.end - span.start ≡ self.old.end - self.old.start) }
-        ensures ordered { IfSome result (λ span. span.start ≤ span.end) }
-        ensures inside { IfSome result (λ span. span.end ≤ 65536) }
+        ensures some { IfSome result (λ _. 0 < length (buffered self.old)) }
+        ensures line { IfSome result (λ span. bytes_at self.new span ≡ buffered self.old) }
+        ensures none { IfNone result (buffered self.old ≡ []) }
+        ensures empty { buffered self.new ≡ [] }
+        ensures end { self.new.is_at_end ≡ self.old.is_at_end }
     {
         let span = Span {
             start: self.start,
@@ -135,15 +160,18 @@ impl LineBuffer {
 
     /// Reads once behind the bytes, of which there are at most as many as a line may have.
     fn read_more<R: Read>(&mut self, input: &mut R) -> Result<(), InputFault>
-        requires { self.old.end - self.old.start ≤ 4096 }
+        requires few { self.old.end - self.old.start ≤ 4096 }
+        requires open { IsFalse self.old.is_at_end }
         ensures counted { OnOk result (self.new.reads_left + 1 ≡ self.old.reads_left) }
         ensures fault { IfErr result (λ fault. fault ≡ InputFault.Read) }
+        ensures kept { Keeps (unread self.old (R.remaining input.old)) (unread self.new (R.remaining input.new)) }
+        ensures sees { SeesEndOf self.new (R.remaining input.new) }
     {
         self.reads_left = self.reads_left.checked_sub(1).ok_or(InputFault::Read)?;
         self.move_to_front();
-        let count = input
-            .read(&mut self.bytes[self.end..])
-            .map_err(|_| InputFault::Read)?;
+        let Ok(count) = input.read(&mut self.bytes[self.end..]) else {
+            return Err(InputFault::Read);
+        };
         self.is_at_end = count == 0;
         self.end += count;
         Ok(())
@@ -153,7 +181,9 @@ impl LineBuffer {
     fn move_to_front(&mut self)
         requires { self.old.end - self.old.start ≤ 4096 }
         ensures room { self.new.end ≤ 4096 }
+        ensures bytes { buffered self.new ≡ buffered self.old }
         ensures reads { self.new.reads_left ≡ self.old.reads_left }
+        ensures end { self.new.is_at_end ≡ self.old.is_at_end }
     {
         let start = self.start;
         if start == 0 {
@@ -187,13 +217,21 @@ mod tests {
         }
     }
 
+    /// The next line, where there is one.
+    fn next_of<'a, R: Read>(
+        lines: &'a mut LineBuffer,
+        input: &mut R,
+    ) -> Result<Option<&'a [u8]>, InputFault> {
+        Ok(lines.next_line(input)?.map(|span| lines.line(span)))
+    }
+
     #[test]
     fn counts_read_calls(rt: HostRuntime) -> Result<(), Fail> {
         for (reads, last) in [(4, Err(InputFault::Read)), (5, Ok(Some(b"c".as_slice())))] {
             let mut input = Slow(b"ab\nc");
             let mut lines = LineBuffer::new(rt.alloc(), reads)?;
-            assert!(rt; lines.next_line(&mut input) == Ok(Some(b"ab".as_slice())));
-            assert!(rt; lines.next_line(&mut input) == last);
+            assert!(rt; next_of(&mut lines, &mut input) == Ok(Some(b"ab".as_slice())));
+            assert!(rt; next_of(&mut lines, &mut input) == last);
         }
         Ok(())
     }

@@ -86,7 +86,7 @@ pub fn run_lines<R: Read, W: Write>(alloc: Global, input: &mut R, output: &mut W
     for number in 1..=u64::MAX {
         let outcome = match lines.next_line(input) {
             Ok(None) => return Exit::Done,
-            Ok(Some(line)) => program.run_line(line, &mut answer),
+            Ok(Some(span)) => program.run_line(lines.line(span), &mut answer),
             Err(InputFault::LineTooLong) => Err(Refusal::Fault(Fault::LineTooLong)),
             Err(InputFault::Read) => return Exit::ReadFault,
         };

@@ -167,7 +167,7 @@ pub fn kind(word: &[u8]) -> Option<usize>
 }
 
 /// The place of the first byte of this value.
-fn first_of(word: &[u8], value: u8) -> Option<usize>
+pub(crate) fn first_of(word: &[u8], value: u8) -> Option<usize>
     ensures place { result ≡ position (is_byte value) word.now }
     ensures found { IsSome result ↔ Contains word.now value }
 {

@@ -1,0 +1,205 @@
+-- Lemmas on the lines that bytes begin with.
+use Rattle.std.proofs.Common.{◌≡◌, ℕ, ◌+◌, ◌-◌, ◌<◌, ◌≤◌, ◌⊎◌, inl, inr, subst, append_assoc, append-nil, length-take, Bool, true, false, IsTrue, List, [], ◌++◌, Option, None, Some, not, is_some, unwrap_or, length, length-take-le, take, drop, position, slice_range, length-append, take-append-drop, refl, sym, ap, ◌∙◌, arith, IfSome}
+use Rattle.std.specs.List.{position_or_len}
+use Rattle.std.specs.Io.KnownBytes.{Keeps, IsAtEnd, Consumes}
+use Rattle.std.proofs.lemmas.Bool.{cases_lt}
+use Rattle.std.proofs.lemmas.Bool.Decides.{nat_tests}
+use Rattle.std.proofs.lemmas.List.{drop-drop, drop-take, take-take, take_all, drop_all, take-append-le, drop-append-le}
+use Rattle.std.proofs.lemmas.List.{drop_at}
+use Rattle.std.proofs.lemmas.Slice.{between_is}
+use Rattle.std.proofs.lemmas.List.Edits.{length-between}
+use Rattle.std.proofs.lemmas.List.Folds.{prefix_len-append}
+use Rattle.std.proofs.lemmas.List.Sums.{prefix_len-le-length}
+use Rattle.descriptor_lines.specs.Lines.{HasEnd, HasNoEnd, LosesLine, BeginsTooLong, before_end, after_end, to_come}
+use Rattle.descriptor_lines.specs.Words.{is_byte}
+
+-- ---- parts of a list
+
+-- two parts that meet
+pub parts_joined : (bytes : List ℕ) (a b c : ℕ) → a ≤ b → b ≤ c → slice_range bytes a c ≡ slice_range bytes a b ++ slice_range bytes b c
+parts_joined bytes a b c ab bc =
+    let n : ℕ = b - a in
+    let m : ℕ = c - b in
+    let ys : List ℕ = drop a bytes in
+    let whole : c - a ≡ n + m = omega arith in
+    let at : b ≡ a + n = omega arith in
+    let back : drop b bytes ≡ drop n ys = ap (λ k. drop k bytes) at ∙ sym (drop-drop n a bytes) in
+    let front : take n (take (n + m) ys) ≡ take n ys = take-take n (n + m) ys (omega arith) in
+    ap (λ k. take k ys) whole ∙ sym (take-append-drop n (take (n + m) ys)) ∙ ap (λ l. l ++ drop n (take (n + m) ys)) front ∙ ap (λ l. take n ys ++ l) (drop-take n m ys ∙ ap (take m) (sym back))
+
+-- the front of a part
+pub part_front : (bytes : List ℕ) (a b n : ℕ) → a + n ≤ b → take n (slice_range bytes a b) ≡ slice_range bytes a (a + n)
+part_front bytes a b n fits =
+    let same : n ≡ a + n - a = omega arith in
+    take-take n (b - a) (drop a bytes) (omega arith) ∙ ap (λ k. take k (drop a bytes)) same
+
+-- the rest of a part
+pub part_rest : (bytes : List ℕ) (a b n : ℕ) → a + n ≤ b → drop n (slice_range bytes a b) ≡ slice_range bytes (a + n) b
+part_rest bytes a b n fits =
+    let m : ℕ = b - (a + n) in
+    let whole : b - a ≡ n + m = omega arith in
+    ap (λ k. drop n (take k (drop a bytes))) whole ∙ drop-take n m (drop a bytes) ∙ ap (take m) (drop-drop n a bytes)
+
+-- a part of the front
+pub front_part : (bytes back : List ℕ) (a b end : ℕ) → b ≤ end → end ≤ length bytes → slice_range (take end bytes ++ back) a b ≡ slice_range bytes a b
+front_part bytes back a b end to fits =
+    let within : b ≤ length (take end bytes) = omega (arith, length-take-le end bytes fits) in
+    between_is (take end bytes ++ back) a b ∙ ap (drop a) (take-append-le b (take end bytes) back within ∙ take-take b end bytes to) ∙ sym (between_is bytes a b)
+
+-- a part that goes on behind the front
+pub part_behind : (bytes got more : List ℕ) (a end n : ℕ) → a ≤ end → end ≤ length bytes → n ≤ length got → slice_range (take end bytes ++ (got ++ more)) a (end + n) ≡ slice_range bytes a end ++ take n got
+part_behind bytes got more a end n from fits few =
+    let size : length (take end bytes) ≡ end = length-take-le end bytes fits in
+    let split : slice_range (take end bytes ++ (got ++ more)) a (end + n) ≡ slice_range (take end bytes ++ (got ++ more)) a end ++ slice_range (take end bytes ++ (got ++ more)) end (end + n) = parts_joined (take end bytes ++ (got ++ more)) a end (end + n) from (omega arith) in
+    let count : end + n - end ≡ n = omega arith in
+    let behind : drop end (take end bytes ++ (got ++ more)) ≡ got ++ more = drop_at (take end bytes) (got ++ more) end size in
+    split ∙ ap (λ l. l ++ slice_range (take end bytes ++ (got ++ more)) end (end + n)) (front_part bytes (got ++ more) a end end (omega arith) fits) ∙ ap (λ l. slice_range bytes a end ++ l) (ap (λ k. take k (drop end (take end bytes ++ (got ++ more)))) count ∙ ap (take n) behind ∙ take-append-le n got more few)
+
+-- ---- the first end of a line
+
+-- where no line ends in the front, the first end is behind it
+pub end_behind : (front rest : List ℕ) → HasNoEnd front → position_or_len (is_byte 10) (front ++ rest) ≡ length front + position_or_len (is_byte 10) rest
+end_behind front rest none = grind (arith, nat_tests, prefix_len-append (λ x. not (is_byte 10 x)) front rest)
+
+-- where a line ends in the front, that is the first end
+pub end_in_front : (front rest : List ℕ) → HasEnd front → position_or_len (is_byte 10) (front ++ rest) ≡ position_or_len (is_byte 10) front
+end_in_front front rest some = grind (arith, nat_tests, prefix_len-append (λ x. not (is_byte 10 x)) front rest)
+
+-- the first end in the unsearched bytes is the first of all
+pub first_end : (bytes : List ℕ) (start searched end : ℕ) → start ≤ searched → searched ≤ end → end ≤ length bytes → HasNoEnd (slice_range bytes start searched)
+    → position_or_len (is_byte 10) (slice_range bytes start end) ≡ searched - start + position_or_len (is_byte 10) (slice_range bytes searched end)
+first_end bytes start searched end from to fits none =
+    let size : length (slice_range bytes start searched) ≡ searched - start = length-between bytes start searched (omega arith) in
+    ap (position_or_len (is_byte 10)) (parts_joined bytes start searched end from to) ∙ end_behind (slice_range bytes start searched) (slice_range bytes searched end) none ∙ ap (λ k. k + position_or_len (is_byte 10) (slice_range bytes searched end)) size
+
+-- what a search of bytes finds
+first_is : (bytes : List ℕ) → unwrap_or (position (is_byte 10) bytes) (length bytes) ≡ position_or_len (is_byte 10) bytes
+first_is bytes = let at_most : position_or_len (is_byte 10) bytes ≤ length bytes = prefix_len-le-length _ bytes in grind (arith, nat_tests)
+
+pub first_within : (bytes : List ℕ) → unwrap_or (position (is_byte 10) bytes) (length bytes) ≤ length bytes
+first_within bytes = omega (arith, first_is bytes, prefix_len-le-length (λ x. not (is_byte 10 x)) bytes)
+
+pub first_found : (bytes : List ℕ) → is_some (position (is_byte 10) bytes) ≡ true → unwrap_or (position (is_byte 10) bytes) (length bytes) < length bytes
+first_found bytes some = grind (arith, nat_tests)
+
+pub first_missing : (bytes : List ℕ) → is_some (position (is_byte 10) bytes) ≡ false → unwrap_or (position (is_byte 10) bytes) (length bytes) ≡ length bytes
+first_missing bytes none = grind (arith, nat_tests)
+
+-- where a search of the unsearched bytes came to an end of a line, or to the end of the bytes
+pub record ComesTo (bytes : List ℕ) (start end place : ℕ) (found : Option ℕ) : Type 0 where
+  pub from : start ≤ place
+  pub within : place ≤ end
+  pub first : position_or_len (is_byte 10) (slice_range bytes start end) ≡ place - start
+  pub at_end : is_some found ≡ true → place < end
+  pub missing : is_some found ≡ false → place ≡ end
+
+comes_to : (bytes : List ℕ) (start searched end : ℕ) → start ≤ searched → searched ≤ end → end ≤ length bytes → HasNoEnd (slice_range bytes start searched)
+    → let rest = slice_range bytes searched end in ComesTo bytes start end (searched + unwrap_or (position (is_byte 10) rest) (length rest)) (position (is_byte 10) rest)
+comes_to bytes start searched end from to fits none =
+    let rest : List ℕ = slice_range bytes searched end in
+    let size : length rest ≡ end - searched = length-between bytes searched end fits in
+    let within : unwrap_or (position (is_byte 10) rest) (length rest) ≤ length rest = first_within rest in
+    record {
+      from = omega arith;
+      within = omega arith;
+      first = omega (arith, first_end bytes start searched end from to fits none, first_is rest);
+      at_end = λ some. omega (arith, first_found rest some);
+      missing = λ missing. omega (arith, first_missing rest missing);
+    }
+
+-- what a search of the unsearched bytes comes to
+pub search_comes_to : (bytes shown : List ℕ) (start searched end count : ℕ) (found : Option ℕ) → shown ≡ bytes → start ≤ searched → searched ≤ end → end ≤ length bytes → HasNoEnd (slice_range bytes start searched)
+    → found ≡ position (is_byte 10) (slice_range shown searched end) → count ≡ unwrap_or found (length (slice_range shown searched end)) → ComesTo bytes start end (searched + count) found
+search_comes_to bytes shown start searched end count found same from to fits none place is =
+    let found_is : found ≡ position (is_byte 10) (slice_range bytes searched end) = place ∙ ap (λ l. position (is_byte 10) (slice_range l searched end)) same in
+    let count_is : count ≡ unwrap_or (position (is_byte 10) (slice_range bytes searched end)) (length (slice_range bytes searched end)) = is ∙ ap (λ o. unwrap_or o (length (slice_range shown searched end))) found_is ∙ ap (λ l. unwrap_or (position (is_byte 10) (slice_range bytes searched end)) (length (slice_range l searched end))) same in
+    rw (count_is, found_is) (comes_to bytes start searched end from to fits none)
+
+-- a line up to its end, and what is behind that
+pub line_to : (bytes : List ℕ) (start end place : ℕ) → start ≤ place → place ≤ end → position_or_len (is_byte 10) (slice_range bytes start end) ≡ place - start → slice_range bytes start place ≡ before_end (slice_range bytes start end)
+line_to bytes start end place from to is =
+    let at : start + (place - start) ≡ place = omega arith in
+    sym (ap (λ k. take k (slice_range bytes start end)) is ∙ part_front bytes start end (place - start) (omega arith) ∙ ap (slice_range bytes start) at)
+
+pub rest_from : (bytes : List ℕ) (start end place : ℕ) → start ≤ place → place < end → position_or_len (is_byte 10) (slice_range bytes start end) ≡ place - start → slice_range bytes (place + 1) end ≡ after_end (slice_range bytes start end)
+rest_from bytes start end place from to is =
+    let at : start + (place - start + 1) ≡ place + 1 = omega arith in
+    sym (ap (λ k. drop (k + 1) (slice_range bytes start end)) is ∙ part_rest bytes start end (place - start + 1) (omega arith) ∙ ap (λ k. slice_range bytes k end) at)
+
+-- ---- the first line of bytes, of which more may come
+
+pub before_end-append : (front rest : List ℕ) → HasEnd front → before_end (front ++ rest) ≡ before_end front
+before_end-append front rest some = ap (λ k. take k (front ++ rest)) (end_in_front front rest some) ∙ take-append-le (position_or_len (is_byte 10) front) front rest (omega arith)
+
+pub after_end-append : (front rest : List ℕ) → HasEnd front → after_end (front ++ rest) ≡ after_end front ++ rest
+after_end-append front rest some = ap (λ k. drop (k + 1) (front ++ rest)) (end_in_front front rest some) ∙ drop-append-le (position_or_len (is_byte 10) front + 1) front rest (omega arith)
+
+pub before_end-whole : (bytes : List ℕ) → HasNoEnd bytes → before_end bytes ≡ bytes
+before_end-whole bytes none = ap (λ k. take k bytes) none ∙ take_all (length bytes) bytes (omega arith)
+
+pub after_end-whole : (bytes : List ℕ) → HasNoEnd bytes → after_end bytes ≡ []
+after_end-whole bytes none = ap (λ k. drop (k + 1) bytes) none ∙ drop_all (length bytes + 1) bytes (omega arith)
+
+before_end-grows_by : (front rest : List ℕ) → HasEnd front ⊎ (length front ≤ position_or_len (is_byte 10) front) → length (before_end front) ≤ length (before_end (front ++ rest))
+before_end-grows_by front rest (inl some) = omega (arith, ap length (before_end-append front rest some))
+before_end-grows_by front rest (inr none) =
+    let at_most : position_or_len (is_byte 10) front ≤ length front = prefix_len-le-length (λ x. not (is_byte 10 x)) front in
+    let behind : position_or_len (is_byte 10) (front ++ rest) ≡ length front + position_or_len (is_byte 10) rest = end_behind front rest (omega arith) in
+    omega (arith, length-take (position_or_len (is_byte 10) front) front, length-take (position_or_len (is_byte 10) (front ++ rest)) (front ++ rest), length-append front rest)
+
+-- with more bytes the first line is no shorter
+pub before_end-grows : (front rest : List ℕ) → length (before_end front) ≤ length (before_end (front ++ rest))
+before_end-grows front rest = before_end-grows_by front rest (cases_lt _ _)
+
+-- ---- known bytes
+
+pub Keeps-IfSome : (a b : Option (List ℕ)) (P : List ℕ → Type 0) → Keeps a b → IfSome b P → IfSome a P
+Keeps-IfSome None b P same h = tt
+Keeps-IfSome (Some x) None P same h = absurd same
+Keeps-IfSome (Some x) (Some y) P same h = subst P same h
+
+pub Keeps-IsAtEnd : (a b : Option (List ℕ)) → Keeps a b → IsAtEnd b → IsAtEnd a
+Keeps-IsAtEnd None b same h = tt
+Keeps-IsAtEnd (Some x) None same h = absurd same
+Keeps-IsAtEnd (Some x) (Some y) same h = sym same ∙ h
+
+pub Keeps-LosesLine : (a b c : Option (List ℕ)) → Keeps a b → LosesLine b c → LosesLine a c
+Keeps-LosesLine None b c same h = tt
+Keeps-LosesLine (Some x) None c same h = absurd same
+Keeps-LosesLine (Some x) (Some y) None same h = absurd h
+Keeps-LosesLine (Some x) (Some y) (Some z) same h = subst (λ l. LosesLine (Some l) (Some z)) same h
+
+-- a line that ends among the bytes at hand
+pub taken : (was now : Bool) (known : Option (List ℕ)) (bytes rest : List ℕ) → now ≡ was → HasEnd bytes → rest ≡ after_end bytes → LosesLine (to_come was bytes known) (to_come now rest known)
+taken true true known bytes rest kept some is = (omega arith, is)
+taken true false known bytes rest kept some is = absurd (cc)
+taken false true known bytes rest kept some is = absurd (cc)
+taken false false None bytes rest kept some is = tt
+taken false false (Some more) bytes rest kept some is = (omega (arith, length-append bytes more), ap (λ l. l ++ more) is ∙ sym (after_end-append bytes more some))
+
+pub taken_line : (ended : Bool) (known : Option (List ℕ)) (bytes line : List ℕ) → HasEnd bytes → line ≡ before_end bytes → IfSome (to_come ended bytes known) (λ all. line ≡ before_end all)
+taken_line true known bytes line some is = is
+taken_line false None bytes line some is = tt
+taken_line false (Some more) bytes line some is = is ∙ sym (before_end-append bytes more some)
+
+pub too_long : (ended : Bool) (known : Option (List ℕ)) (bytes : List ℕ) → 4096 < length (before_end bytes) → BeginsTooLong (to_come ended bytes known)
+too_long true known bytes long = long
+too_long false None bytes long = tt
+too_long false (Some more) bytes long = omega (arith, before_end-grows bytes more)
+
+-- a read put its bytes behind those at hand, and saw the end only where none was left
+pub read_kept : (was ended : Bool) (old new : Option (List ℕ)) (bytes front got all : List ℕ) → was ≡ false → front ≡ bytes → all ≡ front ++ got → Consumes old new got → (IsTrue ended → IsAtEnd new) → Keeps (to_come was bytes old) (to_come ended all new)
+read_kept true ended old new bytes front got all unseen same is took end = absurd (cc)
+read_kept false ended None new bytes front got all unseen same is took end = tt
+read_kept false ended (Some xs) None bytes front got all unseen same is took end = absurd took
+read_kept false false (Some xs) (Some ys) bytes front got all unseen same is took end = ap (λ l. l ++ ys) is ∙ append_assoc front got ys ∙ ap (λ l. l ++ (got ++ ys)) same ∙ ap (λ l. bytes ++ l) (sym took)
+read_kept false true (Some xs) (Some ys) bytes front got all unseen same is took end =
+    let whole : xs ≡ got = took ∙ ap (λ l. got ++ l) (end refl) ∙ append-nil got in
+    is ∙ ap (λ l. l ++ got) same ∙ ap (λ l. bytes ++ l) (sym whole)
+
+pub read_failed_kept : (was now : Bool) (old new : Option (List ℕ)) (bytes front : List ℕ) → was ≡ false → now ≡ was → front ≡ bytes → Keeps old new → Keeps (to_come was bytes old) (to_come now front new)
+read_failed_kept true now old new bytes front unseen kept is same = absurd (cc)
+read_failed_kept false true old new bytes front unseen kept is same = absurd (cc)
+read_failed_kept false false None new bytes front unseen kept is same = tt
+read_failed_kept false false (Some xs) None bytes front unseen kept is same = absurd same
+read_failed_kept false false (Some xs) (Some ys) bytes front unseen kept is same = ap (λ l. l ++ ys) is ∙ ap (λ l. bytes ++ l) same

@@ -1,0 +1,54 @@
+use borrow.Rule.Slice.PartMut.{post_of}
+use Rattle.std.proofs.Common.{ℕ, List, length, length-append, length-drop, length-take-le, drop, arith, sym, ap, ◌∙◌, ◌≤◌, ◌≡◌, ◌-◌, ◌+◌, ◌++◌, take, slice_range, subst}
+use Rattle.std.specs.declared.vec.Vec.{Vec}
+use Rattle.std.specs.Vec.{with_items}
+use Rattle.std.proofs.lemmas.Bool.Decides.{nat_tests}
+use Rattle.std.proofs.lemmas.List.{with_items_is}
+use Rattle.std.proofs.lemmas.List.Edits.{length-between}
+use Rattle.descriptor_lines.specs.Lines.{HasNoEnd}
+use Rattle.descriptor_lines.proofs.LineLemmas.{front_part, part_behind, read_kept, read_failed_kept}
+use Rattle.descriptor_lines.proofs.input.LineBuffer.read_more.Goals as goal
+
+-- what stands in the buffer after a read behind its bytes
+read_behind : {Z : Type 0} (v : Vec ℕ Z) (shown got : List ℕ) (end : ℕ) → length shown ≡ v.len → end ≤ length shown → length got ≡ length (slice_range shown end (length shown))
+    → let all = take end shown ++ (got ++ post_of end (length shown - end) shown) in (with_items v all).items ≡ all
+read_behind v shown got end size fits room =
+    let rest : List ℕ = post_of end (length shown - end) shown in
+    with_items_is v _ (omega (arith, length-between shown end (length shown) (omega arith), length-append (take end shown) (got ++ rest), length-append got rest, length-take-le end shown fits, length-drop (length shown - end) (drop end shown), length-drop end shown))
+
+pub returns-clause-kept : goal.returns-clause-kept
+returns-clause-kept g c =
+    let s = c.move_to_front.new.self in
+    let shown = c.deref_mut.result.now in
+    let fits : s.end ≤ length shown = omega (arith, c.deref_mut.ensures.len) in
+    let got = take c.in-Ok.count c.read.new.buf in
+    let behind = read_behind s.bytes shown c.read.new.buf s.end c.deref_mut.ensures.len fits c.read.auto.buf in
+    let all = ap (λ l. slice_range l s.start (s.end + c.in-Ok.count)) behind ∙ part_behind shown c.read.new.buf (post_of s.end (length shown - s.end) shown) s.start s.end c.in-Ok.count (omega arith) fits c.in-Ok.ensures.bound.0 ∙ ap (λ l. slice_range l s.start s.end ++ got) c.deref_mut.ensures.value in
+    read_kept c.args.self.now.is_at_end _ _ _ _ _ got _ c.requires.open c.move_to_front.ensures.bytes all c.in-Ok.ensures.bytes.0 (λ none. c.in-Ok.ensures.bytes.1 (grind (arith, nat_tests, none)) (omega arith))
+
+pub invariant_of-self-2-clause-unended : goal.invariant_of-self-2-clause-unended
+invariant_of-self-2-clause-unended g c =
+    let s = c.move_to_front.new.self in
+    let shown = c.deref_mut.result.now in
+    let fits : s.end ≤ length shown = omega (arith, c.deref_mut.ensures.len) in
+    let behind = read_behind s.bytes shown c.read.new.buf s.end c.deref_mut.ensures.len fits c.read.auto.buf in
+    let same = ap (λ l. slice_range l s.start s.searched) behind ∙ front_part shown (c.read.new.buf ++ post_of s.end (length shown - s.end) shown) s.start s.searched s.end s.to_end fits ∙ ap (λ l. slice_range l s.start s.searched) c.deref_mut.ensures.value in
+    subst HasNoEnd (sym same) s.unended
+
+pub invariant_of-self-in_default-clause-unended : goal.invariant_of-self-in_default-clause-unended
+invariant_of-self-in_default-clause-unended g c =
+    let s = c.move_to_front.new.self in
+    let shown = c.deref_mut.result.now in
+    let fits : s.end ≤ length shown = omega (arith, c.deref_mut.ensures.len) in
+    let behind = read_behind s.bytes shown c.read.new.buf s.end c.deref_mut.ensures.len fits c.read.auto.buf in
+    let same = ap (λ l. slice_range l s.start s.searched) behind ∙ front_part shown (c.read.new.buf ++ post_of s.end (length shown - s.end) shown) s.start s.searched s.end s.to_end fits ∙ ap (λ l. slice_range l s.start s.searched) c.deref_mut.ensures.value in
+    subst HasNoEnd (sym same) s.unended
+
+pub returns-in_default-clause-kept : goal.returns-in_default-clause-kept
+returns-in_default-clause-kept g c =
+    let s = c.move_to_front.new.self in
+    let shown = c.deref_mut.result.now in
+    let fits : s.end ≤ length shown = omega (arith, c.deref_mut.ensures.len) in
+    let behind = read_behind s.bytes shown c.read.new.buf s.end c.deref_mut.ensures.len fits c.read.auto.buf in
+    let same = ap (λ l. slice_range l s.start s.end) behind ∙ front_part shown (c.read.new.buf ++ post_of s.end (length shown - s.end) shown) s.start s.end s.end (omega arith) fits ∙ ap (λ l. slice_range l s.start s.end) c.deref_mut.ensures.value in
+    read_failed_kept c.args.self.now.is_at_end s.is_at_end _ _ _ _ c.requires.open c.move_to_front.ensures.end (same ∙ c.move_to_front.ensures.bytes) c.in_default.ensures.bytes

@@ -1,0 +1,22 @@
+-- What a buffer of lines has to give.
+use Rattle.std.specs.Prelude.{ℕ, List, Option, IsTrue, slice_range}
+use Rattle.std.specs.Io.KnownBytes.{IsAtEnd}
+use Rattle.descriptor_lines.specs.Lines.{to_come}
+use Rattle.descriptor_lines.specs.declared.input.LineBuffer.{LineBuffer}
+use Rattle.descriptor_lines.specs.declared.input.Span.{Span}
+
+-- the bytes in the buffer that are in no line yet
+abbrev pub buffered : LineBuffer → List ℕ
+buffered buffer = slice_range buffer.bytes.items buffer.start buffer.end
+
+-- the bytes at a place in the buffer
+abbrev pub bytes_at : LineBuffer → Span → List ℕ
+bytes_at buffer span = slice_range buffer.bytes.items span.start span.end
+
+-- the bytes that are in no line yet: those in the buffer, and then those that the reader has left
+abbrev pub unread : LineBuffer → Option (List ℕ) → Option (List ℕ)
+unread buffer known = to_come buffer.is_at_end (buffered buffer) known
+
+-- the buffer has seen the end of a reader only where that has nothing left
+abbrev pub SeesEndOf : LineBuffer → Option (List ℕ) → Type 0
+SeesEndOf buffer known = IsTrue buffer.is_at_end → IsAtEnd known

@@ -1,0 +1,36 @@
+-- The lines that known bytes begin with.
+use Rattle.std.specs.Prelude.{◌≡◌, ℕ, ◌<◌, Bool, true, false, List, Option, None, Some, ⊤, length, IfSome}
+use Rattle.std.specs.List.{after_first, before_first, position_or_len}
+use Rattle.std.specs.Io.KnownBytes.{prepend_known}
+use Rattle.descriptor_lines.specs.Words.{is_byte}
+
+-- a line ends among the bytes
+abbrev pub HasEnd : List ℕ → Type 0
+HasEnd bytes = position_or_len (is_byte 10) bytes < length bytes
+
+-- no line ends among the bytes
+abbrev pub HasNoEnd : List ℕ → Type 0
+HasNoEnd bytes = position_or_len (is_byte 10) bytes ≡ length bytes
+
+-- the bytes before the first end of a line, or all of them
+abbrev pub before_end : List ℕ → List ℕ
+before_end bytes = before_first (is_byte 10) bytes
+
+-- the bytes after the first end of a line, or none
+abbrev pub after_end : List ℕ → List ℕ
+after_end bytes = after_first (is_byte 10) bytes
+
+-- known bytes are not at their end, and lose the first line and its end
+abbrev pub LosesLine : Option (List ℕ) → Option (List ℕ) → Type 0
+LosesLine None new = ⊤
+LosesLine (Some bytes) None = ⊥
+LosesLine (Some bytes) (Some rest) = (0 < length bytes) × (rest ≡ after_end bytes)
+
+-- the first line of known bytes has more bytes than a line may have
+abbrev pub BeginsTooLong : Option (List ℕ) → Type 0
+BeginsTooLong known = IfSome known (λ bytes. 4096 < length (before_end bytes))
+
+-- the bytes at hand, and then, before the end of the reader was seen, those that it has left
+abbrev pub to_come : Bool → List ℕ → Option (List ℕ) → Option (List ℕ)
+to_come true bytes known = Some bytes
+to_come false bytes known = prepend_known bytes known
