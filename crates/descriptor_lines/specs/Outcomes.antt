@@ -1,6 +1,8 @@
 -- What the output says of a line that was run.
-use Rattle.std.specs.Prelude.{◌≡◌, List, ℕ, [], ◌∷◌, ◌++◌, codes, Result, Ok, Err, IfErr}
+use Rattle.std.specs.Prelude.{◌≡◌, List, ℕ, Option, [], ◌∷◌, ◌++◌, codes, Result, Ok, Err, IfErr}
+use Rattle.std.specs.Io.KnownBytes.{Appends}
 use Rattle.descriptor_lines.specs.Answers.{fault_line}
+use Rattle.descriptor_lines.specs.declared.fault.Fault.{Fault}
 use Rattle.descriptor_lines.specs.declared.fault.Refusal.{Refusal}
 use Rattle.descriptor_lines.specs.declared.fault.Refusal.TheVariants as refusal
 
@@ -13,3 +15,10 @@ abbrev pub said_of : ℕ → Result Unit Refusal → List ℕ → List ℕ
 said_of number (Ok done) text = text
 said_of number (Err refusal.NoMemory) text = codes "refused: no memory" ++ 10 ∷ []
 said_of number (Err (refusal.Fault fault)) text = fault_line number fault
+
+-- known bytes grow, and last by the line of a fault
+pub record EndsInFault (old new : Option (List ℕ)) : Type 0 where
+  pub answers : List ℕ
+  pub number : ℕ
+  pub fault : Fault
+  pub grown : Appends old new (answers ++ fault_line number fault)

@@ -1,6 +1,7 @@
 //! The program: lines in, answers out.
 ghost use Rattle.std.specs.Prelude.{◌≡◌, OnErr};
-ghost use Rattle.std.specs.Io.KnownBytes.{Keeps};
+ghost use Rattle.std.specs.Io.KnownBytes.{IsAtEnd, Keeps};
+ghost use Rattle.descriptor_lines.specs.Outcomes.{EndsInFault};
 ghost use Rattle.descriptor_lines.specs.Programs.{CanRun, IsUnchanged};
 
 mod output;
@@ -74,7 +75,9 @@ impl Program {
 /// is run. It ends early at a faulty line, at a read or a write that fails, of whatever kind, and
 /// after 100000000 read calls.
 pub fn run_lines<R: Read, W: Write>(alloc: Global, input: &mut R, output: &mut W) -> Exit
-    ensures { result ≡ Exit.NoMemory → Keeps (W.contents output.old) (W.contents output.new) }
+    ensures done { result ≡ Exit.Done → IsAtEnd (R.remaining input.new) }
+    ensures bad_line { result ≡ Exit.BadLine → EndsInFault (W.contents output.old) (W.contents output.new) }
+    ensures no_memory { result ≡ Exit.NoMemory → Keeps (W.contents output.old) (W.contents output.new) }
 {
     let Ok(mut lines) = LineBuffer::new(alloc, MAX_READS) else {
         return Exit::NoMemory;
