@@ -32,11 +32,11 @@ same_branches : {X : Type 0} (b : Bool) (x : X) → cond b x x ≡ x
 same_branches true x = refl
 same_branches false x = refl
 
-none_out : (max : ℕ) (l : Ledger) (t : Item) → outstanding (state_of {P = RawPool} pool_id (record { limit = max; table = [] }) l) t ≡ 0
+none_out : (max : ℕ) (l : Ledger) (t : Item) → outstanding (state_of {P = RawPool} pool_id (record { limit = max; table = []; looks = 0; comparisons = 0 }) l) t ≡ 0
 none_out max l t = simp same_branches
 
 -- a new session can make a step on any device
-pub new_is_ready : (s : LineSession) (d : ScriptedDevice) (max : ℕ) → allocator_of s ≡ record { limit = max; table = [] } → layouts_of s ≡ [] → sets_of s ≡ [] → IsReady s d
+pub new_is_ready : (s : LineSession) (d : ScriptedDevice) (max : ℕ) → allocator_of s ≡ record { limit = max; table = []; looks = 0; comparisons = 0 } → layouts_of s ≡ [] → sets_of s ≡ [] → IsReady s d
 new_is_ready s d max allocator layouts sets = record {
   agree = rw allocator (empty_agrees (ledger_of d).pools);
   held = rw (allocator, sets) (λ t. none_out max (ledger_of d) t);

@@ -6,9 +6,9 @@ use Rattle.gpu_descriptor_types.specs.Ledger.{Ledger, Counters}
 use Rattle.gpu_descriptor.specs.Sets.{items_of}
 use Rattle.gpu_descriptor.specs.States.{Agrees, state_of}
 use Rattle.gpu_descriptor.proofs.Kept.{one_by_one}
-use Rattle.descriptor_script.specs.Headline.{CallsOnceARun, FailsForCause, FreesOneByOne, HoldsExactly, HoldsWhatIsOut, KeepsLimit, TurnsDownBad}
+use Rattle.descriptor_script.specs.Headline.{CallsOnceARun, FailsForCause, FreesOneByOne, HoldsExactly, HoldsWhatIsOut, KeepsAll, KeepsLimit, TurnsDownBad}
 use Rattle.descriptor_script.specs.Session.{AreAllHeld, allocator_of, sets_of}
-use Rattle.descriptor_script.specs.SessionRun.{AfterEach, IsStep, Step}
+use Rattle.descriptor_script.specs.SessionRun.{IsStep, RunsKeeping, RunsTo, Step}
 use Rattle.descriptor_script.specs.Steps.{StepsTo}
 use Rattle.descriptor_script.specs.declared.command.Command.{Command}
 use Rattle.descriptor_script.specs.declared.command.Command.TheVariants.{Allocate, Free, Cleanup}
@@ -17,9 +17,9 @@ use Rattle.descriptor_script.specs.declared.command.Reply.TheVariants.{Sets, Ref
 use Rattle.descriptor_script.specs.declared.session.Session.{Session}
 use Rattle.descriptor_script.proofs.Emptied.{listed_out}
 
-pub if_ok : {T E : Type 0} {A : T → Type 0} (r : Result T E) → ((x : T) → A x) → IfOk r A
-if_ok (Ok x) f = f x
-if_ok (Err e) f = tt
+pub if_ok : {T E : Type 0} {A B : T → Type 0} (r : Result T E) → IfOk r A → ((x : T) → A x → B x) → IfOk r B
+if_ok (Ok x) h f = f x h
+if_ok (Err e) h f = tt
 
 module _ {L P S : Type 0} (pool_name : P → ℕ) (set_name : S → ℕ) (counts : L → List ℕ) (mark : L → Bool) where
   abbrev pub step_of : Command → Reply → Session L P S → Session L P S → Ledger → Ledger → Step L P S
@@ -30,18 +30,20 @@ module _ {L P S : Type 0} (pool_name : P → ℕ) (set_name : S → ℕ) (counts
   IsKept promise = (command : Command) (reply : Reply) (old new : Session L P S) (before after : Ledger) → Agrees pool_name (allocator_of old) before → AreAllHeld set_name (sets_of old) (state_of pool_name (allocator_of old) before)
       → IsStep {L = L} {P = P} {S = S} pool_name set_name counts mark command reply old new before after → promise (step_of command reply old new before after)
 
-  -- and then it is kept all along a run
-  pub after_each : (promise : Step L P S → Type 0) → IsKept promise → (commands : List Command) (replies : List Reply) (old new : Session L P S) (before after : Ledger) → Agrees pool_name (allocator_of old) before → AreAllHeld set_name (sets_of old) (state_of pool_name (allocator_of old) before)
-      → AfterEach pool_name set_name counts mark promise commands replies old new before after
-  after_each promise keeps [] rs old new before after agree held = tt
-  after_each promise keeps (c ∷ cs) [] old new before after agree held = tt
-  after_each promise keeps (c ∷ cs) (r ∷ rs) old new before after agree held = λ next between step rest. (keeps c r old next before between agree held step, after_each promise keeps cs rs next new between after step.agree step.held)
+  -- and then a run keeps it all along
+  pub kept_along : (promise : Step L P S → Type 0) → IsKept promise → (commands : List Command) (replies : List Reply) (old new : Session L P S) (before after : Ledger) → Agrees pool_name (allocator_of old) before → AreAllHeld set_name (sets_of old) (state_of pool_name (allocator_of old) before)
+      → RunsTo pool_name set_name counts mark commands replies old new before after → RunsKeeping pool_name set_name counts mark promise commands replies old new before after
+  kept_along promise keeps [] [] old new before after agree held run = run
+  kept_along promise keeps [] (r ∷ rs) old new before after agree held run = absurd run
+  kept_along promise keeps (c ∷ cs) [] old new before after agree held run = absurd run
+  kept_along promise keeps (c ∷ cs) (r ∷ rs) old new before after agree held run =
+      (run.0, run.1, run.2.step, keeps c r old run.0 before run.1 agree held run.2, kept_along promise keeps cs rs run.0 new run.1 after run.2.agree run.2.held run.3)
 
   pub holds_exactly : IsKept (HoldsExactly pool_name set_name)
   holds_exactly command reply old new before after agree held s = (s.held, s.count)
 
   pub keeps_limit : IsKept KeepsLimit
-  keeps_limit command reply old new before after agree held s = (s.load, s.limit)
+  keeps_limit command reply old new before after agree held s = (s.load, s.pool_load, s.limit)
 
   abbrev Steps : Command → Reply → Session L P S → Session L P S → Ledger → Ledger → Type 0
   Steps = StepsTo pool_name set_name counts mark
@@ -142,3 +144,14 @@ module _ {L P S : Type 0} (pool_name : P → ℕ) (set_name : S → ℕ) (counts
       go Cleanup BadLayout h = absurd h
       go Cleanup NoMemory h = absurd h
       go Cleanup Clean h = (refl, tt)
+
+  pub keeps_all : IsKept (KeepsAll pool_name set_name counts mark)
+  keeps_all command reply old new before after agree held s = record {
+    exactly = holds_exactly command reply old new before after agree held s;
+    handed_out = holds_what_is_out command reply old new before after agree held s;
+    one_by_one = frees_one_by_one command reply old new before after agree held s;
+    one_call_a_run = calls_once_a_run command reply old new before after agree held s;
+    limit = keeps_limit command reply old new before after agree held s;
+    cause = fails_for_cause command reply old new before after agree held s;
+    turned_down = turns_down_bad command reply old new before after agree held s;
+  }

@@ -7,7 +7,7 @@ use Rattle.gpu_descriptor.specs.Release.{released_each, singly}
 use Rattle.gpu_descriptor.specs.Requests.{call_of}
 use Rattle.gpu_descriptor.specs.Runs.{runs}
 use Rattle.gpu_descriptor.specs.Sets.{items_of}
-use Rattle.gpu_descriptor.specs.States.{marked_load_of, outstanding_of, state_of}
+use Rattle.gpu_descriptor.specs.States.{marked_load_of, pool_load_of, outstanding_of, state_of}
 use Rattle.gpu_descriptor.specs.Walk.{layout_key}
 use Rattle.gpu_descriptor.specs.declared.set.DescriptorSet.{DescriptorSet}
 use Rattle.descriptor_script.specs.Session.{AreAllHeld, allocator_of, layouts_of, sets_of}
@@ -70,9 +70,9 @@ module _ {L P S : Type 0} where
   abbrev pub HoldsWhatIsOut : Step L P S → Type 0
   HoldsWhatIsOut s = AreHeldAfter s.command s.reply (sets_of s.old) (sets_of s.new)
 
-  -- the marked load is at most the limit, and that is as it was
+  -- the marked load and the pool load are at most the limit, and that is as it was
   abbrev pub KeepsLimit : Step L P S → Type 0
-  KeepsLimit s = (marked_load_of (allocator_of s.new) ≤ (allocator_of s.new).limit) × ((allocator_of s.new).limit ≡ (allocator_of s.old).limit)
+  KeepsLimit s = (marked_load_of (allocator_of s.new) ≤ (allocator_of s.new).limit) × (pool_load_of (allocator_of s.new) ≤ (allocator_of s.new).limit) × ((allocator_of s.new).limit ≡ (allocator_of s.old).limit)
 
   -- where a layout or a ticket is bad is where it is said to be
   abbrev pub IsBadExactly : Command → Reply → Session L P S → Type 0
@@ -95,3 +95,14 @@ module _ {L P S : Type 0} (pool_name : P → ℕ) (counts : L → List ℕ) (mar
   -- a request that the allocator refused has a named cause
   abbrev pub FailsForCause : Step L P S → Type 0
   FailsForCause s = HasCauseIfRefused s.command s.reply s.old s.new s.before s.after
+
+module _ {L P S : Type 0} (pool_name : P → ℕ) (set_name : S → ℕ) (counts : L → List ℕ) (mark : L → Bool) where
+  -- all parts of the headline, at one step
+  pub record KeepsAll (s : Step L P S) : Type 0 where
+    pub exactly : HoldsExactly pool_name set_name s
+    pub handed_out : HoldsWhatIsOut s
+    pub one_by_one : FreesOneByOne pool_name set_name s
+    pub one_call_a_run : CallsOnceARun set_name s
+    pub limit : KeepsLimit s
+    pub cause : FailsForCause pool_name counts mark s
+    pub turned_down : TurnsDownBad s

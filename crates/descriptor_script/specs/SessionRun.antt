@@ -3,7 +3,7 @@ use Rattle.std.specs.Prelude.{◌≡◌, ℕ, ◌≤◌, Bool, List, [], ◌∷�
 use Rattle.gpu_descriptor_types.specs.Ledger.{Ledger}
 use Rattle.gpu_descriptor.specs.Books.{HasDistinctKeys}
 use Rattle.gpu_descriptor.specs.Foreign.{KeepsForeign}
-use Rattle.gpu_descriptor.specs.States.{Agrees, marked_load_of, outstanding_of, state_of, table_of}
+use Rattle.gpu_descriptor.specs.States.{Agrees, marked_load_of, pool_load_of, outstanding_of, state_of, table_of}
 use Rattle.descriptor_script.specs.Session.{AreAllHeld, allocator_of, layouts_of, sets_of}
 use Rattle.descriptor_script.specs.Steps.{StepsTo}
 use Rattle.descriptor_script.specs.Tickets.{held_sets}
@@ -28,6 +28,7 @@ module _ {L P S : Type 0} (pool_name : P → ℕ) (set_name : S → ℕ) (counts
     pub held : AreAllHeld set_name (sets_of new) (state_of pool_name (allocator_of new) after)
     pub count : length (held_sets (sets_of new)) ≡ outstanding_of (allocator_of new)
     pub load : marked_load_of (allocator_of new) ≤ (allocator_of new).limit
+    pub pool_load : pool_load_of (allocator_of new) ≤ (allocator_of new).limit
     pub limit : (allocator_of new).limit ≡ (allocator_of old).limit
     pub layouts : layouts_of new ≡ layouts_of old
     -- no key has two rows
@@ -42,10 +43,12 @@ module _ {L P S : Type 0} (pool_name : P → ℕ) (set_name : S → ℕ) (counts
   RunsTo (command ∷ commands) (reply ∷ replies) old new before after =
       (next : Session L P S) × (between : Ledger) × IsStep command reply old next before between × RunsTo commands replies next new between after
 
-  -- at whatever states a run comes by between its commands, the promise is kept at each command
-  abbrev pub AfterEach : (Step L P S → Type 0) → List Command → List Reply → Session L P S → Session L P S → Ledger → Ledger → Type 0
-  AfterEach promise [] replies old new before after = Unit {0}
-  AfterEach promise (command ∷ commands) [] old new before after = Unit {0}
-  AfterEach promise (command ∷ commands) (reply ∷ replies) old new before after =
-      (next : Session L P S) (between : Ledger) → IsStep command reply old next before between → RunsTo commands replies next new between after
-      → promise (record { command = command; reply = reply; old = old; new = next; before = before; after = between }) × AfterEach promise commands replies next new between after
+  -- there are states between the commands, from the first to the last: each comes of the one before it by a step, as the reply says, and at each the promise is kept
+  abbrev pub RunsKeeping : (Step L P S → Type 0) → List Command → List Reply → Session L P S → Session L P S → Ledger → Ledger → Type 0
+  RunsKeeping promise [] [] old new before after = (new ≡ old) × (after ≡ before)
+  RunsKeeping promise [] (reply ∷ replies) old new before after = ⊥
+  RunsKeeping promise (command ∷ commands) [] old new before after = ⊥
+  RunsKeeping promise (command ∷ commands) (reply ∷ replies) old new before after =
+      (next : Session L P S) × (between : Ledger) × StepsTo pool_name set_name counts mark command reply old next before between
+      × promise (record { command = command; reply = reply; old = old; new = next; before = before; after = between })
+      × RunsKeeping promise commands replies next new between after

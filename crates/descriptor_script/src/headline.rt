@@ -6,9 +6,9 @@ ghost use Rattle.std.specs.Prelude.{◌≡◌, IfOk, OnErr};
 ghost use Rattle.gpu_descriptor.specs.Books.{HasDistinctKeys};
 ghost use Rattle.gpu_descriptor.specs.Foreign.{KeepsForeign};
 ghost use Rattle.gpu_descriptor.specs.States.{Agrees, state_of, table_of};
-ghost use Rattle.descriptor_script.specs.Headline.{CallsOnceARun, FailsForCause, FreesOneByOne, HoldsExactly, HoldsWhatIsOut, KeepsLimit, TurnsDownBad};
+ghost use Rattle.descriptor_script.specs.Headline.{CallsOnceARun, FailsForCause, FreesOneByOne, HoldsExactly, HoldsWhatIsOut, KeepsAll, KeepsLimit, TurnsDownBad};
 ghost use Rattle.descriptor_script.specs.Session.{AreAllHeld, AreMeant, allocator_of, layouts_of, sets_of};
-ghost use Rattle.descriptor_script.specs.SessionRun.{AfterEach, RunsTo};
+ghost use Rattle.descriptor_script.specs.SessionRun.{RunsKeeping, RunsTo};
 
 use crate::{Command, Reply, Session};
 use gpu_descriptor::DescriptorDevice;
@@ -16,10 +16,10 @@ use std::alloc::AllocError;
 
 /// Runs commands as `Session::run` does. Its contract is the headline, a clause for each part.
 ///
-/// What `AfterEach` says holds after each command of the list, refused ones too. It follows from
-/// `runs`, which binds the body, and is there to be read. The conditions are
-/// those of `Session::run`: a session that was just made meets them, with layouts as the device
-/// means them, and each call leaves them met.
+/// What `RunsKeeping` says holds after each command of the list, refused ones too: there are states
+/// from the first to the last, each by a step from the one before, with the promise at each. The
+/// conditions are those of `Session::run`: a session that was just made meets them, with layouts as
+/// the device means them, and each call leaves them met.
 pub fn headline<L, P: Drop, S: Drop, D: DescriptorDevice<L, P, S>>(
     session: &mut Session<L, P, S>,
     device: &mut D,
@@ -34,22 +34,26 @@ pub fn headline<L, P: Drop, S: Drop, D: DescriptorDevice<L, P, S>>(
         commands.now replies.items session.old session.new (D.ledger device.old) (D.ledger device.new)) }
 
     // The pools hold exactly the sets that are held ..
-    ensures exactly { IfOk result (λ replies. AfterEach D.pool_name D.set_name D.layout_counts D.layout_mark (HoldsExactly D.pool_name D.set_name)
+    ensures exactly { IfOk result (λ replies. RunsKeeping D.pool_name D.set_name D.layout_counts D.layout_mark (HoldsExactly D.pool_name D.set_name)
         commands.now replies.items session.old session.new (D.ledger device.old) (D.ledger device.new)) }
 
     // .. and these are the sets that were handed out and not returned.
-    ensures handed_out { IfOk result (λ replies. AfterEach D.pool_name D.set_name D.layout_counts D.layout_mark HoldsWhatIsOut
+    ensures handed_out { IfOk result (λ replies. RunsKeeping D.pool_name D.set_name D.layout_counts D.layout_mark HoldsWhatIsOut
         commands.now replies.items session.old session.new (D.ledger device.old) (D.ledger device.new)) }
 
-    ensures one_by_one { IfOk result (λ replies. AfterEach D.pool_name D.set_name D.layout_counts D.layout_mark (FreesOneByOne D.pool_name D.set_name)
+    ensures one_by_one { IfOk result (λ replies. RunsKeeping D.pool_name D.set_name D.layout_counts D.layout_mark (FreesOneByOne D.pool_name D.set_name)
         commands.now replies.items session.old session.new (D.ledger device.old) (D.ledger device.new)) }
-    ensures one_call_a_run { IfOk result (λ replies. AfterEach D.pool_name D.set_name D.layout_counts D.layout_mark (CallsOnceARun D.set_name)
+    ensures one_call_a_run { IfOk result (λ replies. RunsKeeping D.pool_name D.set_name D.layout_counts D.layout_mark (CallsOnceARun D.set_name)
         commands.now replies.items session.old session.new (D.ledger device.old) (D.ledger device.new)) }
-    ensures limit { IfOk result (λ replies. AfterEach D.pool_name D.set_name D.layout_counts D.layout_mark KeepsLimit
+    ensures limit { IfOk result (λ replies. RunsKeeping D.pool_name D.set_name D.layout_counts D.layout_mark KeepsLimit
         commands.now replies.items session.old session.new (D.ledger device.old) (D.ledger device.new)) }
-    ensures cause { IfOk result (λ replies. AfterEach D.pool_name D.set_name D.layout_counts D.layout_mark (FailsForCause D.pool_name D.layout_counts D.layout_mark)
+    ensures cause { IfOk result (λ replies. RunsKeeping D.pool_name D.set_name D.layout_counts D.layout_mark (FailsForCause D.pool_name D.layout_counts D.layout_mark)
         commands.now replies.items session.old session.new (D.ledger device.old) (D.ledger device.new)) }
-    ensures turned_down { IfOk result (λ replies. AfterEach D.pool_name D.set_name D.layout_counts D.layout_mark TurnsDownBad
+    ensures turned_down { IfOk result (λ replies. RunsKeeping D.pool_name D.set_name D.layout_counts D.layout_mark TurnsDownBad
+        commands.now replies.items session.old session.new (D.ledger device.old) (D.ledger device.new)) }
+
+    // All these at the same states.
+    ensures together { IfOk result (λ replies. RunsKeeping D.pool_name D.set_name D.layout_counts D.layout_mark (KeepsAll D.pool_name D.set_name D.layout_counts D.layout_mark)
         commands.now replies.items session.old session.new (D.ledger device.old) (D.ledger device.new)) }
 
     // Without memory for the replies nothing is done.

@@ -72,7 +72,7 @@ fn limit_counts_marked_descriptors(rt: HostRuntime) -> Result<(), Fail> {
         Allocate(3, Ok(())),
         Allocate(1, Err(AllocationError::Fragmentation)),
         Origins(0, &[(0, 3)]),
-        Pools(&[(0, 3, 61)]),
+        Pools(&[(0, 3, 0)]),
         Device(1, 0, 1, 0),
         Held(3, 9),
     ];

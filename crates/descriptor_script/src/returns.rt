@@ -122,7 +122,7 @@ fn iterator_that_the_caller_keeps_is_emptied(rt: HostRuntime) -> Result<(), Fail
         Origins(0, &[(0, 3)]),
         Held(3, 9),
         FreeAll,
-        Pools(&[(0, 0, 64)]),
+        Pools(&[(0, 0, 3)]),
         Device(1, 0, 1, 1),
         Held(0, 0),
         Allocate(3, Ok(())),

@@ -1,7 +1,7 @@
 //! A session: commands on an allocator, whose sets are named by tickets.
 ghost use Rattle.std.specs.Prelude.{◌≡◌, ◌≤◌, ◌++◌, [], ◌∷◌, length, IfOk, IfErr, OnOk, OnErr};
 ghost use Rattle.std.specs.Option.{option_copied};
-ghost use Rattle.gpu_descriptor.specs.States.{marked_load_of, outstanding_of};
+ghost use Rattle.gpu_descriptor.specs.States.{marked_load_of, pool_load_of, outstanding_of};
 ghost use Rattle.descriptor_script.specs.Tickets.{held_sets, set_at};
 
 #[cfg(test)]
@@ -36,6 +36,7 @@ pub struct Session<L, P, S> {
     pub(crate) slots: Slots<S>,
     ghost counted: { slots.held ≡ outstanding_of allocator },
     ghost within: { marked_load_of allocator ≤ allocator.limit },
+    ghost in_room: { pool_load_of allocator ≤ allocator.limit },
 }
 
 impl<L, P, S> Session<L, P, S> {
@@ -44,7 +45,7 @@ impl<L, P, S> Session<L, P, S> {
     /// A session without layouts and sets, whose allocator has this limit on update-after-bind
     /// descriptors. It takes no memory.
     pub fn new(alloc: Global, max: u32) -> Self
-        ensures allocator { allocator_of result ≡ record { limit = max; table = [] } }
+        ensures allocator { allocator_of result ≡ record { limit = max; table = []; looks = 0; comparisons = 0 } }
         ensures layouts { layouts_of result ≡ [] }
         ensures sets { sets_of result ≡ [] }
     {

@@ -25,7 +25,7 @@ pub record IsReady (s : Session ScriptLayout RawPool RawSet) (l : Ledger) : Type
 -- no key came, and no set is held
 pub record IsNewSession (s : Session ScriptLayout RawPool RawSet) : Type 0 where
   pub limit : ℕ
-  pub allocator : allocator_of s ≡ record { limit = limit; table = [] }
+  pub allocator : allocator_of s ≡ record { limit = limit; table = []; looks = 0; comparisons = 0 }
   pub sets : sets_of s ≡ []
   pub meant : AreMeant (λ k. kinds k.counts) (λ k. k.mark) (layouts_of s)
 

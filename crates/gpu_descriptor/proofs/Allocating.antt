@@ -1,5 +1,5 @@
 -- A request that took sets is as the definitions say: kept whole, or given back.
-use Rattle.std.proofs.Common.{◌≡◌, ◌≢◌, ℕ, ◌+◌, ◌<◌, true, false, Some, List, [], ◌∷◌, length, arith, Result, Ok, Err, refl, sym, ap, ◌∙◌, subst}
+use Rattle.std.proofs.Common.{◌≡◌, ◌≢◌, ℕ, ◌+◌, ◌-◌, ◌<◌, true, false, Some, List, [], ◌∷◌, length, arith, Result, Ok, Err, refl, sym, ap, ◌∙◌, subst}
 use Rattle.std.proofs.lemmas.List.{length-map}
 use Rattle.std.specs.Prelude.{OnOk, IfErr}
 use Rattle.gpu_descriptor_types.specs.Ledger.{Ledger, Counters, alloc_refused, create_refused}
@@ -17,14 +17,14 @@ use Rattle.gpu_descriptor.specs.Grants.{Grant, items_in, granted}
 use Rattle.gpu_descriptor.specs.Grow.{IsTakenAll, IsTakenUpTo, IsGrowStopped, refusal_answer, stop_rise}
 use Rattle.gpu_descriptor.specs.Load.{marked_load}
 use Rattle.gpu_descriptor.specs.Outcomes.{Allocates, Call, Proceeds, IsBack, no_rise, risen, grant_rise, rollback_rise}
-use Rattle.gpu_descriptor.specs.Outcomes.Allocates.{done, stopped_at_pool, stopped_at_create, stopped_for_memory, stopped_at_fresh}
+use Rattle.gpu_descriptor.specs.Outcomes.Allocates.{done, stopped_at_pool, stopped_without_room, stopped_at_create, stopped_for_memory, stopped_at_fresh}
 use Rattle.gpu_descriptor.specs.OtherKeys.{IsUntouched, KeepsOtherKeys}
 use Rattle.gpu_descriptor.specs.Promises.{AreOfKey, AreOutBesides, KeepsOutstanding}
 use Rattle.gpu_descriptor.specs.Release.{released, given_back, pools_gone}
 use Rattle.gpu_descriptor.specs.Requests.{call_of, Takes}
 use Rattle.gpu_descriptor.specs.Runs.{runs}
 use Rattle.gpu_descriptor.specs.Sets.{item_of, items_of}
-use Rattle.gpu_descriptor.specs.States.{Agrees, state_of, table_of, keys_of, outstanding_of, marked_load_of}
+use Rattle.gpu_descriptor.specs.States.{Agrees, state_of, table_of, keys_of, outstanding_of, marked_load_of, pool_load_of}
 use Rattle.gpu_descriptor.specs.Values.{Allocations}
 use Rattle.gpu_descriptor.specs.Walk.{KeepsKey, HasTaken, IsWalkStopped, with_pools}
 use Rattle.gpu_descriptor.proofs.KeepState.{keeps_agree, keeps_given, keeps_outstanding}
@@ -34,18 +34,18 @@ use Rattle.gpu_descriptor.proofs.Kept.{takes}
 use Rattle.gpu_descriptor.proofs.OtherKeys.{release_others, untouched_twice}
 use Rattle.gpu_descriptor.proofs.Promises.{grant_many}
 use Rattle.gpu_descriptor.proofs.Meets.{is_done, stopped_state, stopped_at_state}
-use Rattle.gpu_descriptor.proofs.Requested.{load_is, out_is}
+use Rattle.gpu_descriptor.proofs.Requested.{load_is, pool_load_is, out_is}
 use Rattle.gpu_descriptor.proofs.Rollback.{give_back_rise, alloc_rise, only_key, keys_table, unnamed_key, load_of_items}
 use Rattle.gpu_descriptor.proofs.Loads.{load_at}
 
 -- what a request took keeps the key's part of the agreement, wherever it stopped
-keeps_up_to : (why : Refusal) (k : Key) (n first : ℕ) (items : List Item) (old new : List Entry) (l m : Ledger) → IsTakenUpTo why k n first items old new l m → KeepsKey k first items old new l.pools m.pools
-keeps_up_to (refusal.Existing error) k n first items old new l m s = subst (KeepsKey k first items old new l.pools) (sym s.pools) s.walked.keeps
-keeps_up_to (refusal.New why) k n first items old new l m s = subst (KeepsKey k first items old new l.pools) (sym s.stopped.pools) s.keeps
+keeps_up_to : (why : Refusal) (k : Key) (room n first : ℕ) (items : List Item) (old new : List Entry) (l m : Ledger) → IsTakenUpTo why k room n first items old new l m → KeepsKey k first items old new l.pools m.pools
+keeps_up_to (refusal.Existing error) k room n first items old new l m s = subst (KeepsKey k first items old new l.pools) (sym s.pools) s.walked.keeps
+keeps_up_to (refusal.New why) k room n first items old new l m s = subst (KeepsKey k first items old new l.pools) (sym s.stopped.pools) s.keeps
 
-keeps_taken : (taken : Result (Unit {0}) Refusal) (k : Key) (n first : ℕ) (items : List Item) (old new : List Entry) (l m : Ledger) → OnOk taken (IsTakenAll k n first items old new l m) → IfErr taken (λ why. IsTakenUpTo why k n first items old new l m) → KeepsKey k first items old new l.pools m.pools
-keeps_taken (Ok x) k n first items old new l m all stopped = all.keeps
-keeps_taken (Err why) k n first items old new l m all stopped = keeps_up_to why k n first items old new l m stopped
+keeps_taken : (taken : Result (Unit {0}) Refusal) (k : Key) (room n first : ℕ) (items : List Item) (old new : List Entry) (l m : Ledger) → OnOk taken (IsTakenAll k room n first items old new l m) → IfErr taken (λ why. IsTakenUpTo why k room n first items old new l m) → KeepsKey k first items old new l.pools m.pools
+keeps_taken (Ok x) k room n first items old new l m all stopped = all.keeps
+keeps_taken (Err why) k room n first items old new l m all stopped = keeps_up_to why k room n first items old new l m stopped
 
 module _ {P S : Type 0} (name : P → ℕ) (set_name : S → ℕ) (k : Key) (count : ℕ) (sets : List (DescriptorSet S)) (taken : Result (Unit {0}) Refusal) (old new : Allocations P) (before after : Ledger)
     (t : Takes name set_name k count sets taken old new before after) (agree : Agrees name old before) where
@@ -55,8 +55,12 @@ module _ {P S : Type 0} (name : P → ℕ) (set_name : S → ℕ) (k : Key) (cou
   abbrev items : List Item
   items = items_of set_name sets
 
+  -- what the limit leaves
+  abbrev room : ℕ
+  room = old.limit - pool_load_of old
+
   keeps : KeepsKey k (s.books k).first items (s.books k).pools t.pools s.ledger after.pools
-  keeps = keeps_taken taken k count (s.books k).first items (s.books k).pools t.pools before after t.done t.stopped
+  keeps = keeps_taken taken k room count (s.books k).first items (s.books k).pools t.pools before after t.done t.stopped
 
   -- books and ledger agree after it
   pub taken_agree : Agrees name new after
@@ -133,21 +137,24 @@ module _ {P S : Type 0} (name : P → ℕ) (set_name : S → ℕ) (k : Key) (cou
           back = is_back st.walked.grant (alloc_refused error no_rise) _ st.before st.walked.came st.walked.taken now.0 (now.1 ∙ alloc_rise error _);
         })
 
-    back_from_new : (why : Stop) → IsGrowStopped why k count (s.books k).first items (s.books k).pools t.pools before after → Allocates (call (refusal_answer (refusal.New why)))
+    back_from_new : (why : Stop) → IsGrowStopped why k room count (s.books k).first items (s.books k).pools t.pools before after → Allocates (call (refusal_answer (refusal.New why)))
+    back_from_new stop.Room st =
+        let now = stopped_state k room count stop.Room s t.pools items before after refl st in
+        stopped_without_room (proceeds some last final _) (record { grant = st.grant; front = record { all = st.all; load = pool_load_of old; is_load = pool_load_is name old before t.distinct; front = st.front }; no_room = st.in_room; back = is_back st.grant no_rise _ st.before st.came st.taken now.0 now.1 })
     back_from_new stop.Books st =
-        let now = stopped_state k count stop.Books s t.pools items before after refl st in
-        stopped_for_memory (proceeds some last final _) (record { grant = st.grant; front = record { all = st.all; front = st.front }; back = is_back st.grant no_rise _ st.before st.came st.taken now.0 now.1 })
+        let now = stopped_state k room count stop.Books s t.pools items before after refl st in
+        stopped_for_memory (proceeds some last final _) (record { grant = st.grant; front = record { all = st.all; load = pool_load_of old; is_load = pool_load_is name old before t.distinct; front = st.front }; room = st.in_room; back = is_back st.grant no_rise _ st.before st.came st.taken now.0 now.1 })
     back_from_new (stop.Create error) st =
-        let now = stopped_state k count (stop.Create error) s t.pools items before after refl st in
-        stopped_at_create (proceeds some last final _) (record { grant = st.grant; front = record { all = st.all; front = st.front }; error = error; back = is_back st.grant (create_refused error no_rise) _ st.before st.came st.taken now.0 now.1 })
+        let now = stopped_state k room count (stop.Create error) s t.pools items before after refl st in
+        stopped_at_create (proceeds some last final _) (record { grant = st.grant; front = record { all = st.all; load = pool_load_of old; is_load = pool_load_is name old before t.distinct; front = st.front }; room = st.in_room; error = error; back = is_back st.grant (create_refused error no_rise) _ st.before st.came st.taken now.0 now.1 })
     back_from_new (stop.Fresh error) st =
-        let now = stopped_state k count (stop.Fresh error) s t.pools items before after refl st in
-        stopped_at_fresh (proceeds some last final _) (record { grant = st.grant; front = record { all = st.all; front = st.front }; error = error; back = is_back st.grant (stop_rise (stop.Fresh error)) _ st.before st.came st.taken now.0 now.1 })
+        let now = stopped_state k room count (stop.Fresh error) s t.pools items before after refl st in
+        stopped_at_fresh (proceeds some last final _) (record { grant = st.grant; front = record { all = st.all; load = pool_load_of old; is_load = pool_load_is name old before t.distinct; front = st.front }; room = st.in_room; error = error; back = is_back st.grant (stop_rise (stop.Fresh error)) _ st.before st.came st.taken now.0 now.1 })
 
     pub went_back : (why : Refusal) → taken ≡ Err why → Allocates (call (refusal_answer why))
-    went_back why is = by_why why (subst (λ (r : Result (Unit {0}) Refusal). IfErr r (λ w. IsTakenUpTo w k count (s.books k).first items (s.books k).pools t.pools before after)) is t.stopped)
+    went_back why is = by_why why (subst (λ (r : Result (Unit {0}) Refusal). IfErr r (λ w. IsTakenUpTo w k room count (s.books k).first items (s.books k).pools t.pools before after)) is t.stopped)
       where
-        by_why : (why : Refusal) → IsTakenUpTo why k count (s.books k).first items (s.books k).pools t.pools before after → Allocates (call (refusal_answer why))
+        by_why : (why : Refusal) → IsTakenUpTo why k room count (s.books k).first items (s.books k).pools t.pools before after → Allocates (call (refusal_answer why))
         by_why (refusal.Existing error) st = back_from_pool error st
         by_why (refusal.New why) st = back_from_new why st
 
@@ -183,8 +190,8 @@ module _ {P S : Type 0} (name : P → ℕ) (set_name : S → ℕ) (k : Key) (cou
 
   pub kept_many : (x : Unit {0}) → taken ≡ Ok x → length sets ≡ count
   kept_many x is =
-      let all = subst (λ (r : Result (Unit {0}) Refusal). OnOk r (IsTakenAll k count (s.books k).first items (s.books k).pools t.pools before after)) is t.done in
-      let many = grant_many k count _ (s.books k) all.grant all.taken.parts all.all all.fresh in
+      let all = subst (λ (r : Result (Unit {0}) Refusal). OnOk r (IsTakenAll k room count (s.books k).first items (s.books k).pools t.pools before after)) is t.done in
+      let many = grant_many k count _ _ (s.books k) all.grant all.taken.parts all.all all.fresh in
       let same = ap length all.came in
       let long = length-map sets (λ (x : DescriptorSet S). item_of set_name x) in
       omega arith
@@ -196,5 +203,5 @@ module _ {P S : Type 0} (name : P → ℕ) (set_name : S → ℕ) (k : Key) (cou
 
   pub kept : 0 < count → (x : Unit {0}) → taken ≡ Ok x → Allocates (call_of name k count old new before after (Ok items))
   kept some x is =
-      let all = subst (λ (r : Result (Unit {0}) Refusal). OnOk r (IsTakenAll k count (s.books k).first items (s.books k).pools t.pools before after)) is t.done in
-      done (proceeds some new after _) (is_done _ t.pools items before after refl refl t.state refl all (ap Ok (sym all.came)))
+      let all = subst (λ (r : Result (Unit {0}) Refusal). OnOk r (IsTakenAll k room count (s.books k).first items (s.books k).pools t.pools before after)) is t.done in
+      done (proceeds some new after _) (is_done _ t.pools items before after refl refl t.state refl (pool_load_of old) (pool_load_is name old before t.distinct) all (ap Ok (sym all.came)))

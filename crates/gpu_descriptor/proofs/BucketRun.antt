@@ -17,6 +17,7 @@ use Rattle.gpu_descriptor.specs.Release.{entry_less, pool_less}
 use Rattle.gpu_descriptor.specs.Stored.{entry_of}
 use Rattle.gpu_descriptor.proofs.LedgerPools.{taken_from, with_pool_same, with_pool_other, size_minus, only_these}
 use Rattle.gpu_descriptor.proofs.Turns.{bucket}
+use Rattle.gpu_descriptor.proofs.Sized.{size_of}
 
 -- what stands in a list with one place changed
 pub set_cases : {A : Type 0} (es : List A) (i : ℕ) (y : A) (j : ℕ) (d : A) → slice_get (set es i y) j ≡ Some d → ((j ≡ i) × (d ≡ y)) ⊎ ((j ≢ i) × (slice_get es j ≡ Some d))
@@ -37,9 +38,9 @@ read_at name (x ∷ items) (suc i) q lt is = read_at name items i q (omega arith
 
 -- the place after the counts moved
 pub changed_at : {P : Type 0} (name : P → ℕ) (items : List (DescriptorPool P)) (i : ℕ) (q : DescriptorPool P) (raw : P) (m n : ℕ) → name raw ≡ name q.raw → m ≡ n
-    → map (entry_of name) (set items i (record { raw = raw; allocated = q.allocated - m; available = q.available + m })) ≡ set (map (entry_of name) items) i (entry_less n (entry_of name q))
+    → map (entry_of name) (set items i (record { raw = raw; capacity = q.capacity; allocated = q.allocated - m; available = q.available + m })) ≡ set (map (entry_of name) items) i (entry_less n (entry_of name q))
 changed_at name [] i q raw m n same e = refl
-changed_at name (x ∷ items) zero q raw m n same e = λ j. record { pool = same j; allocated = q.allocated - e j; free = q.available + e j } ∷ map (entry_of name) items
+changed_at name (x ∷ items) zero q raw m n same e = λ j. record { pool = same j; capacity = q.capacity; allocated = q.allocated - e j; free = q.available + e j } ∷ map (entry_of name) items
 changed_at name (x ∷ items) (suc i) q raw m n same e = ap (λ (l : List Entry). entry_of name x ∷ l) (changed_at name items i q raw m n same e)
 
 -- what a run may take of the place
@@ -100,7 +101,7 @@ stored_after k first es pools i e ls stored at within =
             let booked = stored.each i e at in
             let pool = booked.pool in
             let live : (x : LiveSet) → times ls x ≤ pool.live x = λ x. (let is : live_in pools e.pool x ≡ pool.live x = rw booked.is_live refl in let less = within x in omega arith) in
-            let size = size_minus pool.live e.allocated ls booked.booked.allocated live in
+            let size = size_minus pool.live e.allocated ls (size_of booked.booked) live in
             let room = booked.booked.room in
             let fits = size.0 in
             let after : Pool = pool_less (times ls) pool in
@@ -108,9 +109,10 @@ stored_after k first es pools i e ls stored at within =
               flags = booked.booked.flags;
               at_least = booked.booked.at_least;
               small = booked.booked.small;
+              capacity = booked.booked.capacity;
               counts = booked.booked.counts;
               sets = λ x some. booked.booked.sets x (omega arith);
-              allocated = size.1;
+              allocated = ∣ size.1 ∣₁;
               room = omega arith;
               full = λ none. (let whole = booked.booked.full none in omega arith);
             } in
@@ -147,19 +149,19 @@ length_names k names = length-map names (λ (name : ℕ). record { name = name; 
 
 -- the sets that go back are no longer counted
 pub total_less : {P : Type 0} (items : List (DescriptorPool P)) (i : ℕ) (q : DescriptorPool P) (raw : P) (m : ℕ) → i < length items → q ≡ get_or items i q → m ≤ q.allocated
-    → (m ≤ allocated_in items) × (allocated_in (set items i (record { raw = raw; allocated = q.allocated - m; available = q.available + m })) + m ≡ allocated_in items)
+    → (m ≤ allocated_in items) × (allocated_in (set items i (record { raw = raw; capacity = q.capacity; allocated = q.allocated - m; available = q.available + m })) + m ≡ allocated_in items)
 total_less [] i q raw m lt is fits = absurd (omega arith)
 total_less {P = P} (x ∷ items) zero q raw m lt is fits =
     let e : q.allocated ≡ x.allocated = ap (λ (p : DescriptorPool P). p.allocated) is in
     let old : allocated_in (x ∷ items) ≡ x.allocated + allocated_in items = sum_by-cons (λ (p : DescriptorPool P). p.allocated) x items in
-    let y : DescriptorPool P = record { raw = raw; allocated = q.allocated - m; available = q.available + m } in
+    let y : DescriptorPool P = record { raw = raw; capacity = q.capacity; allocated = q.allocated - m; available = q.available + m } in
     let new : allocated_in (y ∷ items) ≡ y.allocated + allocated_in items = sum_by-cons (λ (p : DescriptorPool P). p.allocated) y items in
     (omega arith, omega arith)
 total_less {P = P} (x ∷ items) (suc i) q raw m lt is fits =
     let rest = total_less items i q raw m (omega arith) is fits in
     let a = rest.0 in
     let b = rest.1 in
-    let y : DescriptorPool P = record { raw = raw; allocated = q.allocated - m; available = q.available + m } in
+    let y : DescriptorPool P = record { raw = raw; capacity = q.capacity; allocated = q.allocated - m; available = q.available + m } in
     let old : allocated_in (x ∷ items) ≡ x.allocated + allocated_in items = sum_by-cons (λ (p : DescriptorPool P). p.allocated) x items in
     let new : allocated_in (x ∷ set items i y) ≡ x.allocated + allocated_in (set items i y) = sum_by-cons (λ (p : DescriptorPool P). p.allocated) x (set items i y) in
     (omega arith, omega arith)

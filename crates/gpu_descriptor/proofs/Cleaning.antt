@@ -14,6 +14,7 @@ use Rattle.gpu_descriptor_types.proofs.Counting.{set_exact, count_by_yes, any_fo
 use Rattle.gpu_descriptor.proofs.Exact.{key_exact}
 use Rattle.gpu_descriptor.proofs.Places.{outstanding_at, outstanding_found, size_pos}
 use Rattle.gpu_descriptor.proofs.Kept.{front_found, cases_option}
+use Rattle.gpu_descriptor.proofs.Sized.{size_of}
 
 front_yes : (x : Entry) (es : List Entry) → is_empty x ≡ true → prefix_len is_empty (x ∷ es) ≡ suc (prefix_len is_empty es)
 front_yes x es h = rw h (omega arith)
@@ -102,7 +103,7 @@ whole_front s agree nothing k =
           let one : set_of t ≡ x = λ j. record { name = x.name; counts = sym counts j } in
           ap booked.0.live (sym one) ∙ sym (outstanding_at s t e booked.0 here booked.1) ∙ nothing t)
     ] in
-    eq-eqb e.allocated 0 (none_live booked.0.live e.allocated booked.2.allocated zero_live))
+    eq-eqb e.allocated 0 (none_live booked.0.live e.allocated (size_of booked.2) zero_live))
 
 pub nothing_left : CleanAll
 nothing_left s t agree nothing clean k = elim (cleaned_cases (s.books k)) [
@@ -205,7 +206,7 @@ takes_none s t agree clean x = elim (cases_option (entry_at (t.books x.key) x.nu
             let booked = agree.booked x.key x.number e here.1 in
             let live : live_in s.ledger e.pool (set_of x) ≡ booked.0.live (set_of x) = rw booked.1 refl in
             let above = here.2 in
-            let some : 0 < e.allocated = size_pos booked.0.live e.allocated (set_of x) booked.2.allocated (omega arith) in
+            let some : 0 < e.allocated = size_pos booked.0.live e.allocated (set_of x) (size_of booked.2) (omega arith) in
             let there = still_there (s.books x.key) x.number e here.1 (ne_eqb e.allocated 0 (λ bad. omega arith)) in
             absurd (let bad : ◌≡◌ {A = Option Entry} None (Some e) = sym missing ∙ ap (λ (b : Bucket). entry_at b x.number) (clean.books x.key) ∙ there in cc))
       ])

@@ -81,7 +81,7 @@ pub entry_less-less : (a c : ℕ) (e : Entry) → entry_less c (entry_less a e) 
 entry_less-less a c e =
     let allocated : e.allocated - a - c ≡ e.allocated - (a + c) = omega arith in
     let free : e.free + a + c ≡ e.free + (a + c) = omega arith in
-    λ i. record { pool = e.pool; allocated = allocated i; free = free i }
+    λ i. record { pool = e.pool; capacity = e.capacity; allocated = allocated i; free = free i }
 
 pub less-less : (f g : ℕ → ℕ) (b : Bucket) → bucket_less g (bucket_less f b) ≡ bucket_less (λ p. f p + g p) b
 less-less f g b = λ i. record { first = b.first; pools = each b.pools i }

@@ -1,5 +1,5 @@
 -- The new pools of a request, as far as it has come.
-use Rattle.std.proofs.Common.{◌≡◌, ◌≢◌, ℕ, suc, ◌+◌, ◌-◌, ◌<◌, inl, inr, List, [], ◌∷◌, ◌++◌, length, map, Bool, true, false, cond, ◌||◌, ◌==◌, nat_eq, Option, Some, None, refl, sym, ap, ◌∙◌, subst, arith, eqb-true, eq-eqb, append_assoc, length-append}
+use Rattle.std.proofs.Common.{◌≡◌, ◌≢◌, ℕ, zero, suc, take, drop, ◌+◌, ◌-◌, ◌<◌, inl, inr, List, [], ◌∷◌, ◌++◌, length, map, Bool, true, false, cond, ◌||◌, ◌==◌, nat_eq, Option, Some, None, refl, sym, ap, ◌∙◌, subst, arith, eqb-true, eq-eqb, append_assoc, length-append}
 use Rattle.std.proofs.Math.Path.{fun_ext}
 use Rattle.std.proofs.lemmas.Bool.{cases_Bool, eqb-false}
 use Rattle.std.proofs.lemmas.List.{map-append, append-nil, length-map}
@@ -12,19 +12,20 @@ use Rattle.std.specs.Map.{update}
 use Rattle.std.specs.Prelude.{if◌then◌else◌, option_map}
 use Rattle.gpu_descriptor.specs.Agreement.{Item, flags_of}
 use Rattle.gpu_descriptor.specs.Books.{Key, Entry}
-use Rattle.gpu_descriptor.specs.FreshPools.{Fresh, fresh_portions, fresh_entry, given_by, AreSized, AreFull, AreNew, IsFreshFront, IsFreshList}
+use Rattle.gpu_descriptor.specs.FreshPools.{Fresh, fresh_portions, fresh_entry, given_by, IsNextSize, room_after, AreSized, AreFull, AreNew, IsFreshFront, IsFreshList}
 use Rattle.gpu_descriptor.specs.Grants.{Grant, Part, items_at, items_in, portion_of, came, pool_with, ledger_with, entries_with, fresh_or}
-use Rattle.gpu_descriptor.specs.Grow.{IsGrown, IsNotGrown, IsTakenAll, IsGrowStopped}
-use Rattle.gpu_descriptor.specs.Load.{held}
+use Rattle.gpu_descriptor.specs.Grow.{IsGrown, IsNotGrown, StopsInRoom, IsTakenAll, IsGrowStopped}
+use Rattle.gpu_descriptor.specs.Load.{held, pool_load, entries_load}
 use Rattle.gpu_descriptor.specs.Outcomes.{no_rise, risen, grant_rise}
 use Rattle.gpu_descriptor.specs.Shares.{offer, rest, share, shared, all_shared, Portion, portions_of}
 use Rattle.gpu_descriptor.specs.Buckets.{AreBookedIn}
 use Rattle.gpu_descriptor.specs.Walk.{HasTaken, KeepsKey, IsWalked}
 use Rattle.gpu_descriptor_types.specs.Ledger.{Pool, Ledger, Counters, live_sets, changed, on_pool}
-use Rattle.gpu_descriptor_types.specs.PoolSize.{pool_counts, IsPoolSize}
+use Rattle.gpu_descriptor_types.specs.PoolSize.{pool_counts}
 use Rattle.gpu_descriptor_types.specs.Ledger as ledgers
 use Rattle.gpu_descriptor.specs.FreshPools as grants
 use Rattle.gpu_descriptor.specs.declared.take.Stop.{Stop}
+use Rattle.gpu_descriptor.proofs.NextSize.{room_more}
 use Rattle.gpu_descriptor.proofs.KeepSteps.{keeps_grown}
 use Rattle.gpu_descriptor.proofs.Asks.{same_counters}
 use Rattle.gpu_descriptor.proofs.Shares.{IsApart, apart_from, not_refused}
@@ -33,16 +34,17 @@ use Rattle.gpu_descriptor.proofs.Steps.{part, came_more}
 abbrev pub all_so_far : (ℕ → Bool) → List Fresh → List Part → Grant
 all_so_far refused fresh parts = record { left = 0; refused = refused; fresh = fresh; parts = parts }
 
-pub record Growing (k : Key) (n first total wanting : ℕ) (items : List Item) (old new : List Entry) (l m : Ledger) : Type 0 where
+pub record Growing (k : Key) (start n first room total wanting : ℕ) (items : List Item) (old new : List Entry) (l m : Ledger) : Type 0 where
   pub refused : ℕ → Bool
   pub parts : List Part
   pub fresh : List Fresh
   pub came : items_in k parts ≡ items
   pub totals : total ≡ held (all_shared refused n old) + given_by fresh
   pub wants : wanting + given_by fresh ≡ rest refused n old
-  pub sized : AreSized k.counts (held (all_shared refused n old)) (rest refused n old) fresh
+  pub sized : AreSized k start (held (all_shared refused n old)) (rest refused n old) fresh
+  pub room_now : room ≡ room_after k start fresh
   pub full : 0 < wanting → AreFull fresh
-  pub list : wanting ≡ 0 → IsFreshList k.counts (held (all_shared refused n old)) (rest refused n old) fresh
+  pub list : wanting ≡ 0 → IsFreshList k start (held (all_shared refused n old)) (rest refused n old) fresh
   pub keeps : KeepsKey k first items old new l.pools m.pools
   pub taken : HasTaken k n first (all_so_far refused fresh parts) old new l m
 
@@ -51,8 +53,8 @@ length-all_shared refused n [] = refl
 length-all_shared refused n (e ∷ es) = ap suc (length-all_shared refused n es)
 
 -- there is one pool more for each new one
-pub grown_long : (k : Key) (n first total wanting : ℕ) (items : List Item) (old new : List Entry) (l m : Ledger) → (s : Growing k n first total wanting items old new l m) → length new ≡ length old + length s.fresh
-grown_long k n first total wanting items old new l m s =
+pub grown_long : (k : Key) (start n first room total wanting : ℕ) (items : List Item) (old new : List Entry) (l m : Ledger) → (s : Growing k start n first room total wanting items old new l m) → length new ≡ length old + length s.fresh
+grown_long k start n first room total wanting items old new l m s =
     ap length s.taken.entries
     ∙ length-append (all_shared s.refused n old) (map fresh_entry s.fresh)
     ∙ (let a = length-all_shared s.refused n old in let b = length-map s.fresh fresh_entry in omega arith)
@@ -133,20 +135,21 @@ new_more pools (h ∷ fs) f new none at = by_test (h.pool == f.pool) refl none (
 given_more : (fs : List Fresh) (f : Fresh) → given_by (fs ++ f ∷ []) ≡ given_by fs + f.given
 given_more fs f = sum_by-append (λ (f : Fresh). f.given) fs (f ∷ []) ∙ (let one : given_by (f ∷ []) ≡ f.given = omega arith in omega arith)
 
-sized_more : (counts : List ℕ) (t w : ℕ) (fs : List Fresh) (f : Fresh) → AreSized counts t w fs → IsPoolSize counts (t + given_by fs) (w - given_by fs) f.size → AreSized counts t w (fs ++ f ∷ [])
-sized_more counts t w [] f all one = ((let a : t + given_by [] ≡ t = omega arith in let b : w - given_by [] ≡ w = omega arith in subst (λ (x : ℕ). IsPoolSize counts x w f.size) a (subst (λ (x : ℕ). IsPoolSize counts (t + given_by []) x f.size) b one)), tt)
-sized_more counts t w (h ∷ fs) f all one =
+sized_more : (k : Key) (room t w : ℕ) (fs : List Fresh) (f : Fresh) → AreSized k room t w fs → IsNextSize k (room_after k room fs) (t + given_by fs) (w - given_by fs) f.size → AreSized k room t w (fs ++ f ∷ [])
+sized_more k room t w [] f all one = ((let a : t + given_by [] ≡ t = omega arith in let b : w - given_by [] ≡ w = omega arith in subst (λ (x : ℕ). IsNextSize k room x w f.size) a (subst (λ (x : ℕ). IsNextSize k room (t + given_by []) x f.size) b one)), tt)
+sized_more k room t w (h ∷ fs) f all one =
     let s = sum_by-cons (λ (f : Fresh). f.given) h fs in
+    let left : ℕ = room_after k (room - pool_load k h.size) fs in
     let a : t + given_by (h ∷ fs) ≡ t + h.given + given_by fs = omega arith in
     let b : w - given_by (h ∷ fs) ≡ w - h.given - given_by fs = omega arith in
-    (all.0, sized_more counts (t + h.given) (w - h.given) fs f all.1 (subst (λ (x : ℕ). IsPoolSize counts x (w - h.given - given_by fs) f.size) a (subst (λ (x : ℕ). IsPoolSize counts (t + given_by (h ∷ fs)) x f.size) b one)))
+    (all.0, sized_more k (room - pool_load k h.size) (t + h.given) (w - h.given) fs f all.1 (subst (λ (x : ℕ). IsNextSize k left x (w - h.given - given_by fs) f.size) a (subst (λ (x : ℕ). IsNextSize k left (t + given_by (h ∷ fs)) x f.size) b one)))
 
 full_more : (fs : List Fresh) (f : Fresh) → AreFull fs → f.given ≡ f.size → AreFull (fs ++ f ∷ [])
 full_more [] f all one = (one, tt)
 full_more (h ∷ fs) f all one = (all.0, full_more fs f all.1 one)
 
-module _ (k : Key) (n first total wanting : ℕ) (items : List Item) (old new new' : List Entry) (l m m' : Ledger) (more : List ℕ)
-    (booked : AreBookedIn k l.pools old) (s : Growing k n first total wanting items old new l m) (a : IsGrown k total wanting more new new' m m') where
+module _ (k : Key) (start n first room left total wanting : ℕ) (items : List Item) (old new new' : List Entry) (l m m' : Ledger) (more : List ℕ)
+    (booked : AreBookedIn k l.pools old) (s : Growing k start n first room total wanting items old new l m) (a : IsGrown k room left total wanting more new new' m m') where
   abbrev f : Fresh
   f = a.pool
 
@@ -224,16 +227,16 @@ module _ (k : Key) (n first total wanting : ℕ) (items : List Item) (old new ne
       let long = length-append s.fresh (f ∷ []) in
       a.counters ∙ up ∙ same_counters _ _ (omega arith) (omega arith) (omega arith) (omega arith) (omega arith) (omega arith) (omega arith) (omega arith)
 
-  sized_now : AreSized k.counts (held (all_shared s.refused n old)) (rest s.refused n old) fresh_now
+  sized_now : AreSized k start (held (all_shared s.refused n old)) (rest s.refused n old) fresh_now
   sized_now =
       let w : wanting ≡ rest s.refused n old - given_by s.fresh = (let x = s.wants in omega arith) in
-      sized_more k.counts (held (all_shared s.refused n old)) (rest s.refused n old) s.fresh f s.sized (subst (λ (x : ℕ). IsPoolSize k.counts x (rest s.refused n old - given_by s.fresh) f.size) s.totals (subst (λ (x : ℕ). IsPoolSize k.counts total x f.size) w a.size))
+      sized_more k start (held (all_shared s.refused n old)) (rest s.refused n old) s.fresh f s.sized (subst (λ (x : ℕ). IsNextSize k (room_after k start s.fresh) x (rest s.refused n old - given_by s.fresh) f.size) s.totals (subst (λ (x : ℕ). IsNextSize k (room_after k start s.fresh) total x f.size) w (subst (λ (x : ℕ). IsNextSize k x total wanting f.size) s.room_now a.size)))
 
-  pub grow_more : (total' wanting' : ℕ) → 0 < wanting → total' ≡ total + length more → wanting' + length more ≡ wanting → Growing k n first total' wanting' (items ++ items_at k (first + length old + length s.fresh) more) old new' l m'
+  pub grow_more : (total' wanting' : ℕ) → 0 < wanting → total' ≡ total + length more → wanting' + length more ≡ wanting → Growing k start n first left total' wanting' (items ++ items_at k (first + length old + length s.fresh) more) old new' l m'
   grow_more total' wanting' some totals' less =
       let all = given_more s.fresh f in
       let g = a.given in
-      let number : first + length new ≡ first + length old + length s.fresh = (let long = grown_long k n first total wanting items old new l m s in omega arith) in
+      let number : first + length new ≡ first + length old + length s.fresh = (let long = grown_long k start n first room total wanting items old new l m s in omega arith) in
       record {
         refused = s.refused;
         parts = parts_now;
@@ -242,8 +245,9 @@ module _ (k : Key) (n first total wanting : ℕ) (items : List Item) (old new ne
         totals = (let t = s.totals in let y = many in omega arith);
         wants = (let w = s.wants in let y = many in omega arith);
         sized = sized_now;
+        room_now = (let r = s.room_now in let more = room_more k start s.fresh f in let less = a.less in omega arith);
         full = λ still. full_more s.fresh f (s.full some) (let y = many in omega arith);
-        keeps = subst (λ (n : ℕ). KeepsKey k first (items ++ items_at k n more) old new' l.pools m'.pools) number (keeps_grown k first total wanting items old new new' l.pools more m m' s.keeps a);
+        keeps = subst (λ (n : ℕ). KeepsKey k first (items ++ items_at k n more) old new' l.pools m'.pools) number (keeps_grown k first room left total wanting items old new new' l.pools more m m' s.keeps a);
         list = λ none. grants.some s.fresh f refl (record { sized = s.sized; full = s.full some; short = (let w = s.wants in omega arith) }) sized_now (omega arith) (let w = s.wants in let y = many in omega arith);
         taken = record {
           refusing = s.taken.refusing;
@@ -255,8 +259,8 @@ module _ (k : Key) (n first total wanting : ℕ) (items : List Item) (old new ne
         };
       }
 
-pub grow_start : (k : Key) (n first total wanting : ℕ) (items : List Item) (old new : List Entry) (l m : Ledger) → (w : IsWalked k n first 0 items old new l m) → wanting ≡ rest w.grant.refused n old → total ≡ held old + (n - wanting) → Growing k n first total wanting items old new l m
-grow_start k n first total wanting items old new l m w wants totals =
+pub grow_start : (k : Key) (start n first total wanting : ℕ) (items : List Item) (old new : List Entry) (l m : Ledger) → (w : IsWalked k n first 0 items old new l m) → wanting ≡ rest w.grant.refused n old → total ≡ held old + (n - wanting) → Growing k start n first start total wanting items old new l m
+grow_start k start n first total wanting items old new l m w wants totals =
     let grant : w.grant ≡ all_so_far w.grant.refused [] w.grant.parts = (λ i. record { left = w.from i; refused = w.grant.refused; fresh = w.no_fresh i; parts = w.grant.parts }) in
     record {
       refused = w.grant.refused;
@@ -266,14 +270,15 @@ grow_start k n first total wanting items old new l m w wants totals =
       totals = (let h = held_shared w.grant.refused n old in let none : given_by [] ≡ 0 = omega arith in omega arith);
       wants = (let none : given_by [] ≡ 0 = omega arith in omega arith);
       sized = tt;
+      room_now = refl;
       full = λ some. tt;
       keeps = w.keeps;
       list = λ none. grants.none (omega arith) refl;
       taken = subst (λ (g : Grant). HasTaken k n first g old new l m) grant w.taken;
     }
 
-pub grow_end : (k : Key) (n first total : ℕ) (items : List Item) (old new : List Entry) (l m : Ledger) → Growing k n first total 0 items old new l m → IsTakenAll k n first items old new l m
-grow_end k n first total items old new l m s = record {
+pub grow_end : (k : Key) (start n first room total : ℕ) (items : List Item) (old new : List Entry) (l m : Ledger) → Growing k start n first room total 0 items old new l m → IsTakenAll k start n first items old new l m
+grow_end k start n first room total items old new l m s = record {
   grant = all_so_far s.refused s.fresh s.parts;
   all = refl;
   came = s.came;
@@ -282,8 +287,8 @@ grow_end k n first total items old new l m s = record {
   taken = s.taken;
 }
 
-pub grow_stop : (why : Stop) (k : Key) (n first total wanting : ℕ) (items : List Item) (old new : List Entry) (l m m' : Ledger) → 0 < wanting → Growing k n first total wanting items old new l m → IsNotGrown why m m' → IsGrowStopped why k n first items old new l m'
-grow_stop why k n first total wanting items old new l m m' some s none = record {
+pub grow_stop : (why : Stop) (k : Key) (start n first room total wanting : ℕ) (items : List Item) (old new : List Entry) (l m m' : Ledger) → 0 < wanting → Growing k start n first room total wanting items old new l m → IsNotGrown why m m' → StopsInRoom why k room → IsGrowStopped why k start n first items old new l m'
+grow_stop why k start n first room total wanting items old new l m m' some s none in_room = record {
   grant = all_so_far s.refused s.fresh s.parts;
   all = refl;
   came = s.came;
@@ -292,4 +297,34 @@ grow_stop why k n first total wanting items old new l m m' some s none = record 
   keeps = s.keeps;
   taken = s.taken;
   stopped = none;
+  in_room = subst (StopsInRoom why k) s.room_now in_room;
 }
+
+-- ---- the descriptors of a key's pools, as a request goes on
+
+pub load_more : (k : Key) (es : List Entry) (f : Fresh) → entries_load k (es ++ fresh_entry f ∷ []) ≡ entries_load k es + pool_load k f.size
+load_more k es f = sum_by-append (λ (e : Entry). pool_load k e.capacity) es (fresh_entry f ∷ []) ∙ (let one : entries_load k (fresh_entry f ∷ []) ≡ pool_load k f.size = omega arith in omega arith)
+
+load_shared : (k : Key) (refused : ℕ → Bool) (n : ℕ) (es : List Entry) → entries_load k (all_shared refused n es) ≡ entries_load k es
+load_shared k refused n [] = refl
+load_shared k refused n (e ∷ newer) =
+    let a = sum_by-cons (λ (x : Entry). pool_load k x.capacity) (shared refused n newer e) (all_shared refused n newer) in
+    let b = sum_by-cons (λ (x : Entry). pool_load k x.capacity) e newer in
+    let ih = load_shared k refused n newer in
+    omega arith
+
+load_split : (k : Key) (refused : ℕ → Bool) (n i : ℕ) (es : List Entry) → entries_load k (take i es ++ all_shared refused n (drop i es)) ≡ entries_load k es
+load_split k refused n zero es = load_shared k refused n es
+load_split k refused n (suc i) [] = refl
+load_split k refused n (suc i) (e ∷ es) =
+    let a = sum_by-cons (λ (x : Entry). pool_load k x.capacity) e (take i es ++ all_shared refused n (drop i es)) in
+    let b = sum_by-cons (λ (x : Entry). pool_load k x.capacity) e es in
+    let ih = load_split k refused n i es in
+    omega arith
+
+-- a walk leaves it
+pub load_walked : (k : Key) (n first : ℕ) (g : Grant) (old new : List Entry) (l m : Ledger) → HasTaken k n first g old new l m → g.fresh ≡ [] → entries_load k new ≡ entries_load k old
+load_walked k n first g old new l m taken none =
+    let shares : List Entry = take g.left old ++ all_shared g.refused n (drop g.left old) in
+    let all : new ≡ shares ++ [] = taken.entries ∙ ap (λ fs. shares ++ map fresh_entry fs) none in
+    ap (entries_load k) (all ∙ append-nil shares) ∙ load_split k g.refused n g.left old

@@ -6,10 +6,14 @@ use Rattle.std.proofs.lemmas.Map.{update_here}
 use Rattle.std.specs.Map.{update}
 use Rattle.gpu_descriptor.specs.Agreement.{flags_of}
 use Rattle.gpu_descriptor.specs.Books.{Key, Entry}
+use Rattle.gpu_descriptor.specs.FreshPools.{IsNextSize}
+use Rattle.gpu_descriptor.specs.Load.{pool_load}
 use Rattle.gpu_descriptor.specs.Grow.{IsGrown, IsNotGrown, stop_rise}
 use Rattle.gpu_descriptor.specs.Outcomes.{risen}
-use Rattle.gpu_descriptor_types.specs.Ledger.{Pool, Ledger, Counters, HasRoom, HasNoSets, live_sets, changed, fresh, after_create, after_alloc, after_no_alloc, after_destroy, alloc_refused, pool_refusals}
-use Rattle.gpu_descriptor_types.specs.PoolSize.{pool_counts, IsPoolSize}
+use Rattle.gpu_descriptor_types.specs.Ledger.{Pool, Ledger, Counters, HasRoom, HasNoSets, live_sets, changed, fresh, after_create, after_no_create, after_alloc, after_no_alloc, after_destroy, create_refused, alloc_refused, pool_refusals}
+use Rattle.gpu_descriptor_types.specs.declared.errors.CreatePoolError.{CreatePoolError}
+use Rattle.gpu_descriptor_types.specs.declared.errors.CreatePoolError.TheVariants as create_error
+use Rattle.gpu_descriptor_types.specs.PoolSize.{pool_counts}
 use Rattle.gpu_descriptor_types.specs.declared.errors.DeviceAllocationError.{DeviceAllocationError}
 use Rattle.gpu_descriptor_types.specs.declared.errors.DeviceAllocationError.TheVariants as alloc_error
 use Rattle.gpu_descriptor.specs.declared.take.Stop.TheVariants as stop
@@ -39,11 +43,11 @@ no_sets k size name error m m' at is =
       empty = λ x. refl;
     }
 
-pub grown : (k : Key) (total wanted size name : ℕ) (names : List ℕ) (old new : List Entry) (l m m' : Ledger) → IsPoolSize k.counts total wanted size → 1 ≤ size → length names ≡ min size wanted → l.pools name ≡ None → m ≡ after_create (pool_counts k.counts size) size (flags_of k) name l → m' ≡ after_alloc name (live_sets k.counts names) m → new ≡ old ++ record { pool = name; allocated = min size wanted; free = size - min size wanted } ∷ [] → IsGrown k total wanted names old new l m'
-grown k total wanted size name names old new l m m' sized some many none made is now = record {
+pub grown : (k : Key) (room left total wanted size name : ℕ) (names : List ℕ) (old new : List Entry) (l m m' : Ledger) → IsNextSize k room total wanted size → left + pool_load k size ≡ room → length names ≡ min size wanted → l.pools name ≡ None → m ≡ after_create (pool_counts k.counts size) size (flags_of k) name l → m' ≡ after_alloc name (live_sets k.counts names) m → new ≡ old ++ record { pool = name; capacity = size; allocated = min size wanted; free = size - min size wanted } ∷ [] → IsGrown k room left total wanted names old new l m'
+grown k room left total wanted size name names old new l m m' sized less many none made is now = record {
   pool = record { pool = name; size = size; given = min size wanted };
   size = sized;
-  some = some;
+  less = less;
   given = refl;
   many = many;
   is_new = none;
@@ -71,3 +75,31 @@ not_grown k size name error l m m' m'' none made refused gone = record {
     at : (b : Bool) (q : ℕ) → nat_eq name q ≡ b → cond b None (cond b (changed (λ (pool : Pool). record pool { refusals = pool.refusals + pool_refusals error }) (update nat_eq l.pools name (Some (fresh (pool_counts k.counts size) size (flags_of k))) name)) (cond b (Some (fresh (pool_counts k.counts size) size (flags_of k))) (l.pools q))) ≡ l.pools q
     at true q h = sym none ∙ ap l.pools (eqb-true name q h)
     at false q h = refl
+
+-- no pool was created
+create_counters : (error : CreatePoolError) (n : Counters) → create_refused error n ≡ risen (stop_rise (stop.Create error)) n
+create_counters create_error.OutOfDeviceMemory n = same_counters _ _ (omega arith) (omega arith) (omega arith) (omega arith) (omega arith) (omega arith) (omega arith) (omega arith)
+create_counters create_error.OutOfHostMemory n = same_counters _ _ (omega arith) (omega arith) (omega arith) (omega arith) (omega arith) (omega arith) (omega arith) (omega arith)
+create_counters create_error.Fragmentation n = same_counters _ _ (omega arith) (omega arith) (omega arith) (omega arith) (omega arith) (omega arith) (omega arith) (omega arith)
+
+pub not_created : (error : CreatePoolError) (l m : Ledger) → m ≡ after_no_create error l → IsNotGrown (stop.Create error) l m
+not_created error l m is = record {
+  pools = ap (λ (x : Ledger). x.pools) is;
+  counters = ap (λ (x : Ledger). x.counters) is ∙ create_counters error l.counters;
+}
+
+-- nothing was asked of the device
+pub not_begun : (l : Ledger) → IsNotGrown stop.Books l l
+not_begun l = record { pools = refl; counters = same_counters _ _ (omega arith) (omega arith) (omega arith) (omega arith) (omega arith) (omega arith) (omega arith) (omega arith) }
+
+-- how often pools were asked
+pub create_asked : (error : CreatePoolError) (n : Counters) → (create_refused error n).asked ≡ n.asked
+create_asked create_error.OutOfDeviceMemory n = refl
+create_asked create_error.OutOfHostMemory n = refl
+create_asked create_error.Fragmentation n = refl
+
+pub alloc_asked : (error : DeviceAllocationError) (n : Counters) → (alloc_refused error n).asked ≡ n.asked + 1
+alloc_asked alloc_error.OutOfDeviceMemory n = refl
+alloc_asked alloc_error.OutOfHostMemory n = refl
+alloc_asked alloc_error.FragmentedPool n = refl
+alloc_asked alloc_error.OutOfPoolMemory n = refl

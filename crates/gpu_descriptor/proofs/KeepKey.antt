@@ -16,6 +16,7 @@ use Rattle.gpu_descriptor.specs.Load.{held}
 use Rattle.gpu_descriptor.specs.Buckets.{IsBookedIn}
 use Rattle.gpu_descriptor.specs.Walk.{IsAsked}
 use Rattle.gpu_descriptor.proofs.Exact.{item_exact, item_from}
+use Rattle.gpu_descriptor.proofs.Sized.{size_of}
 
 -- a set that stands among sets of these counts has them
 pub counts_of_live : (counts names : List ℕ) (x : LiveSet) → 0 < times (live_sets counts names) x → x.counts ≡ counts
@@ -28,21 +29,22 @@ counts_of_live counts (n ∷ names) x some =
     ]
 
 -- the pool once sets of the key came out of it, and it may have refused
-pub pool_booked : (k : Key) (pool : Pool) (e f : Entry) (names : List ℕ) (refused : Bool) → IsAsBooked k pool e → f.allocated ≡ e.allocated + length names → f.allocated + f.free ≤ e.allocated + e.free → (refused ≡ false → f.allocated + f.free ≡ e.allocated + e.free) → IsAsBooked k (pool_with (live_sets k.counts names) refused pool) f
-pool_booked k pool e f names refused b more room whole = record {
+pub pool_booked : (k : Key) (pool : Pool) (e f : Entry) (names : List ℕ) (refused : Bool) → IsAsBooked k pool e → f.capacity ≡ e.capacity → f.allocated ≡ e.allocated + length names → f.allocated + f.free ≤ e.allocated + e.free → (refused ≡ false → f.allocated + f.free ≡ e.allocated + e.free) → IsAsBooked k (pool_with (live_sets k.counts names) refused pool) f
+pool_booked k pool e f names refused b same more room whole = let size = size_of b in record {
   flags = b.flags;
   at_least = b.at_least;
   small = b.small;
+  capacity = same ∙ b.capacity;
   counts = b.counts;
   sets = λ x some. elim (cases_lt 0 (pool.live x)) [
     | inl was ↦ b.sets x was
     | inr none ↦ counts_of_live k.counts names x (omega arith)
   ];
-  allocated = (
-    b.allocated.0 ++ live_sets k.counts names,
-    (let a = length-append b.allocated.0 (live_sets k.counts names) in let n = length-map names (λ (n : ℕ). let s : LiveSet = record { name = n; counts = k.counts } in s) in let was = b.allocated.1 in omega arith),
-    (λ x. times-append b.allocated.0 (live_sets k.counts names) x ∙ ap (λ n. n + times (live_sets k.counts names) x) (b.allocated.2 x)),
-  );
+  allocated = ∣ (
+    size.0 ++ live_sets k.counts names,
+    (let a = length-append size.0 (live_sets k.counts names) in let n = length-map names (λ (n : ℕ). let s : LiveSet = record { name = n; counts = k.counts } in s) in let was = size.1 in omega arith),
+    (λ x. times-append size.0 (live_sets k.counts names) x ∙ ap (λ n. n + times (live_sets k.counts names) x) (size.2 x)),
+  ) ∣₁;
   room = (let r = b.room in omega arith);
   full = by_test refused whole;
 }
@@ -65,7 +67,7 @@ asked_booked k wanted names e f l m b a =
     record {
       pool = pool_with (live_sets k.counts names) a.refused b.pool;
       is_live = ap m.pools name ∙ ap (λ (x : ℕ → Option Pool). x e.pool) a.pools ∙ on_pool_here e.pool (pool_with (live_sets k.counts names) a.refused) l.pools b.pool b.is_live;
-      booked = pool_booked k b.pool e f names a.refused b.booked allocated (below a.refused (length names) wanted f.free many free allocated) (λ off. whole off many free allocated);
+      booked = pool_booked k b.pool e f names a.refused b.booked (ap (λ (x : Entry). x.capacity) a.entry) allocated (below a.refused (length names) wanted f.free many free allocated) (λ off. whole off many free allocated);
     }
   where
     below : (r : Bool) (given wanted rest : ℕ) → given ≡ min (if r then 0 else e.free) wanted → rest ≡ (if r then 0 else e.free) - given → f.allocated ≡ e.allocated + given → f.allocated + rest ≤ e.allocated + e.free

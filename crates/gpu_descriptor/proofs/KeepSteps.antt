@@ -13,7 +13,7 @@ use Rattle.gpu_descriptor_types.specs.Ledger.{Pool, Ledger, live_sets, changed, 
 use Rattle.gpu_descriptor_types.specs.Multiset.{LiveSet, times}
 use Rattle.gpu_descriptor_types.specs.PoolSize.{pool_counts}
 use Rattle.gpu_descriptor_types.proofs.Counting.{count_by-append}
-use Rattle.gpu_descriptor_types.proofs.Sizes.{pool_size_small}
+use Rattle.gpu_descriptor.proofs.NextSize.{next_small}
 use Rattle.gpu_descriptor.specs.Books.{Key, Entry}
 use Rattle.gpu_descriptor.specs.Agreement.{Item, item_eq, set_of, count_of, live_in, flags_of, IsAsBooked}
 use Rattle.gpu_descriptor.specs.FreshPools.{fresh_entry}
@@ -145,8 +145,8 @@ any_end q es x none = (before es none, λ same. not_any q (es ++ x ∷ []) (leng
     before [] h = refl
     before (e ∷ es) h = (let both = or_parts (e.pool == q) (list_any (λ d. d.pool == q) (es ++ x ∷ [])) h in or_from (e.pool == q) (list_any (λ d. d.pool == q) es) both.0 (before es both.1))
 
-module _ (k : Key) (first total wanted : ℕ) (items : List Item) (old new new' : List Entry) (before : ℕ → Option Pool) (names : List ℕ) (l m : Ledger)
-    (s : KeepsKey k first items old new before l.pools) (g : IsGrown k total wanted names new new' l m) where
+module _ (k : Key) (first room left total wanted : ℕ) (items : List Item) (old new new' : List Entry) (before : ℕ → Option Pool) (names : List ℕ) (l m : Ledger)
+    (s : KeepsKey k first items old new before l.pools) (g : IsGrown k room left total wanted names new new' l m) where
   abbrev x : Entry
   x = fresh_entry g.pool
 
@@ -173,23 +173,24 @@ module _ (k : Key) (first total wanted : ℕ) (items : List Item) (old new new' 
 
   booked_x : IsBookedIn k m.pools x
   booked_x =
-      let empty : Entry = record { pool = g.pool.pool; allocated = 0; free = g.pool.size } in
+      let empty : Entry = record { pool = g.pool.pool; capacity = g.pool.size; allocated = 0; free = g.pool.size } in
       let many = g.many in
       let given = g.given in
       let base : IsAsBooked k made empty = record {
         flags = refl;
-        at_least = g.some;
-        small = pool_size_small k.counts total wanted g.pool.size g.size;
+        at_least = g.size.some;
+        small = next_small k room total wanted g.pool.size g.size;
+        capacity = refl;
         counts = refl;
         sets = λ y some. absurd (omega arith);
-        allocated = ([], refl, λ y. refl);
+        allocated = ∣ ([], refl, λ y. refl) ∣₁;
         room = omega arith;
         full = λ none. (let e : 0 + g.pool.size ≡ g.pool.size = omega arith in e);
       } in
       record {
         pool = pool_with (live_sets k.counts names) false made;
         is_live = now_there;
-        booked = pool_booked k made empty x names false base (omega arith) (omega arith) (λ off. omega arith);
+        booked = pool_booked k made empty x names false base refl (omega arith) (omega arith) (λ off. omega arith);
       }
 
   booked_grown : AreBookedIn k m.pools (new ++ x ∷ [])

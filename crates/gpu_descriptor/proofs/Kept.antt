@@ -15,6 +15,7 @@ use Rattle.gpu_descriptor_types.proofs.Counting.{counts_alike, count_by-append, 
 use Rattle.gpu_descriptor.proofs.Exact.{item_exact}
 use Rattle.gpu_descriptor.proofs.Places.{outstanding_found, back, back_named, back_named-is, part_fits, size_less, outstanding_at, entry_at-less, some_before, front_of, released_books, was_there, kept}
 use Rattle.gpu_descriptor.proofs.Parts.{goes, names_key, any_key, parts}
+use Rattle.gpu_descriptor.proofs.Sized.{size_of}
 
 -- a pool in the front stands at a place before its end
 pub front_found : (es : List Entry) (n pool : ℕ) → list_any (λ e. e.pool == pool) (take n es) ≡ true → (j : ℕ) × (e : Entry) × (j < n) × (slice_get es j ≡ Some e) × (e.pool ≡ pool)
@@ -79,7 +80,7 @@ agrees m s agree out = record {
       let booked = agree.booked k i d was.1 in
       let pool = booked.0 in
       let is = booked.2 in
-      let left = size_less pool.live d.allocated (lies_in s.books d.pool) m is.allocated (part_fits m s agree out k i d pool was.1 booked.1) in
+      let left = size_less pool.live d.allocated (lies_in s.books d.pool) m (size_of is) (part_fits m s agree out k i d pool was.1 booked.1) in
       let here : entry_at ((released m s).books k) i ≡ Some (entry_less (back m s d.pool) d) = at ∙ ap Some (sym was.2) in
       let fits = left.0 in
       let room = is.room in
@@ -88,11 +89,12 @@ agrees m s agree out = record {
         pool_less (back_named m s d.pool) pool,
         ledger_after m s agree k i (entry_less (back m s d.pool) d) pool here booked.1,
         record {
-          allocated = left.1;
+          allocated = ∣ left.1 ∣₁;
           room = (let e : d.allocated - back m s d.pool + (d.free + back m s d.pool) ≤ pool.capacity = omega arith in e);
           flags = is.flags;
           at_least = is.at_least;
           small = is.small;
+          capacity = is.capacity;
           counts = is.counts;
           sets = λ x lt. is.sets x (omega arith);
           full = λ none. (let whole = is.full none in let e : d.allocated - back m s d.pool + (d.free + back m s d.pool) ≡ pool.capacity = omega arith in e);
@@ -163,7 +165,7 @@ none_back s =
     let same : (e : Entry) → entry_less 0 e ≡ e = λ e.
     let allocated : e.allocated - 0 ≡ e.allocated = omega arith in
     let free : e.free + 0 ≡ e.free = omega arith in
-    λ i. record { pool = e.pool; allocated = allocated i; free = free i } in
+    λ i. record { pool = e.pool; capacity = e.capacity; allocated = allocated i; free = free i } in
     let books : (released [] s).books ≡ s.books = fun_ext (λ k. λ i. record { first = (s.books k).first; pools = map_same (λ e. entry_less 0 e) same (s.books k).pools i }) in
     let ledger : (released [] s).ledger ≡ s.ledger = fun_ext (λ pool. pool_same (s.ledger pool)) in
     λ i. record { books = books i; ledger = ledger i }
@@ -220,7 +222,7 @@ given_agrees m s agree out =
           let booked = agree.booked k i d had.1 in
           let pool = booked.0 in
           let is = booked.2 in
-          let left = size_less pool.live d.allocated (lies_in s.books d.pool) m is.allocated (part_fits m s agree out k i d pool had.1 booked.1) in
+          let left = size_less pool.live d.allocated (lies_in s.books d.pool) m (size_of is) (part_fits m s agree out k i d pool had.1 booked.1) in
           let fits = left.0 in
           let room = is.room in
           let P : Entry → Type 0 = λ x. (p : Pool) × ((given_back m s).ledger x.pool ≡ Some p) × IsAsBooked k p x in
@@ -228,11 +230,12 @@ given_agrees m s agree out =
             pool_less (back_named m s d.pool) pool,
             ap (option_map (pool_less (back_named m s d.pool))) booked.1,
             record {
-              allocated = left.1;
+              allocated = ∣ left.1 ∣₁;
               room = (let e : d.allocated - back m s d.pool + (d.free + back m s d.pool) ≤ pool.capacity = omega arith in e);
               flags = is.flags;
               at_least = is.at_least;
               small = is.small;
+            capacity = is.capacity;
               counts = is.counts;
               sets = λ x lt. is.sets x (omega arith);
               full = λ none. (let whole = is.full none in let e : d.allocated - back m s d.pool + (d.free + back m s d.pool) ≡ pool.capacity = omega arith in e);
@@ -250,5 +253,5 @@ has_place m s agree out t in_m =
     let found = outstanding_found s t 0 (omega arith) in
     let e = found.0 in
     let booked = agree.booked t.key t.number e found.1 in
-    let left = size_less booked.0.live e.allocated (lies_in s.books e.pool) m booked.2.allocated (part_fits m s agree out t.key t.number e booked.0 found.1 booked.1) in
+    let left = size_less booked.0.live e.allocated (lies_in s.books e.pool) m (size_of booked.2) (part_fits m s agree out t.key t.number e booked.0 found.1 booked.1) in
     (e, found.1, booked.0, booked.1, booked.2, left.0)

@@ -48,9 +48,9 @@ module _ {P S : Type 0} (name : P → ℕ) (set_name : S → ℕ) (a : Allocatio
       here : RunsInto (key_of x.key) x.number (names_of set_name (x ∷ xs)) ((state_of name a l).books (key_of x.key)) l (bucket_of name w) after
       here = subst (λ b. RunsInto (key_of x.key) x.number (names_of set_name (x ∷ xs)) b l (bucket_of name w) after) (sym (at_key (Some bucket) found)) into
 
-      pub row_ran : (limit : ℕ) (fs : List (BucketKey × DescriptorBucket P)) → fs ≡ set_value test es w → state_of name (record { limit = limit; table = map row_of fs }) after ≡ released (items_of set_name (x ∷ xs)) (state_of name a l)
+      pub row_ran : (limit : ℕ) (fs : List (BucketKey × DescriptorBucket P)) → fs ≡ set_value test es w → state_of name (record { limit = limit; table = map row_of fs; looks = 0; comparisons = 0 }) after ≡ released (items_of set_name (x ∷ xs)) (state_of name a l)
       row_ran limit fs wrote =
-          let new : Allocations P = record { limit = limit; table = map row_of fs } in
+          let new : Allocations P = record { limit = limit; table = map row_of fs; looks = 0; comparisons = 0 } in
           let s = state_of name a l in
           let k = key_of x.key in
           let into = here in

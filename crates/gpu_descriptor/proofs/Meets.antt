@@ -1,5 +1,5 @@
 -- What was taken from one key's pools is what the definitions say of the whole.
-use Rattle.std.proofs.Common.{◌≡◌, ℕ, List, Bool, true, false, Option, Ok, refl, sym, ap, ◌∙◌, subst}
+use Rattle.std.proofs.Common.{◌≡◌, ℕ, ◌-◌, List, Bool, true, false, Option, Ok, refl, sym, ap, ◌∙◌, subst}
 use Rattle.std.proofs.Math.Path.{fun_ext}
 use Rattle.std.specs.Prelude.{if◌then◌else◌}
 use Rattle.gpu_descriptor.proofs.Exact.{key_exact}
@@ -8,6 +8,7 @@ use Rattle.gpu_descriptor.specs.Books.{Key, key_eq, Entry, Bucket}
 use Rattle.gpu_descriptor.specs.FreshPools.{AreNew}
 use Rattle.gpu_descriptor.specs.Grants.{Grant, items_in, granted, entries_with, ledger_with}
 use Rattle.gpu_descriptor.specs.Grow.{IsTakenAll, IsGrowStopped, stop_rise}
+use Rattle.gpu_descriptor.specs.Load.{IsPoolLoad}
 use Rattle.gpu_descriptor.specs.Outcomes.{Call, IsDone, risen, grant_rise}
 use Rattle.gpu_descriptor.specs.Walk.{with_pools, HasTaken, IsWalkStopped}
 use Rattle.gpu_descriptor_types.specs.Ledger.{Pool, Ledger, alloc_refused}
@@ -23,8 +24,10 @@ granted_is k n g s new l m same taken = λ i. record { books = fun_ext (λ q. at
 
 -- a request that took all is done
 pub is_done : (c : Call) (new : List Entry) (items : List Item) (l m : Ledger) → c.old.ledger ≡ l.pools → c.before ≡ l.counters → c.new ≡ with_pools c.request.key new m.pools c.old → c.after ≡ m.counters
-    → (t : IsTakenAll c.request.key c.request.count (c.old.books c.request.key).first items (c.old.books c.request.key).pools new l m) → c.answer ≡ Ok (items_in c.request.key t.grant.parts) → IsDone c
-is_done c new items l m ledger before now after t answer = record {
+    → (load : ℕ) → IsPoolLoad c.old load → (t : IsTakenAll c.request.key (c.request.limit - load) c.request.count (c.old.books c.request.key).first items (c.old.books c.request.key).pools new l m) → c.answer ≡ Ok (items_in c.request.key t.grant.parts) → IsDone c
+is_done c new items l m ledger before now after load is_load t answer = record {
+  load = load;
+  is_load = is_load;
   grant = t.grant;
   taken = record { refusing = t.taken.refusing; parts = t.taken.parts; new = subst (λ (f : ℕ → Option Pool). AreNew f t.grant.fresh) (sym ledger) t.taken.is_new };
   all = t.all;
@@ -35,9 +38,9 @@ is_done c new items l m ledger before now after t answer = record {
 }
 
 -- a request that stopped at a new pool has, before the sets go back, what the definitions say it took
-pub stopped_state : (k : Key) (n : ℕ) (why : Stop) (s : State) (new : List Entry) (items : List Item) (l m : Ledger) → s.ledger ≡ l.pools → (t : IsGrowStopped why k n (s.books k).first items (s.books k).pools new l m)
+pub stopped_state : (k : Key) (room n : ℕ) (why : Stop) (s : State) (new : List Entry) (items : List Item) (l m : Ledger) → s.ledger ≡ l.pools → (t : IsGrowStopped why k room n (s.books k).first items (s.books k).pools new l m)
     → (with_pools k new m.pools s ≡ granted k n t.grant s) × (m.counters ≡ risen (stop_rise why) (risen (grant_rise n t.grant (s.books k).pools) l.counters))
-stopped_state k n why s new items l m ledger t = (
+stopped_state k room n why s new items l m ledger t = (
   ap (λ (p : ℕ → Option Pool). with_pools k new p s) t.stopped.pools ∙ granted_is k n t.grant s new l t.before ledger t.taken,
   t.stopped.counters ∙ ap (risen (stop_rise why)) t.taken.counters,
 )

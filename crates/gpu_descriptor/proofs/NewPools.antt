@@ -7,7 +7,6 @@ use Rattle.std.proofs.lemmas.List.{length-map, map-append, take_at, drop_at}
 use Rattle.std.proofs.lemmas.List.Elements.{All-nil, All-cons, All-append, All-same}
 use Rattle.std.proofs.lemmas.List.Sums.{sum_by-cons}
 use Rattle.std.proofs.lemmas.Option.{slice_get-map}
-use Rattle.gpu_descriptor_types.proofs.Sizes.{pool_size_below}
 use Rattle.gpu_descriptor_types.specs.Ledger.{Pool, Counters, live_sets, fresh}
 use Rattle.gpu_descriptor_types.specs.Multiset.{set_eq}
 use Rattle.gpu_descriptor_types.specs.PoolSize.{pool_counts}
@@ -17,7 +16,7 @@ use Rattle.gpu_descriptor.specs.Books.{Key, key_eq, Entry, Bucket, entry_at, nex
 use Rattle.gpu_descriptor.specs.FreshPools.{Fresh, AreNew, AreSized, AreFull, IsFreshList, given_by, fresh_entry}
 use Rattle.gpu_descriptor.specs.FreshPools.IsFreshList.{none as no_fresh, some as some_fresh}
 use Rattle.gpu_descriptor.specs.Grants.{Grant, items_in, came, granted, entries_with, fresh_or, pool_with}
-use Rattle.gpu_descriptor.specs.Load.{held}
+use Rattle.gpu_descriptor.specs.Load.{held, pool_load}
 use Rattle.gpu_descriptor.specs.Outcomes.{Call, IsBack, IsDone, IsFront, out_then, wanting}
 use Rattle.gpu_descriptor.specs.Promises.{AreBelowTwice, HasNewPools}
 use Rattle.gpu_descriptor.specs.Release.{released, given_back, pool_less, lies_in, in_front, spent_front, bucket_less}
@@ -25,6 +24,7 @@ use Rattle.gpu_descriptor.specs.Shares.{offer, rest, shared, all_shared}
 use Rattle.gpu_descriptor.proofs.Exact.{key_exact}
 use Rattle.gpu_descriptor.proofs.Fronts.{entry_at-found, slice_get-drop}
 use Rattle.gpu_descriptor.proofs.Growing.{held_shared, length-all_shared}
+use Rattle.gpu_descriptor.proofs.NextSize.{next_below}
 use Rattle.gpu_descriptor.proofs.Places.{back, front_of, released_books, was_there}
 
 abbrev pub sizes_of : List Fresh → List ℕ
@@ -39,24 +39,24 @@ later_below total wanted f sizes full few below =
     let left : wanted - f.given ≡ wanted - f.size = omega arith in
     subst (λ n. AreBelowTwice n (wanted - f.size) sizes) out (subst (λ n. AreBelowTwice (total + f.given) n sizes) left below)
 
-front_below : (counts : List ℕ) (total wanted : ℕ) (pools : List Fresh) → AreSized counts total wanted pools → AreFull pools → given_by pools < wanted → AreBelowTwice total wanted (sizes_of pools)
-front_below counts total wanted [] sized full short = tt
-front_below counts total wanted (f ∷ pools) sized full short =
+front_below : (k : Key) (room total wanted : ℕ) (pools : List Fresh) → AreSized k room total wanted pools → AreFull pools → given_by pools < wanted → AreBelowTwice total wanted (sizes_of pools)
+front_below k room total wanted [] sized full short = tt
+front_below k room total wanted (f ∷ pools) sized full short =
     let sum = sum_by-cons (λ (g : Fresh). g.given) f pools in
-    let later = front_below counts (total + f.given) (wanted - f.given) pools sized.1 full.1 (omega arith) in
-    (omega arith, pool_size_below counts total wanted f.size sized.0, later_below total wanted f (sizes_of pools) full.0 (omega arith) later)
+    let later = front_below k (room - pool_load k f.size) (total + f.given) (wanted - f.given) pools sized.1 full.1 (omega arith) in
+    (omega arith, next_below k room total wanted f.size sized.0, later_below total wanted f (sizes_of pools) full.0 (omega arith) later)
 
-list_below : (counts : List ℕ) (total wanted : ℕ) (front : List Fresh) (last : Fresh) → AreSized counts total wanted (front ++ last ∷ []) → AreFull front → given_by front < wanted → AreBelowTwice total wanted (sizes_of (front ++ last ∷ []))
-list_below counts total wanted [] last sized full short = (omega arith, pool_size_below counts total wanted last.size sized.0, tt)
-list_below counts total wanted (f ∷ front) last sized full short =
+list_below : (k : Key) (room total wanted : ℕ) (front : List Fresh) (last : Fresh) → AreSized k room total wanted (front ++ last ∷ []) → AreFull front → given_by front < wanted → AreBelowTwice total wanted (sizes_of (front ++ last ∷ []))
+list_below k room total wanted [] last sized full short = (omega arith, next_below k room total wanted last.size sized.0, tt)
+list_below k room total wanted (f ∷ front) last sized full short =
     let sum = sum_by-cons (λ (g : Fresh). g.given) f front in
-    let later = list_below counts (total + f.given) (wanted - f.given) front last sized.1 full.1 (omega arith) in
-    (omega arith, pool_size_below counts total wanted f.size sized.0, later_below total wanted f (sizes_of (front ++ last ∷ [])) full.0 (omega arith) later)
+    let later = list_below k (room - pool_load k f.size) (total + f.given) (wanted - f.given) front last sized.1 full.1 (omega arith) in
+    (omega arith, next_below k room total wanted f.size sized.0, later_below total wanted f (sizes_of (front ++ last ∷ [])) full.0 (omega arith) later)
 
-all_below : (counts : List ℕ) (total wanted : ℕ) (pools : List Fresh) → IsFreshList counts total wanted pools → AreBelowTwice total wanted (sizes_of pools)
-all_below counts total wanted pools (no_fresh zero_wanted empty) = subst (λ fs. AreBelowTwice total wanted (sizes_of fs)) (sym empty) tt
-all_below counts total wanted pools (some_fresh front last is short sized le given) =
-    subst (λ fs. AreBelowTwice total wanted (sizes_of fs)) (sym is) (list_below counts total wanted front last (subst (AreSized counts total wanted) is sized) short.full short.short)
+all_below : (k : Key) (room total wanted : ℕ) (pools : List Fresh) → IsFreshList k room total wanted pools → AreBelowTwice total wanted (sizes_of pools)
+all_below k room total wanted pools (no_fresh zero_wanted empty) = subst (λ fs. AreBelowTwice total wanted (sizes_of fs)) (sym empty) tt
+all_below k room total wanted pools (some_fresh front last is short sized le given) =
+    subst (λ fs. AreBelowTwice total wanted (sizes_of fs)) (sym is) (list_below k room total wanted front last (subst (AreSized k room total wanted) is sized) short.full short.short)
 
 -- what is out once the existing pools have given
 from_shared : (refused : ℕ → Bool) (n : ℕ) (es : List Entry) (sizes : List ℕ) → AreBelowTwice (held (all_shared refused n es)) (rest refused n es) sizes → AreBelowTwice (held es + (n - rest refused n es)) (rest refused n es) sizes
@@ -183,7 +183,7 @@ module _ (c : Call) (d : IsDone c) where
       let rise : c.after.created ≡ c.before.created + length (sizes_of d.grant.fresh) = omega arith in
       record {
         sizes = sizes_of d.grant.fresh;
-        below_twice = from_shared d.grant.refused c.request.count (c.old.books k).pools (sizes_of d.grant.fresh) (all_below k.counts _ _ d.grant.fresh d.fresh);
+        below_twice = from_shared d.grant.refused c.request.count (c.old.books k).pools (sizes_of d.grant.fresh) (all_below k (c.request.limit - d.load) _ _ d.grant.fresh d.fresh);
         numbers = ap (λ (w : State). next_number (w.books k)) d.state ∙ granted_numbers k c.request.count d.grant c.old d.all;
         capacity = λ i e p at live. granted_capacity k c.request.count d.grant c.old d.all d.taken.new i e p (ap (λ (w : State). entry_at (w.books k) (next_number (c.old.books k) + i)) (sym d.state) ∙ at) (ap (λ (w : State). w.ledger e.pool) (sym d.state) ∙ live);
         created = (omega arith, omega arith);
@@ -194,7 +194,7 @@ module _ (c : Call) (d : IsDone c) where
   pub done_filled : 0 < length d.grant.fresh → AreFilled c
   done_filled more = by_list d.fresh
     where
-      by_list : IsFreshList k.counts (out_then c.request c.old d.grant) (wanting c.request c.old d.grant) d.grant.fresh → AreFilled c
+      by_list : IsFreshList k (c.request.limit - d.load) (out_then c.request c.old d.grant) (wanting c.request c.old d.grant) d.grant.fresh → AreFilled c
       by_list (no_fresh zero_wanted empty) = (let e = ap length empty in absurd (omega arith))
       by_list (some_fresh front last is short sized le given) =
           let shares : List Entry = all_shared d.grant.refused c.request.count (c.old.books k).pools in
@@ -241,7 +241,7 @@ back_new_pools c g rise error b front more one created =
     let long = length-map g.fresh (λ (f : Fresh). f.size) in
     record {
       sizes = sizes_of g.fresh;
-      below_twice = from_shared g.refused c.request.count (c.old.books k).pools (sizes_of g.fresh) (front_below k.counts _ _ g.fresh front.front.sized front.front.full front.front.short);
+      below_twice = from_shared g.refused c.request.count (c.old.books k).pools (sizes_of g.fresh) (front_below k (c.request.limit - front.load) _ _ g.fresh front.front.sized front.front.full front.front.short);
       numbers = ap (λ (w : State). next_number (w.books k)) b.state ∙ numbers_stay m t k ∙ granted_numbers k c.request.count g c.old front.all;
       capacity = λ i e p at live. (
           let number : ℕ = next_number (c.old.books k) + i in

@@ -19,6 +19,7 @@ use Rattle.gpu_descriptor.proofs.KeepKey.{place_of_items, count_of_items, count_
 use Rattle.gpu_descriptor.proofs.KeepState.{booked_of}
 use Rattle.gpu_descriptor.proofs.KeepSteps.{live_of, live_below, live_from, count_append}
 use Rattle.gpu_descriptor.proofs.Tables.{absent}
+use Rattle.gpu_descriptor.proofs.Sized.{size_of}
 
 names_in : List LiveSet → List ℕ
 names_in sets = map (λ (x : LiveSet). x.name) sets
@@ -60,7 +61,7 @@ unfolding names_in
 key_out k first [] ledger booked = record { items = []; many = refl; of_key = λ t some. absurd (omega arith); each = λ t key. sym (none_out ledger first t) }
 key_out k first (e ∷ es) ledger booked =
     let own = booked 0 e refl in
-    let size = own.booked.allocated in
+    let size = size_of own.booked in
     let names = names_in size.0 in
     let same = by_name k.counts size.0 (λ x some. own.booked.sets x (let is = size.2 x in omega arith)) in
     let rest = key_out k (first + 1) es ledger (λ i. booked (suc i)) in

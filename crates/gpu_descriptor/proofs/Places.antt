@@ -15,6 +15,7 @@ use Rattle.gpu_descriptor_types.specs.Multiset.{LiveSet, set_eq}
 use Rattle.gpu_descriptor.proofs.Fronts.{entry_at-found, entry_at-without, entry_at-kept}
 use Rattle.gpu_descriptor_types.proofs.Counting.{bool_iff, count_by_none, set_exact, count_by_yes, count_by_no, all_taken_out}
 use Rattle.gpu_descriptor.proofs.Exact.{item_exact, item_parts, item_from}
+use Rattle.gpu_descriptor.proofs.Sized.{size_of}
 
 -- how many sets go back to a pool, and how many of a name
 abbrev pub back : List Item → State → ℕ → ℕ
@@ -183,7 +184,7 @@ kept m s agree out t more =
     let booked = agree.booked t.key t.number e here.1 in
     let pool = booked.0 in
     let live : live_in s.ledger e.pool (set_of t) ≡ pool.live (set_of t) = rw booked.1 refl in
-    let left = size_less pool.live e.allocated (lies_in s.books e.pool) m booked.2.allocated (part_fits m s agree out t.key t.number e pool here.1 booked.1) in
+    let left = size_less pool.live e.allocated (lies_in s.books e.pool) m (size_of booked.2) (part_fits m s agree out t.key t.number e pool here.1 booked.1) in
     let named : back_named m s e.pool (set_of t) ≡ count_of t m = back_named-is m s agree t.key t.number e here.1 t.name in
     let above = here.2 in
     let some : 0 < e.allocated - back m s e.pool = size_pos (λ name. pool.live name - back_named m s e.pool name) (e.allocated - back m s e.pool) (set_of t) left.1 (omega arith) in

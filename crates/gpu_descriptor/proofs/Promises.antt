@@ -5,7 +5,7 @@ use Rattle.std.proofs.lemmas.List.Sums.{sum_by-cons, sum_by-append}
 use Rattle.std.proofs.Math.Nat.{mul-le-mul_right}
 use Rattle.gpu_descriptor_types.proofs.Sizes.{pool_size_some}
 use Rattle.gpu_descriptor_types.specs.PoolSize.{pool_size_floor}
-use Rattle.std.specs.Prelude.{min, if◌then◌else◌, OnOk, IfErr}
+use Rattle.std.specs.Prelude.{◌⊎◌, min, if◌then◌else◌, OnOk, IfErr}
 use Rattle.gpu_descriptor_types.specs.Ledger.{Pool, Counters, live_sets, create_refused, alloc_refused, pool_refusals}
 use Rattle.gpu_descriptor_types.specs.declared.errors.CreatePoolError.{CreatePoolError}
 use Rattle.gpu_descriptor_types.specs.declared.errors.CreatePoolError.TheVariants as create_error
@@ -16,15 +16,17 @@ use Rattle.gpu_descriptor.specs.declared.errors.AllocationError.TheVariants.{Out
 use Rattle.gpu_descriptor.specs.Agreement.{State, Item}
 use Rattle.gpu_descriptor.specs.Books.{Key, Entry, Bucket, next_number}
 use Rattle.gpu_descriptor.specs.Errors.{error_of_create, error_of_alloc}
-use Rattle.gpu_descriptor.specs.FreshPools.{Fresh, AreNew, AreSized, AreFull, IsFreshList, given_by, fresh_portions}
+use Rattle.gpu_descriptor.specs.FreshPools.{Fresh, AreNew, IsNextSize, room_after, AreSized, AreFull, IsFreshList, given_by, fresh_portions}
 use Rattle.gpu_descriptor.specs.Grants.{Grant, Part, portion_of, items_at, items_in, came, granted, fresh_or, pool_with}
-use Rattle.gpu_descriptor.specs.Outcomes.{Allocates, Call, IsBack, IsDone, IsStoppedAtPool, IsStoppedAtCreate, IsStoppedAtFresh, IsFront, IsGrant, out_then, wanting, no_rise}
-use Rattle.gpu_descriptor.specs.Outcomes.Allocates.{none, limit, bound, start, done, stopped_at_pool, stopped_at_create, stopped_for_memory, stopped_at_fresh}
+use Rattle.gpu_descriptor.specs.Outcomes.{Allocates, Call, IsBack, IsDone, IsStoppedAtPool, IsStoppedAtCreate, IsStoppedAtFresh, IsStoppedWithoutRoom, IsFront, HasRoomLeft, IsGrant, out_then, wanting, no_rise}
+use Rattle.gpu_descriptor.specs.Outcomes.Allocates.{none, limit, bound, start, done, stopped_at_pool, stopped_without_room, stopped_at_create, stopped_for_memory, stopped_at_fresh}
 use Rattle.gpu_descriptor.specs.FreshPools.IsFreshList.{none as no_fresh, some as some_fresh}
 use Rattle.std.proofs.lemmas.Bool.{cases_Bool}
 use Rattle.gpu_descriptor.specs.Promises.{HasCause, HasNewPools, IsShort, CreatesOnlyWhereShort, last_refusal}
-use Rattle.gpu_descriptor.specs.Promises.IsFragmentation.{above_limit, past_bound, no_pool_created, new_pool_refused}
+use Rattle.gpu_descriptor.specs.Promises.IsFragmentation.{above_limit, past_bound, no_room_left, no_pool_created, new_pool_refused}
 use Rattle.gpu_descriptor.specs.Promises.IsHostMemory.{device_refused, no_room_at_start, no_room_for_a_pool}
+use Rattle.gpu_descriptor.specs.Load.{pool_load}
+use Rattle.gpu_descriptor.proofs.NextSize.{next_whole, one_fits, some_fit, room_falls}
 use Rattle.gpu_descriptor.proofs.NewPools.{AreFilled, met, unmet, shares_used, done_new_pools, done_filled, released_pool, back_new_pools}
 use Rattle.gpu_descriptor.specs.Shares.{Portion, offer, rest, portions_of, refused_count, OnlyAskedRefuse}
 
@@ -61,16 +63,16 @@ fresh_sum number (f ∷ pools) =
     let more = fresh_sum (number + 1) pools in
     omega arith
 
-all_given : (counts : List ℕ) (total wanted : ℕ) (pools : List Fresh) → IsFreshList counts total wanted pools → given_by pools ≡ wanted
-all_given counts total wanted pools (no_fresh zero_wanted empty) = ap given_by empty ∙ sym zero_wanted
-all_given counts total wanted pools (some_fresh front last is short sized le given) = given
+all_given : (k : Key) (room total wanted : ℕ) (pools : List Fresh) → IsFreshList k room total wanted pools → given_by pools ≡ wanted
+all_given k room total wanted pools (no_fresh zero_wanted empty) = ap given_by empty ∙ sym zero_wanted
+all_given k room total wanted pools (some_fresh front last is short sized le given) = given
 
 -- what was had in all is what was asked for
-pub grant_many : (k : Key) (n total : ℕ) (b : Bucket) (g : Grant) → map portion_of g.parts ≡ portions_of g.refused n (b.first + g.left) (drop g.left b.pools) ++ fresh_portions (next_number b) g.fresh → g.left ≡ 0 → IsFreshList k.counts total (rest g.refused n b.pools) g.fresh → length (items_in k g.parts) ≡ n
-grant_many k n total b g parts none_left fresh =
+pub grant_many : (k : Key) (n room total : ℕ) (b : Bucket) (g : Grant) → map portion_of g.parts ≡ portions_of g.refused n (b.first + g.left) (drop g.left b.pools) ++ fresh_portions (next_number b) g.fresh → g.left ≡ 0 → IsFreshList k room total (rest g.refused n b.pools) g.fresh → length (items_in k g.parts) ≡ n
+grant_many k n room total b g parts none_left fresh =
     let long = length_items k g.parts ∙ ap sum_given parts in
     let two = sum_by-append (λ (q : Portion). q.given) (portions_of g.refused n (b.first + g.left) (drop g.left b.pools)) (fresh_portions (next_number b) g.fresh) in
-    let new = fresh_sum (next_number b) g.fresh ∙ all_given _ _ _ _ fresh in
+    let new = fresh_sum (next_number b) g.fresh ∙ all_given _ _ _ _ _ fresh in
     let all : rest g.refused n (drop g.left b.pools) ≡ rest g.refused n b.pools = ap (λ i. rest g.refused n (drop i b.pools)) none_left in
     let old = shares_sum g.refused n (b.first + g.left) (drop g.left b.pools) in
     omega arith
@@ -159,15 +161,45 @@ back_raises c g rise error b name p q refused live after =
 times_more : (n m : ℕ) → suc n * m ≡ n * m + m
 times_more n m = grind arith
 
--- new pools that gave all they have, and didn't do
-front_few : (counts : List ℕ) (total wanted : ℕ) (pools : List Fresh) → AreSized counts total wanted pools → AreFull pools → given_by pools < wanted → length pools * pool_size_floor counts ≤ given_by pools
-front_few counts total wanted [] sized full short = omega arith
-front_few counts total wanted (f ∷ pools) sized full short =
+-- a pool that was not cut, gave all it has, and didn't do
+one_more : (k : Key) (room total wanted : ℕ) (f : Fresh) (pools : List Fresh) → IsNextSize k room total wanted f.size → pool_load k 1 ≤ room - pool_load k f.size → f.given ≡ f.size → f.given < wanted → (more : ℕ) → length pools * pool_size_floor k.counts ≤ more → length (f ∷ pools) * pool_size_floor k.counts ≤ f.given + more
+one_more k room total wanted f pools next left full short more rest =
+    let some = pool_size_some k.counts total wanted f.size (next_whole k room total wanted f.size next left) in
+    let product : length (f ∷ pools) * pool_size_floor k.counts ≡ length pools * pool_size_floor k.counts + pool_size_floor k.counts = times_more (length pools) (pool_size_floor k.counts) in
+    omega arith
+
+-- new pools that gave all they have and didn't do, with room left for one more
+front_few : (k : Key) (room total wanted : ℕ) (pools : List Fresh) → AreSized k room total wanted pools → AreFull pools → given_by pools < wanted → pool_load k 1 ≤ room_after k room pools → length pools * pool_size_floor k.counts ≤ given_by pools
+front_few k room total wanted [] sized full short left = omega arith
+front_few k room total wanted (f ∷ pools) sized full short left =
     let sum = sum_by-cons (λ (g : Fresh). g.given) f pools in
     let is = full.0 in
-    let some = pool_size_some counts total wanted f.size sized.0 in
-    let more = front_few counts (total + f.given) (wanted - f.given) pools sized.1 full.1 (omega arith) in
-    let product : length (f ∷ pools) * pool_size_floor counts ≡ length pools * pool_size_floor counts + pool_size_floor counts = times_more (length pools) (pool_size_floor counts) in
+    let falls = room_falls k (room - pool_load k f.size) pools in
+    let more = front_few k (room - pool_load k f.size) (total + f.given) (wanted - f.given) pools sized.1 full.1 (omega arith) left in
+    let all = one_more k room total wanted f pools sized.0 (omega arith) is (omega arith) (given_by pools) more in
+    omega arith
+
+-- before a last one
+list_few : (k : Key) (room total wanted : ℕ) (front : List Fresh) (last : Fresh) → AreSized k room total wanted (front ++ last ∷ []) → AreFull front → given_by front < wanted → length front * pool_size_floor k.counts ≤ given_by front
+list_few k room total wanted [] last sized full short = omega arith
+list_few k room total wanted (f ∷ front) last sized full short =
+    let sum = sum_by-cons (λ (g : Fresh). g.given) f front in
+    let is = full.0 in
+    let left = some_fit k (room - pool_load k f.size) (total + f.given) (wanted - f.given) front last sized.1 in
+    let more = list_few k (room - pool_load k f.size) (total + f.given) (wanted - f.given) front last sized.1 full.1 (omega arith) in
+    let all = one_more k room total wanted f front sized.0 left is (omega arith) (given_by front) more in
+    omega arith
+
+-- whatever room is left: the last may have been cut
+any_few : (k : Key) (room total wanted : ℕ) (pools : List Fresh) → AreSized k room total wanted pools → AreFull pools → given_by pools < wanted → length pools * pool_size_floor k.counts ≤ given_by pools + pool_size_floor k.counts
+any_few k room total wanted [] sized full short = omega arith
+any_few k room total wanted (f ∷ []) sized full short = (let one = times_more 0 (pool_size_floor k.counts) in omega arith)
+any_few k room total wanted (f ∷ h ∷ pools) sized full short =
+    let sum = sum_by-cons (λ (g : Fresh). g.given) f (h ∷ pools) in
+    let is = full.0 in
+    let left = one_fits k (room - pool_load k f.size) (total + f.given) (wanted - f.given) h.size sized.1.0 in
+    let more = any_few k (room - pool_load k f.size) (total + f.given) (wanted - f.given) (h ∷ pools) sized.1 full.1 (omega arith) in
+    let all = one_more k room total wanted f (h ∷ pools) sized.0 left is (omega arith) (given_by (h ∷ pools) + pool_size_floor k.counts) more in
     omega arith
 
 -- each pool that refused has one refusal more
@@ -175,14 +207,16 @@ abbrev Raises : Call → Grant → Type 0
 Raises c g = (name : ℕ) (p q : Pool) → g.refused name ≡ true → c.old.ledger name ≡ Some p → c.new.ledger name ≡ Some q → q.refusals ≡ p.refusals + 1
 
 -- the refusals of pools and creates in the call
-abbrev IsCounted : Call → Grant → ℕ → Type 0
-IsCounted c g i = c.after.pool_refused + c.after.fragmentation ≡ c.before.pool_refused + c.before.fragmentation + refused_count g.refused (drop i (c.old.books c.request.key).pools) + last_refusal c.answer
+abbrev IsCounted : Call → Grant → ℕ → ℕ → Type 0
+IsCounted c g last i = c.after.pool_refused + c.after.fragmentation ≡ c.before.pool_refused + c.before.fragmentation + refused_count g.refused (drop i (c.old.books c.request.key).pools) + last
 
-pools_short : (c : Call) (g : Grant) → IsGrant c.request c.old g → g.left ≡ 0 → 0 < wanting c.request c.old g → HasNewPools c (wanting c.request c.old g) → OnOk c.answer (AreFilled c) → Raises c g → IsCounted c g g.left → (n : ℕ) → c.after.created ≡ c.before.created + n → n * pool_size_floor c.request.key.counts < wanting c.request c.old g + pool_size_floor c.request.key.counts → IsShort c
-pools_short c g is all some new filled raises counted n rise few = record {
+pools_short : (c : Call) (g : Grant) → IsGrant c.request c.old g → g.left ≡ 0 → 0 < wanting c.request c.old g → HasNewPools c (wanting c.request c.old g) → OnOk c.answer (AreFilled c) → Raises c g → (last : ℕ) → ((last ≡ last_refusal c.answer) ⊎ (IsStoppedWithoutRoom c × (last ≡ 0))) → IsCounted c g last g.left → (n : ℕ) → c.after.created ≡ c.before.created + n → n * pool_size_floor c.request.key.counts < wanting c.request c.old g + pool_size_floor c.request.key.counts → IsShort c
+pools_short c g is all some new filled raises last is_last counted n rise few = record {
+  last = last;
+  is_last = is_last;
   refused = g.refused;
   raised = raises;
-  counted = subst (IsCounted c g) all counted;
+  counted = subst (IsCounted c g last) all counted;
   only_asked = subst (λ i. OnlyAskedRefuse g.refused c.request.count (drop i (c.old.books c.request.key).pools)) all is.refusing;
   short = omega arith;
   used_up = shares_used g.refused c.request.count (c.old.books c.request.key).pools some;
@@ -195,24 +229,40 @@ pools_short c g is all some new filled raises counted n rise few = record {
 }
 
 -- after a front, with one more or without
-front_short : (c : Call) (g : Grant) (rise : Counters) (error : AllocationError) → IsBack c g rise error → IsFront c.request c.old g → IsCounted c g g.left → (n : ℕ) → n ≤ 1 → c.after.created ≡ c.before.created + (length g.fresh + n) → IsShort c
-front_short c g rise error back front counted n one created =
-    let m : ℕ = pool_size_floor c.request.key.counts in
+front_short : (c : Call) (g : Grant) (rise : Counters) (error : AllocationError) → IsBack c g rise error → IsFront c.request c.old g → (last : ℕ) → ((last ≡ last_refusal c.answer) ⊎ (IsStoppedWithoutRoom c × (last ≡ 0))) → IsCounted c g last g.left → (n : ℕ) → n ≤ 1 → c.after.created ≡ c.before.created + (length g.fresh + n)
+    → (length g.fresh + n) * pool_size_floor c.request.key.counts < wanting c.request c.old g + pool_size_floor c.request.key.counts → IsShort c
+front_short c g rise error back front last is_last counted n one created few =
     let short = front.front.short in
-    let few = front_few c.request.key.counts (out_then c.request c.old g) (wanting c.request c.old g) g.fresh front.front.sized front.front.full short in
-    let product = times_more (length g.fresh) m in
-    let below : (length g.fresh + n) * m ≤ suc (length g.fresh) * m = mul-le-mul_right m (omega arith) in
     let new = back_new_pools c g rise error back front n one created in
     let filled : OnOk c.answer (AreFilled c) = unmet (AreFilled c) c.answer _ back.answer in
-    pools_short c g back.taken front.all (omega arith) new filled (back_raises c g rise error back) counted (length g.fresh + n) created (omega arith)
+    pools_short c g back.taken front.all (omega arith) new filled (back_raises c g rise error back) last is_last counted (length g.fresh + n) created few
+
+-- how few new pools came before
+few_any : (c : Call) (g : Grant) (front : IsFront c.request c.old g) → (length g.fresh + 0) * pool_size_floor c.request.key.counts < wanting c.request c.old g + pool_size_floor c.request.key.counts
+few_any c g front =
+    let m : ℕ = pool_size_floor c.request.key.counts in
+    let short = front.front.short in
+    let few = any_few c.request.key (c.request.limit - front.load) (out_then c.request c.old g) (wanting c.request c.old g) g.fresh front.front.sized front.front.full short in
+    let same : length g.fresh + 0 ≡ length g.fresh = omega arith in
+    let product : (length g.fresh + 0) * m ≡ length g.fresh * m = ap (λ i. i * m) same in
+    omega arith
+
+few_with_room : (c : Call) (g : Grant) (front : IsFront c.request c.old g) → HasRoomLeft front → (length g.fresh + 1) * pool_size_floor c.request.key.counts < wanting c.request c.old g + pool_size_floor c.request.key.counts
+few_with_room c g front room =
+    let m : ℕ = pool_size_floor c.request.key.counts in
+    let short = front.front.short in
+    let few = front_few c.request.key (c.request.limit - front.load) (out_then c.request c.old g) (wanting c.request c.old g) g.fresh front.front.sized front.front.full short room in
+    let same : length g.fresh + 1 ≡ suc (length g.fresh) = omega arith in
+    let product : (length g.fresh + 1) * m ≡ length g.fresh * m + m = ap (λ i. i * m) same ∙ times_more (length g.fresh) m in
+    omega arith
 
 -- a list that gave all
-done_short : (c : Call) (d : IsDone c) → IsFreshList c.request.key.counts (out_then c.request c.old d.grant) (wanting c.request c.old d.grant) d.grant.fresh → 0 < length d.grant.fresh → IsShort c
+done_short : (c : Call) (d : IsDone c) → IsFreshList c.request.key (c.request.limit - d.load) (out_then c.request c.old d.grant) (wanting c.request c.old d.grant) d.grant.fresh → 0 < length d.grant.fresh → IsShort c
 done_short c d (no_fresh zero_wanted empty) some = (let e = ap length empty in absurd (omega arith))
 done_short c d (some_fresh front last parts short sized le given) some =
     let g : Grant = d.grant in
     let m : ℕ = pool_size_floor c.request.key.counts in
-    let few = front_few c.request.key.counts (out_then c.request c.old g) (wanting c.request c.old g) front short.sized short.full short.short in
+    let few = list_few c.request.key (c.request.limit - d.load) (out_then c.request c.old g) (wanting c.request c.old g) front last (subst (AreSized c.request.key (c.request.limit - d.load) (out_then c.request c.old g) (wanting c.request c.old g)) parts sized) short.full short.short in
     let below = short.short in
     let long = ap length parts ∙ length-append front (last ∷ []) in
     let product = times_more (length front) m in
@@ -224,7 +274,7 @@ done_short c d (some_fresh front last parts short sized le given) some =
     let none = ap last_refusal d.answer in
     let raises : Raises c g = λ name p q refused live after. granted_raises c.request.key c.request.count g c.old name p q d.taken.new refused live (sym (ap (λ (w : State). w.ledger name) d.state) ∙ after) in
     let filled : OnOk c.answer (AreFilled c) = met (AreFilled c) c.answer _ d.answer (done_filled c d some) in
-    pools_short c g d.taken d.all (omega arith) (done_new_pools c d) filled raises (omega arith) (length g.fresh) (omega arith) (omega arith)
+    pools_short c g d.taken d.all (omega arith) (done_new_pools c d) filled raises 0 (inl (sym none)) (omega arith) (length g.fresh) (omega arith) (omega arith)
 
 -- what an error adds to some of the counters
 alloc_creates : (e : DeviceAllocationError) → (alloc_refused e no_rise).created ≡ 0
@@ -264,6 +314,7 @@ module _ (c : Call) where
   has_cause (start p answer stays) = answered OutOfHostMemory answer (no_room_at_start p stays)
   has_cause (done p d) = given _ d.answer
   has_cause (stopped_at_pool p s) = answered _ s.back.answer (pool_cause c s)
+  has_cause (stopped_without_room p s) = answered Fragmentation s.back.answer (no_room_left s)
   has_cause (stopped_at_create p s) = answered _ s.back.answer (create_cause c s)
   has_cause (stopped_for_memory p s) = answered OutOfHostMemory s.back.answer (no_room_for_a_pool s)
   has_cause (stopped_at_fresh p s) = answered _ s.back.answer (fresh_cause c s)
@@ -280,6 +331,11 @@ module _ (c : Call) where
       let e = alloc_creates s.error in
       let f = ap length s.no_fresh in
       absurd (omega arith)
+  short (stopped_without_room p s) more =
+      let n = ap (λ (k : Counters). k.created) s.back.counters in
+      let refused = ap (λ (k : Counters). k.pool_refused) s.back.counters in
+      let fragmented = ap (λ (k : Counters). k.fragmentation) s.back.counters in
+      front_short c s.grant _ _ s.back s.front 0 (inr (s, refl)) (omega arith) 0 (omega arith) (omega arith) (few_any c s.grant s.front)
   short (stopped_at_create p s) more =
       let n = ap (λ (k : Counters). k.created) s.back.counters in
       let e = create_creates s.error in
@@ -287,17 +343,17 @@ module _ (c : Call) where
       let fragmented = ap (λ (k : Counters). k.fragmentation) s.back.counters in
       let last = ap last_refusal s.back.answer in
       let rise = create_last s.error in
-      front_short c s.grant _ _ s.back s.front (omega arith) 0 (omega arith) (omega arith)
+      front_short c s.grant _ _ s.back s.front (last_refusal c.answer) (inl refl) (omega arith) 0 (omega arith) (omega arith) (few_any c s.grant s.front)
   short (stopped_for_memory p s) more =
       let n = ap (λ (k : Counters). k.created) s.back.counters in
       let refused = ap (λ (k : Counters). k.pool_refused) s.back.counters in
       let fragmented = ap (λ (k : Counters). k.fragmentation) s.back.counters in
       let last = ap last_refusal s.back.answer in
-      front_short c s.grant _ _ s.back s.front (omega arith) 0 (omega arith) (omega arith)
+      front_short c s.grant _ _ s.back s.front (last_refusal c.answer) (inl refl) (omega arith) 0 (omega arith) (omega arith) (few_any c s.grant s.front)
   short (stopped_at_fresh p s) more =
       let n = ap (λ (k : Counters). k.created) s.back.counters in
       let refused = ap (λ (k : Counters). k.pool_refused) s.back.counters in
       let fragmented = ap (λ (k : Counters). k.fragmentation) s.back.counters in
       let last = ap last_refusal s.back.answer in
       let rise = alloc_last s.error in
-      front_short c s.grant _ _ s.back s.front (omega arith) 1 (omega arith) (omega arith)
+      front_short c s.grant _ _ s.back s.front (last_refusal c.answer) (inl refl) (omega arith) 1 (omega arith) (omega arith) (few_with_room c s.grant s.front s.room)

@@ -50,9 +50,9 @@ module _ {P S : Type 0} (name : P → ℕ) (set_name : S → ℕ) (k : BucketKey
   load_grows v w l n is more =
       ap (λ (x : Key). load_at x w.total) is ∙ ap (load_at (key_of k)) more ∙ load_at-add (key_of k) v.total n ∙ ap (λ (x : Key). load_at x v.total + load_at (key_of k) n) (sym is)
 
-  pub serves_present : (v w : DescriptorBucket P) (count : ℕ) (sets : List (DescriptorSet S)) (taken : Result (Unit {0}) Refusal) (before after : Ledger) → lookup test es ≡ Some v
-      → Serves name set_name (key_of k) count sets taken v w before after → ServesKey name set_name k count sets taken es (set_value test es w) before after
-  serves_present v w count sets taken before after at s =
+  pub serves_present : (v w : DescriptorBucket P) (room count : ℕ) (sets : List (DescriptorSet S)) (taken : Result (Unit {0}) Refusal) (before after : Ledger) → lookup test es ≡ Some v
+      → Serves name set_name (key_of k) room count sets taken v w before after → ServesKey name set_name k room count sets taken es (set_value test es w) before after
+  serves_present v w room count sets taken before after at s =
       let is : books_in name es (key_of k) ≡ bucket_of name v = present v at in
       let out = sum_set (λ r. r.1.total) test es v w at in
       let load = sum_set load_in test es v w at in
@@ -67,13 +67,13 @@ module _ {P S : Type 0} (name : P → ℕ) (set_name : S → ℕ) (k : BucketKey
         books = λ l. written name test (key_of k) same es w (ap is_some at) l ∙ ap (λ (b : Bucket). put_books (books_in name es) (key_of k) b l) (bucket ∙ ap (λ (b : Bucket). let r : Bucket = record b { pools = (bucket_of name w).pools } in r) (sym is));
         out = (let a = out.2 in let b = out.3 in omega arith);
         load = (let a = load.2 in let b = load.3 in omega arith);
-        done = subst (λ (b : Bucket). OnOk taken (IsTakenAll (key_of k) count b.first (items_of set_name sets) b.pools (bucket_of name w).pools before after)) (sym is) s.done;
-        stopped = subst (λ (b : Bucket). IfErr taken (λ why. IsTakenUpTo why (key_of k) count b.first (items_of set_name sets) b.pools (bucket_of name w).pools before after)) (sym is) s.stopped;
+        done = subst (λ (b : Bucket). OnOk taken (IsTakenAll (key_of k) room count b.first (items_of set_name sets) b.pools (bucket_of name w).pools before after)) (sym is) s.done;
+        stopped = subst (λ (b : Bucket). IfErr taken (λ why. IsTakenUpTo why (key_of k) room count b.first (items_of set_name sets) b.pools (bucket_of name w).pools before after)) (sym is) s.stopped;
       }
 
-  pub serves_new : (v w : DescriptorBucket P) (count : ℕ) (sets : List (DescriptorSet S)) (taken : Result (Unit {0}) Refusal) (before after : Ledger) → lookup test es ≡ None → v.offset ≡ 0 → v.pools.items ≡ [] → v.total ≡ 0
-      → Serves name set_name (key_of k) count sets taken v w before after → ServesKey name set_name k count sets taken es (es ++ (k, w) ∷ []) before after
-  serves_new v w count sets taken before after at offset pools none s =
+  pub serves_new : (v w : DescriptorBucket P) (room count : ℕ) (sets : List (DescriptorSet S)) (taken : Result (Unit {0}) Refusal) (before after : Ledger) → lookup test es ≡ None → v.offset ≡ 0 → v.pools.items ≡ [] → v.total ≡ 0
+      → Serves name set_name (key_of k) room count sets taken v w before after → ServesKey name set_name k room count sets taken es (es ++ (k, w) ∷ []) before after
+  serves_new v w room count sets taken before after at offset pools none s =
       let is : books_in name es (key_of k) ≡ bucket_of name v = missing at ∙ (λ i. record { first = sym offset i; pools = map (entry_of name) (sym pools i) }) in
       let total = s.total in
       let bucket : bucket_of name w ≡ record (bucket_of name v) { pools = (bucket_of name w).pools } = λ i. record { first = s.offset i; pools = (bucket_of name w).pools } in
@@ -84,8 +84,8 @@ module _ {P S : Type 0} (name : P → ℕ) (set_name : S → ℕ) (k : BucketKey
         books = λ l. books_end name k w test same es at l ∙ ap (λ (b : Bucket). put_books (books_in name es) (key_of k) b l) (bucket ∙ ap (λ (b : Bucket). let r : Bucket = record b { pools = (bucket_of name w).pools } in r) (sym is));
         out = (let a = sum_by-append (λ (r : BucketKey × DescriptorBucket P). r.1.total) es ((k, w) ∷ []) in let one : sum_by (λ (r : BucketKey × DescriptorBucket P). r.1.total) ((k, w) ∷ []) ≡ w.total = omega arith in omega arith);
         load = (let a = sum_by-append load_in es ((k, w) ∷ []) in let one : sum_by load_in ((k, w) ∷ []) ≡ load_of k w.total = omega arith in let n : w.total ≡ length sets = omega arith in let e = ap (load_of k) n in omega arith);
-        done = subst (λ (b : Bucket). OnOk taken (IsTakenAll (key_of k) count b.first (items_of set_name sets) b.pools (bucket_of name w).pools before after)) (sym is) s.done;
-        stopped = subst (λ (b : Bucket). IfErr taken (λ why. IsTakenUpTo why (key_of k) count b.first (items_of set_name sets) b.pools (bucket_of name w).pools before after)) (sym is) s.stopped;
+        done = subst (λ (b : Bucket). OnOk taken (IsTakenAll (key_of k) room count b.first (items_of set_name sets) b.pools (bucket_of name w).pools before after)) (sym is) s.done;
+        stopped = subst (λ (b : Bucket). IfErr taken (λ why. IsTakenUpTo why (key_of k) room count b.first (items_of set_name sets) b.pools (bucket_of name w).pools before after)) (sym is) s.stopped;
       }
 
 -- a write of what is there

@@ -1,11 +1,11 @@
 -- What a request leaves of an allocator: why it is declined before the walk, and what it took.
-use Rattle.std.proofs.Common.{◌≡◌, ℕ, ◌+◌, ◌*◌, ◌<◌, ◌≤◌, ◌&&◌, Bool, true, false, List, map, length, sum, sum_by, Result, Err, inl, inr, refl, sym, ap, subst, ◌∙◌, arith}
+use Rattle.std.proofs.Common.{◌≡◌, ℕ, ◌+◌, ◌-◌, ◌*◌, ◌<◌, ◌≤◌, ◌&&◌, Bool, true, false, List, map, length, sum, sum_by, Result, Err, inl, inr, refl, sym, ap, subst, ◌∙◌, arith}
 use Rattle.std.proofs.Math.Path.{fun_ext}
 use Rattle.std.proofs.Math.Nat.{mul-le-mul_right}
 use Rattle.std.proofs.lemmas.Bool.{cases_Bool, ltb-false}
 use Rattle.std.specs.List.{IsDistinct}
 use Rattle.std.specs.Map.{keys_of as map_keys}
-use Rattle.std.specs.Prelude.{if◌then◌else◌, nat_lt, ◌⊎◌}
+use Rattle.std.specs.Prelude.{if◌then◌else◌, nat_lt, ◌⊎◌, OnOk, IfErr}
 use Rattle.gpu_descriptor_types.specs.Counts.{kinds}
 use Rattle.gpu_descriptor_types.specs.Ledger.{Ledger}
 use Rattle.gpu_descriptor.specs.declared.errors.AllocationError.{AllocationError}
@@ -15,19 +15,20 @@ use Rattle.gpu_descriptor.specs.declared.set.DescriptorSet.{DescriptorSet}
 use Rattle.gpu_descriptor.specs.declared.bucket.DescriptorBucket.{DescriptorBucket}
 use Rattle.gpu_descriptor.specs.declared.take.Refusal.{Refusal}
 use Rattle.gpu_descriptor.specs.Books.{Key, key_eq, Bucket, HasDistinctKeys, books_of, next_number}
-use Rattle.gpu_descriptor.specs.Load.{IsOut, IsMarkedLoad}
+use Rattle.gpu_descriptor.specs.Load.{IsOut, IsMarkedLoad, IsPoolLoad}
 use Rattle.gpu_descriptor.specs.Outcomes.{Allocates, IsWithinLimit, Stays}
 use Rattle.gpu_descriptor.specs.Outcomes.Allocates.{limit, bound, start}
 use Rattle.gpu_descriptor.specs.Requests.{call_of, Takes}
 use Rattle.gpu_descriptor.specs.Serves.{ServesKey, IsUnserved}
-use Rattle.gpu_descriptor.specs.Sets.{key_of}
-use Rattle.gpu_descriptor.specs.States.{named_row, sets_in, descriptors_in, state_of, table_of, outstanding_of, marked_load_of}
-use Rattle.gpu_descriptor.specs.Stored.{IsCounted, row_of, load_in, load_of, books_in}
+use Rattle.gpu_descriptor.specs.Sets.{key_of, items_of}
+use Rattle.gpu_descriptor.specs.States.{named_row, sets_in, descriptors_in, pool_descriptors_in, state_of, table_of, outstanding_of, marked_load_of, pool_load_of}
+use Rattle.gpu_descriptor.specs.Stored.{IsCounted, row_of, load_in, load_of, pools_load_in, books_in}
+use Rattle.gpu_descriptor.specs.Grow.{IsTakenAll, IsTakenUpTo}
 use Rattle.gpu_descriptor.specs.Values.{Allocations, Row}
 use Rattle.gpu_descriptor.proofs.Exact.{key_exact}
-use Rattle.gpu_descriptor.proofs.Loads.{rows_out, rows_load}
+use Rattle.gpu_descriptor.proofs.Loads.{rows_out, rows_load, rows_pool_load}
 use Rattle.gpu_descriptor.proofs.TableBooks.{rows_are, distinct_keys}
-use Rattle.gpu_descriptor.proofs.TableSums.{outstanding_of-table, marked_load_of-table}
+use Rattle.gpu_descriptor.proofs.TableSums.{outstanding_of-table, marked_load_of-table, pool_load_of-table}
 
 -- what a test that failed says
 pub within_of : (marked : Bool) (most count : ℕ) → (marked && nat_lt most count) ≡ false → marked ≡ true → count ≤ most
@@ -41,6 +42,9 @@ module _ {P : Type 0} (a : Allocations P) (es : List (BucketKey × DescriptorBuc
   pub load_of_rows : marked_load_of a ≡ sum_by load_in es
   load_of_rows = ap (sum_by descriptors_in) is ∙ rows_load es
 
+  pub pool_load_of_rows : pool_load_of a ≡ sum_by pools_load_in es
+  pool_load_of_rows = ap (sum_by pool_descriptors_in) is ∙ rows_pool_load es
+
   pub books_at : (name : P → ℕ) (before : Ledger) (k : Key) → (state_of name a before).books k ≡ books_in name es k
   books_at name before k = ap (λ (t : List (Row P)). books_of (map (named_row name) t) k) is
 
@@ -48,10 +52,10 @@ module _ {P : Type 0} (a : Allocations P) (es : List (BucketKey × DescriptorBuc
   keys_apart name eq same unique = subst HasDistinctKeys (sym (rows_are name es) ∙ ap (map (named_row name)) (sym is)) (distinct_keys name eq same es unique)
 
 -- how the totals of the table grow, by so many sets of a key
-module _ {P S : Type 0} (name : P → ℕ) (set_name : S → ℕ) (key : BucketKey) (count : ℕ) (sets : List (DescriptorSet S)) (taken : Result (Unit {0}) Refusal) (es fs : List (BucketKey × DescriptorBucket P)) (before after : Ledger)
-    (s : ServesKey name set_name key count sets taken es fs before after) where
-  pub load_below : (most marked out : ℕ) → IsCounted most marked out es → (key.update_after_bind ≡ true → count * sum (kinds key.size) + marked ≤ most) → load_of key (length sets) + marked ≤ most
-  load_below most marked out counted within = elim (cases_Bool key.update_after_bind) [
+module _ {P S : Type 0} (name : P → ℕ) (set_name : S → ℕ) (key : BucketKey) (room count : ℕ) (sets : List (DescriptorSet S)) (taken : Result (Unit {0}) Refusal) (es fs : List (BucketKey × DescriptorBucket P)) (before after : Ledger)
+    (s : ServesKey name set_name key room count sets taken es fs before after) where
+  pub load_below : (most marked left out : ℕ) → IsCounted most marked left out es → (key.update_after_bind ≡ true → count * sum (kinds key.size) + marked ≤ most) → load_of key (length sets) + marked ≤ most
+  load_below most marked left out counted within = elim (cases_Bool key.update_after_bind) [
     | inl on ↦ (
         let few = s.few in
         let all = within on in
@@ -61,17 +65,21 @@ module _ {P S : Type 0} (name : P → ℕ) (set_name : S → ℕ) (key : BucketK
     | inr off ↦ (let is : load_of key (length sets) ≡ 0 = rw off refl in let all = counted.within in omega arith)
   ]
 
-  pub counted_more : (most marked out more many : ℕ) → IsCounted most marked out es → more ≡ load_of key (length sets) → many ≡ length sets → more + marked ≤ most → IsCounted most (marked + more) (out + many) fs
-  counted_more most marked out more many counted load given fits =
+  pub counted_more : (most marked old left out more many : ℕ) → IsCounted most marked old out es → more ≡ load_of key (length sets) → many ≡ length sets → more + marked ≤ most → left + sum_by pools_load_in fs ≡ old + sum_by pools_load_in es → IsCounted most (marked + more) left (out + many) fs
+  counted_more most marked old left out more many counted load given fits pools =
+      let is_room = counted.is_room in
       let a = counted.is_load in
       let b = counted.is_out in
       let c = s.load in
       let d = s.out in
-      record { is_load = omega arith; within = omega arith; is_out = omega arith }
+      record { is_load = omega arith; within = omega arith; is_room = omega arith; is_out = omega arith }
 
 module _ {P : Type 0} (name : P → ℕ) (a : Allocations P) (before : Ledger) (distinct : HasDistinctKeys (table_of name a)) where
   pub load_is : IsMarkedLoad (state_of name a before) (marked_load_of a)
   load_is = record { table = table_of name a; distinct = distinct; keeps = λ k. refl; total = sym (marked_load_of-table name a) }
+
+  pub pool_load_is : IsPoolLoad (state_of name a before) (pool_load_of a)
+  pool_load_is = record { table = table_of name a; distinct = distinct; keeps = λ k. refl; total = sym (pool_load_of-table name a) }
 
   pub out_is : IsOut (state_of name a before) (outstanding_of a)
   out_is = record { table = table_of name a; distinct = distinct; keeps = λ k. refl; total = sym (outstanding_of-table name a) }
@@ -96,16 +104,16 @@ module _ {P : Type 0} (name : P → ℕ) (a : Allocations P) (before : Ledger) (
         | inr past ↦ (rw past.0 (past_bound (inl past.1)))
       ]
 
-module _ {P S : Type 0} (name : P → ℕ) (set_name : S → ℕ) (most : ℕ) (es fs : List (BucketKey × DescriptorBucket P)) where
+module _ {P S : Type 0} (name : P → ℕ) (set_name : S → ℕ) (most looks_before looks_after compared : ℕ) (es fs : List (BucketKey × DescriptorBucket P)) where
   abbrev old : Allocations P
-  old = record { limit = most; table = map row_of es }
+  old = record { limit = most; table = map row_of es; looks = looks_before; comparisons = compared }
 
   abbrev new : Allocations P
-  new = record { limit = most; table = map row_of fs }
+  new = record { limit = most; table = map row_of fs; looks = looks_after; comparisons = compared }
 
-  pub takes : (key : BucketKey) (count : ℕ) (sets : List (DescriptorSet S)) (taken : Result (Unit {0}) Refusal) (before after : Ledger) → HasDistinctKeys (table_of name old) → HasDistinctKeys (table_of name new) → ServesKey name set_name key count sets taken es fs before after
+  pub takes : (key : BucketKey) (room count : ℕ) (sets : List (DescriptorSet S)) (taken : Result (Unit {0}) Refusal) (before after : Ledger) → HasDistinctKeys (table_of name old) → HasDistinctKeys (table_of name new) → ServesKey name set_name key room count sets taken es fs before after → room + sum_by pools_load_in es ≡ most
       → ((key_of key).marked ≡ true → count * sum (key_of key).counts + marked_load_of old ≤ most) → outstanding_of old + count ≤ 18446744073709551615 → Takes name set_name (key_of key) count sets taken old new before after
-  takes key count sets taken before after distinct still s within fits = record {
+  takes key room count sets taken before after distinct still s all within fits = record {
     distinct = distinct;
     still = still;
     within = within;
@@ -115,10 +123,13 @@ module _ {P S : Type 0} (name : P → ℕ) (set_name : S → ℕ) (most : ℕ) (
     marked = (let a = rows_load es in let b = rows_load fs in let c = s.load in omega arith);
     pools = s.pools;
     state = λ i. record { books = fun_ext (λ l. s.books l ∙ at l (key_eq (key_of key) l) refl) i; ledger = after.pools };
-    done = s.done;
-    stopped = s.stopped;
+    done = subst (λ r. OnOk taken (let b = books_in name es (key_of key) in IsTakenAll (key_of key) r count b.first (items_of set_name sets) b.pools s.pools before after)) room_is s.done;
+    stopped = subst (λ r. IfErr taken (λ why. let b = books_in name es (key_of key) in IsTakenUpTo why (key_of key) r count b.first (items_of set_name sets) b.pools s.pools before after)) room_is s.stopped;
   }
     where
+      room_is : room ≡ most - pool_load_of old
+      room_is = (let rows = rows_pool_load es in omega arith)
+
       at : (l : Key) (b : Bool) → key_eq (key_of key) l ≡ b → (if b then record (books_in name es (key_of key)) { pools = s.pools } else books_in name es l) ≡ (if b then record (books_in name es l) { pools = s.pools } else books_in name es l)
       at l true h = ap (λ (x : Key). let r : Bucket = record (books_in name es x) { pools = s.pools } in r) (key_exact.same (key_of key) l h)
       at l false h = refl

@@ -12,6 +12,7 @@ use Rattle.gpu_descriptor_types.specs.Flags.{IsUpdateAfterBind}
 use Rattle.gpu_descriptor_types.specs.Ledger.{Ledger, HasRoom}
 use Rattle.gpu_descriptor_types.specs.Multiset.{LiveSet, set_eq, times}
 use Rattle.gpu_descriptor_types.specs.PoolSize.{pool_counts}
+use Rattle.gpu_descriptor.proofs.Sized.{size_of}
 
 abbrev pub key_with : List ℕ → Bool → Key
 key_with counts mark = record { counts = counts; marked = mark }
@@ -61,9 +62,10 @@ marked_flags counts false h = absurd (cc)
 
 pub has_room : (counts : List ℕ) (mark : Bool) (e : Entry) (n : ℕ) (l : Ledger) → IsBookedIn (key_with counts mark) l.pools e → n ≤ e.free → HasRoom e.pool n counts mark l
 has_room counts mark e n l b few =
-    let sets : List LiveSet = b.booked.allocated.0 in
-    let long = b.booked.allocated.1 in
-    let spelled = b.booked.allocated.2 in
+    let size = size_of b.booked in
+    let sets : List LiveSet = size.0 in
+    let long = size.1 in
+    let spelled = size.2 in
     record {
       pool = b.pool;
       is_live = b.is_live;

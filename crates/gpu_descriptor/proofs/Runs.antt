@@ -44,7 +44,7 @@ less_none : (e : Entry) → entry_less 0 e ≡ e
 less_none e =
     let allocated : e.allocated - 0 ≡ e.allocated = omega arith in
     let free : e.free + 0 ≡ e.free = omega arith in
-    λ i. record { pool = e.pool; allocated = allocated i; free = free i }
+    λ i. record { pool = e.pool; capacity = e.capacity; allocated = allocated i; free = free i }
 
 pub untouched_rest : (n : ℕ) (pool : ℕ) (es : List Entry) → ((i : ℕ) (d : Entry) → slice_get es i ≡ Some d → pool ≢ d.pool) → map (λ d. entry_less (if pool == d.pool then n else 0) d) es ≡ es
 untouched_rest n pool [] h = refl

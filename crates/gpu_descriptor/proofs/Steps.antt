@@ -104,7 +104,7 @@ module _ (n first i : ℕ) (refused : ℕ → Bool) (parts : List Part) (old : L
       let r = all_same a.refused e.pool refused n newer apart in
       let o = offer_now in
       let s = share_now in
-      let is : shared now n newer e ≡ f = same_entry _ _ refl (let x : e.allocated + share now n newer e ≡ e.allocated + length names = omega arith in x) (let x : offer now e - share now n newer e ≡ (if a.refused then 0 else e.free) - length names = omega arith in x) ∙ sym a.entry in
+      let is : shared now n newer e ≡ f = same_entry _ _ refl refl (let x : e.allocated + share now n newer e ≡ e.allocated + length names = omega arith in x) (let x : offer now e - share now n newer e ≡ (if a.refused then 0 else e.free) - length names = omega arith in x) ∙ sym a.entry in
       cc
 
   count_now : asked_count now n (e ∷ newer) ≡ (if nat_lt 0 e.free && nat_lt 0 (rest refused n newer) then 1 else 0) + asked_count refused n newer

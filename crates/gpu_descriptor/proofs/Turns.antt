@@ -14,6 +14,7 @@ use Rattle.gpu_descriptor.specs.Release.{is_empty, spent_front, without_front, i
 use Rattle.gpu_descriptor.specs.Stored.{entry_of}
 use Rattle.gpu_descriptor.proofs.Fronts.{spent, spent_yes, spent_no, spent_one}
 use Rattle.gpu_descriptor.proofs.LedgerPools.{with_pool, with_pool_other, destroyed_none, destroyed_both}
+use Rattle.gpu_descriptor.proofs.Sized.{size_of}
 
 abbrev pub bucket : ℕ → List Entry → Bucket
 bucket first es = record { first = first; pools = es }
@@ -45,7 +46,7 @@ step_ledger first x y es l empty =
 pub front_unused : (k : Key) (first : ℕ) (x : Entry) (es : List Entry) (l : Ledger) → AreBookedIn k l.pools (x ∷ es) → x.allocated ≡ 0 → HasNoSets x.pool l
 front_unused k first x es l stored none =
     let found = stored.each 0 x refl in
-    let size = found.booked.allocated in
+    let size = size_of found.booked in
     record {
       pool = found.pool;
       is_live = found.is_live;

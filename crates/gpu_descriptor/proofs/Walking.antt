@@ -1,5 +1,5 @@
 -- The walk over a key's pools, as far as it has come.
-use Rattle.std.proofs.Common.{◌≡◌, ◌≢◌, ℕ, zero, suc, ◌+◌, ◌<◌, ◌≤◌, List, [], ◌∷◌, ◌++◌, length, map, take, drop, slice_set, Bool, false, nat_lt, ◌&&◌, Option, Some, None, refl, sym, ap, ◌∙◌, subst, arith}
+use Rattle.std.proofs.Common.{◌≡◌, ◌≢◌, ℕ, zero, suc, ◌+◌, ◌<◌, ◌≤◌, List, [], ◌∷◌, ◌++◌, length, map, min, take, drop, slice_set, Bool, false, nat_lt, ◌&&◌, Option, Some, None, refl, sym, ap, ◌∙◌, subst, arith}
 use Rattle.std.proofs.lemmas.List.{append-nil}
 use Rattle.std.proofs.Math.Path.{fun_ext}
 use Rattle.std.proofs.lemmas.Grind.{flat_map-append}
@@ -168,6 +168,20 @@ walk_skip k n first (suc i) items old new l m booked here s =
     let next : Walking k n first i 0 (items ++ []) old (slice_set new i e) l m = walk_more k n first i 0 items old new l m booked s e e [] m 0 at.1 (skipped k 0 e m (omega arith)) refl in
     walk_skip k n first i items old new l m booked (omega arith)
     (subst (λ (x : List Entry). Walking k n first i 0 items old x l m) (set_same new i e is) (subst (λ (x : List Item). Walking k n first i 0 x old (slice_set new i e) l m) (append-nil items) next))
+
+-- older pools that have nothing, or of which nothing is wanted, are left as they are
+pub walk_gap : (k : Key) (n first wanting : ℕ) (items : List Item) (old new : List Entry) (l m : Ledger) → AreBookedIn k l.pools old → (gap i left : ℕ) → left ≡ gap + i → left ≤ length old → ((j : ℕ) (e : Entry) → i ≤ j → j < left → slice_get new j ≡ Some e → min wanting e.free ≡ 0) → Walking k n first left wanting items old new l m → Walking k n first i wanting items old new l m
+walk_gap k n first wanting items old new l m booked zero i left is here none s = subst (λ (j : ℕ). Walking k n first j wanting items old new l m) (let e : left ≡ i = omega arith in e) s
+walk_gap k n first wanting items old new l m booked (suc gap) i left is here none s =
+    let one : left ≡ suc (gap + i) = omega arith in
+    let at = get_at old (gap + i) (omega arith) in
+    let e : Entry = at.0 in
+    let from : Walking k n first (suc (gap + i)) wanting items old new l m = subst (λ (j : ℕ). Walking k n first j wanting items old new l m) one s in
+    let there : slice_get new (gap + i) ≡ Some e = next_was k n first (gap + i) wanting items old new l m booked from (omega arith) ∙ at.1 in
+    let nothing = none (gap + i) e (omega arith) (omega arith) there in
+    let next : Walking k n first (gap + i) wanting (items ++ []) old (slice_set new (gap + i) e) l m = walk_more k n first (gap + i) wanting items old new l m booked from e e [] m wanting at.1 (skipped k wanting e m nothing) (omega arith) in
+    walk_gap k n first wanting items old new l m booked gap i (gap + i) refl (omega arith) (λ j d le lt there. none j d le (omega arith) there)
+    (subst (λ (x : List Entry). Walking k n first (gap + i) wanting items old x l m) (set_same new (gap + i) e there) (subst (λ (x : List Item). Walking k n first (gap + i) wanting x old (slice_set new (gap + i) e) l m) (append-nil items) next))
 
 -- sets of one pool, as the books see them
 pub items_of-sets_at : {S : Type 0} (name : S → ℕ) (k : BucketKey) (number : ℕ) (raws : List S) → items_of name (sets_at k number raws) ≡ items_at (key_of k) number (map name raws)

@@ -57,9 +57,11 @@ pub record IsAsBooked (k : Key) (pool : Pool) (e : Entry) : Type 0 where
   pub flags : pool.flags ≡ flags_of k
   pub at_least : 1 ≤ pool.capacity
   pub small : pool.capacity ≤ 2147483648
+  pub capacity : e.capacity ≡ pool.capacity
   pub counts : pool.counts ≡ pool_counts k.counts pool.capacity
   pub sets : (x : LiveSet) → 0 < pool.live x → x.counts ≡ k.counts
-  pub allocated : HasSize pool.live e.allocated
+  -- only that there is a list: so there is one proof at most that books and ledger agree
+  pub allocated : ∥ HasSize pool.live e.allocated ∥₁
   pub room : e.allocated + e.free ≤ pool.capacity
   pub full : pool.refusals ≡ 0 → e.allocated + e.free ≡ pool.capacity
 
@@ -70,6 +72,10 @@ pub record Agree (s : State) : Type 0 where
   pub booked : (k : Key) (n : ℕ) (e : Entry) → entry_at (s.books k) n ≡ Some e → (pool : Pool) × (s.ledger e.pool ≡ Some pool) × IsAsBooked k pool e
   -- a key without pools is as one that never came
   pub absent : (k : Key) → (s.books k).pools ≡ [] → (s.books k).first ≡ 0
+
+-- that they agree has one proof at most
+abbrev pub AgreesOnce : Type 0
+AgreesOnce = (s : State) → IsProp (Agree s)
 
 -- an allocator without keys agrees with every ledger
 abbrev pub EmptyAgrees : Type 0

@@ -12,9 +12,10 @@ pub record Key : Type 0 where
 abbrev pub key_eq : Key → Key → Bool
 key_eq k l = pointwise nat_eq k.counts l.counts && beq k.marked l.marked
 
--- a pool in the books: its name, how many of its sets are allocated, how many free places are known
+-- a pool in the books: its name, how many sets it holds, how many of these are allocated, how many free places are known
 pub record Entry : Type 0 where
   pub pool : ℕ
+  pub capacity : ℕ
   pub allocated : ℕ
   pub free : ℕ
 

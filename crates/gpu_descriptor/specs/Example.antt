@@ -5,12 +5,14 @@ use Rattle.std.proofs.Common.{◌≡◌, ℕ, ◌-◌, ◌==◌, Bool, true, fal
 use Rattle.std.proofs.Math.Nat.{sub-zero}
 use Rattle.std.proofs.lemmas.Bool.{eqb-true, true≢false}
 use Rattle.std.specs.List.{list_any}
-use Rattle.std.specs.Prelude.{if◌then◌else◌, count_by, option_map}
+use Rattle.std.specs.Prelude.{if◌then◌else◌, count_by, option_map, replicate}
 use Rattle.gpu_descriptor_types.specs.Ledger.{Pool}
 use Rattle.gpu_descriptor_types.specs.Multiset.{LiveSet, set_eq}
 use Rattle.gpu_descriptor.specs.Agreement.{State, Item, set_of}
 use Rattle.gpu_descriptor.specs.Books.{Key, key_eq, Entry, Bucket, no_pools}
 use Rattle.gpu_descriptor.specs.Cleanup.{IsCleaned, cleaned_bucket}
+use Rattle.gpu_descriptor_types.specs.PoolSize.{sets_in_room}
+use Rattle.gpu_descriptor.specs.Load.{pool_load, pools_load}
 use Rattle.gpu_descriptor.specs.Release.{bucket_less, pool_less, lies_in, spent_front, empty_front, without_front, in_front, released}
 
 -- ---- the state
@@ -25,10 +27,10 @@ marked = record { counts = 0 ∷ 0 ∷ 3 ∷ 0 ∷ 0 ∷ 0 ∷ 0 ∷ 0 ∷ 0 ∷
 
 -- a pool without sets, and one with one
 abbrev unused : ℕ → Entry
-unused pool = record { pool = pool; allocated = 0; free = 64 }
+unused pool = record { pool = pool; capacity = 64; allocated = 0; free = 64 }
 
 abbrev used : ℕ → Entry
-used pool = record { pool = pool; allocated = 1; free = 63 }
+used pool = record { pool = pool; capacity = 64; allocated = 1; free = 63 }
 
 -- pools of a key from this number on
 abbrev from : ℕ → List Entry → Bucket
@@ -91,6 +93,22 @@ set_102 = record { key = plain; number = 9; name = 102 }
 
 abbrev set_104 : Item
 set_104 = record { key = plain; number = 11; name = 104 }
+
+-- ---- the limit on pools
+
+-- a marked pool of 64 sets has 192 descriptors, also where it is empty, and one of a set without descriptors has one
+marked_pools_load : pools_load marked marked_pools ≡ 384
+marked_pools_load = refl
+
+bare_load : pool_load (record { counts = replicate 14 0; marked = true }) 64 ≡ 1
+bare_load = refl
+
+-- where room is left for 10, the next pool holds 3 sets of three, and none where it is left for 2
+cut_size : sets_in_room 10 3 64 ≡ 3
+cut_size = refl
+
+no_size : sets_in_room 2 3 64 ≡ 0
+no_size = refl
 
 -- ---- sets go back
 

@@ -3,6 +3,7 @@ pub mod Allocated
 pub mod Books
 pub mod Buckets
 pub mod Cleanup
+pub mod Digits
 pub mod Errors
 pub mod Example
 pub mod Foreign
@@ -13,6 +14,8 @@ pub mod Grow
 pub mod LayoutFlags
 pub mod Load
 pub mod OtherKeys
+pub mod Open
+pub mod OpenNumbers
 pub mod Outcomes
 pub mod Promises
 pub mod Release

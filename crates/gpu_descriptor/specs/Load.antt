@@ -1,6 +1,7 @@
--- What is out in all keys: sets, and descriptors of marked sets.
-use Rattle.std.specs.Prelude.{◌≡◌, ℕ, ◌*◌, if◌then◌else◌, List, length, sum, sum_by}
-use Rattle.gpu_descriptor.specs.Books.{Key, Entry, Bucket, AddsUp}
+-- What is out in all keys: sets, and descriptors of marked sets. What the pools of marked keys have.
+use Rattle.std.specs.Prelude.{◌≡◌, ℕ, ◌*◌, max, true, Some, if◌then◌else◌, List, length, sum, sum_by}
+use Rattle.gpu_descriptor_types.specs.Ledger.{Pool}
+use Rattle.gpu_descriptor.specs.Books.{Key, Entry, Bucket, AddsUp, entry_at}
 use Rattle.gpu_descriptor.specs.Agreement.{State, Item, Agree, count_of, outstanding}
 
 -- the sets that are out of these pools
@@ -19,6 +20,17 @@ descriptors_out k b = if k.marked then held b.pools * sum k.counts else 0
 abbrev pub marked_load : Key → ℕ → ℕ
 marked_load k sets = if k.marked then sets * sum k.counts else 0
 
+-- the descriptors of a pool of so many sets of a key, if it is marked. Without descriptors it has one
+abbrev pub pool_load : Key → ℕ → ℕ
+pool_load k sets = if k.marked then max 1 (sets * sum k.counts) else 0
+
+-- the descriptors of these pools
+abbrev pub entries_load : Key → List Entry → ℕ
+entries_load k pools = sum_by (λ e. pool_load k e.capacity) pools
+
+abbrev pub pools_load : Key → Bucket → ℕ
+pools_load k b = entries_load k b.pools
+
 -- so many sets are out
 abbrev pub IsOut : State → ℕ → Type 0
 IsOut s n = AddsUp sets_out s.books n
@@ -26,6 +38,14 @@ IsOut s n = AddsUp sets_out s.books n
 -- so many descriptors of marked sets are out
 abbrev pub IsMarkedLoad : State → ℕ → Type 0
 IsMarkedLoad s n = AddsUp descriptors_out s.books n
+
+-- the pools of marked keys have so many descriptors, whatever is out of them
+abbrev pub IsPoolLoad : State → ℕ → Type 0
+IsPoolLoad s n = AddsUp pools_load s.books n
+
+-- where books and ledger agree, those are the descriptors that the device created the pools with. A layout's counts are fourteen
+abbrev pub PoolLoadIsCounts : Type 0
+PoolLoadIsCounts = (s : State) (k : Key) (n : ℕ) (e : Entry) (pool : Pool) → Agree s → length k.counts ≡ 14 → k.marked ≡ true → entry_at (s.books k) n ≡ Some e → s.ledger e.pool ≡ Some pool → sum pool.counts ≡ pool_load k e.capacity
 
 -- where books and ledger agree, as many sets are out as are outstanding: those of a list of this length
 abbrev pub OutIsSize : Type 0

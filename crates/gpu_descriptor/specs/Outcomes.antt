@@ -1,5 +1,5 @@
 -- What a request for sets may do: its outcomes.
-use Rattle.std.specs.Prelude.{◌≡◌, ℕ, ◌+◌, ◌*◌, ◌≤◌, ◌<◌, true, ◌⊎◌, List, [], ◌∷◌, ◌++◌, map, length, sum, drop, Result, Ok, Err}
+use Rattle.std.specs.Prelude.{◌≡◌, ℕ, ◌+◌, ◌-◌, ◌*◌, ◌≤◌, ◌<◌, true, ◌⊎◌, List, [], ◌∷◌, ◌++◌, map, length, sum, drop, Result, Ok, Err}
 use Rattle.gpu_descriptor_types.specs.Ledger.{Counters, create_refused, alloc_refused, pool_refusals}
 use Rattle.gpu_descriptor_types.specs.declared.errors.CreatePoolError.{CreatePoolError}
 use Rattle.gpu_descriptor_types.specs.declared.errors.DeviceAllocationError.{DeviceAllocationError}
@@ -9,16 +9,16 @@ use Rattle.gpu_descriptor.specs.Errors.{error_of_create, error_of_alloc}
 use Rattle.gpu_descriptor.specs.Books.{Key, Entry, next_number}
 use Rattle.gpu_descriptor.specs.Agreement.{State, Item}
 use Rattle.gpu_descriptor.specs.Release.{given_back, released, pools_gone}
-use Rattle.gpu_descriptor.specs.Load.{held, IsOut, IsMarkedLoad}
+use Rattle.gpu_descriptor.specs.Load.{held, pool_load, IsOut, IsMarkedLoad, IsPoolLoad}
 use Rattle.gpu_descriptor.specs.Runs.{runs}
 use Rattle.gpu_descriptor.specs.Shares.{rest, is_asked, all_shared, asked_count, refused_count, OnlyAskedRefuse, portions_of}
-use Rattle.gpu_descriptor.specs.FreshPools.{AreNew, IsFreshFront, IsFreshList, fresh_portions}
+use Rattle.gpu_descriptor.specs.FreshPools.{AreNew, IsFreshFront, IsFreshList, fresh_portions, room_after}
 use Rattle.gpu_descriptor.specs.Grants.{Grant, portion_of, items_in, granted}
 
 pub record Request : Type 0 where
   pub key : Key
   pub count : ℕ
-  -- how many descriptors of marked sets may be out
+  -- how many descriptors marked sets may have that are out, and the pools of marked keys
   pub limit : ℕ
 
 -- ---- counters
@@ -68,7 +68,21 @@ out_then r s g = held (all_shared g.refused r.count (s.books r.key).pools)
 -- after a front of new pools one more is wanting
 pub record IsFront (r : Request) (s : State) (g : Grant) : Type 0 where
   pub all : g.left ≡ 0
-  pub front : IsFreshFront r.key.counts (out_then r s g) (wanting r s g) g.fresh
+  -- the descriptors of the marked keys' pools before
+  pub load : ℕ
+  pub is_load : IsPoolLoad s load
+  pub front : IsFreshFront r.key (r.limit - load) (out_then r s g) (wanting r s g) g.fresh
+
+-- what the limit leaves for one more
+abbrev pub room_left : {r : Request} → {s : State} → {g : Grant} → IsFront r s g → ℕ
+room_left {r} {s} {g} front = room_after r.key (r.limit - front.load) g.fresh
+
+-- a pool of one set has room, or not even that
+abbrev pub HasRoomLeft : {r : Request} → {s : State} → {g : Grant} → IsFront r s g → Type 0
+HasRoomLeft {r} front = pool_load r.key 1 ≤ room_left front
+
+abbrev pub HasNoRoomLeft : {r : Request} → {s : State} → {g : Grant} → IsFront r s g → Type 0
+HasNoRoomLeft {r} front = room_left front < pool_load r.key 1
 
 -- ---- the outcomes
 
@@ -120,7 +134,9 @@ pub record IsDone (c : Call) : Type 0 where
   pub grant : Grant
   pub taken : IsGrant c.request c.old grant
   pub all : grant.left ≡ 0
-  pub fresh : IsFreshList c.request.key.counts (out_then c.request c.old grant) (wanting c.request c.old grant) grant.fresh
+  pub load : ℕ
+  pub is_load : IsPoolLoad c.old load
+  pub fresh : IsFreshList c.request.key (c.request.limit - load) (out_then c.request c.old grant) (wanting c.request c.old grant) grant.fresh
   pub answer : c.answer ≡ Ok (items_in c.request.key grant.parts)
   pub state : c.new ≡ granted c.request.key c.request.count grant c.old
   pub counters : c.after ≡ risen (grant_rise c.request.count grant (c.old.books c.request.key).pools) c.before
@@ -146,10 +162,18 @@ pub record IsStoppedAtPool (c : Call) : Type 0 where
   pub memory : pool_refusals error ≡ 0
   pub back : IsBack c grant (alloc_refused error no_rise) (error_of_alloc error)
 
+-- for want of room for a new pool of a marked key
+pub record IsStoppedWithoutRoom (c : Call) : Type 0 where
+  pub grant : Grant
+  pub front : IsFront c.request c.old grant
+  pub no_room : HasNoRoomLeft front
+  pub back : IsBack c grant no_rise Fragmentation
+
 -- at the create of a new pool
 pub record IsStoppedAtCreate (c : Call) : Type 0 where
   pub grant : Grant
   pub front : IsFront c.request c.old grant
+  pub room : HasRoomLeft front
   pub error : CreatePoolError
   pub back : IsBack c grant (create_refused error no_rise) (error_of_create error)
 
@@ -157,12 +181,14 @@ pub record IsStoppedAtCreate (c : Call) : Type 0 where
 pub record IsStoppedForMemory (c : Call) : Type 0 where
   pub grant : Grant
   pub front : IsFront c.request c.old grant
+  pub room : HasRoomLeft front
   pub back : IsBack c grant no_rise OutOfHostMemory
 
 -- at a new pool, which was created, refused, and was destroyed
 pub record IsStoppedAtFresh (c : Call) : Type 0 where
   pub grant : Grant
   pub front : IsFront c.request c.old grant
+  pub room : HasRoomLeft front
   pub error : DeviceAllocationError
   pub back : IsBack c grant (let asked = alloc_refused error no_rise in record asked { created = 1; destroyed = 1 }) (error_of_alloc error)
 
@@ -173,6 +199,7 @@ pub data Allocates (c : Call) : Type 0 where
   start : Proceeds c → c.answer ≡ Err OutOfHostMemory → Stays c → Allocates c
   done : Proceeds c → IsDone c → Allocates c
   stopped_at_pool : Proceeds c → IsStoppedAtPool c → Allocates c
+  stopped_without_room : Proceeds c → IsStoppedWithoutRoom c → Allocates c
   stopped_at_create : Proceeds c → IsStoppedAtCreate c → Allocates c
   stopped_for_memory : Proceeds c → IsStoppedForMemory c → Allocates c
   stopped_at_fresh : Proceeds c → IsStoppedAtFresh c → Allocates c

@@ -1,5 +1,5 @@
 -- What a caller may read off a request without its outcomes.
-use Rattle.std.specs.Prelude.{◌≡◌, ℕ, ◌+◌, ◌-◌, ◌*◌, ◌<◌, ◌≤◌, Bool, true, min, List, [], ◌∷◌, length, take, sum_by, All, Some, slice_get, OnOk, Result, Err}
+use Rattle.std.specs.Prelude.{◌≡◌, ℕ, ◌+◌, ◌-◌, ◌*◌, ◌<◌, ◌≤◌, ◌⊎◌, Bool, true, min, List, [], ◌∷◌, length, take, sum_by, All, Some, slice_get, OnOk, Result, Err}
 use Rattle.gpu_descriptor_types.specs.Ledger.{Pool, pool_refusals}
 use Rattle.gpu_descriptor_types.specs.declared.errors.CreatePoolError.TheVariants as create_error
 use Rattle.gpu_descriptor_types.specs.PoolSize.{pool_size_floor, start_size}
@@ -7,7 +7,7 @@ use Rattle.gpu_descriptor.specs.declared.errors.AllocationError.{AllocationError
 use Rattle.gpu_descriptor.specs.declared.errors.AllocationError.TheVariants.{OutOfDeviceMemory, OutOfHostMemory, Fragmentation}
 use Rattle.gpu_descriptor.specs.Books.{Key, Entry, entry_at, next_number}
 use Rattle.gpu_descriptor.specs.Agreement.{State, Item, count_of, outstanding}
-use Rattle.gpu_descriptor.specs.Outcomes.{Call, IsAboveLimit, IsPastBound, IsStoppedAtCreate, IsStoppedForMemory, IsStoppedAtFresh, Proceeds, Stays}
+use Rattle.gpu_descriptor.specs.Outcomes.{Call, IsAboveLimit, IsPastBound, IsStoppedWithoutRoom, IsStoppedAtCreate, IsStoppedForMemory, IsStoppedAtFresh, Proceeds, Stays}
 use Rattle.gpu_descriptor.specs.Load.{held}
 use Rattle.gpu_descriptor.specs.Shares.{offer, rest, all_shared, refused_count, OnlyAskedRefuse}
 
@@ -23,10 +23,11 @@ KeepsOutstanding old new = (t : Item) → outstanding new t ≡ outstanding old 
 abbrev pub AreOfKey : Key → List Item → Type 0
 AreOfKey k items = (t : Item) → 0 < count_of t items → t.key ≡ k
 
--- the four causes of Fragmentation
+-- the five causes of Fragmentation
 pub data IsFragmentation (c : Call) : Type 0 where
   above_limit : IsAboveLimit c → IsFragmentation c
   past_bound : IsPastBound c → IsFragmentation c
+  no_room_left : IsStoppedWithoutRoom c → IsFragmentation c
   no_pool_created : (s : IsStoppedAtCreate c) → s.error ≡ create_error.Fragmentation → c.before.fragmentation < c.after.fragmentation → IsFragmentation c
   new_pool_refused : (s : IsStoppedAtFresh c) → pool_refusals s.error ≡ 1 → c.before.pool_refused < c.after.pool_refused → IsFragmentation c
 
@@ -63,7 +64,7 @@ pub record HasNewPools (c : Call) (wanted : ℕ) : Type 0 where
   pub stay : OnOk c.answer ((c.new.books c.request.key).first ≡ (c.old.books c.request.key).first)
   pub met : OnOk c.answer (c.after.created ≡ c.before.created + length sizes)
 
--- 1 where a request that created pools failed as Fragmentation: a create or a new pool was refused last
+-- 1 where a request that created pools failed as Fragmentation: a create or a new pool was refused last, if there was room
 abbrev pub last_refusal : Result (List Item) AllocationError → ℕ
 last_refusal (Err Fragmentation) = 1
 last_refusal _ = 0
@@ -74,8 +75,10 @@ pub record IsShort (c : Call) : Type 0 where
   pub only_asked : OnlyAskedRefuse refused c.request.count (c.old.books c.request.key).pools
   -- a pool refused only where the ledger has one refusal more of it, if it is still there
   pub raised : (name : ℕ) (p q : Pool) → refused name ≡ true → c.old.ledger name ≡ Some p → c.new.ledger name ≡ Some q → q.refusals ≡ p.refusals + 1
-  -- as many refusals of pools for their own sake and of creates as fragmentation as there are such pools, and one more where the request failed so
-  pub counted : c.after.pool_refused + c.after.fragmentation ≡ c.before.pool_refused + c.before.fragmentation + refused_count refused (c.old.books c.request.key).pools + last_refusal c.answer
+  -- as many refusals of pools for their own sake and of creates as fragmentation as there are such pools, and one more where the request failed so, and not for want of room
+  pub last : ℕ
+  pub is_last : (last ≡ last_refusal c.answer) ⊎ (IsStoppedWithoutRoom c × (last ≡ 0))
+  pub counted : c.after.pool_refused + c.after.fragmentation ≡ c.before.pool_refused + c.before.fragmentation + refused_count refused (c.old.books c.request.key).pools + last
   pub short : sum_by (offer refused) (c.old.books c.request.key).pools < c.request.count
   -- so they have no known free place left when the first new one comes
   pub used_up : All (λ e. e.free ≡ 0) (all_shared refused c.request.count (c.old.books c.request.key).pools)

@@ -1,5 +1,5 @@
 -- A request of an allocator over a device, in the words of the books.
-use Rattle.std.specs.Prelude.{◌≡◌, ℕ, ◌+◌, ◌*◌, ◌≤◌, true, List, length, sum, OnOk, IfErr, Result, Ok, Err}
+use Rattle.std.specs.Prelude.{◌≡◌, ℕ, ◌+◌, ◌-◌, ◌*◌, ◌≤◌, true, List, length, sum, OnOk, IfErr, Result, Ok, Err}
 use Rattle.std.specs.Global.{Vec}
 use Rattle.gpu_descriptor_types.specs.Ledger.{Ledger}
 use Rattle.gpu_descriptor.specs.declared.errors.AllocationError.{AllocationError}
@@ -8,7 +8,7 @@ use Rattle.gpu_descriptor.specs.declared.take.Refusal.{Refusal}
 use Rattle.gpu_descriptor.specs.Books.{Key, Entry, HasDistinctKeys, next_number}
 use Rattle.gpu_descriptor.specs.Agreement.{Item}
 use Rattle.gpu_descriptor.specs.Sets.{items_of}
-use Rattle.gpu_descriptor.specs.States.{state_of, table_of, outstanding_of, marked_load_of}
+use Rattle.gpu_descriptor.specs.States.{state_of, table_of, outstanding_of, marked_load_of, pool_load_of}
 use Rattle.gpu_descriptor.specs.Values.{Allocations}
 use Rattle.gpu_descriptor.specs.Load.{marked_load}
 use Rattle.gpu_descriptor.specs.Outcomes.{Call}
@@ -43,5 +43,5 @@ pub record Takes {P S : Type 0} (pool_name : P → ℕ) (set_name : S → ℕ) (
   pub marked : marked_load_of new ≡ marked_load_of old + marked_load k (length sets)
   pub pools : List Entry
   pub state : state_of pool_name new after ≡ with_pools k pools after.pools (state_of pool_name old before)
-  pub done : OnOk taken (let b = (state_of pool_name old before).books k in IsTakenAll k count b.first (items_of set_name sets) b.pools pools before after)
-  pub stopped : IfErr taken (λ why. let b = (state_of pool_name old before).books k in IsTakenUpTo why k count b.first (items_of set_name sets) b.pools pools before after)
+  pub done : OnOk taken (let b = (state_of pool_name old before).books k in IsTakenAll k (old.limit - pool_load_of old) count b.first (items_of set_name sets) b.pools pools before after)
+  pub stopped : IfErr taken (λ why. let b = (state_of pool_name old before).books k in IsTakenUpTo why k (old.limit - pool_load_of old) count b.first (items_of set_name sets) b.pools pools before after)

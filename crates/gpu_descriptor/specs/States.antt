@@ -3,12 +3,13 @@ use Rattle.std.specs.Prelude.{ℕ, ◌*◌, if◌then◌else◌, map, List, sum,
 use Rattle.gpu_descriptor_types.specs.Ledger.{Ledger}
 use Rattle.gpu_descriptor.specs.Books.{Key, Entry, Bucket, books_of}
 use Rattle.gpu_descriptor.specs.Agreement.{State, Agree}
+use Rattle.gpu_descriptor.specs.Load.{pool_load}
 use Rattle.gpu_descriptor.specs.Values.{Kept, Row, Allocations}
 
 module _ {P : Type 0} (name : P → ℕ) where
   -- a pool in the books, under the name that the device gives it
   abbrev pub named : Kept P → Entry
-  named p = record { pool = name p.raw; allocated = p.allocated; free = p.free }
+  named p = record { pool = name p.raw; capacity = p.capacity; allocated = p.allocated; free = p.free }
 
   abbrev pub named_row : Row P → Key × Bucket
   named_row r = (r.key, record { first = r.first; pools = map named r.pools })
@@ -45,3 +46,11 @@ module _ {P : Type 0} where
   -- how many descriptors the marked sets have that are out
   abbrev pub marked_load_of : Allocations P → ℕ
   marked_load_of a = sum_by descriptors_in a.table
+
+  -- how many descriptors a key's pools have, if it is marked
+  abbrev pub pool_descriptors_in : Row P → ℕ
+  pool_descriptors_in r = sum_by (λ p. pool_load r.key p.capacity) r.pools
+
+  -- how many descriptors the pools of marked keys have
+  abbrev pub pool_load_of : Allocations P → ℕ
+  pool_load_of a = sum_by pool_descriptors_in a.table

@@ -69,14 +69,11 @@ impl<S> SetSink<S> for Allocation<S> {
     }
 
     fn put(&mut self, set: S) {
-        let set = DescriptorSet {
+        self.sets.push_reserved(DescriptorSet {
             raw: set,
             number: self.number,
             key: self.key,
-        };
-        match self.sets.push(set) {
-            Ok(()) => self.left -= 1,
-            Err(_) => unreachable!(),
-        }
+        });
+        self.left -= 1;
     }
 }

@@ -8,6 +8,7 @@ mod readers;
 
 use crate::bucket::DescriptorBucket;
 use crate::set::BucketKey;
+use gpu_descriptor_types::Tally;
 use indexmap::IndexMap;
 use std::alloc::Global;
 use std::marker::{Model, PhantomData};
@@ -22,7 +23,11 @@ pub struct DescriptorAllocator<P, S> {
     buckets: IndexMap<BucketKey, DescriptorBucket<P>>,
     max_update_after_bind_descriptors_in_all_pools: u32,
     current_update_after_bind_descriptors_in_all_pools: u32,
+    /// What the limit leaves for descriptors of further pools of marked layouts.
+    update_after_bind_room: u32,
     outstanding: u64,
+    looks: Tally,
+    comparisons: Tally,
     sets: PhantomData<S>,
 }
 
@@ -36,23 +41,26 @@ impl<P, S> Model for DescriptorAllocator<P, S> {
     ghost use Rattle.std.specs.Prelude.{map};
     ghost use Rattle.gpu_descriptor.specs.Stored.{row_of, IsCounted};
 
-    ghost view = { λ a. record { limit = a.max_update_after_bind_descriptors_in_all_pools; table = map row_of a.buckets.entries } };
+    ghost view = { λ a. record { limit = a.max_update_after_bind_descriptors_in_all_pools; table = map row_of a.buckets.entries; looks = a.looks.count; comparisons = a.comparisons.count } };
 
-    ghost invariant = { λ a. IsCounted a.max_update_after_bind_descriptors_in_all_pools a.current_update_after_bind_descriptors_in_all_pools a.outstanding a.buckets.entries };
+    ghost invariant = { λ a. IsCounted a.max_update_after_bind_descriptors_in_all_pools a.current_update_after_bind_descriptors_in_all_pools a.update_after_bind_room a.outstanding a.buckets.entries };
 }
 
 impl<P, S> DescriptorAllocator<P, S> {
     /// An allocator without keys, under a limit on the update-after-bind descriptors of all
-    /// outstanding sets. It takes no memory.
+    /// outstanding sets, and of all pools for such sets. It takes no memory.
     pub fn new(alloc: Global, max_update_after_bind_descriptors_in_all_pools: u32) -> Self
-        ensures { result ≡ record { limit = max_update_after_bind_descriptors_in_all_pools; table = [] } }
+        ensures { result ≡ record { limit = max_update_after_bind_descriptors_in_all_pools; table = []; looks = 0; comparisons = 0 } }
     {
         DescriptorAllocator {
             alloc,
             buckets: IndexMap::new(alloc),
             max_update_after_bind_descriptors_in_all_pools,
             current_update_after_bind_descriptors_in_all_pools: 0,
+            update_after_bind_room: max_update_after_bind_descriptors_in_all_pools,
             outstanding: 0,
+            looks: Tally::zero(),
+            comparisons: Tally::zero(),
             sets: PhantomData,
         }
     }

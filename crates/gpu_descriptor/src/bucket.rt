@@ -1,13 +1,21 @@
 //! The pools of one key.
-ghost use Rattle.std.specs.Prelude.{◌≡◌, ◌+◌, ◌<◌, ◌^◌, length};
+ghost use Rattle.std.specs.Prelude.{◌≡◌, ◌+◌, ◌<◌, ◌≤◌, ◌^◌, length};
+ghost use Rattle.std.specs.VecDeque.{deque_capacity};
 ghost use Rattle.gpu_descriptor.specs.Allocated.{allocated_in};
+ghost use Rattle.gpu_descriptor.specs.Load.{pool_load};
+ghost use Rattle.gpu_descriptor.specs.OpenNumbers.{free_in, open_numbers};
+ghost use Rattle.gpu_descriptor.specs.Sets.{key_of};
 
+use crate::set::BucketKey;
 use std::collections::VecDeque;
 
 /// A pool, and what the books say of it.
 #[derive(Debug, Drop)]
 pub(crate) struct DescriptorPool<P> {
     pub(crate) raw: P,
+
+    /// Number of sets that the pool was created for.
+    pub(crate) capacity: u32,
 
     /// Number of sets allocated from the pool.
     pub(crate) allocated: u32,
@@ -24,8 +32,26 @@ pub(crate) struct DescriptorBucket<P> {
 
     pub(crate) pools: VecDeque<DescriptorPool<P>>,
 
+    /// The numbers of the pools with known free places, rising. There is room for those of all pools.
+    pub(crate) listed: VecDeque<u64>,
+
     /// Number of sets allocated from these pools.
     pub(crate) total: u64,
     ghost numbered: { offset + length pools.items < 2 ^ 64 },
     ghost counted: { total ≡ allocated_in pools.items },
+    ghost open: { listed.items ≡ open_numbers offset (free_in pools.items) },
+    ghost room: { length pools.items ≤ deque_capacity listed },
+}
+
+/// How many descriptors a pool of so many sets has, if its key is marked, and else 0. A pool for
+/// sets without descriptors has one.
+pub(crate) fn descriptors_of_pool(key: &BucketKey, sets: u32) -> u32
+    requires { pool_load (key_of key.now) sets < 2 ^ 32 }
+    ensures { result ≡ pool_load (key_of key.now) sets }
+{
+    if key.update_after_bind {
+        (u64::from(sets) * key.size.total()).max(1) as u32
+    } else {
+        0
+    }
 }

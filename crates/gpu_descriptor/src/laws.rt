@@ -7,10 +7,10 @@ ghost use Rattle.gpu_descriptor_types.specs.Ledger.{Ledger};
 ghost use Rattle.gpu_descriptor.specs.Release.{ReleaseParts, ReleaseGone, ReleaseOrder, ReleaseEach, ReleaseSingly, ReleaseNone, ReleaseAgrees, ReleaseTakes};
 ghost use Rattle.gpu_descriptor.specs.OtherKeys.{ReleaseOthers};
 ghost use Rattle.gpu_descriptor.specs.Cleanup.{CleanAgain, CleanAgainNone, CleanAll, CleanAllGone, CleanOnce, CleanAgrees, CleanTakesNone};
-ghost use Rattle.gpu_descriptor.specs.Agreement.{EmptyAgrees, OwnAgrees, OwnOutstanding};
+ghost use Rattle.gpu_descriptor.specs.Agreement.{AgreesOnce, EmptyAgrees, OwnAgrees, OwnOutstanding};
 ghost use Rattle.gpu_descriptor.specs.Books.{HasDistinctKeys, SumByBooks};
-ghost use Rattle.gpu_descriptor.specs.Load.{IsMarkedLoad, IsOut, OutIsLength, OutIsSize};
-ghost use Rattle.gpu_descriptor.specs.States.{marked_load_of, outstanding_of, state_of, table_of};
+ghost use Rattle.gpu_descriptor.specs.Load.{IsMarkedLoad, IsOut, IsPoolLoad, PoolLoadIsCounts, OutIsLength, OutIsSize};
+ghost use Rattle.gpu_descriptor.specs.States.{marked_load_of, outstanding_of, pool_load_of, state_of, table_of};
 ghost use Rattle.gpu_descriptor.specs.Values.{Allocations};
 ghost use Rattle.gpu_descriptor.specs.LayoutFlags.{layout_bits};
 ghost use Rattle.gpu_descriptor.specs.declared.errors.AllocationError.{AllocationError as Error};
@@ -60,13 +60,27 @@ pub fn books_alone()
     ensures sums { SumByBooks }
 {}
 
-/// Where no key has two rows, the sets and the marked descriptors that an allocator's rows add up to
-/// are those of its books.
+/// That books and ledger agree has one proof at most, so a struct that owns an allocator and its
+/// device can keep it as a ghost field, with `Agree-prop` of `proofs.OneAgreement` after `by`.
+pub fn agreement_is_one()
+    ensures { AgreesOnce }
+{}
+
+/// Where no key has two rows, the sets, the marked descriptors and the descriptors of marked keys'
+/// pools that an allocator's rows add up to are those of its books.
 pub fn rows_add_up<P>()
     ensures out { (name : P → ℕ) (a : Allocations P) (l : Ledger) → HasDistinctKeys (table_of name a)
         → IsOut (state_of name a l) (outstanding_of a) }
     ensures load { (name : P → ℕ) (a : Allocations P) (l : Ledger) → HasDistinctKeys (table_of name a)
         → IsMarkedLoad (state_of name a l) (marked_load_of a) }
+    ensures pool_load { (name : P → ℕ) (a : Allocations P) (l : Ledger) → HasDistinctKeys (table_of name a)
+        → IsPoolLoad (state_of name a l) (pool_load_of a) }
+{}
+
+/// Where books and ledger agree, the descriptors that count towards the limit for a marked key's pool
+/// are those that the device created it with.
+pub fn pools_have_their_load()
+    ensures { PoolLoadIsCounts }
 {}
 
 /// Where books and ledger agree, as many sets are out as are outstanding: a list has each set as

@@ -9,8 +9,10 @@ mod bucket;
 mod errors;
 mod flags;
 pub mod laws;
+mod reads;
 mod release;
 mod run;
+mod search;
 mod set;
 mod take;
 #[cfg(test)]
@@ -22,7 +24,8 @@ pub use errors::AllocationError;
 pub use flags::DescriptorSetLayoutCreateFlags;
 pub use gpu_descriptor_types::{
     Counter, CreatePoolError, DescriptorDevice, DescriptorPoolCreateFlags, DescriptorTotalCount,
-    DeviceAllocationError, Layouts, SetSink, Tally, new_pool_size,
+    DeviceAllocationError, Layouts, SetSink, Tally, cut_pool_size,
+    new_pool_size,
 };
 pub use set::DescriptorSet;
 pub use view::PoolView;

@@ -1,32 +1,38 @@
 //! How a request takes sets from the pools of its key.
-ghost use Rattle.std.specs.Prelude.{◌≡◌, ◌+◌, ◌<◌, ◌≤◌, ◌++◌, ◌^◌, List, [], length, map, if◌then◌else◌, IfOk, IfErr, OnOk};
+ghost use Rattle.std.specs.Prelude.{◌≡◌, ◌+◌, ◌<◌, ◌≤◌, ◌++◌, ◌^◌, List, [], length, map, if◌then◌else◌, IfOk, IfErr, IfSome, IfNone, OnOk};
 ghost use Rattle.gpu_descriptor_types.specs.Counts.{kinds};
 ghost use Rattle.gpu_descriptor_types.specs.Flags.{bits};
 ghost use Rattle.gpu_descriptor_types.specs.Ledger.{pool_refusals};
+ghost use Rattle.gpu_descriptor_types.specs.PoolSize.{pool_counts as pool_counts_of};
 ghost use Rattle.gpu_descriptor.specs.declared.set.DescriptorSet.{DescriptorSet};
-ghost use Rattle.gpu_descriptor.specs.Load.{held};
+ghost use Rattle.gpu_descriptor.specs.Load.{entries_load, held, pool_load};
 ghost use Rattle.gpu_descriptor.specs.Sets.{key_of, items_of};
-ghost use Rattle.gpu_descriptor.specs.Stored.{bucket_of, entry_of};
+ghost use Rattle.gpu_descriptor.specs.Stored.{bucket_of, entry_of, stored_load};
 ghost use Rattle.gpu_descriptor.specs.Books.{next_number};
+ghost use Rattle.gpu_descriptor.specs.Open.{CountsLooks, IsListed, KeepsView};
 ghost use Rattle.gpu_descriptor.specs.Shares.{rest};
+ghost use Rattle.gpu_descriptor.specs.FreshPools.{IsNextSize};
 ghost use Rattle.gpu_descriptor.specs.Buckets.{IsBookedIn, AreBookedIn};
 ghost use Rattle.gpu_descriptor.specs.Walk.{entries_of, layout_key, sets_at, IsAsked, IsNoMemory, IsWalked, IsWalkStopped};
-ghost use Rattle.gpu_descriptor.specs.Grow.{IsGrown, IsNotGrown, IsTakenAll, IsTakenUpTo};
+ghost use Rattle.gpu_descriptor.specs.Grow.{IsGrown, IsNotGrown, StopsInRoom, IsTakenAll, IsTakenUpTo};
 
 use crate::allocation::Allocation;
-use crate::bucket::{DescriptorBucket, DescriptorPool};
+use crate::bucket::{DescriptorBucket, DescriptorPool, descriptors_of_pool};
+use crate::reads::OpenPools;
 use crate::set::BucketKey;
 use bitflags::Flags;
 use gpu_descriptor_types::{
     CreatePoolError, DescriptorDevice, DescriptorPoolCreateFlags, DeviceAllocationError, Layouts,
-    new_pool_size,
+    DescriptorTotalCount, Tally, cut_pool_size, new_pool_size,
 };
-use std::collections::VecDeque;
 
 /// Why no new pool came.
 #[derive(Clone, Copy)]
 pub(crate) enum Stop {
-    /// No room for the books of a new pool.
+    /// The limit leaves no room for a new pool.
+    Room,
+
+    /// No memory for the books of a new pool.
     Books,
 
     /// The pool wasn't created.
@@ -101,41 +107,50 @@ fn ask<L, P, S, D: DescriptorDevice<L, P, S>>(
     }
 }
 
-/// Asks the pools for sets, the newest first, until none are wanting. It answers how many are
-/// wanting then. The first pool has the number `offset`.
+/// Asks the pools for sets that have known free places, the newest first, until none are wanting. It
+/// answers how many are wanting then.
 fn walk<L, P, S, D: DescriptorDevice<L, P, S>>(
     device: &mut D,
-    pools: &mut VecDeque<DescriptorPool<P>>,
-    offset: u64,
+    view: &mut OpenPools<'_, '_, '_, P>,
     layout: &L,
     key: &BucketKey,
     count: u32,
     sink: &mut Allocation<S>,
 ) -> Result<u32, DeviceAllocationError>
     requires same { key_of key.now ≡ layout_key D.layout_counts D.layout_mark layout.now }
-    requires booked { AreBookedIn (key_of key.now) (D.ledger device.old).pools (entries_of D.pool_name pools.old.items) }
-    requires numbers { offset + length pools.old.items < 2 ^ 64 }
+    requires booked { AreBookedIn (key_of key.now) (D.ledger device.old).pools (entries_of D.pool_name view.old.pools.now.items) }
+    requires numbers { view.old.offset + length view.old.pools.now.items < 2 ^ 64 }
+    requires listed { IsListed view.old }
     requires room { count ≤ sink.old.left }
     ensures walked { IfOk result (λ wanting. (put : List (DescriptorSet S))
         × (sink.new.sets.items ≡ sink.old.sets.items ++ put)
         × (sink.new.left + count ≡ sink.old.left + wanting)
-        × (walked : IsWalked (key_of key.now) count offset 0 (items_of D.set_name put) (entries_of D.pool_name pools.old.items) (entries_of D.pool_name pools.new.items) (D.ledger device.old) (D.ledger device.new))
-        × (wanting ≡ rest walked.grant.refused count (entries_of D.pool_name pools.old.items))
+        × (walked : IsWalked (key_of key.now) count view.old.offset 0 (items_of D.set_name put) (entries_of D.pool_name view.old.pools.now.items) (entries_of D.pool_name view.new.pools.now.items) (D.ledger device.old) (D.ledger device.new))
+        × (wanting ≡ rest walked.grant.refused count (entries_of D.pool_name view.old.pools.now.items))
         × (length put + wanting ≡ count)) }
     ensures stopped { IfErr result (λ e. (put : List (DescriptorSet S))
         × (sink.new.sets.items ≡ sink.old.sets.items ++ put)
-        × IsWalkStopped (key_of key.now) count offset e (items_of D.set_name put) (entries_of D.pool_name pools.old.items) (entries_of D.pool_name pools.new.items) (D.ledger device.old) (D.ledger device.new)) }
-    ensures pools { length pools.new.items ≡ length pools.old.items }
+        × IsWalkStopped (key_of key.now) count view.old.offset e (items_of D.set_name put) (entries_of D.pool_name view.old.pools.now.items) (entries_of D.pool_name view.new.pools.now.items) (D.ledger device.old) (D.ledger device.new)) }
+    ensures pools { length view.new.pools.now.items ≡ length view.old.pools.now.items }
     ensures given { length sink.new.sets.items ≤ length sink.old.sets.items + count }
+    ensures listed { IsListed view.new }
+    ensures kept { KeepsView view.old view.new }
+    ensures looks { CountsLooks view.old view.new (D.ledger device.old) (D.ledger device.new) }
 {
     let mut wanting = count;
-    for at in (0..pools.len()).rev() {
-        if wanting == 0 {
-            return Ok(0);
-        }
-        sink.aim(*key, offset + at as u64);
-        match ask(device, &mut pools[at], layout, key, wanting, sink) {
-            Ok(given) => wanting -= given,
+    while wanting > 0 {
+        let Some(number) = view.newest() else {
+            return Ok(wanting);
+        };
+        sink.aim(*key, number);
+        let pool = view.look(number);
+        match ask(device, pool, layout, key, wanting, sink) {
+            Ok(given) => {
+                wanting -= given;
+                if pool.available == 0 {
+                    view.close_newest();
+                }
+            }
             Err(error) => return Err(error),
         }
     }
@@ -154,50 +169,83 @@ fn pool_flags(update_after_bind: bool) -> DescriptorPoolCreateFlags
     flags
 }
 
+/// The counts of a key's next pool, and how many sets it holds; `None` where the limit leaves no
+/// room for one.
+fn next_size(
+    key: &BucketKey,
+    total: u64,
+    wanted: u32,
+    room: u32,
+) -> Option<(DescriptorTotalCount, u32)>
+    ensures sets { IfSome result (λ pool. IsNextSize (key_of key.now) room total wanted pool.1) }
+    ensures counts { IfSome result (λ pool. kinds pool.0 ≡ pool_counts_of (kinds key.now.size) pool.1) }
+    ensures at_most { IfSome result (λ pool. pool.1 ≤ 2147483648) }
+    ensures room { IfSome result (λ pool. (pool_load (key_of key.now) pool.1 ≤ room) × (pool_load (key_of key.now) pool.1 < 2 ^ 32)) }
+    ensures none { IfNone result (room < pool_load (key_of key.now) 1) }
+{
+    if key.update_after_bind {
+        cut_pool_size(&key.size, total, wanted, room)
+    } else {
+        Some(new_pool_size(&key.size, total, wanted))
+    }
+}
+
 /// Creates a pool, and asks it for what it has of so many sets. It answers how many came.
 ///
-/// `total` sets of the key are out already, and the first pool has the number `offset`.
+/// `total` sets of the key are out already. A pool of a marked key takes of the room what
+/// descriptors it has.
 fn grow_one<L, P: Drop, S, D: DescriptorDevice<L, P, S>>(
     device: &mut D,
-    pools: &mut VecDeque<DescriptorPool<P>>,
-    offset: u64,
+    view: &mut OpenPools<'_, '_, '_, P>,
     layout: &L,
     key: &BucketKey,
     total: u64,
     wanted: u32,
+    room: &mut u32,
     sink: &mut Allocation<S>,
 ) -> Result<u32, Stop>
     requires same { key_of key.now ≡ layout_key D.layout_counts D.layout_mark layout.now }
-    requires numbers { offset + length pools.old.items < 2 ^ 64 }
+    requires numbers { view.old.offset + length view.old.pools.now.items < 2 ^ 64 }
+    requires listed { IsListed view.old }
     requires room { wanted ≤ sink.old.left }
     ensures grown { IfOk result (λ given. (put : List S)
         × (length put ≡ given)
-        × (sink.new.sets.items ≡ sink.old.sets.items ++ sets_at key.now (offset + length pools.old.items) put)
+        × (sink.new.sets.items ≡ sink.old.sets.items ++ sets_at key.now (view.old.offset + length view.old.pools.now.items) put)
         × (sink.new.left + given ≡ sink.old.left)
-        × IsGrown (key_of key.now) total wanted (map D.set_name put) (entries_of D.pool_name pools.old.items) (entries_of D.pool_name pools.new.items) (D.ledger device.old) (D.ledger device.new)) }
+        × IsGrown (key_of key.now) room.old room.new total wanted (map D.set_name put) (entries_of D.pool_name view.old.pools.now.items) (entries_of D.pool_name view.new.pools.now.items) (D.ledger device.old) (D.ledger device.new)) }
     ensures err { IfErr result (λ why.
         (sink.new.sets.items ≡ sink.old.sets.items)
-        × (pools.new.items ≡ pools.old.items)
-        × IsNotGrown why (D.ledger device.old) (D.ledger device.new)) }
+        × (view.new.pools.now.items ≡ view.old.pools.now.items)
+        × IsNotGrown why (D.ledger device.old) (D.ledger device.new)
+        × StopsInRoom why (key_of key.now) room.old
+        × (room.new ≡ room.old)) }
+    ensures listed { IsListed view.new }
+    ensures kept { KeepsView view.old view.new }
+    ensures looks { CountsLooks view.old view.new (D.ledger device.old) (D.ledger device.new) }
 {
-    if pools.reserve(1).is_err() {
+    let Some((pool_counts, size)) = next_size(key, total, wanted, *room) else {
+        return Err(Stop::Room);
+    };
+    if !view.make_room() {
         return Err(Stop::Books);
     }
-    let (pool_counts, size) = new_pool_size(&key.size, total, wanted);
     let flags = pool_flags(key.update_after_bind);
     let mut raw = match device.create_descriptor_pool(&pool_counts, size, flags) {
         Ok(raw) => raw,
         Err(error) => return Err(Stop::Create(error)),
     };
     let given = size.min(wanted);
-    sink.aim(*key, offset + pools.len() as u64);
+    sink.aim(*key, view.next_number());
+    view.count_fresh();
     match device.alloc_descriptor_sets(&mut raw, Layouts::new(layout, given), sink) {
         Ok(()) => {
-            pools.push_back_reserved(DescriptorPool {
+            view.push(DescriptorPool {
                 raw,
+                capacity: size,
                 allocated: given,
                 available: size - given,
             });
+            *room -= descriptors_of_pool(key, size);
             Ok(given)
         }
         Err(error) => {
@@ -209,39 +257,44 @@ fn grow_one<L, P: Drop, S, D: DescriptorDevice<L, P, S>>(
 
 /// Takes sets from a key's pools: from the existing ones, the newest first, and then from new ones.
 ///
-/// `total` sets of the key are out already, and the first pool has the number `offset`.
+/// `total` sets of the key are out already.
 pub(crate) fn take<L, P: Drop, S, D: DescriptorDevice<L, P, S>>(
     device: &mut D,
-    pools: &mut VecDeque<DescriptorPool<P>>,
-    offset: u64,
+    view: &mut OpenPools<'_, '_, '_, P>,
     layout: &L,
     key: &BucketKey,
     total: u64,
     count: u32,
+    room: &mut u32,
     sink: &mut Allocation<S>,
 ) -> Result<(), Refusal>
     requires same { key_of key.now ≡ layout_key D.layout_counts D.layout_mark layout.now }
-    requires booked { AreBookedIn (key_of key.now) (D.ledger device.old).pools (entries_of D.pool_name pools.old.items) }
-    requires total { total ≡ held (entries_of D.pool_name pools.old.items) }
+    requires booked { AreBookedIn (key_of key.now) (D.ledger device.old).pools (entries_of D.pool_name view.old.pools.now.items) }
+    requires total { total ≡ held (entries_of D.pool_name view.old.pools.now.items) }
     requires bound { total + count < 2 ^ 64 }
-    requires numbers { offset + length pools.old.items + count < 2 ^ 64 }
+    requires numbers { view.old.offset + length view.old.pools.now.items + count < 2 ^ 64 }
+    requires listed { IsListed view.old }
     requires room { count ≤ sink.old.left }
     ensures done { OnOk result ((put : List (DescriptorSet S))
         × (sink.new.sets.items ≡ sink.old.sets.items ++ put)
-        × IsTakenAll (key_of key.now) count offset (items_of D.set_name put) (entries_of D.pool_name pools.old.items) (entries_of D.pool_name pools.new.items) (D.ledger device.old) (D.ledger device.new)) }
+        × IsTakenAll (key_of key.now) room.old count view.old.offset (items_of D.set_name put) (entries_of D.pool_name view.old.pools.now.items) (entries_of D.pool_name view.new.pools.now.items) (D.ledger device.old) (D.ledger device.new)) }
     ensures stopped { IfErr result (λ why. (put : List (DescriptorSet S))
         × (sink.new.sets.items ≡ sink.old.sets.items ++ put)
-        × IsTakenUpTo why (key_of key.now) count offset (items_of D.set_name put) (entries_of D.pool_name pools.old.items) (entries_of D.pool_name pools.new.items) (D.ledger device.old) (D.ledger device.new)) }
-    ensures pools { length pools.new.items ≤ length pools.old.items + count }
+        × IsTakenUpTo why (key_of key.now) room.old count view.old.offset (items_of D.set_name put) (entries_of D.pool_name view.old.pools.now.items) (entries_of D.pool_name view.new.pools.now.items) (D.ledger device.old) (D.ledger device.new)) }
+    ensures pools { length view.new.pools.now.items ≤ length view.old.pools.now.items + count }
     ensures given { length sink.new.sets.items ≤ length sink.old.sets.items + count }
+    ensures listed { IsListed view.new }
+    ensures kept { KeepsView view.old view.new }
+    ensures looks { CountsLooks view.old view.new (D.ledger device.old) (D.ledger device.new) }
+    ensures room { room.new + entries_load (key_of key.now) (entries_of D.pool_name view.new.pools.now.items) ≡ room.old + entries_load (key_of key.now) (entries_of D.pool_name view.old.pools.now.items) }
 {
-    let mut wanting = match walk(device, pools, offset, layout, key, count, sink) {
+    let mut wanting = match walk(device, view, layout, key, count, sink) {
         Ok(wanting) => wanting,
         Err(error) => return Err(Refusal::Existing(error)),
     };
     let mut out = total + u64::from(count - wanting);
     while wanting > 0 {
-        match grow_one(device, pools, offset, layout, key, out, wanting, sink) {
+        match grow_one(device, view, layout, key, out, wanting, room, sink) {
             Ok(given) => {
                 wanting -= given;
                 out += u64::from(given);
@@ -260,7 +313,9 @@ impl<P: Drop> DescriptorBucket<P> {
         layout: &L,
         key: &BucketKey,
         count: u32,
+        room: &mut u32,
         sink: &mut Allocation<S>,
+        looks: &mut Tally,
     ) -> Result<(), Refusal>
         requires same { key_of key.now ≡ layout_key D.layout_counts D.layout_mark layout.now }
         requires booked { AreBookedIn (key_of key.now) (D.ledger device.old).pools (bucket_of D.pool_name self.old).pools }
@@ -271,19 +326,13 @@ impl<P: Drop> DescriptorBucket<P> {
         ensures offset { self.new.offset ≡ self.old.offset }
         ensures total { self.new.total ≡ self.old.total + length sink.new.sets.items }
         ensures few { length sink.new.sets.items ≤ count }
-        ensures done { OnOk result (IsTakenAll (key_of key.now) count self.old.offset (items_of D.set_name sink.new.sets.items) (bucket_of D.pool_name self.old).pools (bucket_of D.pool_name self.new).pools (D.ledger device.old) (D.ledger device.new)) }
-        ensures stopped { IfErr result (λ why. IsTakenUpTo why (key_of key.now) count self.old.offset (items_of D.set_name sink.new.sets.items) (bucket_of D.pool_name self.old).pools (bucket_of D.pool_name self.new).pools (D.ledger device.old) (D.ledger device.new)) }
+        ensures done { OnOk result (IsTakenAll (key_of key.now) room.old count self.old.offset (items_of D.set_name sink.new.sets.items) (bucket_of D.pool_name self.old).pools (bucket_of D.pool_name self.new).pools (D.ledger device.old) (D.ledger device.new)) }
+        ensures stopped { IfErr result (λ why. IsTakenUpTo why (key_of key.now) room.old count self.old.offset (items_of D.set_name sink.new.sets.items) (bucket_of D.pool_name self.old).pools (bucket_of D.pool_name self.new).pools (D.ledger device.old) (D.ledger device.new)) }
+        ensures room { room.new + stored_load (key_of key.now) self.new.pools.items ≡ room.old + stored_load (key_of key.now) self.old.pools.items }
+        ensures looks { looks.new.count + (D.ledger device.old).counters.asked ≡ looks.old.count + (D.ledger device.new).counters.asked }
     {
-        let taken = take(
-            device,
-            &mut self.pools,
-            self.offset,
-            layout,
-            key,
-            self.total,
-            count,
-            sink,
-        );
+        let mut view = OpenPools::new(self.offset, &mut self.pools, &mut self.listed, looks);
+        let taken = take(device, &mut view, layout, key, self.total, count, room, sink);
         self.total += sink.sets.len() as u64;
         taken
     }

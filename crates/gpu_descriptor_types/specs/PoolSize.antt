@@ -33,6 +33,17 @@ pub record IsPoolSize (counts : List ℕ) (total wanted sets : ℕ) : Type 0 whe
   pub rounded : IsRounded (start_size total wanted) start
   pub is_least : sets ≡ least_of start (map sets_of_kind counts)
 
+-- how many of so many sets a pool may hold where room is left for so many descriptors, of which each set has as many as each says. Sets without descriptors all fit, if there is room for one descriptor
+abbrev pub sets_in_room : (room each sets : ℕ) → ℕ
+sets_in_room room each sets = if each == 0 then (if room == 0 then 0 else sets) else min sets (room / each)
+
+-- the size of a new pool, cut to the room for its descriptors
+pub record IsCutSize (counts : List ℕ) (room total wanted sets : ℕ) : Type 0 where
+  pub whole : ℕ
+  pub is_whole : IsPoolSize counts total wanted whole
+  pub cut : sets ≡ sets_in_room room (sum counts) whole
+  pub some : 1 ≤ sets
+
 -- how many sets a new pool holds at least, unless fewer are wanting
 abbrev pub pool_size_floor : List ℕ → ℕ
 pool_size_floor counts = min 2147483647 (sets_of_kind (greatest counts))

@@ -6,7 +6,7 @@ use std::marker::Model;
 
 /// A number without a greatest value, which only proofs read. It takes no memory, and its methods
 /// do nothing at run time.
-#[derive(Drop)]
+#[derive(Debug, Drop)]
 pub struct Tally {
     pub ghost count: { ℕ },
 }

@@ -1,11 +1,16 @@
 //! How many descriptors a layout, a set or a pool has.
-ghost use Rattle.std.specs.Prelude.{◌≡◌, ◌<◌, ◌≤◌, sum, slice_set};
+ghost use Rattle.std.specs.Prelude.{◌≡◌, ◌+◌, ◌*◌, ◌^◌, ◌<◌, ◌≤◌, ◌++◌, sum, slice_set};
+ghost use Rattle.std.proofs.Common.{rules};
+ghost use Rattle.std.specs.Hash as fed;
+ghost use Rattle.std.specs.Cmp.Rules.{hashing};
 ghost use Rattle.gpu_descriptor_types.specs.Counts.{kinds};
+
+use std::hash::{Hash, Hasher};
 
 /// How many descriptors there are of each of the fourteen kinds.
 ///
 /// The last but one counts bytes of inline uniform blocks, and the last the blocks themselves.
-#[derive(Clone, Copy, Debug, PartialEq, Eq, Hash, Default)]
+#[derive(Clone, Copy, Debug, PartialEq, Eq, Default)]
 pub struct DescriptorTotalCount {
     pub sampler: u32,
     pub combined_image_sampler: u32,
@@ -78,5 +83,30 @@ impl DescriptorTotalCount {
             13 => self.inline_uniform_block_bindings = count,
             _ => unreachable!(),
         }
+    }
+}
+
+/// Two counts as one number.
+#[inline]
+fn paired(low: u32, high: u32) -> u64
+    ensures { result ≡ low + high * 2 ^ 32 }
+{
+    u64::from(low) + u64::from(high) * 4294967296
+}
+
+/// Two counts at a time, so that a hash takes half as long.
+impl Hash for DescriptorTotalCount {
+    ghost hash_input = { λ c. fed.u64 (c.sampler + c.combined_image_sampler * 2 ^ 32) ++ fed.u64 (c.sampled_image + c.storage_image * 2 ^ 32) ++ fed.u64 (c.uniform_texel_buffer + c.storage_texel_buffer * 2 ^ 32) ++ fed.u64 (c.uniform_buffer + c.storage_buffer * 2 ^ 32) ++ fed.u64 (c.uniform_buffer_dynamic + c.storage_buffer_dynamic * 2 ^ 32) ++ fed.u64 (c.input_attachment + c.acceleration_structure * 2 ^ 32) ++ fed.u64 (c.inline_uniform_block_bytes + c.inline_uniform_block_bindings * 2 ^ 32) };
+
+    ghost respects_eq = { Prim.search (hashing, rules) };
+
+    fn hash<H: Hasher>(&self, state: &mut H) {
+        state.write_u64(paired(self.sampler, self.combined_image_sampler));
+        state.write_u64(paired(self.sampled_image, self.storage_image));
+        state.write_u64(paired(self.uniform_texel_buffer, self.storage_texel_buffer));
+        state.write_u64(paired(self.uniform_buffer, self.storage_buffer));
+        state.write_u64(paired(self.uniform_buffer_dynamic, self.storage_buffer_dynamic));
+        state.write_u64(paired(self.input_attachment, self.acceleration_structure));
+        state.write_u64(paired(self.inline_uniform_block_bytes, self.inline_uniform_block_bindings));
     }
 }

@@ -1,7 +1,7 @@
 //! The size of a new pool.
-ghost use Rattle.std.specs.Prelude.{◌≡◌, ℕ, ◌*◌, ◌<◌, ◌≤◌, ◌^◌, All, min, sum, map, length};
+ghost use Rattle.std.specs.Prelude.{◌≡◌, ℕ, ◌*◌, ◌<◌, ◌≤◌, ◌^◌, All, IfSome, IfNone, min, max, sum, map, length};
 ghost use Rattle.gpu_descriptor_types.specs.Counts.{kinds as kinds_of};
-ghost use Rattle.gpu_descriptor_types.specs.PoolSize.{IsPoolSize, IsRounded, least_of, pool_counts, pool_size_floor, sets_of_kind, start_size as start_size_of};
+ghost use Rattle.gpu_descriptor_types.specs.PoolSize.{IsCutSize, IsPoolSize, IsRounded, least_of, pool_counts, pool_size_floor, sets_in_room as sets_in_room_of, sets_of_kind, start_size as start_size_of};
 
 use crate::counts::DescriptorTotalCount;
 
@@ -37,6 +37,45 @@ pub fn new_pool_size(
     let kinds = size.to_array();
     let sets = set_count(&kinds, rounded_up(start_size(total, wanted)));
     (counts_of_sets(size, sets), sets)
+}
+
+/// The size of a new pool, cut so that it has at most `room` descriptors; `None` where not even a
+/// pool of one set fits.
+///
+/// A pool for sets without descriptors has one, whatever it holds.
+pub fn cut_pool_size(
+    size: &DescriptorTotalCount,
+    total: u64,
+    wanted: u32,
+    room: u32,
+) -> Option<(DescriptorTotalCount, u32)>
+    ensures sets { IfSome result (λ pool. IsCutSize (kinds_of size.now) room total wanted pool.1) }
+    ensures counts { IfSome result (λ pool. kinds_of pool.0 ≡ pool_counts (kinds_of size.now) pool.1) }
+    ensures at_most { IfSome result (λ pool. pool.1 ≤ 2147483648) }
+    ensures none { IfNone result (room < max 1 (sum (kinds_of size.now))) }
+{
+    let (_, whole) = new_pool_size(size, total, wanted);
+    let sets = sets_in_room(room, size.total(), whole);
+    if sets == 0 {
+        return None;
+    }
+    Some((counts_of_sets(size, sets), sets))
+}
+
+/// How many of so many sets fit into room for descriptors, where each set has `each`.
+fn sets_in_room(room: u32, each: u64, sets: u32) -> u32
+    requires { 1 ≤ sets }
+    ensures sets { result ≡ sets_in_room_of room each sets }
+    ensures at_most { result ≤ sets }
+    ensures none { result ≡ 0 → room < max 1 each }
+{
+    if each > 0 {
+        u64::from(sets).min(u64::from(room) / each) as u32
+    } else if room > 0 {
+        sets
+    } else {
+        0
+    }
 }
 
 /// How many sets a pool is to hold, whatever is counted.

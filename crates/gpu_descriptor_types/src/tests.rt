@@ -2,7 +2,7 @@
 mod derives;
 mod flags;
 
-use crate::{Counter, DescriptorTotalCount, Layouts, new_pool_size};
+use crate::{Counter, DescriptorTotalCount, Layouts, cut_pool_size, new_pool_size};
 
 /// So many samplers, and no other descriptors.
 fn samplers(count: u32) -> DescriptorTotalCount {
@@ -127,6 +127,22 @@ fn pool_sizes(rt: HostRuntime) {
             (counts, sets),
             "of {size:?} at {total} and {wanted}"
         );
+    }
+}
+
+#[test]
+fn pools_are_cut_to_the_room(rt: HostRuntime) {
+    let none = DescriptorTotalCount::default();
+    for (size, wanted, room, answer) in [
+        (samplers(3), 3, 10, Some((samplers(9), 3))),
+        (samplers(3), 20, 44, Some((samplers(42), 14))),
+        (samplers(3), 3, 192, Some((samplers(192), 64))),
+        (samplers(3), 3, 193, Some((samplers(192), 64))),
+        (samplers(3), 3, 2, None),
+        (none, 1, 0, None),
+        (none, 1, 1, Some((samplers(1), 64))),
+    ] {
+        assert_eq!(rt; cut_pool_size(&size, 0, wanted, room), answer, "of {size:?} with {room}");
     }
 }
 

@@ -8,14 +8,14 @@ ghost use Rattle.gpu_descriptor.specs.Load.{marked_load};
 ghost use Rattle.gpu_descriptor.specs.OtherKeys.{KeepsOtherKeys};
 ghost use Rattle.gpu_descriptor.specs.Promises.{AreOfKey, AreOutBesides, CreatesOnlyWhereShort, HasCause, KeepsOutstanding};
 ghost use Rattle.gpu_descriptor.specs.Sets.{items_of, key_of};
-ghost use Rattle.gpu_descriptor.specs.States.{Agrees, marked_load_of, outstanding_of, state_of, table_of};
+ghost use Rattle.gpu_descriptor.specs.States.{Agrees, marked_load_of, outstanding_of, pool_load_of, state_of, table_of};
 ghost use Rattle.gpu_descriptor.specs.Outcomes.{Allocates};
 ghost use Rattle.gpu_descriptor.specs.Requests.{answer_of, call_of, Takes};
 ghost use Rattle.gpu_descriptor.specs.Buckets.{AreBookedIn};
 ghost use Rattle.gpu_descriptor.specs.Walk.{layout_key};
 ghost use Rattle.gpu_descriptor.specs.Grow.{refusal_answer};
 ghost use Rattle.gpu_descriptor.specs.Errors.{error_of_alloc as alloc_answer};
-ghost use Rattle.gpu_descriptor.specs.Stored.{bucket_of, books_in};
+ghost use Rattle.gpu_descriptor.specs.Stored.{bucket_of, books_in, pools_load_in, stored_load};
 ghost use Rattle.gpu_descriptor.specs.Serves.{Serves, ServesKey, IsUnserved};
 
 use super::DescriptorAllocator;
@@ -27,7 +27,7 @@ use crate::flags::DescriptorSetLayoutCreateFlags;
 use crate::set::{BucketKey, DescriptorSet};
 use crate::take::{Refusal, Stop};
 use bitflags::Flags;
-use gpu_descriptor_types::{DescriptorDevice, DescriptorTotalCount, DeviceAllocationError};
+use gpu_descriptor_types::{DescriptorDevice, DescriptorTotalCount, DeviceAllocationError, Tally};
 use indexmap::IndexMap;
 use std::alloc::Global;
 use std::collections::VecDeque;
@@ -37,14 +37,14 @@ impl<P: Drop, S: Drop> DescriptorAllocator<P, S> {
     ///
     /// The newest pools of the layout's key are asked first, each once, for what it is known to
     /// have. For what is still wanting new pools are created, each of the size that `new_pool_size`
-    /// says. `count` 0 changes nothing and takes no memory.
+    /// says; for a marked layout `cut_pool_size`, with the room that the limit leaves. `count` 0 changes nothing and takes no memory.
     ///
     /// Where the request can't be met, all that it took goes back, in one release call for each run
     /// of neighbours. If sets went back, the empty pools at the key's front are then destroyed, but
     /// never its last pool. The errors:
     ///
-    /// - `Fragmentation`: the sets of a marked layout would pass the limit, a number would pass 64
-    ///   bits, the device refused a new pool so, or a new pool refused for its own sake;
+    /// - `Fragmentation`: the sets of a marked layout would pass the limit, the limit leaves no room
+    ///   for a new pool of a marked layout, a number would pass 64 bits, the device refused a new pool so, or a new pool refused for its own sake;
     /// - `OutOfDeviceMemory`: the device said so, at an existing or a new pool;
     /// - `OutOfHostMemory`: the device said so, or there was no memory for the answer or the books.
     ///
@@ -97,6 +97,8 @@ impl<P: Drop, S: Drop> DescriptorAllocator<P, S> {
             (state_of D.pool_name self.new (D.ledger device.new)) }
         ensures rows { HasDistinctKeys (table_of D.pool_name self.new) }
         ensures load { marked_load_of self.new ≤ self.new.limit }
+        ensures pool_load { pool_load_of self.new ≤ self.new.limit }
+        ensures looks { self.new.looks + (D.ledger device.old).counters.asked ≡ self.old.looks + (D.ledger device.new).counters.asked }
         ensures agree { Agrees D.pool_name self.new (D.ledger device.new) }
         ensures limit { self.new.limit ≡ self.old.limit }
     {
@@ -138,10 +140,12 @@ impl<P: Drop, S: Drop> DescriptorAllocator<P, S> {
             r.0.items r.1 self.old self.new (D.ledger device.old) (D.ledger device.new)) }
         ensures declined { IfErr result (λ e. Allocates (call_of D.pool_name (key_of key) count
             self.old self.new (D.ledger device.old) (D.ledger device.new) (Err e))) }
+        ensures looks { self.new.looks + (D.ledger device.old).counters.asked ≡ self.old.looks + (D.ledger device.new).counters.asked }
         ensures allocator { OnErr result (self.new ≡ self.old) }
         ensures ledger { OnErr result (D.ledger device.new ≡ D.ledger device.old) }
         ensures rows { HasDistinctKeys (table_of D.pool_name self.new) }
         ensures load { marked_load_of self.new ≤ self.new.limit }
+        ensures pool_load { pool_load_of self.new ≤ self.new.limit }
         ensures limit { self.new.limit ≡ self.old.limit }
     {
         // The proof reads from the lengths that no key stands in the table twice.
@@ -152,7 +156,7 @@ impl<P: Drop, S: Drop> DescriptorAllocator<P, S> {
         if is_past_bound(self.outstanding, count) {
             return Err(AllocationError::Fragmentation);
         }
-        let served = serve_key(&mut self.buckets, device, layout, key, count, self.alloc);
+        let served = serve_key(&mut self.buckets, device, layout, key, count, &mut self.update_after_bind_room, self.alloc, &mut self.looks);
         let (sets, taken) = match served {
             Ok(served) => served,
             Err(error) => return Err(error),
@@ -191,21 +195,26 @@ fn serve_key<L, P: Drop, S: Drop, D: DescriptorDevice<L, P, S>>(
     layout: &L,
     key: BucketKey,
     count: u32,
+    room: &mut u32,
     alloc: Global,
+    looks: &mut Tally,
 ) -> Result<(Vec<DescriptorSet<S>>, Result<(), Refusal>), AllocationError>
     requires same { key_of key ≡ layout_key D.layout_counts D.layout_mark layout.now }
     requires booked { AreBookedIn (key_of key) (D.ledger device.old).pools
         (books_in D.pool_name buckets.old.entries (key_of key)).pools }
     requires bound { sum_by (λ r. r.1.total) buckets.old.entries + count < 2 ^ 64 }
-    ensures served { IfOk result (λ r. ServesKey D.pool_name D.set_name key count r.0.items r.1
+    ensures served { IfOk result (λ r. ServesKey D.pool_name D.set_name key room.old count r.0.items r.1
         buckets.old.entries buckets.new.entries (D.ledger device.old) (D.ledger device.new)) }
     ensures refused { IfErr result (λ e. IsUnserved count e
         (books_in D.pool_name buckets.old.entries (key_of key))) }
+    ensures looks { looks.new.count + (D.ledger device.old).counters.asked ≡ looks.old.count + (D.ledger device.new).counters.asked }
+    ensures looks_stay { OnErr result (looks.new ≡ looks.old) }
+    ensures room { room.new + sum_by pools_load_in buckets.new.entries ≡ room.old + sum_by pools_load_in buckets.old.entries }
     ensures entries { OnErr result (buckets.new.entries ≡ buckets.old.entries) }
     ensures ledger { OnErr result (D.ledger device.new ≡ D.ledger device.old) }
 {
     match buckets.get_mut(&key) {
-        Some(bucket) => return serve(bucket, device, layout, &key, count, alloc),
+        Some(bucket) => return serve(bucket, device, layout, &key, count, room, alloc, looks),
         None => {}
     }
     if buckets.reserve(1).is_err() {
@@ -214,9 +223,10 @@ fn serve_key<L, P: Drop, S: Drop, D: DescriptorDevice<L, P, S>>(
     let mut bucket = DescriptorBucket {
         offset: 0,
         pools: VecDeque::new(alloc),
+        listed: VecDeque::new(alloc),
         total: 0,
     };
-    let served = match serve(&mut bucket, device, layout, &key, count, alloc) {
+    let served = match serve(&mut bucket, device, layout, &key, count, room, alloc, looks) {
         Ok(served) => served,
         Err(error) => return Err(error),
     };
@@ -233,15 +243,20 @@ fn serve<L, P: Drop, S: Drop, D: DescriptorDevice<L, P, S>>(
     layout: &L,
     key: &BucketKey,
     count: u32,
+    room: &mut u32,
     alloc: Global,
+    looks: &mut Tally,
 ) -> Result<(Vec<DescriptorSet<S>>, Result<(), Refusal>), AllocationError>
     requires same { key_of key.now ≡ layout_key D.layout_counts D.layout_mark layout.now }
     requires booked { AreBookedIn (key_of key.now) (D.ledger device.old).pools
         (bucket_of D.pool_name bucket.old).pools }
     requires bound { bucket.old.total + count < 2 ^ 64 }
-    ensures served { IfOk result (λ r. Serves D.pool_name D.set_name (key_of key.now) count
+    ensures served { IfOk result (λ r. Serves D.pool_name D.set_name (key_of key.now) room.old count
         r.0.items r.1 bucket.old bucket.new (D.ledger device.old) (D.ledger device.new)) }
     ensures refused { IfErr result (λ e. IsUnserved count e (bucket_of D.pool_name bucket.old)) }
+    ensures looks { looks.new.count + (D.ledger device.old).counters.asked ≡ looks.old.count + (D.ledger device.new).counters.asked }
+    ensures looks_stay { OnErr result (looks.new ≡ looks.old) }
+    ensures room { room.new + stored_load (key_of key.now) bucket.new.pools.items ≡ room.old + stored_load (key_of key.now) bucket.old.pools.items }
     ensures bucket { OnErr result (bucket.new ≡ bucket.old) }
     ensures ledger { OnErr result (D.ledger device.new ≡ D.ledger device.old) }
 {
@@ -251,7 +266,7 @@ fn serve<L, P: Drop, S: Drop, D: DescriptorDevice<L, P, S>>(
     let Ok(mut sink) = Allocation::with_room(alloc, *key, count) else {
         return Err(AllocationError::OutOfHostMemory);
     };
-    let taken = bucket.take(device, layout, key, count, &mut sink);
+    let taken = bucket.take(device, layout, key, count, room, &mut sink, looks);
     Ok((sink.into_sets(), taken))
 }
 
@@ -261,6 +276,7 @@ fn error_of_refusal(refusal: Refusal) -> AllocationError
 {
     match refusal {
         Refusal::Existing(error) | Refusal::New(Stop::Fresh(error)) => error_of_alloc(error),
+        Refusal::New(Stop::Room) => AllocationError::Fragmentation,
         Refusal::New(Stop::Books) => AllocationError::OutOfHostMemory,
         Refusal::New(Stop::Create(error)) => AllocationError::from(error),
     }

@@ -1,14 +1,15 @@
 //! Cleaning up: the empty pools at the front of each key are destroyed.
-ghost use Rattle.std.specs.Prelude.{◌≡◌, ◌≤◌};
+ghost use Rattle.std.specs.Prelude.{◌≡◌, ◌+◌, ◌<◌, ◌≤◌, ◌^◌};
 ghost use Rattle.gpu_descriptor.specs.Books.{HasDistinctKeys, Key};
 ghost use Rattle.gpu_descriptor.specs.Buckets.{AreBookedIn, has_pools, cleared_bucket, cleared_ledger, more_destroyed};
 ghost use Rattle.gpu_descriptor.specs.Cleanup.{IsCleaned, pools_cleaned};
 ghost use Rattle.gpu_descriptor.specs.Foreign.{KeepsForeign};
-ghost use Rattle.gpu_descriptor.specs.States.{Agrees, keys_of, marked_load_of, outstanding_of, state_of, table_of};
-ghost use Rattle.gpu_descriptor.specs.Stored.{bucket_of};
+ghost use Rattle.gpu_descriptor.specs.Sets.{key_of};
+ghost use Rattle.gpu_descriptor.specs.States.{Agrees, keys_of, marked_load_of, outstanding_of, pool_load_of, state_of, table_of};
+ghost use Rattle.gpu_descriptor.specs.Stored.{bucket_of, stored_load};
 
 use super::DescriptorAllocator;
-use crate::bucket::DescriptorBucket;
+use crate::bucket::{DescriptorBucket, descriptors_of_pool};
 use crate::set::BucketKey;
 use gpu_descriptor_types::DescriptorDevice;
 
@@ -32,14 +33,16 @@ impl<P: Drop, S> DescriptorAllocator<P, S> {
             × (marked_load_of self.new ≡ marked_load_of self.old) }
         ensures rows { HasDistinctKeys (table_of D.pool_name self.new) }
         ensures load { marked_load_of self.new ≤ self.new.limit }
+        ensures pool_load { pool_load_of self.new ≤ self.new.limit }
         ensures agree { Agrees D.pool_name self.new (D.ledger device.new) }
         ensures foreign { KeepsForeign (state_of D.pool_name self.old (D.ledger device.old))
             (state_of D.pool_name self.new (D.ledger device.new)) }
         ensures limit { self.new.limit ≡ self.old.limit }
     {
         for place in 0..self.buckets.len() {
+            let key = *self.buckets.as_slice().get_index(place).unwrap().0;
             let bucket = &mut self.buckets[place];
-            bucket.drop_empty(device);
+            bucket.drop_empty(device, &key, &mut self.update_after_bind_room);
         }
         self.buckets.retain(
             |_key: &BucketKey, bucket: &mut DescriptorBucket<P>| -> bool
@@ -54,15 +57,26 @@ impl<P: Drop, S> DescriptorAllocator<P, S> {
 
 impl<P> DescriptorBucket<P> {
     /// Destroys the pools without sets at the front, the last pool too.
-    fn drop_empty<L, S, D: DescriptorDevice<L, P, S>>(&mut self, device: &mut D)
-        requires { (k : Key) × AreBookedIn k (D.ledger device.old).pools (bucket_of D.pool_name self.old).pools }
+    fn drop_empty<L, S, D: DescriptorDevice<L, P, S>>(
+        &mut self,
+        device: &mut D,
+        key: &BucketKey,
+        room: &mut u32,
+    )
+        requires room { room.old + stored_load (key_of key.now) self.old.pools.items < 2 ^ 32 }
+        requires stored { (k : Key) × AreBookedIn k (D.ledger device.old).pools (bucket_of D.pool_name self.old).pools }
         ensures books { bucket_of D.pool_name self.new ≡ cleared_bucket (bucket_of D.pool_name self.old) }
         ensures ledger { D.ledger device.new
             ≡ cleared_ledger (bucket_of D.pool_name self.old) (D.ledger device.old) }
         ensures total { self.new.total ≡ self.old.total }
+        ensures room { room.new + stored_load (key_of key.now) self.new.pools.items ≡ room.old + stored_load (key_of key.now) self.old.pools.items }
     {
         while !self.pools.is_empty() && self.pools[0].allocated == 0 {
             let front = self.pools.pop_front().unwrap();
+            if front.available > 0 {
+                let _number = self.listed.pop_front();
+            }
+            *room += descriptors_of_pool(key, front.capacity);
             device.destroy_descriptor_pool(front.raw);
             self.offset += 1;
         }

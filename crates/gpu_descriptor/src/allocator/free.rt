@@ -6,7 +6,7 @@ ghost use Rattle.gpu_descriptor.specs.Books.{HasDistinctKeys};
 ghost use Rattle.gpu_descriptor.specs.Foreign.{KeepsForeign};
 ghost use Rattle.gpu_descriptor.specs.Frees.{Frees, FreesRun};
 ghost use Rattle.gpu_descriptor.specs.Sets.{items_of};
-ghost use Rattle.gpu_descriptor.specs.States.{Agrees, keys_of, marked_load_of, state_of, table_of};
+ghost use Rattle.gpu_descriptor.specs.States.{Agrees, keys_of, marked_load_of, pool_load_of, state_of, table_of};
 ghost use Rattle.gpu_descriptor.specs.Stored.{load_of};
 
 use super::DescriptorAllocator;
@@ -36,7 +36,9 @@ impl<P, S> DescriptorAllocator<P, S> {
         ensures foreign { KeepsForeign (state_of D.pool_name self.old (D.ledger device.old))
             (state_of D.pool_name self.new (D.ledger device.new)) }
         ensures load { marked_load_of self.new ≤ self.new.limit }
+        ensures pool_load { pool_load_of self.new ≤ self.new.limit }
         ensures limit { self.new.limit ≡ self.old.limit }
+        ensures looks_stay { self.new.looks ≡ self.old.looks }
     {
         let mut sets = sets.into_iter();
         self.free_from(device, &mut sets);
@@ -61,7 +63,9 @@ impl<P, S> DescriptorAllocator<P, S> {
         ensures foreign { KeepsForeign (state_of D.pool_name self.old (D.ledger device.old))
             (state_of D.pool_name self.new (D.ledger device.new)) }
         ensures load { marked_load_of self.new ≤ self.new.limit }
+        ensures pool_load { pool_load_of self.new ≤ self.new.limit }
         ensures limit { self.new.limit ≡ self.old.limit }
+        ensures looks_stay { self.new.looks ≡ self.old.looks }
     {
         let mut ahead = sets.next();
         while let Some(first) = ahead {
@@ -90,12 +94,13 @@ impl<P, S> DescriptorAllocator<P, S> {
         ensures goes { OnSome result (IsNearerEnd I.can_next I.remaining sets.old sets.new) }
         ensures keys { keys_of self.new ≡ keys_of self.old }
         ensures limit { self.new.limit ≡ self.old.limit }
+        ensures looks_stay { self.new.looks ≡ self.old.looks }
     {
         let key = first.key;
         match self.buckets.get_mut(&key) {
             Some(bucket) => {
                 let before = bucket.total;
-                let ahead = bucket.release_run(device, first, sets);
+                let ahead = bucket.release_run(device, first, sets, &mut self.comparisons, &mut self.update_after_bind_room);
                 let released = before - bucket.total;
                 self.outstanding -= released;
                 let descriptors = marked_descriptors(&key, released) as u32;

@@ -39,7 +39,7 @@ returns-in-Ok-clause-asked g c =
     let counts : g.D.DescriptorDevice.layout_counts c.args.layout.now ≡ key.counts = sym (ap (λ (k : Key). k.counts) c.requires.same) in
     let is : m ≡ after_alloc e.pool (live_sets key.counts names) l = put.ledger ∙ ap (λ cs. after_alloc e.pool (live_sets cs names) l) (ap g.D.DescriptorDevice.layout_counts c.new.ensures.layout ∙ counts) in
     let was = given key c.args.wanted names e l m some long is in
-    let now : record e { allocated = e.allocated + min c.args.wanted e.free; free = e.free - min c.args.wanted e.free } ≡ entry_of g.D.DescriptorDevice.pool_name (record { raw = c.alloc_descriptor_sets.new.pool; allocated = c.args.pool.now.allocated + c.min-count.result; available = c.args.pool.now.available - c.min-count.result }) = same_entry _ _ (sym c.in-Ok.ensures.name) (omega arith) (omega arith) in
+    let now : record e { allocated = e.allocated + min c.args.wanted e.free; free = e.free - min c.args.wanted e.free } ≡ entry_of g.D.DescriptorDevice.pool_name (record { raw = c.alloc_descriptor_sets.new.pool; capacity = c.args.pool.now.capacity; allocated = c.args.pool.now.allocated + c.min-count.result; available = c.args.pool.now.available - c.min-count.result }) = same_entry _ _ (sym c.in-Ok.ensures.name) refl (omega arith) (omega arith) in
     let room : c.alloc_descriptor_sets.new.sets.left + c.min-count.result ≡ c.args.sink.now.left = (let r = put.room in let n = c.new.ensures.left in omega arith) in
     (put.sets, many, put.kept, room, subst (λ (f : Entry). IsAsked key c.args.wanted names e f l m) now was)
 
@@ -54,5 +54,5 @@ returns-then-is_of_pool-clause-asked g c =
     let some : 0 < min c.args.wanted e.free = (let ne = c.if-count-eq0.false in omega arith) in
     let of_pool : pool_refusals c.in-Err.error ≡ 1 = c.is_of_pool.ensures ∙ ap (λ b. if b then 1 else 0) c.if-is_of_pool.true in
     let was = refuses key c.args.wanted c.in-Err.error e l m some of_pool err.ledger in
-    let now : record e { free = 0 } ≡ entry_of g.D.DescriptorDevice.pool_name (record { raw = c.alloc_descriptor_sets.new.pool; allocated = c.args.pool.now.allocated; available = 0 }) = same_entry _ _ (sym c.in-Err.ensures.name) refl refl in
+    let now : record e { free = 0 } ≡ entry_of g.D.DescriptorDevice.pool_name (record { raw = c.alloc_descriptor_sets.new.pool; capacity = c.args.pool.now.capacity; allocated = c.args.pool.now.allocated; available = 0 }) = same_entry _ _ (sym c.in-Err.ensures.name) refl refl refl in
     ([], refl, err.kept ∙ sym (append-nil c.args.sink.now.sets.items), (let room = err.room in omega arith), subst (λ (f : Entry). IsAsked key c.args.wanted [] e f l m) now was)

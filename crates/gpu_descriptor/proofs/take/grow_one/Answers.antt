@@ -1,4 +1,4 @@
-use Rattle.std.proofs.Common.{◌≡◌, ℕ, ◌+◌, ◌-◌, ◌≤◌, ◌++◌, List, [], ◌∷◌, length, map, min, sym, ap, ◌∙◌, subst, arith}
+use Rattle.std.proofs.Common.{◌≡◌, ℕ, ◌+◌, ◌-◌, ◌≤◌, ◌++◌, List, [], ◌∷◌, length, map, min, refl, sym, ap, ◌∙◌, subst, arith}
 use Rattle.std.proofs.lemmas.List.{length-map, map-append}
 use Rattle.std.specs.Prelude.{Some}
 use Rattle.gpu_descriptor_types.specs.Flags.{bits}
@@ -12,19 +12,20 @@ use Rattle.gpu_descriptor.specs.Agreement.{flags_of}
 use Rattle.gpu_descriptor.specs.Sets.{key_of}
 use Rattle.gpu_descriptor.specs.Stored.{entry_of}
 use Rattle.gpu_descriptor.specs.Walk.{entries_of, sets_at}
+use Rattle.gpu_descriptor.proofs.NextSize.{one_fits}
 use Rattle.gpu_descriptor.proofs.Asks.{same_entry}
-use Rattle.gpu_descriptor.proofs.Grows.{created_at, fresh_room, no_sets, grown, not_grown}
+use Rattle.gpu_descriptor.proofs.Grows.{created_at, fresh_room, no_sets, grown, not_grown, not_created, not_begun, create_asked, alloc_asked}
 use Rattle.gpu_descriptor.proofs.take.grow_one.Goals as goal
 
 pub alloc_descriptor_sets-requires-clause-fits : goal.alloc_descriptor_sets-requires-clause-fits
 alloc_descriptor_sets-requires-clause-fits g c =
     let key : Key = key_of c.args.key.now in
-    let size : ℕ = c.new_pool_size-size.result.1 in
+    let size : ℕ = c.in-Some.size in
     let name : ℕ = g.D.DescriptorDevice.pool_name c.in-Ok.raw in
     let l : Ledger = g.D.DescriptorDevice.ledger c.args.device.now in
     let m : Ledger = g.D.DescriptorDevice.ledger c.create_descriptor_pool.new.self in
     let counts : g.D.DescriptorDevice.layout_counts c.args.layout.now ≡ key.counts = sym (ap (λ (k : Key). k.counts) c.requires.same) in
-    let sized = c.new_pool_size-size.ensures in
+    let sized = c.in-Some.ensures in
     let same_flags : bits c.pool_flags-flags.result ≡ flags_of key = c.pool_flags-flags.ensures in
     let made : m ≡ after_create (pool_counts key.counts size) size (flags_of key) name l = c.in-Ok.ensures.ok ∙ ap (λ cs. after_create cs size (bits c.pool_flags-flags.result) name l) sized.counts ∙ ap (λ b. after_create (pool_counts key.counts size) size b name l) same_flags in
     let few : c.min-given.result ≤ size = (let a = c.min-given.ensures in omega arith) in
@@ -35,12 +36,12 @@ alloc_descriptor_sets-requires-clause-fits g c =
 pub destroy_descriptor_pool-requires : goal.destroy_descriptor_pool-requires
 destroy_descriptor_pool-requires g c =
     let key : Key = key_of c.args.key.now in
-    let size : ℕ = c.new_pool_size-size.result.1 in
+    let size : ℕ = c.in-Some.size in
     let name : ℕ = g.D.DescriptorDevice.pool_name c.in-Ok.raw in
     let l : Ledger = g.D.DescriptorDevice.ledger c.args.device.now in
     let m : Ledger = g.D.DescriptorDevice.ledger c.create_descriptor_pool.new.self in
     let counts : g.D.DescriptorDevice.layout_counts c.args.layout.now ≡ key.counts = sym (ap (λ (k : Key). k.counts) c.requires.same) in
-    let sized = c.new_pool_size-size.ensures in
+    let sized = c.in-Some.ensures in
     let same_flags : bits c.pool_flags-flags.result ≡ flags_of key = c.pool_flags-flags.ensures in
     let made : m ≡ after_create (pool_counts key.counts size) size (flags_of key) name l = c.in-Ok.ensures.ok ∙ ap (λ cs. after_create cs size (bits c.pool_flags-flags.result) name l) sized.counts ∙ ap (λ b. after_create (pool_counts key.counts size) size b name l) same_flags in
     let m' : Ledger = g.D.DescriptorDevice.ledger c.alloc_descriptor_sets.new.self in
@@ -49,29 +50,29 @@ destroy_descriptor_pool-requires g c =
 pub returns-in-Err-alloc_descriptor_sets-clause-err : goal.returns-in-Err-alloc_descriptor_sets-clause-err
 returns-in-Err-alloc_descriptor_sets-clause-err g c =
     let key : Key = key_of c.args.key.now in
-    let size : ℕ = c.new_pool_size-size.result.1 in
+    let size : ℕ = c.in-Some.size in
     let name : ℕ = g.D.DescriptorDevice.pool_name c.in-Ok.raw in
     let l : Ledger = g.D.DescriptorDevice.ledger c.args.device.now in
     let m : Ledger = g.D.DescriptorDevice.ledger c.create_descriptor_pool.new.self in
     let counts : g.D.DescriptorDevice.layout_counts c.args.layout.now ≡ key.counts = sym (ap (λ (k : Key). k.counts) c.requires.same) in
-    let sized = c.new_pool_size-size.ensures in
+    let sized = c.in-Some.ensures in
     let same_flags : bits c.pool_flags-flags.result ≡ flags_of key = c.pool_flags-flags.ensures in
     let made : m ≡ after_create (pool_counts key.counts size) size (flags_of key) name l = c.in-Ok.ensures.ok ∙ ap (λ cs. after_create cs size (bits c.pool_flags-flags.result) name l) sized.counts ∙ ap (λ b. after_create (pool_counts key.counts size) size b name l) same_flags in
     let m' : Ledger = g.D.DescriptorDevice.ledger c.alloc_descriptor_sets.new.self in
     let m'' : Ledger = g.D.DescriptorDevice.ledger c.destroy_descriptor_pool.new.self in
     let gone : m'' ≡ after_destroy name m' = c.destroy_descriptor_pool.ensures ∙ ap (λ q. after_destroy q m') c.in-Err-alloc_descriptor_sets.ensures.name in
     let err = c.in-Err-alloc_descriptor_sets.ensures.err in
-    (err.kept ∙ c.aim.ensures.sets, c.reserve.ensures.items, not_grown key size name c.in-Err-alloc_descriptor_sets.error l m m' m'' c.in-Ok.ensures.new_name made err.ledger gone)
+    (err.kept ∙ c.aim.ensures.sets, ap (λ x. x.now.items) c.count_fresh.ensures.pools ∙ c.make_room.ensures.pools, not_grown key size name c.in-Err-alloc_descriptor_sets.error l m m' m'' c.in-Ok.ensures.new_name made err.ledger gone, one_fits key c.args.room.now c.args.total c.args.wanted size sized.sets, refl)
 
 pub returns-in-Ok-alloc_descriptor_sets-clause-grown : goal.returns-in-Ok-alloc_descriptor_sets-clause-grown
 returns-in-Ok-alloc_descriptor_sets-clause-grown g c =
     let key : Key = key_of c.args.key.now in
-    let size : ℕ = c.new_pool_size-size.result.1 in
+    let size : ℕ = c.in-Some.size in
     let name : ℕ = g.D.DescriptorDevice.pool_name c.in-Ok.raw in
     let l : Ledger = g.D.DescriptorDevice.ledger c.args.device.now in
     let m : Ledger = g.D.DescriptorDevice.ledger c.create_descriptor_pool.new.self in
     let counts : g.D.DescriptorDevice.layout_counts c.args.layout.now ≡ key.counts = sym (ap (λ (k : Key). k.counts) c.requires.same) in
-    let sized = c.new_pool_size-size.ensures in
+    let sized = c.in-Some.ensures in
     let same_flags : bits c.pool_flags-flags.result ≡ flags_of key = c.pool_flags-flags.ensures in
     let made : m ≡ after_create (pool_counts key.counts size) size (flags_of key) name l = c.in-Ok.ensures.ok ∙ ap (λ cs. after_create cs size (bits c.pool_flags-flags.result) name l) sized.counts ∙ ap (λ b. after_create (pool_counts key.counts size) size b name l) same_flags in
     let m' : Ledger = g.D.DescriptorDevice.ledger c.alloc_descriptor_sets.new.self in
@@ -81,15 +82,48 @@ returns-in-Ok-alloc_descriptor_sets-clause-grown g c =
     let many : length put.sets ≡ c.min-given.result = put.many ∙ c.new.ensures.left in
     let long : length names ≡ min size c.args.wanted = length-map put.sets g.D.DescriptorDevice.set_name ∙ many ∙ count in
     let is : m' ≡ after_alloc name (live_sets key.counts names) m = put.ledger ∙ ap (λ cs. after_alloc name (live_sets cs names) m) (ap g.D.DescriptorDevice.layout_counts c.new.ensures.layout ∙ counts) in
-    let old : List Entry = entries_of g.D.DescriptorDevice.pool_name c.args.pools.now.items in
-    let new : List Entry = entries_of g.D.DescriptorDevice.pool_name c.push_back_reserved.new.self.items in
-    let value : DescriptorPool g.row.P.Denot = record { raw = c.alloc_descriptor_sets.new.pool; allocated = c.min-given.result; available = size - c.min-given.result } in
-    let items : c.push_back_reserved.new.self.items ≡ c.reserve.new.self.items ++ value ∷ [] = c.push_back_reserved.ensures.items in
-    let now : new ≡ old ++ record { pool = name; allocated = min size c.args.wanted; free = size - min size c.args.wanted } ∷ [] =
-    ap (map (entry_of g.D.DescriptorDevice.pool_name)) (items ∙ ap (λ x. x ++ value ∷ []) c.reserve.ensures.items)
-    ∙ map-append (entry_of g.D.DescriptorDevice.pool_name) c.args.pools.now.items (value ∷ [])
-    ∙ ap (λ (e : Entry). old ++ e ∷ []) (same_entry (entry_of g.D.DescriptorDevice.pool_name value) _ c.in-Ok-alloc_descriptor_sets.ensures.name count (ap (λ n. size - n) count)) in
-    let number : c.aim.new.self.number ≡ c.args.offset + length c.args.pools.now.items = c.aim.ensures.number ∙ (let n = c.len.ensures in let long = c.reserve.new.self.ok.0 in let same = ap length c.reserve.ensures.items in omega arith) in
-    let kept : c.alloc_descriptor_sets.new.sets.sets.items ≡ c.args.sink.now.sets.items ++ sets_at c.args.key.now (c.args.offset + length c.args.pools.now.items) put.sets = put.kept ∙ ap (λ (l : List (DescriptorSet g.row.S.Denot)). l ++ sets_at c.aim.new.self.key c.aim.new.self.number put.sets) c.aim.ensures.sets ∙ ap (λ (k : BucketKey). c.args.sink.now.sets.items ++ sets_at k c.aim.new.self.number put.sets) c.aim.ensures.key ∙ ap (λ (n : ℕ). c.args.sink.now.sets.items ++ sets_at c.args.key.now n put.sets) number in
+    let old : List Entry = entries_of g.D.DescriptorDevice.pool_name c.args.view.now.pools.now.items in
+    let new : List Entry = entries_of g.D.DescriptorDevice.pool_name c.push.new.self.pools.now.items in
+    let value : DescriptorPool g.row.P.Denot = record { raw = c.alloc_descriptor_sets.new.pool; capacity = size; allocated = c.min-given.result; available = size - c.min-given.result } in
+    let items : c.push.new.self.pools.now.items ≡ c.make_room.new.self.pools.now.items ++ value ∷ [] = c.push.ensures.pools ∙ ap (λ x. x.now.items ++ value ∷ []) c.count_fresh.ensures.pools in
+    let now : new ≡ old ++ record { pool = name; capacity = size; allocated = min size c.args.wanted; free = size - min size c.args.wanted } ∷ [] =
+    ap (map (entry_of g.D.DescriptorDevice.pool_name)) (items ∙ ap (λ x. x ++ value ∷ []) c.make_room.ensures.pools)
+    ∙ map-append (entry_of g.D.DescriptorDevice.pool_name) c.args.view.now.pools.now.items (value ∷ [])
+    ∙ ap (λ (e : Entry). old ++ e ∷ []) (same_entry (entry_of g.D.DescriptorDevice.pool_name value) _ c.in-Ok-alloc_descriptor_sets.ensures.name refl count (ap (λ n. size - n) count)) in
+    let number : c.aim.new.self.number ≡ c.args.view.now.offset + length c.args.view.now.pools.now.items = c.aim.ensures.number ∙ c.next_number.ensures ∙ (let k = c.make_room.ensures.kept.0 in let same = ap length c.make_room.ensures.pools in omega arith) in
+    let kept : c.alloc_descriptor_sets.new.sets.sets.items ≡ c.args.sink.now.sets.items ++ sets_at c.args.key.now (c.args.view.now.offset + length c.args.view.now.pools.now.items) put.sets = put.kept ∙ ap (λ (l : List (DescriptorSet g.row.S.Denot)). l ++ sets_at c.aim.new.self.key c.aim.new.self.number put.sets) c.aim.ensures.sets ∙ ap (λ (k : BucketKey). c.args.sink.now.sets.items ++ sets_at k c.aim.new.self.number put.sets) c.aim.ensures.key ∙ ap (λ (n : ℕ). c.args.sink.now.sets.items ++ sets_at c.args.key.now n put.sets) number in
     let room : c.alloc_descriptor_sets.new.sets.left + c.min-given.result ≡ c.args.sink.now.left = (let r = put.room in let n = c.new.ensures.left in let a = c.aim.ensures.left in omega arith) in
-    (put.sets, many, kept, room, grown key c.args.total c.args.wanted size name names old new l m m' sized.sets sized.some long c.in-Ok.ensures.new_name made is now)
+    (put.sets, many, kept, room, grown key c.args.room.now _ c.args.total c.args.wanted size name names old new l m m' sized.sets (let fits = sized.room.0 in let load = c.descriptors_of_pool.ensures in omega arith) long c.in-Ok.ensures.new_name made is now)
+
+pub returns-then-not-make_room-clause-err : goal.returns-then-not-make_room-clause-err
+returns-then-not-make_room-clause-err g c =
+    (refl, c.make_room.ensures.pools, not_begun (g.D.DescriptorDevice.ledger c.args.device.now), one_fits (key_of c.args.key.now) c.args.room.now c.args.total c.args.wanted c.in-Some.size c.in-Some.ensures.sets, refl)
+
+pub returns-in-Err-clause-err : goal.returns-in-Err-clause-err
+returns-in-Err-clause-err g c =
+    let l : Ledger = g.D.DescriptorDevice.ledger c.args.device.now in
+    let m : Ledger = g.D.DescriptorDevice.ledger c.create_descriptor_pool.new.self in
+    (refl, c.make_room.ensures.pools, not_created c.in-Err.error l m c.in-Err.ensures.err, one_fits (key_of c.args.key.now) c.args.room.now c.args.total c.args.wanted c.in-Some.size c.in-Some.ensures.sets, refl)
+
+pub returns-in-Err-clause-looks : goal.returns-in-Err-clause-looks
+returns-in-Err-clause-looks g c =
+    let looks = ap (λ x. x.now.count) c.make_room.ensures.looks in
+    let asked = ap (λ (x : Ledger). x.counters.asked) c.in-Err.ensures.err in
+    let same = create_asked c.in-Err.error (g.D.DescriptorDevice.ledger c.args.device.now).counters in
+    omega arith
+
+pub descriptors_of_pool-requires : goal.descriptors_of_pool-requires
+descriptors_of_pool-requires g c = c.in-Some.ensures.room.1
+
+pub overflow_sub-room : goal.overflow_sub-room
+overflow_sub-room g c = (let fits = c.in-Some.ensures.room.0 in let load = c.descriptors_of_pool.ensures in omega arith)
+
+pub returns-in-Err-alloc_descriptor_sets-clause-looks : goal.returns-in-Err-alloc_descriptor_sets-clause-looks
+returns-in-Err-alloc_descriptor_sets-clause-looks g c =
+    let looks = ap (λ x. x.now.count) c.make_room.ensures.looks in
+    let one = c.count_fresh.ensures.looks in
+    let made = ap (λ (x : Ledger). x.counters.asked) c.in-Ok.ensures.ok in
+    let refused = ap (λ (x : Ledger). x.counters.asked) c.in-Err-alloc_descriptor_sets.ensures.err.ledger in
+    let rise = alloc_asked c.in-Err-alloc_descriptor_sets.error (g.D.DescriptorDevice.ledger c.create_descriptor_pool.new.self).counters in
+    let gone = ap (λ (x : Ledger). x.counters.asked) c.destroy_descriptor_pool.ensures in
+    omega arith

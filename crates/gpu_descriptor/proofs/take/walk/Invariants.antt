@@ -1,17 +1,25 @@
--- The pools behind the place were asked. What came stands behind what was there.
-use Rattle.std.proofs.Common.{◌≡◌, ◌+◌, ◌++◌, List, length}
+-- What came stands behind what was there, and each pool that was asked was looked at once.
+use Rattle.std.proofs.Common.{◌≡◌, ℕ, ◌+◌, ◌≤◌, ◌++◌, List, length}
+use Rattle.std.specs.VecDeque.{deque_capacity}
 use Rattle.gpu_descriptor.specs.declared.set.DescriptorSet.{DescriptorSet}
+use Rattle.gpu_descriptor.specs.Open.{CountsLooks, KeepsView}
 use Rattle.gpu_descriptor.specs.Sets.{key_of, items_of}
 use Rattle.gpu_descriptor.specs.Walk.{entries_of}
-use Rattle.gpu_descriptor.proofs.Walking.{Walking}
+use Rattle.gpu_descriptor.proofs.Newest.{OpenWalk}
 use Rattle.gpu_descriptor.proofs.take.walk.Given as goal
 
-abbrev pub invariant-loop-at : goal.invariant-loop-at
-invariant-loop-at g l = record {
+abbrev pub invariant-loop-wanting : goal.invariant-loop-wanting
+invariant-loop-wanting g l = record {
   put : List (DescriptorSet g.row.S.Denot);
   sets : l.sink.sets.items ≡ l.initial.sink.sets.items ++ put;
   room : l.sink.left + l.count ≡ l.initial.sink.left + l.wanting;
   given : length put + l.wanting ≡ l.count;
-  long : length l.pools.items ≡ length l.initial.pools.items;
-  walking : Walking (key_of l.key) l.count l.offset l.at l.wanting (items_of g.D.DescriptorDevice.set_name put) (entries_of g.D.DescriptorDevice.pool_name l.initial.pools.items) (entries_of g.D.DescriptorDevice.pool_name l.pools.items) (g.D.DescriptorDevice.ledger l.initial.device) (g.D.DescriptorDevice.ledger l.device);
+  long : length l.view.pools.now.items ≡ length l.initial.view.pools.now.items;
+  walk : OpenWalk g.D.DescriptorDevice.pool_name (key_of l.key) l.count l.view.offset l.wanting (items_of g.D.DescriptorDevice.set_name put) (entries_of g.D.DescriptorDevice.pool_name l.initial.view.pools.now.items) l.view.pools.now.items l.view.listed.now.items (g.D.DescriptorDevice.ledger l.initial.device) (g.D.DescriptorDevice.ledger l.device);
+  space : length l.view.pools.now.items ≤ deque_capacity l.view.listed.now;
+  kept : KeepsView l.initial.view l.view;
+  looks : CountsLooks l.initial.view l.view (g.D.DescriptorDevice.ledger l.initial.device) (g.D.DescriptorDevice.ledger l.device);
 }
+
+abbrev pub decreases-loop-wanting : goal.decreases-loop-wanting
+decreases-loop-wanting g l = l.wanting + length l.view.listed.now.items

@@ -60,4 +60,4 @@ invariant_of-self-in-Ok g c =
     let total = c.in-Ok.ensures.totals.0 in
     let was = slots.counted in
     let counted = c.args.self.now.counted in
-    record { counted = omega arith; within = c.in-Ok.ensures.load }
+    record { counted = omega arith; within = c.in-Ok.ensures.load; in_room = c.in-Ok.ensures.pool_load }

@@ -69,4 +69,4 @@ invariant_of-self-2 g c =
     let limit = c.free_from.ensures.limit in
     let counted = c.args.self.now.counted in
     let within = c.args.self.now.within in
-    record { counted = omega arith; within = omega arith }
+    record { counted = omega arith; within = omega arith; in_room = c.free_from.ensures.pool_load }

@@ -1,7 +1,7 @@
-use Rattle.std.proofs.Common.{rules, sym, ap, ◌∙◌, Some}
+use Rattle.std.proofs.Common.{◌≡◌, arith, rules, sym, ap, ◌∙◌, Some}
 use Rattle.gpu_descriptor.specs.Values.{Allocations}
 use Rattle.gpu_descriptor.proofs.Foreign.{freed_foreign}
-use Rattle.gpu_descriptor.proofs.Requested.{keys_apart}
+use Rattle.gpu_descriptor.proofs.Requested.{keys_apart, pool_load_of_rows}
 use Rattle.gpu_descriptor.proofs.Freed.{Freed, freed_none, call_out, freed_more, less}
 use Rattle.gpu_descriptor.proofs.allocator.DescriptorAllocator.free_from.Goals.{In-Some}
 use Rattle.gpu_descriptor.proofs.allocator.DescriptorAllocator.free_from.Goals as goal
@@ -10,6 +10,7 @@ pub loop-ahead-init : goal.loop-ahead-init
 loop-ahead-init g c = record {
   freed = freed_none g.D.DescriptorDevice.set_name g.D.DescriptorDevice.pool_name g.I.Iterator.next_gives g.I.Iterator.can_next g.I.Iterator.remaining c.args.sets.now c.args.self.now (g.D.DescriptorDevice.ledger c.args.device.now) c.next-ahead.result c.next-ahead.new.self c.requires.agree c.requires.ends c.next-ahead.ensures.steps c.next-ahead.ensures.goes;
   limit = λ i. c.args.self.now.limit;
+  looks = λ i. c.args.self.now.looks;
 }
 
 -- the invariant at the set in hand
@@ -28,6 +29,7 @@ loop-ahead-preserved g c =
       freed = freed_more g.D.DescriptorDevice.set_name g.D.DescriptorDevice.pool_name g.I.Iterator.next_gives g.I.Iterator.can_next g.I.Iterator.remaining c.args.sets.now c.args.self.now (g.D.DescriptorDevice.ledger c.args.device.now) c.loop-ahead.self (g.D.DescriptorDevice.ledger c.loop-ahead.device) c.in-Some.first c.loop-ahead.sets
           c.requires.agree c.requires.outstanding r _ _ _ _ c.release_run-ahead.ensures.ran c.release_run-ahead.ensures.keys c.release_run-ahead.ensures.goes;
       limit = c.release_run-ahead.ensures.limit ∙ c.loop-ahead.invariant.limit;
+      looks = c.release_run-ahead.ensures.looks_stay ∙ c.loop-ahead.invariant.looks;
     }
 
 pub loop-ahead-smaller : goal.loop-ahead-smaller
@@ -42,3 +44,10 @@ pub returns-clause-rows : goal.returns-clause-rows
 returns-clause-rows g c =
     let was = ap (λ (a : Allocations _). a.table) (sym c.self.view_is) in
     keys_apart c.loop-ahead.self c.self.inside.buckets.entries was g.D.DescriptorDevice.pool_name _ (λ k l. search rules) c.len-keys.ensures.unique
+
+pub returns-clause-pool_load : goal.returns-clause-pool_load
+returns-clause-pool_load g c =
+    let rows = pool_load_of_rows c.loop-ahead.self c.self.inside.buckets.entries (ap (λ (a : Allocations _). a.table) (sym c.self.view_is)) in
+    let limit : c.self.inside.max_update_after_bind_descriptors_in_all_pools ≡ c.loop-ahead.self.limit = ap (λ (a : Allocations _). a.limit) c.self.view_is in
+    let all = c.self.invariant.is_room in
+    omega arith

@@ -4,7 +4,7 @@ use Rattle.gpu_descriptor.specs.Sets.{key_of}
 use Rattle.gpu_descriptor.specs.Stored.{IsCounted}
 use Rattle.gpu_descriptor.specs.Values.{Allocations}
 use Rattle.gpu_descriptor.proofs.Lent.{no_row, row_stored, row_taken, row_ran, row_counted}
-use Rattle.gpu_descriptor.proofs.Loads.{taken, load_at, load_fits, counted_after, out_after, load_after, run_load}
+use Rattle.gpu_descriptor.proofs.Loads.{taken, load_at, load_fits, counted_after, out_after, load_after, run_load, pools_present, pools_set}
 use Rattle.gpu_descriptor.proofs.TableBooks.{distinct_keys, row_keys, keys_are, keys_set}
 use Rattle.gpu_descriptor.proofs.OneRun.{at_own}
 use Rattle.gpu_descriptor.proofs.allocator.DescriptorAllocator.release_run.Goals as goal
@@ -18,6 +18,13 @@ pub release_run-ahead-requires-clause-taken : goal.release_run-ahead-requires-cl
 release_run-ahead-requires-clause-taken g c = λ xs t gave have.
     row_taken g.D.DescriptorDevice.pool_name g.D.DescriptorDevice.set_name c.args.self.now (g.D.DescriptorDevice.ledger c.args.device.now) c.self.inside.buckets.entries (ap (λ (a : Allocations _). a.table) (sym c.self.view_is)) c.requires.agree c.args.first _ (λ k. search rules)
     c.in-Some.bucket.now (sym c.get_mut.ensures.value ∙ ap option_copied_mut c.in-Some.is) xs have (c.requires.outstanding xs t gave)
+
+pub release_run-ahead-requires-clause-room : goal.release_run-ahead-requires-clause-room
+release_run-ahead-requires-clause-room g c =
+    let below = pools_present (key_of c.args.first.key) _ (λ k. search rules) c.self.inside.buckets.entries c.in-Some.bucket.now c.in-Some.bucket.now (sym c.get_mut.ensures.value ∙ ap option_copied_mut c.in-Some.is) in
+    let all = c.self.invariant.is_room in
+    let ranges = c.self.ranges in
+    omega arith
 
 pub unreachable-requires : goal.unreachable-requires
 unreachable-requires g c =
@@ -41,7 +48,7 @@ marked_descriptors-descriptors-requires g c =
     let total = ran.total in
     let many : c.in-Some.bucket.now.total - c.release_run-ahead.new.self.total ≡ length (c.args.first ∷ ran.sets) = omega arith in
     let load : load_at (key_of c.args.first.key) (c.in-Some.bucket.now.total - c.release_run-ahead.new.self.total) ≡ load_at (key_of c.args.first.key) (length (c.args.first ∷ ran.sets)) = ap (load_at (key_of c.args.first.key)) many in
-    let fits = load_fits _ _ _ _ t _ _ _ c.self.invariant in
+    let fits = load_fits _ _ _ _ t _ _ _ _ c.self.invariant in
     let ranges = c.self.ranges in
     omega arith
 
@@ -52,7 +59,7 @@ overflow_cast-descriptors g c =
     let total = ran.total in
     let many : c.in-Some.bucket.now.total - c.release_run-ahead.new.self.total ≡ length (c.args.first ∷ ran.sets) = omega arith in
     let load : load_at (key_of c.args.first.key) (c.in-Some.bucket.now.total - c.release_run-ahead.new.self.total) ≡ load_at (key_of c.args.first.key) (length (c.args.first ∷ ran.sets)) = ap (load_at (key_of c.args.first.key)) many in
-    let fits = load_fits _ _ _ _ t _ _ _ c.self.invariant in
+    let fits = load_fits _ _ _ _ t _ _ _ _ c.self.invariant in
     let ranges = c.self.ranges in
     let is = c.marked_descriptors-descriptors.ensures in
     omega arith
@@ -64,7 +71,7 @@ overflow_sub-self-in-Some g c =
     let total = ran.total in
     let many : c.in-Some.bucket.now.total - c.release_run-ahead.new.self.total ≡ length (c.args.first ∷ ran.sets) = omega arith in
     let load : load_at (key_of c.args.first.key) (c.in-Some.bucket.now.total - c.release_run-ahead.new.self.total) ≡ load_at (key_of c.args.first.key) (length (c.args.first ∷ ran.sets)) = ap (load_at (key_of c.args.first.key)) many in
-    let fits = load_fits _ _ _ _ t _ _ _ c.self.invariant in
+    let fits = load_fits _ _ _ _ t _ _ _ _ c.self.invariant in
     let is = c.marked_descriptors-descriptors.ensures in
     omega arith
 
@@ -76,7 +83,7 @@ invariant_of-self g c =
     let many : c.in-Some.bucket.now.total - c.release_run-ahead.new.self.total ≡ length (c.args.first ∷ ran.sets) = omega arith in
     let load : load_at (key_of c.args.first.key) (c.in-Some.bucket.now.total - c.release_run-ahead.new.self.total) ≡ load_at (key_of c.args.first.key) (length (c.args.first ∷ ran.sets)) = ap (load_at (key_of c.args.first.key)) many in
     let wrote = c.get_mut.follows.holds c.release_run-ahead.new.self in
-    subst (IsCounted _ _ _) (sym wrote.0) (counted_after _ _ _ _ t _ _ _ _ _ c.self.invariant (c.marked_descriptors-descriptors.ensures ∙ load) many)
+    subst (IsCounted _ _ _ _) (sym wrote.0) (counted_after _ _ _ _ t _ _ _ _ _ _ _ c.self.invariant (c.marked_descriptors-descriptors.ensures ∙ load) many (pools_set (key_of c.args.first.key) _ (λ k. search rules) c.self.inside.buckets.entries c.in-Some.bucket.now c.release_run-ahead.new.self (sym c.get_mut.ensures.value ∙ ap option_copied_mut c.in-Some.is) _ _ c.release_run-ahead.ensures.room))
 
 pub returns-clause-ran : goal.returns-clause-ran
 returns-clause-ran g c =

@@ -14,7 +14,7 @@ returns-clause-served g c =
     let key : Key = key_of c.args.key.now in
     let l : Ledger = g.D.DescriptorDevice.ledger c.args.device.now in
     let m : Ledger = g.D.DescriptorDevice.ledger c.take-taken.new.device in
-    subst (λ (x : List (DescriptorSet g.row.S.Denot)). Serves g.D.DescriptorDevice.pool_name g.D.DescriptorDevice.set_name key c.args.count x c.take-taken.result c.args.bucket.now c.take-taken.new.self l m) (sym c.into_sets.ensures) (record {
+    subst (λ (x : List (DescriptorSet g.row.S.Denot)). Serves g.D.DescriptorDevice.pool_name g.D.DescriptorDevice.set_name key c.args.room.now c.args.count x c.take-taken.result c.args.bucket.now c.take-taken.new.self l m) (sym c.into_sets.ensures) (record {
       numbers = (
           let below : c.args.bucket.now.offset + c.len.result + c.args.count ≤ 18446744073709551615 = ltb-false 18446744073709551615 (c.args.bucket.now.offset + c.len.result + c.args.count) (sym c.is_past_bound.ensures ∙ c.if-is_past_bound.false) in
           let long = length-map c.args.bucket.now.pools.items (entry_of g.D.DescriptorDevice.pool_name) in

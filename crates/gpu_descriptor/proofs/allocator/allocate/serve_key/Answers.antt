@@ -1,4 +1,4 @@
-use Rattle.std.proofs.Common.{◌≡◌, ◌+◌, ◌≤◌, ◌++◌, ◌∷◌, [], Bool, List, Result, Ok, Err, None, inl, refl, sym, ap, ◌∙◌, subst, arith, rules, map}
+use Rattle.std.proofs.Common.{◌≡◌, ◌+◌, ◌≤◌, ◌++◌, ◌∷◌, [], Bool, List, Result, Ok, Err, None, inl, refl, sym, ap, ◌∙◌, subst, arith, rules, map, sum_by}
 use Rattle.std.specs.Map.{set_value}
 use Rattle.std.specs.Option.{option_copied_mut}
 use Rattle.std.specs.Prelude.{IfOk, IfErr, OnErr}
@@ -10,9 +10,9 @@ use Rattle.gpu_descriptor.specs.declared.bucket.DescriptorBucket.{DescriptorBuck
 use Rattle.gpu_descriptor.specs.Books.{Bucket, no_pools, next_number}
 use Rattle.gpu_descriptor.specs.Sets.{key_of}
 use Rattle.gpu_descriptor.specs.Buckets.{AreBookedIn}
-use Rattle.gpu_descriptor.specs.Stored.{entry_of}
+use Rattle.gpu_descriptor.specs.Stored.{entry_of, pools_load_in, stored_load}
 use Rattle.gpu_descriptor.specs.Serves.{ServesKey, IsUnserved}
-use Rattle.gpu_descriptor.proofs.Loads.{sum_set}
+use Rattle.gpu_descriptor.proofs.Loads.{sum_set, pools_set, pools_end}
 use Rattle.gpu_descriptor.proofs.RequestSteps.{present, missing, serves_present, serves_new, set_value-same}
 use Rattle.gpu_descriptor.proofs.allocator.allocate.serve_key.Goals as goal
 
@@ -48,8 +48,8 @@ returns-in-Some-clause-served g c =
     let wrote = (c.get_mut.follows.holds c.serve.new.bucket).0 in
     let l : Ledger = g.D.DescriptorDevice.ledger c.args.device.now in
     let m : Ledger = g.D.DescriptorDevice.ledger c.serve.new.device in
-    if_ok _ _ c.serve.result (λ r s. subst (λ (es : List (BucketKey × DescriptorBucket g.row.P.Denot)). ServesKey g.D.DescriptorDevice.pool_name g.D.DescriptorDevice.set_name c.args.key c.args.count r.0.items r.1 c.args.buckets.now.entries es l m) (sym wrote)
-    (serves_present g.D.DescriptorDevice.pool_name g.D.DescriptorDevice.set_name c.args.key _ (λ k. search rules) c.args.buckets.now.entries c.in-Some.bucket.now c.serve.new.bucket c.args.count r.0.items r.1 l m (sym c.get_mut.ensures.value ∙ ap option_copied_mut c.in-Some.is) s)) c.serve.ensures.served
+    if_ok _ _ c.serve.result (λ r s. subst (λ (es : List (BucketKey × DescriptorBucket g.row.P.Denot)). ServesKey g.D.DescriptorDevice.pool_name g.D.DescriptorDevice.set_name c.args.key c.args.room.now c.args.count r.0.items r.1 c.args.buckets.now.entries es l m) (sym wrote)
+    (serves_present g.D.DescriptorDevice.pool_name g.D.DescriptorDevice.set_name c.args.key _ (λ k. search rules) c.args.buckets.now.entries c.in-Some.bucket.now c.serve.new.bucket c.args.room.now c.args.count r.0.items r.1 l m (sym c.get_mut.ensures.value ∙ ap option_copied_mut c.in-Some.is) s)) c.serve.ensures.served
 
 pub returns-in-Some-clause-refused : goal.returns-in-Some-clause-refused
 returns-in-Some-clause-refused g c =
@@ -70,8 +70,8 @@ returns-clause-served g c =
     let none = sym c.get_mut.ensures.value ∙ ap option_copied_mut c.in-None.is in
     let same : c.reserve.new.self.entries ≡ old = c.reserve.ensures.entries ∙ ap (λ b. b.entries) c.get_mut.follows.holds-at-none in
     let put : c.insert.new.self.entries ≡ old ++ (c.args.key, c.serve-2.new.bucket) ∷ [] = put_new _ c.args.buckets.now c.args.key c.serve-2.new.bucket c.reserve.new.self.entries c.insert.new.self.entries c.in-Ok-insert.ensures.entries same none in
-    subst (λ (es : List (BucketKey × DescriptorBucket g.row.P.Denot)). ServesKey g.D.DescriptorDevice.pool_name g.D.DescriptorDevice.set_name c.args.key c.args.count c.in-Ok.served.0.items c.in-Ok.served.1 old es l m) (sym put)
-    (serves_new g.D.DescriptorDevice.pool_name g.D.DescriptorDevice.set_name c.args.key _ (λ k. search rules) old _ c.serve-2.new.bucket c.args.count c.in-Ok.served.0.items c.in-Ok.served.1 l m none refl c.new.ensures.items refl c.in-Ok.ensures.served)
+    subst (λ (es : List (BucketKey × DescriptorBucket g.row.P.Denot)). ServesKey g.D.DescriptorDevice.pool_name g.D.DescriptorDevice.set_name c.args.key c.args.room.now c.args.count c.in-Ok.served.0.items c.in-Ok.served.1 old es l m) (sym put)
+    (serves_new g.D.DescriptorDevice.pool_name g.D.DescriptorDevice.set_name c.args.key _ (λ k. search rules) old _ c.serve-2.new.bucket c.args.room.now c.args.count c.in-Ok.served.0.items c.in-Ok.served.1 l m none refl c.new.ensures.items refl c.in-Ok.ensures.served)
 
 pub returns-then-is_err-clause-refused : goal.returns-then-is_err-clause-refused
 returns-then-is_err-clause-refused g c =
@@ -86,3 +86,21 @@ returns-in-Err-clause-refused g c =
     let at : Bucket = record { first = 0; pools = map (entry_of g.D.DescriptorDevice.pool_name) c.new.result.items } in
     let empty : no_pools ≡ at = λ i. record { first = 0; pools = map (entry_of g.D.DescriptorDevice.pool_name) (sym c.new.ensures.items i) } in
     subst (λ (b : Bucket). IsUnserved c.args.count c.in-Err.error b) (sym (is ∙ empty)) c.in-Err.ensures.refused
+
+pub returns-in-Some-clause-room : goal.returns-in-Some-clause-room
+returns-in-Some-clause-room g c =
+    let wrote = (c.get_mut.follows.holds c.serve.new.bucket).0 in
+    let at = sym c.get_mut.ensures.value ∙ ap option_copied_mut c.in-Some.is in
+    ap (λ (es : List (BucketKey × DescriptorBucket g.row.P.Denot)). c.serve.new.room + sum_by pools_load_in es) wrote
+    ∙ pools_set (key_of c.args.key) _ (λ k. search rules) c.args.buckets.now.entries c.in-Some.bucket.now c.serve.new.bucket at _ _ c.serve.ensures.room
+
+pub returns-clause-room : goal.returns-clause-room
+returns-clause-room g c =
+    let old : List (BucketKey × DescriptorBucket g.row.P.Denot) = c.args.buckets.now.entries in
+    let none = sym c.get_mut.ensures.value ∙ ap option_copied_mut c.in-None.is in
+    let same : c.reserve.new.self.entries ≡ old = c.reserve.ensures.entries ∙ ap (λ b. b.entries) c.get_mut.follows.holds-at-none in
+    let put : c.insert.new.self.entries ≡ old ++ (c.args.key, c.serve-2.new.bucket) ∷ [] = put_new _ c.args.buckets.now c.args.key c.serve-2.new.bucket c.reserve.new.self.entries c.insert.new.self.entries c.in-Ok-insert.ensures.entries same none in
+    let empty : stored_load (key_of c.args.key) c.new.result.items ≡ 0 = ap (stored_load (key_of c.args.key)) c.new.ensures.items in
+    let moved = c.serve-2.ensures.room in
+    ap (λ (es : List (BucketKey × DescriptorBucket g.row.P.Denot)). c.serve-2.new.room + sum_by pools_load_in es) put
+    ∙ pools_end c.args.key old c.serve-2.new.bucket c.serve-2.new.room c.args.room.now (omega arith)

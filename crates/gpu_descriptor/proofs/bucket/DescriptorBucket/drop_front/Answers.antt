@@ -1,9 +1,12 @@
-use Rattle.std.proofs.Common.{◌≡◌, ℕ, ◌<◌, ◌≤◌, ◌∙◌, sym, ap, arith, length, get_or, Some}
+use Rattle.std.proofs.Common.{◌≡◌, ℕ, ◌+◌, drop, ◌<◌, ◌≤◌, ◌∙◌, sym, ap, arith, length, get_or, Some}
 use Rattle.gpu_descriptor_types.specs.Ledger.{Ledger}
 use Rattle.gpu_descriptor.specs.Books.{Bucket}
 use Rattle.gpu_descriptor.specs.Buckets.{ledger_without}
 use Rattle.gpu_descriptor.specs.Release.{spent_front}
-use Rattle.gpu_descriptor.specs.Stored.{bucket_of}
+use Rattle.gpu_descriptor.specs.Load.{pool_load}
+use Rattle.gpu_descriptor.specs.Sets.{key_of}
+use Rattle.gpu_descriptor.specs.Stored.{bucket_of, stored_load}
+use Rattle.gpu_descriptor.proofs.PoolLoads.{stored_first}
 use Rattle.gpu_descriptor.proofs.Turns.{IsFront, is_front, turn_unused, turn, stop_full, stop_last, ledger_without_none}
 use Rattle.gpu_descriptor.proofs.bucket.DescriptorBucket.drop_front.Goals.{After-unwrap-front}
 use Rattle.gpu_descriptor.proofs.bucket.DescriptorBucket.drop_front.Goals as goal
@@ -16,6 +19,26 @@ front g c =
     let was : c.pop_front.result ≡ Some c.unwrap-front.result = search (Rattle.std.proofs.Common.rules) in
     let is : c.unwrap-front.result ≡ get_or items 0 c.unwrap-front.result = cc (some, was) in
     is_front g.D.DescriptorDevice.pool_name items c.unwrap-front.result c.index.result.now many is c.index.ensures c.if-index-eq0.true
+
+first_load : (g : _) (c : After-unwrap-front g) → stored_load (key_of c.args.key.now) c.loop-self.self.pools.items ≡ pool_load (key_of c.args.key.now) c.unwrap-front.result.capacity + stored_load (key_of c.args.key.now) (drop 1 c.loop-self.self.pools.items)
+first_load g c = (let first = front g c in let some = first.long in stored_first (key_of c.args.key.now) c.loop-self.self.pools.items c.unwrap-front.result (omega arith) first.is)
+
+pub descriptors_of_pool-requires : goal.descriptors_of_pool-requires
+descriptors_of_pool-requires g c =
+    let d = (goal.at.descriptors_of_pool-requires g c).After-unwrap-front in
+    let all = first_load g d in
+    let was = c.loop-self.invariant.room in
+    let fits = c.requires.room in
+    omega arith
+
+pub overflow_add-room : goal.overflow_add-room
+overflow_add-room g c =
+    let d = (goal.at.overflow_add-room g c).After-unwrap-front in
+    let all = first_load g d in
+    let load = c.descriptors_of_pool.ensures in
+    let was = c.loop-self.invariant.room in
+    let fits = c.requires.room in
+    omega arith
 
 pub destroy_descriptor_pool-requires : goal.destroy_descriptor_pool-requires
 destroy_descriptor_pool-requires g c =
@@ -32,6 +55,12 @@ loop-self-preserved g c =
       books = done.books ∙ c.loop-self.invariant.books;
       ledger = done.ledger ∙ c.loop-self.invariant.ledger;
       total = c.loop-self.invariant.total;
+      room = (
+          let all = first_load g d in
+          let rest = ap (stored_load (key_of c.args.key.now)) c.pop_front.ensures.rest in
+          let load = c.descriptors_of_pool.ensures in
+          let was = c.loop-self.invariant.room in
+          omega arith);
     }
 
 -- a front that stays

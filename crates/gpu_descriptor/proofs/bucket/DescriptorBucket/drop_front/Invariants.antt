@@ -1,7 +1,8 @@
-use Rattle.std.proofs.Common.{◌≡◌, length}
+use Rattle.std.proofs.Common.{◌≡◌, ◌+◌, length}
 use Rattle.gpu_descriptor.specs.Books.{Key}
 use Rattle.gpu_descriptor.specs.Buckets.{AreBookedIn, settled_bucket, settled_ledger}
-use Rattle.gpu_descriptor.specs.Stored.{bucket_of}
+use Rattle.gpu_descriptor.specs.Sets.{key_of}
+use Rattle.gpu_descriptor.specs.Stored.{bucket_of, stored_load}
 use Rattle.gpu_descriptor.proofs.bucket.DescriptorBucket.drop_front.Given as goal
 
 -- what is left to drop is what there was to drop
@@ -14,6 +15,7 @@ invariant-loop-self g l =
       books : settled_bucket (bucket_of name l.self) ≡ settled_bucket (bucket_of name l.fn.self);
       ledger : settled_ledger (bucket_of name l.self) (ledger l.device) ≡ settled_ledger (bucket_of name l.fn.self) (ledger l.fn.device);
       total : l.self.total ≡ l.fn.self.total;
+      room : l.room + stored_load (key_of l.fn.key) l.self.pools.items ≡ l.fn.room + stored_load (key_of l.fn.key) l.fn.self.pools.items;
     }
 
 abbrev pub decreases-loop-self : goal.decreases-loop-self

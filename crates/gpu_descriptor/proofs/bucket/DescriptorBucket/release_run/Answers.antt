@@ -1,12 +1,19 @@
-use Rattle.std.proofs.Common.{◌≡◌, ℕ, List, set, ◌+◌, ◌<◌, ◌≤◌, ◌-◌, rules, arith, sym, refl, ◌∙◌, ap, subst, length, map, slice_get, [], ◌∷◌, Some, length-set}
+use Rattle.std.proofs.Common.{◌≡◌, ℕ, List, set, ◌+◌, ◌<◌, ◌≤◌, ◌-◌, rules, arith, sym, refl, ◌∙◌, ap, subst, length, map, slice_get, [], ◌∷◌, Some, length-set, eqb-true}
 use Rattle.std.specs.Prelude.{IfSome}
 use Rattle.std.proofs.lemmas.List.{length-map}
+use Rattle.std.proofs.lemmas.Option.{slice_get_read}
+use Rattle.gpu_descriptor.specs.declared.bucket.DescriptorPool.{DescriptorPool}
 use Rattle.gpu_descriptor_types.specs.Ledger.{Ledger, after_release}
 use Rattle.gpu_descriptor_types.specs.Multiset.{LiveSet, AreIn}
 use Rattle.gpu_descriptor.specs.declared.set.DescriptorSet.{DescriptorSet}
 use Rattle.gpu_descriptor.specs.Agreement.{live_in}
 use Rattle.gpu_descriptor.specs.Books.{Entry}
 use Rattle.gpu_descriptor.specs.Buckets.{AreBookedIn, IsTakenAt, names_of, settled_bucket, settled_ledger}
+use Rattle.std.specs.List.Sorted.{IsNonDecreasing}
+use Rattle.gpu_descriptor.specs.OpenNumbers.{free_in}
+use Rattle.gpu_descriptor.proofs.PoolLoads.{stored_put}
+use Rattle.gpu_descriptor.proofs.Open.{open_rises}
+use Rattle.gpu_descriptor.proofs.Listed.{listed_again, fewer_listed}
 use Rattle.gpu_descriptor.specs.Release.{entry_less}
 use Rattle.gpu_descriptor.specs.Sets.{key_of}
 use Rattle.gpu_descriptor.specs.Stored.{bucket_of, entry_of}
@@ -49,6 +56,10 @@ here g c =
     let at = is_within (key_of c.args.first.key) c.args.first.number (g.D.DescriptorDevice.set_name c.args.first.raw ∷ []) (bucket_of g.D.DescriptorDevice.pool_name c.args.self.now) (g.D.DescriptorDevice.ledger c.args.device.now).pools (c.requires.taken [] c.args.sets.now refl tt) in
     let long = length-map items (entry_of g.D.DescriptorDevice.pool_name) in
     omega arith
+
+-- the pool at the place
+read : (g : _) (c : After-index_mut-pool g) → slice_get c.args.self.now.pools.items (c.args.first.number - c.args.self.now.offset) ≡ Some c.index_mut-pool.result.now
+read g c = slice_get_read c.args.self.now.pools.items (length c.args.self.now.pools.items) (c.args.first.number - c.args.self.now.offset) c.index_mut-pool.result.now refl (here g c) c.index_mut-pool.ensures.value
 
 -- the sets of which the release speaks are live in the place
 taken : (g : _) (c : After-index_mut-pool g) (ls : List LiveSet) (ys : List _) → map (λ x. x.name) ls ≡ map g.D.DescriptorDevice.set_name ys → IfSome ((g.D.DescriptorDevice.ledger c.args.device.now).pools (g.D.DescriptorDevice.pool_name c.index_mut-pool.result.now.raw)) (λ pool. AreIn ls pool.live)
@@ -101,9 +112,9 @@ overflow_sub-self g c =
     let from = c.from.ensures in
     omega arith
 
-pub drop_front-requires : goal.drop_front-requires
-drop_front-requires g c =
-    let r = (goal.at.drop_front-requires g c).After-index_mut-pool in
+pub drop_front-requires-clause-stored : goal.drop_front-requires-clause-stored
+drop_front-requires-clause-stored g c =
+    let r = (goal.at.drop_front-requires-clause-stored g c).After-index_mut-pool in
     let t = c.dealloc_descriptor_sets.ensures.released in
     let d = done g.I.Iterator.next_gives g.I.Iterator.can_next g.I.Iterator.remaining g.D.DescriptorDevice.set_name _ c.args.first (bucket_of g.D.DescriptorDevice.pool_name c.args.self.now) (g.D.DescriptorDevice.ledger c.args.device.now).pools (entry_of g.D.DescriptorDevice.pool_name c.index_mut-pool.result.now) c.dealloc_descriptor_sets.new.sets t.items t.gone refl refl refl refl c.requires.stored (at g r) c.requires.taken t.drained (taken g r t.gone t.items t.named t.live) in
     let n : c.finish-count.result ≡ length t.gone = c.finish-count.ensures.count ∙ d.count ∙ sym d.long in
@@ -130,7 +141,26 @@ invariant_of-self g c =
     let total = c.args.self.now.counted in
     let from = c.from.ensures in
     let numbered = c.args.self.now.numbered in
-    record { numbered = simp length-set numbered; counted = omega arith }
+    let some : 0 < c.index_mut-pool.result.now.available + c.finish-count.result = (let long = d.long in omega arith) in
+    let above = (c.requires.taken [] c.args.sets.now refl tt).above in
+    let named : c.args.first.number ≡ c.args.self.now.offset + (c.args.first.number - c.args.self.now.offset) = omega (arith, above) in
+    let new : DescriptorPool g.row.P.Denot = record { raw = c.dealloc_descriptor_sets.new.pool; capacity = c.index_mut-pool.result.now.capacity; allocated = c.index_mut-pool.result.now.allocated - c.finish-count.result; available = c.index_mut-pool.result.now.available + c.finish-count.result } in
+    record {
+      numbered = simp length-set numbered;
+      counted = omega arith;
+      «open» = listed_again c.args.self.now.offset c.args.self.now.pools.items c.args.self.now.listed.items c.args.self.now.«open» (c.args.first.number - c.args.self.now.offset) c.index_mut-pool.result.now new (read g r) c.args.first.number named some c.enter_new.new.listed.items c.enter_new.ensures.entered c.enter_new.ensures.stays;
+      room = (let room = c.args.self.now.room in let more = c.enter_new.ensures.capacity in let long = length-set c.args.self.now.pools.items (c.args.first.number - c.args.self.now.offset) new in omega arith);
+    }
+
+pub enter_new-requires-clause-rising : goal.enter_new-requires-clause-rising
+enter_new-requires-clause-rising g c = subst IsNonDecreasing (sym c.args.self.now.«open») (open_rises c.args.self.now.offset (free_in c.args.self.now.pools.items))
+
+pub enter_new-requires-clause-room : goal.enter_new-requires-clause-room
+enter_new-requires-clause-room g c = λ full.
+    let r = (goal.at.enter_new-requires-clause-room g c).After-index_mut-pool in
+    let fewer = fewer_listed c.args.self.now.offset c.args.self.now.pools.items c.args.self.now.listed.items c.args.self.now.«open» (c.args.first.number - c.args.self.now.offset) c.index_mut-pool.result.now c.index_mut-pool.result.now (read g r) (eqb-true _ _ full) in
+    let room = c.args.self.now.room in
+    omega arith
 
 pub returns-clause-ran : goal.returns-clause-ran
 returns-clause-ran g c =
@@ -176,3 +206,17 @@ returns-clause-goes g c =
     let v = sym d.run.name in
     let f = c.finish-count.ensures.source in
     run_goes g.I.Iterator.next_gives g.I.Iterator.can_next g.I.Iterator.remaining g.D.DescriptorDevice.set_name c.args.first _ c.dealloc_descriptor_sets.new.sets t.items d.run _ _ (search (rules, m, h)) (search (rules, v, f)) c.requires.ends
+
+pub drop_front-requires-clause-room : goal.drop_front-requires-clause-room
+drop_front-requires-clause-room g c =
+    let r = (goal.at.drop_front-requires-clause-room g c).After-index_mut-pool in
+    let same = stored_put (key_of c.args.first.key) c.args.self.now.pools.items (c.args.first.number - c.args.self.now.offset) c.index_mut-pool.result.now c.dealloc_descriptor_sets.new.pool (c.index_mut-pool.result.now.allocated - c.finish-count.result) (c.index_mut-pool.result.now.available + c.finish-count.result) (here g r) c.index_mut-pool.ensures.value in
+    let fits = c.requires.room in
+    omega arith
+
+pub returns-clause-room : goal.returns-clause-room
+returns-clause-room g c =
+    let r = (goal.at.returns-clause-room g c).After-index_mut-pool in
+    let same = stored_put (key_of c.args.first.key) c.args.self.now.pools.items (c.args.first.number - c.args.self.now.offset) c.index_mut-pool.result.now c.dealloc_descriptor_sets.new.pool (c.index_mut-pool.result.now.allocated - c.finish-count.result) (c.index_mut-pool.result.now.available + c.finish-count.result) (here g r) c.index_mut-pool.ensures.value in
+    let room = c.drop_front.ensures.room in
+    omega arith

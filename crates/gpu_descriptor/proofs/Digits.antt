@@ -1,0 +1,17 @@
+-- A number is below the power of two of its digits.
+use Rattle.std.proofs.Common.{ℕ, zero, suc, ◌+◌, ◌*◌, ◌^◌, ◌/◌, ◌<◌, ◌≤◌, ◌≡◌, arith, refl, pow-suc}
+use Rattle.gpu_descriptor.specs.Digits.{digits, digits_within}
+
+pub twice : (r : ℕ) → 2 ^ suc r ≡ 2 * 2 ^ r
+twice r = (let a = pow-suc 2 r in omega arith)
+
+within : (most n : ℕ) → n ≤ most → n < 2 ^ digits_within most n
+within zero n h = omega arith
+within (suc most) zero h = (let a = twice zero in omega arith)
+within (suc most) (suc n) h =
+    let half = within most (suc n / 2) (omega arith) in
+    let more = twice (digits_within most (suc n / 2)) in
+    omega arith
+
+pub digits_enough : (n : ℕ) → n < 2 ^ digits n
+digits_enough n = within n n (omega arith)

@@ -1,0 +1,118 @@
+-- What a key's next pool takes of the room, and when its size was cut.
+use Rattle.std.proofs.Common.{◌≡◌, ℕ, suc, ◌+◌, ◌-◌, ◌*◌, ◌/◌, ◌<◌, ◌≤◌, ◌==◌, Bool, true, false, max, min, sum, sum_by, List, [], ◌∷◌, ◌++◌, map, inl, inr, refl, sym, ap, ◌∙◌, subst, arith, eqb-true}
+use Rattle.std.specs.Prelude.{if◌then◌else◌}
+use Rattle.std.proofs.Math.Nat.{div-mul-le_self, mul-le-mul_right}
+use Rattle.std.proofs.lemmas.Nat.{le-div}
+use Rattle.std.proofs.lemmas.Bool.{cases_Bool, eqb-false, cases_lt}
+use Rattle.gpu_descriptor_types.specs.PoolSize.{IsPoolSize, sets_in_room, start_size}
+use Rattle.gpu_descriptor_types.proofs.Sizes.{pool_size_small, pool_size_below}
+use Rattle.gpu_descriptor.specs.Books.{Key}
+use Rattle.gpu_descriptor.specs.FreshPools.{Fresh, IsNextSize, AreSized, room_after}
+use Rattle.gpu_descriptor.specs.Load.{pool_load}
+
+-- ---- cut to room
+
+few_in_room : (room each whole : ℕ) → sets_in_room room each whole ≤ whole
+few_in_room room each whole = elim (cases_Bool (each == 0)) [
+  | inl none ↦ rw none (elim (cases_Bool (room == 0)) [ inl nil ↦ rw nil (omega arith) | inr left ↦ rw left (omega arith) ])
+  | inr some ↦ rw some (omega arith)
+]
+
+fits_in_room : (room each whole sets : ℕ) → sets ≡ sets_in_room room each whole → 1 ≤ sets → max 1 (sets * each) ≤ room
+fits_in_room room each whole sets is one = elim (cases_Bool (each == 0)) [
+  | inl none ↦ elim (cases_Bool (room == 0)) [
+    | inl nil ↦ (let bad : sets ≡ 0 = is ∙ rw (none, nil) refl in absurd (omega arith))
+    | inr left ↦ (
+        let zero_each : each ≡ 0 = eqb-true each 0 none in
+        let product : sets * each ≡ 0 = ap (λ n. sets * n) zero_each ∙ (omega arith) in
+        let some = eqb-false room 0 left in
+        omega arith)
+  ]
+  | inr some ↦ (
+      let at : sets ≡ min whole (room / each) = is ∙ rw some refl in
+      let below : sets * each ≤ room / each * each = mul-le-mul_right each (omega arith) in
+      let all = div-mul-le_self room each in
+      let each_some = eqb-false each 0 some in
+      let high : 1 ≤ each = omega arith in
+      let more : 1 * each ≤ sets * each = mul-le-mul_right each one in
+      omega arith)
+]
+
+times_more : (n m : ℕ) → (n + 1) * m ≡ n * m + m
+times_more n m = grind arith
+
+whole_in_room : (room each whole sets : ℕ) → sets ≡ sets_in_room room each whole → 1 ≤ sets → max 1 (1 * each) ≤ room - max 1 (sets * each) → sets ≡ whole
+whole_in_room room each whole sets is one more = elim (cases_Bool (each == 0)) [
+  | inl none ↦ elim (cases_Bool (room == 0)) [
+    | inl nil ↦ (let bad : sets ≡ 0 = is ∙ rw (none, nil) refl in absurd (omega arith))
+    | inr left ↦ is ∙ rw (none, left) refl
+  ]
+  | inr some ↦ (
+      let at : sets ≡ min whole (room / each) = is ∙ rw some refl in
+      let each_some = eqb-false each 0 some in
+      let high : 1 ≤ each = omega arith in
+      let next = times_more sets each in
+      let above : sets + 1 ≤ room / each = le-div (sets + 1) room each high (omega arith) in
+      omega arith)
+]
+
+-- ---- a key's next pool
+
+module _ (k : Key) (room total wanted size : ℕ) (s : IsNextSize k room total wanted size) where
+  few : size ≤ s.whole
+  few =
+      let cut = s.cut in
+      elim (cases_Bool k.marked) [
+        | inl on ↦ (let is : size ≡ sets_in_room room (sum k.counts) s.whole = cut ∙ rw on refl in let le = few_in_room room (sum k.counts) s.whole in omega arith)
+        | inr off ↦ (let is : size ≡ s.whole = cut ∙ rw off refl in omega arith)
+      ]
+
+  pub next_small : size ≤ 2147483648
+  next_small = (let a = few in let b = pool_size_small k.counts total wanted s.whole s.is_whole in omega arith)
+
+  pub next_below : size < 2 * start_size total wanted
+  next_below = (let a = few in let b = pool_size_below k.counts total wanted s.whole s.is_whole in omega arith)
+
+  -- it fits
+  pub next_fits : pool_load k size ≤ room
+  next_fits = elim (cases_Bool k.marked) [
+    | inl on ↦ (let is : size ≡ sets_in_room room (sum k.counts) s.whole = s.cut ∙ rw on refl in rw on (fits_in_room room (sum k.counts) s.whole size is s.some))
+    | inr off ↦ rw off (omega arith)
+  ]
+
+  -- so does a pool of one set
+  pub one_fits : pool_load k 1 ≤ room
+  one_fits = (
+      let all = next_fits in
+      elim (cases_Bool k.marked) [
+        | inl on ↦ (
+            let fits : max 1 (size * sum k.counts) ≤ room = rw on at all in
+            let more : 1 * sum k.counts ≤ size * sum k.counts = mul-le-mul_right (sum k.counts) s.some in
+            rw on (omega arith))
+        | inr off ↦ rw off (omega arith)
+      ])
+
+  -- where it leaves room for another, it was not cut
+  pub next_whole : pool_load k 1 ≤ room - pool_load k size → IsPoolSize k.counts total wanted size
+  next_whole left = subst (λ n. IsPoolSize k.counts total wanted n) (sym is) s.is_whole
+    where
+      is : size ≡ s.whole
+      is = elim (cases_Bool k.marked) [
+        | inl on ↦ (let at : size ≡ sets_in_room room (sum k.counts) s.whole = s.cut ∙ rw on refl in whole_in_room room (sum k.counts) s.whole size at s.some (rw on at left))
+        | inr off ↦ s.cut ∙ rw off refl
+      ]
+
+-- ---- several, one after another
+
+pub room_falls : (k : Key) (room : ℕ) (pools : List Fresh) → room_after k room pools ≤ room
+room_falls k room [] = omega arith
+room_falls k room (f ∷ pools) = (let rest = room_falls k (room - pool_load k f.size) pools in omega arith)
+
+pub room_more : (k : Key) (room : ℕ) (pools : List Fresh) (f : Fresh) → room_after k room (pools ++ f ∷ []) ≡ room_after k room pools - pool_load k f.size
+room_more k room [] f = refl
+room_more k room (g ∷ pools) f = room_more k (room - pool_load k g.size) pools f
+
+-- the first of some has room
+pub some_fit : (k : Key) (room total wanted : ℕ) (pools : List Fresh) (last : Fresh) → AreSized k room total wanted (pools ++ last ∷ []) → pool_load k 1 ≤ room
+some_fit k room total wanted [] last sized = one_fits k room total wanted last.size sized.0
+some_fit k room total wanted (f ∷ pools) last sized = one_fits k room total wanted f.size sized.0

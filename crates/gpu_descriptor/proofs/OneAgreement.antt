@@ -1,0 +1,22 @@
+-- That books and ledger agree has one proof at most.
+use Rattle.std.proofs.Common.{◌≡◌, Option, Some, sym, ◌∙◌}
+use Rattle.std.proofs.Props.{props}
+use mathlib.Core.HLevel.{is_prop→PathP}
+use Rattle.gpu_descriptor_types.specs.Ledger.{Pool}
+use Rattle.gpu_descriptor.specs.Books.{Key, Entry}
+use Rattle.gpu_descriptor.specs.Agreement.{State, Agree, IsAsBooked}
+
+booked_prop : (k : Key) (pool : Pool) (e : Entry) → IsProp (IsAsBooked k pool e)
+booked_prop k pool e = Prim.hlevel props
+
+name_set : (o p : Option Pool) → IsProp (o ≡ p)
+name_set o p = Prim.hlevel props
+
+found_prop : (k : Key) (o : Option Pool) (e : Entry) → IsProp ((pool : Pool) × (o ≡ Some pool) × IsAsBooked k pool e)
+found_prop k o e x y =
+    let both : ◌≡◌ {A = Option Pool} (Some x.0) (Some y.0) = sym x.1 ∙ y.1 in
+    let same : x.0 ≡ y.0 = cc in
+    λ i. (same i, is_prop→PathP (λ j. o ≡ Some (same j)) (λ j. name_set o (Some (same j))) x.1 y.1 i, is_prop→PathP (λ j. IsAsBooked k (same j) e) (λ j. booked_prop k (same j) e) x.2 y.2 i)
+
+pub Agree-prop : (s : State) → IsProp (Agree s)
+Agree-prop s = Prim.hlevel (found_prop, props)

@@ -1,0 +1,34 @@
+-- The descriptors of a key's pools, as the code has them.
+use Rattle.std.proofs.Common.{◌≡◌, ℕ, zero, suc, ◌+◌, ◌<◌, List, [], ◌∷◌, length, drop, get_or, sum_by, ap, ◌∙◌, arith}
+use Rattle.std.specs.Prelude.{set}
+use Rattle.std.proofs.lemmas.List.Sums.{sum_by-cons}
+use Rattle.gpu_descriptor.specs.declared.bucket.DescriptorPool.{DescriptorPool}
+use Rattle.gpu_descriptor.specs.Books.{Key}
+use Rattle.gpu_descriptor.specs.Load.{pool_load}
+use Rattle.gpu_descriptor.specs.Stored.{stored_load}
+
+module _ {P : Type 0} (k : Key) where
+  cons : (p : DescriptorPool P) (ps : List (DescriptorPool P)) → stored_load k (p ∷ ps) ≡ pool_load k p.capacity + stored_load k ps
+  cons p ps = sum_by-cons (λ (q : DescriptorPool P). pool_load k q.capacity) p ps
+
+  -- the first goes
+  pub stored_first : (items : List (DescriptorPool P)) (p : DescriptorPool P) → 0 < length items → p ≡ get_or items 0 p → stored_load k items ≡ pool_load k p.capacity + stored_load k (drop 1 items)
+  stored_first [] p some is = absurd (omega arith)
+  stored_first (x ∷ items) p some is = (let same : pool_load k p.capacity ≡ pool_load k x.capacity = ap (λ (y : DescriptorPool P). pool_load k y.capacity) is in let all = cons x items in omega arith)
+
+  -- counts move
+  pub stored_put : (items : List (DescriptorPool P)) (i : ℕ) (q : DescriptorPool P) (raw : P) (allocated available : ℕ) → i < length items → q ≡ get_or items i q
+      → stored_load k (set items i (record { raw = raw; capacity = q.capacity; allocated = allocated; available = available })) ≡ stored_load k items
+  stored_put [] i q raw allocated available within is = absurd (omega arith)
+  stored_put (x ∷ items) zero q raw allocated available within is = (
+      let y : DescriptorPool P = record { raw = raw; capacity = q.capacity; allocated = allocated; available = available } in
+      let same : pool_load k q.capacity ≡ pool_load k x.capacity = ap (λ (z : DescriptorPool P). pool_load k z.capacity) is in
+      let a = cons y items in
+      let b = cons x items in
+      omega arith)
+  stored_put (x ∷ items) (suc i) q raw allocated available within is = (
+      let y : DescriptorPool P = record { raw = raw; capacity = q.capacity; allocated = allocated; available = available } in
+      let rest = stored_put items i q raw allocated available (omega arith) is in
+      let a = cons x (set items i y) in
+      let b = cons x items in
+      omega arith)

@@ -1,0 +1,24 @@
+use Rattle.std.proofs.Common.{◌≡◌, ◌-◌, ◌≤◌, rules, refl, sym, ap, subst, ◌∙◌, arith}
+use Rattle.gpu_descriptor.specs.States.{pool_load_of, table_of}
+use Rattle.gpu_descriptor.specs.Values.{Allocations}
+use Rattle.gpu_descriptor.proofs.Requested.{keys_apart, pool_load_of_rows}
+use Rattle.gpu_descriptor.proofs.TableSums.{pool_load_of-table}
+use Rattle.gpu_descriptor.proofs.allocator.DescriptorAllocator.update_after_bind_capacity.Goals as goal
+
+pub returns : goal.returns
+returns g c =
+    let was = ap (λ (a : Allocations _). a.table) (sym c.self.view_is) in
+    let rows = pool_load_of_rows c.args.self.now c.self.inside.buckets.entries was in
+    let all = c.self.invariant.is_room in
+    let sum : c.self.inside.max_update_after_bind_descriptors_in_all_pools - c.self.inside.update_after_bind_room ≡ pool_load_of c.args.self.now = omega arith in
+    let limit : c.self.inside.max_update_after_bind_descriptors_in_all_pools ≡ c.args.self.now.limit = ap (λ (a : Allocations _). a.limit) c.self.view_is in
+    record {
+      sum = sum;
+      books = λ name. record {
+        table = table_of name c.args.self.now;
+        distinct = keys_apart c.args.self.now c.self.inside.buckets.entries was name _ (λ k l. search rules) c.len-keys.ensures.unique;
+        keeps = λ k. refl;
+        total = sym (pool_load_of-table name c.args.self.now) ∙ sym sum;
+      };
+      within = omega arith;
+    }

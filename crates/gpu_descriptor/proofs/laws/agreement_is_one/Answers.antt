@@ -1,0 +1,5 @@
+use Rattle.gpu_descriptor.proofs.OneAgreement.{Agree-prop}
+use Rattle.gpu_descriptor.proofs.laws.agreement_is_one.Goals as goal
+
+pub returns : goal.returns
+returns c = λ s. Agree-prop s
