@@ -1,5 +1,5 @@
 -- What the loop over the runs keeps.
-use Rattle.std.proofs.Common.{◌≡◌, ℕ, ◌+◌, ◌<◌, true, false, ◌&&◌, ◌==◌, List, [], ◌∷◌, ◌++◌, sum_by, refl, sym, ap, subst, ◌∙◌, arith, append_assoc, append-nil, length-append, eq-eqb, Option, Some, None, MatchOption, OnSome, IfSome, eqb-true}
+use Rattle.std.proofs.Common.{◌≡◌, ◌≤◌, ℕ, ◌+◌, ◌<◌, true, false, ◌&&◌, ◌==◌, List, [], ◌∷◌, ◌++◌, sum_by, refl, sym, ap, subst, ◌∙◌, arith, append_assoc, append-nil, length-append, eq-eqb, Option, Some, None, MatchOption, OnSome, IfSome, eqb-true}
 use Rattle.std.specs.Iterator.{Count, HoldsAlong, IsFinite, IsNearerEnd, MakesProgress, size, Yields, YieldsThen}
 use Rattle.std.proofs.iter.Next.{Yields-more}
 use Rattle.std.proofs.lemmas.Bool.{and_parts, and_from}
@@ -12,6 +12,8 @@ use Rattle.gpu_descriptor.specs.declared.set.DescriptorSet.{DescriptorSet}
 use Rattle.gpu_descriptor.specs.Agreement.{State, Item, item_eq, AreOutstanding, Agree}
 use Rattle.gpu_descriptor.specs.Books.{Key, key_eq}
 use Rattle.gpu_descriptor.specs.Buckets.{more_released, more_destroyed}
+use Rattle.gpu_descriptor.specs.Comparisons.{open_pools, run_digits}
+use Rattle.gpu_descriptor.specs.Digits.{digits}
 use Rattle.gpu_descriptor.specs.Frees.{descriptors_of, GivesBack, Frees, FreesRun}
 use Rattle.gpu_descriptor.specs.Release.{released, given_back, pools_gone}
 use Rattle.gpu_descriptor.specs.Runs.{runs, breaks}
@@ -19,6 +21,7 @@ use Rattle.gpu_descriptor.specs.Sets.{key_of, at_place, item_of, items_of}
 use Rattle.gpu_descriptor.specs.States.{state_of, keys_of}
 use Rattle.gpu_descriptor.specs.Steps.{HaveKey}
 use Rattle.gpu_descriptor.specs.Values.{Allocations}
+use Rattle.gpu_descriptor.proofs.Comparisons.{run_digits_more}
 use Rattle.gpu_descriptor.proofs.Counted.{gone}
 use Rattle.gpu_descriptor.proofs.Exact.{key_exact}
 use Rattle.gpu_descriptor.proofs.Kept.{agrees, takes, none_back}
@@ -145,6 +148,7 @@ module _ {S : Type 0} (set_name : S → ℕ) where
       pub back : GivesBack name set_name sets (runs (items sets)) old now before after
       pub agree : Agree (state_of name now after)
       pub keys : keys_of now ≡ keys_of old
+      pub few : now.comparisons ≤ old.comparisons + run_digits (state_of name old before) (items sets)
       pub comes : Comes first sets ahead rest
 
     behind : (first : T) (xs : List (DescriptorSet S)) (y : DescriptorSet S) (zs : List (DescriptorSet S)) (rest t : T) → Yields steps first (xs ++ y ∷ []) rest → Yields steps rest zs t → Yields steps first (xs ++ y ∷ zs) t
@@ -168,12 +172,14 @@ module _ {S : Type 0} (set_name : S → ℕ) where
           let less = takes (items r.sets) (state_of name old before) agree (came_out zs t z) u in
           omega arith)
 
-      pub freed_more : (new : Allocations P) (after : Ledger) (a : Option (DescriptorSet S)) (t : T) → FreesRun steps name set_name x rest a t now new mid after → keys_of new ≡ keys_of now → OnSome a (IsNearerEnd can left rest t) → Freed first old before new after a t
-      freed_more new after a t run same n = record {
+      pub freed_more : (new : Allocations P) (after : Ledger) (a : Option (DescriptorSet S)) (t : T) → FreesRun steps name set_name x rest a t now new mid after → keys_of new ≡ keys_of now → OnSome a (IsNearerEnd can left rest t)
+          → new.comparisons ≤ now.comparisons + digits (open_pools ((state_of name now mid).books (key_of x.key))) → Freed first old before new after a t
+      freed_more new after a t run same n few = record {
         sets = r.sets ++ x ∷ xs;
         back = subst (λ (m : ℕ). GivesBack name set_name (r.sets ++ x ∷ xs) m old new before after) (sym count) (gives_both name r.sets (x ∷ xs) (runs (items r.sets)) 1 old now new before mid after agree (all_out xs run.came.1.0 run.came.1.1) r.keys r.back run.back);
         agree = rw run.back.state (agrees (items (x ∷ xs)) (state_of name now mid) r.agree (call_out xs run.came.1.0 run.came.1.1));
         keys = same ∙ r.keys;
+        few = (let was = r.few in let more = cost in omega arith);
         comes = stop a run.came.1.2 run.came.2 n;
       }
         where
@@ -189,6 +195,14 @@ module _ {S : Type 0} (set_name : S → ℕ) where
 
           count : runs (items (r.sets ++ x ∷ xs)) ≡ runs (items r.sets) + 1
           count = r.comes.1 xs ∙ ap (λ n. runs (items r.sets) + n) alone
+
+          -- the digits that this run adds
+          cost : run_digits (state_of name old before) (items (r.sets ++ x ∷ xs)) ≡ run_digits (state_of name old before) (items r.sets) + digits (open_pools ((state_of name now mid).books (key_of x.key)))
+          cost =
+              let s = state_of name old before in
+              let whole = items-append r.sets (x ∷ xs) in
+              ap (run_digits s) whole ∙ run_digits_more s (items r.sets) (item_of set_name x) (items xs) (ap runs (sym whole) ∙ count) alone
+              ∙ ap (λ (t : State). run_digits s (items r.sets) + digits (open_pools (t.books (key_of x.key)))) (sym r.back.state)
 
           came : Yields steps first (r.sets ++ x ∷ xs) run.came.1.0
           came = behind first r.sets x xs rest run.came.1.0 r.comes.0 run.came.1.1
@@ -210,7 +224,7 @@ module _ {S : Type 0} (set_name : S → ℕ) where
     less rest (Some y) t n = omega (arith, n.2)
 
     pub freed_none : (first : T) (old : Allocations P) (before : Ledger) (a : Option (DescriptorSet S)) (rest : T) → Agree (state_of name old before) → IsFinite (left first) → steps first a rest → MakesProgress can left first a rest → Freed first old before old before a rest
-    freed_none first old before a rest agree finite step goes = record { sets = []; back = gives_none name old before; agree = agree; keys = refl; comes = begin a step goes }
+    freed_none first old before a rest agree finite step goes = record { sets = []; back = gives_none name old before; agree = agree; keys = refl; few = omega arith; comes = begin a step goes }
       where
         begin : (a : Option (DescriptorSet S)) → steps first a rest → MakesProgress can left first a rest → Comes first [] a rest
         begin None step goes = (first, refl, step)
@@ -219,3 +233,9 @@ module _ {S : Type 0} (set_name : S → ℕ) where
     -- at the end all sets of the iterator have gone back
     pub freed_all : (first : T) (old : Allocations P) (before : Ledger) (new : Allocations P) (after : Ledger) (end : T) → Freed first old before new after None end → Frees steps name set_name first end old new before after
     freed_all first old before new after end r = record { sets = r.sets; drained = r.comes; back = r.back }
+
+    -- and with no more comparisons than the digits of its runs
+    pub freed_compared : (first : T) (old : Allocations P) (before : Ledger) (new : Allocations P) (after : Ledger) (end : T) → Freed first old before new after None end
+        → (f : Frees steps name set_name first end old new before after) × (new.comparisons ≤ old.comparisons + run_digits (state_of name old before) (items f.sets))
+    unfolding freed_all
+    freed_compared first old before new after end r = (freed_all first old before new after end r, r.few)

@@ -10,6 +10,7 @@ use Rattle.gpu_descriptor.specs.declared.bucket.DescriptorBucket.{DescriptorBuck
 use Rattle.gpu_descriptor.specs.Agreement.{Agree, AreOutstanding}
 use Rattle.gpu_descriptor.specs.Books.{Key, key_eq, Entry, Bucket, no_pools, books_of, HasDistinctKeys}
 use Rattle.gpu_descriptor.specs.Buckets.{AreBookedIn, IsTakenAt, RunsInto, names_of, bucket_back, more_destroyed, more_released}
+use Rattle.gpu_descriptor.specs.Comparisons.{open_pools}
 use Rattle.gpu_descriptor.specs.Release.{given_back, released, pools_gone}
 use Rattle.gpu_descriptor.specs.Sets.{key_of, items_of}
 use Rattle.gpu_descriptor.specs.States.{named_row, state_of, keys_of}
@@ -40,6 +41,9 @@ module _ {P S : Type 0} (name : P → ℕ) (set_name : S → ℕ) (a : Allocatio
   module _ (bucket : DescriptorBucket P) (found : lookup test es ≡ Some bucket) where
     pub row_stored : AreBookedIn (key_of x.key) l.pools (bucket_of name bucket).pools
     row_stored = subst (λ (b : Bucket). AreBookedIn (key_of x.key) l.pools b.pools) (at_key (Some bucket) found) (booked_of (state_of name a l) (key_of x.key) agree)
+
+    pub row_open : open_pools ((state_of name a l).books (key_of x.key)) ≡ open_pools (bucket_of name bucket)
+    row_open = ap open_pools (at_key (Some bucket) found)
 
     pub row_taken : (xs : List (DescriptorSet S)) → HaveKey x.key x.number xs → AreOutstanding (items_of set_name (x ∷ xs)) (state_of name a l) → IsTakenAt (key_of x.key) x.number (names_of set_name (x ∷ xs)) (bucket_of name bucket) l.pools
     row_taken xs have out = subst (λ b. IsTakenAt (key_of x.key) x.number (names_of set_name (x ∷ xs)) b l.pools) (at_key (Some bucket) found) (taken_of set_name (state_of name a l) agree x xs have out)

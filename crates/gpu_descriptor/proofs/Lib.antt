@@ -2,6 +2,7 @@ pub mod Allocating
 pub mod Asks
 pub mod BucketRun
 pub mod Cleaning
+pub mod Comparisons
 pub mod Counted
 pub mod Digits
 pub mod Empties

@@ -3,6 +3,7 @@ pub mod Allocated
 pub mod Books
 pub mod Buckets
 pub mod Cleanup
+pub mod Comparisons
 pub mod Digits
 pub mod Errors
 pub mod Example

@@ -1,11 +1,13 @@
 //! Giving sets back.
-ghost use Rattle.std.specs.Prelude.{◌≡◌, ◌<◌, ◌≤◌, ◌^◌, ◌∷◌, OnSome};
+ghost use Rattle.std.specs.Prelude.{◌≡◌, ◌+◌, ◌<◌, ◌≤◌, ◌^◌, ◌∷◌, OnSome};
 ghost use Rattle.std.specs.Iterator.{HoldsAlong, IsFinite, IsNearerEnd};
 ghost use Rattle.gpu_descriptor.specs.Agreement.{AreOutstanding};
 ghost use Rattle.gpu_descriptor.specs.Books.{HasDistinctKeys};
+ghost use Rattle.gpu_descriptor.specs.Comparisons.{open_pools, run_digits};
+ghost use Rattle.gpu_descriptor.specs.Digits.{digits};
 ghost use Rattle.gpu_descriptor.specs.Foreign.{KeepsForeign};
 ghost use Rattle.gpu_descriptor.specs.Frees.{Frees, FreesRun};
-ghost use Rattle.gpu_descriptor.specs.Sets.{items_of};
+ghost use Rattle.gpu_descriptor.specs.Sets.{items_of, key_of};
 ghost use Rattle.gpu_descriptor.specs.States.{Agrees, keys_of, marked_load_of, pool_load_of, state_of, table_of};
 ghost use Rattle.gpu_descriptor.specs.Stored.{load_of};
 
@@ -39,6 +41,12 @@ impl<P, S> DescriptorAllocator<P, S> {
         ensures pool_load { pool_load_of self.new ≤ self.new.limit }
         ensures limit { self.new.limit ≡ self.old.limit }
         ensures looks_stay { self.new.looks ≡ self.old.looks }
+
+        // As `frees`, and of the same sets: for each run as many comparisons as the number of its
+        // key's pools with known free places has binary digits, once the runs before it went back.
+        ensures comparisons { (iter : I.IntoIter) × (left : I.IntoIter) × I.into_iter_gives sets iter
+            × (r : Frees I.IntoIter.next_gives D.pool_name D.set_name iter left self.old self.new (D.ledger device.old) (D.ledger device.new))
+            × (self.new.comparisons ≤ self.old.comparisons + run_digits (state_of D.pool_name self.old (D.ledger device.old)) (items_of D.set_name r.sets)) }
     {
         let mut sets = sets.into_iter();
         self.free_from(device, &mut sets);
@@ -66,6 +74,8 @@ impl<P, S> DescriptorAllocator<P, S> {
         ensures pool_load { pool_load_of self.new ≤ self.new.limit }
         ensures limit { self.new.limit ≡ self.old.limit }
         ensures looks_stay { self.new.looks ≡ self.old.looks }
+        ensures comparisons { (r : Frees I.next_gives D.pool_name D.set_name sets.old sets.new self.old self.new (D.ledger device.old) (D.ledger device.new))
+            × (self.new.comparisons ≤ self.old.comparisons + run_digits (state_of D.pool_name self.old (D.ledger device.old)) (items_of D.set_name r.sets)) }
     {
         let mut ahead = sets.next();
         while let Some(first) = ahead {
@@ -95,6 +105,8 @@ impl<P, S> DescriptorAllocator<P, S> {
         ensures keys { keys_of self.new ≡ keys_of self.old }
         ensures limit { self.new.limit ≡ self.old.limit }
         ensures looks_stay { self.new.looks ≡ self.old.looks }
+        ensures few { self.new.comparisons ≤ self.old.comparisons
+            + digits (open_pools ((state_of D.pool_name self.old (D.ledger device.old)).books (key_of first.key))) }
     {
         let key = first.key;
         match self.buckets.get_mut(&key) {

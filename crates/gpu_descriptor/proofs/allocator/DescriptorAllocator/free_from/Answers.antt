@@ -2,7 +2,7 @@ use Rattle.std.proofs.Common.{◌≡◌, arith, rules, sym, ap, ◌∙◌, Some}
 use Rattle.gpu_descriptor.specs.Values.{Allocations}
 use Rattle.gpu_descriptor.proofs.Foreign.{freed_foreign}
 use Rattle.gpu_descriptor.proofs.Requested.{keys_apart, pool_load_of_rows}
-use Rattle.gpu_descriptor.proofs.Freed.{Freed, freed_none, call_out, freed_more, less}
+use Rattle.gpu_descriptor.proofs.Freed.{Freed, freed_none, call_out, freed_more, freed_compared, less}
 use Rattle.gpu_descriptor.proofs.allocator.DescriptorAllocator.free_from.Goals.{In-Some}
 use Rattle.gpu_descriptor.proofs.allocator.DescriptorAllocator.free_from.Goals as goal
 
@@ -27,7 +27,7 @@ loop-ahead-preserved g c =
     let r = in_hand g (goal.at.loop-ahead-preserved g c).In-Some in
     record {
       freed = freed_more g.D.DescriptorDevice.set_name g.D.DescriptorDevice.pool_name g.I.Iterator.next_gives g.I.Iterator.can_next g.I.Iterator.remaining c.args.sets.now c.args.self.now (g.D.DescriptorDevice.ledger c.args.device.now) c.loop-ahead.self (g.D.DescriptorDevice.ledger c.loop-ahead.device) c.in-Some.first c.loop-ahead.sets
-          c.requires.agree c.requires.outstanding r _ _ _ _ c.release_run-ahead.ensures.ran c.release_run-ahead.ensures.keys c.release_run-ahead.ensures.goes;
+          c.requires.agree c.requires.outstanding r _ _ _ _ c.release_run-ahead.ensures.ran c.release_run-ahead.ensures.keys c.release_run-ahead.ensures.goes c.release_run-ahead.ensures.few;
       limit = c.release_run-ahead.ensures.limit ∙ c.loop-ahead.invariant.limit;
       looks = c.release_run-ahead.ensures.looks_stay ∙ c.loop-ahead.invariant.looks;
     }
@@ -51,3 +51,7 @@ returns-clause-pool_load g c =
     let limit : c.self.inside.max_update_after_bind_descriptors_in_all_pools ≡ c.loop-ahead.self.limit = ap (λ (a : Allocations _). a.limit) c.self.view_is in
     let all = c.self.invariant.is_room in
     omega arith
+
+pub returns-clause-comparisons : goal.returns-clause-comparisons
+returns-clause-comparisons g c =
+    freed_compared g.D.DescriptorDevice.set_name g.D.DescriptorDevice.pool_name g.I.Iterator.next_gives g.I.Iterator.can_next g.I.Iterator.remaining c.args.sets.now c.args.self.now (g.D.DescriptorDevice.ledger c.args.device.now) c.loop-ahead.self (g.D.DescriptorDevice.ledger c.loop-ahead.device) c.loop-ahead.sets (rw c.in_default.is at c.loop-ahead.invariant.freed)

@@ -17,6 +17,8 @@ use Rattle.gpu_descriptor.proofs.Listed.{listed_again, fewer_listed}
 use Rattle.gpu_descriptor.specs.Release.{entry_less}
 use Rattle.gpu_descriptor.specs.Sets.{key_of}
 use Rattle.gpu_descriptor.specs.Stored.{bucket_of, entry_of}
+use Rattle.gpu_descriptor.specs.Digits.{digits}
+use Rattle.gpu_descriptor.proofs.Comparisons.{listed_count}
 use Rattle.gpu_descriptor.proofs.BucketRun.{AreTaken, are_taken, is_within, read_first, changed_at, stored_after, total_less, place_room}
 use Rattle.gpu_descriptor.proofs.LedgerPools.{taken_from, release_pools}
 use Rattle.gpu_descriptor.proofs.OneRun.{run_counts, run_live, run_ends, run_goes, done}
@@ -219,4 +221,11 @@ returns-clause-room g c =
     let r = (goal.at.returns-clause-room g c).After-index_mut-pool in
     let same = stored_put (key_of c.args.first.key) c.args.self.now.pools.items (c.args.first.number - c.args.self.now.offset) c.index_mut-pool.result.now c.dealloc_descriptor_sets.new.pool (c.index_mut-pool.result.now.allocated - c.finish-count.result) (c.index_mut-pool.result.now.available + c.finish-count.result) (here g r) c.index_mut-pool.ensures.value in
     let room = c.drop_front.ensures.room in
+    omega arith
+
+pub returns-clause-few : goal.returns-clause-few
+returns-clause-few g c =
+    let many = ap length c.args.self.now.«open» ∙ listed_count g.D.DescriptorDevice.pool_name c.args.self.now.offset c.args.self.now.pools.items in
+    let same = ap digits many in
+    let few = c.enter_new.ensures.few in
     omega arith

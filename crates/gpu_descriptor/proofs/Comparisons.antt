@@ -1,0 +1,62 @@
+-- What comparisons the runs of a list may take: a run more adds the digits at its first set.
+use Rattle.std.proofs.Common.{◌≡◌, ℕ, zero, suc, ◌+◌, Bool, true, false, List, [], ◌∷◌, ◌++◌, map, length, count_by, refl, sym, ap, ◌∙◌, arith, append_assoc, lt-ltb}
+use Rattle.std.proofs.lemmas.List.{append-nil}
+use Rattle.std.specs.Prelude.{nat_lt, if◌then◌else◌}
+use Rattle.gpu_descriptor_types.proofs.Counting.{count_by_no, count_by_yes}
+use Rattle.gpu_descriptor.specs.declared.bucket.DescriptorPool.{DescriptorPool}
+use Rattle.gpu_descriptor.specs.Agreement.{State, Item}
+use Rattle.gpu_descriptor.specs.Books.{Entry}
+use Rattle.gpu_descriptor.specs.Comparisons.{digits_at, digits_behind, run_digits}
+use Rattle.gpu_descriptor.specs.OpenNumbers.{open_numbers, free_in}
+use Rattle.gpu_descriptor.specs.Runs.{is_beside, breaks, runs}
+use Rattle.gpu_descriptor.specs.Stored.{entry_of}
+
+one_of : (b : Bool) → ◌≡◌ {A = ℕ} (if b then 0 else 1) 0 → b ≡ true
+one_of true h = refl
+one_of false h = absurd (omega arith)
+
+none_of : (b : Bool) → ◌≡◌ {A = ℕ} (if b then 0 else 1) 1 → b ≡ false
+none_of true h = absurd (omega arith)
+none_of false h = refl
+
+module _ (state : State) where
+  -- where no neighbours differ no run begins
+  digits_none : (before : List Item) (s : Item) (rest : List Item) → breaks s rest ≡ 0 → digits_behind state before s rest ≡ 0
+  digits_none before s [] h = refl
+  digits_none before s (t ∷ rest) h =
+      let first : ◌≡◌ {A = ℕ} (if is_beside s t then 0 else 1) 0 = omega (arith, h) in
+      let none : ◌≡◌ {A = ℕ} (if is_beside s t then 0 else digits_at state before t) 0 = ap (λ (b : Bool). if b then 0 else digits_at state before t) (one_of (is_beside s t) first) in
+      let more = digits_none (before ++ t ∷ []) t rest (omega (arith, h)) in
+      omega (arith, none, more)
+
+  digits_more : (before : List Item) (s : Item) (ys : List Item) (y : Item) (zs : List Item) → breaks s (ys ++ y ∷ zs) ≡ breaks s ys + 1 → breaks y zs ≡ 0
+      → digits_behind state before s (ys ++ y ∷ zs) ≡ digits_behind state before s ys + digits_at state (before ++ ys) y
+  digits_more before s [] y zs h alone =
+      let first : ◌≡◌ {A = ℕ} (if is_beside s y then 0 else 1) 1 = omega (arith, h, alone) in
+      let is : ◌≡◌ {A = ℕ} (if is_beside s y then 0 else digits_at state before y) (digits_at state before y) = ap (λ (b : Bool). if b then 0 else digits_at state before y) (none_of (is_beside s y) first) in
+      let none = digits_none (before ++ y ∷ []) y zs alone in
+      let same : digits_at state before y ≡ digits_at state (before ++ []) y = ap (λ l. digits_at state l y) (sym (append-nil before)) in
+      omega (arith, is, none, same)
+  digits_more before s (t ∷ ys) y zs h alone =
+      let next = digits_more (before ++ t ∷ []) t ys y zs (omega (arith, h)) alone in
+      let same : digits_at state ((before ++ t ∷ []) ++ ys) y ≡ digits_at state (before ++ t ∷ ys) y = ap (λ l. digits_at state l y) (append_assoc before (t ∷ []) ys) in
+      omega (arith, next, same)
+
+  -- a run behind a list, of which it is no part
+  pub run_digits_more : (xs : List Item) (y : Item) (zs : List Item) → runs (xs ++ y ∷ zs) ≡ runs xs + 1 → runs (y ∷ zs) ≡ 1
+      → run_digits state (xs ++ y ∷ zs) ≡ run_digits state xs + digits_at state xs y
+  run_digits_more [] y zs h alone = (let none = digits_none (y ∷ []) y zs (omega (arith, alone)) in omega (arith, none))
+  run_digits_more (x ∷ xs) y zs h alone = (let more = digits_more (x ∷ []) x xs y zs (omega (arith, h)) (omega (arith, alone)) in omega (arith, more))
+
+-- ---- the list of open pools is as long as there are open pools
+
+abbrev is_open : Entry → Bool
+is_open e = nat_lt 0 e.free
+
+one_listed : (first n : ℕ) (free : List ℕ) (e : Entry) (es : List Entry) → e.free ≡ n → ((next : ℕ) → length (open_numbers next free) ≡ count_by is_open es) → length (open_numbers first (n ∷ free)) ≡ count_by is_open (e ∷ es)
+one_listed first zero free e es is rest = rest (suc first) ∙ sym (count_by_no is_open e es (ap (nat_lt 0) is))
+one_listed first (suc n) free e es is rest = ap suc (rest (suc first)) ∙ sym (count_by_yes is_open e es (lt-ltb 0 e.free (omega (arith, is))))
+
+pub listed_count : {P : Type 0} (name : P → ℕ) (first : ℕ) (pools : List (DescriptorPool P)) → length (open_numbers first (free_in pools)) ≡ count_by is_open (map (entry_of name) pools)
+listed_count name first [] = refl
+listed_count name first (p ∷ pools) = one_listed first p.available (free_in pools) (entry_of name p) (map (entry_of name) pools) refl (λ next. listed_count name next pools)
