@@ -1,10 +1,11 @@
 -- What the size of a new pool keeps.
-use Rattle.std.proofs.Common.{ℕ, ◌*◌, ◌/◌, ◌^◌, ◌<◌, ◌≤◌, max, min, List, length, map, slice_index_or, arith}
+use Rattle.std.proofs.Common.{◌≡◌, ℕ, ◌*◌, ◌/◌, ◌^◌, ◌<◌, ◌≤◌, max, min, List, length, map, slice_index_or, sym, ap, subst, ◌∙◌, arith}
+use Rattle.std.specs.Prelude.{if◌then◌else◌, nat_le}
 use Rattle.std.proofs.Math.Nat.{mul-div-le, div-mul-le_self, mul-le-mul_left, mul-le-mul_right}
 use Rattle.std.proofs.lemmas.Nat.{le-div}
 use Rattle.std.proofs.lemmas.List.{get_or-map, length-map}
 use Rattle.gpu_descriptor_types.specs.Counts.{greatest}
-use Rattle.gpu_descriptor_types.specs.PoolSize.{IsPoolSize, least_of, pool_size_floor, sets_of_kind, start_size}
+use Rattle.gpu_descriptor_types.specs.PoolSize.{IsLeastPower, IsPoolSize, IsRounded, least_of, pool_size_floor, sets_of_kind, start_size}
 use Rattle.gpu_descriptor_types.proofs.Least.{least_of-le, least_of-le-first, le-least_of, greatest-ge}
 use Rattle.gpu_descriptor_types.proofs.Powers.{rounded_some, rounded_below, rounded_above}
 
@@ -63,3 +64,19 @@ pool_size_some counts total wanted sets s =
     omega arith in
     let le = le-least_of m s.start (map sets_of_kind counts) (omega arith) each in
     omega arith
+
+-- ---- there is one size
+
+power_once : (start p q : ℕ) → IsLeastPower start p → IsLeastPower start q → p ≡ q
+power_once start p q a b =
+    let p_reaches : start ≤ 2 ^ a.exponent = subst (λ n. start ≤ n) a.is_power a.reaches in
+    let q_reaches : start ≤ 2 ^ b.exponent = subst (λ n. start ≤ n) b.is_power b.reaches in
+    let below : p ≤ q = subst (λ n. p ≤ n) (sym b.is_power) (a.least b.exponent q_reaches) in
+    let above : q ≤ p = subst (λ n. q ≤ n) (sym a.is_power) (b.least a.exponent p_reaches) in
+    omega arith
+
+rounded_once : (start m n : ℕ) → IsRounded start m → IsRounded start n → m ≡ n
+rounded_once start m n a b = a.fits ∙ ap (λ power. if nat_le power 4294967295 then power else 2147483647) (power_once start a.power b.power a.rounded b.rounded) ∙ sym b.fits
+
+pub pool_size_once : (counts : List ℕ) (total wanted m n : ℕ) → IsPoolSize counts total wanted m → IsPoolSize counts total wanted n → m ≡ n
+pool_size_once counts total wanted m n a b = a.is_least ∙ ap (λ start. least_of start (map sets_of_kind counts)) (rounded_once (start_size total wanted) a.start b.start a.rounded b.rounded) ∙ sym b.is_least

@@ -51,8 +51,15 @@ pub fn cut_pool_size(
 ) -> Option<(DescriptorTotalCount, u32)>
     ensures sets { IfSome result (λ pool. IsCutSize (kinds_of size.now) room total wanted pool.1) }
     ensures counts { IfSome result (λ pool. kinds_of pool.0 ≡ pool_counts (kinds_of size.now) pool.1) }
-    ensures at_most { IfSome result (λ pool. pool.1 ≤ 2147483648) }
     ensures none { IfNone result (room < max 1 (sum (kinds_of size.now))) }
+
+    ensures some { IfSome result (λ pool. 1 ≤ pool.1) }
+    ensures at_most { IfSome result (λ pool. pool.1 ≤ 2147483648) }
+    ensures within { IfSome result (λ pool. sum (kinds_of pool.0) ≤ room) }
+
+    // Where a pool of the size of `new_pool_size` fits, it is not cut.
+    ensures whole { (sets : ℕ) → IsPoolSize (kinds_of size.now) total wanted sets
+        → max 1 (sets * sum (kinds_of size.now)) ≤ room → IfSome result (λ pool. pool.1 ≡ sets) }
 {
     let (_, whole) = new_pool_size(size, total, wanted);
     let sets = sets_in_room(room, size.total(), whole);
