@@ -176,7 +176,7 @@ module _ (c : Call) (d : IsDone c) where
   abbrev k : Key
   k = c.request.key
 
-  pub done_new_pools : HasNewPools c (wanting c.request c.old d.grant)
+  pub done_new_pools : HasNewPools c (wanting c.request c.old d.grant) 0
   done_new_pools =
       let n = ap (λ (x : Counters). x.created) d.counters in
       let long = length-map d.grant.fresh (λ (f : Fresh). f.size) in
@@ -186,7 +186,7 @@ module _ (c : Call) (d : IsDone c) where
         below_twice = from_shared d.grant.refused c.request.count (c.old.books k).pools (sizes_of d.grant.fresh) (all_below k (c.request.limit - d.load) _ _ d.grant.fresh d.fresh);
         numbers = ap (λ (w : State). next_number (w.books k)) d.state ∙ granted_numbers k c.request.count d.grant c.old d.all;
         capacity = λ i e p at live. granted_capacity k c.request.count d.grant c.old d.all d.taken.new i e p (ap (λ (w : State). entry_at (w.books k) (next_number (c.old.books k) + i)) (sym d.state) ∙ at) (ap (λ (w : State). w.ledger e.pool) (sym d.state) ∙ live);
-        created = (omega arith, omega arith);
+        created = omega arith;
         stay = met _ c.answer _ d.answer (ap (λ (w : State). (w.books k).first) d.state ∙ granted_first k c.request.count d.grant c.old d.all);
         met = met _ c.answer _ d.answer rise;
       }
@@ -233,7 +233,7 @@ released_pool m t name q after = elim (cases_Bool (list_any (λ u. let b = (give
         (p, is, sym (ap (λ (x : Pool). x.refusals) one), sym (ap (λ (x : Pool). x.capacity) one))
 
 -- after the new pools one more may have been created and destroyed
-pub back_new_pools : (c : Call) (g : Grant) (rise : Counters) (error : AllocationError) → IsBack c g rise error → IsFront c.request c.old g → (more : ℕ) → more ≤ 1 → c.after.created ≡ c.before.created + (length g.fresh + more) → HasNewPools c (wanting c.request c.old g)
+pub back_new_pools : (c : Call) (g : Grant) (rise : Counters) (error : AllocationError) → IsBack c g rise error → IsFront c.request c.old g → (more : ℕ) → more ≤ 1 → c.after.created ≡ c.before.created + (length g.fresh + more) → HasNewPools c (wanting c.request c.old g) more
 back_new_pools c g rise error b front more one created =
     let k : Key = c.request.key in
     let t : State = granted k c.request.count g c.old in
@@ -249,7 +249,7 @@ back_new_pools c g rise error b front more one created =
           let name : was.0.pool ≡ e.pool = ap (λ (x : Entry). x.pool) was.2 in
           let had = released_pool m t e.pool p (ap (λ (w : State). w.ledger e.pool) (sym b.state) ∙ live) in
           granted_capacity k c.request.count g c.old front.all b.taken.new i was.0 had.0 was.1 (ap t.ledger name ∙ had.1) ∙ ap (λ n. Some n) (sym had.3));
-      created = (omega arith, omega arith);
+      created = omega arith;
       stay = unmet _ c.answer _ b.answer;
       met = unmet _ c.answer _ b.answer;
     }

@@ -22,7 +22,8 @@ use Rattle.gpu_descriptor.specs.Outcomes.{Allocates, Call, IsBack, IsDone, IsSto
 use Rattle.gpu_descriptor.specs.Outcomes.Allocates.{none, limit, bound, start, done, stopped_at_pool, stopped_without_room, stopped_at_create, stopped_for_memory, stopped_at_fresh}
 use Rattle.gpu_descriptor.specs.FreshPools.IsFreshList.{none as no_fresh, some as some_fresh}
 use Rattle.std.proofs.lemmas.Bool.{cases_Bool}
-use Rattle.gpu_descriptor.specs.Promises.{HasCause, HasNewPools, IsShort, CreatesOnlyWhereShort, last_refusal}
+use Rattle.gpu_descriptor.specs.Promises.{HasCause, HasNewPools, EndsWith, IsShort, CreatesOnlyWhereShort, last_refusal}
+use Rattle.gpu_descriptor.specs.Promises.EndsWith.{met as met_all, without_room, for_memory, at_create, at_fresh}
 use Rattle.gpu_descriptor.specs.Promises.IsFragmentation.{above_limit, past_bound, no_room_left, no_pool_created, new_pool_refused}
 use Rattle.gpu_descriptor.specs.Promises.IsHostMemory.{device_refused, no_room_at_start, no_room_for_a_pool}
 use Rattle.gpu_descriptor.specs.Load.{pool_load}
@@ -210,10 +211,11 @@ Raises c g = (name : ℕ) (p q : Pool) → g.refused name ≡ true → c.old.led
 abbrev IsCounted : Call → Grant → ℕ → ℕ → Type 0
 IsCounted c g last i = c.after.pool_refused + c.after.fragmentation ≡ c.before.pool_refused + c.before.fragmentation + refused_count g.refused (drop i (c.old.books c.request.key).pools) + last
 
-pools_short : (c : Call) (g : Grant) → IsGrant c.request c.old g → g.left ≡ 0 → 0 < wanting c.request c.old g → HasNewPools c (wanting c.request c.old g) → OnOk c.answer (AreFilled c) → Raises c g → (last : ℕ) → ((last ≡ last_refusal c.answer) ⊎ (IsStoppedWithoutRoom c × (last ≡ 0))) → IsCounted c g last g.left → (n : ℕ) → c.after.created ≡ c.before.created + n → n * pool_size_floor c.request.key.counts < wanting c.request c.old g + pool_size_floor c.request.key.counts → IsShort c
-pools_short c g is all some new filled raises last is_last counted n rise few = record {
+pools_short : (c : Call) (g : Grant) → IsGrant c.request c.old g → g.left ≡ 0 → 0 < wanting c.request c.old g → (gone : ℕ) → HasNewPools c (wanting c.request c.old g) gone → OnOk c.answer (AreFilled c) → Raises c g → (last : ℕ) → EndsWith c gone last → IsCounted c g last g.left → (n : ℕ) → c.after.created ≡ c.before.created + n → n * pool_size_floor c.request.key.counts < wanting c.request c.old g + pool_size_floor c.request.key.counts → IsShort c
+pools_short c g is all some gone new filled raises last ends counted n rise few = record {
+  gone = gone;
   last = last;
-  is_last = is_last;
+  ends = ends;
   refused = g.refused;
   raised = raises;
   counted = subst (IsCounted c g last) all counted;
@@ -229,13 +231,13 @@ pools_short c g is all some new filled raises last is_last counted n rise few = 
 }
 
 -- after a front, with one more or without
-front_short : (c : Call) (g : Grant) (rise : Counters) (error : AllocationError) → IsBack c g rise error → IsFront c.request c.old g → (last : ℕ) → ((last ≡ last_refusal c.answer) ⊎ (IsStoppedWithoutRoom c × (last ≡ 0))) → IsCounted c g last g.left → (n : ℕ) → n ≤ 1 → c.after.created ≡ c.before.created + (length g.fresh + n)
+front_short : (c : Call) (g : Grant) (rise : Counters) (error : AllocationError) → IsBack c g rise error → IsFront c.request c.old g → (last n : ℕ) → EndsWith c n last → IsCounted c g last g.left → n ≤ 1 → c.after.created ≡ c.before.created + (length g.fresh + n)
     → (length g.fresh + n) * pool_size_floor c.request.key.counts < wanting c.request c.old g + pool_size_floor c.request.key.counts → IsShort c
-front_short c g rise error back front last is_last counted n one created few =
+front_short c g rise error back front last n ends counted one created few =
     let short = front.front.short in
     let new = back_new_pools c g rise error back front n one created in
     let filled : OnOk c.answer (AreFilled c) = unmet (AreFilled c) c.answer _ back.answer in
-    pools_short c g back.taken front.all (omega arith) new filled (back_raises c g rise error back) last is_last counted (length g.fresh + n) created few
+    pools_short c g back.taken front.all (omega arith) n new filled (back_raises c g rise error back) last ends counted (length g.fresh + n) created few
 
 -- how few new pools came before
 few_any : (c : Call) (g : Grant) (front : IsFront c.request c.old g) → (length g.fresh + 0) * pool_size_floor c.request.key.counts < wanting c.request c.old g + pool_size_floor c.request.key.counts
@@ -271,10 +273,9 @@ done_short c d (some_fresh front last parts short sized le given) some =
     let created = ap (λ (k : Counters). k.created) d.counters in
     let refused = ap (λ (k : Counters). k.pool_refused) d.counters in
     let fragmented = ap (λ (k : Counters). k.fragmentation) d.counters in
-    let none = ap last_refusal d.answer in
     let raises : Raises c g = λ name p q refused live after. granted_raises c.request.key c.request.count g c.old name p q d.taken.new refused live (sym (ap (λ (w : State). w.ledger name) d.state) ∙ after) in
     let filled : OnOk c.answer (AreFilled c) = met (AreFilled c) c.answer _ d.answer (done_filled c d some) in
-    pools_short c g d.taken d.all (omega arith) (done_new_pools c d) filled raises 0 (inl (sym none)) (omega arith) (length g.fresh) (omega arith) (omega arith)
+    pools_short c g d.taken d.all (omega arith) 0 (done_new_pools c d) filled raises 0 (met_all d refl refl) (omega arith) (length g.fresh) (omega arith) (omega arith)
 
 -- what an error adds to some of the counters
 alloc_creates : (e : DeviceAllocationError) → (alloc_refused e no_rise).created ≡ 0
@@ -335,7 +336,7 @@ module _ (c : Call) where
       let n = ap (λ (k : Counters). k.created) s.back.counters in
       let refused = ap (λ (k : Counters). k.pool_refused) s.back.counters in
       let fragmented = ap (λ (k : Counters). k.fragmentation) s.back.counters in
-      front_short c s.grant _ _ s.back s.front 0 (inr (s, refl)) (omega arith) 0 (omega arith) (omega arith) (few_any c s.grant s.front)
+      front_short c s.grant _ _ s.back s.front 0 0 (without_room s refl refl) (omega arith) (omega arith) (omega arith) (few_any c s.grant s.front)
   short (stopped_at_create p s) more =
       let n = ap (λ (k : Counters). k.created) s.back.counters in
       let e = create_creates s.error in
@@ -343,17 +344,17 @@ module _ (c : Call) where
       let fragmented = ap (λ (k : Counters). k.fragmentation) s.back.counters in
       let last = ap last_refusal s.back.answer in
       let rise = create_last s.error in
-      front_short c s.grant _ _ s.back s.front (last_refusal c.answer) (inl refl) (omega arith) 0 (omega arith) (omega arith) (few_any c s.grant s.front)
+      front_short c s.grant _ _ s.back s.front (last_refusal c.answer) 0 (at_create s refl refl) (omega arith) (omega arith) (omega arith) (few_any c s.grant s.front)
   short (stopped_for_memory p s) more =
       let n = ap (λ (k : Counters). k.created) s.back.counters in
       let refused = ap (λ (k : Counters). k.pool_refused) s.back.counters in
       let fragmented = ap (λ (k : Counters). k.fragmentation) s.back.counters in
       let last = ap last_refusal s.back.answer in
-      front_short c s.grant _ _ s.back s.front (last_refusal c.answer) (inl refl) (omega arith) 0 (omega arith) (omega arith) (few_any c s.grant s.front)
+      front_short c s.grant _ _ s.back s.front 0 0 (for_memory s refl refl) (omega arith) (omega arith) (omega arith) (few_any c s.grant s.front)
   short (stopped_at_fresh p s) more =
       let n = ap (λ (k : Counters). k.created) s.back.counters in
       let refused = ap (λ (k : Counters). k.pool_refused) s.back.counters in
       let fragmented = ap (λ (k : Counters). k.fragmentation) s.back.counters in
       let last = ap last_refusal s.back.answer in
       let rise = alloc_last s.error in
-      front_short c s.grant _ _ s.back s.front (last_refusal c.answer) (inl refl) (omega arith) 1 (omega arith) (omega arith) (few_with_room c s.grant s.front s.room)
+      front_short c s.grant _ _ s.back s.front (last_refusal c.answer) 1 (at_fresh s refl refl) (omega arith) (omega arith) (omega arith) (few_with_room c s.grant s.front s.room)
