@@ -5,12 +5,13 @@ use Rattle.std.proofs.Common.{◌≡◌, ℕ, ◌-◌, ◌==◌, Bool, true, fal
 use Rattle.std.proofs.Math.Nat.{sub-zero}
 use Rattle.std.proofs.lemmas.Bool.{eqb-true, true≢false}
 use Rattle.std.specs.List.{list_any}
-use Rattle.std.specs.Prelude.{if◌then◌else◌, count_by, option_map, replicate}
+use Rattle.std.specs.Prelude.{if◌then◌else◌, count_by, map, option_map, replicate}
 use Rattle.gpu_descriptor_types.specs.Ledger.{Pool}
 use Rattle.gpu_descriptor_types.specs.Multiset.{LiveSet, set_eq}
 use Rattle.gpu_descriptor.specs.Agreement.{State, Item, set_of}
 use Rattle.gpu_descriptor.specs.Books.{Key, key_eq, Entry, Bucket, no_pools}
 use Rattle.gpu_descriptor.specs.Cleanup.{IsCleaned, cleaned_bucket}
+use Rattle.gpu_descriptor.specs.Digits.{digits}
 use Rattle.gpu_descriptor_types.specs.PoolSize.{sets_in_room}
 use Rattle.gpu_descriptor.specs.Load.{pool_load, pools_load}
 use Rattle.gpu_descriptor.specs.Release.{bucket_less, pool_less, lies_in, spent_front, empty_front, without_front, in_front, released}
@@ -109,6 +110,12 @@ cut_size = refl
 
 no_size : sets_in_room 2 3 64 ≡ 0
 no_size = refl
+
+-- ---- binary digits
+
+-- 0 has none; a power of two has one more than the number before it
+digits_shown : map digits (0 ∷ 1 ∷ 2 ∷ 3 ∷ 4 ∷ 255 ∷ 256 ∷ []) ≡ 0 ∷ 1 ∷ 2 ∷ 2 ∷ 3 ∷ 8 ∷ 9 ∷ []
+digits_shown = refl
 
 -- ---- sets go back
 

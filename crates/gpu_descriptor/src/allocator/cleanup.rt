@@ -38,6 +38,7 @@ impl<P: Drop, S> DescriptorAllocator<P, S> {
         ensures foreign { KeepsForeign (state_of D.pool_name self.old (D.ledger device.old))
             (state_of D.pool_name self.new (D.ledger device.new)) }
         ensures limit { self.new.limit ≡ self.old.limit }
+        ensures counts_stay { (self.new.looks ≡ self.old.looks) × (self.new.comparisons ≡ self.old.comparisons) }
     {
         for place in 0..self.buckets.len() {
             let key = *self.buckets.as_slice().get_index(place).unwrap().0;

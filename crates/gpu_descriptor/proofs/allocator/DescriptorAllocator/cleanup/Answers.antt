@@ -55,6 +55,8 @@ loop-place-preserved g c =
       out = h.out;
       marked = h.marked;
       limit = h.limit;
+      looks = h.looks;
+      comparisons = h.comparisons;
     }
 
 pub invariant_of-self : goal.invariant_of-self
@@ -88,4 +90,5 @@ returns g c =
       agree = clean_agrees _ _ c.requires clean;
       foreign = cleaned_foreign _ _ clean;
       limit = h.limit ∙ ap (λ (a : Allocations _). a.limit) c.self.view_is;
+      counts_stay = (h.looks ∙ ap (λ (a : Allocations _). a.looks) c.self.view_is, h.comparisons ∙ ap (λ (a : Allocations _). a.comparisons) c.self.view_is);
     }

@@ -18,4 +18,6 @@ invariant-loop-place g l =
       out : l.self-inside.outstanding ≡ l.initial.self-inside.outstanding;
       marked : l.self-inside.current_update_after_bind_descriptors_in_all_pools ≡ l.initial.self-inside.current_update_after_bind_descriptors_in_all_pools;
       limit : l.self-inside.max_update_after_bind_descriptors_in_all_pools ≡ l.initial.self-inside.max_update_after_bind_descriptors_in_all_pools;
+      looks : l.self-inside.looks.count ≡ l.initial.self-inside.looks.count;
+      comparisons : l.self-inside.comparisons.count ≡ l.initial.self-inside.comparisons.count;
     }
