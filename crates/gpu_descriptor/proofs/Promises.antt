@@ -25,7 +25,7 @@ use Rattle.std.proofs.lemmas.Bool.{cases_Bool}
 use Rattle.gpu_descriptor.specs.Promises.{HasCause, HasNewPools, EndsWith, IsShort, CreatesOnlyWhereShort, last_refusal}
 use Rattle.gpu_descriptor.specs.Promises.EndsWith.{met as met_all, without_room, for_memory, at_create, at_fresh}
 use Rattle.gpu_descriptor.specs.Promises.IsFragmentation.{above_limit, past_bound, no_room_left, no_pool_created, new_pool_refused}
-use Rattle.gpu_descriptor.specs.Promises.IsHostMemory.{device_refused, no_room_at_start, no_room_for_a_pool}
+use Rattle.gpu_descriptor.specs.Promises.IsHostMemory.{device_refused, no_memory_at_start, no_memory_for_a_pool}
 use Rattle.gpu_descriptor.specs.Load.{pool_load}
 use Rattle.gpu_descriptor.proofs.NextSize.{next_whole, one_fits, some_fit, room_falls}
 use Rattle.gpu_descriptor.proofs.NewPools.{AreFilled, met, unmet, shares_used, done_new_pools, done_filled, released_pool, back_new_pools}
@@ -312,12 +312,12 @@ module _ (c : Call) where
   has_cause (none zero_count answer stays) = given [] answer
   has_cause (limit some above answer stays) = answered Fragmentation answer (above_limit above)
   has_cause (bound some within past answer stays) = answered Fragmentation answer (past_bound past)
-  has_cause (start p answer stays) = answered OutOfHostMemory answer (no_room_at_start p stays)
+  has_cause (start p answer stays) = answered OutOfHostMemory answer (no_memory_at_start p stays)
   has_cause (done p d) = given _ d.answer
   has_cause (stopped_at_pool p s) = answered _ s.back.answer (pool_cause c s)
   has_cause (stopped_without_room p s) = answered Fragmentation s.back.answer (no_room_left s)
   has_cause (stopped_at_create p s) = answered _ s.back.answer (create_cause c s)
-  has_cause (stopped_for_memory p s) = answered OutOfHostMemory s.back.answer (no_room_for_a_pool s)
+  has_cause (stopped_for_memory p s) = answered OutOfHostMemory s.back.answer (no_memory_for_a_pool s)
   has_cause (stopped_at_fresh p s) = answered _ s.back.answer (fresh_cause c s)
 
   -- a pool is created only where the existing ones don't do

@@ -35,9 +35,9 @@ pub data IsFragmentation (c : Call) : Type 0 where
 pub data IsHostMemory (c : Call) : Type 0 where
   device_refused : c.before.host_memory < c.after.host_memory → IsHostMemory c
   -- for the answer, or for the key: nothing changed
-  no_room_at_start : Proceeds c → Stays c → IsHostMemory c
+  no_memory_at_start : Proceeds c → Stays c → IsHostMemory c
   -- for the books of a new pool
-  no_room_for_a_pool : IsStoppedForMemory c → IsHostMemory c
+  no_memory_for_a_pool : IsStoppedForMemory c → IsHostMemory c
 
 -- what each error says of the call
 abbrev pub HasCause : AllocationError → Call → Type 0
