@@ -73,6 +73,10 @@ pub record Agree (s : State) : Type 0 where
   -- a key without pools is as one that never came
   pub absent : (k : Key) → (s.books k).pools ≡ [] → (s.books k).first ≡ 0
 
+-- the list of a pool's live sets can be read off: nothing is lost by saying only that there is one
+abbrev pub BookedIsListed : Type 0
+BookedIsListed = (k : Key) (pool : Pool) (e : Entry) → IsAsBooked k pool e → HasSize pool.live e.allocated
+
 -- that they agree has one proof at most
 abbrev pub AgreesOnce : Type 0
 AgreesOnce = (s : State) → IsProp (Agree s)

@@ -7,7 +7,7 @@ ghost use Rattle.gpu_descriptor_types.specs.Ledger.{Ledger};
 ghost use Rattle.gpu_descriptor.specs.Release.{ReleaseParts, ReleaseGone, ReleaseOrder, ReleaseEach, ReleaseSingly, ReleaseNone, ReleaseAgrees, ReleaseTakes};
 ghost use Rattle.gpu_descriptor.specs.OtherKeys.{ReleaseOthers};
 ghost use Rattle.gpu_descriptor.specs.Cleanup.{CleanAgain, CleanAgainNone, CleanAll, CleanAllGone, CleanOnce, CleanAgrees, CleanTakesNone};
-ghost use Rattle.gpu_descriptor.specs.Agreement.{AgreesOnce, EmptyAgrees, OwnAgrees, OwnOutstanding};
+ghost use Rattle.gpu_descriptor.specs.Agreement.{AgreesOnce, BookedIsListed, EmptyAgrees, OwnAgrees, OwnOutstanding};
 ghost use Rattle.gpu_descriptor.specs.Books.{HasDistinctKeys, SumByBooks};
 ghost use Rattle.gpu_descriptor.specs.Load.{IsMarkedLoad, IsOut, IsPoolLoad, PoolLoadIsCounts, OutIsLength, OutIsSize};
 ghost use Rattle.gpu_descriptor.specs.States.{marked_load_of, outstanding_of, pool_load_of, state_of, table_of};
@@ -63,7 +63,8 @@ pub fn books_alone()
 /// That books and ledger agree has one proof at most, so a struct that owns an allocator and its
 /// device can keep it as a ghost field, with `Agree-prop` of `proofs.OneAgreement` after `by`.
 pub fn agreement_is_one()
-    ensures { AgreesOnce }
+    ensures one { AgreesOnce }
+    ensures listed { BookedIsListed }
 {}
 
 /// Where no key has two rows, the sets, the marked descriptors and the descriptors of marked keys'
