@@ -1,6 +1,6 @@
 -- A number is below the power of two of its digits.
 use Rattle.std.proofs.Common.{ℕ, zero, suc, ◌+◌, ◌*◌, ◌^◌, ◌/◌, ◌<◌, ◌≤◌, ◌≡◌, arith, refl, pow-suc}
-use Rattle.gpu_descriptor.specs.Digits.{digits, digits_within}
+use Rattle.gpu_descriptor.specs.Digits.{binary_digits, digits_within}
 
 pub twice : (r : ℕ) → 2 ^ suc r ≡ 2 * 2 ^ r
 twice r = (let a = pow-suc 2 r in omega arith)
@@ -13,5 +13,5 @@ within (suc most) (suc n) h =
     let more = twice (digits_within most (suc n / 2)) in
     omega arith
 
-pub digits_enough : (n : ℕ) → n < 2 ^ digits n
+pub digits_enough : (n : ℕ) → n < 2 ^ binary_digits n
 digits_enough n = within n n (omega arith)

@@ -13,7 +13,7 @@ use Rattle.gpu_descriptor.specs.Agreement.{State, Item, item_eq, AreOutstanding,
 use Rattle.gpu_descriptor.specs.Books.{Key, key_eq}
 use Rattle.gpu_descriptor.specs.Buckets.{more_released, more_destroyed}
 use Rattle.gpu_descriptor.specs.Comparisons.{open_pools, run_digits}
-use Rattle.gpu_descriptor.specs.Digits.{digits}
+use Rattle.gpu_descriptor.specs.Digits.{binary_digits}
 use Rattle.gpu_descriptor.specs.Frees.{descriptors_of, GivesBack, Frees, FreesRun}
 use Rattle.gpu_descriptor.specs.Release.{released, given_back, pools_gone}
 use Rattle.gpu_descriptor.specs.Runs.{runs, breaks}
@@ -173,7 +173,7 @@ module _ {S : Type 0} (set_name : S → ℕ) where
           omega arith)
 
       pub freed_more : (new : Allocations P) (after : Ledger) (a : Option (DescriptorSet S)) (t : T) → FreesRun steps name set_name x rest a t now new mid after → keys_of new ≡ keys_of now → OnSome a (IsNearerEnd can left rest t)
-          → new.comparisons ≤ now.comparisons + digits (open_pools ((state_of name now mid).books (key_of x.key))) → Freed first old before new after a t
+          → new.comparisons ≤ now.comparisons + binary_digits (open_pools ((state_of name now mid).books (key_of x.key))) → Freed first old before new after a t
       freed_more new after a t run same n few = record {
         sets = r.sets ++ x ∷ xs;
         back = subst (λ (m : ℕ). GivesBack name set_name (r.sets ++ x ∷ xs) m old new before after) (sym count) (gives_both name r.sets (x ∷ xs) (runs (items r.sets)) 1 old now new before mid after agree (all_out xs run.came.1.0 run.came.1.1) r.keys r.back run.back);
@@ -197,12 +197,12 @@ module _ {S : Type 0} (set_name : S → ℕ) where
           count = r.comes.1 xs ∙ ap (λ n. runs (items r.sets) + n) alone
 
           -- the digits that this run adds
-          cost : run_digits (state_of name old before) (items (r.sets ++ x ∷ xs)) ≡ run_digits (state_of name old before) (items r.sets) + digits (open_pools ((state_of name now mid).books (key_of x.key)))
+          cost : run_digits (state_of name old before) (items (r.sets ++ x ∷ xs)) ≡ run_digits (state_of name old before) (items r.sets) + binary_digits (open_pools ((state_of name now mid).books (key_of x.key)))
           cost =
               let s = state_of name old before in
               let whole = items-append r.sets (x ∷ xs) in
               ap (run_digits s) whole ∙ run_digits_more s (items r.sets) (item_of set_name x) (items xs) (ap runs (sym whole) ∙ count) alone
-              ∙ ap (λ (t : State). run_digits s (items r.sets) + digits (open_pools (t.books (key_of x.key)))) (sym r.back.state)
+              ∙ ap (λ (t : State). run_digits s (items r.sets) + binary_digits (open_pools (t.books (key_of x.key)))) (sym r.back.state)
 
           came : Yields steps first (r.sets ++ x ∷ xs) run.came.1.0
           came = behind first r.sets x xs rest run.came.1.0 r.comes.0 run.came.1.1

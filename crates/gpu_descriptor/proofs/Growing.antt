@@ -14,8 +14,8 @@ use Rattle.gpu_descriptor.specs.Agreement.{Item, flags_of}
 use Rattle.gpu_descriptor.specs.Books.{Key, Entry}
 use Rattle.gpu_descriptor.specs.FreshPools.{Fresh, fresh_portions, fresh_entry, given_by, IsNextSize, room_after, AreSized, AreFull, AreNew, IsFreshFront, IsFreshList}
 use Rattle.gpu_descriptor.specs.Grants.{Grant, Part, items_at, items_in, portion_of, came, pool_with, ledger_with, entries_with, fresh_or}
-use Rattle.gpu_descriptor.specs.Grow.{IsGrown, IsNotGrown, StopsInRoom, IsTakenAll, IsGrowStopped}
-use Rattle.gpu_descriptor.specs.Load.{held, pool_load, entries_load}
+use Rattle.gpu_descriptor.specs.Grow.{IsGrown, IsNotGrown, TellsOfRoom, IsTakenAll, IsGrowStopped}
+use Rattle.gpu_descriptor.specs.Load.{held, pool_load, pools_load}
 use Rattle.gpu_descriptor.specs.Outcomes.{no_rise, risen, grant_rise}
 use Rattle.gpu_descriptor.specs.Shares.{offer, rest, share, shared, all_shared, Portion, portions_of}
 use Rattle.gpu_descriptor.specs.Buckets.{AreBookedIn}
@@ -287,7 +287,7 @@ grow_end k start n first room total items old new l m s = record {
   taken = s.taken;
 }
 
-pub grow_stop : (why : Stop) (k : Key) (start n first room total wanting : ℕ) (items : List Item) (old new : List Entry) (l m m' : Ledger) → 0 < wanting → Growing k start n first room total wanting items old new l m → IsNotGrown why m m' → StopsInRoom why k room → IsGrowStopped why k start n first items old new l m'
+pub grow_stop : (why : Stop) (k : Key) (start n first room total wanting : ℕ) (items : List Item) (old new : List Entry) (l m m' : Ledger) → 0 < wanting → Growing k start n first room total wanting items old new l m → IsNotGrown why m m' → TellsOfRoom why k room → IsGrowStopped why k start n first items old new l m'
 grow_stop why k start n first room total wanting items old new l m m' some s none in_room = record {
   grant = all_so_far s.refused s.fresh s.parts;
   all = refl;
@@ -297,15 +297,15 @@ grow_stop why k start n first room total wanting items old new l m m' some s non
   keeps = s.keeps;
   taken = s.taken;
   stopped = none;
-  in_room = subst (StopsInRoom why k) s.room_now in_room;
+  in_room = subst (TellsOfRoom why k) s.room_now in_room;
 }
 
 -- ---- the descriptors of a key's pools, as a request goes on
 
-pub load_more : (k : Key) (es : List Entry) (f : Fresh) → entries_load k (es ++ fresh_entry f ∷ []) ≡ entries_load k es + pool_load k f.size
-load_more k es f = sum_by-append (λ (e : Entry). pool_load k e.capacity) es (fresh_entry f ∷ []) ∙ (let one : entries_load k (fresh_entry f ∷ []) ≡ pool_load k f.size = omega arith in omega arith)
+pub load_more : (k : Key) (es : List Entry) (f : Fresh) → pools_load k (es ++ fresh_entry f ∷ []) ≡ pools_load k es + pool_load k f.size
+load_more k es f = sum_by-append (λ (e : Entry). pool_load k e.capacity) es (fresh_entry f ∷ []) ∙ (let one : pools_load k (fresh_entry f ∷ []) ≡ pool_load k f.size = omega arith in omega arith)
 
-load_shared : (k : Key) (refused : ℕ → Bool) (n : ℕ) (es : List Entry) → entries_load k (all_shared refused n es) ≡ entries_load k es
+load_shared : (k : Key) (refused : ℕ → Bool) (n : ℕ) (es : List Entry) → pools_load k (all_shared refused n es) ≡ pools_load k es
 load_shared k refused n [] = refl
 load_shared k refused n (e ∷ newer) =
     let a = sum_by-cons (λ (x : Entry). pool_load k x.capacity) (shared refused n newer e) (all_shared refused n newer) in
@@ -313,7 +313,7 @@ load_shared k refused n (e ∷ newer) =
     let ih = load_shared k refused n newer in
     omega arith
 
-load_split : (k : Key) (refused : ℕ → Bool) (n i : ℕ) (es : List Entry) → entries_load k (take i es ++ all_shared refused n (drop i es)) ≡ entries_load k es
+load_split : (k : Key) (refused : ℕ → Bool) (n i : ℕ) (es : List Entry) → pools_load k (take i es ++ all_shared refused n (drop i es)) ≡ pools_load k es
 load_split k refused n zero es = load_shared k refused n es
 load_split k refused n (suc i) [] = refl
 load_split k refused n (suc i) (e ∷ es) =
@@ -323,8 +323,8 @@ load_split k refused n (suc i) (e ∷ es) =
     omega arith
 
 -- a walk leaves it
-pub load_walked : (k : Key) (n first : ℕ) (g : Grant) (old new : List Entry) (l m : Ledger) → HasTaken k n first g old new l m → g.fresh ≡ [] → entries_load k new ≡ entries_load k old
+pub load_walked : (k : Key) (n first : ℕ) (g : Grant) (old new : List Entry) (l m : Ledger) → HasTaken k n first g old new l m → g.fresh ≡ [] → pools_load k new ≡ pools_load k old
 load_walked k n first g old new l m taken none =
     let shares : List Entry = take g.left old ++ all_shared g.refused n (drop g.left old) in
     let all : new ≡ shares ++ [] = taken.entries ∙ ap (λ fs. shares ++ map fresh_entry fs) none in
-    ap (entries_load k) (all ∙ append-nil shares) ∙ load_split k g.refused n g.left old
+    ap (pools_load k) (all ∙ append-nil shares) ∙ load_split k g.refused n g.left old

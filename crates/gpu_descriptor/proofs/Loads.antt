@@ -13,9 +13,9 @@ use Rattle.gpu_descriptor.specs.Books.{Key, key_eq}
 use Rattle.gpu_descriptor.specs.Load.{pool_load}
 use Rattle.gpu_descriptor.specs.Frees.{descriptors_of, marked_descriptors}
 use Rattle.gpu_descriptor.specs.Sets.{key_of, item_of, items_of}
-use Rattle.gpu_descriptor.specs.States.{sets_in, descriptors_in, pool_descriptors_in, outstanding_of, marked_load_of, pool_load_of}
+use Rattle.gpu_descriptor.specs.States.{sets_in, descriptors_in, pool_load_in, outstanding_of, marked_load_of, pool_load_of}
 use Rattle.gpu_descriptor.specs.Steps.{HaveKey}
-use Rattle.gpu_descriptor.specs.Stored.{kept_of, row_of, load_in, pools_load_in, stored_load, IsCounted}
+use Rattle.gpu_descriptor.specs.Stored.{kept_of, row_of, load_in, stored_load_in, stored_load, IsCounted}
 use Rattle.gpu_descriptor.specs.Values.{Allocations, Kept}
 use Rattle.gpu_descriptor.proofs.Exact.{key_exact}
 use Rattle.gpu_descriptor.proofs.WholeRun.{at_parts}
@@ -85,13 +85,13 @@ module _ {P : Type 0} where
       let b = sum_by-cons (load_in {P = P}) e es in
       omega arith
 
-  pub rows_pool_load : (es : List (BucketKey × DescriptorBucket P)) → sum_by pool_descriptors_in (map row_of es) ≡ sum_by pools_load_in es
+  pub rows_pool_load : (es : List (BucketKey × DescriptorBucket P)) → sum_by pool_load_in (map row_of es) ≡ sum_by stored_load_in es
   rows_pool_load [] = refl
   rows_pool_load (e ∷ es) =
       let own = go (key_of e.0) e.1.pools.items in
       let rest = rows_pool_load es in
-      let a = sum_by-cons pool_descriptors_in (row_of e) (map row_of es) in
-      let b = sum_by-cons (pools_load_in {P = P}) e es in
+      let a = sum_by-cons pool_load_in (row_of e) (map row_of es) in
+      let b = sum_by-cons (stored_load_in {P = P}) e es in
       omega arith
     where
       go : (k : Key) (ps : List (DescriptorPool P)) → sum_by (λ p. pool_load k p.capacity) (map kept_of ps) ≡ stored_load k ps
@@ -116,27 +116,27 @@ run_load name k n (x ∷ xs) have =
 
 -- the room, where the pools of a key change
 module _ {P : Type 0} (k : Key) (test : BucketKey → Bool) (same : (l : BucketKey) → test l ≡ key_eq k (key_of l)) (es : List (BucketKey × DescriptorBucket P)) where
-  pub pools_present : (v w : DescriptorBucket P) → lookup test es ≡ Some v → stored_load k v.pools.items ≤ sum_by pools_load_in es
+  pub pools_present : (v w : DescriptorBucket P) → lookup test es ≡ Some v → stored_load k v.pools.items ≤ sum_by stored_load_in es
   pools_present v w found =
-      let a = sum_set (pools_load_in {P = P}) test es v w found in
+      let a = sum_set (stored_load_in {P = P}) test es v w found in
       let is : k ≡ key_of a.0 = key_exact.same k (key_of a.0) (sym (same a.0) ∙ a.1) in
-      let old : pools_load_in {P = P} (a.0, v) ≡ stored_load k v.pools.items = ap (λ (l : Key). stored_load l v.pools.items) (sym is) in
+      let old : stored_load_in {P = P} (a.0, v) ≡ stored_load k v.pools.items = ap (λ (l : Key). stored_load l v.pools.items) (sym is) in
       let le = a.2 in
       omega arith
 
-  pub pools_set : (v w : DescriptorBucket P) → lookup test es ≡ Some v → (left room : ℕ) → left + stored_load k w.pools.items ≡ room + stored_load k v.pools.items → left + sum_by pools_load_in (set_value test es w) ≡ room + sum_by pools_load_in es
+  pub pools_set : (v w : DescriptorBucket P) → lookup test es ≡ Some v → (left room : ℕ) → left + stored_load k w.pools.items ≡ room + stored_load k v.pools.items → left + sum_by stored_load_in (set_value test es w) ≡ room + sum_by stored_load_in es
   pools_set v w found left room moved =
-      let a = sum_set (pools_load_in {P = P}) test es v w found in
+      let a = sum_set (stored_load_in {P = P}) test es v w found in
       let is : k ≡ key_of a.0 = key_exact.same k (key_of a.0) (sym (same a.0) ∙ a.1) in
-      let old : pools_load_in {P = P} (a.0, v) ≡ stored_load k v.pools.items = ap (λ (l : Key). stored_load l v.pools.items) (sym is) in
-      let new : pools_load_in {P = P} (a.0, w) ≡ stored_load k w.pools.items = ap (λ (l : Key). stored_load l w.pools.items) (sym is) in
+      let old : stored_load_in {P = P} (a.0, v) ≡ stored_load k v.pools.items = ap (λ (l : Key). stored_load l v.pools.items) (sym is) in
+      let new : stored_load_in {P = P} (a.0, w) ≡ stored_load k w.pools.items = ap (λ (l : Key). stored_load l w.pools.items) (sym is) in
       let rest = a.3 in
       omega arith
 
-pub pools_end : {P : Type 0} (k : BucketKey) (es : List (BucketKey × DescriptorBucket P)) (w : DescriptorBucket P) (left room : ℕ) → left + stored_load (key_of k) w.pools.items ≡ room → left + sum_by pools_load_in (es ++ (k, w) ∷ []) ≡ room + sum_by pools_load_in es
+pub pools_end : {P : Type 0} (k : BucketKey) (es : List (BucketKey × DescriptorBucket P)) (w : DescriptorBucket P) (left room : ℕ) → left + stored_load (key_of k) w.pools.items ≡ room → left + sum_by stored_load_in (es ++ (k, w) ∷ []) ≡ room + sum_by stored_load_in es
 pools_end {P} k es w left room moved =
-    let a = sum_by-append (pools_load_in {P = P}) es ((k, w) ∷ []) in
-    let one : sum_by (pools_load_in {P = P}) ((k, w) ∷ []) ≡ stored_load (key_of k) w.pools.items = omega arith in
+    let a = sum_by-append (stored_load_in {P = P}) es ((k, w) ∷ []) in
+    let one : sum_by (stored_load_in {P = P}) ((k, w) ∷ []) ≡ stored_load (key_of k) w.pools.items = omega arith in
     omega arith
 
 -- what a run takes from the totals
@@ -161,7 +161,7 @@ module _ {P : Type 0} (k : Key) (n : ℕ) (es fs : List (BucketKey × Descriptor
   pub load_fits : (limit marked room out : ℕ) → IsCounted limit marked room out es → load_at k n ≤ marked
   load_fits limit marked room out counted = (let is = counted.is_load in let load = t.load in omega arith)
 
-  pub counted_after : (limit marked room left out less fewer : ℕ) → IsCounted limit marked room out es → less ≡ load_at k n → fewer ≡ n → left + sum_by pools_load_in fs ≡ room + sum_by pools_load_in es → IsCounted limit (marked - less) left (out - fewer) fs
+  pub counted_after : (limit marked room left out less fewer : ℕ) → IsCounted limit marked room out es → less ≡ load_at k n → fewer ≡ n → left + sum_by stored_load_in fs ≡ room + sum_by stored_load_in es → IsCounted limit (marked - less) left (out - fewer) fs
   counted_after limit marked room left out less fewer counted load many pools =
       let is_load = counted.is_load in
       let is_out = counted.is_out in

@@ -24,10 +24,10 @@ granted_is k n g s new l m same taken = λ i. record { books = fun_ext (λ q. at
 
 -- a request that took all is done
 pub is_done : (c : Call) (new : List Entry) (items : List Item) (l m : Ledger) → c.old.ledger ≡ l.pools → c.before ≡ l.counters → c.new ≡ with_pools c.request.key new m.pools c.old → c.after ≡ m.counters
-    → (load : ℕ) → IsPoolLoad c.old load → (t : IsTakenAll c.request.key (c.request.limit - load) c.request.count (c.old.books c.request.key).first items (c.old.books c.request.key).pools new l m) → c.answer ≡ Ok (items_in c.request.key t.grant.parts) → IsDone c
-is_done c new items l m ledger before now after load is_load t answer = record {
-  load = load;
-  is_load = is_load;
+    → (pooled : ℕ) → IsPoolLoad c.old pooled → (t : IsTakenAll c.request.key (c.request.limit - pooled) c.request.count (c.old.books c.request.key).first items (c.old.books c.request.key).pools new l m) → c.answer ≡ Ok (items_in c.request.key t.grant.parts) → IsDone c
+is_done c new items l m ledger before now after pooled is_pooled t answer = record {
+  pooled = pooled;
+  is_pooled = is_pooled;
   grant = t.grant;
   taken = record { refusing = t.taken.refusing; parts = t.taken.parts; new = subst (λ (f : ℕ → Option Pool). AreNew f t.grant.fresh) (sym ledger) t.taken.is_new };
   all = t.all;

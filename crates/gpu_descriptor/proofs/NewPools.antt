@@ -183,7 +183,7 @@ module _ (c : Call) (d : IsDone c) where
       let rise : c.after.created ≡ c.before.created + length (sizes_of d.grant.fresh) = omega arith in
       record {
         sizes = sizes_of d.grant.fresh;
-        below_twice = from_shared d.grant.refused c.request.count (c.old.books k).pools (sizes_of d.grant.fresh) (all_below k (c.request.limit - d.load) _ _ d.grant.fresh d.fresh);
+        below_twice = from_shared d.grant.refused c.request.count (c.old.books k).pools (sizes_of d.grant.fresh) (all_below k (c.request.limit - d.pooled) _ _ d.grant.fresh d.fresh);
         numbers = ap (λ (w : State). next_number (w.books k)) d.state ∙ granted_numbers k c.request.count d.grant c.old d.all;
         capacity = λ i e p at live. granted_capacity k c.request.count d.grant c.old d.all d.taken.new i e p (ap (λ (w : State). entry_at (w.books k) (next_number (c.old.books k) + i)) (sym d.state) ∙ at) (ap (λ (w : State). w.ledger e.pool) (sym d.state) ∙ live);
         created = omega arith;
@@ -194,7 +194,7 @@ module _ (c : Call) (d : IsDone c) where
   pub done_filled : 0 < length d.grant.fresh → AreFilled c
   done_filled more = by_list d.fresh
     where
-      by_list : IsFreshList k (c.request.limit - d.load) (out_then c.request c.old d.grant) (wanting c.request c.old d.grant) d.grant.fresh → AreFilled c
+      by_list : IsFreshList k (c.request.limit - d.pooled) (out_then c.request c.old d.grant) (wanting c.request c.old d.grant) d.grant.fresh → AreFilled c
       by_list (no_fresh zero_wanted empty) = (let e = ap length empty in absurd (omega arith))
       by_list (some_fresh front last is short sized le given) =
           let shares : List Entry = all_shared d.grant.refused c.request.count (c.old.books k).pools in
@@ -241,7 +241,7 @@ back_new_pools c g rise error b front more one created =
     let long = length-map g.fresh (λ (f : Fresh). f.size) in
     record {
       sizes = sizes_of g.fresh;
-      below_twice = from_shared g.refused c.request.count (c.old.books k).pools (sizes_of g.fresh) (front_below k (c.request.limit - front.load) _ _ g.fresh front.front.sized front.front.full front.front.short);
+      below_twice = from_shared g.refused c.request.count (c.old.books k).pools (sizes_of g.fresh) (front_below k (c.request.limit - front.pooled) _ _ g.fresh front.front.sized front.front.full front.front.short);
       numbers = ap (λ (w : State). next_number (w.books k)) b.state ∙ numbers_stay m t k ∙ granted_numbers k c.request.count g c.old front.all;
       capacity = λ i e p at live. (
           let number : ℕ = next_number (c.old.books k) + i in

@@ -244,7 +244,7 @@ few_any : (c : Call) (g : Grant) (front : IsFront c.request c.old g) → (length
 few_any c g front =
     let m : ℕ = pool_size_floor c.request.key.counts in
     let short = front.front.short in
-    let few = any_few c.request.key (c.request.limit - front.load) (out_then c.request c.old g) (wanting c.request c.old g) g.fresh front.front.sized front.front.full short in
+    let few = any_few c.request.key (c.request.limit - front.pooled) (out_then c.request c.old g) (wanting c.request c.old g) g.fresh front.front.sized front.front.full short in
     let same : length g.fresh + 0 ≡ length g.fresh = omega arith in
     let product : (length g.fresh + 0) * m ≡ length g.fresh * m = ap (λ i. i * m) same in
     omega arith
@@ -253,18 +253,18 @@ few_with_room : (c : Call) (g : Grant) (front : IsFront c.request c.old g) → H
 few_with_room c g front room =
     let m : ℕ = pool_size_floor c.request.key.counts in
     let short = front.front.short in
-    let few = front_few c.request.key (c.request.limit - front.load) (out_then c.request c.old g) (wanting c.request c.old g) g.fresh front.front.sized front.front.full short room in
+    let few = front_few c.request.key (c.request.limit - front.pooled) (out_then c.request c.old g) (wanting c.request c.old g) g.fresh front.front.sized front.front.full short room in
     let same : length g.fresh + 1 ≡ suc (length g.fresh) = omega arith in
     let product : (length g.fresh + 1) * m ≡ length g.fresh * m + m = ap (λ i. i * m) same ∙ times_more (length g.fresh) m in
     omega arith
 
 -- a list that gave all
-done_short : (c : Call) (d : IsDone c) → IsFreshList c.request.key (c.request.limit - d.load) (out_then c.request c.old d.grant) (wanting c.request c.old d.grant) d.grant.fresh → 0 < length d.grant.fresh → IsShort c
+done_short : (c : Call) (d : IsDone c) → IsFreshList c.request.key (c.request.limit - d.pooled) (out_then c.request c.old d.grant) (wanting c.request c.old d.grant) d.grant.fresh → 0 < length d.grant.fresh → IsShort c
 done_short c d (no_fresh zero_wanted empty) some = (let e = ap length empty in absurd (omega arith))
 done_short c d (some_fresh front last parts short sized le given) some =
     let g : Grant = d.grant in
     let m : ℕ = pool_size_floor c.request.key.counts in
-    let few = list_few c.request.key (c.request.limit - d.load) (out_then c.request c.old g) (wanting c.request c.old g) front last (subst (AreSized c.request.key (c.request.limit - d.load) (out_then c.request c.old g) (wanting c.request c.old g)) parts sized) short.full short.short in
+    let few = list_few c.request.key (c.request.limit - d.pooled) (out_then c.request c.old g) (wanting c.request c.old g) front last (subst (AreSized c.request.key (c.request.limit - d.pooled) (out_then c.request c.old g) (wanting c.request c.old g)) parts sized) short.full short.short in
     let below = short.short in
     let long = ap length parts ∙ length-append front (last ∷ []) in
     let product = times_more (length front) m in

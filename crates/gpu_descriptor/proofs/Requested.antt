@@ -21,8 +21,8 @@ use Rattle.gpu_descriptor.specs.Outcomes.Allocates.{limit, bound, start}
 use Rattle.gpu_descriptor.specs.Requests.{call_of, Takes}
 use Rattle.gpu_descriptor.specs.Serves.{ServesKey, IsUnserved}
 use Rattle.gpu_descriptor.specs.Sets.{key_of, items_of}
-use Rattle.gpu_descriptor.specs.States.{named_row, sets_in, descriptors_in, pool_descriptors_in, state_of, table_of, outstanding_of, marked_load_of, pool_load_of}
-use Rattle.gpu_descriptor.specs.Stored.{IsCounted, row_of, load_in, load_of, pools_load_in, books_in}
+use Rattle.gpu_descriptor.specs.States.{named_row, sets_in, descriptors_in, pool_load_in, state_of, table_of, outstanding_of, marked_load_of, pool_load_of}
+use Rattle.gpu_descriptor.specs.Stored.{IsCounted, row_of, load_in, load_of, stored_load_in, books_in}
 use Rattle.gpu_descriptor.specs.Grow.{IsTakenAll, IsTakenUpTo}
 use Rattle.gpu_descriptor.specs.Values.{Allocations, Row}
 use Rattle.gpu_descriptor.proofs.Exact.{key_exact}
@@ -42,8 +42,8 @@ module _ {P : Type 0} (a : Allocations P) (es : List (BucketKey × DescriptorBuc
   pub load_of_rows : marked_load_of a ≡ sum_by load_in es
   load_of_rows = ap (sum_by descriptors_in) is ∙ rows_load es
 
-  pub pool_load_of_rows : pool_load_of a ≡ sum_by pools_load_in es
-  pool_load_of_rows = ap (sum_by pool_descriptors_in) is ∙ rows_pool_load es
+  pub pool_load_of_rows : pool_load_of a ≡ sum_by stored_load_in es
+  pool_load_of_rows = ap (sum_by pool_load_in) is ∙ rows_pool_load es
 
   pub books_at : (name : P → ℕ) (before : Ledger) (k : Key) → (state_of name a before).books k ≡ books_in name es k
   books_at name before k = ap (λ (t : List (Row P)). books_of (map (named_row name) t) k) is
@@ -65,7 +65,7 @@ module _ {P S : Type 0} (name : P → ℕ) (set_name : S → ℕ) (key : BucketK
     | inr off ↦ (let is : load_of key (length sets) ≡ 0 = rw off refl in let all = counted.within in omega arith)
   ]
 
-  pub counted_more : (most marked old left out more many : ℕ) → IsCounted most marked old out es → more ≡ load_of key (length sets) → many ≡ length sets → more + marked ≤ most → left + sum_by pools_load_in fs ≡ old + sum_by pools_load_in es → IsCounted most (marked + more) left (out + many) fs
+  pub counted_more : (most marked old left out more many : ℕ) → IsCounted most marked old out es → more ≡ load_of key (length sets) → many ≡ length sets → more + marked ≤ most → left + sum_by stored_load_in fs ≡ old + sum_by stored_load_in es → IsCounted most (marked + more) left (out + many) fs
   counted_more most marked old left out more many counted load given fits pools =
       let is_room = counted.is_room in
       let a = counted.is_load in
@@ -111,7 +111,7 @@ module _ {P S : Type 0} (name : P → ℕ) (set_name : S → ℕ) (most looks_be
   abbrev new : Allocations P
   new = record { limit = most; table = map row_of fs; looks = looks_after; comparisons = compared }
 
-  pub takes : (key : BucketKey) (room count : ℕ) (sets : List (DescriptorSet S)) (taken : Result (Unit {0}) Refusal) (before after : Ledger) → HasDistinctKeys (table_of name old) → HasDistinctKeys (table_of name new) → ServesKey name set_name key room count sets taken es fs before after → room + sum_by pools_load_in es ≡ most
+  pub takes : (key : BucketKey) (room count : ℕ) (sets : List (DescriptorSet S)) (taken : Result (Unit {0}) Refusal) (before after : Ledger) → HasDistinctKeys (table_of name old) → HasDistinctKeys (table_of name new) → ServesKey name set_name key room count sets taken es fs before after → room + sum_by stored_load_in es ≡ most
       → ((key_of key).marked ≡ true → count * sum (key_of key).counts + marked_load_of old ≤ most) → outstanding_of old + count ≤ 18446744073709551615 → Takes name set_name (key_of key) count sets taken old new before after
   takes key room count sets taken before after distinct still s all within fits = record {
     distinct = distinct;

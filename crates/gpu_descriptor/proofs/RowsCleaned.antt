@@ -20,7 +20,7 @@ use Rattle.gpu_descriptor.specs.Cleanup.{cleaned_bucket, IsCleaned, pools_cleane
 use Rattle.gpu_descriptor.specs.Release.{empty_front, in_front}
 use Rattle.gpu_descriptor.specs.Sets.{key_of}
 use Rattle.gpu_descriptor.specs.States.{named_row, state_of, keys_of}
-use Rattle.gpu_descriptor.specs.Stored.{row_of, entry_of, bucket_of, load_of, pools_load_in, stored_load, IsCounted}
+use Rattle.gpu_descriptor.specs.Stored.{row_of, entry_of, bucket_of, load_of, stored_load_in, stored_load, IsCounted}
 use Rattle.gpu_descriptor.specs.Values.{Allocations, Row}
 use Rattle.gpu_descriptor.proofs.Cleaning.{cleaned_cases}
 use Rattle.gpu_descriptor.proofs.Exact.{key_exact}
@@ -378,8 +378,8 @@ module _ {P : Type 0} where
       ]
 
   -- the room where the pools at a place change
-  pub pools_put : (es : List (BucketKey × DescriptorBucket P)) (i : ℕ) (e : BucketKey × DescriptorBucket P) (v w : DescriptorBucket P) → slice_get es i ≡ Some e → slice_get (values_of es) i ≡ Some v → (stored_load (key_of e.0) v.pools.items ≤ sum_by pools_load_in es)
-      × ((left room : ℕ) → left + stored_load (key_of e.0) w.pools.items ≡ room + stored_load (key_of e.0) v.pools.items → left + sum_by pools_load_in (set_value_at es i w) ≡ room + sum_by pools_load_in es)
+  pub pools_put : (es : List (BucketKey × DescriptorBucket P)) (i : ℕ) (e : BucketKey × DescriptorBucket P) (v w : DescriptorBucket P) → slice_get es i ≡ Some e → slice_get (values_of es) i ≡ Some v → (stored_load (key_of e.0) v.pools.items ≤ sum_by stored_load_in es)
+      × ((left room : ℕ) → left + stored_load (key_of e.0) w.pools.items ≡ room + stored_load (key_of e.0) v.pools.items → left + sum_by stored_load_in (set_value_at es i w) ≡ room + sum_by stored_load_in es)
   pools_put [] i e v w at found = absurd (let bad : ◌≡◌ {A = Option (BucketKey × DescriptorBucket P)} None (Some e) = at in cc)
   pools_put (x ∷ es) zero e v w at found =
       let same : Some x ≡ Some e = at in
@@ -388,32 +388,32 @@ module _ {P : Type 0} where
       let eq : x.1 ≡ v = cc in
       let own : stored_load (key_of x.0) x.1.pools.items ≡ stored_load (key_of e.0) v.pools.items = λ j. stored_load (key_of (is j).0) (eq j).pools.items in
       let put : stored_load (key_of x.0) w.pools.items ≡ stored_load (key_of e.0) w.pools.items = ap (λ (y : BucketKey × DescriptorBucket P). stored_load (key_of y.0) w.pools.items) is in
-      let a = sum_by-cons (pools_load_in {P = P}) (x.0, w) es in
-      let b = sum_by-cons (pools_load_in {P = P}) x es in
-      ((let le : stored_load (key_of e.0) v.pools.items ≤ sum_by pools_load_in (x ∷ es) = omega arith in le), λ left room moved. omega arith)
+      let a = sum_by-cons (stored_load_in {P = P}) (x.0, w) es in
+      let b = sum_by-cons (stored_load_in {P = P}) x es in
+      ((let le : stored_load (key_of e.0) v.pools.items ≤ sum_by stored_load_in (x ∷ es) = omega arith in le), λ left room moved. omega arith)
   pools_put (x ∷ es) (suc i) e v w at found =
       let rest = pools_put es i e v w at found in
       let below = rest.0 in
-      let a = sum_by-cons (pools_load_in {P = P}) x (set_value_at es i w) in
-      let b = sum_by-cons (pools_load_in {P = P}) x es in
-      ((let le : stored_load (key_of e.0) v.pools.items ≤ sum_by pools_load_in (x ∷ es) = omega arith in le), λ left room moved. (let all = rest.1 left room moved in omega arith))
+      let a = sum_by-cons (stored_load_in {P = P}) x (set_value_at es i w) in
+      let b = sum_by-cons (stored_load_in {P = P}) x es in
+      ((let le : stored_load (key_of e.0) v.pools.items ≤ sum_by stored_load_in (x ∷ es) = omega arith in le), λ left room moved. (let all = rest.1 left room moved in omega arith))
 
   -- a key without pools takes none
   none_taken : (k : Key) (ps : List (DescriptorPool P)) → (length ps == 0) ≡ true → stored_load k ps ≡ 0
   none_taken k [] h = refl
   none_taken k (p ∷ ps) h = absurd (let bad : length (p ∷ ps) ≡ 0 = eqb-true (length (p ∷ ps)) 0 h in omega arith)
 
-  pools_filter : (es : List (BucketKey × DescriptorBucket P)) → sum_by pools_load_in (filter (λ e. has_pools e.1) es) ≡ sum_by pools_load_in es
+  pools_filter : (es : List (BucketKey × DescriptorBucket P)) → sum_by stored_load_in (filter (λ e. has_pools e.1) es) ≡ sum_by stored_load_in es
   pools_filter [] = refl
   pools_filter (e ∷ es) =
       let rest = pools_filter es in
-      let b = sum_by-cons (pools_load_in {P = P}) e es in
+      let b = sum_by-cons (stored_load_in {P = P}) e es in
       elim (cases_Bool (length e.1.pools.items == 0)) [
         | inl none ↦ rw none (let here = none_taken (key_of e.0) e.1.pools.items none in omega arith)
-        | inr some ↦ rw some (let a = sum_by-cons (pools_load_in {P = P}) e (filter (λ e. has_pools e.1) es) in omega arith)
+        | inr some ↦ rw some (let a = sum_by-cons (stored_load_in {P = P}) e (filter (λ e. has_pools e.1) es) in omega arith)
       ]
 
-  pub counted_put : (limit marked room left out : ℕ) (es : List (BucketKey × DescriptorBucket P)) (i : ℕ) (v w : DescriptorBucket P) → slice_get (values_of es) i ≡ Some v → w.total ≡ v.total → left + sum_by pools_load_in (set_value_at es i w) ≡ room + sum_by pools_load_in es → IsCounted limit marked room out es → IsCounted limit marked left out (set_value_at es i w)
+  pub counted_put : (limit marked room left out : ℕ) (es : List (BucketKey × DescriptorBucket P)) (i : ℕ) (v w : DescriptorBucket P) → slice_get (values_of es) i ≡ Some v → w.total ≡ v.total → left + sum_by stored_load_in (set_value_at es i w) ≡ room + sum_by stored_load_in es → IsCounted limit marked room out es → IsCounted limit marked left out (set_value_at es i w)
   counted_put limit marked room left out es i v w at same pools counted = record {
     is_room = pools ∙ counted.is_room;
     is_load = counted.is_load ∙ sym (sum_put load_of es i v w at same);

@@ -3,7 +3,7 @@ use Rattle.std.proofs.Common.{ℕ, zero, suc, ◌+◌, ◌-◌, ◌/◌, ◌^◌
 use Rattle.std.proofs.lemmas.List.{get_or_default}
 use Rattle.std.specs.List.{AllWithin}
 use Rattle.std.specs.List.Sorted.{IsNonDecreasing}
-use Rattle.gpu_descriptor.specs.Digits.{digits}
+use Rattle.gpu_descriptor.specs.Digits.{binary_digits}
 use Rattle.gpu_descriptor.proofs.Digits.{digits_enough, twice}
 
 -- the numbers before low are below the number, and those from low + size on are not
@@ -14,14 +14,14 @@ pub record Searching (items : List ℕ) (number low size before count : ℕ) : T
   -- so many comparisons may come yet
   pub left : ℕ
   pub small : size < 2 ^ left
-  pub few : count + left ≤ before + digits (length items)
+  pub few : count + left ≤ before + binary_digits (length items)
 
 pub search_start : (items : List ℕ) (number count : ℕ) → Searching items number 0 (length items) count count
 search_start items number count = record {
   inside = omega arith;
   below = λ k d h lt. absurd (omega arith);
   above = λ k d h lt. absurd (omega arith);
-  left = digits (length items);
+  left = binary_digits (length items);
   small = digits_enough (length items);
   few = omega arith;
 }
@@ -30,7 +30,7 @@ module _ (items : List ℕ) (number low size before count : ℕ) (rising : IsNon
   pub search_right : nat_lt (get_or items (low + size / 2) 0) number ≡ true → Searching items number (low + (size / 2 + 1)) (size - (size / 2 + 1)) before count'
   search_right is = by_left s.left s.small s.few
     where
-      by_left : (left : ℕ) → size < 2 ^ left → count + left ≤ before + digits (length items) → Searching items number (low + (size / 2 + 1)) (size - (size / 2 + 1)) before count'
+      by_left : (left : ℕ) → size < 2 ^ left → count + left ≤ before + binary_digits (length items) → Searching items number (low + (size / 2 + 1)) (size - (size / 2 + 1)) before count'
       by_left zero small few = absurd (omega arith)
       by_left (suc left) small few = record {
         inside = (let h = s.inside in omega arith);
@@ -48,7 +48,7 @@ module _ (items : List ℕ) (number low size before count : ℕ) (rising : IsNon
   pub search_left : nat_lt (get_or items (low + size / 2) 0) number ≡ false → Searching items number low (size / 2) before count'
   search_left is = by_left s.left s.small s.few
     where
-      by_left : (left : ℕ) → size < 2 ^ left → count + left ≤ before + digits (length items) → Searching items number low (size / 2) before count'
+      by_left : (left : ℕ) → size < 2 ^ left → count + left ≤ before + binary_digits (length items) → Searching items number low (size / 2) before count'
       by_left zero small few = absurd (omega arith)
       by_left (suc left) small few = record {
         inside = (let h = s.inside in omega arith);

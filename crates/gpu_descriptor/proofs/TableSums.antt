@@ -6,8 +6,8 @@ use Rattle.std.proofs.lemmas.List.Sums.{sum_by-cons}
 use Rattle.std.proofs.lemmas.Option.{slice_get-map}
 use Rattle.gpu_descriptor.specs.declared.view.PoolView.{PoolView}
 use Rattle.gpu_descriptor.specs.Books.{Key, key_eq, Entry, Bucket, books_of, sum_over}
-use Rattle.gpu_descriptor.specs.Load.{held, pool_load, entries_load, pools_load, sets_out, descriptors_out}
-use Rattle.gpu_descriptor.specs.States.{named, named_row, table_of, sets_in, descriptors_in, pool_descriptors_in, outstanding_of, marked_load_of, pool_load_of}
+use Rattle.gpu_descriptor.specs.Load.{held, pool_load, pools_load, bucket_load, sets_out, descriptors_out}
+use Rattle.gpu_descriptor.specs.States.{named, named_row, table_of, sets_in, descriptors_in, pool_load_in, outstanding_of, marked_load_of, pool_load_of}
 use Rattle.gpu_descriptor.specs.Values.{Kept, Row, Allocations}
 use Rattle.gpu_descriptor.specs.Views.{first_at, pools_at, view_at, view_in}
 use Rattle.gpu_descriptor.proofs.Loads.{load_at}
@@ -31,10 +31,10 @@ module _ {P : Type 0} (name : P → ℕ) where
   pub marked_load_of-table : (a : Allocations P) → marked_load_of a ≡ sum_over descriptors_out (table_of name a)
   marked_load_of-table a = sym (sum_named descriptors_out descriptors_in (λ r. ap (load_at r.key) (held_named r.pools)) a.table)
 
-  pub pool_load_of-table : (a : Allocations P) → pool_load_of a ≡ sum_over pools_load (table_of name a)
-  pool_load_of-table a = sym (sum_named pools_load pool_descriptors_in (λ r. go r.key r.pools) a.table)
+  pub pool_load_of-table : (a : Allocations P) → pool_load_of a ≡ sum_over bucket_load (table_of name a)
+  pool_load_of-table a = sym (sum_named bucket_load pool_load_in (λ r. go r.key r.pools) a.table)
     where
-      go : (k : Key) (ps : List (Kept P)) → entries_load k (map (named name) ps) ≡ sum_by (λ p. pool_load k p.capacity) ps
+      go : (k : Key) (ps : List (Kept P)) → pools_load k (map (named name) ps) ≡ sum_by (λ p. pool_load k p.capacity) ps
       go k [] = refl
       go k (p ∷ ps) = sum_by-cons (λ (e : Entry). pool_load k e.capacity) (named name p) (map (named name) ps) ∙ ap (λ n. pool_load k p.capacity + n) (go k ps) ∙ sym (sum_by-cons (λ (q : Kept P). pool_load k q.capacity) p ps)
 

@@ -2,7 +2,7 @@
 use Rattle.std.specs.Prelude.{ℕ, ◌+◌, nat_lt, if◌then◌else◌, List, [], ◌∷◌, ◌++◌, count_by}
 use Rattle.gpu_descriptor.specs.Books.{Bucket}
 use Rattle.gpu_descriptor.specs.Agreement.{State, Item}
-use Rattle.gpu_descriptor.specs.Digits.{digits}
+use Rattle.gpu_descriptor.specs.Digits.{binary_digits}
 use Rattle.gpu_descriptor.specs.Release.{released}
 use Rattle.gpu_descriptor.specs.Runs.{is_beside}
 
@@ -13,7 +13,7 @@ open_pools b = count_by (λ e. nat_lt 0 e.free) b.pools
 module _ (s : State) where
   -- the binary digits of the number of open pools of t's key, once the sets before t have gone back
   abbrev pub digits_at : List Item → Item → ℕ
-  digits_at before t = digits (open_pools ((released before s).books t.key))
+  digits_at before t = binary_digits (open_pools ((released before s).books t.key))
 
   -- those at each set behind last that begins a run
   abbrev pub digits_behind : List Item → Item → List Item → ℕ

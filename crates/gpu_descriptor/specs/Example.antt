@@ -11,9 +11,9 @@ use Rattle.gpu_descriptor_types.specs.Multiset.{LiveSet, set_eq}
 use Rattle.gpu_descriptor.specs.Agreement.{State, Item, set_of}
 use Rattle.gpu_descriptor.specs.Books.{Key, key_eq, Entry, Bucket, no_pools}
 use Rattle.gpu_descriptor.specs.Cleanup.{IsCleaned, cleaned_bucket}
-use Rattle.gpu_descriptor.specs.Digits.{digits}
+use Rattle.gpu_descriptor.specs.Digits.{binary_digits}
 use Rattle.gpu_descriptor_types.specs.PoolSize.{sets_in_room}
-use Rattle.gpu_descriptor.specs.Load.{pool_load, pools_load}
+use Rattle.gpu_descriptor.specs.Load.{pool_load, bucket_load}
 use Rattle.gpu_descriptor.specs.Release.{bucket_less, pool_less, lies_in, spent_front, empty_front, without_front, in_front, released}
 
 -- ---- the state
@@ -98,7 +98,7 @@ set_104 = record { key = plain; number = 11; name = 104 }
 -- ---- the limit on pools
 
 -- a marked pool of 64 sets has 192 descriptors, also where it is empty, and one of a set without descriptors has one
-marked_pools_load : pools_load marked marked_pools ≡ 384
+marked_pools_load : bucket_load marked marked_pools ≡ 384
 marked_pools_load = refl
 
 bare_load : pool_load (record { counts = replicate 14 0; marked = true }) 64 ≡ 1
@@ -114,7 +114,7 @@ no_size = refl
 -- ---- binary digits
 
 -- 0 has none; a power of two has one more than the number before it
-digits_shown : map digits (0 ∷ 1 ∷ 2 ∷ 3 ∷ 4 ∷ 255 ∷ 256 ∷ []) ≡ 0 ∷ 1 ∷ 2 ∷ 2 ∷ 3 ∷ 8 ∷ 9 ∷ []
+digits_shown : map binary_digits (0 ∷ 1 ∷ 2 ∷ 3 ∷ 4 ∷ 255 ∷ 256 ∷ []) ≡ 0 ∷ 1 ∷ 2 ∷ 2 ∷ 3 ∷ 8 ∷ 9 ∷ []
 digits_shown = refl
 
 -- ---- sets go back

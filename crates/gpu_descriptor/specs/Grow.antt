@@ -27,11 +27,11 @@ stop_rise (stop.Create e) = create_refused e no_rise
 stop_rise (stop.Fresh e) = let asked = alloc_refused e no_rise in record asked { created = 1; destroyed = 1 }
 
 -- a request stops for want of room where not even a pool of one set fits, and else there was room for one
-abbrev pub StopsInRoom : Stop → Key → ℕ → Type 0
-StopsInRoom stop.Room k room = room < pool_load k 1
-StopsInRoom stop.Books k room = pool_load k 1 ≤ room
-StopsInRoom (stop.Create e) k room = pool_load k 1 ≤ room
-StopsInRoom (stop.Fresh e) k room = pool_load k 1 ≤ room
+abbrev pub TellsOfRoom : Stop → Key → ℕ → Type 0
+TellsOfRoom stop.Room k room = room < pool_load k 1
+TellsOfRoom stop.Books k room = pool_load k 1 ≤ room
+TellsOfRoom (stop.Create e) k room = pool_load k 1 ≤ room
+TellsOfRoom (stop.Fresh e) k room = pool_load k 1 ≤ room
 
 -- a new pool was created and gave what it has of so many sets. It took of the room what it has
 pub record IsGrown (k : Key) (room left total wanted : ℕ) (names : List ℕ) (old new : List Entry) (l m : Ledger) : Type 0 where
@@ -69,7 +69,7 @@ pub record IsGrowStopped (why : Stop) (k : Key) (room n first : ℕ) (items : Li
   pub keeps : KeepsKey k first items old new l.pools before.pools
   pub taken : HasTaken k n first grant old new l before
   pub stopped : IsNotGrown why before m
-  pub in_room : StopsInRoom why k (room_after k room grant.fresh)
+  pub in_room : TellsOfRoom why k (room_after k room grant.fresh)
 
 -- what was taken when the request stopped
 abbrev pub IsTakenUpTo : Refusal → Key → (room n first : ℕ) → List Item → List Entry → List Entry → Ledger → Ledger → Type 0

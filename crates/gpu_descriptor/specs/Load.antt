@@ -25,11 +25,11 @@ abbrev pub pool_load : Key → ℕ → ℕ
 pool_load k sets = if k.marked then max 1 (sets * sum k.counts) else 0
 
 -- the descriptors of these pools
-abbrev pub entries_load : Key → List Entry → ℕ
-entries_load k pools = sum_by (λ e. pool_load k e.capacity) pools
+abbrev pub pools_load : Key → List Entry → ℕ
+pools_load k pools = sum_by (λ e. pool_load k e.capacity) pools
 
-abbrev pub pools_load : Key → Bucket → ℕ
-pools_load k b = entries_load k b.pools
+abbrev pub bucket_load : Key → Bucket → ℕ
+bucket_load k b = pools_load k b.pools
 
 -- so many sets are out
 abbrev pub IsOut : State → ℕ → Type 0
@@ -41,7 +41,7 @@ IsMarkedLoad s n = AddsUp descriptors_out s.books n
 
 -- the pools of marked keys have so many descriptors, whatever is out of them
 abbrev pub IsPoolLoad : State → ℕ → Type 0
-IsPoolLoad s n = AddsUp pools_load s.books n
+IsPoolLoad s n = AddsUp bucket_load s.books n
 
 -- where books and ledger agree, those are the descriptors that the device created the pools with. A layout's counts are fourteen
 abbrev pub PoolLoadIsCounts : Type 0

@@ -18,7 +18,7 @@ use Rattle.gpu_descriptor.specs.Grants.{Grant, portion_of, items_in, granted}
 pub record Request : Type 0 where
   pub key : Key
   pub count : ℕ
-  -- how many descriptors marked sets may have that are out, and the pools of marked keys
+  -- the most descriptors that the marked sets which are out may have, and the most that the pools of marked keys may have
   pub limit : ℕ
 
 -- ---- counters
@@ -68,14 +68,14 @@ out_then r s g = held (all_shared g.refused r.count (s.books r.key).pools)
 -- after a front of new pools one more is wanting
 pub record IsFront (r : Request) (s : State) (g : Grant) : Type 0 where
   pub all : g.left ≡ 0
-  -- the descriptors of the marked keys' pools before
-  pub load : ℕ
-  pub is_load : IsPoolLoad s load
-  pub front : IsFreshFront r.key (r.limit - load) (out_then r s g) (wanting r s g) g.fresh
+  -- the pool load before
+  pub pooled : ℕ
+  pub is_pooled : IsPoolLoad s pooled
+  pub front : IsFreshFront r.key (r.limit - pooled) (out_then r s g) (wanting r s g) g.fresh
 
 -- what the limit leaves for one more
 abbrev pub room_left : {r : Request} → {s : State} → {g : Grant} → IsFront r s g → ℕ
-room_left {r} {s} {g} front = room_after r.key (r.limit - front.load) g.fresh
+room_left {r} {s} {g} front = room_after r.key (r.limit - front.pooled) g.fresh
 
 -- a pool of one set has room, or not even that
 abbrev pub HasRoomLeft : {r : Request} → {s : State} → {g : Grant} → IsFront r s g → Type 0
@@ -134,9 +134,9 @@ pub record IsDone (c : Call) : Type 0 where
   pub grant : Grant
   pub taken : IsGrant c.request c.old grant
   pub all : grant.left ≡ 0
-  pub load : ℕ
-  pub is_load : IsPoolLoad c.old load
-  pub fresh : IsFreshList c.request.key (c.request.limit - load) (out_then c.request c.old grant) (wanting c.request c.old grant) grant.fresh
+  pub pooled : ℕ
+  pub is_pooled : IsPoolLoad c.old pooled
+  pub fresh : IsFreshList c.request.key (c.request.limit - pooled) (out_then c.request c.old grant) (wanting c.request c.old grant) grant.fresh
   pub answer : c.answer ≡ Ok (items_in c.request.key grant.parts)
   pub state : c.new ≡ granted c.request.key c.request.count grant c.old
   pub counters : c.after ≡ risen (grant_rise c.request.count grant (c.old.books c.request.key).pools) c.before

@@ -48,9 +48,9 @@ module _ {P : Type 0} where
   marked_load_of a = sum_by descriptors_in a.table
 
   -- how many descriptors a key's pools have, if it is marked
-  abbrev pub pool_descriptors_in : Row P → ℕ
-  pool_descriptors_in r = sum_by (λ p. pool_load r.key p.capacity) r.pools
+  abbrev pub pool_load_in : Row P → ℕ
+  pool_load_in r = sum_by (λ p. pool_load r.key p.capacity) r.pools
 
   -- how many descriptors the pools of marked keys have
   abbrev pub pool_load_of : Allocations P → ℕ
-  pool_load_of a = sum_by pool_descriptors_in a.table
+  pool_load_of a = sum_by pool_load_in a.table

@@ -30,14 +30,14 @@ module _ {P : Type 0} where
   load_in r = load_of r.0 r.1.total
 
   -- the descriptors of a marked key's pools
-  abbrev pub pools_load_in : BucketKey × DescriptorBucket P → ℕ
-  pools_load_in r = stored_load (key_of r.0) r.1.pools.items
+  abbrev pub stored_load_in : BucketKey × DescriptorBucket P → ℕ
+  stored_load_in r = stored_load (key_of r.0) r.1.pools.items
 
   -- the running totals are those of the table, the marked descriptors keep the limit, and room is what those of the pools leave of it
   pub record IsCounted (limit marked room out : ℕ) (table : List (BucketKey × DescriptorBucket P)) : Type 0 where
     pub is_load : marked ≡ sum_by load_in table
     pub within : marked ≤ limit
-    pub is_room : room + sum_by pools_load_in table ≡ limit
+    pub is_room : room + sum_by stored_load_in table ≡ limit
     pub is_out : out ≡ sum_by (λ r. r.1.total) table
 
   module _ (name : P → ℕ) where

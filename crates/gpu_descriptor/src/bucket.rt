@@ -32,7 +32,8 @@ pub(crate) struct DescriptorBucket<P> {
 
     pub(crate) pools: VecDeque<DescriptorPool<P>>,
 
-    /// The numbers of the pools with known free places, rising. There is room for those of all pools.
+    /// The numbers of the pools with known free places, rising. There is room for those of all
+    /// pools.
     pub(crate) listed: VecDeque<u64>,
 
     /// Number of sets allocated from these pools.

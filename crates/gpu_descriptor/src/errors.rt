@@ -15,8 +15,9 @@ pub enum AllocationError {
     /// The host has no memory left: the device said so, or the allocator found none.
     OutOfHostMemory,
 
-    /// The request would pass the limit on update-after-bind descriptors, or a number of 64 bits;
-    /// or the device's memory is too fragmented for a new pool, or a new pool refused.
+    /// The sets, or a new pool for them, would pass the limit on update-after-bind descriptors, or a
+    /// number would pass 64 bits; or the device's memory is too fragmented for a new pool, or a new
+    /// pool refused.
     Fragmentation,
 }
 

@@ -78,8 +78,8 @@ pub fn rows_add_up<P>()
         → IsPoolLoad (state_of name a l) (pool_load_of a) }
 {}
 
-/// Where books and ledger agree, the descriptors that count towards the limit for a marked key's pool
-/// are those that the device created it with.
+/// Where books and ledger agree, the descriptors that count towards the limit for a marked key's
+/// pool are those that the device created it with.
 pub fn pools_have_their_load()
     ensures { PoolLoadIsCounts }
 {}

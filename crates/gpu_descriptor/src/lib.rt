@@ -24,8 +24,7 @@ pub use errors::AllocationError;
 pub use flags::DescriptorSetLayoutCreateFlags;
 pub use gpu_descriptor_types::{
     Counter, CreatePoolError, DescriptorDevice, DescriptorPoolCreateFlags, DescriptorTotalCount,
-    DeviceAllocationError, Layouts, SetSink, Tally, cut_pool_size,
-    new_pool_size,
+    DeviceAllocationError, Layouts, SetSink, Tally, cut_pool_size, new_pool_size,
 };
 pub use set::DescriptorSet;
 pub use view::PoolView;

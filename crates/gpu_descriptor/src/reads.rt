@@ -1,4 +1,4 @@
-//! The pools of a key, as a request sees them: each read of a pool's books is counted.
+//! Views of a key's pools and of its list of open ones, through which each read is counted.
 ghost use Rattle.std.specs.Prelude.{◌≡◌, ◌+◌, ◌-◌, ◌<◌, ◌≤◌, ◌^◌, ◌++◌, ◌∷◌, [], length, take, nat_lt, slice_index, slice_index_or, IfSome, IfNone, true};
 ghost use Rattle.std.specs.VecDeque.{deque_capacity};
 ghost use Rattle.std.specs.Borrow.{sem};
@@ -81,8 +81,8 @@ impl<'a, 'b, 'c, P> OpenPools<'a, 'b, 'c, P> {
         self.offset + self.pools.len() as u64
     }
 
-    /// Takes room for the books of one more pool, and for its number. Where that is refused, nothing
-    /// changes but room.
+    /// Takes room for the books of one more pool, and for its number. It answers whether there is
+    /// room; where that is refused, nothing changes but room.
     pub(crate) fn make_room(&mut self) -> bool
         requires listed { IsListed self.old }
         ensures pools { self.new.pools.now.items ≡ self.old.pools.now.items }
@@ -95,6 +95,7 @@ impl<'a, 'b, 'c, P> OpenPools<'a, 'b, 'c, P> {
         if self.pools.reserve(1).is_err() {
             return false;
         }
+        // The list is to have room for all pools, listed or not.
         let wanting = self.pools.len() + 1 - self.listed.len();
         self.listed.reserve(wanting).is_ok()
     }

@@ -4,7 +4,7 @@ ghost use Rattle.std.specs.Iterator.{HoldsAlong, IsFinite, IsNearerEnd};
 ghost use Rattle.gpu_descriptor.specs.Books.{Key};
 ghost use Rattle.gpu_descriptor.specs.Buckets.{AreBookedIn, IsTakenAt, ReleasesRun, names_of, settled_bucket, settled_ledger};
 ghost use Rattle.gpu_descriptor.specs.Comparisons.{open_pools};
-ghost use Rattle.gpu_descriptor.specs.Digits.{digits};
+ghost use Rattle.gpu_descriptor.specs.Digits.{binary_digits};
 ghost use Rattle.gpu_descriptor.specs.Sets.{key_of};
 ghost use Rattle.gpu_descriptor.specs.Steps.{HaveKey};
 ghost use Rattle.gpu_descriptor.specs.Stored.{bucket_of, stored_load};
@@ -42,7 +42,7 @@ impl<P> DescriptorBucket<P> {
         ensures ran { ReleasesRun I.next_gives D.pool_name D.set_name first sets.old result sets.new
             self.old self.new (D.ledger device.old) (D.ledger device.new) }
         ensures goes { OnSome result (IsNearerEnd I.can_next I.remaining sets.old sets.new) }
-        ensures few { comparisons.new.count ≤ comparisons.old.count + digits (open_pools (bucket_of D.pool_name self.old)) }
+        ensures few { comparisons.new.count ≤ comparisons.old.count + binary_digits (open_pools (bucket_of D.pool_name self.old)) }
         ensures room { room.new + stored_load (key_of first.key) self.new.pools.items ≡ room.old + stored_load (key_of first.key) self.old.pools.items }
     {
         let key = first.key;

@@ -2,7 +2,7 @@
 ghost use Rattle.std.specs.Prelude.{◌≡◌, ◌+◌, ◌<◌, ◌≤◌, length, true, false};
 ghost use Rattle.std.specs.VecDeque.{deque_capacity};
 ghost use Rattle.std.specs.List.Sorted.{IsNonDecreasing, IsPartitionPoint};
-ghost use Rattle.gpu_descriptor.specs.Digits.{digits};
+ghost use Rattle.gpu_descriptor.specs.Digits.{binary_digits};
 ghost use Rattle.gpu_descriptor.specs.OpenNumbers.{IsEntered};
 
 use crate::reads::Numbers;
@@ -14,7 +14,7 @@ pub(crate) fn place_of(view: &mut Numbers<'_, '_>, number: u64) -> usize
     requires { IsNonDecreasing view.old.numbers.now.items }
     ensures within { result ≤ length view.old.numbers.now.items }
     ensures place { IsPartitionPoint (λ x. x < number) (λ x. number ≤ x) view.old.numbers.now.items result }
-    ensures few { view.new.comparisons.now.count ≤ view.old.comparisons.now.count + digits (length view.old.numbers.now.items) }
+    ensures few { view.new.comparisons.now.count ≤ view.old.comparisons.now.count + binary_digits (length view.old.numbers.now.items) }
     ensures same_reference { view.new.comparisons.ghost_name ≡ view.old.comparisons.ghost_name }
 {
     let mut low = 0;
@@ -37,7 +37,7 @@ pub(crate) fn enter(listed: &mut VecDeque<u64>, number: u64, comparisons: &mut T
     requires room { length listed.old.items < deque_capacity listed.old }
     ensures entered { IsEntered number listed.old.items listed.new.items }
     ensures capacity { deque_capacity listed.old ≤ deque_capacity listed.new }
-    ensures few { comparisons.new.count ≤ comparisons.old.count + digits (length listed.old.items) }
+    ensures few { comparisons.new.count ≤ comparisons.old.count + binary_digits (length listed.old.items) }
 {
     let mut view = Numbers::new(listed, comparisons);
     let place = place_of(&mut view, number);
@@ -47,7 +47,8 @@ pub(crate) fn enter(listed: &mut VecDeque<u64>, number: u64, comparisons: &mut T
     }
 }
 
-/// Puts a number in at its place where it isn't there yet.
+/// Puts a number in at its place where it isn't there yet. The test is an argument, so that the
+/// caller has one state of its list afterwards.
 pub(crate) fn enter_new(
     listed: &mut VecDeque<u64>,
     is_new: bool,
@@ -59,7 +60,7 @@ pub(crate) fn enter_new(
     ensures entered { is_new ≡ true → IsEntered number listed.old.items listed.new.items }
     ensures stays { is_new ≡ false → listed.new.items ≡ listed.old.items }
     ensures capacity { deque_capacity listed.old ≤ deque_capacity listed.new }
-    ensures few { comparisons.new.count ≤ comparisons.old.count + digits (length listed.old.items) }
+    ensures few { comparisons.new.count ≤ comparisons.old.count + binary_digits (length listed.old.items) }
 {
     if is_new {
         enter(listed, number, comparisons);

@@ -5,7 +5,7 @@ ghost use Rattle.gpu_descriptor_types.specs.Flags.{bits};
 ghost use Rattle.gpu_descriptor_types.specs.Ledger.{pool_refusals};
 ghost use Rattle.gpu_descriptor_types.specs.PoolSize.{pool_counts as pool_counts_of};
 ghost use Rattle.gpu_descriptor.specs.declared.set.DescriptorSet.{DescriptorSet};
-ghost use Rattle.gpu_descriptor.specs.Load.{entries_load, held, pool_load};
+ghost use Rattle.gpu_descriptor.specs.Load.{pools_load, held, pool_load};
 ghost use Rattle.gpu_descriptor.specs.Sets.{key_of, items_of};
 ghost use Rattle.gpu_descriptor.specs.Stored.{bucket_of, entry_of, stored_load};
 ghost use Rattle.gpu_descriptor.specs.Books.{next_number};
@@ -14,7 +14,7 @@ ghost use Rattle.gpu_descriptor.specs.Shares.{rest};
 ghost use Rattle.gpu_descriptor.specs.FreshPools.{IsNextSize};
 ghost use Rattle.gpu_descriptor.specs.Buckets.{IsBookedIn, AreBookedIn};
 ghost use Rattle.gpu_descriptor.specs.Walk.{entries_of, layout_key, sets_at, IsAsked, IsNoMemory, IsWalked, IsWalkStopped};
-ghost use Rattle.gpu_descriptor.specs.Grow.{IsGrown, IsNotGrown, StopsInRoom, IsTakenAll, IsTakenUpTo};
+ghost use Rattle.gpu_descriptor.specs.Grow.{IsGrown, IsNotGrown, TellsOfRoom, IsTakenAll, IsTakenUpTo};
 
 use crate::allocation::Allocation;
 use crate::bucket::{DescriptorBucket, DescriptorPool, descriptors_of_pool};
@@ -22,8 +22,8 @@ use crate::reads::OpenPools;
 use crate::set::BucketKey;
 use bitflags::Flags;
 use gpu_descriptor_types::{
-    CreatePoolError, DescriptorDevice, DescriptorPoolCreateFlags, DeviceAllocationError, Layouts,
-    DescriptorTotalCount, Tally, cut_pool_size, new_pool_size,
+    CreatePoolError, DescriptorDevice, DescriptorPoolCreateFlags, DescriptorTotalCount,
+    DeviceAllocationError, Layouts, Tally, cut_pool_size, new_pool_size,
 };
 
 /// Why no new pool came.
@@ -217,7 +217,7 @@ fn grow_one<L, P: Drop, S, D: DescriptorDevice<L, P, S>>(
         (sink.new.sets.items ≡ sink.old.sets.items)
         × (view.new.pools.now.items ≡ view.old.pools.now.items)
         × IsNotGrown why (D.ledger device.old) (D.ledger device.new)
-        × StopsInRoom why (key_of key.now) room.old
+        × TellsOfRoom why (key_of key.now) room.old
         × (room.new ≡ room.old)) }
     ensures listed { IsListed view.new }
     ensures kept { KeepsView view.old view.new }
@@ -286,7 +286,7 @@ pub(crate) fn take<L, P: Drop, S, D: DescriptorDevice<L, P, S>>(
     ensures listed { IsListed view.new }
     ensures kept { KeepsView view.old view.new }
     ensures looks { CountsLooks view.old view.new (D.ledger device.old) (D.ledger device.new) }
-    ensures room { room.new + entries_load (key_of key.now) (entries_of D.pool_name view.new.pools.now.items) ≡ room.old + entries_load (key_of key.now) (entries_of D.pool_name view.old.pools.now.items) }
+    ensures room { room.new + pools_load (key_of key.now) (entries_of D.pool_name view.new.pools.now.items) ≡ room.old + pools_load (key_of key.now) (entries_of D.pool_name view.old.pools.now.items) }
 {
     let mut wanting = match walk(device, view, layout, key, count, sink) {
         Ok(wanting) => wanting,

@@ -15,7 +15,7 @@ ghost use Rattle.gpu_descriptor.specs.Buckets.{AreBookedIn};
 ghost use Rattle.gpu_descriptor.specs.Walk.{layout_key};
 ghost use Rattle.gpu_descriptor.specs.Grow.{refusal_answer};
 ghost use Rattle.gpu_descriptor.specs.Errors.{error_of_alloc as alloc_answer};
-ghost use Rattle.gpu_descriptor.specs.Stored.{bucket_of, books_in, pools_load_in, stored_load};
+ghost use Rattle.gpu_descriptor.specs.Stored.{bucket_of, books_in, stored_load_in, stored_load};
 ghost use Rattle.gpu_descriptor.specs.Serves.{Serves, ServesKey, IsUnserved};
 
 use super::DescriptorAllocator;
@@ -37,19 +37,22 @@ impl<P: Drop, S: Drop> DescriptorAllocator<P, S> {
     ///
     /// The newest pools of the layout's key are asked first, each once, for what it is known to
     /// have. For what is still wanting new pools are created, each of the size that `new_pool_size`
-    /// says; for a marked layout `cut_pool_size`, with the room that the limit leaves. `count` 0 changes nothing and takes no memory.
+    /// says; for a marked layout `cut_pool_size`, with the room that the limit leaves. `count` 0
+    /// changes nothing and takes no memory.
     ///
     /// Where the request can't be met, all that it took goes back, in one release call for each run
     /// of neighbours. If sets went back, the empty pools at the key's front are then destroyed, but
     /// never its last pool. The errors:
     ///
     /// - `Fragmentation`: the sets of a marked layout would pass the limit, the limit leaves no room
-    ///   for a new pool of a marked layout, a number would pass 64 bits, the device refused a new pool so, or a new pool refused for its own sake;
+    ///   for a new pool of a marked layout, a number would pass 64 bits, the device refused a new
+    ///   pool so, or a new pool refused for its own sake;
     /// - `OutOfDeviceMemory`: the device said so, at an existing or a new pool;
     /// - `OutOfHostMemory`: the device said so, or there was no memory for the answer or the books.
     ///
     /// `flags` and `layout_descriptor_count` must be those of the layout. In the original the product
-    /// that is held against the limit is taken in 32 bits; here it is exact.
+    /// that is held against the limit is taken in 32 bits; here it is exact. In the original the
+    /// limit counts only the sets that are out; here the pools as well.
     pub fn allocate<L, D: DescriptorDevice<L, P, S>>(
         &mut self,
         device: &mut D,
@@ -156,7 +159,16 @@ impl<P: Drop, S: Drop> DescriptorAllocator<P, S> {
         if is_past_bound(self.outstanding, count) {
             return Err(AllocationError::Fragmentation);
         }
-        let served = serve_key(&mut self.buckets, device, layout, key, count, &mut self.update_after_bind_room, self.alloc, &mut self.looks);
+        let served = serve_key(
+            &mut self.buckets,
+            device,
+            layout,
+            key,
+            count,
+            &mut self.update_after_bind_room,
+            self.alloc,
+            &mut self.looks,
+        );
         let (sets, taken) = match served {
             Ok(served) => served,
             Err(error) => return Err(error),
@@ -209,7 +221,7 @@ fn serve_key<L, P: Drop, S: Drop, D: DescriptorDevice<L, P, S>>(
         (books_in D.pool_name buckets.old.entries (key_of key))) }
     ensures looks { looks.new.count + (D.ledger device.old).counters.asked ≡ looks.old.count + (D.ledger device.new).counters.asked }
     ensures looks_stay { OnErr result (looks.new ≡ looks.old) }
-    ensures room { room.new + sum_by pools_load_in buckets.new.entries ≡ room.old + sum_by pools_load_in buckets.old.entries }
+    ensures room { room.new + sum_by stored_load_in buckets.new.entries ≡ room.old + sum_by stored_load_in buckets.old.entries }
     ensures entries { OnErr result (buckets.new.entries ≡ buckets.old.entries) }
     ensures ledger { OnErr result (D.ledger device.new ≡ D.ledger device.old) }
 {

@@ -4,7 +4,7 @@ ghost use Rattle.std.specs.Iterator.{HoldsAlong, IsFinite, IsNearerEnd};
 ghost use Rattle.gpu_descriptor.specs.Agreement.{AreOutstanding};
 ghost use Rattle.gpu_descriptor.specs.Books.{HasDistinctKeys};
 ghost use Rattle.gpu_descriptor.specs.Comparisons.{open_pools, run_digits};
-ghost use Rattle.gpu_descriptor.specs.Digits.{digits};
+ghost use Rattle.gpu_descriptor.specs.Digits.{binary_digits};
 ghost use Rattle.gpu_descriptor.specs.Foreign.{KeepsForeign};
 ghost use Rattle.gpu_descriptor.specs.Frees.{Frees, FreesRun};
 ghost use Rattle.gpu_descriptor.specs.Sets.{items_of, key_of};
@@ -106,13 +106,19 @@ impl<P, S> DescriptorAllocator<P, S> {
         ensures limit { self.new.limit ≡ self.old.limit }
         ensures looks_stay { self.new.looks ≡ self.old.looks }
         ensures few { self.new.comparisons ≤ self.old.comparisons
-            + digits (open_pools ((state_of D.pool_name self.old (D.ledger device.old)).books (key_of first.key))) }
+            + binary_digits (open_pools ((state_of D.pool_name self.old (D.ledger device.old)).books (key_of first.key))) }
     {
         let key = first.key;
         match self.buckets.get_mut(&key) {
             Some(bucket) => {
                 let before = bucket.total;
-                let ahead = bucket.release_run(device, first, sets, &mut self.comparisons, &mut self.update_after_bind_room);
+                let ahead = bucket.release_run(
+                    device,
+                    first,
+                    sets,
+                    &mut self.comparisons,
+                    &mut self.update_after_bind_room,
+                );
                 let released = before - bucket.total;
                 self.outstanding -= released;
                 let descriptors = marked_descriptors(&key, released) as u32;

@@ -2,7 +2,7 @@
 ghost use Rattle.std.specs.Prelude.{◌≡◌, ℕ, ◌≤◌, length};
 ghost use Rattle.gpu_descriptor_types.specs.Counts.{kinds};
 ghost use Rattle.gpu_descriptor.specs.Books.{AddsUp, HasDistinctKeys, books_of};
-ghost use Rattle.gpu_descriptor.specs.Load.{descriptors_out, pools_load, sets_out};
+ghost use Rattle.gpu_descriptor.specs.Load.{descriptors_out, bucket_load, sets_out};
 ghost use Rattle.gpu_descriptor.specs.States.{marked_load_of, outstanding_of, pool_load_of, table_of};
 ghost use Rattle.gpu_descriptor.specs.Views.{pools_at, view_at, view_in};
 
@@ -34,10 +34,12 @@ impl<P, S> DescriptorAllocator<P, S> {
         self.current_update_after_bind_descriptors_in_all_pools
     }
 
-    /// How many descriptors the pools have that are for sets of marked layouts.
+    /// How many descriptors the pools of update-after-bind layouts have, as they were created; a pool
+    /// for sets without descriptors counts as one. So much of the limit is used. The original has no
+    /// such reader.
     pub fn update_after_bind_capacity(&self) -> u32
         ensures sum { result ≡ pool_load_of self.now }
-        ensures books { (name : P → ℕ) → AddsUp pools_load (books_of (table_of name self.now)) result }
+        ensures books { (name : P → ℕ) → AddsUp bucket_load (books_of (table_of name self.now)) result }
         ensures within { result ≤ self.now.limit }
     {
         let _keys = self.buckets.len();

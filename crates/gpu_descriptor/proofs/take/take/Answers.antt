@@ -6,7 +6,7 @@ use Rattle.gpu_descriptor.specs.Agreement.{Item}
 use Rattle.gpu_descriptor.specs.Books.{Entry, Key}
 use Rattle.gpu_descriptor.specs.FreshPools.{fresh_entry}
 use Rattle.gpu_descriptor.specs.Grants.{items_at}
-use Rattle.gpu_descriptor.specs.Load.{held, entries_load}
+use Rattle.gpu_descriptor.specs.Load.{held, pools_load}
 use Rattle.gpu_descriptor.specs.Sets.{key_of, items_of}
 use Rattle.gpu_descriptor.specs.Stored.{entry_of}
 use Rattle.gpu_descriptor.specs.Walk.{entries_of, sets_at}
@@ -110,7 +110,7 @@ loop-wanting-preserved g c =
           let all = grown.many in
           omega arith);
       growing = subst (λ (x : List Item). Growing key c.args.room.now c.args.count c.args.view.now.offset c.grow_one.new.room out left x old new' l m') (sym seen) next;
-      load = (let a = inv.load in let b = ap (entries_load key) grown.entries ∙ load_more key new grown.pool in let less = grown.less in omega arith);
+      load = (let a = inv.load in let b = ap (pools_load key) grown.entries ∙ load_more key new grown.pool in let less = grown.less in omega arith);
       listed = c.in-Ok-grow_one.ensures.listed;
       kept = (let k = c.in-Ok-grow_one.ensures.kept in (k.0 ∙ inv.kept.0, k.1 ∙ inv.kept.1, k.2 ∙ inv.kept.2, k.3 ∙ inv.kept.3));
       looks = (let a = inv.looks in let b = c.in-Ok-grow_one.ensures.looks in omega arith);
@@ -132,7 +132,7 @@ pub returns-in-Err-grow_one-clause-room : goal.returns-in-Err-grow_one-clause-ro
 returns-in-Err-grow_one-clause-room g c =
     let key : Key = key_of c.args.key.now in
     let err = c.in-Err-grow_one.ensures.err in
-    let same = ap (λ ps. entries_load key (entries_of g.D.DescriptorDevice.pool_name ps)) err.1 in
+    let same = ap (λ ps. pools_load key (entries_of g.D.DescriptorDevice.pool_name ps)) err.1 in
     let load = c.loop-wanting.invariant.load in
     let room = err.4 in
     omega arith

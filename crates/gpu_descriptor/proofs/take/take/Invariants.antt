@@ -1,7 +1,7 @@
 -- So many sets are still wanting, and the new pools gave what the others lacked.
 use Rattle.std.proofs.Common.{◌≡◌, ◌+◌, ◌≤◌, ◌++◌, List, length}
 use Rattle.gpu_descriptor.specs.declared.set.DescriptorSet.{DescriptorSet}
-use Rattle.gpu_descriptor.specs.Load.{entries_load}
+use Rattle.gpu_descriptor.specs.Load.{pools_load}
 use Rattle.gpu_descriptor.specs.Open.{CountsLooks, IsListed, KeepsView}
 use Rattle.gpu_descriptor.specs.Sets.{key_of, items_of}
 use Rattle.gpu_descriptor.specs.Walk.{entries_of}
@@ -17,7 +17,7 @@ invariant-loop-wanting g l = record {
   totals : l.out + l.wanting ≡ l.fn.total + l.fn.count;
   pools : length l.view.pools.now.items + l.wanting ≤ length l.fn.view.pools.now.items + l.fn.count;
   growing : Growing (key_of l.fn.key) l.fn.room l.fn.count l.fn.view.offset l.room l.out l.wanting (items_of g.D.DescriptorDevice.set_name put) (entries_of g.D.DescriptorDevice.pool_name l.fn.view.pools.now.items) (entries_of g.D.DescriptorDevice.pool_name l.view.pools.now.items) (g.D.DescriptorDevice.ledger l.fn.device) (g.D.DescriptorDevice.ledger l.device);
-  load : l.room + entries_load (key_of l.fn.key) (entries_of g.D.DescriptorDevice.pool_name l.view.pools.now.items) ≡ l.fn.room + entries_load (key_of l.fn.key) (entries_of g.D.DescriptorDevice.pool_name l.fn.view.pools.now.items);
+  load : l.room + pools_load (key_of l.fn.key) (entries_of g.D.DescriptorDevice.pool_name l.view.pools.now.items) ≡ l.fn.room + pools_load (key_of l.fn.key) (entries_of g.D.DescriptorDevice.pool_name l.fn.view.pools.now.items);
   listed : IsListed l.view;
   kept : KeepsView l.fn.view l.view;
   looks : CountsLooks l.fn.view l.view (g.D.DescriptorDevice.ledger l.fn.device) (g.D.DescriptorDevice.ledger l.device);

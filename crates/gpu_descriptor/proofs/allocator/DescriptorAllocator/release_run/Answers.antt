@@ -3,7 +3,7 @@ use Rattle.std.specs.Option.{option_copied_mut}
 use Rattle.gpu_descriptor.specs.Sets.{key_of}
 use Rattle.gpu_descriptor.specs.Stored.{IsCounted}
 use Rattle.gpu_descriptor.specs.Values.{Allocations}
-use Rattle.gpu_descriptor.specs.Digits.{digits}
+use Rattle.gpu_descriptor.specs.Digits.{binary_digits}
 use Rattle.gpu_descriptor.proofs.Lent.{no_row, row_open, row_stored, row_taken, row_ran, row_counted}
 use Rattle.gpu_descriptor.proofs.Loads.{taken, load_at, load_fits, counted_after, out_after, load_after, run_load, pools_present, pools_set}
 use Rattle.gpu_descriptor.proofs.TableBooks.{distinct_keys, row_keys, keys_are, keys_set}
@@ -121,7 +121,7 @@ pub returns-clause-few : goal.returns-clause-few
 returns-clause-few g c =
     let open_ones = row_open g.D.DescriptorDevice.pool_name g.D.DescriptorDevice.set_name c.args.self.now (g.D.DescriptorDevice.ledger c.args.device.now) c.self.inside.buckets.entries (ap (λ (a : Allocations _). a.table) (sym c.self.view_is)) c.requires.agree c.args.first _ (λ k. search rules)
     c.in-Some.bucket.now (sym c.get_mut.ensures.value ∙ ap option_copied_mut c.in-Some.is) in
-    let same = ap digits open_ones in
+    let same = ap binary_digits open_ones in
     let count = ap (λ (a : Allocations _). a.comparisons) c.self.view_is in
     let few = c.release_run-ahead.ensures.few in
     omega arith

@@ -10,7 +10,7 @@ use Rattle.gpu_descriptor.specs.declared.bucket.DescriptorBucket.{DescriptorBuck
 use Rattle.gpu_descriptor.specs.Books.{Bucket, no_pools, next_number}
 use Rattle.gpu_descriptor.specs.Sets.{key_of}
 use Rattle.gpu_descriptor.specs.Buckets.{AreBookedIn}
-use Rattle.gpu_descriptor.specs.Stored.{entry_of, pools_load_in, stored_load}
+use Rattle.gpu_descriptor.specs.Stored.{entry_of, stored_load_in, stored_load}
 use Rattle.gpu_descriptor.specs.Serves.{ServesKey, IsUnserved}
 use Rattle.gpu_descriptor.proofs.Loads.{sum_set, pools_set, pools_end}
 use Rattle.gpu_descriptor.proofs.RequestSteps.{present, missing, serves_present, serves_new, set_value-same}
@@ -91,7 +91,7 @@ pub returns-in-Some-clause-room : goal.returns-in-Some-clause-room
 returns-in-Some-clause-room g c =
     let wrote = (c.get_mut.follows.holds c.serve.new.bucket).0 in
     let at = sym c.get_mut.ensures.value ∙ ap option_copied_mut c.in-Some.is in
-    ap (λ (es : List (BucketKey × DescriptorBucket g.row.P.Denot)). c.serve.new.room + sum_by pools_load_in es) wrote
+    ap (λ (es : List (BucketKey × DescriptorBucket g.row.P.Denot)). c.serve.new.room + sum_by stored_load_in es) wrote
     ∙ pools_set (key_of c.args.key) _ (λ k. search rules) c.args.buckets.now.entries c.in-Some.bucket.now c.serve.new.bucket at _ _ c.serve.ensures.room
 
 pub returns-clause-room : goal.returns-clause-room
@@ -102,5 +102,5 @@ returns-clause-room g c =
     let put : c.insert.new.self.entries ≡ old ++ (c.args.key, c.serve-2.new.bucket) ∷ [] = put_new _ c.args.buckets.now c.args.key c.serve-2.new.bucket c.reserve.new.self.entries c.insert.new.self.entries c.in-Ok-insert.ensures.entries same none in
     let empty : stored_load (key_of c.args.key) c.new.result.items ≡ 0 = ap (stored_load (key_of c.args.key)) c.new.ensures.items in
     let moved = c.serve-2.ensures.room in
-    ap (λ (es : List (BucketKey × DescriptorBucket g.row.P.Denot)). c.serve-2.new.room + sum_by pools_load_in es) put
+    ap (λ (es : List (BucketKey × DescriptorBucket g.row.P.Denot)). c.serve-2.new.room + sum_by stored_load_in es) put
     ∙ pools_end c.args.key old c.serve-2.new.bucket c.serve-2.new.room c.args.room.now (omega arith)

@@ -17,7 +17,7 @@ use Rattle.gpu_descriptor.proofs.Listed.{listed_again, fewer_listed}
 use Rattle.gpu_descriptor.specs.Release.{entry_less}
 use Rattle.gpu_descriptor.specs.Sets.{key_of}
 use Rattle.gpu_descriptor.specs.Stored.{bucket_of, entry_of}
-use Rattle.gpu_descriptor.specs.Digits.{digits}
+use Rattle.gpu_descriptor.specs.Digits.{binary_digits}
 use Rattle.gpu_descriptor.proofs.Comparisons.{listed_count}
 use Rattle.gpu_descriptor.proofs.BucketRun.{AreTaken, are_taken, is_within, read_first, changed_at, stored_after, total_less, place_room}
 use Rattle.gpu_descriptor.proofs.LedgerPools.{taken_from, release_pools}
@@ -226,6 +226,6 @@ returns-clause-room g c =
 pub returns-clause-few : goal.returns-clause-few
 returns-clause-few g c =
     let many = ap length c.args.self.now.«open» ∙ listed_count g.D.DescriptorDevice.pool_name c.args.self.now.offset c.args.self.now.pools.items in
-    let same = ap digits many in
+    let same = ap binary_digits many in
     let few = c.enter_new.ensures.few in
     omega arith

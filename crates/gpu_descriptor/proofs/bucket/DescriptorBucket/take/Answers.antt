@@ -16,7 +16,7 @@ use Rattle.gpu_descriptor.specs.declared.take.Refusal.{Refusal}
 use Rattle.gpu_descriptor.specs.declared.take.Refusal.TheVariants as refusal
 use Rattle.gpu_descriptor.specs.Agreement.{Item}
 use Rattle.gpu_descriptor.specs.Allocated.{allocated_in}
-use Rattle.gpu_descriptor.specs.Load.{held, pool_load, entries_load}
+use Rattle.gpu_descriptor.specs.Load.{held, pool_load, pools_load}
 use Rattle.gpu_descriptor.specs.Sets.{item_of}
 use Rattle.gpu_descriptor.specs.Stored.{entry_of, stored_load}
 use Rattle.gpu_descriptor.proofs.bucket.DescriptorBucket.take.Goals as goal
@@ -25,7 +25,7 @@ held_in : {P : Type 0} (name : P → ℕ) (ps : List (DescriptorPool P)) → hel
 held_in name [] = refl
 held_in name (p ∷ ps) = (let a = sum_by-cons (λ (e : Entry). e.allocated) (entry_of name p) (entries_of name ps) in let b = sum_by-cons (λ p. p.allocated) p ps in let c = held_in name ps in omega arith)
 
-load_in : {P : Type 0} (name : P → ℕ) (k : Key) (ps : List (DescriptorPool P)) → entries_load k (entries_of name ps) ≡ stored_load k ps
+load_in : {P : Type 0} (name : P → ℕ) (k : Key) (ps : List (DescriptorPool P)) → pools_load k (entries_of name ps) ≡ stored_load k ps
 load_in name k [] = refl
 load_in name k (p ∷ ps) = (let a = sum_by-cons (λ (e : Entry). pool_load k e.capacity) (entry_of name p) (entries_of name ps) in let b = sum_by-cons (λ p. pool_load k p.capacity) p ps in let c = load_in name k ps in omega arith)
 
@@ -98,7 +98,7 @@ pub returns-clause-room : goal.returns-clause-room
 returns-clause-room g c =
     let name = g.D.DescriptorDevice.pool_name in
     let key : Key = key_of c.args.key.now in
-    let was : entries_load key (entries_of name c.new-view.result.pools.now.items) ≡ stored_load key c.args.self.now.pools.items = load_in name key c.new-view.result.pools.now.items ∙ ap (λ (q : VecDeque (DescriptorPool g.row.P.Denot) Global). stored_load key q.items) c.new-view.ensures.pools in
+    let was : pools_load key (entries_of name c.new-view.result.pools.now.items) ≡ stored_load key c.args.self.now.pools.items = load_in name key c.new-view.result.pools.now.items ∙ ap (λ (q : VecDeque (DescriptorPool g.row.P.Denot) Global). stored_load key q.items) c.new-view.ensures.pools in
     let is = load_in name key c.take-taken.new.view.pools.now.items in
     let room = c.take-taken.ensures.room in
     omega arith
