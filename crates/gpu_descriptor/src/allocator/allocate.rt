@@ -1,5 +1,5 @@
 //! Handing sets out, whole or not at all.
-ghost use Rattle.std.specs.Prelude.{◌≡◌, ◌+◌, ◌*◌, ◌^◌, ◌<◌, ◌≤◌, ◌&&◌, nat_lt, length, sum, sum_by, Err, IfOk, IfErr, OnErr};
+ghost use Rattle.std.specs.Prelude.{◌≡◌, ◌+◌, ◌*◌, ◌^◌, ◌<◌, ◌≤◌, ◌&&◌, nat_lt, length, sum, sum_by, Err, IfOk, IfErr, OnOk, OnErr};
 ghost use Rattle.gpu_descriptor_types.specs.Counts.{kinds};
 ghost use Rattle.gpu_descriptor.specs.Books.{HasDistinctKeys};
 ghost use Rattle.gpu_descriptor.specs.LayoutFlags.{is_marked};
@@ -102,6 +102,7 @@ impl<P: Drop, S: Drop> DescriptorAllocator<P, S> {
         ensures load { marked_load_of self.new ≤ self.new.limit }
         ensures pool_load { pool_load_of self.new ≤ self.new.limit }
         ensures looks { self.new.looks + (D.ledger device.old).counters.asked ≡ self.old.looks + (D.ledger device.new).counters.asked }
+        ensures comparisons_stay { OnOk result (self.new.comparisons ≡ self.old.comparisons) }
         ensures agree { Agrees D.pool_name self.new (D.ledger device.new) }
         ensures limit { self.new.limit ≡ self.old.limit }
     {
@@ -144,6 +145,7 @@ impl<P: Drop, S: Drop> DescriptorAllocator<P, S> {
         ensures declined { IfErr result (λ e. Allocates (call_of D.pool_name (key_of key) count
             self.old self.new (D.ledger device.old) (D.ledger device.new) (Err e))) }
         ensures looks { self.new.looks + (D.ledger device.old).counters.asked ≡ self.old.looks + (D.ledger device.new).counters.asked }
+        ensures comparisons_stay { self.new.comparisons ≡ self.old.comparisons }
         ensures allocator { OnErr result (self.new ≡ self.old) }
         ensures ledger { OnErr result (D.ledger device.new ≡ D.ledger device.old) }
         ensures rows { HasDistinctKeys (table_of D.pool_name self.new) }
