@@ -1,6 +1,5 @@
 -- As many sets are out as are outstanding.
 use Rattle.std.proofs.Common.{◌≡◌, ℕ, suc, ◌+◌, ◌-◌, ◌<◌, ◌≤◌, true, false, List, [], ◌∷◌, ◌++◌, length, map, count_by, slice_get, Option, Some, None, inl, inr, refl, sym, ap, ◌∙◌, arith, length-append}
-use Rattle.std.specs.List.{list_any}
 use Rattle.std.specs.Option.{option_map_or}
 use Rattle.std.proofs.lemmas.Bool.{cases_Bool, cases_eq, cases_lt}
 use Rattle.std.proofs.lemmas.List.{length-map}
@@ -9,7 +8,7 @@ use Rattle.gpu_descriptor_types.specs.Ledger.{Pool, live_sets}
 use Rattle.gpu_descriptor_types.specs.Multiset.{LiveSet, set_eq, times}
 use Rattle.gpu_descriptor_types.proofs.Counting.{count_by_yes, count_by_no, counts_alike, set_exact}
 use Rattle.gpu_descriptor.specs.Agreement.{Item, set_of, count_of}
-use Rattle.gpu_descriptor.specs.Books.{Key, key_eq, Entry, Bucket, no_pools, books_of, HasDistinctKeys, sum_over}
+use Rattle.gpu_descriptor.specs.Books.{Key, key_eq, Entry, Bucket, books_of, HasDistinctKeys, sum_over}
 use Rattle.gpu_descriptor.specs.Grants.{items_at}
 use Rattle.gpu_descriptor.specs.Load.{held, sets_out, OutIsLength, OutIsSize}
 use Rattle.gpu_descriptor.specs.Buckets.{IsBookedIn}
@@ -18,7 +17,7 @@ use Rattle.gpu_descriptor.proofs.Exact.{item_exact, key_exact}
 use Rattle.gpu_descriptor.proofs.KeepKey.{place_of_items, count_of_items, count_elsewhere}
 use Rattle.gpu_descriptor.proofs.KeepState.{booked_of}
 use Rattle.gpu_descriptor.proofs.KeepSteps.{live_of, live_below, live_from, count_append}
-use Rattle.gpu_descriptor.proofs.Tables.{absent}
+use Rattle.gpu_descriptor.proofs.Tables.{first_books, none_behind}
 use Rattle.gpu_descriptor.proofs.Sized.{size_of}
 
 names_in : List LiveSet → List ℕ
@@ -110,7 +109,7 @@ key_out k first (e ∷ es) ledger booked =
 table_out : (ledger : ℕ → Option Pool) (table : List (Key × Bucket)) → HasDistinctKeys table → ((k : Key) (i : ℕ) (e : Entry) → slice_get (books_of table k).pools i ≡ Some e → IsBookedIn k ledger e) → (items : List Item) × (length items ≡ sum_over sets_out table) × ((t : Item) → count_of t items ≡ live_at ledger (books_of table t.key) t)
 table_out ledger [] distinct booked = ([], refl, λ t. sym (none_out ledger 0 t))
 table_out ledger (row ∷ table) distinct booked =
-    let here = key_out row.0 row.1.first row.1.pools ledger (λ i e at. booked row.0 i e (ap (λ (b : Bucket). slice_get b.pools i) own ∙ at)) in
+    let here = key_out row.0 row.1.first row.1.pools ledger (λ i e at. booked row.0 i e (ap (λ (b : Bucket). slice_get b.pools i) (first_books row table) ∙ at)) in
     let rest = table_out ledger table distinct.1 (λ k i e at. booked k i e (behind k i e at)) in (
       here.items ++ rest.0,
       (let both = length-append here.items rest.0 in let first = here.many in let later = rest.1 in let whole = sum_by-cons (λ (r : Key × Bucket). sets_out r.0 r.1) row table in omega arith),
@@ -120,7 +119,7 @@ table_out ledger (row ∷ table) distinct booked =
           elim (cases_Bool (key_eq row.0 t.key)) [
             | inl at ↦ (
                 let first = here.each t (sym (key_exact.same row.0 t.key at)) in
-                let none : live_at ledger (books_of table t.key) t ≡ 0 = ap (λ (b : Bucket). live_at ledger b t) (gone t.key at) ∙ none_out ledger 0 t in
+                let none : live_at ledger (books_of table t.key) t ≡ 0 = ap (λ (b : Bucket). live_at ledger b t) (none_behind row table distinct t.key at) ∙ none_out ledger 0 t in
                 let is : live_at ledger (books_of (row ∷ table) t.key) t ≡ live_at ledger row.1 t = rw at refl in
                 omega arith)
             | inr other ↦ (
@@ -132,15 +131,9 @@ table_out ledger (row ∷ table) distinct booked =
           ],
     )
   where
-    own : books_of (row ∷ table) row.0 ≡ row.1
-    own = rw (key_exact.self row.0) refl
-
-    gone : (k : Key) → key_eq row.0 k ≡ true → books_of table k ≡ no_pools
-    gone k at = absent k table (ap (λ (l : Key). list_any (λ other. key_eq other.0 l) table) (sym (key_exact.same row.0 k at)) ∙ distinct.0)
-
     behind : (k : Key) (i : ℕ) (e : Entry) → slice_get (books_of table k).pools i ≡ Some e → slice_get (books_of (row ∷ table) k).pools i ≡ Some e
     behind k i e at = elim (cases_Bool (key_eq row.0 k)) [
-      | inl same ↦ absurd (let bad : ◌≡◌ {A = Option Entry} None (Some e) = ap (λ (b : Bucket). slice_get b.pools i) (sym (gone k same)) ∙ at in cc)
+      | inl same ↦ absurd (let bad : ◌≡◌ {A = Option Entry} None (Some e) = ap (λ (b : Bucket). slice_get b.pools i) (sym (none_behind row table distinct k same)) ∙ at in cc)
       | inr other ↦ rw other at
     ]
 

@@ -1,5 +1,5 @@
 -- Sums over a table depend on the books that it keeps, and not on its order.
-use Rattle.std.proofs.Common.{◌≡◌, ℕ, ◌+◌, false, cond, List, [], ◌∷◌, inl, inr, refl, sym, ap, ◌∙◌, arith}
+use Rattle.std.proofs.Common.{◌≡◌, ℕ, ◌+◌, ◌≤◌, true, false, cond, List, [], ◌∷◌, inl, inr, refl, sym, ap, ◌∙◌, subst, arith}
 use Rattle.std.specs.List.{list_any}
 use Rattle.std.proofs.lemmas.Bool.{cases_Bool, or_parts, or_from}
 use Rattle.std.proofs.lemmas.List.Sums.{sum_by-append}
@@ -25,6 +25,27 @@ absent k [] h = refl
 absent k (row ∷ t) h =
     let both = or_parts (key_eq row.0 k) (list_any (λ r. key_eq r.0 k) t) h in
     rw both.0 (absent k t both.1)
+
+-- the first row has the books of its key
+pub first_books : (row : Key × Bucket) (t : List (Key × Bucket)) → books_of (row ∷ t) row.0 ≡ row.1
+first_books row t = rw (key_exact.self row.0) refl
+
+-- behind it the key has nothing
+pub none_behind : (row : Key × Bucket) (t : List (Key × Bucket)) → HasDistinctKeys (row ∷ t) → (k : Key) → key_eq row.0 k ≡ true → books_of t k ≡ no_pools
+none_behind row t distinct k at = absent k t (ap (λ (l : Key). list_any (λ other. key_eq other.0 l) t) (sym (key_exact.same row.0 k at)) ∙ distinct.0)
+
+-- of two sums the one that has no more of any key's books is no more. Its terms are 0 without pools
+pub sum_over_below : (f g : Key → Bucket → ℕ) (t : List (Key × Bucket)) → ((k : Key) → f k no_pools ≡ 0) → HasDistinctKeys t → ((k : Key) → f k (books_of t k) ≤ g k (books_of t k)) → sum_over f t ≤ sum_over g t
+sum_over_below f g [] none distinct below = omega arith
+sum_over_below f g (row ∷ t) none distinct below =
+    let here : f row.0 row.1 ≤ g row.0 row.1 = subst (λ (b : Bucket). f row.0 b ≤ g row.0 b) (first_books row t) (below row.0) in
+    let rest : sum_over f t ≤ sum_over g t = sum_over_below f g t none distinct.1 (λ k. elim (cases_Bool (key_eq row.0 k)) [
+      | inl at ↦ (let nothing : f k (books_of t k) ≡ 0 = ap (f k) (none_behind row t distinct k at) ∙ none k in omega arith)
+      | inr other ↦ (let skip : books_of (row ∷ t) k ≡ books_of t k = rw other refl in subst (λ (b : Bucket). f k b ≤ g k b) skip (below k))
+    ]) in
+    let a = sum_more f row t in
+    let b = sum_more g row t in
+    omega arith
 
 sum_without : (f : Key → Bucket → ℕ) → ((k : Key) → f k no_pools ≡ 0) → (k : Key) (t : List (Key × Bucket)) → sum_over f t ≡ f k (books_of t k) + sum_over f (without k t)
 unfolding without
@@ -81,20 +102,19 @@ sum_by_books f [] u none dt du same = sym (nothing u du (λ k. sym (same k)))
     nothing : (u : List (Key × Bucket)) → HasDistinctKeys u → ((k : Key) → books_of u k ≡ no_pools) → sum_over f u ≡ 0
     nothing [] du empty = refl
     nothing (row ∷ u) du empty =
-        let here : row.1 ≡ no_pools = (let own : books_of (row ∷ u) row.0 ≡ row.1 = rw (key_exact.self row.0) refl in sym own ∙ empty row.0) in
+        let here : row.1 ≡ no_pools = sym (first_books row u) ∙ empty row.0 in
         let zero_here : f row.0 row.1 ≡ 0 = ap (f row.0) here ∙ none row.0 in
         let rest : sum_over f u ≡ 0 = nothing u du.1 (λ k. elim (cases_Bool (key_eq row.0 k)) [
-          | inl at ↦ absent k u (ap (λ (x : Key). list_any (λ r. key_eq r.0 x) u) (sym (key_exact.same row.0 k at)) ∙ du.0)
+          | inl at ↦ none_behind row u du k at
           | inr other ↦ (let skip : books_of (row ∷ u) k ≡ books_of u k = rw other refl in sym skip ∙ empty k)
         ]) in
         let whole = sum_more f row u in
         omega arith
 sum_by_books f (row ∷ t) u none dt du same =
     let k = row.0 in
-    let own : books_of (row ∷ t) k ≡ row.1 = rw (key_exact.self row.0) refl in
-    let there : f k row.1 ≡ f k (books_of u k) = ap (f k) (sym own ∙ same k) in
+    let there : f k row.1 ≡ f k (books_of u k) = ap (f k) (sym (first_books row t) ∙ same k) in
     let rest : sum_over f t ≡ sum_over f (without k u) = sum_by_books f t (without k u) none dt.1 (distinct_without k u du) (λ l. elim (cases_Bool (key_eq k l)) [
-      | inl at ↦ absent l t (ap (λ (x : Key). list_any (λ r. key_eq r.0 x) t) (sym (key_exact.same k l at)) ∙ dt.0) ∙ sym (books_without k l u du ∙ rw at refl)
+      | inl at ↦ none_behind row t dt l at ∙ sym (books_without k l u du ∙ rw at refl)
       | inr other ↦ (let skip : books_of (row ∷ t) l ≡ books_of t l = rw other refl in sym skip ∙ same l ∙ sym (books_without k l u du ∙ rw other refl))
     ]) in
     let a = sum_more f row t in
