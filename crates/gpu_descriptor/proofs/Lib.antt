@@ -35,6 +35,7 @@ pub mod Parts
 pub mod Places
 pub mod PoolCounts
 pub mod PoolLoads
+pub mod PoolSums
 pub mod Promises
 pub mod Readings
 pub mod RequestSteps

@@ -1,17 +1,20 @@
 -- The descriptors of a marked key's pool are those that the device created it with.
-use Rattle.std.proofs.Common.{◌≡◌, ◌*◌, max, Some, refl, sym, ap, ◌∙◌, arith, sum}
+use Rattle.std.proofs.Common.{◌≡◌, ◌*◌, max, true, Some, length, refl, sym, ap, ◌∙◌, arith, sum}
 use Rattle.gpu_descriptor_types.proofs.PoolCounts.{pool_counts_sum}
 use Rattle.gpu_descriptor_types.specs.Ledger.{Pool}
-use Rattle.gpu_descriptor_types.specs.PoolSize.{pool_counts}
-use Rattle.gpu_descriptor.specs.Load.{PoolLoadIsCounts}
+use Rattle.gpu_descriptor.specs.Agreement.{IsAsBooked}
+use Rattle.gpu_descriptor.specs.Books.{Key, Entry}
+use Rattle.gpu_descriptor.specs.Load.{pool_load, PoolLoadIsCounts}
+
+pub booked_load : (k : Key) (pool : Pool) (e : Entry) → length k.counts ≡ 14 → k.marked ≡ true → IsAsBooked k pool e → sum pool.counts ≡ pool_load k e.capacity
+booked_load k pool e long marked booked =
+    let all = pool_counts_sum k.counts pool.capacity (omega arith) in
+    let size : max 1 (pool.capacity * sum k.counts) ≡ max 1 (e.capacity * sum k.counts) = ap (λ n. max 1 (n * sum k.counts)) (sym booked.capacity) in
+    ap sum booked.counts ∙ all ∙ size ∙ (rw marked refl)
 
 pub pool_load_is : PoolLoadIsCounts
 pool_load_is s k n e pool agree long marked at live =
     let booked = agree.booked k n e at in
     let same : Some booked.0 ≡ Some pool = sym booked.1 ∙ live in
     let is : booked.0 ≡ pool = cc in
-    let capacity = booked.2.capacity in
-    let counts : sum pool.counts ≡ sum (pool_counts k.counts booked.0.capacity) = ap (λ (p : Pool). sum p.counts) (sym is) ∙ ap sum booked.2.counts in
-    let all = pool_counts_sum k.counts booked.0.capacity (omega arith) in
-    let size : max 1 (booked.0.capacity * sum k.counts) ≡ max 1 (e.capacity * sum k.counts) = ap (λ m. max 1 (m * sum k.counts)) (sym capacity) in
-    counts ∙ all ∙ size ∙ (rw marked refl)
+    ap (λ (p : Pool). sum p.counts) (sym is) ∙ booked_load k booked.0 e long marked booked.2

@@ -1,5 +1,6 @@
 -- What is out in all keys: sets, and descriptors of marked sets. What the pools of marked keys have.
-use Rattle.std.specs.Prelude.{◌≡◌, ℕ, ◌*◌, max, true, Some, if◌then◌else◌, List, length, sum, sum_by}
+use Rattle.std.specs.Prelude.{◌≡◌, ◌↔◌, ℕ, ◌<◌, ◌≤◌, ◌*◌, max, true, Option, Some, if◌then◌else◌, List, length, sum, sum_by}
+use Rattle.std.specs.Option.{option_map_or}
 use Rattle.gpu_descriptor_types.specs.Ledger.{Pool}
 use Rattle.gpu_descriptor.specs.Books.{Key, Entry, Bucket, AddsUp, entry_at}
 use Rattle.gpu_descriptor.specs.Agreement.{State, Item, Agree, count_of, outstanding}
@@ -31,6 +32,14 @@ pools_load k pools = sum_by (λ e. pool_load k e.capacity) pools
 abbrev pub bucket_load : Key → Bucket → ℕ
 bucket_load k b = pools_load k b.pools
 
+-- the descriptors that the device created a live pool with
+abbrev pub created_with : (ℕ → Option Pool) → ℕ → ℕ
+created_with ledger pool = option_map_or (λ p. sum p.counts) (ledger pool) 0
+
+-- the descriptors that the device created a marked key's pools with
+abbrev pub descriptors_created : (ℕ → Option Pool) → Key → Bucket → ℕ
+descriptors_created ledger k b = if k.marked then sum_by (λ e. created_with ledger e.pool) b.pools else 0
+
 -- so many sets are out
 abbrev pub IsOut : State → ℕ → Type 0
 IsOut s n = AddsUp sets_out s.books n
@@ -43,9 +52,17 @@ IsMarkedLoad s n = AddsUp descriptors_out s.books n
 abbrev pub IsPoolLoad : State → ℕ → Type 0
 IsPoolLoad s n = AddsUp bucket_load s.books n
 
--- where books and ledger agree, those are the descriptors that the device created the pools with. A layout's counts are fourteen
+-- where books and ledger agree, a marked key's pool has the descriptors that the device created it with. A layout's counts are fourteen
 abbrev pub PoolLoadIsCounts : Type 0
 PoolLoadIsCounts = (s : State) (k : Key) (n : ℕ) (e : Entry) (pool : Pool) → Agree s → length k.counts ≡ 14 → k.marked ≡ true → entry_at (s.books k) n ≡ Some e → s.ledger e.pool ≡ Some pool → sum pool.counts ≡ pool_load k e.capacity
+
+-- so the pool load is what the device created the pools of marked keys with
+abbrev pub PoolLoadIsCreated : Type 0
+PoolLoadIsCreated = (s : State) (n : ℕ) → Agree s → ((k : Key) → 0 < length (s.books k).pools → length k.counts ≡ 14) → IsPoolLoad s n ↔ AddsUp (descriptors_created s.ledger) s.books n
+
+-- and the marked load is at most that
+abbrev pub MarkedWithinPools : Type 0
+MarkedWithinPools = (s : State) (marked pools : ℕ) → Agree s → IsMarkedLoad s marked → IsPoolLoad s pools → marked ≤ pools
 
 -- where books and ledger agree, as many sets are out as are outstanding: those of a list of this length
 abbrev pub OutIsSize : Type 0

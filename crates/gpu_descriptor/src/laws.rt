@@ -9,7 +9,7 @@ ghost use Rattle.gpu_descriptor.specs.OtherKeys.{ReleaseOthers};
 ghost use Rattle.gpu_descriptor.specs.Cleanup.{CleanAgain, CleanAgainNone, CleanAll, CleanAllGone, CleanOnce, CleanAgrees, CleanTakesNone};
 ghost use Rattle.gpu_descriptor.specs.Agreement.{AgreesOnce, BookedIsListed, EmptyAgrees, OwnAgrees, OwnOutstanding};
 ghost use Rattle.gpu_descriptor.specs.Books.{HasDistinctKeys, SumByBooks};
-ghost use Rattle.gpu_descriptor.specs.Load.{IsMarkedLoad, IsOut, IsPoolLoad, PoolLoadIsCounts, OutIsLength, OutIsSize};
+ghost use Rattle.gpu_descriptor.specs.Load.{IsMarkedLoad, IsOut, IsPoolLoad, MarkedWithinPools, PoolLoadIsCounts, PoolLoadIsCreated, OutIsLength, OutIsSize};
 ghost use Rattle.gpu_descriptor.specs.States.{marked_load_of, outstanding_of, pool_load_of, state_of, table_of};
 ghost use Rattle.gpu_descriptor.specs.Values.{Allocations};
 ghost use Rattle.gpu_descriptor.specs.LayoutFlags.{layout_bits};
@@ -79,9 +79,12 @@ pub fn rows_add_up<P>()
 {}
 
 /// Where books and ledger agree, the descriptors that count towards the limit for a marked key's
-/// pool are those that the device created it with.
+/// pool are those that the device created it with. So they add up to what it created all pools of
+/// marked keys with, and no more descriptors of marked sets are out.
 pub fn pools_have_their_load()
-    ensures { PoolLoadIsCounts }
+    ensures each { PoolLoadIsCounts }
+    ensures created { PoolLoadIsCreated }
+    ensures marked { MarkedWithinPools }
 {}
 
 /// Where books and ledger agree, as many sets are out as are outstanding: a list has each set as

@@ -1,5 +1,6 @@
 use Rattle.gpu_descriptor.proofs.PoolCounts.{pool_load_is}
+use Rattle.gpu_descriptor.proofs.PoolSums.{pool_load_is_created, marked_within_pools}
 use Rattle.gpu_descriptor.proofs.laws.pools_have_their_load.Goals as goal
 
 pub returns : goal.returns
-returns c = pool_load_is
+returns c = record { each = pool_load_is; created = pool_load_is_created; marked = marked_within_pools }
