@@ -1,0 +1,15 @@
+use Rattle.std.proofs.Common.{◌≡◌, ℕ, List, ◌++◌}
+use Rattle.gpu_descriptor.specs.declared.set.DescriptorSet.{DescriptorSet}
+use Rattle.gpu_descriptor.specs.Promises.{AreOutBesides}
+use Rattle.gpu_descriptor.specs.Sets.{items_of}
+use Rattle.descriptor_bench.specs.Bench.{state_in}
+use Rattle.descriptor_bench.specs.Device.{name_of}
+use Rattle.descriptor_bench.proofs.bench.Bench.take_each.Given as goal
+
+-- the sets so far are out besides those before
+abbrev pub invariant-loop : goal.invariant-loop
+invariant-loop l = record {
+  taken : List (DescriptorSet ℕ);
+  held : l.held.items ≡ l.fn.held.items ++ taken;
+  out : AreOutBesides (items_of name_of taken) (state_in l.fn.self) (state_in l.self);
+}

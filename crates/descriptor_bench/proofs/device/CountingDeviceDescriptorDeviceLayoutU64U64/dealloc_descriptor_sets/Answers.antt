@@ -1,0 +1,30 @@
+use Rattle.std.proofs.Common.{◌≡◌, ℕ, ◌-◌, List, ◌++◌, refl, sym, ap, ◌∙◌, subst}
+use Rattle.std.specs.Prelude.{IfSome}
+use Rattle.std.specs.Option.{option_map}
+use Rattle.gpu_descriptor_types.specs.Ledger.{Pool}
+use Rattle.gpu_descriptor_types.specs.Multiset.{LiveSet, AreIn, times}
+use Rattle.descriptor_bench.specs.Acts.{log_after}
+use Rattle.descriptor_bench.specs.Log.{Log, Row}
+use Rattle.descriptor_bench.specs.Pools.{all_named, ledger_in, none_named, seen}
+use Rattle.descriptor_bench.specs.declared.act.Act.TheVariants.{Release}
+use Rattle.descriptor_bench.proofs.Rows.{AreTaken, are_taken, change_row, live_row, map-id, row_is, same_ledger, taken_in, taken_less}
+use Rattle.descriptor_bench.proofs.device.CountingDeviceDescriptorDeviceLayoutU64U64.dealloc_descriptor_sets.Goals as goal
+
+pub returns-clause-released : goal.returns-clause-released
+returns-clause-released g c =
+    let t = c.take_each.ensures in
+    let items : List ℕ = t.0 in
+    let old = c.args.self.now.owed.log in
+    let live = c.requires.live items t.1.0 t.1.1 in
+    let row = live_row old.rows c.args.pool.now live.pool live.is_live in
+    let taken : AreTaken items row.0.live = are_taken items row.0.live live.gone (live.named ∙ map-id items) (subst (λ (p : Pool). AreIn live.gone p.live) (sym row.2) live.live) in
+    let gone : List LiveSet = all_named items row.0.live in
+    let before : c.take_each.new.owed.log ≡ record old { taken = items } = t.2 ∙ ap (λ (l : Log). record l { taken = l.taken ++ items }) (ap (λ o. o.log) c.replace-owed.ensures.value) ∙ ap (λ l. record old { taken = l ++ items }) c.args.self.now.none_taken in
+    record {
+      items = items;
+      drained = t.1;
+      gone = gone;
+      named = taken.named ∙ sym (map-id items);
+      live = subst (λ o. IfSome (option_map seen o) (λ pool. AreIn gone pool.live)) (sym row.1) (taken_in items row.0.live taken);
+      ledger = ap ledger_in (c.note.ensures ∙ ap (log_after (Release c.args.pool.now)) before) ∙ same_ledger _ _ (change_row old.rows c.args.pool.now (λ (r : Row). record r { live = none_named items r.live }) (λ pool. record pool { live = λ x. pool.live x - times gone x }) (λ r at. subst (λ (s : Row). ◌≡◌ {A = Pool} (seen (record s { live = none_named items s.live })) (record (seen s) { live = λ x. times s.live x - times gone x })) (row_is row.0 r (sym row.1 ∙ at)) (ap (λ l. record (seen row.0) { live = l }) (taken_less items row.0.live taken)))) refl;
+    }

@@ -1,0 +1,9 @@
+-- What a bench stands at.
+use Rattle.gpu_descriptor.specs.Agreement.{State}
+use Rattle.gpu_descriptor.specs.States.{state_of}
+use Rattle.descriptor_bench.specs.Device.{ledger_of, name_of}
+use Rattle.descriptor_bench.specs.declared.bench.Bench.{Bench}
+
+-- the books of its allocator, and the ledger of its device
+abbrev pub state_in : Bench → State
+state_in b = state_of name_of b.allocator (ledger_of b.device)

@@ -1,0 +1,75 @@
+//! An allocator and its device, and the moves that workloads are made of.
+ghost use Rattle.std.specs.Prelude.{IfOk, IfErr};
+ghost use Rattle.gpu_descriptor.specs.Agreement.{AreOutstanding};
+ghost use Rattle.gpu_descriptor.specs.Promises.{AreOutBesides, KeepsOutstanding};
+ghost use Rattle.gpu_descriptor.specs.Sets.{items_of};
+ghost use Rattle.gpu_descriptor.specs.States.{Agrees, state_of};
+ghost use Rattle.gpu_descriptor.proofs.OneAgreement.{Agree-prop};
+ghost use Rattle.descriptor_bench.specs.Device.{ledger_of, name_of};
+
+use crate::device::CountingDevice;
+use crate::layout::Layout;
+use gpu_descriptor::{AllocationError, DescriptorAllocator, DescriptorSet, laws};
+use std::alloc::Global;
+
+/// An allocator and its device, which always agree.
+#[derive(Drop)]
+pub struct Bench {
+    pub allocator: DescriptorAllocator<u64, u64>,
+    pub device: CountingDevice,
+    ghost agree: { Agrees name_of allocator (ledger_of device) } by { Agree-prop (state_of name_of allocator (ledger_of device)) },
+}
+
+impl Bench {
+    ghost use Rattle.descriptor_bench.specs.Bench.{state_in};
+
+    /// An allocator without keys, under the greatest limit, and a device with memory for so many
+    /// pools.
+    pub fn new(alloc: Global, most_pools: u64) -> Self {
+        laws::books_alone();
+        Bench {
+            allocator: DescriptorAllocator::new(alloc, u32::MAX),
+            device: CountingDevice::new(most_pools),
+        }
+    }
+
+    /// Takes sets.
+    pub fn take(
+        &mut self,
+        layout: &Layout,
+        count: u32,
+    ) -> Result<Vec<DescriptorSet<u64>>, AllocationError>
+        ensures given { IfOk result (λ sets. AreOutBesides (items_of name_of sets.items) (state_in self.old) (state_in self.new)) }
+        ensures back { IfErr result (λ _. KeepsOutstanding (state_in self.old) (state_in self.new)) }
+    {
+        self.allocator.allocate(
+            &mut self.device,
+            layout,
+            layout.flags(),
+            &layout.counts,
+            count,
+        )
+    }
+
+    /// Gives sets back.
+    pub fn give_back(&mut self, sets: Vec<DescriptorSet<u64>>)
+        requires { AreOutstanding (items_of name_of sets.items) (state_in self.old) }
+        ensures { AreOutBesides (items_of name_of sets.items) (state_in self.new) (state_in self.old) }
+    {
+        laws::release_parts();
+        self.allocator.free(&mut self.device, sets);
+    }
+
+    /// Takes sets, and gives them back.
+    pub fn round(&mut self, layout: &Layout, count: u32) -> Result<(), AllocationError>
+        ensures { KeepsOutstanding (state_in self.old) (state_in self.new) }
+    {
+        match self.take(layout, count) {
+            Ok(sets) => {
+                self.give_back(sets);
+                Ok(())
+            }
+            Err(error) => Err(error),
+        }
+    }
+}

@@ -1,0 +1,170 @@
+//! A device that only counts, so that what is timed is the allocator.
+ghost use Rattle.std.specs.Prelude.{◌≡◌, ◌+◌, ◌<◌, ◌≤◌, ◌^◌, List, [], ◌++◌, map, ℕ, None, OnOk, IfErr};
+ghost use Rattle.std.specs.List.{range_with_len};
+ghost use Rattle.std.specs.Iterator.{IsFinite, YieldsThen};
+ghost use Rattle.gpu_descriptor_types.specs.Counts.{kinds};
+ghost use Rattle.gpu_descriptor_types.specs.Layouts.{layout, left};
+ghost use Rattle.descriptor_bench.specs.Layouts.{counts_in, mark_of};
+ghost use Rattle.descriptor_bench.specs.Pools.{AreBelow};
+
+use crate::act::Act;
+use crate::layout::Layout;
+use crate::owed::Owed;
+use gpu_descriptor::{
+    CreatePoolError, DescriptorDevice, DescriptorPoolCreateFlags, DescriptorTotalCount,
+    DeviceAllocationError, Layouts, SetSink,
+};
+
+/// A device of counters, with a checksum of what is released and destroyed. Pools and sets are
+/// numbered from 0 up. What it owes takes no memory.
+#[derive(Drop)]
+pub struct CountingDevice {
+    next_pool: u64,
+    next_set: u64,
+
+    /// How many pools it has.
+    pools: u64,
+
+    /// How many pools it has memory for.
+    most_pools: u64,
+    sum: u64,
+    owed: Owed,
+    ghost below: { AreBelow owed.log next_pool },
+    ghost none_taken: { owed.log.taken ≡ [] },
+}
+
+impl CountingDevice {
+    /// A device without pools, and with memory for so many.
+    pub fn new(most_pools: u64) -> Self {
+        CountingDevice {
+            next_pool: 0,
+            next_set: 0,
+            pools: 0,
+            most_pools,
+            sum: 0,
+            owed: Owed::none(),
+        }
+    }
+
+    /// The checksum.
+    pub fn sum(&self) -> u64 {
+        self.sum
+    }
+}
+
+/// The counts of a layout that is to come.
+fn counts_of(mut layouts: Layouts<'_, Layout>) -> DescriptorTotalCount
+    ensures { 0 < left layouts.entry → kinds result ≡ counts_in (layout layouts.entry) }
+{
+    match layouts.next() {
+        Some(layout) => layout.counts,
+        None => DescriptorTotalCount::default(),
+    }
+}
+
+/// Puts so many sets.
+fn fill<K: SetSink<u64>>(first: u64, many: u32, sink: &mut K)
+    requires names { first + many < 2 ^ 64 }
+    requires room { many ≤ K.room_left sink.old }
+    ensures kept { K.kept sink.new ≡ K.kept sink.old ++ map (K.kept_as sink.old) (range_with_len first many) }
+    ensures alike { K.kept_as sink.new ≡ K.kept_as sink.old }
+    ensures room { K.room_left sink.new + many ≡ K.room_left sink.old }
+{
+    for name in first..first + u64::from(many) {
+        sink.put(name);
+    }
+}
+
+/// Takes each set that the iterator gives.
+fn take_each<I: Iterator<Item = u64>>(owed: &mut Owed, pool: u64, sum: &mut u64, sets: &mut I)
+    requires can { I.can_next sets.old }
+    requires ends { IsFinite (I.remaining sets.old) }
+    ensures { (items : List ℕ) × YieldsThen I.next_gives sets.old items None sets.new × (owed.new.log ≡ record owed.old.log { taken = owed.old.log.taken ++ items }) }
+{
+    while let Some(set) = sets.next() {
+        *sum = sum.wrapping_add(set ^ pool);
+        owed.note(Act::Take { set });
+    }
+}
+
+impl DescriptorDevice<Layout, u64, u64> for CountingDevice {
+    ghost use Rattle.descriptor_bench.specs.Device.{device_is_finite, ledger_of, name_of};
+    ghost use Rattle.gpu_descriptor_types.specs.Ledger.{HasRoom, Puts, PutsNone};
+
+    ghost pool_name = { name_of };
+
+    ghost set_name = { name_of };
+
+    ghost layout_counts = { counts_in };
+
+    ghost layout_mark = { mark_of };
+
+    ghost ledger = { ledger_of };
+
+    ghost finite = { device_is_finite };
+
+    fn create_descriptor_pool(
+        &mut self,
+        counts: &DescriptorTotalCount,
+        max_sets: u32,
+        flags: DescriptorPoolCreateFlags,
+    ) -> Result<u64, CreatePoolError> {
+        let pool = self.next_pool;
+        if self.pools >= self.most_pools || pool == u64::MAX {
+            self.owed.note(Act::Refuse);
+            return Err(CreatePoolError::OutOfDeviceMemory);
+        }
+        self.next_pool = pool + 1;
+        self.pools += 1;
+        self.owed.note(Act::Create {
+            pool,
+            counts: *counts,
+            max_sets,
+            flags,
+        });
+        Ok(pool)
+    }
+
+    fn destroy_descriptor_pool(&mut self, pool: u64) {
+        self.sum ^= pool;
+        self.pools = self.pools.saturating_sub(1);
+        self.owed.note(Act::Destroy { pool });
+    }
+
+    fn alloc_descriptor_sets<K: SetSink<u64>>(
+        &mut self,
+        pool: &mut u64,
+        layouts: Layouts<'_, Layout>,
+        sets: &mut K,
+    ) -> Result<(), DeviceAllocationError>
+        requires fits { HasRoom pool.old (left layouts) (counts_in (layout layouts)) (mark_of (layout layouts)) (ledger_of self.old) }
+        requires room { left layouts ≤ K.room_left sets.old }
+        ensures name { pool.new ≡ pool.old }
+        ensures ok { OnOk result (Puts (record { kept = K.kept; kept_as = K.kept_as; room_left = K.room_left }) name_of pool.old (left layouts.entry) (counts_in (layout layouts.entry)) sets.old sets.new (ledger_of self.old) (ledger_of self.new)) }
+        ensures err { IfErr result (λ e. PutsNone (record { kept = K.kept; kept_as = K.kept_as; room_left = K.room_left }) pool.old e sets.old sets.new (ledger_of self.old) (ledger_of self.new)) }
+    {
+        let many = layouts.len();
+        let counts = counts_of(layouts);
+        let first = if u64::MAX - self.next_set < u64::from(many) {
+            0
+        } else {
+            self.next_set
+        };
+        fill(first, many, sets);
+        self.next_set = first + u64::from(many);
+        self.owed.note(Act::Put {
+            pool: *pool,
+            first,
+            many,
+            counts,
+        });
+        Ok(())
+    }
+
+    fn dealloc_descriptor_sets<I: Iterator<Item = u64>>(&mut self, pool: &mut u64, sets: &mut I) {
+        let mut owed = std::mem::replace(&mut self.owed, Owed::none());
+        take_each(&mut owed, *pool, &mut self.sum, sets);
+        owed.note(Act::Release { pool: *pool });
+        self.owed = owed;
+    }
+}

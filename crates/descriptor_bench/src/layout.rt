@@ -1,0 +1,35 @@
+//! The layouts of the counting device.
+ghost use Rattle.std.specs.Prelude.{◌≡◌, true, false};
+ghost use Rattle.gpu_descriptor.specs.LayoutFlags.{is_marked};
+
+use bitflags::Flags;
+use gpu_descriptor::{DescriptorSetLayoutCreateFlags, DescriptorTotalCount};
+
+/// A layout: its descriptors, and whether it is marked as update-after-bind.
+#[derive(Clone, Copy)]
+pub struct Layout {
+    pub counts: DescriptorTotalCount,
+    pub mark: bool,
+}
+
+impl Layout {
+    /// A plain layout of so many samplers.
+    pub fn of_samplers(count: u32) -> Self {
+        let mut counts = DescriptorTotalCount::default();
+        counts.sampler = count;
+        Layout {
+            counts,
+            mark: false,
+        }
+    }
+
+    /// The flags under which sets of the layout are requested.
+    #[inline]
+    pub fn flags(&self) -> DescriptorSetLayoutCreateFlags
+        ensures { is_marked result ≡ self.now.mark }
+    {
+        let mut flags = DescriptorSetLayoutCreateFlags::empty();
+        flags.set(DescriptorSetLayoutCreateFlags::UPDATE_AFTER_BIND, self.mark);
+        flags
+    }
+}
