@@ -6,6 +6,7 @@
 mod cleanup;
 mod faults;
 mod frees;
+mod limit;
 mod refusals;
 mod requests;
 mod sizes;
