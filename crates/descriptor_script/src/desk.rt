@@ -32,7 +32,7 @@ pub fn layout_of(samplers: u32, mark: bool) -> ScriptLayout {
 }
 
 /// The flags that go with a mark.
-fn flags_of(mark: bool) -> DescriptorSetLayoutCreateFlags
+pub fn flags_of(mark: bool) -> DescriptorSetLayoutCreateFlags
     ensures { is_marked result ≡ mark }
 {
     let mut flags = DescriptorSetLayoutCreateFlags::empty();
@@ -206,4 +206,10 @@ pub fn expect_held(rt: &impl Abort, desk: &Desk, held: usize, marked: u32) {
     assert_eq!(rt; desk.held.len(), held);
     assert_eq!(rt; desk.allocator.outstanding(), held as u64);
     assert_eq!(rt; desk.allocator.update_after_bind_descriptors(), marked);
+}
+
+/// Compares how many descriptors the pools have that are for marked sets.
+pub fn expect_capacity(rt: &impl Abort, desk: &Desk, wanted: u32) {
+    let seen = desk.allocator.update_after_bind_capacity();
+    assert_eq!(rt; seen, wanted);
 }

@@ -3,6 +3,8 @@
 #![tactic(auto)]
 
 mod answer;
+#[cfg(test)]
+mod capacity;
 mod command;
 mod counters;
 #[cfg(test)]

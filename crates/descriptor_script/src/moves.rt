@@ -5,7 +5,9 @@ ghost use Rattle.gpu_descriptor.specs.States.{Agrees, state_of};
 ghost use Rattle.descriptor_script.specs.Device.{ledger_of};
 ghost use Rattle.descriptor_script.specs.Raw.{pool_id, set_id};
 
-use crate::desk::{Desk, expect_device, expect_held, expect_origins, expect_pools};
+use crate::desk::{
+    Desk, expect_capacity, expect_device, expect_held, expect_origins, expect_pools,
+};
 use crate::{Answer, ScriptLayout};
 use gpu_descriptor::AllocationError;
 use std::alloc::{AllocError, Global};
@@ -33,6 +35,8 @@ pub enum Move<'a> {
     Device(u64, u64, u64, u64),
     /// Sets that are out, and descriptors of the marked ones.
     Held(usize, u32),
+    /// Descriptors of the pools for marked sets.
+    Capacity(u32),
 }
 
 impl Desk {
@@ -65,6 +69,7 @@ impl Desk {
                 expect_device(rt, self, *created, *destroyed, *asked, *released);
             }
             Move::Held(held, marked) => expect_held(rt, self, *held, *marked),
+            Move::Capacity(wanted) => expect_capacity(rt, self, *wanted),
         }
         Ok(())
     }

@@ -64,7 +64,7 @@ none_there n = elim (cases_Bool (ltb n 0)) [
 ]
 
 -- an allocator without keys shares no pool
-pub none_shared : (x y : Held) (l : Ledger) (limit : ℕ) → allocator_of x ≡ record { limit = limit; table = [] } → AreApart (state_in x l) (state_in y l)
+pub none_shared : (x y : Held) (l : Ledger) (limit : ℕ) → allocator_of x ≡ record { limit = limit; table = []; looks = 0; comparisons = 0 } → AreApart (state_in x l) (state_in y l)
 none_shared x y l limit empty k j m n d e there at same =
     let no_books : (state_in x l).books k ≡ no_pools = ap (λ (a : Allocations RawPool). (state_of pool_id a l).books k) empty in
     let bad : ◌≡◌ {A = Option Entry} None (Some d) = sym (none_there m) ∙ ap (λ (b : Bucket). entry_at b m) (sym no_books) ∙ there in

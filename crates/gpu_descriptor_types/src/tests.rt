@@ -141,8 +141,19 @@ fn pools_are_cut_to_the_room(rt: HostRuntime) {
         (samplers(3), 3, 2, None),
         (none, 1, 0, None),
         (none, 1, 1, Some((samplers(1), 64))),
+        (
+            samplers(2147483648),
+            3,
+            u32::MAX,
+            Some((samplers(2147483648), 1)),
+        ),
+        (of_each(u32::MAX), 1, u32::MAX, None),
     ] {
-        assert_eq!(rt; cut_pool_size(&size, 0, wanted, room), answer, "of {size:?} with {room}");
+        assert_eq!(rt;
+            cut_pool_size(&size, 0, wanted, room),
+            answer,
+            "of {size:?} with {room}"
+        );
     }
 }
 

@@ -3,15 +3,15 @@
 ghost use Rattle.descriptor_script.specs.Ready.{IsReady};
 
 use super::tests::{Ask, Bench, sets};
+use crate::desk::layout_of;
 use crate::{Command, Reply};
-use gpu_descriptor::{AllocationError, DescriptorTotalCount};
+use gpu_descriptor::AllocationError;
 use std::process::Abort;
 use std::test::Fail;
 
 /// Sees that as many sets are held as are outstanding, and as are allocated from the pools.
 fn expect_counted(rt: &impl Abort, bench: &Bench) {
-    let mut counts = DescriptorTotalCount::default();
-    counts.set_kind(0, 1);
+    let counts = layout_of(1, true).counts;
     let allocator = bench.session.allocator();
     let mut allocated: u64 = 0;
     for index in 0..allocator.pool_count(&counts, true) {
@@ -49,14 +49,18 @@ fn expect_step(rt: &impl Abort, bench: &mut Bench, command: &Command, wanted: Re
 
 #[test]
 fn steps_where_memory_is_wanting(rt: HostRuntime) -> Result<(), Fail> {
-    let mut bench = Bench::new(rt.alloc(), u32::MAX, 1, &[])?;
+    let mut bench = Bench::new(rt.alloc(), u32::MAX, layout_of(1, true), &[])?;
     for (ask, wanted) in [
         (Ask::Allocate(0, 60), sets(0, 60)),
         (Ask::Allocate(0, 200), sets(60, 200)),
         (Ask::Free(&[0, 65, 64, 3]), Reply::Freed(4)),
         (Ask::Cleanup, Reply::Clean),
     ] {
-        expect_step(&rt, &mut bench, &ask.command(rt.alloc())?, wanted);
+        let command = match ask.command(rt.alloc()) {
+            Ok(command) => command,
+            Err(_) => ask.command(rt.alloc())?,
+        };
+        expect_step(&rt, &mut bench, &command, wanted);
     }
     assert_eq!(rt; bench.session.held(), 256);
     Ok(())
@@ -64,7 +68,7 @@ fn steps_where_memory_is_wanting(rt: HostRuntime) -> Result<(), Fail> {
 
 #[test]
 fn runs_where_memory_is_wanting(rt: HostRuntime) -> Result<(), Fail> {
-    let mut bench = Bench::new(rt.alloc(), u32::MAX, 1, &[])?;
+    let mut bench = Bench::new(rt.alloc(), u32::MAX, layout_of(1, true), &[])?;
     match bench.run(rt.alloc(), &[Ask::Allocate(0, 2), Ask::Cleanup]) {
         Ok(replies) => {
             assert_eq!(rt; replies.len(), 2);
@@ -73,5 +77,34 @@ fn runs_where_memory_is_wanting(rt: HostRuntime) -> Result<(), Fail> {
         Err(_) => assert_eq!(rt; bench.session.held(), 0),
     }
     expect_counted(&rt, &bench);
+    Ok(())
+}
+
+/// Sees that nothing is out, and that each pool that was created was asked at once: none was made
+/// before there was room for its books and its place in the list.
+fn expect_nothing_out(rt: &impl Abort, bench: &Bench) {
+    let allocator = bench.session.allocator();
+    assert_eq!(rt; bench.session.held(), 0);
+    assert_eq!(rt; allocator.outstanding(), 0);
+    let created = bench.device.created();
+    assert_eq!(rt; bench.device.asked(), created);
+    let counts = layout_of(u32::MAX, false).counts;
+    let left = allocator.pool_count(&counts, false) as u64;
+    let live = created.saturating_sub(bench.device.destroyed());
+    assert_eq!(rt; left, live);
+}
+
+#[test]
+fn many_new_pools_where_memory_is_wanting(rt: HostRuntime) -> Result<(), Fail> {
+    // A pool of this layout holds one set.
+    let mut bench = Bench::new(rt.alloc(), 0, layout_of(u32::MAX, false), &[])?;
+    let request = Ask::Allocate(0, 9).command(rt.alloc())?;
+    let mut reply = bench.step(&request);
+    if is_out_of_memory(reply) {
+        expect_nothing_out(&rt, &bench);
+        reply = bench.step(&request);
+    }
+    assert_eq!(rt; reply, sets(0, 9));
+    assert_eq!(rt; bench.session.held(), 9);
     Ok(())
 }

@@ -2,10 +2,11 @@
 ghost use Rattle.std.specs.Prelude.{IfOk};
 ghost use Rattle.descriptor_script.specs.Ready.{IsReady};
 
+use crate::desk::{flags_of, layout_of};
 use crate::headline::headline;
 use crate::{Answer, Command, RawPool, RawSet, Reply, ScriptLayout, ScriptedDevice, Session};
 use Act::{Device, Do, Held, Load, Next};
-use gpu_descriptor::{AllocationError, DescriptorSetLayoutCreateFlags, DescriptorTotalCount};
+use gpu_descriptor::AllocationError;
 use std::alloc::{AllocError, Global};
 use std::process::Abort;
 use std::test::Fail;
@@ -68,22 +69,23 @@ impl Bench {
         }
     }
 
-    /// With one marked layout of so many samplers.
+    /// With one layout, which is handed in once more where memory was wanting.
     pub(super) fn new(
         alloc: Global,
         limit: u32,
-        samplers: u32,
+        layout: ScriptLayout,
         script: &[Answer],
     ) -> Result<Self, Fail>
         ensures { IfOk result (λ bench. IsReady bench.session bench.device) }
     {
         let device = ScriptedDevice::new(alloc, script.to_vec(alloc)?);
         let mut session = Session::new(alloc, limit);
-        let mut counts = DescriptorTotalCount::default();
-        counts.set_kind(0, samplers);
-        let layout = ScriptLayout { counts, mark: true };
-        let flags = DescriptorSetLayoutCreateFlags::UPDATE_AFTER_BIND;
-        match session.add_layout(layout, counts, flags) {
+        let flags = flags_of(layout.mark);
+        match session.add_layout(layout, layout.counts, flags) {
+            Ok(_) => return Ok(Bench { session, device }),
+            Err(_) => {}
+        }
+        match session.add_layout(layout, layout.counts, flags) {
             Ok(_) => Ok(Bench { session, device }),
             Err(_) => Err(Fail::new("no memory for a layout")),
         }
@@ -196,7 +198,7 @@ fn play(
     script: &[Answer],
     acts: &[Act<'_>],
 ) -> Result<(), Fail> {
-    let mut bench = Bench::new(alloc, limit, samplers, script)?;
+    let mut bench = Bench::new(alloc, limit, layout_of(samplers, true), script)?;
     bench.play(rt, alloc, acts)?;
     Ok(())
 }
@@ -230,7 +232,7 @@ fn tickets_are_given_once(rt: HostRuntime) -> Result<(), Fail> {
 
 #[test]
 fn replies_in_order(rt: HostRuntime) -> Result<(), Fail> {
-    let mut bench = Bench::new(rt.alloc(), u32::MAX, 1, &[])?;
+    let mut bench = Bench::new(rt.alloc(), u32::MAX, layout_of(1, true), &[])?;
     let asks = [Ask::Allocate(0, 3), Ask::Free(&[2, 1]), Ask::Cleanup];
     let replies = [sets(0, 3), Reply::Freed(2), Reply::Clean];
     bench.expect_run(&rt, rt.alloc(), &asks, &replies)?;
