@@ -50,7 +50,7 @@ impl<P> DescriptorBucket<P> {
         let place = (number - self.offset) as usize;
         let mut ahead = Some(first);
         let pool = &mut self.pools[place];
-        let was_full = pool.available == 0;
+        let was_closed = pool.available == 0;
         let mut run = Run {
             source: sets,
             ahead: &mut ahead,
@@ -63,7 +63,7 @@ impl<P> DescriptorBucket<P> {
         pool.allocated -= count;
         pool.available += count;
         self.total -= u64::from(count);
-        enter_new(&mut self.listed, was_full, number, comparisons);
+        enter_new(&mut self.listed, was_closed, number, comparisons);
         self.drop_front(device, &key, room);
         ahead
     }
