@@ -113,9 +113,17 @@ fn set_count(kinds: &[u32; 14], start: u32) -> u32
 {
     let mut sets = start;
     for kind in kinds {
-        sets = sets.min(u32::MAX / (*kind).max(1));
+        sets = sets.min(sets_of(*kind));
     }
     sets
+}
+
+/// How many sets a kind allows. Most kinds of a layout have none, and need no division.
+#[inline]
+fn sets_of(kind: u32) -> u32
+    ensures { result ≡ sets_of_kind kind }
+{
+    if kind == 0 { u32::MAX } else { u32::MAX / kind }
 }
 
 /// The counts of a pool of so many sets.
