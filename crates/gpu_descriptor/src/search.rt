@@ -32,6 +32,7 @@ pub(crate) fn place_of(view: &mut Numbers<'_, '_>, number: u64) -> usize
 }
 
 /// Puts a number in at its place. There is room for it.
+#[inline(never)]
 pub(crate) fn enter(listed: &mut VecDeque<u64>, number: u64, comparisons: &mut Tally)
     requires rising { IsNonDecreasing listed.old.items }
     requires room { length listed.old.items < deque_capacity listed.old }
@@ -49,6 +50,7 @@ pub(crate) fn enter(listed: &mut VecDeque<u64>, number: u64, comparisons: &mut T
 
 /// Puts a number in at its place where it isn't there yet. The test is an argument, so that the
 /// caller has one state of its list afterwards.
+#[inline]
 pub(crate) fn enter_new(
     listed: &mut VecDeque<u64>,
     is_new: bool,

@@ -194,6 +194,7 @@ fn next_size(
 ///
 /// `total` sets of the key are out already. A pool of a marked key takes of the room what
 /// descriptors it has.
+#[inline(never)]
 fn grow_one<L, P: Drop, S, D: DescriptorDevice<L, P, S>>(
     device: &mut D,
     view: &mut OpenPools<'_, '_, '_, P>,
