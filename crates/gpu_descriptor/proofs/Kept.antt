@@ -235,7 +235,7 @@ given_agrees m s agree out =
               flags = is.flags;
               at_least = is.at_least;
               small = is.small;
-            capacity = is.capacity;
+              capacity = is.capacity;
               counts = is.counts;
               sets = λ x lt. is.sets x (omega arith);
               full = λ none. (let whole = is.full none in let e : d.allocated - back m s d.pool + (d.free + back m s d.pool) ≡ pool.capacity = omega arith in e);

@@ -1,5 +1,5 @@
 -- The numbers of the open pools, as the code keeps them.
-use Rattle.std.proofs.Common.{◌≡◌, ℕ, zero, suc, ◌+◌, ◌<◌, ◌≤◌, ◌++◌, ◌∷◌, [], List, length, map, insert, arith, ap, sym, ◌∙◌, subst, refl, slice_set, nat_eq, true, false, inl, inr, eqb-true, Some, slice_get, take}
+use Rattle.std.proofs.Common.{◌≡◌, ℕ, ◌+◌, ◌<◌, ◌≤◌, ◌++◌, ◌∷◌, [], List, length, insert, arith, ap, sym, ◌∙◌, subst, slice_set, nat_eq, true, false, inl, inr, eqb-true, Some, slice_get}
 use Rattle.std.proofs.lemmas.List.{length-map, map-append, map-set}
 use Rattle.std.proofs.lemmas.Bool.{cases_Bool, eqb-false}
 use Rattle.std.proofs.lemmas.Option.{slice_get-map}

@@ -13,7 +13,7 @@ use Rattle.gpu_descriptor.specs.Books.{Key, key_eq}
 use Rattle.gpu_descriptor.specs.Load.{pool_load}
 use Rattle.gpu_descriptor.specs.Frees.{descriptors_of, marked_descriptors}
 use Rattle.gpu_descriptor.specs.Sets.{key_of, item_of, items_of}
-use Rattle.gpu_descriptor.specs.States.{sets_in, descriptors_in, pool_load_in, outstanding_of, marked_load_of, pool_load_of}
+use Rattle.gpu_descriptor.specs.States.{sets_in, descriptors_in, pool_load_in, outstanding_of, marked_load_of}
 use Rattle.gpu_descriptor.specs.Steps.{HaveKey}
 use Rattle.gpu_descriptor.specs.Stored.{kept_of, row_of, load_in, stored_load_in, stored_load, IsCounted}
 use Rattle.gpu_descriptor.specs.Values.{Allocations, Kept}

@@ -1,5 +1,5 @@
 -- The walk over the open pools: the pools between them have nothing to give.
-use Rattle.std.proofs.Common.{◌≡◌, ◌≢◌, ℕ, zero, suc, ◌+◌, ◌-◌, ◌<◌, ◌≤◌, List, [], ◌∷◌, ◌++◌, length, map, min, take, slice_set, nat_lt, true, false, Bool, ◌&&◌, if◌then◌else◌, Option, Some, None, refl, sym, ap, ◌∙◌, subst, arith, inl, inr}
+use Rattle.std.proofs.Common.{◌≡◌, ℕ, zero, suc, ◌+◌, ◌-◌, ◌<◌, ◌≤◌, List, [], ◌∷◌, ◌++◌, length, min, slice_set, nat_lt, true, Bool, ◌&&◌, if◌then◌else◌, Option, Some, None, refl, sym, ap, ◌∙◌, subst, arith, inl, inr}
 use Rattle.std.proofs.lemmas.List.{length-map, map-set, length-set}
 use Rattle.std.proofs.lemmas.Option.{slice_get-map, slice_get_within}
 use Rattle.std.proofs.lemmas.Bool.{lt-ltb, cases_lt}
@@ -42,7 +42,6 @@ pub record OpenWalk {P : Type 0} (name : P → ℕ) (k : Key) (n first wanting :
 
 module _ {P : Type 0} (name : P → ℕ) (k : Key) (n first wanting : ℕ) (out : List Item) (old : List Entry) (items : List (DescriptorPool P)) (numbers : List ℕ) (l m : Ledger)
     (booked : AreBookedIn k l.pools old) (s : OpenWalk name k n first wanting out old items numbers l m) where
-
   free_get : (j : ℕ) (e : Entry) → slice_get (entries_of name items) j ≡ Some e → slice_get (free_in items) j ≡ Some e.free
   free_get j e at = by_pool (slice_get items j) refl
     where

@@ -2,10 +2,9 @@
 use Rattle.std.proofs.Common.{◌≡◌, ℕ, suc, ◌+◌, ◌-◌, ◌*◌, ◌<◌, ◌≤◌, Bool, true, List, [], ◌∷◌, ◌++◌, map, length, drop, sum_by, Option, Some, None, option_map, inl, inr, eqb-true, ◌==◌, Result, Ok, Err, refl, sym, ap, ◌∙◌, subst, arith}
 use Rattle.std.proofs.lemmas.List.{length-map, length-append}
 use Rattle.std.proofs.lemmas.List.Sums.{sum_by-cons, sum_by-append}
-use Rattle.std.proofs.Math.Nat.{mul-le-mul_right}
 use Rattle.gpu_descriptor_types.proofs.Sizes.{pool_size_some}
 use Rattle.gpu_descriptor_types.specs.PoolSize.{pool_size_floor}
-use Rattle.std.specs.Prelude.{◌⊎◌, min, if◌then◌else◌, OnOk, IfErr}
+use Rattle.std.specs.Prelude.{min, if◌then◌else◌, OnOk, IfErr}
 use Rattle.gpu_descriptor_types.specs.Ledger.{Pool, Counters, live_sets, create_refused, alloc_refused, pool_refusals}
 use Rattle.gpu_descriptor_types.specs.declared.errors.CreatePoolError.{CreatePoolError}
 use Rattle.gpu_descriptor_types.specs.declared.errors.CreatePoolError.TheVariants as create_error
@@ -18,7 +17,7 @@ use Rattle.gpu_descriptor.specs.Books.{Key, Entry, Bucket, next_number}
 use Rattle.gpu_descriptor.specs.Errors.{error_of_create, error_of_alloc}
 use Rattle.gpu_descriptor.specs.FreshPools.{Fresh, AreNew, IsNextSize, room_after, AreSized, AreFull, IsFreshList, given_by, fresh_portions}
 use Rattle.gpu_descriptor.specs.Grants.{Grant, Part, portion_of, items_at, items_in, came, granted, fresh_or, pool_with}
-use Rattle.gpu_descriptor.specs.Outcomes.{Allocates, Call, IsBack, IsDone, IsStoppedAtPool, IsStoppedAtCreate, IsStoppedAtFresh, IsStoppedWithoutRoom, IsFront, HasRoomLeft, IsGrant, out_then, wanting, no_rise}
+use Rattle.gpu_descriptor.specs.Outcomes.{Allocates, Call, IsBack, IsDone, IsStoppedAtPool, IsStoppedAtCreate, IsStoppedAtFresh, IsFront, HasRoomLeft, IsGrant, out_then, wanting, no_rise}
 use Rattle.gpu_descriptor.specs.Outcomes.Allocates.{none, limit, bound, start, done, stopped_at_pool, stopped_without_room, stopped_at_create, stopped_for_memory, stopped_at_fresh}
 use Rattle.gpu_descriptor.specs.FreshPools.IsFreshList.{none as no_fresh, some as some_fresh}
 use Rattle.std.proofs.lemmas.Bool.{cases_Bool}

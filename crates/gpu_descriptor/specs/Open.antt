@@ -1,5 +1,5 @@
 -- A key's pools, as a request sees them.
-use Rattle.std.specs.Prelude.{◌≡◌, ℕ, zero, suc, ◌+◌, ◌≤◌, List, [], ◌∷◌, map, length}
+use Rattle.std.specs.Prelude.{◌≡◌, ℕ, ◌+◌, ◌≤◌, [], length}
 use Rattle.std.specs.VecDeque.{deque_capacity, deque_with_item}
 use Rattle.std.specs.Borrow.{Lends, MutBor, Fml, RattleType}
 use mir.Syntax.{named}

@@ -1,5 +1,5 @@
 -- What a caller may read off a request without its outcomes.
-use Rattle.std.specs.Prelude.{◌≡◌, ℕ, ◌+◌, ◌-◌, ◌*◌, ◌<◌, ◌≤◌, Bool, true, min, List, [], ◌∷◌, length, take, sum_by, All, Some, slice_get, OnOk, Result, Err}
+use Rattle.std.specs.Prelude.{◌≡◌, ℕ, ◌+◌, ◌-◌, ◌*◌, ◌<◌, Bool, true, min, List, [], ◌∷◌, length, take, sum_by, All, Some, slice_get, OnOk, Result, Err}
 use Rattle.gpu_descriptor_types.specs.Ledger.{Pool, pool_refusals}
 use Rattle.gpu_descriptor_types.specs.declared.errors.CreatePoolError.TheVariants as create_error
 use Rattle.gpu_descriptor_types.specs.PoolSize.{pool_size_floor, start_size}

@@ -333,7 +333,9 @@ impl<P: Drop> DescriptorBucket<P> {
         ensures looks { looks.new.count + (D.ledger device.old).counters.asked ≡ looks.old.count + (D.ledger device.new).counters.asked }
     {
         let mut view = OpenPools::new(self.offset, &mut self.pools, &mut self.listed, looks);
-        let taken = take(device, &mut view, layout, key, self.total, count, room, sink);
+        let taken = take(
+            device, &mut view, layout, key, self.total, count, room, sink,
+        );
         self.total += sink.sets.len() as u64;
         taken
     }

@@ -1,6 +1,4 @@
-use Rattle.std.proofs.Common.{◌≡◌, ℕ, ◌≤◌, arith, refl, IfSome, Option, Some, None}
-use Rattle.gpu_descriptor.specs.FreshPools.{IsNextSize}
-use Rattle.gpu_descriptor.specs.Load.{pool_load}
+use Rattle.std.proofs.Common.{arith, refl, IfSome, Option, Some, None}
 use Rattle.gpu_descriptor.specs.Sets.{key_of}
 use Rattle.gpu_descriptor.proofs.NextSize.{next_fits}
 use Rattle.gpu_descriptor.proofs.take.next_size.Goals as goal

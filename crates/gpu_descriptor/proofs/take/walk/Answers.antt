@@ -1,4 +1,4 @@
-use Rattle.std.proofs.Common.{◌≡◌, ℕ, zero, suc, ◌+◌, ◌-◌, ◌<◌, ◌≤◌, ◌++◌, List, [], ◌∷◌, length, map, take, slice_set, Some, refl, sym, ap, ◌∙◌, subst, arith, append_assoc, length-append}
+use Rattle.std.proofs.Common.{◌≡◌, ℕ, ◌+◌, ◌-◌, ◌<◌, ◌++◌, List, [], ◌∷◌, length, map, take, slice_set, Some, refl, sym, ap, ◌∙◌, subst, arith, append_assoc, length-append}
 use Rattle.std.proofs.lemmas.List.{length-map, append-nil, map-append, length-set}
 use Rattle.std.proofs.lemmas.Option.{slice_get_read}
 use Rattle.std.specs.List.{slice_get}
@@ -10,10 +10,8 @@ use Rattle.gpu_descriptor.specs.Agreement.{Item}
 use Rattle.gpu_descriptor.specs.Books.{Entry, Key}
 use Rattle.gpu_descriptor.specs.Grants.{items_at}
 use Rattle.gpu_descriptor.specs.Sets.{key_of, items_of}
-use Rattle.gpu_descriptor.specs.Shares.{rest}
-use Rattle.gpu_descriptor.specs.Stored.{entry_of}
-use Rattle.gpu_descriptor.specs.Walk.{entries_of, sets_at, IsWalked, IsWalkStopped}
-use Rattle.gpu_descriptor.proofs.Newest.{OpenWalk, open_walk_start, open_walk_more, open_walk_stop, walk_sated, walk_empty, above, inside, has_free, next_is_booked, listed_now_closed, listed_now_open, listed_now_same, one_asked}
+use Rattle.gpu_descriptor.specs.Walk.{entries_of, sets_at, IsWalkStopped}
+use Rattle.gpu_descriptor.proofs.Newest.{OpenWalk, open_walk_start, open_walk_more, open_walk_stop, walk_sated, walk_empty, above, inside, next_is_booked, listed_now_closed, listed_now_open, listed_now_same, one_asked}
 use Rattle.gpu_descriptor.proofs.Walking.{Walking, walk_end, items_of-sets_at}
 use Rattle.gpu_descriptor.proofs.take.walk.Goals as goal
 

@@ -1,4 +1,4 @@
-use Rattle.std.proofs.Common.{◌≡◌, ◌-◌, ◌≤◌, rules, refl, sym, ap, subst, ◌∙◌, arith}
+use Rattle.std.proofs.Common.{◌≡◌, ◌-◌, rules, refl, sym, ap, ◌∙◌, arith}
 use Rattle.gpu_descriptor.specs.States.{pool_load_of, table_of}
 use Rattle.gpu_descriptor.specs.Values.{Allocations}
 use Rattle.gpu_descriptor.proofs.Requested.{keys_apart, pool_load_of_rows}

@@ -1,4 +1,4 @@
-use Rattle.std.proofs.Common.{◌≤◌, ◌+◌, length, arith, ap}
+use Rattle.std.proofs.Common.{length, arith, ap}
 use Rattle.gpu_descriptor.proofs.Listed.{few_listed}
 use Rattle.gpu_descriptor.proofs.reads.OpenPools.make_room.Goals as goal
 
