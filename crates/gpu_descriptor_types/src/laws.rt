@@ -1,4 +1,4 @@
-//! Laws of the types, which their derives keep. The functions do nothing: their contracts are the
+//! Laws of the types, which their derives and impls keep. The functions do nothing: their contracts are the
 //! laws.
 ghost use Rattle.std.specs.Prelude.{◌≡◌, ◌↔◌, IsTrue};
 ghost use Rattle.gpu_descriptor_types.specs.Counts.{kinds, no_counts};
