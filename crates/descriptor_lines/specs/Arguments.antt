@@ -15,7 +15,9 @@ use Rattle.descriptor_lines.specs.Names.{IsName}
 use Rattle.descriptor_lines.specs.Numbers.{WritesNumberWithin, value_of}
 use Rattle.descriptor_lines.specs.ScriptWords.{IsFaultOfScript, word_of_answer}
 use Rattle.descriptor_lines.specs.Tickets.{AreTickets, IsFaultOfFree, tickets_of}
-use Rattle.descriptor_lines.specs.Words.{IsUnknown}
+use Rattle.descriptor_lines.specs.Keywords.{IsUnknown, word_of_keyword}
+use Rattle.descriptor_lines.specs.declared.command.keyword.Keyword.{Keyword}
+use Rattle.descriptor_lines.specs.declared.command.keyword.Keyword.TheVariants as keyword
 use Rattle.descriptor_lines.specs.declared.fault.Fault.{Fault}
 use Rattle.descriptor_lines.specs.declared.fault.Fault.TheVariants.{UnknownCommand, LimitNotFirst, BadWordCount, BadName, NameIsTaken, NoSuchLayout, BadMark, BadNumber, TooManyLayouts}
 use Rattle.descriptor_lines.specs.declared.fault.Refusal.{Refusal}
@@ -86,19 +88,31 @@ abbrev pub IsFaultOfEnd : List (List ℕ) → Fault → Type 0
 IsFaultOfEnd [] fault = ⊥
 IsFaultOfEnd (word ∷ words) fault = fault ≡ BadWordCount
 
--- why a command is refused, by its word: memory can be wanting for `script` and `free` alone
+-- what is wrong with the words behind that of a command: memory can be wanting for `script` and `free` alone
+abbrev pub IsRefusalOfWords : Layouts → Bool → Keyword → List (List ℕ) → Refusal → Type 0
+IsRefusalOfWords layouts has_begun keyword.Limit words reason =
+    IsFaultAnd reason (IsFaultOfLimit has_begun words)
+IsRefusalOfWords layouts has_begun keyword.Layout words reason =
+    IsFaultAnd reason (IsFaultOfLayout layouts words)
+IsRefusalOfWords layouts has_begun keyword.Size words reason =
+    IsFaultAnd reason (IsFaultOfSize layouts words)
+IsRefusalOfWords layouts has_begun keyword.Script words reason =
+    IfFault reason (IsFaultOfScript words)
+IsRefusalOfWords layouts has_begun keyword.Alloc words reason =
+    IsFaultAnd reason (IsFaultOfAlloc layouts words)
+IsRefusalOfWords layouts has_begun keyword.Free words reason =
+    IfFault reason (IsFaultOfFree words)
+IsRefusalOfWords layouts has_begun keyword.Cleanup words reason =
+    IsFaultAnd reason (IsFaultOfEnd words)
+IsRefusalOfWords layouts has_begun keyword.Show words reason =
+    IsFaultAnd reason (IsFaultOfEnd words)
+
+-- why a line of these words is refused: its first word is no command, or the others are wrong
 abbrev pub IsRefusalOf : Layouts → Bool → List (List ℕ) → Refusal → Type 0
 IsRefusalOf layouts has_begun [] reason = ⊥
 IsRefusalOf layouts has_begun (word ∷ words) reason =
-    ((word ≡ codes "limit") × IsFaultAnd reason (IsFaultOfLimit has_begun words))
-    ⊎ ((word ≡ codes "layout") × IsFaultAnd reason (IsFaultOfLayout layouts words))
-    ⊎ ((word ≡ codes "size") × IsFaultAnd reason (IsFaultOfSize layouts words))
-    ⊎ ((word ≡ codes "script") × IfFault reason (IsFaultOfScript words))
-    ⊎ ((word ≡ codes "alloc") × IsFaultAnd reason (IsFaultOfAlloc layouts words))
-    ⊎ ((word ≡ codes "free") × IfFault reason (IsFaultOfFree words))
-    ⊎ ((word ≡ codes "cleanup") × IsFaultAnd reason (IsFaultOfEnd words))
-    ⊎ ((word ≡ codes "show") × IsFaultAnd reason (IsFaultOfEnd words))
-    ⊎ (IsUnknown (word ∷ words) × (reason ≡ faulty UnknownCommand))
+    (IsUnknown (word ∷ words) × (reason ≡ faulty UnknownCommand))
+    ⊎ ((keyword : Keyword) × (word ≡ word_of_keyword keyword) × IsRefusalOfWords layouts has_begun keyword words reason)
 
 -- the words of `layout` give this new layout
 pub record GiveLayout (layouts : Layouts) (name mark : List ℕ) (words : List (List ℕ)) (layout : Layout) : Type 0 where
@@ -124,19 +138,24 @@ pub record GiveAlloc (layouts : Layouts) (name count : List ℕ) (place sets : �
   pub number : WritesNumberWithin 1000000 count
   pub count_is : sets ≡ value_of count
 
+-- the words behind that of a command give the command
+abbrev pub GiveCommand : Layouts → Keyword → List (List ℕ) → Command → Type 0
+GiveCommand layouts keyword.Limit words (Limit max) = IsNumberOf words max
+GiveCommand layouts keyword.Layout (name ∷ mark ∷ words) (MakesLayout named layout) =
+    (named.now ≡ name) × GiveLayout layouts name mark words layout
+GiveCommand layouts keyword.Size (name ∷ total ∷ wanted ∷ []) (Size counts all sets) =
+    GiveSize layouts name total wanted counts all sets
+GiveCommand layouts keyword.Script words (Script script) = map word_of_answer script.items ≡ words
+GiveCommand layouts keyword.Alloc (name ∷ count ∷ []) (Alloc place sets) =
+    GiveAlloc layouts name count place sets
+GiveCommand layouts keyword.Free words (Free tickets) =
+    AreTickets words × (tickets.items ≡ flat_map tickets_of words)
+GiveCommand layouts keyword.Cleanup words Cleanup = words ≡ []
+GiveCommand layouts keyword.Show words Show = words ≡ []
+GiveCommand layouts word words command = ⊥
+
 -- a line of these words gives the command
 abbrev pub IsCommandOf : Layouts → List (List ℕ) → Command → Type 0
-IsCommandOf layouts (word ∷ words) (Limit max) = (word ≡ codes "limit") × IsNumberOf words max
-IsCommandOf layouts (word ∷ name ∷ mark ∷ words) (MakesLayout named layout) =
-    (word ≡ codes "layout") × (named.now ≡ name) × GiveLayout layouts name mark words layout
-IsCommandOf layouts (word ∷ name ∷ total ∷ wanted ∷ []) (Size counts all sets) =
-    (word ≡ codes "size") × GiveSize layouts name total wanted counts all sets
-IsCommandOf layouts (word ∷ words) (Script script) =
-    (word ≡ codes "script") × (map word_of_answer script.items ≡ words)
-IsCommandOf layouts (word ∷ name ∷ count ∷ []) (Alloc place sets) =
-    (word ≡ codes "alloc") × GiveAlloc layouts name count place sets
-IsCommandOf layouts (word ∷ words) (Free tickets) =
-    (word ≡ codes "free") × AreTickets words × (tickets.items ≡ flat_map tickets_of words)
-IsCommandOf layouts (word ∷ []) Cleanup = word ≡ codes "cleanup"
-IsCommandOf layouts (word ∷ []) Show = word ≡ codes "show"
-IsCommandOf layouts words command = ⊥
+IsCommandOf layouts [] command = ⊥
+IsCommandOf layouts (word ∷ words) command =
+    (keyword : Keyword) × (word ≡ word_of_keyword keyword) × GiveCommand layouts keyword words command

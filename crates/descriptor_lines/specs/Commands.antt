@@ -1,5 +1,5 @@
 -- What the parser knows of the command of a line.
-use Rattle.std.specs.Prelude.{◌≡◌, ◌≤◌, ◌<◌, ℕ, List, [], ◌∷◌, None}
+use Rattle.std.specs.Prelude.{◌≡◌, ◌≤◌, ◌<◌, ℕ, Bool, List, [], ◌∷◌, None, IsFalse}
 use Rattle.descriptor_script.specs.declared.command.Command as session
 use Rattle.descriptor_script.specs.declared.command.Command.TheVariants as step
 use Rattle.descriptor_lines.specs.LayoutTable.{layout_named, layout_count}
@@ -14,6 +14,11 @@ IsRunnable layouts (Limit max) = layout_count layouts ≡ 0
 IsRunnable layouts (Layout name layout) = layout_named layouts name.now ≡ None
 IsRunnable layouts (Alloc layout count) = (layout < layout_count layouts) × (count ≤ 1000000)
 IsRunnable layouts _ = Unit {0}
+
+-- a limit comes before all other commands
+abbrev pub IsInTime : Bool → Command → Type 0
+IsInTime has_begun (Limit max) = IsFalse has_begun
+IsInTime has_begun _ = Unit {0}
 
 -- there is one word, which writes this number
 abbrev pub IsNumberOf : List (List ℕ) → ℕ → Type 0

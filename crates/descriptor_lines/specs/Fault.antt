@@ -1,5 +1,5 @@
 -- What the output says of each fault.
-use Rattle.std.specs.Prelude.{◌≢◌, ℕ, List, codes}
+use Rattle.std.specs.Prelude.{ℕ, List, codes}
 use Rattle.descriptor_lines.specs.declared.fault.Fault.{Fault}
 use Rattle.descriptor_lines.specs.declared.fault.Fault.TheVariants.{LineTooLong, UnknownCommand, LimitNotFirst, BadWordCount, BadName, NameIsTaken, NoSuchLayout, BadMark, BadKind, KindTwice, BadNumber, BadAnswerWord, TooManyTickets, TooManyLayouts}
 use Rattle.descriptor_lines.specs.declared.fault.Refusal.{Refusal}
@@ -24,10 +24,6 @@ words_of_fault TooManyLayouts = codes "too many layouts"
 -- the line is refused for this fault
 abbrev pub faulty : Fault → Refusal
 faulty fault = refusal.Fault fault
-
--- the fault is not one of the first word
-abbrev pub IsOfArguments : Refusal → Type 0
-IsOfArguments reason = (reason ≢ faulty UnknownCommand) × (reason ≢ faulty LimitNotFirst)
 
 -- where it is for a fault, this holds of the fault
 abbrev pub IfFault : Refusal → (Fault → Type 0) → Type 0

@@ -3,6 +3,7 @@ pub mod Arguments
 pub mod Commands
 pub mod Exit
 pub mod Fault
+pub mod Keywords
 pub mod Kinds
 pub mod LayoutTable
 pub mod LineBuffers

@@ -1,5 +1,5 @@
 -- The words of a line.
-use Rattle.std.specs.Prelude.{◌≡◌, ℕ, Bool, true, false, List, [], ◌∷◌, ◌++◌, ◌≢◌, codes, ◌==◌, ◌||◌, filter, slice_index}
+use Rattle.std.specs.Prelude.{◌≡◌, ℕ, Bool, true, false, List, [], ◌∷◌, ◌++◌, ◌==◌, ◌||◌, filter, slice_index}
 use Rattle.std.specs.List.{slice_split}
 use Rattle.descriptor_lines.specs.declared.text.Words.{Words}
 
@@ -28,17 +28,6 @@ words_left left = words left.rest.now
 abbrev pub is_silent : List (List ℕ) → Bool
 is_silent [] = true
 is_silent (word ∷ words) = slice_index word 0 == 35
-
--- the first word of a line is `limit`
-abbrev pub IsLimit : List (List ℕ) → Type 0
-IsLimit [] = ⊥
-IsLimit (word ∷ words) = word ≡ codes "limit"
-
--- the first word of a line is no command, and begins no comment
-abbrev pub IsUnknown : List (List ℕ) → Type 0
-IsUnknown [] = ⊥
-IsUnknown (word ∷ words) =
-    (slice_index word 0 ≢ 35) × (word ≢ codes "limit") × (word ≢ codes "layout") × (word ≢ codes "size") × (word ≢ codes "script") × (word ≢ codes "alloc") × (word ≢ codes "free") × (word ≢ codes "cleanup") × (word ≢ codes "show")
 
 -- this holds of a word, with the words before it
 pub record AtWord (P : List (List ℕ) → List ℕ → Type 0) (words : List (List ℕ)) : Type 0 where

@@ -1,12 +1,13 @@
 //! The commands that lines give.
-ghost use Rattle.std.specs.Prelude.{◌≡◌, ◌≢◌, ◌↔◌, ◌<◌, ◌∷◌, codes, length, false, IsTrue, IsFalse, IsOk, IfOk, IfErr, IfSome, Ok, Err, None};
-ghost use Rattle.descriptor_lines.specs.Arguments.{IsCommandOf, IsFaultOfAlloc, IsFaultOfEnd, IsFaultOfLimit, IsFaultOfSize, IsRefusalOf};
-ghost use Rattle.descriptor_lines.specs.Commands.{IsNumberOf, IsRunnable};
-ghost use Rattle.descriptor_lines.specs.Fault.{IsFaultAnd, IsOfArguments, faulty};
+ghost use Rattle.std.specs.Prelude.{◌≡◌, ◌↔◌, IsTrue, IsFalse, IsOk, IfOk, IfErr, IfSome, OnOk, Ok, None, []};
+ghost use Rattle.descriptor_lines.specs.Arguments.{GiveCommand, IsCommandOf, IsFaultOfAlloc, IsFaultOfEnd, IsFaultOfLimit, IsFaultOfSize, IsRefusalOf, IsRefusalOfWords};
+ghost use Rattle.descriptor_lines.specs.Commands.{IsInTime, IsNumberOf, IsRunnable};
+ghost use Rattle.descriptor_lines.specs.Fault.{IsFaultAnd};
 ghost use Rattle.descriptor_lines.specs.LayoutTable.{layout_count};
 ghost use Rattle.descriptor_lines.specs.Numbers.{WritesNumberWithin, value_of};
-ghost use Rattle.descriptor_lines.specs.Words.{words as words_of, words_left, is_silent, IsLimit, IsUnknown};
+ghost use Rattle.descriptor_lines.specs.Words.{words as words_of, words_left, is_silent};
 
+mod keyword;
 mod layout;
 mod script;
 mod tickets;
@@ -17,6 +18,7 @@ use crate::text;
 use crate::text::Words;
 use descriptor_script::Answer;
 use gpu_descriptor_types::DescriptorTotalCount;
+use keyword::Keyword;
 use layout::parse_layout;
 use script::parse_script;
 use std::alloc::Global;
@@ -79,53 +81,70 @@ impl<'a> Command<'a> {
         has_begun: bool,
     ) -> Result<Option<Command<'a>>, Refusal>
         requires fresh { IsFalse has_begun → layout_count layouts.now ≡ 0 }
-        ensures unknown { result ≡ Err (faulty Fault.UnknownCommand) ↔ IsUnknown (words_of line.now) }
-        ensures first { result ≡ Err (faulty Fault.LimitNotFirst) ↔ (IsLimit (words_of line.now) × IsTrue has_begun) }
         ensures refusal { IfErr result (IsRefusalOf layouts.now has_begun (words_of line.now)) }
         ensures command { IfOk result (λ command. IfSome command (IsCommandOf layouts.now (words_of line.now))) }
+        ensures in_time { IfOk result (λ command. IfSome command (IsInTime has_begun)) }
         ensures silent { result ≡ Ok None ↔ IsTrue (is_silent (words_of line.now)) }
         ensures runnable { IfOk result (λ command. IfSome command (IsRunnable layouts.now)) }
     {
         let mut words = Words::new(line);
-        let Some(command) = words.next() else {
+        let Some(word) = words.next() else {
             return Ok(None);
         };
-        match command {
-            [b'#', ..] => Ok(None),
-            b"limit" => {
-                let max = parse_limit(words, has_begun)?;
-                Ok(Some(Command::Limit { max }))
-            }
-            b"layout" => Ok(Some(parse_layout(words, layouts)?)),
-            b"size" => Ok(Some(parse_size(words, layouts)?)),
-            b"script" => {
-                let script = parse_script(alloc, words)?;
-                Ok(Some(Command::Script { script }))
-            }
-            b"alloc" => Ok(Some(parse_alloc(words, layouts)?)),
-            b"free" => {
-                let tickets = parse_free(alloc, words)?;
-                Ok(Some(Command::Free { tickets }))
-            }
-            b"cleanup" => {
-                expect_end(words)?;
-                Ok(Some(Command::Cleanup))
-            }
-            b"show" => {
-                expect_end(words)?;
-                Ok(Some(Command::Show))
-            }
-            _ => Err(Refusal::Fault(Fault::UnknownCommand)),
+        if let [b'#', ..] = word {
+            return Ok(None);
+        }
+        let keyword = Keyword::of_word(word).ok_or(Fault::UnknownCommand)?;
+        let command = parse_words(alloc, keyword, words, layouts, has_begun)?;
+        Ok(Some(command))
+    }
+}
+
+/// The command of the words behind its first.
+fn parse_words<'a>(
+    alloc: Global,
+    keyword: Keyword,
+    words: Words<'a>,
+    layouts: &Layouts,
+    has_begun: bool,
+) -> Result<Command<'a>, Refusal>
+    requires fresh { IsFalse has_begun → layout_count layouts.now ≡ 0 }
+    ensures refusal { IfErr result (IsRefusalOfWords layouts.now has_begun keyword (words_left words.entry)) }
+    ensures command { IfOk result (GiveCommand layouts.now keyword (words_left words.entry)) }
+    ensures in_time { IfOk result (IsInTime has_begun) }
+    ensures runnable { IfOk result (IsRunnable layouts.now) }
+{
+    match keyword {
+        Keyword::Limit => {
+            let max = parse_limit(words, has_begun)?;
+            Ok(Command::Limit { max })
+        }
+        Keyword::Layout => parse_layout(words, layouts),
+        Keyword::Size => parse_size(words, layouts),
+        Keyword::Script => {
+            let script = parse_script(alloc, words)?;
+            Ok(Command::Script { script })
+        }
+        Keyword::Alloc => parse_alloc(words, layouts),
+        Keyword::Free => {
+            let tickets = parse_free(alloc, words)?;
+            Ok(Command::Free { tickets })
+        }
+        Keyword::Cleanup => {
+            expect_end(words)?;
+            Ok(Command::Cleanup)
+        }
+        Keyword::Show => {
+            expect_end(words)?;
+            Ok(Command::Show)
         }
     }
 }
 
 /// `limit N`.
 fn parse_limit(mut words: Words<'_>, has_begun: bool) -> Result<u32, Refusal>
-    ensures known { result ≢ Err (faulty Fault.UnknownCommand) }
-    ensures first { result ≡ Err (faulty Fault.LimitNotFirst) ↔ IsTrue has_begun }
-    ensures count { result ≡ Err (faulty Fault.BadWordCount) ↔ (IsFalse has_begun × (length (words_left words.entry) ≢ 1)) }
     ensures fault { IfErr result (λ reason. IsFaultAnd reason (IsFaultOfLimit has_begun (words_left words.entry))) }
+    ensures in_time { OnOk result (IsFalse has_begun) }
     ensures value { IfOk result (IsNumberOf (words_left words.entry)) }
 {
     if has_begun {
@@ -139,10 +158,8 @@ fn parse_limit(mut words: Words<'_>, has_begun: bool) -> Result<u32, Refusal>
 
 /// `size NAME TOTAL WANTED`.
 fn parse_size<'a>(mut words: Words<'a>, layouts: &Layouts) -> Result<Command<'a>, Refusal>
-    ensures arguments { IfErr result IsOfArguments }
-    ensures count { result ≡ Err (faulty Fault.BadWordCount) ↔ (length (words_left words.entry) ≢ 3) }
     ensures fault { IfErr result (λ reason. IsFaultAnd reason (IsFaultOfSize layouts.now (words_left words.entry))) }
-    ensures value { IfOk result (IsCommandOf layouts.now (codes "size" ∷ words_left words.entry)) }
+    ensures value { IfOk result (GiveCommand layouts.now Keyword.Size (words_left words.entry)) }
     ensures runnable { IfOk result (IsRunnable layouts.now) }
 {
     let (Some(name), Some(total), Some(wanted), None) = (
@@ -166,10 +183,8 @@ fn parse_size<'a>(mut words: Words<'a>, layouts: &Layouts) -> Result<Command<'a>
 
 /// `alloc NAME N`.
 fn parse_alloc<'a>(mut words: Words<'a>, layouts: &Layouts) -> Result<Command<'a>, Refusal>
-    ensures arguments { IfErr result IsOfArguments }
-    ensures count { result ≡ Err (faulty Fault.BadWordCount) ↔ (length (words_left words.entry) ≢ 2) }
     ensures fault { IfErr result (λ reason. IsFaultAnd reason (IsFaultOfAlloc layouts.now (words_left words.entry))) }
-    ensures value { IfOk result (IsCommandOf layouts.now (codes "alloc" ∷ words_left words.entry)) }
+    ensures value { IfOk result (GiveCommand layouts.now Keyword.Alloc (words_left words.entry)) }
     ensures runnable { IfOk result (IsRunnable layouts.now) }
 {
     let (Some(name), Some(count), None) = (words.next(), words.next(), words.next()) else {
@@ -183,8 +198,7 @@ fn parse_alloc<'a>(mut words: Words<'a>, layouts: &Layouts) -> Result<Command<'a
 
 /// The end of a line whose command has no arguments.
 fn expect_end(mut words: Words<'_>) -> Result<(), Refusal>
-    ensures arguments { IfErr result IsOfArguments }
-    ensures count { result ≡ Err (faulty Fault.BadWordCount) ↔ (length (words_left words.entry) ≢ 0) }
+    ensures end { OnOk result (words_left words.entry ≡ []) }
     ensures fault { IfErr result (λ reason. IsFaultAnd reason (IsFaultOfEnd (words_left words.entry))) }
 {
     if words.next().is_some() {

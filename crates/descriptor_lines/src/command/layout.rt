@@ -1,12 +1,13 @@
 //! The command that makes a layout.
-ghost use Rattle.std.specs.Prelude.{◌≡◌, ◌<◌, ◌↔◌, ◌∷◌, length, true, false, IfOk, IfErr, OnOk, codes, Ok, Err};
+ghost use Rattle.std.specs.Prelude.{◌≡◌, ◌↔◌, true, false, IfOk, IfErr, OnOk, codes, Ok};
 ghost use Rattle.gpu_descriptor_types.specs.Counts.{kinds};
-ghost use Rattle.descriptor_lines.specs.Arguments.{IsCommandOf, IsFaultOfLayout};
+ghost use Rattle.descriptor_lines.specs.Arguments.{GiveCommand, IsFaultOfLayout};
 ghost use Rattle.descriptor_lines.specs.Commands.{IsRunnable};
-ghost use Rattle.descriptor_lines.specs.Fault.{IsFaultAnd, IsOfArguments, faulty};
+ghost use Rattle.descriptor_lines.specs.Fault.{IsFaultAnd};
 ghost use Rattle.descriptor_lines.specs.Kinds.{AreKinds, GiveCounts, IsFaultOfKinds};
 ghost use Rattle.descriptor_lines.specs.Words.{words_left};
 
+use super::keyword::Keyword;
 use super::{Command, parse_u32};
 use crate::fault::{Fault, Refusal};
 use crate::layouts::{Layout, Layouts};
@@ -16,10 +17,8 @@ use gpu_descriptor_types::DescriptorTotalCount;
 
 /// `layout NAME plain` or `mark`, and the kinds with their counts.
 pub fn parse_layout<'a>(mut words: Words<'a>, layouts: &Layouts) -> Result<Command<'a>, Refusal>
-    ensures arguments { IfErr result IsOfArguments }
-    ensures count { result ≡ Err (faulty Fault.BadWordCount) ↔ (length (words_left words.entry) < 2) }
     ensures fault { IfErr result (λ reason. IsFaultAnd reason (IsFaultOfLayout layouts.now (words_left words.entry))) }
-    ensures value { IfOk result (IsCommandOf layouts.now (codes "layout" ∷ words_left words.entry)) }
+    ensures value { IfOk result (GiveCommand layouts.now Keyword.Layout (words_left words.entry)) }
     ensures runnable { IfOk result (IsRunnable layouts.now) }
 {
     let (Some(name), Some(mark)) = (words.next(), words.next()) else {
