@@ -1,5 +1,5 @@
 //! The program: lines in, answers out.
-ghost use Rattle.std.specs.Prelude.{◌≡◌, OnErr};
+ghost use Rattle.std.specs.Prelude.{◌≡◌, ◌≢◌, IsFalse, OnErr};
 ghost use Rattle.std.specs.Io.KnownBytes.{IsAtEnd, Keeps};
 ghost use Rattle.descriptor_lines.specs.Outcomes.{EndsInFault};
 ghost use Rattle.descriptor_lines.specs.Programs.{CanRun, IsUnchanged};
@@ -71,6 +71,34 @@ impl Program {
     }
 }
 
+/// Runs the lines that are to come, and says how that ends.
+fn run_to_end<R: Read, W: Write>(
+    program: &mut Program,
+    lines: &mut LineBuffer,
+    answer: &mut String,
+    input: &mut R,
+    output: &mut W,
+) -> Exit
+    requires ready { CanRun program.old }
+    requires open { IsFalse lines.old.is_at_end }
+    ensures done { result ≡ Exit.Done → IsAtEnd (R.remaining input.new) }
+    ensures bad_line { result ≡ Exit.BadLine → EndsInFault (W.contents output.old) (W.contents output.new) }
+    ensures memory { result ≢ Exit.NoMemory }
+{
+    for number in 1..=u64::MAX {
+        let outcome = match lines.next_line(input) {
+            Ok(None) => return Exit::Done,
+            Ok(Some(span)) => program.run_line(lines.line(span), answer),
+            Err(InputFault::LineTooLong) => Err(Refusal::Fault(Fault::LineTooLong)),
+            Err(InputFault::Read) => return Exit::ReadFault,
+        };
+        if let Err(exit) = answer_line(output, answer, number, outcome) {
+            return exit;
+        }
+    }
+    Exit::ReadFault
+}
+
 /// Reads lines from `input` to its end, and writes the answer of each to `output` before the next
 /// is run. It ends early at a faulty line, at a read or a write that fails, of whatever kind, and
 /// after 100000000 read calls.
@@ -86,18 +114,7 @@ pub fn run_lines<R: Read, W: Write>(alloc: Global, input: &mut R, output: &mut W
         return Exit::NoMemory;
     };
     let mut program = Program::new(alloc);
-    for number in 1..=u64::MAX {
-        let outcome = match lines.next_line(input) {
-            Ok(None) => return Exit::Done,
-            Ok(Some(span)) => program.run_line(lines.line(span), &mut answer),
-            Err(InputFault::LineTooLong) => Err(Refusal::Fault(Fault::LineTooLong)),
-            Err(InputFault::Read) => return Exit::ReadFault,
-        };
-        if let Err(exit) = answer_line(output, &mut answer, number, outcome) {
-            return exit;
-        }
-    }
-    Exit::ReadFault
+    run_to_end(&mut program, &mut lines, &mut answer, input, output)
 }
 
 #[cfg(test)]

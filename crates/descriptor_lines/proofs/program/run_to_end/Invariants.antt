@@ -2,7 +2,7 @@ use Rattle.std.proofs.Common.{List, ℕ}
 use Rattle.std.specs.Io.KnownBytes.{Appends}
 use Rattle.descriptor_lines.specs.LineBuffers.{SeesEndOf}
 use Rattle.descriptor_lines.specs.Programs.{CanRun}
-use Rattle.descriptor_lines.proofs.program.run_lines.Given as goal
+use Rattle.descriptor_lines.proofs.program.run_to_end.Given as goal
 
 -- the program can run a line, the output got the answers so far, and the end is seen where it is
 abbrev pub invariant-loop-number : goal.invariant-loop-number
