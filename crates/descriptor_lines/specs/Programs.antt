@@ -1,16 +1,19 @@
 -- What the lines so far made.
-use Rattle.std.specs.Prelude.{◌≡◌, ◌++◌, ◌∷◌, [], map, IsFalse}
+use Rattle.std.specs.Prelude.{◌≡◌, ◌⊎◌, ◌++◌, ◌∷◌, [], ℕ, List, map, true, IsTrue, IsFalse}
 use Rattle.gpu_descriptor_types.specs.Counts.{kinds}
 use Rattle.descriptor_script.specs.Device.{ledger_of, script_of}
 use Rattle.descriptor_script.specs.Raw.{pool_id, set_id}
 use Rattle.descriptor_script.specs.Ready.{IsReady}
 use Rattle.descriptor_script.specs.Session.{allocator_of, layouts_of, sets_of}
 use Rattle.descriptor_script.specs.Steps.{StepsTo}
+use Rattle.descriptor_script.specs.declared.answer.Answer.{Answer}
 use Rattle.descriptor_script.specs.declared.command.Command.{Command}
 use Rattle.descriptor_script.specs.declared.command.Command.TheVariants.{Allocate, Free, Cleanup}
 use Rattle.descriptor_script.specs.declared.command.Reply.{Reply}
 use Rattle.descriptor_script.specs.declared.raw.ScriptLayout.{ScriptLayout}
+use Rattle.descriptor_lines.specs.Arguments.{IsCommandOf}
 use Rattle.descriptor_lines.specs.LayoutTable.{SameLayouts, layout_count, layouts_in}
+use Rattle.descriptor_lines.specs.Words.{is_silent}
 use Rattle.descriptor_lines.specs.declared.command.Command as line
 use Rattle.descriptor_lines.specs.declared.command.Command.TheVariants as step
 use Rattle.descriptor_lines.specs.declared.layouts.Layout.{Layout}
@@ -29,26 +32,69 @@ pub record CanRun (p : Program) : Type 0 where
   -- before the first command there is no layout
   pub fresh : IsFalse p.has_begun → layout_count p.layouts ≡ 0
 
--- the session of the program did the command
-pub record Does (command : Command) (old new : Program) : Type 0 where
-  pub reply : Reply
-  pub step : StepsTo pool_id set_id (λ l. kinds l.counts) (λ l. l.mark) command reply old.session new.session (ledger_of old.device) (ledger_of new.device)
+-- the device has the script and the ledger that it had
+pub record KeepsDevice (old new : Program) : Type 0 where
+  pub script : script_of new.device ≡ script_of old.device
+  pub ledger : ledger_of new.device ≡ ledger_of old.device
+
+-- the session has the layouts, books and sets that it had
+pub record KeepsSession (old new : Program) : Type 0 where
+  pub known : layouts_of new.session ≡ layouts_of old.session
+  pub allocator : allocator_of new.session ≡ allocator_of old.session
+  pub sets : sets_of new.session ≡ sets_of old.session
 
 -- layouts, books, sets and ledger are as before
 pub record IsUnchanged (old new : Program) : Type 0 where
   pub layouts : SameLayouts old.layouts new.layouts
-  pub known : layouts_of new.session ≡ layouts_of old.session
-  pub allocator : allocator_of new.session ≡ allocator_of old.session
-  pub sets : sets_of new.session ≡ sets_of old.session
+  pub session : KeepsSession old new
   pub ledger : ledger_of new.device ≡ ledger_of old.device
 
+-- the session is a new one with this limit
+pub record Begins (max : ℕ) (old new : Program) : Type 0 where
+  pub allocator : allocator_of new.session ≡ record { limit = max; table = []; looks = 0; comparisons = 0 }
+  pub known : layouts_of new.session ≡ []
+  pub sets : sets_of new.session ≡ []
+  pub layouts : SameLayouts old.layouts new.layouts
+  pub device : KeepsDevice old new
+
+-- a layout of a new name came last
+pub record AddsLayout (name : List ℕ) (layout : Layout) (old new : Program) : Type 0 where
+  pub layouts : layouts_in new.layouts ≡ layouts_in old.layouts ++ (name, layout) ∷ []
+  pub allocator : allocator_of new.session ≡ allocator_of old.session
+  pub sets : sets_of new.session ≡ sets_of old.session
+  pub device : KeepsDevice old new
+
+-- the device has a new script
+pub record Loads (script : List Answer) (old new : Program) : Type 0 where
+  pub script_is : script_of new.device ≡ script
+  pub ledger : ledger_of new.device ≡ ledger_of old.device
+  pub session : KeepsSession old new
+  pub layouts : SameLayouts old.layouts new.layouts
+
+-- the session of the program did the command
+pub record Does (command : Command) (old new : Program) : Type 0 where
+  pub reply : Reply
+  pub step : StepsTo pool_id set_id (λ l. kinds l.counts) (λ l. l.mark) command reply old.session new.session (ledger_of old.device) (ledger_of new.device)
+  pub known : layouts_of new.session ≡ layouts_of old.session
+  pub layouts : SameLayouts old.layouts new.layouts
+
 -- what the command of a line does, where memory is there
-abbrev pub DoesLine : line.Command → Program → Program → Type 0
-DoesLine (step.Limit max) old new = (allocator_of new.session).limit ≡ max
-DoesLine (step.Layout name layout) old new = layouts_in new.layouts ≡ layouts_in old.layouts ++ (name.now, layout) ∷ []
-DoesLine (step.Size counts total wanted) old new = IsUnchanged old new
-DoesLine (step.Script script) old new = script_of new.device ≡ script.items
-DoesLine (step.Alloc layout count) old new = Does (Allocate layout count) old new
-DoesLine (step.Free tickets) old new = Does (Free tickets) old new
-DoesLine step.Cleanup old new = Does Cleanup old new
-DoesLine step.Show old new = IsUnchanged old new
+abbrev pub DoesCommand : line.Command → Program → Program → Type 0
+DoesCommand (step.Limit max) old new = Begins max old new
+DoesCommand (step.Layout name layout) old new = AddsLayout name.now layout old new
+DoesCommand (step.Size counts total wanted) old new = new ≡ old
+DoesCommand (step.Script script) old new = Loads script.items old new
+DoesCommand (step.Alloc layout count) old new = Does (Allocate layout count) old new
+DoesCommand (step.Free tickets) old new = Does (Free tickets) old new
+DoesCommand step.Cleanup old new = Does Cleanup old new
+DoesCommand step.Show old new = new ≡ old
+
+-- a line gave a command, and from then on one had come
+abbrev pub begun : Program → Program
+begun p = record p { has_begun = true }
+
+-- what a line does, where memory is there: nothing where it is silent, and else what its command does
+abbrev pub DoesLine : List (List ℕ) → Program → Program → Type 0
+DoesLine words old new =
+    (IsTrue (is_silent words) × (new ≡ old))
+    ⊎ ((command : line.Command) × IsCommandOf old.layouts words command × DoesCommand command (begun old) new)

@@ -1,8 +1,9 @@
 //! The program: lines in, answers out.
-ghost use Rattle.std.specs.Prelude.{◌≡◌, ◌≢◌, IsFalse, OnErr};
+ghost use Rattle.std.specs.Prelude.{◌≡◌, ◌≢◌, ◌||◌, not, IsFalse, OnOk, OnErr};
 ghost use Rattle.std.specs.Io.KnownBytes.{IsAtEnd, Keeps};
 ghost use Rattle.descriptor_lines.specs.Outcomes.{EndsInFault};
-ghost use Rattle.descriptor_lines.specs.Programs.{CanRun, IsUnchanged};
+ghost use Rattle.descriptor_lines.specs.Programs.{CanRun, DoesLine, IsUnchanged};
+ghost use Rattle.descriptor_lines.specs.Words.{words, is_silent};
 
 mod output;
 mod run;
@@ -54,7 +55,9 @@ impl Program {
     fn run_line(&mut self, line: &[u8], answer: &mut String) -> Result<(), Refusal>
         requires ready { CanRun self.old }
         ensures ready { CanRun self.new }
+        ensures does { OnOk result (DoesLine (words line.now) self.old self.new) }
         ensures err { OnErr result (IsUnchanged self.old self.new) }
+        ensures begun { self.new.has_begun ≡ (self.old.has_begun || not (is_silent (words line.now))) }
     {
         match Command::parse(self.alloc, line, &self.layouts, self.has_begun) {
             Ok(None) => Ok(()),

@@ -2,13 +2,11 @@
 ghost use Rattle.std.specs.Prelude.{◌≡◌, ◌<◌, ◌++◌, ◌∷◌, [], None, IsTrue, OnOk, OnErr, sum, string_bytes};
 ghost use Rattle.gpu_descriptor_types.specs.Counts.{kinds};
 ghost use Rattle.gpu_descriptor.specs.LayoutFlags.{is_marked};
-ghost use Rattle.descriptor_script.specs.Device.{script_of};
-ghost use Rattle.descriptor_script.specs.Session.{allocator_of};
 ghost use Rattle.descriptor_script.specs.declared.command.Command.TheVariants.{Allocate};
 ghost use Rattle.descriptor_lines.specs.Answers.{layout_answer as layout_answer_of, AnswersSize};
 ghost use Rattle.descriptor_lines.specs.Commands.{IsKnown, IsRunnable};
-ghost use Rattle.descriptor_lines.specs.LayoutTable.{layout_count, layout_named, layouts_in};
-ghost use Rattle.descriptor_lines.specs.Programs.{CanRun, Does, DoesLine, IsUnchanged};
+ghost use Rattle.descriptor_lines.specs.LayoutTable.{layout_count, layout_named};
+ghost use Rattle.descriptor_lines.specs.Programs.{AddsLayout, Begins, CanRun, Does, DoesCommand, IsUnchanged, Loads};
 
 use super::Program;
 use crate::answer;
@@ -31,8 +29,9 @@ impl Program {
         requires begun { IsTrue self.old.has_begun }
         requires runnable { IsRunnable self.old.layouts command }
         ensures ready { CanRun self.new }
-        ensures does { OnOk result (DoesLine command.entry self.old self.new) }
+        ensures does { OnOk result (DoesCommand command.entry self.old self.new) }
         ensures err { OnErr result (IsUnchanged self.old self.new) }
+        ensures begun { IsTrue self.new.has_begun }
     {
         match command {
             Command::Limit { max } => self.begin(max, answer),
@@ -55,8 +54,9 @@ impl Program {
         requires ready { CanRun self.old }
         requires empty { layout_count self.old.layouts ≡ 0 }
         ensures ready { CanRun self.new }
-        ensures limit { OnOk result ((allocator_of self.new.session).limit ≡ max) }
+        ensures begins { OnOk result (Begins max self.old self.new) }
         ensures err { OnErr result (IsUnchanged self.old self.new) }
+        ensures begun { self.new.has_begun ≡ self.old.has_begun }
     {
         answer::limit_answer(answer, max)?;
         self.session = Session::new(self.alloc, max);
@@ -74,9 +74,10 @@ impl Program {
         requires begun { IsTrue self.old.has_begun }
         requires absent { layout_named self.old.layouts name.now ≡ None }
         ensures ready { CanRun self.new }
-        ensures named { OnOk result (layouts_in self.new.layouts ≡ layouts_in self.old.layouts ++ (name.now, layout) ∷ []) }
+        ensures adds { OnOk result (AddsLayout name.now layout self.old self.new) }
         ensures answered { OnOk result (string_bytes answer.new ≡ string_bytes answer.old ++ layout_answer_of name.now (sum (kinds layout.counts))) }
         ensures err { OnErr result (IsUnchanged self.old self.new) }
+        ensures begun { self.new.has_begun ≡ self.old.has_begun }
     {
         answer::layout_answer(answer, name, &layout.counts)?;
         let name = self.layouts.kept_name(name)?;
@@ -96,8 +97,9 @@ impl Program {
     fn load(&mut self, script: Vec<Answer>, answer: &mut String) -> Result<(), AllocError>
         requires ready { CanRun self.old }
         ensures ready { CanRun self.new }
-        ensures loaded { OnOk result (script_of self.new.device ≡ script.items) }
+        ensures loads { OnOk result (Loads script.items self.old self.new) }
         ensures err { OnErr result (IsUnchanged self.old self.new) }
+        ensures begun { self.new.has_begun ≡ self.old.has_begun }
     {
         answer::script_answer(answer, script.len())?;
         self.device.load(script);
@@ -111,6 +113,7 @@ impl Program {
         ensures ready { CanRun self.new }
         ensures does { OnOk result (Does (Allocate layout count) self.old self.new) }
         ensures err { OnErr result (IsUnchanged self.old self.new) }
+        ensures begun { self.new.has_begun ≡ self.old.has_begun }
     {
         // The text has its room before the command is run.
         answer.reserve(answer::room_for_sets(count))?;
@@ -124,6 +127,7 @@ impl Program {
         ensures ready { CanRun self.new }
         ensures does { OnOk result (Does command self.old self.new) }
         ensures err { OnErr result (IsUnchanged self.old self.new) }
+        ensures begun { self.new.has_begun ≡ self.old.has_begun }
     {
         let replies = self.session.run(&mut self.device, &[command])?;
         match replies[0] {

@@ -17,7 +17,7 @@ pub returns-in-NoMemory-clause-err : goal.returns-in-NoMemory-clause-err
 returns-in-NoMemory-clause-err c =
     let step = step_of_one c.args.command c.in_ok-replies.replies.items c.index.result.now c.args.self.now.session c.run.new.self (ledger_of c.args.self.now.device) (ledger_of c.run.new.device) c.in_ok-replies.ensures.runs c.index.ensures in
     let same = no_memory_changes_nothing c.args.command c.args.self.now.session c.run.new.self (ledger_of c.args.self.now.device) (ledger_of c.run.new.device) (rw c.in-NoMemory.is at step) in
-    record { layouts = refl; known = c.run.ensures.layouts; allocator = same.allocator; sets = same.sets; ledger = same.ledger }
+    record { layouts = refl; session = record { known = c.run.ensures.layouts; allocator = same.allocator; sets = same.sets }; ledger = same.ledger }
 
 pub reply_answer-requires : goal.reply_answer-requires
 reply_answer-requires c =
@@ -32,6 +32,9 @@ returns c = record {
   does = record {
     reply = c.index.result.now;
     step = step_of_one c.args.command c.in_ok-replies.replies.items c.index.result.now c.args.self.now.session c.run.new.self (ledger_of c.args.self.now.device) (ledger_of c.run.new.device) c.in_ok-replies.ensures.runs c.index.ensures;
+    known = c.run.ensures.layouts;
+    layouts = refl;
   };
   err = tt;
+  begun = refl;
 }
