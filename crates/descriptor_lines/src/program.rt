@@ -84,6 +84,7 @@ fn run_to_end<R: Read, W: Write>(
 ) -> Exit
     requires ready { CanRun program.old }
     requires open { IsFalse lines.old.is_at_end }
+    requires reads { lines.old.reads_left ≡ 100000000 }
     ensures done { result ≡ Exit.Done → IsAtEnd (R.remaining input.new) }
     ensures bad_line { result ≡ Exit.BadLine → EndsInFault (W.contents output.old) (W.contents output.new) }
     ensures memory { result ≢ Exit.NoMemory }
