@@ -1,7 +1,7 @@
 -- The walk over the open pools: the pools between them have nothing to give.
-use Rattle.std.proofs.Common.{◌≡◌, ℕ, zero, suc, ◌+◌, ◌-◌, ◌<◌, ◌≤◌, List, [], ◌∷◌, ◌++◌, length, min, slice_set, nat_lt, true, Bool, ◌&&◌, if◌then◌else◌, Option, Some, None, refl, sym, ap, ◌∙◌, subst, arith, inl, inr}
+use Rattle.std.proofs.Common.{◌≡◌, ℕ, zero, suc, ◌+◌, ◌-◌, ◌<◌, ◌≤◌, List, [], ◌∷◌, ◌++◌, length, get_or, min, slice_set, nat_lt, true, Bool, ◌&&◌, if◌then◌else◌, Option, Some, None, refl, sym, ap, ◌∙◌, subst, arith, inl, inr}
 use Rattle.std.proofs.lemmas.List.{length-map, map-set, length-set}
-use Rattle.std.proofs.lemmas.Option.{slice_get-map, slice_get_within}
+use Rattle.std.proofs.lemmas.Option.{slice_get-map, slice_get_read, slice_get_within}
 use Rattle.std.proofs.lemmas.Bool.{lt-ltb, cases_lt}
 use Rattle.std.specs.List.{slice_get}
 use Rattle.std.specs.Prelude.{option_map}
@@ -40,7 +40,7 @@ pub record OpenWalk {P : Type 0} (name : P → ℕ) (k : Key) (n first wanting :
   pub closed : (j : ℕ) (e : Entry) → left ≤ j → slice_get (entries_of name items) j ≡ Some e → min wanting e.free ≡ 0
   pub walking : Walking k n first left wanting out old (entries_of name items) l m
 
-module _ {P : Type 0} (name : P → ℕ) (k : Key) (n first wanting : ℕ) (out : List Item) (old : List Entry) (items : List (DescriptorPool P)) (numbers : List ℕ) (l m : Ledger)
+module _ {P : Type 0} {name : P → ℕ} {k : Key} {n first wanting : ℕ} {out : List Item} {old : List Entry} {items : List (DescriptorPool P)} {numbers : List ℕ} {l m : Ledger}
     (booked : AreBookedIn k l.pools old) (s : OpenWalk name k n first wanting out old items numbers l m) where
   free_get : (j : ℕ) (e : Entry) → slice_get (entries_of name items) j ≡ Some e → slice_get (free_in items) j ≡ Some e.free
   free_get j e at = by_pool (slice_get items j) refl
@@ -72,6 +72,10 @@ module _ {P : Type 0} (name : P → ℕ) (k : Key) (n first wanting : ℕ) (out 
 
     pub inside : number - first < length items
     inside = (let a = slice_get_within (free_in items) newest.place newest.free newest.at in let b = length-map items (λ p. p.available) in let c = place_is in omega arith)
+
+    -- the pool that is looked at
+    pub looked_at : (p : DescriptorPool P) → p ≡ get_or items (number - first) p → slice_get items (number - first) ≡ Some p
+    looked_at p is = slice_get_read items (length items) (number - first) p refl inside is
 
     newer : (j i : ℕ) → number - first < j → slice_get (free_in items) j ≡ Some i → i ≡ 0
     newer j i lt at = newest.newer j i (let c = place_is in omega arith) at
