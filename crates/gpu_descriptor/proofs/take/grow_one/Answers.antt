@@ -1,8 +1,7 @@
 use Rattle.std.proofs.Common.{◌≡◌, ℕ, ◌+◌, ◌-◌, ◌≤◌, ◌++◌, List, [], ◌∷◌, length, map, min, refl, sym, ap, ◌∙◌, subst, arith}
 use Rattle.std.proofs.lemmas.List.{length-map, map-append}
 use Rattle.std.specs.Prelude.{Some}
-use Rattle.gpu_descriptor_types.specs.Flags.{bits}
-use Rattle.gpu_descriptor_types.specs.Ledger.{Ledger, after_create, after_alloc, after_destroy, live_sets, HasNoSets, fresh}
+use Rattle.gpu_descriptor_types.specs.Ledger.{Ledger, after_alloc, after_destroy, live_sets, HasNoSets, fresh}
 use Rattle.gpu_descriptor_types.specs.PoolSize.{pool_counts}
 use Rattle.gpu_descriptor.specs.declared.bucket.DescriptorPool.{DescriptorPool}
 use Rattle.gpu_descriptor.specs.declared.set.BucketKey.{BucketKey}
@@ -14,7 +13,7 @@ use Rattle.gpu_descriptor.specs.Stored.{entry_of}
 use Rattle.gpu_descriptor.specs.Walk.{entries_of, sets_at}
 use Rattle.gpu_descriptor.proofs.NextSize.{one_fits}
 use Rattle.gpu_descriptor.proofs.Asks.{same_entry}
-use Rattle.gpu_descriptor.proofs.Grows.{created_at, fresh_room, no_sets, grown, not_grown, not_created, not_begun, create_asked, alloc_asked}
+use Rattle.gpu_descriptor.proofs.Grows.{created_for, created_at, fresh_room, no_sets, grown, not_grown, not_created, not_begun, create_asked, alloc_asked}
 use Rattle.gpu_descriptor.proofs.take.grow_one.Goals as goal
 
 pub alloc_descriptor_sets-requires-clause-fits : goal.alloc_descriptor_sets-requires-clause-fits
@@ -24,10 +23,7 @@ alloc_descriptor_sets-requires-clause-fits g c =
     let name : ℕ = g.D.DescriptorDevice.pool_name c.in-Ok.raw in
     let l : Ledger = g.D.DescriptorDevice.ledger c.args.device.now in
     let m : Ledger = g.D.DescriptorDevice.ledger c.create_descriptor_pool.new.self in
-    let counts : g.D.DescriptorDevice.layout_counts c.args.layout.now ≡ key.counts = sym (ap (λ (k : Key). k.counts) c.requires.same) in
-    let sized = c.in-Some.ensures in
-    let same_flags : bits c.pool_flags-flags.result ≡ flags_of key = c.pool_flags-flags.ensures in
-    let made : m ≡ after_create (pool_counts key.counts size) size (flags_of key) name l = c.in-Ok.ensures.ok ∙ ap (λ cs. after_create cs size (bits c.pool_flags-flags.result) name l) sized.counts ∙ ap (λ b. after_create (pool_counts key.counts size) size b name l) same_flags in
+    let made = created_for key size name _ _ l m c.in-Some.ensures.counts c.pool_flags-flags.ensures c.in-Ok.ensures.ok in
     let few : c.min-given.result ≤ size = (let a = c.min-given.ensures in omega arith) in
     let at = created_at key size name l m made in
     let keyed = subst (λ (k : Key). m.pools name ≡ Some (fresh (pool_counts k.counts size) size (flags_of k))) c.requires.same at in
@@ -40,10 +36,7 @@ destroy_descriptor_pool-requires g c =
     let name : ℕ = g.D.DescriptorDevice.pool_name c.in-Ok.raw in
     let l : Ledger = g.D.DescriptorDevice.ledger c.args.device.now in
     let m : Ledger = g.D.DescriptorDevice.ledger c.create_descriptor_pool.new.self in
-    let counts : g.D.DescriptorDevice.layout_counts c.args.layout.now ≡ key.counts = sym (ap (λ (k : Key). k.counts) c.requires.same) in
-    let sized = c.in-Some.ensures in
-    let same_flags : bits c.pool_flags-flags.result ≡ flags_of key = c.pool_flags-flags.ensures in
-    let made : m ≡ after_create (pool_counts key.counts size) size (flags_of key) name l = c.in-Ok.ensures.ok ∙ ap (λ cs. after_create cs size (bits c.pool_flags-flags.result) name l) sized.counts ∙ ap (λ b. after_create (pool_counts key.counts size) size b name l) same_flags in
+    let made = created_for key size name _ _ l m c.in-Some.ensures.counts c.pool_flags-flags.ensures c.in-Ok.ensures.ok in
     let m' : Ledger = g.D.DescriptorDevice.ledger c.alloc_descriptor_sets.new.self in
     subst (λ (q : ℕ). HasNoSets q m') (sym c.in-Err-alloc_descriptor_sets.ensures.name) (no_sets key size name c.in-Err-alloc_descriptor_sets.error m m' (created_at key size name l m made) c.in-Err-alloc_descriptor_sets.ensures.err.ledger)
 
@@ -54,15 +47,12 @@ returns-in-Err-alloc_descriptor_sets-clause-err g c =
     let name : ℕ = g.D.DescriptorDevice.pool_name c.in-Ok.raw in
     let l : Ledger = g.D.DescriptorDevice.ledger c.args.device.now in
     let m : Ledger = g.D.DescriptorDevice.ledger c.create_descriptor_pool.new.self in
-    let counts : g.D.DescriptorDevice.layout_counts c.args.layout.now ≡ key.counts = sym (ap (λ (k : Key). k.counts) c.requires.same) in
-    let sized = c.in-Some.ensures in
-    let same_flags : bits c.pool_flags-flags.result ≡ flags_of key = c.pool_flags-flags.ensures in
-    let made : m ≡ after_create (pool_counts key.counts size) size (flags_of key) name l = c.in-Ok.ensures.ok ∙ ap (λ cs. after_create cs size (bits c.pool_flags-flags.result) name l) sized.counts ∙ ap (λ b. after_create (pool_counts key.counts size) size b name l) same_flags in
+    let made = created_for key size name _ _ l m c.in-Some.ensures.counts c.pool_flags-flags.ensures c.in-Ok.ensures.ok in
     let m' : Ledger = g.D.DescriptorDevice.ledger c.alloc_descriptor_sets.new.self in
     let m'' : Ledger = g.D.DescriptorDevice.ledger c.destroy_descriptor_pool.new.self in
     let gone : m'' ≡ after_destroy name m' = c.destroy_descriptor_pool.ensures ∙ ap (λ q. after_destroy q m') c.in-Err-alloc_descriptor_sets.ensures.name in
     let err = c.in-Err-alloc_descriptor_sets.ensures.err in
-    (err.kept ∙ c.aim.ensures.sets, ap (λ x. x.now.items) c.count_fresh.ensures.pools ∙ c.make_room.ensures.pools, not_grown key size name c.in-Err-alloc_descriptor_sets.error l m m' m'' c.in-Ok.ensures.new_name made err.ledger gone, one_fits key c.args.room.now c.args.total c.args.wanted size sized.sets, refl)
+    (err.kept ∙ c.aim.ensures.sets, ap (λ x. x.now.items) c.count_fresh.ensures.pools ∙ c.make_room.ensures.pools, not_grown key size name c.in-Err-alloc_descriptor_sets.error l m m' m'' c.in-Ok.ensures.new_name made err.ledger gone, one_fits key c.args.room.now c.args.total c.args.wanted size c.in-Some.ensures.sets, refl)
 
 pub returns-in-Ok-alloc_descriptor_sets-clause-grown : goal.returns-in-Ok-alloc_descriptor_sets-clause-grown
 returns-in-Ok-alloc_descriptor_sets-clause-grown g c =
@@ -71,17 +61,14 @@ returns-in-Ok-alloc_descriptor_sets-clause-grown g c =
     let name : ℕ = g.D.DescriptorDevice.pool_name c.in-Ok.raw in
     let l : Ledger = g.D.DescriptorDevice.ledger c.args.device.now in
     let m : Ledger = g.D.DescriptorDevice.ledger c.create_descriptor_pool.new.self in
-    let counts : g.D.DescriptorDevice.layout_counts c.args.layout.now ≡ key.counts = sym (ap (λ (k : Key). k.counts) c.requires.same) in
-    let sized = c.in-Some.ensures in
-    let same_flags : bits c.pool_flags-flags.result ≡ flags_of key = c.pool_flags-flags.ensures in
-    let made : m ≡ after_create (pool_counts key.counts size) size (flags_of key) name l = c.in-Ok.ensures.ok ∙ ap (λ cs. after_create cs size (bits c.pool_flags-flags.result) name l) sized.counts ∙ ap (λ b. after_create (pool_counts key.counts size) size b name l) same_flags in
+    let made = created_for key size name _ _ l m c.in-Some.ensures.counts c.pool_flags-flags.ensures c.in-Ok.ensures.ok in
     let m' : Ledger = g.D.DescriptorDevice.ledger c.alloc_descriptor_sets.new.self in
     let put = c.in-Ok-alloc_descriptor_sets.ensures.ok in
     let names : List ℕ = map g.D.DescriptorDevice.set_name put.sets in
     let count = c.min-given.ensures in
     let many : length put.sets ≡ c.min-given.result = put.many ∙ c.new.ensures.left in
     let long : length names ≡ min size c.args.wanted = length-map put.sets g.D.DescriptorDevice.set_name ∙ many ∙ count in
-    let is : m' ≡ after_alloc name (live_sets key.counts names) m = put.ledger ∙ ap (λ cs. after_alloc name (live_sets cs names) m) (ap g.D.DescriptorDevice.layout_counts c.new.ensures.layout ∙ counts) in
+    let is : m' ≡ after_alloc name (live_sets key.counts names) m = put.ledger ∙ ap (λ cs. after_alloc name (live_sets cs names) m) (ap g.D.DescriptorDevice.layout_counts c.new.ensures.layout ∙ sym (ap (λ (k : Key). k.counts) c.requires.same)) in
     let old : List Entry = entries_of g.D.DescriptorDevice.pool_name c.args.view.now.pools.now.items in
     let new : List Entry = entries_of g.D.DescriptorDevice.pool_name c.push.new.self.pools.now.items in
     let value : DescriptorPool g.row.P.Denot = record { raw = c.alloc_descriptor_sets.new.pool; capacity = size; allocated = c.min-given.result; available = size - c.min-given.result } in
@@ -93,7 +80,7 @@ returns-in-Ok-alloc_descriptor_sets-clause-grown g c =
     let number : c.aim.new.self.number ≡ c.args.view.now.offset + length c.args.view.now.pools.now.items = c.aim.ensures.number ∙ c.next_number.ensures ∙ (let k = c.make_room.ensures.kept.0 in let same = ap length c.make_room.ensures.pools in omega arith) in
     let kept : c.alloc_descriptor_sets.new.sets.sets.items ≡ c.args.sink.now.sets.items ++ sets_at c.args.key.now (c.args.view.now.offset + length c.args.view.now.pools.now.items) put.sets = put.kept ∙ ap (λ (l : List (DescriptorSet g.row.S.Denot)). l ++ sets_at c.aim.new.self.key c.aim.new.self.number put.sets) c.aim.ensures.sets ∙ ap (λ (k : BucketKey). c.args.sink.now.sets.items ++ sets_at k c.aim.new.self.number put.sets) c.aim.ensures.key ∙ ap (λ (n : ℕ). c.args.sink.now.sets.items ++ sets_at c.args.key.now n put.sets) number in
     let room : c.alloc_descriptor_sets.new.sets.left + c.min-given.result ≡ c.args.sink.now.left = (let r = put.room in let n = c.new.ensures.left in let a = c.aim.ensures.left in omega arith) in
-    (put.sets, many, kept, room, grown key c.args.room.now _ c.args.total c.args.wanted size name names old new l m m' sized.sets (let fits = sized.room.0 in let load = c.descriptors_of_pool.ensures in omega arith) long c.in-Ok.ensures.new_name made is now)
+    (put.sets, many, kept, room, grown key c.args.room.now _ c.args.total c.args.wanted size name names old new l m m' c.in-Some.ensures.sets (let fits = c.in-Some.ensures.room.0 in let load = c.descriptors_of_pool.ensures in omega arith) long c.in-Ok.ensures.new_name made is now)
 
 pub returns-then-not-make_room-clause-err : goal.returns-then-not-make_room-clause-err
 returns-then-not-make_room-clause-err g c =
