@@ -12,6 +12,7 @@ pub mod Freed
 pub mod Fronts
 pub mod Growing
 pub mod Grows
+pub mod Holding
 pub mod KeepKey
 pub mod KeepState
 pub mod KeepSteps

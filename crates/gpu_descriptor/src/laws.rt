@@ -7,8 +7,8 @@ ghost use Rattle.gpu_descriptor_types.specs.Ledger.{Ledger};
 ghost use Rattle.gpu_descriptor.specs.Release.{ReleaseParts, ReleaseGone, ReleaseOrder, ReleaseEach, ReleaseSingly, ReleaseNone, ReleaseAgrees, ReleaseTakes};
 ghost use Rattle.gpu_descriptor.specs.OtherKeys.{ReleaseOthers};
 ghost use Rattle.gpu_descriptor.specs.Cleanup.{CleanAgain, CleanAgainNone, CleanAll, CleanAllGone, CleanOnce, CleanAgrees, CleanTakesNone};
-ghost use Rattle.gpu_descriptor.specs.Agreement.{AgreesOnce, BookedIsListed, EmptyAgrees, OwnAgrees, OwnOutstanding};
-ghost use Rattle.gpu_descriptor.specs.Books.{HasDistinctKeys, SumByBooks};
+ghost use Rattle.gpu_descriptor.specs.Agreement.{AgreesOnce, BookedIsListed, EmptyAgrees, Item, OwnAgrees, OwnOutstanding, item_eq};
+ghost use Rattle.gpu_descriptor.specs.Books.{HasDistinctKeys, Key, SumByBooks, key_eq};
 ghost use Rattle.gpu_descriptor.specs.Load.{IsMarkedLoad, IsOut, IsPoolLoad, MarkedWithinPools, PoolLoadIsCounts, PoolLoadIsCreated, OutIsLength, OutIsSize};
 ghost use Rattle.gpu_descriptor.specs.States.{marked_load_of, outstanding_of, pool_load_of, state_of, table_of};
 ghost use Rattle.gpu_descriptor.specs.Values.{Allocations};
@@ -100,6 +100,12 @@ pub fn out_is_outstanding()
 pub fn others_are_free()
     ensures agrees { OwnAgrees }
     ensures outstanding { OwnOutstanding }
+{}
+
+/// Keys and items are equal exactly where the tests by which they are counted say so.
+pub fn items_are_their_parts()
+    ensures keys { (k l : Key) → IsTrue (key_eq k l) ↔ (k ≡ l) }
+    ensures items { (s t : Item) → IsTrue (item_eq s t) ↔ (s ≡ t) }
 {}
 
 /// Flags of a layout are equal exactly where their bits are, and equal flags hash alike. A clone

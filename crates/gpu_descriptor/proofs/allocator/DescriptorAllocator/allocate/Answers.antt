@@ -20,9 +20,9 @@ use Rattle.gpu_descriptor.specs.Promises.{AreOfKey}
 use Rattle.gpu_descriptor.specs.Values.{Allocations}
 use Rattle.gpu_descriptor.proofs.Allocating.{taken_agree, taken_given, taken_out, taken_own, taken_others, taken_leaves, went_back, back_out, back_leaves, back_others, back_totals, kept, kept_many, kept_totals}
 use Rattle.gpu_descriptor.proofs.Foreign.{foreign_same}
+use Rattle.gpu_descriptor.proofs.Holding.{out_front}
 use Rattle.gpu_descriptor.proofs.Promises.{has_cause, short}
 use Rattle.gpu_descriptor.proofs.Requested.{keys_apart, load_of_rows}
-use Rattle.gpu_descriptor.proofs.Rollback.{front_out}
 use Rattle.gpu_descriptor.proofs.allocator.DescriptorAllocator.allocate.Goals as goal
 
 pub returns-in-Err-clause-outcome : goal.returns-in-Err-clause-outcome
@@ -46,7 +46,7 @@ free_from-requires-clause-outstanding g c xs t y =
     let set_name = g.D.DescriptorDevice.set_name in
     let now : State = state_of name c.request.new.self (g.D.DescriptorDevice.ledger c.request.new.device) in
     let out : AreOutstanding (items_of set_name c.in-Ok.given.0.items) now = taken_given name set_name _ _ _ _ _ _ _ _ c.in-Ok.ensures.taken c.requires.agree in
-    front_out set_name xs (into_iter_items t) c.in-Ok.given.0.items now (sym c.into_iter-back.ensures.rest ∙ taken_front c.into_iter-back.result xs t y) out
+    out_front set_name xs (into_iter_items t) c.in-Ok.given.0.items now (sym c.into_iter-back.ensures.rest ∙ taken_front c.into_iter-back.result xs t y) out
 
 pub returns-in-Ok-taken-clause-outcome : goal.returns-in-Ok-taken-clause-outcome
 returns-in-Ok-taken-clause-outcome g c =
