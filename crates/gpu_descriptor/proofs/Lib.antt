@@ -22,6 +22,7 @@ pub mod Lent
 pub mod Listed
 pub mod Loads
 pub mod Looks
+pub mod Lost
 pub mod Meets
 pub mod NewPools
 pub mod Newest

@@ -9,7 +9,7 @@ use Rattle.gpu_descriptor.specs.States.{outstanding_of, marked_load_of}
 use Rattle.gpu_descriptor.specs.Stored.{row_of}
 use Rattle.gpu_descriptor.specs.Values.{Allocations}
 use Rattle.gpu_descriptor.proofs.Cleaning.{clean_agrees, takes_none}
-use Rattle.gpu_descriptor.proofs.Foreign.{cleaned_foreign}
+use Rattle.gpu_descriptor.proofs.Foreign.{cleaned_foreign, cleaned_loses}
 use Rattle.gpu_descriptor.proofs.Loads.{rows_out, rows_load, rows_pool_load}
 use Rattle.gpu_descriptor.proofs.Requested.{keys_apart}
 use Rattle.gpu_descriptor.proofs.RowsCleaned.{next, next_stored, step_rows, step_less, agree_is, ledger_less, cleared, whole_clean, whole_count, pools_put, counted_put, counted_filter}
@@ -90,6 +90,7 @@ returns g c =
       pool_load = (let rows = rows_pool_load c.retain.new.self.entries in let is = counted.is_room in omega arith);
       agree = clean_agrees _ _ c.requires clean;
       foreign = cleaned_foreign _ _ clean;
+      accounted = cleaned_loses _ _ clean;
       limit = h.limit ∙ ap (λ (a : Allocations _). a.limit) c.self.view_is;
       counts_stay = (h.looks ∙ ap (λ (a : Allocations _). a.looks) c.self.view_is, h.comparisons ∙ ap (λ (a : Allocations _). a.comparisons) c.self.view_is);
     }
