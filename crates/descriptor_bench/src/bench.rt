@@ -56,7 +56,6 @@ impl Bench {
         requires { AreOutstanding (items_of name_of sets.items) (state_in self.old) }
         ensures { AreOutBesides (items_of name_of sets.items) (state_in self.new) (state_in self.old) }
     {
-        laws::release_parts();
         self.allocator.free(&mut self.device, sets);
     }
 

@@ -6,11 +6,10 @@ use Rattle.std.proofs.lemmas.Option.{same_Some}
 use Rattle.std.specs.Iterator.{HoldsAlong, Yields}
 use Rattle.std.specs.Option.{IsSome, is_some}
 use Rattle.gpu_descriptor_types.proofs.Counting.{count_by-append}
-use Rattle.gpu_descriptor.specs.Agreement.{Agree, AreOutstanding, Item, State, count_of, item_eq, outstanding}
-use Rattle.gpu_descriptor.specs.Release.{released}
+use Rattle.gpu_descriptor.specs.Agreement.{AreOutstanding, Item, State, count_of, item_eq}
+use Rattle.gpu_descriptor.specs.Promises.{AreOutBesides}
 use Rattle.gpu_descriptor.specs.Sets.{item_of, items_of}
 use Rattle.gpu_descriptor.specs.declared.set.DescriptorSet.{DescriptorSet}
-use Rattle.gpu_descriptor.proofs.Kept.{takes}
 use Rattle.descriptor_script.specs.Session.{AreAllHeld}
 use Rattle.descriptor_script.specs.Taking.{TakesNext, slots_in, to_come}
 use Rattle.descriptor_script.specs.Tickets.{AreHeldOnce, CanTake, emptied, held_sets, set_at}
@@ -171,12 +170,11 @@ module _ {S : Type 0} where
       omega arith
 
   -- what went back is held no longer
-  pub all_held_less : (name : S → ℕ) (xs : List (DescriptorSet S)) (s t : Taking S) (old new : State) → Agree old → AreAllHeld name (slots_in s) old → Yields TakesNext s xs t → new ≡ released (items_of name xs) old → AreAllHeld name (slots_in t) new
-  all_held_less name xs s t old new agree held y gone i =
-      let back = takes (items_of name xs) old agree (all_out name s old held xs t y) i in
+  pub all_held_less : (name : S → ℕ) (xs : List (DescriptorSet S)) (s t : Taking S) (old new : State) → AreAllHeld name (slots_in s) old → Yields TakesNext s xs t → AreOutBesides (items_of name xs) new old → AreAllHeld name (slots_in t) new
+  all_held_less name xs s t old new held y less i =
+      let back = less i in
       let all = counted name i xs s t y in
       let h = held i in
-      let e = ap (λ (w : State). outstanding w i) gone in
       omega arith
 
   pub held_as : (name : S → ℕ) (a b : List (Option (DescriptorSet S))) (state : State) → a ≡ b → AreAllHeld name b state → AreAllHeld name a state

@@ -9,4 +9,3 @@ mod Promised
 mod Running
 mod Trips
 mod Written
-pub mod Holding

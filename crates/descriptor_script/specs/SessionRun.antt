@@ -2,7 +2,7 @@
 use Rattle.std.specs.Prelude.{◌≡◌, ℕ, ◌≤◌, Bool, List, [], ◌∷◌, length}
 use Rattle.gpu_descriptor_types.specs.Ledger.{Ledger}
 use Rattle.gpu_descriptor.specs.Books.{HasDistinctKeys}
-use Rattle.gpu_descriptor.specs.Foreign.{KeepsForeign}
+use Rattle.gpu_descriptor.specs.Foreign.{KeepsForeign, LosesNone}
 use Rattle.gpu_descriptor.specs.States.{Agrees, marked_load_of, pool_load_of, outstanding_of, state_of, table_of}
 use Rattle.descriptor_script.specs.Session.{AreAllHeld, allocator_of, layouts_of, sets_of}
 use Rattle.descriptor_script.specs.Steps.{StepsTo}
@@ -34,6 +34,7 @@ module _ {L P S : Type 0} (pool_name : P → ℕ) (set_name : S → ℕ) (counts
     -- no key has two rows
     pub rows : HasDistinctKeys (table_of pool_name (allocator_of new))
     pub foreign : KeepsForeign (state_of pool_name (allocator_of old) before) (state_of pool_name (allocator_of new) after)
+    pub accounted : LosesNone (state_of pool_name (allocator_of old) before) (state_of pool_name (allocator_of new) after)
 
   -- the commands were done in order, each with the reply at its place
   abbrev pub RunsTo : List Command → List Reply → Session L P S → Session L P S → Ledger → Ledger → Type 0

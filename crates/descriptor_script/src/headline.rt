@@ -4,7 +4,7 @@
 //! descriptors never pass the limit, and a request fails only for a named cause.
 ghost use Rattle.std.specs.Prelude.{◌≡◌, IfOk, OnErr};
 ghost use Rattle.gpu_descriptor.specs.Books.{HasDistinctKeys};
-ghost use Rattle.gpu_descriptor.specs.Foreign.{KeepsForeign};
+ghost use Rattle.gpu_descriptor.specs.Foreign.{KeepsForeign, LosesNone};
 ghost use Rattle.gpu_descriptor.specs.States.{Agrees, state_of, table_of};
 ghost use Rattle.descriptor_script.specs.Headline.{CallsOnceARun, FailsForCause, FreesOneByOne, HoldsExactly, HoldsWhatIsOut, KeepsAll, KeepsLimit, TurnsDownBad};
 ghost use Rattle.descriptor_script.specs.Session.{AreAllHeld, AreMeant, allocator_of, layouts_of, sets_of};
@@ -60,8 +60,9 @@ pub fn headline<L, P: Drop, S: Drop, D: DescriptorDevice<L, P, S>>(
     ensures session { OnErr result (session.new ≡ session.old) }
     ensures ledger { OnErr result (D.ledger device.new ≡ D.ledger device.old) }
 
-    // Pools of others stay over the whole run, and the next call may be made.
+    // Pools of others stay over the whole run, none is lost, and the next call may be made.
     ensures foreign { KeepsForeign (state_of D.pool_name (allocator_of session.old) (D.ledger device.old)) (state_of D.pool_name (allocator_of session.new) (D.ledger device.new)) }
+    ensures accounted { LosesNone (state_of D.pool_name (allocator_of session.old) (D.ledger device.old)) (state_of D.pool_name (allocator_of session.new) (D.ledger device.new)) }
     ensures agree { Agrees D.pool_name (allocator_of session.new) (D.ledger device.new) }
     ensures held { AreAllHeld D.set_name (sets_of session.new) (state_of D.pool_name (allocator_of session.new) (D.ledger device.new)) }
     ensures rows { HasDistinctKeys (table_of D.pool_name (allocator_of session.new)) }

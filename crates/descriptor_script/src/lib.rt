@@ -31,6 +31,7 @@ mod taking;
 mod tests;
 #[cfg(test)]
 mod trip;
+pub mod visit;
 
 pub use answer::Answer;
 pub use command::{Command, Reply};

@@ -1,12 +1,10 @@
--- A pool that is created and destroyed, and sets that come and go.
-use Rattle.std.proofs.Common.{◌≡◌, ℕ, List, None, Some, inl, inr, nat_eq, eqb-true, refl, sym, ap, ◌∙◌, arith}
+-- A pool that is created and destroyed.
+use Rattle.std.proofs.Common.{◌≡◌, ℕ, List, None, Some, inl, inr, nat_eq, eqb-true, refl, sym, ap, ◌∙◌}
 use Rattle.std.proofs.Math.Path.{fun_ext}
 use Rattle.std.specs.Map.{update}
 use Rattle.std.proofs.lemmas.Bool.{cases_Bool}
 use Rattle.std.proofs.lemmas.Map.{update_here}
 use Rattle.gpu_descriptor_types.specs.Ledger.{Ledger, HasNoSets, after_create, after_destroy, fresh}
-use Rattle.gpu_descriptor.specs.Agreement.{State, Item, AreOutstanding}
-use Rattle.gpu_descriptor.specs.Promises.{AreOutBesides}
 
 -- a pool that was just created has no sets
 pub empty_pool : (l m : Ledger) (counts : List ℕ) (capacity flags name : ℕ) → m ≡ after_create counts capacity flags name l → HasNoSets name m
@@ -22,7 +20,3 @@ came_and_went l m n counts capacity flags name none made gone = ap (λ (x : Ledg
   | inl same ↦ rw same (sym (ap l.pools (sym (eqb-true name q same)) ∙ none))
   | inr other ↦ rw other refl
 ])
-
--- what came besides is outstanding
-pub came_out : (items : List Item) (s t : State) → AreOutBesides items s t → AreOutstanding items t
-came_out items s t besides u = (let h = besides u in omega arith)

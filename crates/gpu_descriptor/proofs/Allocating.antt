@@ -1,5 +1,5 @@
 -- A request that took sets is as the definitions say: kept whole, or given back.
-use Rattle.std.proofs.Common.{◌≡◌, ◌≢◌, ℕ, ◌+◌, ◌-◌, ◌<◌, true, false, Some, List, [], ◌∷◌, length, arith, Result, Ok, Err, refl, sym, ap, ◌∙◌, subst}
+use Rattle.std.proofs.Common.{◌≡◌, ◌≢◌, ℕ, ◌+◌, ◌-◌, ◌<◌, true, false, Some, List, [], ◌∷◌, length, map, slice_get, arith, Result, Ok, Err, refl, sym, ap, ◌∙◌, subst}
 use Rattle.std.proofs.lemmas.List.{length-map}
 use Rattle.std.specs.Prelude.{OnOk, IfErr}
 use Rattle.gpu_descriptor_types.specs.Ledger.{Ledger, Counters, alloc_refused, create_refused}
@@ -11,9 +11,10 @@ use Rattle.gpu_descriptor.specs.declared.take.Stop.{Stop}
 use Rattle.gpu_descriptor.specs.declared.take.Stop.TheVariants as stop
 use Rattle.gpu_descriptor.specs.Agreement.{State, Item, Agree, AreOutstanding, outstanding}
 use Rattle.gpu_descriptor.specs.Books.{Key, key_eq, Entry, entry_at}
-use Rattle.gpu_descriptor.specs.Foreign.{KeepsForeign}
+use Rattle.gpu_descriptor.specs.Foreign.{KeepsForeign, LosesNone}
+use Rattle.gpu_descriptor.specs.FreshPools.{fresh_entry}
 use Rattle.gpu_descriptor.specs.Frees.{GivesBack}
-use Rattle.gpu_descriptor.specs.Grants.{Grant, items_in, granted}
+use Rattle.gpu_descriptor.specs.Grants.{Grant, entries_with, items_in, granted}
 use Rattle.gpu_descriptor.specs.Grow.{IsTakenAll, IsTakenUpTo, IsGrowStopped, refusal_answer, stop_rise}
 use Rattle.gpu_descriptor.specs.Load.{marked_load}
 use Rattle.gpu_descriptor.specs.Outcomes.{Allocates, Call, Proceeds, IsBack, no_rise, risen, grant_rise, rollback_rise}
@@ -28,7 +29,7 @@ use Rattle.gpu_descriptor.specs.States.{Agrees, state_of, table_of, keys_of, out
 use Rattle.gpu_descriptor.specs.Values.{Allocations}
 use Rattle.gpu_descriptor.specs.Walk.{KeepsKey, HasTaken, IsWalkStopped, with_pools}
 use Rattle.gpu_descriptor.proofs.KeepState.{keeps_agree, keeps_given, keeps_outstanding}
-use Rattle.gpu_descriptor.proofs.Foreign.{taken_apart, taken_foreign, freed_foreign, foreign_through}
+use Rattle.gpu_descriptor.proofs.Foreign.{entries_named, taken_apart, taken_foreign, taken_loses, freed_foreign, freed_loses, foreign_through, loses_through}
 use Rattle.gpu_descriptor.proofs.Exact.{key_exact}
 use Rattle.gpu_descriptor.proofs.Kept.{takes}
 use Rattle.gpu_descriptor.proofs.OtherKeys.{release_others, untouched_twice}
@@ -46,6 +47,15 @@ keeps_up_to (refusal.New why) k room n first items old new l m s = subst (KeepsK
 keeps_taken : (taken : Result (Unit {0}) Refusal) (k : Key) (room n first : ℕ) (items : List Item) (old new : List Entry) (l m : Ledger) → OnOk taken (IsTakenAll k room n first items old new l m) → IfErr taken (λ why. IsTakenUpTo why k room n first items old new l m) → KeepsKey k first items old new l.pools m.pools
 keeps_taken (Ok x) k room n first items old new l m all stopped = all.keeps
 keeps_taken (Err why) k room n first items old new l m all stopped = keeps_up_to why k room n first items old new l m stopped
+
+-- what it left of the key's pools
+entries_up_to : (why : Refusal) (k : Key) (room n first : ℕ) (items : List Item) (old new : List Entry) (l m : Ledger) → IsTakenUpTo why k room n first items old new l m → (g : Grant) × (new ≡ entries_with n g old)
+entries_up_to (refusal.Existing error) k room n first items old new l m s = (s.walked.grant, s.walked.taken.entries)
+entries_up_to (refusal.New why) k room n first items old new l m s = (s.grant, s.taken.entries)
+
+entries_taken : (taken : Result (Unit {0}) Refusal) (k : Key) (room n first : ℕ) (items : List Item) (old new : List Entry) (l m : Ledger) → OnOk taken (IsTakenAll k room n first items old new l m) → IfErr taken (λ why. IsTakenUpTo why k room n first items old new l m) → (g : Grant) × (new ≡ entries_with n g old)
+entries_taken (Ok x) k room n first items old new l m all stopped = (all.grant, all.taken.entries)
+entries_taken (Err why) k room n first items old new l m all stopped = entries_up_to why k room n first items old new l m stopped
 
 module _ {P S : Type 0} (name : P → ℕ) (set_name : S → ℕ) (k : Key) (count : ℕ) (sets : List (DescriptorSet S)) (taken : Result (Unit {0}) Refusal) (old new : Allocations P) (before after : Ledger)
     (t : Takes name set_name k count sets taken old new before after) (agree : Agrees name old before) where
@@ -90,6 +100,14 @@ module _ {P S : Type 0} (name : P → ℕ) (set_name : S → ℕ) (k : Key) (cou
 
   pub taken_leaves : KeepsForeign s (state_of name new after)
   taken_leaves = subst (KeepsForeign s) (sym t.state) (taken_foreign k items t.pools s after.pools keeps)
+
+  pub taken_loses_none : LosesNone s (state_of name new after)
+  taken_loses_none =
+      let left = entries_taken taken k room count (s.books k).first items (s.books k).pools t.pools before after t.done t.stopped in
+      let g = left.0 in
+      subst (LosesNone s) (sym t.state) (taken_loses k items t.pools s after.pools keeps (λ i e at.
+      let kept = entries_named g.left count g.refused (s.books k).pools (map fresh_entry g.fresh) i e at in
+      (kept.0, ap (λ (es : List Entry). slice_get es i) left.1 ∙ kept.1, kept.2)))
 
   pub proceeds : 0 < count → (last : Allocations P) (final : Ledger) (answer : Result (List Item) AllocationError) → Proceeds (call_of name k count old last before final answer)
   proceeds some last final answer = record {
@@ -185,6 +203,9 @@ module _ {P S : Type 0} (name : P → ℕ) (set_name : S → ℕ) (k : Key) (cou
 
     pub back_leaves : KeepsForeign s (state_of name last final)
     back_leaves = foreign_through s (state_of name new after) (state_of name last final) taken_leaves (freed_foreign name set_name sets calls new last after final back)
+
+    pub back_loses_none : LosesNone s (state_of name last final)
+    back_loses_none = loses_through s (state_of name new after) (state_of name last final) taken_loses_none (freed_loses name set_name sets calls new last after final back)
 
   -- ---- the sets are kept
 

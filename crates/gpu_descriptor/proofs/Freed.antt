@@ -6,10 +6,10 @@ use Rattle.std.proofs.lemmas.Bool.{and_parts, and_from}
 use Rattle.std.proofs.lemmas.List.{map-append}
 use Rattle.std.proofs.lemmas.List.Sums.{sum_by-append}
 use Rattle.gpu_descriptor_types.specs.Ledger.{Counters, Ledger}
-use Rattle.gpu_descriptor_types.proofs.Counting.{bool_iff, count_by-append}
+use Rattle.gpu_descriptor_types.proofs.Counting.{bool_iff}
 use Rattle.gpu_descriptor.specs.declared.set.BucketKey.{BucketKey}
 use Rattle.gpu_descriptor.specs.declared.set.DescriptorSet.{DescriptorSet}
-use Rattle.gpu_descriptor.specs.Agreement.{State, Item, item_eq, AreOutstanding, Agree}
+use Rattle.gpu_descriptor.specs.Agreement.{State, Item, AreOutstanding, Agree, count_of}
 use Rattle.gpu_descriptor.specs.Books.{Key, key_eq}
 use Rattle.gpu_descriptor.specs.Buckets.{more_released, more_destroyed}
 use Rattle.gpu_descriptor.specs.Comparisons.{open_pools, run_digits}
@@ -24,6 +24,7 @@ use Rattle.gpu_descriptor.specs.Values.{Allocations}
 use Rattle.gpu_descriptor.proofs.Comparisons.{run_digits_more}
 use Rattle.gpu_descriptor.proofs.Counted.{gone}
 use Rattle.gpu_descriptor.proofs.Exact.{key_exact}
+use Rattle.gpu_descriptor.proofs.Holding.{count_of-append}
 use Rattle.gpu_descriptor.proofs.Kept.{agrees, takes, none_back}
 use Rattle.gpu_descriptor.proofs.OneRun.{at_own}
 use Rattle.gpu_descriptor.proofs.Parts.{parts}
@@ -96,6 +97,10 @@ module _ {S : Type 0} (set_name : S → ℕ) where
   both steps [] ys s t u a b = subst (λ k. Yields steps k ys u) (sym a) b
   both steps (x ∷ xs) ys s t u a b = (a.0, a.1, both steps xs ys a.0 t u a.2 b)
 
+  none_both : (xs ys : List (DescriptorSet S)) → xs ++ ys ≡ [] → (xs ≡ []) × (ys ≡ [])
+  none_both [] ys none = (refl, none)
+  none_both (x ∷ xs) ys none = absurd (let bad : ◌≡◌ {A = List (DescriptorSet S)} (x ∷ (xs ++ ys)) [] = none in cc)
+
   -- two lists that go back one after the other go back as one
   pub gives_both : {P : Type 0} (name : P → ℕ) (xs ys : List (DescriptorSet S)) (m n : ℕ) (old now new : Allocations P) (before mid after : Ledger) → Agree (state_of name old before) → AreOutstanding (items xs ++ items ys) (state_of name old before) → keys_of now ≡ keys_of old
       → GivesBack name set_name xs m old now before mid → GivesBack name set_name ys n now new mid after → GivesBack name set_name (xs ++ ys) (m + n) old new before after
@@ -122,6 +127,8 @@ module _ {S : Type 0} (set_name : S → ℕ) where
             ∙ ap (λ (g : ℕ). more_destroyed g (more_released (m + n) before.counters)) sum;
         outstanding = omega arith;
         marked = omega arith;
+        returned = λ u. let e = one.returned u in let f = two.returned u in let g = ap (count_of u) whole ∙ count_of-append u (items xs) (items ys) in omega arith;
+        none = λ is. let each = none_both xs ys is in let first = one.none each.0 in let second = two.none each.1 in (second.0 ∙ first.0, second.1 ∙ first.1);
       }
 
   pub gives_none : {P : Type 0} (name : P → ℕ) (old : Allocations P) (before : Ledger) → GivesBack name set_name [] 0 old old before before
@@ -130,6 +137,8 @@ module _ {S : Type 0} (set_name : S → ℕ) where
     counters = counters_none before.counters ∙ ap (λ (n : ℕ). more_destroyed n (more_released 0 before.counters)) (none_gone (keys_of old) (given_back [] (state_of name old before)));
     outstanding = omega arith;
     marked = omega arith;
+    returned = λ u. omega arith;
+    none = λ is. (refl, refl);
   }
 
   module _ {P T : Type 0} (name : P → ℕ) (steps : T → Option (DescriptorSet S) → T → Type 0) (can : T → Type 0) (left : T → Count) where
@@ -162,13 +171,13 @@ module _ {S : Type 0} (set_name : S → ℕ) where
       came_out : (zs : List (DescriptorSet S)) (t : T) → Yields steps rest zs t → AreOutstanding (items r.sets) (state_of name old before)
       came_out zs t z u =
           let fits = all_out zs t z u in
-          let sum = count_by-append (λ v. item_eq v u) (items r.sets) (items (x ∷ zs)) in
+          let sum = count_of-append u (items r.sets) (items (x ∷ zs)) in
           omega arith
 
       pub call_out : HoldsAlong steps rest (λ zs. AreOutstanding (items (x ∷ zs)) (state_of name now mid))
       call_out zs t z = subst (λ s. AreOutstanding (items (x ∷ zs)) s) (sym r.back.state) (λ u.
           let fits = all_out zs t z u in
-          let sum = count_by-append (λ v. item_eq v u) (items r.sets) (items (x ∷ zs)) in
+          let sum = count_of-append u (items r.sets) (items (x ∷ zs)) in
           let less = takes (items r.sets) (state_of name old before) agree (came_out zs t z) u in
           omega arith)
 

@@ -12,6 +12,7 @@ pub mod Freed
 pub mod Fronts
 pub mod Growing
 pub mod Grows
+pub mod Holding
 pub mod KeepKey
 pub mod KeepState
 pub mod KeepSteps
@@ -21,6 +22,7 @@ pub mod Lent
 pub mod Listed
 pub mod Loads
 pub mod Looks
+pub mod Lost
 pub mod Meets
 pub mod NewPools
 pub mod Newest

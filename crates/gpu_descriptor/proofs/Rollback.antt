@@ -1,16 +1,15 @@
 -- What giving the sets of a request back leaves, and how it raises the counters.
-use Rattle.std.proofs.Common.{◌+◌, ◌≡◌, ℕ, ◌<◌, true, false, List, [], ◌∷◌, ◌++◌, map, sum_by, inl, inr, refl, sym, ap, ◌∙◌, arith, suc, length, sum}
+use Rattle.std.proofs.Common.{◌+◌, ◌≡◌, ℕ, ◌<◌, true, false, List, [], ◌∷◌, map, sum_by, inl, inr, refl, sym, ap, ◌∙◌, arith, suc, length, sum}
 use Rattle.std.proofs.Math.Path.{fun_ext}
 use Rattle.std.proofs.lemmas.Bool.{cases_Bool, or_parts, false_from_ne_true}
-use Rattle.std.proofs.lemmas.List.{map-append}
 use Rattle.std.proofs.lemmas.List.Sums.{sum_by-cons}
 use Rattle.std.specs.List.{list_any}
 use Rattle.std.specs.Prelude.{if◌then◌else◌}
-use Rattle.gpu_descriptor_types.proofs.Counting.{any_found, count_by-append, count_by_yes, count_by_no}
+use Rattle.gpu_descriptor_types.proofs.Counting.{any_found, count_by_yes, count_by_no}
 use Rattle.gpu_descriptor_types.specs.Ledger.{Counters, alloc_refused}
 use Rattle.gpu_descriptor_types.specs.declared.errors.DeviceAllocationError.{DeviceAllocationError}
 use Rattle.gpu_descriptor_types.specs.declared.errors.DeviceAllocationError.TheVariants as alloc_error
-use Rattle.gpu_descriptor.specs.Agreement.{State, Item, item_eq, count_of, Agree, AreOutstanding}
+use Rattle.gpu_descriptor.specs.Agreement.{State, Item, item_eq, count_of, Agree}
 use Rattle.gpu_descriptor.specs.Books.{Key, key_eq, Bucket, books_of, no_pools, HasDistinctKeys}
 use Rattle.gpu_descriptor.specs.Buckets.{more_released, more_destroyed}
 use Rattle.gpu_descriptor.specs.Frees.{descriptors_of, marked_descriptors}
@@ -18,8 +17,6 @@ use Rattle.gpu_descriptor.specs.Outcomes.{no_rise, risen}
 use Rattle.gpu_descriptor.specs.Release.{given_back, released, pools_gone, spent_front, bucket_less}
 use Rattle.gpu_descriptor.specs.States.{named_row}
 use Rattle.gpu_descriptor.specs.Values.{Row}
-use Rattle.gpu_descriptor.specs.declared.set.DescriptorSet.{DescriptorSet}
-use Rattle.gpu_descriptor.specs.Sets.{item_of, items_of}
 use Rattle.gpu_descriptor.proofs.Asks.{same_counters}
 use Rattle.gpu_descriptor.proofs.Exact.{key_exact, item_exact}
 use Rattle.gpu_descriptor.proofs.Kept.{none_back}
@@ -93,15 +90,6 @@ only_key k m s t distinct keeps of_key =
     elim (cases_Bool (names_key m k)) [ inl on ↦ rw on zero | inr off ↦ rw off refl ] in
     let one = sum_by-cons f k [] in
     one_row k f only t distinct empty ∙ (omega arith)
-
--- ---- what a front of a list needs
-
-pub front_out : {S : Type 0} (set_name : S → ℕ) (xs ys all : List (DescriptorSet S)) (s : State) → all ≡ xs ++ ys → AreOutstanding (items_of set_name all) s → AreOutstanding (items_of set_name xs) s
-front_out set_name xs ys all s is out u =
-    let whole = ap (items_of set_name) is ∙ map-append (λ (x : DescriptorSet _). item_of set_name x) xs ys in
-    let parts = ap (count_of u) whole ∙ count_by-append (λ t. item_eq t u) (items_of set_name xs) (items_of set_name ys) in
-    let fits = out u in
-    omega arith
 
 -- the keys that callers see are those of the books' table
 pub keys_table : {P : Type 0} (name : P → ℕ) (rows : List (Row P)) → map (λ (r : Row P). r.key) rows ≡ map (λ row. row.0) (map (named_row name) rows)

@@ -3,6 +3,7 @@ use Rattle.std.specs.Prelude.{◌≡◌, ℕ, true, false, ◌==◌, if◌then�
 use Rattle.std.specs.List.{list_any}
 use Rattle.gpu_descriptor.specs.Books.{Key, key_eq, Entry, Bucket, entry_at, no_pools}
 use Rattle.gpu_descriptor.specs.Agreement.{State, Item, Agree, outstanding}
+use Rattle.gpu_descriptor.specs.Foreign.{KeepsForeign, LosesNone}
 use Rattle.gpu_descriptor.specs.Release.{empty_front, without_front, in_front}
 
 -- the bucket without its empty front. With no pool left it is as one that never came
@@ -26,6 +27,10 @@ CleanAll = (s t : State) → Agree s → ((i : Item) → outstanding s i ≡ 0) 
 -- and the ledger has none of those that the books named
 abbrev pub CleanAllGone : Type 0
 CleanAllGone = (s t : State) → Agree s → ((i : Item) → outstanding s i ≡ 0) → IsCleaned s t → (k : Key) (n : ℕ) (e : Entry) → entry_at (s.books k) n ≡ Some e → t.ledger e.pool ≡ None
+
+-- an allocator that began without pools, kept those of others and lost none, and is cleaned up with nothing outstanding, leaves the ledger's pools as they were before it
+abbrev pub CleanRestores : Type 0
+CleanRestores = (s t u : State) → ((k : Key) → s.books k ≡ no_pools) → KeepsForeign s t → LosesNone s t → Agree t → ((i : Item) → outstanding t i ≡ 0) → IsCleaned t u → u.ledger ≡ s.ledger
 
 -- cleaning up keeps agreement, and what is outstanding
 abbrev pub CleanAgrees : Type 0

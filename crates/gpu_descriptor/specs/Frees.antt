@@ -1,10 +1,11 @@
 -- What giving sets back leaves of an allocator and of the ledger, and how often it calls the device.
-use Rattle.std.specs.Prelude.{◌≡◌, ℕ, ◌+◌, if◌then◌else◌, List, ◌∷◌, length, sum, sum_by, Option, None}
+use Rattle.std.specs.Prelude.{◌≡◌, ℕ, ◌+◌, if◌then◌else◌, List, [], ◌∷◌, length, sum, sum_by, Option, None}
 use Rattle.std.specs.Iterator.{YieldsThen}
 use Rattle.gpu_descriptor_types.specs.Ledger.{Ledger}
 use Rattle.gpu_descriptor.specs.declared.set.DescriptorSet.{DescriptorSet}
 use Rattle.gpu_descriptor.specs.Agreement.{Item}
 use Rattle.gpu_descriptor.specs.Buckets.{more_released, more_destroyed}
+use Rattle.gpu_descriptor.specs.Promises.{AreOutBesides}
 use Rattle.gpu_descriptor.specs.Release.{given_back, released, pools_gone}
 use Rattle.gpu_descriptor.specs.Runs.{runs}
 use Rattle.gpu_descriptor.specs.Sets.{items_of}
@@ -27,6 +28,10 @@ pub record GivesBack {P S : Type 0} (pool_name : P → ℕ) (set_name : S → �
   pub counters : after.counters ≡ more_destroyed (pools_gone (keys_of old) (items_of set_name sets) (given_back (items_of set_name sets) (state_of pool_name old before))) (more_released calls before.counters)
   pub outstanding : outstanding_of new + length sets ≡ outstanding_of old
   pub marked : marked_load_of new + marked_descriptors (items_of set_name sets) ≡ marked_load_of old
+  -- exactly these were outstanding besides those that still are
+  pub returned : AreOutBesides (items_of set_name sets) (state_of pool_name new after) (state_of pool_name old before)
+  -- if there were none, all is as it was
+  pub none : sets ≡ [] → (new ≡ old) × (after ≡ before)
 
 -- one run came, from first to before the set ahead, and has gone back
 pub record FreesRun {P S T : Type 0} (steps : T → Option (DescriptorSet S) → T → Type 0) (pool_name : P → ℕ) (set_name : S → ℕ) (first : DescriptorSet S) (given : T) (ahead : Option (DescriptorSet S)) (left : T) (old new : Allocations P) (before after : Ledger) : Type 0 where

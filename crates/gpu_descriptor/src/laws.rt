@@ -6,9 +6,10 @@ ghost use Rattle.std.specs.Prelude.{◌≡◌, ◌↔◌, ℕ, IsTrue};
 ghost use Rattle.gpu_descriptor_types.specs.Ledger.{Ledger};
 ghost use Rattle.gpu_descriptor.specs.Release.{ReleaseParts, ReleaseGone, ReleaseOrder, ReleaseEach, ReleaseSingly, ReleaseNone, ReleaseAgrees, ReleaseTakes};
 ghost use Rattle.gpu_descriptor.specs.OtherKeys.{ReleaseOthers};
-ghost use Rattle.gpu_descriptor.specs.Cleanup.{CleanAgain, CleanAgainNone, CleanAll, CleanAllGone, CleanOnce, CleanAgrees, CleanTakesNone};
-ghost use Rattle.gpu_descriptor.specs.Agreement.{AgreesOnce, BookedIsListed, EmptyAgrees, OwnAgrees, OwnOutstanding};
-ghost use Rattle.gpu_descriptor.specs.Books.{HasDistinctKeys, SumByBooks};
+ghost use Rattle.gpu_descriptor.specs.Cleanup.{CleanAgain, CleanAgainNone, CleanAll, CleanAllGone, CleanOnce, CleanAgrees, CleanRestores, CleanTakesNone};
+ghost use Rattle.gpu_descriptor.specs.Agreement.{AgreesOnce, BookedIsListed, EmptyAgrees, Item, OwnAgrees, OwnOutstanding, item_eq};
+ghost use Rattle.gpu_descriptor.specs.Books.{HasDistinctKeys, Key, SumByBooks, key_eq};
+ghost use Rattle.gpu_descriptor.specs.Foreign.{LosesNoneInTurn, NamedOrForeign};
 ghost use Rattle.gpu_descriptor.specs.Load.{IsMarkedLoad, IsOut, IsPoolLoad, MarkedWithinPools, PoolLoadIsCounts, PoolLoadIsCreated, OutIsLength, OutIsSize};
 ghost use Rattle.gpu_descriptor.specs.States.{marked_load_of, outstanding_of, pool_load_of, state_of, table_of};
 ghost use Rattle.gpu_descriptor.specs.Values.{Allocations};
@@ -51,6 +52,17 @@ pub fn clean_again()
 
     ensures agrees { CleanAgrees }
     ensures outstanding { CleanTakesNone }
+{}
+
+/// No pool is lost over calls one after another, if each loses none. So an allocator that is made,
+/// used, and cleaned up once all its sets are free leaves the ledger's pools exactly as they were.
+///
+/// That none is lost says of each live pool that the books name it, or that it is another's, which
+/// is as it was: for the books of an allocator are always one or the other.
+pub fn no_pool_is_lost<P>()
+    ensures in_turn { LosesNoneInTurn }
+    ensures restores { CleanRestores }
+    ensures one_or_other { NamedOrForeign P }
 {}
 
 /// An allocator without keys agrees with every ledger, and sums over all keys depend on the books
@@ -100,6 +112,12 @@ pub fn out_is_outstanding()
 pub fn others_are_free()
     ensures agrees { OwnAgrees }
     ensures outstanding { OwnOutstanding }
+{}
+
+/// Keys and items are equal exactly where the tests by which they are counted say so.
+pub fn items_are_their_parts()
+    ensures keys { (k l : Key) → IsTrue (key_eq k l) ↔ (k ≡ l) }
+    ensures items { (s t : Item) → IsTrue (item_eq s t) ↔ (s ≡ t) }
 {}
 
 /// Flags of a layout are equal exactly where their bits are, and equal flags hash alike. A clone

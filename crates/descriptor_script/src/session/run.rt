@@ -1,7 +1,7 @@
 //! Commands, one after another.
 ghost use Rattle.std.specs.Prelude.{◌≡◌, ◌≤◌, length, IfOk, OnErr};
 ghost use Rattle.gpu_descriptor.specs.Books.{HasDistinctKeys};
-ghost use Rattle.gpu_descriptor.specs.Foreign.{KeepsForeign};
+ghost use Rattle.gpu_descriptor.specs.Foreign.{KeepsForeign, LosesNone};
 ghost use Rattle.gpu_descriptor.specs.States.{Agrees, marked_load_of, pool_load_of, outstanding_of, state_of, table_of};
 ghost use Rattle.descriptor_script.specs.Session.{AreAllHeld, AreMeant, allocator_of, layouts_of, sets_of};
 ghost use Rattle.descriptor_script.specs.SessionRun.{RunsTo};
@@ -31,6 +31,7 @@ impl<L, P: Drop, S: Drop> Session<L, P, S> {
         ensures load { marked_load_of (allocator_of self.new) ≤ (allocator_of self.new).limit }
         ensures pool_load { pool_load_of (allocator_of self.new) ≤ (allocator_of self.new).limit }
         ensures foreign { KeepsForeign (state_of D.pool_name (allocator_of self.old) (D.ledger device.old)) (state_of D.pool_name (allocator_of self.new) (D.ledger device.new)) }
+        ensures accounted { LosesNone (state_of D.pool_name (allocator_of self.old) (D.ledger device.old)) (state_of D.pool_name (allocator_of self.new) (D.ledger device.new)) }
         ensures layouts { layouts_of self.new ≡ layouts_of self.old }
         ensures rows { HasDistinctKeys (table_of D.pool_name (allocator_of self.new)) }
         ensures limit { (allocator_of self.new).limit ≡ (allocator_of self.old).limit }

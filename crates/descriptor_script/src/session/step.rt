@@ -1,7 +1,7 @@
 //! One command of a session.
 ghost use Rattle.std.specs.Prelude.{◌≡◌, ◌≤◌, length};
 ghost use Rattle.gpu_descriptor.specs.Books.{HasDistinctKeys};
-ghost use Rattle.gpu_descriptor.specs.Foreign.{KeepsForeign};
+ghost use Rattle.gpu_descriptor.specs.Foreign.{KeepsForeign, LosesNone};
 ghost use Rattle.gpu_descriptor.specs.States.{Agrees, marked_load_of, pool_load_of, outstanding_of, state_of, table_of};
 ghost use Rattle.descriptor_script.specs.Session.{AreAllHeld, AreMeant, allocator_of, layouts_of, sets_of};
 ghost use Rattle.descriptor_script.specs.Steps.{AllocatesTo, CleansTo, FreesTo, KeepsTickets, StepsTo};
@@ -29,6 +29,7 @@ impl<L, P: Drop, S: Drop> Session<L, P, S> {
         ensures load { marked_load_of (allocator_of self.new) ≤ (allocator_of self.new).limit }
         ensures pool_load { pool_load_of (allocator_of self.new) ≤ (allocator_of self.new).limit }
         ensures foreign { KeepsForeign (state_of D.pool_name (allocator_of self.old) (D.ledger device.old)) (state_of D.pool_name (allocator_of self.new) (D.ledger device.new)) }
+        ensures accounted { LosesNone (state_of D.pool_name (allocator_of self.old) (D.ledger device.old)) (state_of D.pool_name (allocator_of self.new) (D.ledger device.new)) }
         ensures tickets { KeepsTickets self.old self.new }
         ensures layouts { layouts_of self.new ≡ layouts_of self.old }
         ensures rows { HasDistinctKeys (table_of D.pool_name (allocator_of self.new)) }
@@ -55,6 +56,7 @@ impl<L, P: Drop, S: Drop> Session<L, P, S> {
         ensures agree { Agrees D.pool_name (allocator_of self.new) (D.ledger device.new) }
         ensures held { AreAllHeld D.set_name (sets_of self.new) (state_of D.pool_name (allocator_of self.new) (D.ledger device.new)) }
         ensures foreign { KeepsForeign (state_of D.pool_name (allocator_of self.old) (D.ledger device.old)) (state_of D.pool_name (allocator_of self.new) (D.ledger device.new)) }
+        ensures accounted { LosesNone (state_of D.pool_name (allocator_of self.old) (D.ledger device.old)) (state_of D.pool_name (allocator_of self.new) (D.ledger device.new)) }
         ensures layouts { layouts_of self.new ≡ layouts_of self.old }
         ensures rows { HasDistinctKeys (table_of D.pool_name (allocator_of self.new)) }
         ensures limit { (allocator_of self.new).limit ≡ (allocator_of self.old).limit }
@@ -88,6 +90,7 @@ impl<L, P: Drop, S: Drop> Session<L, P, S> {
         ensures agree { Agrees D.pool_name (allocator_of self.new) (D.ledger device.new) }
         ensures held { AreAllHeld D.set_name (sets_of self.new) (state_of D.pool_name (allocator_of self.new) (D.ledger device.new)) }
         ensures foreign { KeepsForeign (state_of D.pool_name (allocator_of self.old) (D.ledger device.old)) (state_of D.pool_name (allocator_of self.new) (D.ledger device.new)) }
+        ensures accounted { LosesNone (state_of D.pool_name (allocator_of self.old) (D.ledger device.old)) (state_of D.pool_name (allocator_of self.new) (D.ledger device.new)) }
         ensures layouts { layouts_of self.new ≡ layouts_of self.old }
         ensures rows { HasDistinctKeys (table_of D.pool_name (allocator_of self.new)) }
         ensures limit { (allocator_of self.new).limit ≡ (allocator_of self.old).limit }
@@ -117,6 +120,7 @@ impl<L, P: Drop, S: Drop> Session<L, P, S> {
         ensures agree { Agrees D.pool_name (allocator_of self.new) (D.ledger device.new) }
         ensures held { AreAllHeld D.set_name (sets_of self.new) (state_of D.pool_name (allocator_of self.new) (D.ledger device.new)) }
         ensures foreign { KeepsForeign (state_of D.pool_name (allocator_of self.old) (D.ledger device.old)) (state_of D.pool_name (allocator_of self.new) (D.ledger device.new)) }
+        ensures accounted { LosesNone (state_of D.pool_name (allocator_of self.old) (D.ledger device.old)) (state_of D.pool_name (allocator_of self.new) (D.ledger device.new)) }
         ensures layouts { layouts_of self.new ≡ layouts_of self.old }
         ensures rows { HasDistinctKeys (table_of D.pool_name (allocator_of self.new)) }
         ensures limit { (allocator_of self.new).limit ≡ (allocator_of self.old).limit }

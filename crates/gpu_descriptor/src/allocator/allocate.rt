@@ -3,7 +3,7 @@ ghost use Rattle.std.specs.Prelude.{◌≡◌, ◌+◌, ◌*◌, ◌^◌, ◌<�
 ghost use Rattle.gpu_descriptor_types.specs.Counts.{kinds};
 ghost use Rattle.gpu_descriptor.specs.Books.{HasDistinctKeys};
 ghost use Rattle.gpu_descriptor.specs.LayoutFlags.{is_marked};
-ghost use Rattle.gpu_descriptor.specs.Foreign.{KeepsForeign};
+ghost use Rattle.gpu_descriptor.specs.Foreign.{KeepsForeign, LosesNone};
 ghost use Rattle.gpu_descriptor.specs.Load.{marked_load};
 ghost use Rattle.gpu_descriptor.specs.OtherKeys.{KeepsOtherKeys};
 ghost use Rattle.gpu_descriptor.specs.Promises.{AreOfKey, AreOutBesides, CreatesOnlyWhereShort, HasCause, KeepsOutstanding};
@@ -97,6 +97,8 @@ impl<P: Drop, S: Drop> DescriptorAllocator<P, S> {
             (state_of D.pool_name self.old (D.ledger device.old))
             (state_of D.pool_name self.new (D.ledger device.new)) }
         ensures foreign { KeepsForeign (state_of D.pool_name self.old (D.ledger device.old))
+            (state_of D.pool_name self.new (D.ledger device.new)) }
+        ensures accounted { LosesNone (state_of D.pool_name self.old (D.ledger device.old))
             (state_of D.pool_name self.new (D.ledger device.new)) }
         ensures rows { HasDistinctKeys (table_of D.pool_name self.new) }
         ensures load { marked_load_of self.new ≤ self.new.limit }

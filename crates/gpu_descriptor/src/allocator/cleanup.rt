@@ -3,7 +3,8 @@ ghost use Rattle.std.specs.Prelude.{◌≡◌, ◌+◌, ◌<◌, ◌≤◌, ◌^
 ghost use Rattle.gpu_descriptor.specs.Books.{HasDistinctKeys, Key};
 ghost use Rattle.gpu_descriptor.specs.Buckets.{AreBookedIn, has_pools, cleared_bucket, cleared_ledger, more_destroyed};
 ghost use Rattle.gpu_descriptor.specs.Cleanup.{IsCleaned, pools_cleaned};
-ghost use Rattle.gpu_descriptor.specs.Foreign.{KeepsForeign};
+ghost use Rattle.gpu_descriptor.specs.Foreign.{KeepsForeign, LosesNone};
+ghost use Rattle.gpu_descriptor.specs.Promises.{KeepsOutstanding};
 ghost use Rattle.gpu_descriptor.specs.Sets.{key_of};
 ghost use Rattle.gpu_descriptor.specs.States.{Agrees, keys_of, marked_load_of, outstanding_of, pool_load_of, state_of, table_of};
 ghost use Rattle.gpu_descriptor.specs.Stored.{bucket_of, stored_load};
@@ -29,6 +30,9 @@ impl<P: Drop, S> DescriptorAllocator<P, S> {
             (pools_cleaned (keys_of self.old) (state_of D.pool_name self.old (D.ledger device.old)))
             (D.ledger device.old).counters }
 
+        ensures outstanding_stay { KeepsOutstanding
+            (state_of D.pool_name self.old (D.ledger device.old))
+            (state_of D.pool_name self.new (D.ledger device.new)) }
         ensures totals_stay { (outstanding_of self.new ≡ outstanding_of self.old)
             × (marked_load_of self.new ≡ marked_load_of self.old) }
         ensures rows { HasDistinctKeys (table_of D.pool_name self.new) }
@@ -36,6 +40,8 @@ impl<P: Drop, S> DescriptorAllocator<P, S> {
         ensures pool_load { pool_load_of self.new ≤ self.new.limit }
         ensures agree { Agrees D.pool_name self.new (D.ledger device.new) }
         ensures foreign { KeepsForeign (state_of D.pool_name self.old (D.ledger device.old))
+            (state_of D.pool_name self.new (D.ledger device.new)) }
+        ensures accounted { LosesNone (state_of D.pool_name self.old (D.ledger device.old))
             (state_of D.pool_name self.new (D.ledger device.new)) }
         ensures limit { self.new.limit ≡ self.old.limit }
         ensures counts_stay { (self.new.looks ≡ self.old.looks) × (self.new.comparisons ≡ self.old.comparisons) }

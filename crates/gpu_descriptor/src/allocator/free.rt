@@ -5,7 +5,7 @@ ghost use Rattle.gpu_descriptor.specs.Agreement.{AreOutstanding};
 ghost use Rattle.gpu_descriptor.specs.Books.{HasDistinctKeys};
 ghost use Rattle.gpu_descriptor.specs.Comparisons.{open_pools, run_digits};
 ghost use Rattle.gpu_descriptor.specs.Digits.{binary_digits};
-ghost use Rattle.gpu_descriptor.specs.Foreign.{KeepsForeign};
+ghost use Rattle.gpu_descriptor.specs.Foreign.{KeepsForeign, LosesNone};
 ghost use Rattle.gpu_descriptor.specs.Frees.{Frees, FreesRun};
 ghost use Rattle.gpu_descriptor.specs.Sets.{items_of, key_of};
 ghost use Rattle.gpu_descriptor.specs.States.{Agrees, keys_of, marked_load_of, pool_load_of, state_of, table_of};
@@ -36,6 +36,8 @@ impl<P, S> DescriptorAllocator<P, S> {
         ensures keys { keys_of self.new ≡ keys_of self.old }
         ensures rows { HasDistinctKeys (table_of D.pool_name self.new) }
         ensures foreign { KeepsForeign (state_of D.pool_name self.old (D.ledger device.old))
+            (state_of D.pool_name self.new (D.ledger device.new)) }
+        ensures accounted { LosesNone (state_of D.pool_name self.old (D.ledger device.old))
             (state_of D.pool_name self.new (D.ledger device.new)) }
         ensures load { marked_load_of self.new ≤ self.new.limit }
         ensures pool_load { pool_load_of self.new ≤ self.new.limit }
@@ -69,6 +71,8 @@ impl<P, S> DescriptorAllocator<P, S> {
         ensures keys { keys_of self.new ≡ keys_of self.old }
         ensures rows { HasDistinctKeys (table_of D.pool_name self.new) }
         ensures foreign { KeepsForeign (state_of D.pool_name self.old (D.ledger device.old))
+            (state_of D.pool_name self.new (D.ledger device.new)) }
+        ensures accounted { LosesNone (state_of D.pool_name self.old (D.ledger device.old))
             (state_of D.pool_name self.new (D.ledger device.new)) }
         ensures load { marked_load_of self.new ≤ self.new.limit }
         ensures pool_load { pool_load_of self.new ≤ self.new.limit }

@@ -5,9 +5,8 @@ use Rattle.gpu_descriptor.specs.Agreement.{State}
 use Rattle.gpu_descriptor.specs.Sets.{items_of}
 use Rattle.gpu_descriptor.specs.States.{state_of}
 use Rattle.descriptor_script.specs.Raw.{pool_id, set_id}
-use Rattle.descriptor_script.proofs.Holding.{out_front}
+use Rattle.gpu_descriptor.proofs.Holding.{came_out, out_front}
 use Rattle.descriptor_vectors.specs.Logged.{ledger_logged}
-use Rattle.descriptor_vectors.proofs.Used.{came_out}
 use Rattle.descriptor_vectors.proofs.proper_use.borrow_set.Goals as goal
 
 pub free-requires-clause-outstanding : goal.free-requires-clause-outstanding

@@ -3,7 +3,7 @@ use Rattle.gpu_descriptor.specs.Agreement.{State}
 use Rattle.gpu_descriptor.specs.Sets.{items_of}
 use Rattle.descriptor_bench.specs.Bench.{state_in}
 use Rattle.descriptor_bench.specs.Device.{name_of}
-use Rattle.descriptor_bench.proofs.Holding.{all_back, came_out, out_mixed}
+use Rattle.gpu_descriptor.proofs.Holding.{all_back, came_out, out_mixed}
 use Rattle.descriptor_bench.proofs.bench.Bench.shuffled.Goals as goal
 
 pub give_back-requires : goal.give_back-requires

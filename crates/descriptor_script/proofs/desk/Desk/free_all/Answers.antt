@@ -4,7 +4,7 @@ use Rattle.gpu_descriptor_types.proofs.Drained.{taken_front}
 use Rattle.gpu_descriptor.specs.States.{state_of}
 use Rattle.descriptor_script.specs.Device.{ledger_of}
 use Rattle.descriptor_script.specs.Raw.{pool_id, set_id}
-use Rattle.descriptor_script.proofs.Holding.{out_front}
+use Rattle.gpu_descriptor.proofs.Holding.{out_front}
 use Rattle.descriptor_script.proofs.desk.Desk.free_all.Goals as goal
 
 pub free_from-requires-clause-outstanding : goal.free_from-requires-clause-outstanding

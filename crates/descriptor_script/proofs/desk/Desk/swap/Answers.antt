@@ -3,7 +3,7 @@ use Rattle.std.proofs.lemmas.List.Sorted.{IsPermutation-swap}
 use Rattle.gpu_descriptor.specs.States.{state_of}
 use Rattle.descriptor_script.specs.Device.{ledger_of}
 use Rattle.descriptor_script.specs.Raw.{pool_id, set_id}
-use Rattle.descriptor_script.proofs.Holding.{out_moved}
+use Rattle.gpu_descriptor.proofs.Holding.{out_moved}
 use Rattle.descriptor_script.proofs.desk.Desk.swap.Goals as goal
 
 pub returns-then-b-len-clause-held : goal.returns-then-b-len-clause-held

@@ -5,7 +5,7 @@ use Rattle.gpu_descriptor.specs.Sets.{items_of}
 use Rattle.gpu_descriptor.specs.States.{state_of}
 use Rattle.descriptor_script.specs.Device.{ledger_of}
 use Rattle.descriptor_script.specs.Raw.{pool_id, set_id}
-use Rattle.descriptor_script.proofs.Holding.{out_turned}
+use Rattle.gpu_descriptor.proofs.Holding.{out_turned}
 use Rattle.descriptor_script.proofs.desk.Desk.turn.Goals as goal
 
 pub returns-then-count-len-clause-held : goal.returns-then-count-len-clause-held

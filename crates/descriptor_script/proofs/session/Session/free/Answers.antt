@@ -52,7 +52,7 @@ returns-clause-held g c =
     let drained = frees.drained in
     let old : State = state_of g.D.DescriptorDevice.pool_name c.args.self.now.allocator (g.D.DescriptorDevice.ledger c.args.device.now) in
     let new : State = state_of g.D.DescriptorDevice.pool_name c.free_from.new.self (g.D.DescriptorDevice.ledger c.free_from.new.device) in
-    held_as g.D.DescriptorDevice.set_name _ _ new drained.2.2 (all_held_less g.D.DescriptorDevice.set_name frees.sets s drained.0 old new c.requires.agree (held g d) drained.1 frees.back.state)
+    held_as g.D.DescriptorDevice.set_name _ _ new drained.2.2 (all_held_less g.D.DescriptorDevice.set_name frees.sets s drained.0 old new (held g d) drained.1 frees.back.returned)
 
 pub invariant_of-self-2 : goal.invariant_of-self-2
 invariant_of-self-2 g c =

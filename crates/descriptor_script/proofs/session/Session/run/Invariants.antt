@@ -1,6 +1,6 @@
 use Rattle.std.proofs.Common.{◌≡◌, ◌≤◌, length, take, vec_len, vec_capacity}
 use Rattle.gpu_descriptor.specs.Books.{HasDistinctKeys}
-use Rattle.gpu_descriptor.specs.Foreign.{KeepsForeign}
+use Rattle.gpu_descriptor.specs.Foreign.{KeepsForeign, LosesNone}
 use Rattle.gpu_descriptor.specs.States.{Agrees, state_of, table_of}
 use Rattle.descriptor_script.specs.Session.{AreAllHeld, allocator_of, layouts_of, sets_of}
 use Rattle.descriptor_script.specs.SessionRun.{RunsTo}
@@ -13,6 +13,7 @@ invariant-loop-command g l = record {
   agree : Agrees g.D.DescriptorDevice.pool_name (allocator_of l.self) (g.D.DescriptorDevice.ledger l.device);
   held : AreAllHeld g.D.DescriptorDevice.set_name (sets_of l.self) (state_of g.D.DescriptorDevice.pool_name (allocator_of l.self) (g.D.DescriptorDevice.ledger l.device));
   foreign : KeepsForeign (state_of g.D.DescriptorDevice.pool_name (allocator_of l.fn.self) (g.D.DescriptorDevice.ledger l.fn.device)) (state_of g.D.DescriptorDevice.pool_name (allocator_of l.self) (g.D.DescriptorDevice.ledger l.device));
+  accounted : LosesNone (state_of g.D.DescriptorDevice.pool_name (allocator_of l.fn.self) (g.D.DescriptorDevice.ledger l.fn.device)) (state_of g.D.DescriptorDevice.pool_name (allocator_of l.self) (g.D.DescriptorDevice.ledger l.device));
   layouts : layouts_of l.self ≡ layouts_of l.fn.self;
   limit : (allocator_of l.self).limit ≡ (allocator_of l.fn.self).limit;
   rows : HasDistinctKeys (table_of g.D.DescriptorDevice.pool_name (allocator_of l.self));

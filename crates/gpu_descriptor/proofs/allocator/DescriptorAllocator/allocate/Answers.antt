@@ -18,11 +18,11 @@ use Rattle.gpu_descriptor.specs.States.{state_of, marked_load_of}
 use Rattle.gpu_descriptor.specs.OtherKeys.{KeepsOtherKeys}
 use Rattle.gpu_descriptor.specs.Promises.{AreOfKey}
 use Rattle.gpu_descriptor.specs.Values.{Allocations}
-use Rattle.gpu_descriptor.proofs.Allocating.{taken_agree, taken_given, taken_out, taken_own, taken_others, taken_leaves, went_back, back_out, back_leaves, back_others, back_totals, kept, kept_many, kept_totals}
-use Rattle.gpu_descriptor.proofs.Foreign.{foreign_same}
+use Rattle.gpu_descriptor.proofs.Allocating.{taken_agree, taken_given, taken_out, taken_own, taken_others, taken_leaves, taken_loses_none, went_back, back_out, back_leaves, back_loses_none, back_others, back_totals, kept, kept_many, kept_totals}
+use Rattle.gpu_descriptor.proofs.Foreign.{foreign_same, loses_same}
+use Rattle.gpu_descriptor.proofs.Holding.{out_front}
 use Rattle.gpu_descriptor.proofs.Promises.{has_cause, short}
 use Rattle.gpu_descriptor.proofs.Requested.{keys_apart, load_of_rows}
-use Rattle.gpu_descriptor.proofs.Rollback.{front_out}
 use Rattle.gpu_descriptor.proofs.allocator.DescriptorAllocator.allocate.Goals as goal
 
 pub returns-in-Err-clause-outcome : goal.returns-in-Err-clause-outcome
@@ -36,6 +36,9 @@ returns-in-Err-clause-agree g c = subst Agree (λ i. state_of g.D.DescriptorDevi
 pub returns-in-Err-clause-foreign : goal.returns-in-Err-clause-foreign
 returns-in-Err-clause-foreign g c = foreign_same _ _ (λ i. state_of g.D.DescriptorDevice.pool_name (c.in-Err.ensures.allocator i) (c.in-Err.ensures.ledger i))
 
+pub returns-in-Err-clause-accounted : goal.returns-in-Err-clause-accounted
+returns-in-Err-clause-accounted g c = loses_same _ _ (λ i. state_of g.D.DescriptorDevice.pool_name (c.in-Err.ensures.allocator i) (c.in-Err.ensures.ledger i))
+
 pub free_from-requires-clause-agree : goal.free_from-requires-clause-agree
 free_from-requires-clause-agree g c =
     taken_agree g.D.DescriptorDevice.pool_name g.D.DescriptorDevice.set_name _ _ _ _ _ _ _ _ c.in-Ok.ensures.taken c.requires.agree
@@ -46,7 +49,7 @@ free_from-requires-clause-outstanding g c xs t y =
     let set_name = g.D.DescriptorDevice.set_name in
     let now : State = state_of name c.request.new.self (g.D.DescriptorDevice.ledger c.request.new.device) in
     let out : AreOutstanding (items_of set_name c.in-Ok.given.0.items) now = taken_given name set_name _ _ _ _ _ _ _ _ c.in-Ok.ensures.taken c.requires.agree in
-    front_out set_name xs (into_iter_items t) c.in-Ok.given.0.items now (sym c.into_iter-back.ensures.rest ∙ taken_front c.into_iter-back.result xs t y) out
+    out_front set_name xs (into_iter_items t) c.in-Ok.given.0.items now (sym c.into_iter-back.ensures.rest ∙ taken_front c.into_iter-back.result xs t y) out
 
 pub returns-in-Ok-taken-clause-outcome : goal.returns-in-Ok-taken-clause-outcome
 returns-in-Ok-taken-clause-outcome g c =
@@ -141,9 +144,24 @@ returns-in-Err-taken-clause-foreign g c =
     let back : GivesBack name set_name c.in-Ok.given.0.items (runs (items_of set_name c.in-Ok.given.0.items)) c.request.new.self c.free_from.new.self m n = subst (λ (x : List (DescriptorSet g.row.S.Denot)). GivesBack name set_name x (runs (items_of set_name x)) c.request.new.self c.free_from.new.self m n) all f.back in
     back_leaves name set_name _ _ _ _ _ _ _ _ c.in-Ok.ensures.taken c.requires.agree c.free_from.new.self n _ back
 
+pub returns-in-Err-taken-clause-accounted : goal.returns-in-Err-taken-clause-accounted
+returns-in-Err-taken-clause-accounted g c =
+    let name = g.D.DescriptorDevice.pool_name in
+    let set_name = g.D.DescriptorDevice.set_name in
+    let m : Ledger = g.D.DescriptorDevice.ledger c.request.new.device in
+    let n : Ledger = g.D.DescriptorDevice.ledger c.free_from.new.device in
+    let f = c.free_from.ensures.frees in
+    let all : f.sets ≡ c.in-Ok.given.0.items = All-taken c.into_iter-back.result f.sets (c.free_from.new.sets, f.drained) ∙ c.into_iter-back.ensures.rest in
+    let back : GivesBack name set_name c.in-Ok.given.0.items (runs (items_of set_name c.in-Ok.given.0.items)) c.request.new.self c.free_from.new.self m n = subst (λ (x : List (DescriptorSet g.row.S.Denot)). GivesBack name set_name x (runs (items_of set_name x)) c.request.new.self c.free_from.new.self m n) all f.back in
+    back_loses_none name set_name _ _ _ _ _ _ _ _ c.in-Ok.ensures.taken c.requires.agree c.free_from.new.self n _ back
+
 pub returns-in-Ok-taken-clause-foreign : goal.returns-in-Ok-taken-clause-foreign
 returns-in-Ok-taken-clause-foreign g c =
     taken_leaves g.D.DescriptorDevice.pool_name g.D.DescriptorDevice.set_name _ _ _ _ _ _ _ _ c.in-Ok.ensures.taken c.requires.agree
+
+pub returns-in-Ok-taken-clause-accounted : goal.returns-in-Ok-taken-clause-accounted
+returns-in-Ok-taken-clause-accounted g c =
+    taken_loses_none g.D.DescriptorDevice.pool_name g.D.DescriptorDevice.set_name _ _ _ _ _ _ _ _ c.in-Ok.ensures.taken c.requires.agree
 
 pub returns-in-Err-taken-clause-totals_stay : goal.returns-in-Err-taken-clause-totals_stay
 returns-in-Err-taken-clause-totals_stay g c =

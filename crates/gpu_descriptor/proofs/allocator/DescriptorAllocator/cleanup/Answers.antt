@@ -8,8 +8,8 @@ use Rattle.gpu_descriptor.specs.Buckets.{AreBookedIn, has_pools}
 use Rattle.gpu_descriptor.specs.States.{outstanding_of, marked_load_of}
 use Rattle.gpu_descriptor.specs.Stored.{row_of}
 use Rattle.gpu_descriptor.specs.Values.{Allocations}
-use Rattle.gpu_descriptor.proofs.Cleaning.{clean_agrees}
-use Rattle.gpu_descriptor.proofs.Foreign.{cleaned_foreign}
+use Rattle.gpu_descriptor.proofs.Cleaning.{clean_agrees, takes_none}
+use Rattle.gpu_descriptor.proofs.Foreign.{cleaned_foreign, cleaned_loses}
 use Rattle.gpu_descriptor.proofs.Loads.{rows_out, rows_load, rows_pool_load}
 use Rattle.gpu_descriptor.proofs.Requested.{keys_apart}
 use Rattle.gpu_descriptor.proofs.RowsCleaned.{next, next_stored, step_rows, step_less, agree_is, ledger_less, cleared, whole_clean, whole_count, pools_put, counted_put, counted_filter}
@@ -80,6 +80,7 @@ returns g c =
     record {
       cleaned = clean;
       destroyed = whole_count name c.args.self.now (ledger c.args.device.now) (ledger c.loop-place.device) es c.loop-place.place was distinct le h.ledger;
+      outstanding_stay = takes_none _ _ c.requires clean;
       totals_stay = (
         rows_out c.retain.new.self.entries ∙ sym counted.is_out ∙ h.out ∙ c.self.invariant.is_out ∙ sym (rows_out es) ∙ ap outstanding_of c.self.view_is,
         rows_load c.retain.new.self.entries ∙ sym counted.is_load ∙ h.marked ∙ c.self.invariant.is_load ∙ sym (rows_load es) ∙ ap marked_load_of c.self.view_is,
@@ -89,6 +90,7 @@ returns g c =
       pool_load = (let rows = rows_pool_load c.retain.new.self.entries in let is = counted.is_room in omega arith);
       agree = clean_agrees _ _ c.requires clean;
       foreign = cleaned_foreign _ _ clean;
+      accounted = cleaned_loses _ _ clean;
       limit = h.limit ∙ ap (λ (a : Allocations _). a.limit) c.self.view_is;
       counts_stay = (h.looks ∙ ap (λ (a : Allocations _). a.looks) c.self.view_is, h.comparisons ∙ ap (λ (a : Allocations _). a.comparisons) c.self.view_is);
     }

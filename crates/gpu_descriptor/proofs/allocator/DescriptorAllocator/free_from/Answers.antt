@@ -1,6 +1,6 @@
 use Rattle.std.proofs.Common.{◌≡◌, arith, rules, sym, ap, ◌∙◌, Some}
 use Rattle.gpu_descriptor.specs.Values.{Allocations}
-use Rattle.gpu_descriptor.proofs.Foreign.{freed_foreign}
+use Rattle.gpu_descriptor.proofs.Foreign.{freed_foreign, freed_loses}
 use Rattle.gpu_descriptor.proofs.Requested.{keys_apart, pool_load_of_rows}
 use Rattle.gpu_descriptor.proofs.Freed.{Freed, freed_none, call_out, freed_more, freed_compared, less}
 use Rattle.gpu_descriptor.proofs.allocator.DescriptorAllocator.free_from.Goals.{In-Some}
@@ -39,6 +39,11 @@ pub returns-clause-foreign : goal.returns-clause-foreign
 returns-clause-foreign g c =
     let r = c.loop-ahead.invariant.freed in
     freed_foreign g.D.DescriptorDevice.pool_name g.D.DescriptorDevice.set_name r.sets _ c.args.self.now c.loop-ahead.self (g.D.DescriptorDevice.ledger c.args.device.now) (g.D.DescriptorDevice.ledger c.loop-ahead.device) r.back
+
+pub returns-clause-accounted : goal.returns-clause-accounted
+returns-clause-accounted g c =
+    let r = c.loop-ahead.invariant.freed in
+    freed_loses g.D.DescriptorDevice.pool_name g.D.DescriptorDevice.set_name r.sets _ c.args.self.now c.loop-ahead.self (g.D.DescriptorDevice.ledger c.args.device.now) (g.D.DescriptorDevice.ledger c.loop-ahead.device) r.back
 
 pub returns-clause-rows : goal.returns-clause-rows
 returns-clause-rows g c =

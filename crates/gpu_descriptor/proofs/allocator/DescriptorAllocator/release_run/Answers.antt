@@ -1,9 +1,12 @@
-use Rattle.std.proofs.Common.{◌≡◌, ◌-◌, arith, rules, refl, sym, ap, subst, ◌∙◌, [], ◌∷◌, length, map}
+use Rattle.std.proofs.Common.{◌≡◌, ◌-◌, arith, rules, refl, sym, ap, subst, ◌∙◌, List, [], ◌∷◌, length, map}
 use Rattle.std.specs.Option.{option_copied_mut}
-use Rattle.gpu_descriptor.specs.Sets.{key_of}
+use Rattle.gpu_descriptor.specs.Sets.{key_of, items_of}
+use Rattle.gpu_descriptor.specs.States.{state_of}
 use Rattle.gpu_descriptor.specs.Stored.{IsCounted}
 use Rattle.gpu_descriptor.specs.Values.{Allocations}
+use Rattle.gpu_descriptor.specs.declared.set.DescriptorSet.{DescriptorSet}
 use Rattle.gpu_descriptor.specs.Digits.{binary_digits}
+use Rattle.gpu_descriptor.proofs.Holding.{out_less}
 use Rattle.gpu_descriptor.proofs.Lent.{no_row, row_open, row_stored, row_taken, row_ran, row_counted}
 use Rattle.gpu_descriptor.proofs.Loads.{taken, load_at, load_fits, counted_after, out_after, load_after, run_load, pools_present, pools_set}
 use Rattle.gpu_descriptor.proofs.TableBooks.{distinct_keys, row_keys, keys_are, keys_set}
@@ -100,14 +103,17 @@ returns-clause-ran g c =
     let before = g.D.DescriptorDevice.ledger c.args.device.now in
     let after = g.D.DescriptorDevice.ledger c.release_run-ahead.new.device in
     let distinct = distinct_keys name _ (λ k l. search rules) c.self.inside.buckets.entries c.get_mut.ensures.unique in
+    let state = row_ran name set_name c.args.self.now before c.self.inside.buckets.entries was c.requires.agree c.args.first _ (λ k. search rules) c.in-Some.bucket.now found ran.sets ran.came.0 c.release_run-ahead.new.self after ran.went c.self.inside.max_update_after_bind_descriptors_in_all_pools _ wrote.0 in
     record {
       sets = ran.sets;
       came = ran.came;
       back = record {
-        state = row_ran name set_name c.args.self.now before c.self.inside.buckets.entries was c.requires.agree c.args.first _ (λ k. search rules) c.in-Some.bucket.now found ran.sets ran.came.0 c.release_run-ahead.new.self after ran.went c.self.inside.max_update_after_bind_descriptors_in_all_pools _ wrote.0;
+        state = state;
         counters = row_counted name set_name c.args.self.now before c.self.inside.buckets.entries was c.requires.agree c.args.first _ (λ k. search rules) c.in-Some.bucket.now found ran.sets ran.came.0 c.release_run-ahead.new.self after ran.went distinct;
         outstanding = out_after _ _ _ _ t c.args.self.now was _ wrote.0;
         marked = load_after _ _ _ _ t c.args.self.now was _ wrote.0 _ (run_load set_name c.args.first.key c.args.first.number (c.args.first ∷ ran.sets) (at_own c.args.first, ran.came.0));
+        returned = out_less (items_of set_name (c.args.first ∷ ran.sets)) (state_of name c.args.self.now before) _ c.requires.agree (c.requires.outstanding ran.sets ran.came.1.0 ran.came.1.1) state;
+        none = λ bad. absurd (let some : ◌≡◌ {A = List (DescriptorSet g.row.S.Denot)} (c.args.first ∷ ran.sets) [] = bad in cc);
       };
     }
 

@@ -1,0 +1,33 @@
+//! A visit to a device: of an allocator that is made, used and cleaned up nothing is left there, once
+//! all its sets are free.
+ghost use Rattle.std.specs.Prelude.{◌≡◌, []};
+ghost use Rattle.gpu_descriptor.specs.States.{Agrees, state_of};
+ghost use Rattle.descriptor_script.specs.Session.{AreAllHeld, AreMeant, allocator_of, layouts_of, sets_of};
+ghost use Rattle.descriptor_script.specs.Tickets.{held_sets};
+
+use crate::{Command, Reply, Session};
+use gpu_descriptor::{DescriptorDevice, laws};
+use std::alloc::AllocError;
+
+/// Runs commands, as `Session::run` does, on a session whose allocator has no keys yet, and then
+/// cleans up. If no set is held then, the device has exactly the pools that it had before, whatever
+/// it refused in between.
+///
+/// A session that was just made meets the conditions, with layouts as the device means them.
+pub fn visit<L, P: Drop, S: Drop, D: DescriptorDevice<L, P, S>>(
+    session: &mut Session<L, P, S>,
+    device: &mut D,
+    commands: &[Command],
+) -> Result<Vec<Reply>, AllocError>
+    requires began { (allocator_of session.old).table ≡ [] }
+    requires held { AreAllHeld D.set_name (sets_of session.old) (state_of D.pool_name (allocator_of session.old) (D.ledger device.old)) }
+    requires meant { AreMeant D.layout_counts D.layout_mark (layouts_of session.old) }
+    ensures pools { held_sets (sets_of session.new) ≡ [] → (D.ledger device.new).pools ≡ (D.ledger device.old).pools }
+    ensures agree { Agrees D.pool_name (allocator_of session.new) (D.ledger device.new) }
+{
+    laws::books_alone();
+    laws::no_pool_is_lost::<P>();
+    let replies = session.run(device, commands);
+    let _clean = session.step(device, &Command::Cleanup);
+    replies
+}
