@@ -1,0 +1,12 @@
+//! Tests of the frame manager over the scripted device, in a crate of their own: the gate proves a
+//! crate with tests twice.
+#![tactic(auto)]
+
+#[cfg(test)]
+mod errors;
+#[cfg(test)]
+mod memory;
+#[cfg(test)]
+mod rows;
+#[cfg(test)]
+mod trial;

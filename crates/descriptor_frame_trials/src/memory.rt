@@ -1,0 +1,38 @@
+//! That a set is retired at the second try where memory was wanting at the first. In a plain run
+//! every growth is granted; under `rt try --test --fail-alloc N` the Nth of each test is refused,
+//! and the next ones are granted. No clause says what memory is there.
+use crate::trial::{Outcome, Trial, expect_device, expect_sets};
+use std::process::Abort;
+use std::test::Fail;
+
+/// Retires the first of the sets in use, and once more where memory was wanting, which changed
+/// nothing.
+fn expect_retired(rt: &impl Abort, trial: &mut Trial, frame: u64) -> Result<(), Fail> {
+    let retired = trial.manager.retired();
+    let outstanding = trial.manager.outstanding();
+    let first = trial.in_use.front().map(|set| set.raw().id());
+    let outcome = trial.retire(frame)?;
+    if let Outcome::Memory(back) = outcome {
+        assert_eq!(rt; Some(back), first);
+        expect_sets(rt, trial, outstanding, retired);
+        assert_eq!(rt; trial.retire(frame)?, Outcome::Retired);
+        return Ok(());
+    }
+    assert_eq!(rt; outcome, Outcome::Retired);
+    Ok(())
+}
+
+#[test]
+fn sets_are_retired_where_memory_is_wanting(rt: HostRuntime) -> Result<(), Fail> {
+    let Ok(mut trial) = Trial::new(rt.alloc(), 9) else {
+        return Ok(());
+    };
+    for frame in 0..9 {
+        expect_retired(&rt, &mut trial, frame)?;
+    }
+    expect_sets(&rt, &trial, 9, 9);
+    trial.finish(8);
+    expect_sets(&rt, &trial, 0, 0);
+    expect_device(&rt, &trial, 0, 1);
+    Ok(())
+}

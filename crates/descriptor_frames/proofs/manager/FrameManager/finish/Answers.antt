@@ -1,0 +1,93 @@
+use Rattle.std.proofs.Common.{◌≡◌, [], ◌++◌, refl, sym, ap, subst, ◌∙◌}
+use Rattle.gpu_descriptor.specs.Agreement.{State}
+use Rattle.gpu_descriptor.specs.Buckets.{more_destroyed, more_released}
+use Rattle.gpu_descriptor.specs.Promises.{AreOutBesides}
+use Rattle.gpu_descriptor.specs.Release.{given_back, pools_gone, released}
+use Rattle.gpu_descriptor.specs.Runs.{runs}
+use Rattle.gpu_descriptor.specs.Sets.{items_of}
+use Rattle.gpu_descriptor.specs.States.{keys_of, state_of}
+use Rattle.descriptor_frames.specs.Frames.{allocator_of, retired_of, state_in}
+use Rattle.descriptor_frames.specs.Retired.{AreInOrder, frames_in, sets_in}
+use Rattle.descriptor_frames.proofs.InUse.{out_front, out_rest, same_besides, same_counters, went_back}
+use Rattle.descriptor_frames.proofs.Taken.{both_parts, none_taken, same_list_then, still_in_order, stood_before, took_due}
+use Rattle.descriptor_frames.proofs.manager.FrameManager.finish.Goals.{After-end}
+use Rattle.descriptor_frames.proofs.manager.FrameManager.finish.Goals as goal
+
+pub free_from-requires-clause-outstanding : goal.free_from-requires-clause-outstanding
+free_from-requires-clause-outstanding g c xs t y =
+    out_front g.D.DescriptorDevice.set_name xs (sets_in t.retired.now.items) (sets_in (retired_of c.args.self.now)) (stood_before xs _ t y) (state_in g.D.DescriptorDevice.pool_name c.args.self.now (g.D.DescriptorDevice.ledger c.args.device.now)) c.requires.retired
+
+pub shape_of-self : goal.shape_of-self
+shape_of-self g c = sym (same_list_then c.free_from.ensures.frees)
+
+pub invariant_of-self : goal.invariant_of-self
+invariant_of-self g c =
+    let order = still_in_order c.free_from.ensures.frees c.args.self.now.greatest c.args.self.now.ordered in
+    record { ordered = subst (λ q. AreInOrder (frames_in q.items) c.args.self.now.greatest) (sym c.end.ensures) order }
+
+pub returns-clause-given_back : goal.returns-clause-given_back
+returns-clause-given_back g c =
+    let f = c.free_from.ensures.frees in
+    rw (sym (took_due f c.args.self.now.greatest c.args.self.now.ordered).0) f.back
+
+pub returns-clause-rest : goal.returns-clause-rest
+returns-clause-rest g c =
+    ap (λ q. q.items) c.end.ensures ∙ (took_due c.free_from.ensures.frees c.args.self.now.greatest c.args.self.now.ordered).1
+
+pub returns-clause-comparisons : goal.returns-clause-comparisons
+returns-clause-comparisons g c =
+    let few = c.free_from.ensures.comparisons in
+    rw (sym (took_due few.0 c.args.self.now.greatest c.args.self.now.ordered).0) few.1
+
+-- books and ledger at the call, and when the sets went back
+abbrev before : (g : _) → After-end g → State
+before g c = state_in g.D.DescriptorDevice.pool_name c.args.self.now (g.D.DescriptorDevice.ledger c.args.device.now)
+
+abbrev after : (g : _) → After-end g → State
+after g c = state_of g.D.DescriptorDevice.pool_name c.free_from.new.self (g.D.DescriptorDevice.ledger c.free_from.new.device)
+
+-- the sets that went back were outstanding besides the others
+back_out : (g : _) (c : After-end g) → AreOutBesides (items_of g.D.DescriptorDevice.set_name c.free_from.ensures.frees.sets) (after g c) (before g c)
+back_out g c =
+    let f = c.free_from.ensures.frees in
+    let name = g.D.DescriptorDevice.set_name in
+    let front = out_front name f.sets _ _ (both_parts f) (before g c) c.requires.retired in
+    went_back c.release_parts.ensures.outstanding (items_of name f.sets) (before g c) (after g c) c.requires.agree front f.back.state
+
+-- the list is what went back and what is left of it
+list_parts : (g : _) (c : After-end g) → sets_in (retired_of c.args.self.now) ≡ c.free_from.ensures.frees.sets ++ sets_in c.end.new.self.0.items
+list_parts g c =
+    let f = c.free_from.ensures.frees in
+    both_parts f ∙ ap (λ q. f.sets ++ sets_in q.items) (sym c.end.ensures)
+
+pub returns-clause-outstanding : goal.returns-clause-outstanding
+returns-clause-outstanding g c =
+    let a = goal.at.returns-clause-outstanding g c in
+    rw (sym (took_due c.free_from.ensures.frees c.args.self.now.greatest c.args.self.now.ordered).0) (back_out g a.After-end)
+
+pub returns-clause-retired : goal.returns-clause-retired
+returns-clause-retired g c =
+    let a = goal.at.returns-clause-retired g c in
+    out_rest g.D.DescriptorDevice.set_name c.free_from.ensures.frees.sets _ _ (list_parts g a.After-end) (before g a.After-end) (after g a.After-end) (back_out g a.After-end) c.requires.retired
+
+pub returns-clause-in_use : goal.returns-clause-in_use
+returns-clause-in_use g c =
+    let a = goal.at.returns-clause-in_use g c in
+    same_besides g.D.DescriptorDevice.set_name c.free_from.ensures.frees.sets _ _ (list_parts g a.After-end) (before g a.After-end) (after g a.After-end) (back_out g a.After-end)
+
+pub returns-clause-none : goal.returns-clause-none
+returns-clause-none g c e =
+    let f = c.free_from.ensures.frees in
+    let name = g.D.DescriptorDevice.set_name in
+    let old = state_in g.D.DescriptorDevice.pool_name c.args.self.now (g.D.DescriptorDevice.ledger c.args.device.now) in
+    let before = (g.D.DescriptorDevice.ledger c.args.device.now).counters in
+    let keys = keys_of (allocator_of c.args.self.now) in
+    let empty : f.sets ≡ [] = (took_due f c.args.self.now.greatest c.args.self.now.ordered).0 ∙ e in
+    let state = f.back.state ∙ ap (λ l. released (items_of name l) old) empty ∙ c.release_parts.ensures.none old in
+    let counters = f.back.counters ∙ ap (λ l. more_destroyed (pools_gone keys (items_of name l) (given_back (items_of name l) old)) (more_released (runs (items_of name l)) before)) empty ∙ same_counters keys (given_back [] old) before in
+    record {
+      state = state;
+      ledger = λ i. record { pools = (state i).ledger; counters = counters i };
+      list = ap (λ q. q.items) c.end.ensures ∙ none_taken f empty;
+      greatest = refl;
+    }

@@ -1,0 +1,69 @@
+-- What a manager keeps: an allocator, the retired sets with their frames, and the greatest frame so far. The sets in use are the outstanding ones less the retired.
+use Rattle.std.specs.Prelude.{◌≡◌, ℕ, ◌+◌, ◌-◌, ◌≤◌, List, [], ◌∷◌}
+use Rattle.gpu_descriptor_types.specs.Ledger.{Ledger}
+use Rattle.gpu_descriptor.specs.Agreement.{AreOutstanding, Item, State, count_of, outstanding}
+use Rattle.gpu_descriptor.specs.Sets.{items_of}
+use Rattle.gpu_descriptor.specs.States.{state_of}
+use Rattle.gpu_descriptor.specs.Values.{Allocations}
+use Rattle.gpu_descriptor.specs.declared.set.DescriptorSet.{DescriptorSet}
+use Rattle.descriptor_frames.specs.Retired.{due, sets_in}
+use Rattle.descriptor_frames.specs.declared.manager.FrameManager.{FrameManager}
+use Rattle.descriptor_frames.specs.declared.retired.Retired.{Retired}
+
+module _ {P S : Type 0} where
+  abbrev pub allocator_of : FrameManager P S → Allocations P
+  allocator_of m = m.allocator
+
+  -- the retired sets with their frames, in the order in which they were retired
+  abbrev pub retired_of : FrameManager P S → List (Retired S)
+  retired_of m = m.retired.items
+
+  -- the greatest frame at which a set was ever retired
+  abbrev pub greatest_of : FrameManager P S → ℕ
+  greatest_of m = m.greatest
+
+  -- the sets that were retired at the frame or before
+  abbrev pub due_sets : ℕ → FrameManager P S → List (DescriptorSet S)
+  due_sets frame m = sets_in (due frame (retired_of m))
+
+  -- the retired sets, as the books see them
+  abbrev pub retired_items : (S → ℕ) → FrameManager P S → List Item
+  retired_items set_name m = items_of set_name (sets_in (retired_of m))
+
+  module _ (pool_name : P → ℕ) where
+    -- the books of the manager's allocator, and the ledger
+    abbrev pub state_in : FrameManager P S → Ledger → State
+    state_in m l = state_of pool_name (allocator_of m) l
+
+    -- nothing changed: books and ledger, the list, and the greatest frame
+    pub record IsAsBefore (old new : FrameManager P S) (before after : Ledger) : Type 0 where
+      pub state : state_in new after ≡ state_in old before
+      pub ledger : after ≡ before
+      pub list : retired_of new ≡ retired_of old
+      pub greatest : greatest_of new ≡ greatest_of old
+
+    module _ (set_name : S → ℕ) where
+      -- the retired sets together are outstanding
+      abbrev pub AreRetiredOut : FrameManager P S → Ledger → Type 0
+      AreRetiredOut m l = AreOutstanding (retired_items set_name m) (state_in m l)
+
+      -- how often a set is in use: outstanding, and not retired
+      abbrev pub in_use : FrameManager P S → Ledger → Item → ℕ
+      in_use m l t = outstanding (state_in m l) t - count_of t (retired_items set_name m)
+
+      -- the sets of the list, each as often as it stands there, are in use
+      abbrev pub AreInUse : List Item → FrameManager P S → Ledger → Type 0
+      AreInUse items m l = (t : Item) → count_of t items ≤ in_use m l t
+
+      -- the same sets are in use
+      abbrev pub KeepsInUse : FrameManager P S → FrameManager P S → Ledger → Ledger → Type 0
+      KeepsInUse old new before after = (t : Item) → in_use new after t ≡ in_use old before t
+
+      -- exactly these sets came into use
+      abbrev pub BringsIntoUse : List Item → FrameManager P S → FrameManager P S → Ledger → Ledger → Type 0
+      BringsIntoUse items old new before after = (t : Item) → in_use new after t ≡ in_use old before t + count_of t items
+
+      -- the set is in use once less, and the retired sets are outstanding
+      pub record LeavesUse (item : Item) (old new : FrameManager P S) (l : Ledger) : Type 0 where
+        pub retired : AreRetiredOut new l
+        pub used : (t : Item) → in_use new l t + count_of t (item ∷ []) ≡ in_use old l t

@@ -1,0 +1,55 @@
+//! Cleaning up.
+ghost use Rattle.std.specs.Prelude.{◌≡◌, ◌≤◌};
+ghost use Rattle.gpu_descriptor.specs.Books.{HasDistinctKeys};
+ghost use Rattle.gpu_descriptor.specs.Buckets.{more_destroyed};
+ghost use Rattle.gpu_descriptor.specs.Cleanup.{IsCleaned, pools_cleaned};
+ghost use Rattle.gpu_descriptor.specs.Foreign.{KeepsForeign};
+ghost use Rattle.gpu_descriptor.specs.Promises.{KeepsOutstanding};
+ghost use Rattle.gpu_descriptor.specs.States.{Agrees, keys_of, marked_load_of, outstanding_of, pool_load_of, table_of};
+
+use super::FrameManager;
+use gpu_descriptor::DescriptorDevice;
+
+impl<P: Drop, S> FrameManager<P, S> {
+    ghost use Rattle.descriptor_frames.specs.Frames.{AreRetiredOut, KeepsInUse, allocator_of, greatest_of, retired_of, state_in};
+
+    /// Destroys pools without sets, as `DescriptorAllocator::cleanup` does. A pool of a retired set
+    /// stays.
+    pub fn cleanup<L, D: DescriptorDevice<L, P, S>>(&mut self, device: &mut D)
+        requires { Agrees D.pool_name (allocator_of self.old) (D.ledger device.old) }
+        ensures cleaned { IsCleaned (state_in D.pool_name self.old (D.ledger device.old))
+            (state_in D.pool_name self.new (D.ledger device.new)) }
+
+        // All other counters stay.
+        ensures destroyed { (D.ledger device.new).counters ≡ more_destroyed
+            (pools_cleaned (keys_of (allocator_of self.old))
+            (state_in D.pool_name self.old (D.ledger device.old)))
+            (D.ledger device.old).counters }
+
+        ensures list { retired_of self.new ≡ retired_of self.old }
+        ensures greatest { greatest_of self.new ≡ greatest_of self.old }
+        ensures outstanding { KeepsOutstanding (state_in D.pool_name self.old (D.ledger device.old))
+            (state_in D.pool_name self.new (D.ledger device.new)) }
+        ensures retired { AreRetiredOut D.pool_name D.set_name self.old (D.ledger device.old)
+            → AreRetiredOut D.pool_name D.set_name self.new (D.ledger device.new) }
+        ensures in_use { KeepsInUse D.pool_name D.set_name self.old self.new
+            (D.ledger device.old) (D.ledger device.new) }
+
+        ensures totals_stay { (outstanding_of (allocator_of self.new)
+            ≡ outstanding_of (allocator_of self.old))
+            × (marked_load_of (allocator_of self.new) ≡ marked_load_of (allocator_of self.old)) }
+        ensures rows { HasDistinctKeys (table_of D.pool_name (allocator_of self.new)) }
+        ensures load { marked_load_of (allocator_of self.new) ≤ (allocator_of self.new).limit }
+        ensures pool_load { pool_load_of (allocator_of self.new) ≤ (allocator_of self.new).limit }
+        ensures agree { Agrees D.pool_name (allocator_of self.new) (D.ledger device.new) }
+        ensures foreign { KeepsForeign (state_in D.pool_name self.old (D.ledger device.old))
+            (state_in D.pool_name self.new (D.ledger device.new)) }
+        ensures limit { (allocator_of self.new).limit ≡ (allocator_of self.old).limit }
+        ensures counts_stay { ((allocator_of self.new).looks ≡ (allocator_of self.old).looks)
+            × ((allocator_of self.new).comparisons ≡ (allocator_of self.old).comparisons) }
+    {
+        // The proof reads from this that the same sets are outstanding.
+        gpu_descriptor::laws::clean_again();
+        self.allocator.cleanup(device);
+    }
+}
