@@ -41,6 +41,8 @@ impl<P: Drop, S> DescriptorAllocator<P, S> {
         ensures keys { keys_of self.new ≡ keys_with_pools
             (state_of D.pool_name self.new (D.ledger device.new)) (keys_of self.old) }
 
+        // So `destroyed` counts each key once.
+        ensures rows_before { HasDistinctKeys (table_of D.pool_name self.old) }
         ensures rows { HasDistinctKeys (table_of D.pool_name self.new) }
         ensures load { marked_load_of self.new ≤ self.new.limit }
         ensures pool_load { pool_load_of self.new ≤ self.new.limit }
