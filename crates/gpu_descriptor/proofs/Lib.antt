@@ -17,6 +17,7 @@ pub mod KeepKey
 pub mod KeepState
 pub mod KeepSteps
 pub mod Kept
+pub mod KeysKept
 pub mod LedgerPools
 pub mod Lent
 pub mod Listed

@@ -171,7 +171,7 @@ apart (x ∷ rows) zero (suc i) r s h lt at at' same =
     (let bad : true ≡ false = sym own ∙ other in cc)
 apart (x ∷ rows) (suc j) (suc i) r s h lt at at' same = apart rows j i r s h.1 (omega arith) at at' same
 
-row_books : (rows : Rows) (i : ℕ) (r : Key × Bucket) → HasDistinctKeys rows → slice_get rows i ≡ Some r → books_of rows r.0 ≡ r.1
+pub row_books : (rows : Rows) (i : ℕ) (r : Key × Bucket) → HasDistinctKeys rows → slice_get rows i ≡ Some r → books_of rows r.0 ≡ r.1
 row_books [] i r h at = absurd (let bad : ◌≡◌ {A = Option (Key × Bucket)} None (Some r) = at in cc)
 row_books (x ∷ rows) zero r h at = (let is : Some x ≡ Some r = at in let eq : x ≡ r = cc in subst (λ (y : Key × Bucket). books_of (x ∷ rows) y.0 ≡ y.1) eq (rw (key_exact.self x.0) refl))
 row_books (x ∷ rows) (suc i) r h at =
@@ -326,7 +326,7 @@ module _ {P : Type 0} (name : P → ℕ) where
       state_is new k fs refl ∙ ap (λ (gs : List (BucketKey × DescriptorBucket P)). let s : State = record { books = books_of (rows_in name gs); ledger = k.pools } in s) kept in
       subst (λ t. IsCleaned (state_of name a l) t) (sym new_is) (subst (λ s. IsCleaned s (record { books = books_of (rows_in name (filter (λ e. has_pools e.1) now)); ledger = k.pools })) (sym (state_is a l es is)) clean)
 
-  first_keys : (es : List (BucketKey × DescriptorBucket P)) → map (λ (r : Key × Bucket). r.0) (rows_in name es) ≡ map (λ e. key_of e.0) es
+  pub first_keys : (es : List (BucketKey × DescriptorBucket P)) → map (λ (r : Key × Bucket). r.0) (rows_in name es) ≡ map (λ e. key_of e.0) es
   first_keys [] = refl
   first_keys (e ∷ es) = ap (λ (l : List Key). key_of e.0 ∷ l) (first_keys es)
 

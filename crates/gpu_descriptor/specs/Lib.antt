@@ -12,6 +12,7 @@ pub mod Frees
 pub mod FreshPools
 pub mod Grants
 pub mod Grow
+pub mod Keys
 pub mod LayoutFlags
 pub mod Load
 pub mod OtherKeys

@@ -21,6 +21,10 @@ module _ {P : Type 0} where
   abbrev pub row_of : BucketKey × DescriptorBucket P → Row P
   row_of r = record { key = key_of r.0; first = r.1.offset; pools = map kept_of r.1.pools.items }
 
+  -- the keys of a table, in its order
+  abbrev pub stored_keys : List (BucketKey × DescriptorBucket P) → List Key
+  stored_keys es = map (λ r. key_of r.0) es
+
   -- the descriptors of these pools of a key, if it is marked
   abbrev pub stored_load : Key → List (DescriptorPool P) → ℕ
   stored_load k pools = sum_by (λ p. pool_load k p.capacity) pools

@@ -3,19 +3,20 @@ ghost use Rattle.std.specs.Prelude.{◌≡◌, ◌+◌, ◌*◌, ◌^◌, ◌<�
 ghost use Rattle.gpu_descriptor_types.specs.Counts.{kinds};
 ghost use Rattle.gpu_descriptor.specs.Books.{HasDistinctKeys};
 ghost use Rattle.gpu_descriptor.specs.LayoutFlags.{is_marked};
+ghost use Rattle.gpu_descriptor.specs.Keys.{StayOrGainLast};
 ghost use Rattle.gpu_descriptor.specs.Foreign.{KeepsForeign, LosesNone};
 ghost use Rattle.gpu_descriptor.specs.Load.{marked_load};
 ghost use Rattle.gpu_descriptor.specs.OtherKeys.{KeepsOtherKeys};
 ghost use Rattle.gpu_descriptor.specs.Promises.{AreOfKey, AreOutBesides, CreatesOnlyWhereShort, HasCause, KeepsOutstanding};
 ghost use Rattle.gpu_descriptor.specs.Sets.{items_of, key_of};
-ghost use Rattle.gpu_descriptor.specs.States.{Agrees, marked_load_of, outstanding_of, pool_load_of, state_of, table_of};
+ghost use Rattle.gpu_descriptor.specs.States.{Agrees, keys_of, marked_load_of, outstanding_of, pool_load_of, state_of, table_of};
 ghost use Rattle.gpu_descriptor.specs.Outcomes.{Allocates};
 ghost use Rattle.gpu_descriptor.specs.Requests.{answer_of, call_of, Takes};
 ghost use Rattle.gpu_descriptor.specs.Buckets.{AreBookedIn};
 ghost use Rattle.gpu_descriptor.specs.Walk.{layout_key};
 ghost use Rattle.gpu_descriptor.specs.Grow.{refusal_answer};
 ghost use Rattle.gpu_descriptor.specs.Errors.{error_of_alloc as alloc_answer};
-ghost use Rattle.gpu_descriptor.specs.Stored.{bucket_of, books_in, stored_load_in, stored_load};
+ghost use Rattle.gpu_descriptor.specs.Stored.{bucket_of, books_in, stored_keys, stored_load_in, stored_load};
 ghost use Rattle.gpu_descriptor.specs.Serves.{Serves, ServesKey, IsUnserved};
 
 use super::DescriptorAllocator;
@@ -100,6 +101,8 @@ impl<P: Drop, S: Drop> DescriptorAllocator<P, S> {
             (state_of D.pool_name self.new (D.ledger device.new)) }
         ensures accounted { LosesNone (state_of D.pool_name self.old (D.ledger device.old))
             (state_of D.pool_name self.new (D.ledger device.new)) }
+        ensures keys { StayOrGainLast (layout_key D.layout_counts D.layout_mark layout.now)
+            (keys_of self.old) (keys_of self.new) }
         ensures rows { HasDistinctKeys (table_of D.pool_name self.new) }
         ensures load { marked_load_of self.new ≤ self.new.limit }
         ensures pool_load { pool_load_of self.new ≤ self.new.limit }
@@ -148,6 +151,7 @@ impl<P: Drop, S: Drop> DescriptorAllocator<P, S> {
             self.old self.new (D.ledger device.old) (D.ledger device.new) (Err e))) }
         ensures looks { self.new.looks + (D.ledger device.old).counters.asked ≡ self.old.looks + (D.ledger device.new).counters.asked }
         ensures comparisons_stay { self.new.comparisons ≡ self.old.comparisons }
+        ensures keys { OnOk result (StayOrGainLast (key_of key) (keys_of self.old) (keys_of self.new)) }
         ensures allocator { OnErr result (self.new ≡ self.old) }
         ensures ledger { OnErr result (D.ledger device.new ≡ D.ledger device.old) }
         ensures rows { HasDistinctKeys (table_of D.pool_name self.new) }
@@ -226,6 +230,8 @@ fn serve_key<L, P: Drop, S: Drop, D: DescriptorDevice<L, P, S>>(
     ensures looks { looks.new.count + (D.ledger device.old).counters.asked ≡ looks.old.count + (D.ledger device.new).counters.asked }
     ensures looks_stay { OnErr result (looks.new ≡ looks.old) }
     ensures room { room.new + sum_by stored_load_in buckets.new.entries ≡ room.old + sum_by stored_load_in buckets.old.entries }
+    ensures keys { OnOk result (StayOrGainLast (key_of key)
+        (stored_keys buckets.old.entries) (stored_keys buckets.new.entries)) }
     ensures entries { OnErr result (buckets.new.entries ≡ buckets.old.entries) }
     ensures ledger { OnErr result (D.ledger device.new ≡ D.ledger device.old) }
 {

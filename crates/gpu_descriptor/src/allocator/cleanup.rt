@@ -4,6 +4,7 @@ ghost use Rattle.gpu_descriptor.specs.Books.{HasDistinctKeys, Key};
 ghost use Rattle.gpu_descriptor.specs.Buckets.{AreBookedIn, has_pools, cleared_bucket, cleared_ledger, more_destroyed};
 ghost use Rattle.gpu_descriptor.specs.Cleanup.{IsCleaned, pools_cleaned};
 ghost use Rattle.gpu_descriptor.specs.Foreign.{KeepsForeign, LosesNone};
+ghost use Rattle.gpu_descriptor.specs.Keys.{keys_with_pools};
 ghost use Rattle.gpu_descriptor.specs.Promises.{KeepsOutstanding};
 ghost use Rattle.gpu_descriptor.specs.Sets.{key_of};
 ghost use Rattle.gpu_descriptor.specs.States.{Agrees, keys_of, marked_load_of, outstanding_of, pool_load_of, state_of, table_of};
@@ -35,6 +36,13 @@ impl<P: Drop, S> DescriptorAllocator<P, S> {
             (state_of D.pool_name self.new (D.ledger device.new)) }
         ensures totals_stay { (outstanding_of self.new ≡ outstanding_of self.old)
             × (marked_load_of self.new ≡ marked_load_of self.old) }
+
+        // Those that still have pools.
+        ensures keys { keys_of self.new ≡ keys_with_pools
+            (state_of D.pool_name self.new (D.ledger device.new)) (keys_of self.old) }
+
+        // So `destroyed` counts each key once.
+        ensures rows_before { HasDistinctKeys (table_of D.pool_name self.old) }
         ensures rows { HasDistinctKeys (table_of D.pool_name self.new) }
         ensures load { marked_load_of self.new ≤ self.new.limit }
         ensures pool_load { pool_load_of self.new ≤ self.new.limit }

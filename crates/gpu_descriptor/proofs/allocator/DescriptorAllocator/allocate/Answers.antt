@@ -1,4 +1,4 @@
-use Rattle.std.proofs.Common.{◌+◌, rules, ap, ◌≡◌, arith, List, Ok, Err, sym, ◌∙◌, subst}
+use Rattle.std.proofs.Common.{◌+◌, rules, ap, ◌≡◌, arith, List, Ok, Err, inl, refl, sym, ◌∙◌, subst}
 use Rattle.std.proofs.IntoIterSteps.{All-taken}
 use Rattle.std.specs.Vec.Iter.{into_iter_items}
 use Rattle.gpu_descriptor_types.proofs.Drained.{taken_front}
@@ -7,6 +7,7 @@ use Rattle.gpu_descriptor.specs.declared.set.DescriptorSet.{DescriptorSet}
 use Rattle.gpu_descriptor.specs.Agreement.{State, Agree, AreOutstanding}
 use Rattle.gpu_descriptor.specs.Books.{Key}
 use Rattle.gpu_descriptor.specs.Frees.{GivesBack}
+use Rattle.gpu_descriptor.specs.Keys.{StayOrGainLast}
 use Rattle.gpu_descriptor.specs.Load.{marked_load}
 use Rattle.gpu_descriptor.specs.Outcomes.{Allocates}
 use Rattle.gpu_descriptor.specs.Grow.{refusal_answer}
@@ -14,7 +15,7 @@ use Rattle.gpu_descriptor.specs.Walk.{layout_key}
 use Rattle.gpu_descriptor.specs.Requests.{call_of}
 use Rattle.gpu_descriptor.specs.Runs.{runs}
 use Rattle.gpu_descriptor.specs.Sets.{key_of, items_of}
-use Rattle.gpu_descriptor.specs.States.{state_of, marked_load_of}
+use Rattle.gpu_descriptor.specs.States.{state_of, keys_of, marked_load_of}
 use Rattle.gpu_descriptor.specs.OtherKeys.{KeepsOtherKeys}
 use Rattle.gpu_descriptor.specs.Promises.{AreOfKey}
 use Rattle.gpu_descriptor.specs.Values.{Allocations}
@@ -191,3 +192,20 @@ returns-then-count-eq0-clause-load g c =
     let is = c.self.invariant.is_load in
     let within = c.self.invariant.within in
     omega arith
+
+pub returns-then-count-eq0-clause-keys : goal.returns-then-count-eq0-clause-keys
+returns-then-count-eq0-clause-keys g c = inl refl
+
+pub returns-in-Err-clause-keys : goal.returns-in-Err-clause-keys
+returns-in-Err-clause-keys g c = inl (ap keys_of c.in-Err.ensures.allocator)
+
+pub returns-in-Ok-taken-clause-keys : goal.returns-in-Ok-taken-clause-keys
+returns-in-Ok-taken-clause-keys g c =
+    let same : key_of (record { size = c.args.layout_descriptor_count.now; update_after_bind = c.contains.result }) ≡ layout_key g.D.DescriptorDevice.layout_counts g.D.DescriptorDevice.layout_mark c.args.layout.now = λ i. record { counts = c.requires.counts i; marked = (c.contains.ensures tt ∙ c.requires.mark) i } in
+    subst (λ (k : Key). StayOrGainLast k (keys_of c.args.self.now) (keys_of c.request.new.self)) same c.in-Ok.ensures.keys
+
+pub returns-in-Err-taken-clause-keys : goal.returns-in-Err-taken-clause-keys
+returns-in-Err-taken-clause-keys g c =
+    let same : key_of (record { size = c.args.layout_descriptor_count.now; update_after_bind = c.contains.result }) ≡ layout_key g.D.DescriptorDevice.layout_counts g.D.DescriptorDevice.layout_mark c.args.layout.now = λ i. record { counts = c.requires.counts i; marked = (c.contains.ensures tt ∙ c.requires.mark) i } in
+    subst (λ (k : Key). StayOrGainLast k (keys_of c.args.self.now) (keys_of c.free_from.new.self)) same
+    (subst (λ (l : List Key). StayOrGainLast (key_of (record { size = c.args.layout_descriptor_count.now; update_after_bind = c.contains.result })) (keys_of c.args.self.now) l) (sym c.free_from.ensures.keys) c.in-Ok.ensures.keys)

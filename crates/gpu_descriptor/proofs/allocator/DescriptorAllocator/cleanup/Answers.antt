@@ -3,17 +3,18 @@ use Rattle.indexmap.proofs.CallerLemmas.{filter-RetainsPairs}
 use Rattle.indexmap.specs.Layout.{length-set_value_at}
 use Rattle.std.specs.Map.Iter.{deref_pair}
 use Rattle.gpu_descriptor_types.specs.Ledger.{Ledger}
-use Rattle.gpu_descriptor.specs.Books.{Bucket}
+use Rattle.gpu_descriptor.specs.Books.{Bucket, HasDistinctKeys}
 use Rattle.gpu_descriptor.specs.Buckets.{AreBookedIn, has_pools}
-use Rattle.gpu_descriptor.specs.States.{outstanding_of, marked_load_of}
+use Rattle.gpu_descriptor.specs.States.{outstanding_of, marked_load_of, named_row}
 use Rattle.gpu_descriptor.specs.Stored.{row_of}
 use Rattle.gpu_descriptor.specs.Values.{Allocations}
 use Rattle.gpu_descriptor.proofs.Cleaning.{clean_agrees, takes_none}
 use Rattle.gpu_descriptor.proofs.Foreign.{cleaned_foreign, cleaned_loses}
 use Rattle.gpu_descriptor.proofs.Loads.{rows_out, rows_load, rows_pool_load}
+use Rattle.gpu_descriptor.proofs.KeysKept.{keys_cleaned}
 use Rattle.gpu_descriptor.proofs.Requested.{keys_apart}
 use Rattle.gpu_descriptor.proofs.RowsCleaned.{next, next_stored, step_rows, step_less, agree_is, ledger_less, cleared, whole_clean, whole_count, pools_put, counted_put, counted_filter}
-use Rattle.gpu_descriptor.proofs.TableBooks.{rows_in, distinct_keys}
+use Rattle.gpu_descriptor.proofs.TableBooks.{rows_are, rows_in, distinct_keys}
 use Rattle.gpu_descriptor.proofs.allocator.DescriptorAllocator.cleanup.Goals as goal
 
 pub drop_empty-requires-clause-stored : goal.drop_empty-requires-clause-stored
@@ -85,6 +86,8 @@ returns g c =
         rows_out c.retain.new.self.entries ∙ sym counted.is_out ∙ h.out ∙ c.self.invariant.is_out ∙ sym (rows_out es) ∙ ap outstanding_of c.self.view_is,
         rows_load c.retain.new.self.entries ∙ sym counted.is_load ∙ h.marked ∙ c.self.invariant.is_load ∙ sym (rows_load es) ∙ ap marked_load_of c.self.view_is,
       );
+      keys = keys_cleaned name c.args.self.now now (ledger c.args.device.now) (ledger c.loop-place.device) es c.loop-place.self-inside.buckets.entries c.retain.new.self.entries c.loop-place.place was refl distinct le h.rows kept clean;
+      rows_before = subst HasDistinctKeys (sym (ap (map (named_row name)) was ∙ rows_are name es)) distinct;
       rows = keys_apart now c.retain.new.self.entries refl name _ (λ k l. search rules) c.len-keys.ensures.unique;
       load = (let load = rows_load c.retain.new.self.entries in let is = counted.is_load in let within = counted.within in omega arith);
       pool_load = (let rows = rows_pool_load c.retain.new.self.entries in let is = counted.is_room in omega arith);

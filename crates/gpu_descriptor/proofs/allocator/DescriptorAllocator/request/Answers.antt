@@ -13,6 +13,7 @@ use Rattle.gpu_descriptor.specs.Values.{Allocations}
 use Rattle.gpu_descriptor.specs.Buckets.{AreBookedIn}
 use Rattle.gpu_descriptor.proofs.KeepState.{booked_of}
 use Rattle.gpu_descriptor.proofs.Loads.{rows_load, rows_pool_load}
+use Rattle.gpu_descriptor.proofs.KeysKept.{keys_seen}
 use Rattle.gpu_descriptor.proofs.Requested.{within_of, out_of, load_of_rows, pool_load_of_rows, books_at, keys_apart, load_below, counted_more, above_limit, past_bound, unserved, takes}
 use Rattle.gpu_descriptor.proofs.allocator.DescriptorAllocator.request.Goals as goal
 
@@ -200,3 +201,9 @@ returns-clause-pool_load g c =
     let all = c.self.invariant.is_room in
     let moved = c.serve_key-served.ensures.room in
     omega arith
+
+pub returns-clause-keys : goal.returns-clause-keys
+returns-clause-keys g c =
+    let was = ap (λ (a : Allocations g.row.P.Denot). a.table) (sym c.self.view_is) in
+    let new : Allocations g.row.P.Denot = record { limit = c.self.inside.max_update_after_bind_descriptors_in_all_pools; table = map row_of c.serve_key-served.new.buckets.entries; looks = c.serve_key-served.new.looks.count; comparisons = c.self.inside.comparisons.count } in
+    keys_seen (key_of c.args.key) c.args.self.now new c.self.inside.buckets.entries c.serve_key-served.new.buckets.entries was refl c.in-Ok.ensures.keys

@@ -1,7 +1,7 @@
 use Rattle.std.proofs.Common.{◌≡◌, ◌+◌, ◌≤◌, ◌++◌, ◌∷◌, [], Bool, List, Result, Ok, Err, None, inl, refl, sym, ap, ◌∙◌, subst, arith, rules, map, sum_by}
 use Rattle.std.specs.Map.{set_value}
 use Rattle.std.specs.Option.{option_copied_mut}
-use Rattle.std.specs.Prelude.{IfOk, IfErr, OnErr}
+use Rattle.std.specs.Prelude.{IfOk, IfErr, OnOk, OnErr}
 use Rattle.indexmap.specs.IndexMap.{IndexMap, insert_entry, get}
 use Rattle.indexmap.proofs.CallerLemmas.{insert_entry-new}
 use Rattle.gpu_descriptor_types.specs.Ledger.{Ledger}
@@ -12,6 +12,7 @@ use Rattle.gpu_descriptor.specs.Sets.{key_of}
 use Rattle.gpu_descriptor.specs.Buckets.{AreBookedIn}
 use Rattle.gpu_descriptor.specs.Stored.{entry_of, stored_load_in, stored_load}
 use Rattle.gpu_descriptor.specs.Serves.{ServesKey, IsUnserved}
+use Rattle.gpu_descriptor.proofs.KeysKept.{keys_put, keys_written}
 use Rattle.gpu_descriptor.proofs.Loads.{sum_set, pools_set, pools_end}
 use Rattle.gpu_descriptor.proofs.RequestSteps.{present, missing, serves_present, serves_new, set_value-same}
 use Rattle.gpu_descriptor.proofs.allocator.allocate.serve_key.Goals as goal
@@ -30,6 +31,10 @@ on_err (Err e) f a = f a
 
 put_new : {K X S : Type 0} (eq : K → K → Bool) (m : IndexMap K X S) (k : K) (v : X) (es new : List (K × X)) → new ≡ insert_entry eq es k v → es ≡ m.entries → get eq m k ≡ None → new ≡ m.entries ++ (k, v) ∷ []
 put_new eq m k v es new put same none = put ∙ ap (λ l. insert_entry eq l k v) same ∙ insert_entry-new eq m k v none
+
+on_ok : {T E A : Type 0} (r : Result T E) → A → OnOk r A
+on_ok (Ok x) a = a
+on_ok (Err e) a = tt
 
 pub serve-requires-clause-booked : goal.serve-requires-clause-booked
 serve-requires-clause-booked g c =
@@ -104,3 +109,13 @@ returns-clause-room g c =
     let moved = c.serve-2.ensures.room in
     ap (λ (es : List (BucketKey × DescriptorBucket g.row.P.Denot)). c.serve-2.new.room + sum_by stored_load_in es) put
     ∙ pools_end c.args.key old c.serve-2.new.bucket c.serve-2.new.room c.args.room.now (omega arith)
+
+pub returns-in-Some-clause-keys : goal.returns-in-Some-clause-keys
+returns-in-Some-clause-keys g c = on_ok c.serve.result (keys_written (key_of c.args.key) _ c.args.buckets.now.entries _ c.serve.new.bucket (c.get_mut.follows.holds c.serve.new.bucket).0)
+
+pub returns-clause-keys : goal.returns-clause-keys
+returns-clause-keys g c =
+    let old : List (BucketKey × DescriptorBucket g.row.P.Denot) = c.args.buckets.now.entries in
+    let none = sym c.get_mut.ensures.value ∙ ap option_copied_mut c.in-None.is in
+    let same : c.reserve.new.self.entries ≡ old = c.reserve.ensures.entries ∙ ap (λ b. b.entries) c.get_mut.follows.holds-at-none in
+    keys_put (key_of c.args.key) c.args.key old c.insert.new.self.entries c.serve-2.new.bucket refl (put_new _ c.args.buckets.now c.args.key c.serve-2.new.bucket c.reserve.new.self.entries c.insert.new.self.entries c.in-Ok-insert.ensures.entries same none)
