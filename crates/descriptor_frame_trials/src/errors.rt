@@ -1,4 +1,4 @@
-//! How the errors of `retire` read, through the bound `Error`.
+//! What no clause says: what `format!` writes of the errors of `retire`, through the bound `Error`.
 use crate::trial::Trial;
 use descriptor_frames::RetireError;
 use std::alloc::Global;

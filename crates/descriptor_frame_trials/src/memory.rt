@@ -1,6 +1,6 @@
-//! That a set is retired at the second try where memory was wanting at the first. In a plain run
-//! every growth is granted; under `rt try --test --fail-alloc N` the Nth of each test is refused,
-//! and the next ones are granted. No clause says what memory is there.
+//! What no clause says: that a set which came back for want of memory is retired at the next try.
+//! In a plain run every growth is granted; under `rt try --test --fail-alloc N` the Nth of each
+//! test is refused, and the next ones are granted.
 use crate::trial::{Outcome, Trial, expect_device, expect_sets};
 use std::process::Abort;
 use std::test::Fail;

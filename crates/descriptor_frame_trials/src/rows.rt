@@ -1,5 +1,5 @@
-//! That each call succeeds where memory is there, at sets of three frames, and beside the proofs
-//! what the readers show then. No clause says that a set is ever retired.
+//! What no clause says: that sets are retired, and go back, where memory is there. And beside the
+//! proofs what the readers show then, at three sets and two frames.
 use crate::trial::{Outcome, Trial, expect_device, expect_pools, expect_sets};
 use std::test::Fail;
 

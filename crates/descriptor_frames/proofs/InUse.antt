@@ -3,13 +3,17 @@ use Rattle.std.proofs.Common.{◌≡◌, ℕ, ◌+◌, ◌-◌, ◌≤◌, List,
 use Rattle.std.proofs.lemmas.List.{map-append}
 use Rattle.std.proofs.lemmas.List.Sums.{sum_by-append}
 use Rattle.std.specs.Global.{Vec}
-use Rattle.gpu_descriptor_types.specs.Ledger.{Counters}
+use Rattle.gpu_descriptor_types.specs.Ledger.{Counters, Ledger}
 use Rattle.gpu_descriptor.specs.Agreement.{Agree, AreOutstanding, Item, State, count_of, outstanding}
 use Rattle.gpu_descriptor.specs.Books.{Key}
 use Rattle.gpu_descriptor.specs.Buckets.{more_destroyed, more_released}
+use Rattle.gpu_descriptor.specs.Frees.{GivesBack}
 use Rattle.gpu_descriptor.specs.Promises.{AreOutBesides, KeepsOutstanding}
-use Rattle.gpu_descriptor.specs.Release.{ReleaseTakes, pools_gone, released}
+use Rattle.gpu_descriptor.specs.Release.{ReleaseNone, ReleaseTakes, given_back, pools_gone, released}
+use Rattle.gpu_descriptor.specs.Runs.{runs}
 use Rattle.gpu_descriptor.specs.Sets.{item_of, items_of}
+use Rattle.gpu_descriptor.specs.States.{keys_of, state_of}
+use Rattle.gpu_descriptor.specs.Values.{Allocations}
 use Rattle.gpu_descriptor.specs.declared.set.DescriptorSet.{DescriptorSet}
 
 -- ---- a list in two parts
@@ -57,9 +61,17 @@ zero_gone : (keys : List Key) (s : State) → pools_gone keys [] s ≡ 0
 zero_gone [] s = refl
 zero_gone (k ∷ keys) s = zero_gone keys s
 
-pub same_counters : (keys : List Key) (s : State) (n : Counters) → more_destroyed (pools_gone keys [] s) (more_released 0 n) ≡ n
+same_counters : (keys : List Key) (s : State) (n : Counters) → more_destroyed (pools_gone keys [] s) (more_released 0 n) ≡ n
 same_counters keys s n =
     let none = zero_gone keys s in
     let a : n.released + 0 ≡ n.released = omega arith in
     let b : n.destroyed + pools_gone keys [] s ≡ n.destroyed = omega arith in
     λ i. record n { released = a i; destroyed = b i }
+
+-- and books and ledger stay
+pub none_back : {P S : Type 0} {pool_name : P → ℕ} {set_name : S → ℕ} {old new : Allocations P} {before after : Ledger} → ReleaseNone → (sets : List (DescriptorSet S)) → sets ≡ [] → GivesBack pool_name set_name sets (runs (items_of set_name sets)) old new before after → (state_of pool_name new after ≡ state_of pool_name old before) × (after ≡ before)
+none_back {pool_name = pool_name} {old = old} {new = new} {before = before} {after = after} law [] e back =
+    let state : state_of pool_name new after ≡ state_of pool_name old before = back.state ∙ law _ in
+    let counters : after.counters ≡ before.counters = back.counters ∙ same_counters (keys_of old) (given_back [] (state_of pool_name old before)) before.counters in
+    (state, λ i. record { pools = (state i).ledger; counters = counters i })
+none_back {S = S} law (x ∷ xs) e back = absurd (let bad : ◌≡◌ {A = List (DescriptorSet S)} (x ∷ xs) [] = e in cc)

@@ -6,7 +6,7 @@ ghost use Rattle.gpu_descriptor.specs.Load.{sets_out};
 ghost use Rattle.gpu_descriptor.specs.Sets.{item_of};
 ghost use Rattle.gpu_descriptor.specs.States.{outstanding_of, table_of};
 ghost use Rattle.descriptor_frames.specs.Errors.{set_back};
-ghost use Rattle.descriptor_frames.specs.Retired.{AreInOrder, at_frame, frames_in};
+ghost use Rattle.descriptor_frames.specs.Retired.{AreInOrder, at_frame};
 
 mod allocate;
 mod cleanup;
@@ -29,7 +29,7 @@ pub struct FrameManager<P, S> {
 
     /// The greatest frame at which a set was ever retired, and 0 before the first.
     greatest: u64,
-    ghost ordered: { AreInOrder (frames_in retired.items) greatest },
+    ghost ordered: { AreInOrder retired.items greatest },
 }
 
 impl<P, S> FrameManager<P, S> {
@@ -101,7 +101,7 @@ impl<P, S> FrameManager<P, S> {
     /// How many sets are retired.
     pub fn retired(&self) -> u64
         ensures count { result ≡ length (retired_of self.now) }
-        ensures order { AreInOrder (frames_in (retired_of self.now)) (greatest_of self.now) }
+        ensures order { AreInOrder (retired_of self.now) (greatest_of self.now) }
     {
         self.retired.len() as u64
     }

@@ -1,14 +1,11 @@
 use Rattle.std.proofs.Common.{◌≡◌, [], ◌++◌, refl, sym, ap, subst, ◌∙◌}
 use Rattle.gpu_descriptor.specs.Agreement.{State}
-use Rattle.gpu_descriptor.specs.Buckets.{more_destroyed, more_released}
 use Rattle.gpu_descriptor.specs.Promises.{AreOutBesides}
-use Rattle.gpu_descriptor.specs.Release.{given_back, pools_gone, released}
-use Rattle.gpu_descriptor.specs.Runs.{runs}
 use Rattle.gpu_descriptor.specs.Sets.{items_of}
-use Rattle.gpu_descriptor.specs.States.{keys_of, state_of}
-use Rattle.descriptor_frames.specs.Frames.{allocator_of, retired_of, state_in}
-use Rattle.descriptor_frames.specs.Retired.{AreInOrder, frames_in, sets_in}
-use Rattle.descriptor_frames.proofs.InUse.{out_front, out_rest, same_besides, same_counters, went_back}
+use Rattle.gpu_descriptor.specs.States.{state_of}
+use Rattle.descriptor_frames.specs.Frames.{retired_of, state_in}
+use Rattle.descriptor_frames.specs.Retired.{AreInOrder, sets_in}
+use Rattle.descriptor_frames.proofs.InUse.{none_back, out_front, out_rest, same_besides, went_back}
 use Rattle.descriptor_frames.proofs.Taken.{both_parts, none_taken, same_list_then, still_in_order, stood_before, took_due}
 use Rattle.descriptor_frames.proofs.manager.FrameManager.finish.Goals.{After-end}
 use Rattle.descriptor_frames.proofs.manager.FrameManager.finish.Goals as goal
@@ -23,7 +20,7 @@ shape_of-self g c = sym (same_list_then c.free_from.ensures.frees)
 pub invariant_of-self : goal.invariant_of-self
 invariant_of-self g c =
     let order = still_in_order c.free_from.ensures.frees c.args.self.now.greatest c.args.self.now.ordered in
-    record { ordered = subst (λ q. AreInOrder (frames_in q.items) c.args.self.now.greatest) (sym c.end.ensures) order }
+    record { ordered = subst (λ q. AreInOrder q.items c.args.self.now.greatest) (sym c.end.ensures) order }
 
 pub returns-clause-given_back : goal.returns-clause-given_back
 returns-clause-given_back g c =
@@ -78,16 +75,6 @@ returns-clause-in_use g c =
 pub returns-clause-none : goal.returns-clause-none
 returns-clause-none g c e =
     let f = c.free_from.ensures.frees in
-    let name = g.D.DescriptorDevice.set_name in
-    let old = state_in g.D.DescriptorDevice.pool_name c.args.self.now (g.D.DescriptorDevice.ledger c.args.device.now) in
-    let before = (g.D.DescriptorDevice.ledger c.args.device.now).counters in
-    let keys = keys_of (allocator_of c.args.self.now) in
     let empty : f.sets ≡ [] = (took_due f c.args.self.now.greatest c.args.self.now.ordered).0 ∙ e in
-    let state = f.back.state ∙ ap (λ l. released (items_of name l) old) empty ∙ c.release_parts.ensures.none old in
-    let counters = f.back.counters ∙ ap (λ l. more_destroyed (pools_gone keys (items_of name l) (given_back (items_of name l) old)) (more_released (runs (items_of name l)) before)) empty ∙ same_counters keys (given_back [] old) before in
-    record {
-      state = state;
-      ledger = λ i. record { pools = (state i).ledger; counters = counters i };
-      list = ap (λ q. q.items) c.end.ensures ∙ none_taken f empty;
-      greatest = refl;
-    }
+    let same = none_back c.release_parts.ensures.none f.sets empty f.back in
+    record { state = same.0; ledger = same.1; list = ap (λ q. q.items) c.end.ensures ∙ none_taken f empty; greatest = refl }
