@@ -56,7 +56,7 @@ impl Bench {
         requires { AreOutstanding (items_of name_of sets.items) (state_in self.old) }
         ensures { AreOutBesides (items_of name_of sets.items) (state_in self.new) (state_in self.old) }
     {
-        self.allocator.free(&mut self.device, sets);
+        self.allocator.free_all(&mut self.device, sets);
     }
 
     /// Takes sets, and gives them back.

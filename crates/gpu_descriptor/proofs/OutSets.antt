@@ -1,22 +1,26 @@
 -- As many sets are out as are outstanding.
-use Rattle.std.proofs.Common.{◌≡◌, ℕ, suc, ◌+◌, ◌-◌, ◌<◌, ◌≤◌, true, false, List, [], ◌∷◌, ◌++◌, length, map, count_by, slice_get, Option, Some, None, inl, inr, refl, sym, ap, ◌∙◌, arith, length-append}
+use Rattle.std.proofs.Common.{◌≡◌, ℕ, suc, ◌+◌, ◌-◌, ◌<◌, ◌≤◌, true, false, List, [], ◌∷◌, ◌++◌, length, map, count_by, sum_by, slice_get, Option, Some, None, inl, inr, refl, sym, ap, ◌∙◌, arith, length-append}
 use Rattle.std.specs.Option.{option_map_or}
 use Rattle.std.proofs.lemmas.Bool.{cases_Bool, cases_eq, cases_lt}
 use Rattle.std.proofs.lemmas.List.{length-map}
-use Rattle.std.proofs.lemmas.List.Sums.{sum_by-cons}
+use Rattle.std.proofs.lemmas.List.Sums.{sum_by-append, sum_by-cons}
 use Rattle.gpu_descriptor_types.specs.Ledger.{Pool, live_sets}
 use Rattle.gpu_descriptor_types.specs.Multiset.{LiveSet, set_eq, times}
 use Rattle.gpu_descriptor_types.proofs.Counting.{count_by_yes, count_by_no, counts_alike, set_exact}
-use Rattle.gpu_descriptor.specs.Agreement.{Item, set_of, count_of}
+use Rattle.gpu_descriptor.specs.Agreement.{Item, item_eq, set_of, count_of}
 use Rattle.gpu_descriptor.specs.Books.{Key, key_eq, Entry, Bucket, books_of, HasDistinctKeys, sum_over}
 use Rattle.gpu_descriptor.specs.Grants.{items_at}
-use Rattle.gpu_descriptor.specs.Load.{held, sets_out, OutIsLength, OutIsSize}
+use Rattle.gpu_descriptor.specs.Frees.{descriptors_of, marked_descriptors, LoadIsDescriptors}
+use Rattle.gpu_descriptor.specs.Load.{descriptors_out, held, sets_out, OutIsLength, OutIsSize}
 use Rattle.gpu_descriptor.specs.Buckets.{IsBookedIn}
 use Rattle.gpu_descriptor.specs.Walk.{live_at}
 use Rattle.gpu_descriptor.proofs.Exact.{item_exact, key_exact}
+use Rattle.gpu_descriptor.proofs.Holding.{count_of-append}
 use Rattle.gpu_descriptor.proofs.KeepKey.{place_of_items, count_of_items, count_elsewhere}
 use Rattle.gpu_descriptor.proofs.KeepState.{booked_of}
 use Rattle.gpu_descriptor.proofs.KeepSteps.{live_of, live_below, live_from, count_append}
+use Rattle.gpu_descriptor.proofs.Loads.{load_at}
+use Rattle.gpu_descriptor.proofs.Rollback.{load_of_items}
 use Rattle.gpu_descriptor.proofs.Tables.{first_books, none_behind}
 use Rattle.gpu_descriptor.proofs.Sized.{size_of}
 
@@ -106,14 +110,14 @@ key_out k first (e ∷ es) ledger booked =
     }
 
 -- the sets that are out of all keys of a table
-table_out : (ledger : ℕ → Option Pool) (table : List (Key × Bucket)) → HasDistinctKeys table → ((k : Key) (i : ℕ) (e : Entry) → slice_get (books_of table k).pools i ≡ Some e → IsBookedIn k ledger e) → (items : List Item) × (length items ≡ sum_over sets_out table) × ((t : Item) → count_of t items ≡ live_at ledger (books_of table t.key) t)
-table_out ledger [] distinct booked = ([], refl, λ t. sym (none_out ledger 0 t))
+table_out : (ledger : ℕ → Option Pool) (table : List (Key × Bucket)) → HasDistinctKeys table → ((k : Key) (i : ℕ) (e : Entry) → slice_get (books_of table k).pools i ≡ Some e → IsBookedIn k ledger e) → (items : List Item) × (length items ≡ sum_over sets_out table) × ((t : Item) → count_of t items ≡ live_at ledger (books_of table t.key) t) × (marked_descriptors items ≡ sum_over descriptors_out table)
+table_out ledger [] distinct booked = ([], refl, (λ t. sym (none_out ledger 0 t)), refl)
 table_out ledger (row ∷ table) distinct booked =
     let here = key_out row.0 row.1.first row.1.pools ledger (λ i e at. booked row.0 i e (ap (λ (b : Bucket). slice_get b.pools i) (first_books row table) ∙ at)) in
     let rest = table_out ledger table distinct.1 (λ k i e at. booked k i e (behind k i e at)) in (
       here.items ++ rest.0,
       (let both = length-append here.items rest.0 in let first = here.many in let later = rest.1 in let whole = sum_by-cons (λ (r : Key × Bucket). sets_out r.0 r.1) row table in omega arith),
-      λ t.
+      (λ t.
           let sum = count_append t here.items rest.0 in
           let later = rest.2 t in
           elim (cases_Bool (key_eq row.0 t.key)) [
@@ -128,7 +132,12 @@ table_out ledger (row ∷ table) distinct booked =
                   | inl some ↦ absurd (let bad : true ≡ false = sym (key_exact.self row.0) ∙ ap (key_eq row.0) (sym (here.of_key t some)) ∙ other in cc)
                   | inr none ↦ omega arith
                 ])
-          ],
+          ]),
+      (let both = sum_by-append descriptors_of here.items rest.0 in
+          let first : marked_descriptors here.items ≡ descriptors_out row.0 row.1 = load_of_items row.0 here.items here.of_key ∙ ap (load_at row.0) here.many in
+          let later = rest.3 in
+          let whole = sum_by-cons (λ (r : Key × Bucket). descriptors_out r.0 r.1) row table in
+          omega arith),
     )
   where
     behind : (k : Key) (i : ℕ) (e : Entry) → slice_get (books_of table k).pools i ≡ Some e → slice_get (books_of (row ∷ table) k).pools i ≡ Some e
@@ -150,3 +159,50 @@ pub out_is_length : OutIsLength
 out_is_length s n agree out items alike =
     let all = out_is_size s n agree out in
     sym (every items) ∙ counts_alike item_exact items all.0 (λ t. alike t ∙ sym (all.2 t)) (λ u. true) ∙ every all.0 ∙ all.1
+
+-- ---- sums over a list hang only on how often each item stands in it
+
+cons_count : (u t : Item) (m : List Item) → count_of u (t ∷ m) ≡ count_of u (t ∷ []) + count_of u m
+cons_count u t m = count_of-append u (t ∷ []) m
+
+-- an item taken out of a list
+removed : (f : Item → ℕ) (t : Item) (m : List Item) → 0 < count_of t m → (rest : List Item) × ((u : Item) → count_of u m ≡ count_of u (t ∷ rest)) × (sum_by f m ≡ f t + sum_by f rest)
+removed f t [] some = absurd (omega arith)
+removed f t (u ∷ m) some = elim (cases_Bool (item_eq u t)) [
+  | inl here ↦ (
+      let is : u ≡ t = item_exact.same u t here in
+      (m, (λ v. ap (λ (w : Item). count_of v (w ∷ m)) is), sum_by-cons f u m ∙ ap (λ (w : Item). f w + sum_by f m) is))
+  | inr other ↦ (
+      let skip : count_of t (u ∷ m) ≡ count_of t m = count_by_no (λ v. item_eq v t) u m other in
+      let found = removed f t m (omega arith) in (
+        u ∷ found.0,
+        (λ v.
+            let had = found.1 v in
+            let a = cons_count v u m in
+            let b = cons_count v t found.0 in
+            let c = cons_count v t (u ∷ found.0) in
+            let d = cons_count v u found.0 in
+            omega arith),
+        (let sum = found.2 in let a = sum_by-cons f u m in let b = sum_by-cons f u found.0 in omega arith),
+      ))
+]
+
+sums_alike : (f : Item → ℕ) (m n : List Item) → ((u : Item) → count_of u m ≡ count_of u n) → sum_by f m ≡ sum_by f n
+sums_alike f [] [] alike = refl
+sums_alike f [] (t ∷ n) alike =
+    let own : count_of t (t ∷ n) ≡ suc (count_of t n) = count_by_yes (λ v. item_eq v t) t n (item_exact.self t) in
+    let none = alike t in
+    absurd (omega arith)
+sums_alike f (t ∷ m) n alike =
+    let own : count_of t (t ∷ m) ≡ suc (count_of t m) = count_by_yes (λ v. item_eq v t) t m (item_exact.self t) in
+    let same = alike t in
+    let out = removed f t n (omega arith) in
+    let rest = sums_alike f m out.0 (λ u. let a = alike u in let b = out.1 u in let c = cons_count u t m in let d = cons_count u t out.0 in omega arith) in
+    let sum = out.2 in
+    let whole = sum_by-cons f t m in
+    omega arith
+
+pub load_is_descriptors : LoadIsDescriptors
+load_is_descriptors s n agree load items alike =
+    let all = table_out s.ledger load.table load.distinct (λ k i e at. (booked_of s k agree).each i e (ap (λ (b : Bucket). slice_get b.pools i) (sym (load.keeps k)) ∙ at)) in
+    sums_alike descriptors_of items all.0 (λ t. alike t ∙ sym (all.2 t ∙ ap (λ (b : Bucket). live_at s.ledger b t) (load.keeps t.key))) ∙ all.3 ∙ load.total

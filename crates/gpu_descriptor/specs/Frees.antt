@@ -3,8 +3,9 @@ use Rattle.std.specs.Prelude.{◌≡◌, ℕ, ◌+◌, if◌then◌else◌, List
 use Rattle.std.specs.Iterator.{YieldsThen}
 use Rattle.gpu_descriptor_types.specs.Ledger.{Ledger}
 use Rattle.gpu_descriptor.specs.declared.set.DescriptorSet.{DescriptorSet}
-use Rattle.gpu_descriptor.specs.Agreement.{Item}
+use Rattle.gpu_descriptor.specs.Agreement.{State, Item, Agree, count_of, outstanding}
 use Rattle.gpu_descriptor.specs.Buckets.{more_released, more_destroyed}
+use Rattle.gpu_descriptor.specs.Load.{IsMarkedLoad}
 use Rattle.gpu_descriptor.specs.Promises.{AreOutBesides}
 use Rattle.gpu_descriptor.specs.Release.{given_back, released, pools_gone}
 use Rattle.gpu_descriptor.specs.Runs.{runs}
@@ -20,6 +21,10 @@ descriptors_of t = if t.key.marked then sum t.key.counts else 0
 -- the descriptors of the marked sets of a list
 abbrev pub marked_descriptors : List Item → ℕ
 marked_descriptors m = sum_by descriptors_of m
+
+-- where books and ledger agree, the marked load is the sum of the descriptors of the marked sets that are outstanding: of each list that has every set as often
+abbrev pub LoadIsDescriptors : Type 0
+LoadIsDescriptors = (s : State) (n : ℕ) → Agree s → IsMarkedLoad s n → (items : List Item) → ((t : Item) → count_of t items ≡ outstanding s t) → marked_descriptors items ≡ n
 
 -- these sets have gone back, in so many release calls
 pub record GivesBack {P S : Type 0} (pool_name : P → ℕ) (set_name : S → ℕ) (sets : List (DescriptorSet S)) (calls : ℕ) (old new : Allocations P) (before after : Ledger) : Type 0 where

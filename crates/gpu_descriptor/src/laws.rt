@@ -10,6 +10,7 @@ ghost use Rattle.gpu_descriptor.specs.Cleanup.{CleanAgain, CleanAgainNone, Clean
 ghost use Rattle.gpu_descriptor.specs.Agreement.{AgreesOnce, BookedIsListed, EmptyAgrees, Item, OwnAgrees, OwnOutstanding, item_eq};
 ghost use Rattle.gpu_descriptor.specs.Books.{HasDistinctKeys, Key, SumByBooks, key_eq};
 ghost use Rattle.gpu_descriptor.specs.Foreign.{LosesNoneInTurn, NamedOrForeign};
+ghost use Rattle.gpu_descriptor.specs.Frees.{LoadIsDescriptors};
 ghost use Rattle.gpu_descriptor.specs.Load.{IsMarkedLoad, IsOut, IsPoolLoad, MarkedWithinPools, PoolLoadIsCounts, PoolLoadIsCreated, OutIsLength, OutIsSize};
 ghost use Rattle.gpu_descriptor.specs.States.{marked_load_of, outstanding_of, pool_load_of, state_of, table_of};
 ghost use Rattle.gpu_descriptor.specs.Values.{Allocations};
@@ -101,10 +102,12 @@ pub fn pools_have_their_load()
 {}
 
 /// Where books and ledger agree, as many sets are out as are outstanding: a list has each set as
-/// often as it is outstanding, and each such list has as many sets as are out.
+/// often as it is outstanding, and each such list has as many sets as are out. The marked load is the
+/// sum of the descriptors of its marked sets.
 pub fn out_is_outstanding()
     ensures size { OutIsSize }
     ensures any_list { OutIsLength }
+    ensures load { LoadIsDescriptors }
 {}
 
 /// Pools of the device that are none of the allocator's may come, go and change between its calls:

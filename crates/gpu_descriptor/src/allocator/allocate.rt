@@ -127,8 +127,7 @@ impl<P: Drop, S: Drop> DescriptorAllocator<P, S> {
         match taken {
             Ok(()) => Ok(sets),
             Err(refusal) => {
-                let mut back = sets.into_iter();
-                self.free_from(device, &mut back);
+                self.free_all(device, sets);
                 Err(error_of_refusal(refusal))
             }
         }

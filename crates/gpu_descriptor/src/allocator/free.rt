@@ -6,7 +6,8 @@ ghost use Rattle.gpu_descriptor.specs.Books.{HasDistinctKeys};
 ghost use Rattle.gpu_descriptor.specs.Comparisons.{open_pools, run_digits};
 ghost use Rattle.gpu_descriptor.specs.Digits.{binary_digits};
 ghost use Rattle.gpu_descriptor.specs.Foreign.{KeepsForeign, LosesNone};
-ghost use Rattle.gpu_descriptor.specs.Frees.{Frees, FreesRun};
+ghost use Rattle.gpu_descriptor.specs.Frees.{Frees, FreesRun, GivesBack};
+ghost use Rattle.gpu_descriptor.specs.Runs.{runs};
 ghost use Rattle.gpu_descriptor.specs.Sets.{items_of, key_of};
 ghost use Rattle.gpu_descriptor.specs.States.{Agrees, keys_of, marked_load_of, pool_load_of, state_of, table_of};
 ghost use Rattle.gpu_descriptor.specs.Stored.{load_of};
@@ -131,6 +132,39 @@ impl<P, S> DescriptorAllocator<P, S> {
             }
             None => unreachable!(),
         }
+    }
+}
+
+impl<P, S: Drop> DescriptorAllocator<P, S> {
+    /// The same as `free`, for the sets of a vector. What it asks of them is one clause on their list,
+    /// which `allocate` leaves met.
+    pub fn free_all<L, D: DescriptorDevice<L, P, S>>(
+        &mut self,
+        device: &mut D,
+        sets: Vec<DescriptorSet<S>>,
+    )
+        requires agree { Agrees D.pool_name self.old (D.ledger device.old) }
+        requires outstanding { AreOutstanding (items_of D.set_name sets.items)
+            (state_of D.pool_name self.old (D.ledger device.old)) }
+        ensures gives_back { GivesBack D.pool_name D.set_name sets.items
+            (runs (items_of D.set_name sets.items))
+            self.old self.new (D.ledger device.old) (D.ledger device.new) }
+        ensures agree { Agrees D.pool_name self.new (D.ledger device.new) }
+        ensures keys { keys_of self.new ≡ keys_of self.old }
+        ensures rows { HasDistinctKeys (table_of D.pool_name self.new) }
+        ensures foreign { KeepsForeign (state_of D.pool_name self.old (D.ledger device.old))
+            (state_of D.pool_name self.new (D.ledger device.new)) }
+        ensures accounted { LosesNone (state_of D.pool_name self.old (D.ledger device.old))
+            (state_of D.pool_name self.new (D.ledger device.new)) }
+        ensures load { marked_load_of self.new ≤ self.new.limit }
+        ensures pool_load { pool_load_of self.new ≤ self.new.limit }
+        ensures limit { self.new.limit ≡ self.old.limit }
+        ensures looks_stay { self.new.looks ≡ self.old.looks }
+        ensures comparisons { self.new.comparisons ≤ self.old.comparisons
+            + run_digits (state_of D.pool_name self.old (D.ledger device.old)) (items_of D.set_name sets.items) }
+    {
+        let mut back = sets.into_iter();
+        self.free_from(device, &mut back);
     }
 }
 

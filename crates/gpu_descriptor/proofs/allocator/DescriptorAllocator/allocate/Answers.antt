@@ -1,10 +1,6 @@
 use Rattle.std.proofs.Common.{◌+◌, rules, ap, ◌≡◌, arith, List, Ok, Err, inl, refl, sym, ◌∙◌, subst}
-use Rattle.std.proofs.IntoIterSteps.{All-taken}
-use Rattle.std.specs.Vec.Iter.{into_iter_items}
-use Rattle.gpu_descriptor_types.proofs.Drained.{taken_front}
 use Rattle.gpu_descriptor_types.specs.Ledger.{Ledger}
-use Rattle.gpu_descriptor.specs.declared.set.DescriptorSet.{DescriptorSet}
-use Rattle.gpu_descriptor.specs.Agreement.{State, Agree, AreOutstanding}
+use Rattle.gpu_descriptor.specs.Agreement.{State, Agree}
 use Rattle.gpu_descriptor.specs.Books.{Key}
 use Rattle.gpu_descriptor.specs.Frees.{GivesBack}
 use Rattle.gpu_descriptor.specs.Keys.{StayOrGainLast}
@@ -21,7 +17,6 @@ use Rattle.gpu_descriptor.specs.Promises.{AreOfKey}
 use Rattle.gpu_descriptor.specs.Values.{Allocations}
 use Rattle.gpu_descriptor.proofs.Allocating.{taken_agree, taken_given, taken_out, taken_own, taken_others, taken_leaves, taken_loses_none, went_back, back_out, back_leaves, back_loses_none, back_others, back_totals, kept, kept_many, kept_totals}
 use Rattle.gpu_descriptor.proofs.Foreign.{foreign_same, loses_same}
-use Rattle.gpu_descriptor.proofs.Holding.{out_front}
 use Rattle.gpu_descriptor.proofs.Promises.{has_cause, short}
 use Rattle.gpu_descriptor.proofs.Requested.{keys_apart, load_of_rows}
 use Rattle.gpu_descriptor.proofs.allocator.DescriptorAllocator.allocate.Goals as goal
@@ -40,17 +35,13 @@ returns-in-Err-clause-foreign g c = foreign_same _ _ (λ i. state_of g.D.Descrip
 pub returns-in-Err-clause-accounted : goal.returns-in-Err-clause-accounted
 returns-in-Err-clause-accounted g c = loses_same _ _ (λ i. state_of g.D.DescriptorDevice.pool_name (c.in-Err.ensures.allocator i) (c.in-Err.ensures.ledger i))
 
-pub free_from-requires-clause-agree : goal.free_from-requires-clause-agree
-free_from-requires-clause-agree g c =
+pub free_all-requires-clause-agree : goal.free_all-requires-clause-agree
+free_all-requires-clause-agree g c =
     taken_agree g.D.DescriptorDevice.pool_name g.D.DescriptorDevice.set_name _ _ _ _ _ _ _ _ c.in-Ok.ensures.taken c.requires.agree
 
-pub free_from-requires-clause-outstanding : goal.free_from-requires-clause-outstanding
-free_from-requires-clause-outstanding g c xs t y =
-    let name = g.D.DescriptorDevice.pool_name in
-    let set_name = g.D.DescriptorDevice.set_name in
-    let now : State = state_of name c.request.new.self (g.D.DescriptorDevice.ledger c.request.new.device) in
-    let out : AreOutstanding (items_of set_name c.in-Ok.given.0.items) now = taken_given name set_name _ _ _ _ _ _ _ _ c.in-Ok.ensures.taken c.requires.agree in
-    out_front set_name xs (into_iter_items t) c.in-Ok.given.0.items now (sym c.into_iter-back.ensures.rest ∙ taken_front c.into_iter-back.result xs t y) out
+pub free_all-requires-clause-outstanding : goal.free_all-requires-clause-outstanding
+free_all-requires-clause-outstanding g c =
+    taken_given g.D.DescriptorDevice.pool_name g.D.DescriptorDevice.set_name _ _ _ _ _ _ _ _ c.in-Ok.ensures.taken c.requires.agree
 
 pub returns-in-Ok-taken-clause-outcome : goal.returns-in-Ok-taken-clause-outcome
 returns-in-Ok-taken-clause-outcome g c =
@@ -68,14 +59,12 @@ returns-in-Err-taken-clause-outcome g c =
     let set_name = g.D.DescriptorDevice.set_name in
     let l : Ledger = g.D.DescriptorDevice.ledger c.args.device.now in
     let m : Ledger = g.D.DescriptorDevice.ledger c.request.new.device in
-    let n : Ledger = g.D.DescriptorDevice.ledger c.free_from.new.device in
+    let n : Ledger = g.D.DescriptorDevice.ledger c.free_all.new.device in
     let same : key_of (record { size = c.args.layout_descriptor_count.now; update_after_bind = c.contains.result }) ≡ layout_key g.D.DescriptorDevice.layout_counts g.D.DescriptorDevice.layout_mark c.args.layout.now = λ i. record { counts = c.requires.counts i; marked = (c.contains.ensures tt ∙ c.requires.mark) i } in
-    let f = c.free_from.ensures.frees in
-    let all : f.sets ≡ c.in-Ok.given.0.items = All-taken c.into_iter-back.result f.sets (c.free_from.new.sets, f.drained) ∙ c.into_iter-back.ensures.rest in
-    let back : GivesBack name set_name c.in-Ok.given.0.items (runs (items_of set_name c.in-Ok.given.0.items)) c.request.new.self c.free_from.new.self m n = subst (λ (x : List (DescriptorSet g.row.S.Denot)). GivesBack name set_name x (runs (items_of set_name x)) c.request.new.self c.free_from.new.self m n) all f.back in
-    let answer : Allocates (call_of name (key_of (record { size = c.args.layout_descriptor_count.now; update_after_bind = c.contains.result })) c.args.count c.args.self.now c.free_from.new.self l n (Err (refusal_answer c.in-Err-taken.refusal))) =
-    went_back name set_name _ _ _ _ _ _ _ _ c.in-Ok.ensures.taken c.requires.agree (let n = c.if-count-eq0.false in omega arith) c.free_from.new.self n back c.in-Err-taken.refusal c.in-Err-taken.is in
-    rw c.error_of_refusal.ensures (subst (λ (k : Key). Allocates (call_of name k c.args.count c.args.self.now c.free_from.new.self l n (Err (refusal_answer c.in-Err-taken.refusal)))) same answer)
+    let back : GivesBack name set_name c.in-Ok.given.0.items (runs (items_of set_name c.in-Ok.given.0.items)) c.request.new.self c.free_all.new.self m n = c.free_all.ensures.gives_back in
+    let answer : Allocates (call_of name (key_of (record { size = c.args.layout_descriptor_count.now; update_after_bind = c.contains.result })) c.args.count c.args.self.now c.free_all.new.self l n (Err (refusal_answer c.in-Err-taken.refusal))) =
+    went_back name set_name _ _ _ _ _ _ _ _ c.in-Ok.ensures.taken c.requires.agree (let n = c.if-count-eq0.false in omega arith) c.free_all.new.self n back c.in-Err-taken.refusal c.in-Err-taken.is in
+    rw c.error_of_refusal.ensures (subst (λ (k : Key). Allocates (call_of name k c.args.count c.args.self.now c.free_all.new.self l n (Err (refusal_answer c.in-Err-taken.refusal)))) same answer)
 
 pub returns-in-Err-clause-cause : goal.returns-in-Err-clause-cause
 returns-in-Err-clause-cause g c = has_cause _ (returns-in-Err-clause-outcome g c)
@@ -109,11 +98,9 @@ returns-in-Err-taken-clause-back g c =
     let name = g.D.DescriptorDevice.pool_name in
     let set_name = g.D.DescriptorDevice.set_name in
     let m : Ledger = g.D.DescriptorDevice.ledger c.request.new.device in
-    let n : Ledger = g.D.DescriptorDevice.ledger c.free_from.new.device in
-    let f = c.free_from.ensures.frees in
-    let all : f.sets ≡ c.in-Ok.given.0.items = All-taken c.into_iter-back.result f.sets (c.free_from.new.sets, f.drained) ∙ c.into_iter-back.ensures.rest in
-    let back : GivesBack name set_name c.in-Ok.given.0.items (runs (items_of set_name c.in-Ok.given.0.items)) c.request.new.self c.free_from.new.self m n = subst (λ (x : List (DescriptorSet g.row.S.Denot)). GivesBack name set_name x (runs (items_of set_name x)) c.request.new.self c.free_from.new.self m n) all f.back in
-    back_out name set_name _ _ _ _ _ _ _ _ c.in-Ok.ensures.taken c.requires.agree c.free_from.new.self n _ back
+    let n : Ledger = g.D.DescriptorDevice.ledger c.free_all.new.device in
+    let back : GivesBack name set_name c.in-Ok.given.0.items (runs (items_of set_name c.in-Ok.given.0.items)) c.request.new.self c.free_all.new.self m n = c.free_all.ensures.gives_back in
+    back_out name set_name _ _ _ _ _ _ _ _ c.in-Ok.ensures.taken c.requires.agree c.free_all.new.self n _ back
 
 pub returns-in-Err-taken-clause-cause : goal.returns-in-Err-taken-clause-cause
 returns-in-Err-taken-clause-cause g c = has_cause _ (returns-in-Err-taken-clause-outcome g c)
@@ -127,34 +114,28 @@ returns-in-Err-taken-clause-other_keys g c =
     let name = g.D.DescriptorDevice.pool_name in
     let set_name = g.D.DescriptorDevice.set_name in
     let m : Ledger = g.D.DescriptorDevice.ledger c.request.new.device in
-    let n : Ledger = g.D.DescriptorDevice.ledger c.free_from.new.device in
-    let f = c.free_from.ensures.frees in
-    let all : f.sets ≡ c.in-Ok.given.0.items = All-taken c.into_iter-back.result f.sets (c.free_from.new.sets, f.drained) ∙ c.into_iter-back.ensures.rest in
-    let back : GivesBack name set_name c.in-Ok.given.0.items (runs (items_of set_name c.in-Ok.given.0.items)) c.request.new.self c.free_from.new.self m n = subst (λ (x : List (DescriptorSet g.row.S.Denot)). GivesBack name set_name x (runs (items_of set_name x)) c.request.new.self c.free_from.new.self m n) all f.back in
+    let n : Ledger = g.D.DescriptorDevice.ledger c.free_all.new.device in
+    let back : GivesBack name set_name c.in-Ok.given.0.items (runs (items_of set_name c.in-Ok.given.0.items)) c.request.new.self c.free_all.new.self m n = c.free_all.ensures.gives_back in
     let old : State = state_of name c.args.self.now (g.D.DescriptorDevice.ledger c.args.device.now) in
-    subst (λ (k : Key). KeepsOtherKeys k old (state_of name c.free_from.new.self n)) same (back_others name set_name _ _ _ _ _ _ _ _ c.in-Ok.ensures.taken c.requires.agree c.free_from.new.self n _ back)
+    subst (λ (k : Key). KeepsOtherKeys k old (state_of name c.free_all.new.self n)) same (back_others name set_name _ _ _ _ _ _ _ _ c.in-Ok.ensures.taken c.requires.agree c.free_all.new.self n _ back)
 
 pub returns-in-Err-taken-clause-foreign : goal.returns-in-Err-taken-clause-foreign
 returns-in-Err-taken-clause-foreign g c =
     let name = g.D.DescriptorDevice.pool_name in
     let set_name = g.D.DescriptorDevice.set_name in
     let m : Ledger = g.D.DescriptorDevice.ledger c.request.new.device in
-    let n : Ledger = g.D.DescriptorDevice.ledger c.free_from.new.device in
-    let f = c.free_from.ensures.frees in
-    let all : f.sets ≡ c.in-Ok.given.0.items = All-taken c.into_iter-back.result f.sets (c.free_from.new.sets, f.drained) ∙ c.into_iter-back.ensures.rest in
-    let back : GivesBack name set_name c.in-Ok.given.0.items (runs (items_of set_name c.in-Ok.given.0.items)) c.request.new.self c.free_from.new.self m n = subst (λ (x : List (DescriptorSet g.row.S.Denot)). GivesBack name set_name x (runs (items_of set_name x)) c.request.new.self c.free_from.new.self m n) all f.back in
-    back_leaves name set_name _ _ _ _ _ _ _ _ c.in-Ok.ensures.taken c.requires.agree c.free_from.new.self n _ back
+    let n : Ledger = g.D.DescriptorDevice.ledger c.free_all.new.device in
+    let back : GivesBack name set_name c.in-Ok.given.0.items (runs (items_of set_name c.in-Ok.given.0.items)) c.request.new.self c.free_all.new.self m n = c.free_all.ensures.gives_back in
+    back_leaves name set_name _ _ _ _ _ _ _ _ c.in-Ok.ensures.taken c.requires.agree c.free_all.new.self n _ back
 
 pub returns-in-Err-taken-clause-accounted : goal.returns-in-Err-taken-clause-accounted
 returns-in-Err-taken-clause-accounted g c =
     let name = g.D.DescriptorDevice.pool_name in
     let set_name = g.D.DescriptorDevice.set_name in
     let m : Ledger = g.D.DescriptorDevice.ledger c.request.new.device in
-    let n : Ledger = g.D.DescriptorDevice.ledger c.free_from.new.device in
-    let f = c.free_from.ensures.frees in
-    let all : f.sets ≡ c.in-Ok.given.0.items = All-taken c.into_iter-back.result f.sets (c.free_from.new.sets, f.drained) ∙ c.into_iter-back.ensures.rest in
-    let back : GivesBack name set_name c.in-Ok.given.0.items (runs (items_of set_name c.in-Ok.given.0.items)) c.request.new.self c.free_from.new.self m n = subst (λ (x : List (DescriptorSet g.row.S.Denot)). GivesBack name set_name x (runs (items_of set_name x)) c.request.new.self c.free_from.new.self m n) all f.back in
-    back_loses_none name set_name _ _ _ _ _ _ _ _ c.in-Ok.ensures.taken c.requires.agree c.free_from.new.self n _ back
+    let n : Ledger = g.D.DescriptorDevice.ledger c.free_all.new.device in
+    let back : GivesBack name set_name c.in-Ok.given.0.items (runs (items_of set_name c.in-Ok.given.0.items)) c.request.new.self c.free_all.new.self m n = c.free_all.ensures.gives_back in
+    back_loses_none name set_name _ _ _ _ _ _ _ _ c.in-Ok.ensures.taken c.requires.agree c.free_all.new.self n _ back
 
 pub returns-in-Ok-taken-clause-foreign : goal.returns-in-Ok-taken-clause-foreign
 returns-in-Ok-taken-clause-foreign g c =
@@ -169,11 +150,9 @@ returns-in-Err-taken-clause-totals_stay g c =
     let name = g.D.DescriptorDevice.pool_name in
     let set_name = g.D.DescriptorDevice.set_name in
     let m : Ledger = g.D.DescriptorDevice.ledger c.request.new.device in
-    let n : Ledger = g.D.DescriptorDevice.ledger c.free_from.new.device in
-    let f = c.free_from.ensures.frees in
-    let all : f.sets ≡ c.in-Ok.given.0.items = All-taken c.into_iter-back.result f.sets (c.free_from.new.sets, f.drained) ∙ c.into_iter-back.ensures.rest in
-    let back : GivesBack name set_name c.in-Ok.given.0.items (runs (items_of set_name c.in-Ok.given.0.items)) c.request.new.self c.free_from.new.self m n = subst (λ (x : List (DescriptorSet g.row.S.Denot)). GivesBack name set_name x (runs (items_of set_name x)) c.request.new.self c.free_from.new.self m n) all f.back in
-    back_totals name set_name _ _ _ _ _ _ _ _ c.in-Ok.ensures.taken c.requires.agree c.free_from.new.self n _ back
+    let n : Ledger = g.D.DescriptorDevice.ledger c.free_all.new.device in
+    let back : GivesBack name set_name c.in-Ok.given.0.items (runs (items_of set_name c.in-Ok.given.0.items)) c.request.new.self c.free_all.new.self m n = c.free_all.ensures.gives_back in
+    back_totals name set_name _ _ _ _ _ _ _ _ c.in-Ok.ensures.taken c.requires.agree c.free_all.new.self n _ back
 
 pub returns-in-Ok-taken-clause-totals : goal.returns-in-Ok-taken-clause-totals
 returns-in-Ok-taken-clause-totals g c =
@@ -207,5 +186,5 @@ returns-in-Ok-taken-clause-keys g c =
 pub returns-in-Err-taken-clause-keys : goal.returns-in-Err-taken-clause-keys
 returns-in-Err-taken-clause-keys g c =
     let same : key_of (record { size = c.args.layout_descriptor_count.now; update_after_bind = c.contains.result }) ≡ layout_key g.D.DescriptorDevice.layout_counts g.D.DescriptorDevice.layout_mark c.args.layout.now = λ i. record { counts = c.requires.counts i; marked = (c.contains.ensures tt ∙ c.requires.mark) i } in
-    subst (λ (k : Key). StayOrGainLast k (keys_of c.args.self.now) (keys_of c.free_from.new.self)) same
-    (subst (λ (l : List Key). StayOrGainLast (key_of (record { size = c.args.layout_descriptor_count.now; update_after_bind = c.contains.result })) (keys_of c.args.self.now) l) (sym c.free_from.ensures.keys) c.in-Ok.ensures.keys)
+    subst (λ (k : Key). StayOrGainLast k (keys_of c.args.self.now) (keys_of c.free_all.new.self)) same
+    (subst (λ (l : List Key). StayOrGainLast (key_of (record { size = c.args.layout_descriptor_count.now; update_after_bind = c.contains.result })) (keys_of c.args.self.now) l) (sym c.free_all.ensures.keys) c.in-Ok.ensures.keys)
