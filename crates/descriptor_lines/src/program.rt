@@ -99,6 +99,3 @@ pub fn run_lines<R: Read, W: Write>(alloc: Global, input: &mut R, output: &mut W
     }
     Exit::ReadFault
 }
-
-#[cfg(test)]
-mod tests;

@@ -1,0 +1,4 @@
+mod Holding
+mod OnePools
+mod Owing
+mod Used
