@@ -120,6 +120,3 @@ pub fn run_lines<R: Read, W: Write>(alloc: Global, input: &mut R, output: &mut W
     let mut program = Program::new(alloc);
     run_to_end(&mut program, &mut lines, &mut answer, input, output)
 }
-
-#[cfg(test)]
-mod tests;

@@ -7,5 +7,4 @@ mod Given
 mod Held
 mod Promised
 mod Running
-mod Trips
 mod Written

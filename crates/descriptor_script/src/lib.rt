@@ -3,34 +3,18 @@
 #![tactic(auto)]
 
 mod answer;
-#[cfg(test)]
-mod capacity;
 mod command;
 mod counters;
-#[cfg(test)]
-mod desk;
 mod device;
 pub mod headline;
 mod live;
 mod marks;
-#[cfg(test)]
-mod moves;
 mod pools;
 mod raw;
-#[cfg(test)]
-mod refusals;
-#[cfg(test)]
-mod requests;
-#[cfg(test)]
-mod returns;
 mod script;
 mod session;
 mod slots;
 mod taking;
-#[cfg(test)]
-mod tests;
-#[cfg(test)]
-mod trip;
 pub mod visit;
 
 pub use answer::Answer;

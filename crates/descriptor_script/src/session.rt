@@ -4,12 +4,8 @@ ghost use Rattle.std.specs.Option.{option_copied};
 ghost use Rattle.gpu_descriptor.specs.States.{marked_load_of, pool_load_of, outstanding_of};
 ghost use Rattle.descriptor_script.specs.Tickets.{held_sets, set_at};
 
-#[cfg(test)]
-mod memory;
 mod run;
 mod step;
-#[cfg(test)]
-mod tests;
 
 use crate::slots::Slots;
 use gpu_descriptor::{

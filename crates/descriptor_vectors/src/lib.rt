@@ -1,14 +1,11 @@
-//! Devices and runs that try the allocator from outside, and runs of the whole program.
+//! Whole runs of the program: lines and their answers. Tests alone.
 #![tactic(auto)]
 
-mod log;
-mod log_device;
-pub mod own_device;
-pub mod proper_use;
+#[cfg(test)]
+mod ends;
+#[cfg(test)]
+mod reads;
 #[cfg(test)]
 mod rows;
 #[cfg(test)]
-mod traces;
-
-pub use log::Call;
-pub use log_device::LogDevice;
+mod runs;

@@ -1,4 +1,5 @@
-//! Lines of the program, and their answers.
+//! Lines of the program, and their answers: no clause ties the output of a run to its input, or
+//! says the texts of `alloc` and `show` as wholes.
 //!
 //! A body that gives up for memory where memory is there meets every contract. The tests whose names
 //! begin with `memory_is_found` catch it: at each request, at a second new pool of a request, at
@@ -11,64 +12,33 @@ mod refusals;
 mod requests;
 mod sizes;
 
-use descriptor_lines::{Exit, run_lines};
+use crate::ends::expect;
+use descriptor_lines::Exit;
 use std::alloc::{AllocError, Global};
-use std::io;
-use std::io::{Read, Write};
 use std::process::Abort;
 use std::test::Fail;
 
-/// Gives its bytes, and then is at its end.
-#[derive(Drop)]
-struct Input<'a>(&'a [u8]);
-
-impl Read for Input<'_> {
-    fn read(&mut self, buf: &mut [u8]) -> io::Result<usize> {
-        let count = self.0.len().min(buf.len());
-        let (given, rest) = self.0.split_at(count);
-        buf[..count].copy_from_slice(given);
-        self.0 = rest;
-        Ok(count)
-    }
-}
-
-/// Keeps what is written.
-#[derive(Drop)]
-struct Output(Vec<u8>);
-
-impl Write for Output {
-    fn write(&mut self, buf: &[u8]) -> io::Result<usize> {
-        self.0.extend_from_slice(buf)?;
-        Ok(buf.len())
-    }
-
-    fn flush(&mut self) -> io::Result<()> {
-        Ok(())
-    }
-}
-
-/// The lines, each with its end.
-fn joined(alloc: Global, lines: &[&str]) -> Result<String, AllocError> {
+/// The lines, each with its end. They stand between `; `.
+fn lines_of(alloc: Global, rows: &str) -> Result<String, AllocError> {
     let mut text = String::new(alloc);
-    for line in lines {
+    for line in rows.split("; ") {
         writeln!(text, "{line}")?;
     }
     Ok(text)
 }
 
-/// Runs the lines, and compares all of the output.
-fn expect(
-    rt: &impl Abort,
-    alloc: Global,
-    lines: &[&str],
-    answers: &[&str],
-    exit: Exit,
-) -> Result<(), Fail> {
-    let input = joined(alloc, lines)?;
-    let wanted = joined(alloc, answers)?;
-    let mut output = Output(Vec::new(alloc));
-    let ended = run_lines(alloc, &mut Input(input.as_bytes()), &mut output);
-    assert_eq!(rt; output.0.as_slice(), wanted.as_bytes(), "of {lines:?}");
-    assert_eq!(rt; ended, exit, "of {lines:?}");
+/// Runs the lines to their end, and compares all of the output.
+fn expect_done(rt: &impl Abort, alloc: Global, lines: &str, answers: &str) -> Result<(), Fail> {
+    let input = lines_of(alloc, lines)?;
+    let output = lines_of(alloc, answers)?;
+    expect(rt, alloc, input.as_bytes(), output.as_str(), Exit::Done);
+    Ok(())
+}
+
+/// Runs the lines up to the faulty one, and compares all of the output.
+fn expect_bad_line(rt: &impl Abort, alloc: Global, lines: &str, answers: &str) -> Result<(), Fail> {
+    let input = lines_of(alloc, lines)?;
+    let output = lines_of(alloc, answers)?;
+    expect(rt, alloc, input.as_bytes(), output.as_str(), Exit::BadLine);
     Ok(())
 }

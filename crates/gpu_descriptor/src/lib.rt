@@ -15,8 +15,6 @@ mod run;
 mod search;
 mod set;
 mod take;
-#[cfg(test)]
-mod tests;
 mod view;
 
 pub use allocator::DescriptorAllocator;

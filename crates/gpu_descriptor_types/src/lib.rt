@@ -11,8 +11,6 @@ pub mod laws;
 mod layouts;
 mod pool_size;
 mod sink;
-#[cfg(test)]
-mod tests;
 
 pub use counter::{Counter, Tally};
 pub use counts::DescriptorTotalCount;

@@ -1,0 +1,79 @@
+-- Two sessions on one device: what a step of one leaves of the other.
+use Rattle.std.proofs.Common.{◌≡◌, ℕ, List, [], ltb, Option, None, Some, inl, inr, refl, sym, ap, ◌∙◌, subst}
+use Rattle.std.specs.Option.{option_map_or}
+use Rattle.std.proofs.lemmas.Bool.{cases_Bool}
+use Rattle.gpu_descriptor_types.specs.Ledger.{Ledger}
+use Rattle.gpu_descriptor.specs.Agreement.{KeepsOwn, count_of, live_in, outstanding, set_of}
+use Rattle.gpu_descriptor.specs.Books.{Key, Entry, Bucket, entry_at, no_pools}
+use Rattle.gpu_descriptor.specs.Foreign.{IsForeign, KeepsForeign}
+use Rattle.gpu_descriptor.specs.Sets.{items_of}
+use Rattle.gpu_descriptor.specs.States.{Agrees, state_of}
+use Rattle.gpu_descriptor.specs.Values.{Allocations}
+use Rattle.gpu_descriptor.specs.declared.set.DescriptorSet.{DescriptorSet}
+use Rattle.gpu_descriptor.proofs.Others.{own_agrees, own_outstanding}
+use Rattle.gpu_descriptor.proofs.Places.{empty_agrees}
+use Rattle.descriptor_script.specs.Raw.{pool_id, set_id}
+use Rattle.descriptor_script.specs.Session.{allocator_of}
+use Rattle.descriptor_script.specs.Tickets.{held_sets}
+use Rattle.descriptor_script.specs.declared.raw.RawPool.{RawPool}
+use Rattle.descriptor_script.specs.declared.raw.RawSet.{RawSet}
+use Rattle.descriptor_script.specs.declared.raw.ScriptLayout.{ScriptLayout}
+use Rattle.descriptor_script.specs.declared.session.Session.{Session}
+use Rattle.descriptor_trials.specs.Pairs.{AreApart, ArePaired, IsNewSession, IsReady, state_in}
+
+abbrev Held : Type 0
+Held = Session ScriptLayout RawPool RawSet
+
+-- what stands in one's books is foreign to the other
+module _ (x x' y : Held) (l m : Ledger) (foreign : KeepsForeign (state_in x l) (state_in x' m)) (pair : ArePaired x y l) where
+  not_touched : (k : Key) (n : ℕ) (e : Entry) → entry_at ((state_in y l).books k) n ≡ Some e → (m.pools e.pool ≡ l.pools e.pool) × IsForeign (state_in x' m) e.pool
+  not_touched k n e at =
+      let b = pair.other.agree.booked k n e at in
+      let after = foreign e.pool b.0 (λ j i d there. pair.apart j k i n d e there at) b.1 in
+      (after.0 ∙ sym b.1, after.1)
+
+  keeps : KeepsOwn (state_in y l) (state_in y m)
+  keeps = record { books = λ k. refl; pools = λ k n e at. (not_touched k n e at).0 }
+
+  -- after a step of one session both can make the next, and no pool stands in both books
+  pub stepped : IsReady x' m → ArePaired x' y m
+  stepped ready = record {
+    one = ready;
+    other = record {
+      agree = own_agrees (state_in y l) (state_in y m) keeps pair.other.agree;
+      held = λ t. own_outstanding (state_in y l) (state_in y m) keeps t ∙ pair.other.held t;
+      meant = pair.other.meant;
+    };
+    apart = λ j k i n d e there at. (not_touched k n e at).1 j i d there;
+  }
+
+pub turned : (x y : Held) (l : Ledger) → ArePaired x y l → ArePaired y x l
+turned x y l pair = record {
+  one = pair.other;
+  other = pair.one;
+  apart = λ j k i n d e there at same. pair.apart k j n i e d at there (sym same);
+}
+
+none_there : (n : ℕ) → entry_at no_pools n ≡ None
+none_there n = elim (cases_Bool (ltb n 0)) [
+  | inl below ↦ rw below refl
+  | inr other ↦ rw other refl
+]
+
+-- an allocator without keys shares no pool
+pub none_shared : (x y : Held) (l : Ledger) (limit : ℕ) → allocator_of x ≡ record { limit = limit; table = []; looks = 0; comparisons = 0 } → AreApart (state_in x l) (state_in y l)
+none_shared x y l limit empty k j m n d e there at same =
+    let no_books : (state_in x l).books k ≡ no_pools = ap (λ (a : Allocations RawPool). (state_of pool_id a l).books k) empty in
+    let bad : ◌≡◌ {A = Option Entry} None (Some d) = sym (none_there m) ∙ ap (λ (b : Bucket). entry_at b m) (sym no_books) ∙ there in
+    cc
+
+-- a session without keys and sets can make a step on any device
+pub new_ready : (s : Held) (l : Ledger) → IsNewSession s → IsReady s l
+new_ready s l new = record {
+  agree = subst (λ (a : Allocations RawPool). Agrees pool_id a l) (sym new.allocator) (empty_agrees l.pools);
+  held = λ t.
+      ap (λ (a : Allocations RawPool). outstanding (state_of pool_id a l) t) new.allocator
+      ∙ ap (λ (o : Option Entry). option_map_or (λ e. live_in l.pools e.pool (set_of t)) o 0) (none_there t.number)
+      ∙ sym (ap (λ (slots : List (Option (DescriptorSet RawSet))). count_of t (items_of set_id (held_sets slots))) new.sets);
+  meant = new.meant;
+}

@@ -1,0 +1,12 @@
+use Rattle.descriptor_uses.specs.Logged.{ledger_logged}
+use Rattle.descriptor_trials.proofs.Beside.{stepped}
+use Rattle.descriptor_trials.proofs.pair.Pair.step_one.Goals as goal
+
+pub invariant_of-self : goal.invariant_of-self
+invariant_of-self c =
+    let old = c.args.self.now in
+    record {
+      paired =
+          stepped old.one c.step.new.self old.other (ledger_logged old.device) (ledger_logged c.step.new.device) c.step.ensures.foreign old.paired
+          (record { agree = c.step.ensures.agree; held = c.step.ensures.held; meant = rw c.step.ensures.layouts old.paired.one.meant });
+    }

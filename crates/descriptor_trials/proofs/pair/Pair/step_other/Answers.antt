@@ -1,0 +1,13 @@
+use Rattle.descriptor_uses.specs.Logged.{ledger_logged}
+use Rattle.descriptor_trials.proofs.Beside.{stepped, turned}
+use Rattle.descriptor_trials.proofs.pair.Pair.step_other.Goals as goal
+
+pub invariant_of-self : goal.invariant_of-self
+invariant_of-self c =
+    let old = c.args.self.now in
+    record {
+      paired =
+          turned c.step.new.self old.one (ledger_logged c.step.new.device)
+          (stepped old.other c.step.new.self old.one (ledger_logged old.device) (ledger_logged c.step.new.device) c.step.ensures.foreign (turned old.one old.other (ledger_logged old.device) old.paired)
+          (record { agree = c.step.ensures.agree; held = c.step.ensures.held; meant = rw c.step.ensures.layouts old.paired.other.meant }));
+    }

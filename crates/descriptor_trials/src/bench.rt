@@ -1,0 +1,116 @@
+//! A session on a device, with which all its steps are made.
+ghost use Rattle.std.specs.Prelude.{◌≡◌};
+ghost use Rattle.gpu_descriptor.proofs.OneAgreement.{Agree-prop};
+ghost use Rattle.gpu_descriptor.specs.States.{Agrees, state_of};
+ghost use Rattle.gpu_descriptor_types.specs.Counts.{kinds};
+ghost use Rattle.descriptor_script.specs.Session.{AreAllHeld, AreMeant, allocator_of, layouts_of, sets_of};
+
+use descriptor_script::headline::headline;
+use descriptor_script::{
+    Answer, Command, RawPool, RawSet, Reply, ScriptLayout, ScriptedDevice, Session,
+};
+use descriptor_uses::proper_use::flags_of;
+use gpu_descriptor::{DescriptorAllocator, DescriptorDevice, DescriptorTotalCount};
+use std::alloc::{AllocError, Global};
+use std::process::Abort;
+use std::test::Fail;
+
+/// A session and its device, ready for the next step.
+#[derive(Drop)]
+pub struct Bench<D: DescriptorDevice<ScriptLayout, RawPool, RawSet>> {
+    pub session: Session<ScriptLayout, RawPool, RawSet>,
+    pub device: D,
+    ghost agree: { Agrees D.pool_name (allocator_of session) (D.ledger device) } by { Agree-prop (state_of D.pool_name (allocator_of session) (D.ledger device)) },
+    ghost held: { AreAllHeld D.set_name (sets_of session) (state_of D.pool_name (allocator_of session) (D.ledger device)) },
+    ghost meant: { AreMeant D.layout_counts D.layout_mark (layouts_of session) },
+}
+
+/// A layout with so many samplers, and no other descriptors.
+pub fn layout_of(samplers: u32, mark: bool) -> ScriptLayout {
+    let mut counts = DescriptorTotalCount::default();
+    counts.set_kind(0, samplers);
+    ScriptLayout { counts, mark }
+}
+
+impl<D: DescriptorDevice<ScriptLayout, RawPool, RawSet>> Bench<D> {
+    /// A session without layouts.
+    pub fn new(alloc: Global, limit: u32, device: D) -> Self {
+        gpu_descriptor::laws::books_alone();
+        Bench {
+            session: Session::new(alloc, limit),
+            device,
+        }
+    }
+
+    /// Puts a layout last that the device means as it stands, and answers its place.
+    pub fn add_layout(&mut self, layout: ScriptLayout) -> Result<usize, &'static str>
+        requires counts { D.layout_counts layout ≡ kinds layout.counts }
+        requires mark { D.layout_mark layout ≡ layout.mark }
+    {
+        let flags = flags_of(layout.mark);
+        match self.session.add_layout(layout, layout.counts, flags) {
+            Ok(place) => Ok(place),
+            Err(_) => Err("no memory for a layout"),
+        }
+    }
+
+    pub fn step(&mut self, command: &Command) -> Reply {
+        self.session.step(&mut self.device, command)
+    }
+
+    pub fn allocate(&mut self, layout: usize, count: u32) -> Reply {
+        self.step(&Command::Allocate { layout, count })
+    }
+
+    pub fn free(&mut self, alloc: Global, tickets: &[usize]) -> Result<Reply, AllocError> {
+        let tickets = tickets.to_vec(alloc)?;
+        Ok(self.step(&Command::Free { tickets }))
+    }
+
+    pub fn cleanup(&mut self) -> Reply {
+        self.step(&Command::Cleanup)
+    }
+
+    /// Does the commands in order.
+    pub fn run(&mut self, commands: &[Command]) -> Result<Vec<Reply>, AllocError> {
+        headline(&mut self.session, &mut self.device, commands)
+    }
+}
+
+/// A session with one layout on a device with a script. The layout is handed in once more where
+/// memory was wanting.
+pub fn scripted(
+    alloc: Global,
+    limit: u32,
+    layout: ScriptLayout,
+    script: &[Answer],
+) -> Result<Bench<ScriptedDevice>, Fail> {
+    let device = ScriptedDevice::new(alloc, script.to_vec(alloc)?);
+    let mut bench = Bench::new(alloc, limit, device);
+    if bench.add_layout(layout).is_err() {
+        bench.add_layout(layout)?;
+    }
+    Ok(bench)
+}
+
+/// A reply with so many sets, from this ticket on.
+pub fn sets(first: usize, count: u32) -> Reply {
+    Reply::Sets { first, count }
+}
+
+/// Compares the pools of a layout: the number, the allocated and the available of each.
+pub fn expect_pools(
+    rt: &impl Abort,
+    allocator: &DescriptorAllocator<RawPool, RawSet>,
+    layout: &ScriptLayout,
+    pools: &[(u64, u32, u32)],
+) {
+    let (counts, mark) = (&layout.counts, layout.mark);
+    assert_eq!(rt; allocator.pool_count(counts, mark), pools.len());
+    for (index, pool) in pools.iter().enumerate() {
+        let seen = allocator
+            .pool(counts, mark, index)
+            .map(|view| (view.number, view.allocated, view.available));
+        assert_eq!(rt; seen, Some(*pool), "at {index}");
+    }
+}

@@ -1,0 +1,72 @@
+//! Commands of a session: that each finds memory where memory is there, and what the replies and the
+//! tickets are in numbers.
+use crate::acts::Act::{Allocate, Cleanup, Free, Held, Next, Tickets};
+use crate::acts::{expect_tickets, play, play_new};
+use crate::bench::{Bench, layout_of, scripted, sets};
+use descriptor_script::{Command, Reply, ScriptedDevice};
+use std::alloc::{AllocError, Global};
+use std::process::Abort;
+use std::test::Fail;
+
+#[test]
+fn a_new_session_is_ready(rt: HostRuntime) -> Result<(), Fail> {
+    let device = ScriptedDevice::new(rt.alloc(), Vec::new(rt.alloc()));
+    let mut bench = Bench::new(rt.alloc(), 0, device);
+    let acts = [Next(0), Cleanup, Allocate(0, 1, Reply::BadLayout)];
+    play(&rt, rt.alloc(), &mut bench, &acts)?;
+    Ok(())
+}
+
+#[test]
+fn tickets_are_given_once(rt: HostRuntime) -> Result<(), Fail> {
+    let layouts = [layout_of(1, true), layout_of(2, true)];
+    let acts = [
+        Allocate(0, 2, sets(0, 2)),
+        Free(&[0, 0], Reply::BadTicket),
+        Free(&[2], Reply::BadTicket),
+        Free(&[1, 0, 7], Reply::BadTicket),
+        Held(2),
+        Free(&[0], Reply::Freed(1)),
+        Free(&[0], Reply::BadTicket),
+        Free(&[], Reply::Freed(0)),
+        Held(1),
+        Tickets(&[false, true, false]),
+        Allocate(0, 1, sets(2, 1)),
+        Next(3),
+    ];
+    play_new(&rt, rt.alloc(), u32::MAX, layouts, &[], &acts)
+}
+
+/// Sets come, two of them go back, and all is cleaned up.
+fn three_commands(alloc: Global) -> Result<Vec<Command>, AllocError> {
+    let tickets = [2, 1].to_vec(alloc)?;
+    let allocate = Command::Allocate {
+        layout: 0,
+        count: 3,
+    };
+    let mut commands = Vec::with_capacity(alloc, 3)?;
+    commands.push_reserved(allocate);
+    commands.push_reserved(Command::Free { tickets });
+    commands.push_reserved(Command::Cleanup);
+    Ok(commands)
+}
+
+/// Does three commands in one run, and compares their replies.
+fn expect_replies(
+    rt: &impl Abort,
+    alloc: Global,
+    bench: &mut Bench<ScriptedDevice>,
+) -> Result<(), AllocError> {
+    let replies = bench.run(&three_commands(alloc)?)?;
+    let wanted = [sets(0, 3), Reply::Freed(2), Reply::Clean];
+    assert_eq!(rt; replies.as_slice(), wanted.as_slice());
+    Ok(())
+}
+
+#[test]
+fn replies_in_order(rt: HostRuntime) -> Result<(), Fail> {
+    let mut bench = scripted(rt.alloc(), u32::MAX, layout_of(1, true), &[])?;
+    expect_replies(&rt, rt.alloc(), &mut bench)?;
+    expect_tickets(&rt, &bench, &[true, false, false]);
+    Ok(())
+}

@@ -1,0 +1,23 @@
+//! Devices and sessions tried through their public calls. Tests alone.
+#![tactic(auto)]
+
+#[cfg(test)]
+mod acts;
+#[cfg(test)]
+mod bench;
+#[cfg(test)]
+mod capacity;
+#[cfg(test)]
+mod commands;
+#[cfg(test)]
+mod memory;
+#[cfg(test)]
+mod pair;
+#[cfg(test)]
+mod sets;
+#[cfg(test)]
+mod traces;
+#[cfg(test)]
+mod trip;
+#[cfg(test)]
+mod words;

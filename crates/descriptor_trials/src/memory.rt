@@ -1,0 +1,120 @@
+//! What a session keeps where memory is wanting, which no contract can ask for. In a plain run every
+//! growth is granted; under `rt try --test --fail-alloc N` the Nth of each test is refused, and the
+//! next ones are granted.
+use crate::bench::{Bench, layout_of, scripted, sets};
+use descriptor_script::{Command, Reply, ScriptedDevice};
+use gpu_descriptor::AllocationError;
+use std::alloc::{AllocError, Global};
+use std::process::Abort;
+use std::test::Fail;
+
+/// Sees that as many sets are held as are outstanding, and as are allocated from the pools.
+fn expect_counted(rt: &impl Abort, bench: &Bench<ScriptedDevice>) {
+    let counts = layout_of(1, true).counts;
+    let allocator = bench.session.allocator();
+    let mut allocated: u64 = 0;
+    for index in 0..allocator.pool_count(&counts, true) {
+        if let Some(pool) = allocator.pool(&counts, true, index) {
+            allocated = allocated.saturating_add(u64::from(pool.allocated));
+        }
+    }
+    assert_eq!(rt; bench.session.held(), allocated);
+    assert_eq!(rt; allocator.outstanding(), allocated);
+}
+
+/// Whether the reply says that the host's memory was wanting.
+fn is_out_of_memory(reply: Reply) -> bool {
+    reply == Reply::NoMemory || reply == Reply::Refused(AllocationError::OutOfHostMemory)
+}
+
+/// Makes the step, and once more where memory was wanting.
+fn expect_step(
+    rt: &impl Abort,
+    bench: &mut Bench<ScriptedDevice>,
+    command: &Command,
+    wanted: Reply,
+) {
+    let held = bench.session.held();
+    let first = bench.session.next_ticket();
+    let reply = bench.step(command);
+    expect_counted(rt, bench);
+    if !is_out_of_memory(reply) {
+        assert_eq!(rt; reply, wanted);
+        return;
+    }
+    assert_eq!(rt; bench.session.held(), held);
+    assert_eq!(rt; bench.session.next_ticket(), first);
+    assert_eq!(rt; bench.step(command), wanted);
+    expect_counted(rt, bench);
+}
+
+/// Sets of the only layout.
+fn allocate(count: u32) -> Command {
+    Command::Allocate { layout: 0, count }
+}
+
+/// The sets of these tickets. Room for them is asked for once more where memory was wanting.
+fn free(alloc: Global, tickets: &[usize]) -> Result<Command, AllocError> {
+    match tickets.to_vec(alloc) {
+        Ok(tickets) => Ok(Command::Free { tickets }),
+        Err(_) => Ok(Command::Free {
+            tickets: tickets.to_vec(alloc)?,
+        }),
+    }
+}
+
+#[test]
+fn steps_where_memory_is_wanting(rt: HostRuntime) -> Result<(), Fail> {
+    let alloc = rt.alloc();
+    let mut bench = scripted(alloc, u32::MAX, layout_of(1, true), &[])?;
+    expect_step(&rt, &mut bench, &allocate(60), sets(0, 60));
+    expect_step(&rt, &mut bench, &allocate(200), sets(60, 200));
+    let some = free(alloc, &[0, 65, 64, 3])?;
+    expect_step(&rt, &mut bench, &some, Reply::Freed(4));
+    expect_step(&rt, &mut bench, &Command::Cleanup, Reply::Clean);
+    assert_eq!(rt; bench.session.held(), 256);
+    Ok(())
+}
+
+#[test]
+fn runs_where_memory_is_wanting(rt: HostRuntime) -> Result<(), Fail> {
+    let mut bench = scripted(rt.alloc(), u32::MAX, layout_of(1, true), &[])?;
+    match bench.run(&[allocate(2), Command::Cleanup]) {
+        Ok(replies) => {
+            assert_eq!(rt; replies.len(), 2);
+            assert!(rt; bench.session.held() == 2 || is_out_of_memory(replies[0]));
+        }
+        Err(_) => assert_eq!(rt; bench.session.held(), 0),
+    }
+    expect_counted(&rt, &bench);
+    Ok(())
+}
+
+/// Sees that nothing is out, and that each pool that was created was asked at once: none was made
+/// before there was room for its books and its place in the list.
+fn expect_nothing_out(rt: &impl Abort, bench: &Bench<ScriptedDevice>) {
+    let allocator = bench.session.allocator();
+    assert_eq!(rt; bench.session.held(), 0);
+    assert_eq!(rt; allocator.outstanding(), 0);
+    let created = bench.device.created();
+    assert_eq!(rt; bench.device.asked(), created);
+    let counts = layout_of(u32::MAX, false).counts;
+    let left = allocator.pool_count(&counts, false) as u64;
+    let live = created.saturating_sub(bench.device.destroyed());
+    assert_eq!(rt; left, live);
+}
+
+#[test]
+fn many_new_pools_where_memory_is_wanting(rt: HostRuntime) -> Result<(), Fail> {
+    // A pool of this layout holds one set.
+    let mut bench = scripted(rt.alloc(), 0, layout_of(u32::MAX, false), &[])?;
+    let request = allocate(9);
+    let mut reply = bench.step(&request);
+    if is_out_of_memory(reply) {
+        expect_nothing_out(&rt, &bench);
+        reply = bench.step(&request);
+    }
+    assert_eq!(rt; reply, sets(0, 9));
+    assert_eq!(rt; bench.session.held(), 9);
+    Ok(())
+}

@@ -1,0 +1,3 @@
+mod OnePools
+mod Owing
+mod Used

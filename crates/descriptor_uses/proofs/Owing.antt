@@ -1,0 +1,198 @@
+-- How the calls that are owed change with the ledger.
+use Rattle.std.proofs.Common.{◌≡◌, ◌≢◌, ℕ, zero, suc, ◌+◌, ◌-◌, ◌≤◌, ◌<◌, true, false, cond, nat_eq, List, [], ◌∷◌, ◌++◌, length, length-append, Option, Some, None, inl, inr, refl, sym, ap, subst, ◌∙◌, arith, eqb-true, eq-eqb, ne_eqb}
+use Rattle.std.specs.Prelude.{IfSome}
+use Rattle.std.specs.Map.{lookup, update}
+use Rattle.std.proofs.lemmas.Bool.{cases_Bool, cases_eq}
+use Rattle.std.proofs.lemmas.List.{length-map}
+use Rattle.std.proofs.lemmas.Map.{update_here, update_apart}
+use Rattle.gpu_descriptor_types.specs.Ledger.{Ledger, Pool, HasNoSets, changed, on_pool, fresh, AreLive, Releases, after_create, after_destroy, after_alloc, after_release}
+use Rattle.gpu_descriptor_types.specs.Multiset.{LiveSet, times, AreIn}
+use Rattle.gpu_descriptor_types.proofs.Counting.{times-append}
+use Rattle.gpu_descriptor.specs.Agreement.{HasSize}
+use Rattle.gpu_descriptor.proofs.LedgerPools.{size_minus}
+use Rattle.descriptor_uses.specs.Owed.{IsOwed, ReleasesMany, owed_by}
+use Rattle.descriptor_uses.specs.Released.{release_of}
+use Rattle.descriptor_uses.specs.declared.log.Call.TheVariants.{Release}
+
+-- the rows but for those of a name
+abbrev without : ℕ → List (ℕ × ℕ) → List (ℕ × ℕ)
+without name [] = []
+without name (row ∷ rows) = cond (nat_eq name row.0) (without name rows) (row ∷ without name rows)
+
+without_few : (name : ℕ) (rows : List (ℕ × ℕ)) → owed_by (without name rows) ≤ owed_by rows
+without_few name [] = omega arith
+without_few name (row ∷ rows) = (let few = without_few name rows in elim (cases_Bool (nat_eq name row.0)) [
+  | inl own ↦ rw own (omega arith)
+  | inr other ↦ rw other (omega arith)
+])
+
+-- a name that is there has a row of its own
+without_own : (name size : ℕ) (rows : List (ℕ × ℕ)) → lookup (nat_eq name) rows ≡ Some size → owed_by (without name rows) + size + 1 ≤ owed_by rows
+without_own name size [] at = absurd (let bad : ◌≡◌ {A = Option ℕ} None (Some size) = at in cc)
+without_own name size (row ∷ rows) at = elim (cases_Bool (nat_eq name row.0)) [
+  | inl own ↦ (
+      let here : lookup (nat_eq name) (row ∷ rows) ≡ Some row.1 = rw own refl in
+      let same : row.1 ≡ size = (let h : Some row.1 ≡ Some size = sym here ∙ at in cc) in
+      let few = without_few name rows in
+      rw own (omega arith))
+  | inr other ↦ (
+      let there : lookup (nat_eq name) (row ∷ rows) ≡ lookup (nat_eq name) rows = rw other refl in
+      let rest = without_own name size rows (sym there ∙ at) in
+      rw other (omega arith))
+]
+
+-- the other names keep theirs
+without_other : (name q : ℕ) → q ≢ name → (rows : List (ℕ × ℕ)) → lookup (nat_eq q) (without name rows) ≡ lookup (nat_eq q) rows
+without_other name q apart [] = refl
+without_other name q apart (row ∷ rows) = elim (cases_Bool (nat_eq name row.0)) [
+  | inl own ↦ (
+      let no : nat_eq q row.0 ≡ false = ne_eqb q row.0 (λ same. apart (same ∙ sym (eqb-true name row.0 own))) in
+      rw (own, no) (without_other name q apart rows))
+  | inr other ↦ rw other (ap (λ o. cond (nat_eq q row.0) (Some row.1) o) (without_other name q apart rows))
+]
+
+-- as many sets are live, however they are counted
+size_one : (live : LiveSet → ℕ) (a b : ℕ) → HasSize live a → HasSize live b → a ≡ b
+size_one live a b one other =
+    let few : AreIn one.0 live = λ x. (let h = one.2 x in omega arith) in
+    let many : AreIn other.0 live = λ x. (let h = other.2 x in omega arith) in
+    let le = (size_minus live b one.0 other few).0 in
+    let ge = (size_minus live a other.0 one many).0 in
+    let la = one.1 in
+    let lb = other.1 in
+    omega arith
+
+-- the pool of a name is another now, and the other pools stay
+put : (l m : Ledger) (n k name size : ℕ) (pool : Pool) (o : IsOwed l n) → m.pools ≡ update nat_eq l.pools name (Some pool) → HasSize pool.live size → owed_by (without name o.rows) + size + 1 ≤ k → IsOwed m k
+put l m n k name size pool o is has enough = record {
+  rows = (name, size) ∷ without name o.rows;
+  listed = λ q p live. elim (cases_eq q name) [
+    | inl same ↦ (
+        let own : nat_eq q name ≡ true = eq-eqb q name same in
+        let here : m.pools q ≡ Some pool = ap m.pools same ∙ ap (λ (f : ℕ → Option Pool). f name) is ∙ update_here l.pools name (Some pool) in
+        let was : pool ≡ p = (let h : Some pool ≡ Some p = sym here ∙ live in cc) in (
+          size,
+          (let at : lookup (nat_eq q) ((name, size) ∷ without name o.rows) ≡ Some size = rw own refl in at),
+          subst (λ (x : Pool). HasSize x.live size) was has,
+        ))
+    | inr apart ↦ (
+        let no : nat_eq q name ≡ false = ne_eqb q name apart in
+        let had = o.listed q p (sym (ap (λ (f : ℕ → Option Pool). f q) is ∙ update_apart l.pools name (Some pool) q apart) ∙ live) in (
+          had.0,
+          (let at : lookup (nat_eq q) ((name, size) ∷ without name o.rows) ≡ Some had.0 = rw no (without_other name q apart o.rows ∙ had.1) in at),
+          had.2,
+        ))
+  ];
+  enough = (let e : owed_by ((name, size) ∷ without name o.rows) ≤ k = omega (arith, enough) in e);
+}
+
+pub created : (l : Ledger) (n name capacity flags : ℕ) (counts : List ℕ) → IsOwed l n → IsOwed (after_create counts capacity flags name l) (n + 1)
+created l n name capacity flags counts o =
+    let few = without_few name o.rows in
+    let enough = o.enough in
+    put l _ n (n + 1) name 0 (fresh counts capacity flags) o refl ([], refl, λ x. refl) (omega arith)
+
+-- the same pools are live
+pub still_owed : (l m : Ledger) (n : ℕ) → m.pools ≡ l.pools → IsOwed l n → IsOwed m n
+still_owed l m n same o = record {
+  rows = o.rows;
+  listed = λ q p live. o.listed q p (sym (ap (λ (f : ℕ → Option Pool). f q) same) ∙ live);
+  enough = o.enough;
+}
+
+pub destroyed : (l : Ledger) (n name : ℕ) → HasNoSets name l → IsOwed l n → (1 ≤ n) × IsOwed (after_destroy name l) (n - 1)
+destroyed l n name none o =
+    let had = o.listed name none.pool none.is_live in
+    let own = without_own name had.0 o.rows had.1 in
+    let enough = o.enough in (
+      omega arith,
+      record {
+        rows = without name o.rows;
+        listed = λ q p live. elim (cases_eq q name) [
+          | inl same ↦ absurd (let bad : ◌≡◌ {A = Option Pool} None (Some p) = sym (ap (after_destroy name l).pools same ∙ update_here l.pools name None) ∙ live in cc)
+          | inr apart ↦ (let was = o.listed q p (sym (update_apart l.pools name None q apart) ∙ live) in (was.0, without_other name q apart o.rows ∙ was.1, was.2))
+        ];
+        enough = omega arith;
+      },
+    )
+
+-- a live pool is changed, and so is the number of its sets
+changed_owed : (l m : Ledger) (n k name size : ℕ) (f : Pool → Pool) (pool : Pool) (o : IsOwed l n) → l.pools name ≡ Some pool → m.pools ≡ on_pool name f l.pools → HasSize (f pool).live size → ((was : ℕ) → HasSize pool.live was → n + size ≤ k + was) → IsOwed m k
+changed_owed l m n k name size f pool o live is has more =
+    let had = o.listed name pool live in
+    let own = without_own name had.0 o.rows had.1 in
+    let enough = o.enough in
+    let grows = more had.0 had.2 in
+    put l m n k name size (f pool) o (is ∙ ap (λ (x : Option Pool). update nat_eq l.pools name (changed f x)) live) has (omega arith)
+
+pub allocated : (l : Ledger) (n name : ℕ) (pool : Pool) (sets : List LiveSet) → l.pools name ≡ Some pool → IsOwed l n → IsOwed (after_alloc name sets l) (n + length sets)
+allocated l n name pool sets live o =
+    let had = o.listed name pool live in
+    let more : HasSize (λ x. pool.live x + times sets x) (had.0 + length sets) = (
+      had.2.0 ++ sets,
+      length-append had.2.0 sets ∙ ap (λ m. m + length sets) had.2.1,
+      λ x. times-append had.2.0 sets x ∙ ap (λ m. m + times sets x) (had.2.2 x),
+    ) in
+    changed_owed l _ n (n + length sets) name (had.0 + length sets) _ pool o live refl more (λ was is. let same = size_one pool.live had.0 was had.2 is in omega arith)
+
+-- a pool that refuses has as many sets
+pub refused : (l : Ledger) (n name refusals : ℕ) (pool : Pool) (m : Ledger) → l.pools name ≡ Some pool → m.pools ≡ on_pool name (λ p. record p { refusals = p.refusals + refusals }) l.pools → IsOwed l n → IsOwed m n
+refused l n name refusals pool m live is o =
+    let had = o.listed name pool live in
+    changed_owed l m n n name had.0 _ pool o live is had.2 (λ was has. let same = size_one pool.live had.0 was had.2 has in omega arith)
+
+-- sets of a live pool went: as many as it has fewer
+released : (l : Ledger) (name before after : ℕ) (pool : Pool) (gone : List LiveSet) → l.pools name ≡ Some pool → AreIn gone pool.live → HasSize pool.live before → HasSize (λ x. pool.live x - times gone x) after
+    → (before ≡ after + length gone) × ((n : ℕ) → IsOwed l n → (length gone ≤ n) × IsOwed (after_release name gone l) (n - length gone))
+released l name before after pool gone live inside was left =
+    let less = size_minus pool.live before gone was inside in
+    let fits = less.0 in
+    let same = size_one (λ x. pool.live x - times gone x) after (before - length gone) left less.1 in (
+      omega arith,
+      λ n o. (
+          let had = o.listed name pool live in
+          let own = without_own name had.0 o.rows had.1 in
+          let one = size_one pool.live had.0 before had.2 was in
+          let enough = o.enough in (
+            omega arith,
+            changed_owed l _ n (n - length gone) name after _ pool o live refl left (λ old has. let is = size_one pool.live old before has was in omega arith),
+          )),
+    )
+
+-- ---- over a ledger and a number that are told by equations
+
+pub moved : (l m : Ledger) (n k : ℕ) → m ≡ l → k ≡ n → IsOwed l n → IsOwed m k
+moved l m n k same number o = subst (λ (x : Ledger). IsOwed x k) (sym same) (subst (λ (x : ℕ). IsOwed l x) (sym number) o)
+
+-- a release, where the live sets of its pool were counted before and after
+pub release_counted : {I S : Type 0} (steps : I → Option S → I → Type 0) (set_name : S → ℕ) (name other before after : ℕ) (old new : I) (l m : Ledger) → Releases steps set_name name old new l m → AreLive name [] l → other ≡ name
+    → IfSome (l.pools name) (λ p. HasSize p.live before) → IfSome (m.pools other) (λ p. HasSize p.live after) → (after ≤ before) × ReleasesMany steps set_name name (before - after) old new l m
+release_counted steps set_name name other before after old new l m r none same had left =
+    let pool : Pool = none.pool in
+    let gone : List LiveSet = r.gone in
+    let live = none.is_live in
+    let less : Pool → Pool = λ p. record p { live = λ x. p.live x - times gone x } in
+    let here : m.pools other ≡ Some (less pool) = ap m.pools same ∙ ap (λ (x : Ledger). x.pools name) r.ledger ∙ update_here l.pools name (changed less (l.pools name)) ∙ ap (changed less) live in
+    let facts = released l name before after pool gone live (subst (λ o. IfSome o (λ (p : Pool). AreIn gone p.live)) live r.live) (subst (λ o. IfSome o (λ (p : Pool). HasSize p.live before)) live had) (subst (λ o. IfSome o (λ (p : Pool). HasSize p.live after)) here left) in
+    let few = facts.0 in
+    let many : before - after ≡ length gone = omega arith in (
+      omega arith,
+      record {
+        sets = r;
+        many = sym (length-map r.items set_name) ∙ ap length (sym r.named) ∙ length-map gone (λ (s : LiveSet). s.name) ∙ sym many;
+        owed = λ k o. (let f = facts.1 k o in (subst (λ n. n ≤ k) (sym many) f.0, moved (after_release name gone l) m (k - length gone) (k - (before - after)) r.ledger (ap (λ n. k - n) many) f.1));
+      },
+    )
+
+-- where no pool is live nothing is owed
+pub nothing_owed : (l : Ledger) (n : ℕ) → l.pools ≡ (λ _. None) → IsOwed l n
+nothing_owed l n none = record {
+  rows = [];
+  listed = λ q p live. absurd (let bad : ◌≡◌ {A = Option Pool} None (Some p) = sym (ap (λ (f : ℕ → Option Pool). f q) none) ∙ live in cc);
+  enough = omega arith;
+}
+
+-- a release of some sets is one entry
+pub release_some : (pool n : ℕ) → 0 < n → release_of pool n ≡ Release pool n ∷ []
+release_some pool zero some = absurd (omega arith)
+release_some pool (suc n) some = refl

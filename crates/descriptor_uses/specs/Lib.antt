@@ -1,0 +1,5 @@
+pub mod Log
+pub mod Logged
+pub mod Owed
+pub mod OwnDevice
+pub mod Released

@@ -1,0 +1,77 @@
+//! The list of a device's calls, over room that is taken ahead.
+ghost use Rattle.std.specs.Prelude.{◌≡◌, ◌+◌, ◌<◌, ◌≤◌, ◌++◌, [], ◌∷◌, IsTrue, vec_len, vec_capacity};
+
+use std::alloc::Global;
+
+/// A call that the device granted.
+#[derive(Clone, Copy, Debug, PartialEq, Eq)]
+pub enum Call {
+    /// A pool was created.
+    Create { pool: u64 },
+
+    /// So many sets were allocated from a pool.
+    Alloc { pool: u64, sets: u32 },
+
+    /// So many sets of a pool were released.
+    Release { pool: u64, sets: usize },
+
+    /// A pool was destroyed.
+    Destroy { pool: u64 },
+}
+
+/// Calls in their order, with room for those that can't be refused.
+#[derive(Drop)]
+pub(crate) struct Log {
+    pub(crate) calls: Vec<Call>,
+
+    /// For how many calls to come there is room.
+    pub(crate) owed: usize,
+    ghost fits: { vec_len calls + owed ≤ vec_capacity calls },
+}
+
+impl Log {
+    ghost use Rattle.descriptor_uses.specs.Log.{HasRoom};
+
+    pub(crate) fn new(alloc: Global) -> Self
+        ensures calls { result.calls.items ≡ [] }
+        ensures owed { result.owed ≡ 0 }
+    {
+        Log {
+            calls: Vec::new(alloc),
+            owed: 0,
+        }
+    }
+
+    /// Takes room for so many calls more. Whether it is there.
+    pub(crate) fn reserve(&mut self, more: usize) -> bool
+        ensures room { IsTrue result → HasRoom more self.new }
+        ensures calls { self.new.calls.items ≡ self.old.calls.items }
+        ensures owed { self.new.owed ≡ self.old.owed }
+    {
+        match self.owed.checked_add(more) {
+            Some(all) => self.calls.reserve(all).is_ok(),
+            None => false,
+        }
+    }
+
+    /// Puts a call that owes so many others.
+    pub(crate) fn put(&mut self, call: Call, owes: usize)
+        requires { HasRoom (owes + 1) self.old }
+        ensures calls { self.new.calls.items ≡ self.old.calls.items ++ call ∷ [] }
+        ensures owed { self.new.owed ≡ self.old.owed + owes }
+    {
+        self.calls.push_reserved(call);
+        self.owed += owes;
+    }
+
+    /// Puts a call in the place of so many that were owed.
+    pub(crate) fn settle(&mut self, call: Call, count: usize)
+        requires some { 0 < count }
+        requires owed { count ≤ self.old.owed }
+        ensures calls { self.new.calls.items ≡ self.old.calls.items ++ call ∷ [] }
+        ensures owed { self.new.owed + count ≡ self.old.owed }
+    {
+        self.calls.push_reserved(call);
+        self.owed -= count;
+    }
+}

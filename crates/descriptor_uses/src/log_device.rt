@@ -1,0 +1,218 @@
+//! A device that grants and keeps a list of its calls.
+ghost use Rattle.std.specs.Prelude.{◌≡◌, ◌+◌, ◌-◌, ◌<◌, ◌≤◌, ◌^◌, ◌++◌, [], ◌∷◌, min, map, None, IfOk, IfErr, OnOk, OnErr};
+ghost use Rattle.std.specs.Iterator.{IsFinite, HoldsAlong};
+ghost use Rattle.gpu_descriptor_types.specs.Counts.{kinds};
+ghost use Rattle.gpu_descriptor_types.specs.Flags.{bits};
+ghost use Rattle.gpu_descriptor_types.specs.Layouts.{layout, left};
+ghost use Rattle.gpu_descriptor_types.specs.Ledger.{AreLive, HasNoSets, HasRoom, Puts, PutsNone, Releases, after_create, after_destroy, after_no_create};
+ghost use Rattle.descriptor_script.specs.Device.{empty_ledger, ledger_of, script_of};
+ghost use Rattle.descriptor_script.specs.Raw.{pool_id, set_id};
+ghost use Rattle.descriptor_uses.specs.Owed.{IsOwed, ReleasesMany};
+ghost use Rattle.descriptor_uses.specs.Released.{ListsRelease};
+
+use crate::log::{Call, Log};
+use descriptor_script::{RawPool, RawSet, ScriptLayout, ScriptedDevice};
+use gpu_descriptor::{
+    CreatePoolError, DescriptorDevice, DescriptorPoolCreateFlags, DescriptorTotalCount,
+    DeviceAllocationError, Layouts, SetSink,
+};
+use std::alloc::Global;
+
+/// A device that grants all that its memory allows, names pools from 0 up, and lists what it
+/// granted.
+///
+/// Before it grants a create or an alloc it takes room for the calls that end what that begins, so
+/// a release and a destroy take no memory. A refused call and a release of no set are not listed.
+#[derive(Drop)]
+pub struct LogDevice {
+    device: ScriptedDevice,
+    log: Log,
+    ghost granting: { script_of device ≡ [] },
+    ghost owed: { ∥ IsOwed (ledger_of device) log.owed ∥₁ },
+}
+
+impl LogDevice {
+    ghost use Rattle.descriptor_uses.specs.Logged.{calls_of, ledger_logged};
+
+    /// A device without pools.
+    pub fn new(alloc: Global) -> Self
+        ensures ledger { ledger_logged result ≡ empty_ledger }
+        ensures calls { calls_of result ≡ [] }
+    {
+        LogDevice {
+            device: ScriptedDevice::new(alloc, Vec::new(alloc)),
+            log: Log::new(alloc),
+        }
+    }
+
+    /// The calls that were granted, in their order.
+    pub fn calls(&self) -> &[Call]
+        ensures { result.now ≡ calls_of self.now }
+    {
+        &self.log.calls
+    }
+
+    /// How many pools were created, up to the greatest `u64`.
+    pub fn created(&self) -> u64
+        ensures { result ≡ min (ledger_logged self.now).counters.created (2 ^ 64 - 1) }
+    {
+        self.device.created()
+    }
+
+    /// How many pools were destroyed, up to the greatest `u64`.
+    pub fn destroyed(&self) -> u64
+        ensures { result ≡ min (ledger_logged self.now).counters.destroyed (2 ^ 64 - 1) }
+    {
+        self.device.destroyed()
+    }
+
+    /// How many calls asked for sets, up to the greatest `u64`.
+    pub fn asked(&self) -> u64
+        ensures { result ≡ min (ledger_logged self.now).counters.asked (2 ^ 64 - 1) }
+    {
+        self.device.asked()
+    }
+
+    /// How many calls released sets, up to the greatest `u64`.
+    pub fn released(&self) -> u64
+        ensures { result ≡ min (ledger_logged self.now).counters.released (2 ^ 64 - 1) }
+    {
+        self.device.released()
+    }
+}
+
+impl DescriptorDevice<ScriptLayout, RawPool, RawSet> for LogDevice {
+    ghost use Rattle.descriptor_script.specs.Finite.{scripted_finite};
+    ghost use Rattle.descriptor_uses.specs.Logged.{calls_of, ledger_logged, names_logged};
+
+    ghost pool_name = { pool_id };
+
+    ghost set_name = { set_id };
+
+    ghost layout_counts = { λ l. kinds l.counts };
+
+    ghost layout_mark = { λ l. l.mark };
+
+    ghost ledger = { ledger_logged };
+
+    ghost finite = { λ d. scripted_finite d.device };
+
+    fn create_descriptor_pool(
+        &mut self,
+        counts: &DescriptorTotalCount,
+        max_sets: u32,
+        flags: DescriptorPoolCreateFlags,
+    ) -> Result<RawPool, CreatePoolError>
+        ensures new_name { IfOk result (λ pool. (ledger_logged self.old).pools (pool_id pool) ≡ None) }
+        ensures ok { IfOk result (λ pool. ledger_logged self.new ≡ after_create (kinds counts.now) max_sets (bits flags) (pool_id pool) (ledger_logged self.old)) }
+        ensures err { IfErr result (λ e. ledger_logged self.new ≡ after_no_create e (ledger_logged self.old)) }
+
+        // Only memory or names can be wanting.
+        ensures refused { IfErr result (λ e. e ≡ CreatePoolError.OutOfHostMemory) }
+
+        ensures next_name { IfOk result (λ pool. pool_id pool ≡ (names_logged self.old).pools) }
+        ensures listed { IfOk result (λ pool. calls_of self.new ≡ calls_of self.old ++ Call.Create (pool_id pool) ∷ []) }
+        ensures unlisted { OnErr result (calls_of self.new ≡ calls_of self.old) }
+    {
+        if !self.log.reserve(2) {
+            let error = CreatePoolError::OutOfHostMemory;
+            self.device.refuse_create(error);
+            return Err(error);
+        }
+        match self.device.create_descriptor_pool(counts, max_sets, flags) {
+            Ok(pool) => {
+                self.log.put(Call::Create { pool: pool.id() }, 1);
+                Ok(pool)
+            }
+            Err(error) => Err(error),
+        }
+    }
+
+    fn destroy_descriptor_pool(&mut self, pool: RawPool)
+        requires { HasNoSets (pool_id pool) (ledger_logged self.old) }
+        ensures ledger { ledger_logged self.new ≡ after_destroy (pool_id pool) (ledger_logged self.old) }
+        ensures listed { calls_of self.new ≡ calls_of self.old ++ Call.Destroy (pool_id pool) ∷ [] }
+    {
+        let name = pool.id();
+        self.device.destroy_descriptor_pool(pool);
+        self.log.settle(Call::Destroy { pool: name }, 1);
+    }
+
+    fn alloc_descriptor_sets<K: SetSink<RawSet>>(
+        &mut self,
+        pool: &mut RawPool,
+        layouts: Layouts<'_, ScriptLayout>,
+        sets: &mut K,
+    ) -> Result<(), DeviceAllocationError>
+        requires fits { HasRoom (pool_id pool.old) (left layouts) (kinds (layout layouts).counts) (layout layouts).mark (ledger_logged self.old) }
+        requires room { left layouts ≤ K.room_left sets.old }
+        ensures name { pool_id pool.new ≡ pool_id pool.old }
+        ensures ok { OnOk result (Puts (record { kept = K.kept; kept_as = K.kept_as; room_left = K.room_left }) set_id (pool_id pool.old) (left layouts.entry) (kinds (layout layouts.entry).counts) sets.old sets.new (ledger_logged self.old) (ledger_logged self.new)) }
+        ensures err { IfErr result (λ e. PutsNone (record { kept = K.kept; kept_as = K.kept_as; room_left = K.room_left }) (pool_id pool.old) e sets.old sets.new (ledger_logged self.old) (ledger_logged self.new)) }
+
+        // Only memory or names can be wanting.
+        ensures refused { IfErr result (λ e. e ≡ DeviceAllocationError.OutOfHostMemory) }
+
+        ensures listed { OnOk result (calls_of self.new ≡ calls_of self.old ++ Call.Alloc (pool_id pool.old) (left layouts.entry) ∷ []) }
+        ensures unlisted { OnErr result (calls_of self.new ≡ calls_of self.old) }
+    {
+        let count = layouts.len();
+        if !self.log.reserve(count as usize + 1) {
+            let error = DeviceAllocationError::OutOfHostMemory;
+            self.device.refuse_alloc(pool, error);
+            return Err(error);
+        }
+        match self.device.alloc_descriptor_sets(pool, layouts, sets) {
+            Ok(()) => {
+                let call = Call::Alloc {
+                    pool: pool.id(),
+                    sets: count,
+                };
+                self.log.put(call, count as usize);
+                Ok(())
+            }
+            Err(error) => Err(error),
+        }
+    }
+
+    fn dealloc_descriptor_sets<I: Iterator<Item = RawSet>>(
+        &mut self,
+        pool: &mut RawPool,
+        sets: &mut I,
+    )
+        requires can { I.can_next sets.old }
+        requires ends { IsFinite (I.remaining sets.old) }
+        requires live { HoldsAlong I.next_gives sets.old (λ xs. AreLive (pool_id pool.old) (map set_id xs) (ledger_logged self.old)) }
+        ensures name { pool_id pool.new ≡ pool_id pool.old }
+        ensures released { Releases I.next_gives set_id (pool_id pool.old) sets.old sets.new (ledger_logged self.old) (ledger_logged self.new) }
+        ensures listed { ListsRelease I.next_gives (pool_id pool.old) sets.old sets.new (calls_of self.old) (calls_of self.new) }
+    {
+        let released = release(&mut self.device, pool, sets);
+        if released > 0 {
+            let call = Call::Release {
+                pool: pool.id(),
+                sets: released,
+            };
+            self.log.settle(call, released);
+        }
+    }
+}
+
+/// Releases the sets that the iterator gives, and counts them.
+fn release<I: Iterator<Item = RawSet>>(
+    device: &mut ScriptedDevice,
+    pool: &mut RawPool,
+    sets: &mut I,
+) -> usize
+    requires can { I.can_next sets.old }
+    requires ends { IsFinite (I.remaining sets.old) }
+    requires live { HoldsAlong I.next_gives sets.old (λ xs. AreLive (pool_id pool.old) (map set_id xs) (ledger_of device.old)) }
+    ensures name { pool_id pool.new ≡ pool_id pool.old }
+    ensures released { ReleasesMany I.next_gives set_id (pool_id pool.old) result sets.old sets.new (ledger_of device.old) (ledger_of device.new) }
+    ensures script { script_of device.new ≡ script_of device.old }
+{
+    let before = device.live_sets(pool);
+    device.dealloc_descriptor_sets(pool, sets);
+    let after = device.live_sets(pool);
+    before - after
+}

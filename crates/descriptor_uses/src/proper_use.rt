@@ -1,0 +1,82 @@
+//! Sets and pools as they are to be used: each while it is out, and each goes back once.
+ghost use Rattle.std.specs.Prelude.{◌≡◌};
+ghost use Rattle.gpu_descriptor.specs.LayoutFlags.{is_marked};
+ghost use Rattle.gpu_descriptor.specs.States.{Agrees};
+ghost use Rattle.descriptor_script.specs.Raw.{pool_id};
+ghost use Rattle.descriptor_uses.specs.Logged.{ledger_logged};
+
+use crate::log_device::LogDevice;
+use bitflags::Flags;
+use descriptor_script::{RawPool, RawSet, ScriptLayout};
+use gpu_descriptor::{
+    AllocationError, CreatePoolError, DescriptorAllocator, DescriptorDevice,
+    DescriptorPoolCreateFlags, DescriptorSetLayoutCreateFlags, DescriptorTotalCount,
+};
+
+/// The flags that go with a mark.
+pub fn flags_of(mark: bool) -> DescriptorSetLayoutCreateFlags
+    ensures { is_marked result ≡ mark }
+{
+    let mut flags = DescriptorSetLayoutCreateFlags::empty();
+    flags.set(DescriptorSetLayoutCreateFlags::UPDATE_AFTER_BIND, mark);
+    flags
+}
+
+/// Allocates a set, reads its name, and gives it back.
+pub fn borrow_set(
+    allocator: &mut DescriptorAllocator<RawPool, RawSet>,
+    device: &mut LogDevice,
+    layout: &ScriptLayout,
+) -> Result<u64, AllocationError>
+    requires { Agrees pool_id allocator.old (ledger_logged device.old) }
+    ensures { Agrees pool_id allocator.new (ledger_logged device.new) }
+{
+    let flags = flags_of(layout.mark);
+    match allocator.allocate(device, layout, flags, &layout.counts, 1) {
+        Ok(sets) => {
+            let name = sets[0].raw().id();
+            allocator.free(device, sets);
+            Ok(name)
+        }
+        Err(error) => Err(error),
+    }
+}
+
+/// Allocates sets, and gives them back by an iterator that it keeps. Whether that is then at its end.
+pub fn borrow_sets(
+    allocator: &mut DescriptorAllocator<RawPool, RawSet>,
+    device: &mut LogDevice,
+    layout: &ScriptLayout,
+    count: u32,
+) -> Result<bool, AllocationError>
+    requires { Agrees pool_id allocator.old (ledger_logged device.old) }
+    ensures { Agrees pool_id allocator.new (ledger_logged device.new) }
+{
+    let flags = flags_of(layout.mark);
+    match allocator.allocate(device, layout, flags, &layout.counts, count) {
+        Ok(sets) => {
+            let mut items = sets.into_iter();
+            allocator.free_from(device, &mut items);
+            Ok(items.next().is_none())
+        }
+        Err(error) => Err(error),
+    }
+}
+
+/// Creates a pool, reads its name, and destroys it.
+pub fn borrow_pool(
+    device: &mut LogDevice,
+    counts: &DescriptorTotalCount,
+) -> Result<u64, CreatePoolError>
+    ensures { (ledger_logged device.new).pools ≡ (ledger_logged device.old).pools }
+{
+    let flags = DescriptorPoolCreateFlags::empty();
+    match device.create_descriptor_pool(counts, 1, flags) {
+        Ok(pool) => {
+            let name = pool.id();
+            device.destroy_descriptor_pool(pool);
+            Ok(name)
+        }
+        Err(error) => Err(error),
+    }
+}

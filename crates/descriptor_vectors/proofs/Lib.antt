@@ -1,4 +1,0 @@
-mod Beside
-mod OnePools
-mod Owing
-mod Used
