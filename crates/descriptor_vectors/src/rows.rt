@@ -7,6 +7,7 @@
 mod cleanup;
 mod faults;
 mod frees;
+mod lasting;
 mod limit;
 mod refusals;
 mod requests;
