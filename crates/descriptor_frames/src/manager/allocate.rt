@@ -2,7 +2,8 @@
 ghost use Rattle.std.specs.Prelude.{◌≡◌, ◌+◌, ◌≤◌, length, IfOk, IfErr, OnOk, OnErr};
 ghost use Rattle.gpu_descriptor_types.specs.Counts.{kinds};
 ghost use Rattle.gpu_descriptor.specs.Books.{HasDistinctKeys};
-ghost use Rattle.gpu_descriptor.specs.Foreign.{KeepsForeign};
+ghost use Rattle.gpu_descriptor.specs.Foreign.{KeepsForeign, LosesNone};
+ghost use Rattle.gpu_descriptor.specs.Keys.{StayOrGainLast};
 ghost use Rattle.gpu_descriptor.specs.LayoutFlags.{is_marked};
 ghost use Rattle.gpu_descriptor.specs.Load.{marked_load};
 ghost use Rattle.gpu_descriptor.specs.OtherKeys.{KeepsOtherKeys};
@@ -10,7 +11,7 @@ ghost use Rattle.gpu_descriptor.specs.Outcomes.{Allocates};
 ghost use Rattle.gpu_descriptor.specs.Promises.{AreOfKey, AreOutBesides, CreatesOnlyWhereShort, HasCause, KeepsOutstanding};
 ghost use Rattle.gpu_descriptor.specs.Requests.{answer_of, call_of};
 ghost use Rattle.gpu_descriptor.specs.Sets.{items_of};
-ghost use Rattle.gpu_descriptor.specs.States.{Agrees, marked_load_of, outstanding_of, pool_load_of, table_of};
+ghost use Rattle.gpu_descriptor.specs.States.{Agrees, keys_of, marked_load_of, outstanding_of, pool_load_of, table_of};
 ghost use Rattle.gpu_descriptor.specs.Walk.{layout_key};
 
 use super::FrameManager;
@@ -88,6 +89,10 @@ impl<P: Drop, S: Drop> FrameManager<P, S> {
             (state_in D.pool_name self.new (D.ledger device.new)) }
         ensures foreign { KeepsForeign (state_in D.pool_name self.old (D.ledger device.old))
             (state_in D.pool_name self.new (D.ledger device.new)) }
+        ensures accounted { LosesNone (state_in D.pool_name self.old (D.ledger device.old))
+            (state_in D.pool_name self.new (D.ledger device.new)) }
+        ensures keys { StayOrGainLast (layout_key D.layout_counts D.layout_mark layout.now)
+            (keys_of (allocator_of self.old)) (keys_of (allocator_of self.new)) }
         ensures rows { HasDistinctKeys (table_of D.pool_name (allocator_of self.new)) }
         ensures load { marked_load_of (allocator_of self.new) ≤ (allocator_of self.new).limit }
         ensures pool_load { pool_load_of (allocator_of self.new) ≤ (allocator_of self.new).limit }

@@ -3,7 +3,8 @@ ghost use Rattle.std.specs.Prelude.{◌≡◌, ◌≤◌};
 ghost use Rattle.gpu_descriptor.specs.Books.{HasDistinctKeys};
 ghost use Rattle.gpu_descriptor.specs.Buckets.{more_destroyed};
 ghost use Rattle.gpu_descriptor.specs.Cleanup.{IsCleaned, pools_cleaned};
-ghost use Rattle.gpu_descriptor.specs.Foreign.{KeepsForeign};
+ghost use Rattle.gpu_descriptor.specs.Foreign.{KeepsForeign, LosesNone};
+ghost use Rattle.gpu_descriptor.specs.Keys.{keys_with_pools};
 ghost use Rattle.gpu_descriptor.specs.Promises.{KeepsOutstanding};
 ghost use Rattle.gpu_descriptor.specs.States.{Agrees, keys_of, marked_load_of, outstanding_of, pool_load_of, table_of};
 
@@ -38,18 +39,21 @@ impl<P: Drop, S> FrameManager<P, S> {
         ensures totals_stay { (outstanding_of (allocator_of self.new)
             ≡ outstanding_of (allocator_of self.old))
             × (marked_load_of (allocator_of self.new) ≡ marked_load_of (allocator_of self.old)) }
+        ensures keys { keys_of (allocator_of self.new) ≡ keys_with_pools
+            (state_in D.pool_name self.new (D.ledger device.new)) (keys_of (allocator_of self.old)) }
+        ensures rows_before { HasDistinctKeys (table_of D.pool_name (allocator_of self.old)) }
         ensures rows { HasDistinctKeys (table_of D.pool_name (allocator_of self.new)) }
         ensures load { marked_load_of (allocator_of self.new) ≤ (allocator_of self.new).limit }
         ensures pool_load { pool_load_of (allocator_of self.new) ≤ (allocator_of self.new).limit }
         ensures agree { Agrees D.pool_name (allocator_of self.new) (D.ledger device.new) }
         ensures foreign { KeepsForeign (state_in D.pool_name self.old (D.ledger device.old))
             (state_in D.pool_name self.new (D.ledger device.new)) }
+        ensures accounted { LosesNone (state_in D.pool_name self.old (D.ledger device.old))
+            (state_in D.pool_name self.new (D.ledger device.new)) }
         ensures limit { (allocator_of self.new).limit ≡ (allocator_of self.old).limit }
         ensures counts_stay { ((allocator_of self.new).looks ≡ (allocator_of self.old).looks)
             × ((allocator_of self.new).comparisons ≡ (allocator_of self.old).comparisons) }
     {
-        // The proof reads from this that the same sets are outstanding.
-        gpu_descriptor::laws::clean_again();
         self.allocator.cleanup(device);
     }
 }

@@ -2,7 +2,7 @@
 ghost use Rattle.std.specs.Prelude.{◌≡◌, ◌+◌, ◌≤◌, []};
 ghost use Rattle.gpu_descriptor.specs.Books.{HasDistinctKeys};
 ghost use Rattle.gpu_descriptor.specs.Comparisons.{run_digits};
-ghost use Rattle.gpu_descriptor.specs.Foreign.{KeepsForeign};
+ghost use Rattle.gpu_descriptor.specs.Foreign.{KeepsForeign, LosesNone};
 ghost use Rattle.gpu_descriptor.specs.Frees.{GivesBack};
 ghost use Rattle.gpu_descriptor.specs.Promises.{AreOutBesides};
 ghost use Rattle.gpu_descriptor.specs.Runs.{runs};
@@ -48,6 +48,8 @@ impl<P, S> FrameManager<P, S> {
         ensures rows { HasDistinctKeys (table_of D.pool_name (allocator_of self.new)) }
         ensures foreign { KeepsForeign (state_in D.pool_name self.old (D.ledger device.old))
             (state_in D.pool_name self.new (D.ledger device.new)) }
+        ensures accounted { LosesNone (state_in D.pool_name self.old (D.ledger device.old))
+            (state_in D.pool_name self.new (D.ledger device.new)) }
         ensures load { marked_load_of (allocator_of self.new) ≤ (allocator_of self.new).limit }
         ensures pool_load { pool_load_of (allocator_of self.new) ≤ (allocator_of self.new).limit }
         ensures limit { (allocator_of self.new).limit ≡ (allocator_of self.old).limit }
@@ -57,8 +59,6 @@ impl<P, S> FrameManager<P, S> {
             (state_in D.pool_name self.old (D.ledger device.old))
             (items_of D.set_name (due_sets frame self.old)) }
     {
-        // The proof reads from this what is outstanding when sets went back.
-        gpu_descriptor::laws::release_parts();
         let mut due = Due {
             retired: &mut self.retired,
             frame,

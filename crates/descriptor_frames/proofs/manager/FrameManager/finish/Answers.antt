@@ -1,18 +1,19 @@
 use Rattle.std.proofs.Common.{◌≡◌, [], ◌++◌, refl, sym, ap, subst, ◌∙◌}
 use Rattle.gpu_descriptor.specs.Agreement.{State}
-use Rattle.gpu_descriptor.specs.Promises.{AreOutBesides}
-use Rattle.gpu_descriptor.specs.Sets.{items_of}
 use Rattle.gpu_descriptor.specs.States.{state_of}
+use Rattle.gpu_descriptor.specs.Values.{Allocations}
+use Rattle.gpu_descriptor_types.specs.Ledger.{Ledger}
 use Rattle.descriptor_frames.specs.Frames.{retired_of, state_in}
 use Rattle.descriptor_frames.specs.Retired.{AreInOrder, sets_in}
-use Rattle.descriptor_frames.proofs.InUse.{none_back, out_front, out_rest, same_besides, went_back}
+use Rattle.gpu_descriptor.proofs.Holding.{out_front}
+use Rattle.descriptor_frames.proofs.InUse.{later_out, same_besides}
 use Rattle.descriptor_frames.proofs.Taken.{both_parts, none_taken, same_list_then, still_in_order, stood_before, took_due}
 use Rattle.descriptor_frames.proofs.manager.FrameManager.finish.Goals.{After-end}
 use Rattle.descriptor_frames.proofs.manager.FrameManager.finish.Goals as goal
 
 pub free_from-requires-clause-outstanding : goal.free_from-requires-clause-outstanding
 free_from-requires-clause-outstanding g c xs t y =
-    out_front g.D.DescriptorDevice.set_name xs (sets_in t.retired.now.items) (sets_in (retired_of c.args.self.now)) (stood_before xs _ t y) (state_in g.D.DescriptorDevice.pool_name c.args.self.now (g.D.DescriptorDevice.ledger c.args.device.now)) c.requires.retired
+    out_front g.D.DescriptorDevice.set_name xs (sets_in t.retired.now.items) (sets_in (retired_of c.args.self.now)) (state_in g.D.DescriptorDevice.pool_name c.args.self.now (g.D.DescriptorDevice.ledger c.args.device.now)) (stood_before xs _ t y) c.requires.retired
 
 pub shape_of-self : goal.shape_of-self
 shape_of-self g c = sym (same_list_then c.free_from.ensures.frees)
@@ -43,14 +44,6 @@ before g c = state_in g.D.DescriptorDevice.pool_name c.args.self.now (g.D.Descri
 abbrev after : (g : _) → After-end g → State
 after g c = state_of g.D.DescriptorDevice.pool_name c.free_from.new.self (g.D.DescriptorDevice.ledger c.free_from.new.device)
 
--- the sets that went back were outstanding besides the others
-back_out : (g : _) (c : After-end g) → AreOutBesides (items_of g.D.DescriptorDevice.set_name c.free_from.ensures.frees.sets) (after g c) (before g c)
-back_out g c =
-    let f = c.free_from.ensures.frees in
-    let name = g.D.DescriptorDevice.set_name in
-    let front = out_front name f.sets _ _ (both_parts f) (before g c) c.requires.retired in
-    went_back c.release_parts.ensures.outstanding (items_of name f.sets) (before g c) (after g c) c.requires.agree front f.back.state
-
 -- the list is what went back and what is left of it
 list_parts : (g : _) (c : After-end g) → sets_in (retired_of c.args.self.now) ≡ c.free_from.ensures.frees.sets ++ sets_in c.end.new.self.0.items
 list_parts g c =
@@ -59,22 +52,22 @@ list_parts g c =
 
 pub returns-clause-outstanding : goal.returns-clause-outstanding
 returns-clause-outstanding g c =
-    let a = goal.at.returns-clause-outstanding g c in
-    rw (sym (took_due c.free_from.ensures.frees c.args.self.now.greatest c.args.self.now.ordered).0) (back_out g a.After-end)
+    let f = c.free_from.ensures.frees in
+    rw (sym (took_due f c.args.self.now.greatest c.args.self.now.ordered).0) f.back.returned
 
 pub returns-clause-retired : goal.returns-clause-retired
 returns-clause-retired g c =
     let a = goal.at.returns-clause-retired g c in
-    out_rest g.D.DescriptorDevice.set_name c.free_from.ensures.frees.sets _ _ (list_parts g a.After-end) (before g a.After-end) (after g a.After-end) (back_out g a.After-end) c.requires.retired
+    later_out g.D.DescriptorDevice.set_name c.free_from.ensures.frees.sets _ _ (list_parts g a.After-end) (before g a.After-end) (after g a.After-end) c.free_from.ensures.frees.back.returned c.requires.retired
 
 pub returns-clause-in_use : goal.returns-clause-in_use
 returns-clause-in_use g c =
     let a = goal.at.returns-clause-in_use g c in
-    same_besides g.D.DescriptorDevice.set_name c.free_from.ensures.frees.sets _ _ (list_parts g a.After-end) (before g a.After-end) (after g a.After-end) (back_out g a.After-end)
+    same_besides g.D.DescriptorDevice.set_name c.free_from.ensures.frees.sets _ _ (list_parts g a.After-end) (before g a.After-end) (after g a.After-end) c.free_from.ensures.frees.back.returned
 
 pub returns-clause-none : goal.returns-clause-none
 returns-clause-none g c e =
     let f = c.free_from.ensures.frees in
     let empty : f.sets ≡ [] = (took_due f c.args.self.now.greatest c.args.self.now.ordered).0 ∙ e in
-    let same = none_back c.release_parts.ensures.none f.sets empty f.back in
-    record { state = same.0; ledger = same.1; list = ap (λ q. q.items) c.end.ensures ∙ none_taken f empty; greatest = refl }
+    let same = f.back.none empty in
+    record { state = ap (λ (x : Allocations _ × Ledger). state_of g.D.DescriptorDevice.pool_name x.0 x.1) (λ i. (same.0 i, same.1 i)); ledger = same.1; list = ap (λ q. q.items) c.end.ensures ∙ none_taken f empty; greatest = refl }
