@@ -1,18 +1,29 @@
--- What a logging device owes, and the calls that it listed.
-use Rattle.std.specs.Prelude.{List}
+-- What a logging device owes, the calls that it listed, its next name, and its script.
+use Rattle.std.specs.Prelude.{◌≡◌, ◌⊎◌, ℕ, List}
 use Rattle.gpu_descriptor_types.specs.Ledger.{Ledger}
-use Rattle.descriptor_script.specs.Device.{ledger_of, names_given}
-use Rattle.descriptor_script.specs.Table.{Names}
+use Rattle.descriptor_script.specs.Device.{ledger_of, names_given, script_of}
+use Rattle.descriptor_script.specs.Script.{next_word, rest_words}
+use Rattle.descriptor_script.specs.declared.answer.Answer.{Answer}
 use Rattle.descriptor_uses.specs.declared.log.Call.{Call}
 use Rattle.descriptor_uses.specs.declared.log_device.LogDevice.{LogDevice}
 
 abbrev pub ledger_logged : LogDevice → Ledger
 ledger_logged d = ledger_of d.device
 
--- how many names were given to pools and to sets
-abbrev pub names_logged : LogDevice → Names
-names_logged d = names_given d.device
+-- the name of the pool that is created next
+abbrev pub next_pool : LogDevice → ℕ
+next_pool d = (names_given d.device).pools
+
+-- the words that are still to be read
+abbrev pub script_logged : LogDevice → List Answer
+script_logged d = script_of d.device
 
 -- the calls in their order
 abbrev pub calls_of : LogDevice → List Call
 calls_of d = d.log.calls.items
+
+-- a refused call answers its word, or there was no room in the list and none was read
+abbrev pub IsRefused : {E : Type 0} → (Answer → E) → E → E → List Answer → List Answer → Type 0
+IsRefused error_of no_room error before after =
+    ((error ≡ error_of (next_word before)) × (after ≡ rest_words before))
+    ⊎ ((error ≡ no_room) × (after ≡ before))

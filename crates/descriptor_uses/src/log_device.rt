@@ -1,46 +1,60 @@
-//! A device that grants and keeps a list of its calls.
+//! A device that answers by a script and keeps a list of the calls that it granted.
 ghost use Rattle.std.specs.Prelude.{◌≡◌, ◌+◌, ◌-◌, ◌<◌, ◌≤◌, ◌^◌, ◌++◌, [], ◌∷◌, min, map, None, IfOk, IfErr, OnOk, OnErr};
 ghost use Rattle.std.specs.Iterator.{IsFinite, HoldsAlong};
 ghost use Rattle.gpu_descriptor_types.specs.Counts.{kinds};
 ghost use Rattle.gpu_descriptor_types.specs.Flags.{bits};
 ghost use Rattle.gpu_descriptor_types.specs.Layouts.{layout, left};
 ghost use Rattle.gpu_descriptor_types.specs.Ledger.{AreLive, HasNoSets, HasRoom, Puts, PutsNone, Releases, after_create, after_destroy, after_no_create};
-ghost use Rattle.descriptor_script.specs.Device.{empty_ledger, ledger_of, script_of};
+ghost use Rattle.descriptor_script.specs.Device.{empty_ledger, ledger_of, names_given, script_of};
 ghost use Rattle.descriptor_script.specs.Raw.{pool_id, set_id};
+ghost use Rattle.descriptor_script.specs.Script.{alloc_error, create_error, next_word, rest_words};
 ghost use Rattle.descriptor_uses.specs.Owed.{IsOwed, ReleasesMany};
 ghost use Rattle.descriptor_uses.specs.Released.{ListsRelease};
 
 use crate::log::{Call, Log};
-use descriptor_script::{RawPool, RawSet, ScriptLayout, ScriptedDevice};
+use descriptor_script::{Answer, RawPool, RawSet, ScriptLayout, ScriptedDevice};
 use gpu_descriptor::{
     CreatePoolError, DescriptorDevice, DescriptorPoolCreateFlags, DescriptorTotalCount,
     DeviceAllocationError, Layouts, SetSink,
 };
 use std::alloc::Global;
 
-/// A device that grants all that its memory allows, names pools from 0 up, and lists what it
-/// granted.
+/// A device that answers by a script as `ScriptedDevice` does, names pools from 0 up, and lists
+/// what it granted.
 ///
-/// Before it grants a create or an alloc it takes room for the calls that end what that begins, so
-/// a release and a destroy take no memory. A refused call and a release of no set are not listed.
+/// Before it reads the word of a create or an alloc it takes room for that call and for those that
+/// end what it begins, so a release and a destroy take no memory. Where the room isn't there the
+/// call is refused for want of host memory, and no word is read. A refused call and a release of no
+/// set are not listed.
 #[derive(Drop)]
 pub struct LogDevice {
     device: ScriptedDevice,
     log: Log,
-    ghost granting: { script_of device ≡ [] },
     ghost owed: { ∥ IsOwed (ledger_of device) log.owed ∥₁ },
 }
 
 impl LogDevice {
-    ghost use Rattle.descriptor_uses.specs.Logged.{calls_of, ledger_logged};
+    ghost use Rattle.descriptor_uses.specs.Logged.{calls_of, ledger_logged, next_pool, script_logged};
 
-    /// A device without pools.
+    /// A device without pools, which grants all that its memory allows.
     pub fn new(alloc: Global) -> Self
         ensures ledger { ledger_logged result ≡ empty_ledger }
         ensures calls { calls_of result ≡ [] }
+        ensures script { script_logged result ≡ [] }
+        ensures next_pool { next_pool result ≡ 0 }
+    {
+        LogDevice::with_script(alloc, Vec::new(alloc))
+    }
+
+    /// A device without pools, which begins with this script.
+    pub fn with_script(alloc: Global, script: Vec<Answer>) -> Self
+        ensures ledger { ledger_logged result ≡ empty_ledger }
+        ensures calls { calls_of result ≡ [] }
+        ensures script { script_logged result ≡ script.items }
+        ensures next_pool { next_pool result ≡ 0 }
     {
         LogDevice {
-            device: ScriptedDevice::new(alloc, Vec::new(alloc)),
+            device: ScriptedDevice::new(alloc, script),
             log: Log::new(alloc),
         }
     }
@@ -83,7 +97,7 @@ impl LogDevice {
 
 impl DescriptorDevice<ScriptLayout, RawPool, RawSet> for LogDevice {
     ghost use Rattle.descriptor_script.specs.Finite.{scripted_finite};
-    ghost use Rattle.descriptor_uses.specs.Logged.{calls_of, ledger_logged, names_logged};
+    ghost use Rattle.descriptor_uses.specs.Logged.{IsRefused, calls_of, ledger_logged, next_pool, script_logged};
 
     ghost pool_name = { pool_id };
 
@@ -107,10 +121,19 @@ impl DescriptorDevice<ScriptLayout, RawPool, RawSet> for LogDevice {
         ensures ok { IfOk result (λ pool. ledger_logged self.new ≡ after_create (kinds counts.now) max_sets (bits flags) (pool_id pool) (ledger_logged self.old)) }
         ensures err { IfErr result (λ e. ledger_logged self.new ≡ after_no_create e (ledger_logged self.old)) }
 
-        // Only memory or names can be wanting.
-        ensures refused { IfErr result (λ e. e ≡ CreatePoolError.OutOfHostMemory) }
+        // One word is read, and decides.
+        ensures granted { OnOk result (next_word (script_logged self.old) ≡ Answer.Ok) }
+        ensures rest { OnOk result (script_logged self.new ≡ rest_words (script_logged self.old)) }
+        ensures refused { IfErr result (λ e. IsRefused create_error CreatePoolError.OutOfHostMemory e (script_logged self.old) (script_logged self.new)) }
 
-        ensures next_name { IfOk result (λ pool. pool_id pool ≡ (names_logged self.old).pools) }
+        // Where no word is left only memory or names can be wanting.
+        ensures at_end { script_logged self.old ≡ [] → IfErr result (λ e. e ≡ CreatePoolError.OutOfHostMemory) }
+
+        // The pool has the next name.
+        ensures next_name { IfOk result (λ pool. pool_id pool ≡ next_pool self.old) }
+        ensures named { OnOk result (next_pool self.new ≡ next_pool self.old + 1) }
+        ensures unnamed { OnErr result (next_pool self.new ≡ next_pool self.old) }
+
         ensures listed { IfOk result (λ pool. calls_of self.new ≡ calls_of self.old ++ Call.Create (pool_id pool) ∷ []) }
         ensures unlisted { OnErr result (calls_of self.new ≡ calls_of self.old) }
     {
@@ -131,6 +154,8 @@ impl DescriptorDevice<ScriptLayout, RawPool, RawSet> for LogDevice {
     fn destroy_descriptor_pool(&mut self, pool: RawPool)
         requires { HasNoSets (pool_id pool) (ledger_logged self.old) }
         ensures ledger { ledger_logged self.new ≡ after_destroy (pool_id pool) (ledger_logged self.old) }
+        ensures script { script_logged self.new ≡ script_logged self.old }
+        ensures next_pool { next_pool self.new ≡ next_pool self.old }
         ensures listed { calls_of self.new ≡ calls_of self.old ++ Call.Destroy (pool_id pool) ∷ [] }
     {
         let name = pool.id();
@@ -150,9 +175,15 @@ impl DescriptorDevice<ScriptLayout, RawPool, RawSet> for LogDevice {
         ensures ok { OnOk result (Puts (record { kept = K.kept; kept_as = K.kept_as; room_left = K.room_left }) set_id (pool_id pool.old) (left layouts.entry) (kinds (layout layouts.entry).counts) sets.old sets.new (ledger_logged self.old) (ledger_logged self.new)) }
         ensures err { IfErr result (λ e. PutsNone (record { kept = K.kept; kept_as = K.kept_as; room_left = K.room_left }) (pool_id pool.old) e sets.old sets.new (ledger_logged self.old) (ledger_logged self.new)) }
 
-        // Only memory or names can be wanting.
-        ensures refused { IfErr result (λ e. e ≡ DeviceAllocationError.OutOfHostMemory) }
+        // One word is read, and decides.
+        ensures granted { OnOk result (next_word (script_logged self.old) ≡ Answer.Ok) }
+        ensures rest { OnOk result (script_logged self.new ≡ rest_words (script_logged self.old)) }
+        ensures refused { IfErr result (λ e. IsRefused alloc_error DeviceAllocationError.OutOfHostMemory e (script_logged self.old) (script_logged self.new)) }
 
+        // Where no word is left only memory or names can be wanting.
+        ensures at_end { script_logged self.old ≡ [] → IfErr result (λ e. e ≡ DeviceAllocationError.OutOfHostMemory) }
+
+        ensures next_pool { next_pool self.new ≡ next_pool self.old }
         ensures listed { OnOk result (calls_of self.new ≡ calls_of self.old ++ Call.Alloc (pool_id pool.old) (left layouts.entry) ∷ []) }
         ensures unlisted { OnErr result (calls_of self.new ≡ calls_of self.old) }
     {
@@ -185,6 +216,8 @@ impl DescriptorDevice<ScriptLayout, RawPool, RawSet> for LogDevice {
         requires live { HoldsAlong I.next_gives sets.old (λ xs. AreLive (pool_id pool.old) (map set_id xs) (ledger_logged self.old)) }
         ensures name { pool_id pool.new ≡ pool_id pool.old }
         ensures released { Releases I.next_gives set_id (pool_id pool.old) sets.old sets.new (ledger_logged self.old) (ledger_logged self.new) }
+        ensures script { script_logged self.new ≡ script_logged self.old }
+        ensures next_pool { next_pool self.new ≡ next_pool self.old }
         ensures listed { ListsRelease I.next_gives (pool_id pool.old) sets.old sets.new (calls_of self.old) (calls_of self.new) }
     {
         let released = release(&mut self.device, pool, sets);
@@ -210,6 +243,7 @@ fn release<I: Iterator<Item = RawSet>>(
     ensures name { pool_id pool.new ≡ pool_id pool.old }
     ensures released { ReleasesMany I.next_gives set_id (pool_id pool.old) result sets.old sets.new (ledger_of device.old) (ledger_of device.new) }
     ensures script { script_of device.new ≡ script_of device.old }
+    ensures names { names_given device.new ≡ names_given device.old }
 {
     let before = device.live_sets(pool);
     device.dealloc_descriptor_sets(pool, sets);

@@ -7,7 +7,6 @@ use Rattle.gpu_descriptor_types.specs.Ledger.{Ledger, live_sets, pool_refusals}
 use Rattle.gpu_descriptor_types.specs.Multiset.{LiveSet}
 use Rattle.descriptor_script.specs.Device.{ledger_of}
 use Rattle.descriptor_script.specs.Raw.{set_id}
-use Rattle.descriptor_script.specs.Script.{rest_words}
 use Rattle.descriptor_uses.proofs.Owing.{allocated, moved, refused}
 use Rattle.descriptor_uses.proofs.log_device.LogDeviceDescriptorDeviceScriptLayoutRawPoolRawSet.alloc_descriptor_sets.Goals as goal
 
@@ -16,7 +15,6 @@ invariant_of-self g c =
     let old = c.args.self.now in
     let room = c.requires.fits in
     record {
-      granting = c.refuse_alloc.ensures.script ∙ old.granting;
       owed = ∥∥₁_map old.owed (λ o. refused (ledger_of old.device) _ c.args.pool.now.id 0 room.pool _ room.is_live (ap (λ (l : Ledger). l.pools) c.refuse_alloc.ensures.ledger) (moved (ledger_of old.device) (ledger_of old.device) old.log.owed c.reserve.new.self.owed refl c.reserve.ensures.owed o));
     }
 
@@ -29,7 +27,6 @@ invariant_of-self-in-Ok g c =
     let sets : List LiveSet = live_sets counts (map set_id put.sets) in
     let many : length sets ≡ left c.args.layouts = length-map (map set_id put.sets) (λ (n : ℕ). record { name = n; counts = counts }) ∙ length-map put.sets set_id ∙ put.many in
     record {
-      granting = c.alloc_descriptor_sets.ensures.rest ∙ ap rest_words old.granting;
       owed = ∥∥₁_map old.owed (λ o. moved _ _ (old.log.owed + length sets) c.put.new.self.owed put.ledger (c.put.ensures.owed ∙ ap (λ (n : ℕ). n + c.len-count.result) c.reserve.ensures.owed ∙ ap (λ (n : ℕ). old.log.owed + n) (c.len-count.ensures ∙ sym many)) (allocated (ledger_of old.device) old.log.owed c.args.pool.now.id room.pool sets room.is_live o));
     }
 
@@ -38,6 +35,5 @@ invariant_of-self-in-Err-1 g c =
     let old = c.args.self.now in
     let room = c.requires.fits in
     record {
-      granting = c.alloc_descriptor_sets.ensures.rest ∙ ap rest_words old.granting;
       owed = ∥∥₁_map old.owed (λ o. refused (ledger_of old.device) _ c.args.pool.now.id (pool_refusals c.in-Err.error) room.pool _ room.is_live (ap (λ (l : Ledger). l.pools) c.in-Err.ensures.err.ledger) (moved (ledger_of old.device) (ledger_of old.device) old.log.owed c.reserve.new.self.owed refl c.reserve.ensures.owed o));
     }

@@ -17,7 +17,6 @@ invariant_of-self g c =
     let old = c.args.self.now in
     let less : c.settle.new.self.owed ≡ old.log.owed - c.release-released.result = (let e = c.settle.ensures.owed in omega arith) in
     record {
-      granting = c.release-released.ensures.script ∙ old.granting;
       owed = ∥∥₁_map old.owed (λ o. moved _ _ (old.log.owed - c.release-released.result) c.settle.new.self.owed refl less (c.release-released.ensures.released.owed old.log.owed o).1);
     }
 
@@ -26,7 +25,6 @@ invariant_of-self-else-released-gt0 g c =
     let old = c.args.self.now in
     let same : old.log.owed ≡ old.log.owed - c.release-released.result = (let none = c.if-released-gt0.false in omega arith) in
     record {
-      granting = c.release-released.ensures.script ∙ old.granting;
       owed = ∥∥₁_map old.owed (λ o. moved _ _ (old.log.owed - c.release-released.result) old.log.owed refl same (c.release-released.ensures.released.owed old.log.owed o).1);
     }
 

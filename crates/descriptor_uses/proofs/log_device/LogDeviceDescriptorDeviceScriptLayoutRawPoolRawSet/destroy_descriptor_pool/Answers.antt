@@ -1,4 +1,4 @@
-use Rattle.std.proofs.Common.{◌≡◌, ◌-◌, ◌∙◌, arith}
+use Rattle.std.proofs.Common.{◌≡◌, ◌-◌, arith}
 use Rattle.std.proofs.Math.Bridge.{le_prop}
 use Rattle.std.proofs.Math.Logic.{∥∥₁_elim, ∥∥₁_map}
 use Rattle.descriptor_script.specs.Device.{ledger_of}
@@ -15,6 +15,5 @@ invariant_of-self c =
     let old = c.args.self.now in
     let less : c.settle.new.self.owed ≡ old.log.owed - 1 = (let e = c.settle.ensures.owed in omega arith) in
     record {
-      granting = c.destroy_descriptor_pool.ensures.script ∙ old.granting;
       owed = ∥∥₁_map old.owed (λ o. moved _ _ (old.log.owed - 1) c.settle.new.self.owed c.destroy_descriptor_pool.ensures.ledger less (destroyed (ledger_of old.device) old.log.owed c.args.pool.id c.requires o).1);
     }
