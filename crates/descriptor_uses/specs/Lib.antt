@@ -1,3 +1,4 @@
+pub mod Layouts
 pub mod Log
 pub mod Logged
 pub mod Owed

@@ -1,10 +1,17 @@
 //! Devices and callers of the allocator, proved: what a user of it may write.
 #![tactic(auto)]
 
+pub mod batches;
+pub mod frame_renderer;
+mod layout;
 mod log;
 mod log_device;
 pub mod own_device;
 pub mod proper_use;
+pub mod renderer;
+pub mod scene;
+pub mod two_layouts;
 
+pub use layout::SetLayout;
 pub use log::Call;
 pub use log_device::LogDevice;

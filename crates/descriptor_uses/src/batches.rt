@@ -1,0 +1,28 @@
+//! Two batches of sets, freed one after the other.
+ghost use Rattle.std.specs.Prelude.{◌++◌};
+ghost use Rattle.gpu_descriptor.specs.Agreement.{AreOutstanding};
+ghost use Rattle.gpu_descriptor.specs.Promises.{AreOutBesides};
+ghost use Rattle.gpu_descriptor.specs.Sets.{items_of};
+ghost use Rattle.gpu_descriptor.specs.States.{Agrees, state_of};
+
+use gpu_descriptor::{DescriptorAllocator, DescriptorDevice, DescriptorSet};
+
+/// Gives two batches back. All their sets together are out; none of them is afterwards.
+#[tactic(auto, using(gpu_descriptor::proofs::Holding::count_parts))]
+pub fn free_both<L, P, S: Drop, D: DescriptorDevice<L, P, S>>(
+    allocator: &mut DescriptorAllocator<P, S>,
+    device: &mut D,
+    first: Vec<DescriptorSet<S>>,
+    second: Vec<DescriptorSet<S>>,
+)
+    requires agree { Agrees D.pool_name allocator.old (D.ledger device.old) }
+    requires outstanding { AreOutstanding (items_of D.set_name (first.items ++ second.items))
+        (state_of D.pool_name allocator.old (D.ledger device.old)) }
+    ensures agree { Agrees D.pool_name allocator.new (D.ledger device.new) }
+    ensures returned { AreOutBesides (items_of D.set_name (first.items ++ second.items))
+        (state_of D.pool_name allocator.new (D.ledger device.new))
+        (state_of D.pool_name allocator.old (D.ledger device.old)) }
+{
+    allocator.free_all(device, first);
+    allocator.free_all(device, second);
+}

@@ -1,0 +1,91 @@
+//! A struct over a frame manager: a set is in use for a frame, and goes back when that is done.
+ghost use Rattle.std.specs.Prelude.{◌≡◌};
+ghost use Rattle.descriptor_frames.specs.Errors.{set_back};
+ghost use Rattle.gpu_descriptor.specs.Sets.{items_of};
+ghost use Rattle.gpu_descriptor.specs.States.{Agrees, state_of};
+ghost use Rattle.gpu_descriptor.proofs.OneAgreement.{Agree-prop};
+ghost use Rattle.descriptor_frames.specs.Frames.{AreInUse, AreRetiredOut, allocator_of};
+ghost use Rattle.descriptor_uses.specs.Layouts.{IsMeant};
+
+use crate::layout::SetLayout;
+use descriptor_frames::{FrameManager, RetireError};
+use gpu_descriptor::{AllocationError, DescriptorDevice, DescriptorSet, laws};
+use std::alloc::Global;
+use std::collections::VecDeque;
+use std::marker::PhantomData;
+
+/// A device with a frame manager, and the sets that are in use, in the order in which they came.
+///
+/// Its ghost fields are what the manager's calls ask, so only `begin` asks something: of the layout.
+pub struct FrameRenderer<L, P, S, D: DescriptorDevice<L, P, S>> {
+    device: D,
+    manager: FrameManager<P, S>,
+    in_use: VecDeque<DescriptorSet<S>>,
+    layouts: PhantomData<L>,
+    ghost agree: { Agrees D.pool_name (allocator_of manager) (D.ledger device) } by { Agree-prop (state_of D.pool_name (allocator_of manager) (D.ledger device)) },
+    ghost retired: { AreRetiredOut D.pool_name D.set_name manager (D.ledger device) },
+    ghost used: { AreInUse D.pool_name D.set_name (items_of D.set_name in_use.items) manager (D.ledger device) },
+}
+
+impl<L, P: Drop, S: Drop, D: DescriptorDevice<L, P, S>> FrameRenderer<L, P, S, D> {
+    /// A renderer without sets.
+    pub fn new(alloc: Global, device: D) -> Self {
+        laws::books_alone();
+        FrameRenderer {
+            device,
+            manager: FrameManager::new(alloc, u32::MAX),
+            in_use: VecDeque::new(alloc),
+            layouts: PhantomData,
+        }
+    }
+
+    /// Takes the sets that a frame draws with. False where some are still in use: retire these
+    /// first.
+    pub fn begin(&mut self, layout: &SetLayout<L>, count: u32) -> Result<bool, AllocationError>
+        requires { IsMeant D.layout_counts D.layout_mark layout.now }
+    {
+        if !self.in_use.is_empty() {
+            return Ok(false);
+        }
+        let sets = self.manager.allocate(
+            &mut self.device,
+            &layout.layout,
+            layout.flags,
+            &layout.counts,
+            count,
+        )?;
+        self.in_use = VecDeque::from(sets);
+        Ok(true)
+    }
+
+    /// Retires the oldest set in use at this frame, if there is one. A set that can't be retired is
+    /// in use still.
+    pub fn retire(&mut self, frame: u64) -> bool {
+        let Some(set) = self.in_use.pop_front() else {
+            return true;
+        };
+        match self.manager.retire(frame, set) {
+            Ok(()) => true,
+            Err(error) => {
+                self.in_use.push_front_reserved(set_in(error));
+                false
+            }
+        }
+    }
+
+    /// The device is done with this frame and those before it: their sets go back.
+    pub fn finish(&mut self, frame: u64) {
+        self.manager.finish(&mut self.device, frame);
+        self.manager.cleanup(&mut self.device);
+    }
+}
+
+/// The set that was not retired.
+fn set_in<S>(error: RetireError<S>) -> DescriptorSet<S>
+    ensures { result ≡ set_back error }
+{
+    match error {
+        RetireError::FrameBack(set) => set,
+        RetireError::Memory(set) => set,
+    }
+}

@@ -1,0 +1,65 @@
+//! A struct that holds sets between calls.
+ghost use Rattle.gpu_descriptor.specs.Agreement.{AreOutstanding};
+ghost use Rattle.gpu_descriptor.specs.Sets.{items_of};
+ghost use Rattle.gpu_descriptor.specs.States.{Agrees, state_of};
+ghost use Rattle.gpu_descriptor.proofs.OneAgreement.{Agree-prop};
+ghost use Rattle.descriptor_uses.specs.Layouts.{IsMeant};
+
+use crate::layout::SetLayout;
+use gpu_descriptor::{AllocationError, DescriptorAllocator, DescriptorDevice, DescriptorSet, laws};
+use std::alloc::Global;
+use std::marker::PhantomData;
+use std::mem;
+
+/// A device with its allocator, and the sets of what is drawn.
+///
+/// That they are out is a ghost field, so they can go back at any time.
+pub struct Scene<L, P, S, D: DescriptorDevice<L, P, S>> {
+    alloc: Global,
+    device: D,
+    allocator: DescriptorAllocator<P, S>,
+    sets: Vec<DescriptorSet<S>>,
+    layouts: PhantomData<L>,
+    ghost agree: { Agrees D.pool_name allocator (D.ledger device) } by { Agree-prop (state_of D.pool_name allocator (D.ledger device)) },
+    ghost held: { AreOutstanding (items_of D.set_name sets.items) (state_of D.pool_name allocator (D.ledger device)) },
+}
+
+impl<L, P: Drop, S: Drop, D: DescriptorDevice<L, P, S>> Scene<L, P, S, D> {
+    /// A scene without sets.
+    pub fn new(alloc: Global, device: D) -> Self {
+        laws::books_alone();
+        Scene {
+            alloc,
+            device,
+            allocator: DescriptorAllocator::new(alloc, u32::MAX),
+            sets: Vec::new(alloc),
+            layouts: PhantomData,
+        }
+    }
+
+    /// Adds sets of a layout, all or none.
+    #[tactic(auto, using(gpu_descriptor::proofs::Holding::count_parts))]
+    pub fn add(&mut self, layout: &SetLayout<L>, count: u32) -> Result<(), AllocationError>
+        requires { IsMeant D.layout_counts D.layout_mark layout.now }
+    {
+        let mut sets = self.allocator.allocate(
+            &mut self.device,
+            &layout.layout,
+            layout.flags,
+            &layout.counts,
+            count,
+        )?;
+        if self.sets.append(&mut sets).is_err() {
+            self.allocator.free_all(&mut self.device, sets);
+            return Err(AllocationError::OutOfHostMemory);
+        }
+        Ok(())
+    }
+
+    /// Gives all sets back, and destroys the pools without sets.
+    pub fn clear(&mut self) {
+        let sets = mem::replace(&mut self.sets, Vec::new(self.alloc));
+        self.allocator.free_all(&mut self.device, sets);
+        self.allocator.cleanup(&mut self.device);
+    }
+}

@@ -1,0 +1,65 @@
+//! Sets of two layouts, taken and given back, over any device.
+ghost use Rattle.std.specs.Prelude.{◌≡◌};
+ghost use Rattle.gpu_descriptor.specs.Foreign.{KeepsForeign, LosesNone};
+ghost use Rattle.gpu_descriptor.specs.Promises.{KeepsOutstanding};
+ghost use Rattle.gpu_descriptor.specs.States.{Agrees, state_of};
+ghost use Rattle.descriptor_uses.specs.Layouts.{IsMeant};
+
+use crate::layout::SetLayout;
+use gpu_descriptor::{AllocationError, DescriptorAllocator, DescriptorDevice, laws};
+use std::alloc::Global;
+
+/// Makes an allocator, takes three sets of one layout and two of another, gives all back and cleans
+/// up. Whatever the device refuses, it is left with the pools that it had.
+pub fn draw_once<L, P: Drop, S: Drop, D: DescriptorDevice<L, P, S>>(
+    alloc: Global,
+    device: &mut D,
+    first: &SetLayout<L>,
+    second: &SetLayout<L>,
+) -> Result<(), AllocationError>
+    requires first { IsMeant D.layout_counts D.layout_mark first.now }
+    requires second { IsMeant D.layout_counts D.layout_mark second.now }
+    ensures pools { (D.ledger device.new).pools ≡ (D.ledger device.old).pools }
+{
+    laws::books_alone();
+    laws::no_pool_is_lost::<P>();
+    let mut allocator = DescriptorAllocator::new(alloc, u32::MAX);
+    let answer = borrow_sets(&mut allocator, device, first, second);
+    allocator.cleanup(device);
+    answer
+}
+
+/// Takes three sets of one layout and two of another, and gives them back, the last ones first.
+pub fn borrow_sets<L, P: Drop, S: Drop, D: DescriptorDevice<L, P, S>>(
+    allocator: &mut DescriptorAllocator<P, S>,
+    device: &mut D,
+    first: &SetLayout<L>,
+    second: &SetLayout<L>,
+) -> Result<(), AllocationError>
+    requires first { IsMeant D.layout_counts D.layout_mark first.now }
+    requires second { IsMeant D.layout_counts D.layout_mark second.now }
+    requires agree { Agrees D.pool_name allocator.old (D.ledger device.old) }
+    ensures agree { Agrees D.pool_name allocator.new (D.ledger device.new) }
+    ensures outstanding { KeepsOutstanding
+        (state_of D.pool_name allocator.old (D.ledger device.old))
+        (state_of D.pool_name allocator.new (D.ledger device.new)) }
+    ensures foreign { KeepsForeign
+        (state_of D.pool_name allocator.old (D.ledger device.old))
+        (state_of D.pool_name allocator.new (D.ledger device.new)) }
+    ensures accounted { LosesNone
+        (state_of D.pool_name allocator.old (D.ledger device.old))
+        (state_of D.pool_name allocator.new (D.ledger device.new)) }
+{
+    let three = allocator.allocate(device, &first.layout, first.flags, &first.counts, 3)?;
+    match allocator.allocate(device, &second.layout, second.flags, &second.counts, 2) {
+        Ok(two) => {
+            allocator.free_all(device, two);
+            allocator.free_all(device, three);
+            Ok(())
+        }
+        Err(error) => {
+            allocator.free_all(device, three);
+            Err(error)
+        }
+    }
+}
