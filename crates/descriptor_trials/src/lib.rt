@@ -12,6 +12,8 @@ mod commands;
 #[cfg(test)]
 mod memory;
 #[cfg(test)]
+mod order;
+#[cfg(test)]
 mod pair;
 #[cfg(test)]
 mod sets;

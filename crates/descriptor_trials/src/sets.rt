@@ -20,7 +20,7 @@ fn two_sets(alloc: Global) -> Result<Vec<DescriptorSet<RawSet>>, AllocationError
 }
 
 /// Compares the names of the sets.
-fn expect_names(rt: &impl Abort, sets: &[DescriptorSet<RawSet>], names: &[u64]) {
+pub fn expect_names(rt: &impl Abort, sets: &[DescriptorSet<RawSet>], names: &[u64]) {
     assert_eq!(rt; sets.len(), names.len());
     for (set, name) in sets.iter().zip(names) {
         assert_eq!(rt; set.raw().id(), *name);
