@@ -1,8 +1,7 @@
 //! Sets of two layouts, taken and given back, over any device.
 ghost use Rattle.std.specs.Prelude.{◌≡◌};
-ghost use Rattle.gpu_descriptor.specs.Foreign.{KeepsForeign, LosesNone};
-ghost use Rattle.gpu_descriptor.specs.Promises.{KeepsOutstanding};
-ghost use Rattle.gpu_descriptor.specs.States.{Agrees, state_of};
+ghost use Rattle.gpu_descriptor.specs.Foreign.{others_of};
+ghost use Rattle.gpu_descriptor.specs.States.{Agrees, outstanding_of};
 ghost use Rattle.descriptor_uses.specs.Layouts.{IsMeant};
 
 use crate::layout::SetLayout;
@@ -40,15 +39,9 @@ pub fn borrow_sets<L, P: Drop, S: Drop, D: DescriptorDevice<L, P, S>>(
     requires second { IsMeant D.layout_counts D.layout_mark second.now }
     requires agree { Agrees D.pool_name allocator.old (D.ledger device.old) }
     ensures agree { Agrees D.pool_name allocator.new (D.ledger device.new) }
-    ensures outstanding { KeepsOutstanding
-        (state_of D.pool_name allocator.old (D.ledger device.old))
-        (state_of D.pool_name allocator.new (D.ledger device.new)) }
-    ensures foreign { KeepsForeign
-        (state_of D.pool_name allocator.old (D.ledger device.old))
-        (state_of D.pool_name allocator.new (D.ledger device.new)) }
-    ensures accounted { LosesNone
-        (state_of D.pool_name allocator.old (D.ledger device.old))
-        (state_of D.pool_name allocator.new (D.ledger device.new)) }
+    ensures outstanding { outstanding_of allocator.new ≡ outstanding_of allocator.old }
+    ensures others { others_of D.pool_name allocator.new (D.ledger device.new)
+        ≡ others_of D.pool_name allocator.old (D.ledger device.old) }
 {
     let three = allocator.allocate(device, &first.layout, first.flags, &first.counts, 3)?;
     match allocator.allocate(device, &second.layout, second.flags, &second.counts, 2) {

@@ -1,13 +1,11 @@
 -- Which sets of a list are outstanding after a call: for callers that hold sets.
-use Rattle.std.proofs.Common.{◌≡◌, ℕ, ◌+◌, nat_lt, List, ◌++◌, inl, inr, refl, sym, ap, ◌∙◌, arith}
+use Rattle.std.proofs.Common.{◌≡◌, ℕ, ◌+◌, List, ◌++◌, sym, ap, ◌∙◌, arith}
 use Rattle.std.specs.List.Sorted.{IsPermutation}
-use Rattle.std.proofs.lemmas.Bool.{cases_Bool}
 use Rattle.std.proofs.lemmas.List.{map-append}
 use Rattle.std.proofs.lemmas.List.Sorted.{sum_by-IsPermutation, IsPermutation-map}
 use Rattle.gpu_descriptor_types.proofs.Counting.{count_by-append}
 use Rattle.gpu_descriptor.specs.declared.set.DescriptorSet.{DescriptorSet}
 use Rattle.gpu_descriptor.specs.Agreement.{State, Item, item_eq, Agree, AreOutstanding, count_of, outstanding}
-use Rattle.gpu_descriptor.specs.Books.{Key, no_pools}
 use Rattle.gpu_descriptor.specs.Promises.{AreOutBesides, KeepsOutstanding}
 use Rattle.gpu_descriptor.specs.Release.{released}
 use Rattle.gpu_descriptor.specs.Sets.{item_of, items_of}
@@ -30,13 +28,6 @@ all_back items s t v came went u = (let a = came u in let b = went u in omega ar
 -- what went back is outstanding no longer, and all else still is
 pub out_less : (items : List Item) (s t : State) → Agree s → AreOutstanding items s → t ≡ released items s → AreOutBesides items t s
 out_less items s t agree out is u = sym (takes items s agree out u) ∙ ap (λ (w : State). outstanding w u + count_of u items) (sym is)
-
--- of books without pools nothing is outstanding
-pub none_out : (s : State) → ((k : Key) → s.books k ≡ no_pools) → (t : Item) → outstanding s t ≡ 0
-none_out s empty t = elim (cases_Bool (nat_lt t.number 0)) [
-  | inl below ↦ rw (empty t.key) (rw below refl)
-  | inr from ↦ rw (empty t.key) (rw from refl)
-]
 
 -- ---- lists of sets
 

@@ -33,6 +33,7 @@ pub mod Open
 pub mod OtherKeys
 pub mod OneAgreement
 pub mod Others
+pub mod OthersStay
 pub mod OutSets
 pub mod Parts
 pub mod Places

@@ -16,10 +16,10 @@ use Rattle.gpu_descriptor.proofs.Tables.{first_books, none_behind}
 
 -- ---- nothing is left
 
-none_at : (n : ℕ) (e : Entry) → entry_at no_pools n ≡ Some e → ⊥
+pub none_at : (n : ℕ) (e : Entry) → entry_at no_pools n ≡ Some e → ⊥
 none_at n e at = (let found = entry_at-found no_pools n e at in let bad : ◌≡◌ {A = Option Entry} None (Some e) = found.1 in cc)
 
-no_keys : (s : State) → ((k : Key) → s.books k ≡ no_pools) → (name : ℕ) → IsForeign s name
+pub no_keys : (s : State) → ((k : Key) → s.books k ≡ no_pools) → (name : ℕ) → IsForeign s name
 no_keys s empty name k n e at same = none_at n e (ap (λ (b : Bucket). entry_at b n) (sym (empty k)) ∙ at)
 
 pub restores : CleanRestores
@@ -35,14 +35,14 @@ restores s t u began keeps loses agree nothing clean =
 
 -- ---- a pool is in the books, or not
 
-found_in : (es : List Entry) (name : ℕ) → list_any (λ e. e.pool == name) es ≡ true → (i : ℕ) × (e : Entry) × (slice_get es i ≡ Some e) × (e.pool ≡ name)
+pub found_in : (es : List Entry) (name : ℕ) → list_any (λ e. e.pool == name) es ≡ true → (i : ℕ) × (e : Entry) × (slice_get es i ≡ Some e) × (e.pool ≡ name)
 found_in [] name any = absurd (let bad : true ≡ false = sym any in cc)
 found_in (x ∷ es) name any = elim (or_cases (x.pool == name) (list_any (λ e. e.pool == name) es) any) [
   | inl here ↦ (0, x, refl, eqb-true x.pool name here)
   | inr later ↦ (let f = found_in es name later in (suc f.0, f.1, f.2, f.3))
 ]
 
-none_in : (es : List Entry) (name : ℕ) → list_any (λ e. e.pool == name) es ≡ false → (i : ℕ) (e : Entry) → slice_get es i ≡ Some e → e.pool ≢ name
+pub none_in : (es : List Entry) (name : ℕ) → list_any (λ e. e.pool == name) es ≡ false → (i : ℕ) (e : Entry) → slice_get es i ≡ Some e → e.pool ≢ name
 none_in [] name none i e at same = (let bad : ◌≡◌ {A = Option Entry} None (Some e) = at in cc)
 none_in (x ∷ es) name none zero e at same =
     let is : x ≡ e = cc in

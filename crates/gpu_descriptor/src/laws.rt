@@ -2,14 +2,14 @@
 //! device, and of the types, which their derives keep. The functions do nothing: their contracts are
 //! the laws.
 
-ghost use Rattle.std.specs.Prelude.{◌≡◌, ◌↔◌, ℕ, IsTrue};
+ghost use Rattle.std.specs.Prelude.{◌≡◌, ◌↔◌, ℕ, [], IsTrue};
 ghost use Rattle.gpu_descriptor_types.specs.Ledger.{Ledger};
 ghost use Rattle.gpu_descriptor.specs.Release.{ReleaseParts, ReleaseGone, ReleaseOrder, ReleaseEach, ReleaseSingly, ReleaseNone, ReleaseAgrees, ReleaseTakes};
 ghost use Rattle.gpu_descriptor.specs.OtherKeys.{ReleaseOthers};
 ghost use Rattle.gpu_descriptor.specs.Cleanup.{CleanAgain, CleanAgainNone, CleanAll, CleanAllGone, CleanOnce, CleanAgrees, CleanRestores, CleanTakesNone};
 ghost use Rattle.gpu_descriptor.specs.Agreement.{AgreesOnce, BookedIsListed, EmptyAgrees, Item, OwnAgrees, OwnOutstanding, item_eq};
 ghost use Rattle.gpu_descriptor.specs.Books.{HasDistinctKeys, Key, SumByBooks, key_eq};
-ghost use Rattle.gpu_descriptor.specs.Foreign.{LosesNoneInTurn, NamedOrForeign};
+ghost use Rattle.gpu_descriptor.specs.Foreign.{LosesNoneInTurn, NamedOrForeign, others_of};
 ghost use Rattle.gpu_descriptor.specs.Frees.{LoadIsDescriptors};
 ghost use Rattle.gpu_descriptor.specs.Load.{IsMarkedLoad, IsOut, IsPoolLoad, MarkedWithinPools, PoolLoadIsCounts, PoolLoadIsCreated, OutIsLength, OutIsSize};
 ghost use Rattle.gpu_descriptor.specs.States.{marked_load_of, outstanding_of, pool_load_of, state_of, table_of};
@@ -64,6 +64,10 @@ pub fn no_pool_is_lost<P>()
     ensures in_turn { LosesNoneInTurn }
     ensures restores { CleanRestores }
     ensures one_or_other { NamedOrForeign P }
+
+    // All pools are others' where the allocator has no keys.
+    ensures all_others { (name : P → ℕ) (a : Allocations P) (l : Ledger) → a.table ≡ []
+        → others_of name a l ≡ l.pools }
 {}
 
 /// An allocator without keys agrees with every ledger, and sums over all keys depend on the books

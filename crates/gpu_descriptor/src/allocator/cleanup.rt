@@ -3,7 +3,7 @@ ghost use Rattle.std.specs.Prelude.{◌≡◌, ◌+◌, ◌<◌, ◌≤◌, ◌^
 ghost use Rattle.gpu_descriptor.specs.Books.{HasDistinctKeys, Key};
 ghost use Rattle.gpu_descriptor.specs.Buckets.{AreBookedIn, has_pools, cleared_bucket, cleared_ledger, more_destroyed};
 ghost use Rattle.gpu_descriptor.specs.Cleanup.{IsCleaned, pools_cleaned};
-ghost use Rattle.gpu_descriptor.specs.Foreign.{KeepsForeign, LosesNone};
+ghost use Rattle.gpu_descriptor.specs.Foreign.{KeepsForeign, LosesNone, others_of};
 ghost use Rattle.gpu_descriptor.specs.Keys.{keys_with_pools};
 ghost use Rattle.gpu_descriptor.specs.Promises.{KeepsOutstanding};
 ghost use Rattle.gpu_descriptor.specs.Sets.{key_of};
@@ -51,6 +51,10 @@ impl<P: Drop, S> DescriptorAllocator<P, S> {
             (state_of D.pool_name self.new (D.ledger device.new)) }
         ensures accounted { LosesNone (state_of D.pool_name self.old (D.ledger device.old))
             (state_of D.pool_name self.new (D.ledger device.new)) }
+        ensures others { others_of D.pool_name self.new (D.ledger device.new)
+            ≡ others_of D.pool_name self.old (D.ledger device.old) }
+        ensures emptied { outstanding_of self.old ≡ 0 → (D.ledger device.new).pools
+            ≡ others_of D.pool_name self.old (D.ledger device.old) }
         ensures limit { self.new.limit ≡ self.old.limit }
         ensures counts_stay { (self.new.looks ≡ self.old.looks) × (self.new.comparisons ≡ self.old.comparisons) }
     {

@@ -5,7 +5,7 @@ ghost use Rattle.gpu_descriptor.specs.Agreement.{AreOutstanding};
 ghost use Rattle.gpu_descriptor.specs.Books.{HasDistinctKeys};
 ghost use Rattle.gpu_descriptor.specs.Comparisons.{open_pools, run_digits};
 ghost use Rattle.gpu_descriptor.specs.Digits.{binary_digits};
-ghost use Rattle.gpu_descriptor.specs.Foreign.{KeepsForeign, LosesNone};
+ghost use Rattle.gpu_descriptor.specs.Foreign.{KeepsForeign, LosesNone, others_of};
 ghost use Rattle.gpu_descriptor.specs.Frees.{Frees, FreesRun, GivesBack};
 ghost use Rattle.gpu_descriptor.specs.Runs.{runs};
 ghost use Rattle.gpu_descriptor.specs.Sets.{items_of, key_of};
@@ -40,6 +40,8 @@ impl<P, S> DescriptorAllocator<P, S> {
             (state_of D.pool_name self.new (D.ledger device.new)) }
         ensures accounted { LosesNone (state_of D.pool_name self.old (D.ledger device.old))
             (state_of D.pool_name self.new (D.ledger device.new)) }
+        ensures others { others_of D.pool_name self.new (D.ledger device.new)
+            ≡ others_of D.pool_name self.old (D.ledger device.old) }
         ensures load { marked_load_of self.new ≤ self.new.limit }
         ensures pool_load { pool_load_of self.new ≤ self.new.limit }
         ensures limit { self.new.limit ≡ self.old.limit }
@@ -75,6 +77,8 @@ impl<P, S> DescriptorAllocator<P, S> {
             (state_of D.pool_name self.new (D.ledger device.new)) }
         ensures accounted { LosesNone (state_of D.pool_name self.old (D.ledger device.old))
             (state_of D.pool_name self.new (D.ledger device.new)) }
+        ensures others { others_of D.pool_name self.new (D.ledger device.new)
+            ≡ others_of D.pool_name self.old (D.ledger device.old) }
         ensures load { marked_load_of self.new ≤ self.new.limit }
         ensures pool_load { pool_load_of self.new ≤ self.new.limit }
         ensures limit { self.new.limit ≡ self.old.limit }
@@ -156,6 +160,8 @@ impl<P, S: Drop> DescriptorAllocator<P, S> {
             (state_of D.pool_name self.new (D.ledger device.new)) }
         ensures accounted { LosesNone (state_of D.pool_name self.old (D.ledger device.old))
             (state_of D.pool_name self.new (D.ledger device.new)) }
+        ensures others { others_of D.pool_name self.new (D.ledger device.new)
+            ≡ others_of D.pool_name self.old (D.ledger device.old) }
         ensures load { marked_load_of self.new ≤ self.new.limit }
         ensures pool_load { pool_load_of self.new ≤ self.new.limit }
         ensures limit { self.new.limit ≡ self.old.limit }

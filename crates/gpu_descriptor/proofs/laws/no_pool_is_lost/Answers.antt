@@ -1,6 +1,10 @@
 use Rattle.gpu_descriptor.proofs.Foreign.{loses_through}
+use Rattle.std.proofs.Common.{map, ap}
+use Rattle.gpu_descriptor.specs.Books.{books_of}
+use Rattle.gpu_descriptor.specs.States.{named_row}
+use Rattle.gpu_descriptor.proofs.OthersStay.{all_others}
 use Rattle.gpu_descriptor.proofs.Lost.{named_or_foreign, restores}
 use Rattle.gpu_descriptor.proofs.laws.no_pool_is_lost.Goals as goal
 
 pub returns : goal.returns
-returns g c = record { in_turn = loses_through; restores = restores; one_or_other = named_or_foreign g.row.P.Denot }
+returns g c = record { in_turn = loses_through; restores = restores; one_or_other = named_or_foreign g.row.P.Denot; all_others = λ name a l empty. all_others name a l (λ k. ap (λ rows. books_of (map (named_row name) rows) k) empty) }

@@ -15,6 +15,7 @@ use Rattle.gpu_descriptor.specs.States.{state_of, keys_of, marked_load_of}
 use Rattle.gpu_descriptor.specs.OtherKeys.{KeepsOtherKeys}
 use Rattle.gpu_descriptor.specs.Promises.{AreOfKey}
 use Rattle.gpu_descriptor.specs.Values.{Allocations}
+use Rattle.gpu_descriptor.proofs.OthersStay.{others_stay}
 use Rattle.gpu_descriptor.proofs.Allocating.{taken_agree, taken_given, taken_out, taken_own, taken_others, taken_leaves, taken_loses_none, went_back, back_out, back_leaves, back_loses_none, back_others, back_totals, kept, kept_many, kept_totals}
 use Rattle.gpu_descriptor.proofs.Foreign.{foreign_same, loses_same}
 use Rattle.gpu_descriptor.proofs.Promises.{has_cause, short}
@@ -144,6 +145,21 @@ returns-in-Ok-taken-clause-foreign g c =
 pub returns-in-Ok-taken-clause-accounted : goal.returns-in-Ok-taken-clause-accounted
 returns-in-Ok-taken-clause-accounted g c =
     taken_loses_none g.D.DescriptorDevice.pool_name g.D.DescriptorDevice.set_name _ _ _ _ _ _ _ _ c.in-Ok.ensures.taken c.requires.agree
+
+pub returns-in-Err-taken-clause-others : goal.returns-in-Err-taken-clause-others
+returns-in-Err-taken-clause-others g c =
+    let name = g.D.DescriptorDevice.pool_name in
+    let set_name = g.D.DescriptorDevice.set_name in
+    let m : Ledger = g.D.DescriptorDevice.ledger c.request.new.device in
+    let n : Ledger = g.D.DescriptorDevice.ledger c.free_all.new.device in
+    let back : GivesBack name set_name c.in-Ok.given.0.items (runs (items_of set_name c.in-Ok.given.0.items)) c.request.new.self c.free_all.new.self m n = c.free_all.ensures.gives_back in
+    others_stay name c.args.self.now c.free_all.new.self (g.D.DescriptorDevice.ledger c.args.device.now) n (back_leaves name set_name _ _ _ _ _ _ _ _ c.in-Ok.ensures.taken c.requires.agree c.free_all.new.self n _ back) (back_loses_none name set_name _ _ _ _ _ _ _ _ c.in-Ok.ensures.taken c.requires.agree c.free_all.new.self n _ back)
+
+pub returns-in-Ok-taken-clause-others : goal.returns-in-Ok-taken-clause-others
+returns-in-Ok-taken-clause-others g c =
+    let name = g.D.DescriptorDevice.pool_name in
+    let set_name = g.D.DescriptorDevice.set_name in
+    others_stay name c.args.self.now c.request.new.self (g.D.DescriptorDevice.ledger c.args.device.now) (g.D.DescriptorDevice.ledger c.request.new.device) (taken_leaves name set_name _ _ _ _ _ _ _ _ c.in-Ok.ensures.taken c.requires.agree) (taken_loses_none name set_name _ _ _ _ _ _ _ _ c.in-Ok.ensures.taken c.requires.agree)
 
 pub returns-in-Err-taken-clause-totals_stay : goal.returns-in-Err-taken-clause-totals_stay
 returns-in-Err-taken-clause-totals_stay g c =

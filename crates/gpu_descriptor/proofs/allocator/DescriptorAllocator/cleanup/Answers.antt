@@ -14,6 +14,7 @@ use Rattle.gpu_descriptor.proofs.Loads.{rows_out, rows_load, rows_pool_load}
 use Rattle.gpu_descriptor.proofs.KeysKept.{keys_cleaned}
 use Rattle.gpu_descriptor.proofs.Requested.{keys_apart}
 use Rattle.gpu_descriptor.proofs.RowsCleaned.{next, next_stored, step_rows, step_less, agree_is, ledger_less, cleared, whole_clean, whole_count, pools_put, counted_put, counted_filter}
+use Rattle.gpu_descriptor.proofs.OthersStay.{emptied, others_stay}
 use Rattle.gpu_descriptor.proofs.TableBooks.{rows_are, rows_in, distinct_keys}
 use Rattle.gpu_descriptor.proofs.allocator.DescriptorAllocator.cleanup.Goals as goal
 
@@ -76,7 +77,7 @@ returns g c =
     let kept = filter-RetainsPairs _ (λ e. has_pools e.1) _ (λ k v b w f call. search rules) _ _ c.retain.ensures.filtered in
     let le : length es ≤ c.loop-place.place = omega arith in
     let counted = counted_filter _ _ _ _ _ _ kept h.counted in
-    let now : Allocations _ = record { limit = c.loop-place.self-inside.max_update_after_bind_descriptors_in_all_pools; table = map row_of c.retain.new.self.entries; looks = 0; comparisons = 0 } in
+    let now : Allocations _ = record { limit = c.loop-place.self-inside.max_update_after_bind_descriptors_in_all_pools; table = map row_of c.retain.new.self.entries; looks = c.loop-place.self-inside.looks.count; comparisons = c.loop-place.self-inside.comparisons.count } in
     let clean = whole_clean name c.args.self.now (ledger c.args.device.now) (ledger c.loop-place.device) es c.loop-place.self-inside.buckets.entries _ c.loop-place.place c.loop-place.self-inside.max_update_after_bind_descriptors_in_all_pools was distinct le h.rows h.ledger kept in
     record {
       cleaned = clean;
@@ -94,6 +95,8 @@ returns g c =
       agree = clean_agrees _ _ c.requires clean;
       foreign = cleaned_foreign _ _ clean;
       accounted = cleaned_loses _ _ clean;
+      others = others_stay name c.args.self.now now (ledger c.args.device.now) (ledger c.loop-place.device) (cleaned_foreign _ _ clean) (cleaned_loses _ _ clean);
+      emptied = emptied name c.args.self.now now (ledger c.args.device.now) (ledger c.loop-place.device) (subst HasDistinctKeys (sym (ap (map (named_row name)) was ∙ rows_are name es)) distinct) c.requires clean;
       limit = h.limit ∙ ap (λ (a : Allocations _). a.limit) c.self.view_is;
       counts_stay = (h.looks ∙ ap (λ (a : Allocations _). a.looks) c.self.view_is, h.comparisons ∙ ap (λ (a : Allocations _). a.comparisons) c.self.view_is);
     }

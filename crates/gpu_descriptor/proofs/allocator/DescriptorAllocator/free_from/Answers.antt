@@ -1,5 +1,6 @@
 use Rattle.std.proofs.Common.{◌≡◌, arith, rules, sym, ap, ◌∙◌, Some}
 use Rattle.gpu_descriptor.specs.Values.{Allocations}
+use Rattle.gpu_descriptor.proofs.OthersStay.{others_stay}
 use Rattle.gpu_descriptor.proofs.Foreign.{freed_foreign, freed_loses}
 use Rattle.gpu_descriptor.proofs.Requested.{keys_apart, pool_load_of_rows}
 use Rattle.gpu_descriptor.proofs.Freed.{Freed, freed_none, call_out, freed_more, freed_compared, less}
@@ -44,6 +45,14 @@ pub returns-clause-accounted : goal.returns-clause-accounted
 returns-clause-accounted g c =
     let r = c.loop-ahead.invariant.freed in
     freed_loses g.D.DescriptorDevice.pool_name g.D.DescriptorDevice.set_name r.sets _ c.args.self.now c.loop-ahead.self (g.D.DescriptorDevice.ledger c.args.device.now) (g.D.DescriptorDevice.ledger c.loop-ahead.device) r.back
+
+pub returns-clause-others : goal.returns-clause-others
+returns-clause-others g c =
+    let r = c.loop-ahead.invariant.freed in
+    let name = g.D.DescriptorDevice.pool_name in
+    let before = g.D.DescriptorDevice.ledger c.args.device.now in
+    let after = g.D.DescriptorDevice.ledger c.loop-ahead.device in
+    others_stay name c.args.self.now c.loop-ahead.self before after (freed_foreign name g.D.DescriptorDevice.set_name r.sets _ c.args.self.now c.loop-ahead.self before after r.back) (freed_loses name g.D.DescriptorDevice.set_name r.sets _ c.args.self.now c.loop-ahead.self before after r.back)
 
 pub returns-clause-rows : goal.returns-clause-rows
 returns-clause-rows g c =
