@@ -98,9 +98,10 @@ pub returns-in-Err-clause-listed : goal.returns-in-Err-clause-listed
 returns-in-Err-clause-listed g c =
     let inv = c.loop-wanting.invariant in
     let last = c.in-Some.ensures.last in
-    let at = looked_at c.requires.booked inv.walk c.loop-wanting-test.true _ _ last _ c.look-pool.ensures.value in
-    (listed_now_same c.requires.booked inv.walk c.loop-wanting-test.true _ _ last _ at c.ask.new.pool c.in-Err.ensures.err.1,
-     (let a = inv.space in let b = length-set c.loop-wanting.view.pools.now.items (c.in-Some.number - c.loop-wanting.view.offset) c.ask.new.pool in omega arith))
+    let at = looked_at c.requires.booked inv.walk c.loop-wanting-test.true _ _ last _ c.look-pool.ensures.value in (
+      listed_now_same c.requires.booked inv.walk c.loop-wanting-test.true _ _ last _ at c.ask.new.pool c.in-Err.ensures.err.1,
+      (let a = inv.space in let b = length-set c.loop-wanting.view.pools.now.items (c.in-Some.number - c.loop-wanting.view.offset) c.ask.new.pool in omega arith),
+    )
 
 pub loop-wanting-preserved : goal.loop-wanting-preserved
 loop-wanting-preserved g c =
