@@ -8,7 +8,6 @@ ghost use Rattle.gpu_descriptor.specs.States.{Agrees, state_of};
 use gpu_descriptor::{DescriptorAllocator, DescriptorDevice, DescriptorSet};
 
 /// Gives two batches back. All their sets together are out; none of them is afterwards.
-#[tactic(auto, using(gpu_descriptor::proofs::Holding::count_parts))]
 pub fn free_both<L, P, S: Drop, D: DescriptorDevice<L, P, S>>(
     allocator: &mut DescriptorAllocator<P, S>,
     device: &mut D,

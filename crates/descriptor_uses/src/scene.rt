@@ -38,7 +38,6 @@ impl<L, P: Drop, S: Drop, D: DescriptorDevice<L, P, S>> Scene<L, P, S, D> {
     }
 
     /// Adds sets of a layout, all or none.
-    #[tactic(auto, using(gpu_descriptor::proofs::Holding::count_parts))]
     pub fn add(&mut self, layout: &SetLayout<L>, count: u32) -> Result<(), AllocationError>
         requires { IsMeant D.layout_counts D.layout_mark layout.now }
     {
