@@ -72,29 +72,15 @@ fn replies_in_order(rt: HostRuntime) -> Result<(), Fail> {
 }
 
 #[test]
-fn memory_is_found_for_many_new_pools(rt: HostRuntime) -> Result<(), Fail> {
-    // A pool of either layout holds one set.
-    let layouts = [layout_of(u32::MAX, false), layout_of(u32::MAX - 1, false)];
+fn memory_is_found_where_pools_are_many(rt: HostRuntime) -> Result<(), Fail> {
+    // A pool of the first layout holds one set.
+    let layouts = [layout_of(u32::MAX, false), layout_of(1, false)];
     let acts = [
         Allocate(0, 5, sets(0, 5)),
         Allocate(0, 1, sets(5, 1)),
-        Allocate(1, 6, sets(6, 6)),
-    ];
-    play_new(&rt, rt.alloc(), 0, layouts, &[], &acts)
-}
-
-#[test]
-fn memory_is_found_where_pools_stand(rt: HostRuntime) -> Result<(), Fail> {
-    let layouts = [layout_of(u32::MAX, false), layout_of(1, false)];
-    let acts = [
-        Allocate(0, 1, sets(0, 1)),
-        Allocate(0, 1, sets(1, 1)),
-        Allocate(0, 1, sets(2, 1)),
-        Allocate(0, 1, sets(3, 1)),
-        Allocate(0, 1, sets(4, 1)),
-        Allocate(0, 1, sets(5, 1)),
         Allocate(1, 64, sets(6, 64)),
-        Allocate(1, 65, sets(70, 65)),
+        Allocate(1, 1, sets(70, 1)),
+        Allocate(1, 63, sets(71, 63)),
     ];
     play_new(&rt, rt.alloc(), 0, layouts, &[], &acts)
 }
