@@ -1,9 +1,9 @@
 //! Sets and pools as they are to be used: each while it is out, and each goes back once.
-ghost use Rattle.std.specs.Prelude.{◌≡◌};
+ghost use Rattle.std.specs.Prelude.{◌≡◌, ◌+◌, IfOk, OnOk};
 ghost use Rattle.gpu_descriptor.specs.LayoutFlags.{is_marked};
 ghost use Rattle.gpu_descriptor.specs.States.{Agrees};
 ghost use Rattle.descriptor_script.specs.Raw.{pool_id};
-ghost use Rattle.descriptor_uses.specs.Logged.{ledger_logged};
+ghost use Rattle.descriptor_uses.specs.Logged.{ledger_logged, next_pool};
 
 use crate::log_device::LogDevice;
 use bitflags::Flags;
@@ -68,7 +68,9 @@ pub fn borrow_pool(
     device: &mut LogDevice,
     counts: &DescriptorTotalCount,
 ) -> Result<u64, CreatePoolError>
-    ensures { (ledger_logged device.new).pools ≡ (ledger_logged device.old).pools }
+    ensures pools { (ledger_logged device.new).pools ≡ (ledger_logged device.old).pools }
+    ensures name { IfOk result (λ name. name ≡ next_pool device.old) }
+    ensures next { OnOk result (next_pool device.new ≡ next_pool device.old + 1) }
 {
     let flags = DescriptorPoolCreateFlags::empty();
     match device.create_descriptor_pool(counts, 1, flags) {
