@@ -2,7 +2,7 @@
 ghost use Rattle.std.specs.Prelude.{◌≡◌, ◌+◌, ◌≤◌, length, IfOk, IfErr, OnOk, OnErr};
 ghost use Rattle.gpu_descriptor_types.specs.Counts.{kinds};
 ghost use Rattle.gpu_descriptor.specs.Books.{HasDistinctKeys};
-ghost use Rattle.gpu_descriptor.specs.Foreign.{KeepsForeign, LosesNone};
+ghost use Rattle.gpu_descriptor.specs.Foreign.{KeepsForeign, LosesNone, others_of};
 ghost use Rattle.gpu_descriptor.specs.Keys.{StayOrGainLast};
 ghost use Rattle.gpu_descriptor.specs.LayoutFlags.{is_marked};
 ghost use Rattle.gpu_descriptor.specs.Load.{marked_load};
@@ -91,6 +91,8 @@ impl<P: Drop, S: Drop> FrameManager<P, S> {
             (state_in D.pool_name self.new (D.ledger device.new)) }
         ensures accounted { LosesNone (state_in D.pool_name self.old (D.ledger device.old))
             (state_in D.pool_name self.new (D.ledger device.new)) }
+        ensures others { others_of D.pool_name (allocator_of self.new) (D.ledger device.new)
+            ≡ others_of D.pool_name (allocator_of self.old) (D.ledger device.old) }
         ensures keys { StayOrGainLast (layout_key D.layout_counts D.layout_mark layout.now)
             (keys_of (allocator_of self.old)) (keys_of (allocator_of self.new)) }
         ensures rows { HasDistinctKeys (table_of D.pool_name (allocator_of self.new)) }

@@ -3,7 +3,7 @@ ghost use Rattle.std.specs.Prelude.{◌≡◌, ◌≤◌};
 ghost use Rattle.gpu_descriptor.specs.Books.{HasDistinctKeys};
 ghost use Rattle.gpu_descriptor.specs.Buckets.{more_destroyed};
 ghost use Rattle.gpu_descriptor.specs.Cleanup.{IsCleaned, pools_cleaned};
-ghost use Rattle.gpu_descriptor.specs.Foreign.{KeepsForeign, LosesNone};
+ghost use Rattle.gpu_descriptor.specs.Foreign.{KeepsForeign, LosesNone, others_of};
 ghost use Rattle.gpu_descriptor.specs.Keys.{keys_with_pools};
 ghost use Rattle.gpu_descriptor.specs.Promises.{KeepsOutstanding};
 ghost use Rattle.gpu_descriptor.specs.States.{Agrees, keys_of, marked_load_of, outstanding_of, pool_load_of, table_of};
@@ -50,6 +50,10 @@ impl<P: Drop, S> FrameManager<P, S> {
             (state_in D.pool_name self.new (D.ledger device.new)) }
         ensures accounted { LosesNone (state_in D.pool_name self.old (D.ledger device.old))
             (state_in D.pool_name self.new (D.ledger device.new)) }
+        ensures others { others_of D.pool_name (allocator_of self.new) (D.ledger device.new)
+            ≡ others_of D.pool_name (allocator_of self.old) (D.ledger device.old) }
+        ensures emptied { outstanding_of (allocator_of self.old) ≡ 0 → (D.ledger device.new).pools
+            ≡ others_of D.pool_name (allocator_of self.old) (D.ledger device.old) }
         ensures limit { (allocator_of self.new).limit ≡ (allocator_of self.old).limit }
         ensures counts_stay { ((allocator_of self.new).looks ≡ (allocator_of self.old).looks)
             × ((allocator_of self.new).comparisons ≡ (allocator_of self.old).comparisons) }

@@ -2,7 +2,7 @@
 ghost use Rattle.std.specs.Prelude.{◌≡◌, ◌+◌, ◌≤◌, []};
 ghost use Rattle.gpu_descriptor.specs.Books.{HasDistinctKeys};
 ghost use Rattle.gpu_descriptor.specs.Comparisons.{run_digits};
-ghost use Rattle.gpu_descriptor.specs.Foreign.{KeepsForeign, LosesNone};
+ghost use Rattle.gpu_descriptor.specs.Foreign.{KeepsForeign, LosesNone, others_of};
 ghost use Rattle.gpu_descriptor.specs.Frees.{GivesBack};
 ghost use Rattle.gpu_descriptor.specs.Promises.{AreOutBesides};
 ghost use Rattle.gpu_descriptor.specs.Runs.{runs};
@@ -50,6 +50,8 @@ impl<P, S> FrameManager<P, S> {
             (state_in D.pool_name self.new (D.ledger device.new)) }
         ensures accounted { LosesNone (state_in D.pool_name self.old (D.ledger device.old))
             (state_in D.pool_name self.new (D.ledger device.new)) }
+        ensures others { others_of D.pool_name (allocator_of self.new) (D.ledger device.new)
+            ≡ others_of D.pool_name (allocator_of self.old) (D.ledger device.old) }
         ensures load { marked_load_of (allocator_of self.new) ≤ (allocator_of self.new).limit }
         ensures pool_load { pool_load_of (allocator_of self.new) ≤ (allocator_of self.new).limit }
         ensures limit { (allocator_of self.new).limit ≡ (allocator_of self.old).limit }
