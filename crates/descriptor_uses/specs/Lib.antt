@@ -1,3 +1,4 @@
+pub mod FewPools
 pub mod Layouts
 pub mod Log
 pub mod Logged

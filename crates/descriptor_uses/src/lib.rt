@@ -2,6 +2,8 @@
 #![tactic(auto)]
 
 pub mod batches;
+pub mod drawing;
+pub mod few_pools;
 pub mod frame_renderer;
 mod layout;
 mod log;

@@ -1,0 +1,95 @@
+//! A device around the scripted one: it also refuses on its own.
+ghost use Rattle.std.specs.Prelude.{◌≡◌, ◌≤◌, OnOk, IfErr};
+ghost use Rattle.gpu_descriptor_types.specs.Counts.{kinds};
+ghost use Rattle.gpu_descriptor_types.specs.Layouts.{layout, left};
+ghost use Rattle.gpu_descriptor_types.specs.Ledger.{HasRoom, Puts, PutsNone};
+ghost use Rattle.descriptor_script.specs.Device.{empty_ledger, ledger_of};
+ghost use Rattle.descriptor_script.specs.Raw.{pool_id, set_id};
+
+use descriptor_script::{RawPool, RawSet, ScriptLayout, ScriptedDevice};
+use gpu_descriptor::{
+    CreatePoolError, DescriptorDevice, DescriptorPoolCreateFlags, DescriptorTotalCount,
+    DeviceAllocationError, Layouts, SetSink,
+};
+use std::alloc::Global;
+
+/// A device that creates only so many pools.
+#[derive(Drop)]
+pub struct FewPools {
+    device: ScriptedDevice,
+    pools_left: u32,
+}
+
+impl FewPools {
+    ghost use Rattle.descriptor_uses.specs.FewPools.{few_ledger};
+
+    /// A device without pools, which creates at most so many.
+    pub fn new(alloc: Global, pools_left: u32) -> Self
+        ensures ledger { few_ledger result ≡ empty_ledger }
+    {
+        FewPools {
+            device: ScriptedDevice::new(alloc, Vec::new(alloc)),
+            pools_left,
+        }
+    }
+}
+
+impl DescriptorDevice<ScriptLayout, RawPool, RawSet> for FewPools {
+    ghost use Rattle.descriptor_script.specs.Finite.{scripted_finite};
+    ghost use Rattle.descriptor_uses.specs.FewPools.{few_ledger};
+
+    ghost pool_name = { pool_id };
+
+    ghost set_name = { set_id };
+
+    ghost layout_counts = { λ l. kinds l.counts };
+
+    ghost layout_mark = { λ l. l.mark };
+
+    ghost ledger = { few_ledger };
+
+    ghost finite = { λ d. scripted_finite d.device };
+
+    fn create_descriptor_pool(
+        &mut self,
+        counts: &DescriptorTotalCount,
+        max_sets: u32,
+        flags: DescriptorPoolCreateFlags,
+    ) -> Result<RawPool, CreatePoolError> {
+        if self.pools_left == 0 {
+            let error = CreatePoolError::OutOfDeviceMemory;
+            self.device.refuse_create(error);
+            return Err(error);
+        }
+        let pool = self.device.create_descriptor_pool(counts, max_sets, flags)?;
+        self.pools_left -= 1;
+        Ok(pool)
+    }
+
+    fn destroy_descriptor_pool(&mut self, pool: RawPool) {
+        self.device.destroy_descriptor_pool(pool);
+    }
+
+    fn alloc_descriptor_sets<K: SetSink<RawSet>>(
+        &mut self,
+        pool: &mut RawPool,
+        layouts: Layouts<'_, ScriptLayout>,
+        sets: &mut K,
+    ) -> Result<(), DeviceAllocationError>
+        requires fits { HasRoom (pool_id pool.old) (left layouts) (kinds (layout layouts).counts) (layout layouts).mark (few_ledger self.old) }
+        requires room { left layouts ≤ K.room_left sets.old }
+        ensures name { pool_id pool.new ≡ pool_id pool.old }
+        ensures ok { OnOk result (Puts (record { kept = K.kept; kept_as = K.kept_as; room_left = K.room_left }) set_id (pool_id pool.old) (left layouts.entry) (kinds (layout layouts.entry).counts) sets.old sets.new (few_ledger self.old) (few_ledger self.new)) }
+        ensures err { IfErr result (λ e. PutsNone (record { kept = K.kept; kept_as = K.kept_as; room_left = K.room_left }) (pool_id pool.old) e sets.old sets.new (few_ledger self.old) (few_ledger self.new)) }
+    {
+        self.device.alloc_descriptor_sets(pool, layouts, sets)
+    }
+
+    fn dealloc_descriptor_sets<I: Iterator<Item = RawSet>>(
+        &mut self,
+        pool: &mut RawPool,
+        sets: &mut I,
+    ) {
+        self.device.dealloc_descriptor_sets(pool, sets);
+    }
+}
