@@ -9,7 +9,7 @@ mod fault;
 mod input;
 mod layouts;
 mod program;
-pub mod text;
+mod text;
 
 pub use exit::Exit;
 pub use program::run_lines;

@@ -1,8 +1,9 @@
 //! The program: lines in, answers out.
-ghost use Rattle.std.specs.Prelude.{◌≡◌, ◌≢◌, ◌||◌, not, IsFalse, OnOk, OnErr};
+ghost use Rattle.std.specs.Prelude.{◌≡◌, ◌≢◌, ◌||◌, not, IsTrue, IsFalse, IfErr, OnOk, OnErr, string_bytes};
 ghost use Rattle.std.specs.Io.KnownBytes.{IsAtEnd, Keeps};
+ghost use Rattle.descriptor_lines.specs.Fault.{IfFault};
 ghost use Rattle.descriptor_lines.specs.Outcomes.{EndsInFault};
-ghost use Rattle.descriptor_lines.specs.Programs.{CanRun, DoesLine, IsUnchanged};
+ghost use Rattle.descriptor_lines.specs.Programs.{CanRun, DoesLine, IsUnchanged, begun};
 ghost use Rattle.descriptor_lines.specs.Words.{words, is_silent};
 
 mod output;
@@ -58,6 +59,8 @@ impl Program {
         ensures does { OnOk result (DoesLine (words line.now) self.old self.new) }
         ensures err { OnErr result (IsUnchanged self.old self.new) }
         ensures begun { self.new.has_begun ≡ (self.old.has_begun || not (is_silent (words line.now))) }
+        ensures faulty { IfErr result (λ reason. IfFault reason (λ _. self.new ≡ begun self.old)) }
+        ensures quiet { IsTrue (is_silent (words line.now)) → string_bytes answer.new ≡ string_bytes answer.old }
     {
         match Command::parse(self.alloc, line, &self.layouts, self.has_begun) {
             Ok(None) => Ok(()),

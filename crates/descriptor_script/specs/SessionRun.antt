@@ -5,7 +5,7 @@ use Rattle.gpu_descriptor.specs.Books.{HasDistinctKeys}
 use Rattle.gpu_descriptor.specs.Foreign.{KeepsForeign, LosesNone}
 use Rattle.gpu_descriptor.specs.States.{Agrees, marked_load_of, pool_load_of, outstanding_of, state_of, table_of}
 use Rattle.descriptor_script.specs.Session.{AreAllHeld, allocator_of, layouts_of, sets_of}
-use Rattle.descriptor_script.specs.Steps.{StepsTo}
+use Rattle.descriptor_script.specs.Steps.{Cleans, StepsTo}
 use Rattle.descriptor_script.specs.Tickets.{held_sets}
 use Rattle.descriptor_script.specs.declared.command.Command.{Command}
 use Rattle.descriptor_script.specs.declared.command.Reply.{Reply}
@@ -43,6 +43,11 @@ module _ {L P S : Type 0} (pool_name : P → ℕ) (set_name : S → ℕ) (counts
   RunsTo (command ∷ commands) [] old new before after = ⊥
   RunsTo (command ∷ commands) (reply ∷ replies) old new before after =
       (next : Session L P S) × (between : Ledger) × IsStep command reply old next before between × RunsTo commands replies next new between after
+
+  -- the commands were run, and then the session cleaned up
+  abbrev pub VisitsTo : List Command → List Reply → Session L P S → Session L P S → Ledger → Ledger → Type 0
+  VisitsTo commands replies old new before after =
+      (used : Session L P S) × (between : Ledger) × RunsTo commands replies old used before between × Cleans pool_name used new between after
 
   -- there are states between the commands, from the first to the last: each comes of the one before it by a step, as the reply says, and at each the promise is kept
   abbrev pub RunsKeeping : (Step L P S → Type 0) → List Command → List Reply → Session L P S → Session L P S → Ledger → Ledger → Type 0

@@ -56,6 +56,8 @@ impl<P: Drop, S: Drop> FrameManager<P, S> {
         ensures in_use_stay { OnErr result (KeepsInUse D.pool_name D.set_name self.old self.new
             (D.ledger device.old) (D.ledger device.new)) }
 
+        ensures nothing { count ≡ 0 → (allocator_of self.new ≡ allocator_of self.old)
+            × (D.ledger device.new ≡ D.ledger device.old) }
         ensures many { IfOk result (λ sets. length sets.items ≡ count) }
         ensures given { IfOk result (λ sets. AreOutBesides (items_of D.set_name sets.items)
             (state_in D.pool_name self.old (D.ledger device.old))

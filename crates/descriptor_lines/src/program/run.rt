@@ -1,12 +1,12 @@
 //! The commands, run.
-ghost use Rattle.std.specs.Prelude.{◌≡◌, ◌<◌, ◌++◌, ◌∷◌, [], None, IsTrue, OnOk, OnErr, sum, string_bytes};
+ghost use Rattle.std.specs.Prelude.{◌≡◌, ◌<◌, ◌++◌, ◌∷◌, [], None, IsTrue, OnOk, OnErr, length, sum, string_bytes};
 ghost use Rattle.gpu_descriptor_types.specs.Counts.{kinds};
 ghost use Rattle.gpu_descriptor.specs.LayoutFlags.{is_marked};
 ghost use Rattle.descriptor_script.specs.declared.command.Command.TheVariants.{Allocate};
-ghost use Rattle.descriptor_lines.specs.Answers.{layout_answer as layout_answer_of, AnswersSize};
+ghost use Rattle.descriptor_lines.specs.Answers.{layout_answer as layout_answer_of, limit_answer as limit_answer_of, script_answer as script_answer_of, AnswersSize};
 ghost use Rattle.descriptor_lines.specs.Commands.{IsKnown, IsRunnable};
 ghost use Rattle.descriptor_lines.specs.LayoutTable.{layout_count, layout_named};
-ghost use Rattle.descriptor_lines.specs.Programs.{AddsLayout, Begins, CanRun, Does, DoesCommand, IsUnchanged, Loads};
+ghost use Rattle.descriptor_lines.specs.Programs.{AddsLayout, Begins, CanRun, Does, DoesCommand, IsUnchanged, KeepsDevice, Loads};
 
 use super::Program;
 use crate::answer;
@@ -55,6 +55,8 @@ impl Program {
         requires empty { layout_count self.old.layouts ≡ 0 }
         ensures ready { CanRun self.new }
         ensures begins { OnOk result (Begins max self.old self.new) }
+        ensures answered { OnOk result (string_bytes answer.new ≡ string_bytes answer.old ++ limit_answer_of max) }
+        ensures device { OnErr result (KeepsDevice self.old self.new) }
         ensures err { OnErr result (IsUnchanged self.old self.new) }
         ensures begun { self.new.has_begun ≡ self.old.has_begun }
     {
@@ -75,6 +77,7 @@ impl Program {
         requires absent { layout_named self.old.layouts name.now ≡ None }
         ensures ready { CanRun self.new }
         ensures adds { OnOk result (AddsLayout name.now layout self.old self.new) }
+        ensures device { OnErr result (KeepsDevice self.old self.new) }
         ensures answered { OnOk result (string_bytes answer.new ≡ string_bytes answer.old ++ layout_answer_of name.now (sum (kinds layout.counts))) }
         ensures err { OnErr result (IsUnchanged self.old self.new) }
         ensures begun { self.new.has_begun ≡ self.old.has_begun }
@@ -98,6 +101,8 @@ impl Program {
         requires ready { CanRun self.old }
         ensures ready { CanRun self.new }
         ensures loads { OnOk result (Loads script.items self.old self.new) }
+        ensures answered { OnOk result (string_bytes answer.new ≡ string_bytes answer.old ++ script_answer_of (length script.items)) }
+        ensures device { OnErr result (KeepsDevice self.old self.new) }
         ensures err { OnErr result (IsUnchanged self.old self.new) }
         ensures begun { self.new.has_begun ≡ self.old.has_begun }
     {

@@ -72,6 +72,7 @@ impl<P: Drop, S: Drop> DescriptorAllocator<P, S> {
             self.old self.new (D.ledger device.old) (D.ledger device.new)
             (answer_of D.set_name result)) }
 
+        ensures nothing { count ≡ 0 → (self.new ≡ self.old) × (D.ledger device.new ≡ D.ledger device.old) }
         ensures many { IfOk result (λ sets. length sets.items ≡ count) }
         ensures given { IfOk result (λ sets. AreOutBesides (items_of D.set_name sets.items)
             (state_of D.pool_name self.old (D.ledger device.old))
