@@ -1,6 +1,6 @@
 -- What a bench stands at.
-use Rattle.gpu_descriptor.specs.Agreement.{State}
-use Rattle.gpu_descriptor.specs.States.{state_of}
+use Rattle.gpu_descriptor.specs.Model.Agreement.{State}
+use Rattle.gpu_descriptor.specs.Caller.States.{state_of}
 use Rattle.descriptor_bench.specs.Device.{ledger_of, name_of}
 use Rattle.descriptor_bench.specs.declared.bench.Bench.{Bench}
 

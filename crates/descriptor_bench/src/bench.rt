@@ -1,9 +1,9 @@
 //! An allocator and its device, and the moves that workloads are made of.
 ghost use Rattle.std.specs.Prelude.{IfOk, IfErr};
-ghost use Rattle.gpu_descriptor.specs.Agreement.{AreOutstanding};
-ghost use Rattle.gpu_descriptor.specs.Promises.{AreOutBesides, KeepsOutstanding};
-ghost use Rattle.gpu_descriptor.specs.Sets.{items_of};
-ghost use Rattle.gpu_descriptor.specs.States.{Agrees, state_of};
+ghost use Rattle.gpu_descriptor.specs.Model.Agreement.{AreOutstanding};
+ghost use Rattle.gpu_descriptor.specs.Model.Promises.{AreOutBesides, KeepsOutstanding};
+ghost use Rattle.gpu_descriptor.specs.Caller.Sets.{items_of};
+ghost use Rattle.gpu_descriptor.specs.Caller.States.{Agrees, state_of};
 ghost use Rattle.gpu_descriptor.proofs.OneAgreement.{Agree-prop};
 ghost use Rattle.descriptor_bench.specs.Device.{ledger_of, name_of};
 

@@ -1,6 +1,6 @@
 //! The layouts of the counting device.
 ghost use Rattle.std.specs.Prelude.{◌≡◌, true, false};
-ghost use Rattle.gpu_descriptor.specs.LayoutFlags.{is_marked};
+ghost use Rattle.gpu_descriptor.specs.Caller.Flags.{is_marked};
 
 use bitflags::Flags;
 use gpu_descriptor::{DescriptorSetLayoutCreateFlags, DescriptorTotalCount};

@@ -1,8 +1,8 @@
 //! Moves that are made again and again.
 ghost use Rattle.std.specs.Prelude.{◌≡◌, ◌<◌, ◌++◌, ℕ, List, length, OnOk};
 ghost use Rattle.gpu_descriptor.specs.declared.set.DescriptorSet.{DescriptorSet as GivenSet};
-ghost use Rattle.gpu_descriptor.specs.Promises.{AreOutBesides, KeepsOutstanding};
-ghost use Rattle.gpu_descriptor.specs.Sets.{items_of};
+ghost use Rattle.gpu_descriptor.specs.Model.Promises.{AreOutBesides, KeepsOutstanding};
+ghost use Rattle.gpu_descriptor.specs.Caller.Sets.{items_of};
 ghost use Rattle.descriptor_bench.specs.Bench.{state_in};
 ghost use Rattle.descriptor_bench.specs.Device.{name_of};
 

@@ -1,6 +1,6 @@
 //! What each workload does, and how long that takes.
 ghost use Rattle.std.specs.Prelude.{OnOk};
-ghost use Rattle.gpu_descriptor.specs.Promises.{KeepsOutstanding};
+ghost use Rattle.gpu_descriptor.specs.Model.Promises.{KeepsOutstanding};
 ghost use Rattle.descriptor_bench.specs.Bench.{state_in};
 
 use crate::bench::Bench;

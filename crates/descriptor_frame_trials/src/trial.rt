@@ -1,6 +1,6 @@
 //! A manager over a scripted device that grants all, and the sets that are in use.
-ghost use Rattle.gpu_descriptor.specs.Sets.{items_of};
-ghost use Rattle.gpu_descriptor.specs.States.{Agrees, state_of};
+ghost use Rattle.gpu_descriptor.specs.Caller.Sets.{items_of};
+ghost use Rattle.gpu_descriptor.specs.Caller.States.{Agrees, state_of};
 ghost use Rattle.gpu_descriptor.proofs.OneAgreement.{Agree-prop};
 ghost use Rattle.descriptor_script.specs.Device.{ledger_of};
 ghost use Rattle.descriptor_script.specs.Raw.{pool_id, set_id};

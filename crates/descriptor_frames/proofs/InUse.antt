@@ -1,9 +1,9 @@
 -- What is outstanding and in use, when sets are retired and go back.
 use Rattle.std.proofs.Common.{◌≡◌, ℕ, ◌+◌, ◌-◌, ◌≤◌, List, ◌++◌, IfOk, OnErr, Result, Ok, Err, ap, ◌∙◌, arith}
 use Rattle.std.specs.Global.{Vec}
-use Rattle.gpu_descriptor.specs.Agreement.{AreOutstanding, Item, State, count_of, outstanding}
-use Rattle.gpu_descriptor.specs.Promises.{AreOutBesides, KeepsOutstanding}
-use Rattle.gpu_descriptor.specs.Sets.{items_of}
+use Rattle.gpu_descriptor.specs.Model.Agreement.{AreOutstanding, Item, State, count_of, outstanding}
+use Rattle.gpu_descriptor.specs.Model.Promises.{AreOutBesides, KeepsOutstanding}
+use Rattle.gpu_descriptor.specs.Caller.Sets.{items_of}
 use Rattle.gpu_descriptor.specs.declared.set.DescriptorSet.{DescriptorSet}
 use Rattle.gpu_descriptor.proofs.Holding.{count_parts}
 

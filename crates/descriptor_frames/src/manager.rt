@@ -1,10 +1,10 @@
 //! The manager: an allocator, and the sets that wait for the end of their frame.
 ghost use Rattle.std.specs.Prelude.{◌≡◌, ℕ, ◌<◌, ◌↔◌, [], ◌∷◌, ◌++◌, length, IfErr, IsErrOf, OnOk, OnErr};
 ghost use Rattle.gpu_descriptor_types.specs.Ledger.{Ledger};
-ghost use Rattle.gpu_descriptor.specs.Books.{AddsUp, HasDistinctKeys, books_of};
-ghost use Rattle.gpu_descriptor.specs.Load.{sets_out};
-ghost use Rattle.gpu_descriptor.specs.Sets.{item_of};
-ghost use Rattle.gpu_descriptor.specs.States.{outstanding_of, table_of};
+ghost use Rattle.gpu_descriptor.specs.Model.Books.{AddsUp, HasDistinctKeys, books_of};
+ghost use Rattle.gpu_descriptor.specs.Model.Load.{sets_out};
+ghost use Rattle.gpu_descriptor.specs.Caller.Sets.{item_of};
+ghost use Rattle.gpu_descriptor.specs.Caller.States.{outstanding_of, table_of};
 ghost use Rattle.descriptor_frames.specs.Errors.{set_back};
 ghost use Rattle.descriptor_frames.specs.Retired.{AreInOrder, at_frame};
 

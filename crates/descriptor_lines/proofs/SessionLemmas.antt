@@ -3,9 +3,9 @@ use Rattle.std.proofs.Common.{◌≡◌, ℕ, zero, suc, ◌+◌, ◌-◌, ◌<�
 use Rattle.std.proofs.lemmas.List.{get_or-append_right, length-map}
 use Rattle.gpu_descriptor_types.specs.Counts.{kinds}
 use Rattle.gpu_descriptor_types.specs.Ledger.{Ledger}
-use Rattle.gpu_descriptor.specs.Agreement.{Item, outstanding}
-use Rattle.gpu_descriptor.specs.LayoutFlags.{is_marked}
-use Rattle.gpu_descriptor.specs.States.{Agrees, state_of}
+use Rattle.gpu_descriptor.specs.Model.Agreement.{Item, outstanding}
+use Rattle.gpu_descriptor.specs.Caller.Flags.{is_marked}
+use Rattle.gpu_descriptor.specs.Caller.States.{Agrees, state_of}
 use Rattle.gpu_descriptor.proofs.Places.{empty_agrees}
 use Rattle.descriptor_script.specs.Device.{ledger_of}
 use Rattle.descriptor_script.specs.Raw.{pool_id, set_id}

@@ -6,9 +6,9 @@ use Rattle.std.proofs.lemmas.Option.{same_Some}
 use Rattle.std.specs.Iterator.{HoldsAlong, Yields}
 use Rattle.std.specs.Option.{IsSome, is_some}
 use Rattle.gpu_descriptor_types.proofs.Counting.{count_by-append}
-use Rattle.gpu_descriptor.specs.Agreement.{AreOutstanding, Item, State, count_of, item_eq}
-use Rattle.gpu_descriptor.specs.Promises.{AreOutBesides}
-use Rattle.gpu_descriptor.specs.Sets.{item_of, items_of}
+use Rattle.gpu_descriptor.specs.Model.Agreement.{AreOutstanding, Item, State, count_of, item_eq}
+use Rattle.gpu_descriptor.specs.Model.Promises.{AreOutBesides}
+use Rattle.gpu_descriptor.specs.Caller.Sets.{item_of, items_of}
 use Rattle.gpu_descriptor.specs.declared.set.DescriptorSet.{DescriptorSet}
 use Rattle.descriptor_script.specs.Session.{AreAllHeld}
 use Rattle.descriptor_script.specs.Taking.{TakesNext, slots_in, to_come}

@@ -1,9 +1,9 @@
 -- What the steps of a session leave outstanding.
 use Rattle.std.proofs.Common.{◌≡◌, ℕ, ◌+◌, ◌≤◌, List, [], ◌∷◌, ◌++◌, length, length-append, map, Option, None, Some, refl, sym, ap, ◌∙◌, arith}
 use Rattle.gpu_descriptor_types.proofs.Counting.{count_by-append}
-use Rattle.gpu_descriptor.specs.Agreement.{State, count_of, item_eq}
-use Rattle.gpu_descriptor.specs.Promises.{AreOutBesides}
-use Rattle.gpu_descriptor.specs.Sets.{item_of, items_of}
+use Rattle.gpu_descriptor.specs.Model.Agreement.{State, count_of, item_eq}
+use Rattle.gpu_descriptor.specs.Model.Promises.{AreOutBesides}
+use Rattle.gpu_descriptor.specs.Caller.Sets.{item_of, items_of}
 use Rattle.gpu_descriptor.specs.declared.set.DescriptorSet.{DescriptorSet}
 use Rattle.descriptor_script.specs.Session.{AreAllHeld}
 use Rattle.descriptor_script.specs.Tickets.{held_sets}

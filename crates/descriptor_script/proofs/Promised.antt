@@ -3,8 +3,8 @@ use Rattle.std.proofs.Common.{ℕ, Bool, List, [], ◌∷◌, refl, sym, ap, ◌
 use Rattle.std.proofs.lemmas.Option.{slice_get_within}
 use Rattle.std.specs.Prelude.{IfOk, Result, Ok, Err}
 use Rattle.gpu_descriptor_types.specs.Ledger.{Ledger, Counters}
-use Rattle.gpu_descriptor.specs.Sets.{items_of}
-use Rattle.gpu_descriptor.specs.States.{Agrees, state_of}
+use Rattle.gpu_descriptor.specs.Caller.Sets.{items_of}
+use Rattle.gpu_descriptor.specs.Caller.States.{Agrees, state_of}
 use Rattle.gpu_descriptor.proofs.Kept.{one_by_one}
 use Rattle.descriptor_script.specs.Headline.{CallsOnceARun, FailsForCause, FreesOneByOne, HoldsExactly, HoldsWhatIsOut, KeepsAll, KeepsLimit, TurnsDownBad}
 use Rattle.descriptor_script.specs.Session.{AreAllHeld, allocator_of, sets_of}

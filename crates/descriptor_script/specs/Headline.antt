@@ -1,14 +1,13 @@
 -- The parts of the headline: what holds after each command of a run.
 use Rattle.std.specs.Prelude.{◌≡◌, ℕ, ◌+◌, ◌<◌, ◌≤◌, ◌↔◌, Bool, List, [], ◌++◌, length, map, slice_get, Option, Some, Err}
 use Rattle.gpu_descriptor_types.specs.Ledger.{Ledger}
-use Rattle.gpu_descriptor.specs.Agreement.{Item, State, count_of}
-use Rattle.gpu_descriptor.specs.Promises.{HasCause}
-use Rattle.gpu_descriptor.specs.Release.{released_each, singly}
-use Rattle.gpu_descriptor.specs.Requests.{call_of}
-use Rattle.gpu_descriptor.specs.Runs.{runs}
-use Rattle.gpu_descriptor.specs.Sets.{items_of}
-use Rattle.gpu_descriptor.specs.States.{marked_load_of, pool_load_of, outstanding_of, state_of}
-use Rattle.gpu_descriptor.specs.Walk.{layout_key}
+use Rattle.gpu_descriptor.specs.Model.Agreement.{Item, State, count_of}
+use Rattle.gpu_descriptor.specs.Model.Promises.{HasCause}
+use Rattle.gpu_descriptor.specs.Model.Release.{released_each, singly}
+use Rattle.gpu_descriptor.specs.Caller.Call.{call_of, layout_key}
+use Rattle.gpu_descriptor.specs.Model.Runs.{runs}
+use Rattle.gpu_descriptor.specs.Caller.Sets.{items_of}
+use Rattle.gpu_descriptor.specs.Caller.States.{marked_load_of, pool_load_of, outstanding_of, state_of}
 use Rattle.gpu_descriptor.specs.declared.set.DescriptorSet.{DescriptorSet}
 use Rattle.descriptor_script.specs.Session.{AreAllHeld, allocator_of, layouts_of, sets_of}
 use Rattle.descriptor_script.specs.SessionRun.{Step}

@@ -1,6 +1,6 @@
 -- A session and the scripted device with which all its steps are made.
 use Rattle.gpu_descriptor_types.specs.Counts.{kinds}
-use Rattle.gpu_descriptor.specs.States.{Agrees, state_of}
+use Rattle.gpu_descriptor.specs.Caller.States.{Agrees, state_of}
 use Rattle.descriptor_script.specs.Device.{ledger_of}
 use Rattle.descriptor_script.specs.Raw.{pool_id, set_id}
 use Rattle.descriptor_script.specs.Session.{AreAllHeld, AreMeant, allocator_of, layouts_of, sets_of}

@@ -2,10 +2,10 @@
 use Rattle.std.specs.Prelude.{◌≡◌, ℕ, Bool, List, slice_get, Option, Some}
 use Rattle.gpu_descriptor_types.specs.Counts.{kinds}
 use Rattle.gpu_descriptor_types.specs.declared.counts.DescriptorTotalCount.{DescriptorTotalCount}
-use Rattle.gpu_descriptor.specs.Agreement.{Item, State, count_of, outstanding}
-use Rattle.gpu_descriptor.specs.LayoutFlags.{is_marked}
-use Rattle.gpu_descriptor.specs.Sets.{items_of}
-use Rattle.gpu_descriptor.specs.Values.{Allocations}
+use Rattle.gpu_descriptor.specs.Model.Agreement.{Item, State, count_of, outstanding}
+use Rattle.gpu_descriptor.specs.Caller.Flags.{is_marked}
+use Rattle.gpu_descriptor.specs.Caller.Sets.{items_of}
+use Rattle.gpu_descriptor.specs.Caller.Values.{Allocations}
 use Rattle.gpu_descriptor.specs.declared.flags.DescriptorSetLayoutCreateFlags.{DescriptorSetLayoutCreateFlags}
 use Rattle.gpu_descriptor.specs.declared.set.DescriptorSet.{DescriptorSet}
 use Rattle.descriptor_script.specs.Slots.{slots_of}

@@ -1,9 +1,9 @@
 -- A run of a session: commands one after another, each with its reply.
 use Rattle.std.specs.Prelude.{◌≡◌, ℕ, ◌≤◌, Bool, List, [], ◌∷◌, length}
 use Rattle.gpu_descriptor_types.specs.Ledger.{Ledger}
-use Rattle.gpu_descriptor.specs.Books.{HasDistinctKeys}
-use Rattle.gpu_descriptor.specs.Foreign.{KeepsForeign, LosesNone}
-use Rattle.gpu_descriptor.specs.States.{Agrees, marked_load_of, pool_load_of, outstanding_of, state_of, table_of}
+use Rattle.gpu_descriptor.specs.Model.Books.{HasDistinctKeys}
+use Rattle.gpu_descriptor.specs.Model.Foreign.{KeepsForeign, LosesNone}
+use Rattle.gpu_descriptor.specs.Caller.States.{Agrees, marked_load_of, pool_load_of, outstanding_of, state_of, table_of}
 use Rattle.descriptor_script.specs.Session.{AreAllHeld, allocator_of, layouts_of, sets_of}
 use Rattle.descriptor_script.specs.Steps.{Cleans, StepsTo}
 use Rattle.descriptor_script.specs.Tickets.{held_sets}

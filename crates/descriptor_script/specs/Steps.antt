@@ -1,16 +1,15 @@
 -- What a command does to a session, and what it replies.
 use Rattle.std.specs.Prelude.{◌≡◌, ℕ, ◌<◌, ◌≤◌, Bool, List, ◌++◌, length, map, slice_get, None, Some, Ok, Err}
 use Rattle.gpu_descriptor_types.specs.Ledger.{Ledger}
-use Rattle.gpu_descriptor.specs.Buckets.{more_destroyed}
-use Rattle.gpu_descriptor.specs.Cleanup.{IsCleaned, pools_cleaned}
-use Rattle.gpu_descriptor.specs.Frees.{GivesBack}
-use Rattle.gpu_descriptor.specs.Outcomes.{Allocates}
-use Rattle.gpu_descriptor.specs.Promises.{HasCause}
-use Rattle.gpu_descriptor.specs.Requests.{call_of}
-use Rattle.gpu_descriptor.specs.Runs.{runs}
-use Rattle.gpu_descriptor.specs.Sets.{items_of}
-use Rattle.gpu_descriptor.specs.States.{keys_of, state_of}
-use Rattle.gpu_descriptor.specs.Walk.{layout_key}
+use Rattle.gpu_descriptor.specs.Model.Release.{more_destroyed}
+use Rattle.gpu_descriptor.specs.Model.Cleanup.{IsCleaned, pools_cleaned}
+use Rattle.gpu_descriptor.specs.Caller.Frees.{GivesBack}
+use Rattle.gpu_descriptor.specs.Model.Outcomes.{Allocates}
+use Rattle.gpu_descriptor.specs.Model.Promises.{HasCause}
+use Rattle.gpu_descriptor.specs.Caller.Call.{call_of, layout_key}
+use Rattle.gpu_descriptor.specs.Model.Runs.{runs}
+use Rattle.gpu_descriptor.specs.Caller.Sets.{items_of}
+use Rattle.gpu_descriptor.specs.Caller.States.{keys_of, state_of}
 use Rattle.gpu_descriptor.specs.declared.errors.AllocationError.{AllocationError}
 use Rattle.gpu_descriptor.specs.declared.set.DescriptorSet.{DescriptorSet}
 use Rattle.descriptor_script.specs.Session.{allocator_of, layouts_of, sets_of}

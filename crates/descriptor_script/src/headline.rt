@@ -3,9 +3,9 @@
 //! returned, batched frees, with one device call per run, leave what freeing one by one leaves, marked
 //! descriptors never pass the limit, and a request fails only for a named cause.
 ghost use Rattle.std.specs.Prelude.{◌≡◌, IfOk, OnErr};
-ghost use Rattle.gpu_descriptor.specs.Books.{HasDistinctKeys};
-ghost use Rattle.gpu_descriptor.specs.Foreign.{KeepsForeign, LosesNone};
-ghost use Rattle.gpu_descriptor.specs.States.{Agrees, state_of, table_of};
+ghost use Rattle.gpu_descriptor.specs.Model.Books.{HasDistinctKeys};
+ghost use Rattle.gpu_descriptor.specs.Model.Foreign.{KeepsForeign, LosesNone};
+ghost use Rattle.gpu_descriptor.specs.Caller.States.{Agrees, state_of, table_of};
 ghost use Rattle.descriptor_script.specs.Headline.{CallsOnceARun, FailsForCause, FreesOneByOne, HoldsExactly, HoldsWhatIsOut, KeepsAll, KeepsLimit, TurnsDownBad};
 ghost use Rattle.descriptor_script.specs.Session.{AreAllHeld, AreMeant, allocator_of, layouts_of, sets_of};
 ghost use Rattle.descriptor_script.specs.SessionRun.{RunsKeeping, RunsTo};

@@ -1,7 +1,7 @@
 //! A session: commands on an allocator, whose sets are named by tickets.
 ghost use Rattle.std.specs.Prelude.{◌≡◌, ◌≤◌, ◌++◌, [], ◌∷◌, length, IfOk, IfErr, OnOk, OnErr};
 ghost use Rattle.std.specs.Option.{option_copied};
-ghost use Rattle.gpu_descriptor.specs.States.{marked_load_of, pool_load_of, outstanding_of};
+ghost use Rattle.gpu_descriptor.specs.Caller.States.{marked_load_of, pool_load_of, outstanding_of};
 ghost use Rattle.descriptor_script.specs.Tickets.{held_sets, set_at};
 
 mod run;

@@ -1,7 +1,7 @@
 //! A visit to a device: of an allocator that is made, used and cleaned up nothing is left there, once
 //! all its sets are free.
 ghost use Rattle.std.specs.Prelude.{◌≡◌, [], IfOk};
-ghost use Rattle.gpu_descriptor.specs.States.{Agrees, state_of};
+ghost use Rattle.gpu_descriptor.specs.Caller.States.{Agrees, state_of};
 ghost use Rattle.descriptor_script.specs.Session.{AreAllHeld, AreMeant, allocator_of, layouts_of, sets_of};
 ghost use Rattle.descriptor_script.specs.SessionRun.{VisitsTo};
 ghost use Rattle.descriptor_script.specs.Tickets.{held_sets};

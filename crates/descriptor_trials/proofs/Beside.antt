@@ -3,12 +3,13 @@ use Rattle.std.proofs.Common.{◌≡◌, ℕ, List, [], ltb, Option, None, Some,
 use Rattle.std.specs.Option.{option_map_or}
 use Rattle.std.proofs.lemmas.Bool.{cases_Bool}
 use Rattle.gpu_descriptor_types.specs.Ledger.{Ledger}
-use Rattle.gpu_descriptor.specs.Agreement.{KeepsOwn, count_of, live_in, outstanding, set_of}
-use Rattle.gpu_descriptor.specs.Books.{Key, Entry, Bucket, entry_at, no_pools}
-use Rattle.gpu_descriptor.specs.Foreign.{IsForeign, KeepsForeign}
-use Rattle.gpu_descriptor.specs.Sets.{items_of}
-use Rattle.gpu_descriptor.specs.States.{Agrees, state_of}
-use Rattle.gpu_descriptor.specs.Values.{Allocations}
+use Rattle.gpu_descriptor.specs.Laws.Agreement.{KeepsOwn}
+use Rattle.gpu_descriptor.specs.Model.Agreement.{count_of, live_in, outstanding, set_of}
+use Rattle.gpu_descriptor.specs.Model.Books.{Key, Entry, Bucket, entry_at, no_pools}
+use Rattle.gpu_descriptor.specs.Model.Foreign.{IsForeign, KeepsForeign}
+use Rattle.gpu_descriptor.specs.Caller.Sets.{items_of}
+use Rattle.gpu_descriptor.specs.Caller.States.{Agrees, state_of}
+use Rattle.gpu_descriptor.specs.Caller.Values.{Allocations}
 use Rattle.gpu_descriptor.specs.declared.set.DescriptorSet.{DescriptorSet}
 use Rattle.gpu_descriptor.proofs.Others.{own_agrees, own_outstanding}
 use Rattle.gpu_descriptor.proofs.Places.{empty_agrees}

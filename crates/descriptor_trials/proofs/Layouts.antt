@@ -2,7 +2,7 @@
 use Rattle.std.proofs.Common.{◌≡◌, ℕ, zero, suc, Bool, List, [], ◌∷◌, ◌++◌, Option, Some, None, sym, subst}
 use Rattle.std.specs.Prelude.{Result, Ok, Err, OnOk, OnErr}
 use Rattle.gpu_descriptor_types.specs.Counts.{kinds}
-use Rattle.gpu_descriptor.specs.LayoutFlags.{is_marked}
+use Rattle.gpu_descriptor.specs.Caller.Flags.{is_marked}
 use Rattle.descriptor_script.specs.Session.{AreMeant}
 use Rattle.descriptor_script.specs.declared.session.KnownLayout.{KnownLayout}
 

@@ -4,9 +4,9 @@ use Rattle.std.proofs.Props.{props}
 use Rattle.gpu_descriptor.proofs.OneAgreement.{Agree-prop}
 use Rattle.gpu_descriptor_types.specs.Counts.{kinds}
 use Rattle.gpu_descriptor_types.specs.Ledger.{Ledger}
-use Rattle.gpu_descriptor.specs.Agreement.{State}
-use Rattle.gpu_descriptor.specs.Books.{Key, Entry, entry_at}
-use Rattle.gpu_descriptor.specs.States.{Agrees, state_of}
+use Rattle.gpu_descriptor.specs.Model.Agreement.{State}
+use Rattle.gpu_descriptor.specs.Model.Books.{Key, Entry, entry_at}
+use Rattle.gpu_descriptor.specs.Caller.States.{Agrees, state_of}
 use Rattle.descriptor_script.specs.Raw.{pool_id, set_id}
 use Rattle.descriptor_script.specs.Session.{AreAllHeld, AreMeant, allocator_of, layouts_of, sets_of}
 use Rattle.descriptor_script.specs.declared.raw.RawPool.{RawPool}

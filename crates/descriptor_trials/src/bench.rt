@@ -1,7 +1,7 @@
 //! A session on a device, with which all its steps are made.
 ghost use Rattle.std.specs.Prelude.{◌≡◌};
 ghost use Rattle.gpu_descriptor.proofs.OneAgreement.{Agree-prop};
-ghost use Rattle.gpu_descriptor.specs.States.{Agrees, state_of};
+ghost use Rattle.gpu_descriptor.specs.Caller.States.{Agrees, state_of};
 ghost use Rattle.gpu_descriptor_types.specs.Counts.{kinds};
 ghost use Rattle.descriptor_script.specs.Session.{AreAllHeld, AreMeant, allocator_of, layouts_of, sets_of};
 

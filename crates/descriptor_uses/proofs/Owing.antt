@@ -8,7 +8,7 @@ use Rattle.std.proofs.lemmas.Map.{update_here, update_apart}
 use Rattle.gpu_descriptor_types.specs.Ledger.{Ledger, Pool, HasNoSets, changed, on_pool, fresh, AreLive, Releases, after_create, after_destroy, after_alloc, after_release}
 use Rattle.gpu_descriptor_types.specs.Multiset.{LiveSet, times, AreIn}
 use Rattle.gpu_descriptor_types.proofs.Counting.{times-append}
-use Rattle.gpu_descriptor.specs.Agreement.{HasSize}
+use Rattle.gpu_descriptor.specs.Model.Agreement.{HasSize}
 use Rattle.gpu_descriptor.proofs.LedgerPools.{size_minus}
 use Rattle.descriptor_uses.specs.Owed.{IsOwed, ReleasesMany, owed_by}
 use Rattle.descriptor_uses.specs.Released.{release_of}

@@ -1,7 +1,7 @@
 -- What a layout is to a device.
 use Rattle.std.specs.Prelude.{◌≡◌, ℕ, Bool, List}
 use Rattle.gpu_descriptor_types.specs.Counts.{kinds}
-use Rattle.gpu_descriptor.specs.LayoutFlags.{is_marked}
+use Rattle.gpu_descriptor.specs.Caller.Flags.{is_marked}
 use Rattle.descriptor_uses.specs.declared.layout.SetLayout.{SetLayout}
 
 -- its counts and its mark are those that the device gives to the layout

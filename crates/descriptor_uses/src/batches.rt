@@ -1,9 +1,9 @@
 //! Two batches of sets, freed one after the other.
 ghost use Rattle.std.specs.Prelude.{◌++◌};
-ghost use Rattle.gpu_descriptor.specs.Agreement.{AreOutstanding};
-ghost use Rattle.gpu_descriptor.specs.Promises.{AreOutBesides};
-ghost use Rattle.gpu_descriptor.specs.Sets.{items_of};
-ghost use Rattle.gpu_descriptor.specs.States.{Agrees, state_of};
+ghost use Rattle.gpu_descriptor.specs.Model.Agreement.{AreOutstanding};
+ghost use Rattle.gpu_descriptor.specs.Model.Promises.{AreOutBesides};
+ghost use Rattle.gpu_descriptor.specs.Caller.Sets.{items_of};
+ghost use Rattle.gpu_descriptor.specs.Caller.States.{Agrees, state_of};
 
 use gpu_descriptor::{DescriptorAllocator, DescriptorDevice, DescriptorSet};
 

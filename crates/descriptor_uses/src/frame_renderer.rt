@@ -1,8 +1,8 @@
 //! A struct over a frame manager: a set is in use for a frame, and goes back when that is done.
 ghost use Rattle.std.specs.Prelude.{◌≡◌};
 ghost use Rattle.descriptor_frames.specs.Errors.{set_back};
-ghost use Rattle.gpu_descriptor.specs.Sets.{items_of};
-ghost use Rattle.gpu_descriptor.specs.States.{Agrees, state_of};
+ghost use Rattle.gpu_descriptor.specs.Caller.Sets.{items_of};
+ghost use Rattle.gpu_descriptor.specs.Caller.States.{Agrees, state_of};
 ghost use Rattle.gpu_descriptor.proofs.OneAgreement.{Agree-prop};
 ghost use Rattle.descriptor_frames.specs.Frames.{AreInUse, AreRetiredOut, allocator_of};
 ghost use Rattle.descriptor_uses.specs.Layouts.{IsMeant};

@@ -1,7 +1,7 @@
 //! Sets and pools as they are to be used: each while it is out, and each goes back once.
 ghost use Rattle.std.specs.Prelude.{◌≡◌, ◌+◌, IfOk, OnOk};
-ghost use Rattle.gpu_descriptor.specs.LayoutFlags.{is_marked};
-ghost use Rattle.gpu_descriptor.specs.States.{Agrees};
+ghost use Rattle.gpu_descriptor.specs.Caller.Flags.{is_marked};
+ghost use Rattle.gpu_descriptor.specs.Caller.States.{Agrees};
 ghost use Rattle.descriptor_script.specs.Raw.{pool_id};
 ghost use Rattle.descriptor_uses.specs.Logged.{ledger_logged, next_pool};
 

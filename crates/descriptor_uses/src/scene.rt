@@ -1,7 +1,7 @@
 //! A struct that holds sets between calls.
-ghost use Rattle.gpu_descriptor.specs.Agreement.{AreOutstanding};
-ghost use Rattle.gpu_descriptor.specs.Sets.{items_of};
-ghost use Rattle.gpu_descriptor.specs.States.{Agrees, state_of};
+ghost use Rattle.gpu_descriptor.specs.Model.Agreement.{AreOutstanding};
+ghost use Rattle.gpu_descriptor.specs.Caller.Sets.{items_of};
+ghost use Rattle.gpu_descriptor.specs.Caller.States.{Agrees, state_of};
 ghost use Rattle.gpu_descriptor.proofs.OneAgreement.{Agree-prop};
 ghost use Rattle.descriptor_uses.specs.Layouts.{IsMeant};
 

@@ -1,7 +1,7 @@
 //! Sets of two layouts, taken and given back, over any device.
 ghost use Rattle.std.specs.Prelude.{◌≡◌};
-ghost use Rattle.gpu_descriptor.specs.Foreign.{others_of};
-ghost use Rattle.gpu_descriptor.specs.States.{Agrees, outstanding_of};
+ghost use Rattle.gpu_descriptor.specs.Caller.Others.{others_of};
+ghost use Rattle.gpu_descriptor.specs.Caller.States.{Agrees, outstanding_of};
 ghost use Rattle.descriptor_uses.specs.Layouts.{IsMeant};
 
 use crate::layout::SetLayout;

@@ -9,25 +9,25 @@ use Rattle.gpu_descriptor.specs.declared.take.Refusal.{Refusal}
 use Rattle.gpu_descriptor.specs.declared.take.Refusal.TheVariants as refusal
 use Rattle.gpu_descriptor.specs.declared.take.Stop.{Stop}
 use Rattle.gpu_descriptor.specs.declared.take.Stop.TheVariants as stop
-use Rattle.gpu_descriptor.specs.Agreement.{State, Item, Agree, AreOutstanding, outstanding}
-use Rattle.gpu_descriptor.specs.Books.{Key, key_eq, Entry, entry_at}
-use Rattle.gpu_descriptor.specs.Foreign.{KeepsForeign, LosesNone}
-use Rattle.gpu_descriptor.specs.FreshPools.{fresh_entry}
-use Rattle.gpu_descriptor.specs.Frees.{GivesBack}
-use Rattle.gpu_descriptor.specs.Grants.{Grant, entries_with, items_in, granted}
-use Rattle.gpu_descriptor.specs.Grow.{IsTakenAll, IsTakenUpTo, IsGrowStopped, refusal_answer, stop_rise}
-use Rattle.gpu_descriptor.specs.Load.{marked_load}
-use Rattle.gpu_descriptor.specs.Outcomes.{Allocates, Call, Proceeds, IsBack, no_rise, risen, grant_rise, rollback_rise}
-use Rattle.gpu_descriptor.specs.Outcomes.Allocates.{done, stopped_at_pool, stopped_without_room, stopped_at_create, stopped_for_memory, stopped_at_fresh}
-use Rattle.gpu_descriptor.specs.OtherKeys.{IsUntouched, KeepsOtherKeys}
-use Rattle.gpu_descriptor.specs.Promises.{AreOfKey, AreOutBesides, KeepsOutstanding}
-use Rattle.gpu_descriptor.specs.Release.{released, given_back, pools_gone}
-use Rattle.gpu_descriptor.specs.Requests.{call_of, Takes}
-use Rattle.gpu_descriptor.specs.Runs.{runs}
-use Rattle.gpu_descriptor.specs.Sets.{item_of, items_of}
-use Rattle.gpu_descriptor.specs.States.{Agrees, state_of, table_of, keys_of, outstanding_of, marked_load_of, pool_load_of}
-use Rattle.gpu_descriptor.specs.Values.{Allocations}
-use Rattle.gpu_descriptor.specs.Walk.{KeepsKey, HasTaken, IsWalkStopped, with_pools}
+use Rattle.gpu_descriptor.specs.Model.Agreement.{State, Item, Agree, AreOutstanding, outstanding}
+use Rattle.gpu_descriptor.specs.Model.Books.{Key, key_eq, Entry, entry_at}
+use Rattle.gpu_descriptor.specs.Model.Foreign.{KeepsForeign, LosesNone}
+use Rattle.gpu_descriptor.specs.Model.FreshPools.{fresh_entry}
+use Rattle.gpu_descriptor.specs.Caller.Frees.{GivesBack}
+use Rattle.gpu_descriptor.specs.Model.Grants.{Grant, entries_with, items_in, granted}
+use Rattle.gpu_descriptor.specs.Inner.Grow.{IsTakenAll, IsTakenUpTo, IsGrowStopped, refusal_answer, stop_rise}
+use Rattle.gpu_descriptor.specs.Model.Load.{marked_load}
+use Rattle.gpu_descriptor.specs.Model.Outcomes.{Allocates, Call, Proceeds, IsBack, no_rise, risen, grant_rise, rollback_rise}
+use Rattle.gpu_descriptor.specs.Model.Outcomes.Allocates.{done, stopped_at_pool, stopped_without_room, stopped_at_create, stopped_for_memory, stopped_at_fresh}
+use Rattle.gpu_descriptor.specs.Model.Promises.{IsUntouched, KeepsOtherKeys, AreOfKey, AreOutBesides, KeepsOutstanding}
+use Rattle.gpu_descriptor.specs.Model.Release.{released, given_back, pools_gone}
+use Rattle.gpu_descriptor.specs.Caller.Call.{call_of}
+use Rattle.gpu_descriptor.specs.Inner.Takes.{Takes}
+use Rattle.gpu_descriptor.specs.Model.Runs.{runs}
+use Rattle.gpu_descriptor.specs.Caller.Sets.{item_of, items_of}
+use Rattle.gpu_descriptor.specs.Caller.States.{Agrees, state_of, table_of, keys_of, outstanding_of, marked_load_of, pool_load_of}
+use Rattle.gpu_descriptor.specs.Caller.Values.{Allocations}
+use Rattle.gpu_descriptor.specs.Inner.Walk.{KeepsKey, HasTaken, IsWalkStopped, with_pools}
 use Rattle.gpu_descriptor.proofs.KeepState.{keeps_agree, keeps_given, keeps_outstanding}
 use Rattle.gpu_descriptor.proofs.Foreign.{entries_named, taken_apart, taken_foreign, taken_loses, freed_foreign, freed_loses, foreign_through, loses_through}
 use Rattle.gpu_descriptor.proofs.Exact.{key_exact}

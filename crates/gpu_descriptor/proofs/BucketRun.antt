@@ -9,12 +9,13 @@ use Rattle.gpu_descriptor_types.specs.Flags.{CanFree}
 use Rattle.gpu_descriptor_types.specs.Ledger.{Pool, live_sets}
 use Rattle.gpu_descriptor_types.specs.Multiset.{LiveSet, times, AreIn}
 use Rattle.gpu_descriptor.specs.declared.bucket.DescriptorPool.{DescriptorPool}
-use Rattle.gpu_descriptor.specs.Agreement.{live_in, flags_of, IsAsBooked}
-use Rattle.gpu_descriptor.specs.Allocated.{allocated_in}
-use Rattle.gpu_descriptor.specs.Books.{Key, Entry, Bucket}
-use Rattle.gpu_descriptor.specs.Buckets.{AreBookedIn, IsTakenAt}
-use Rattle.gpu_descriptor.specs.Release.{entry_less, pool_less}
-use Rattle.gpu_descriptor.specs.Stored.{entry_of}
+use Rattle.gpu_descriptor.specs.Model.Agreement.{live_in, flags_of, IsAsBooked}
+use Rattle.gpu_descriptor.specs.Inner.Allocated.{allocated_in}
+use Rattle.gpu_descriptor.specs.Model.Books.{Key, Entry, Bucket}
+use Rattle.gpu_descriptor.specs.Inner.Buckets.{AreBookedIn}
+use Rattle.gpu_descriptor.specs.Inner.Releases.{IsTakenAt}
+use Rattle.gpu_descriptor.specs.Model.Release.{entry_less, pool_less}
+use Rattle.gpu_descriptor.specs.Inner.Stored.{entry_of}
 use Rattle.gpu_descriptor.proofs.LedgerPools.{taken_from, with_pool_same, with_pool_other, size_minus, only_these}
 use Rattle.gpu_descriptor.proofs.Turns.{bucket}
 use Rattle.gpu_descriptor.proofs.Sized.{size_of}

@@ -4,10 +4,11 @@ use Rattle.std.proofs.Math.Path.{fun_ext}
 use Rattle.std.specs.List.{list_any, prefix_len}
 use Rattle.std.proofs.lemmas.Bool.{cases_Bool, cases_eq, false_from_ne_true, or_left, or_right}
 use Rattle.std.proofs.lemmas.List.Sums.{prefix_len-le-length, sum_by-cons}
-use Rattle.gpu_descriptor.specs.Agreement.{set_of, Item, State, live_in, outstanding, HasSize, Agree}
-use Rattle.gpu_descriptor.specs.Books.{Key, key_eq, Entry, Bucket, entry_at}
-use Rattle.gpu_descriptor.specs.Cleanup.{IsCleaned, cleaned_bucket, CleanAgain, CleanAgainNone, CleanAll, CleanAllGone, CleanAgrees, CleanTakesNone, CleanOnce}
-use Rattle.gpu_descriptor.specs.Release.{is_empty, empty_front, without_front, in_front}
+use Rattle.gpu_descriptor.specs.Model.Agreement.{set_of, Item, State, live_in, outstanding, HasSize, Agree}
+use Rattle.gpu_descriptor.specs.Model.Books.{Key, key_eq, Entry, Bucket, entry_at}
+use Rattle.gpu_descriptor.specs.Model.Cleanup.{IsCleaned, cleaned_bucket}
+use Rattle.gpu_descriptor.specs.Laws.Cleanup.{CleanAgain, CleanAgainNone, CleanAll, CleanAllGone, CleanAgrees, CleanTakesNone, CleanOnce}
+use Rattle.gpu_descriptor.specs.Model.Release.{is_empty, empty_front, without_front, in_front}
 use Rattle.gpu_descriptor_types.specs.Multiset.{LiveSet, set_eq}
 use Rattle.gpu_descriptor.proofs.Fronts.{entry_at-found, entry_at-from, entry_at-without, entry_at-kept}
 use Rattle.gpu_descriptor_types.proofs.Counting.{set_exact, count_by_yes, any_found, any_from}

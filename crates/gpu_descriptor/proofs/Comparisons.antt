@@ -4,12 +4,12 @@ use Rattle.std.proofs.lemmas.List.{append-nil}
 use Rattle.std.specs.Prelude.{nat_lt, if◌then◌else◌}
 use Rattle.gpu_descriptor_types.proofs.Counting.{count_by_no, count_by_yes}
 use Rattle.gpu_descriptor.specs.declared.bucket.DescriptorPool.{DescriptorPool}
-use Rattle.gpu_descriptor.specs.Agreement.{State, Item}
-use Rattle.gpu_descriptor.specs.Books.{Entry}
-use Rattle.gpu_descriptor.specs.Comparisons.{digits_at, digits_behind, run_digits}
-use Rattle.gpu_descriptor.specs.OpenNumbers.{open_numbers, free_in}
-use Rattle.gpu_descriptor.specs.Runs.{is_beside, breaks, runs}
-use Rattle.gpu_descriptor.specs.Stored.{entry_of}
+use Rattle.gpu_descriptor.specs.Model.Agreement.{State, Item}
+use Rattle.gpu_descriptor.specs.Model.Books.{Entry}
+use Rattle.gpu_descriptor.specs.Caller.Comparisons.{digits_at, digits_behind, run_digits}
+use Rattle.gpu_descriptor.specs.Inner.OpenNumbers.{open_numbers, free_in}
+use Rattle.gpu_descriptor.specs.Model.Runs.{is_beside, breaks, runs}
+use Rattle.gpu_descriptor.specs.Inner.Stored.{entry_of}
 
 one_of : (b : Bool) → ◌≡◌ {A = ℕ} (if b then 0 else 1) 0 → b ≡ true
 one_of true h = refl

@@ -4,9 +4,10 @@ use Rattle.std.specs.Prelude.{if◌then◌else◌}
 use Rattle.std.proofs.Math.Path.{fun_ext}
 use Rattle.std.proofs.lemmas.List.Sums.{sum_by-append}
 use Rattle.std.proofs.lemmas.List.Folds.{list_any-append}
-use Rattle.gpu_descriptor.specs.Agreement.{Item, item_eq, count_of, AreOutstanding}
-use Rattle.gpu_descriptor.specs.Books.{Key, key_eq, Bucket}
-use Rattle.gpu_descriptor.specs.Release.{lies_in, entry_less, bucket_less, spent_front, released, ReleaseGone}
+use Rattle.gpu_descriptor.specs.Model.Agreement.{Item, item_eq, count_of, AreOutstanding}
+use Rattle.gpu_descriptor.specs.Model.Books.{Key, key_eq, Bucket}
+use Rattle.gpu_descriptor.specs.Model.Release.{lies_in, entry_less, bucket_less, spent_front, released}
+use Rattle.gpu_descriptor.specs.Laws.Release.{ReleaseGone}
 use Rattle.gpu_descriptor.proofs.Fronts.{less-less, spent_front-less}
 use Rattle.gpu_descriptor_types.proofs.Counting.{count_by-append, count_by_alike}
 use Rattle.gpu_descriptor.proofs.Exact.{item_exact}

@@ -3,10 +3,10 @@ use Rattle.std.proofs.Common.{◌≡◌, ℕ, suc, ◌+◌, ◌<◌, ◌≤◌, 
 use Rattle.std.specs.List.{prefix_len}
 use Rattle.gpu_descriptor_types.specs.Ledger.{Pool, Ledger, HasNoSets, after_destroy}
 use Rattle.gpu_descriptor.specs.declared.bucket.DescriptorPool.{DescriptorPool}
-use Rattle.gpu_descriptor.specs.Books.{Key, Entry}
-use Rattle.gpu_descriptor.specs.Buckets.{AreBookedIn, cleared_bucket, cleared_ledger, ledger_without}
-use Rattle.gpu_descriptor.specs.Release.{is_empty, empty_front, without_front}
-use Rattle.gpu_descriptor.specs.Stored.{entry_of}
+use Rattle.gpu_descriptor.specs.Model.Books.{Key, Entry}
+use Rattle.gpu_descriptor.specs.Inner.Buckets.{AreBookedIn, cleared_bucket, cleared_ledger, ledger_without}
+use Rattle.gpu_descriptor.specs.Model.Release.{is_empty, empty_front, without_front}
+use Rattle.gpu_descriptor.specs.Inner.Stored.{entry_of}
 use Rattle.gpu_descriptor.proofs.Turns.{bucket, front_unused, step_stored, step_without}
 
 front_yes : (x : Entry) (es : List Entry) → is_empty x ≡ true → prefix_len is_empty (x ∷ es) ≡ suc (prefix_len is_empty es)

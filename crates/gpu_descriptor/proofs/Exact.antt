@@ -5,8 +5,8 @@ use Rattle.std.proofs.lemmas.Bool.Decides.{Decides-eqb}
 use Rattle.std.specs.Cmp.{booleans_Decides}
 use lib.Pointwise.{pointwise, pointwise_decides}
 use mathlib.Core.Bool.{beq}
-use Rattle.gpu_descriptor.specs.Books.{key_eq}
-use Rattle.gpu_descriptor.specs.Agreement.{Item, item_eq}
+use Rattle.gpu_descriptor.specs.Model.Books.{key_eq}
+use Rattle.gpu_descriptor.specs.Model.Agreement.{Item, item_eq}
 use Rattle.gpu_descriptor_types.proofs.Counting.{IsExact}
 
 pub key_exact : IsExact key_eq

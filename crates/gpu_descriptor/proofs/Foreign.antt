@@ -7,18 +7,18 @@ use Rattle.std.specs.List.{list_any}
 use Rattle.std.specs.Prelude.{if◌then◌else◌}
 use Rattle.gpu_descriptor_types.specs.Ledger.{Pool, Ledger}
 use Rattle.gpu_descriptor_types.specs.Multiset.{LiveSet, set_eq}
-use Rattle.gpu_descriptor.specs.Agreement.{State, Item, set_of}
-use Rattle.gpu_descriptor.specs.Books.{Key, key_eq, Entry, Bucket, entry_at}
-use Rattle.gpu_descriptor.specs.Foreign.{IsForeign, KeepsForeign, LosesNone}
-use Rattle.gpu_descriptor.specs.Cleanup.{IsCleaned}
-use Rattle.gpu_descriptor.specs.Release.{given_back, released, bucket_less, entry_less, empty_front, spent_front, in_front, without_front, lies_in, pool_less}
+use Rattle.gpu_descriptor.specs.Model.Agreement.{State, Item, set_of}
+use Rattle.gpu_descriptor.specs.Model.Books.{Key, key_eq, Entry, Bucket, entry_at}
+use Rattle.gpu_descriptor.specs.Model.Foreign.{IsForeign, KeepsForeign, LosesNone}
+use Rattle.gpu_descriptor.specs.Model.Cleanup.{IsCleaned}
+use Rattle.gpu_descriptor.specs.Model.Release.{given_back, released, bucket_less, entry_less, empty_front, spent_front, in_front, without_front, lies_in, pool_less}
 use Rattle.gpu_descriptor.specs.declared.set.DescriptorSet.{DescriptorSet}
-use Rattle.gpu_descriptor.specs.Frees.{GivesBack}
-use Rattle.gpu_descriptor.specs.Shares.{all_shared, shared}
-use Rattle.gpu_descriptor.specs.Sets.{items_of}
-use Rattle.gpu_descriptor.specs.States.{state_of}
-use Rattle.gpu_descriptor.specs.Values.{Allocations}
-use Rattle.gpu_descriptor.specs.Walk.{KeepsKey, with_pools}
+use Rattle.gpu_descriptor.specs.Caller.Frees.{GivesBack}
+use Rattle.gpu_descriptor.specs.Model.Shares.{all_shared, shared}
+use Rattle.gpu_descriptor.specs.Caller.Sets.{items_of}
+use Rattle.gpu_descriptor.specs.Caller.States.{state_of}
+use Rattle.gpu_descriptor.specs.Caller.Values.{Allocations}
+use Rattle.gpu_descriptor.specs.Inner.Walk.{KeepsKey, with_pools}
 use Rattle.gpu_descriptor.proofs.Exact.{key_exact}
 use Rattle.gpu_descriptor.proofs.Fronts.{entry_at-found, entry_at-from, slice_get-drop}
 use Rattle.gpu_descriptor.proofs.Kept.{front_found, none_back}

@@ -9,18 +9,17 @@ use Rattle.gpu_descriptor_types.specs.Ledger.{Counters, Ledger}
 use Rattle.gpu_descriptor_types.proofs.Counting.{bool_iff}
 use Rattle.gpu_descriptor.specs.declared.set.BucketKey.{BucketKey}
 use Rattle.gpu_descriptor.specs.declared.set.DescriptorSet.{DescriptorSet}
-use Rattle.gpu_descriptor.specs.Agreement.{State, Item, AreOutstanding, Agree, count_of}
-use Rattle.gpu_descriptor.specs.Books.{Key, key_eq}
-use Rattle.gpu_descriptor.specs.Buckets.{more_released, more_destroyed}
-use Rattle.gpu_descriptor.specs.Comparisons.{open_pools, run_digits}
-use Rattle.gpu_descriptor.specs.Digits.{binary_digits}
-use Rattle.gpu_descriptor.specs.Frees.{descriptors_of, GivesBack, Frees, FreesRun}
-use Rattle.gpu_descriptor.specs.Release.{released, given_back, pools_gone}
-use Rattle.gpu_descriptor.specs.Runs.{runs, breaks}
-use Rattle.gpu_descriptor.specs.Sets.{key_of, at_place, item_of, items_of}
-use Rattle.gpu_descriptor.specs.States.{state_of, keys_of}
-use Rattle.gpu_descriptor.specs.Steps.{HaveKey}
-use Rattle.gpu_descriptor.specs.Values.{Allocations}
+use Rattle.gpu_descriptor.specs.Model.Agreement.{State, Item, AreOutstanding, Agree, count_of}
+use Rattle.gpu_descriptor.specs.Model.Books.{Key, key_eq}
+use Rattle.gpu_descriptor.specs.Model.Release.{more_released, more_destroyed, released, given_back, pools_gone}
+use Rattle.gpu_descriptor.specs.Caller.Comparisons.{open_pools, run_digits, binary_digits}
+use Rattle.gpu_descriptor.specs.Caller.Frees.{descriptors_of, GivesBack, Frees}
+use Rattle.gpu_descriptor.specs.Inner.Releases.{FreesRun}
+use Rattle.gpu_descriptor.specs.Model.Runs.{runs, breaks}
+use Rattle.gpu_descriptor.specs.Caller.Sets.{key_of, item_of, items_of}
+use Rattle.gpu_descriptor.specs.Inner.RunSteps.{at_place, HaveKey}
+use Rattle.gpu_descriptor.specs.Caller.States.{state_of, keys_of}
+use Rattle.gpu_descriptor.specs.Caller.Values.{Allocations}
 use Rattle.gpu_descriptor.proofs.Comparisons.{run_digits_more}
 use Rattle.gpu_descriptor.proofs.Counted.{gone}
 use Rattle.gpu_descriptor.proofs.Exact.{key_exact}

@@ -3,8 +3,8 @@ use Rattle.std.proofs.Common.{◌≡◌, ℕ, zero, suc, ◌+◌, ◌-◌, ◌<�
 use Rattle.std.specs.List.{prefix_len}
 use Rattle.std.proofs.lemmas.Bool.{cases_Bool, cases_lt}
 use Rattle.std.proofs.lemmas.List.{drop-map}
-use Rattle.gpu_descriptor.specs.Books.{Entry, Bucket, entry_at}
-use Rattle.gpu_descriptor.specs.Release.{entry_less, bucket_less, is_empty, empty_front, spent_front, without_front}
+use Rattle.gpu_descriptor.specs.Model.Books.{Entry, Bucket, entry_at}
+use Rattle.gpu_descriptor.specs.Model.Release.{entry_less, bucket_less, is_empty, empty_front, spent_front, without_front}
 
 -- the spent front of a list of pools
 abbrev pub spent : List Entry → ℕ

@@ -10,20 +10,20 @@ use Rattle.std.proofs.lemmas.Map.{update_here}
 use Rattle.std.specs.List.{list_any}
 use Rattle.std.specs.Map.{update}
 use Rattle.std.specs.Prelude.{if◌then◌else◌, option_map}
-use Rattle.gpu_descriptor.specs.Agreement.{Item, flags_of}
-use Rattle.gpu_descriptor.specs.Books.{Key, Entry}
-use Rattle.gpu_descriptor.specs.FreshPools.{Fresh, fresh_portions, fresh_entry, given_by, IsNextSize, room_after, AreSized, AreFull, AreNew, IsFreshFront, IsFreshList}
-use Rattle.gpu_descriptor.specs.Grants.{Grant, Part, items_at, items_in, portion_of, came, pool_with, ledger_with, entries_with, fresh_or}
-use Rattle.gpu_descriptor.specs.Grow.{IsGrown, IsNotGrown, TellsOfRoom, IsTakenAll, IsGrowStopped}
-use Rattle.gpu_descriptor.specs.Load.{held, pool_load, pools_load}
-use Rattle.gpu_descriptor.specs.Outcomes.{no_rise, risen, grant_rise}
-use Rattle.gpu_descriptor.specs.Shares.{offer, rest, share, shared, all_shared, Portion, portions_of}
-use Rattle.gpu_descriptor.specs.Buckets.{AreBookedIn}
-use Rattle.gpu_descriptor.specs.Walk.{HasTaken, KeepsKey, IsWalked}
+use Rattle.gpu_descriptor.specs.Model.Agreement.{Item, flags_of}
+use Rattle.gpu_descriptor.specs.Model.Books.{Key, Entry}
+use Rattle.gpu_descriptor.specs.Model.FreshPools.{Fresh, fresh_portions, fresh_entry, given_by, IsNextSize, room_after, AreSized, AreFull, AreNew, IsFreshFront, IsFreshList}
+use Rattle.gpu_descriptor.specs.Model.Grants.{Grant, Part, items_at, items_in, portion_of, came, pool_with, ledger_with, entries_with, fresh_or}
+use Rattle.gpu_descriptor.specs.Inner.Grow.{IsGrown, IsNotGrown, TellsOfRoom, IsTakenAll, IsGrowStopped}
+use Rattle.gpu_descriptor.specs.Model.Load.{held, pool_load, pools_load}
+use Rattle.gpu_descriptor.specs.Model.Outcomes.{no_rise, risen, grant_rise}
+use Rattle.gpu_descriptor.specs.Model.Shares.{offer, rest, share, shared, all_shared, Portion, portions_of}
+use Rattle.gpu_descriptor.specs.Inner.Buckets.{AreBookedIn}
+use Rattle.gpu_descriptor.specs.Inner.Walk.{HasTaken, KeepsKey, IsWalked}
 use Rattle.gpu_descriptor_types.specs.Ledger.{Pool, Ledger, Counters, live_sets, changed, on_pool}
 use Rattle.gpu_descriptor_types.specs.PoolSize.{pool_counts}
 use Rattle.gpu_descriptor_types.specs.Ledger as ledgers
-use Rattle.gpu_descriptor.specs.FreshPools as grants
+use Rattle.gpu_descriptor.specs.Model.FreshPools as grants
 use Rattle.gpu_descriptor.specs.declared.take.Stop.{Stop}
 use Rattle.gpu_descriptor.proofs.NextSize.{room_more}
 use Rattle.gpu_descriptor.proofs.KeepSteps.{keeps_grown}

@@ -4,12 +4,12 @@ use Rattle.std.proofs.Math.Nat.{mul-le-mul_right}
 use Rattle.std.proofs.Math.Path.{fun_ext}
 use Rattle.std.proofs.lemmas.Map.{update_here}
 use Rattle.std.specs.Map.{update}
-use Rattle.gpu_descriptor.specs.Agreement.{flags_of}
-use Rattle.gpu_descriptor.specs.Books.{Key, Entry}
-use Rattle.gpu_descriptor.specs.FreshPools.{IsNextSize}
-use Rattle.gpu_descriptor.specs.Load.{pool_load}
-use Rattle.gpu_descriptor.specs.Grow.{IsGrown, IsNotGrown, stop_rise}
-use Rattle.gpu_descriptor.specs.Outcomes.{risen}
+use Rattle.gpu_descriptor.specs.Model.Agreement.{flags_of}
+use Rattle.gpu_descriptor.specs.Model.Books.{Key, Entry}
+use Rattle.gpu_descriptor.specs.Model.FreshPools.{IsNextSize}
+use Rattle.gpu_descriptor.specs.Model.Load.{pool_load}
+use Rattle.gpu_descriptor.specs.Inner.Grow.{IsGrown, IsNotGrown, stop_rise}
+use Rattle.gpu_descriptor.specs.Model.Outcomes.{risen}
 use Rattle.gpu_descriptor_types.specs.Ledger.{Pool, Ledger, Counters, HasRoom, HasNoSets, live_sets, changed, fresh, after_create, after_no_create, after_alloc, after_no_alloc, after_destroy, create_refused, alloc_refused, pool_refusals}
 use Rattle.gpu_descriptor_types.specs.declared.errors.CreatePoolError.{CreatePoolError}
 use Rattle.gpu_descriptor_types.specs.declared.errors.CreatePoolError.TheVariants as create_error

@@ -5,10 +5,10 @@ use Rattle.std.proofs.lemmas.List.{map-append}
 use Rattle.std.proofs.lemmas.List.Sorted.{sum_by-IsPermutation, IsPermutation-map}
 use Rattle.gpu_descriptor_types.proofs.Counting.{count_by-append}
 use Rattle.gpu_descriptor.specs.declared.set.DescriptorSet.{DescriptorSet}
-use Rattle.gpu_descriptor.specs.Agreement.{State, Item, item_eq, Agree, AreOutstanding, count_of, outstanding}
-use Rattle.gpu_descriptor.specs.Promises.{AreOutBesides, KeepsOutstanding}
-use Rattle.gpu_descriptor.specs.Release.{released}
-use Rattle.gpu_descriptor.specs.Sets.{item_of, items_of}
+use Rattle.gpu_descriptor.specs.Model.Agreement.{State, Item, item_eq, Agree, AreOutstanding, count_of, outstanding}
+use Rattle.gpu_descriptor.specs.Model.Promises.{AreOutBesides, KeepsOutstanding}
+use Rattle.gpu_descriptor.specs.Model.Release.{released}
+use Rattle.gpu_descriptor.specs.Caller.Sets.{item_of, items_of}
 use Rattle.gpu_descriptor.proofs.Kept.{takes}
 
 -- ---- lists of items

@@ -9,12 +9,12 @@ use Rattle.std.specs.Prelude.{if◌then◌else◌, ◌⊎◌}
 use Rattle.gpu_descriptor_types.specs.Ledger.{Pool, Ledger, live_sets, changed, on_pool}
 use Rattle.gpu_descriptor_types.specs.Multiset.{LiveSet, set_eq, times}
 use Rattle.gpu_descriptor_types.proofs.Counting.{count_by_yes, count_by_no, set_exact, times-append}
-use Rattle.gpu_descriptor.specs.Books.{Key, key_eq, Entry}
-use Rattle.gpu_descriptor.specs.Agreement.{Item, item_eq, set_of, count_of, IsAsBooked}
-use Rattle.gpu_descriptor.specs.Grants.{items_at, pool_with}
-use Rattle.gpu_descriptor.specs.Load.{held}
-use Rattle.gpu_descriptor.specs.Buckets.{IsBookedIn}
-use Rattle.gpu_descriptor.specs.Walk.{IsAsked}
+use Rattle.gpu_descriptor.specs.Model.Books.{Key, key_eq, Entry}
+use Rattle.gpu_descriptor.specs.Model.Agreement.{Item, item_eq, set_of, count_of, IsAsBooked}
+use Rattle.gpu_descriptor.specs.Model.Grants.{items_at, pool_with}
+use Rattle.gpu_descriptor.specs.Model.Load.{held}
+use Rattle.gpu_descriptor.specs.Inner.Buckets.{IsBookedIn}
+use Rattle.gpu_descriptor.specs.Inner.Walk.{IsAsked}
 use Rattle.gpu_descriptor.proofs.Exact.{item_exact, item_from}
 use Rattle.gpu_descriptor.proofs.Sized.{size_of}
 

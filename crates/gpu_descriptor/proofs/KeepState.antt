@@ -5,10 +5,10 @@ use Rattle.std.specs.List.{slice_get, list_any}
 use Rattle.std.specs.Option.{option_map_or}
 use Rattle.std.specs.Prelude.{if◌then◌else◌}
 use Rattle.gpu_descriptor_types.specs.Ledger.{Pool}
-use Rattle.gpu_descriptor.specs.Books.{Key, key_eq, Entry, Bucket, entry_at}
-use Rattle.gpu_descriptor.specs.Agreement.{State, Item, set_of, count_of, live_in, outstanding, AreOutstanding, IsAsBooked, Agree}
-use Rattle.gpu_descriptor.specs.Buckets.{AreBookedIn}
-use Rattle.gpu_descriptor.specs.Walk.{with_pools, KeepsKey, live_at}
+use Rattle.gpu_descriptor.specs.Model.Books.{Key, key_eq, Entry, Bucket, entry_at}
+use Rattle.gpu_descriptor.specs.Model.Agreement.{State, Item, set_of, count_of, live_in, outstanding, AreOutstanding, IsAsBooked, Agree}
+use Rattle.gpu_descriptor.specs.Inner.Buckets.{AreBookedIn}
+use Rattle.gpu_descriptor.specs.Inner.Walk.{with_pools, KeepsKey, live_at}
 use Rattle.gpu_descriptor.proofs.Exact.{key_exact}
 use Rattle.gpu_descriptor.proofs.Fronts.{entry_at-found, entry_at-from}
 

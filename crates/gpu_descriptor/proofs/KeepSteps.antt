@@ -14,14 +14,14 @@ use Rattle.gpu_descriptor_types.specs.Multiset.{LiveSet, times}
 use Rattle.gpu_descriptor_types.specs.PoolSize.{pool_counts}
 use Rattle.gpu_descriptor_types.proofs.Counting.{count_by-append}
 use Rattle.gpu_descriptor.proofs.NextSize.{next_small}
-use Rattle.gpu_descriptor.specs.Books.{Key, Entry}
-use Rattle.gpu_descriptor.specs.Agreement.{Item, item_eq, set_of, count_of, live_in, flags_of, IsAsBooked}
-use Rattle.gpu_descriptor.specs.FreshPools.{fresh_entry}
-use Rattle.gpu_descriptor.specs.Grants.{items_at, pool_with}
-use Rattle.gpu_descriptor.specs.Load.{held}
-use Rattle.gpu_descriptor.specs.Buckets.{IsBookedIn, AreBookedIn}
-use Rattle.gpu_descriptor.specs.Walk.{IsAsked, KeepsKey, live_at}
-use Rattle.gpu_descriptor.specs.Grow.{IsGrown}
+use Rattle.gpu_descriptor.specs.Model.Books.{Key, Entry}
+use Rattle.gpu_descriptor.specs.Model.Agreement.{Item, item_eq, set_of, count_of, live_in, flags_of, IsAsBooked}
+use Rattle.gpu_descriptor.specs.Model.FreshPools.{fresh_entry}
+use Rattle.gpu_descriptor.specs.Model.Grants.{items_at, pool_with}
+use Rattle.gpu_descriptor.specs.Model.Load.{held}
+use Rattle.gpu_descriptor.specs.Inner.Buckets.{IsBookedIn, AreBookedIn}
+use Rattle.gpu_descriptor.specs.Inner.Walk.{IsAsked, KeepsKey, live_at}
+use Rattle.gpu_descriptor.specs.Inner.Grow.{IsGrown}
 use Rattle.gpu_descriptor.proofs.KeepKey.{pool_booked, on_pool_here, asked_booked, any_at, not_any, set_got, set_here, set_there, any_written, held_written, end_got, end_before, end_here, end_past, place_of_items, count_of_items, count_elsewhere}
 
 pub keeps_start : (k : Key) (first : ℕ) (old : List Entry) (pools : ℕ → Option Pool) → AreBookedIn k pools old → KeepsKey k first [] old old pools pools

@@ -5,9 +5,10 @@ use Rattle.std.proofs.Math.Path.{fun_ext}
 use Rattle.std.specs.List.{list_any}
 use Rattle.std.proofs.lemmas.Bool.{cases_Bool, cases_lt, and_parts, or_cases, false_from_ne_true}
 use Rattle.std.proofs.lemmas.List.{length-map}
-use Rattle.gpu_descriptor.specs.Agreement.{set_of, State, Item, item_eq, count_of, outstanding, AreOutstanding, IsAsBooked, Agree}
-use Rattle.gpu_descriptor.specs.Books.{Key, key_eq, Entry, Bucket, entry_at}
-use Rattle.gpu_descriptor.specs.Release.{lies_in, entry_less, bucket_less, pool_less, given_back, spent_front, without_front, in_front, fronts_gone, released, singly, ReleaseAgrees, ReleaseTakes, ReleaseOrder, ReleaseNone, ReleaseEach, ReleaseSingly}
+use Rattle.gpu_descriptor.specs.Model.Agreement.{set_of, State, Item, item_eq, count_of, outstanding, AreOutstanding, IsAsBooked, Agree}
+use Rattle.gpu_descriptor.specs.Model.Books.{Key, key_eq, Entry, Bucket, entry_at}
+use Rattle.gpu_descriptor.specs.Model.Release.{lies_in, entry_less, bucket_less, pool_less, given_back, spent_front, without_front, in_front, fronts_gone, released, singly}
+use Rattle.gpu_descriptor.specs.Laws.Release.{ReleaseAgrees, ReleaseTakes, ReleaseOrder, ReleaseNone, ReleaseEach, ReleaseSingly}
 use Rattle.gpu_descriptor_types.specs.Ledger.{Pool}
 use Rattle.gpu_descriptor_types.specs.Multiset.{LiveSet, set_eq}
 use Rattle.gpu_descriptor.proofs.Fronts.{entry_at-from}

@@ -6,15 +6,15 @@ use Rattle.std.proofs.lemmas.List.{length-map, map-append}
 use Rattle.gpu_descriptor_types.specs.Ledger.{Ledger}
 use Rattle.gpu_descriptor.specs.declared.set.BucketKey.{BucketKey}
 use Rattle.gpu_descriptor.specs.declared.bucket.DescriptorBucket.{DescriptorBucket}
-use Rattle.gpu_descriptor.specs.Books.{Key, Bucket, HasDistinctKeys, books_of}
-use Rattle.gpu_descriptor.specs.Buckets.{has_pools, cleared_bucket}
-use Rattle.gpu_descriptor.specs.Cleanup.{IsCleaned, cleaned_bucket}
-use Rattle.gpu_descriptor.specs.Keys.{StayOrGainLast, keys_with_pools}
-use Rattle.gpu_descriptor.specs.Release.{empty_front}
-use Rattle.gpu_descriptor.specs.Sets.{key_of}
-use Rattle.gpu_descriptor.specs.States.{keys_of, named_row, state_of}
-use Rattle.gpu_descriptor.specs.Stored.{bucket_of, entry_of, row_of, stored_keys}
-use Rattle.gpu_descriptor.specs.Values.{Allocations}
+use Rattle.gpu_descriptor.specs.Model.Books.{Key, Bucket, HasDistinctKeys, books_of}
+use Rattle.gpu_descriptor.specs.Inner.Buckets.{has_pools, cleared_bucket}
+use Rattle.gpu_descriptor.specs.Model.Cleanup.{IsCleaned, cleaned_bucket}
+use Rattle.gpu_descriptor.specs.Caller.Keys.{StayOrGainLast, keys_with_pools}
+use Rattle.gpu_descriptor.specs.Model.Release.{empty_front}
+use Rattle.gpu_descriptor.specs.Caller.Sets.{key_of}
+use Rattle.gpu_descriptor.specs.Caller.States.{keys_of, named_row, state_of}
+use Rattle.gpu_descriptor.specs.Inner.Stored.{bucket_of, entry_of, row_of, stored_keys}
+use Rattle.gpu_descriptor.specs.Caller.Values.{Allocations}
 use Rattle.gpu_descriptor.proofs.Cleaning.{cleaned_cases}
 use Rattle.gpu_descriptor.proofs.RowsCleaned.{Rows, cleared, first_keys, row_books}
 use Rattle.gpu_descriptor.proofs.TableBooks.{keys_are, keys_set, rows_are, rows_in}

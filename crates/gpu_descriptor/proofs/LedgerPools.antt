@@ -5,10 +5,9 @@ use Rattle.std.proofs.lemmas.Bool.{cases_Bool}
 use Rattle.gpu_descriptor_types.specs.Ledger.{Pool, Counters, Ledger, changed, after_release, live_sets}
 use Rattle.gpu_descriptor_types.specs.Multiset.{LiveSet, set_eq, times}
 use Rattle.gpu_descriptor_types.proofs.Counting.{set_exact, count_by_yes, count_by_no, all_taken_out}
-use Rattle.gpu_descriptor.specs.Agreement.{HasSize}
-use Rattle.gpu_descriptor.specs.Books.{Key}
-use Rattle.gpu_descriptor.specs.Buckets.{more_destroyed}
-use Rattle.gpu_descriptor.specs.Release.{pool_less}
+use Rattle.gpu_descriptor.specs.Model.Agreement.{HasSize}
+use Rattle.gpu_descriptor.specs.Model.Books.{Key}
+use Rattle.gpu_descriptor.specs.Model.Release.{more_destroyed, pool_less}
 
 -- the pools with this at a name, and all else as it was
 abbrev pub with_pool : (ℕ → Option Pool) → ℕ → Option Pool → ℕ → Option Pool

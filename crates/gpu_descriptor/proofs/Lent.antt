@@ -7,16 +7,17 @@ use Rattle.gpu_descriptor_types.specs.Ledger.{Ledger, live_sets}
 use Rattle.gpu_descriptor.specs.declared.set.BucketKey.{BucketKey}
 use Rattle.gpu_descriptor.specs.declared.set.DescriptorSet.{DescriptorSet}
 use Rattle.gpu_descriptor.specs.declared.bucket.DescriptorBucket.{DescriptorBucket}
-use Rattle.gpu_descriptor.specs.Agreement.{Agree, AreOutstanding}
-use Rattle.gpu_descriptor.specs.Books.{Key, key_eq, Entry, Bucket, no_pools, books_of, HasDistinctKeys}
-use Rattle.gpu_descriptor.specs.Buckets.{AreBookedIn, IsTakenAt, RunsInto, names_of, bucket_back, more_destroyed, more_released}
-use Rattle.gpu_descriptor.specs.Comparisons.{open_pools}
-use Rattle.gpu_descriptor.specs.Release.{given_back, released, pools_gone}
-use Rattle.gpu_descriptor.specs.Sets.{key_of, items_of}
-use Rattle.gpu_descriptor.specs.States.{named_row, state_of, keys_of}
-use Rattle.gpu_descriptor.specs.Steps.{HaveKey}
-use Rattle.gpu_descriptor.specs.Stored.{books_in, row_of, bucket_of}
-use Rattle.gpu_descriptor.specs.Values.{Allocations}
+use Rattle.gpu_descriptor.specs.Model.Agreement.{Agree, AreOutstanding}
+use Rattle.gpu_descriptor.specs.Model.Books.{Key, key_eq, Entry, Bucket, no_pools, books_of, HasDistinctKeys}
+use Rattle.gpu_descriptor.specs.Inner.Buckets.{AreBookedIn}
+use Rattle.gpu_descriptor.specs.Inner.Releases.{IsTakenAt, RunsInto, names_of, bucket_back}
+use Rattle.gpu_descriptor.specs.Model.Release.{more_destroyed, more_released, given_back, released, pools_gone}
+use Rattle.gpu_descriptor.specs.Caller.Comparisons.{open_pools}
+use Rattle.gpu_descriptor.specs.Caller.Sets.{key_of, items_of}
+use Rattle.gpu_descriptor.specs.Caller.States.{named_row, state_of, keys_of}
+use Rattle.gpu_descriptor.specs.Inner.RunSteps.{HaveKey}
+use Rattle.gpu_descriptor.specs.Inner.Stored.{books_in, row_of, bucket_of}
+use Rattle.gpu_descriptor.specs.Caller.Values.{Allocations}
 use Rattle.gpu_descriptor.proofs.LedgerPools.{taken_from, release_pools}
 use Rattle.gpu_descriptor.proofs.TableBooks.{put_books, rows_in, looked_up, written, key_once, keys_are}
 use Rattle.gpu_descriptor.proofs.KeepState.{booked_of}

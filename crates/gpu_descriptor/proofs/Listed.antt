@@ -6,7 +6,7 @@ use Rattle.std.proofs.lemmas.Option.{slice_get-map}
 use Rattle.std.specs.Prelude.{option_map}
 use Rattle.std.specs.List.Sorted.{IsPartitionPoint}
 use Rattle.gpu_descriptor.specs.declared.bucket.DescriptorPool.{DescriptorPool}
-use Rattle.gpu_descriptor.specs.OpenNumbers.{free_in, open_numbers, IsEntered}
+use Rattle.gpu_descriptor.specs.Inner.OpenNumbers.{free_in, open_numbers, IsEntered}
 use Rattle.gpu_descriptor.proofs.Open.{IsNewestOpen, open_few, open_few_at, open_push_none, open_push_some, open_set_open, open_gains, open_closes}
 
 module _ {P : Type 0} (first : ℕ) (items : List (DescriptorPool P)) (numbers : List ℕ) (listed : numbers ≡ open_numbers first (free_in items)) where

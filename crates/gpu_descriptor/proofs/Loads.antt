@@ -8,15 +8,15 @@ use Rattle.gpu_descriptor.specs.declared.set.BucketKey.{BucketKey}
 use Rattle.gpu_descriptor.specs.declared.set.DescriptorSet.{DescriptorSet}
 use Rattle.gpu_descriptor.specs.declared.bucket.DescriptorPool.{DescriptorPool}
 use Rattle.gpu_descriptor.specs.declared.bucket.DescriptorBucket.{DescriptorBucket}
-use Rattle.gpu_descriptor.specs.Allocated.{allocated_in}
-use Rattle.gpu_descriptor.specs.Books.{Key, key_eq}
-use Rattle.gpu_descriptor.specs.Load.{pool_load}
-use Rattle.gpu_descriptor.specs.Frees.{descriptors_of, marked_descriptors}
-use Rattle.gpu_descriptor.specs.Sets.{key_of, item_of, items_of}
-use Rattle.gpu_descriptor.specs.States.{sets_in, descriptors_in, pool_load_in, outstanding_of, marked_load_of}
-use Rattle.gpu_descriptor.specs.Steps.{HaveKey}
-use Rattle.gpu_descriptor.specs.Stored.{kept_of, row_of, load_in, stored_load_in, stored_load, IsCounted}
-use Rattle.gpu_descriptor.specs.Values.{Allocations, Kept}
+use Rattle.gpu_descriptor.specs.Inner.Allocated.{allocated_in}
+use Rattle.gpu_descriptor.specs.Model.Books.{Key, key_eq}
+use Rattle.gpu_descriptor.specs.Model.Load.{pool_load}
+use Rattle.gpu_descriptor.specs.Caller.Frees.{descriptors_of, marked_descriptors}
+use Rattle.gpu_descriptor.specs.Caller.Sets.{key_of, item_of, items_of}
+use Rattle.gpu_descriptor.specs.Caller.States.{sets_in, descriptors_in, pool_load_in, outstanding_of, marked_load_of}
+use Rattle.gpu_descriptor.specs.Inner.RunSteps.{HaveKey}
+use Rattle.gpu_descriptor.specs.Inner.Stored.{kept_of, row_of, load_in, stored_load_in, stored_load, IsCounted}
+use Rattle.gpu_descriptor.specs.Caller.Values.{Allocations, Kept}
 use Rattle.gpu_descriptor.proofs.Exact.{key_exact}
 use Rattle.gpu_descriptor.proofs.WholeRun.{at_parts}
 

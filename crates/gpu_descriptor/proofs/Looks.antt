@@ -6,8 +6,7 @@ use Rattle.std.specs.Option.{option_len}
 use Rattle.gpu_descriptor.specs.declared.set.BucketKey.{BucketKey}
 use Rattle.gpu_descriptor.specs.declared.set.DescriptorSet.{DescriptorSet}
 use Rattle.gpu_descriptor.specs.declared.run.Run.{Run}
-use Rattle.gpu_descriptor.specs.Sets.{at_place}
-use Rattle.gpu_descriptor.specs.Steps.{CountsFrom, HaveKey, Looks, RunStep}
+use Rattle.gpu_descriptor.specs.Inner.RunSteps.{at_place, CountsFrom, HaveKey, Looks, RunStep}
 
 module _ {T S : Type 0} (steps : T → Option (DescriptorSet S) → T → Type 0) (k : BucketKey) (i : ℕ) (s : T) (n : ℕ) where
   pub count_now : CountsFrom steps k i s n → n < 2 ^ 32

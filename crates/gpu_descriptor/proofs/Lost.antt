@@ -4,11 +4,12 @@ use Rattle.std.proofs.Math.Path.{fun_ext}
 use Rattle.std.specs.List.{list_any}
 use Rattle.std.proofs.lemmas.Bool.{cases_Bool, or_cases, or_left, or_right}
 use Rattle.gpu_descriptor_types.specs.Ledger.{Pool}
-use Rattle.gpu_descriptor.specs.Agreement.{State}
-use Rattle.gpu_descriptor.specs.Books.{Key, key_eq, Entry, Bucket, HasDistinctKeys, books_of, entry_at, no_pools}
-use Rattle.gpu_descriptor.specs.Cleanup.{CleanRestores}
-use Rattle.gpu_descriptor.specs.Foreign.{IsForeign, IsNamed, NamedOrForeign}
-use Rattle.gpu_descriptor.specs.States.{table_of}
+use Rattle.gpu_descriptor.specs.Model.Agreement.{State}
+use Rattle.gpu_descriptor.specs.Model.Books.{Key, key_eq, Entry, Bucket, HasDistinctKeys, books_of, entry_at, no_pools}
+use Rattle.gpu_descriptor.specs.Laws.Cleanup.{CleanRestores}
+use Rattle.gpu_descriptor.specs.Model.Foreign.{IsForeign, IsNamed}
+use Rattle.gpu_descriptor.specs.Laws.Foreign.{NamedOrForeign}
+use Rattle.gpu_descriptor.specs.Caller.States.{table_of}
 use Rattle.gpu_descriptor.proofs.Cleaning.{nothing_left}
 use Rattle.gpu_descriptor.proofs.Foreign.{cleaned_foreign, cleaned_loses, foreign_through, loses_through}
 use Rattle.gpu_descriptor.proofs.Fronts.{entry_at-found, entry_at-from}

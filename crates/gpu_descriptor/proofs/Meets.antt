@@ -3,14 +3,14 @@ use Rattle.std.proofs.Common.{◌≡◌, ℕ, ◌-◌, List, Bool, true, false, 
 use Rattle.std.proofs.Math.Path.{fun_ext}
 use Rattle.std.specs.Prelude.{if◌then◌else◌}
 use Rattle.gpu_descriptor.proofs.Exact.{key_exact}
-use Rattle.gpu_descriptor.specs.Agreement.{State, Item}
-use Rattle.gpu_descriptor.specs.Books.{Key, key_eq, Entry, Bucket}
-use Rattle.gpu_descriptor.specs.FreshPools.{AreNew}
-use Rattle.gpu_descriptor.specs.Grants.{Grant, items_in, granted, entries_with, ledger_with}
-use Rattle.gpu_descriptor.specs.Grow.{IsTakenAll, IsGrowStopped, stop_rise}
-use Rattle.gpu_descriptor.specs.Load.{IsPoolLoad}
-use Rattle.gpu_descriptor.specs.Outcomes.{Call, IsDone, risen, grant_rise}
-use Rattle.gpu_descriptor.specs.Walk.{with_pools, HasTaken, IsWalkStopped}
+use Rattle.gpu_descriptor.specs.Model.Agreement.{State, Item}
+use Rattle.gpu_descriptor.specs.Model.Books.{Key, key_eq, Entry, Bucket}
+use Rattle.gpu_descriptor.specs.Model.FreshPools.{AreNew}
+use Rattle.gpu_descriptor.specs.Model.Grants.{Grant, items_in, granted, entries_with, ledger_with}
+use Rattle.gpu_descriptor.specs.Inner.Grow.{IsTakenAll, IsGrowStopped, stop_rise}
+use Rattle.gpu_descriptor.specs.Model.Load.{IsPoolLoad}
+use Rattle.gpu_descriptor.specs.Model.Outcomes.{Call, IsDone, risen, grant_rise}
+use Rattle.gpu_descriptor.specs.Inner.Walk.{with_pools, HasTaken, IsWalkStopped}
 use Rattle.gpu_descriptor_types.specs.Ledger.{Pool, Ledger, alloc_refused}
 use Rattle.gpu_descriptor_types.specs.declared.errors.DeviceAllocationError.{DeviceAllocationError}
 use Rattle.gpu_descriptor.specs.declared.take.Stop.{Stop}

@@ -11,16 +11,16 @@ use Rattle.gpu_descriptor_types.specs.Ledger.{Pool, Counters, live_sets, fresh}
 use Rattle.gpu_descriptor_types.specs.Multiset.{set_eq}
 use Rattle.gpu_descriptor_types.specs.PoolSize.{pool_counts}
 use Rattle.gpu_descriptor.specs.declared.errors.AllocationError.{AllocationError}
-use Rattle.gpu_descriptor.specs.Agreement.{State, Item, flags_of, set_of}
-use Rattle.gpu_descriptor.specs.Books.{Key, key_eq, Entry, Bucket, entry_at, next_number}
-use Rattle.gpu_descriptor.specs.FreshPools.{Fresh, AreNew, AreSized, AreFull, IsFreshList, given_by, fresh_entry}
-use Rattle.gpu_descriptor.specs.FreshPools.IsFreshList.{none as no_fresh, some as some_fresh}
-use Rattle.gpu_descriptor.specs.Grants.{Grant, items_in, came, granted, entries_with, fresh_or, pool_with}
-use Rattle.gpu_descriptor.specs.Load.{held, pool_load}
-use Rattle.gpu_descriptor.specs.Outcomes.{Call, IsBack, IsDone, IsFront, out_then, wanting}
-use Rattle.gpu_descriptor.specs.Promises.{AreBelowTwice, HasNewPools}
-use Rattle.gpu_descriptor.specs.Release.{released, given_back, pool_less, lies_in, in_front, spent_front, bucket_less}
-use Rattle.gpu_descriptor.specs.Shares.{offer, rest, shared, all_shared}
+use Rattle.gpu_descriptor.specs.Model.Agreement.{State, Item, flags_of, set_of}
+use Rattle.gpu_descriptor.specs.Model.Books.{Key, key_eq, Entry, Bucket, entry_at, next_number}
+use Rattle.gpu_descriptor.specs.Model.FreshPools.{Fresh, AreNew, AreSized, AreFull, IsFreshList, given_by, fresh_entry}
+use Rattle.gpu_descriptor.specs.Model.FreshPools.IsFreshList.{none as no_fresh, some as some_fresh}
+use Rattle.gpu_descriptor.specs.Model.Grants.{Grant, items_in, came, granted, entries_with, fresh_or, pool_with}
+use Rattle.gpu_descriptor.specs.Model.Load.{held, pool_load}
+use Rattle.gpu_descriptor.specs.Model.Outcomes.{Call, IsBack, IsDone, IsFront, out_then, wanting}
+use Rattle.gpu_descriptor.specs.Model.Promises.{AreBelowTwice, HasNewPools}
+use Rattle.gpu_descriptor.specs.Model.Release.{released, given_back, pool_less, lies_in, in_front, spent_front, bucket_less}
+use Rattle.gpu_descriptor.specs.Model.Shares.{offer, rest, shared, all_shared}
 use Rattle.gpu_descriptor.proofs.Exact.{key_exact}
 use Rattle.gpu_descriptor.proofs.Fronts.{entry_at-found, slice_get-drop}
 use Rattle.gpu_descriptor.proofs.Growing.{held_shared, length-all_shared}

@@ -7,13 +7,13 @@ use Rattle.std.specs.List.{slice_get}
 use Rattle.std.specs.Prelude.{option_map}
 use Rattle.gpu_descriptor_types.specs.Ledger.{Ledger, Counters}
 use Rattle.gpu_descriptor.specs.declared.bucket.DescriptorPool.{DescriptorPool}
-use Rattle.gpu_descriptor.specs.Agreement.{Item}
-use Rattle.gpu_descriptor.specs.Books.{Key, Entry}
-use Rattle.gpu_descriptor.specs.Buckets.{AreBookedIn, IsBookedIn}
-use Rattle.gpu_descriptor.specs.OpenNumbers.{free_in, open_numbers}
-use Rattle.gpu_descriptor.specs.Stored.{entry_of}
-use Rattle.gpu_descriptor.specs.Walk.{entries_of, IsAsked, IsNoMemory, IsWalkStopped}
-use Rattle.gpu_descriptor.specs.Grants.{items_at}
+use Rattle.gpu_descriptor.specs.Model.Agreement.{Item}
+use Rattle.gpu_descriptor.specs.Model.Books.{Key, Entry}
+use Rattle.gpu_descriptor.specs.Inner.Buckets.{AreBookedIn, IsBookedIn}
+use Rattle.gpu_descriptor.specs.Inner.OpenNumbers.{free_in, open_numbers}
+use Rattle.gpu_descriptor.specs.Inner.Stored.{entry_of}
+use Rattle.gpu_descriptor.specs.Inner.Walk.{entries_of, IsAsked, IsNoMemory, IsWalkStopped}
+use Rattle.gpu_descriptor.specs.Model.Grants.{items_at}
 use Rattle.gpu_descriptor_types.specs.declared.errors.DeviceAllocationError.{DeviceAllocationError}
 use Rattle.gpu_descriptor.proofs.Listed.{listed_closes, listed_stays}
 use Rattle.gpu_descriptor.proofs.Open.{IsNewestOpen, newest_open, open_all_none}

@@ -5,9 +5,9 @@ use Rattle.std.proofs.lemmas.Bool.{cases_Bool}
 use Rattle.gpu_descriptor_types.specs.PoolSize.{IsPoolSize, sets_in_room, start_size}
 use Rattle.gpu_descriptor_types.proofs.Room.{few_in_room, fits_in_room, whole_in_room}
 use Rattle.gpu_descriptor_types.proofs.Sizes.{pool_size_small, pool_size_below}
-use Rattle.gpu_descriptor.specs.Books.{Key}
-use Rattle.gpu_descriptor.specs.FreshPools.{Fresh, IsNextSize, AreSized, room_after}
-use Rattle.gpu_descriptor.specs.Load.{pool_load}
+use Rattle.gpu_descriptor.specs.Model.Books.{Key}
+use Rattle.gpu_descriptor.specs.Model.FreshPools.{Fresh, IsNextSize, AreSized, room_after}
+use Rattle.gpu_descriptor.specs.Model.Load.{pool_load}
 
 -- ---- a key's next pool
 

@@ -3,8 +3,8 @@ use Rattle.std.proofs.Common.{◌≡◌, Option, Some, sym, ◌∙◌}
 use Rattle.std.proofs.Props.{props}
 use mathlib.Core.HLevel.{is_prop→PathP}
 use Rattle.gpu_descriptor_types.specs.Ledger.{Pool}
-use Rattle.gpu_descriptor.specs.Books.{Key, Entry}
-use Rattle.gpu_descriptor.specs.Agreement.{State, Agree, IsAsBooked}
+use Rattle.gpu_descriptor.specs.Model.Books.{Key, Entry}
+use Rattle.gpu_descriptor.specs.Model.Agreement.{State, Agree, IsAsBooked}
 
 booked_prop : (k : Key) (pool : Pool) (e : Entry) → IsProp (IsAsBooked k pool e)
 booked_prop k pool e = Prim.hlevel props

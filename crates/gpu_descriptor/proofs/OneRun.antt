@@ -8,11 +8,12 @@ use Rattle.gpu_descriptor_types.specs.Flags.{CanFree}
 use Rattle.gpu_descriptor_types.specs.Multiset.{LiveSet}
 use Rattle.gpu_descriptor.specs.declared.set.DescriptorSet.{DescriptorSet}
 use Rattle.gpu_descriptor.specs.declared.run.Run.{Run}
-use Rattle.gpu_descriptor.specs.Agreement.{live_in}
-use Rattle.gpu_descriptor.specs.Books.{Key, Entry, Bucket}
-use Rattle.gpu_descriptor.specs.Buckets.{AreBookedIn, IsTakenAt, names_of}
-use Rattle.gpu_descriptor.specs.Sets.{key_of, at_place}
-use Rattle.gpu_descriptor.specs.Steps.{RunStep, CountsFrom, EndsRun, HaveKey}
+use Rattle.gpu_descriptor.specs.Model.Agreement.{live_in}
+use Rattle.gpu_descriptor.specs.Model.Books.{Key, Entry, Bucket}
+use Rattle.gpu_descriptor.specs.Inner.Buckets.{AreBookedIn}
+use Rattle.gpu_descriptor.specs.Inner.Releases.{IsTakenAt, names_of}
+use Rattle.gpu_descriptor.specs.Caller.Sets.{key_of}
+use Rattle.gpu_descriptor.specs.Inner.RunSteps.{at_place, RunStep, CountsFrom, EndsRun, HaveKey}
 use Rattle.gpu_descriptor.proofs.BucketRun.{AreTaken, can_free, can_take, took_these, length_names}
 use Rattle.gpu_descriptor.proofs.Exact.{key_exact}
 use Rattle.gpu_descriptor.proofs.Taken.{Stopped, Whole, whole, front}

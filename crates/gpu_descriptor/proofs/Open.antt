@@ -2,7 +2,7 @@
 use Rattle.std.proofs.Common.{ℕ, zero, suc, ◌+◌, ◌<◌, ◌≤◌, ◌≡◌, List, [], ◌∷◌, ◌++◌, length, take, drop, get_or, slice_set, insert, arith, refl, sym, ap, ◌∙◌, subst, slice_get, Some}
 use Rattle.std.proofs.lemmas.List.{append-nil}
 use Rattle.std.specs.List.Sorted.{IsNonDecreasing, IsPartitionPoint}
-use Rattle.gpu_descriptor.specs.OpenNumbers.{open_numbers}
+use Rattle.gpu_descriptor.specs.Inner.OpenNumbers.{open_numbers}
 
 -- pools in two parts
 pub open_append : (first : ℕ) (xs ys : List ℕ) → open_numbers first (xs ++ ys) ≡ open_numbers first xs ++ open_numbers (first + length xs) ys

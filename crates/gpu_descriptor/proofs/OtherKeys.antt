@@ -6,10 +6,11 @@ use Rattle.std.specs.List.{list_any}
 use Rattle.std.specs.Prelude.{if◌then◌else◌}
 use Rattle.gpu_descriptor_types.proofs.Counting.{count_by_no}
 use Rattle.gpu_descriptor_types.specs.Multiset.{LiveSet, set_eq}
-use Rattle.gpu_descriptor.specs.Agreement.{State, Item, Agree, set_of}
-use Rattle.gpu_descriptor.specs.Books.{Key, key_eq, Bucket, Entry, entry_at}
-use Rattle.gpu_descriptor.specs.OtherKeys.{IsUntouched, ReleaseOthers}
-use Rattle.gpu_descriptor.specs.Release.{given_back, released, spent_front, in_front, lies_in, pool_less}
+use Rattle.gpu_descriptor.specs.Model.Agreement.{State, Item, Agree, set_of}
+use Rattle.gpu_descriptor.specs.Model.Books.{Key, key_eq, Bucket, Entry, entry_at}
+use Rattle.gpu_descriptor.specs.Model.Promises.{IsUntouched}
+use Rattle.gpu_descriptor.specs.Laws.Release.{ReleaseOthers}
+use Rattle.gpu_descriptor.specs.Model.Release.{given_back, released, spent_front, in_front, lies_in, pool_less}
 use Rattle.gpu_descriptor.proofs.Exact.{key_exact}
 use Rattle.gpu_descriptor.proofs.Fronts.{entry_at-from}
 use Rattle.gpu_descriptor.proofs.Kept.{front_found, none_back}

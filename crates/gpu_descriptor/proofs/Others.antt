@@ -1,8 +1,9 @@
 -- Agreement, and what is outstanding, speak of the pools in the books alone.
 use Rattle.std.proofs.Common.{◌≡◌, ℕ, Option, Some, inl, inr, refl, sym, ap, ◌∙◌}
 use Rattle.std.specs.Option.{option_map_or}
-use Rattle.gpu_descriptor.specs.Agreement.{set_of, live_in, outstanding, OwnAgrees, OwnOutstanding}
-use Rattle.gpu_descriptor.specs.Books.{Key, Entry, Bucket, entry_at}
+use Rattle.gpu_descriptor.specs.Model.Agreement.{set_of, live_in, outstanding}
+use Rattle.gpu_descriptor.specs.Laws.Agreement.{OwnAgrees, OwnOutstanding}
+use Rattle.gpu_descriptor.specs.Model.Books.{Key, Entry, Bucket, entry_at}
 use Rattle.gpu_descriptor_types.specs.Ledger.{Pool}
 use Rattle.gpu_descriptor.proofs.Kept.{cases_option}
 

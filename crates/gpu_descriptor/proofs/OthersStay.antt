@@ -5,12 +5,13 @@ use Rattle.std.specs.List.{list_any}
 use Rattle.std.proofs.lemmas.Bool.{cases_Bool, or_cases, or_left, or_right}
 use Rattle.std.proofs.lemmas.List.{nil_from_length}
 use Rattle.gpu_descriptor_types.specs.Ledger.{Pool, Ledger}
-use Rattle.gpu_descriptor.specs.Agreement.{State, Item, Agree, count_of, outstanding}
-use Rattle.gpu_descriptor.specs.Books.{Key, key_eq, Entry, Bucket, HasDistinctKeys, books_of, entry_at, no_pools}
-use Rattle.gpu_descriptor.specs.Cleanup.{IsCleaned}
-use Rattle.gpu_descriptor.specs.Foreign.{IsForeign, IsNamed, KeepsForeign, LosesNone, is_named, others_of}
-use Rattle.gpu_descriptor.specs.States.{outstanding_of, state_of, table_of}
-use Rattle.gpu_descriptor.specs.Values.{Allocations}
+use Rattle.gpu_descriptor.specs.Model.Agreement.{State, Item, Agree, count_of, outstanding}
+use Rattle.gpu_descriptor.specs.Model.Books.{Key, key_eq, Entry, Bucket, HasDistinctKeys, books_of, entry_at, no_pools}
+use Rattle.gpu_descriptor.specs.Model.Cleanup.{IsCleaned}
+use Rattle.gpu_descriptor.specs.Model.Foreign.{IsForeign, IsNamed, KeepsForeign, LosesNone}
+use Rattle.gpu_descriptor.specs.Caller.Others.{is_named, others_of}
+use Rattle.gpu_descriptor.specs.Caller.States.{outstanding_of, state_of, table_of}
+use Rattle.gpu_descriptor.specs.Caller.Values.{Allocations}
 use Rattle.gpu_descriptor.proofs.Cleaning.{nothing_left}
 use Rattle.gpu_descriptor.proofs.Exact.{key_exact}
 use Rattle.gpu_descriptor.proofs.Foreign.{cleaned_foreign, cleaned_loses}

@@ -7,13 +7,14 @@ use Rattle.std.proofs.lemmas.List.Sums.{sum_by-append, sum_by-cons}
 use Rattle.gpu_descriptor_types.specs.Ledger.{Pool, live_sets}
 use Rattle.gpu_descriptor_types.specs.Multiset.{LiveSet, set_eq, times}
 use Rattle.gpu_descriptor_types.proofs.Counting.{count_by_yes, count_by_no, counts_alike, set_exact}
-use Rattle.gpu_descriptor.specs.Agreement.{Item, item_eq, set_of, count_of}
-use Rattle.gpu_descriptor.specs.Books.{Key, key_eq, Entry, Bucket, books_of, HasDistinctKeys, sum_over}
-use Rattle.gpu_descriptor.specs.Grants.{items_at}
-use Rattle.gpu_descriptor.specs.Frees.{descriptors_of, marked_descriptors, LoadIsDescriptors}
-use Rattle.gpu_descriptor.specs.Load.{descriptors_out, held, sets_out, OutIsLength, OutIsSize}
-use Rattle.gpu_descriptor.specs.Buckets.{IsBookedIn}
-use Rattle.gpu_descriptor.specs.Walk.{live_at}
+use Rattle.gpu_descriptor.specs.Model.Agreement.{Item, item_eq, set_of, count_of}
+use Rattle.gpu_descriptor.specs.Model.Books.{Key, key_eq, Entry, Bucket, books_of, HasDistinctKeys, sum_over}
+use Rattle.gpu_descriptor.specs.Model.Grants.{items_at}
+use Rattle.gpu_descriptor.specs.Caller.Frees.{descriptors_of, marked_descriptors}
+use Rattle.gpu_descriptor.specs.Laws.Load.{LoadIsDescriptors, OutIsLength, OutIsSize}
+use Rattle.gpu_descriptor.specs.Model.Load.{descriptors_out, held, sets_out}
+use Rattle.gpu_descriptor.specs.Inner.Buckets.{IsBookedIn}
+use Rattle.gpu_descriptor.specs.Inner.Walk.{live_at}
 use Rattle.gpu_descriptor.proofs.Exact.{item_exact, key_exact}
 use Rattle.gpu_descriptor.proofs.Holding.{count_of-append}
 use Rattle.gpu_descriptor.proofs.KeepKey.{place_of_items, count_of_items, count_elsewhere}

@@ -7,9 +7,10 @@ use Rattle.std.proofs.lemmas.Bool.{cases_Bool, false_from_ne_true, and_parts, an
 use Rattle.std.proofs.lemmas.List.{length-map}
 use Rattle.std.proofs.lemmas.List.Sums.{length-filter, count_by-le-length}
 use Rattle.std.proofs.lemmas.Option.{slice_get-map}
-use Rattle.gpu_descriptor.specs.Agreement.{set_of, State, Item, item_eq, count_of, live_in, outstanding, AreOutstanding, HasSize, Agree, EmptyAgrees}
-use Rattle.gpu_descriptor.specs.Books.{Key, key_eq, Entry, Bucket, entry_at, no_pools}
-use Rattle.gpu_descriptor.specs.Release.{lies_in, entry_less, bucket_less, is_empty, empty_front, spent_front, without_front, released}
+use Rattle.gpu_descriptor.specs.Model.Agreement.{set_of, State, Item, item_eq, count_of, live_in, outstanding, AreOutstanding, HasSize, Agree}
+use Rattle.gpu_descriptor.specs.Laws.Agreement.{EmptyAgrees}
+use Rattle.gpu_descriptor.specs.Model.Books.{Key, key_eq, Entry, Bucket, entry_at, no_pools}
+use Rattle.gpu_descriptor.specs.Model.Release.{lies_in, entry_less, bucket_less, is_empty, empty_front, spent_front, without_front, released}
 use Rattle.gpu_descriptor_types.specs.Ledger.{Pool}
 use Rattle.gpu_descriptor_types.specs.Multiset.{LiveSet, set_eq}
 use Rattle.gpu_descriptor.proofs.Fronts.{entry_at-found, entry_at-without, entry_at-kept}

@@ -2,9 +2,10 @@
 use Rattle.std.proofs.Common.{◌≡◌, ◌*◌, max, true, Some, length, refl, sym, ap, ◌∙◌, arith, sum}
 use Rattle.gpu_descriptor_types.proofs.PoolCounts.{pool_counts_sum}
 use Rattle.gpu_descriptor_types.specs.Ledger.{Pool}
-use Rattle.gpu_descriptor.specs.Agreement.{IsAsBooked}
-use Rattle.gpu_descriptor.specs.Books.{Key, Entry}
-use Rattle.gpu_descriptor.specs.Load.{pool_load, PoolLoadIsCounts}
+use Rattle.gpu_descriptor.specs.Model.Agreement.{IsAsBooked}
+use Rattle.gpu_descriptor.specs.Model.Books.{Key, Entry}
+use Rattle.gpu_descriptor.specs.Model.Load.{pool_load}
+use Rattle.gpu_descriptor.specs.Laws.Load.{PoolLoadIsCounts}
 
 pub booked_load : (k : Key) (pool : Pool) (e : Entry) → length k.counts ≡ 14 → k.marked ≡ true → IsAsBooked k pool e → sum pool.counts ≡ pool_load k e.capacity
 booked_load k pool e long marked booked =

@@ -3,9 +3,9 @@ use Rattle.std.proofs.Common.{◌≡◌, ℕ, zero, suc, ◌+◌, ◌<◌, List,
 use Rattle.std.specs.Prelude.{set}
 use Rattle.std.proofs.lemmas.List.Sums.{sum_by-cons}
 use Rattle.gpu_descriptor.specs.declared.bucket.DescriptorPool.{DescriptorPool}
-use Rattle.gpu_descriptor.specs.Books.{Key}
-use Rattle.gpu_descriptor.specs.Load.{pool_load}
-use Rattle.gpu_descriptor.specs.Stored.{stored_load}
+use Rattle.gpu_descriptor.specs.Model.Books.{Key}
+use Rattle.gpu_descriptor.specs.Model.Load.{pool_load}
+use Rattle.gpu_descriptor.specs.Inner.Stored.{stored_load}
 
 module _ {P : Type 0} (k : Key) where
   cons : (p : DescriptorPool P) (ps : List (DescriptorPool P)) → stored_load k (p ∷ ps) ≡ pool_load k p.capacity + stored_load k ps

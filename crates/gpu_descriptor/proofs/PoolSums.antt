@@ -5,10 +5,11 @@ use Rattle.std.specs.Option.{option_map_or}
 use Rattle.std.proofs.lemmas.Bool.{cases_Bool}
 use Rattle.std.proofs.lemmas.List.Sums.{sum_by-cons}
 use Rattle.gpu_descriptor_types.specs.Ledger.{Pool}
-use Rattle.gpu_descriptor.specs.Agreement.{State, Agree}
-use Rattle.gpu_descriptor.specs.Books.{Key, Entry, Bucket, no_pools, books_of, HasDistinctKeys, sum_over}
-use Rattle.gpu_descriptor.specs.Buckets.{IsBookedIn}
-use Rattle.gpu_descriptor.specs.Load.{held, pool_load, pools_load, bucket_load, created_with, descriptors_created, descriptors_out, PoolLoadIsCreated, MarkedWithinPools}
+use Rattle.gpu_descriptor.specs.Model.Agreement.{State, Agree}
+use Rattle.gpu_descriptor.specs.Model.Books.{Key, Entry, Bucket, no_pools, books_of, HasDistinctKeys, sum_over}
+use Rattle.gpu_descriptor.specs.Inner.Buckets.{IsBookedIn}
+use Rattle.gpu_descriptor.specs.Model.Load.{held, pool_load, pools_load, bucket_load, descriptors_out}
+use Rattle.gpu_descriptor.specs.Laws.Load.{created_with, descriptors_created, PoolLoadIsCreated, MarkedWithinPools}
 use Rattle.gpu_descriptor.proofs.KeepState.{booked_of}
 use Rattle.gpu_descriptor.proofs.Loads.{load_at, load_at-none, load_at-add, load_at-le}
 use Rattle.gpu_descriptor.proofs.PoolCounts.{booked_load}

@@ -12,23 +12,22 @@ use Rattle.gpu_descriptor_types.specs.declared.errors.DeviceAllocationError.{Dev
 use Rattle.gpu_descriptor_types.specs.declared.errors.DeviceAllocationError.TheVariants as alloc_error
 use Rattle.gpu_descriptor.specs.declared.errors.AllocationError.{AllocationError}
 use Rattle.gpu_descriptor.specs.declared.errors.AllocationError.TheVariants.{OutOfHostMemory, Fragmentation}
-use Rattle.gpu_descriptor.specs.Agreement.{State, Item}
-use Rattle.gpu_descriptor.specs.Books.{Key, Entry, Bucket, next_number}
-use Rattle.gpu_descriptor.specs.Errors.{error_of_create, error_of_alloc}
-use Rattle.gpu_descriptor.specs.FreshPools.{Fresh, AreNew, IsNextSize, room_after, AreSized, AreFull, IsFreshList, given_by, fresh_portions}
-use Rattle.gpu_descriptor.specs.Grants.{Grant, Part, portion_of, items_at, items_in, came, granted, fresh_or, pool_with}
-use Rattle.gpu_descriptor.specs.Outcomes.{Allocates, Call, IsBack, IsDone, IsStoppedAtPool, IsStoppedAtCreate, IsStoppedAtFresh, IsFront, HasRoomLeft, IsGrant, out_then, wanting, no_rise}
-use Rattle.gpu_descriptor.specs.Outcomes.Allocates.{none, limit, bound, start, done, stopped_at_pool, stopped_without_room, stopped_at_create, stopped_for_memory, stopped_at_fresh}
-use Rattle.gpu_descriptor.specs.FreshPools.IsFreshList.{none as no_fresh, some as some_fresh}
+use Rattle.gpu_descriptor.specs.Model.Agreement.{State, Item}
+use Rattle.gpu_descriptor.specs.Model.Books.{Key, Entry, Bucket, next_number}
+use Rattle.gpu_descriptor.specs.Model.Outcomes.{error_of_create, error_of_alloc, Allocates, Call, IsBack, IsDone, IsStoppedAtPool, IsStoppedAtCreate, IsStoppedAtFresh, IsFront, HasRoomLeft, IsGrant, out_then, wanting, no_rise}
+use Rattle.gpu_descriptor.specs.Model.FreshPools.{Fresh, AreNew, IsNextSize, room_after, AreSized, AreFull, IsFreshList, given_by, fresh_portions}
+use Rattle.gpu_descriptor.specs.Model.Grants.{Grant, Part, portion_of, items_at, items_in, came, granted, fresh_or, pool_with}
+use Rattle.gpu_descriptor.specs.Model.Outcomes.Allocates.{none, limit, bound, start, done, stopped_at_pool, stopped_without_room, stopped_at_create, stopped_for_memory, stopped_at_fresh}
+use Rattle.gpu_descriptor.specs.Model.FreshPools.IsFreshList.{none as no_fresh, some as some_fresh}
 use Rattle.std.proofs.lemmas.Bool.{cases_Bool}
-use Rattle.gpu_descriptor.specs.Promises.{HasCause, HasNewPools, EndsWith, IsShort, CreatesOnlyWhereShort, last_refusal}
-use Rattle.gpu_descriptor.specs.Promises.EndsWith.{met as met_all, without_room, for_memory, at_create, at_fresh}
-use Rattle.gpu_descriptor.specs.Promises.IsFragmentation.{above_limit, past_bound, no_room_left, no_pool_created, new_pool_refused}
-use Rattle.gpu_descriptor.specs.Promises.IsHostMemory.{device_refused, no_memory_at_start, no_memory_for_a_pool}
-use Rattle.gpu_descriptor.specs.Load.{pool_load}
+use Rattle.gpu_descriptor.specs.Model.Promises.{HasCause, HasNewPools, EndsWith, IsShort, CreatesOnlyWhereShort, last_refusal}
+use Rattle.gpu_descriptor.specs.Model.Promises.EndsWith.{met as met_all, without_room, for_memory, at_create, at_fresh}
+use Rattle.gpu_descriptor.specs.Model.Promises.IsFragmentation.{above_limit, past_bound, no_room_left, no_pool_created, new_pool_refused}
+use Rattle.gpu_descriptor.specs.Model.Promises.IsHostMemory.{device_refused, no_memory_at_start, no_memory_for_a_pool}
+use Rattle.gpu_descriptor.specs.Model.Load.{pool_load}
 use Rattle.gpu_descriptor.proofs.NextSize.{next_whole, one_fits, some_fit, room_falls}
 use Rattle.gpu_descriptor.proofs.NewPools.{AreFilled, met, unmet, shares_used, done_new_pools, done_filled, released_pool, back_new_pools}
-use Rattle.gpu_descriptor.specs.Shares.{Portion, offer, rest, portions_of, refused_count, OnlyAskedRefuse}
+use Rattle.gpu_descriptor.specs.Model.Shares.{Portion, offer, rest, portions_of, refused_count, OnlyAskedRefuse}
 
 -- ---- how many sets
 

@@ -3,14 +3,14 @@ use Rattle.std.proofs.lemmas.Option.{slice_get-map}
 use Rattle.std.proofs.lemmas.List.{length-map}
 use Rattle.gpu_descriptor.specs.declared.view.PoolView.{PoolView}
 use Rattle.gpu_descriptor.specs.declared.bucket.DescriptorPool.{DescriptorPool}
-use Rattle.gpu_descriptor.specs.Books.{Key, key_eq}
+use Rattle.gpu_descriptor.specs.Model.Books.{Key, key_eq}
 use Rattle.gpu_descriptor.proofs.Tables.{key_eq_symm}
 use Rattle.gpu_descriptor.specs.declared.set.BucketKey.{BucketKey}
 use Rattle.gpu_descriptor.specs.declared.bucket.DescriptorBucket.{DescriptorBucket}
-use Rattle.gpu_descriptor.specs.Sets.{key_of}
-use Rattle.gpu_descriptor.specs.Values.{Kept, Row, Allocations}
-use Rattle.gpu_descriptor.specs.Stored.{kept_of, row_of}
-use Rattle.gpu_descriptor.specs.Views.{pools_at, first_at, view_at}
+use Rattle.gpu_descriptor.specs.Caller.Sets.{key_of}
+use Rattle.gpu_descriptor.specs.Caller.Values.{Kept, Row, Allocations}
+use Rattle.gpu_descriptor.specs.Inner.Stored.{kept_of, row_of}
+use Rattle.gpu_descriptor.specs.Caller.Views.{pools_at, first_at, view_at}
 use Rattle.std.proofs.Common.{zero, suc, ◌<◌, ◌≤◌, length, get_or, arith, ◌≡◌, ℕ, ◌+◌, Bool, List, [], ◌∷◌, map, slice_get, Option, Some, None, option_map, inl, inr, refl, sym, ap, ◌∙◌}
 use Rattle.std.specs.Map.{lookup}
 use Rattle.std.specs.Option.{option_map_or}

@@ -10,11 +10,11 @@ use Rattle.gpu_descriptor.specs.declared.set.BucketKey.{BucketKey}
 use Rattle.gpu_descriptor.specs.declared.set.DescriptorSet.{DescriptorSet}
 use Rattle.gpu_descriptor.specs.declared.bucket.DescriptorBucket.{DescriptorBucket}
 use Rattle.gpu_descriptor.specs.declared.take.Refusal.{Refusal}
-use Rattle.gpu_descriptor.specs.Books.{Key, key_eq, Bucket, no_pools, next_number}
-use Rattle.gpu_descriptor.specs.Sets.{key_of, items_of}
-use Rattle.gpu_descriptor.specs.Stored.{books_in, entry_of, bucket_of, load_of, load_in}
-use Rattle.gpu_descriptor.specs.Grow.{IsTakenAll, IsTakenUpTo}
-use Rattle.gpu_descriptor.specs.Serves.{Serves, ServesKey}
+use Rattle.gpu_descriptor.specs.Model.Books.{Key, key_eq, Bucket, no_pools, next_number}
+use Rattle.gpu_descriptor.specs.Caller.Sets.{key_of, items_of}
+use Rattle.gpu_descriptor.specs.Inner.Stored.{books_in, entry_of, bucket_of, load_of, load_in}
+use Rattle.gpu_descriptor.specs.Inner.Grow.{IsTakenAll, IsTakenUpTo}
+use Rattle.gpu_descriptor.specs.Inner.Serves.{Serves, ServesKey}
 use Rattle.gpu_descriptor.proofs.Exact.{key_exact}
 use Rattle.gpu_descriptor.proofs.Loads.{sum_set, load_at, load_at-add}
 use Rattle.gpu_descriptor.proofs.TableBooks.{put_books, written, looked_up, row_bucket}

@@ -14,17 +14,18 @@ use Rattle.gpu_descriptor.specs.declared.set.BucketKey.{BucketKey}
 use Rattle.gpu_descriptor.specs.declared.set.DescriptorSet.{DescriptorSet}
 use Rattle.gpu_descriptor.specs.declared.bucket.DescriptorBucket.{DescriptorBucket}
 use Rattle.gpu_descriptor.specs.declared.take.Refusal.{Refusal}
-use Rattle.gpu_descriptor.specs.Books.{Key, key_eq, Bucket, HasDistinctKeys, books_of, next_number}
-use Rattle.gpu_descriptor.specs.Load.{IsOut, IsMarkedLoad, IsPoolLoad}
-use Rattle.gpu_descriptor.specs.Outcomes.{Allocates, IsWithinLimit, Stays}
-use Rattle.gpu_descriptor.specs.Outcomes.Allocates.{limit, bound, start}
-use Rattle.gpu_descriptor.specs.Requests.{call_of, Takes}
-use Rattle.gpu_descriptor.specs.Serves.{ServesKey, IsUnserved}
-use Rattle.gpu_descriptor.specs.Sets.{key_of, items_of}
-use Rattle.gpu_descriptor.specs.States.{named_row, sets_in, descriptors_in, pool_load_in, state_of, table_of, outstanding_of, marked_load_of, pool_load_of}
-use Rattle.gpu_descriptor.specs.Stored.{IsCounted, row_of, load_in, load_of, stored_load_in, books_in}
-use Rattle.gpu_descriptor.specs.Grow.{IsTakenAll, IsTakenUpTo}
-use Rattle.gpu_descriptor.specs.Values.{Allocations, Row}
+use Rattle.gpu_descriptor.specs.Model.Books.{Key, key_eq, Bucket, HasDistinctKeys, books_of, next_number}
+use Rattle.gpu_descriptor.specs.Model.Load.{IsOut, IsMarkedLoad, IsPoolLoad}
+use Rattle.gpu_descriptor.specs.Model.Outcomes.{Allocates, IsWithinLimit, Stays}
+use Rattle.gpu_descriptor.specs.Model.Outcomes.Allocates.{limit, bound, start}
+use Rattle.gpu_descriptor.specs.Caller.Call.{call_of}
+use Rattle.gpu_descriptor.specs.Inner.Takes.{Takes}
+use Rattle.gpu_descriptor.specs.Inner.Serves.{ServesKey, IsUnserved}
+use Rattle.gpu_descriptor.specs.Caller.Sets.{key_of, items_of}
+use Rattle.gpu_descriptor.specs.Caller.States.{named_row, sets_in, descriptors_in, pool_load_in, state_of, table_of, outstanding_of, marked_load_of, pool_load_of}
+use Rattle.gpu_descriptor.specs.Inner.Stored.{IsCounted, row_of, load_in, load_of, stored_load_in, books_in}
+use Rattle.gpu_descriptor.specs.Inner.Grow.{IsTakenAll, IsTakenUpTo}
+use Rattle.gpu_descriptor.specs.Caller.Values.{Allocations, Row}
 use Rattle.gpu_descriptor.proofs.Exact.{key_exact}
 use Rattle.gpu_descriptor.proofs.Loads.{rows_out, rows_load, rows_pool_load}
 use Rattle.gpu_descriptor.proofs.TableBooks.{rows_are, distinct_keys}

@@ -9,14 +9,13 @@ use Rattle.gpu_descriptor_types.proofs.Counting.{any_found, count_by_yes, count_
 use Rattle.gpu_descriptor_types.specs.Ledger.{Counters, alloc_refused}
 use Rattle.gpu_descriptor_types.specs.declared.errors.DeviceAllocationError.{DeviceAllocationError}
 use Rattle.gpu_descriptor_types.specs.declared.errors.DeviceAllocationError.TheVariants as alloc_error
-use Rattle.gpu_descriptor.specs.Agreement.{State, Item, item_eq, count_of, Agree}
-use Rattle.gpu_descriptor.specs.Books.{Key, key_eq, Bucket, books_of, no_pools, HasDistinctKeys}
-use Rattle.gpu_descriptor.specs.Buckets.{more_released, more_destroyed}
-use Rattle.gpu_descriptor.specs.Frees.{descriptors_of, marked_descriptors}
-use Rattle.gpu_descriptor.specs.Outcomes.{no_rise, risen}
-use Rattle.gpu_descriptor.specs.Release.{given_back, released, pools_gone, spent_front, bucket_less}
-use Rattle.gpu_descriptor.specs.States.{named_row}
-use Rattle.gpu_descriptor.specs.Values.{Row}
+use Rattle.gpu_descriptor.specs.Model.Agreement.{State, Item, item_eq, count_of, Agree}
+use Rattle.gpu_descriptor.specs.Model.Books.{Key, key_eq, Bucket, books_of, no_pools, HasDistinctKeys}
+use Rattle.gpu_descriptor.specs.Model.Release.{more_released, more_destroyed, given_back, released, pools_gone, spent_front, bucket_less}
+use Rattle.gpu_descriptor.specs.Caller.Frees.{descriptors_of, marked_descriptors}
+use Rattle.gpu_descriptor.specs.Model.Outcomes.{no_rise, risen}
+use Rattle.gpu_descriptor.specs.Caller.States.{named_row}
+use Rattle.gpu_descriptor.specs.Caller.Values.{Row}
 use Rattle.gpu_descriptor.proofs.Asks.{same_counters}
 use Rattle.gpu_descriptor.proofs.Exact.{key_exact, item_exact}
 use Rattle.gpu_descriptor.proofs.Kept.{none_back}

@@ -4,9 +4,9 @@ use Rattle.std.proofs.Math.Nat.{mul-le-mul_right}
 use Rattle.std.proofs.lemmas.Bool.{cases_Bool}
 use Rattle.std.proofs.lemmas.List.Sums.{sum_by-cons}
 use Rattle.std.specs.Prelude.{IsTrue, sum, sum_by, ◌==◌, if◌then◌else◌}
-use Rattle.gpu_descriptor.specs.Agreement.{flags_of}
-use Rattle.gpu_descriptor.specs.Books.{Key, Entry}
-use Rattle.gpu_descriptor.specs.Buckets.{IsBookedIn}
+use Rattle.gpu_descriptor.specs.Model.Agreement.{flags_of}
+use Rattle.gpu_descriptor.specs.Model.Books.{Key, Entry}
+use Rattle.gpu_descriptor.specs.Inner.Buckets.{IsBookedIn}
 use Rattle.gpu_descriptor_types.proofs.Counting.{count_by_yes, count_by_no, set_exact}
 use Rattle.gpu_descriptor_types.specs.Flags.{IsUpdateAfterBind}
 use Rattle.gpu_descriptor_types.specs.Ledger.{Ledger, HasRoom}

@@ -12,16 +12,16 @@ use Rattle.gpu_descriptor_types.specs.Ledger.{Pool, Ledger}
 use Rattle.gpu_descriptor.specs.declared.set.BucketKey.{BucketKey}
 use Rattle.gpu_descriptor.specs.declared.bucket.DescriptorPool.{DescriptorPool}
 use Rattle.gpu_descriptor.specs.declared.bucket.DescriptorBucket.{DescriptorBucket}
-use Rattle.gpu_descriptor.specs.Agreement.{State, Agree}
-use Rattle.gpu_descriptor.specs.Allocated.{allocated_in}
-use Rattle.gpu_descriptor.specs.Books.{Key, key_eq, Bucket, entry_at, no_pools, books_of, HasDistinctKeys}
-use Rattle.gpu_descriptor.specs.Buckets.{AreBookedIn, has_pools, cleared_bucket, cleared_ledger, pools_without, more_destroyed}
-use Rattle.gpu_descriptor.specs.Cleanup.{cleaned_bucket, IsCleaned, pools_cleaned}
-use Rattle.gpu_descriptor.specs.Release.{empty_front, in_front}
-use Rattle.gpu_descriptor.specs.Sets.{key_of}
-use Rattle.gpu_descriptor.specs.States.{named_row, state_of, keys_of}
-use Rattle.gpu_descriptor.specs.Stored.{row_of, entry_of, bucket_of, load_of, stored_load_in, stored_load, IsCounted}
-use Rattle.gpu_descriptor.specs.Values.{Allocations, Row}
+use Rattle.gpu_descriptor.specs.Model.Agreement.{State, Agree}
+use Rattle.gpu_descriptor.specs.Inner.Allocated.{allocated_in}
+use Rattle.gpu_descriptor.specs.Model.Books.{Key, key_eq, Bucket, entry_at, no_pools, books_of, HasDistinctKeys}
+use Rattle.gpu_descriptor.specs.Inner.Buckets.{AreBookedIn, has_pools, cleared_bucket, cleared_ledger, pools_without}
+use Rattle.gpu_descriptor.specs.Model.Release.{more_destroyed, empty_front, in_front}
+use Rattle.gpu_descriptor.specs.Model.Cleanup.{cleaned_bucket, IsCleaned, pools_cleaned}
+use Rattle.gpu_descriptor.specs.Caller.Sets.{key_of}
+use Rattle.gpu_descriptor.specs.Caller.States.{named_row, state_of, keys_of}
+use Rattle.gpu_descriptor.specs.Inner.Stored.{row_of, entry_of, bucket_of, load_of, stored_load_in, stored_load, IsCounted}
+use Rattle.gpu_descriptor.specs.Caller.Values.{Allocations, Row}
 use Rattle.gpu_descriptor.proofs.Cleaning.{cleaned_cases}
 use Rattle.gpu_descriptor.proofs.Exact.{key_exact}
 use Rattle.gpu_descriptor.proofs.Fronts.{entry_at-from}

@@ -3,10 +3,10 @@ use Rattle.std.proofs.Common.{◌≡◌, ◌≢◌, ℕ, zero, suc, ◌+◌, ◌
 use Rattle.std.specs.Prelude.{if◌then◌else◌}
 use Rattle.std.proofs.Math.Path.{fun_ext}
 use Rattle.std.proofs.lemmas.Bool.{cases_Bool}
-use Rattle.gpu_descriptor.specs.Agreement.{set_of, State, Item, count_of, Agree}
-use Rattle.gpu_descriptor.specs.Books.{Key, Entry, Bucket, entry_at}
-use Rattle.gpu_descriptor.specs.Buckets.{HasDistinctNames}
-use Rattle.gpu_descriptor.specs.Release.{lies_in, entry_less, given_back, is_empty, spent_front, without_front}
+use Rattle.gpu_descriptor.specs.Model.Agreement.{set_of, State, Item, count_of, Agree}
+use Rattle.gpu_descriptor.specs.Model.Books.{Key, Entry, Bucket, entry_at}
+use Rattle.gpu_descriptor.specs.Inner.Buckets.{HasDistinctNames}
+use Rattle.gpu_descriptor.specs.Model.Release.{lies_in, entry_less, given_back, is_empty, spent_front, without_front}
 use Rattle.gpu_descriptor_types.specs.Multiset.{LiveSet, set_eq}
 use Rattle.gpu_descriptor.proofs.Fronts.{spent, spent_yes, spent_no, spent_one, entry_at-from}
 use Rattle.gpu_descriptor_types.proofs.Counting.{count_by_yes, count_by_alike, count_by_none}

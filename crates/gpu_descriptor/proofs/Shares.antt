@@ -4,8 +4,8 @@ use Rattle.std.proofs.lemmas.Bool.{cases_Bool}
 use Rattle.std.proofs.lemmas.List.Sums.{sum_by-cons}
 use Rattle.std.specs.List.{slice_get}
 use Rattle.std.specs.Prelude.{if◌then◌else◌, sum_by}
-use Rattle.gpu_descriptor.specs.Books.{Entry}
-use Rattle.gpu_descriptor.specs.Shares.{offer, rest, is_asked, share, shared, all_shared, asked_count, refused_count, asks, OnlyAskedRefuse, portions_of}
+use Rattle.gpu_descriptor.specs.Model.Books.{Entry}
+use Rattle.gpu_descriptor.specs.Model.Shares.{offer, rest, is_asked, share, shared, all_shared, asked_count, refused_count, asks, OnlyAskedRefuse, portions_of}
 
 -- the pools of the list aren't of this name
 abbrev pub IsApart : ℕ → List Entry → Type 0

@@ -9,8 +9,8 @@ use mathlib.Core.HLevel.{is_prop→PathP}
 use Rattle.gpu_descriptor_types.specs.Ledger.{Pool, live_sets}
 use Rattle.gpu_descriptor_types.specs.Multiset.{LiveSet, set_eq, times, Spells}
 use Rattle.gpu_descriptor_types.proofs.Counting.{count_by_yes, count_by_no, set_exact}
-use Rattle.gpu_descriptor.specs.Agreement.{HasSize, IsAsBooked}
-use Rattle.gpu_descriptor.specs.Books.{Key, Entry}
+use Rattle.gpu_descriptor.specs.Model.Agreement.{HasSize, IsAsBooked}
+use Rattle.gpu_descriptor.specs.Model.Books.{Key, Entry}
 use Rattle.gpu_descriptor.proofs.LedgerPools.{only_these}
 
 -- the numbers rise, from low on

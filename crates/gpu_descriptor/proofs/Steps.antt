@@ -8,11 +8,11 @@ use Rattle.std.proofs.lemmas.List.Sums.{sum_by-cons}
 use Rattle.std.proofs.Math.Seq.{set-append_seam}
 use Rattle.std.specs.Prelude.{if◌then◌else◌, option_map}
 use Rattle.gpu_descriptor_types.proofs.Counting.{times-append}
-use Rattle.gpu_descriptor.specs.Books.{Key, Entry}
-use Rattle.gpu_descriptor.specs.Grants.{Grant, Part, portion_of, came, pool_with, ledger_with}
-use Rattle.gpu_descriptor.specs.Outcomes.{no_rise, risen, grant_rise}
-use Rattle.gpu_descriptor.specs.Shares.{offer, rest, is_asked, share, shared, all_shared, asked_count, refused_count, OnlyAskedRefuse, portions_of}
-use Rattle.gpu_descriptor.specs.Walk.{IsAsked, HasTaken}
+use Rattle.gpu_descriptor.specs.Model.Books.{Key, Entry}
+use Rattle.gpu_descriptor.specs.Model.Grants.{Grant, Part, portion_of, came, pool_with, ledger_with}
+use Rattle.gpu_descriptor.specs.Model.Outcomes.{no_rise, risen, grant_rise}
+use Rattle.gpu_descriptor.specs.Model.Shares.{offer, rest, is_asked, share, shared, all_shared, asked_count, refused_count, OnlyAskedRefuse, portions_of}
+use Rattle.gpu_descriptor.specs.Inner.Walk.{IsAsked, HasTaken}
 use Rattle.gpu_descriptor_types.specs.Ledger.{Pool, Ledger, Counters, live_sets, changed, on_pool}
 use Rattle.gpu_descriptor_types.specs.Multiset.{LiveSet, times}
 use Rattle.gpu_descriptor.proofs.Asks.{same_counters, same_entry}

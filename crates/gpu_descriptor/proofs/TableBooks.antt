@@ -9,11 +9,11 @@ use Rattle.gpu_descriptor_types.proofs.Counting.{count_by_yes, count_by_no}
 use Rattle.gpu_descriptor.specs.declared.set.BucketKey.{BucketKey}
 use Rattle.gpu_descriptor.specs.declared.bucket.DescriptorPool.{DescriptorPool}
 use Rattle.gpu_descriptor.specs.declared.bucket.DescriptorBucket.{DescriptorBucket}
-use Rattle.gpu_descriptor.specs.Books.{Key, key_eq, Entry, Bucket, no_pools, HasDistinctKeys}
-use Rattle.gpu_descriptor.specs.Sets.{key_of}
-use Rattle.gpu_descriptor.specs.States.{named, named_row, keys_of}
-use Rattle.gpu_descriptor.specs.Stored.{books_in, kept_of, row_of, entry_of, bucket_of}
-use Rattle.gpu_descriptor.specs.Values.{Allocations, Row}
+use Rattle.gpu_descriptor.specs.Model.Books.{Key, key_eq, Entry, Bucket, no_pools, HasDistinctKeys}
+use Rattle.gpu_descriptor.specs.Caller.Sets.{key_of}
+use Rattle.gpu_descriptor.specs.Caller.States.{named, named_row, keys_of}
+use Rattle.gpu_descriptor.specs.Inner.Stored.{books_in, kept_of, row_of, entry_of, bucket_of}
+use Rattle.gpu_descriptor.specs.Caller.Values.{Allocations, Row}
 use Rattle.gpu_descriptor.proofs.Exact.{key_exact}
 use Rattle.gpu_descriptor.proofs.Tables.{key_eq_symm}
 

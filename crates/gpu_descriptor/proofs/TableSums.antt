@@ -5,11 +5,11 @@ use Rattle.std.proofs.lemmas.List.{length-map}
 use Rattle.std.proofs.lemmas.List.Sums.{sum_by-cons}
 use Rattle.std.proofs.lemmas.Option.{slice_get-map}
 use Rattle.gpu_descriptor.specs.declared.view.PoolView.{PoolView}
-use Rattle.gpu_descriptor.specs.Books.{Key, key_eq, Entry, Bucket, books_of, sum_over}
-use Rattle.gpu_descriptor.specs.Load.{held, pool_load, pools_load, bucket_load, sets_out, descriptors_out}
-use Rattle.gpu_descriptor.specs.States.{named, named_row, table_of, sets_in, descriptors_in, pool_load_in, outstanding_of, marked_load_of, pool_load_of}
-use Rattle.gpu_descriptor.specs.Values.{Kept, Row, Allocations}
-use Rattle.gpu_descriptor.specs.Views.{first_at, pools_at, view_at, view_in}
+use Rattle.gpu_descriptor.specs.Model.Books.{Key, key_eq, Entry, Bucket, books_of, sum_over}
+use Rattle.gpu_descriptor.specs.Model.Load.{held, pool_load, pools_load, bucket_load, sets_out, descriptors_out}
+use Rattle.gpu_descriptor.specs.Caller.States.{named, named_row, table_of, sets_in, descriptors_in, pool_load_in, outstanding_of, marked_load_of, pool_load_of}
+use Rattle.gpu_descriptor.specs.Caller.Values.{Kept, Row, Allocations}
+use Rattle.gpu_descriptor.specs.Caller.Views.{first_at, pools_at, view_at, view_in}
 use Rattle.gpu_descriptor.proofs.Loads.{load_at}
 
 module _ {P : Type 0} (name : P → ℕ) where

@@ -3,7 +3,8 @@ use Rattle.std.proofs.Common.{◌≡◌, ℕ, ◌+◌, ◌≤◌, true, false, c
 use Rattle.std.specs.List.{list_any}
 use Rattle.std.proofs.lemmas.Bool.{cases_Bool, or_parts, or_from}
 use Rattle.std.proofs.lemmas.List.Sums.{sum_by-append}
-use Rattle.gpu_descriptor.specs.Books.{Key, key_eq, Bucket, no_pools, books_of, HasDistinctKeys, sum_over, SumByBooks}
+use Rattle.gpu_descriptor.specs.Model.Books.{Key, key_eq, Bucket, no_pools, books_of, HasDistinctKeys, sum_over}
+use Rattle.gpu_descriptor.specs.Laws.Load.{SumByBooks}
 use Rattle.gpu_descriptor_types.proofs.Counting.{bool_iff}
 use Rattle.gpu_descriptor.proofs.Exact.{key_exact}
 

@@ -4,8 +4,7 @@ use Rattle.std.specs.Iterator.{Count, IsFinite, size, MakesProgress, Yields, Yie
 use Rattle.gpu_descriptor.specs.declared.set.DescriptorSet.{DescriptorSet}
 use Rattle.gpu_descriptor.specs.declared.run.Run.{Run}
 use Rattle.gpu_descriptor.specs.declared.set.BucketKey.{BucketKey}
-use Rattle.gpu_descriptor.specs.Sets.{at_place}
-use Rattle.gpu_descriptor.specs.Steps.{HaveKey, Looks, Hands, RunStep}
+use Rattle.gpu_descriptor.specs.Inner.RunSteps.{at_place, HaveKey, Looks, Hands, RunStep}
 
 module _ {T S : Type 0} (steps : T → Option (DescriptorSet S) → T → Type 0) (can : T → Type 0) (left : T → Count) where
   -- a step that gave y

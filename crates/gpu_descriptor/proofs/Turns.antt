@@ -8,10 +8,10 @@ use Rattle.std.proofs.lemmas.List.Sums.{count_by-le-length}
 use Rattle.gpu_descriptor_types.specs.Ledger.{Pool, Ledger, HasNoSets, after_destroy}
 use Rattle.gpu_descriptor_types.specs.Multiset.{set_eq}
 use Rattle.gpu_descriptor.specs.declared.bucket.DescriptorPool.{DescriptorPool}
-use Rattle.gpu_descriptor.specs.Books.{Key, Entry, Bucket}
-use Rattle.gpu_descriptor.specs.Buckets.{AreBookedIn, settled_bucket, settled_ledger, ledger_without, pools_without, more_destroyed}
-use Rattle.gpu_descriptor.specs.Release.{is_empty, spent_front, without_front, in_front}
-use Rattle.gpu_descriptor.specs.Stored.{entry_of}
+use Rattle.gpu_descriptor.specs.Model.Books.{Key, Entry, Bucket}
+use Rattle.gpu_descriptor.specs.Inner.Buckets.{AreBookedIn, settled_bucket, settled_ledger, ledger_without, pools_without}
+use Rattle.gpu_descriptor.specs.Model.Release.{more_destroyed, is_empty, spent_front, without_front, in_front}
+use Rattle.gpu_descriptor.specs.Inner.Stored.{entry_of}
 use Rattle.gpu_descriptor.proofs.Fronts.{spent, spent_yes, spent_no, spent_one}
 use Rattle.gpu_descriptor.proofs.LedgerPools.{with_pool, with_pool_other, destroyed_none, destroyed_both}
 use Rattle.gpu_descriptor.proofs.Sized.{size_of}

@@ -6,14 +6,14 @@ use Rattle.std.proofs.lemmas.Grind.{flat_map-append}
 use Rattle.std.proofs.lemmas.Map.{update_apart}
 use Rattle.std.specs.List.{slice_get}
 use Rattle.std.specs.Prelude.{option_map}
-use Rattle.gpu_descriptor.specs.Books.{Key, Entry}
+use Rattle.gpu_descriptor.specs.Model.Books.{Key, Entry}
 use Rattle.gpu_descriptor.specs.declared.set.BucketKey.{BucketKey}
-use Rattle.gpu_descriptor.specs.Sets.{key_of, items_of}
-use Rattle.gpu_descriptor.specs.Agreement.{Item}
-use Rattle.gpu_descriptor.specs.Grants.{Part, items_at, items_in, pool_with, ledger_with}
-use Rattle.gpu_descriptor.specs.Shares.{rest, all_shared, portions_of, asked_count, refused_count}
-use Rattle.gpu_descriptor.specs.Buckets.{IsBookedIn, AreBookedIn}
-use Rattle.gpu_descriptor.specs.Walk.{sets_at, KeepsKey, IsAsked, IsNoMemory, HasTaken, IsWalked, IsWalkStopped}
+use Rattle.gpu_descriptor.specs.Caller.Sets.{key_of, items_of}
+use Rattle.gpu_descriptor.specs.Model.Agreement.{Item}
+use Rattle.gpu_descriptor.specs.Model.Grants.{Part, items_at, items_in, pool_with, ledger_with}
+use Rattle.gpu_descriptor.specs.Model.Shares.{rest, all_shared, portions_of, asked_count, refused_count}
+use Rattle.gpu_descriptor.specs.Inner.Buckets.{IsBookedIn, AreBookedIn}
+use Rattle.gpu_descriptor.specs.Inner.Walk.{sets_at, KeepsKey, IsAsked, IsNoMemory, HasTaken, IsWalked, IsWalkStopped}
 use Rattle.gpu_descriptor_types.specs.Ledger.{Pool, Ledger, live_sets, changed}
 use Rattle.gpu_descriptor_types.specs.declared.errors.DeviceAllocationError.{DeviceAllocationError}
 use Rattle.std.proofs.lemmas.Option.{slice_get_within}

@@ -11,12 +11,13 @@ use Rattle.gpu_descriptor_types.specs.Multiset.{LiveSet, set_eq, times}
 use Rattle.gpu_descriptor_types.proofs.Counting.{bool_iff, any_found, any_from, count_by_yes, count_by_no}
 use Rattle.gpu_descriptor.specs.declared.set.BucketKey.{BucketKey}
 use Rattle.gpu_descriptor.specs.declared.set.DescriptorSet.{DescriptorSet}
-use Rattle.gpu_descriptor.specs.Agreement.{set_of, State, Item, item_eq, count_of, live_in, AreOutstanding, Agree}
-use Rattle.gpu_descriptor.specs.Books.{Key, key_eq, Entry, Bucket, entry_at}
-use Rattle.gpu_descriptor.specs.Buckets.{IsTakenAt, names_of, settled_bucket, pools_without, bucket_back}
-use Rattle.gpu_descriptor.specs.Release.{entry_less, pool_less, given_back, fronts_gone, released, spent_front, pools_gone}
-use Rattle.gpu_descriptor.specs.Sets.{key_of, at_place, item_of, items_of}
-use Rattle.gpu_descriptor.specs.Steps.{HaveKey}
+use Rattle.gpu_descriptor.specs.Model.Agreement.{set_of, State, Item, item_eq, count_of, live_in, AreOutstanding, Agree}
+use Rattle.gpu_descriptor.specs.Model.Books.{Key, key_eq, Entry, Bucket, entry_at}
+use Rattle.gpu_descriptor.specs.Inner.Releases.{IsTakenAt, names_of, bucket_back}
+use Rattle.gpu_descriptor.specs.Inner.Buckets.{settled_bucket, pools_without}
+use Rattle.gpu_descriptor.specs.Model.Release.{entry_less, pool_less, given_back, fronts_gone, released, spent_front, pools_gone}
+use Rattle.gpu_descriptor.specs.Caller.Sets.{key_of, item_of, items_of}
+use Rattle.gpu_descriptor.specs.Inner.RunSteps.{at_place, HaveKey}
 use Rattle.gpu_descriptor.proofs.Exact.{key_exact, item_exact}
 use Rattle.gpu_descriptor.proofs.Fronts.{entry_at-found, entry_at-from}
 use Rattle.gpu_descriptor.proofs.Kept.{has_place}

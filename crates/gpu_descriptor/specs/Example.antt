@@ -8,13 +8,13 @@ use Rattle.std.specs.List.{list_any}
 use Rattle.std.specs.Prelude.{if◌then◌else◌, count_by, map, option_map, replicate}
 use Rattle.gpu_descriptor_types.specs.Ledger.{Pool}
 use Rattle.gpu_descriptor_types.specs.Multiset.{LiveSet, set_eq}
-use Rattle.gpu_descriptor.specs.Agreement.{State, Item, set_of}
-use Rattle.gpu_descriptor.specs.Books.{Key, key_eq, Entry, Bucket, no_pools}
-use Rattle.gpu_descriptor.specs.Cleanup.{IsCleaned, cleaned_bucket}
-use Rattle.gpu_descriptor.specs.Digits.{binary_digits}
+use Rattle.gpu_descriptor.specs.Model.Agreement.{State, Item, set_of}
+use Rattle.gpu_descriptor.specs.Model.Books.{Key, key_eq, Entry, Bucket, no_pools}
+use Rattle.gpu_descriptor.specs.Model.Cleanup.{IsCleaned, cleaned_bucket}
+use Rattle.gpu_descriptor.specs.Caller.Comparisons.{binary_digits}
 use Rattle.gpu_descriptor_types.specs.PoolSize.{sets_in_room}
-use Rattle.gpu_descriptor.specs.Load.{pool_load, bucket_load}
-use Rattle.gpu_descriptor.specs.Release.{bucket_less, pool_less, lies_in, spent_front, empty_front, without_front, in_front, released}
+use Rattle.gpu_descriptor.specs.Model.Load.{pool_load, bucket_load}
+use Rattle.gpu_descriptor.specs.Model.Release.{bucket_less, pool_less, lies_in, spent_front, empty_front, without_front, in_front, released}
 
 -- ---- the state
 

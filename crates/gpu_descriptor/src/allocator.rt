@@ -32,14 +32,14 @@ pub struct DescriptorAllocator<P, S> {
 }
 
 impl<P, S> Model for DescriptorAllocator<P, S> {
-    ghost use Rattle.gpu_descriptor.specs.Values.{Allocations, allocations_code};
+    ghost use Rattle.gpu_descriptor.specs.Caller.Values.{Allocations, allocations_code};
 
     ghost Value = { Allocations P };
 
     ghost coded = { allocations_code P.code };
 
     ghost use Rattle.std.specs.Prelude.{map};
-    ghost use Rattle.gpu_descriptor.specs.Stored.{row_of, IsCounted};
+    ghost use Rattle.gpu_descriptor.specs.Inner.Stored.{row_of, IsCounted};
 
     ghost view = { λ a. record { limit = a.max_update_after_bind_descriptors_in_all_pools; table = map row_of a.buckets.entries; looks = a.looks.count; comparisons = a.comparisons.count } };
 

@@ -1,10 +1,10 @@
 //! The pools of one key.
 ghost use Rattle.std.specs.Prelude.{◌≡◌, ◌+◌, ◌<◌, ◌≤◌, ◌^◌, length};
 ghost use Rattle.std.specs.VecDeque.{deque_capacity};
-ghost use Rattle.gpu_descriptor.specs.Allocated.{allocated_in};
-ghost use Rattle.gpu_descriptor.specs.Load.{pool_load};
-ghost use Rattle.gpu_descriptor.specs.OpenNumbers.{free_in, open_numbers};
-ghost use Rattle.gpu_descriptor.specs.Sets.{key_of};
+ghost use Rattle.gpu_descriptor.specs.Inner.Allocated.{allocated_in};
+ghost use Rattle.gpu_descriptor.specs.Model.Load.{pool_load};
+ghost use Rattle.gpu_descriptor.specs.Inner.OpenNumbers.{free_in, open_numbers};
+ghost use Rattle.gpu_descriptor.specs.Caller.Sets.{key_of};
 
 use crate::set::BucketKey;
 use std::collections::VecDeque;

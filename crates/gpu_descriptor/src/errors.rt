@@ -1,6 +1,7 @@
 //! Why a request is refused.
 ghost use Rattle.std.specs.Prelude.{◌≡◌, Some, codes};
-ghost use Rattle.gpu_descriptor.specs.Errors.{error_of_create, error_text};
+ghost use Rattle.gpu_descriptor.specs.Model.Outcomes.{error_of_create};
+ghost use Rattle.gpu_descriptor.specs.Caller.Errors.{error_text};
 
 use gpu_descriptor_types::CreatePoolError;
 use std::error::Error;

@@ -17,7 +17,7 @@ bitflag_items! {
 }
 
 impl Flags for DescriptorSetLayoutCreateFlags {
-    ghost use Rattle.gpu_descriptor.specs.LayoutFlags.{layout_bits};
+    ghost use Rattle.gpu_descriptor.specs.Caller.Flags.{layout_bits};
 
     type Bits = u32;
 

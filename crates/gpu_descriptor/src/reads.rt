@@ -18,7 +18,7 @@ pub(crate) struct OpenPools<'a, 'b, 'c, P> {
 }
 
 impl<'a, 'b, 'c, P> OpenPools<'a, 'b, 'c, P> {
-    ghost use Rattle.gpu_descriptor.specs.Open.{IsListed, KeepsView, LendsPool};
+    ghost use Rattle.gpu_descriptor.specs.Inner.OpenPools.{IsListed, KeepsView, LendsPool};
 
     pub(crate) fn new(
         offset: u64,

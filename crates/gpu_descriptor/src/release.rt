@@ -1,13 +1,13 @@
 //! Giving a run back to the pools of its key.
 ghost use Rattle.std.specs.Prelude.{◌≡◌, ◌+◌, ◌<◌, ◌≤◌, ◌^◌, ◌∷◌, length, OnSome};
 ghost use Rattle.std.specs.Iterator.{HoldsAlong, IsFinite, IsNearerEnd};
-ghost use Rattle.gpu_descriptor.specs.Books.{Key};
-ghost use Rattle.gpu_descriptor.specs.Buckets.{AreBookedIn, IsTakenAt, ReleasesRun, names_of, settled_bucket, settled_ledger};
-ghost use Rattle.gpu_descriptor.specs.Comparisons.{open_pools};
-ghost use Rattle.gpu_descriptor.specs.Digits.{binary_digits};
-ghost use Rattle.gpu_descriptor.specs.Sets.{key_of};
-ghost use Rattle.gpu_descriptor.specs.Steps.{HaveKey};
-ghost use Rattle.gpu_descriptor.specs.Stored.{bucket_of, stored_load};
+ghost use Rattle.gpu_descriptor.specs.Model.Books.{Key};
+ghost use Rattle.gpu_descriptor.specs.Inner.Buckets.{AreBookedIn, settled_bucket, settled_ledger};
+ghost use Rattle.gpu_descriptor.specs.Inner.Releases.{IsTakenAt, ReleasesRun, names_of};
+ghost use Rattle.gpu_descriptor.specs.Caller.Comparisons.{open_pools, binary_digits};
+ghost use Rattle.gpu_descriptor.specs.Caller.Sets.{key_of};
+ghost use Rattle.gpu_descriptor.specs.Inner.RunSteps.{HaveKey};
+ghost use Rattle.gpu_descriptor.specs.Inner.Stored.{bucket_of, stored_load};
 
 use crate::bucket::{DescriptorBucket, descriptors_of_pool};
 use crate::run::Run;

@@ -2,7 +2,7 @@
 ghost use Rattle.std.specs.Prelude.{◌≡◌, ◌+◌};
 ghost use Rattle.std.specs.Iterator.{count_map};
 ghost use Rattle.std.specs.Option.{option_len};
-ghost use Rattle.gpu_descriptor.specs.Steps.{CountsFrom, RunStep};
+ghost use Rattle.gpu_descriptor.specs.Inner.RunSteps.{CountsFrom, RunStep};
 
 use crate::set::{BucketKey, DescriptorSet};
 

@@ -2,8 +2,8 @@
 ghost use Rattle.std.specs.Prelude.{◌≡◌, ◌+◌, ◌<◌, ◌≤◌, length, true, false};
 ghost use Rattle.std.specs.VecDeque.{deque_capacity};
 ghost use Rattle.std.specs.List.Sorted.{IsNonDecreasing, IsPartitionPoint};
-ghost use Rattle.gpu_descriptor.specs.Digits.{binary_digits};
-ghost use Rattle.gpu_descriptor.specs.OpenNumbers.{IsEntered};
+ghost use Rattle.gpu_descriptor.specs.Caller.Comparisons.{binary_digits};
+ghost use Rattle.gpu_descriptor.specs.Inner.OpenNumbers.{IsEntered};
 
 use crate::reads::Numbers;
 use gpu_descriptor_types::Tally;

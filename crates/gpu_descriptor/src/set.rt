@@ -1,8 +1,9 @@
 //! Sets that were handed out, and the keys under which they went.
 ghost use Rattle.std.specs.Prelude.{◌≡◌, ◌↔◌, IsTrue};
 ghost use Rattle.std.specs.Borrow.{sem};
-ghost use Rattle.gpu_descriptor.specs.SetLends.{LendsRaw};
-ghost use Rattle.gpu_descriptor.specs.Sets.{at_place, raw_of};
+ghost use Rattle.gpu_descriptor.specs.Caller.SetLends.{LendsRaw};
+ghost use Rattle.gpu_descriptor.specs.Inner.RunSteps.{at_place};
+ghost use Rattle.gpu_descriptor.specs.Caller.Sets.{raw_of};
 
 use gpu_descriptor_types::DescriptorTotalCount;
 
@@ -41,7 +42,7 @@ impl<S> DescriptorSet<S> {
     }
 
     /// Whether it lies under this key in the pool with this number.
-    #[tactic(auto, unfolding(crate::specs::Sets::at_place))]
+    #[tactic(auto, unfolding(crate::specs::Inner::RunSteps::at_place))]
     pub(crate) fn is_at(&self, key: &BucketKey, number: u64) -> bool
         ensures { result ≡ at_place key.now number self.now }
     {

@@ -1,18 +1,17 @@
 //! Handing sets out.
 ghost use Rattle.std.specs.Prelude.{◌≡◌, ◌+◌, ◌≤◌, length, IfOk, IfErr, OnOk, OnErr};
 ghost use Rattle.gpu_descriptor_types.specs.Counts.{kinds};
-ghost use Rattle.gpu_descriptor.specs.Books.{HasDistinctKeys};
-ghost use Rattle.gpu_descriptor.specs.Foreign.{KeepsForeign, LosesNone, others_of};
-ghost use Rattle.gpu_descriptor.specs.Keys.{StayOrGainLast};
-ghost use Rattle.gpu_descriptor.specs.LayoutFlags.{is_marked};
-ghost use Rattle.gpu_descriptor.specs.Load.{marked_load};
-ghost use Rattle.gpu_descriptor.specs.OtherKeys.{KeepsOtherKeys};
-ghost use Rattle.gpu_descriptor.specs.Outcomes.{Allocates};
-ghost use Rattle.gpu_descriptor.specs.Promises.{AreOfKey, AreOutBesides, CreatesOnlyWhereShort, HasCause, KeepsOutstanding};
-ghost use Rattle.gpu_descriptor.specs.Requests.{answer_of, call_of};
-ghost use Rattle.gpu_descriptor.specs.Sets.{items_of};
-ghost use Rattle.gpu_descriptor.specs.States.{Agrees, keys_of, marked_load_of, outstanding_of, pool_load_of, table_of};
-ghost use Rattle.gpu_descriptor.specs.Walk.{layout_key};
+ghost use Rattle.gpu_descriptor.specs.Model.Books.{HasDistinctKeys};
+ghost use Rattle.gpu_descriptor.specs.Model.Foreign.{KeepsForeign, LosesNone};
+ghost use Rattle.gpu_descriptor.specs.Caller.Others.{others_of};
+ghost use Rattle.gpu_descriptor.specs.Caller.Keys.{StayOrGainLast};
+ghost use Rattle.gpu_descriptor.specs.Caller.Flags.{is_marked};
+ghost use Rattle.gpu_descriptor.specs.Model.Load.{marked_load};
+ghost use Rattle.gpu_descriptor.specs.Model.Promises.{KeepsOtherKeys, AreOfKey, AreOutBesides, CreatesOnlyWhereShort, HasCause, KeepsOutstanding};
+ghost use Rattle.gpu_descriptor.specs.Model.Outcomes.{Allocates};
+ghost use Rattle.gpu_descriptor.specs.Caller.Call.{answer_of, call_of, layout_key};
+ghost use Rattle.gpu_descriptor.specs.Caller.Sets.{items_of};
+ghost use Rattle.gpu_descriptor.specs.Caller.States.{Agrees, keys_of, marked_load_of, outstanding_of, pool_load_of, table_of};
 
 use super::FrameManager;
 use gpu_descriptor::{

@@ -1,12 +1,13 @@
 //! Cleaning up.
 ghost use Rattle.std.specs.Prelude.{◌≡◌, ◌≤◌};
-ghost use Rattle.gpu_descriptor.specs.Books.{HasDistinctKeys};
-ghost use Rattle.gpu_descriptor.specs.Buckets.{more_destroyed};
-ghost use Rattle.gpu_descriptor.specs.Cleanup.{IsCleaned, pools_cleaned};
-ghost use Rattle.gpu_descriptor.specs.Foreign.{KeepsForeign, LosesNone, others_of};
-ghost use Rattle.gpu_descriptor.specs.Keys.{keys_with_pools};
-ghost use Rattle.gpu_descriptor.specs.Promises.{KeepsOutstanding};
-ghost use Rattle.gpu_descriptor.specs.States.{Agrees, keys_of, marked_load_of, outstanding_of, pool_load_of, table_of};
+ghost use Rattle.gpu_descriptor.specs.Model.Books.{HasDistinctKeys};
+ghost use Rattle.gpu_descriptor.specs.Model.Release.{more_destroyed};
+ghost use Rattle.gpu_descriptor.specs.Model.Cleanup.{IsCleaned, pools_cleaned};
+ghost use Rattle.gpu_descriptor.specs.Model.Foreign.{KeepsForeign, LosesNone};
+ghost use Rattle.gpu_descriptor.specs.Caller.Others.{others_of};
+ghost use Rattle.gpu_descriptor.specs.Caller.Keys.{keys_with_pools};
+ghost use Rattle.gpu_descriptor.specs.Model.Promises.{KeepsOutstanding};
+ghost use Rattle.gpu_descriptor.specs.Caller.States.{Agrees, keys_of, marked_load_of, outstanding_of, pool_load_of, table_of};
 
 use super::FrameManager;
 use gpu_descriptor::DescriptorDevice;

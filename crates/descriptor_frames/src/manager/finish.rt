@@ -1,13 +1,14 @@
 //! Giving back the sets of the frames that are done.
 ghost use Rattle.std.specs.Prelude.{◌≡◌, ◌+◌, ◌≤◌, []};
-ghost use Rattle.gpu_descriptor.specs.Books.{HasDistinctKeys};
-ghost use Rattle.gpu_descriptor.specs.Comparisons.{run_digits};
-ghost use Rattle.gpu_descriptor.specs.Foreign.{KeepsForeign, LosesNone, others_of};
-ghost use Rattle.gpu_descriptor.specs.Frees.{GivesBack};
-ghost use Rattle.gpu_descriptor.specs.Promises.{AreOutBesides};
-ghost use Rattle.gpu_descriptor.specs.Runs.{runs};
-ghost use Rattle.gpu_descriptor.specs.Sets.{items_of};
-ghost use Rattle.gpu_descriptor.specs.States.{Agrees, keys_of, marked_load_of, pool_load_of, table_of};
+ghost use Rattle.gpu_descriptor.specs.Model.Books.{HasDistinctKeys};
+ghost use Rattle.gpu_descriptor.specs.Caller.Comparisons.{run_digits};
+ghost use Rattle.gpu_descriptor.specs.Model.Foreign.{KeepsForeign, LosesNone};
+ghost use Rattle.gpu_descriptor.specs.Caller.Others.{others_of};
+ghost use Rattle.gpu_descriptor.specs.Caller.Frees.{GivesBack};
+ghost use Rattle.gpu_descriptor.specs.Model.Promises.{AreOutBesides};
+ghost use Rattle.gpu_descriptor.specs.Model.Runs.{runs};
+ghost use Rattle.gpu_descriptor.specs.Caller.Sets.{items_of};
+ghost use Rattle.gpu_descriptor.specs.Caller.States.{Agrees, keys_of, marked_load_of, pool_load_of, table_of};
 ghost use Rattle.descriptor_frames.specs.Retired.{later};
 
 use super::FrameManager;

@@ -1,7 +1,7 @@
 //! The commands, run.
 ghost use Rattle.std.specs.Prelude.{◌≡◌, ◌<◌, ◌++◌, ◌∷◌, [], None, IsTrue, OnOk, OnErr, length, sum, string_bytes};
 ghost use Rattle.gpu_descriptor_types.specs.Counts.{kinds};
-ghost use Rattle.gpu_descriptor.specs.LayoutFlags.{is_marked};
+ghost use Rattle.gpu_descriptor.specs.Caller.Flags.{is_marked};
 ghost use Rattle.descriptor_script.specs.declared.command.Command.TheVariants.{Allocate};
 ghost use Rattle.descriptor_lines.specs.Answers.{layout_answer as layout_answer_of, limit_answer as limit_answer_of, script_answer as script_answer_of, AnswersSize};
 ghost use Rattle.descriptor_lines.specs.Commands.{IsKnown, IsRunnable};

@@ -1,8 +1,8 @@
 //! Commands, one after another.
 ghost use Rattle.std.specs.Prelude.{◌≡◌, ◌≤◌, length, IfOk, OnErr};
-ghost use Rattle.gpu_descriptor.specs.Books.{HasDistinctKeys};
-ghost use Rattle.gpu_descriptor.specs.Foreign.{KeepsForeign, LosesNone};
-ghost use Rattle.gpu_descriptor.specs.States.{Agrees, marked_load_of, pool_load_of, outstanding_of, state_of, table_of};
+ghost use Rattle.gpu_descriptor.specs.Model.Books.{HasDistinctKeys};
+ghost use Rattle.gpu_descriptor.specs.Model.Foreign.{KeepsForeign, LosesNone};
+ghost use Rattle.gpu_descriptor.specs.Caller.States.{Agrees, marked_load_of, pool_load_of, outstanding_of, state_of, table_of};
 ghost use Rattle.descriptor_script.specs.Session.{AreAllHeld, AreMeant, allocator_of, layouts_of, sets_of};
 ghost use Rattle.descriptor_script.specs.SessionRun.{RunsTo};
 ghost use Rattle.descriptor_script.specs.Tickets.{held_sets};

@@ -1,8 +1,8 @@
 //! One command of a session.
 ghost use Rattle.std.specs.Prelude.{◌≡◌, ◌≤◌, length};
-ghost use Rattle.gpu_descriptor.specs.Books.{HasDistinctKeys};
-ghost use Rattle.gpu_descriptor.specs.Foreign.{KeepsForeign, LosesNone};
-ghost use Rattle.gpu_descriptor.specs.States.{Agrees, marked_load_of, pool_load_of, outstanding_of, state_of, table_of};
+ghost use Rattle.gpu_descriptor.specs.Model.Books.{HasDistinctKeys};
+ghost use Rattle.gpu_descriptor.specs.Model.Foreign.{KeepsForeign, LosesNone};
+ghost use Rattle.gpu_descriptor.specs.Caller.States.{Agrees, marked_load_of, pool_load_of, outstanding_of, state_of, table_of};
 ghost use Rattle.descriptor_script.specs.Session.{AreAllHeld, AreMeant, allocator_of, layouts_of, sets_of};
 ghost use Rattle.descriptor_script.specs.Steps.{AllocatesTo, CleansTo, FreesTo, KeepsTickets, StepsTo};
 ghost use Rattle.descriptor_script.specs.Tickets.{held_sets};

@@ -1,14 +1,16 @@
 //! Cleaning up: the empty pools at the front of each key are destroyed.
 ghost use Rattle.std.specs.Prelude.{◌≡◌, ◌+◌, ◌<◌, ◌≤◌, ◌^◌};
-ghost use Rattle.gpu_descriptor.specs.Books.{HasDistinctKeys, Key};
-ghost use Rattle.gpu_descriptor.specs.Buckets.{AreBookedIn, has_pools, cleared_bucket, cleared_ledger, more_destroyed};
-ghost use Rattle.gpu_descriptor.specs.Cleanup.{IsCleaned, pools_cleaned};
-ghost use Rattle.gpu_descriptor.specs.Foreign.{KeepsForeign, LosesNone, others_of};
-ghost use Rattle.gpu_descriptor.specs.Keys.{keys_with_pools};
-ghost use Rattle.gpu_descriptor.specs.Promises.{KeepsOutstanding};
-ghost use Rattle.gpu_descriptor.specs.Sets.{key_of};
-ghost use Rattle.gpu_descriptor.specs.States.{Agrees, keys_of, marked_load_of, outstanding_of, pool_load_of, state_of, table_of};
-ghost use Rattle.gpu_descriptor.specs.Stored.{bucket_of, stored_load};
+ghost use Rattle.gpu_descriptor.specs.Model.Books.{HasDistinctKeys, Key};
+ghost use Rattle.gpu_descriptor.specs.Inner.Buckets.{AreBookedIn, has_pools, cleared_bucket, cleared_ledger};
+ghost use Rattle.gpu_descriptor.specs.Model.Release.{more_destroyed};
+ghost use Rattle.gpu_descriptor.specs.Model.Cleanup.{IsCleaned, pools_cleaned};
+ghost use Rattle.gpu_descriptor.specs.Model.Foreign.{KeepsForeign, LosesNone};
+ghost use Rattle.gpu_descriptor.specs.Caller.Others.{others_of};
+ghost use Rattle.gpu_descriptor.specs.Caller.Keys.{keys_with_pools};
+ghost use Rattle.gpu_descriptor.specs.Model.Promises.{KeepsOutstanding};
+ghost use Rattle.gpu_descriptor.specs.Caller.Sets.{key_of};
+ghost use Rattle.gpu_descriptor.specs.Caller.States.{Agrees, keys_of, marked_load_of, outstanding_of, pool_load_of, state_of, table_of};
+ghost use Rattle.gpu_descriptor.specs.Inner.Stored.{bucket_of, stored_load};
 
 use super::DescriptorAllocator;
 use crate::bucket::{DescriptorBucket, descriptors_of_pool};

@@ -1,16 +1,17 @@
 //! Giving sets back.
 ghost use Rattle.std.specs.Prelude.{◌≡◌, ◌+◌, ◌<◌, ◌≤◌, ◌^◌, ◌∷◌, OnSome};
 ghost use Rattle.std.specs.Iterator.{HoldsAlong, IsFinite, IsNearerEnd};
-ghost use Rattle.gpu_descriptor.specs.Agreement.{AreOutstanding};
-ghost use Rattle.gpu_descriptor.specs.Books.{HasDistinctKeys};
-ghost use Rattle.gpu_descriptor.specs.Comparisons.{open_pools, run_digits};
-ghost use Rattle.gpu_descriptor.specs.Digits.{binary_digits};
-ghost use Rattle.gpu_descriptor.specs.Foreign.{KeepsForeign, LosesNone, others_of};
-ghost use Rattle.gpu_descriptor.specs.Frees.{Frees, FreesRun, GivesBack};
-ghost use Rattle.gpu_descriptor.specs.Runs.{runs};
-ghost use Rattle.gpu_descriptor.specs.Sets.{items_of, key_of};
-ghost use Rattle.gpu_descriptor.specs.States.{Agrees, keys_of, marked_load_of, pool_load_of, state_of, table_of};
-ghost use Rattle.gpu_descriptor.specs.Stored.{load_of};
+ghost use Rattle.gpu_descriptor.specs.Model.Agreement.{AreOutstanding};
+ghost use Rattle.gpu_descriptor.specs.Model.Books.{HasDistinctKeys};
+ghost use Rattle.gpu_descriptor.specs.Caller.Comparisons.{open_pools, run_digits, binary_digits};
+ghost use Rattle.gpu_descriptor.specs.Model.Foreign.{KeepsForeign, LosesNone};
+ghost use Rattle.gpu_descriptor.specs.Caller.Others.{others_of};
+ghost use Rattle.gpu_descriptor.specs.Caller.Frees.{Frees, GivesBack};
+ghost use Rattle.gpu_descriptor.specs.Inner.Releases.{FreesRun};
+ghost use Rattle.gpu_descriptor.specs.Model.Runs.{runs};
+ghost use Rattle.gpu_descriptor.specs.Caller.Sets.{items_of, key_of};
+ghost use Rattle.gpu_descriptor.specs.Caller.States.{Agrees, keys_of, marked_load_of, pool_load_of, state_of, table_of};
+ghost use Rattle.gpu_descriptor.specs.Inner.Stored.{load_of};
 
 use super::DescriptorAllocator;
 use crate::set::{BucketKey, DescriptorSet};

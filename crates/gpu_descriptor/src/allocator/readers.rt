@@ -1,10 +1,10 @@
 //! What the allocator tells of itself. The readers take no memory.
 ghost use Rattle.std.specs.Prelude.{◌≡◌, ℕ, ◌≤◌, length};
 ghost use Rattle.gpu_descriptor_types.specs.Counts.{kinds};
-ghost use Rattle.gpu_descriptor.specs.Books.{AddsUp, HasDistinctKeys, books_of};
-ghost use Rattle.gpu_descriptor.specs.Load.{descriptors_out, bucket_load, sets_out};
-ghost use Rattle.gpu_descriptor.specs.States.{marked_load_of, outstanding_of, pool_load_of, table_of};
-ghost use Rattle.gpu_descriptor.specs.Views.{pools_at, view_at, view_in};
+ghost use Rattle.gpu_descriptor.specs.Model.Books.{AddsUp, HasDistinctKeys, books_of};
+ghost use Rattle.gpu_descriptor.specs.Model.Load.{descriptors_out, bucket_load, sets_out};
+ghost use Rattle.gpu_descriptor.specs.Caller.States.{marked_load_of, outstanding_of, pool_load_of, table_of};
+ghost use Rattle.gpu_descriptor.specs.Caller.Views.{pools_at, view_at, view_in};
 
 use super::DescriptorAllocator;
 use crate::set::BucketKey;

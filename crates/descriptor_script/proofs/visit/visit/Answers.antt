@@ -1,10 +1,10 @@
 use Rattle.std.proofs.Common.{◌≡◌, ℕ, List, map, Result, Ok, Err, IfOk, sym, ap, ◌∙◌}
 use Rattle.gpu_descriptor_types.specs.Ledger.{Ledger}
-use Rattle.gpu_descriptor.specs.Agreement.{Item, State, count_of, outstanding}
-use Rattle.gpu_descriptor.specs.Books.{Key, books_of, no_pools}
-use Rattle.gpu_descriptor.specs.Sets.{items_of}
-use Rattle.gpu_descriptor.specs.States.{named_row, state_of}
-use Rattle.gpu_descriptor.specs.Values.{Row}
+use Rattle.gpu_descriptor.specs.Model.Agreement.{Item, State, count_of, outstanding}
+use Rattle.gpu_descriptor.specs.Model.Books.{Key, books_of, no_pools}
+use Rattle.gpu_descriptor.specs.Caller.Sets.{items_of}
+use Rattle.gpu_descriptor.specs.Caller.States.{named_row, state_of}
+use Rattle.gpu_descriptor.specs.Caller.Values.{Row}
 use Rattle.descriptor_script.specs.Session.{allocator_of}
 use Rattle.descriptor_script.specs.Steps.{Cleans, CleansTo}
 use Rattle.descriptor_script.specs.Tickets.{held_sets}

@@ -1,4 +1,4 @@
-use Rattle.gpu_descriptor.specs.States.{Agrees}
+use Rattle.gpu_descriptor.specs.Caller.States.{Agrees}
 use Rattle.descriptor_script.specs.Raw.{pool_id}
 use Rattle.descriptor_uses.specs.Logged.{ledger_logged}
 use Rattle.descriptor_trials.proofs.traces.used_once.Given as goal

@@ -1,9 +1,9 @@
 use Rattle.std.proofs.Common.{sym, ◌∙◌}
 use Rattle.std.specs.Vec.Iter.{into_iter_items}
 use Rattle.gpu_descriptor_types.proofs.Drained.{taken_front}
-use Rattle.gpu_descriptor.specs.Agreement.{State}
-use Rattle.gpu_descriptor.specs.Sets.{items_of}
-use Rattle.gpu_descriptor.specs.States.{state_of}
+use Rattle.gpu_descriptor.specs.Model.Agreement.{State}
+use Rattle.gpu_descriptor.specs.Caller.Sets.{items_of}
+use Rattle.gpu_descriptor.specs.Caller.States.{state_of}
 use Rattle.gpu_descriptor.proofs.Holding.{came_out, out_front}
 use Rattle.descriptor_script.specs.Raw.{pool_id, set_id}
 use Rattle.descriptor_uses.specs.Logged.{ledger_logged}

@@ -1,7 +1,7 @@
 use Rattle.gpu_descriptor.proofs.Foreign.{loses_through}
 use Rattle.std.proofs.Common.{map, ap}
-use Rattle.gpu_descriptor.specs.Books.{books_of}
-use Rattle.gpu_descriptor.specs.States.{named_row}
+use Rattle.gpu_descriptor.specs.Model.Books.{books_of}
+use Rattle.gpu_descriptor.specs.Caller.States.{named_row}
 use Rattle.gpu_descriptor.proofs.OthersStay.{all_others}
 use Rattle.gpu_descriptor.proofs.Lost.{named_or_foreign, restores}
 use Rattle.gpu_descriptor.proofs.laws.no_pool_is_lost.Goals as goal

@@ -2,11 +2,11 @@ use Rattle.std.proofs.Common.{◌≡◌, ℕ, ◌+◌, ◌-◌, ◌<◌, ◌≤�
 use Rattle.std.proofs.lemmas.List.{length-map, append-nil}
 use Rattle.std.specs.Prelude.{if◌then◌else◌}
 use Rattle.gpu_descriptor_types.specs.Ledger.{Ledger, after_alloc, live_sets, pool_refusals}
-use Rattle.gpu_descriptor.specs.Books.{Entry, Key}
-use Rattle.gpu_descriptor.specs.Sets.{key_of}
-use Rattle.gpu_descriptor.specs.Stored.{entry_of}
-use Rattle.gpu_descriptor.specs.Buckets.{IsBookedIn}
-use Rattle.gpu_descriptor.specs.Walk.{IsAsked}
+use Rattle.gpu_descriptor.specs.Model.Books.{Entry, Key}
+use Rattle.gpu_descriptor.specs.Caller.Sets.{key_of}
+use Rattle.gpu_descriptor.specs.Inner.Stored.{entry_of}
+use Rattle.gpu_descriptor.specs.Inner.Buckets.{IsBookedIn}
+use Rattle.gpu_descriptor.specs.Inner.Walk.{IsAsked}
 use Rattle.gpu_descriptor.proofs.Room.{has_room}
 use Rattle.gpu_descriptor.proofs.Asks.{same_entry, skipped, given, refuses}
 use Rattle.gpu_descriptor.proofs.take.ask.Goals as goal

@@ -2,14 +2,14 @@ use Rattle.std.proofs.Common.{◌≡◌, ℕ, ◌+◌, ◌-◌, ◌<◌, ◌≤�
 use Rattle.std.proofs.lemmas.List.{length-map, map-append}
 use Rattle.gpu_descriptor_types.specs.Ledger.{Ledger}
 use Rattle.gpu_descriptor.specs.declared.set.DescriptorSet.{DescriptorSet}
-use Rattle.gpu_descriptor.specs.Agreement.{Item}
-use Rattle.gpu_descriptor.specs.Books.{Entry, Key}
-use Rattle.gpu_descriptor.specs.FreshPools.{fresh_entry}
-use Rattle.gpu_descriptor.specs.Grants.{items_at}
-use Rattle.gpu_descriptor.specs.Load.{held, pools_load}
-use Rattle.gpu_descriptor.specs.Sets.{key_of, items_of}
-use Rattle.gpu_descriptor.specs.Stored.{entry_of}
-use Rattle.gpu_descriptor.specs.Walk.{entries_of, sets_at}
+use Rattle.gpu_descriptor.specs.Model.Agreement.{Item}
+use Rattle.gpu_descriptor.specs.Model.Books.{Entry, Key}
+use Rattle.gpu_descriptor.specs.Model.FreshPools.{fresh_entry}
+use Rattle.gpu_descriptor.specs.Model.Grants.{items_at}
+use Rattle.gpu_descriptor.specs.Model.Load.{held, pools_load}
+use Rattle.gpu_descriptor.specs.Caller.Sets.{key_of, items_of}
+use Rattle.gpu_descriptor.specs.Inner.Stored.{entry_of}
+use Rattle.gpu_descriptor.specs.Inner.Walk.{entries_of, sets_at}
 use Rattle.gpu_descriptor.proofs.Growing.{Growing, grow_start, grow_more, grow_end, grow_stop, grown_long, load_more, load_walked}
 use Rattle.gpu_descriptor.proofs.Walking.{items_of-sets_at}
 use Rattle.gpu_descriptor.proofs.take.take.Goals as goal

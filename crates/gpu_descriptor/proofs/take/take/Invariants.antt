@@ -1,10 +1,10 @@
 -- So many sets are still wanting, and the new pools gave what the others lacked.
 use Rattle.std.proofs.Common.{◌≡◌, ◌+◌, ◌≤◌, ◌++◌, List, length}
 use Rattle.gpu_descriptor.specs.declared.set.DescriptorSet.{DescriptorSet}
-use Rattle.gpu_descriptor.specs.Load.{pools_load}
-use Rattle.gpu_descriptor.specs.Open.{CountsLooks, IsListed, KeepsView}
-use Rattle.gpu_descriptor.specs.Sets.{key_of, items_of}
-use Rattle.gpu_descriptor.specs.Walk.{entries_of}
+use Rattle.gpu_descriptor.specs.Model.Load.{pools_load}
+use Rattle.gpu_descriptor.specs.Inner.OpenPools.{CountsLooks, IsListed, KeepsView}
+use Rattle.gpu_descriptor.specs.Caller.Sets.{key_of, items_of}
+use Rattle.gpu_descriptor.specs.Inner.Walk.{entries_of}
 use Rattle.gpu_descriptor.proofs.Growing.{Growing}
 use Rattle.gpu_descriptor.proofs.take.take.Given as goal
 

@@ -5,12 +5,12 @@ use Rattle.gpu_descriptor.specs.declared.bucket.DescriptorPool.{DescriptorPool}
 use Rattle.gpu_descriptor_types.specs.declared.errors.DeviceAllocationError.{DeviceAllocationError}
 use Rattle.gpu_descriptor.specs.declared.set.BucketKey.{BucketKey}
 use Rattle.gpu_descriptor.specs.declared.set.DescriptorSet.{DescriptorSet}
-use Rattle.gpu_descriptor.specs.Agreement.{Item}
-use Rattle.gpu_descriptor.specs.Books.{Entry, Key}
-use Rattle.gpu_descriptor.specs.Grants.{items_at}
-use Rattle.gpu_descriptor.specs.Sets.{key_of, items_of}
-use Rattle.gpu_descriptor.specs.Shares.{rest}
-use Rattle.gpu_descriptor.specs.Walk.{sets_at, IsWalked, IsWalkStopped}
+use Rattle.gpu_descriptor.specs.Model.Agreement.{Item}
+use Rattle.gpu_descriptor.specs.Model.Books.{Entry, Key}
+use Rattle.gpu_descriptor.specs.Model.Grants.{items_at}
+use Rattle.gpu_descriptor.specs.Caller.Sets.{key_of, items_of}
+use Rattle.gpu_descriptor.specs.Model.Shares.{rest}
+use Rattle.gpu_descriptor.specs.Inner.Walk.{sets_at, IsWalked, IsWalkStopped}
 use Rattle.gpu_descriptor.proofs.Newest.{OpenWalk, open_walk_start, open_walk_more, open_walk_stop, walk_sated, walk_empty, above, inside, next_is_booked, listed_now_closed, listed_now_open, listed_now_same, one_asked, looked_at}
 use Rattle.gpu_descriptor.proofs.Walking.{Walking, walk_end, items_of-sets_at}
 use Rattle.gpu_descriptor.proofs.take.walk.Goals as goal

@@ -2,9 +2,9 @@
 use Rattle.std.proofs.Common.{◌≡◌, ◌+◌, ◌≤◌, ◌++◌, List, length}
 use Rattle.std.specs.VecDeque.{deque_capacity}
 use Rattle.gpu_descriptor.specs.declared.set.DescriptorSet.{DescriptorSet}
-use Rattle.gpu_descriptor.specs.Open.{CountsLooks, KeepsView}
-use Rattle.gpu_descriptor.specs.Sets.{key_of, items_of}
-use Rattle.gpu_descriptor.specs.Walk.{entries_of}
+use Rattle.gpu_descriptor.specs.Inner.OpenPools.{CountsLooks, KeepsView}
+use Rattle.gpu_descriptor.specs.Caller.Sets.{key_of, items_of}
+use Rattle.gpu_descriptor.specs.Inner.Walk.{entries_of}
 use Rattle.gpu_descriptor.proofs.Newest.{OpenWalk}
 use Rattle.gpu_descriptor.proofs.take.walk.Given as goal
 

@@ -1,4 +1,4 @@
-use Rattle.gpu_descriptor.specs.Promises.{KeepsOutstanding}
+use Rattle.gpu_descriptor.specs.Model.Promises.{KeepsOutstanding}
 use Rattle.descriptor_bench.specs.Bench.{state_in}
 use Rattle.descriptor_bench.proofs.bench.Bench.rounds.Given as goal
 

@@ -1,6 +1,6 @@
 use Rattle.std.proofs.Common.{◌++◌, ap, ◌∙◌}
-use Rattle.gpu_descriptor.specs.Agreement.{State}
-use Rattle.gpu_descriptor.specs.Sets.{items_of}
+use Rattle.gpu_descriptor.specs.Model.Agreement.{State}
+use Rattle.gpu_descriptor.specs.Caller.Sets.{items_of}
 use Rattle.descriptor_bench.specs.Bench.{state_in}
 use Rattle.descriptor_bench.specs.Device.{name_of}
 use Rattle.gpu_descriptor.proofs.Holding.{all_back, came_out, out_mixed}

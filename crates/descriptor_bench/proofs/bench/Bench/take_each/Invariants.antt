@@ -1,7 +1,7 @@
 use Rattle.std.proofs.Common.{◌≡◌, ℕ, List, ◌++◌}
 use Rattle.gpu_descriptor.specs.declared.set.DescriptorSet.{DescriptorSet}
-use Rattle.gpu_descriptor.specs.Promises.{AreOutBesides}
-use Rattle.gpu_descriptor.specs.Sets.{items_of}
+use Rattle.gpu_descriptor.specs.Model.Promises.{AreOutBesides}
+use Rattle.gpu_descriptor.specs.Caller.Sets.{items_of}
 use Rattle.descriptor_bench.specs.Bench.{state_in}
 use Rattle.descriptor_bench.specs.Device.{name_of}
 use Rattle.descriptor_bench.proofs.bench.Bench.take_each.Given as goal

@@ -1,5 +1,5 @@
 use Rattle.std.proofs.Common.{◌-◌, ap, arith}
-use Rattle.gpu_descriptor.specs.Agreement.{count_of}
+use Rattle.gpu_descriptor.specs.Model.Agreement.{count_of}
 use Rattle.descriptor_frames.specs.Frames.{retired_items}
 use Rattle.descriptor_frames.proofs.manager.FrameManager.cleanup.Goals as goal
 

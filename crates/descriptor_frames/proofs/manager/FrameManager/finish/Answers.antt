@@ -1,7 +1,7 @@
 use Rattle.std.proofs.Common.{◌≡◌, [], ◌++◌, refl, sym, ap, subst, ◌∙◌}
-use Rattle.gpu_descriptor.specs.Agreement.{State}
-use Rattle.gpu_descriptor.specs.States.{state_of}
-use Rattle.gpu_descriptor.specs.Values.{Allocations}
+use Rattle.gpu_descriptor.specs.Model.Agreement.{State}
+use Rattle.gpu_descriptor.specs.Caller.States.{state_of}
+use Rattle.gpu_descriptor.specs.Caller.Values.{Allocations}
 use Rattle.gpu_descriptor_types.specs.Ledger.{Ledger}
 use Rattle.descriptor_frames.specs.Frames.{retired_of, state_in}
 use Rattle.descriptor_frames.specs.Retired.{AreInOrder, sets_in}

@@ -1,7 +1,7 @@
 use Rattle.std.proofs.Common.{◌≡◌, ◌≤◌, length, take, vec_len, vec_capacity}
-use Rattle.gpu_descriptor.specs.Books.{HasDistinctKeys}
-use Rattle.gpu_descriptor.specs.Foreign.{KeepsForeign, LosesNone}
-use Rattle.gpu_descriptor.specs.States.{Agrees, state_of, table_of}
+use Rattle.gpu_descriptor.specs.Model.Books.{HasDistinctKeys}
+use Rattle.gpu_descriptor.specs.Model.Foreign.{KeepsForeign, LosesNone}
+use Rattle.gpu_descriptor.specs.Caller.States.{Agrees, state_of, table_of}
 use Rattle.descriptor_script.specs.Session.{AreAllHeld, allocator_of, layouts_of, sets_of}
 use Rattle.descriptor_script.specs.SessionRun.{RunsTo}
 use Rattle.descriptor_script.proofs.session.Session.run.Given as goal

@@ -1,20 +1,18 @@
 use Rattle.std.proofs.Common.{◌+◌, rules, ap, ◌≡◌, arith, List, Ok, Err, inl, refl, sym, ◌∙◌, subst}
 use Rattle.gpu_descriptor_types.specs.Ledger.{Ledger}
-use Rattle.gpu_descriptor.specs.Agreement.{State, Agree}
-use Rattle.gpu_descriptor.specs.Books.{Key}
-use Rattle.gpu_descriptor.specs.Frees.{GivesBack}
-use Rattle.gpu_descriptor.specs.Keys.{StayOrGainLast}
-use Rattle.gpu_descriptor.specs.Load.{marked_load}
-use Rattle.gpu_descriptor.specs.Outcomes.{Allocates}
-use Rattle.gpu_descriptor.specs.Grow.{refusal_answer}
-use Rattle.gpu_descriptor.specs.Walk.{layout_key}
-use Rattle.gpu_descriptor.specs.Requests.{call_of}
-use Rattle.gpu_descriptor.specs.Runs.{runs}
-use Rattle.gpu_descriptor.specs.Sets.{key_of, items_of}
-use Rattle.gpu_descriptor.specs.States.{state_of, keys_of, marked_load_of}
-use Rattle.gpu_descriptor.specs.OtherKeys.{KeepsOtherKeys}
-use Rattle.gpu_descriptor.specs.Promises.{AreOfKey}
-use Rattle.gpu_descriptor.specs.Values.{Allocations}
+use Rattle.gpu_descriptor.specs.Model.Agreement.{State, Agree}
+use Rattle.gpu_descriptor.specs.Model.Books.{Key}
+use Rattle.gpu_descriptor.specs.Caller.Frees.{GivesBack}
+use Rattle.gpu_descriptor.specs.Caller.Keys.{StayOrGainLast}
+use Rattle.gpu_descriptor.specs.Model.Load.{marked_load}
+use Rattle.gpu_descriptor.specs.Model.Outcomes.{Allocates}
+use Rattle.gpu_descriptor.specs.Inner.Grow.{refusal_answer}
+use Rattle.gpu_descriptor.specs.Caller.Call.{layout_key, call_of}
+use Rattle.gpu_descriptor.specs.Model.Runs.{runs}
+use Rattle.gpu_descriptor.specs.Caller.Sets.{key_of, items_of}
+use Rattle.gpu_descriptor.specs.Caller.States.{state_of, keys_of, marked_load_of}
+use Rattle.gpu_descriptor.specs.Model.Promises.{KeepsOtherKeys, AreOfKey}
+use Rattle.gpu_descriptor.specs.Caller.Values.{Allocations}
 use Rattle.gpu_descriptor.proofs.OthersStay.{others_stay}
 use Rattle.gpu_descriptor.proofs.Allocating.{taken_agree, taken_given, taken_out, taken_own, taken_others, taken_leaves, taken_loses_none, went_back, back_out, back_leaves, back_loses_none, back_others, back_totals, kept, kept_many, kept_totals}
 use Rattle.gpu_descriptor.proofs.Foreign.{foreign_same, loses_same}

@@ -3,11 +3,11 @@ use Rattle.indexmap.proofs.CallerLemmas.{filter-RetainsPairs}
 use Rattle.indexmap.specs.Layout.{length-set_value_at}
 use Rattle.std.specs.Map.Iter.{deref_pair}
 use Rattle.gpu_descriptor_types.specs.Ledger.{Ledger}
-use Rattle.gpu_descriptor.specs.Books.{Bucket, HasDistinctKeys}
-use Rattle.gpu_descriptor.specs.Buckets.{AreBookedIn, has_pools}
-use Rattle.gpu_descriptor.specs.States.{outstanding_of, marked_load_of, named_row}
-use Rattle.gpu_descriptor.specs.Stored.{row_of}
-use Rattle.gpu_descriptor.specs.Values.{Allocations}
+use Rattle.gpu_descriptor.specs.Model.Books.{Bucket, HasDistinctKeys}
+use Rattle.gpu_descriptor.specs.Inner.Buckets.{AreBookedIn, has_pools}
+use Rattle.gpu_descriptor.specs.Caller.States.{outstanding_of, marked_load_of, named_row}
+use Rattle.gpu_descriptor.specs.Inner.Stored.{row_of}
+use Rattle.gpu_descriptor.specs.Caller.Values.{Allocations}
 use Rattle.gpu_descriptor.proofs.Cleaning.{clean_agrees, takes_none}
 use Rattle.gpu_descriptor.proofs.Foreign.{cleaned_foreign, cleaned_loses}
 use Rattle.gpu_descriptor.proofs.Loads.{rows_out, rows_load, rows_pool_load}

@@ -1,5 +1,5 @@
 use Rattle.std.proofs.Common.{◌≡◌, length}
-use Rattle.gpu_descriptor.specs.Stored.{IsCounted}
+use Rattle.gpu_descriptor.specs.Inner.Stored.{IsCounted}
 use Rattle.gpu_descriptor.proofs.RowsCleaned.{cleared, ledger_less}
 use Rattle.gpu_descriptor.proofs.TableBooks.{rows_in}
 use Rattle.gpu_descriptor.proofs.allocator.DescriptorAllocator.cleanup.Given as goal

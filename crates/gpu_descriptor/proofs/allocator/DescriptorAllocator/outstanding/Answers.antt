@@ -1,7 +1,7 @@
 use Rattle.std.proofs.Common.{ℕ, rules, refl, sym, ap, ◌∙◌}
-use Rattle.gpu_descriptor.specs.Books.{HasDistinctKeys}
-use Rattle.gpu_descriptor.specs.States.{outstanding_of, table_of}
-use Rattle.gpu_descriptor.specs.Values.{Allocations}
+use Rattle.gpu_descriptor.specs.Model.Books.{HasDistinctKeys}
+use Rattle.gpu_descriptor.specs.Caller.States.{outstanding_of, table_of}
+use Rattle.gpu_descriptor.specs.Caller.Values.{Allocations}
 use Rattle.gpu_descriptor.proofs.Loads.{rows_out}
 use Rattle.gpu_descriptor.proofs.Requested.{keys_apart}
 use Rattle.gpu_descriptor.proofs.TableSums.{outstanding_of-table}

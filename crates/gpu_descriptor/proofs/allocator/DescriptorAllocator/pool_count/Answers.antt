@@ -2,11 +2,11 @@ use Rattle.std.proofs.Common.{Option, List, [], length, map, sym, ap, ◌∙◌,
 use Rattle.std.specs.Option.{option_map_or}
 use Rattle.std.proofs.lemmas.List.{length-map}
 use Rattle.gpu_descriptor.specs.declared.bucket.DescriptorBucket.{DescriptorBucket}
-use Rattle.gpu_descriptor.specs.Books.{Key}
-use Rattle.gpu_descriptor.specs.Sets.{key_of}
-use Rattle.gpu_descriptor.specs.Values.{Allocations, Kept}
-use Rattle.gpu_descriptor.specs.Stored.{kept_of}
-use Rattle.gpu_descriptor.specs.Views.{pools_at}
+use Rattle.gpu_descriptor.specs.Model.Books.{Key}
+use Rattle.gpu_descriptor.specs.Caller.Sets.{key_of}
+use Rattle.gpu_descriptor.specs.Caller.Values.{Allocations, Kept}
+use Rattle.gpu_descriptor.specs.Inner.Stored.{kept_of}
+use Rattle.gpu_descriptor.specs.Caller.Views.{pools_at}
 use Rattle.gpu_descriptor.proofs.Readings.{pools_are}
 use Rattle.gpu_descriptor.proofs.TableSums.{pools_of-table}
 use Rattle.gpu_descriptor.proofs.allocator.DescriptorAllocator.pool_count.Goals as goal

@@ -1,11 +1,11 @@
 use Rattle.std.proofs.Common.{◌≡◌, ◌-◌, arith, rules, refl, sym, ap, subst, ◌∙◌, List, [], ◌∷◌, length, map}
 use Rattle.std.specs.Option.{option_copied_mut}
-use Rattle.gpu_descriptor.specs.Sets.{key_of, items_of}
-use Rattle.gpu_descriptor.specs.States.{state_of}
-use Rattle.gpu_descriptor.specs.Stored.{IsCounted}
-use Rattle.gpu_descriptor.specs.Values.{Allocations}
+use Rattle.gpu_descriptor.specs.Caller.Sets.{key_of, items_of}
+use Rattle.gpu_descriptor.specs.Caller.States.{state_of}
+use Rattle.gpu_descriptor.specs.Inner.Stored.{IsCounted}
+use Rattle.gpu_descriptor.specs.Caller.Values.{Allocations}
 use Rattle.gpu_descriptor.specs.declared.set.DescriptorSet.{DescriptorSet}
-use Rattle.gpu_descriptor.specs.Digits.{binary_digits}
+use Rattle.gpu_descriptor.specs.Caller.Comparisons.{binary_digits}
 use Rattle.gpu_descriptor.proofs.Holding.{out_less}
 use Rattle.gpu_descriptor.proofs.Lent.{no_row, row_open, row_stored, row_taken, row_ran, row_counted}
 use Rattle.gpu_descriptor.proofs.Loads.{taken, load_at, load_fits, counted_after, out_after, load_after, run_load, pools_present, pools_set}

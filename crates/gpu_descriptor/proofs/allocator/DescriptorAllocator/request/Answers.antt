@@ -3,14 +3,14 @@ use Rattle.std.specs.Prelude.{nat_lt}
 use Rattle.std.proofs.lemmas.Bool.{and_parts, ltb-true, ltb-false}
 use Rattle.gpu_descriptor_types.specs.Counts.{kinds}
 use Rattle.gpu_descriptor_types.specs.Ledger.{Ledger}
-use Rattle.gpu_descriptor.specs.Books.{Bucket}
-use Rattle.gpu_descriptor.specs.Requests.{Takes}
-use Rattle.gpu_descriptor.specs.Serves.{IsUnserved}
-use Rattle.gpu_descriptor.specs.Sets.{key_of}
-use Rattle.gpu_descriptor.specs.States.{state_of, marked_load_of, outstanding_of}
-use Rattle.gpu_descriptor.specs.Stored.{row_of, load_of}
-use Rattle.gpu_descriptor.specs.Values.{Allocations}
-use Rattle.gpu_descriptor.specs.Buckets.{AreBookedIn}
+use Rattle.gpu_descriptor.specs.Model.Books.{Bucket}
+use Rattle.gpu_descriptor.specs.Inner.Takes.{Takes}
+use Rattle.gpu_descriptor.specs.Inner.Serves.{IsUnserved}
+use Rattle.gpu_descriptor.specs.Caller.Sets.{key_of}
+use Rattle.gpu_descriptor.specs.Caller.States.{state_of, marked_load_of, outstanding_of}
+use Rattle.gpu_descriptor.specs.Inner.Stored.{row_of, load_of}
+use Rattle.gpu_descriptor.specs.Caller.Values.{Allocations}
+use Rattle.gpu_descriptor.specs.Inner.Buckets.{AreBookedIn}
 use Rattle.gpu_descriptor.proofs.KeepState.{booked_of}
 use Rattle.gpu_descriptor.proofs.Loads.{rows_load, rows_pool_load}
 use Rattle.gpu_descriptor.proofs.KeysKept.{keys_seen}

@@ -1,6 +1,6 @@
 use Rattle.std.proofs.Common.{◌≡◌, ◌-◌, rules, refl, sym, ap, ◌∙◌, arith}
-use Rattle.gpu_descriptor.specs.States.{pool_load_of, table_of}
-use Rattle.gpu_descriptor.specs.Values.{Allocations}
+use Rattle.gpu_descriptor.specs.Caller.States.{pool_load_of, table_of}
+use Rattle.gpu_descriptor.specs.Caller.Values.{Allocations}
 use Rattle.gpu_descriptor.proofs.Requested.{keys_apart, pool_load_of_rows}
 use Rattle.gpu_descriptor.proofs.TableSums.{pool_load_of-table}
 use Rattle.gpu_descriptor.proofs.allocator.DescriptorAllocator.update_after_bind_capacity.Goals as goal

@@ -1,6 +1,6 @@
 use Rattle.std.proofs.Common.{◌≤◌, rules, refl, sym, ap, subst, ◌∙◌}
-use Rattle.gpu_descriptor.specs.States.{marked_load_of, table_of}
-use Rattle.gpu_descriptor.specs.Values.{Allocations}
+use Rattle.gpu_descriptor.specs.Caller.States.{marked_load_of, table_of}
+use Rattle.gpu_descriptor.specs.Caller.Values.{Allocations}
 use Rattle.gpu_descriptor.proofs.Loads.{rows_load}
 use Rattle.gpu_descriptor.proofs.Requested.{keys_apart}
 use Rattle.gpu_descriptor.proofs.TableSums.{marked_load_of-table}

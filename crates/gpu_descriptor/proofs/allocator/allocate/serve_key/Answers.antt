@@ -7,11 +7,11 @@ use Rattle.indexmap.proofs.CallerLemmas.{insert_entry-new}
 use Rattle.gpu_descriptor_types.specs.Ledger.{Ledger}
 use Rattle.gpu_descriptor.specs.declared.set.BucketKey.{BucketKey}
 use Rattle.gpu_descriptor.specs.declared.bucket.DescriptorBucket.{DescriptorBucket}
-use Rattle.gpu_descriptor.specs.Books.{Bucket, no_pools, next_number}
-use Rattle.gpu_descriptor.specs.Sets.{key_of}
-use Rattle.gpu_descriptor.specs.Buckets.{AreBookedIn}
-use Rattle.gpu_descriptor.specs.Stored.{entry_of, stored_load_in, stored_load}
-use Rattle.gpu_descriptor.specs.Serves.{ServesKey, IsUnserved}
+use Rattle.gpu_descriptor.specs.Model.Books.{Bucket, no_pools, next_number}
+use Rattle.gpu_descriptor.specs.Caller.Sets.{key_of}
+use Rattle.gpu_descriptor.specs.Inner.Buckets.{AreBookedIn}
+use Rattle.gpu_descriptor.specs.Inner.Stored.{entry_of, stored_load_in, stored_load}
+use Rattle.gpu_descriptor.specs.Inner.Serves.{ServesKey, IsUnserved}
 use Rattle.gpu_descriptor.proofs.KeysKept.{keys_put, keys_written}
 use Rattle.gpu_descriptor.proofs.Loads.{sum_set, pools_set, pools_end}
 use Rattle.gpu_descriptor.proofs.RequestSteps.{present, missing, serves_present, serves_new, set_value-same}

@@ -1,12 +1,12 @@
 use Rattle.std.proofs.Common.{◌≡◌, ℕ, ◌+◌, drop, ◌<◌, ◌≤◌, ◌∙◌, sym, ap, arith, length, get_or, Some, ◌≢◌, eqb-true, deque_len}
 use Rattle.std.proofs.lemmas.Bool.{eqb-false}
 use Rattle.gpu_descriptor_types.specs.Ledger.{Ledger}
-use Rattle.gpu_descriptor.specs.Books.{Bucket}
-use Rattle.gpu_descriptor.specs.Buckets.{ledger_without}
-use Rattle.gpu_descriptor.specs.Release.{empty_front}
-use Rattle.gpu_descriptor.specs.Load.{pool_load}
-use Rattle.gpu_descriptor.specs.Sets.{key_of}
-use Rattle.gpu_descriptor.specs.Stored.{bucket_of, stored_load}
+use Rattle.gpu_descriptor.specs.Model.Books.{Bucket}
+use Rattle.gpu_descriptor.specs.Inner.Buckets.{ledger_without}
+use Rattle.gpu_descriptor.specs.Model.Release.{empty_front}
+use Rattle.gpu_descriptor.specs.Model.Load.{pool_load}
+use Rattle.gpu_descriptor.specs.Caller.Sets.{key_of}
+use Rattle.gpu_descriptor.specs.Inner.Stored.{bucket_of, stored_load}
 use Rattle.gpu_descriptor.proofs.PoolLoads.{stored_first}
 use Rattle.gpu_descriptor.proofs.Empties.{IsFirst, is_first, turn_unused, turn, stop_full, stop_none}
 use Rattle.gpu_descriptor.proofs.Turns.{ledger_without_none}

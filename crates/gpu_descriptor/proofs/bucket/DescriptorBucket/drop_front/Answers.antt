@@ -1,11 +1,11 @@
 use Rattle.std.proofs.Common.{◌≡◌, ℕ, ◌+◌, drop, ◌<◌, ◌≤◌, ◌∙◌, sym, ap, arith, length, get_or, Some}
 use Rattle.gpu_descriptor_types.specs.Ledger.{Ledger}
-use Rattle.gpu_descriptor.specs.Books.{Bucket}
-use Rattle.gpu_descriptor.specs.Buckets.{ledger_without}
-use Rattle.gpu_descriptor.specs.Release.{spent_front}
-use Rattle.gpu_descriptor.specs.Load.{pool_load}
-use Rattle.gpu_descriptor.specs.Sets.{key_of}
-use Rattle.gpu_descriptor.specs.Stored.{bucket_of, stored_load}
+use Rattle.gpu_descriptor.specs.Model.Books.{Bucket}
+use Rattle.gpu_descriptor.specs.Inner.Buckets.{ledger_without}
+use Rattle.gpu_descriptor.specs.Model.Release.{spent_front}
+use Rattle.gpu_descriptor.specs.Model.Load.{pool_load}
+use Rattle.gpu_descriptor.specs.Caller.Sets.{key_of}
+use Rattle.gpu_descriptor.specs.Inner.Stored.{bucket_of, stored_load}
 use Rattle.gpu_descriptor.proofs.PoolLoads.{stored_first}
 use Rattle.gpu_descriptor.proofs.Turns.{IsFront, is_front, turn_unused, turn, stop_full, stop_last, ledger_without_none}
 use Rattle.gpu_descriptor.proofs.bucket.DescriptorBucket.drop_front.Goals.{After-unwrap-front}

@@ -6,18 +6,19 @@ use Rattle.gpu_descriptor.specs.declared.bucket.DescriptorPool.{DescriptorPool}
 use Rattle.gpu_descriptor_types.specs.Ledger.{Ledger, after_release}
 use Rattle.gpu_descriptor_types.specs.Multiset.{LiveSet, AreIn}
 use Rattle.gpu_descriptor.specs.declared.set.DescriptorSet.{DescriptorSet}
-use Rattle.gpu_descriptor.specs.Agreement.{live_in}
-use Rattle.gpu_descriptor.specs.Books.{Entry}
-use Rattle.gpu_descriptor.specs.Buckets.{AreBookedIn, IsTakenAt, names_of, settled_bucket, settled_ledger}
+use Rattle.gpu_descriptor.specs.Model.Agreement.{live_in}
+use Rattle.gpu_descriptor.specs.Model.Books.{Entry}
+use Rattle.gpu_descriptor.specs.Inner.Buckets.{AreBookedIn, settled_bucket, settled_ledger}
+use Rattle.gpu_descriptor.specs.Inner.Releases.{IsTakenAt, names_of}
 use Rattle.std.specs.List.Sorted.{IsNonDecreasing}
-use Rattle.gpu_descriptor.specs.OpenNumbers.{free_in}
+use Rattle.gpu_descriptor.specs.Inner.OpenNumbers.{free_in}
 use Rattle.gpu_descriptor.proofs.PoolLoads.{stored_put}
 use Rattle.gpu_descriptor.proofs.Open.{open_rises}
 use Rattle.gpu_descriptor.proofs.Listed.{listed_again, fewer_listed}
-use Rattle.gpu_descriptor.specs.Release.{entry_less}
-use Rattle.gpu_descriptor.specs.Sets.{key_of}
-use Rattle.gpu_descriptor.specs.Stored.{bucket_of, entry_of}
-use Rattle.gpu_descriptor.specs.Digits.{binary_digits}
+use Rattle.gpu_descriptor.specs.Model.Release.{entry_less}
+use Rattle.gpu_descriptor.specs.Caller.Sets.{key_of}
+use Rattle.gpu_descriptor.specs.Inner.Stored.{bucket_of, entry_of}
+use Rattle.gpu_descriptor.specs.Caller.Comparisons.{binary_digits}
 use Rattle.gpu_descriptor.proofs.Comparisons.{listed_count}
 use Rattle.gpu_descriptor.proofs.BucketRun.{AreTaken, are_taken, is_within, read_first, changed_at, stored_after, total_less, place_room}
 use Rattle.gpu_descriptor.proofs.LedgerPools.{taken_from, release_pools}

@@ -4,21 +4,20 @@ use Rattle.gpu_descriptor_types.specs.Ledger.{Ledger}
 use Rattle.gpu_descriptor.specs.declared.set.DescriptorSet.{DescriptorSet}
 use Rattle.std.specs.declared.collections.VecDeque.{VecDeque}
 use Rattle.gpu_descriptor.specs.declared.bucket.DescriptorPool.{DescriptorPool}
-use Rattle.gpu_descriptor.specs.Books.{Entry, Key}
-use Rattle.gpu_descriptor.specs.Buckets.{AreBookedIn}
-use Rattle.gpu_descriptor.specs.OpenNumbers.{free_in, open_numbers}
-use Rattle.gpu_descriptor.specs.Sets.{key_of, items_of}
-use Rattle.gpu_descriptor.specs.Walk.{entries_of}
-use Rattle.gpu_descriptor.specs.Grow.{IsTakenAll, IsTakenUpTo}
+use Rattle.gpu_descriptor.specs.Model.Books.{Entry, Key}
+use Rattle.gpu_descriptor.specs.Inner.Buckets.{AreBookedIn}
+use Rattle.gpu_descriptor.specs.Inner.OpenNumbers.{free_in, open_numbers}
+use Rattle.gpu_descriptor.specs.Caller.Sets.{key_of, items_of, item_of}
+use Rattle.gpu_descriptor.specs.Inner.Walk.{entries_of}
+use Rattle.gpu_descriptor.specs.Inner.Grow.{IsTakenAll, IsTakenUpTo}
 use Rattle.std.proofs.lemmas.List.{length-map}
 use Rattle.std.proofs.lemmas.List.Sums.{sum_by-cons}
 use Rattle.gpu_descriptor.specs.declared.take.Refusal.{Refusal}
 use Rattle.gpu_descriptor.specs.declared.take.Refusal.TheVariants as refusal
-use Rattle.gpu_descriptor.specs.Agreement.{Item}
-use Rattle.gpu_descriptor.specs.Allocated.{allocated_in}
-use Rattle.gpu_descriptor.specs.Load.{held, pool_load, pools_load}
-use Rattle.gpu_descriptor.specs.Sets.{item_of}
-use Rattle.gpu_descriptor.specs.Stored.{entry_of, stored_load}
+use Rattle.gpu_descriptor.specs.Model.Agreement.{Item}
+use Rattle.gpu_descriptor.specs.Inner.Allocated.{allocated_in}
+use Rattle.gpu_descriptor.specs.Model.Load.{held, pool_load, pools_load}
+use Rattle.gpu_descriptor.specs.Inner.Stored.{entry_of, stored_load}
 use Rattle.gpu_descriptor.proofs.bucket.DescriptorBucket.take.Goals as goal
 
 held_in : {P : Type 0} (name : P → ℕ) (ps : List (DescriptorPool P)) → held (entries_of name ps) ≡ allocated_in ps

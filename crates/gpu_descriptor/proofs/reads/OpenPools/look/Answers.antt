@@ -1,7 +1,7 @@
 use Rattle.std.proofs.Common.{◌≡◌, ◌+◌, ◌-◌, ap, refl}
 use Rattle.gpu_descriptor_types.specs.declared.counter.Tally.{Tally}
 use Rattle.gpu_descriptor.specs.declared.reads.OpenPools.{OpenPools}
-use Rattle.gpu_descriptor.specs.Open.{looked_at}
+use Rattle.gpu_descriptor.specs.Inner.OpenPools.{looked_at}
 use Rattle.gpu_descriptor.proofs.reads.OpenPools.look.Goals as goal
 
 pub returns : goal.returns

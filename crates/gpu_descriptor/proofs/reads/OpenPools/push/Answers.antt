@@ -1,6 +1,6 @@
 use Rattle.std.proofs.Common.{◌≡◌, ◌+◌, ◌++◌, ◌∷◌, [], ℕ, List, length, arith, ap, sym, ◌∙◌, length-append, deque_capacity}
 use Rattle.gpu_descriptor.specs.declared.bucket.DescriptorPool.{DescriptorPool}
-use Rattle.gpu_descriptor.specs.OpenNumbers.{free_in, open_numbers}
+use Rattle.gpu_descriptor.specs.Inner.OpenNumbers.{free_in, open_numbers}
 use Rattle.gpu_descriptor.proofs.Listed.{few_listed, listed_push_open, listed_push_closed}
 use Rattle.gpu_descriptor.proofs.reads.OpenPools.push.Goals as goal
 use Rattle.gpu_descriptor.proofs.reads.OpenPools.push.Goals.{then-pool-gt0, else-pool-gt0}

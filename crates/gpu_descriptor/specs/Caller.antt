@@ -1,0 +1,13 @@
+-- What public clauses say beside the model: the allocator's value and its state, the call, sets, frees, flags, errors, views.
+pub mod Call
+pub mod Comparisons
+pub mod Errors
+pub mod Flags
+pub mod Frees
+pub mod Keys
+pub mod Others
+pub mod SetLends
+pub mod Sets
+pub mod States
+pub mod Values
+pub mod Views

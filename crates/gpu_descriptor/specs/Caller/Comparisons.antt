@@ -1,0 +1,35 @@
+-- How many comparisons giving a list of sets back may take: the binary digits of how many pools are open.
+use Rattle.std.specs.Prelude.{ℕ, zero, suc, ◌/◌, ◌+◌, nat_lt, if◌then◌else◌, List, [], ◌∷◌, ◌++◌, count_by}
+use Rattle.gpu_descriptor.specs.Model.Books.{Bucket}
+use Rattle.gpu_descriptor.specs.Model.Agreement.{State, Item}
+use Rattle.gpu_descriptor.specs.Model.Release.{released}
+use Rattle.gpu_descriptor.specs.Model.Runs.{is_beside}
+
+-- counted by halving, at most so often: 0 has none, and a number one more than its half
+abbrev pub digits_within : ℕ → ℕ → ℕ
+digits_within zero n = 0
+digits_within (suc most) zero = 0
+digits_within (suc most) (suc n) = suc (digits_within most (suc n / 2))
+
+-- 1 has 1, 2 and 3 have 2, 4 to 7 have 3: the least d with n below 2 ^ d
+abbrev pub binary_digits : ℕ → ℕ
+binary_digits n = digits_within n n
+
+-- how many pools of a key are open: have known free places
+abbrev pub open_pools : Bucket → ℕ
+open_pools b = count_by (λ e. nat_lt 0 e.free) b.pools
+
+module _ (s : State) where
+  -- the binary digits of the number of open pools of t's key, once the sets before t have gone back
+  abbrev pub digits_at : List Item → Item → ℕ
+  digits_at before t = binary_digits (open_pools ((released before s).books t.key))
+
+  -- those at each set behind last that begins a run
+  abbrev pub digits_behind : List Item → Item → List Item → ℕ
+  digits_behind before last [] = 0
+  digits_behind before last (t ∷ rest) = (if is_beside last t then 0 else digits_at before t) + digits_behind (before ++ t ∷ []) t rest
+
+  -- those of all runs of a list
+  abbrev pub run_digits : List Item → ℕ
+  run_digits [] = 0
+  run_digits (t ∷ rest) = digits_at [] t + digits_behind (t ∷ []) t rest

@@ -1,0 +1,12 @@
+-- What only the code's own contracts say. No public clause needs it.
+pub mod Allocated
+pub mod Buckets
+pub mod Grow
+pub mod OpenNumbers
+pub mod OpenPools
+pub mod Releases
+pub mod RunSteps
+pub mod Serves
+pub mod Stored
+pub mod Takes
+pub mod Walk

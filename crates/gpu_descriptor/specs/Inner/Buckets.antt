@@ -1,0 +1,51 @@
+-- One key's pools over a ledger: how they stand in it, and what a run and a front that goes do to both.
+use Rattle.std.specs.Prelude.{Bool, not, ◌==◌, ◌≡◌, ℕ, ◌-◌, if◌then◌else◌, List, length, slice_get, Option, None, Some}
+use Rattle.gpu_descriptor_types.specs.Ledger.{Pool, Ledger}
+use Rattle.gpu_descriptor.specs.declared.bucket.DescriptorBucket.{DescriptorBucket}
+use Rattle.gpu_descriptor.specs.Model.Agreement.{IsAsBooked}
+use Rattle.gpu_descriptor.specs.Model.Books.{Key, Entry, Bucket}
+use Rattle.gpu_descriptor.specs.Model.Release.{empty_front, spent_front, without_front, in_front, more_destroyed}
+
+-- no name stands at two places
+abbrev pub HasDistinctNames : List Entry → Type 0
+HasDistinctNames es = (i j : ℕ) (d e : Entry) → slice_get es i ≡ Some d → slice_get es j ≡ Some e → d.pool ≡ e.pool → i ≡ j
+
+-- an entry has its pool in the ledger
+pub record IsBookedIn (k : Key) (pools : ℕ → Option Pool) (e : Entry) : Type 0 where
+  pub pool : Pool
+  pub is_live : pools e.pool ≡ Some pool
+  pub booked : IsAsBooked k pool e
+
+-- one key's part of the agreement: its pools stand in the ledger as the books say
+pub record AreBookedIn (k : Key) (pools : ℕ → Option Pool) (entries : List Entry) : Type 0 where
+  pub distinct : HasDistinctNames entries
+  pub each : (i : ℕ) (e : Entry) → slice_get entries i ≡ Some e → IsBookedIn k pools e
+
+-- the bucket without its spent front
+abbrev pub settled_bucket : Bucket → Bucket
+settled_bucket b = without_front (spent_front b) b
+
+-- the pools without the first n of a bucket
+abbrev pub pools_without : ℕ → Bucket → (ℕ → Option Pool) → ℕ → Option Pool
+pools_without n b pools p = if in_front n b p then None else pools p
+
+-- the ledger after the first n pools of a bucket were destroyed
+abbrev pub ledger_without : ℕ → Bucket → Ledger → Ledger
+ledger_without n b l = record { pools = pools_without n b l.pools; counters = more_destroyed n l.counters }
+
+-- the ledger after a bucket's spent front was destroyed
+abbrev pub settled_ledger : Bucket → Ledger → Ledger
+settled_ledger b l = ledger_without (spent_front b) b l
+
+-- the bucket without its empty front
+abbrev pub cleared_bucket : Bucket → Bucket
+cleared_bucket b = without_front (empty_front b) b
+
+-- the ledger after a bucket's empty front was destroyed
+abbrev pub cleared_ledger : Bucket → Ledger → Ledger
+cleared_ledger b l = ledger_without (empty_front b) b l
+
+module _ {P : Type 0} where
+  -- the key has pools
+  abbrev pub has_pools : DescriptorBucket P → Bool
+  has_pools b = not (length b.pools.items == 0)

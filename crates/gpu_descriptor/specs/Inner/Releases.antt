@@ -1,0 +1,54 @@
+-- How one run goes back: at its key's pools, and at the allocator.
+use Rattle.std.specs.Prelude.{◌≡◌, ℕ, ◌+◌, List, ◌∷◌, length, Option, ◌-◌, ◌≤◌, map, set, slice_get, Some}
+use Rattle.gpu_descriptor_types.specs.Ledger.{Ledger, Pool, after_release, live_sets}
+use Rattle.gpu_descriptor.specs.declared.set.DescriptorSet.{DescriptorSet}
+use Rattle.gpu_descriptor.specs.Model.Agreement.{live_in}
+use Rattle.gpu_descriptor.specs.Model.Release.{entry_less}
+use Rattle.gpu_descriptor.specs.Caller.Sets.{key_of}
+use Rattle.gpu_descriptor.specs.Inner.RunSteps.{EndsRun}
+use Rattle.gpu_descriptor.specs.Caller.Values.{Allocations}
+use Rattle.gpu_descriptor.specs.Caller.Frees.{GivesBack}
+use Rattle.gpu_descriptor_types.specs.Multiset.{LiveSet, times}
+use Rattle.gpu_descriptor.specs.declared.bucket.DescriptorBucket.{DescriptorBucket}
+use Rattle.gpu_descriptor.specs.Model.Books.{Key, Entry, Bucket}
+use Rattle.gpu_descriptor.specs.Inner.Stored.{bucket_of}
+use Rattle.gpu_descriptor.specs.Inner.Buckets.{settled_bucket, settled_ledger}
+
+-- one run came, from first to before the set ahead, and has gone back
+pub record FreesRun {P S T : Type 0} (steps : T → Option (DescriptorSet S) → T → Type 0) (pool_name : P → ℕ) (set_name : S → ℕ) (first : DescriptorSet S) (given : T) (ahead : Option (DescriptorSet S)) (left : T) (old new : Allocations P) (before after : Ledger) : Type 0 where
+  -- the sets behind first
+  pub sets : List (DescriptorSet S)
+  pub came : EndsRun steps first.key first.number given sets ahead left
+  pub back : GivesBack pool_name set_name (first ∷ sets) 1 old new before after
+
+-- the sets of these names are live in the key's pool with the number
+pub record IsTakenAt (k : Key) (number : ℕ) (names : List ℕ) (b : Bucket) (pools : ℕ → Option Pool) : Type 0 where
+  pub entry : Entry
+  pub above : b.first ≤ number
+  pub at : slice_get b.pools (number - b.first) ≡ Some entry
+  pub fits : length names ≤ entry.allocated
+  pub live : (x : LiveSet) → times (live_sets k.counts names) x ≤ live_in pools entry.pool x
+
+-- the bucket once n sets of the pool with the number came back
+abbrev pub bucket_back : Bucket → ℕ → ℕ → Entry → Bucket
+bucket_back b number n e = record { first = b.first; pools = set b.pools (number - b.first) (entry_less n e) }
+
+-- giving back sets of these names takes a bucket and the ledger to these
+pub record RunsInto (k : Key) (number : ℕ) (names : List ℕ) (b : Bucket) (before : Ledger) (c : Bucket) (after : Ledger) : Type 0 where
+  pub entry : Entry
+  pub above : b.first ≤ number
+  pub at : slice_get b.pools (number - b.first) ≡ Some entry
+  pub books : c ≡ settled_bucket (bucket_back b number (length names) entry)
+  pub ledger : after ≡ settled_ledger (bucket_back b number (length names) entry) (after_release entry.pool (live_sets k.counts names) before)
+
+-- the names of the raw sets
+abbrev pub names_of : {S : Type 0} → (S → ℕ) → List (DescriptorSet S) → List ℕ
+names_of name xs = map (λ x. name x.raw) xs
+
+-- one run came, from first to before the set ahead, and went back
+pub record ReleasesRun {P S T : Type 0} (steps : T → Option (DescriptorSet S) → T → Type 0) (pool_name : P → ℕ) (set_name : S → ℕ) (first : DescriptorSet S) (given : T) (ahead : Option (DescriptorSet S)) (left : T) (old new : DescriptorBucket P) (before after : Ledger) : Type 0 where
+  -- the sets behind first
+  pub sets : List (DescriptorSet S)
+  pub came : EndsRun steps first.key first.number given sets ahead left
+  pub went : RunsInto (key_of first.key) first.number (names_of set_name (first ∷ sets)) (bucket_of pool_name old) before (bucket_of pool_name new) after
+  pub total : new.total + length (first ∷ sets) ≡ old.total

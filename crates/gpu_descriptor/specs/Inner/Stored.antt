@@ -1,0 +1,56 @@
+-- The table of keys, as the code has it.
+use Rattle.std.specs.Prelude.{◌≡◌, ℕ, ◌+◌, ◌*◌, ◌≤◌, if◌then◌else◌, List, map, sum, sum_by}
+use Rattle.gpu_descriptor_types.specs.Counts.{kinds}
+use Rattle.gpu_descriptor.specs.declared.set.BucketKey.{BucketKey}
+use Rattle.gpu_descriptor.specs.declared.bucket.DescriptorPool.{DescriptorPool}
+use Rattle.gpu_descriptor.specs.declared.bucket.DescriptorBucket.{DescriptorBucket}
+use Rattle.gpu_descriptor.specs.Model.Books.{Key, Entry, Bucket, books_of}
+use Rattle.gpu_descriptor.specs.Model.Load.{pool_load}
+use Rattle.gpu_descriptor.specs.Caller.States.{named_row}
+use Rattle.gpu_descriptor.specs.Caller.Sets.{key_of}
+use Rattle.gpu_descriptor.specs.Caller.Values.{Kept, Row}
+
+-- the descriptors of so many sets of a key, if it is marked
+abbrev pub load_of : BucketKey → ℕ → ℕ
+load_of k sets = if k.update_after_bind then sets * sum (kinds k.size) else 0
+
+module _ {P : Type 0} where
+  abbrev pub kept_of : DescriptorPool P → Kept P
+  kept_of p = record { raw = p.raw; capacity = p.capacity; allocated = p.allocated; free = p.available }
+
+  abbrev pub row_of : BucketKey × DescriptorBucket P → Row P
+  row_of r = record { key = key_of r.0; first = r.1.offset; pools = map kept_of r.1.pools.items }
+
+  -- the keys of a table, in its order
+  abbrev pub stored_keys : List (BucketKey × DescriptorBucket P) → List Key
+  stored_keys es = map (λ r. key_of r.0) es
+
+  -- the descriptors of these pools of a key, if it is marked
+  abbrev pub stored_load : Key → List (DescriptorPool P) → ℕ
+  stored_load k pools = sum_by (λ p. pool_load k p.capacity) pools
+
+  -- the descriptors of a marked key's sets
+  abbrev pub load_in : BucketKey × DescriptorBucket P → ℕ
+  load_in r = load_of r.0 r.1.total
+
+  -- the descriptors of a marked key's pools
+  abbrev pub stored_load_in : BucketKey × DescriptorBucket P → ℕ
+  stored_load_in r = stored_load (key_of r.0) r.1.pools.items
+
+  -- the running totals are those of the table, the marked descriptors keep the limit, and room is what those of the pools leave of it
+  pub record IsCounted (limit marked room out : ℕ) (table : List (BucketKey × DescriptorBucket P)) : Type 0 where
+    pub is_load : marked ≡ sum_by load_in table
+    pub within : marked ≤ limit
+    pub is_room : room + sum_by stored_load_in table ≡ limit
+    pub is_out : out ≡ sum_by (λ r. r.1.total) table
+
+  module _ (name : P → ℕ) where
+    abbrev pub entry_of : DescriptorPool P → Entry
+    entry_of p = record { pool = name p.raw; capacity = p.capacity; allocated = p.allocated; free = p.available }
+
+    abbrev pub bucket_of : DescriptorBucket P → Bucket
+    bucket_of b = record { first = b.offset; pools = map entry_of b.pools.items }
+
+-- the books that the entries of the map keep
+abbrev pub books_in : {P : Type 0} → (P → ℕ) → List (BucketKey × DescriptorBucket P) → Key → Bucket
+books_in name es = books_of (map (named_row name) (map row_of es))

@@ -1,0 +1,74 @@
+-- Books and ledger side by side: how the two agree, and which sets are outstanding.
+use Rattle.std.specs.Prelude.{◌<◌, ◌≡◌, ℕ, ◌+◌, ◌≤◌, Bool, ◌==◌, ◌&&◌, if◌then◌else◌, List, [], length, count_by, Option, Some}
+use Rattle.std.specs.Option.{option_map_or}
+use Rattle.gpu_descriptor_types.specs.Ledger.{Pool}
+use Rattle.gpu_descriptor_types.specs.Multiset.{LiveSet, Spells}
+use Rattle.gpu_descriptor_types.specs.PoolSize.{pool_counts}
+use Rattle.gpu_descriptor.specs.Model.Books.{Key, key_eq, Entry, Bucket, entry_at}
+
+-- the books by key, and the ledger's pools by name
+pub record State : Type 0 where
+  pub books : Key → Bucket
+  pub ledger : ℕ → Option Pool
+
+-- ---- sets that were handed out
+
+-- a set that was handed out: its key, the number of its pool, and its name
+pub record Item : Type 0 where
+  pub key : Key
+  pub number : ℕ
+  pub name : ℕ
+
+abbrev pub item_eq : Item → Item → Bool
+item_eq s t = key_eq s.key t.key && (s.number == t.number) && (s.name == t.name)
+
+-- the set as the device keeps it
+abbrev pub set_of : Item → LiveSet
+set_of t = record { name = t.name; counts = t.key.counts }
+
+-- how often a set stands in a list
+abbrev pub count_of : Item → List Item → ℕ
+count_of s m = count_by (λ t. item_eq t s) m
+
+-- how often a set is live in a pool
+abbrev pub live_in : (ℕ → Option Pool) → ℕ → LiveSet → ℕ
+live_in ledger pool x = option_map_or (λ p. p.live x) (ledger pool) 0
+
+-- how often a set is outstanding: how often it is live in the pool that its number names
+abbrev pub outstanding : State → Item → ℕ
+outstanding s t = option_map_or (λ e. live_in s.ledger e.pool (set_of t)) (entry_at (s.books t.key) t.number) 0
+
+-- the sets of the list, each as often as it stands there, are outstanding
+abbrev pub AreOutstanding : List Item → State → Type 0
+AreOutstanding m s = (t : Item) → count_of t m ≤ outstanding s t
+
+-- ---- agreement
+
+-- how many sets are live in all: as many as a list has that spells them
+abbrev pub HasSize : (LiveSet → ℕ) → ℕ → Type 0
+HasSize live n = (sets : List LiveSet) × (length sets ≡ n) × Spells sets live
+
+-- sets go back singly, and UPDATE_AFTER_BIND stands exactly for a marked key
+abbrev pub flags_of : Key → ℕ
+flags_of k = if k.marked then 3 else 1
+
+-- the device's pool is as the entry says
+pub record IsAsBooked (k : Key) (pool : Pool) (e : Entry) : Type 0 where
+  pub flags : pool.flags ≡ flags_of k
+  pub at_least : 1 ≤ pool.capacity
+  pub small : pool.capacity ≤ 2147483648
+  pub capacity : e.capacity ≡ pool.capacity
+  pub counts : pool.counts ≡ pool_counts k.counts pool.capacity
+  pub sets : (x : LiveSet) → 0 < pool.live x → x.counts ≡ k.counts
+  -- only that there is a list: so there is one proof at most that books and ledger agree
+  pub allocated : ∥ HasSize pool.live e.allocated ∥₁
+  pub room : e.allocated + e.free ≤ pool.capacity
+  pub full : pool.refusals ≡ 0 → e.allocated + e.free ≡ pool.capacity
+
+-- books and ledger agree
+pub record Agree (s : State) : Type 0 where
+  -- no two places of the books name one pool
+  pub distinct : (k l : Key) (m n : ℕ) (d e : Entry) → entry_at (s.books k) m ≡ Some d → entry_at (s.books l) n ≡ Some e → d.pool ≡ e.pool → (k ≡ l) × (m ≡ n)
+  pub booked : (k : Key) (n : ℕ) (e : Entry) → entry_at (s.books k) n ≡ Some e → (pool : Pool) × (s.ledger e.pool ≡ Some pool) × IsAsBooked k pool e
+  -- a key without pools is as one that never came
+  pub absent : (k : Key) → (s.books k).pools ≡ [] → (s.books k).first ≡ 0

@@ -1,0 +1,60 @@
+-- What the allocator keeps of its pools: for each key a list of pools, and sums over all keys.
+use Rattle.std.specs.Prelude.{◌≡◌, ℕ, ◌+◌, ◌-◌, Bool, false, ◌&&◌, nat_eq, nat_lt, if◌then◌else◌, List, [], ◌∷◌, length, slice_get, sum_by, Option, None}
+use Rattle.std.specs.List.{list_any}
+use lib.Pointwise.{pointwise}
+use mathlib.Core.Bool.{beq}
+
+-- the counts of a layout, and whether it is marked
+pub record Key : Type 0 where
+  pub counts : List ℕ
+  pub marked : Bool
+
+abbrev pub key_eq : Key → Key → Bool
+key_eq k l = pointwise nat_eq k.counts l.counts && beq k.marked l.marked
+
+-- a pool in the books: its name, how many sets it holds, how many of these are allocated, how many free places are known
+pub record Entry : Type 0 where
+  pub pool : ℕ
+  pub capacity : ℕ
+  pub allocated : ℕ
+  pub free : ℕ
+
+-- the pools of a key, oldest first. The one at place i has the number first + i
+pub record Bucket : Type 0 where
+  pub first : ℕ
+  pub pools : List Entry
+
+-- the pool that has the number
+abbrev pub entry_at : Bucket → ℕ → Option Entry
+entry_at b n = if nat_lt n b.first then None else slice_get b.pools (n - b.first)
+
+-- the number of the key's next pool
+abbrev pub next_number : Bucket → ℕ
+next_number b = b.first + length b.pools
+
+-- what a key has that never came
+abbrev pub no_pools : Bucket
+no_pools = record { first = 0; pools = [] }
+
+-- ---- the books of all keys, and a table that keeps them in some order
+
+-- the books that a table keeps, whatever its order
+abbrev pub books_of : List (Key × Bucket) → Key → Bucket
+books_of [] k = no_pools
+books_of (row ∷ table) k = if key_eq row.0 k then row.1 else books_of table k
+
+-- no key has two rows
+abbrev pub HasDistinctKeys : List (Key × Bucket) → Type 0
+HasDistinctKeys [] = Unit {0}
+HasDistinctKeys (row ∷ table) = (list_any (λ other. key_eq other.0 row.0) table ≡ false) × HasDistinctKeys table
+
+-- the sum of what is counted in each bucket
+abbrev pub sum_over : (Key → Bucket → ℕ) → List (Key × Bucket) → ℕ
+sum_over f table = sum_by (λ row. f row.0 row.1) table
+
+-- f of each key's bucket adds up to n over all keys. A table has each key that has pools
+pub record AddsUp (f : Key → Bucket → ℕ) (books : Key → Bucket) (n : ℕ) : Type 0 where
+  pub table : List (Key × Bucket)
+  pub distinct : HasDistinctKeys table
+  pub keeps : (k : Key) → books_of table k ≡ books k
+  pub total : sum_over f table ≡ n

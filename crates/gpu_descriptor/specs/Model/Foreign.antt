@@ -1,0 +1,21 @@
+-- Pools of the device that are none of the allocator's.
+use Rattle.std.specs.Prelude.{◌≡◌, ◌≢◌, ℕ, Some}
+use Rattle.gpu_descriptor_types.specs.Ledger.{Pool}
+use Rattle.gpu_descriptor.specs.Model.Agreement.{State}
+use Rattle.gpu_descriptor.specs.Model.Books.{Key, Entry, entry_at}
+
+-- some place of the books names the pool
+abbrev pub IsNamed : State → ℕ → Type 0
+IsNamed s pool = (k : Key) × (n : ℕ) × (e : Entry) × (entry_at (s.books k) n ≡ Some e) × (e.pool ≡ pool)
+
+-- no place of the books names the pool
+abbrev pub IsForeign : State → ℕ → Type 0
+IsForeign s pool = (k : Key) (n : ℕ) (e : Entry) → entry_at (s.books k) n ≡ Some e → e.pool ≢ pool
+
+-- a live pool that isn't in the books stays as it is, and doesn't come into them
+abbrev pub KeepsForeign : State → State → Type 0
+KeepsForeign old new = (name : ℕ) (pool : Pool) → IsForeign old name → old.ledger name ≡ Some pool → (new.ledger name ≡ Some pool) × IsForeign new name
+
+-- no pool is lost: a live pool that isn't in the books afterwards was live and foreign before, and is as it was
+abbrev pub LosesNone : State → State → Type 0
+LosesNone old new = (name : ℕ) (pool : Pool) → IsForeign new name → new.ledger name ≡ Some pool → (old.ledger name ≡ Some pool) × IsForeign old name

@@ -1,0 +1,63 @@
+-- The new pools of a request.
+use Rattle.std.specs.Prelude.{◌≡◌, ℕ, ◌+◌, ◌-◌, ◌≤◌, ◌<◌, false, ◌==◌, if◌then◌else◌, List, [], ◌∷◌, ◌++◌, sum, sum_by, Option, None}
+use Rattle.std.specs.List.{list_any}
+use Rattle.gpu_descriptor_types.specs.Ledger.{Pool}
+use Rattle.gpu_descriptor_types.specs.PoolSize.{IsPoolSize, sets_in_room}
+use Rattle.gpu_descriptor.specs.Model.Books.{Key, Entry}
+use Rattle.gpu_descriptor.specs.Model.Load.{pool_load}
+use Rattle.gpu_descriptor.specs.Model.Shares.{Portion}
+
+-- a new pool: its name, its size, and how many sets it gave
+pub record Fresh : Type 0 where
+  pub pool : ℕ
+  pub size : ℕ
+  pub given : ℕ
+
+abbrev pub given_by : List Fresh → ℕ
+given_by pools = sum_by (λ f. f.given) pools
+
+-- how many sets a key's next pool holds: as many as a new pool, but if the key is marked no more than there is room for
+pub record IsNextSize (k : Key) (room total wanted size : ℕ) : Type 0 where
+  pub whole : ℕ
+  pub is_whole : IsPoolSize k.counts total wanted whole
+  pub cut : size ≡ (if k.marked then sets_in_room room (sum k.counts) whole else whole)
+  pub some : 1 ≤ size
+
+-- each has the size of the key's next pool at that moment
+abbrev pub AreSized : Key → (room total wanted : ℕ) → List Fresh → Type 0
+AreSized k room total wanted [] = Unit {0}
+AreSized k room total wanted (f ∷ pools) = IsNextSize k room total wanted f.size × AreSized k (room - pool_load k f.size) (total + f.given) (wanted - f.given) pools
+
+-- the room that new pools leave
+abbrev pub room_after : Key → ℕ → List Fresh → ℕ
+room_after k room [] = room
+room_after k room (f ∷ pools) = room_after k (room - pool_load k f.size) pools
+
+abbrev pub AreFull : List Fresh → Type 0
+AreFull [] = Unit {0}
+AreFull (f ∷ pools) = (f.given ≡ f.size) × AreFull pools
+
+-- no name was live, and no two are the same
+abbrev pub AreNew : (ℕ → Option Pool) → List Fresh → Type 0
+AreNew ledger [] = Unit {0}
+AreNew ledger (f ∷ pools) = (ledger f.pool ≡ None) × (list_any (λ h. h.pool == f.pool) pools ≡ false) × AreNew ledger pools
+
+-- new pools that gave all they have, and sets are still wanting
+pub record IsFreshFront (k : Key) (room total wanted : ℕ) (pools : List Fresh) : Type 0 where
+  pub sized : AreSized k room total wanted pools
+  pub full : AreFull pools
+  pub short : given_by pools < wanted
+
+-- new pools that gave all that was wanting: none, or a front and one more that has the rest
+pub data IsFreshList (k : Key) (room total wanted : ℕ) (pools : List Fresh) : Type 0 where
+  none : wanted ≡ 0 → pools ≡ [] → IsFreshList k room total wanted pools
+  some : (front : List Fresh) (last : Fresh) → pools ≡ front ++ last ∷ [] → IsFreshFront k room total wanted front → AreSized k room total wanted pools → last.given ≤ last.size → given_by pools ≡ wanted → IsFreshList k room total wanted pools
+
+-- what new pools gave, in order
+abbrev pub fresh_portions : ℕ → List Fresh → List Portion
+fresh_portions number [] = []
+fresh_portions number (f ∷ pools) = record { number = number; pool = f.pool; given = f.given } ∷ fresh_portions (number + 1) pools
+
+-- the entry of a new pool
+abbrev pub fresh_entry : Fresh → Entry
+fresh_entry f = record { pool = f.pool; capacity = f.size; allocated = f.given; free = f.size - f.given }

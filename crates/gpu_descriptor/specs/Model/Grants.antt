@@ -1,0 +1,60 @@
+-- What a request takes of a key's pools, and what books and ledger are then.
+use Rattle.std.specs.Prelude.{ℕ, ◌+◌, Bool, ◌==◌, if◌then◌else◌, List, [], ◌∷◌, ◌++◌, map, length, take, drop, flat_map, Option, Some, option_map}
+use Rattle.gpu_descriptor_types.specs.Ledger.{Pool, live_sets, fresh}
+use Rattle.gpu_descriptor_types.specs.Multiset.{LiveSet, times}
+use Rattle.gpu_descriptor_types.specs.PoolSize.{pool_counts}
+use Rattle.gpu_descriptor.specs.Model.Books.{Key, key_eq, Entry}
+use Rattle.gpu_descriptor.specs.Model.Agreement.{State, Item, flags_of}
+use Rattle.gpu_descriptor.specs.Model.Shares.{all_shared, Portion}
+use Rattle.gpu_descriptor.specs.Model.FreshPools.{Fresh, fresh_entry}
+
+-- sets that came from one pool
+pub record Part : Type 0 where
+  pub number : ℕ
+  pub pool : ℕ
+  pub names : List ℕ
+
+abbrev pub portion_of : Part → Portion
+portion_of p = record { number = p.number; pool = p.pool; given = length p.names }
+
+-- what a request took: how many of the oldest pools gave nothing because it stopped, which pools refused, the new pools, and the sets as they came
+pub record Grant : Type 0 where
+  pub left : ℕ
+  pub refused : ℕ → Bool
+  pub fresh : List Fresh
+  pub parts : List Part
+
+-- sets of a key's pool under these names
+abbrev pub items_at : Key → ℕ → List ℕ → List Item
+items_at k number names = map (λ name. record { key = k; number = number; name = name }) names
+
+-- the sets of the answer
+abbrev pub items_in : Key → List Part → List Item
+items_in k parts = flat_map (λ p. items_at k p.number p.names) parts
+
+-- the names of the sets that came from a pool
+abbrev pub came : List Part → ℕ → List ℕ
+came parts pool = flat_map (λ p. if p.pool == pool then p.names else []) parts
+
+-- the pools of the key: the oldest left alone, the others with their shares given, the new ones last
+abbrev pub entries_with : ℕ → Grant → List Entry → List Entry
+entries_with n g pools = take g.left pools ++ all_shared g.refused n (drop g.left pools) ++ map fresh_entry g.fresh
+
+-- the ledger's pool of this name, with the new ones
+abbrev pub fresh_or : Key → List Fresh → ℕ → Option Pool → Option Pool
+fresh_or k [] name old = old
+fresh_or k (f ∷ pools) name old = if f.pool == name then Some (fresh (pool_counts k.counts f.size) f.size (flags_of k)) else fresh_or k pools name old
+
+-- the pool with more sets, and with one refusal more where it refused
+abbrev pub pool_with : List LiveSet → Bool → Pool → Pool
+pool_with sets refused p = record p { live = λ x. p.live x + times sets x; refusals = if refused then p.refusals + 1 else p.refusals }
+
+abbrev pub ledger_with : Key → Grant → (ℕ → Option Pool) → ℕ → Option Pool
+ledger_with k g ledger name = option_map (pool_with (live_sets k.counts (came g.parts name)) (g.refused name)) (fresh_or k g.fresh name (ledger name))
+
+-- books and ledger with what a request of n sets took
+abbrev pub granted : Key → ℕ → Grant → State → State
+granted k n g s = record {
+  books = λ l. let b = s.books l in if key_eq k l then record b { pools = entries_with n g b.pools } else b;
+  ledger = ledger_with k g s.ledger;
+}

@@ -1,0 +1,43 @@
+-- What is out in all keys: sets, and descriptors of marked sets. What the pools of marked keys have.
+use Rattle.std.specs.Prelude.{ℕ, ◌*◌, max, if◌then◌else◌, List, sum, sum_by}
+use Rattle.gpu_descriptor.specs.Model.Books.{Key, Entry, Bucket, AddsUp}
+use Rattle.gpu_descriptor.specs.Model.Agreement.{State}
+
+-- the sets that are out of these pools
+abbrev pub held : List Entry → ℕ
+held pools = sum_by (λ e. e.allocated) pools
+
+-- the sets that are out of a key's pools
+abbrev pub sets_out : Key → Bucket → ℕ
+sets_out k b = held b.pools
+
+-- the descriptors of the sets that are out of a marked key's pools
+abbrev pub descriptors_out : Key → Bucket → ℕ
+descriptors_out k b = if k.marked then held b.pools * sum k.counts else 0
+
+-- the descriptors of so many sets of a key, if it is marked
+abbrev pub marked_load : Key → ℕ → ℕ
+marked_load k sets = if k.marked then sets * sum k.counts else 0
+
+-- the descriptors of a pool of so many sets of a key, if it is marked. Without descriptors it has one
+abbrev pub pool_load : Key → ℕ → ℕ
+pool_load k sets = if k.marked then max 1 (sets * sum k.counts) else 0
+
+-- the descriptors of these pools
+abbrev pub pools_load : Key → List Entry → ℕ
+pools_load k pools = sum_by (λ e. pool_load k e.capacity) pools
+
+abbrev pub bucket_load : Key → Bucket → ℕ
+bucket_load k b = pools_load k b.pools
+
+-- so many sets are out
+abbrev pub IsOut : State → ℕ → Type 0
+IsOut s n = AddsUp sets_out s.books n
+
+-- so many descriptors of marked sets are out
+abbrev pub IsMarkedLoad : State → ℕ → Type 0
+IsMarkedLoad s n = AddsUp descriptors_out s.books n
+
+-- the pools of marked keys have so many descriptors, whatever is out of them
+abbrev pub IsPoolLoad : State → ℕ → Type 0
+IsPoolLoad s n = AddsUp bucket_load s.books n

@@ -1,0 +1,82 @@
+-- What giving sets back leaves of books and ledger: each pool loses its part, and then empty pools go from the front.
+use Rattle.std.specs.Prelude.{sum_by, ◌∷◌, ℕ, ◌+◌, ◌-◌, Bool, false, ◌==◌, ◌&&◌, if◌then◌else◌, min, List, [], length, map, drop, take, count_by, None, option_map, set}
+use Rattle.std.specs.Option.{option_map_or}
+use Rattle.std.specs.List.{list_any, prefix_len}
+use Rattle.gpu_descriptor_types.specs.Ledger.{Pool, Counters}
+use Rattle.gpu_descriptor_types.specs.Multiset.{LiveSet, set_eq}
+use Rattle.gpu_descriptor.specs.Model.Books.{Key, key_eq, Entry, Bucket, entry_at}
+use Rattle.gpu_descriptor.specs.Model.Agreement.{State, Item, set_of}
+
+-- whether a set lies in a pool
+abbrev pub lies_in : (Key → Bucket) → ℕ → Item → Bool
+lies_in books pool t = option_map_or (λ e. e.pool == pool) (entry_at (books t.key) t.number) false
+
+-- the entry after n sets came back
+abbrev pub entry_less : ℕ → Entry → Entry
+entry_less n e = record e { allocated = e.allocated - n; free = e.free + n }
+
+-- the bucket after as many sets came back as back says of each pool
+abbrev pub bucket_less : (ℕ → ℕ) → Bucket → Bucket
+bucket_less back b = record b { pools = map (λ e. entry_less (back e.pool) e) b.pools }
+
+-- the pool after as many of each set came back
+abbrev pub pool_less : (LiveSet → ℕ) → Pool → Pool
+pool_less back p = record p { live = λ x. p.live x - back x }
+
+-- each pool loses its part of the sets
+abbrev pub given_back : List Item → State → State
+given_back m s = record {
+  books = λ k. bucket_less (λ pool. count_by (lies_in s.books pool) m) (s.books k);
+  ledger = λ pool. option_map (pool_less (λ x. count_by (λ t. lies_in s.books pool t && set_eq (set_of t) x) m)) (s.ledger pool);
+}
+
+abbrev pub is_empty : Entry → Bool
+is_empty e = e.allocated == 0
+
+-- how many empty pools stand at the front
+abbrev pub empty_front : Bucket → ℕ
+empty_front b = prefix_len is_empty b.pools
+
+-- as many of them as may go: the last pool stays
+abbrev pub spent_front : Bucket → ℕ
+spent_front b = min (empty_front b) (length b.pools - 1)
+
+-- the bucket without its first n pools. The others keep their numbers
+abbrev pub without_front : ℕ → Bucket → Bucket
+without_front n b = record { first = b.first + n; pools = drop n b.pools }
+
+-- whether a pool is among the first n
+abbrev pub in_front : ℕ → Bucket → ℕ → Bool
+in_front n b pool = list_any (λ e. e.pool == pool) (take n b.pools)
+
+-- the keys of the list lose their spent fronts, in the books and in the ledger
+abbrev pub fronts_gone : List Item → State → State
+fronts_gone m s = record {
+  books = λ k. let b = s.books k in if list_any (λ t. key_eq t.key k) m then without_front (spent_front b) b else b;
+  ledger = λ pool. if list_any (λ t. let b = s.books t.key in in_front (spent_front b) b pool) m then None else s.ledger pool;
+}
+
+-- what giving the sets of the list back leaves
+abbrev pub released : List Item → State → State
+released m s = fronts_gone m (given_back m s)
+
+-- what giving lists back one after another leaves
+abbrev pub released_each : List (List Item) → State → State
+released_each [] s = s
+released_each (m ∷ ms) s = released_each ms (released m s)
+
+-- each set of a list, in a list of its own
+abbrev pub singly : List Item → List (List Item)
+singly m = map (λ t. t ∷ []) m
+
+-- how many pools of these keys go
+abbrev pub pools_gone : List Key → List Item → State → ℕ
+pools_gone keys m s = sum_by (λ k. if list_any (λ t. key_eq t.key k) m then spent_front (s.books k) else 0) keys
+
+-- the counters after so many release calls more
+abbrev pub more_released : ℕ → Counters → Counters
+more_released n c = record c { released = c.released + n }
+
+-- the counters after so many destroyed pools more
+abbrev pub more_destroyed : ℕ → Counters → Counters
+more_destroyed n c = record c { destroyed = c.destroyed + n }
