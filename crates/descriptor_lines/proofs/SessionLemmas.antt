@@ -5,12 +5,12 @@ use Rattle.gpu_descriptor_types.specs.Counts.{kinds}
 use Rattle.gpu_descriptor_types.specs.Ledger.{Ledger}
 use Rattle.gpu_descriptor.specs.Model.Agreement.{Item, outstanding}
 use Rattle.gpu_descriptor.specs.Caller.Flags.{is_marked}
-use Rattle.gpu_descriptor.specs.Caller.States.{Agrees, state_of}
+use Rattle.gpu_descriptor.specs.Caller.States.{state_of}
 use Rattle.gpu_descriptor.proofs.Places.{empty_agrees}
 use Rattle.descriptor_script.specs.Device.{ledger_of}
 use Rattle.descriptor_script.specs.Raw.{pool_id, set_id}
-use Rattle.descriptor_script.specs.Ready.{IsReady}
-use Rattle.descriptor_script.specs.Session.{AreAllHeld, AreMeant, allocator_of, layouts_of, sets_of}
+use Rattle.descriptor_script.specs.Ready.{IsScriptReady}
+use Rattle.descriptor_script.specs.Session.{AreMeant, allocator_of, layouts_of, sets_of}
 use Rattle.descriptor_script.specs.SessionRun.{RunsTo}
 use Rattle.descriptor_script.specs.Steps.{IsAsBefore, StepsTo}
 use Rattle.descriptor_script.specs.declared.command.Command.{Command}
@@ -36,7 +36,7 @@ none_out : (max : ℕ) (l : Ledger) (t : Item) → outstanding (state_of {P = Ra
 none_out max l t = simp same_branches
 
 -- a new session can make a step on any device
-pub new_is_ready : (s : LineSession) (d : ScriptedDevice) (max : ℕ) → allocator_of s ≡ record { limit = max; table = []; looks = 0; comparisons = 0 } → layouts_of s ≡ [] → sets_of s ≡ [] → IsReady s d
+pub new_is_ready : (s : LineSession) (d : ScriptedDevice) (max : ℕ) → allocator_of s ≡ record { limit = max; table = []; looks = 0; comparisons = 0 } → layouts_of s ≡ [] → sets_of s ≡ [] → IsScriptReady s (ledger_of d)
 new_is_ready s d max allocator layouts sets = record {
   agree = rw allocator (empty_agrees (ledger_of d).pools);
   held = rw (allocator, sets) (λ t. none_out max (ledger_of d) t);
@@ -44,15 +44,15 @@ new_is_ready s d max allocator layouts sets = record {
 }
 
 -- after a step the program can run the next line
-pub still_runs : (p : Program) (s : LineSession) (d : ScriptedDevice) → CanRun p → Agrees pool_id (allocator_of s) (ledger_of d) → AreAllHeld set_id (sets_of s) (state_of pool_id (allocator_of s) (ledger_of d)) → layouts_of s ≡ layouts_of p.session → CanRun (record p { session = s; device = d })
-still_runs p s d can agree held layouts = record {
-  ready = record { agree = agree; held = held; meant = rw layouts can.ready.meant };
+pub still_runs : (p : Program) (s : LineSession) (d : ScriptedDevice) → CanRun p → IsScriptReady s (ledger_of d) → layouts_of s ≡ layouts_of p.session → CanRun (record p { session = s; device = d })
+still_runs p s d can ready layouts = record {
+  ready = ready;
   layouts = rw layouts can.layouts;
   fresh = can.fresh;
 }
 
 -- a session with the same books and sets is ready as well
-pub same_is_ready : (s t : LineSession) (d : ScriptedDevice) → IsReady s d → allocator_of t ≡ allocator_of s → sets_of t ≡ sets_of s → AreMeant (λ l. kinds l.counts) (λ l. l.mark) (layouts_of t) → IsReady t d
+pub same_is_ready : (s t : LineSession) (d : ScriptedDevice) → IsScriptReady s (ledger_of d) → allocator_of t ≡ allocator_of s → sets_of t ≡ sets_of s → AreMeant (λ l. kinds l.counts) (λ l. l.mark) (layouts_of t) → IsScriptReady t (ledger_of d)
 same_is_ready s t d ready allocator sets meant = record {
   agree = rw allocator ready.agree;
   held = rw (allocator, sets) ready.held;

@@ -3,7 +3,7 @@ use Rattle.std.specs.Prelude.{◌≡◌, ◌⊎◌, ◌++◌, ◌∷◌, [], ℕ
 use Rattle.gpu_descriptor_types.specs.Counts.{kinds}
 use Rattle.descriptor_script.specs.Device.{ledger_of, script_of}
 use Rattle.descriptor_script.specs.Raw.{pool_id, set_id}
-use Rattle.descriptor_script.specs.Ready.{IsReady}
+use Rattle.descriptor_script.specs.Ready.{IsScriptReady}
 use Rattle.descriptor_script.specs.Session.{allocator_of, layouts_of, sets_of}
 use Rattle.descriptor_script.specs.Steps.{StepsTo}
 use Rattle.descriptor_script.specs.declared.answer.Answer.{Answer}
@@ -26,7 +26,7 @@ scripted layout = record { counts = layout.counts; mark = layout.mark }
 -- the program can run a line
 pub record CanRun (p : Program) : Type 0 where
   -- the session can make a step on the device
-  pub ready : IsReady p.session p.device
+  pub ready : IsScriptReady p.session (ledger_of p.device)
   -- the session has the layouts of the lines, in their order
   pub layouts : map (λ k. k.layout) (layouts_of p.session) ≡ map (λ l. scripted l.1) (layouts_in p.layouts)
   -- before the first command there is no layout

@@ -8,3 +8,4 @@ mod Held
 mod Promised
 mod Running
 mod Written
+pub mod OneReady

@@ -4,10 +4,10 @@ use Rattle.std.proofs.lemmas.Option.{slice_get_within}
 use Rattle.std.specs.Prelude.{IfOk, Result, Ok, Err}
 use Rattle.gpu_descriptor_types.specs.Ledger.{Ledger, Counters}
 use Rattle.gpu_descriptor.specs.Caller.Sets.{items_of}
-use Rattle.gpu_descriptor.specs.Caller.States.{Agrees, state_of}
+use Rattle.gpu_descriptor.specs.Caller.States.{state_of}
 use Rattle.gpu_descriptor.proofs.Kept.{one_by_one}
 use Rattle.descriptor_script.specs.Headline.{CallsOnceARun, FailsForCause, FreesOneByOne, HoldsExactly, HoldsWhatIsOut, KeepsAll, KeepsLimit, TurnsDownBad}
-use Rattle.descriptor_script.specs.Session.{AreAllHeld, allocator_of, sets_of}
+use Rattle.descriptor_script.specs.Session.{IsReady, allocator_of, sets_of}
 use Rattle.descriptor_script.specs.SessionRun.{IsStep, RunsKeeping, RunsTo, Step}
 use Rattle.descriptor_script.specs.Steps.{StepsTo}
 use Rattle.descriptor_script.specs.declared.command.Command.{Command}
@@ -25,31 +25,31 @@ module _ {L P S : Type 0} (pool_name : P → ℕ) (set_name : S → ℕ) (counts
   abbrev pub step_of : Command → Reply → Session L P S → Session L P S → Ledger → Ledger → Step L P S
   step_of command reply old new before after = record { command = command; reply = reply; old = old; new = new; before = before; after = after }
 
-  -- the promise is kept at each step that is made where books and ledger agree and exactly the outstanding sets are held
+  -- the promise is kept at each step of a session that is ready for it
   abbrev pub IsKept : (Step L P S → Type 0) → Type 0
-  IsKept promise = (command : Command) (reply : Reply) (old new : Session L P S) (before after : Ledger) → Agrees pool_name (allocator_of old) before → AreAllHeld set_name (sets_of old) (state_of pool_name (allocator_of old) before)
+  IsKept promise = (command : Command) (reply : Reply) (old new : Session L P S) (before after : Ledger) → IsReady pool_name set_name counts mark old before
       → IsStep {L = L} {P = P} {S = S} pool_name set_name counts mark command reply old new before after → promise (step_of command reply old new before after)
 
   -- and then a run keeps it all along
-  pub kept_along : (promise : Step L P S → Type 0) → IsKept promise → (commands : List Command) (replies : List Reply) (old new : Session L P S) (before after : Ledger) → Agrees pool_name (allocator_of old) before → AreAllHeld set_name (sets_of old) (state_of pool_name (allocator_of old) before)
+  pub kept_along : (promise : Step L P S → Type 0) → IsKept promise → (commands : List Command) (replies : List Reply) (old new : Session L P S) (before after : Ledger) → IsReady pool_name set_name counts mark old before
       → RunsTo pool_name set_name counts mark commands replies old new before after → RunsKeeping pool_name set_name counts mark promise commands replies old new before after
-  kept_along promise keeps [] [] old new before after agree held run = run
-  kept_along promise keeps [] (r ∷ rs) old new before after agree held run = absurd run
-  kept_along promise keeps (c ∷ cs) [] old new before after agree held run = absurd run
-  kept_along promise keeps (c ∷ cs) (r ∷ rs) old new before after agree held run =
-      (run.0, run.1, run.2.step, keeps c r old run.0 before run.1 agree held run.2, kept_along promise keeps cs rs run.0 new run.1 after run.2.agree run.2.held run.3)
+  kept_along promise keeps [] [] old new before after ready run = run
+  kept_along promise keeps [] (r ∷ rs) old new before after ready run = absurd run
+  kept_along promise keeps (c ∷ cs) [] old new before after ready run = absurd run
+  kept_along promise keeps (c ∷ cs) (r ∷ rs) old new before after ready run =
+      (run.0, run.1, run.2.step, keeps c r old run.0 before run.1 ready run.2, kept_along promise keeps cs rs run.0 new run.1 after run.2.keeps.ready run.3)
 
   pub holds_exactly : IsKept (HoldsExactly pool_name set_name)
-  holds_exactly command reply old new before after agree held s = (s.held, s.count)
+  holds_exactly command reply old new before after ready s = (s.keeps.ready.held, s.keeps.count)
 
   pub keeps_limit : IsKept KeepsLimit
-  keeps_limit command reply old new before after agree held s = (s.load, s.pool_load, s.limit)
+  keeps_limit command reply old new before after ready s = (s.keeps.allocator.load, s.keeps.allocator.pool_load, s.keeps.allocator.limit)
 
   abbrev Steps : Command → Reply → Session L P S → Session L P S → Ledger → Ledger → Type 0
   Steps = StepsTo pool_name set_name counts mark
 
   pub holds_what_is_out : IsKept HoldsWhatIsOut
-  holds_what_is_out command reply old new before after agree held s = go command reply s.step
+  holds_what_is_out command reply old new before after ready s = go command reply s.step
     where
       go : (command : Command) (reply : Reply) → Steps command reply old new before after → HoldsWhatIsOut (step_of command reply old new before after)
       go (Allocate layout count) (Sets first many) h = (h.asked, h.first, h.given, h.all_given ∙ sym h.asked, h.sets)
@@ -75,13 +75,13 @@ module _ {L P S : Type 0} (pool_name : P → ℕ) (set_name : S → ℕ) (counts
       go Cleanup Clean h = h.sets
 
   pub frees_one_by_one : IsKept (FreesOneByOne pool_name set_name)
-  frees_one_by_one command reply old new before after agree held s = go command reply s.step
+  frees_one_by_one command reply old new before after ready s = go command reply s.step
     where
       go : (command : Command) (reply : Reply) → Steps command reply old new before after → FreesOneByOne pool_name set_name (step_of command reply old new before after)
       go (Free tickets) (Freed n) h =
           let start = state_of pool_name (allocator_of old) before in
-          let out = listed_out set_name (sets_of old) tickets.items h.given start h.good h.each held in
-          (h.given, h.each, (λ order alike. h.back.state ∙ sym (one_by_one (items_of set_name h.given) order start agree out alike)))
+          let out = listed_out set_name (sets_of old) tickets.items h.given start h.good h.each ready.held in
+          (h.given, h.each, (λ order alike. h.back.state ∙ sym (one_by_one (items_of set_name h.given) order start ready.agree out alike)))
       go (Allocate layout count) (Freed n) h = absurd h
       go Cleanup (Freed n) h = absurd h
       go command (Sets first many) h = tt
@@ -92,7 +92,7 @@ module _ {L P S : Type 0} (pool_name : P → ℕ) (set_name : S → ℕ) (counts
       go command Clean h = tt
 
   pub calls_once_a_run : IsKept (CallsOnceARun set_name)
-  calls_once_a_run command reply old new before after agree held s = go command reply s.step
+  calls_once_a_run command reply old new before after ready s = go command reply s.step
     where
       go : (command : Command) (reply : Reply) → Steps command reply old new before after → CallsOnceARun set_name (step_of command reply old new before after)
       go (Free tickets) (Freed n) h = (h.given, h.each, ap (λ (c : Counters). c.released) h.back.counters)
@@ -106,7 +106,7 @@ module _ {L P S : Type 0} (pool_name : P → ℕ) (set_name : S → ℕ) (counts
       go command Clean h = tt
 
   pub fails_for_cause : IsKept (FailsForCause pool_name counts mark)
-  fails_for_cause command reply old new before after agree held s = go command reply s.step
+  fails_for_cause command reply old new before after ready s = go command reply s.step
     where
       go : (command : Command) (reply : Reply) → Steps command reply old new before after → FailsForCause pool_name counts mark (step_of command reply old new before after)
       go (Allocate layout count) (Refused e) h = (h.known, h.at, h.cause)
@@ -120,7 +120,7 @@ module _ {L P S : Type 0} (pool_name : P → ℕ) (set_name : S → ℕ) (counts
       go Cleanup reply h = tt
 
   pub turns_down_bad : IsKept TurnsDownBad
-  turns_down_bad command reply old new before after agree held s = go command reply s.step
+  turns_down_bad command reply old new before after ready s = go command reply s.step
     where
       go : (command : Command) (reply : Reply) → Steps command reply old new before after → TurnsDownBad (step_of command reply old new before after)
       go (Allocate layout count) (Sets first many) h = ((((λ bad. absurd (cc)), (λ le. (let lt = slice_get_within _ layout h.known h.at in absurd (omega arith)))), (λ bad. absurd (cc))), tt)
@@ -146,12 +146,12 @@ module _ {L P S : Type 0} (pool_name : P → ℕ) (set_name : S → ℕ) (counts
       go Cleanup Clean h = (refl, tt)
 
   pub keeps_all : IsKept (KeepsAll pool_name set_name counts mark)
-  keeps_all command reply old new before after agree held s = record {
-    exactly = holds_exactly command reply old new before after agree held s;
-    handed_out = holds_what_is_out command reply old new before after agree held s;
-    one_by_one = frees_one_by_one command reply old new before after agree held s;
-    one_call_a_run = calls_once_a_run command reply old new before after agree held s;
-    limit = keeps_limit command reply old new before after agree held s;
-    cause = fails_for_cause command reply old new before after agree held s;
-    turned_down = turns_down_bad command reply old new before after agree held s;
+  keeps_all command reply old new before after ready s = record {
+    exactly = holds_exactly command reply old new before after ready s;
+    handed_out = holds_what_is_out command reply old new before after ready s;
+    one_by_one = frees_one_by_one command reply old new before after ready s;
+    one_call_a_run = calls_once_a_run command reply old new before after ready s;
+    limit = keeps_limit command reply old new before after ready s;
+    cause = fails_for_cause command reply old new before after ready s;
+    turned_down = turns_down_bad command reply old new before after ready s;
   }

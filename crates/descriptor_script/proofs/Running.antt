@@ -1,6 +1,8 @@
 -- A run grows by one command.
-use Rattle.std.proofs.Common.{ℕ, Bool, List, [], ◌∷◌, ◌++◌, refl, subst}
+use Rattle.std.proofs.Common.{ℕ, Bool, List, [], ◌∷◌, ◌++◌, refl, subst, ◌∙◌}
 use Rattle.gpu_descriptor_types.specs.Ledger.{Ledger}
+use Rattle.gpu_descriptor.proofs.Keeping.{keeps_through}
+use Rattle.descriptor_script.specs.Session.{KeepsSession}
 use Rattle.descriptor_script.specs.SessionRun.{IsStep, RunsTo}
 use Rattle.descriptor_script.specs.declared.command.Command.{Command}
 use Rattle.descriptor_script.specs.declared.command.Reply.{Reply}
@@ -22,3 +24,12 @@ module _ {L P S : Type 0} (pool_name : P → ℕ) (set_name : S → ℕ) (counts
   runs_more (c ∷ cs) [] command reply old mid new before between after run step = absurd run
   runs_more (c ∷ cs) (r ∷ rs) command reply old mid new before between after run step =
       (run.0, run.1, run.2, runs_more cs rs command reply run.0 mid new run.1 between after run.3 step)
+
+  -- what two stretches keep, one after the other
+  pub session_through : {s t u : Session L P S} {l m n : Ledger} → KeepsSession pool_name set_name counts mark s t l m → KeepsSession pool_name set_name counts mark t u m n → KeepsSession pool_name set_name counts mark s u l n
+  session_through p q = record {
+    ready = q.ready;
+    allocator = keeps_through p.allocator q.allocator;
+    layouts = q.layouts ∙ p.layouts;
+    count = q.count;
+  }

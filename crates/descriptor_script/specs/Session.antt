@@ -1,9 +1,12 @@
 -- What a session keeps.
-use Rattle.std.specs.Prelude.{◌≡◌, ℕ, Bool, List, slice_get, Option, Some}
+use Rattle.std.specs.Prelude.{◌≡◌, ℕ, Bool, List, length, slice_get, Option, Some}
 use Rattle.gpu_descriptor_types.specs.Counts.{kinds}
 use Rattle.gpu_descriptor_types.specs.declared.counts.DescriptorTotalCount.{DescriptorTotalCount}
 use Rattle.gpu_descriptor.specs.Model.Agreement.{Item, State, count_of, outstanding}
+use Rattle.gpu_descriptor_types.specs.Ledger.{Ledger}
 use Rattle.gpu_descriptor.specs.Caller.Flags.{is_marked}
+use Rattle.gpu_descriptor.specs.Caller.Keeps.{Keeps}
+use Rattle.gpu_descriptor.specs.Caller.States.{Agrees, outstanding_of, state_of}
 use Rattle.gpu_descriptor.specs.Caller.Sets.{items_of}
 use Rattle.gpu_descriptor.specs.Caller.Values.{Allocations}
 use Rattle.gpu_descriptor.specs.declared.flags.DescriptorSetLayoutCreateFlags.{DescriptorSetLayoutCreateFlags}
@@ -34,3 +37,18 @@ AreMeant {L} counts mark layouts = (i : ℕ) (k : KnownLayout L) → slice_get l
 -- the held sets are exactly the outstanding sets
 abbrev pub AreAllHeld : {S : Type 0} → (S → ℕ) → List (Option (DescriptorSet S)) → State → Type 0
 AreAllHeld name slots s = (t : Item) → outstanding s t ≡ count_of t (items_of name (held_sets slots))
+
+module _ {L P S : Type 0} (pool_name : P → ℕ) (set_name : S → ℕ) (counts : L → List ℕ) (mark : L → Bool) where
+  -- the next command may be run
+  pub record IsReady (s : Session L P S) (l : Ledger) : Type 0 where
+    pub agree : Agrees pool_name (allocator_of s) l
+    pub held : AreAllHeld set_name (sets_of s) (state_of pool_name (allocator_of s) l)
+    pub meant : AreMeant counts mark (layouts_of s)
+
+  -- what every command keeps
+  pub record KeepsSession (old new : Session L P S) (before after : Ledger) : Type 0 where
+    pub ready : IsReady new after
+    pub allocator : Keeps pool_name (allocator_of old) (allocator_of new) before after
+    pub layouts : layouts_of new ≡ layouts_of old
+    -- the allocator counts as many sets as are held
+    pub count : length (held_sets (sets_of new)) ≡ outstanding_of (allocator_of new)

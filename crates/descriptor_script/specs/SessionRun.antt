@@ -1,12 +1,8 @@
 -- A run of a session: commands one after another, each with its reply.
-use Rattle.std.specs.Prelude.{◌≡◌, ℕ, ◌≤◌, Bool, List, [], ◌∷◌, length}
+use Rattle.std.specs.Prelude.{◌≡◌, ℕ, Bool, List, [], ◌∷◌}
 use Rattle.gpu_descriptor_types.specs.Ledger.{Ledger}
-use Rattle.gpu_descriptor.specs.Model.Books.{HasDistinctKeys}
-use Rattle.gpu_descriptor.specs.Model.Foreign.{KeepsForeign, LosesNone}
-use Rattle.gpu_descriptor.specs.Caller.States.{Agrees, marked_load_of, pool_load_of, outstanding_of, state_of, table_of}
-use Rattle.descriptor_script.specs.Session.{AreAllHeld, allocator_of, layouts_of, sets_of}
+use Rattle.descriptor_script.specs.Session.{KeepsSession}
 use Rattle.descriptor_script.specs.Steps.{Cleans, StepsTo}
-use Rattle.descriptor_script.specs.Tickets.{held_sets}
 use Rattle.descriptor_script.specs.declared.command.Command.{Command}
 use Rattle.descriptor_script.specs.declared.command.Reply.{Reply}
 use Rattle.descriptor_script.specs.declared.session.Session.{Session}
@@ -24,17 +20,7 @@ module _ {L P S : Type 0} (pool_name : P → ℕ) (set_name : S → ℕ) (counts
   -- one command, and what holds after it
   pub record IsStep (command : Command) (reply : Reply) (old new : Session L P S) (before after : Ledger) : Type 0 where
     pub step : StepsTo pool_name set_name counts mark command reply old new before after
-    pub agree : Agrees pool_name (allocator_of new) after
-    pub held : AreAllHeld set_name (sets_of new) (state_of pool_name (allocator_of new) after)
-    pub count : length (held_sets (sets_of new)) ≡ outstanding_of (allocator_of new)
-    pub load : marked_load_of (allocator_of new) ≤ (allocator_of new).limit
-    pub pool_load : pool_load_of (allocator_of new) ≤ (allocator_of new).limit
-    pub limit : (allocator_of new).limit ≡ (allocator_of old).limit
-    pub layouts : layouts_of new ≡ layouts_of old
-    -- no key has two rows
-    pub rows : HasDistinctKeys (table_of pool_name (allocator_of new))
-    pub foreign : KeepsForeign (state_of pool_name (allocator_of old) before) (state_of pool_name (allocator_of new) after)
-    pub accounted : LosesNone (state_of pool_name (allocator_of old) before) (state_of pool_name (allocator_of new) after)
+    pub keeps : KeepsSession pool_name set_name counts mark old new before after
 
   -- the commands were done in order, each with the reply at its place
   abbrev pub RunsTo : List Command → List Reply → Session L P S → Session L P S → Ledger → Ledger → Type 0

@@ -30,7 +30,7 @@ pub record IsAsBefore {L P S : Type 0} (old new : Session L P S) (before after :
 
 module _ {L P S : Type 0} (pool_name : P → ℕ) (set_name : S → ℕ) (counts : L → List ℕ) (mark : L → Bool) (layout count : ℕ) (old new : Session L P S) (before after : Ledger) where
   -- the sets of a request are held under the next tickets, in their order
-  pub record HandsOut (next many : ℕ) : Type 0 where
+  pub record HoldsAnswer (next many : ℕ) : Type 0 where
     pub known : KnownLayout L
     pub at : slice_get (layouts_of old) layout ≡ Some known
     pub given : List (DescriptorSet S)
@@ -50,7 +50,7 @@ module _ {L P S : Type 0} (pool_name : P → ℕ) (set_name : S → ℕ) (counts
 
   -- what a request for so many sets of the layout at a place may reply. A request for none finds memory
   abbrev pub AllocatesTo : Reply → Type 0
-  AllocatesTo (Sets first many) = HandsOut first many
+  AllocatesTo (Sets first many) = HoldsAnswer first many
   AllocatesTo (Refused error) = Refuses error
   AllocatesTo BadLayout = (length (layouts_of old) ≤ layout) × IsAsBefore old new before after
   AllocatesTo NoMemory = (layout < length (layouts_of old)) × (0 < count) × IsAsBefore old new before after

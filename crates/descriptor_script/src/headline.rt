@@ -3,11 +3,8 @@
 //! returned, batched frees, with one device call per run, leave what freeing one by one leaves, marked
 //! descriptors never pass the limit, and a request fails only for a named cause.
 ghost use Rattle.std.specs.Prelude.{◌≡◌, IfOk, OnErr};
-ghost use Rattle.gpu_descriptor.specs.Model.Books.{HasDistinctKeys};
-ghost use Rattle.gpu_descriptor.specs.Model.Foreign.{KeepsForeign, LosesNone};
-ghost use Rattle.gpu_descriptor.specs.Caller.States.{Agrees, state_of, table_of};
 ghost use Rattle.descriptor_script.specs.Headline.{CallsOnceARun, FailsForCause, FreesOneByOne, HoldsExactly, HoldsWhatIsOut, KeepsAll, KeepsLimit, TurnsDownBad};
-ghost use Rattle.descriptor_script.specs.Session.{AreAllHeld, AreMeant, allocator_of, layouts_of, sets_of};
+ghost use Rattle.descriptor_script.specs.Session.{IsReady, KeepsSession};
 ghost use Rattle.descriptor_script.specs.SessionRun.{RunsKeeping, RunsTo};
 
 use crate::{Command, Reply, Session};
@@ -25,9 +22,8 @@ pub fn headline<L, P: Drop, S: Drop, D: DescriptorDevice<L, P, S>>(
     device: &mut D,
     commands: &[Command],
 ) -> Result<Vec<Reply>, AllocError>
-    requires agree { Agrees D.pool_name (allocator_of session.old) (D.ledger device.old) }
-    requires held { AreAllHeld D.set_name (sets_of session.old) (state_of D.pool_name (allocator_of session.old) (D.ledger device.old)) }
-    requires meant { AreMeant D.layout_counts D.layout_mark (layouts_of session.old) }
+    requires ready { IsReady D.pool_name D.set_name D.layout_counts D.layout_mark
+        session.old (D.ledger device.old) }
 
     // The replies are those of a run: the commands were done in order, each as its reply says.
     ensures runs { IfOk result (λ replies. RunsTo D.pool_name D.set_name D.layout_counts D.layout_mark
@@ -61,12 +57,8 @@ pub fn headline<L, P: Drop, S: Drop, D: DescriptorDevice<L, P, S>>(
     ensures ledger { OnErr result (D.ledger device.new ≡ D.ledger device.old) }
 
     // Pools of others stay over the whole run, none is lost, and the next call may be made.
-    ensures foreign { KeepsForeign (state_of D.pool_name (allocator_of session.old) (D.ledger device.old)) (state_of D.pool_name (allocator_of session.new) (D.ledger device.new)) }
-    ensures accounted { LosesNone (state_of D.pool_name (allocator_of session.old) (D.ledger device.old)) (state_of D.pool_name (allocator_of session.new) (D.ledger device.new)) }
-    ensures agree { Agrees D.pool_name (allocator_of session.new) (D.ledger device.new) }
-    ensures held { AreAllHeld D.set_name (sets_of session.new) (state_of D.pool_name (allocator_of session.new) (D.ledger device.new)) }
-    ensures rows { HasDistinctKeys (table_of D.pool_name (allocator_of session.new)) }
-    ensures layouts { layouts_of session.new ≡ layouts_of session.old }
+    ensures keeps { KeepsSession D.pool_name D.set_name D.layout_counts D.layout_mark
+        session.old session.new (D.ledger device.old) (D.ledger device.new) }
 {
     session.run(device, commands)
 }

@@ -6,9 +6,10 @@ use Rattle.gpu_descriptor_types.specs.Counts.{kinds}
 use Rattle.gpu_descriptor_types.specs.Ledger.{Ledger}
 use Rattle.gpu_descriptor.specs.Model.Agreement.{State}
 use Rattle.gpu_descriptor.specs.Model.Books.{Key, Entry, entry_at}
-use Rattle.gpu_descriptor.specs.Caller.States.{Agrees, state_of}
-use Rattle.descriptor_script.specs.Raw.{pool_id, set_id}
-use Rattle.descriptor_script.specs.Session.{AreAllHeld, AreMeant, allocator_of, layouts_of, sets_of}
+use Rattle.gpu_descriptor.specs.Caller.States.{state_of}
+use Rattle.descriptor_script.specs.Raw.{pool_id}
+use Rattle.descriptor_script.specs.Ready.{IsScriptReady}
+use Rattle.descriptor_script.specs.Session.{AreMeant, allocator_of, layouts_of, sets_of}
 use Rattle.descriptor_script.specs.declared.raw.RawPool.{RawPool}
 use Rattle.descriptor_script.specs.declared.raw.RawSet.{RawSet}
 use Rattle.descriptor_script.specs.declared.raw.ScriptLayout.{ScriptLayout}
@@ -17,12 +18,6 @@ use Rattle.descriptor_script.specs.declared.session.Session.{Session}
 -- books and ledger of the session's allocator
 abbrev pub state_in : Session ScriptLayout RawPool RawSet → Ledger → State
 state_in s l = state_of pool_id (allocator_of s) l
-
--- the session can make a step on a device with this ledger
-pub record IsReady (s : Session ScriptLayout RawPool RawSet) (l : Ledger) : Type 0 where
-  pub agree : Agrees pool_id (allocator_of s) l
-  pub held : AreAllHeld set_id (sets_of s) (state_in s l)
-  pub meant : AreMeant (λ k. kinds k.counts) (λ k. k.mark) (layouts_of s)
 
 -- no key came, and no set is held
 pub record IsNewSession (s : Session ScriptLayout RawPool RawSet) : Type 0 where
@@ -37,8 +32,8 @@ AreApart s t = (k l : Key) (m n : ℕ) (d e : Entry) → entry_at (s.books k) m 
 
 -- each of two sessions on one device can make a step
 pub record ArePaired (x y : Session ScriptLayout RawPool RawSet) (l : Ledger) : Type 0 where
-  pub one : IsReady x l
-  pub other : IsReady y l
+  pub one : IsScriptReady x l
+  pub other : IsScriptReady y l
   pub apart : AreApart (state_in x l) (state_in y l)
 
 pub paired-prop : (x y : Session ScriptLayout RawPool RawSet) (l : Ledger) → IsProp (ArePaired x y l)

@@ -1,9 +1,8 @@
 //! A session on a device, with which all its steps are made.
 ghost use Rattle.std.specs.Prelude.{◌≡◌};
-ghost use Rattle.gpu_descriptor.proofs.OneAgreement.{Agree-prop};
-ghost use Rattle.gpu_descriptor.specs.Caller.States.{Agrees, state_of};
+ghost use Rattle.descriptor_script.proofs.OneReady.{IsReady-prop};
 ghost use Rattle.gpu_descriptor_types.specs.Counts.{kinds};
-ghost use Rattle.descriptor_script.specs.Session.{AreAllHeld, AreMeant, allocator_of, layouts_of, sets_of};
+ghost use Rattle.descriptor_script.specs.Session.{IsReady};
 
 use descriptor_script::headline::headline;
 use descriptor_script::{
@@ -20,9 +19,7 @@ use std::test::Fail;
 pub struct Bench<D: DescriptorDevice<ScriptLayout, RawPool, RawSet>> {
     pub session: Session<ScriptLayout, RawPool, RawSet>,
     pub device: D,
-    ghost agree: { Agrees D.pool_name (allocator_of session) (D.ledger device) } by { Agree-prop (state_of D.pool_name (allocator_of session) (D.ledger device)) },
-    ghost held: { AreAllHeld D.set_name (sets_of session) (state_of D.pool_name (allocator_of session) (D.ledger device)) },
-    ghost meant: { AreMeant D.layout_counts D.layout_mark (layouts_of session) },
+    ghost ready: { IsReady D.pool_name D.set_name D.layout_counts D.layout_mark session (D.ledger device) } by { IsReady-prop D.pool_name D.set_name D.layout_counts D.layout_mark session (D.ledger device) },
 }
 
 /// A layout with so many samplers, and no other descriptors.

@@ -12,6 +12,7 @@ use Rattle.gpu_descriptor.specs.declared.take.Stop.TheVariants as stop
 use Rattle.gpu_descriptor.specs.Model.Agreement.{State, Item, Agree, AreOutstanding, outstanding}
 use Rattle.gpu_descriptor.specs.Model.Books.{Key, key_eq, Entry, entry_at}
 use Rattle.gpu_descriptor.specs.Model.Foreign.{KeepsForeign, LosesNone}
+use Rattle.gpu_descriptor.specs.Caller.Others.{others_of}
 use Rattle.gpu_descriptor.specs.Model.FreshPools.{fresh_entry}
 use Rattle.gpu_descriptor.specs.Caller.Frees.{GivesBack}
 use Rattle.gpu_descriptor.specs.Model.Grants.{Grant, entries_with, items_in, granted}
@@ -32,6 +33,7 @@ use Rattle.gpu_descriptor.proofs.KeepState.{keeps_agree, keeps_given, keeps_outs
 use Rattle.gpu_descriptor.proofs.Foreign.{entries_named, taken_apart, taken_foreign, taken_loses, freed_foreign, freed_loses, foreign_through, loses_through}
 use Rattle.gpu_descriptor.proofs.Exact.{key_exact}
 use Rattle.gpu_descriptor.proofs.Kept.{takes}
+use Rattle.gpu_descriptor.proofs.OthersStay.{others_stay}
 use Rattle.gpu_descriptor.proofs.OtherKeys.{release_others, untouched_twice}
 use Rattle.gpu_descriptor.proofs.Promises.{grant_many}
 use Rattle.gpu_descriptor.proofs.Meets.{is_done, stopped_state, stopped_at_state}
@@ -57,7 +59,12 @@ entries_taken : (taken : Result (Unit {0}) Refusal) (k : Key) (room n first : �
 entries_taken (Ok x) k room n first items old new l m all stopped = (all.grant, all.taken.entries)
 entries_taken (Err why) k room n first items old new l m all stopped = entries_up_to why k room n first items old new l m stopped
 
-module _ {P S : Type 0} (name : P → ℕ) (set_name : S → ℕ) (k : Key) (count : ℕ) (sets : List (DescriptorSet S)) (taken : Result (Unit {0}) Refusal) (old new : Allocations P) (before after : Ledger)
+-- a request of a key is one of another that is the same
+pub taken_as : {P S : Type 0} {name : P → ℕ} {set_name : S → ℕ} {k l : Key} {count : ℕ} {sets : List (DescriptorSet S)} {taken : Result (Unit {0}) Refusal} {old new : Allocations P} {before after : Ledger}
+    → k ≡ l → Takes name set_name k count sets taken old new before after → Takes name set_name l count sets taken old new before after
+taken_as same t = rw (sym same) t
+
+module _ {P S : Type 0} {name : P → ℕ} {set_name : S → ℕ} {k : Key} {count : ℕ} {sets : List (DescriptorSet S)} {taken : Result (Unit {0}) Refusal} {old new : Allocations P} {before after : Ledger}
     (t : Takes name set_name k count sets taken old new before after) (agree : Agrees name old before) where
   abbrev s : State
   s = state_of name old before
@@ -109,6 +116,9 @@ module _ {P S : Type 0} (name : P → ℕ) (set_name : S → ℕ) (k : Key) (cou
       let kept = entries_named g.left count g.refused (s.books k).pools (map fresh_entry g.fresh) i e at in
       (kept.0, ap (λ (es : List Entry). slice_get es i) left.1 ∙ kept.1, kept.2)))
 
+  pub taken_others_of : others_of name new after ≡ others_of name old before
+  taken_others_of = others_stay name old new before after taken_leaves taken_loses_none
+
   pub proceeds : 0 < count → (last : Allocations P) (final : Ledger) (answer : Result (List Item) AllocationError) → Proceeds (call_of name k count old last before final answer)
   proceeds some last final answer = record {
     some = some;
@@ -118,7 +128,7 @@ module _ {P S : Type 0} (name : P → ℕ) (set_name : S → ℕ) (k : Key) (cou
 
   -- ---- the sets went back
 
-  module _ (some : 0 < count) (last : Allocations P) (final : Ledger) (back : GivesBack name set_name sets (runs items) new last after final) where
+  module _ (some : 0 < count) {last : Allocations P} {final : Ledger} (back : GivesBack name set_name sets (runs items) new last after final) where
     -- which of the new allocator's pools go
     gone : pools_gone (keys_of new) items (given_back items (state_of name new after)) ≡ pools_gone (k ∷ []) items (given_back items (state_of name new after))
     gone = ap (λ (keys : List Key). pools_gone keys items (given_back items (state_of name new after))) (keys_table name new.table) ∙ only_key k items (state_of name new after) (table_of name new) t.still (λ l. refl) keeps.of_key
@@ -169,14 +179,14 @@ module _ {P S : Type 0} (name : P → ℕ) (set_name : S → ℕ) (k : Key) (cou
         let now = stopped_state k room count (stop.Fresh error) s t.pools items before after refl st in
         stopped_at_fresh (proceeds some last final _) (record { grant = st.grant; front = record { all = st.all; pooled = pool_load_of old; is_pooled = pool_load_is name old before t.distinct; front = st.front }; room = st.in_room; error = error; back = is_back st.grant (stop_rise (stop.Fresh error)) _ st.before st.came st.taken now.0 now.1 })
 
-    pub went_back : (why : Refusal) → taken ≡ Err why → Allocates (call (refusal_answer why))
-    went_back why is = by_why why (subst (λ (r : Result (Unit {0}) Refusal). IfErr r (λ w. IsTakenUpTo w k room count (s.books k).first items (s.books k).pools t.pools before after)) is t.stopped)
+    pub went_back : {why : Refusal} → taken ≡ Err why → Allocates (call (refusal_answer why))
+    went_back {why} is = by_why why (subst (λ (r : Result (Unit {0}) Refusal). IfErr r (λ w. IsTakenUpTo w k room count (s.books k).first items (s.books k).pools t.pools before after)) is t.stopped)
       where
         by_why : (why : Refusal) → IsTakenUpTo why k room count (s.books k).first items (s.books k).pools t.pools before after → Allocates (call (refusal_answer why))
         by_why (refusal.Existing error) st = back_from_pool error st
         by_why (refusal.New why) st = back_from_new why st
 
-  module _ (last : Allocations P) (final : Ledger) (calls : ℕ) (back : GivesBack name set_name sets calls new last after final) where
+  module _ {last : Allocations P} {final : Ledger} {calls : ℕ} (back : GivesBack name set_name sets calls new last after final) where
     -- the sets that went back are no longer outstanding
     pub back_out : KeepsOutstanding s (state_of name last final)
     back_out u =
@@ -207,22 +217,25 @@ module _ {P S : Type 0} (name : P → ℕ) (set_name : S → ℕ) (k : Key) (cou
     pub back_loses_none : LosesNone s (state_of name last final)
     back_loses_none = loses_through s (state_of name new after) (state_of name last final) taken_loses_none (freed_loses name set_name sets calls new last after final back)
 
+    pub back_others_of : others_of name last final ≡ others_of name old before
+    back_others_of = others_stay name old last before final back_leaves back_loses_none
+
   -- ---- the sets are kept
 
-  pub kept_many : (x : Unit {0}) → taken ≡ Ok x → length sets ≡ count
-  kept_many x is =
+  pub kept_many : {x : Unit {0}} → taken ≡ Ok x → length sets ≡ count
+  kept_many is =
       let all = subst (λ (r : Result (Unit {0}) Refusal). OnOk r (IsTakenAll k room count (s.books k).first items (s.books k).pools t.pools before after)) is t.done in
       let many = grant_many k count _ _ (s.books k) all.grant all.taken.parts all.all all.fresh in
       let same = ap length all.came in
       let long = length-map sets (λ (x : DescriptorSet S). item_of set_name x) in
       omega arith
 
-  pub kept_totals : (x : Unit {0}) → taken ≡ Ok x → (outstanding_of new ≡ outstanding_of old + count) × (marked_load_of new ≡ marked_load_of old + marked_load k count)
-  kept_totals x is =
-      let many = kept_many x is in
+  pub kept_totals : {x : Unit {0}} → taken ≡ Ok x → (outstanding_of new ≡ outstanding_of old + count) × (marked_load_of new ≡ marked_load_of old + marked_load k count)
+  kept_totals is =
+      let many = kept_many is in
       (t.total ∙ ap (λ n. outstanding_of old + n) many, t.marked ∙ ap (λ n. marked_load_of old + marked_load k n) many)
 
-  pub kept : 0 < count → (x : Unit {0}) → taken ≡ Ok x → Allocates (call_of name k count old new before after (Ok items))
-  kept some x is =
+  pub kept : 0 < count → {x : Unit {0}} → taken ≡ Ok x → Allocates (call_of name k count old new before after (Ok items))
+  kept some is =
       let all = subst (λ (r : Result (Unit {0}) Refusal). OnOk r (IsTakenAll k room count (s.books k).first items (s.books k).pools t.pools before after)) is t.done in
       done (proceeds some new after _) (is_done _ t.pools items before after refl refl t.state refl (pool_load_of old) (pool_load_is name old before t.distinct) all (ap Ok (sym all.came)))

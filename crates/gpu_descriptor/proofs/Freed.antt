@@ -156,6 +156,7 @@ module _ {S : Type 0} (set_name : S → ℕ) where
       pub back : GivesBack name set_name sets (runs (items sets)) old now before after
       pub agree : Agree (state_of name now after)
       pub keys : keys_of now ≡ keys_of old
+      pub rises : old.comparisons ≤ now.comparisons
       pub few : now.comparisons ≤ old.comparisons + run_digits (state_of name old before) (items sets)
       pub comes : Comes first sets ahead rest
 
@@ -181,13 +182,14 @@ module _ {S : Type 0} (set_name : S → ℕ) where
           omega arith)
 
       pub freed_more : (new : Allocations P) (after : Ledger) (a : Option (DescriptorSet S)) (t : T) → FreesRun steps name set_name x rest a t now new mid after → keys_of new ≡ keys_of now → OnSome a (IsNearerEnd can left rest t)
-          → new.comparisons ≤ now.comparisons + binary_digits (open_pools ((state_of name now mid).books (key_of x.key))) → Freed first old before new after a t
-      freed_more new after a t run same n few = record {
+          → now.comparisons ≤ new.comparisons → new.comparisons ≤ now.comparisons + binary_digits (open_pools ((state_of name now mid).books (key_of x.key))) → Freed first old before new after a t
+      freed_more new after a t run same n more few = record {
         sets = r.sets ++ x ∷ xs;
         back = subst (λ (m : ℕ). GivesBack name set_name (r.sets ++ x ∷ xs) m old new before after) (sym count) (gives_both name r.sets (x ∷ xs) (runs (items r.sets)) 1 old now new before mid after agree (all_out xs run.came.1.0 run.came.1.1) r.keys r.back run.back);
         agree = rw run.back.state (agrees (items (x ∷ xs)) (state_of name now mid) r.agree (call_out xs run.came.1.0 run.came.1.1));
         keys = same ∙ r.keys;
-        few = (let was = r.few in let more = cost in omega arith);
+        rises = (let was = r.rises in omega arith);
+        few = (let was = r.few in let digits = cost in omega arith);
         comes = stop a run.came.1.2 run.came.2 n;
       }
         where
@@ -232,18 +234,16 @@ module _ {S : Type 0} (set_name : S → ℕ) where
     less rest (Some y) t n = omega (arith, n.2)
 
     pub freed_none : (first : T) (old : Allocations P) (before : Ledger) (a : Option (DescriptorSet S)) (rest : T) → Agree (state_of name old before) → IsFinite (left first) → steps first a rest → MakesProgress can left first a rest → Freed first old before old before a rest
-    freed_none first old before a rest agree finite step goes = record { sets = []; back = gives_none name old before; agree = agree; keys = refl; few = omega arith; comes = begin a step goes }
+    freed_none first old before a rest agree finite step goes = record { sets = []; back = gives_none name old before; agree = agree; keys = refl; rises = omega arith; few = omega arith; comes = begin a step goes }
       where
         begin : (a : Option (DescriptorSet S)) → steps first a rest → MakesProgress can left first a rest → Comes first [] a rest
         begin None step goes = (first, refl, step)
         begin (Some y) step goes = ((rest, step, refl), (λ zs. let e : runs (items (y ∷ zs)) ≡ 0 + runs (items (y ∷ zs)) = omega arith in e), goes.keeps, (goes.on finite).1)
 
     -- at the end all sets of the iterator have gone back
-    pub freed_all : (first : T) (old : Allocations P) (before : Ledger) (new : Allocations P) (after : Ledger) (end : T) → Freed first old before new after None end → Frees steps name set_name first end old new before after
-    freed_all first old before new after end r = record { sets = r.sets; drained = r.comes; back = r.back }
-
-    -- and with no more comparisons than the digits of its runs
-    pub freed_compared : (first : T) (old : Allocations P) (before : Ledger) (new : Allocations P) (after : Ledger) (end : T) → Freed first old before new after None end
-        → (f : Frees steps name set_name first end old new before after) × (new.comparisons ≤ old.comparisons + run_digits (state_of name old before) (items f.sets))
-    unfolding freed_all
-    freed_compared first old before new after end r = (freed_all first old before new after end r, r.few)
+    pub freed_all : (first : T) (old : Allocations P) (before : Ledger) (new : Allocations P) (after : Ledger) (end : T) → new.looks ≡ old.looks → Freed first old before new after None end → Frees steps name set_name first end old new before after
+    freed_all first old before new after end looks r = record {
+      sets = r.sets;
+      drained = r.comes;
+      returns = record { back = r.back; keys = r.keys; looks_stay = looks; comparisons = r.few; compared = r.rises };
+    }

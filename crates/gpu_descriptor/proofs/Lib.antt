@@ -12,11 +12,13 @@ pub mod Freed
 pub mod Fronts
 pub mod Growing
 pub mod Grows
+pub mod HandedOut
 pub mod Holding
 pub mod KeepKey
 pub mod KeepState
 pub mod KeepSteps
 pub mod Kept
+pub mod Keeping
 pub mod KeysKept
 pub mod LedgerPools
 pub mod Lent

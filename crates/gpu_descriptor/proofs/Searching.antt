@@ -11,6 +11,7 @@ pub record Searching (items : List ℕ) (number low size before count : ℕ) : T
   pub inside : low + size ≤ length items
   pub below : AllWithin (λ x. x < number) items 0 low
   pub above : AllWithin (λ x. number ≤ x) items (low + size) (length items)
+  pub rises : before ≤ count
   -- so many comparisons may come yet
   pub left : ℕ
   pub small : size < 2 ^ left
@@ -21,6 +22,7 @@ search_start items number count = record {
   inside = omega arith;
   below = λ k d h lt. absurd (omega arith);
   above = λ k d h lt. absurd (omega arith);
+  rises = omega arith;
   left = binary_digits (length items);
   small = digits_enough (length items);
   few = omega arith;
@@ -40,6 +42,7 @@ module _ (items : List ℕ) (number low size before count : ℕ) (rising : IsNon
             let same = get_or_default items k d 0 (let i = s.inside in omega arith) in
             omega arith;
         above = λ k d h lt. s.above k d (omega arith) lt;
+        rises = (let r = s.rises in omega arith);
         left = left;
         small = (let t = twice left in omega arith);
         few = omega arith;
@@ -58,6 +61,7 @@ module _ (items : List ℕ) (number low size before count : ℕ) (rising : IsNon
             let more = ltb-false _ _ is in
             let same = get_or_default items k d 0 lt in
             omega arith;
+        rises = (let r = s.rises in omega arith);
         left = left;
         small = (let t = twice left in omega arith);
         few = omega arith;

@@ -42,6 +42,7 @@ impl<P> DescriptorBucket<P> {
         ensures ran { ReleasesRun I.next_gives D.pool_name D.set_name first sets.old result sets.new
             self.old self.new (D.ledger device.old) (D.ledger device.new) }
         ensures goes { OnSome result (IsNearerEnd I.can_next I.remaining sets.old sets.new) }
+        ensures rises { comparisons.old.count ≤ comparisons.new.count }
         ensures few { comparisons.new.count ≤ comparisons.old.count + binary_digits (open_pools (bucket_of D.pool_name self.old)) }
         ensures room { room.new + stored_load (key_of first.key) self.new.pools.items ≡ room.old + stored_load (key_of first.key) self.old.pools.items }
     {

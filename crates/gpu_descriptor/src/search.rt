@@ -14,6 +14,7 @@ pub(crate) fn place_of(view: &mut Numbers<'_, '_>, number: u64) -> usize
     requires { IsNonDecreasing view.old.numbers.now.items }
     ensures within { result ≤ length view.old.numbers.now.items }
     ensures place { IsPartitionPoint (λ x. x < number) (λ x. number ≤ x) view.old.numbers.now.items result }
+    ensures rises { view.old.comparisons.now.count ≤ view.new.comparisons.now.count }
     ensures few { view.new.comparisons.now.count ≤ view.old.comparisons.now.count + binary_digits (length view.old.numbers.now.items) }
     ensures same_reference { view.new.comparisons.ghost_name ≡ view.old.comparisons.ghost_name }
 {
@@ -38,6 +39,7 @@ pub(crate) fn enter(listed: &mut VecDeque<u64>, number: u64, comparisons: &mut T
     requires room { length listed.old.items < deque_capacity listed.old }
     ensures entered { IsEntered number listed.old.items listed.new.items }
     ensures capacity { deque_capacity listed.old ≤ deque_capacity listed.new }
+    ensures rises { comparisons.old.count ≤ comparisons.new.count }
     ensures few { comparisons.new.count ≤ comparisons.old.count + binary_digits (length listed.old.items) }
 {
     let mut view = Numbers::new(listed, comparisons);
@@ -62,6 +64,7 @@ pub(crate) fn enter_new(
     ensures entered { is_new ≡ true → IsEntered number listed.old.items listed.new.items }
     ensures stays { is_new ≡ false → listed.new.items ≡ listed.old.items }
     ensures capacity { deque_capacity listed.old ≤ deque_capacity listed.new }
+    ensures rises { comparisons.old.count ≤ comparisons.new.count }
     ensures few { comparisons.new.count ≤ comparisons.old.count + binary_digits (length listed.old.items) }
 {
     if is_new {

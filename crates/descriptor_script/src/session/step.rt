@@ -1,11 +1,6 @@
 //! One command of a session.
-ghost use Rattle.std.specs.Prelude.{◌≡◌, ◌≤◌, length};
-ghost use Rattle.gpu_descriptor.specs.Model.Books.{HasDistinctKeys};
-ghost use Rattle.gpu_descriptor.specs.Model.Foreign.{KeepsForeign, LosesNone};
-ghost use Rattle.gpu_descriptor.specs.Caller.States.{Agrees, marked_load_of, pool_load_of, outstanding_of, state_of, table_of};
-ghost use Rattle.descriptor_script.specs.Session.{AreAllHeld, AreMeant, allocator_of, layouts_of, sets_of};
+ghost use Rattle.descriptor_script.specs.Session.{IsReady, KeepsSession};
 ghost use Rattle.descriptor_script.specs.Steps.{AllocatesTo, CleansTo, FreesTo, KeepsTickets, StepsTo};
-ghost use Rattle.descriptor_script.specs.Tickets.{held_sets};
 
 use super::Session;
 use crate::command::{Command, Reply};
@@ -19,21 +14,12 @@ impl<L, P: Drop, S: Drop> Session<L, P, S> {
     ///
     /// A reply of `BadTicket`, `BadLayout` or `NoMemory` says that nothing changed.
     pub fn step<D: DescriptorDevice<L, P, S>>(&mut self, device: &mut D, command: &Command) -> Reply
-        requires agree { Agrees D.pool_name (allocator_of self.old) (D.ledger device.old) }
-        requires held { AreAllHeld D.set_name (sets_of self.old) (state_of D.pool_name (allocator_of self.old) (D.ledger device.old)) }
-        requires meant { AreMeant D.layout_counts D.layout_mark (layouts_of self.old) }
+        requires ready { IsReady D.pool_name D.set_name D.layout_counts D.layout_mark
+            self.old (D.ledger device.old) }
         ensures step { StepsTo D.pool_name D.set_name D.layout_counts D.layout_mark command.now result self.old self.new (D.ledger device.old) (D.ledger device.new) }
-        ensures agree { Agrees D.pool_name (allocator_of self.new) (D.ledger device.new) }
-        ensures held { AreAllHeld D.set_name (sets_of self.new) (state_of D.pool_name (allocator_of self.new) (D.ledger device.new)) }
-        ensures count { length (held_sets (sets_of self.new)) ≡ outstanding_of (allocator_of self.new) }
-        ensures load { marked_load_of (allocator_of self.new) ≤ (allocator_of self.new).limit }
-        ensures pool_load { pool_load_of (allocator_of self.new) ≤ (allocator_of self.new).limit }
-        ensures foreign { KeepsForeign (state_of D.pool_name (allocator_of self.old) (D.ledger device.old)) (state_of D.pool_name (allocator_of self.new) (D.ledger device.new)) }
-        ensures accounted { LosesNone (state_of D.pool_name (allocator_of self.old) (D.ledger device.old)) (state_of D.pool_name (allocator_of self.new) (D.ledger device.new)) }
         ensures tickets { KeepsTickets self.old self.new }
-        ensures layouts { layouts_of self.new ≡ layouts_of self.old }
-        ensures rows { HasDistinctKeys (table_of D.pool_name (allocator_of self.new)) }
-        ensures limit { (allocator_of self.new).limit ≡ (allocator_of self.old).limit }
+        ensures keeps { KeepsSession D.pool_name D.set_name D.layout_counts D.layout_mark
+            self.old self.new (D.ledger device.old) (D.ledger device.new) }
     {
         match command {
             Command::Allocate { layout, count } => self.allocate(device, *layout, *count),
@@ -49,17 +35,11 @@ impl<L, P: Drop, S: Drop> Session<L, P, S> {
         layout: usize,
         count: u32,
     ) -> Reply
-        requires agree { Agrees D.pool_name (allocator_of self.old) (D.ledger device.old) }
-        requires held { AreAllHeld D.set_name (sets_of self.old) (state_of D.pool_name (allocator_of self.old) (D.ledger device.old)) }
-        requires meant { AreMeant D.layout_counts D.layout_mark (layouts_of self.old) }
+        requires ready { IsReady D.pool_name D.set_name D.layout_counts D.layout_mark
+            self.old (D.ledger device.old) }
         ensures step { AllocatesTo D.pool_name D.set_name D.layout_counts D.layout_mark layout count self.old self.new (D.ledger device.old) (D.ledger device.new) result }
-        ensures agree { Agrees D.pool_name (allocator_of self.new) (D.ledger device.new) }
-        ensures held { AreAllHeld D.set_name (sets_of self.new) (state_of D.pool_name (allocator_of self.new) (D.ledger device.new)) }
-        ensures foreign { KeepsForeign (state_of D.pool_name (allocator_of self.old) (D.ledger device.old)) (state_of D.pool_name (allocator_of self.new) (D.ledger device.new)) }
-        ensures accounted { LosesNone (state_of D.pool_name (allocator_of self.old) (D.ledger device.old)) (state_of D.pool_name (allocator_of self.new) (D.ledger device.new)) }
-        ensures layouts { layouts_of self.new ≡ layouts_of self.old }
-        ensures rows { HasDistinctKeys (table_of D.pool_name (allocator_of self.new)) }
-        ensures limit { (allocator_of self.new).limit ≡ (allocator_of self.old).limit }
+        ensures keeps { KeepsSession D.pool_name D.set_name D.layout_counts D.layout_mark
+            self.old self.new (D.ledger device.old) (D.ledger device.new) }
     {
         // The proof reads from this that no key has two rows.
         let _out = self.allocator.outstanding();
@@ -84,16 +64,11 @@ impl<L, P: Drop, S: Drop> Session<L, P, S> {
 
     /// Gives back the sets of these tickets.
     fn free<D: DescriptorDevice<L, P, S>>(&mut self, device: &mut D, tickets: &[usize]) -> Reply
-        requires agree { Agrees D.pool_name (allocator_of self.old) (D.ledger device.old) }
-        requires held { AreAllHeld D.set_name (sets_of self.old) (state_of D.pool_name (allocator_of self.old) (D.ledger device.old)) }
+        requires ready { IsReady D.pool_name D.set_name D.layout_counts D.layout_mark
+            self.old (D.ledger device.old) }
         ensures step { FreesTo D.pool_name D.set_name tickets.now self.old self.new (D.ledger device.old) (D.ledger device.new) result }
-        ensures agree { Agrees D.pool_name (allocator_of self.new) (D.ledger device.new) }
-        ensures held { AreAllHeld D.set_name (sets_of self.new) (state_of D.pool_name (allocator_of self.new) (D.ledger device.new)) }
-        ensures foreign { KeepsForeign (state_of D.pool_name (allocator_of self.old) (D.ledger device.old)) (state_of D.pool_name (allocator_of self.new) (D.ledger device.new)) }
-        ensures accounted { LosesNone (state_of D.pool_name (allocator_of self.old) (D.ledger device.old)) (state_of D.pool_name (allocator_of self.new) (D.ledger device.new)) }
-        ensures layouts { layouts_of self.new ≡ layouts_of self.old }
-        ensures rows { HasDistinctKeys (table_of D.pool_name (allocator_of self.new)) }
-        ensures limit { (allocator_of self.new).limit ≡ (allocator_of self.old).limit }
+        ensures keeps { KeepsSession D.pool_name D.set_name D.layout_counts D.layout_mark
+            self.old self.new (D.ledger device.old) (D.ledger device.new) }
     {
         let _out = self.allocator.outstanding();
         if !self.slots.are_held_once(tickets) {
@@ -114,16 +89,11 @@ impl<L, P: Drop, S: Drop> Session<L, P, S> {
 
     /// Destroys the empty pools at the front of each key.
     fn cleanup<D: DescriptorDevice<L, P, S>>(&mut self, device: &mut D) -> Reply
-        requires agree { Agrees D.pool_name (allocator_of self.old) (D.ledger device.old) }
-        requires held { AreAllHeld D.set_name (sets_of self.old) (state_of D.pool_name (allocator_of self.old) (D.ledger device.old)) }
+        requires ready { IsReady D.pool_name D.set_name D.layout_counts D.layout_mark
+            self.old (D.ledger device.old) }
         ensures step { CleansTo D.pool_name self.old self.new (D.ledger device.old) (D.ledger device.new) result }
-        ensures agree { Agrees D.pool_name (allocator_of self.new) (D.ledger device.new) }
-        ensures held { AreAllHeld D.set_name (sets_of self.new) (state_of D.pool_name (allocator_of self.new) (D.ledger device.new)) }
-        ensures foreign { KeepsForeign (state_of D.pool_name (allocator_of self.old) (D.ledger device.old)) (state_of D.pool_name (allocator_of self.new) (D.ledger device.new)) }
-        ensures accounted { LosesNone (state_of D.pool_name (allocator_of self.old) (D.ledger device.old)) (state_of D.pool_name (allocator_of self.new) (D.ledger device.new)) }
-        ensures layouts { layouts_of self.new ≡ layouts_of self.old }
-        ensures rows { HasDistinctKeys (table_of D.pool_name (allocator_of self.new)) }
-        ensures limit { (allocator_of self.new).limit ≡ (allocator_of self.old).limit }
+        ensures keeps { KeepsSession D.pool_name D.set_name D.layout_counts D.layout_mark
+            self.old self.new (D.ledger device.old) (D.ledger device.new) }
     {
         self.allocator.cleanup(device);
         Reply::Clean

@@ -1,9 +1,10 @@
 -- What giving sets back leaves of an allocator and of the ledger, and how often it calls the device.
-use Rattle.std.specs.Prelude.{◌≡◌, ℕ, ◌+◌, if◌then◌else◌, List, [], length, sum, sum_by, Option, None}
+use Rattle.std.specs.Prelude.{◌≡◌, ℕ, ◌+◌, ◌≤◌, if◌then◌else◌, List, [], length, sum, sum_by, Option, None}
 use Rattle.std.specs.Iterator.{YieldsThen}
 use Rattle.gpu_descriptor_types.specs.Ledger.{Ledger}
 use Rattle.gpu_descriptor.specs.declared.set.DescriptorSet.{DescriptorSet}
 use Rattle.gpu_descriptor.specs.Model.Agreement.{Item, outstanding}
+use Rattle.gpu_descriptor.specs.Caller.Comparisons.{run_digits}
 use Rattle.gpu_descriptor.specs.Model.Release.{more_released, more_destroyed, given_back, released, pools_gone}
 use Rattle.gpu_descriptor.specs.Model.Promises.{AreOutBesides}
 use Rattle.gpu_descriptor.specs.Model.Runs.{runs}
@@ -31,8 +32,17 @@ pub record GivesBack {P S : Type 0} (pool_name : P → ℕ) (set_name : S → �
   -- if there were none, all is as it was
   pub none : sets ≡ [] → (new ≡ old) × (after ≡ before)
 
--- the iterator gave sets up to its end, and these have gone back, in one release call for each run
+-- these sets have gone back, in one release call for each run
+pub record Returns {P S : Type 0} (pool_name : P → ℕ) (set_name : S → ℕ) (sets : List (DescriptorSet S)) (old new : Allocations P) (before after : Ledger) : Type 0 where
+  pub back : GivesBack pool_name set_name sets (runs (items_of set_name sets)) old new before after
+  pub keys : keys_of new ≡ keys_of old
+  pub looks_stay : new.looks ≡ old.looks
+  -- for each run at most as many as the number of its key's open pools has binary digits, once the runs before it went back
+  pub comparisons : new.comparisons ≤ old.comparisons + run_digits (state_of pool_name old before) (items_of set_name sets)
+  pub compared : old.comparisons ≤ new.comparisons
+
+-- the iterator gave sets up to its end, and these have gone back
 pub record Frees {P S T : Type 0} (steps : T → Option (DescriptorSet S) → T → Type 0) (pool_name : P → ℕ) (set_name : S → ℕ) (given left : T) (old new : Allocations P) (before after : Ledger) : Type 0 where
   pub sets : List (DescriptorSet S)
   pub drained : YieldsThen steps given sets None left
-  pub back : GivesBack pool_name set_name sets (runs (items_of set_name sets)) old new before after
+  pub returns : Returns pool_name set_name sets old new before after

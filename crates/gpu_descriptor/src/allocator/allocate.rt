@@ -3,15 +3,13 @@ ghost use Rattle.std.specs.Prelude.{◌≡◌, ◌+◌, ◌*◌, ◌^◌, ◌<�
 ghost use Rattle.gpu_descriptor_types.specs.Counts.{kinds};
 ghost use Rattle.gpu_descriptor.specs.Model.Books.{HasDistinctKeys};
 ghost use Rattle.gpu_descriptor.specs.Caller.Flags.{is_marked};
+ghost use Rattle.gpu_descriptor.specs.Caller.HandsOut.{HandsOut};
+ghost use Rattle.gpu_descriptor.specs.Caller.Keeps.{Keeps};
 ghost use Rattle.gpu_descriptor.specs.Caller.Keys.{StayOrGainLast};
-ghost use Rattle.gpu_descriptor.specs.Model.Foreign.{KeepsForeign, LosesNone};
-ghost use Rattle.gpu_descriptor.specs.Caller.Others.{others_of};
-ghost use Rattle.gpu_descriptor.specs.Model.Load.{marked_load};
-ghost use Rattle.gpu_descriptor.specs.Model.Promises.{KeepsOtherKeys, AreOfKey, AreOutBesides, CreatesOnlyWhereShort, HasCause, KeepsOutstanding};
-ghost use Rattle.gpu_descriptor.specs.Caller.Sets.{items_of, key_of};
-ghost use Rattle.gpu_descriptor.specs.Caller.States.{Agrees, keys_of, marked_load_of, outstanding_of, pool_load_of, state_of, table_of};
+ghost use Rattle.gpu_descriptor.specs.Caller.Sets.{key_of};
+ghost use Rattle.gpu_descriptor.specs.Caller.States.{Agrees, keys_of, marked_load_of, pool_load_of, table_of};
 ghost use Rattle.gpu_descriptor.specs.Model.Outcomes.{Allocates, error_of_alloc as alloc_answer};
-ghost use Rattle.gpu_descriptor.specs.Caller.Call.{answer_of, call_of, layout_key};
+ghost use Rattle.gpu_descriptor.specs.Caller.Call.{call_of, layout_key};
 ghost use Rattle.gpu_descriptor.specs.Inner.Takes.{Takes};
 ghost use Rattle.gpu_descriptor.specs.Inner.Buckets.{AreBookedIn};
 ghost use Rattle.gpu_descriptor.specs.Inner.Grow.{refusal_answer};
@@ -65,53 +63,11 @@ impl<P: Drop, S: Drop> DescriptorAllocator<P, S> {
         requires mark { is_marked flags ≡ D.layout_mark layout.now }
         requires agree { Agrees D.pool_name self.old (D.ledger device.old) }
 
-        // Everything at once: which of its outcomes the request had.
-        ensures outcome { Allocates (call_of D.pool_name
-            (layout_key D.layout_counts D.layout_mark layout.now) count
-            self.old self.new (D.ledger device.old) (D.ledger device.new)
-            (answer_of D.set_name result)) }
-
-        ensures nothing { count ≡ 0 → (self.new ≡ self.old) × (D.ledger device.new ≡ D.ledger device.old) }
-        ensures many { IfOk result (λ sets. length sets.items ≡ count) }
-        ensures given { IfOk result (λ sets. AreOutBesides (items_of D.set_name sets.items)
-            (state_of D.pool_name self.old (D.ledger device.old))
-            (state_of D.pool_name self.new (D.ledger device.new))) }
-        ensures own { IfOk result (λ sets. AreOfKey (layout_key D.layout_counts D.layout_mark layout.now)
-            (items_of D.set_name sets.items)) }
-        ensures totals { IfOk result (λ _. (outstanding_of self.new ≡ outstanding_of self.old + count)
-            × (marked_load_of self.new ≡ marked_load_of self.old
-            + marked_load (layout_key D.layout_counts D.layout_mark layout.now) count)) }
-        ensures totals_stay { OnErr result ((outstanding_of self.new ≡ outstanding_of self.old)
-            × (marked_load_of self.new ≡ marked_load_of self.old)) }
-        ensures back { OnErr result (KeepsOutstanding
-            (state_of D.pool_name self.old (D.ledger device.old))
-            (state_of D.pool_name self.new (D.ledger device.new))) }
-        ensures cause { IfErr result (λ e. HasCause e (call_of D.pool_name
-            (layout_key D.layout_counts D.layout_mark layout.now) count
-            self.old self.new (D.ledger device.old) (D.ledger device.new)
-            (answer_of D.set_name result))) }
-        ensures creates { CreatesOnlyWhereShort (call_of D.pool_name
-            (layout_key D.layout_counts D.layout_mark layout.now) count
-            self.old self.new (D.ledger device.old) (D.ledger device.new)
-            (answer_of D.set_name result)) }
-        ensures other_keys { KeepsOtherKeys (layout_key D.layout_counts D.layout_mark layout.now)
-            (state_of D.pool_name self.old (D.ledger device.old))
-            (state_of D.pool_name self.new (D.ledger device.new)) }
-        ensures foreign { KeepsForeign (state_of D.pool_name self.old (D.ledger device.old))
-            (state_of D.pool_name self.new (D.ledger device.new)) }
-        ensures accounted { LosesNone (state_of D.pool_name self.old (D.ledger device.old))
-            (state_of D.pool_name self.new (D.ledger device.new)) }
-        ensures others { others_of D.pool_name self.new (D.ledger device.new)
-            ≡ others_of D.pool_name self.old (D.ledger device.old) }
-        ensures keys { StayOrGainLast (layout_key D.layout_counts D.layout_mark layout.now)
-            (keys_of self.old) (keys_of self.new) }
-        ensures rows { HasDistinctKeys (table_of D.pool_name self.new) }
-        ensures load { marked_load_of self.new ≤ self.new.limit }
-        ensures pool_load { pool_load_of self.new ≤ self.new.limit }
-        ensures looks { self.new.looks + (D.ledger device.old).counters.asked ≡ self.old.looks + (D.ledger device.new).counters.asked }
-        ensures comparisons_stay { OnOk result (self.new.comparisons ≡ self.old.comparisons) }
-        ensures agree { Agrees D.pool_name self.new (D.ledger device.new) }
-        ensures limit { self.new.limit ≡ self.old.limit }
+        ensures hands_out { HandsOut D.pool_name D.set_name
+            (layout_key D.layout_counts D.layout_mark layout.now) count result
+            self.old self.new (D.ledger device.old) (D.ledger device.new) }
+        ensures keeps { Keeps D.pool_name self.old self.new
+            (D.ledger device.old) (D.ledger device.new) }
     {
         if count == 0 {
             // The proof reads from the length that no key stands in the table twice.

@@ -1,15 +1,11 @@
 //! Cleaning up: the empty pools at the front of each key are destroyed.
-ghost use Rattle.std.specs.Prelude.{◌≡◌, ◌+◌, ◌<◌, ◌≤◌, ◌^◌};
-ghost use Rattle.gpu_descriptor.specs.Model.Books.{HasDistinctKeys, Key};
+ghost use Rattle.std.specs.Prelude.{◌≡◌, ◌+◌, ◌<◌, ◌^◌};
+ghost use Rattle.gpu_descriptor.specs.Model.Books.{Key};
 ghost use Rattle.gpu_descriptor.specs.Inner.Buckets.{AreBookedIn, has_pools, cleared_bucket, cleared_ledger};
-ghost use Rattle.gpu_descriptor.specs.Model.Release.{more_destroyed};
-ghost use Rattle.gpu_descriptor.specs.Model.Cleanup.{IsCleaned, pools_cleaned};
-ghost use Rattle.gpu_descriptor.specs.Model.Foreign.{KeepsForeign, LosesNone};
-ghost use Rattle.gpu_descriptor.specs.Caller.Others.{others_of};
-ghost use Rattle.gpu_descriptor.specs.Caller.Keys.{keys_with_pools};
-ghost use Rattle.gpu_descriptor.specs.Model.Promises.{KeepsOutstanding};
+ghost use Rattle.gpu_descriptor.specs.Caller.CleansUp.{CleansUp};
+ghost use Rattle.gpu_descriptor.specs.Caller.Keeps.{Keeps};
 ghost use Rattle.gpu_descriptor.specs.Caller.Sets.{key_of};
-ghost use Rattle.gpu_descriptor.specs.Caller.States.{Agrees, keys_of, marked_load_of, outstanding_of, pool_load_of, state_of, table_of};
+ghost use Rattle.gpu_descriptor.specs.Caller.States.{Agrees};
 ghost use Rattle.gpu_descriptor.specs.Inner.Stored.{bucket_of, stored_load};
 
 use super::DescriptorAllocator;
@@ -24,41 +20,11 @@ impl<P: Drop, S> DescriptorAllocator<P, S> {
     /// The keys are gone through in the order in which they came. A key that was forgotten numbers
     /// its pools from 0 again.
     pub fn cleanup<L, D: DescriptorDevice<L, P, S>>(&mut self, device: &mut D)
-        requires { Agrees D.pool_name self.old (D.ledger device.old) }
-        ensures cleaned { IsCleaned (state_of D.pool_name self.old (D.ledger device.old))
-            (state_of D.pool_name self.new (D.ledger device.new)) }
-
-        // All other counters stay.
-        ensures destroyed { (D.ledger device.new).counters ≡ more_destroyed
-            (pools_cleaned (keys_of self.old) (state_of D.pool_name self.old (D.ledger device.old)))
-            (D.ledger device.old).counters }
-
-        ensures outstanding_stay { KeepsOutstanding
-            (state_of D.pool_name self.old (D.ledger device.old))
-            (state_of D.pool_name self.new (D.ledger device.new)) }
-        ensures totals_stay { (outstanding_of self.new ≡ outstanding_of self.old)
-            × (marked_load_of self.new ≡ marked_load_of self.old) }
-
-        // Those that still have pools.
-        ensures keys { keys_of self.new ≡ keys_with_pools
-            (state_of D.pool_name self.new (D.ledger device.new)) (keys_of self.old) }
-
-        // So `destroyed` counts each key once.
-        ensures rows_before { HasDistinctKeys (table_of D.pool_name self.old) }
-        ensures rows { HasDistinctKeys (table_of D.pool_name self.new) }
-        ensures load { marked_load_of self.new ≤ self.new.limit }
-        ensures pool_load { pool_load_of self.new ≤ self.new.limit }
-        ensures agree { Agrees D.pool_name self.new (D.ledger device.new) }
-        ensures foreign { KeepsForeign (state_of D.pool_name self.old (D.ledger device.old))
-            (state_of D.pool_name self.new (D.ledger device.new)) }
-        ensures accounted { LosesNone (state_of D.pool_name self.old (D.ledger device.old))
-            (state_of D.pool_name self.new (D.ledger device.new)) }
-        ensures others { others_of D.pool_name self.new (D.ledger device.new)
-            ≡ others_of D.pool_name self.old (D.ledger device.old) }
-        ensures emptied { outstanding_of self.old ≡ 0 → (D.ledger device.new).pools
-            ≡ others_of D.pool_name self.old (D.ledger device.old) }
-        ensures limit { self.new.limit ≡ self.old.limit }
-        ensures counts_stay { (self.new.looks ≡ self.old.looks) × (self.new.comparisons ≡ self.old.comparisons) }
+        requires agree { Agrees D.pool_name self.old (D.ledger device.old) }
+        ensures cleans_up { CleansUp D.pool_name self.old self.new
+            (D.ledger device.old) (D.ledger device.new) }
+        ensures keeps { Keeps D.pool_name self.old self.new
+            (D.ledger device.old) (D.ledger device.new) }
     {
         for place in 0..self.buckets.len() {
             let key = *self.buckets.as_slice().get_index(place).unwrap().0;

@@ -2,15 +2,12 @@
 ghost use Rattle.std.specs.Prelude.{◌≡◌, ◌+◌, ◌<◌, ◌≤◌, ◌^◌, ◌∷◌, OnSome};
 ghost use Rattle.std.specs.Iterator.{HoldsAlong, IsFinite, IsNearerEnd};
 ghost use Rattle.gpu_descriptor.specs.Model.Agreement.{AreOutstanding};
-ghost use Rattle.gpu_descriptor.specs.Model.Books.{HasDistinctKeys};
-ghost use Rattle.gpu_descriptor.specs.Caller.Comparisons.{open_pools, run_digits, binary_digits};
-ghost use Rattle.gpu_descriptor.specs.Model.Foreign.{KeepsForeign, LosesNone};
-ghost use Rattle.gpu_descriptor.specs.Caller.Others.{others_of};
-ghost use Rattle.gpu_descriptor.specs.Caller.Frees.{Frees, GivesBack};
+ghost use Rattle.gpu_descriptor.specs.Caller.Comparisons.{open_pools, binary_digits};
+ghost use Rattle.gpu_descriptor.specs.Caller.Keeps.{Keeps};
+ghost use Rattle.gpu_descriptor.specs.Caller.Frees.{Frees, Returns};
 ghost use Rattle.gpu_descriptor.specs.Inner.Releases.{FreesRun};
-ghost use Rattle.gpu_descriptor.specs.Model.Runs.{runs};
 ghost use Rattle.gpu_descriptor.specs.Caller.Sets.{items_of, key_of};
-ghost use Rattle.gpu_descriptor.specs.Caller.States.{Agrees, keys_of, marked_load_of, pool_load_of, state_of, table_of};
+ghost use Rattle.gpu_descriptor.specs.Caller.States.{Agrees, keys_of, state_of};
 ghost use Rattle.gpu_descriptor.specs.Inner.Stored.{load_of};
 
 use super::DescriptorAllocator;
@@ -34,25 +31,8 @@ impl<P, S> DescriptorAllocator<P, S> {
             (λ xs. AreOutstanding (items_of D.set_name xs) (state_of D.pool_name self.old (D.ledger device.old))) }
         ensures frees { (iter : I.IntoIter) × (left : I.IntoIter) × I.into_iter_gives sets iter
             × Frees I.IntoIter.next_gives D.pool_name D.set_name iter left self.old self.new (D.ledger device.old) (D.ledger device.new) }
-        ensures agree { Agrees D.pool_name self.new (D.ledger device.new) }
-        ensures keys { keys_of self.new ≡ keys_of self.old }
-        ensures rows { HasDistinctKeys (table_of D.pool_name self.new) }
-        ensures foreign { KeepsForeign (state_of D.pool_name self.old (D.ledger device.old))
-            (state_of D.pool_name self.new (D.ledger device.new)) }
-        ensures accounted { LosesNone (state_of D.pool_name self.old (D.ledger device.old))
-            (state_of D.pool_name self.new (D.ledger device.new)) }
-        ensures others { others_of D.pool_name self.new (D.ledger device.new)
-            ≡ others_of D.pool_name self.old (D.ledger device.old) }
-        ensures load { marked_load_of self.new ≤ self.new.limit }
-        ensures pool_load { pool_load_of self.new ≤ self.new.limit }
-        ensures limit { self.new.limit ≡ self.old.limit }
-        ensures looks_stay { self.new.looks ≡ self.old.looks }
-
-        // As `frees`, and of the same sets: for each run as many comparisons as the number of its
-        // key's pools with known free places has binary digits, once the runs before it went back.
-        ensures comparisons { (iter : I.IntoIter) × (left : I.IntoIter) × I.into_iter_gives sets iter
-            × (r : Frees I.IntoIter.next_gives D.pool_name D.set_name iter left self.old self.new (D.ledger device.old) (D.ledger device.new))
-            × (self.new.comparisons ≤ self.old.comparisons + run_digits (state_of D.pool_name self.old (D.ledger device.old)) (items_of D.set_name r.sets)) }
+        ensures keeps { Keeps D.pool_name self.old self.new
+            (D.ledger device.old) (D.ledger device.new) }
     {
         let mut sets = sets.into_iter();
         self.free_from(device, &mut sets);
@@ -71,21 +51,8 @@ impl<P, S> DescriptorAllocator<P, S> {
             (λ xs. AreOutstanding (items_of D.set_name xs) (state_of D.pool_name self.old (D.ledger device.old))) }
         ensures frees { Frees I.next_gives D.pool_name D.set_name sets.old sets.new
             self.old self.new (D.ledger device.old) (D.ledger device.new) }
-        ensures agree { Agrees D.pool_name self.new (D.ledger device.new) }
-        ensures keys { keys_of self.new ≡ keys_of self.old }
-        ensures rows { HasDistinctKeys (table_of D.pool_name self.new) }
-        ensures foreign { KeepsForeign (state_of D.pool_name self.old (D.ledger device.old))
-            (state_of D.pool_name self.new (D.ledger device.new)) }
-        ensures accounted { LosesNone (state_of D.pool_name self.old (D.ledger device.old))
-            (state_of D.pool_name self.new (D.ledger device.new)) }
-        ensures others { others_of D.pool_name self.new (D.ledger device.new)
-            ≡ others_of D.pool_name self.old (D.ledger device.old) }
-        ensures load { marked_load_of self.new ≤ self.new.limit }
-        ensures pool_load { pool_load_of self.new ≤ self.new.limit }
-        ensures limit { self.new.limit ≡ self.old.limit }
-        ensures looks_stay { self.new.looks ≡ self.old.looks }
-        ensures comparisons { (r : Frees I.next_gives D.pool_name D.set_name sets.old sets.new self.old self.new (D.ledger device.old) (D.ledger device.new))
-            × (self.new.comparisons ≤ self.old.comparisons + run_digits (state_of D.pool_name self.old (D.ledger device.old)) (items_of D.set_name r.sets)) }
+        ensures keeps { Keeps D.pool_name self.old self.new
+            (D.ledger device.old) (D.ledger device.new) }
     {
         let mut ahead = sets.next();
         while let Some(first) = ahead {
@@ -115,6 +82,7 @@ impl<P, S> DescriptorAllocator<P, S> {
         ensures keys { keys_of self.new ≡ keys_of self.old }
         ensures limit { self.new.limit ≡ self.old.limit }
         ensures looks_stay { self.new.looks ≡ self.old.looks }
+        ensures rises { self.old.comparisons ≤ self.new.comparisons }
         ensures few { self.new.comparisons ≤ self.old.comparisons
             + binary_digits (open_pools ((state_of D.pool_name self.old (D.ledger device.old)).books (key_of first.key))) }
     {
@@ -151,24 +119,10 @@ impl<P, S: Drop> DescriptorAllocator<P, S> {
         requires agree { Agrees D.pool_name self.old (D.ledger device.old) }
         requires outstanding { AreOutstanding (items_of D.set_name sets.items)
             (state_of D.pool_name self.old (D.ledger device.old)) }
-        ensures gives_back { GivesBack D.pool_name D.set_name sets.items
-            (runs (items_of D.set_name sets.items))
+        ensures returns { Returns D.pool_name D.set_name sets.items
             self.old self.new (D.ledger device.old) (D.ledger device.new) }
-        ensures agree { Agrees D.pool_name self.new (D.ledger device.new) }
-        ensures keys { keys_of self.new ≡ keys_of self.old }
-        ensures rows { HasDistinctKeys (table_of D.pool_name self.new) }
-        ensures foreign { KeepsForeign (state_of D.pool_name self.old (D.ledger device.old))
-            (state_of D.pool_name self.new (D.ledger device.new)) }
-        ensures accounted { LosesNone (state_of D.pool_name self.old (D.ledger device.old))
-            (state_of D.pool_name self.new (D.ledger device.new)) }
-        ensures others { others_of D.pool_name self.new (D.ledger device.new)
-            ≡ others_of D.pool_name self.old (D.ledger device.old) }
-        ensures load { marked_load_of self.new ≤ self.new.limit }
-        ensures pool_load { pool_load_of self.new ≤ self.new.limit }
-        ensures limit { self.new.limit ≡ self.old.limit }
-        ensures looks_stay { self.new.looks ≡ self.old.looks }
-        ensures comparisons { self.new.comparisons ≤ self.old.comparisons
-            + run_digits (state_of D.pool_name self.old (D.ledger device.old)) (items_of D.set_name sets.items) }
+        ensures keeps { Keeps D.pool_name self.old self.new
+            (D.ledger device.old) (D.ledger device.new) }
     {
         let mut back = sets.into_iter();
         self.free_from(device, &mut back);

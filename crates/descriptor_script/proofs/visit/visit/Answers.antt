@@ -13,9 +13,6 @@ use Rattle.descriptor_script.specs.declared.command.Reply.TheVariants.{Sets, Ref
 use Rattle.descriptor_script.specs.declared.session.Session.{Session}
 use Rattle.descriptor_script.proofs.visit.visit.Goals as goal
 
-pub step-clean-requires-clause-meant : goal.step-clean-requires-clause-meant
-step-clean-requires-clause-meant g c = rw c.run-replies.ensures.layouts c.requires.meant
-
 cleans : {L P S : Type 0} (pool_name : P → ℕ) (old new : Session L P S) (before after : Ledger) (reply : Reply) → CleansTo pool_name old new before after reply → Cleans pool_name old new before after
 cleans pool_name old new before after Clean h = h
 cleans pool_name old new before after (Sets first many) h = absurd h
@@ -45,5 +42,5 @@ returns-clause-pools g c none =
     let u : State = state_of name (allocator_of c.step-clean.new.self) (ledger c.step-clean.new.device) in
     let done = cleans name c.run-replies.new.self c.step-clean.new.self (ledger c.run-replies.new.device) (ledger c.step-clean.new.device) c.step-clean.result c.step-clean.ensures.step in
     let began : (k : Key) → s.books k ≡ no_pools = λ k. ap (λ (rows : List (Row g.row.P.Denot)). books_of (map (named_row name) rows) k) c.requires.began in
-    let nothing : (i : Item) → outstanding t i ≡ 0 = λ i. c.run-replies.ensures.held i ∙ ap (λ l. count_of i (items_of g.D.DescriptorDevice.set_name (held_sets l))) (sym done.sets) ∙ ap (λ l. count_of i (items_of g.D.DescriptorDevice.set_name l)) none in
-    c.no_pool_is_lost.ensures.restores s t u began c.run-replies.ensures.foreign c.run-replies.ensures.accounted c.run-replies.ensures.agree nothing done.cleaned
+    let nothing : (i : Item) → outstanding t i ≡ 0 = λ i. c.run-replies.ensures.keeps.ready.held i ∙ ap (λ l. count_of i (items_of g.D.DescriptorDevice.set_name (held_sets l))) (sym done.sets) ∙ ap (λ l. count_of i (items_of g.D.DescriptorDevice.set_name l)) none in
+    c.no_pool_is_lost.ensures.restores s t u began c.run-replies.ensures.keeps.allocator.foreign c.run-replies.ensures.keeps.allocator.accounted c.run-replies.ensures.keeps.ready.agree nothing done.cleaned

@@ -13,4 +13,4 @@ pub free_from-requires-clause-outstanding : goal.free_from-requires-clause-outst
 free_from-requires-clause-outstanding c xs t y =
     let before : State = state_of pool_id c.args.allocator.now (ledger_logged c.args.device.now) in
     let now : State = state_of pool_id c.allocate.new.self (ledger_logged c.allocate.new.device) in
-    out_front set_id xs (into_iter_items t) c.in-Ok.sets.items now (sym c.into_iter-items.ensures.rest ∙ taken_front c.into_iter-items.result xs t y) (came_out (items_of set_id c.in-Ok.sets.items) before now c.in-Ok.ensures.given)
+    out_front set_id xs (into_iter_items t) c.in-Ok.sets.items now (sym c.into_iter-items.ensures.rest ∙ taken_front c.into_iter-items.result xs t y) (came_out (items_of set_id c.in-Ok.sets.items) before now c.in-Ok.ensures.hands_out.given)

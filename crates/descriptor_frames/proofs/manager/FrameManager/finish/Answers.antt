@@ -23,19 +23,14 @@ invariant_of-self g c =
     let order = still_in_order c.free_from.ensures.frees c.args.self.now.greatest c.args.self.now.ordered in
     record { ordered = subst (λ q. AreInOrder q.items c.args.self.now.greatest) (sym c.end.ensures) order }
 
-pub returns-clause-given_back : goal.returns-clause-given_back
-returns-clause-given_back g c =
+pub returns-clause-returns : goal.returns-clause-returns
+returns-clause-returns g c =
     let f = c.free_from.ensures.frees in
-    rw (sym (took_due f c.args.self.now.greatest c.args.self.now.ordered).0) f.back
+    rw (sym (took_due f c.args.self.now.greatest c.args.self.now.ordered).0) f.returns
 
 pub returns-clause-rest : goal.returns-clause-rest
 returns-clause-rest g c =
     ap (λ q. q.items) c.end.ensures ∙ (took_due c.free_from.ensures.frees c.args.self.now.greatest c.args.self.now.ordered).1
-
-pub returns-clause-comparisons : goal.returns-clause-comparisons
-returns-clause-comparisons g c =
-    let few = c.free_from.ensures.comparisons in
-    rw (sym (took_due few.0 c.args.self.now.greatest c.args.self.now.ordered).0) few.1
 
 -- books and ledger at the call, and when the sets went back
 abbrev before : (g : _) → After-end g → State
@@ -50,24 +45,19 @@ list_parts g c =
     let f = c.free_from.ensures.frees in
     both_parts f ∙ ap (λ q. f.sets ++ sets_in q.items) (sym c.end.ensures)
 
-pub returns-clause-outstanding : goal.returns-clause-outstanding
-returns-clause-outstanding g c =
-    let f = c.free_from.ensures.frees in
-    rw (sym (took_due f c.args.self.now.greatest c.args.self.now.ordered).0) f.back.returned
-
 pub returns-clause-retired : goal.returns-clause-retired
 returns-clause-retired g c =
     let a = goal.at.returns-clause-retired g c in
-    later_out g.D.DescriptorDevice.set_name c.free_from.ensures.frees.sets _ _ (list_parts g a.After-end) (before g a.After-end) (after g a.After-end) c.free_from.ensures.frees.back.returned c.requires.retired
+    later_out g.D.DescriptorDevice.set_name c.free_from.ensures.frees.sets _ _ (list_parts g a.After-end) (before g a.After-end) (after g a.After-end) c.free_from.ensures.frees.returns.back.returned c.requires.retired
 
 pub returns-clause-in_use : goal.returns-clause-in_use
 returns-clause-in_use g c =
     let a = goal.at.returns-clause-in_use g c in
-    same_besides g.D.DescriptorDevice.set_name c.free_from.ensures.frees.sets _ _ (list_parts g a.After-end) (before g a.After-end) (after g a.After-end) c.free_from.ensures.frees.back.returned
+    same_besides g.D.DescriptorDevice.set_name c.free_from.ensures.frees.sets _ _ (list_parts g a.After-end) (before g a.After-end) (after g a.After-end) c.free_from.ensures.frees.returns.back.returned
 
 pub returns-clause-none : goal.returns-clause-none
 returns-clause-none g c e =
     let f = c.free_from.ensures.frees in
     let empty : f.sets ≡ [] = (took_due f c.args.self.now.greatest c.args.self.now.ordered).0 ∙ e in
-    let same = f.back.none empty in
+    let same = f.returns.back.none empty in
     record { state = ap (λ (x : Allocations _ × Ledger). state_of g.D.DescriptorDevice.pool_name x.0 x.1) (λ i. (same.0 i, same.1 i)); ledger = same.1; list = ap (λ q. q.items) c.end.ensures ∙ none_taken f empty; greatest = refl }

@@ -7,17 +7,17 @@ use Rattle.descriptor_lines.proofs.program.Program.ask.Goals as goal
 
 pub returns-in_err-replies-clause-ready : goal.returns-in_err-replies-clause-ready
 returns-in_err-replies-clause-ready c =
-    still_runs c.args.self.now c.run.new.self c.run.new.device c.requires.ready c.run.ensures.agree c.run.ensures.held c.run.ensures.layouts
+    still_runs c.args.self.now c.run.new.self c.run.new.device c.requires.ready c.run.ensures.keeps.ready c.run.ensures.keeps.layouts
 
 pub returns-in-NoMemory-clause-ready : goal.returns-in-NoMemory-clause-ready
 returns-in-NoMemory-clause-ready c =
-    still_runs c.args.self.now c.run.new.self c.run.new.device c.requires.ready c.run.ensures.agree c.run.ensures.held c.run.ensures.layouts
+    still_runs c.args.self.now c.run.new.self c.run.new.device c.requires.ready c.run.ensures.keeps.ready c.run.ensures.keeps.layouts
 
 pub returns-in-NoMemory-clause-err : goal.returns-in-NoMemory-clause-err
 returns-in-NoMemory-clause-err c =
     let step = step_of_one c.args.command c.in_ok-replies.replies.items c.index.result.now c.args.self.now.session c.run.new.self (ledger_of c.args.self.now.device) (ledger_of c.run.new.device) c.in_ok-replies.ensures.runs c.index.ensures in
     let same = no_memory_changes_nothing c.args.command c.args.self.now.session c.run.new.self (ledger_of c.args.self.now.device) (ledger_of c.run.new.device) (rw c.in-NoMemory.is at step) in
-    record { layouts = refl; session = record { known = c.run.ensures.layouts; allocator = same.allocator; sets = same.sets }; ledger = same.ledger }
+    record { layouts = refl; session = record { known = c.run.ensures.keeps.layouts; allocator = same.allocator; sets = same.sets }; ledger = same.ledger }
 
 pub reply_answer-requires : goal.reply_answer-requires
 reply_answer-requires c =
@@ -28,11 +28,11 @@ reply_answer-requires c =
 
 pub returns : goal.returns
 returns c = record {
-  ready = still_runs c.args.self.now c.run.new.self c.run.new.device c.requires.ready c.run.ensures.agree c.run.ensures.held c.run.ensures.layouts;
+  ready = still_runs c.args.self.now c.run.new.self c.run.new.device c.requires.ready c.run.ensures.keeps.ready c.run.ensures.keeps.layouts;
   does = record {
     reply = c.index.result.now;
     step = step_of_one c.args.command c.in_ok-replies.replies.items c.index.result.now c.args.self.now.session c.run.new.self (ledger_of c.args.self.now.device) (ledger_of c.run.new.device) c.in_ok-replies.ensures.runs c.index.ensures;
-    known = c.run.ensures.layouts;
+    known = c.run.ensures.keeps.layouts;
     layouts = refl;
   };
   err = tt;

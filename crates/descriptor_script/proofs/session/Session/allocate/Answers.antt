@@ -17,12 +17,12 @@ at g c =
     ap (λ l. slice_get l c.args.layout) (sym c.deref.ensures.value) ∙ slice_get_read c.deref.result.now (length c.deref.result.now) c.args.layout c.in-Some.known.now refl found.3.0 found.1
 
 pub allocate-requires-clause-mark : goal.allocate-requires-clause-mark
-allocate-requires-clause-mark g c = (c.requires.meant c.args.layout c.in-Some.known.now (at g (goal.at.allocate-requires-clause-mark g c).In-Some)).1
+allocate-requires-clause-mark g c = (c.requires.ready.meant c.args.layout c.in-Some.known.now (at g (goal.at.allocate-requires-clause-mark g c).In-Some)).1
 
 pub append-requires : goal.append-requires
 append-requires g c =
     let room = is_ok_then c.reserve.result (HasRoom c.args.count c.reserve.new.self) (sym c.is_err.ensures.value ∙ c.if-is_err.false) c.reserve.ensures.room in
-    let many = c.in-Ok.ensures.many in
+    let many = c.in-Ok.ensures.hands_out.many in
     let sets = room.sets in
     let listed = room.listed in
     record { sets = omega arith; listed = omega arith }
@@ -32,23 +32,31 @@ returns-in-Ok-clause-step g c = record {
   known = c.in-Some.known.now;
   at = at g (goal.at.returns-in-Ok-clause-step g c).In-Some;
   given = c.in-Ok.sets.items;
-  outcome = c.in-Ok.ensures.outcome;
+  outcome = c.in-Ok.ensures.hands_out.outcome;
   asked = search rules;
-  all_given = c.in-Ok.ensures.many;
+  all_given = c.in-Ok.ensures.hands_out.many;
   first = c.next-first.ensures ∙ ap length c.reserve.ensures.sets;
   sets = c.append.ensures ∙ ap (λ l. l ++ map Some c.in-Ok.sets.items) c.reserve.ensures.sets;
 }
 
-pub returns-in-Ok-clause-held : goal.returns-in-Ok-clause-held
-returns-in-Ok-clause-held g c =
-    rw (c.append.ensures, c.reserve.ensures.sets) (all_held_more g.D.DescriptorDevice.set_name c.args.self.now.slots.sets.items c.in-Ok.sets.items (state_of g.D.DescriptorDevice.pool_name c.args.self.now.allocator (g.D.DescriptorDevice.ledger c.args.device.now)) (state_of g.D.DescriptorDevice.pool_name c.allocate.new.self (g.D.DescriptorDevice.ledger c.allocate.new.device)) c.requires.held c.in-Ok.ensures.given)
+pub returns-in-Ok-clause-keeps : goal.returns-in-Ok-clause-keeps
+returns-in-Ok-clause-keeps g c = record {
+  ready = record {
+    agree = c.in-Ok.ensures.keeps.agree;
+    held = rw (c.append.ensures, c.reserve.ensures.sets) (all_held_more g.D.DescriptorDevice.set_name c.args.self.now.slots.sets.items c.in-Ok.sets.items (state_of g.D.DescriptorDevice.pool_name c.args.self.now.allocator (g.D.DescriptorDevice.ledger c.args.device.now)) (state_of g.D.DescriptorDevice.pool_name c.allocate.new.self (g.D.DescriptorDevice.ledger c.allocate.new.device)) c.requires.ready.held c.in-Ok.ensures.hands_out.given);
+    meant = c.requires.ready.meant;
+  };
+  allocator = c.in-Ok.ensures.keeps;
+  layouts = search rules;
+  count = search rules;
+}
 
 pub returns-in-Err-clause-step : goal.returns-in-Err-clause-step
 returns-in-Err-clause-step g c = record {
   known = c.in-Some.known.now;
   at = at g (goal.at.returns-in-Err-clause-step g c).In-Some;
-  outcome = c.in-Err.ensures.outcome;
-  cause = c.in-Err.ensures.cause;
+  outcome = c.in-Err.ensures.hands_out.outcome;
+  cause = c.in-Err.ensures.hands_out.cause;
   sets = c.reserve.ensures.sets;
 }
 
@@ -56,8 +64,8 @@ pub invariant_of-self-in-Ok : goal.invariant_of-self-in-Ok
 invariant_of-self-in-Ok g c =
     let slots = c.args.self.now.slots in
     let more = c.append.new.self.counted ∙ ap (λ l. length (held_sets l)) (c.append.ensures ∙ ap (λ l. l ++ map Some c.in-Ok.sets.items) c.reserve.ensures.sets) ∙ held_sum slots.sets.items c.in-Ok.sets.items in
-    let many = c.in-Ok.ensures.many in
-    let total = c.in-Ok.ensures.totals.0 in
+    let many = c.in-Ok.ensures.hands_out.many in
+    let total = c.in-Ok.ensures.hands_out.totals.0 in
     let was = slots.counted in
     let counted = c.args.self.now.counted in
-    record { counted = omega arith; within = c.in-Ok.ensures.load; in_room = c.in-Ok.ensures.pool_load }
+    record { counted = omega arith; within = c.in-Ok.ensures.keeps.load; in_room = c.in-Ok.ensures.keeps.pool_load }

@@ -1,5 +1,21 @@
-use Rattle.std.proofs.Common.{◌∙◌}
+use Rattle.std.proofs.Common.{◌∙◌, rules}
 use Rattle.descriptor_script.proofs.session.Session.cleanup.Goals as goal
 
-pub returns-clause-held : goal.returns-clause-held
-returns-clause-held g c = λ t. c.cleanup.ensures.outstanding_stay t ∙ c.requires.held t
+pub returns-clause-step : goal.returns-clause-step
+returns-clause-step g c = record {
+  cleaned = c.cleanup.ensures.cleans_up.cleaned;
+  counters = c.cleanup.ensures.cleans_up.destroyed;
+  sets = search rules;
+}
+
+pub returns-clause-keeps : goal.returns-clause-keeps
+returns-clause-keeps g c = record {
+  ready = record {
+    agree = c.cleanup.ensures.keeps.agree;
+    held = λ t. c.cleanup.ensures.cleans_up.outstanding_stay t ∙ c.requires.ready.held t;
+    meant = c.requires.ready.meant;
+  };
+  allocator = c.cleanup.ensures.keeps;
+  layouts = search rules;
+  count = search rules;
+}

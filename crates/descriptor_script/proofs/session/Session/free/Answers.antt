@@ -17,7 +17,7 @@ good : (g : _) (c : After-iter g) → AreHeldOnce (slots_of c.args.self.now.slot
 good g c = c.are_held_once.ensures.answer.0 c.if-not-are_held_once.false
 
 held : (g : _) (c : After-iter g) → AreAllHeld g.D.DescriptorDevice.set_name (slots_of c.replace-slots.result) (state_of g.D.DescriptorDevice.pool_name c.args.self.now.allocator (g.D.DescriptorDevice.ledger c.args.device.now))
-held g c = held_as g.D.DescriptorDevice.set_name _ _ (state_of g.D.DescriptorDevice.pool_name c.args.self.now.allocator (g.D.DescriptorDevice.ledger c.args.device.now)) (slots_are g c) c.requires.held
+held g c = held_as g.D.DescriptorDevice.set_name _ _ (state_of g.D.DescriptorDevice.pool_name c.args.self.now.allocator (g.D.DescriptorDevice.ledger c.args.device.now)) (slots_are g c) c.requires.ready.held
 
 pub free_from-requires-clause-can : goal.free_from-requires-clause-can
 free_from-requires-clause-can g c =
@@ -40,19 +40,28 @@ returns-clause-step g c =
       all = search rules;
       given = frees.sets;
       each = each_taken frees.sets s drained.0 drained.1 drained.2.0 ∙ ap (λ l. map (set_at l) (to_come s)) (slots_are g d) ∙ ap (map (set_at (slots_of c.args.self.now.slots))) c.iter.ensures.rest;
-      back = frees.back;
+      back = frees.returns.back;
       sets = drained.2.2 ∙ all_emptied frees.sets s drained.0 drained.1 drained.2.0 ∙ ap (λ l. emptied l (to_come s)) (slots_are g d) ∙ ap (emptied (slots_of c.args.self.now.slots)) c.iter.ensures.rest;
     }
 
-pub returns-clause-held : goal.returns-clause-held
-returns-clause-held g c =
-    let d = (goal.at.returns-clause-held g c).After-iter in
+pub returns-clause-keeps : goal.returns-clause-keeps
+returns-clause-keeps g c =
+    let d = (goal.at.returns-clause-keeps g c).After-iter in
     let s : Taking g.row.S.Denot = record { slots = c.replace-slots.result; tickets = c.iter.result } in
     let frees = c.free_from.ensures.frees in
     let drained = frees.drained in
     let old : State = state_of g.D.DescriptorDevice.pool_name c.args.self.now.allocator (g.D.DescriptorDevice.ledger c.args.device.now) in
     let new : State = state_of g.D.DescriptorDevice.pool_name c.free_from.new.self (g.D.DescriptorDevice.ledger c.free_from.new.device) in
-    held_as g.D.DescriptorDevice.set_name _ _ new drained.2.2 (all_held_less g.D.DescriptorDevice.set_name frees.sets s drained.0 old new (held g d) drained.1 frees.back.returned)
+    record {
+      ready = record {
+        agree = c.free_from.ensures.keeps.agree;
+        held = held_as g.D.DescriptorDevice.set_name _ _ new drained.2.2 (all_held_less g.D.DescriptorDevice.set_name frees.sets s drained.0 old new (held g d) drained.1 frees.returns.back.returned);
+        meant = c.requires.ready.meant;
+      };
+      allocator = c.free_from.ensures.keeps;
+      layouts = search rules;
+      count = search rules;
+    }
 
 pub invariant_of-self-2 : goal.invariant_of-self-2
 invariant_of-self-2 g c =
@@ -64,9 +73,9 @@ invariant_of-self-2 g c =
     let fewer = fewer_held frees.sets s drained.0 drained.1 in
     let before = ap (λ l. length (held_sets l)) (slots_are g d) in
     let was = c.args.self.now.slots.counted in
-    let out = frees.back.outstanding in
-    let marked = frees.back.marked in
-    let limit = c.free_from.ensures.limit in
+    let out = frees.returns.back.outstanding in
+    let marked = frees.returns.back.marked in
+    let limit = c.free_from.ensures.keeps.limit in
     let counted = c.args.self.now.counted in
     let within = c.args.self.now.within in
-    record { counted = omega arith; within = omega arith; in_room = c.free_from.ensures.pool_load }
+    record { counted = omega arith; within = omega arith; in_room = c.free_from.ensures.keeps.pool_load }

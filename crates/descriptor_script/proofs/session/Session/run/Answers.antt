@@ -1,12 +1,8 @@
 use Rattle.std.proofs.Common.{◌≡◌, ◌+◌, [], ◌∷◌, ◌++◌, take, sym, ap, ◌∙◌, arith}
 use Rattle.std.proofs.lemmas.List.{take_more}
-use Rattle.gpu_descriptor.proofs.Foreign.{foreign_through, loses_through}
 use Rattle.descriptor_script.specs.declared.command.Command.{Command}
-use Rattle.descriptor_script.proofs.Running.{runs_more}
+use Rattle.descriptor_script.proofs.Running.{runs_more, session_through}
 use Rattle.descriptor_script.proofs.session.Session.run.Goals as goal
-
-pub step-reply-requires-clause-meant : goal.step-reply-requires-clause-meant
-step-reply-requires-clause-meant g c = rw c.loop-command.invariant.layouts c.requires.meant
 
 pub loop-command-preserved : goal.loop-command-preserved
 loop-command-preserved g c =
@@ -16,16 +12,10 @@ loop-command-preserved g c =
     take_more c.args.commands.now c.loop-command.command-index command c.loop-command-test.true ∙ ap (λ x. take c.loop-command.command-index c.args.commands.now ++ x ∷ []) (sym c.command-item.is) in
     let p = c.step-reply.ensures in
     let more = runs_more g.D.DescriptorDevice.pool_name g.D.DescriptorDevice.set_name g.D.DescriptorDevice.layout_counts g.D.DescriptorDevice.layout_mark (take c.loop-command.command-index c.args.commands.now) c.loop-command.replies.items command c.step-reply.result c.args.self.now c.loop-command.self c.step-reply.new.self (g.D.DescriptorDevice.ledger c.args.device.now) (g.D.DescriptorDevice.ledger c.loop-command.device) (g.D.DescriptorDevice.ledger c.step-reply.new.device) inv.runs
-    (record { step = p.step; agree = p.agree; held = p.held; count = p.count; load = p.load; pool_load = p.pool_load; limit = p.limit; layouts = p.layouts; rows = p.rows; foreign = p.foreign; accounted = p.accounted }) in
+    (record { step = p.step; keeps = p.keeps }) in
     record {
       runs = rw (commands, c.push_reserved.ensures.items) more;
-      agree = p.agree;
-      held = p.held;
-      foreign = foreign_through _ _ _ inv.foreign p.foreign;
-      accounted = loses_through _ _ _ inv.accounted p.accounted;
-      layouts = p.layouts ∙ inv.layouts;
-      limit = p.limit ∙ inv.limit;
-      rows = p.rows;
+      keeps = session_through _ _ _ _ inv.keeps p.keeps;
       filled = (let f = inv.filled in let l = c.push_reserved.ensures.len in omega arith);
       room = (let r = inv.room in let cap = c.push_reserved.ensures.capacity in omega arith);
     }

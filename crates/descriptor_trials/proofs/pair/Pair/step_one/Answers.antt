@@ -7,6 +7,6 @@ invariant_of-self c =
     let old = c.args.self.now in
     record {
       paired =
-          stepped old.one c.step.new.self old.other (ledger_logged old.device) (ledger_logged c.step.new.device) c.step.ensures.foreign old.paired
-          (record { agree = c.step.ensures.agree; held = c.step.ensures.held; meant = rw c.step.ensures.layouts old.paired.one.meant });
+          stepped old.one c.step.new.self old.other (ledger_logged old.device) (ledger_logged c.step.new.device) c.step.ensures.keeps.allocator.foreign old.paired
+          c.step.ensures.keeps.ready;
     }

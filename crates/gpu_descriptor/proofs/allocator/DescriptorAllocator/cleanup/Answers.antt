@@ -26,7 +26,7 @@ drop_empty-requires-clause-stored g c =
     let es = c.self.inside.buckets.entries in
     let n = next name c.loop-place.place c.loop-place.self-inside.buckets.entries (rows_in name es) c.index_mut-bucket.result.now h.rows c.index_mut-bucket.ensures.value in
     let distinct = distinct_keys name _ (λ k l. search rules) es c.len-place-end.ensures.unique in
-    let agree = agree_is name c.args.self.now (ledger c.args.device.now) es (ap (λ (a : Allocations _). a.table) (sym c.self.view_is)) c.requires in
+    let agree = agree_is name c.args.self.now (ledger c.args.device.now) es (ap (λ (a : Allocations _). a.table) (sym c.self.view_is)) c.requires.agree in
     let there = next_stored (rows_in name es) (ledger c.args.device.now).pools c.loop-place.place n.row distinct agree n.at in
     (n.row.0, subst (λ (b : Bucket). AreBookedIn n.row.0 (ledger c.loop-place.device).pools b.pools) (sym n.is) (subst (λ (l : Ledger). AreBookedIn n.row.0 l.pools n.row.1.pools) (sym h.ledger) there))
 
@@ -79,24 +79,31 @@ returns g c =
     let counted = counted_filter _ _ _ _ _ _ kept h.counted in
     let now : Allocations _ = record { limit = c.loop-place.self-inside.max_update_after_bind_descriptors_in_all_pools; table = map row_of c.retain.new.self.entries; looks = c.loop-place.self-inside.looks.count; comparisons = c.loop-place.self-inside.comparisons.count } in
     let clean = whole_clean name c.args.self.now (ledger c.args.device.now) (ledger c.loop-place.device) es c.loop-place.self-inside.buckets.entries _ c.loop-place.place c.loop-place.self-inside.max_update_after_bind_descriptors_in_all_pools was distinct le h.rows h.ledger kept in
+    let rows_before = subst HasDistinctKeys (sym (ap (map (named_row name)) was ∙ rows_are name es)) distinct in
+    let foreign = cleaned_foreign _ _ clean in
+    let accounted = cleaned_loses _ _ clean in
     record {
-      cleaned = clean;
-      destroyed = whole_count name c.args.self.now (ledger c.args.device.now) (ledger c.loop-place.device) es c.loop-place.place was distinct le h.ledger;
-      outstanding_stay = takes_none _ _ c.requires clean;
-      totals_stay = (
-        rows_out c.retain.new.self.entries ∙ sym counted.is_out ∙ h.out ∙ c.self.invariant.is_out ∙ sym (rows_out es) ∙ ap outstanding_of c.self.view_is,
-        rows_load c.retain.new.self.entries ∙ sym counted.is_load ∙ h.marked ∙ c.self.invariant.is_load ∙ sym (rows_load es) ∙ ap marked_load_of c.self.view_is,
-      );
-      keys = keys_cleaned name c.args.self.now now (ledger c.args.device.now) (ledger c.loop-place.device) es c.loop-place.self-inside.buckets.entries c.retain.new.self.entries c.loop-place.place was refl distinct le h.rows kept clean;
-      rows_before = subst HasDistinctKeys (sym (ap (map (named_row name)) was ∙ rows_are name es)) distinct;
-      rows = keys_apart now c.retain.new.self.entries refl name _ (λ k l. search rules) c.len-keys.ensures.unique;
-      load = (let load = rows_load c.retain.new.self.entries in let is = counted.is_load in let within = counted.within in omega arith);
-      pool_load = (let rows = rows_pool_load c.retain.new.self.entries in let is = counted.is_room in omega arith);
-      agree = clean_agrees _ _ c.requires clean;
-      foreign = cleaned_foreign _ _ clean;
-      accounted = cleaned_loses _ _ clean;
-      others = others_stay name c.args.self.now now (ledger c.args.device.now) (ledger c.loop-place.device) (cleaned_foreign _ _ clean) (cleaned_loses _ _ clean);
-      emptied = emptied name c.args.self.now now (ledger c.args.device.now) (ledger c.loop-place.device) (subst HasDistinctKeys (sym (ap (map (named_row name)) was ∙ rows_are name es)) distinct) c.requires clean;
-      limit = h.limit ∙ ap (λ (a : Allocations _). a.limit) c.self.view_is;
-      counts_stay = (h.looks ∙ ap (λ (a : Allocations _). a.looks) c.self.view_is, h.comparisons ∙ ap (λ (a : Allocations _). a.comparisons) c.self.view_is);
+      cleans_up = record {
+        cleaned = clean;
+        destroyed = whole_count name c.args.self.now (ledger c.args.device.now) (ledger c.loop-place.device) es c.loop-place.place was distinct le h.ledger;
+        rows_before = rows_before;
+        keys = keys_cleaned name c.args.self.now now (ledger c.args.device.now) (ledger c.loop-place.device) es c.loop-place.self-inside.buckets.entries c.retain.new.self.entries c.loop-place.place was refl distinct le h.rows kept clean;
+        outstanding_stay = takes_none _ _ c.requires.agree clean;
+        totals_stay = (
+          rows_out c.retain.new.self.entries ∙ sym counted.is_out ∙ h.out ∙ c.self.invariant.is_out ∙ sym (rows_out es) ∙ ap outstanding_of c.self.view_is,
+          rows_load c.retain.new.self.entries ∙ sym counted.is_load ∙ h.marked ∙ c.self.invariant.is_load ∙ sym (rows_load es) ∙ ap marked_load_of c.self.view_is,
+        );
+        emptied = emptied name c.args.self.now now (ledger c.args.device.now) (ledger c.loop-place.device) rows_before c.requires.agree clean;
+        counts_stay = (h.looks ∙ ap (λ (a : Allocations _). a.looks) c.self.view_is, h.comparisons ∙ ap (λ (a : Allocations _). a.comparisons) c.self.view_is);
+      };
+      keeps = record {
+        agree = clean_agrees _ _ c.requires.agree clean;
+        limit = h.limit ∙ ap (λ (a : Allocations _). a.limit) c.self.view_is;
+        load = (let load = rows_load c.retain.new.self.entries in let is = counted.is_load in let within = counted.within in omega arith);
+        pool_load = (let rows = rows_pool_load c.retain.new.self.entries in let is = counted.is_room in omega arith);
+        rows = keys_apart now c.retain.new.self.entries refl name _ (λ k l. search rules) c.len-keys.ensures.unique;
+        foreign = foreign;
+        accounted = accounted;
+        others = others_stay name c.args.self.now now (ledger c.args.device.now) (ledger c.loop-place.device) foreign accounted;
+      };
     }

@@ -1,0 +1,38 @@
+-- What a request for sets leaves of an allocator and of the ledger.
+use Rattle.std.specs.Prelude.{◌≡◌, ℕ, ◌+◌, ◌≤◌, length, IfOk, IfErr, OnOk, OnErr, Result}
+use Rattle.std.specs.Global.{Vec}
+use Rattle.gpu_descriptor_types.specs.Ledger.{Ledger}
+use Rattle.gpu_descriptor.specs.declared.errors.AllocationError.{AllocationError}
+use Rattle.gpu_descriptor.specs.declared.set.DescriptorSet.{DescriptorSet}
+use Rattle.gpu_descriptor.specs.Model.Books.{Key}
+use Rattle.gpu_descriptor.specs.Model.Load.{marked_load}
+use Rattle.gpu_descriptor.specs.Model.Outcomes.{Allocates}
+use Rattle.gpu_descriptor.specs.Model.Promises.{AreOfKey, AreOutBesides, CreatesOnlyWhereShort, HasCause, KeepsOtherKeys, KeepsOutstanding}
+use Rattle.gpu_descriptor.specs.Caller.Call.{answer_of, call_of}
+use Rattle.gpu_descriptor.specs.Caller.Keys.{StayOrGainLast}
+use Rattle.gpu_descriptor.specs.Caller.Sets.{items_of}
+use Rattle.gpu_descriptor.specs.Caller.States.{keys_of, marked_load_of, outstanding_of, state_of}
+use Rattle.gpu_descriptor.specs.Caller.Values.{Allocations}
+
+-- a request of so many sets of a key was answered
+pub record HandsOut {P S : Type 0} (pool_name : P → ℕ) (set_name : S → ℕ) (k : Key) (count : ℕ) (answer : Result (Vec (DescriptorSet S)) AllocationError) (old new : Allocations P) (before after : Ledger) : Type 0 where
+  -- everything at once: which of its outcomes the request had
+  pub outcome : Allocates (call_of pool_name k count old new before after (answer_of set_name answer))
+  -- no sets change nothing
+  pub nothing : count ≡ 0 → (new ≡ old) × (after ≡ before)
+  pub many : IfOk answer (λ sets. length sets.items ≡ count)
+  -- exactly the sets of the answer are outstanding besides those before
+  pub given : IfOk answer (λ sets. AreOutBesides (items_of set_name sets.items) (state_of pool_name old before) (state_of pool_name new after))
+  pub own : IfOk answer (λ sets. AreOfKey k (items_of set_name sets.items))
+  pub totals : IfOk answer (λ sets. (outstanding_of new ≡ outstanding_of old + count) × (marked_load_of new ≡ marked_load_of old + marked_load k count))
+  -- a refusal gives back what it took
+  pub totals_stay : OnErr answer ((outstanding_of new ≡ outstanding_of old) × (marked_load_of new ≡ marked_load_of old))
+  pub back : OnErr answer (KeepsOutstanding (state_of pool_name old before) (state_of pool_name new after))
+  pub cause : IfErr answer (λ e. HasCause e (call_of pool_name k count old new before after (answer_of set_name answer)))
+  pub creates : CreatesOnlyWhereShort (call_of pool_name k count old new before after (answer_of set_name answer))
+  pub other_keys : KeepsOtherKeys k (state_of pool_name old before) (state_of pool_name new after)
+  pub keys : StayOrGainLast k (keys_of old) (keys_of new)
+  -- a look for each call that asks a pool
+  pub looks : new.looks + before.counters.asked ≡ old.looks + after.counters.asked
+  pub comparisons_stay : OnOk answer (new.comparisons ≡ old.comparisons)
+  pub compared : old.comparisons ≤ new.comparisons
