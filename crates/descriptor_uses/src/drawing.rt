@@ -1,11 +1,10 @@
-//! The caller of two layouts, on a device of its own.
+//! The callers of one layout and of two, on a device of its own.
 ghost use Rattle.std.specs.Prelude.{◌≡◌};
 ghost use Rattle.descriptor_script.specs.Device.{empty_ledger};
 ghost use Rattle.descriptor_uses.specs.FewPools.{few_ledger};
 
-use crate::SetLayout;
 use crate::few_pools::FewPools;
-use crate::two_layouts::draw_once;
+use crate::{SetLayout, one_layout, two_layouts};
 use bitflags::Flags;
 use descriptor_script::ScriptLayout;
 use gpu_descriptor::{AllocationError, DescriptorSetLayoutCreateFlags, DescriptorTotalCount};
@@ -18,8 +17,26 @@ pub struct Drawn {
     pub answer: Result<(), AllocationError>,
 }
 
-/// Makes a device and an allocator, takes sets of two layouts, and gives all back. The device has
+/// Makes a device and an allocator, takes sets of one layout, and gives all back. The device has
 /// the pools that a new one has.
+pub fn render_one(alloc: Global) -> Drawn
+    ensures pools { (few_ledger result.device).pools ≡ empty_ledger.pools }
+{
+    let counts = DescriptorTotalCount {
+        sampler: 1,
+        ..DescriptorTotalCount::default()
+    };
+    let layout = ScriptLayout {
+        counts,
+        mark: false,
+    };
+    let flags = DescriptorSetLayoutCreateFlags::empty();
+    let mut device = FewPools::new(alloc, 1);
+    let answer = one_layout::draw_once(alloc, &mut device, &layout, flags, &counts);
+    Drawn { device, answer }
+}
+
+/// The same with sets of two layouts.
 pub fn render(alloc: Global) -> Drawn
     ensures pools { (few_ledger result.device).pools ≡ empty_ledger.pools }
 {
@@ -48,6 +65,6 @@ pub fn render(alloc: Global) -> Drawn
         flags: DescriptorSetLayoutCreateFlags::UPDATE_AFTER_BIND,
     };
     let mut device = FewPools::new(alloc, 5);
-    let answer = draw_once(alloc, &mut device, &first, &second);
+    let answer = two_layouts::draw_once(alloc, &mut device, &first, &second);
     Drawn { device, answer }
 }

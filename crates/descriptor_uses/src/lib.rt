@@ -8,6 +8,7 @@ pub mod frame_renderer;
 mod layout;
 mod log;
 mod log_device;
+pub mod one_layout;
 pub mod own_device;
 pub mod proper_use;
 pub mod renderer;

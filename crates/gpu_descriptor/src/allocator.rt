@@ -15,6 +15,9 @@ use std::marker::{Model, PhantomData};
 
 /// Allocates descriptor sets for any layout.
 ///
+/// All calls of one allocator that take a device are made with the same one, and nobody else uses
+/// the pools that it created there.
+///
 /// Dropping it is silent and destroys no pool of the device: free all sets and call `cleanup`
 /// first. `outstanding` tells how many sets are still out.
 #[derive(Debug, Drop)]

@@ -10,10 +10,12 @@ use std::fmt;
 /// Why sets were not allocated.
 #[derive(Clone, Copy, Debug, PartialEq, Eq)]
 pub enum AllocationError {
-    /// The device has no memory of its own left.
+    /// The device has no memory of its own left. A later request may succeed once something else on
+    /// the device is given up.
     OutOfDeviceMemory,
 
-    /// The host has no memory left: the device said so, or the allocator found none.
+    /// The host has no memory left: the device said so, or the allocator found none. A later
+    /// request may succeed once some of it is given up.
     OutOfHostMemory,
 
     /// The sets, or a new pool for them, would pass the limit on update-after-bind descriptors, or a

@@ -1,6 +1,25 @@
 //! A descriptor set allocator for Vulkan-like APIs.
 //!
-//! Sets go out by layout from pools of a device, and each goes back to its own pool.
+//! Sets go out by layout from pools of a device, and each goes back to its own pool. In short:
+//!
+//! ```ignore
+//! // The driver says how many update-after-bind descriptors all pools may have.
+//! let mut allocator = DescriptorAllocator::new(alloc, limit);
+//!
+//! let sets = allocator.allocate(
+//!     &mut device, // implements `DescriptorDevice`, and is the same at each call
+//!     &layout,     // one of this device's layouts
+//!     flags,       // as the layout was created
+//!     &counts,     // of the descriptors that a set of it has
+//!     3,           // how many sets are to come
+//! )?;
+//!
+//! // .. the device draws with `sets[0].raw()`, and is done ..
+//! allocator.free_all(&mut device, sets);
+//! allocator.cleanup(&mut device);
+//! ```
+//!
+//! README.md has the same as a crate by itself, with its contract. CALLING.md has more callers.
 #![tactic(auto)]
 
 mod allocation;

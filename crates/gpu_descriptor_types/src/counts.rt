@@ -7,29 +7,56 @@ ghost use Rattle.gpu_descriptor_types.specs.Counts.{kinds};
 
 use std::hash::{Hash, Hasher};
 
-/// How many descriptors there are of each of the fourteen kinds.
-///
-/// The last but one counts bytes of inline uniform blocks, and the last the blocks themselves.
+/// How many descriptors there are of each of the fourteen kinds: of one set of a layout, or of all
+/// sets of a pool together.
 #[derive(Clone, Copy, Debug, PartialEq, Eq, Default)]
 pub struct DescriptorTotalCount {
+    /// Samplers alone.
     pub sampler: u32,
+
+    /// Images, each with its sampler.
     pub combined_image_sampler: u32,
+
+    /// Images that shaders read by a sampler of another descriptor.
     pub sampled_image: u32,
+
+    /// Images that shaders read and write.
     pub storage_image: u32,
+
+    /// Buffers that shaders read as texels.
     pub uniform_texel_buffer: u32,
+
+    /// Buffers that shaders read and write as texels.
     pub storage_texel_buffer: u32,
+
+    /// Buffers that shaders read.
     pub uniform_buffer: u32,
+
+    /// Buffers that shaders read and write.
     pub storage_buffer: u32,
+
+    /// Uniform buffers of which the offset is given when the set is bound.
     pub uniform_buffer_dynamic: u32,
+
+    /// Storage buffers of which the offset is given when the set is bound.
     pub storage_buffer_dynamic: u32,
+
+    /// Attachments of a render pass that its shaders read.
     pub input_attachment: u32,
+
+    /// Acceleration structures, for ray tracing.
     pub acceleration_structure: u32,
+
+    /// Bytes of inline uniform blocks, whose data lie in the set itself.
     pub inline_uniform_block_bytes: u32,
+
+    /// Inline uniform blocks.
     pub inline_uniform_block_bindings: u32,
 }
 
 impl DescriptorTotalCount {
-    /// How many descriptors there are of all kinds together, at most 60129542130.
+    /// How many descriptors there are of all kinds together, at most 60129542130. Bytes of inline
+    /// uniform blocks count as descriptors.
     ///
     /// The original counts in 32 bits, where the sum can wrap.
     pub fn total(&self) -> u64

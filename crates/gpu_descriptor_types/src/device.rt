@@ -34,7 +34,7 @@ pub trait DescriptorDevice<L, P, S> {
     /// What the device owes.
     ghost ledger: { Self → Ledger };
 
-    /// Creates a pool of `max_sets` sets with these counts.
+    /// Creates a pool of at most `max_sets` sets, which together have at most these counts.
     fn create_descriptor_pool(
         &mut self,
         counts: &DescriptorTotalCount,

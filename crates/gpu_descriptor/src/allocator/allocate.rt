@@ -48,9 +48,10 @@ impl<P: Drop, S: Drop> DescriptorAllocator<P, S> {
     /// - `OutOfDeviceMemory`: the device said so, at an existing or a new pool;
     /// - `OutOfHostMemory`: the device said so, or there was no memory for the answer or the books.
     ///
-    /// `flags` and `layout_descriptor_count` must be those of the layout. In the original the product
-    /// that is held against the limit is taken in 32 bits; here it is exact. In the original the
-    /// limit counts only the sets that are out; here the pools as well.
+    /// `flags` and `layout_descriptor_count` must be those of the layout, and `device` that of all
+    /// other calls. In the original the product that is held against the limit is taken in 32 bits;
+    /// here it is exact. In the original the limit counts only the sets that are out; here the pools
+    /// as well.
     pub fn allocate<L, D: DescriptorDevice<L, P, S>>(
         &mut self,
         device: &mut D,

@@ -18,7 +18,7 @@ impl<P: Drop, S> DescriptorAllocator<P, S> {
     /// forgets the keys that then have none. It takes no memory and can't be refused.
     ///
     /// The keys are gone through in the order in which they came. A key that was forgotten numbers
-    /// its pools from 0 again.
+    /// its pools from 0 again. `device` must be that of all other calls.
     pub fn cleanup<L, D: DescriptorDevice<L, P, S>>(&mut self, device: &mut D)
         requires agree { Agrees D.pool_name self.old (D.ledger device.old) }
         ensures cleans_up { CleansUp D.pool_name self.old self.new

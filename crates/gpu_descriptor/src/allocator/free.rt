@@ -19,6 +19,9 @@ impl<P, S> DescriptorAllocator<P, S> {
     ///
     /// Neighbours of one pool go back in one call of the device. Whenever the oldest pools of their
     /// key have no set left, these are destroyed, but never the key's last pool.
+    ///
+    /// `device` must be that of all other calls. It must be done with all work that uses one of the
+    /// sets, and what was recorded with them is not to be submitted again: no contract sees that.
     pub fn free<L, D: DescriptorDevice<L, P, S>, I: IntoIterator<Item = DescriptorSet<S>>>(
         &mut self,
         device: &mut D,
