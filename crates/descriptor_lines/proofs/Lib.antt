@@ -1,9 +1,3 @@
 pub mod AnswerLemmas
-pub mod FaultLemmas
-pub mod KindLemmas
 pub mod LineLemmas
-pub mod NameLemmas
-pub mod NumberLemmas
 pub mod SessionLemmas
-pub mod TicketLemmas
-pub mod WordLemmas

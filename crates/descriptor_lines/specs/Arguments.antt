@@ -8,19 +8,19 @@ use Rattle.descriptor_lines.specs.Commands.{IsNumberOf}
 use Rattle.descriptor_lines.specs.declared.command.Command.{Command}
 use Rattle.descriptor_lines.specs.declared.command.Command.TheVariants.{Limit, Layout as MakesLayout, Size, Script, Alloc, Free, Cleanup, Show}
 use Rattle.descriptor_lines.specs.declared.layouts.Layout.{Layout}
-use Rattle.descriptor_lines.specs.Fault.{IfFault, IsFaultAnd, faulty}
-use Rattle.descriptor_lines.specs.Kinds.{AreKinds, GiveCounts, IsFaultOfKinds}
+use Rattle.descriptor_words.specs.Fault.{IfFault, IsFaultAnd, faulty}
+use Rattle.descriptor_words.specs.Kinds.{AreKinds, GiveCounts, IsFaultOfKinds}
 use Rattle.descriptor_lines.specs.LayoutTable.{layout_at, layout_count, layout_named}
-use Rattle.descriptor_lines.specs.Names.{IsName}
-use Rattle.descriptor_lines.specs.Numbers.{WritesNumberWithin, value_of}
+use Rattle.descriptor_words.specs.Names.{IsName}
+use Rattle.descriptor_words.specs.Numbers.{WritesNumberWithin, value_of}
 use Rattle.descriptor_lines.specs.ScriptWords.{IsFaultOfScript, word_of_answer}
-use Rattle.descriptor_lines.specs.Tickets.{AreTickets, IsFaultOfFree, tickets_of}
-use Rattle.descriptor_lines.specs.Keywords.{IsUnknown, word_of_keyword}
-use Rattle.descriptor_lines.specs.declared.command.keyword.Keyword.{Keyword}
-use Rattle.descriptor_lines.specs.declared.command.keyword.Keyword.TheVariants as keyword
-use Rattle.descriptor_lines.specs.declared.fault.Fault.{Fault}
-use Rattle.descriptor_lines.specs.declared.fault.Fault.TheVariants.{UnknownCommand, LimitNotFirst, BadWordCount, BadName, NameIsTaken, NoSuchLayout, BadMark, BadNumber, TooManyLayouts}
-use Rattle.descriptor_lines.specs.declared.fault.Refusal.{Refusal}
+use Rattle.descriptor_words.specs.Tickets.{AreTickets, IsFaultOfFree, tickets_of}
+use Rattle.descriptor_words.specs.Keywords.{IsUnknown, word_of_keyword}
+use Rattle.descriptor_words.specs.declared.keyword.Keyword.{Keyword}
+use Rattle.descriptor_words.specs.declared.keyword.Keyword.TheVariants as keyword
+use Rattle.descriptor_words.specs.declared.fault.Fault.{Fault}
+use Rattle.descriptor_words.specs.declared.fault.Fault.TheVariants.{UnknownCommand, LimitNotFirst, BadWordCount, BadName, NameIsTaken, NoSuchLayout, BadMark, BadNumber, TooManyLayouts}
+use Rattle.descriptor_words.specs.declared.fault.Refusal.{Refusal}
 use Rattle.descriptor_lines.specs.declared.layouts.Layouts.{Layouts}
 
 -- what is wrong with the words of `limit`, which comes too late where a line had a command

@@ -3,7 +3,7 @@ use Rattle.std.specs.Prelude.{◌≡◌, ◌≤◌, ◌<◌, ℕ, Bool, List, []
 use Rattle.descriptor_script.specs.declared.command.Command as session
 use Rattle.descriptor_script.specs.declared.command.Command.TheVariants as step
 use Rattle.descriptor_lines.specs.LayoutTable.{layout_named, layout_count}
-use Rattle.descriptor_lines.specs.Numbers.{WritesNumberWithin, value_of}
+use Rattle.descriptor_words.specs.Numbers.{WritesNumberWithin, value_of}
 use Rattle.descriptor_lines.specs.declared.command.Command.{Command}
 use Rattle.descriptor_lines.specs.declared.command.Command.TheVariants.{Limit, Layout, Alloc}
 use Rattle.descriptor_lines.specs.declared.layouts.Layouts.{Layouts}

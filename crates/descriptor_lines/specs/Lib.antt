@@ -2,17 +2,10 @@ pub mod Answers
 pub mod Arguments
 pub mod Commands
 pub mod Exit
-pub mod Fault
-pub mod Keywords
-pub mod Kinds
 pub mod LayoutTable
 pub mod LineBuffers
 pub mod Lines
-pub mod Names
-pub mod Numbers
 pub mod Outcomes
 pub mod Programs
 pub mod Replies
 pub mod ScriptWords
-pub mod Tickets
-pub mod Words

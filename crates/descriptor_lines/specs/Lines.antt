@@ -2,7 +2,7 @@
 use Rattle.std.specs.Prelude.{◌≡◌, ℕ, ◌<◌, Bool, true, false, List, Option, None, Some, ⊤, length, IfSome}
 use Rattle.std.specs.List.{after_first, before_first, position_or_len}
 use Rattle.std.specs.Io.KnownBytes.{prepend_known}
-use Rattle.descriptor_lines.specs.Words.{is_byte}
+use Rattle.descriptor_words.specs.Words.{is_byte}
 
 -- a line ends among the bytes
 abbrev pub HasEnd : List ℕ → Type 0

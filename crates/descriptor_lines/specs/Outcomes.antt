@@ -2,9 +2,9 @@
 use Rattle.std.specs.Prelude.{◌≡◌, List, ℕ, Option, [], ◌∷◌, ◌++◌, codes, Result, Ok, Err, IfErr}
 use Rattle.std.specs.Io.KnownBytes.{Appends}
 use Rattle.descriptor_lines.specs.Answers.{fault_line}
-use Rattle.descriptor_lines.specs.declared.fault.Fault.{Fault}
-use Rattle.descriptor_lines.specs.declared.fault.Refusal.{Refusal}
-use Rattle.descriptor_lines.specs.declared.fault.Refusal.TheVariants as refusal
+use Rattle.descriptor_words.specs.declared.fault.Fault.{Fault}
+use Rattle.descriptor_words.specs.declared.fault.Refusal.{Refusal}
+use Rattle.descriptor_words.specs.declared.fault.Refusal.TheVariants as refusal
 
 -- the line is not faulty: it ran, or there was no memory to run it
 abbrev pub IsNoFault : Result Unit Refusal → Type 0

@@ -13,7 +13,7 @@ use Rattle.descriptor_script.specs.declared.command.Reply.{Reply}
 use Rattle.descriptor_script.specs.declared.raw.ScriptLayout.{ScriptLayout}
 use Rattle.descriptor_lines.specs.Arguments.{IsCommandOf}
 use Rattle.descriptor_lines.specs.LayoutTable.{SameLayouts, layout_count, layouts_in}
-use Rattle.descriptor_lines.specs.Words.{is_silent}
+use Rattle.descriptor_words.specs.Words.{is_silent}
 use Rattle.descriptor_lines.specs.declared.command.Command as line
 use Rattle.descriptor_lines.specs.declared.command.Command.TheVariants as step
 use Rattle.descriptor_lines.specs.declared.layouts.Layout.{Layout}

@@ -2,9 +2,9 @@
 use Rattle.std.specs.Prelude.{◌≡◌, ℕ, List, codes, All}
 use Rattle.descriptor_script.specs.declared.answer.Answer.{Answer}
 use Rattle.descriptor_script.specs.declared.answer.Answer.TheVariants.{Ok, Device, Host, Frag, Pool}
-use Rattle.descriptor_lines.specs.Words.{AtWord}
-use Rattle.descriptor_lines.specs.declared.fault.Fault.{Fault}
-use Rattle.descriptor_lines.specs.declared.fault.Fault.TheVariants.{BadAnswerWord}
+use Rattle.descriptor_words.specs.Words.{AtWord}
+use Rattle.descriptor_words.specs.declared.fault.Fault.{Fault}
+use Rattle.descriptor_words.specs.declared.fault.Fault.TheVariants.{BadAnswerWord}
 
 -- the word of an answer
 abbrev pub word_of_answer : Answer → List ℕ

@@ -5,8 +5,7 @@ ghost use Rattle.descriptor_lines.specs.Answers.{limit_answer as limit_answer_of
 
 mod reply;
 
-use crate::fault::Fault;
-use crate::text;
+use descriptor_words::{Fault, kind_name};
 use gpu_descriptor::PoolView;
 use gpu_descriptor_types::DescriptorTotalCount;
 pub use reply::{reply_answer, room_for_sets};
@@ -52,7 +51,7 @@ fn kinds_answer(answer: &mut String, counts: &[u32; 14]) -> Result<(), AllocErro
     ensures { OnOk result (string_bytes answer.new ≡ string_bytes answer.old ++ kinds_answer_of counts.now) }
 {
     for (place, count) in counts.iter().enumerate() {
-        kind_answer(answer, text::kind_name(place), *count)?;
+        kind_answer(answer, kind_name(place), *count)?;
     }
     Ok(())
 }

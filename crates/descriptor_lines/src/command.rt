@@ -1,28 +1,21 @@
 //! The commands that lines give.
-ghost use Rattle.std.specs.Prelude.{◌≡◌, ◌↔◌, IsTrue, IsFalse, IsOk, IfOk, IfErr, IfSome, OnOk, Ok, None, []};
+ghost use Rattle.std.specs.Prelude.{◌≡◌, ◌↔◌, IsTrue, IsFalse, IfOk, IfErr, IfSome, OnOk, Ok, None, []};
 ghost use Rattle.descriptor_lines.specs.Arguments.{GiveCommand, IsCommandOf, IsFaultOfAlloc, IsFaultOfEnd, IsFaultOfLimit, IsFaultOfSize, IsRefusalOf, IsRefusalOfWords};
 ghost use Rattle.descriptor_lines.specs.Commands.{IsInTime, IsNumberOf, IsRunnable};
-ghost use Rattle.descriptor_lines.specs.Fault.{IsFaultAnd};
+ghost use Rattle.descriptor_words.specs.Fault.{IsFaultAnd};
 ghost use Rattle.descriptor_lines.specs.LayoutTable.{layout_count};
-ghost use Rattle.descriptor_lines.specs.Numbers.{WritesNumberWithin, value_of};
-ghost use Rattle.descriptor_lines.specs.Words.{words as words_of, words_left, is_silent};
+ghost use Rattle.descriptor_words.specs.Words.{words as words_of, words_left, is_silent};
 
-mod keyword;
 mod layout;
 mod script;
-mod tickets;
 
-use crate::fault::{Fault, Refusal};
 use crate::layouts::{Layout, Layouts};
-use crate::text;
-use crate::text::Words;
 use descriptor_script::Answer;
+use descriptor_words::{Fault, Keyword, Refusal, Words, number_within, parse_free, parse_u32};
 use gpu_descriptor_types::DescriptorTotalCount;
-use keyword::Keyword;
 use layout::parse_layout;
 use script::parse_script;
 use std::alloc::Global;
-use tickets::parse_free;
 
 /// The greatest count of sets that a line may ask for.
 const MAX_SETS: u64 = 1_000_000;
@@ -170,9 +163,9 @@ fn parse_size<'a>(mut words: Words<'a>, layouts: &Layouts) -> Result<Command<'a>
     ) else {
         return Err(Refusal::Fault(Fault::BadWordCount));
     };
-    let name = text::name(name).ok_or(Fault::BadName)?;
+    let name = descriptor_words::name(name).ok_or(Fault::BadName)?;
     let counts = layouts.get(name).ok_or(Fault::NoSuchLayout)?.counts;
-    let total = text::number_within(total, u64::MAX).ok_or(Fault::BadNumber)?;
+    let total = number_within(total, u64::MAX).ok_or(Fault::BadNumber)?;
     let wanted = parse_u32(wanted)?;
     Ok(Command::Size {
         counts,
@@ -190,9 +183,9 @@ fn parse_alloc<'a>(mut words: Words<'a>, layouts: &Layouts) -> Result<Command<'a
     let (Some(name), Some(count), None) = (words.next(), words.next(), words.next()) else {
         return Err(Refusal::Fault(Fault::BadWordCount));
     };
-    let name = text::name(name).ok_or(Fault::BadName)?;
+    let name = descriptor_words::name(name).ok_or(Fault::BadName)?;
     let layout = layouts.place(name).ok_or(Fault::NoSuchLayout)?;
-    let count = text::number_within(count, MAX_SETS).ok_or(Fault::BadNumber)? as u32;
+    let count = number_within(count, MAX_SETS).ok_or(Fault::BadNumber)? as u32;
     Ok(Command::Alloc { layout, count })
 }
 
@@ -205,13 +198,4 @@ fn expect_end(mut words: Words<'_>) -> Result<(), Refusal>
         return Err(Refusal::Fault(Fault::BadWordCount));
     }
     Ok(())
-}
-
-fn parse_u32(word: &[u8]) -> Result<u32, Fault>
-    ensures accepted { IsOk result ↔ WritesNumberWithin 4294967295 word.now }
-    ensures value { IfOk result (λ number. number ≡ value_of word.now) }
-    ensures fault { IfErr result (λ fault. fault ≡ Fault.BadNumber) }
-{
-    let number = text::number_within(word, u64::from(u32::MAX)).ok_or(Fault::BadNumber)?;
-    Ok(number as u32)
 }

@@ -4,7 +4,7 @@ ghost use Rattle.std.specs.Io.BufRead.{strip_last};
 ghost use Rattle.std.specs.Io.KnownBytes.{IsAtEnd, Keeps};
 ghost use Rattle.descriptor_lines.specs.Lines.{HasEnd, HasNoEnd, LosesLine, BeginsTooLong, before_end, after_end};
 
-use crate::text;
+use descriptor_words::first_of;
 use std::alloc::{AllocError, Global};
 use std::io::Read;
 
@@ -125,7 +125,7 @@ impl LineBuffer {
     {
         let start = self.start;
         let unsearched = &self.bytes[self.searched..self.end];
-        let found = text::first_of(unsearched, b'\n');
+        let found = first_of(unsearched, b'\n');
         let end = self.searched + found.unwrap_or(unsearched.len());
         if MAX_LINE_LEN < end - start {
             return Err(InputFault::LineTooLong);

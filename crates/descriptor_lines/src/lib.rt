@@ -5,11 +5,9 @@
 mod answer;
 mod command;
 mod exit;
-mod fault;
 mod input;
 mod layouts;
 mod program;
-mod text;
 
 pub use exit::Exit;
 pub use program::run_lines;

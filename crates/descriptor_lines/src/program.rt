@@ -1,10 +1,10 @@
 //! The program: lines in, answers out.
 ghost use Rattle.std.specs.Prelude.{◌≡◌, ◌≢◌, ◌||◌, not, IsTrue, IsFalse, IfErr, OnOk, OnErr, string_bytes};
 ghost use Rattle.std.specs.Io.KnownBytes.{IsAtEnd, Keeps};
-ghost use Rattle.descriptor_lines.specs.Fault.{IfFault};
+ghost use Rattle.descriptor_words.specs.Fault.{IfFault};
 ghost use Rattle.descriptor_lines.specs.Outcomes.{EndsInFault};
 ghost use Rattle.descriptor_lines.specs.Programs.{CanRun, DoesLine, IsUnchanged, begun};
-ghost use Rattle.descriptor_lines.specs.Words.{words, is_silent};
+ghost use Rattle.descriptor_words.specs.Words.{words, is_silent};
 
 mod output;
 mod run;
@@ -12,10 +12,10 @@ mod show;
 
 use crate::command::Command;
 use crate::exit::Exit;
-use crate::fault::{Fault, Refusal};
 use crate::input::{InputFault, LineBuffer, MAX_READS};
 use crate::layouts::Layouts;
 use descriptor_script::{RawPool, RawSet, ScriptLayout, ScriptedDevice, Session};
+use descriptor_words::{Fault, Refusal};
 use output::answer_line;
 use std::alloc::Global;
 use std::io::{Read, Write};

@@ -1,19 +1,13 @@
 //! The command that makes a layout.
-ghost use Rattle.std.specs.Prelude.{◌≡◌, ◌↔◌, true, false, IfOk, IfErr, OnOk, codes, Ok};
-ghost use Rattle.gpu_descriptor_types.specs.Counts.{kinds};
+ghost use Rattle.std.specs.Prelude.{◌≡◌, ◌↔◌, true, false, IfOk, IfErr, codes, Ok};
 ghost use Rattle.descriptor_lines.specs.Arguments.{GiveCommand, IsFaultOfLayout};
 ghost use Rattle.descriptor_lines.specs.Commands.{IsRunnable};
-ghost use Rattle.descriptor_lines.specs.Fault.{IsFaultAnd};
-ghost use Rattle.descriptor_lines.specs.Kinds.{AreKinds, GiveCounts, IsFaultOfKinds};
-ghost use Rattle.descriptor_lines.specs.Words.{words_left};
+ghost use Rattle.descriptor_words.specs.Fault.{IsFaultAnd};
+ghost use Rattle.descriptor_words.specs.Words.{words_left};
 
-use super::keyword::Keyword;
-use super::{Command, parse_u32};
-use crate::fault::{Fault, Refusal};
+use super::Command;
 use crate::layouts::{Layout, Layouts};
-use crate::text;
-use crate::text::Words;
-use gpu_descriptor_types::DescriptorTotalCount;
+use descriptor_words::{Fault, Keyword, Refusal, Words, parse_counts};
 
 /// `layout NAME plain` or `mark`, and the kinds with their counts.
 pub fn parse_layout<'a>(mut words: Words<'a>, layouts: &Layouts) -> Result<Command<'a>, Refusal>
@@ -24,7 +18,7 @@ pub fn parse_layout<'a>(mut words: Words<'a>, layouts: &Layouts) -> Result<Comma
     let (Some(name), Some(mark)) = (words.next(), words.next()) else {
         return Err(Refusal::Fault(Fault::BadWordCount));
     };
-    let name = text::name(name).ok_or(Fault::BadName)?;
+    let name = descriptor_words::name(name).ok_or(Fault::BadName)?;
     if layouts.get(name).is_some() {
         return Err(Refusal::Fault(Fault::NameIsTaken));
     }
@@ -47,24 +41,4 @@ fn parse_mark(word: &[u8]) -> Result<bool, Fault>
         b"mark" => Ok(true),
         _ => Err(Fault::BadMark),
     }
-}
-
-/// The counts out of words `KIND=N`, each kind at most once.
-fn parse_counts(words: Words<'_>) -> Result<DescriptorTotalCount, Fault>
-    ensures fault { IfErr result (IsFaultOfKinds (words_left words.entry)) }
-    ensures accepted { OnOk result (AreKinds (words_left words.entry)) }
-    ensures counts { IfOk result (λ counts. GiveCounts (words_left words.entry) (kinds counts)) }
-{
-    let mut counts = DescriptorTotalCount::default();
-    let mut is_named = [false; text::KIND_COUNT];
-    for word in words {
-        let (kind, count) = text::around(word, b'=').ok_or(Fault::BadKind)?;
-        let kind = text::kind(kind).ok_or(Fault::BadKind)?;
-        if is_named[kind] {
-            return Err(Fault::KindTwice);
-        }
-        is_named[kind] = true;
-        counts.set_kind(kind, parse_u32(count)?);
-    }
-    Ok(counts)
 }

@@ -1,13 +1,12 @@
 //! The command that gives the device a new script.
 ghost use Rattle.std.specs.Prelude.{◌≡◌, ◌≢◌, map, IfOk, IfErr, OnErr, Err};
-ghost use Rattle.descriptor_lines.specs.Fault.{IfFault};
+ghost use Rattle.descriptor_words.specs.Fault.{IfFault};
 ghost use Rattle.descriptor_lines.specs.ScriptWords.{IsFaultOfScript, word_of_answer};
-ghost use Rattle.descriptor_lines.specs.Words.{words_left};
+ghost use Rattle.descriptor_words.specs.Words.{words_left};
 ghost use Rattle.descriptor_script.specs.declared.answer.Answer.{Answer as AnswerWord};
 
-use crate::fault::{Fault, Refusal};
-use crate::text::Words;
 use descriptor_script::Answer;
+use descriptor_words::{Fault, Refusal, Words};
 use std::alloc::Global;
 
 /// `script WORD ..`.

@@ -5,7 +5,7 @@ ghost use Rattle.descriptor_lines.specs.Outcomes.{IsNoFault, said_of};
 
 use crate::answer;
 use crate::exit::Exit;
-use crate::fault::Refusal;
+use descriptor_words::Refusal;
 use std::io::Write;
 
 /// Writes what there is to say of a line, and leaves the text empty.

@@ -4,8 +4,8 @@ use Rattle.std.proofs.KnownBytes.{Appends-trans}
 use Rattle.descriptor_lines.specs.Outcomes.{EndsInFault, IsNoFault, said_of}
 use Rattle.descriptor_lines.specs.declared.exit.Exit.{Exit}
 use Rattle.descriptor_lines.specs.declared.exit.Exit.TheVariants.{BadLine, Done, NoMemory, WriteFault}
-use Rattle.descriptor_lines.specs.declared.fault.Refusal.{Refusal}
-use Rattle.descriptor_lines.specs.declared.fault.Refusal.TheVariants as refusal
+use Rattle.descriptor_words.specs.declared.fault.Refusal.{Refusal}
+use Rattle.descriptor_words.specs.declared.fault.Refusal.TheVariants as refusal
 use Rattle.descriptor_lines.proofs.program.run_to_end.Goals as goal
 use Rattle.descriptor_lines.proofs.program.run_to_end.Goals.{in-Ok-Some, in-Err-LineTooLong}
 

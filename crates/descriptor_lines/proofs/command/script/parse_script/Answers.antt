@@ -2,10 +2,10 @@ use Rattle.std.proofs.Common.{◌≡◌, ◌++◌, ◌∷◌, [], map, sym, ap, 
 use Rattle.std.proofs.lemmas.List.{map-append}
 use Rattle.std.proofs.lemmas.Iterator.Consumers.{YieldsList-from_first, YieldsList-end}
 use Rattle.std.proofs.lemmas.List.Elements.{All-push}
-use Rattle.descriptor_lines.proofs.FaultLemmas.{refused_for}
-use Rattle.descriptor_lines.proofs.WordLemmas.{at_next}
+use Rattle.descriptor_words.proofs.FaultLemmas.{refused_for}
+use Rattle.descriptor_words.proofs.WordLemmas.{at_next}
 use Rattle.descriptor_lines.specs.ScriptWords.{IsAnswerWord, IsFaultOfScript, IsFirstUnknown, word_of_answer}
-use Rattle.descriptor_lines.specs.Words.{words_left}
+use Rattle.descriptor_words.specs.Words.{words_left}
 use Rattle.descriptor_lines.proofs.command.script.parse_script.Goals as goal
 
 pub loop-word-init : goal.loop-word-init

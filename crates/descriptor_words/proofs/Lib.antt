@@ -1,0 +1,6 @@
+pub mod FaultLemmas
+pub mod KindLemmas
+pub mod NameLemmas
+pub mod NumberLemmas
+pub mod TicketLemmas
+pub mod WordLemmas

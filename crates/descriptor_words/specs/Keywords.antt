@@ -1,0 +1,24 @@
+-- The words that commands begin with.
+use Rattle.std.specs.Prelude.{◌≢◌, ℕ, List, [], ◌∷◌, codes, slice_index}
+use Rattle.descriptor_words.specs.declared.keyword.Keyword.{Keyword}
+use Rattle.descriptor_words.specs.declared.keyword.Keyword.TheVariants.{Limit, Layout, Size, Script, Alloc, Free, Cleanup, Show}
+
+-- the word of a command
+abbrev pub word_of_keyword : Keyword → List ℕ
+word_of_keyword Limit = codes "limit"
+word_of_keyword Layout = codes "layout"
+word_of_keyword Size = codes "size"
+word_of_keyword Script = codes "script"
+word_of_keyword Alloc = codes "alloc"
+word_of_keyword Free = codes "free"
+word_of_keyword Cleanup = codes "cleanup"
+word_of_keyword Show = codes "show"
+
+-- the word is none of a command
+abbrev pub IsNoKeyword : List ℕ → Type 0
+IsNoKeyword word = (keyword : Keyword) → word ≢ word_of_keyword keyword
+
+-- the first word of a line is no command, and begins no comment
+abbrev pub IsUnknown : List (List ℕ) → Type 0
+IsUnknown [] = ⊥
+IsUnknown (word ∷ words) = (slice_index word 0 ≢ 35) × IsNoKeyword word

@@ -1,0 +1,41 @@
+//! Words that give the counts of a layout.
+ghost use Rattle.std.specs.Prelude.{◌≡◌, ◌↔◌, IsOk, IfOk, IfErr, OnOk};
+ghost use Rattle.gpu_descriptor_types.specs.Counts.{kinds};
+ghost use Rattle.descriptor_words.specs.Kinds.{AreKinds, GiveCounts, IsFaultOfKinds};
+ghost use Rattle.descriptor_words.specs.Numbers.{WritesNumberWithin, value_of};
+ghost use Rattle.descriptor_words.specs.Words.{words_left};
+
+use crate::fault::Fault;
+use crate::text;
+use crate::text::Words;
+use gpu_descriptor_types::DescriptorTotalCount;
+
+/// The counts out of words `KIND=N`, each kind at most once.
+pub fn parse_counts(words: Words<'_>) -> Result<DescriptorTotalCount, Fault>
+    ensures fault { IfErr result (IsFaultOfKinds (words_left words.entry)) }
+    ensures accepted { OnOk result (AreKinds (words_left words.entry)) }
+    ensures counts { IfOk result (λ counts. GiveCounts (words_left words.entry) (kinds counts)) }
+{
+    let mut counts = DescriptorTotalCount::default();
+    let mut is_named = [false; text::KIND_COUNT];
+    for word in words {
+        let (kind, count) = text::around(word, b'=').ok_or(Fault::BadKind)?;
+        let kind = text::kind(kind).ok_or(Fault::BadKind)?;
+        if is_named[kind] {
+            return Err(Fault::KindTwice);
+        }
+        is_named[kind] = true;
+        counts.set_kind(kind, parse_u32(count)?);
+    }
+    Ok(counts)
+}
+
+/// The number of 32 bits that a word writes.
+pub fn parse_u32(word: &[u8]) -> Result<u32, Fault>
+    ensures accepted { IsOk result ↔ WritesNumberWithin 4294967295 word.now }
+    ensures value { IfOk result (λ number. number ≡ value_of word.now) }
+    ensures fault { IfErr result (λ fault. fault ≡ Fault.BadNumber) }
+{
+    let number = text::number_within(word, u64::from(u32::MAX)).ok_or(Fault::BadNumber)?;
+    Ok(number as u32)
+}

@@ -1,0 +1,117 @@
+//! The tickets of a line that gives sets back.
+ghost use Rattle.std.specs.Prelude.{◌≡◌, ◌≢◌, ◌+◌, ◌^◌, ◌≤◌, ◌<◌, ◌↔◌, ◌++◌, vec_len, vec_capacity, IsOk, IfOk, IfErr, OnOk, Err};
+ghost use Rattle.std.specs.List.{flat_map};
+ghost use Rattle.descriptor_words.specs.Fault.{IfFault, faulty};
+ghost use Rattle.descriptor_words.specs.Numbers.{WritesNumberWithin, value_of};
+ghost use Rattle.descriptor_words.specs.Tickets.{AreTickets, IsFaultOfFree, WritesTickets, falling, first_of, first_side, last_of, last_side, rising, span_length, tickets_between, tickets_of};
+ghost use Rattle.descriptor_words.specs.Words.{words_left};
+
+use crate::fault::{Fault, Refusal};
+use crate::text;
+use crate::text::Words;
+use std::alloc::Global;
+
+/// The greatest number of tickets of a line.
+const MAX_TICKETS: usize = 1_000_000;
+
+/// The tickets from the first to the last, up or down in steps of 1.
+#[derive(Clone, Copy, Debug)]
+struct Span {
+    first: usize,
+    last: usize,
+}
+
+/// The tickets that the words behind `free` write, one word after the other.
+///
+/// The fault is that of the first word that is wrong, or with which the tickets are too many.
+pub fn parse_free(alloc: Global, words: Words<'_>) -> Result<Vec<usize>, Refusal>
+    ensures fault { IfErr result (λ reason. IfFault reason (IsFaultOfFree (words_left words.entry))) }
+    ensures accepted { OnOk result (AreTickets (words_left words.entry)) }
+    ensures tickets { IfOk result (λ tickets. tickets.items ≡ flat_map tickets_of (words_left words.entry)) }
+    ensures few { IfOk result (λ tickets. vec_len tickets ≤ 1000000) }
+{
+    let mut tickets = Vec::new(alloc);
+    for word in words {
+        add_tickets(&mut tickets, parse_span(word)?)?;
+    }
+    Ok(tickets)
+}
+
+/// The tickets of a word: one, `T`, or a range, `A-B`.
+fn parse_span(word: &[u8]) -> Result<Span, Fault>
+    ensures accepted { IsOk result ↔ WritesTickets word.now }
+    ensures first { IfOk result (λ span. span.first ≡ first_of word.now) }
+    ensures last { IfOk result (λ span. span.last ≡ last_of word.now) }
+    ensures fault { IfErr result (λ fault. fault ≡ Fault.BadNumber) }
+{
+    let (first, last) = sides(word);
+    Ok(Span {
+        first: parse_ticket(first)?,
+        last: parse_ticket(last)?,
+    })
+}
+
+/// What stands before and after the first `-`, or the word twice where it has none.
+fn sides(word: &[u8]) -> (&[u8], &[u8])
+    ensures first { result.0.now ≡ first_side word.now }
+    ensures last { result.1.now ≡ last_side word.now }
+{
+    match text::around(word, b'-') {
+        Some(sides) => sides,
+        None => (word, word),
+    }
+}
+
+fn parse_ticket(word: &[u8]) -> Result<usize, Fault>
+    ensures accepted { IsOk result ↔ WritesNumberWithin 18446744073709551615 word.now }
+    ensures value { IfOk result (λ ticket. ticket ≡ value_of word.now) }
+    ensures fault { IfErr result (λ fault. fault ≡ Fault.BadNumber) }
+{
+    let ticket = text::number_within(word, u64::MAX).ok_or(Fault::BadNumber)?;
+    Ok(ticket as usize)
+}
+
+/// Puts the tickets behind the others. A fault comes before any of them is written.
+fn add_tickets(tickets: &mut Vec<usize>, span: Span) -> Result<(), Refusal>
+    requires { vec_len tickets.old ≤ 1000000 }
+    ensures fault { IfErr result (λ reason. IfFault reason (λ fault. fault ≡ Fault.TooManyTickets)) }
+    ensures too_many { result ≡ Err (faulty Fault.TooManyTickets) ↔ (1000000 < vec_len tickets.old + span_length span.first span.last) }
+    ensures added { OnOk result (tickets.new.items ≡ tickets.old.items ++ tickets_between span.first span.last) }
+    ensures few { OnOk result (vec_len tickets.new ≤ 1000000) }
+{
+    let steps = span.first.abs_diff(span.last);
+    if MAX_TICKETS - tickets.len() <= steps {
+        return Err(Refusal::Fault(Fault::TooManyTickets));
+    }
+    tickets.reserve(steps + 1)?;
+    if span.first <= span.last {
+        push_rising(tickets, span.first, steps + 1);
+    } else {
+        push_falling(tickets, span.first, steps + 1);
+    }
+    Ok(())
+}
+
+/// Puts so many tickets from the first up behind the others, over room that was taken.
+fn push_rising(tickets: &mut Vec<usize>, first: usize, count: usize)
+    requires room { vec_len tickets.old + count ≤ vec_capacity tickets.old }
+    requires fits { first + count ≤ 2 ^ 64 }
+    ensures items { tickets.new.items ≡ tickets.old.items ++ rising first count }
+    ensures len { vec_len tickets.new ≡ vec_len tickets.old + count }
+{
+    for step in 0..count {
+        tickets.push_reserved(first + step);
+    }
+}
+
+/// Puts so many tickets from the first down behind the others, over room that was taken.
+fn push_falling(tickets: &mut Vec<usize>, first: usize, count: usize)
+    requires room { vec_len tickets.old + count ≤ vec_capacity tickets.old }
+    requires fits { count ≤ first + 1 }
+    ensures items { tickets.new.items ≡ tickets.old.items ++ falling first count }
+    ensures len { vec_len tickets.new ≡ vec_len tickets.old + count }
+{
+    for step in 0..count {
+        tickets.push_reserved(first - step);
+    }
+}
