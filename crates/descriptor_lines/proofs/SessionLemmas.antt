@@ -7,12 +7,12 @@ use Rattle.gpu_descriptor.specs.Model.Agreement.{Item, outstanding}
 use Rattle.gpu_descriptor.specs.Caller.Flags.{is_marked}
 use Rattle.gpu_descriptor.specs.Caller.States.{state_of}
 use Rattle.gpu_descriptor.proofs.Places.{empty_agrees}
-use Rattle.descriptor_script.specs.Device.{ledger_of}
-use Rattle.descriptor_script.specs.Raw.{pool_id, set_id}
-use Rattle.descriptor_script.specs.Ready.{IsScriptReady}
-use Rattle.descriptor_script.specs.Session.{AreMeant, allocator_of, layouts_of, sets_of}
-use Rattle.descriptor_script.specs.SessionRun.{RunsTo}
-use Rattle.descriptor_script.specs.Steps.{IsAsBefore, StepsTo}
+use Rattle.descriptor_script.specs.Scripted.Device.{ledger_of}
+use Rattle.descriptor_script.specs.Scripted.Raw.{pool_id, set_id}
+use Rattle.descriptor_script.specs.Sessions.Ready.{IsScriptReady}
+use Rattle.descriptor_script.specs.Sessions.Session.{AreMeant, allocator_of, layouts_of, sets_of}
+use Rattle.descriptor_script.specs.Sessions.SessionRun.{RunsTo}
+use Rattle.descriptor_script.specs.Sessions.Steps.{IsAsBefore, StepsTo}
 use Rattle.descriptor_script.specs.declared.command.Command.{Command}
 use Rattle.descriptor_script.specs.declared.command.Command.TheVariants.{Allocate, Free, Cleanup}
 use Rattle.descriptor_script.specs.declared.command.Reply.{Reply}

@@ -1,11 +1,11 @@
 -- What the lines so far made.
 use Rattle.std.specs.Prelude.{◌≡◌, ◌⊎◌, ◌++◌, ◌∷◌, [], ℕ, List, map, true, IsTrue, IsFalse}
 use Rattle.gpu_descriptor_types.specs.Counts.{kinds}
-use Rattle.descriptor_script.specs.Device.{ledger_of, script_of}
-use Rattle.descriptor_script.specs.Raw.{pool_id, set_id}
-use Rattle.descriptor_script.specs.Ready.{IsScriptReady}
-use Rattle.descriptor_script.specs.Session.{allocator_of, layouts_of, sets_of}
-use Rattle.descriptor_script.specs.Steps.{StepsTo}
+use Rattle.descriptor_script.specs.Scripted.Device.{ledger_of, script_of}
+use Rattle.descriptor_script.specs.Scripted.Raw.{pool_id, set_id}
+use Rattle.descriptor_script.specs.Sessions.Ready.{IsScriptReady}
+use Rattle.descriptor_script.specs.Sessions.Session.{allocator_of, layouts_of, sets_of}
+use Rattle.descriptor_script.specs.Sessions.Steps.{StepsTo}
 use Rattle.descriptor_script.specs.declared.answer.Answer.{Answer}
 use Rattle.descriptor_script.specs.declared.command.Command.{Command}
 use Rattle.descriptor_script.specs.declared.command.Command.TheVariants.{Allocate, Free, Cleanup}

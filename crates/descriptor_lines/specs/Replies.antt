@@ -1,9 +1,9 @@
 -- What the program knows of a reply of its session.
 use Rattle.std.specs.Prelude.{ℕ, ◌+◌, ◌<◌, ◌≤◌, ◌^◌, List, Option, None, Some, IsSome}
 use Rattle.gpu_descriptor.specs.declared.set.DescriptorSet.{DescriptorSet}
-use Rattle.descriptor_script.specs.Raw.{set_pool}
-use Rattle.descriptor_script.specs.Session.{sets_of}
-use Rattle.descriptor_script.specs.Tickets.{set_at}
+use Rattle.descriptor_script.specs.Scripted.Raw.{set_pool}
+use Rattle.descriptor_script.specs.Sessions.Session.{sets_of}
+use Rattle.descriptor_script.specs.Sessions.Tickets.{set_at}
 use Rattle.descriptor_script.specs.declared.command.Reply.{Reply}
 use Rattle.descriptor_script.specs.declared.command.Reply.TheVariants.{Sets, BadLayout}
 use Rattle.descriptor_script.specs.declared.raw.RawPool.{RawPool}

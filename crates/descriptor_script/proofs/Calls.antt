@@ -3,10 +3,10 @@ use Rattle.std.proofs.Common.{◌≡◌, ℕ, ◌+◌, List, ap, ◌∙◌}
 use Rattle.std.proofs.lemmas.List.FromFn.{length-map-range_with_len}
 use Rattle.gpu_descriptor_types.specs.Ledger.{Ledger, Sink, Puts, PutsNone, on_pool, alloc_refused, pool_refusals}
 use Rattle.gpu_descriptor_types.specs.declared.errors.DeviceAllocationError.{DeviceAllocationError}
-use Rattle.descriptor_script.specs.Counters.{counters_of}
-use Rattle.descriptor_script.specs.Device.{ledger_of}
-use Rattle.descriptor_script.specs.Pools.{Grants, IsSameSink, pools_of, names_of}
-use Rattle.descriptor_script.specs.Raw.{raw_set, raw_sets, set_id}
+use Rattle.descriptor_script.specs.Inner.Counters.{counters_of}
+use Rattle.descriptor_script.specs.Scripted.Device.{ledger_of}
+use Rattle.descriptor_script.specs.Inner.Pools.{Grants, IsSameSink, pools_of, names_of}
+use Rattle.descriptor_script.specs.Scripted.Raw.{raw_set, raw_sets, set_id}
 use Rattle.descriptor_script.specs.declared.device.ScriptedDevice.{ScriptedDevice}
 use Rattle.descriptor_script.specs.declared.raw.RawSet.{RawSet}
 

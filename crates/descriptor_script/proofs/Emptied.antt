@@ -10,9 +10,9 @@ use Rattle.gpu_descriptor.specs.Model.Agreement.{AreOutstanding, Item, State, co
 use Rattle.gpu_descriptor.specs.Model.Promises.{AreOutBesides}
 use Rattle.gpu_descriptor.specs.Caller.Sets.{item_of, items_of}
 use Rattle.gpu_descriptor.specs.declared.set.DescriptorSet.{DescriptorSet}
-use Rattle.descriptor_script.specs.Session.{AreAllHeld}
-use Rattle.descriptor_script.specs.Taking.{TakesNext, slots_in, to_come}
-use Rattle.descriptor_script.specs.Tickets.{AreHeldOnce, CanTake, emptied, held_sets, set_at}
+use Rattle.descriptor_script.specs.Sessions.Session.{AreAllHeld}
+use Rattle.descriptor_script.specs.Inner.Taking.{TakesNext, slots_in, to_come}
+use Rattle.descriptor_script.specs.Sessions.Tickets.{AreHeldOnce, CanTake, emptied, held_sets, set_at}
 use Rattle.descriptor_script.specs.declared.taking.Taking.{Taking}
 
 module _ {X : Type 0} where

@@ -10,7 +10,7 @@ use Rattle.indexmap.proofs.MapLemmas.{Found-position, some_index, swap_remove_en
 use Rattle.gpu_descriptor_types.specs.Multiset.{LiveSet, times, AreIn}
 use Rattle.gpu_descriptor_types.specs.declared.counts.DescriptorTotalCount.{DescriptorTotalCount}
 use Rattle.gpu_descriptor_types.proofs.Counting.{set_exact, count_by_yes, count_by_no, count_by-append, all_taken_out}
-use Rattle.descriptor_script.specs.Live.{live_set_of, live_sets_of}
+use Rattle.descriptor_script.specs.Inner.Live.{live_set_of, live_sets_of}
 
 pub map_push : {A B : Type 0} (f : A → B) (xs : List A) (x : A) → map f (xs ++ x ∷ []) ≡ map f xs ++ f x ∷ []
 map_push f xs x = map-append f xs (x ∷ [])

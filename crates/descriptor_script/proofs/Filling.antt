@@ -7,7 +7,7 @@ use Rattle.indexmap.proofs.CallerLemmas.{insert_entry-new}
 use Rattle.std.specs.List.{range_with_len}
 use Rattle.std.proofs.lemmas.List.{length-replicate, map-append}
 use Rattle.std.proofs.lemmas.List.FromFn.{map-range_with_len_more}
-use Rattle.descriptor_script.specs.Raw.{raw_set, raw_sets}
+use Rattle.descriptor_script.specs.Scripted.Raw.{raw_set, raw_sets}
 use Rattle.descriptor_script.specs.declared.raw.RawSet.{RawSet}
 
 -- old and then numbered items, with the next one more

@@ -3,9 +3,9 @@ use Rattle.std.proofs.Common.{◌≡◌, ℕ, List, [], ◌∷◌, length, lengt
 use Rattle.std.proofs.lemmas.Bool.{cases_eq}
 use Rattle.std.proofs.lemmas.List.{get_or-set_other, get_or_append_left, length-set}
 use Rattle.gpu_descriptor_types.specs.Ledger.{Ledger}
-use Rattle.descriptor_script.specs.Session.{sets_of}
-use Rattle.descriptor_script.specs.Steps.{AllocatesTo, CleansTo, FreesTo, KeepsTickets}
-use Rattle.descriptor_script.specs.Tickets.{emptied, set_at}
+use Rattle.descriptor_script.specs.Sessions.Session.{sets_of}
+use Rattle.descriptor_script.specs.Sessions.Steps.{AllocatesTo, CleansTo, FreesTo, KeepsTickets}
+use Rattle.descriptor_script.specs.Sessions.Tickets.{emptied, set_at}
 use Rattle.descriptor_script.specs.declared.command.Reply.{Reply}
 use Rattle.descriptor_script.specs.declared.command.Reply.TheVariants.{Sets, Refused, Freed, BadTicket, BadLayout, NoMemory, Clean}
 use Rattle.descriptor_script.specs.declared.session.Session.{Session}

@@ -5,8 +5,8 @@ use Rattle.gpu_descriptor.specs.Model.Agreement.{State, count_of, item_eq}
 use Rattle.gpu_descriptor.specs.Model.Promises.{AreOutBesides}
 use Rattle.gpu_descriptor.specs.Caller.Sets.{item_of, items_of}
 use Rattle.gpu_descriptor.specs.declared.set.DescriptorSet.{DescriptorSet}
-use Rattle.descriptor_script.specs.Session.{AreAllHeld}
-use Rattle.descriptor_script.specs.Tickets.{held_sets}
+use Rattle.descriptor_script.specs.Sessions.Session.{AreAllHeld}
+use Rattle.descriptor_script.specs.Sessions.Tickets.{held_sets}
 
 module _ {X : Type 0} where
   pub held_more : (slots : List (Option X)) (given : List X) → held_sets (slots ++ map Some given) ≡ held_sets slots ++ given

@@ -6,10 +6,10 @@ use Rattle.gpu_descriptor_types.specs.Ledger.{Ledger, Counters}
 use Rattle.gpu_descriptor.specs.Caller.Sets.{items_of}
 use Rattle.gpu_descriptor.specs.Caller.States.{state_of}
 use Rattle.gpu_descriptor.proofs.Kept.{one_by_one}
-use Rattle.descriptor_script.specs.Headline.{CallsOnceARun, FailsForCause, FreesOneByOne, HoldsExactly, HoldsWhatIsOut, KeepsAll, KeepsLimit, TurnsDownBad}
-use Rattle.descriptor_script.specs.Session.{IsReady, allocator_of, sets_of}
-use Rattle.descriptor_script.specs.SessionRun.{IsStep, RunsKeeping, RunsTo, Step}
-use Rattle.descriptor_script.specs.Steps.{StepsTo}
+use Rattle.descriptor_script.specs.Sessions.Headline.{CallsOnceARun, FailsForCause, FreesOneByOne, HoldsExactly, HoldsWhatIsOut, KeepsAll, KeepsLimit, TurnsDownBad}
+use Rattle.descriptor_script.specs.Sessions.Session.{IsReady, allocator_of, sets_of}
+use Rattle.descriptor_script.specs.Sessions.SessionRun.{IsStep, RunsKeeping, RunsTo, Step}
+use Rattle.descriptor_script.specs.Sessions.Steps.{StepsTo}
 use Rattle.descriptor_script.specs.declared.command.Command.{Command}
 use Rattle.descriptor_script.specs.declared.command.Command.TheVariants.{Allocate, Free, Cleanup}
 use Rattle.descriptor_script.specs.declared.command.Reply.{Reply}

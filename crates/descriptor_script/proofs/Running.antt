@@ -2,8 +2,8 @@
 use Rattle.std.proofs.Common.{ℕ, Bool, List, [], ◌∷◌, ◌++◌, refl, subst, ◌∙◌}
 use Rattle.gpu_descriptor_types.specs.Ledger.{Ledger}
 use Rattle.gpu_descriptor.proofs.Keeping.{keeps_through}
-use Rattle.descriptor_script.specs.Session.{KeepsSession}
-use Rattle.descriptor_script.specs.SessionRun.{IsStep, RunsTo}
+use Rattle.descriptor_script.specs.Sessions.Session.{KeepsSession}
+use Rattle.descriptor_script.specs.Sessions.SessionRun.{IsStep, RunsTo}
 use Rattle.descriptor_script.specs.declared.command.Command.{Command}
 use Rattle.descriptor_script.specs.declared.command.Reply.{Reply}
 use Rattle.descriptor_script.specs.declared.session.Session.{Session}

@@ -11,9 +11,9 @@ use Rattle.gpu_descriptor_types.specs.Ledger.{Pool, changed, on_pool, live_sets}
 use Rattle.gpu_descriptor_types.specs.Multiset.{times, set_eq}
 use Rattle.gpu_descriptor_types.specs.declared.counts.DescriptorTotalCount.{DescriptorTotalCount}
 use Rattle.gpu_descriptor_types.proofs.Counting.{count_by-append}
-use Rattle.descriptor_script.specs.Live.{live_set_of, live_sets_of, entries_named}
-use Rattle.descriptor_script.specs.Raw.{set_id, raw_set, raw_sets}
-use Rattle.descriptor_script.specs.Table.{seen, pools_in, has_set, PoolsAreBelow, SetsAreBelow}
+use Rattle.descriptor_script.specs.Inner.Live.{live_set_of, live_sets_of, entries_named}
+use Rattle.descriptor_script.specs.Scripted.Raw.{set_id, raw_set, raw_sets}
+use Rattle.descriptor_script.specs.Inner.Table.{seen, pools_in, has_set, PoolsAreBelow, SetsAreBelow}
 use Rattle.descriptor_script.specs.declared.live.LivePool.{LivePool}
 
 -- the pool of this name was old and is now new, and the others stay

@@ -1,6 +1,6 @@
 //! The words of a script.
 ghost use Rattle.std.specs.Prelude.{◌≡◌};
-ghost use Rattle.descriptor_script.specs.Script.{alloc_error as alloc_error_of, create_error as create_error_of};
+ghost use Rattle.descriptor_script.specs.Scripted.Script.{alloc_error as alloc_error_of, create_error as create_error_of};
 
 use gpu_descriptor_types::{CreatePoolError, DeviceAllocationError};
 

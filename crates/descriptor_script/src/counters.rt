@@ -1,7 +1,7 @@
 //! How often a device did each thing.
 ghost use Rattle.std.specs.Prelude.{◌≡◌, ◌+◌};
 ghost use Rattle.gpu_descriptor_types.specs.Ledger.{alloc_refused, create_refused};
-ghost use Rattle.descriptor_script.specs.Counters.{counters_of, no_counters};
+ghost use Rattle.descriptor_script.specs.Inner.Counters.{counters_of, no_counters};
 
 use gpu_descriptor_types::{Counter, CreatePoolError, DeviceAllocationError};
 

@@ -5,8 +5,8 @@ ghost use Rattle.gpu_descriptor_types.specs.Counts.{kinds};
 ghost use Rattle.gpu_descriptor_types.specs.Flags.{bits};
 ghost use Rattle.gpu_descriptor_types.specs.Layouts.{layout, left};
 ghost use Rattle.gpu_descriptor_types.specs.Ledger.{AreLive, HasNoSets, HasRoom, Puts, PutsNone, Releases, after_create, after_destroy, after_no_create};
-ghost use Rattle.descriptor_script.specs.Raw.{pool_id, raw_sets, set_id};
-ghost use Rattle.descriptor_script.specs.Script.{alloc_error, create_error, next_word, rest_words};
+ghost use Rattle.descriptor_script.specs.Scripted.Raw.{pool_id, raw_sets, set_id};
+ghost use Rattle.descriptor_script.specs.Scripted.Script.{alloc_error, create_error, next_word, rest_words};
 
 mod wrapped;
 
@@ -38,7 +38,7 @@ pub struct ScriptedDevice {
 }
 
 impl ScriptedDevice {
-    ghost use Rattle.descriptor_script.specs.Device.{empty_ledger, ledger_of, names_given, script_of};
+    ghost use Rattle.descriptor_script.specs.Scripted.Device.{empty_ledger, ledger_of, names_given, script_of};
 
     /// A device without pools, which begins with this script.
     pub fn new(alloc: Global, script: Vec<Answer>) -> Self
@@ -92,8 +92,8 @@ impl ScriptedDevice {
 }
 
 impl DescriptorDevice<ScriptLayout, RawPool, RawSet> for ScriptedDevice {
-    ghost use Rattle.descriptor_script.specs.Device.{ledger_of, names_given, script_of};
-    ghost use Rattle.descriptor_script.specs.Finite.{scripted_finite};
+    ghost use Rattle.descriptor_script.specs.Scripted.Device.{ledger_of, names_given, script_of};
+    ghost use Rattle.descriptor_script.specs.Inner.Finite.{scripted_finite};
 
     ghost pool_name = { pool_id };
 

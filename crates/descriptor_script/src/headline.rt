@@ -3,9 +3,9 @@
 //! returned, batched frees, with one device call per run, leave what freeing one by one leaves, marked
 //! descriptors never pass the limit, and a request fails only for a named cause.
 ghost use Rattle.std.specs.Prelude.{◌≡◌, IfOk, OnErr};
-ghost use Rattle.descriptor_script.specs.Headline.{CallsOnceARun, FailsForCause, FreesOneByOne, HoldsExactly, HoldsWhatIsOut, KeepsAll, KeepsLimit, TurnsDownBad};
-ghost use Rattle.descriptor_script.specs.Session.{IsReady, KeepsSession};
-ghost use Rattle.descriptor_script.specs.SessionRun.{RunsKeeping, RunsTo};
+ghost use Rattle.descriptor_script.specs.Sessions.Headline.{CallsOnceARun, FailsForCause, FreesOneByOne, HoldsExactly, HoldsWhatIsOut, KeepsAll, KeepsLimit, TurnsDownBad};
+ghost use Rattle.descriptor_script.specs.Sessions.Session.{IsReady, KeepsSession};
+ghost use Rattle.descriptor_script.specs.Sessions.SessionRun.{RunsKeeping, RunsTo};
 
 use crate::{Command, Reply, Session};
 use gpu_descriptor::DescriptorDevice;

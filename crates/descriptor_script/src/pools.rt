@@ -7,8 +7,8 @@ ghost use Rattle.gpu_descriptor_types.specs.Flags.{bits};
 ghost use Rattle.gpu_descriptor_types.specs.Layouts.{layout, left};
 ghost use Rattle.gpu_descriptor_types.specs.Ledger.{fresh as fresh_pool, on_pool, pool_refusals};
 ghost use Rattle.gpu_descriptor.specs.Model.Agreement.{HasSize};
-ghost use Rattle.descriptor_script.specs.Raw.{set_id};
-ghost use Rattle.descriptor_script.specs.Table.{AreNamed, PoolsAreBelow, SetsAreBelow};
+ghost use Rattle.descriptor_script.specs.Scripted.Raw.{set_id};
+ghost use Rattle.descriptor_script.specs.Inner.Table.{AreNamed, PoolsAreBelow, SetsAreBelow};
 
 use crate::live::{LivePool, fill, take_back};
 use crate::raw::{RawSet, ScriptLayout};
@@ -34,7 +34,7 @@ pub struct Pools {
 }
 
 impl Pools {
-    ghost use Rattle.descriptor_script.specs.Pools.{Grants, GivesBack, IsNew, IsSame, IsSameSink, names_of, pools_of};
+    ghost use Rattle.descriptor_script.specs.Inner.Pools.{Grants, GivesBack, IsNew, IsSame, IsSameSink, names_of, pools_of};
 
     pub fn new(alloc: Global) -> Self
         ensures { IsNew result }

@@ -1,6 +1,6 @@
 //! The layouts, pools and sets of a scripted device.
 ghost use Rattle.std.specs.Prelude.{◌≡◌};
-ghost use Rattle.descriptor_script.specs.Raw.{pool_id, set_id, set_pool};
+ghost use Rattle.descriptor_script.specs.Scripted.Raw.{pool_id, set_id, set_pool};
 
 use gpu_descriptor_types::DescriptorTotalCount;
 

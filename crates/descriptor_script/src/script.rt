@@ -1,7 +1,7 @@
 //! The words that a device is still to read.
 ghost use Rattle.std.specs.Prelude.{◌≡◌};
-ghost use Rattle.descriptor_script.specs.Script.{next_word, rest_words};
-ghost use Rattle.descriptor_script.specs.Words.{words_of};
+ghost use Rattle.descriptor_script.specs.Scripted.Script.{next_word, rest_words};
+ghost use Rattle.descriptor_script.specs.Inner.Words.{words_of};
 
 use crate::answer::Answer;
 use std::vec::IntoIter;

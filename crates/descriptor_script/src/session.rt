@@ -2,7 +2,7 @@
 ghost use Rattle.std.specs.Prelude.{◌≡◌, ◌≤◌, ◌++◌, [], ◌∷◌, length, IfOk, IfErr, OnOk, OnErr};
 ghost use Rattle.std.specs.Option.{option_copied};
 ghost use Rattle.gpu_descriptor.specs.Caller.States.{marked_load_of, pool_load_of, outstanding_of};
-ghost use Rattle.descriptor_script.specs.Tickets.{held_sets, set_at};
+ghost use Rattle.descriptor_script.specs.Sessions.Tickets.{held_sets, set_at};
 
 mod run;
 mod step;
@@ -36,7 +36,7 @@ pub struct Session<L, P, S> {
 }
 
 impl<L, P, S> Session<L, P, S> {
-    ghost use Rattle.descriptor_script.specs.Session.{allocator_of, known, layouts_of, sets_of};
+    ghost use Rattle.descriptor_script.specs.Sessions.Session.{allocator_of, known, layouts_of, sets_of};
 
     /// A session without layouts and sets, whose allocator has this limit on update-after-bind
     /// descriptors. It takes no memory.

@@ -1,7 +1,7 @@
 //! Sets by ticket.
 ghost use Rattle.std.specs.Prelude.{◌≡◌, ◌++◌, ◌∷◌, ◌<◌, ◌↔◌, [], length, map, slice_set, Some, None, IsSome, IsTrue, OnOk, OnErr, vec_len};
 ghost use Rattle.std.specs.Option.{option_copied};
-ghost use Rattle.descriptor_script.specs.Tickets.{AreClear, AreHeldOnce, held_sets, set_at};
+ghost use Rattle.descriptor_script.specs.Sessions.Tickets.{AreClear, AreHeldOnce, held_sets, set_at};
 
 use crate::marks::{clear_each, mark_each};
 use gpu_descriptor::DescriptorSet;
@@ -24,7 +24,7 @@ pub(crate) struct Slots<S> {
 }
 
 impl<S> Slots<S> {
-    ghost use Rattle.descriptor_script.specs.Slots.{HasRoom, KeepsRoom, slots_of};
+    ghost use Rattle.descriptor_script.specs.Inner.Slots.{HasRoom, KeepsRoom, slots_of};
 
     /// No ticket was given. It takes no memory.
     pub(crate) fn new(alloc: Global) -> Self

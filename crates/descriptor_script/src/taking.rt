@@ -14,8 +14,8 @@ pub(crate) struct Taking<'a, S> {
 }
 
 impl<S: Drop> Iterator for Taking<'_, S> {
-    ghost use Rattle.descriptor_script.specs.Taking.{TakesNext, slots_in, to_come};
-    ghost use Rattle.descriptor_script.specs.Tickets.{CanTake};
+    ghost use Rattle.descriptor_script.specs.Inner.Taking.{TakesNext, slots_in, to_come};
+    ghost use Rattle.descriptor_script.specs.Sessions.Tickets.{CanTake};
 
     type Item = DescriptorSet<S>;
 

@@ -2,9 +2,9 @@
 //! all its sets are free.
 ghost use Rattle.std.specs.Prelude.{◌≡◌, [], IfOk};
 ghost use Rattle.gpu_descriptor.specs.Caller.States.{Agrees, state_of};
-ghost use Rattle.descriptor_script.specs.Session.{AreAllHeld, AreMeant, allocator_of, layouts_of, sets_of};
-ghost use Rattle.descriptor_script.specs.SessionRun.{VisitsTo};
-ghost use Rattle.descriptor_script.specs.Tickets.{held_sets};
+ghost use Rattle.descriptor_script.specs.Sessions.Session.{AreAllHeld, AreMeant, allocator_of, layouts_of, sets_of};
+ghost use Rattle.descriptor_script.specs.Sessions.SessionRun.{VisitsTo};
+ghost use Rattle.descriptor_script.specs.Sessions.Tickets.{held_sets};
 
 use crate::{Command, Reply, Session};
 use gpu_descriptor::{DescriptorDevice, laws};

@@ -13,15 +13,15 @@ use Rattle.gpu_descriptor.specs.Caller.Values.{Allocations}
 use Rattle.gpu_descriptor.specs.declared.set.DescriptorSet.{DescriptorSet}
 use Rattle.gpu_descriptor.proofs.Others.{own_agrees, own_outstanding}
 use Rattle.gpu_descriptor.proofs.Places.{empty_agrees}
-use Rattle.descriptor_script.specs.Raw.{pool_id, set_id}
-use Rattle.descriptor_script.specs.Session.{allocator_of}
-use Rattle.descriptor_script.specs.Tickets.{held_sets}
+use Rattle.descriptor_script.specs.Scripted.Raw.{pool_id, set_id}
+use Rattle.descriptor_script.specs.Sessions.Session.{allocator_of}
+use Rattle.descriptor_script.specs.Sessions.Tickets.{held_sets}
 use Rattle.descriptor_script.specs.declared.raw.RawPool.{RawPool}
 use Rattle.descriptor_script.specs.declared.raw.RawSet.{RawSet}
 use Rattle.descriptor_script.specs.declared.raw.ScriptLayout.{ScriptLayout}
 use Rattle.descriptor_script.specs.declared.session.Session.{Session}
 use Rattle.descriptor_trials.specs.Pairs.{AreApart, ArePaired, IsNewSession, state_in}
-use Rattle.descriptor_script.specs.Ready.{IsScriptReady}
+use Rattle.descriptor_script.specs.Sessions.Ready.{IsScriptReady}
 
 abbrev Held : Type 0
 Held = Session ScriptLayout RawPool RawSet

@@ -3,7 +3,7 @@ use Rattle.std.proofs.Common.{◌≡◌, ℕ, zero, suc, Bool, List, [], ◌∷�
 use Rattle.std.specs.Prelude.{Result, Ok, Err, OnOk, OnErr}
 use Rattle.gpu_descriptor_types.specs.Counts.{kinds}
 use Rattle.gpu_descriptor.specs.Caller.Flags.{is_marked}
-use Rattle.descriptor_script.specs.Session.{AreMeant}
+use Rattle.descriptor_script.specs.Sessions.Session.{AreMeant}
 use Rattle.descriptor_script.specs.declared.session.KnownLayout.{KnownLayout}
 
 module _ {L : Type 0} (counts : L → List ℕ) (mark : L → Bool) where

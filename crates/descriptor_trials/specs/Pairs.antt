@@ -7,9 +7,9 @@ use Rattle.gpu_descriptor_types.specs.Ledger.{Ledger}
 use Rattle.gpu_descriptor.specs.Model.Agreement.{State}
 use Rattle.gpu_descriptor.specs.Model.Books.{Key, Entry, entry_at}
 use Rattle.gpu_descriptor.specs.Caller.States.{state_of}
-use Rattle.descriptor_script.specs.Raw.{pool_id}
-use Rattle.descriptor_script.specs.Ready.{IsScriptReady}
-use Rattle.descriptor_script.specs.Session.{AreMeant, allocator_of, layouts_of, sets_of}
+use Rattle.descriptor_script.specs.Scripted.Raw.{pool_id}
+use Rattle.descriptor_script.specs.Sessions.Ready.{IsScriptReady}
+use Rattle.descriptor_script.specs.Sessions.Session.{AreMeant, allocator_of, layouts_of, sets_of}
 use Rattle.descriptor_script.specs.declared.raw.RawPool.{RawPool}
 use Rattle.descriptor_script.specs.declared.raw.RawSet.{RawSet}
 use Rattle.descriptor_script.specs.declared.raw.ScriptLayout.{ScriptLayout}

@@ -2,7 +2,7 @@
 ghost use Rattle.std.specs.Prelude.{◌≡◌};
 ghost use Rattle.descriptor_script.proofs.OneReady.{IsReady-prop};
 ghost use Rattle.gpu_descriptor_types.specs.Counts.{kinds};
-ghost use Rattle.descriptor_script.specs.Session.{IsReady};
+ghost use Rattle.descriptor_script.specs.Sessions.Session.{IsReady};
 
 use descriptor_script::headline::headline;
 use descriptor_script::{

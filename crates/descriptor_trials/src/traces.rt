@@ -1,6 +1,6 @@
 //! What a device sees: its calls in their order, which no clause says, and what stands then.
 ghost use Rattle.gpu_descriptor.specs.Caller.States.{Agrees};
-ghost use Rattle.descriptor_script.specs.Raw.{pool_id};
+ghost use Rattle.descriptor_script.specs.Scripted.Raw.{pool_id};
 ghost use Rattle.descriptor_uses.specs.Logged.{ledger_logged};
 
 use crate::bench::{Bench, expect_pools, layout_of};

@@ -2,7 +2,7 @@
 //! word at each call, and rising names.
 ghost use Rattle.std.specs.Prelude.{◌≡◌, ◌+◌, ◌∷◌, replicate, IfOk, OnOk};
 ghost use Rattle.gpu_descriptor_types.specs.Counts.{kinds};
-ghost use Rattle.descriptor_script.specs.Device.{ledger_of};
+ghost use Rattle.descriptor_script.specs.Scripted.Device.{ledger_of};
 
 use crate::trip::{Room, TripError, round_trip};
 use descriptor_script::{Answer, RawPool, RawSet, ScriptLayout, ScriptedDevice};

@@ -1,6 +1,6 @@
 -- A device around the scripted one: what it owes.
 use Rattle.gpu_descriptor_types.specs.Ledger.{Ledger}
-use Rattle.descriptor_script.specs.Device.{ledger_of}
+use Rattle.descriptor_script.specs.Scripted.Device.{ledger_of}
 use Rattle.descriptor_uses.specs.declared.few_pools.FewPools.{FewPools}
 
 abbrev pub few_ledger : FewPools → Ledger

@@ -1,8 +1,8 @@
 -- What a logging device owes, the calls that it listed, its next name, and its script.
 use Rattle.std.specs.Prelude.{◌≡◌, ◌⊎◌, ℕ, List}
 use Rattle.gpu_descriptor_types.specs.Ledger.{Ledger}
-use Rattle.descriptor_script.specs.Device.{ledger_of, names_given, script_of}
-use Rattle.descriptor_script.specs.Script.{next_word, rest_words}
+use Rattle.descriptor_script.specs.Scripted.Device.{ledger_of, names_given, script_of}
+use Rattle.descriptor_script.specs.Scripted.Script.{next_word, rest_words}
 use Rattle.descriptor_script.specs.declared.answer.Answer.{Answer}
 use Rattle.descriptor_uses.specs.declared.log.Call.{Call}
 use Rattle.descriptor_uses.specs.declared.log_device.LogDevice.{LogDevice}

@@ -1,6 +1,6 @@
 //! The callers of one layout and of two, on a device of its own.
 ghost use Rattle.std.specs.Prelude.{◌≡◌};
-ghost use Rattle.descriptor_script.specs.Device.{empty_ledger};
+ghost use Rattle.descriptor_script.specs.Scripted.Device.{empty_ledger};
 ghost use Rattle.descriptor_uses.specs.FewPools.{few_ledger};
 
 use crate::few_pools::FewPools;

@@ -3,8 +3,8 @@ ghost use Rattle.std.specs.Prelude.{◌≡◌, ◌≤◌, OnOk, IfErr};
 ghost use Rattle.gpu_descriptor_types.specs.Counts.{kinds};
 ghost use Rattle.gpu_descriptor_types.specs.Layouts.{layout, left};
 ghost use Rattle.gpu_descriptor_types.specs.Ledger.{HasRoom, Puts, PutsNone};
-ghost use Rattle.descriptor_script.specs.Device.{empty_ledger, ledger_of};
-ghost use Rattle.descriptor_script.specs.Raw.{pool_id, set_id};
+ghost use Rattle.descriptor_script.specs.Scripted.Device.{empty_ledger, ledger_of};
+ghost use Rattle.descriptor_script.specs.Scripted.Raw.{pool_id, set_id};
 
 use descriptor_script::{RawPool, RawSet, ScriptLayout, ScriptedDevice};
 use gpu_descriptor::{
@@ -35,7 +35,7 @@ impl FewPools {
 }
 
 impl DescriptorDevice<ScriptLayout, RawPool, RawSet> for FewPools {
-    ghost use Rattle.descriptor_script.specs.Finite.{scripted_finite};
+    ghost use Rattle.descriptor_script.specs.Inner.Finite.{scripted_finite};
     ghost use Rattle.descriptor_uses.specs.FewPools.{few_ledger};
 
     ghost pool_name = { pool_id };

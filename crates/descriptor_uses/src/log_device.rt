@@ -5,9 +5,9 @@ ghost use Rattle.gpu_descriptor_types.specs.Counts.{kinds};
 ghost use Rattle.gpu_descriptor_types.specs.Flags.{bits};
 ghost use Rattle.gpu_descriptor_types.specs.Layouts.{layout, left};
 ghost use Rattle.gpu_descriptor_types.specs.Ledger.{AreLive, HasNoSets, HasRoom, Puts, PutsNone, Releases, after_create, after_destroy, after_no_create};
-ghost use Rattle.descriptor_script.specs.Device.{empty_ledger, ledger_of, names_given, script_of};
-ghost use Rattle.descriptor_script.specs.Raw.{pool_id, set_id};
-ghost use Rattle.descriptor_script.specs.Script.{alloc_error, create_error, next_word, rest_words};
+ghost use Rattle.descriptor_script.specs.Scripted.Device.{empty_ledger, ledger_of, names_given, script_of};
+ghost use Rattle.descriptor_script.specs.Scripted.Raw.{pool_id, set_id};
+ghost use Rattle.descriptor_script.specs.Scripted.Script.{alloc_error, create_error, next_word, rest_words};
 ghost use Rattle.descriptor_uses.specs.Owed.{IsOwed, ReleasesMany};
 ghost use Rattle.descriptor_uses.specs.Released.{ListsRelease};
 
@@ -96,7 +96,7 @@ impl LogDevice {
 }
 
 impl DescriptorDevice<ScriptLayout, RawPool, RawSet> for LogDevice {
-    ghost use Rattle.descriptor_script.specs.Finite.{scripted_finite};
+    ghost use Rattle.descriptor_script.specs.Inner.Finite.{scripted_finite};
     ghost use Rattle.descriptor_uses.specs.Logged.{IsRefused, calls_of, ledger_logged, next_pool, script_logged};
 
     ghost pool_name = { pool_id };

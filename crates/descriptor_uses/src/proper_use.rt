@@ -2,7 +2,7 @@
 ghost use Rattle.std.specs.Prelude.{◌≡◌, ◌+◌, IfOk, OnOk};
 ghost use Rattle.gpu_descriptor.specs.Caller.Flags.{is_marked};
 ghost use Rattle.gpu_descriptor.specs.Caller.States.{Agrees};
-ghost use Rattle.descriptor_script.specs.Raw.{pool_id};
+ghost use Rattle.descriptor_script.specs.Scripted.Raw.{pool_id};
 ghost use Rattle.descriptor_uses.specs.Logged.{ledger_logged, next_pool};
 
 use crate::log_device::LogDevice;

@@ -1,8 +1,8 @@
 //! The answers of the commands that a session runs.
 ghost use Rattle.std.specs.Prelude.{◌≡◌, ◌<◌, ◌+◌, IsSome};
 ghost use Rattle.descriptor_lines.specs.Replies.{AreHeld, HasAnswer, pool_at};
-ghost use Rattle.descriptor_script.specs.Session.{sets_of};
-ghost use Rattle.descriptor_script.specs.Tickets.{set_at};
+ghost use Rattle.descriptor_script.specs.Sessions.Session.{sets_of};
+ghost use Rattle.descriptor_script.specs.Sessions.Tickets.{set_at};
 
 use super::NO_MEMORY;
 use crate::program::LineSession;

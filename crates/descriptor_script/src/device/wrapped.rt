@@ -2,14 +2,14 @@
 ghost use Rattle.std.specs.Prelude.{◌≡◌, IfSome};
 ghost use Rattle.gpu_descriptor_types.specs.Ledger.{after_no_alloc, after_no_create};
 ghost use Rattle.gpu_descriptor.specs.Model.Agreement.{HasSize};
-ghost use Rattle.descriptor_script.specs.Raw.{pool_id};
+ghost use Rattle.descriptor_script.specs.Scripted.Raw.{pool_id};
 
 use super::ScriptedDevice;
 use crate::raw::RawPool;
 use gpu_descriptor_types::{CreatePoolError, DeviceAllocationError};
 
 impl ScriptedDevice {
-    ghost use Rattle.descriptor_script.specs.Device.{ledger_of, names_given, script_of};
+    ghost use Rattle.descriptor_script.specs.Scripted.Device.{ledger_of, names_given, script_of};
 
     /// How many sets are live in the pool; 0 where the pool isn't live.
     pub fn live_sets(&self, pool: &RawPool) -> usize

@@ -1,7 +1,7 @@
 //! Commands, one after another.
 ghost use Rattle.std.specs.Prelude.{◌≡◌, IfOk, OnErr};
-ghost use Rattle.descriptor_script.specs.Session.{IsReady, KeepsSession};
-ghost use Rattle.descriptor_script.specs.SessionRun.{RunsTo};
+ghost use Rattle.descriptor_script.specs.Sessions.Session.{IsReady, KeepsSession};
+ghost use Rattle.descriptor_script.specs.Sessions.SessionRun.{RunsTo};
 
 use super::Session;
 use crate::command::{Command, Reply};

@@ -1,4 +1,4 @@
-use Rattle.descriptor_script.specs.Headline.{CallsOnceARun, FailsForCause, FreesOneByOne, HoldsExactly, HoldsWhatIsOut, KeepsAll, KeepsLimit, TurnsDownBad}
+use Rattle.descriptor_script.specs.Sessions.Headline.{CallsOnceARun, FailsForCause, FreesOneByOne, HoldsExactly, HoldsWhatIsOut, KeepsAll, KeepsLimit, TurnsDownBad}
 use Rattle.descriptor_script.proofs.Promised.{if_ok, kept_along, holds_exactly, holds_what_is_out, frees_one_by_one, calls_once_a_run, keeps_limit, fails_for_cause, turns_down_bad, keeps_all}
 use Rattle.descriptor_script.proofs.headline.headline.Goals as goal
 

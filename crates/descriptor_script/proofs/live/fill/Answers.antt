@@ -1,7 +1,7 @@
 use Rattle.std.proofs.Common.{◌≡◌, ℕ, ◌+◌, ◌<◌, [], ◌∷◌, ◌++◌, length, length-append, sym, ap, ◌∙◌, arith}
 use Rattle.gpu_descriptor_types.specs.declared.counts.DescriptorTotalCount.{DescriptorTotalCount}
 use Rattle.indexmap.specs.IndexMap.{spare}
-use Rattle.descriptor_script.specs.Raw.{raw_set}
+use Rattle.descriptor_script.specs.Scripted.Raw.{raw_set}
 use Rattle.descriptor_script.proofs.Filling.{grown, kept_grown, next_same, none_above, put_last, put_changes}
 use Rattle.descriptor_script.proofs.live.fill.Goals as goal
 

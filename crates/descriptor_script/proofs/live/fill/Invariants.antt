@@ -2,8 +2,8 @@ use Rattle.std.proofs.Common.{◌≡◌, ℕ, ◌+◌, ◌≤◌, None, nat_eq, 
 use Rattle.std.specs.List.{range_with_len}
 use Rattle.indexmap.specs.IndexMap.{get, spare}
 use Rattle.gpu_descriptor_types.specs.Layouts.{layout, left}
-use Rattle.descriptor_script.specs.Live.{entries_named}
-use Rattle.descriptor_script.specs.Raw.{raw_sets}
+use Rattle.descriptor_script.specs.Inner.Live.{entries_named}
+use Rattle.descriptor_script.specs.Scripted.Raw.{raw_sets}
 use Rattle.descriptor_script.proofs.live.fill.Given as goal
 
 -- a set was put for each layout so far

@@ -3,8 +3,8 @@ use Rattle.std.proofs.iter.Next.{Yields-more}
 use Rattle.indexmap.specs.IndexMap.{get}
 use Rattle.gpu_descriptor_types.specs.Multiset.{LiveSet}
 use Rattle.gpu_descriptor_types.proofs.Counting.{count_by-append}
-use Rattle.descriptor_script.specs.Live.{live_set_of, live_sets_of}
-use Rattle.descriptor_script.specs.Raw.{set_id}
+use Rattle.descriptor_script.specs.Inner.Live.{live_set_of, live_sets_of}
+use Rattle.descriptor_script.specs.Scripted.Raw.{set_id}
 use Rattle.descriptor_script.proofs.Entries.{map_push, none_either, taken, some_left, found_left}
 use Rattle.descriptor_script.proofs.live.take_back.Goals as goal
 

@@ -2,8 +2,8 @@ use Rattle.std.proofs.Common.{◌≡◌, ℕ, ◌+◌, Bool, None, nat_eq, List,
 use Rattle.std.specs.Iterator.{Yields}
 use Rattle.indexmap.specs.IndexMap.{get}
 use Rattle.gpu_descriptor_types.specs.Multiset.{LiveSet}
-use Rattle.descriptor_script.specs.Raw.{set_id}
-use Rattle.descriptor_script.specs.Live.{live_sets_of}
+use Rattle.descriptor_script.specs.Scripted.Raw.{set_id}
+use Rattle.descriptor_script.specs.Inner.Live.{live_sets_of}
 use Rattle.descriptor_script.proofs.live.take_back.Given as goal
 
 -- the sets so far are gone, and the others are left

@@ -2,7 +2,7 @@ use Rattle.std.proofs.Common.{◌≡◌, ◌≢◌, ℕ, ◌<◌, true, false, L
 use Rattle.std.proofs.lemmas.Bool.{cases_eq}
 use Rattle.std.proofs.lemmas.List.{get_or-set_other, get_or-set_same}
 use Rattle.std.specs.Prelude.{IsSome}
-use Rattle.descriptor_script.specs.Tickets.{set_at}
+use Rattle.descriptor_script.specs.Sessions.Tickets.{set_at}
 use Rattle.descriptor_script.proofs.Emptied.{some_within}
 use Rattle.descriptor_script.proofs.marks.mark_each.Goals as goal
 

@@ -1,6 +1,6 @@
 use Rattle.std.proofs.Common.{◌≡◌, ◌≢◌, ℕ, ◌<◌, true, false, get_or}
 use Rattle.std.specs.Prelude.{IsSome}
-use Rattle.descriptor_script.specs.Tickets.{set_at}
+use Rattle.descriptor_script.specs.Sessions.Tickets.{set_at}
 use Rattle.descriptor_script.proofs.marks.mark_each.Given as goal
 
 -- the tickets so far have sets and are distinct, and exactly they are marked

@@ -5,9 +5,9 @@ use Rattle.gpu_descriptor.specs.Model.Books.{Key, books_of, no_pools}
 use Rattle.gpu_descriptor.specs.Caller.Sets.{items_of}
 use Rattle.gpu_descriptor.specs.Caller.States.{named_row, state_of}
 use Rattle.gpu_descriptor.specs.Caller.Values.{Row}
-use Rattle.descriptor_script.specs.Session.{allocator_of}
-use Rattle.descriptor_script.specs.Steps.{Cleans, CleansTo}
-use Rattle.descriptor_script.specs.Tickets.{held_sets}
+use Rattle.descriptor_script.specs.Sessions.Session.{allocator_of}
+use Rattle.descriptor_script.specs.Sessions.Steps.{Cleans, CleansTo}
+use Rattle.descriptor_script.specs.Sessions.Tickets.{held_sets}
 use Rattle.descriptor_script.specs.declared.command.Reply.{Reply}
 use Rattle.descriptor_script.specs.declared.command.Reply.TheVariants.{Sets, Refused, Freed, BadTicket, BadLayout, NoMemory, Clean}
 use Rattle.descriptor_script.specs.declared.session.Session.{Session}

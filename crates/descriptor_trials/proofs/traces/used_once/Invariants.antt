@@ -1,5 +1,5 @@
 use Rattle.gpu_descriptor.specs.Caller.States.{Agrees}
-use Rattle.descriptor_script.specs.Raw.{pool_id}
+use Rattle.descriptor_script.specs.Scripted.Raw.{pool_id}
 use Rattle.descriptor_uses.specs.Logged.{ledger_logged}
 use Rattle.descriptor_trials.proofs.traces.used_once.Given as goal
 

@@ -1,6 +1,6 @@
 use Rattle.std.proofs.Common.{false, refl, arith}
 use Rattle.gpu_descriptor_types.specs.Counts.{kinds}
-use Rattle.descriptor_script.specs.Device.{ledger_of}
+use Rattle.descriptor_script.specs.Scripted.Device.{ledger_of}
 use Rattle.descriptor_trials.proofs.Trips.{enough_samplers, has_room, made}
 use Rattle.descriptor_trials.proofs.words.filled.Goals as goal
 

@@ -1,6 +1,6 @@
 use Rattle.std.proofs.Common.{[], refl}
-use Rattle.descriptor_script.specs.Device.{ledger_of}
-use Rattle.descriptor_script.specs.Raw.{set_id}
+use Rattle.descriptor_script.specs.Scripted.Device.{ledger_of}
+use Rattle.descriptor_script.specs.Scripted.Raw.{set_id}
 use Rattle.descriptor_uses.proofs.Owing.{release_counted}
 use Rattle.descriptor_uses.proofs.log_device.release.Goals as goal
 

@@ -1,6 +1,6 @@
 use Rattle.std.proofs.Common.{◌∷◌, ◌++◌, [], refl, sym, ap, ◌∙◌}
 use Rattle.std.proofs.lemmas.List.{map-append}
-use Rattle.descriptor_script.specs.Session.{layouts_of}
+use Rattle.descriptor_script.specs.Sessions.Session.{layouts_of}
 use Rattle.descriptor_lines.specs.LayoutTable.{layouts_in}
 use Rattle.descriptor_lines.specs.Programs.{scripted}
 use Rattle.descriptor_lines.proofs.SessionLemmas.{meant_more, same_is_ready}

@@ -1,6 +1,6 @@
 use Rattle.std.proofs.Common.{length, refl}
-use Rattle.descriptor_script.specs.Device.{ledger_of}
-use Rattle.descriptor_script.specs.Session.{layouts_of}
+use Rattle.descriptor_script.specs.Scripted.Device.{ledger_of}
+use Rattle.descriptor_script.specs.Sessions.Session.{layouts_of}
 use Rattle.descriptor_lines.specs.Commands.{IsKnown}
 use Rattle.descriptor_lines.proofs.SessionLemmas.{as_many, few_tickets, has_answer, no_memory_changes_nothing, step_of_one, still_runs}
 use Rattle.descriptor_lines.proofs.program.Program.ask.Goals as goal

@@ -2,8 +2,8 @@ use Rattle.std.proofs.Common.{refl, sym, ap, subst, ◌∙◌}
 use Rattle.gpu_descriptor_types.specs.Counts.{kinds}
 use Rattle.gpu_descriptor_types.specs.Layouts.{layout, left}
 use Rattle.gpu_descriptor_types.specs.Ledger.{Sink}
-use Rattle.descriptor_script.specs.Counters.{counters_of}
-use Rattle.descriptor_script.specs.Pools.{IsSameSink, pools_of}
+use Rattle.descriptor_script.specs.Inner.Counters.{counters_of}
+use Rattle.descriptor_script.specs.Inner.Pools.{IsSameSink, pools_of}
 use Rattle.descriptor_script.specs.declared.device.ScriptedDevice.{ScriptedDevice}
 use Rattle.descriptor_script.specs.declared.raw.RawSet.{RawSet}
 use Rattle.descriptor_script.proofs.Calls.{puts, puts_none, IsUntouched}

@@ -5,9 +5,9 @@ use Rattle.gpu_descriptor_types.specs.Counts.{kinds}
 use Rattle.gpu_descriptor_types.specs.Ledger.{live_sets}
 use Rattle.gpu_descriptor_types.specs.Layouts.{layout, left}
 use Rattle.gpu_descriptor_types.specs.Multiset.{LiveSet, times}
-use Rattle.descriptor_script.specs.Live.{live_sets_of, entries_named}
-use Rattle.descriptor_script.specs.Raw.{set_id, raw_sets}
-use Rattle.descriptor_script.specs.Table.{seen}
+use Rattle.descriptor_script.specs.Inner.Live.{live_sets_of, entries_named}
+use Rattle.descriptor_script.specs.Scripted.Raw.{set_id, raw_sets}
+use Rattle.descriptor_script.specs.Inner.Table.{seen}
 use Rattle.descriptor_script.specs.declared.live.LivePool.{LivePool}
 use Rattle.descriptor_script.proofs.Written.{written, pools_below, sets_below, sets_still_below, free_names, on_written, more_live}
 use Rattle.descriptor_script.proofs.pools.Pools.grant.Goals as goal

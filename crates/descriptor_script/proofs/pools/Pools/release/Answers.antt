@@ -3,8 +3,8 @@ use Rattle.std.specs.Prelude.{IfSome}
 use Rattle.std.proofs.Math.Path.{fun_ext}
 use Rattle.gpu_descriptor_types.specs.Ledger.{Pool}
 use Rattle.gpu_descriptor_types.specs.Multiset.{LiveSet, times, AreIn}
-use Rattle.descriptor_script.specs.Live.{live_sets_of}
-use Rattle.descriptor_script.specs.Table.{seen}
+use Rattle.descriptor_script.specs.Inner.Live.{live_sets_of}
+use Rattle.descriptor_script.specs.Inner.Table.{seen}
 use Rattle.descriptor_script.specs.declared.live.LivePool.{LivePool}
 use Rattle.descriptor_script.proofs.Written.{written, pools_below, sets_still_below, seen_was, on_written, same_pool, none_is_live}
 use Rattle.descriptor_script.proofs.pools.Pools.release.Goals as goal

@@ -1,8 +1,8 @@
 use Rattle.std.proofs.Common.{◌≡◌, ◌++◌, map, Some, OnOk, Result, Ok, Err, is_err, true, false, length, slice_get, refl, rules, sym, ap, ◌∙◌, arith}
 use Rattle.std.proofs.lemmas.Option.{slice_get_read}
 use Rattle.gpu_descriptor.specs.Caller.States.{state_of}
-use Rattle.descriptor_script.specs.Slots.{HasRoom}
-use Rattle.descriptor_script.specs.Tickets.{held_sets}
+use Rattle.descriptor_script.specs.Inner.Slots.{HasRoom}
+use Rattle.descriptor_script.specs.Sessions.Tickets.{held_sets}
 use Rattle.descriptor_script.proofs.Held.{all_held_more, held_sum}
 use Rattle.descriptor_script.proofs.session.Session.allocate.Goals.{In-Some}
 use Rattle.descriptor_script.proofs.session.Session.allocate.Goals as goal

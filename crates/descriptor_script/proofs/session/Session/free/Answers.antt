@@ -1,10 +1,10 @@
 use Rattle.std.proofs.Common.{◌≡◌, length, map, ap, ◌∙◌, arith, rules}
 use Rattle.gpu_descriptor.specs.Model.Agreement.{State}
 use Rattle.gpu_descriptor.specs.Caller.States.{state_of}
-use Rattle.descriptor_script.specs.Session.{AreAllHeld}
-use Rattle.descriptor_script.specs.Slots.{slots_of}
-use Rattle.descriptor_script.specs.Taking.{to_come}
-use Rattle.descriptor_script.specs.Tickets.{AreHeldOnce, emptied, held_sets, set_at}
+use Rattle.descriptor_script.specs.Sessions.Session.{AreAllHeld}
+use Rattle.descriptor_script.specs.Inner.Slots.{slots_of}
+use Rattle.descriptor_script.specs.Inner.Taking.{to_come}
+use Rattle.descriptor_script.specs.Sessions.Tickets.{AreHeldOnce, emptied, held_sets, set_at}
 use Rattle.descriptor_script.specs.declared.taking.Taking.{Taking}
 use Rattle.descriptor_script.proofs.Emptied.{all_emptied, all_held_less, all_out, can_take, each_taken, fewer_held, held_as}
 use Rattle.descriptor_script.proofs.session.Session.free.Goals.{After-iter}

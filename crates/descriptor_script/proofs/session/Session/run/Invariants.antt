@@ -1,6 +1,6 @@
 use Rattle.std.proofs.Common.{◌≡◌, ◌≤◌, length, take, vec_len, vec_capacity}
-use Rattle.descriptor_script.specs.Session.{KeepsSession}
-use Rattle.descriptor_script.specs.SessionRun.{RunsTo}
+use Rattle.descriptor_script.specs.Sessions.Session.{KeepsSession}
+use Rattle.descriptor_script.specs.Sessions.SessionRun.{RunsTo}
 use Rattle.descriptor_script.proofs.session.Session.run.Given as goal
 
 -- the commands so far were done, and there is room for the other replies

@@ -1,6 +1,6 @@
 use Rattle.std.proofs.Common.{◌≡◌, ◌++◌, length, map, Some}
 use Rattle.std.specs.Vec.Iter.{into_iter_items}
-use Rattle.descriptor_script.specs.Slots.{HasRoom, slots_of}
+use Rattle.descriptor_script.specs.Inner.Slots.{HasRoom, slots_of}
 use Rattle.descriptor_script.proofs.slots.Slots.append.Given as goal
 
 -- the sets so far are put, and there is room for the others

@@ -1,5 +1,5 @@
 use Rattle.std.proofs.Common.{sym, ◌∙◌}
-use Rattle.descriptor_script.specs.Session.{known, layouts_of}
+use Rattle.descriptor_script.specs.Sessions.Session.{known, layouts_of}
 use Rattle.descriptor_trials.proofs.Layouts.{meant_after}
 use Rattle.descriptor_trials.proofs.bench.Bench.add_layout.Goals as goal
 

@@ -1,7 +1,7 @@
 use Rattle.std.proofs.Common.{ap}
 use Rattle.std.proofs.lemmas.Grind.{merely}
 use Rattle.gpu_descriptor_types.specs.Ledger.{Ledger}
-use Rattle.descriptor_script.specs.Device.{ledger_of}
+use Rattle.descriptor_script.specs.Scripted.Device.{ledger_of}
 use Rattle.descriptor_uses.proofs.Owing.{nothing_owed}
 use Rattle.descriptor_uses.proofs.log_device.LogDevice.with_script.Goals as goal
 

@@ -3,7 +3,7 @@ use Rattle.std.proofs.Math.Logic.{∥∥₁_map}
 use Rattle.gpu_descriptor_types.specs.Counts.{kinds}
 use Rattle.gpu_descriptor_types.specs.Flags.{bits}
 use Rattle.gpu_descriptor_types.specs.Ledger.{Ledger}
-use Rattle.descriptor_script.specs.Device.{ledger_of}
+use Rattle.descriptor_script.specs.Scripted.Device.{ledger_of}
 use Rattle.descriptor_uses.proofs.Owing.{created, moved, still_owed}
 use Rattle.descriptor_uses.proofs.log_device.LogDeviceDescriptorDeviceScriptLayoutRawPoolRawSet.create_descriptor_pool.Goals as goal
 

@@ -1,6 +1,6 @@
 -- The counters of a ledger, as a device keeps them.
-use Rattle.gpu_descriptor_types.specs.Ledger as ledger
 use Rattle.descriptor_script.specs.declared.counters.Counters.{Counters}
+use Rattle.gpu_descriptor_types.specs.Ledger as ledger
 
 abbrev pub counters_of : Counters → ledger.Counters
 counters_of n = record {

@@ -23,3 +23,8 @@ raw_set pool id = record { id = id; pool = pool }
 -- many sets of this pool, under names from first up
 abbrev pub raw_sets : ℕ → ℕ → ℕ → List RawSet
 raw_sets pool first many = map (raw_set pool) (range_with_len first many)
+
+-- how many names were given to pools and to sets
+pub record Names : Type 0 where
+  pub pools : ℕ
+  pub sets : ℕ

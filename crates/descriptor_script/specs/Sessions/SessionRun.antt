@@ -1,8 +1,8 @@
 -- A run of a session: commands one after another, each with its reply.
 use Rattle.std.specs.Prelude.{◌≡◌, ℕ, Bool, List, [], ◌∷◌}
 use Rattle.gpu_descriptor_types.specs.Ledger.{Ledger}
-use Rattle.descriptor_script.specs.Session.{KeepsSession}
-use Rattle.descriptor_script.specs.Steps.{Cleans, StepsTo}
+use Rattle.descriptor_script.specs.Sessions.Session.{KeepsSession}
+use Rattle.descriptor_script.specs.Sessions.Steps.{Cleans, StepsTo}
 use Rattle.descriptor_script.specs.declared.command.Command.{Command}
 use Rattle.descriptor_script.specs.declared.command.Reply.{Reply}
 use Rattle.descriptor_script.specs.declared.session.Session.{Session}

@@ -2,8 +2,8 @@
 use Rattle.std.specs.Prelude.{◌≡◌, ℕ, List, [], ◌∷◌, slice_set, Option, None, Some, MatchOption}
 use Rattle.std.specs.Slice.Iter.{iter_rest}
 use Rattle.gpu_descriptor.specs.declared.set.DescriptorSet.{DescriptorSet}
-use Rattle.descriptor_script.specs.Slots.{slots_of}
-use Rattle.descriptor_script.specs.Tickets.{set_at}
+use Rattle.descriptor_script.specs.Inner.Slots.{slots_of}
+use Rattle.descriptor_script.specs.Sessions.Tickets.{set_at}
 use Rattle.descriptor_script.specs.declared.taking.Taking.{Taking}
 
 module _ {S : Type 0} where

@@ -1,11 +1,11 @@
 -- What the words of a script mean.
 use Rattle.std.specs.Prelude.{List, [], ◌∷◌}
 use Rattle.gpu_descriptor_types.specs.declared.errors.CreatePoolError.{CreatePoolError}
-use Rattle.gpu_descriptor_types.specs.declared.errors.CreatePoolError.TheVariants as create
 use Rattle.gpu_descriptor_types.specs.declared.errors.DeviceAllocationError.{DeviceAllocationError}
-use Rattle.gpu_descriptor_types.specs.declared.errors.DeviceAllocationError.TheVariants as alloc
 use Rattle.descriptor_script.specs.declared.answer.Answer.{Answer}
 use Rattle.descriptor_script.specs.declared.answer.Answer.TheVariants.{Ok, Device, Host, Frag, Pool}
+use Rattle.gpu_descriptor_types.specs.declared.errors.CreatePoolError.TheVariants as create
+use Rattle.gpu_descriptor_types.specs.declared.errors.DeviceAllocationError.TheVariants as alloc
 
 -- the word that is read next. After the end it is Ok
 abbrev pub next_word : List Answer → Answer

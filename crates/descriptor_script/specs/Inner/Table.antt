@@ -6,7 +6,7 @@ use Rattle.gpu_descriptor_types.specs.Counts.{kinds}
 use Rattle.gpu_descriptor_types.specs.Flags.{bits}
 use Rattle.gpu_descriptor_types.specs.Ledger.{Pool}
 use Rattle.gpu_descriptor_types.specs.Multiset.{LiveSet, times, AreIn}
-use Rattle.descriptor_script.specs.Live.{live_sets_of}
+use Rattle.descriptor_script.specs.Inner.Live.{live_sets_of}
 use Rattle.descriptor_script.specs.declared.live.LivePool.{LivePool}
 
 -- what the ledger shows of a pool
@@ -28,11 +28,6 @@ PoolsAreBelow live next = (q : ℕ) → next ≤ q → is_some (get nat_eq live 
 -- no live set has this name or a later one
 abbrev pub SetsAreBelow : {S : Type 0} → IndexMap ℕ LivePool S → ℕ → Type 0
 SetsAreBelow live next = (q n : ℕ) → next ≤ n → has_set n (get nat_eq live q) ≡ false
-
--- how many names were given to pools and to sets
-pub record Names : Type 0 where
-  pub pools : ℕ
-  pub sets : ℕ
 
 -- sets of these names are live in the pool of this name
 pub record AreNamed (name : ℕ) (names : List ℕ) (pools : ℕ → Option Pool) : Type 0 where

@@ -4,9 +4,9 @@ use Rattle.std.specs.Option.{option_map}
 use Rattle.indexmap.specs.IndexMap.{get}
 use Rattle.gpu_descriptor_types.specs.Ledger.{IsFiniteLedger}
 use Rattle.gpu_descriptor_types.specs.Multiset.{LiveSet, Spells}
-use Rattle.descriptor_script.specs.Device.{ledger_of}
-use Rattle.descriptor_script.specs.Live.{live_sets_of}
-use Rattle.descriptor_script.specs.Table.{seen}
+use Rattle.descriptor_script.specs.Scripted.Device.{ledger_of}
+use Rattle.descriptor_script.specs.Inner.Live.{live_sets_of}
+use Rattle.descriptor_script.specs.Inner.Table.{seen}
 use Rattle.descriptor_script.specs.declared.device.ScriptedDevice.{ScriptedDevice}
 use Rattle.descriptor_script.specs.declared.live.LivePool.{LivePool}
 

@@ -4,7 +4,7 @@ use Rattle.std.specs.Iterator.{YieldsThen}
 use Rattle.gpu_descriptor_types.specs.Counts.{kinds}
 use Rattle.gpu_descriptor_types.specs.Multiset.{LiveSet, times, AreIn}
 use Rattle.gpu_descriptor_types.specs.declared.counts.DescriptorTotalCount.{DescriptorTotalCount}
-use Rattle.descriptor_script.specs.Raw.{set_id}
+use Rattle.descriptor_script.specs.Scripted.Raw.{set_id}
 use Rattle.descriptor_script.specs.declared.raw.RawSet.{RawSet}
 
 -- the set of an entry

@@ -1,10 +1,10 @@
 -- What a scripted device owes, and what it is to answer.
 use Rattle.std.specs.Prelude.{List, None}
 use Rattle.gpu_descriptor_types.specs.Ledger.{Ledger}
-use Rattle.descriptor_script.specs.Counters.{counters_of, no_counters}
-use Rattle.descriptor_script.specs.Pools.{pools_of, names_of}
-use Rattle.descriptor_script.specs.Table.{Names}
-use Rattle.descriptor_script.specs.Words.{words_of}
+use Rattle.descriptor_script.specs.Inner.Counters.{counters_of, no_counters}
+use Rattle.descriptor_script.specs.Inner.Pools.{pools_of, names_of}
+use Rattle.descriptor_script.specs.Scripted.Raw.{Names}
+use Rattle.descriptor_script.specs.Inner.Words.{words_of}
 use Rattle.descriptor_script.specs.declared.answer.Answer.{Answer}
 use Rattle.descriptor_script.specs.declared.device.ScriptedDevice.{ScriptedDevice}
 

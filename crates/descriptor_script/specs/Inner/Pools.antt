@@ -3,8 +3,8 @@ use Rattle.std.specs.Prelude.{◌≡◌, ℕ, ◌+◌, ◌-◌, List, ◌++◌, 
 use Rattle.std.specs.Iterator.{YieldsThen}
 use Rattle.gpu_descriptor_types.specs.Ledger.{Pool, on_pool, Sink, live_sets}
 use Rattle.gpu_descriptor_types.specs.Multiset.{LiveSet, times, AreIn}
-use Rattle.descriptor_script.specs.Raw.{set_id, raw_sets}
-use Rattle.descriptor_script.specs.Table.{pools_in, Names}
+use Rattle.descriptor_script.specs.Scripted.Raw.{set_id, raw_sets, Names}
+use Rattle.descriptor_script.specs.Inner.Table.{pools_in}
 use Rattle.descriptor_script.specs.declared.pools.Pools.{Pools}
 use Rattle.descriptor_script.specs.declared.raw.RawSet.{RawSet}
 

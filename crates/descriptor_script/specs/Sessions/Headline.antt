@@ -9,10 +9,10 @@ use Rattle.gpu_descriptor.specs.Model.Runs.{runs}
 use Rattle.gpu_descriptor.specs.Caller.Sets.{items_of}
 use Rattle.gpu_descriptor.specs.Caller.States.{marked_load_of, pool_load_of, outstanding_of, state_of}
 use Rattle.gpu_descriptor.specs.declared.set.DescriptorSet.{DescriptorSet}
-use Rattle.descriptor_script.specs.Session.{AreAllHeld, allocator_of, layouts_of, sets_of}
-use Rattle.descriptor_script.specs.SessionRun.{Step}
-use Rattle.descriptor_script.specs.Steps.{IsAsBefore}
-use Rattle.descriptor_script.specs.Tickets.{AreHeldOnce, emptied, held_sets, set_at}
+use Rattle.descriptor_script.specs.Sessions.Session.{AreAllHeld, allocator_of, layouts_of, sets_of}
+use Rattle.descriptor_script.specs.Sessions.SessionRun.{Step}
+use Rattle.descriptor_script.specs.Sessions.Steps.{IsAsBefore}
+use Rattle.descriptor_script.specs.Sessions.Tickets.{AreHeldOnce, emptied, held_sets, set_at}
 use Rattle.descriptor_script.specs.declared.command.Command.{Command}
 use Rattle.descriptor_script.specs.declared.command.Command.TheVariants.{Allocate, Free, Cleanup}
 use Rattle.descriptor_script.specs.declared.command.Reply.{Reply}
