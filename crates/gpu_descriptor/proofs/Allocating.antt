@@ -5,10 +5,10 @@ use Rattle.std.specs.Prelude.{OnOk, IfErr}
 use Rattle.gpu_descriptor_types.specs.Ledger.{Ledger, Counters, alloc_refused, create_refused}
 use Rattle.gpu_descriptor.specs.declared.errors.AllocationError.{AllocationError}
 use Rattle.gpu_descriptor.specs.declared.set.DescriptorSet.{DescriptorSet}
-use Rattle.gpu_descriptor.specs.declared.take.Refusal.{Refusal}
-use Rattle.gpu_descriptor.specs.declared.take.Refusal.TheVariants as refusal
-use Rattle.gpu_descriptor.specs.declared.take.Stop.{Stop}
-use Rattle.gpu_descriptor.specs.declared.take.Stop.TheVariants as stop
+use Rattle.gpu_descriptor.specs.declared.bucket.take.Refusal.{Refusal}
+use Rattle.gpu_descriptor.specs.declared.bucket.take.Refusal.TheVariants as refusal
+use Rattle.gpu_descriptor.specs.declared.bucket.take.Stop.{Stop}
+use Rattle.gpu_descriptor.specs.declared.bucket.take.Stop.TheVariants as stop
 use Rattle.gpu_descriptor.specs.Model.Agreement.{State, Item, Agree, AreOutstanding, outstanding}
 use Rattle.gpu_descriptor.specs.Model.Books.{Key, key_eq, Entry, entry_at}
 use Rattle.gpu_descriptor.specs.Model.Foreign.{KeepsForeign, LosesNone}

@@ -24,7 +24,7 @@ use Rattle.gpu_descriptor_types.specs.Ledger.{Pool, Ledger, Counters, live_sets,
 use Rattle.gpu_descriptor_types.specs.PoolSize.{pool_counts}
 use Rattle.gpu_descriptor_types.specs.Ledger as ledgers
 use Rattle.gpu_descriptor.specs.Model.FreshPools as grants
-use Rattle.gpu_descriptor.specs.declared.take.Stop.{Stop}
+use Rattle.gpu_descriptor.specs.declared.bucket.take.Stop.{Stop}
 use Rattle.gpu_descriptor.proofs.NextSize.{room_more}
 use Rattle.gpu_descriptor.proofs.KeepSteps.{keeps_grown}
 use Rattle.gpu_descriptor.proofs.Asks.{same_counters}

@@ -16,7 +16,7 @@ use Rattle.gpu_descriptor_types.specs.declared.errors.CreatePoolError.TheVariant
 use Rattle.gpu_descriptor_types.specs.PoolSize.{pool_counts}
 use Rattle.gpu_descriptor_types.specs.declared.errors.DeviceAllocationError.{DeviceAllocationError}
 use Rattle.gpu_descriptor_types.specs.declared.errors.DeviceAllocationError.TheVariants as alloc_error
-use Rattle.gpu_descriptor.specs.declared.take.Stop.TheVariants as stop
+use Rattle.gpu_descriptor.specs.declared.bucket.take.Stop.TheVariants as stop
 use Rattle.gpu_descriptor.proofs.Asks.{same_counters}
 use Rattle.gpu_descriptor.proofs.Room.{key_with, wide, marked_flags}
 

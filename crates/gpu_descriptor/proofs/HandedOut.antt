@@ -4,7 +4,7 @@ use Rattle.std.specs.Global.{Vec}
 use Rattle.gpu_descriptor_types.specs.Ledger.{Ledger, Counters}
 use Rattle.gpu_descriptor.specs.declared.errors.AllocationError.{AllocationError}
 use Rattle.gpu_descriptor.specs.declared.set.DescriptorSet.{DescriptorSet}
-use Rattle.gpu_descriptor.specs.declared.take.Refusal.{Refusal}
+use Rattle.gpu_descriptor.specs.declared.bucket.take.Refusal.{Refusal}
 use Rattle.gpu_descriptor.specs.Model.Agreement.{outstanding}
 use Rattle.gpu_descriptor.specs.Model.Books.{HasDistinctKeys, Key}
 use Rattle.gpu_descriptor.specs.Model.Outcomes.{Allocates}

@@ -5,7 +5,7 @@ use Rattle.std.specs.Iterator.{Count, IsFinite, size}
 use Rattle.std.specs.Option.{option_len}
 use Rattle.gpu_descriptor.specs.declared.set.BucketKey.{BucketKey}
 use Rattle.gpu_descriptor.specs.declared.set.DescriptorSet.{DescriptorSet}
-use Rattle.gpu_descriptor.specs.declared.run.Run.{Run}
+use Rattle.gpu_descriptor.specs.declared.bucket.run.Run.{Run}
 use Rattle.gpu_descriptor.specs.Inner.RunSteps.{at_place, CountsFrom, HaveKey, Looks, RunStep}
 
 module _ {T S : Type 0} (steps : T → Option (DescriptorSet S) → T → Type 0) (k : BucketKey) (i : ℕ) (s : T) (n : ℕ) where

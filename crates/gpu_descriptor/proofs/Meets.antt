@@ -13,7 +13,7 @@ use Rattle.gpu_descriptor.specs.Model.Outcomes.{Call, IsDone, risen, grant_rise}
 use Rattle.gpu_descriptor.specs.Inner.Walk.{with_pools, HasTaken, IsWalkStopped}
 use Rattle.gpu_descriptor_types.specs.Ledger.{Pool, Ledger, alloc_refused}
 use Rattle.gpu_descriptor_types.specs.declared.errors.DeviceAllocationError.{DeviceAllocationError}
-use Rattle.gpu_descriptor.specs.declared.take.Stop.{Stop}
+use Rattle.gpu_descriptor.specs.declared.bucket.take.Stop.{Stop}
 
 pub granted_is : (k : Key) (n : ℕ) (g : Grant) (s : State) (new : List Entry) (l m : Ledger) → s.ledger ≡ l.pools → HasTaken k n (s.books k).first g (s.books k).pools new l m → with_pools k new m.pools s ≡ granted k n g s
 granted_is k n g s new l m same taken = λ i. record { books = fun_ext (λ q. at q (key_eq k q) refl) i; ledger = (taken.pools ∙ ap (ledger_with k g) (sym same)) i }

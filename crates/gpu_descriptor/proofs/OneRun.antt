@@ -7,7 +7,7 @@ use Rattle.gpu_descriptor_types.specs.Ledger.{Pool, Ledger, AreLive, live_sets}
 use Rattle.gpu_descriptor_types.specs.Flags.{CanFree}
 use Rattle.gpu_descriptor_types.specs.Multiset.{LiveSet}
 use Rattle.gpu_descriptor.specs.declared.set.DescriptorSet.{DescriptorSet}
-use Rattle.gpu_descriptor.specs.declared.run.Run.{Run}
+use Rattle.gpu_descriptor.specs.declared.bucket.run.Run.{Run}
 use Rattle.gpu_descriptor.specs.Model.Agreement.{live_in}
 use Rattle.gpu_descriptor.specs.Model.Books.{Key, Entry, Bucket}
 use Rattle.gpu_descriptor.specs.Inner.Buckets.{AreBookedIn}

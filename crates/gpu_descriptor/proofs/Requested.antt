@@ -13,7 +13,7 @@ use Rattle.gpu_descriptor.specs.declared.errors.AllocationError.TheVariants.{Fra
 use Rattle.gpu_descriptor.specs.declared.set.BucketKey.{BucketKey}
 use Rattle.gpu_descriptor.specs.declared.set.DescriptorSet.{DescriptorSet}
 use Rattle.gpu_descriptor.specs.declared.bucket.DescriptorBucket.{DescriptorBucket}
-use Rattle.gpu_descriptor.specs.declared.take.Refusal.{Refusal}
+use Rattle.gpu_descriptor.specs.declared.bucket.take.Refusal.{Refusal}
 use Rattle.gpu_descriptor.specs.Model.Books.{Key, key_eq, Bucket, HasDistinctKeys, books_of, next_number}
 use Rattle.gpu_descriptor.specs.Model.Load.{IsOut, IsMarkedLoad, IsPoolLoad}
 use Rattle.gpu_descriptor.specs.Model.Outcomes.{Allocates, IsWithinLimit, Stays}

@@ -2,7 +2,7 @@
 use Rattle.std.proofs.Common.{ap, ◌≡◌, ℕ, ◌+◌, ◌≤◌, List, [], ◌∷◌, length, map, Bool, true, false, refl, sym, subst, ◌∙◌, arith, Option, Some, None, MatchOption, MatchBool}
 use Rattle.std.specs.Iterator.{Count, IsFinite, size, MakesProgress, Yields, YieldsThen}
 use Rattle.gpu_descriptor.specs.declared.set.DescriptorSet.{DescriptorSet}
-use Rattle.gpu_descriptor.specs.declared.run.Run.{Run}
+use Rattle.gpu_descriptor.specs.declared.bucket.run.Run.{Run}
 use Rattle.gpu_descriptor.specs.declared.set.BucketKey.{BucketKey}
 use Rattle.gpu_descriptor.specs.Inner.RunSteps.{at_place, HaveKey, Looks, Hands, RunStep}
 

@@ -6,6 +6,13 @@ ghost use Rattle.gpu_descriptor.specs.Model.Load.{pool_load};
 ghost use Rattle.gpu_descriptor.specs.Inner.OpenNumbers.{free_in, open_numbers};
 ghost use Rattle.gpu_descriptor.specs.Caller.Sets.{key_of};
 
+pub(crate) mod allocation;
+mod reads;
+mod release;
+mod run;
+mod search;
+pub(crate) mod take;
+
 use crate::set::BucketKey;
 use std::collections::VecDeque;
 

@@ -22,18 +22,12 @@
 //! README.md has the same as a crate by itself, with its contract. CALLING.md has more callers.
 #![tactic(auto)]
 
-mod allocation;
 mod allocator;
 mod bucket;
 mod errors;
 mod flags;
 pub mod laws;
-mod reads;
-mod release;
-mod run;
-mod search;
 mod set;
-mod take;
 mod view;
 
 pub use allocator::DescriptorAllocator;

@@ -3,8 +3,8 @@ use Rattle.std.specs.Prelude.{◌≡◌, ℕ, ◌+◌, ◌<◌, ◌≤◌, false
 use Rattle.std.specs.Map.{update}
 use Rattle.gpu_descriptor_types.specs.Ledger.{Ledger, Counters, live_sets, on_pool, fresh, create_refused, alloc_refused}
 use Rattle.gpu_descriptor_types.specs.PoolSize.{pool_counts}
-use Rattle.gpu_descriptor.specs.declared.take.Stop.{Stop}
-use Rattle.gpu_descriptor.specs.declared.take.Refusal.{Refusal}
+use Rattle.gpu_descriptor.specs.declared.bucket.take.Stop.{Stop}
+use Rattle.gpu_descriptor.specs.declared.bucket.take.Refusal.{Refusal}
 use Rattle.gpu_descriptor.specs.declared.errors.AllocationError.{AllocationError}
 use Rattle.gpu_descriptor.specs.declared.errors.AllocationError.TheVariants.{OutOfHostMemory, Fragmentation}
 use Rattle.gpu_descriptor.specs.Model.Outcomes.{error_of_create, error_of_alloc, no_rise, risen}
@@ -15,8 +15,8 @@ use Rattle.gpu_descriptor.specs.Model.Shares.{rest, all_shared}
 use Rattle.gpu_descriptor.specs.Model.FreshPools.{Fresh, fresh_entry, IsNextSize, IsFreshFront, IsFreshList, room_after}
 use Rattle.gpu_descriptor.specs.Model.Grants.{Grant, items_in, pool_with}
 use Rattle.gpu_descriptor.specs.Inner.Walk.{HasTaken, KeepsKey, IsWalkStopped}
-use Rattle.gpu_descriptor.specs.declared.take.Stop.TheVariants as stop
-use Rattle.gpu_descriptor.specs.declared.take.Refusal.TheVariants as refusal
+use Rattle.gpu_descriptor.specs.declared.bucket.take.Stop.TheVariants as stop
+use Rattle.gpu_descriptor.specs.declared.bucket.take.Refusal.TheVariants as refusal
 
 -- what a refusal adds to the counters. A new pool that refused was created and destroyed
 abbrev pub stop_rise : Stop → Counters

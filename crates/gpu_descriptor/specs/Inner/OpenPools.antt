@@ -6,9 +6,9 @@ use mir.Syntax.{named}
 use Rattle.gpu_descriptor_types.specs.Ledger.{Ledger}
 use Rattle.gpu_descriptor.specs.Inner.OpenNumbers.{open_numbers, free_in}
 use Rattle.gpu_descriptor.specs.declared.bucket.DescriptorPool.{DescriptorPool}
-use Rattle.gpu_descriptor.specs.declared.reads.OpenPools.{OpenPools}
+use Rattle.gpu_descriptor.specs.declared.bucket.reads.OpenPools.{OpenPools}
 use Rattle.gpu_descriptor.specs.contracts.bucket.DescriptorPool as pool
-use Rattle.gpu_descriptor.specs.contracts.reads.OpenPools as open_pools
+use Rattle.gpu_descriptor.specs.contracts.bucket.reads.OpenPools as open_pools
 
 module _ {P : Type 0} where
   -- the list has exactly the open pools, and room for all

@@ -6,7 +6,7 @@ use Rattle.gpu_descriptor.specs.Model.Books.{key_eq}
 use Rattle.gpu_descriptor.specs.Caller.Sets.{key_of}
 use Rattle.std.specs.Bool.{MatchBool}
 use Rattle.std.specs.Iterator.{Count, HoldsAlong, MakesProgress, YieldsThen}
-use Rattle.gpu_descriptor.specs.declared.run.Run.{Run}
+use Rattle.gpu_descriptor.specs.declared.bucket.run.Run.{Run}
 
 -- the set lies under the key in the pool with the number
 unfoldable pub at_place : {S : Type 0} → BucketKey → ℕ → DescriptorSet S → Bool

@@ -2,7 +2,7 @@
 use Rattle.std.specs.Prelude.{◌≡◌, ℕ, ◌+◌, ◌-◌, ◌*◌, ◌≤◌, true, List, length, sum, OnOk, IfErr, Result}
 use Rattle.gpu_descriptor_types.specs.Ledger.{Ledger}
 use Rattle.gpu_descriptor.specs.declared.set.DescriptorSet.{DescriptorSet}
-use Rattle.gpu_descriptor.specs.declared.take.Refusal.{Refusal}
+use Rattle.gpu_descriptor.specs.declared.bucket.take.Refusal.{Refusal}
 use Rattle.gpu_descriptor.specs.Model.Books.{Key, Entry, HasDistinctKeys, next_number}
 use Rattle.gpu_descriptor.specs.Caller.Sets.{items_of}
 use Rattle.gpu_descriptor.specs.Caller.States.{state_of, table_of, outstanding_of, marked_load_of, pool_load_of}

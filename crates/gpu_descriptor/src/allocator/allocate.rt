@@ -18,12 +18,12 @@ ghost use Rattle.gpu_descriptor.specs.Inner.Serves.{Serves, ServesKey, IsUnserve
 
 use super::DescriptorAllocator;
 use super::free::marked_descriptors;
-use crate::allocation::Allocation;
+use crate::bucket::allocation::Allocation;
 use crate::bucket::DescriptorBucket;
 use crate::errors::AllocationError;
 use crate::flags::DescriptorSetLayoutCreateFlags;
 use crate::set::{BucketKey, DescriptorSet};
-use crate::take::{Refusal, Stop};
+use crate::bucket::take::{Refusal, Stop};
 use bitflags::Flags;
 use gpu_descriptor_types::{DescriptorDevice, DescriptorTotalCount, DeviceAllocationError, Tally};
 use indexmap::IndexMap;

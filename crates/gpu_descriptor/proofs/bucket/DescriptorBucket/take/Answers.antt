@@ -12,8 +12,8 @@ use Rattle.gpu_descriptor.specs.Inner.Walk.{entries_of}
 use Rattle.gpu_descriptor.specs.Inner.Grow.{IsTakenAll, IsTakenUpTo}
 use Rattle.std.proofs.lemmas.List.{length-map}
 use Rattle.std.proofs.lemmas.List.Sums.{sum_by-cons}
-use Rattle.gpu_descriptor.specs.declared.take.Refusal.{Refusal}
-use Rattle.gpu_descriptor.specs.declared.take.Refusal.TheVariants as refusal
+use Rattle.gpu_descriptor.specs.declared.bucket.take.Refusal.{Refusal}
+use Rattle.gpu_descriptor.specs.declared.bucket.take.Refusal.TheVariants as refusal
 use Rattle.gpu_descriptor.specs.Model.Agreement.{Item}
 use Rattle.gpu_descriptor.specs.Inner.Allocated.{allocated_in}
 use Rattle.gpu_descriptor.specs.Model.Load.{held, pool_load, pools_load}

@@ -1,0 +1,116 @@
+use Rattle.std.proofs.Common.{◌≡◌, ℕ, ◌+◌, ◌-◌, ◌≤◌, ◌++◌, List, [], ◌∷◌, length, map, min, refl, sym, ap, ◌∙◌, subst, arith}
+use Rattle.std.proofs.lemmas.List.{length-map, map-append}
+use Rattle.std.specs.Prelude.{Some}
+use Rattle.gpu_descriptor_types.specs.Ledger.{Ledger, after_alloc, after_destroy, live_sets, HasNoSets, fresh}
+use Rattle.gpu_descriptor_types.specs.PoolSize.{pool_counts}
+use Rattle.gpu_descriptor.specs.declared.bucket.DescriptorPool.{DescriptorPool}
+use Rattle.gpu_descriptor.specs.declared.set.BucketKey.{BucketKey}
+use Rattle.gpu_descriptor.specs.declared.set.DescriptorSet.{DescriptorSet}
+use Rattle.gpu_descriptor.specs.Model.Books.{Entry, Key}
+use Rattle.gpu_descriptor.specs.Model.Agreement.{flags_of}
+use Rattle.gpu_descriptor.specs.Caller.Sets.{key_of}
+use Rattle.gpu_descriptor.specs.Inner.Stored.{entry_of}
+use Rattle.gpu_descriptor.specs.Inner.Walk.{entries_of, sets_at}
+use Rattle.gpu_descriptor.proofs.NextSize.{one_fits}
+use Rattle.gpu_descriptor.proofs.Asks.{same_entry}
+use Rattle.gpu_descriptor.proofs.Grows.{created_for, created_at, fresh_room, no_sets, grown, not_grown, not_created, not_begun, create_asked, alloc_asked}
+use Rattle.gpu_descriptor.proofs.bucket.take.grow_one.Goals as goal
+
+pub alloc_descriptor_sets-requires-clause-fits : goal.alloc_descriptor_sets-requires-clause-fits
+alloc_descriptor_sets-requires-clause-fits g c =
+    let key : Key = key_of c.args.key.now in
+    let size : ℕ = c.in-Some.size in
+    let name : ℕ = g.D.DescriptorDevice.pool_name c.in-Ok.raw in
+    let l : Ledger = g.D.DescriptorDevice.ledger c.args.device.now in
+    let m : Ledger = g.D.DescriptorDevice.ledger c.create_descriptor_pool.new.self in
+    let made = created_for key size name _ _ l m c.in-Some.ensures.counts c.pool_flags-flags.ensures c.in-Ok.ensures.ok in
+    let few : c.min-given.result ≤ size = (let a = c.min-given.ensures in omega arith) in
+    let at = created_at key size name l m made in
+    let keyed = subst (λ (k : Key). m.pools name ≡ Some (fresh (pool_counts k.counts size) size (flags_of k))) c.requires.same at in
+    rw (c.new.ensures.left, c.new.ensures.layout) (fresh_room (g.D.DescriptorDevice.layout_counts c.args.layout.now) (g.D.DescriptorDevice.layout_mark c.args.layout.now) size name c.min-given.result m keyed few)
+
+pub destroy_descriptor_pool-requires : goal.destroy_descriptor_pool-requires
+destroy_descriptor_pool-requires g c =
+    let key : Key = key_of c.args.key.now in
+    let size : ℕ = c.in-Some.size in
+    let name : ℕ = g.D.DescriptorDevice.pool_name c.in-Ok.raw in
+    let l : Ledger = g.D.DescriptorDevice.ledger c.args.device.now in
+    let m : Ledger = g.D.DescriptorDevice.ledger c.create_descriptor_pool.new.self in
+    let made = created_for key size name _ _ l m c.in-Some.ensures.counts c.pool_flags-flags.ensures c.in-Ok.ensures.ok in
+    let m' : Ledger = g.D.DescriptorDevice.ledger c.alloc_descriptor_sets.new.self in
+    subst (λ (q : ℕ). HasNoSets q m') (sym c.in-Err-alloc_descriptor_sets.ensures.name) (no_sets key size name c.in-Err-alloc_descriptor_sets.error m m' (created_at key size name l m made) c.in-Err-alloc_descriptor_sets.ensures.err.ledger)
+
+pub returns-in-Err-alloc_descriptor_sets-clause-err : goal.returns-in-Err-alloc_descriptor_sets-clause-err
+returns-in-Err-alloc_descriptor_sets-clause-err g c =
+    let key : Key = key_of c.args.key.now in
+    let size : ℕ = c.in-Some.size in
+    let name : ℕ = g.D.DescriptorDevice.pool_name c.in-Ok.raw in
+    let l : Ledger = g.D.DescriptorDevice.ledger c.args.device.now in
+    let m : Ledger = g.D.DescriptorDevice.ledger c.create_descriptor_pool.new.self in
+    let made = created_for key size name _ _ l m c.in-Some.ensures.counts c.pool_flags-flags.ensures c.in-Ok.ensures.ok in
+    let m' : Ledger = g.D.DescriptorDevice.ledger c.alloc_descriptor_sets.new.self in
+    let m'' : Ledger = g.D.DescriptorDevice.ledger c.destroy_descriptor_pool.new.self in
+    let gone : m'' ≡ after_destroy name m' = c.destroy_descriptor_pool.ensures ∙ ap (λ q. after_destroy q m') c.in-Err-alloc_descriptor_sets.ensures.name in
+    let err = c.in-Err-alloc_descriptor_sets.ensures.err in
+    (err.kept ∙ c.aim.ensures.sets, ap (λ x. x.now.items) c.count_fresh.ensures.pools ∙ c.make_room.ensures.pools, not_grown key size name c.in-Err-alloc_descriptor_sets.error l m m' m'' c.in-Ok.ensures.new_name made err.ledger gone, one_fits key c.args.room.now c.args.total c.args.wanted size c.in-Some.ensures.sets, refl)
+
+pub returns-in-Ok-alloc_descriptor_sets-clause-grown : goal.returns-in-Ok-alloc_descriptor_sets-clause-grown
+returns-in-Ok-alloc_descriptor_sets-clause-grown g c =
+    let key : Key = key_of c.args.key.now in
+    let size : ℕ = c.in-Some.size in
+    let name : ℕ = g.D.DescriptorDevice.pool_name c.in-Ok.raw in
+    let l : Ledger = g.D.DescriptorDevice.ledger c.args.device.now in
+    let m : Ledger = g.D.DescriptorDevice.ledger c.create_descriptor_pool.new.self in
+    let made = created_for key size name _ _ l m c.in-Some.ensures.counts c.pool_flags-flags.ensures c.in-Ok.ensures.ok in
+    let m' : Ledger = g.D.DescriptorDevice.ledger c.alloc_descriptor_sets.new.self in
+    let put = c.in-Ok-alloc_descriptor_sets.ensures.ok in
+    let names : List ℕ = map g.D.DescriptorDevice.set_name put.sets in
+    let count = c.min-given.ensures in
+    let many : length put.sets ≡ c.min-given.result = put.many ∙ c.new.ensures.left in
+    let long : length names ≡ min size c.args.wanted = length-map put.sets g.D.DescriptorDevice.set_name ∙ many ∙ count in
+    let is : m' ≡ after_alloc name (live_sets key.counts names) m = put.ledger ∙ ap (λ cs. after_alloc name (live_sets cs names) m) (ap g.D.DescriptorDevice.layout_counts c.new.ensures.layout ∙ sym (ap (λ (k : Key). k.counts) c.requires.same)) in
+    let old : List Entry = entries_of g.D.DescriptorDevice.pool_name c.args.view.now.pools.now.items in
+    let new : List Entry = entries_of g.D.DescriptorDevice.pool_name c.push.new.self.pools.now.items in
+    let value : DescriptorPool g.row.P.Denot = record { raw = c.alloc_descriptor_sets.new.pool; capacity = size; allocated = c.min-given.result; available = size - c.min-given.result } in
+    let items : c.push.new.self.pools.now.items ≡ c.make_room.new.self.pools.now.items ++ value ∷ [] = c.push.ensures.pools ∙ ap (λ x. x.now.items ++ value ∷ []) c.count_fresh.ensures.pools in
+    let now : new ≡ old ++ record { pool = name; capacity = size; allocated = min size c.args.wanted; free = size - min size c.args.wanted } ∷ [] =
+    ap (map (entry_of g.D.DescriptorDevice.pool_name)) (items ∙ ap (λ x. x ++ value ∷ []) c.make_room.ensures.pools)
+    ∙ map-append (entry_of g.D.DescriptorDevice.pool_name) c.args.view.now.pools.now.items (value ∷ [])
+    ∙ ap (λ (e : Entry). old ++ e ∷ []) (same_entry (entry_of g.D.DescriptorDevice.pool_name value) _ c.in-Ok-alloc_descriptor_sets.ensures.name refl count (ap (λ n. size - n) count)) in
+    let number : c.aim.new.self.number ≡ c.args.view.now.offset + length c.args.view.now.pools.now.items = c.aim.ensures.number ∙ c.next_number.ensures ∙ (let k = c.make_room.ensures.kept.0 in let same = ap length c.make_room.ensures.pools in omega arith) in
+    let kept : c.alloc_descriptor_sets.new.sets.sets.items ≡ c.args.sink.now.sets.items ++ sets_at c.args.key.now (c.args.view.now.offset + length c.args.view.now.pools.now.items) put.sets = put.kept ∙ ap (λ (l : List (DescriptorSet g.row.S.Denot)). l ++ sets_at c.aim.new.self.key c.aim.new.self.number put.sets) c.aim.ensures.sets ∙ ap (λ (k : BucketKey). c.args.sink.now.sets.items ++ sets_at k c.aim.new.self.number put.sets) c.aim.ensures.key ∙ ap (λ (n : ℕ). c.args.sink.now.sets.items ++ sets_at c.args.key.now n put.sets) number in
+    let room : c.alloc_descriptor_sets.new.sets.left + c.min-given.result ≡ c.args.sink.now.left = (let r = put.room in let n = c.new.ensures.left in let a = c.aim.ensures.left in omega arith) in
+    (put.sets, many, kept, room, grown key c.args.room.now _ c.args.total c.args.wanted size name names old new l m m' c.in-Some.ensures.sets (let fits = c.in-Some.ensures.room.0 in let load = c.descriptors_of_pool.ensures in omega arith) long c.in-Ok.ensures.new_name made is now)
+
+pub returns-then-not-make_room-clause-err : goal.returns-then-not-make_room-clause-err
+returns-then-not-make_room-clause-err g c =
+    (refl, c.make_room.ensures.pools, not_begun (g.D.DescriptorDevice.ledger c.args.device.now), one_fits (key_of c.args.key.now) c.args.room.now c.args.total c.args.wanted c.in-Some.size c.in-Some.ensures.sets, refl)
+
+pub returns-in-Err-clause-err : goal.returns-in-Err-clause-err
+returns-in-Err-clause-err g c =
+    let l : Ledger = g.D.DescriptorDevice.ledger c.args.device.now in
+    let m : Ledger = g.D.DescriptorDevice.ledger c.create_descriptor_pool.new.self in
+    (refl, c.make_room.ensures.pools, not_created c.in-Err.error l m c.in-Err.ensures.err, one_fits (key_of c.args.key.now) c.args.room.now c.args.total c.args.wanted c.in-Some.size c.in-Some.ensures.sets, refl)
+
+pub returns-in-Err-clause-looks : goal.returns-in-Err-clause-looks
+returns-in-Err-clause-looks g c =
+    let looks = ap (λ x. x.now.count) c.make_room.ensures.looks in
+    let asked = ap (λ (x : Ledger). x.counters.asked) c.in-Err.ensures.err in
+    let same = create_asked c.in-Err.error (g.D.DescriptorDevice.ledger c.args.device.now).counters in
+    omega arith
+
+pub descriptors_of_pool-requires : goal.descriptors_of_pool-requires
+descriptors_of_pool-requires g c = c.in-Some.ensures.room.1
+
+pub overflow_sub-room : goal.overflow_sub-room
+overflow_sub-room g c = (let fits = c.in-Some.ensures.room.0 in let load = c.descriptors_of_pool.ensures in omega arith)
+
+pub returns-in-Err-alloc_descriptor_sets-clause-looks : goal.returns-in-Err-alloc_descriptor_sets-clause-looks
+returns-in-Err-alloc_descriptor_sets-clause-looks g c =
+    let looks = ap (λ x. x.now.count) c.make_room.ensures.looks in
+    let one = c.count_fresh.ensures.looks in
+    let made = ap (λ (x : Ledger). x.counters.asked) c.in-Ok.ensures.ok in
+    let refused = ap (λ (x : Ledger). x.counters.asked) c.in-Err-alloc_descriptor_sets.ensures.err.ledger in
+    let rise = alloc_asked c.in-Err-alloc_descriptor_sets.error (g.D.DescriptorDevice.ledger c.create_descriptor_pool.new.self).counters in
+    let gone = ap (λ (x : Ledger). x.counters.asked) c.destroy_descriptor_pool.ensures in
+    omega arith

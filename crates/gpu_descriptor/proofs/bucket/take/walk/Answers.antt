@@ -1,0 +1,163 @@
+use Rattle.std.proofs.Common.{◌≡◌, ℕ, ◌+◌, ◌-◌, ◌++◌, List, [], length, map, slice_set, refl, sym, ap, ◌∙◌, subst, arith, append_assoc, length-append}
+use Rattle.std.proofs.lemmas.List.{length-map, append-nil, map-append, length-set}
+use Rattle.gpu_descriptor_types.specs.Ledger.{Ledger}
+use Rattle.gpu_descriptor.specs.declared.bucket.DescriptorPool.{DescriptorPool}
+use Rattle.gpu_descriptor_types.specs.declared.errors.DeviceAllocationError.{DeviceAllocationError}
+use Rattle.gpu_descriptor.specs.declared.set.BucketKey.{BucketKey}
+use Rattle.gpu_descriptor.specs.declared.set.DescriptorSet.{DescriptorSet}
+use Rattle.gpu_descriptor.specs.Model.Agreement.{Item}
+use Rattle.gpu_descriptor.specs.Model.Books.{Entry, Key}
+use Rattle.gpu_descriptor.specs.Model.Grants.{items_at}
+use Rattle.gpu_descriptor.specs.Caller.Sets.{key_of, items_of}
+use Rattle.gpu_descriptor.specs.Model.Shares.{rest}
+use Rattle.gpu_descriptor.specs.Inner.Walk.{sets_at, IsWalked, IsWalkStopped}
+use Rattle.gpu_descriptor.proofs.Newest.{OpenWalk, open_walk_start, open_walk_more, open_walk_stop, walk_sated, walk_empty, above, inside, next_is_booked, listed_now_closed, listed_now_open, listed_now_same, one_asked, looked_at}
+use Rattle.gpu_descriptor.proofs.Walking.{Walking, walk_end, items_of-sets_at}
+use Rattle.gpu_descriptor.proofs.bucket.take.walk.Goals as goal
+
+-- sets of one key and number are those of another that are the same
+aimed_at : {S : Type 0} {k l : BucketKey} {m n : ℕ} (raws : List S) → k ≡ l → m ≡ n → sets_at k m raws ≡ sets_at l n raws
+aimed_at {l = l} {m = m} raws keys numbers = ap (λ (k : BucketKey). sets_at k m raws) keys ∙ ap (λ n. sets_at l n raws) numbers
+
+-- what one pool gave stands behind what the others gave
+gave_more : {S : Type 0} (name : S → ℕ) (k : BucketKey) (number : ℕ) (put : List (DescriptorSet S)) (raws : List S) → items_of name put ++ items_at (key_of k) number (map name raws) ≡ items_of name (put ++ sets_at k number raws)
+gave_more name k number put raws = sym (map-append _ put (sets_at k number raws) ∙ ap (λ x. items_of name put ++ x) (items_of-sets_at name k number raws))
+
+-- as many were given as there are raw sets
+counted : {S : Type 0} (k : BucketKey) (number given : ℕ) (put : List (DescriptorSet S)) (raws : List S) → length raws ≡ given → length (put ++ sets_at k number raws) ≡ length put + given
+counted {S} k number given put raws all =
+    let a = length-append put (sets_at k number raws) in
+    let b = length-map raws (λ raw. let x : DescriptorSet S = record { raw = raw; number = number; key = k } in x) in
+    omega arith
+
+-- a walk over lists that are the same
+closed_walk : {P : Type 0} {name : P → ℕ} {k : Key} {n first start wanting : ℕ} {out given : List Item} {old : List Entry} {items now : List (DescriptorPool P)} {numbers listed : List ℕ} {l m : Ledger}
+    → out ≡ given → now ≡ items → listed ≡ numbers → start ≡ first → OpenWalk name k n first wanting out old items numbers l m → OpenWalk name k n start wanting given old now listed l m
+closed_walk gave pools shorter place walk = rw (pools, shorter, place, sym gave) walk
+
+-- the walk stopped
+stopped_at : {k : Key} {n first start : ℕ} {error : DeviceAllocationError} {out : List Item} {old new : List Entry} {l m : Ledger} → first ≡ start → IsWalkStopped k n first error out old new l m → IsWalkStopped k n start error out old new l m
+stopped_at {k} {n} {first} {start} {error} {out} {old} {new} {l} {m} same stopped = subst (λ (f : ℕ). IsWalkStopped k n f error out old new l m) same stopped
+
+pub loop-wanting-init : goal.loop-wanting-init
+loop-wanting-init g c = record {
+  put = [];
+  sets = sym (append-nil c.args.sink.now.sets.items);
+  room = refl;
+  given = omega arith;
+  long = refl;
+  walk = open_walk_start g.D.DescriptorDevice.pool_name (key_of c.args.key.now) c.args.count c.args.view.now.offset c.args.view.now.pools.now.items c.args.view.now.listed.now.items (g.D.DescriptorDevice.ledger c.args.device.now) c.requires.booked c.requires.listed.0;
+  space = c.requires.listed.1;
+  kept = (refl, refl, refl, refl);
+  looks = refl;
+}
+
+-- the walk is over
+whole : {k : Key} {n first start wanting : ℕ} {out : List Item} {old new : List Entry} {l m : Ledger} → first ≡ start → Walking k n first 0 wanting out old new l m → (w : IsWalked k n start 0 out old new l m) × (wanting ≡ rest w.grant.refused n old)
+whole {k} {n} {first} {start} {wanting} {out} {old} {new} {l} {m} same walked = walk_end k n start wanting out old new l m (subst (λ (f : ℕ). Walking k n f 0 wanting out old new l m) same walked)
+
+pub returns-in_default-clause-walked : goal.returns-in_default-clause-walked
+returns-in_default-clause-walked g c =
+    let inv = c.loop-wanting.invariant in
+    let done = whole inv.kept.0 (walk_empty c.requires.booked inv.walk c.in_default.ensures.none) in
+    (inv.put, inv.sets, inv.room, done.0, done.1, inv.given)
+
+pub returns-clause-walked : goal.returns-clause-walked
+returns-clause-walked g c =
+    let inv = c.loop-wanting.invariant in
+    let done = whole inv.kept.0 (walk_sated c.requires.booked inv.walk (let none = c.loop-wanting-test.false in omega arith)) in
+    (inv.put, inv.sets, inv.room, done.0, done.1, inv.given)
+
+pub look-pool-requires-clause-above : goal.look-pool-requires-clause-above
+look-pool-requires-clause-above g c =
+    above c.requires.booked c.loop-wanting.invariant.walk c.loop-wanting-test.true _ _ c.in-Some.ensures.last
+
+pub look-pool-requires-clause-within : goal.look-pool-requires-clause-within
+look-pool-requires-clause-within g c =
+    let walk = c.loop-wanting.invariant.walk in
+    let low = above c.requires.booked walk c.loop-wanting-test.true _ _ c.in-Some.ensures.last in
+    let high = inside c.requires.booked walk c.loop-wanting-test.true _ _ c.in-Some.ensures.last in
+    omega arith
+
+pub ask-requires-clause-booked : goal.ask-requires-clause-booked
+ask-requires-clause-booked g c =
+    let walk = c.loop-wanting.invariant.walk in
+    let last = c.in-Some.ensures.last in
+    next_is_booked c.requires.booked walk c.loop-wanting-test.true _ _ last _ (looked_at c.requires.booked walk c.loop-wanting-test.true _ _ last _ c.look-pool.ensures.value)
+
+pub returns-in-Err-clause-stopped : goal.returns-in-Err-clause-stopped
+returns-in-Err-clause-stopped g c =
+    let inv = c.loop-wanting.invariant in
+    let last = c.in-Some.ensures.last in
+    let at = looked_at c.requires.booked inv.walk c.loop-wanting-test.true _ _ last _ c.look-pool.ensures.value in
+    let err = c.in-Err.ensures.err in
+    let stopped = open_walk_stop c.requires.booked inv.walk c.loop-wanting-test.true _ _ last _ at c.ask.new.pool c.in-Err.error _ err.1 err.2 in
+    (inv.put, err.0 ∙ c.aim.ensures.sets ∙ inv.sets, stopped_at inv.kept.0 stopped)
+
+pub returns-in-Err-clause-listed : goal.returns-in-Err-clause-listed
+returns-in-Err-clause-listed g c =
+    let inv = c.loop-wanting.invariant in
+    let last = c.in-Some.ensures.last in
+    let at = looked_at c.requires.booked inv.walk c.loop-wanting-test.true _ _ last _ c.look-pool.ensures.value in (
+      listed_now_same c.requires.booked inv.walk c.loop-wanting-test.true _ _ last _ at c.ask.new.pool c.in-Err.ensures.err.1,
+      (let a = inv.space in let b = length-set c.loop-wanting.view.pools.now.items (c.in-Some.number - c.loop-wanting.view.offset) c.ask.new.pool in omega arith),
+    )
+
+pub loop-wanting-preserved : goal.loop-wanting-preserved
+loop-wanting-preserved g c =
+    let inv = c.loop-wanting.invariant in
+    let last = c.in-Some.ensures.last in
+    let at = looked_at c.requires.booked inv.walk c.loop-wanting-test.true _ _ last _ c.look-pool.ensures.value in
+    let got = c.in-Ok.ensures.asked in
+    let set_name = g.D.DescriptorDevice.set_name in
+    let key = c.args.key.now in
+    let number = c.in-Some.number in
+    let q = c.ask.new.pool in
+    let named : length (map set_name got.0) ≡ c.in-Ok.given = length-map got.0 set_name ∙ got.1 in
+    let less : c.loop-wanting.wanting - c.in-Ok.given + length (map set_name got.0) ≡ c.loop-wanting.wanting = (let a = got.4.many in omega arith) in
+    let open_still = listed_now_open c.requires.booked inv.walk c.loop-wanting-test.true _ _ last _ at q (let a = c.if-pool-eq0.false in omega arith) in
+    let walked = open_walk_more c.requires.booked inv.walk c.loop-wanting-test.true _ _ last _ at q _ _ _ _ open_still got.4 less in
+    let asked_one = one_asked c.requires.booked inv.walk c.loop-wanting-test.true _ _ last _ at q _ _ got.4 in
+    let many = length-set c.loop-wanting.view.pools.now.items (number - c.loop-wanting.view.offset) q in
+    record {
+      put = inv.put ++ sets_at key number got.0;
+      sets = got.2 ∙ ap (λ x. c.aim.new.self.sets.items ++ x) (aimed_at got.0 c.aim.ensures.key c.aim.ensures.number) ∙ ap (λ x. x ++ sets_at key number got.0) (c.aim.ensures.sets ∙ inv.sets) ∙ append_assoc c.args.sink.now.sets.items inv.put _;
+      room = (let a = inv.room in let b = got.3 in let d = got.1 in let q = c.aim.ensures.left in omega arith);
+      given = (let a = inv.given in let b = counted key number _ inv.put got.0 got.1 in omega arith);
+      long = many ∙ inv.long;
+      walk = closed_walk (gave_more set_name key number inv.put got.0) refl refl refl walked;
+      space = (let a = inv.space in omega arith);
+      kept = inv.kept;
+      looks = (let a = inv.looks in omega arith);
+    }
+
+pub loop-wanting-preserved-then-pool-eq0 : goal.loop-wanting-preserved-then-pool-eq0
+loop-wanting-preserved-then-pool-eq0 g c =
+    let inv = c.loop-wanting.invariant in
+    let last = c.in-Some.ensures.last in
+    let at = looked_at c.requires.booked inv.walk c.loop-wanting-test.true _ _ last _ c.look-pool.ensures.value in
+    let got = c.in-Ok.ensures.asked in
+    let set_name = g.D.DescriptorDevice.set_name in
+    let key = c.args.key.now in
+    let number = c.in-Some.number in
+    let q = c.ask.new.pool in
+    let named : length (map set_name got.0) ≡ c.in-Ok.given = length-map got.0 set_name ∙ got.1 in
+    let less : c.loop-wanting.wanting - c.in-Ok.given + length (map set_name got.0) ≡ c.loop-wanting.wanting = (let a = got.4.many in omega arith) in
+    let closed = listed_now_closed c.requires.booked inv.walk c.loop-wanting-test.true _ _ last _ at q c.if-pool-eq0.true in
+    let walked = open_walk_more c.requires.booked inv.walk c.loop-wanting-test.true _ _ last _ at q _ _ _ _ closed got.4 less in
+    let asked_one = one_asked c.requires.booked inv.walk c.loop-wanting-test.true _ _ last _ at q _ _ got.4 in
+    let now = c.close_newest.ensures in
+    let pools : c.close_newest.new.self.pools.now.items ≡ slice_set c.loop-wanting.view.pools.now.items (number - c.loop-wanting.view.offset) q = ap (λ x. x.now.items) now.pools in
+    let many : length c.close_newest.new.self.pools.now.items ≡ length c.loop-wanting.view.pools.now.items = ap length pools ∙ length-set c.loop-wanting.view.pools.now.items (number - c.loop-wanting.view.offset) q in
+    let looked : c.close_newest.new.self.looks.now.count ≡ c.loop-wanting.view.looks.now.count + 1 = ap (λ x. x.now.count) now.looks in
+    record {
+      put = inv.put ++ sets_at key number got.0;
+      sets = got.2 ∙ ap (λ x. c.aim.new.self.sets.items ++ x) (aimed_at got.0 c.aim.ensures.key c.aim.ensures.number) ∙ ap (λ x. x ++ sets_at key number got.0) (c.aim.ensures.sets ∙ inv.sets) ∙ append_assoc c.args.sink.now.sets.items inv.put _;
+      room = (let a = inv.room in let b = got.3 in let d = got.1 in let q = c.aim.ensures.left in omega arith);
+      given = (let a = inv.given in let b = counted key number _ inv.put got.0 got.1 in omega arith);
+      long = many ∙ inv.long;
+      walk = closed_walk (gave_more set_name key number inv.put got.0) pools now.listed now.kept.0 walked;
+      space = (let a = inv.space in let b = now.capacity in omega arith);
+      kept = (now.kept.0 ∙ inv.kept.0, now.kept.1 ∙ inv.kept.1, now.kept.2 ∙ inv.kept.2, now.kept.3 ∙ inv.kept.3);
+      looks = (let a = inv.looks in omega arith);
+    }

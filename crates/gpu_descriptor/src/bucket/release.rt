@@ -1,0 +1,96 @@
+//! Giving a run back to the pools of its key.
+ghost use Rattle.std.specs.Prelude.{◌≡◌, ◌+◌, ◌<◌, ◌≤◌, ◌^◌, ◌∷◌, length, OnSome};
+ghost use Rattle.std.specs.Iterator.{HoldsAlong, IsFinite, IsNearerEnd};
+ghost use Rattle.gpu_descriptor.specs.Model.Books.{Key};
+ghost use Rattle.gpu_descriptor.specs.Inner.Buckets.{AreBookedIn, settled_bucket, settled_ledger};
+ghost use Rattle.gpu_descriptor.specs.Inner.Releases.{IsTakenAt, ReleasesRun, names_of};
+ghost use Rattle.gpu_descriptor.specs.Caller.Comparisons.{open_pools, binary_digits};
+ghost use Rattle.gpu_descriptor.specs.Caller.Sets.{key_of};
+ghost use Rattle.gpu_descriptor.specs.Inner.RunSteps.{HaveKey};
+ghost use Rattle.gpu_descriptor.specs.Inner.Stored.{bucket_of, stored_load};
+
+use crate::bucket::{DescriptorBucket, descriptors_of_pool};
+use crate::bucket::run::Run;
+use crate::bucket::search::enter_new;
+use crate::set::{BucketKey, DescriptorSet};
+use gpu_descriptor_types::{DescriptorDevice, Tally};
+
+impl<P> DescriptorBucket<P> {
+    /// Gives back one run of this key in one device call, and then drops the front.
+    ///
+    /// The run goes from `first` to before the first set that lies elsewhere, which is handed back.
+    pub(crate) fn release_run<
+        L,
+        S,
+        D: DescriptorDevice<L, P, S>,
+        I: Iterator<Item = DescriptorSet<S>>,
+    >(
+        &mut self,
+        device: &mut D,
+        first: DescriptorSet<S>,
+        sets: &mut I,
+        comparisons: &mut Tally,
+        room: &mut u32,
+    ) -> Option<DescriptorSet<S>>
+        requires can { I.can_next sets.old }
+        requires ends { IsFinite (I.remaining sets.old) }
+        requires stored { AreBookedIn (key_of first.key) (D.ledger device.old).pools (bucket_of D.pool_name self.old).pools }
+        requires taken { HoldsAlong I.next_gives sets.old (λ xs. HaveKey first.key first.number xs
+            → IsTakenAt (key_of first.key) first.number (names_of D.set_name (first ∷ xs))
+            (bucket_of D.pool_name self.old) (D.ledger device.old).pools) }
+        requires room { room.old + stored_load (key_of first.key) self.old.pools.items < 2 ^ 32 }
+        ensures ran { ReleasesRun I.next_gives D.pool_name D.set_name first sets.old result sets.new
+            self.old self.new (D.ledger device.old) (D.ledger device.new) }
+        ensures goes { OnSome result (IsNearerEnd I.can_next I.remaining sets.old sets.new) }
+        ensures rises { comparisons.old.count ≤ comparisons.new.count }
+        ensures few { comparisons.new.count ≤ comparisons.old.count + binary_digits (open_pools (bucket_of D.pool_name self.old)) }
+        ensures room { room.new + stored_load (key_of first.key) self.new.pools.items ≡ room.old + stored_load (key_of first.key) self.old.pools.items }
+    {
+        let key = first.key;
+        let number = first.number;
+        let place = (number - self.offset) as usize;
+        let mut ahead = Some(first);
+        let pool = &mut self.pools[place];
+        let was_closed = pool.available == 0;
+        let mut run = Run {
+            source: sets,
+            ahead: &mut ahead,
+            key,
+            number,
+            count: 0,
+        };
+        device.dealloc_descriptor_sets(&mut pool.raw, &mut run);
+        let count = run.finish();
+        pool.allocated -= count;
+        pool.available += count;
+        self.total -= u64::from(count);
+        enter_new(&mut self.listed, was_closed, number, comparisons);
+        self.drop_front(device, &key, room);
+        ahead
+    }
+
+    /// Destroys the pools without sets at the front, but never the last pool.
+    fn drop_front<L, S, D: DescriptorDevice<L, P, S>>(
+        &mut self,
+        device: &mut D,
+        key: &BucketKey,
+        room: &mut u32,
+    )
+        requires room { room.old + stored_load (key_of key.now) self.old.pools.items < 2 ^ 32 }
+        requires stored { (k : Key) × AreBookedIn k (D.ledger device.old).pools (bucket_of D.pool_name self.old).pools }
+        ensures books { bucket_of D.pool_name self.new ≡ settled_bucket (bucket_of D.pool_name self.old) }
+        ensures ledger { D.ledger device.new ≡ settled_ledger (bucket_of D.pool_name self.old) (D.ledger device.old) }
+        ensures total { self.new.total ≡ self.old.total }
+        ensures room { room.new + stored_load (key_of key.now) self.new.pools.items ≡ room.old + stored_load (key_of key.now) self.old.pools.items }
+    {
+        while self.pools.len() > 1 && self.pools[0].allocated == 0 {
+            let front = self.pools.pop_front().unwrap();
+            if front.available > 0 {
+                let _number = self.listed.pop_front();
+            }
+            *room += descriptors_of_pool(key, front.capacity);
+            device.destroy_descriptor_pool(front.raw);
+            self.offset += 1;
+        }
+    }
+}
