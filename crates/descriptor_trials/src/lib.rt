@@ -16,6 +16,8 @@ mod order;
 #[cfg(test)]
 mod pair;
 #[cfg(test)]
+mod refused;
+#[cfg(test)]
 mod sets;
 #[cfg(test)]
 mod traces;

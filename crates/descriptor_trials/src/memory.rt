@@ -1,20 +1,25 @@
 //! What a session keeps where memory is wanting, which no contract can ask for. In a plain run every
-//! growth is granted; under `rt try --test --fail-alloc N` the Nth of each test is refused, and the
-//! next ones are granted.
+//! growth is granted; `tools/refuse-memory` refuses each growth of each test in turn, and grants the
+//! next ones.
 use crate::bench::{Bench, layout_of, scripted, sets};
-use descriptor_script::{Command, Reply, ScriptedDevice};
-use gpu_descriptor::AllocationError;
+use descriptor_script::{Command, RawPool, RawSet, Reply, ScriptLayout, ScriptedDevice};
+use gpu_descriptor::{AllocationError, DescriptorDevice};
 use std::alloc::{AllocError, Global};
 use std::process::Abort;
 use std::test::Fail;
 
-/// Sees that as many sets are held as are outstanding, and as are allocated from the pools.
-fn expect_counted(rt: &impl Abort, bench: &Bench<ScriptedDevice>) {
-    let counts = layout_of(1, true).counts;
+/// Sees that as many sets are held as are outstanding, and as are allocated from the pools of the
+/// only layout.
+pub fn expect_counted<D: DescriptorDevice<ScriptLayout, RawPool, RawSet>>(
+    rt: &impl Abort,
+    bench: &Bench<D>,
+    layout: &ScriptLayout,
+) {
+    let (counts, mark) = (&layout.counts, layout.mark);
     let allocator = bench.session.allocator();
     let mut allocated: u64 = 0;
-    for index in 0..allocator.pool_count(&counts, true) {
-        if let Some(pool) = allocator.pool(&counts, true, index) {
+    for index in 0..allocator.pool_count(counts, mark) {
+        if let Some(pool) = allocator.pool(counts, mark, index) {
             allocated = allocated.saturating_add(u64::from(pool.allocated));
         }
     }
@@ -23,7 +28,7 @@ fn expect_counted(rt: &impl Abort, bench: &Bench<ScriptedDevice>) {
 }
 
 /// Whether the reply says that the host's memory was wanting.
-fn is_out_of_memory(reply: Reply) -> bool {
+pub fn is_out_of_memory(reply: Reply) -> bool {
     reply == Reply::NoMemory || reply == Reply::Refused(AllocationError::OutOfHostMemory)
 }
 
@@ -37,7 +42,7 @@ fn expect_step(
     let held = bench.session.held();
     let first = bench.session.next_ticket();
     let reply = bench.step(command);
-    expect_counted(rt, bench);
+    expect_counted(rt, bench, &layout_of(1, true));
     if !is_out_of_memory(reply) {
         assert_eq!(rt; reply, wanted);
         return;
@@ -45,7 +50,7 @@ fn expect_step(
     assert_eq!(rt; bench.session.held(), held);
     assert_eq!(rt; bench.session.next_ticket(), first);
     assert_eq!(rt; bench.step(command), wanted);
-    expect_counted(rt, bench);
+    expect_counted(rt, bench, &layout_of(1, true));
 }
 
 /// Sets of the only layout.
@@ -86,7 +91,7 @@ fn runs_where_memory_is_wanting(rt: HostRuntime) -> Result<(), Fail> {
         }
         Err(_) => assert_eq!(rt; bench.session.held(), 0),
     }
-    expect_counted(&rt, &bench);
+    expect_counted(&rt, &bench, &layout_of(1, true));
     Ok(())
 }
 
