@@ -16,6 +16,10 @@ mod order;
 #[cfg(test)]
 mod pair;
 #[cfg(test)]
+mod plans;
+#[cfg(test)]
+mod refusals;
+#[cfg(test)]
 mod refused;
 #[cfg(test)]
 mod sets;

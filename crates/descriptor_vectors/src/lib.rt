@@ -2,6 +2,10 @@
 #![tactic(auto)]
 
 #[cfg(test)]
+mod cuts;
+#[cfg(test)]
+mod dialogues;
+#[cfg(test)]
 mod ends;
 #[cfg(test)]
 mod reads;
@@ -9,3 +13,5 @@ mod reads;
 mod rows;
 #[cfg(test)]
 mod runs;
+#[cfg(test)]
+mod turns;

@@ -30,6 +30,28 @@ impl Read for Endless {
     }
 }
 
+/// Gives as many bytes `a` as it is asked for, without an end.
+#[derive(Drop)]
+struct OneLetter;
+
+impl Read for OneLetter {
+    fn read(&mut self, buf: &mut [u8]) -> io::Result<usize> {
+        buf.fill(b'a');
+        Ok(buf.len())
+    }
+}
+
+#[test]
+fn line_without_an_end(rt: HostRuntime) {
+    let mut output = empty_writer(rt.alloc());
+    let ended = run_lines(rt.alloc(), &mut OneLetter, &mut output);
+    assert_eq!(rt;
+        output.text.as_slice(),
+        b"line 1: line too long\n".as_slice()
+    );
+    assert_eq!(rt; ended, Exit::BadLine);
+}
+
 #[test]
 fn as_many_calls_as_may_be(rt: HostRuntime) {
     let mut input = Endless { calls: 0 };

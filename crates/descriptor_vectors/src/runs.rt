@@ -1,6 +1,5 @@
-//! Whole runs: no clause says that the answers are those of the input's lines in order, how the
-//! lines are numbered, or what comes out where the input is cut, a read or a write fails, or few
-//! bytes move at a time.
+//! Whole runs: no clause says that the answers are those of the input's lines in order, or how the
+//! lines are numbered.
 use crate::ends::{empty_writer, expect, reader_of};
 use descriptor_lines::{Exit, run_lines};
 use std::alloc::Global;
@@ -139,117 +138,6 @@ fn rest_of_a_long_line_is_not_read(rt: HostRuntime) -> Result<(), Fail> {
         input.failure = Some(ErrorKind::Other);
         let ended = run_lines(rt.alloc(), &mut input, &mut empty_writer(rt.alloc()));
         assert_eq!(rt; ended, exit);
-    }
-    Ok(())
-}
-
-const LINES: [(&str, &str); 5] = [
-    (
-        "layout a plain sampler=1 uniform_buffer=2\n",
-        "layout a total 3\n",
-    ),
-    ("# note\r\n", ""),
-    ("size a 0 1\r\n", "size 64 sampler=64 uniform_buffer=128\n"),
-    (
-        "\tlayout b mark sampler=4294967295\n",
-        "layout b total 4294967295\n",
-    ),
-    ("size b 0 3\n", "size 1 sampler=4294967295\n"),
-];
-
-/// The bytes of the lines, and their answers.
-fn lines_and_answers(alloc: Global) -> Result<(String, String), Fail> {
-    let mut lines = String::new(alloc);
-    let mut answers = String::new(alloc);
-    for (line, answer) in &LINES {
-        lines.push_str(line)?;
-        answers.push_str(answer)?;
-    }
-    Ok((lines, answers))
-}
-
-/// The answers of the lines that end within so many bytes.
-fn answers_within(alloc: Global, bytes: usize) -> Result<String, Fail> {
-    let mut answers = String::new(alloc);
-    let mut length = 0usize;
-    for (line, answer) in &LINES {
-        length = length.saturating_add(line.len());
-        if length <= bytes {
-            answers.push_str(answer)?;
-        }
-    }
-    Ok(answers)
-}
-
-#[test]
-fn input_cut_anywhere(rt: HostRuntime) -> Result<(), Fail> {
-    let (lines, _) = lines_and_answers(rt.alloc())?;
-    let bytes = lines.as_bytes();
-    for cut in 0..bytes.len() {
-        let mut output = empty_writer(rt.alloc());
-        let ended = run_lines(rt.alloc(), &mut reader_of(&bytes[..cut]), &mut output);
-        assert!(rt; ended == Exit::Done || ended == Exit::BadLine, "at {cut}");
-        let answers = answers_within(rt.alloc(), cut)?;
-        assert!(rt; output.text.starts_with(answers.as_bytes()), "at {cut}");
-    }
-    Ok(())
-}
-
-#[test]
-fn read_that_fails_anywhere(rt: HostRuntime) -> Result<(), Fail> {
-    let (lines, _) = lines_and_answers(rt.alloc())?;
-    let bytes = lines.as_bytes();
-    for kind in [
-        ErrorKind::Other,
-        ErrorKind::Interrupted,
-        ErrorKind::UnexpectedEof,
-    ] {
-        for cut in 0..bytes.len() {
-            let mut input = reader_of(&bytes[..cut]);
-            input.failure = Some(kind);
-            let mut output = empty_writer(rt.alloc());
-            let ended = run_lines(rt.alloc(), &mut input, &mut output);
-            assert_eq!(rt; ended, Exit::ReadFault, "at {cut}");
-            let answers = answers_within(rt.alloc(), cut)?;
-            assert_eq!(rt; output.text.as_slice(), answers.as_bytes(), "at {cut}");
-        }
-    }
-    Ok(())
-}
-
-#[test]
-fn few_bytes_a_call(rt: HostRuntime) -> Result<(), Fail> {
-    let (lines, answers) = lines_and_answers(rt.alloc())?;
-    for (read, write) in [(1, usize::MAX), (usize::MAX, 1), (1, 1), (7, 3)] {
-        let mut input = reader_of(lines.as_bytes());
-        input.step = read;
-        let mut output = empty_writer(rt.alloc());
-        output.step = write;
-        let ended = run_lines(rt.alloc(), &mut input, &mut output);
-        assert_eq!(rt; output.text.as_slice(), answers.as_bytes());
-        assert_eq!(rt; ended, Exit::Done);
-    }
-    Ok(())
-}
-
-#[test]
-fn write_that_stops_anywhere(rt: HostRuntime) -> Result<(), Fail> {
-    let (mut lines, mut answers) = lines_and_answers(rt.alloc())?;
-    lines.push_str("shows")?;
-    answers.push_str("line 6: unknown command\n")?;
-    for failure in [Some(ErrorKind::Other), Some(ErrorKind::Interrupted), None] {
-        for room in 0..answers.len() {
-            let mut output = empty_writer(rt.alloc());
-            output.room = room;
-            output.failure = failure;
-            let ended = run_lines(rt.alloc(), &mut reader_of(lines.as_bytes()), &mut output);
-            assert_eq!(rt; ended, Exit::WriteFault, "at {room}");
-            assert_eq!(rt;
-                output.text.as_slice(),
-                &answers.as_bytes()[..room],
-                "at {room}"
-            );
-        }
     }
     Ok(())
 }

@@ -1,0 +1,19 @@
+//! A script that refuses once.
+ghost use Rattle.std.specs.Prelude.{◌≡◌, IfOk};
+ghost use Rattle.descriptor_script.specs.Scripted.Script.{refusing_at};
+
+use crate::answer::Answer;
+use std::alloc::{AllocError, Global};
+
+/// The script of a device that answers so at one of its calls: so many words `Ok`, and then
+/// `answer`. Behind it each word is `Ok` again. `place` counts from 0 the calls that create a pool
+/// or allocate sets.
+///
+/// An error is want of memory, as for a script that is longer than a vector can be.
+pub fn refuse_at(alloc: Global, place: usize, answer: Answer) -> Result<Vec<Answer>, AllocError>
+    ensures { IfOk result (λ script. script.items ≡ refusing_at place answer) }
+{
+    let mut script = vec![in alloc; Answer::Ok; place]?;
+    script.push(answer)?;
+    Ok(script)
+}

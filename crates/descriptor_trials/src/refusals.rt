@@ -1,0 +1,212 @@
+//! Each answer of a device at each of its calls, at one and at two of them. Clauses say what each
+//! step may reply and leaves; none says that a refused call costs one request and no other, that
+//! later requests are met, or how many calls a run makes.
+use crate::bench::{Bench, expect_pools};
+use crate::plans::{Ask, Plan, dropped_pools, keys_in_turn, new_pools, old_pools};
+use descriptor_script::{Answer, Command, Reply, ScriptLayout, ScriptedDevice, refuse_at};
+use gpu_descriptor::AllocationError;
+use std::alloc::{AllocError, Global};
+use std::process::Abort;
+use std::test::Fail;
+
+/// A word that refuses, and the error of the request that it costs.
+#[derive(Clone, Copy)]
+struct Refusal {
+    word: Answer,
+    error: AllocationError,
+}
+
+const REFUSALS: [Refusal; 4] = [
+    Refusal {
+        word: Answer::Device,
+        error: AllocationError::OutOfDeviceMemory,
+    },
+    Refusal {
+        word: Answer::Host,
+        error: AllocationError::OutOfHostMemory,
+    },
+    Refusal {
+        word: Answer::Frag,
+        error: AllocationError::Fragmentation,
+    },
+    Refusal {
+        word: Answer::Pool,
+        error: AllocationError::Fragmentation,
+    },
+];
+
+/// A session with the layouts of a plan, on a device that begins with this script.
+fn bench_of(
+    alloc: Global,
+    plan: &Plan<'_>,
+    script: Vec<Answer>,
+) -> Result<Bench<ScriptedDevice>, Fail> {
+    let mut bench = Bench::new(alloc, u32::MAX, ScriptedDevice::new(alloc, script));
+    for layout in plan.layouts {
+        bench.add_layout(layout)?;
+    }
+    Ok(bench)
+}
+
+/// Does what the plan asks, and lists the errors of the requests that were refused. A free whose
+/// tickets a refused request did not give is a bad one.
+fn refused_of(
+    rt: &impl Abort,
+    alloc: Global,
+    bench: &mut Bench<ScriptedDevice>,
+    asks: &[Ask<'_>],
+) -> Result<Vec<AllocationError>, AllocError> {
+    let mut refused = Vec::new(alloc);
+    for ask in asks {
+        let reply = match *ask {
+            Ask::Sets(layout, count) => bench.allocate(layout, count),
+            Ask::Back(tickets) => bench.free(alloc, tickets)?,
+        };
+        match reply {
+            Reply::Sets { .. } | Reply::Freed(_) => {}
+            Reply::Refused(error) => refused.push(error)?,
+            other => assert!(rt; other == Reply::BadTicket && !refused.is_empty()),
+        }
+    }
+    Ok(refused)
+}
+
+/// All sets go back, the last ticket first, and then the empty pools go.
+fn give_back(
+    rt: &impl Abort,
+    alloc: Global,
+    bench: &mut Bench<ScriptedDevice>,
+) -> Result<(), AllocError> {
+    let mut tickets = Vec::new(alloc);
+    for ticket in (0..bench.session.next_ticket()).rev() {
+        if bench.session.set(ticket).is_some() {
+            tickets.push(ticket)?;
+        }
+    }
+    let held = tickets.len();
+    assert_eq!(rt; bench.step(&Command::Free { tickets }), Reply::Freed(held));
+    assert_eq!(rt; bench.cleanup(), Reply::Clean);
+    Ok(())
+}
+
+/// Sees that nothing is held, and that neither the allocator nor the device has a pool.
+fn expect_nothing_left(rt: &impl Abort, bench: &Bench<ScriptedDevice>, layouts: &[ScriptLayout]) {
+    assert_eq!(rt; bench.session.held(), 0);
+    for layout in layouts {
+        expect_pools(rt, bench.session.allocator(), layout, &[]);
+    }
+    assert_eq!(rt; bench.device.created(), bench.device.destroyed());
+}
+
+/// Runs the plan with this script, up to where nothing is left, and lists the errors.
+fn run(
+    rt: &impl Abort,
+    alloc: Global,
+    plan: &Plan<'_>,
+    script: Vec<Answer>,
+) -> Result<Vec<AllocationError>, Fail> {
+    let mut bench = bench_of(alloc, plan, script)?;
+    let refused = refused_of(rt, alloc, &mut bench, plan.asks)?;
+    give_back(rt, alloc, &mut bench)?;
+    expect_nothing_left(rt, &bench, &plan.layouts);
+    Ok(refused)
+}
+
+/// Whether the word at this place costs no request: an existing pool that refuses for its own sake
+/// is passed over.
+fn is_passed_over(plan: &Plan<'_>, place: usize, refusal: Refusal) -> bool {
+    refusal.error == AllocationError::Fragmentation && plan.existing.contains(&place)
+}
+
+/// Each word at each place costs the request that reads it, or none. Behind the last place no word
+/// is read.
+fn expect_one(rt: &impl Abort, alloc: Global, plan: &Plan<'_>) -> Result<(), Fail> {
+    for place in 0..=plan.words {
+        for refusal in REFUSALS {
+            let refused = run(rt, alloc, plan, refuse_at(alloc, place, refusal.word)?)?;
+            let is_met = place == plan.words || is_passed_over(plan, place, refusal);
+            let wanted = [refusal.error];
+            let wanted = if is_met { &[] } else { wanted.as_slice() };
+            assert_eq!(rt; refused.as_slice(), wanted, "{:?} at {place}", refusal.word);
+        }
+    }
+    Ok(())
+}
+
+#[test]
+fn one_call_is_refused(rt: HostRuntime) -> Result<(), Fail> {
+    for plan in [new_pools(), old_pools(), dropped_pools(), keys_in_turn()] {
+        expect_one(&rt, rt.alloc(), &plan)?;
+    }
+    Ok(())
+}
+
+#[test]
+fn pool_that_is_passed_over_shows_no_free_place(rt: HostRuntime) -> Result<(), Fail> {
+    for word in [Answer::Frag, Answer::Pool] {
+        let plan = new_pools();
+        let mut bench = bench_of(rt.alloc(), &plan, refuse_at(rt.alloc(), 2, word)?)?;
+        let refused = refused_of(&rt, rt.alloc(), &mut bench, plan.asks)?;
+        assert!(rt; refused.is_empty());
+        let [first, ..] = plan.layouts;
+        let pools = [(0, 60, 0), (1, 10, 54)];
+        expect_pools(&rt, bench.session.allocator(), &first, &pools);
+    }
+    Ok(())
+}
+
+/// These two words, each at its place. The first costs its request, as alone; the second costs one
+/// more or none, as it may be read for another call, or for none.
+fn expect_pair(
+    rt: &impl Abort,
+    alloc: Global,
+    plan: &Plan<'_>,
+    [earlier, later]: [usize; 2],
+    [first, second]: [Refusal; 2],
+) -> Result<(), Fail> {
+    let mut script = refuse_at(alloc, later, second.word)?;
+    if let Some(word) = script.get_mut(earlier) {
+        *word = first.word;
+    }
+    let refused = run(rt, alloc, plan, script)?;
+    let both = [first.error, second.error];
+    let wanted = if is_passed_over(plan, earlier, first) {
+        &both[1..]
+    } else {
+        &both[..]
+    };
+    let fewest = wanted.len() - 1;
+    let seen = refused.as_slice();
+    assert!(rt;
+        seen == wanted || seen == &wanted[..fewest],
+        "{seen:?} at {earlier}, {later}"
+    );
+    Ok(())
+}
+
+/// Each two words at these places.
+fn expect_pairs(
+    rt: &impl Abort,
+    alloc: Global,
+    plan: &Plan<'_>,
+    places: [usize; 2],
+) -> Result<(), Fail> {
+    for first in REFUSALS {
+        for second in REFUSALS {
+            expect_pair(rt, alloc, plan, places, [first, second])?;
+        }
+    }
+    Ok(())
+}
+
+#[test]
+fn two_calls_are_refused(rt: HostRuntime) -> Result<(), Fail> {
+    for plan in [new_pools(), old_pools(), dropped_pools(), keys_in_turn()] {
+        for later in 1..plan.words {
+            for earlier in 0..later {
+                expect_pairs(&rt, rt.alloc(), &plan, [earlier, later])?;
+            }
+        }
+    }
+    Ok(())
+}
