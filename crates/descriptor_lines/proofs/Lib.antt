@@ -1,3 +1,4 @@
 pub mod AnswerLemmas
+pub mod LayoutLemmas
 pub mod LineLemmas
 pub mod SessionLemmas

@@ -1,5 +1,5 @@
 -- The layouts by name.
-use Rattle.std.specs.Prelude.{◌≡◌, ◌<◌, ℕ, List, map, length, Option, slice_get, string_bytes}
+use Rattle.std.specs.Prelude.{◌≡◌, ◌<◌, ◌↔◌, ◌++◌, ◌∷◌, [], ℕ, Bool, IsTrue, List, Contains, map, length, Option, slice_get, string_bytes}
 use Rattle.std.specs.Option.{option_map}
 use Rattle.indexmap.specs.IndexMap.{get_by_text, spare}
 use Rattle.descriptor_lines.specs.declared.layouts.Layout.{Layout}
@@ -19,6 +19,20 @@ layout_at layouts place = option_map (λ l. l.1) (slice_get (layouts_in layouts)
 
 abbrev pub layout_count : Layouts → ℕ
 layout_count layouts = length layouts.by_name.entries
+
+-- no layout has these counts and this mark, and so its pools
+abbrev pub IsNewKey : Layouts → Layout → Type 0
+IsNewKey layouts layout = ¬ Contains (map (λ l. l.1) (layouts_in layouts)) layout
+
+-- whether each layout is the first with its counts and mark, as the table keeps it
+abbrev pub firsts_in : Layouts → List Bool
+firsts_in layouts = map (λ e. e.1.is_first) layouts.by_name.entries
+
+-- of a layout that came last the table keeps whether it is the first with its counts and mark
+pub record TellsFirst (layout : Layout) (old new : Layouts) : Type 0 where
+  pub is_first : Bool
+  pub kept : firsts_in new ≡ firsts_in old ++ is_first ∷ []
+  pub exactly : IsTrue is_first ↔ IsNewKey old layout
 
 -- one more layout needs no memory
 abbrev pub HasRoom : Layouts → Type 0

@@ -1,6 +1,6 @@
 //! The layouts that the lines made, by name.
 ghost use Rattle.std.specs.Prelude.{◌≡◌, ◌+◌, ◌<◌, ◌≤◌, ◌↔◌, ◌++◌, ◌∷◌, [], IsTrue, IfOk, IfSome, OnOk, None, is_some, string_bytes};
-ghost use Rattle.descriptor_lines.specs.LayoutTable.{layout_at, layout_named, layouts_in, layout_count, HasRoom, SameLayouts};
+ghost use Rattle.descriptor_lines.specs.LayoutTable.{layout_at, layout_named, layouts_in, layout_count, HasRoom, IsNewKey, SameLayouts, TellsFirst};
 
 use gpu_descriptor_types::DescriptorTotalCount;
 use indexmap::IndexMap;
@@ -86,13 +86,26 @@ impl Layouts {
         String::from_str(self.alloc, name)
     }
 
+    /// Whether no layout has the same counts and the same mark.
+    fn is_new(&self, layout: &Layout) -> bool
+        ensures { IsTrue result ↔ IsNewKey self.now layout.now }
+    {
+        for entry in self.by_name.values() {
+            if entry.layout == *layout {
+                return false;
+            }
+        }
+        true
+    }
+
     /// Puts a layout of a new name last, over room that was taken.
     pub fn push(&mut self, name: String, layout: Layout)
         requires room { HasRoom self.old }
         requires absent { layout_named self.old (string_bytes name) ≡ None }
-        ensures { layouts_in self.new ≡ layouts_in self.old ++ (string_bytes name, layout) ∷ [] }
+        ensures layouts { layouts_in self.new ≡ layouts_in self.old ++ (string_bytes name, layout) ∷ [] }
+        ensures first { TellsFirst layout self.old self.new }
     {
-        let is_first = !self.by_name.values().any(|entry| entry.layout == layout);
+        let is_first = self.is_new(&layout);
         // There is room, and the name is new.
         let _ = self.by_name.insert(name, Entry { layout, is_first });
     }

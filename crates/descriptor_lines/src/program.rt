@@ -1,6 +1,7 @@
 //! The program: lines in, answers out.
 ghost use Rattle.std.specs.Prelude.{◌≡◌, ◌≢◌, ◌||◌, not, IsTrue, IsFalse, IfErr, OnOk, OnErr, string_bytes};
 ghost use Rattle.std.specs.Io.KnownBytes.{IsAtEnd, Keeps};
+ghost use Rattle.descriptor_lines.specs.Arguments.{IsRefusalOf};
 ghost use Rattle.descriptor_words.specs.Fault.{IfFault};
 ghost use Rattle.descriptor_lines.specs.Outcomes.{EndsInFault};
 ghost use Rattle.descriptor_lines.specs.Programs.{CanRun, DoesLine, IsUnchanged, begun};
@@ -60,6 +61,7 @@ impl Program {
         ensures err { OnErr result (IsUnchanged self.old self.new) }
         ensures begun { self.new.has_begun ≡ (self.old.has_begun || not (is_silent (words line.now))) }
         ensures faulty { IfErr result (λ reason. IfFault reason (λ _. self.new ≡ begun self.old)) }
+        ensures own { IfErr result (λ reason. IfFault reason (λ _. IsRefusalOf self.old.layouts self.old.has_begun (words line.now) reason)) }
         ensures quiet { IsTrue (is_silent (words line.now)) → string_bytes answer.new ≡ string_bytes answer.old }
     {
         match Command::parse(self.alloc, line, &self.layouts, self.has_begun) {
