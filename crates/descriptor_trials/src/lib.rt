@@ -25,7 +25,3 @@ mod refused;
 mod sets;
 #[cfg(test)]
 mod traces;
-#[cfg(test)]
-mod trip;
-#[cfg(test)]
-mod words;

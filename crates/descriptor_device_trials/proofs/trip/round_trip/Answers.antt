@@ -6,8 +6,8 @@ use Rattle.std.specs.Vec.Iter.{into_iter_items}
 use Rattle.gpu_descriptor_types.proofs.Drained.{taken_front}
 use Rattle.gpu_descriptor_types.specs.Counts.{kinds}
 use Rattle.gpu_descriptor_types.specs.Ledger.{HasNoSets, fresh}
-use Rattle.descriptor_trials.proofs.Trips.{has_room, made, are_live, none_left, none_put, map_same}
-use Rattle.descriptor_trials.proofs.trip.round_trip.Goals as goal
+use Rattle.descriptor_device_trials.proofs.Trips.{has_room, made, are_live, none_left, none_put, map_same}
+use Rattle.descriptor_device_trials.proofs.trip.round_trip.Goals as goal
 
 pub alloc_descriptor_sets-requires-clause-fits : goal.alloc_descriptor_sets-requires-clause-fits
 alloc_descriptor_sets-requires-clause-fits g c =

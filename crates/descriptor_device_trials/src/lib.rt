@@ -1,0 +1,7 @@
+//! The scripted device tried through its public calls. Tests alone.
+#![tactic(auto)]
+
+#[cfg(test)]
+mod trip;
+#[cfg(test)]
+mod words;
