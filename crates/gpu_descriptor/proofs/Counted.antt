@@ -12,10 +12,10 @@ use Rattle.gpu_descriptor.proofs.Fronts.{less-less, spent_front-less}
 use Rattle.gpu_descriptor_types.proofs.Counting.{count_by-append, count_by_alike}
 use Rattle.gpu_descriptor.proofs.Exact.{item_exact}
 use Rattle.gpu_descriptor.proofs.Places.{back, lies_in-at, kept}
-use Rattle.gpu_descriptor.proofs.Parts.{settled_if, names_key, quiet_key}
+use Rattle.gpu_descriptor.proofs.Parts.{trimmed_if, names_key, quiet_key}
 
 count_law : (first second : Bool) (f g : ℕ → ℕ) (b : Bucket) → (second ≡ false → bucket_less (λ p. f p + g p) b ≡ bucket_less f b)
-    → (if first then spent_front (bucket_less f b) else 0) + (if second then spent_front (bucket_less g (settled_if first (bucket_less f b))) else 0) ≡ (if first || second then spent_front (bucket_less (λ p. f p + g p) b) else 0)
+    → (if first then spent_front (bucket_less f b) else 0) + (if second then spent_front (bucket_less g (trimmed_if first (bucket_less f b))) else 0) ≡ (if first || second then spent_front (bucket_less (λ p. f p + g p) b) else 0)
 count_law true true f g b quiet = sym (ap spent_front (sym (less-less f g b)) ∙ spent_front-less g (bucket_less f b))
 count_law true false f g b quiet = (let same = ap spent_front (quiet refl) in omega arith)
 count_law false true f g b quiet = (let same = ap spent_front (less-less f g b) in omega arith)

@@ -3,33 +3,42 @@ use Rattle.std.proofs.Common.{◌≡◌, ℕ, zero, suc, ◌+◌, ◌-◌, ◌<�
 use Rattle.std.specs.List.{prefix_len}
 use Rattle.std.proofs.lemmas.Bool.{cases_Bool, cases_lt}
 use Rattle.std.proofs.lemmas.List.{drop-map}
+use Rattle.std.proofs.lemmas.List.Sums.{prefix_len-le-length}
 use Rattle.gpu_descriptor.specs.Model.Books.{Entry, Bucket, entry_at}
+use Rattle.gpu_descriptor.specs.Inner.Buckets.{front_but, trimmed_bucket}
 use Rattle.gpu_descriptor.specs.Model.Release.{entry_less, bucket_less, is_empty, empty_front, spent_front, without_front}
 
--- the spent front of a list of pools
-abbrev pub spent : List Entry → ℕ
-spent es = min (prefix_len is_empty es) (length es - 1)
+-- how many pools go from the front of a list, if so many are to stay
+abbrev pub trim : ℕ → List Entry → ℕ
+trim keep es = min (prefix_len is_empty es) (length es - keep)
 
-pub spent_yes : (x y : Entry) (es : List Entry) → is_empty x ≡ true → spent (x ∷ y ∷ es) ≡ suc (spent (y ∷ es))
-spent_yes x y es h = rw h (omega arith)
+pub trim_yes : (keep : ℕ) (x : Entry) (es : List Entry) → keep ≤ length es → is_empty x ≡ true → trim keep (x ∷ es) ≡ suc (trim keep es)
+trim_yes keep x es le h = rw h (omega arith)
 
-pub spent_no : (x : Entry) (es : List Entry) → is_empty x ≡ false → spent (x ∷ es) ≡ 0
-spent_no x es h = rw h (omega arith)
+pub trim_no : (keep : ℕ) (x : Entry) (es : List Entry) → is_empty x ≡ false → trim keep (x ∷ es) ≡ 0
+trim_no keep x es h = rw h (omega arith)
 
-pub spent_one : (x : Entry) → spent (x ∷ []) ≡ 0
-spent_one x = omega arith
+pub trim_short : (keep : ℕ) (es : List Entry) → length es ≤ keep → trim keep es ≡ 0
+trim_short keep es le = omega arith
+
+-- with no pool to stay the whole empty front goes
+pub whole_front : (b : Bucket) → front_but 0 b ≡ empty_front b
+whole_front b = (let le = prefix_len-le-length is_empty b.pools in omega arith)
+
+pub whole_trimmed : (b : Bucket) → trimmed_bucket 0 b ≡ without_front (empty_front b) b
+whole_trimmed b = ap (λ (n : ℕ). without_front n b) (whole_front b)
 
 -- a change that leaves empty pools empty
 abbrev pub KeepsEmpty : (Entry → Entry) → Type 0
 KeepsEmpty g = (e : Entry) → is_empty e ≡ true → is_empty (g e) ≡ true
 
 -- The front after a change is the front before it, and then the front of what that leaves
-pub spent-map : (g : Entry → Entry) → KeepsEmpty g → (es : List Entry) → spent (map g es) ≡ spent es + spent (drop (spent es) (map g es))
-spent-map g keeps [] = refl
-spent-map g keeps (x ∷ []) = rw (spent_one x) (omega arith)
-spent-map g keeps (x ∷ y ∷ es) = elim (cases_Bool (is_empty x)) [
-  | inl h ↦ rw (spent_yes (g x) (g y) (map g es) (keeps x h), spent_yes x y es h) (omega (arith, spent-map g keeps (y ∷ es)))
-  | inr h ↦ rw (spent_no x (y ∷ es) h) (omega arith)
+pub trim-map : (g : Entry → Entry) → KeepsEmpty g → (es : List Entry) → trim 1 (map g es) ≡ trim 1 es + trim 1 (drop (trim 1 es) (map g es))
+trim-map g keeps [] = refl
+trim-map g keeps (x ∷ []) = (let one : trim 1 (x ∷ []) ≡ 0 = omega arith in rw one (omega arith))
+trim-map g keeps (x ∷ y ∷ es) = elim (cases_Bool (is_empty x)) [
+  | inl h ↦ rw (trim_yes 1 (g x) (map g (y ∷ es)) (let more : 1 ≤ length (map g (y ∷ es)) = omega arith in more) (keeps x h), trim_yes 1 x (y ∷ es) (let more : 1 ≤ length (y ∷ es) = omega arith in more) h) (omega (arith, trim-map g keeps (y ∷ es)))
+  | inr h ↦ rw (trim_no 1 x (y ∷ es) h) (omega arith)
 ]
 
 -- a pool in the front is empty
@@ -103,23 +112,19 @@ less-keeps_empty g e h =
     let none : e.allocated ≡ 0 = eqb-true e.allocated 0 h in
     eq-eqb (e.allocated - g e.pool) 0 (omega arith)
 
--- the spent front goes
-abbrev pub settled : Bucket → Bucket
-settled b = without_front (spent_front b) b
-
 -- The front after a second subtraction is the front after the first, and then the front of what that leaves
-pub spent_front-less : (g : ℕ → ℕ) (b : Bucket) → spent_front (bucket_less g b) ≡ spent_front b + spent_front (bucket_less g (settled b))
+pub spent_front-less : (g : ℕ → ℕ) (b : Bucket) → spent_front (bucket_less g b) ≡ spent_front b + spent_front (bucket_less g (trimmed_bucket 1 b))
 spent_front-less g b =
-    spent-map (λ e. entry_less (g e.pool) e) (less-keeps_empty g) b.pools
-    ∙ ap (λ (es : List Entry). spent b.pools + spent es) (drop-map (λ (e : Entry). entry_less (g e.pool) e) (spent b.pools) b.pools)
+    trim-map (λ e. entry_less (g e.pool) e) (less-keeps_empty g) b.pools
+    ∙ ap (λ (es : List Entry). trim 1 b.pools + trim 1 es) (drop-map (λ (e : Entry). entry_less (g e.pool) e) (trim 1 b.pools) b.pools)
 
 -- THE LAW FOR ONE KEY: two parts, the front gone after each, leave what both at once leave
-pub one_key : (f g : ℕ → ℕ) (b : Bucket) → settled (bucket_less g (settled (bucket_less f b))) ≡ settled (bucket_less (λ p. f p + g p) b)
+pub one_key : (f g : ℕ → ℕ) (b : Bucket) → trimmed_bucket 1 (bucket_less g (trimmed_bucket 1 (bucket_less f b))) ≡ trimmed_bucket 1 (bucket_less (λ p. f p + g p) b)
 one_key f g b =
     let c = bucket_less f b in
     let d = bucket_less (λ p. f p + g p) b in
     let twice : bucket_less g c ≡ d = less-less f g b in
-    let part : bucket_less g (settled c) ≡ without_front (spent_front c) d = less-without g (spent_front c) c ∙ ap (without_front (spent_front c)) twice in
-    let sizes : spent_front d ≡ spent_front c + spent_front (bucket_less g (settled c)) = ap spent_front (sym twice) ∙ spent_front-less g c in
-    ap settled part ∙ without-without (spent_front c) (spent_front (without_front (spent_front c) d)) d
+    let part : bucket_less g (trimmed_bucket 1 c) ≡ without_front (spent_front c) d = less-without g (spent_front c) c ∙ ap (without_front (spent_front c)) twice in
+    let sizes : spent_front d ≡ spent_front c + spent_front (bucket_less g (trimmed_bucket 1 c)) = ap spent_front (sym twice) ∙ spent_front-less g c in
+    ap (trimmed_bucket 1) part ∙ without-without (spent_front c) (spent_front (without_front (spent_front c) d)) d
     ∙ ap (λ (n : ℕ). without_front n d) (ap (λ (x : Bucket). spent_front c + spent_front x) (sym part) ∙ sym sizes)

@@ -27,58 +27,29 @@ front_found (x ∷ es) (suc n) pool h = elim (or_cases (x.pool == pool) (list_an
   | inr later ↦ (let found = front_found es n pool later in let below = found.2 in (suc found.0, found.1, (let lt : suc found.0 < suc n = omega arith in lt), found.3, found.4))
 ]
 
--- a pool in the front of a key of which sets go back, where it stood before
-record FrontPlace (m : List Item) (s : State) (pool : ℕ) : Type 0 where
-  key : Key
-  place : ℕ
-  entry : Entry
-  named : names_key m key ≡ true
-  below : place < spent_front (bucket_less (back m s) (s.books key))
-  at : entry_at (s.books key) ((s.books key).first + place) ≡ Some entry
-  is : entry.pool ≡ pool
-
-same_pool : (n : ℕ) (d e : Entry) (pool : ℕ) → entry_less n d ≡ e → e.pool ≡ pool → d.pool ≡ pool
-same_pool n d e pool less is = ap (λ (x : Entry). x.pool) less ∙ is
-
-front_at : (m : List Item) (s : State) (pool : ℕ) (l : Key) → names_key m l ≡ true → goes (bucket_less (back m s) (s.books l)) pool ≡ true → FrontPlace m s pool
-front_at m s pool l named gone =
-    let c = bucket_less (back m s) (s.books l) in
-    let found = front_found c.pools (spent_front c) pool gone in
-    let n : ℕ = c.first + found.0 in
-    let place : n - c.first ≡ found.0 = omega arith in
-    let there : entry_at c n ≡ Some found.1 = entry_at-from c n found.1 (omega arith) (rw place found.3) in
-    let before = some_before (λ e. entry_less (back m s e.pool) e) (entry_at (s.books l) n) found.1 (sym (entry_at-less (back m s) (s.books l) n) ∙ there) in
-    record {
-      key = l;
-      place = found.0;
-      entry = before.0;
-      named = named;
-      below = found.2;
-      at = before.1;
-      is = same_pool (back m s before.0.pool) before.0 found.1 pool before.2 found.4;
-    }
-
--- the books have no such pool any more
-front_gone : (m : List Item) (s : State) → Agree s → (k : Key) (i : ℕ) (e : Entry) → entry_at ((released m s).books k) i ≡ Some e → FrontPlace m s e.pool → ⊥
-front_gone m s agree k i e h f =
-    let was = was_there m s k i e h in
-    let name : f.entry.pool ≡ was.0.pool = f.is ∙ sym (ap (λ (x : Entry). x.pool) was.2) in
-    let same = agree.distinct f.key k ((s.books f.key).first + f.place) i f.entry was.0 f.at was.1 name in
-    let named : names_key m k ≡ true = ap (names_key m) (sym same.0) ∙ f.named in
-    let front : front_of m s k ≡ spent_front (bucket_less (back m s) (s.books k)) = rw named refl in
-    let fronts : spent_front (bucket_less (back m s) (s.books f.key)) ≡ spent_front (bucket_less (back m s) (s.books k)) = ap (λ (x : Key). spent_front (bucket_less (back m s) (s.books x))) same.0 in
-    let firsts : (s.books f.key).first ≡ (s.books k).first = ap (λ (x : Key). (s.books x).first) same.0 in
-    let past = was.3 in
-    let below = f.below in
-    let number = same.1 in
-    omega arith
-
 -- a pool that the books still have has not gone from the ledger
 pub stays : (m : List Item) (s : State) → Agree s → (k : Key) (i : ℕ) (e : Entry) → entry_at ((released m s).books k) i ≡ Some e → list_any (λ t. goes (bucket_less (back m s) (s.books t.key)) e.pool) m ≡ false
 stays m s agree k i e h = false_from_ne_true (list_any (λ t. goes (bucket_less (back m s) (s.books t.key)) e.pool) m) (λ gone.
     let at = any_key (λ l. goes (bucket_less (back m s) (s.books l)) e.pool) m gone in
-    let both = and_parts (names_key m at.0) (goes (bucket_less (back m s) (s.books at.0)) e.pool) at.1 in
-    front_gone m s agree k i e h (front_at m s e.pool at.0 both.0 both.1))
+    let l = at.0 in
+    let both = and_parts (names_key m l) (goes (bucket_less (back m s) (s.books l)) e.pool) at.1 in
+    let c = bucket_less (back m s) (s.books l) in
+    let found = front_found c.pools (spent_front c) e.pool both.1 in
+    let j = found.0 in
+    let place : c.first + j - c.first ≡ j = omega arith in
+    let there : entry_at c (c.first + j) ≡ Some found.1 = entry_at-from c (c.first + j) found.1 (omega arith) (rw place found.3) in
+    let before = some_before (λ e. entry_less (back m s e.pool) e) (entry_at (s.books l) (c.first + j)) found.1 (sym (entry_at-less (back m s) (s.books l) (c.first + j)) ∙ there) in
+    let was = was_there m s k i e h in
+    let name : before.0.pool ≡ was.0.pool = ap (λ (x : Entry). x.pool) before.2 ∙ found.4 ∙ sym (ap (λ (x : Entry). x.pool) was.2) in
+    let same = agree.distinct l k (c.first + j) i before.0 was.0 before.1 was.1 name in
+    let named : names_key m k ≡ true = ap (names_key m) (sym same.0) ∙ both.0 in
+    let front : front_of m s k ≡ spent_front (bucket_less (back m s) (s.books k)) = rw named refl in
+    let fronts : spent_front c ≡ spent_front (bucket_less (back m s) (s.books k)) = ap (λ (x : Key). spent_front (bucket_less (back m s) (s.books x))) same.0 in
+    let firsts : (s.books l).first ≡ (s.books k).first = ap (λ (x : Key). (s.books x).first) same.0 in
+    let past = was.3 in
+    let below = found.2 in
+    let number = same.1 in
+    omega arith)
 
 -- the ledger's record of a pool that the books still have
 pub ledger_after : (m : List Item) (s : State) → Agree s → (k : Key) (i : ℕ) (e : Entry) (pool : Pool) → entry_at ((released m s).books k) i ≡ Some e → s.ledger e.pool ≡ Some pool → (released m s).ledger e.pool ≡ Some (pool_less (back_named m s e.pool) pool)

@@ -7,15 +7,15 @@ use Rattle.gpu_descriptor_types.specs.Ledger.{Ledger}
 use Rattle.gpu_descriptor.specs.declared.set.BucketKey.{BucketKey}
 use Rattle.gpu_descriptor.specs.declared.bucket.DescriptorBucket.{DescriptorBucket}
 use Rattle.gpu_descriptor.specs.Model.Books.{Key, Bucket, HasDistinctKeys, books_of}
-use Rattle.gpu_descriptor.specs.Inner.Buckets.{has_pools, cleared_bucket}
+use Rattle.gpu_descriptor.specs.Inner.Buckets.{has_pools, front_but, trimmed_bucket}
 use Rattle.gpu_descriptor.specs.Model.Cleanup.{IsCleaned, cleaned_bucket}
 use Rattle.gpu_descriptor.specs.Caller.Keys.{StayOrGainLast, keys_with_pools}
-use Rattle.gpu_descriptor.specs.Model.Release.{empty_front}
 use Rattle.gpu_descriptor.specs.Caller.Sets.{key_of}
 use Rattle.gpu_descriptor.specs.Caller.States.{keys_of, named_row, state_of}
 use Rattle.gpu_descriptor.specs.Inner.Stored.{bucket_of, entry_of, row_of, stored_keys}
 use Rattle.gpu_descriptor.specs.Caller.Values.{Allocations}
 use Rattle.gpu_descriptor.proofs.Cleaning.{cleaned_cases}
+use Rattle.gpu_descriptor.proofs.Fronts.{whole_front, whole_trimmed}
 use Rattle.gpu_descriptor.proofs.RowsCleaned.{Rows, cleared, first_keys, row_books}
 use Rattle.gpu_descriptor.proofs.TableBooks.{keys_are, keys_set, rows_are, rows_in}
 
@@ -37,31 +37,32 @@ module _ {P : Type 0} (k : Key) where
 -- ---- cleaning up
 
 -- a key is left exactly if it has pools once it is cleaned
-left_exactly : (b : Bucket) → (length (cleaned_bucket b).pools == 0) ≡ (length (cleared_bucket b).pools == 0)
+left_exactly : (b : Bucket) → (length (cleaned_bucket b).pools == 0) ≡ (length (trimmed_bucket 0 b).pools == 0)
 left_exactly b = elim (cleaned_cases b) [
   | inl all ↦ (
-      let long = length-drop (empty_front b) b.pools in
+      let long = length-drop (front_but 0 b) b.pools in
+      let front = whole_front b in
       let whole = all.0 in
-      let none : length (cleared_bucket b).pools ≡ 0 = omega arith in
+      let none : length (trimmed_bucket 0 b).pools ≡ 0 = omega arith in
       ap (λ (c : Bucket). length c.pools == 0) all.1 ∙ ap (λ (n : ℕ). n == 0) (sym none))
-  | inr some ↦ ap (λ (c : Bucket). length c.pools == 0) some.1
+  | inr some ↦ ap (λ (c : Bucket). length c.pools == 0) (some.1 ∙ sym (whole_trimmed b))
 ]
 
 module _ {P : Type 0} (name : P → ℕ) (stays : Key → Bool) where
-  keys_left : (n : ℕ) (es : List (BucketKey × DescriptorBucket P)) (rows : Rows) → ((i : ℕ) (r : Key × Bucket) → slice_get rows i ≡ Some r → stays r.0 ≡ not (length (cleared_bucket r.1).pools == 0)) → length rows ≤ n → rows_in name es ≡ cleared n rows → stored_keys (filter (λ e. has_pools e.1) es) ≡ filter stays (map (λ r. r.0) rows)
+  keys_left : (n : ℕ) (es : List (BucketKey × DescriptorBucket P)) (rows : Rows) → ((i : ℕ) (r : Key × Bucket) → slice_get rows i ≡ Some r → stays r.0 ≡ not (length (trimmed_bucket 0 r.1).pools == 0)) → length rows ≤ n → rows_in name es ≡ cleared n rows → stored_keys (filter (λ e. has_pools e.1) es) ≡ filter stays (map (λ r. r.0) rows)
   keys_left n [] [] says le h = refl
   keys_left zero [] (r ∷ rows) says le h = absurd (omega arith)
-  keys_left (suc n) [] (r ∷ rows) says le h = absurd (let bad : ◌≡◌ {A = Rows} [] ((r.0, cleared_bucket r.1) ∷ cleared n rows) = h in cc)
+  keys_left (suc n) [] (r ∷ rows) says le h = absurd (let bad : ◌≡◌ {A = Rows} [] ((r.0, trimmed_bucket 0 r.1) ∷ cleared n rows) = h in cc)
   keys_left zero (e ∷ es) [] says le h = absurd (let bad : ◌≡◌ {A = Rows} ((key_of e.0, bucket_of name e.1) ∷ rows_in name es) [] = h in cc)
   keys_left (suc n) (e ∷ es) [] says le h = absurd (let bad : ◌≡◌ {A = Rows} ((key_of e.0, bucket_of name e.1) ∷ rows_in name es) [] = h in cc)
   keys_left zero (e ∷ es) (r ∷ rows) says le h = absurd (omega arith)
   keys_left (suc n) (e ∷ es) (r ∷ rows) says le h =
-      let whole : ◌≡◌ {A = Rows} ((key_of e.0, bucket_of name e.1) ∷ rows_in name es) ((r.0, cleared_bucket r.1) ∷ cleared n rows) = h in
-      let head : ◌≡◌ {A = Key × Bucket} (key_of e.0, bucket_of name e.1) (r.0, cleared_bucket r.1) = cc in
+      let whole : ◌≡◌ {A = Rows} ((key_of e.0, bucket_of name e.1) ∷ rows_in name es) ((r.0, trimmed_bucket 0 r.1) ∷ cleared n rows) = h in
+      let head : ◌≡◌ {A = Key × Bucket} (key_of e.0, bucket_of name e.1) (r.0, trimmed_bucket 0 r.1) = cc in
       let tail : rows_in name es ≡ cleared n rows = cc in
       let key : key_of e.0 ≡ r.0 = ap (λ (x : Key × Bucket). x.0) head in
-      let bucket : bucket_of name e.1 ≡ cleared_bucket r.1 = ap (λ (x : Key × Bucket). x.1) head in
-      let size : length e.1.pools.items ≡ length (cleared_bucket r.1).pools = sym (length-map e.1.pools.items (entry_of name)) ∙ ap (λ (b : Bucket). length b.pools) bucket in
+      let bucket : bucket_of name e.1 ≡ trimmed_bucket 0 r.1 = ap (λ (x : Key × Bucket). x.1) head in
+      let size : length e.1.pools.items ≡ length (trimmed_bucket 0 r.1).pools = sym (length-map e.1.pools.items (entry_of name)) ∙ ap (λ (b : Bucket). length b.pools) bucket in
       let own : stays r.0 ≡ not (length e.1.pools.items == 0) = says 0 r refl ∙ ap (λ (m : ℕ). not (m == 0)) (sym size) in
       let rest = keys_left n es rows (λ i. says (suc i)) (omega arith) tail in
       elim (cases_Bool (length e.1.pools.items == 0)) [
@@ -76,6 +77,6 @@ keys_cleaned {P} name a b l m es now fs n was is distinct le rows kept clean =
     let t = state_of name b m in
     let stays : Key → Bool = λ k. not (length (t.books k).pools == 0) in
     let long : length (rows_in name es) ≡ length es = length-map es (λ (e : BucketKey × DescriptorBucket P). (key_of e.0, bucket_of name e.1)) in
-    let says : (i : ℕ) (r : Key × Bucket) → slice_get (rows_in name es) i ≡ Some r → stays r.0 ≡ not (length (cleared_bucket r.1).pools == 0) = λ i r at.
+    let says : (i : ℕ) (r : Key × Bucket) → slice_get (rows_in name es) i ≡ Some r → stays r.0 ≡ not (length (trimmed_bucket 0 r.1).pools == 0) = λ i r at.
     ap (λ (c : Bucket). not (length c.pools == 0)) (clean.books r.0 ∙ ap cleaned_bucket (ap (λ (x : Rows). books_of x r.0) (ap (map (named_row name)) was ∙ rows_are name es) ∙ row_books (rows_in name es) i r distinct at)) ∙ ap not (left_exactly r.1) in
     keys_are b fs is ∙ ap stored_keys kept ∙ keys_left name stays n now (rows_in name es) says (omega arith) rows ∙ ap (filter stays) (first_keys name es ∙ sym (keys_are a es was))

@@ -21,7 +21,7 @@ use Rattle.gpu_descriptor.specs.Caller.Values.{Allocations}
 use Rattle.gpu_descriptor.proofs.LedgerPools.{taken_from, release_pools}
 use Rattle.gpu_descriptor.proofs.TableBooks.{put_books, rows_in, looked_up, written, key_once, keys_are}
 use Rattle.gpu_descriptor.proofs.KeepState.{booked_of}
-use Rattle.gpu_descriptor.proofs.WholeRun.{settled_pools, taken_of, whole_run, gone_run}
+use Rattle.gpu_descriptor.proofs.WholeRun.{trimmed_pools, taken_of, whole_run, gone_run}
 
 module _ {P S : Type 0} (name : P → ℕ) (set_name : S → ℕ) (a : Allocations P) (l : Ledger) (es : List (BucketKey × DescriptorBucket P)) (is : a.table ≡ map row_of es) (agree : Agree (state_of name a l)) (x : DescriptorSet S)
     (test : BucketKey → Bool) (same : (k : BucketKey) → test k ≡ key_eq (key_of x.key) (key_of k)) where
@@ -62,7 +62,7 @@ module _ {P S : Type 0} (name : P → ℕ) (set_name : S → ℕ) (a : Allocatio
           let some : IsSome (lookup test es) = rw found refl in
           let books : (state_of name new after).books ≡ put_books s.books k (bucket_of name w) = ap (books_in name) wrote ∙ fun_ext (written name test k same es w some) ∙ ap (λ (f : Key → Bucket). put_books f k (bucket_of name w)) (sym books_are) in
           let b = bucket_back (s.books k) x.number (length (names_of set_name (x ∷ xs))) into.entry in
-          let pools : after.pools ≡ settled_pools b (taken_from l.pools into.entry.pool (live_sets k.counts (names_of set_name (x ∷ xs)))) = ap (λ (m : Ledger). m.pools) into.ledger ∙ ap (settled_pools b) (release_pools into.entry.pool (live_sets k.counts (names_of set_name (x ∷ xs))) l) in
+          let pools : after.pools ≡ trimmed_pools b (taken_from l.pools into.entry.pool (live_sets k.counts (names_of set_name (x ∷ xs)))) = ap (λ (m : Ledger). m.pools) into.ledger ∙ ap (trimmed_pools b) (release_pools into.entry.pool (live_sets k.counts (names_of set_name (x ∷ xs))) l) in
           let left : state_of name new after ≡ record { books = put_books s.books k (bucket_of name w); ledger = after.pools } = λ i. record { books = books i; ledger = after.pools } in
           left ∙ whole_run set_name s agree x xs have into.entry into.above into.at (bucket_of name w) after.pools into.books pools
 

@@ -5,7 +5,6 @@ pub mod Cleaning
 pub mod Comparisons
 pub mod Counted
 pub mod Digits
-pub mod Empties
 pub mod Exact
 pub mod Foreign
 pub mod Freed

@@ -1,5 +1,6 @@
 -- The running totals of a table, and what a run takes from them.
-use Rattle.std.proofs.Common.{◌≡◌, ℕ, ◌+◌, ◌*◌, ◌-◌, ◌≤◌, Bool, true, List, [], ◌∷◌, ◌++◌, length, map, sum, sum_by, Option, Some, None, inl, inr, refl, sym, ap, ◌∙◌, arith}
+use Rattle.std.proofs.Common.{◌≡◌, ℕ, ◌+◌, ◌*◌, ◌-◌, ◌≤◌, Bool, true, List, [], ◌∷◌, ◌++◌, length, map, sum, sum_by, Option, Some, None, inl, inr, refl, sym, ap, subst, ◌∙◌, arith}
+use Rattle.std.specs.List.{IsDistinct}
 use Rattle.std.specs.Prelude.{if◌then◌else◌}
 use Rattle.std.specs.Map.{lookup, set_value}
 use Rattle.std.proofs.lemmas.Bool.{cases_Bool}
@@ -15,7 +16,7 @@ use Rattle.gpu_descriptor.specs.Caller.Frees.{descriptors_of, marked_descriptors
 use Rattle.gpu_descriptor.specs.Caller.Sets.{key_of, item_of, items_of}
 use Rattle.gpu_descriptor.specs.Caller.States.{sets_in, descriptors_in, pool_load_in, outstanding_of, marked_load_of}
 use Rattle.gpu_descriptor.specs.Inner.RunSteps.{HaveKey}
-use Rattle.gpu_descriptor.specs.Inner.Stored.{kept_of, row_of, load_in, stored_load_in, stored_load, IsCounted}
+use Rattle.gpu_descriptor.specs.Inner.Stored.{kept_of, row_of, load_in, stored_keys, stored_load_in, stored_load, IsCounted}
 use Rattle.gpu_descriptor.specs.Caller.Values.{Allocations, Kept}
 use Rattle.gpu_descriptor.proofs.Exact.{key_exact}
 use Rattle.gpu_descriptor.proofs.WholeRun.{at_parts}
@@ -36,6 +37,17 @@ load_at-le k m n le =
     let parts = load_at-add k m (n - m) in
     let whole : load_at k (m + (n - m)) ≡ load_at k n = ap (load_at k) rest in
     omega arith
+
+-- the row of a key, which a test of the map finds
+pub record IsRow {P : Type 0} (k : Key) (es : List (BucketKey × DescriptorBucket P)) (v : DescriptorBucket P) : Type 0 where
+  pub test : BucketKey → Bool
+  pub same : (l : BucketKey) → test l ≡ key_eq k (key_of l)
+  pub at : lookup test es ≡ Some v
+
+-- the row is written through the map
+pub record IsWritten {P : Type 0} (k : Key) (es fs : List (BucketKey × DescriptorBucket P)) (v w : DescriptorBucket P) : Type 0 where
+  pub row : IsRow k es v
+  pub wrote : fs ≡ set_value row.test es w
 
 module _ {P : Type 0} where
   -- a write through the map, in a sum over its entries
@@ -114,25 +126,6 @@ run_load name k n (x ∷ xs) have =
     single : (l : Key) → load_at l 1 ≡ (if l.marked then sum l.counts else 0)
     single l = elim (cases_Bool l.marked) [ inl on ↦ rw on (omega arith) | inr off ↦ rw off refl ]
 
--- the room, where the pools of a key change
-module _ {P : Type 0} (k : Key) (test : BucketKey → Bool) (same : (l : BucketKey) → test l ≡ key_eq k (key_of l)) (es : List (BucketKey × DescriptorBucket P)) where
-  pub pools_present : (v w : DescriptorBucket P) → lookup test es ≡ Some v → stored_load k v.pools.items ≤ sum_by stored_load_in es
-  pools_present v w found =
-      let a = sum_set (stored_load_in {P = P}) test es v w found in
-      let is : k ≡ key_of a.0 = key_exact.same k (key_of a.0) (sym (same a.0) ∙ a.1) in
-      let old : stored_load_in {P = P} (a.0, v) ≡ stored_load k v.pools.items = ap (λ (l : Key). stored_load l v.pools.items) (sym is) in
-      let le = a.2 in
-      omega arith
-
-  pub pools_set : (v w : DescriptorBucket P) → lookup test es ≡ Some v → (left room : ℕ) → left + stored_load k w.pools.items ≡ room + stored_load k v.pools.items → left + sum_by stored_load_in (set_value test es w) ≡ room + sum_by stored_load_in es
-  pools_set v w found left room moved =
-      let a = sum_set (stored_load_in {P = P}) test es v w found in
-      let is : k ≡ key_of a.0 = key_exact.same k (key_of a.0) (sym (same a.0) ∙ a.1) in
-      let old : stored_load_in {P = P} (a.0, v) ≡ stored_load k v.pools.items = ap (λ (l : Key). stored_load l v.pools.items) (sym is) in
-      let new : stored_load_in {P = P} (a.0, w) ≡ stored_load k w.pools.items = ap (λ (l : Key). stored_load l w.pools.items) (sym is) in
-      let rest = a.3 in
-      omega arith
-
 pub pools_end : {P : Type 0} (k : BucketKey) (es : List (BucketKey × DescriptorBucket P)) (w : DescriptorBucket P) (left room : ℕ) → left + stored_load (key_of k) w.pools.items ≡ room → left + sum_by stored_load_in (es ++ (k, w) ∷ []) ≡ room + sum_by stored_load_in es
 pools_end {P} k es w left room moved =
     let a = sum_by-append (stored_load_in {P = P}) es ((k, w) ∷ []) in
@@ -144,44 +137,71 @@ pub record Taken {P : Type 0} (k : Key) (n : ℕ) (es fs : List (BucketKey × De
   pub out : sum_by (λ r. r.1.total) fs + n ≡ sum_by (λ r. r.1.total) es
   pub load : sum_by load_in fs + load_at k n ≡ sum_by load_in es
 
-pub taken : {P : Type 0} (k : Key) (test : BucketKey → Bool) → ((l : BucketKey) → test l ≡ key_eq k (key_of l)) → (n : ℕ) (es : List (BucketKey × DescriptorBucket P)) (v w : DescriptorBucket P) → lookup test es ≡ Some v → w.total + n ≡ v.total → Taken k n es (set_value test es w)
-taken {P} k test same n es v w found total =
-    let a = sum_set (λ (r : BucketKey × DescriptorBucket P). r.1.total) test es v w found in
-    let b = sum_set (load_in {P = P}) test es v w found in
-    let is : k ≡ key_of b.0 = key_exact.same k (key_of b.0) (sym (same b.0) ∙ b.1) in
-    let old : load_in {P = P} (b.0, v) ≡ load_at k v.total = ap (λ (l : Key). load_at l v.total) (sym is) in
-    let new : load_in {P = P} (b.0, w) ≡ load_at k w.total = ap (λ (l : Key). load_at l w.total) (sym is) in
-    let parts : load_at k v.total ≡ load_at k w.total + load_at k n = ap (load_at k) (sym total) ∙ load_at-add k w.total n in
-    let moved_out = a.3 in
-    let moved_load = b.3 in
-    record { out = omega arith; load = omega arith }
+module _ {P : Type 0} {k : Key} {es : List (BucketKey × DescriptorBucket P)} {v : DescriptorBucket P} (row : IsRow k es v) where
+  -- its sets are of the table's
+  pub total_present : v.total ≤ sum_by (λ r. r.1.total) es
+  total_present = (sum_set (λ (r : BucketKey × DescriptorBucket P). r.1.total) row.test es v v row.at).2
 
-module _ {P : Type 0} (k : Key) (n : ℕ) (es fs : List (BucketKey × DescriptorBucket P)) (t : Taken k n es fs) where
+  -- the room that the pools of the row take is of the table's
+  pub pools_present : stored_load k v.pools.items ≤ sum_by stored_load_in es
+  pools_present =
+      let a = sum_set (stored_load_in {P = P}) row.test es v v row.at in
+      let is : k ≡ key_of a.0 = key_exact.same k (key_of a.0) (sym (row.same a.0) ∙ a.1) in
+      let old : stored_load_in {P = P} (a.0, v) ≡ stored_load k v.pools.items = ap (λ (l : Key). stored_load l v.pools.items) (sym is) in
+      let le = a.2 in
+      omega arith
+
+module _ {P : Type 0} {k : Key} {es fs : List (BucketKey × DescriptorBucket P)} {v w : DescriptorBucket P} (r : IsWritten k es fs v w) where
+  pub pools_set : (left room : ℕ) → left + stored_load k w.pools.items ≡ room + stored_load k v.pools.items → left + sum_by stored_load_in fs ≡ room + sum_by stored_load_in es
+  pools_set left room moved =
+      let a = sum_set (stored_load_in {P = P}) r.row.test es v w r.row.at in
+      let is : k ≡ key_of a.0 = key_exact.same k (key_of a.0) (sym (r.row.same a.0) ∙ a.1) in
+      let old : stored_load_in {P = P} (a.0, v) ≡ stored_load k v.pools.items = ap (λ (l : Key). stored_load l v.pools.items) (sym is) in
+      let new : stored_load_in {P = P} (a.0, w) ≡ stored_load k w.pools.items = ap (λ (l : Key). stored_load l w.pools.items) (sym is) in
+      let rest = a.3 in
+      rw r.wrote (omega arith)
+
+  taken_out : (n : ℕ) → w.total + n ≡ v.total → sum_by (λ b. b.1.total) (set_value r.row.test es w) + n ≡ sum_by (λ b. b.1.total) es
+  taken_out n total = (let moved = (sum_set (λ (b : BucketKey × DescriptorBucket P). b.1.total) r.row.test es v w r.row.at).3 in omega arith)
+
+  taken_load : (n : ℕ) → w.total + n ≡ v.total → sum_by load_in (set_value r.row.test es w) + load_at k n ≡ sum_by load_in es
+  taken_load n total =
+      let a = sum_set (load_in {P = P}) r.row.test es v w r.row.at in
+      let is : k ≡ key_of a.0 = key_exact.same k (key_of a.0) (sym (r.row.same a.0) ∙ a.1) in
+      let old : load_in {P = P} (a.0, v) ≡ load_at k v.total = ap (λ (l : Key). load_at l v.total) (sym is) in
+      let new : load_in {P = P} (a.0, w) ≡ load_at k w.total = ap (λ (l : Key). load_at l w.total) (sym is) in
+      let parts : load_at k v.total ≡ load_at k w.total + load_at k n = ap (load_at k) (sym total) ∙ load_at-add k w.total n in
+      let moved = a.3 in
+      omega arith
+
+  pub taken : {n : ℕ} → w.total + n ≡ v.total → Taken k n es fs
+  taken {n} total = rw r.wrote (record { out = taken_out n total; load = taken_load n total })
+
+module _ {P : Type 0} {k : Key} {n : ℕ} {es fs : List (BucketKey × DescriptorBucket P)} (t : Taken k n es fs) where
   -- what goes was there
-  pub load_fits : (limit marked room out : ℕ) → IsCounted limit marked room out es → load_at k n ≤ marked
-  load_fits limit marked room out counted = (let is = counted.is_load in let load = t.load in omega arith)
+  pub load_fits : {limit marked room out : ℕ} → IsCounted limit marked room out es → load_at k n ≤ marked
+  load_fits counted = (let is = counted.is_load in let load = t.load in omega arith)
 
-  pub counted_after : (limit marked room left out less fewer : ℕ) → IsCounted limit marked room out es → less ≡ load_at k n → fewer ≡ n → left + sum_by stored_load_in fs ≡ room + sum_by stored_load_in es → IsCounted limit (marked - less) left (out - fewer) fs
-  counted_after limit marked room left out less fewer counted load many pools =
-      let is_load = counted.is_load in
-      let is_out = counted.is_out in
-      let within = counted.within in
-      let is_room = counted.is_room in
-      let a = t.load in
-      let b = t.out in
-      record { is_load = omega arith; within = omega arith; is_room = omega arith; is_out = omega arith }
+  pub counted_after : {limit marked room left out less : ℕ} → IsCounted limit marked room out es → less ≡ load_at k n → left + sum_by stored_load_in fs ≡ room + sum_by stored_load_in es → stored_keys fs ≡ stored_keys es → IsCounted limit (marked - less) left (out - n) fs
+  counted_after counted load pools keys = record {
+    distinct = subst (IsDistinct key_eq) (sym keys) counted.distinct;
+    is_load = (let is = counted.is_load in let gone = t.load in omega arith);
+    within = (let within = counted.within in omega arith);
+    is_room = (let is = counted.is_room in omega arith);
+    is_out = (let is = counted.is_out in let gone = t.out in omega arith);
+  }
 
-  module _ (old : Allocations P) (is : old.table ≡ map row_of es) (gs : List (BucketKey × DescriptorBucket P)) (wrote : gs ≡ fs) where
-    pub out_after : sum_by sets_in (map row_of gs) + n ≡ outstanding_of old
+  module _ (old : Allocations P) (is : old.table ≡ map row_of es) where
+    pub out_after : sum_by sets_in (map row_of fs) + n ≡ outstanding_of old
     out_after =
         let a = ap (sum_by sets_in) is ∙ rows_out es in
-        let b = ap (λ (hs : List (BucketKey × DescriptorBucket P)). sum_by sets_in (map row_of hs)) wrote ∙ rows_out fs in
+        let b = rows_out fs in
         let out = t.out in
         omega arith
 
-    pub load_after : (m : ℕ) → m ≡ load_at k n → sum_by descriptors_in (map row_of gs) + m ≡ marked_load_of old
+    pub load_after : (m : ℕ) → m ≡ load_at k n → sum_by descriptors_in (map row_of fs) + m ≡ marked_load_of old
     load_after m same =
         let a = ap (sum_by descriptors_in) is ∙ rows_load es in
-        let b = ap (λ (hs : List (BucketKey × DescriptorBucket P)). sum_by descriptors_in (map row_of hs)) wrote ∙ rows_load fs in
+        let b = rows_load fs in
         let load = t.load in
         omega arith

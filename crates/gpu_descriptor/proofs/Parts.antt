@@ -8,30 +8,31 @@ use Rattle.std.proofs.lemmas.List.{take-map}
 use Rattle.std.proofs.lemmas.List.Folds.{list_any-append}
 use Rattle.gpu_descriptor.specs.Model.Agreement.{set_of, State, Item, item_eq, count_of, AreOutstanding, Agree}
 use Rattle.gpu_descriptor.specs.Model.Books.{Key, key_eq, Entry, Bucket, entry_at}
+use Rattle.gpu_descriptor.specs.Inner.Buckets.{trimmed_bucket}
 use Rattle.gpu_descriptor.specs.Model.Release.{lies_in, entry_less, bucket_less, pool_less, spent_front, without_front, in_front, released}
 use Rattle.gpu_descriptor.specs.Laws.Release.{ReleaseParts}
 use Rattle.gpu_descriptor_types.specs.Ledger.{Pool}
 use Rattle.gpu_descriptor_types.specs.Multiset.{LiveSet, set_eq}
-use Rattle.gpu_descriptor.proofs.Fronts.{settled, less-less, less-without, one_key, spent_front-less, entry_at-from}
+use Rattle.gpu_descriptor.proofs.Fronts.{less-less, less-without, one_key, spent_front-less, entry_at-from}
 use Rattle.gpu_descriptor_types.proofs.Counting.{bool_iff, count_by-append, count_by_alike, count_by_none, any_from, any_found}
 use Rattle.gpu_descriptor.proofs.Exact.{key_exact, item_exact}
 use Rattle.gpu_descriptor.proofs.Places.{back, back_named, lies_in-at, lies_in-found, kept}
 
 -- the key's spent front goes if the key is named
-abbrev pub settled_if : Bool → Bucket → Bucket
-settled_if named b = if named then without_front (spent_front b) b else b
+abbrev pub trimmed_if : Bool → Bucket → Bucket
+trimmed_if named b = if named then without_front (spent_front b) b else b
 
 abbrev pub names_key : List Item → Key → Bool
 names_key m k = list_any (λ t. key_eq t.key k) m
 
 -- ONE KEY, named by either part or by both. A part that doesn't name it takes nothing from its pools
-books_law : (first second : Bool) (f g : ℕ → ℕ) (b : Bucket) → (second ≡ false → bucket_less (λ p. f p + g p) b ≡ bucket_less f b) → settled_if second (bucket_less g (settled_if first (bucket_less f b))) ≡ settled_if (first || second) (bucket_less (λ p. f p + g p) b)
+books_law : (first second : Bool) (f g : ℕ → ℕ) (b : Bucket) → (second ≡ false → bucket_less (λ p. f p + g p) b ≡ bucket_less f b) → trimmed_if second (bucket_less g (trimmed_if first (bucket_less f b))) ≡ trimmed_if (first || second) (bucket_less (λ p. f p + g p) b)
 books_law true true f g b quiet = one_key f g b
 books_law true false f g b quiet =
     let c = bucket_less f b in
     let d = bucket_less (λ p. f p + g p) b in
     less-without g (spent_front c) c ∙ ap (without_front (spent_front c)) (less-less f g b) ∙ ap (λ (x : Bucket). without_front (spent_front x) d) (sym (quiet refl))
-books_law false true f g b quiet = ap settled (less-less f g b)
+books_law false true f g b quiet = ap (trimmed_bucket 1) (less-less f g b)
 books_law false false f g b quiet = less-less f g b
 
 -- a pool of a name
@@ -55,18 +56,18 @@ goes b pool = in_front (spent_front b) b pool
 
 -- what goes at once goes with the first part or with the second
 goes_law : (first second : Bool) (f g : ℕ → ℕ) (b : Bucket) (pool : ℕ) → (second ≡ false → bucket_less (λ p. f p + g p) b ≡ bucket_less f b)
-    → ((first || second) && goes (bucket_less (λ p. f p + g p) b) pool) ≡ ((first && goes (bucket_less f b) pool) || (second && goes (bucket_less g (settled_if first (bucket_less f b))) pool))
+    → ((first || second) && goes (bucket_less (λ p. f p + g p) b) pool) ≡ ((first && goes (bucket_less f b) pool) || (second && goes (bucket_less g (trimmed_if first (bucket_less f b))) pool))
 goes_law true true f g b pool quiet =
     let c = bucket_less f b in
     let d = bucket_less (λ p. f p + g p) b in
     let twice : bucket_less g c ≡ d = less-less f g b in
-    let sizes : spent_front d ≡ spent_front c + spent_front (bucket_less g (settled c)) = ap spent_front (sym twice) ∙ spent_front-less g c in
-    let rest : without_front (spent_front c) d ≡ bucket_less g (settled c) = ap (without_front (spent_front c)) (sym twice) ∙ sym (less-without g (spent_front c) c) in
+    let sizes : spent_front d ≡ spent_front c + spent_front (bucket_less g (trimmed_bucket 1 c)) = ap spent_front (sym twice) ∙ spent_front-less g c in
+    let rest : without_front (spent_front c) d ≡ bucket_less g (trimmed_bucket 1 c) = ap (without_front (spent_front c)) (sym twice) ∙ sym (less-without g (spent_front c) c) in
     ap (λ (n : ℕ). in_front n d pool) sizes
-    ∙ in_front-add (spent_front c) (spent_front (bucket_less g (settled c))) d pool
-    ∙ ap (λ (x : Bool). x || in_front (spent_front (bucket_less g (settled c))) (without_front (spent_front c) d) pool)
+    ∙ in_front-add (spent_front c) (spent_front (bucket_less g (trimmed_bucket 1 c))) d pool
+    ∙ ap (λ (x : Bool). x || in_front (spent_front (bucket_less g (trimmed_bucket 1 c))) (without_front (spent_front c) d) pool)
     (ap (λ (x : Bucket). in_front (spent_front c) x pool) (sym twice) ∙ in_front-less g (spent_front c) c pool)
-    ∙ ap (λ (x : Bucket). goes c pool || in_front (spent_front (bucket_less g (settled c))) x pool) rest
+    ∙ ap (λ (x : Bucket). goes c pool || in_front (spent_front (bucket_less g (trimmed_bucket 1 c))) x pool) rest
 goes_law true false f g b pool quiet = ap (λ (x : Bucket). goes x pool) (quiet refl) ∙ or-false (goes (bucket_less f b) pool)
 goes_law false true f g b pool quiet = ap (λ (x : Bucket). goes x pool) (sym (less-less f g b))
 goes_law false false f g b pool quiet = refl
@@ -155,10 +156,10 @@ parts m n s agree out =
     let named_sums : (pool : ℕ) → back_named (m ++ n) s pool ≡ (λ name. back_named m s pool name + back_named n s pool name) = λ pool. fun_ext (λ name. count_by-append (λ t. lies_in s.books pool t && (set_eq (set_of t) name)) m n) in
     let keys : (k : Key) → names_key (m ++ n) k ≡ (names_key m k || names_key n k) = λ k. list_any-append (λ t. key_eq t.key k) m n in
     let books : (released n u).books ≡ (released (m ++ n) s).books = fun_ext (λ k.
-    ap (λ (f : ℕ → ℕ). settled_if (names_key n k) (bucket_less f (u.books k))) counts
+    ap (λ (f : ℕ → ℕ). trimmed_if (names_key n k) (bucket_less f (u.books k))) counts
     ∙ books_law (names_key m k) (names_key n k) (back m s) (back n s) (s.books k) (quiet_key m n s agree k)
-    ∙ ap (λ (f : ℕ → ℕ). settled_if (names_key m k || names_key n k) (bucket_less f (s.books k))) (sym sums)
-    ∙ ap (λ (x : Bool). settled_if x (bucket_less (back (m ++ n) s) (s.books k))) (sym (keys k))) in
+    ∙ ap (λ (f : ℕ → ℕ). trimmed_if (names_key m k || names_key n k) (bucket_less f (s.books k))) (sym sums)
+    ∙ ap (λ (x : Bool). trimmed_if x (bucket_less (back (m ++ n) s) (s.books k))) (sym (keys k))) in
     let ledger : (released n u).ledger ≡ (released (m ++ n) s).ledger = fun_ext (λ pool.
     let gone_m : Bool = list_any (λ t. goes (bucket_less (back m s) (s.books t.key)) pool) m in
     let gone_n : Bool = list_any (λ t. goes (bucket_less (back n u) (u.books t.key)) pool) n in

@@ -16,7 +16,7 @@ use Rattle.gpu_descriptor.specs.Inner.Stored.{books_in, entry_of, bucket_of, loa
 use Rattle.gpu_descriptor.specs.Inner.Grow.{IsTakenAll, IsTakenUpTo}
 use Rattle.gpu_descriptor.specs.Inner.Serves.{Serves, ServesKey}
 use Rattle.gpu_descriptor.proofs.Exact.{key_exact}
-use Rattle.gpu_descriptor.proofs.Loads.{sum_set, load_at, load_at-add}
+use Rattle.gpu_descriptor.proofs.Loads.{IsRow, IsWritten, sum_set, load_at, load_at-add}
 use Rattle.gpu_descriptor.proofs.TableBooks.{put_books, written, looked_up, row_bucket}
 
 -- a new key goes last
@@ -36,60 +36,70 @@ books_end {P} name k w test same (e ∷ es) none l = elim (cases_Bool (test e.0)
       ])
 ]
 
-module _ {P S : Type 0} (name : P → ℕ) (set_name : S → ℕ) (k : BucketKey) (test : BucketKey → Bool) (same : (l : BucketKey) → test l ≡ key_eq (key_of k) (key_of l))
-    (es : List (BucketKey × DescriptorBucket P)) where
-  -- a key that is there
-  pub present : (v : DescriptorBucket P) → lookup test es ≡ Some v → books_in name es (key_of k) ≡ bucket_of name v
-  present v at = looked_up name test (key_of k) same es ∙ ap (λ (o : Option (DescriptorBucket P)). option_map_or (bucket_of name) o no_pools) at
+-- a key that is there
+pub present : {P : Type 0} (name : P → ℕ) {k : Key} {es : List (BucketKey × DescriptorBucket P)} {v : DescriptorBucket P} → IsRow k es v → books_in name es k ≡ bucket_of name v
+present {P} name {k} {es} row = looked_up name row.test k row.same es ∙ ap (λ (o : Option (DescriptorBucket P)). option_map_or (bucket_of name) o no_pools) row.at
 
-  -- a key that isn't
-  pub missing : lookup test es ≡ None → books_in name es (key_of k) ≡ no_pools
-  missing at = looked_up name test (key_of k) same es ∙ ap (λ (o : Option (DescriptorBucket P)). option_map_or (bucket_of name) o no_pools) at
+-- a key that isn't
+pub missing : {P : Type 0} (name : P → ℕ) (k : Key) (es : List (BucketKey × DescriptorBucket P)) (test : BucketKey → Bool) → ((l : BucketKey) → test l ≡ key_eq k (key_of l)) → lookup test es ≡ None → books_in name es k ≡ no_pools
+missing {P} name k es test same at = looked_up name test k same es ∙ ap (λ (o : Option (DescriptorBucket P)). option_map_or (bucket_of name) o no_pools) at
 
-  load_grows : (v w : DescriptorBucket P) (l : BucketKey) (n : ℕ) → key_of l ≡ key_of k → w.total ≡ v.total + n → load_in (l, w) ≡ load_in (l, v) + load_of k n
-  load_grows v w l n is more =
-      ap (λ (x : Key). load_at x w.total) is ∙ ap (load_at (key_of k)) more ∙ load_at-add (key_of k) v.total n ∙ ap (λ (x : Key). load_at x v.total + load_at (key_of k) n) (sym is)
+load_grows : {P : Type 0} (k l : BucketKey) (v w : DescriptorBucket P) (n : ℕ) → key_of l ≡ key_of k → w.total ≡ v.total + n → load_in (l, w) ≡ load_in (l, v) + load_of k n
+load_grows k l v w n is more =
+    ap (λ (x : Key). load_at x w.total) is ∙ ap (load_at (key_of k)) more ∙ load_at-add (key_of k) v.total n ∙ ap (λ (x : Key). load_at x v.total + load_at (key_of k) n) (sym is)
 
-  pub serves_present : (v w : DescriptorBucket P) (room count : ℕ) (sets : List (DescriptorSet S)) (taken : Result (Unit {0}) Refusal) (before after : Ledger) → lookup test es ≡ Some v
-      → Serves name set_name (key_of k) room count sets taken v w before after → ServesKey name set_name k room count sets taken es (set_value test es w) before after
-  serves_present v w room count sets taken before after at s =
-      let is : books_in name es (key_of k) ≡ bucket_of name v = present v at in
-      let out = sum_set (λ r. r.1.total) test es v w at in
-      let load = sum_set load_in test es v w at in
-      let total = s.total in
-      let key : key_of load.0 ≡ key_of k = sym (key_exact.same (key_of k) (key_of load.0) (sym (same load.0) ∙ load.1)) in
-      let grows = load_grows v w load.0 (length sets) key total in
-      let bucket : bucket_of name w ≡ record (bucket_of name v) { pools = (bucket_of name w).pools } = λ i. record { first = s.offset i; pools = (bucket_of name w).pools } in
-      record {
-        numbers = (let n = s.numbers in let e = ap next_number is in omega arith);
-        few = s.few;
-        pools = (bucket_of name w).pools;
-        books = λ l. written name test (key_of k) same es w (ap is_some at) l ∙ ap (λ (b : Bucket). put_books (books_in name es) (key_of k) b l) (bucket ∙ ap (λ (b : Bucket). let r : Bucket = record b { pools = (bucket_of name w).pools } in r) (sym is));
-        out = (let a = out.2 in let b = out.3 in omega arith);
-        load = (let a = load.2 in let b = load.3 in omega arith);
-        done = subst (λ (b : Bucket). OnOk taken (IsTakenAll (key_of k) room count b.first (items_of set_name sets) b.pools (bucket_of name w).pools before after)) (sym is) s.done;
-        stopped = subst (λ (b : Bucket). IfErr taken (λ why. IsTakenUpTo why (key_of k) room count b.first (items_of set_name sets) b.pools (bucket_of name w).pools before after)) (sym is) s.stopped;
-      }
+-- what one key gave, in the table
+module _ {P S : Type 0} {name : P → ℕ} {set_name : S → ℕ} (k : BucketKey) {v w : DescriptorBucket P} {room count : ℕ} {sets : List (DescriptorSet S)} {taken : Result (Unit {0}) Refusal} {before after : Ledger}
+    (s : Serves name set_name (key_of k) room count sets taken v w before after) where
+  bucket_kept : bucket_of name w ≡ record (bucket_of name v) { pools = (bucket_of name w).pools }
+  bucket_kept = λ i. record { first = s.offset i; pools = (bucket_of name w).pools }
 
-  pub serves_new : (v w : DescriptorBucket P) (room count : ℕ) (sets : List (DescriptorSet S)) (taken : Result (Unit {0}) Refusal) (before after : Ledger) → lookup test es ≡ None → v.offset ≡ 0 → v.pools.items ≡ [] → v.total ≡ 0
-      → Serves name set_name (key_of k) room count sets taken v w before after → ServesKey name set_name k room count sets taken es (es ++ (k, w) ∷ []) before after
-  serves_new v w room count sets taken before after at offset pools none s =
-      let is : books_in name es (key_of k) ≡ bucket_of name v = missing at ∙ (λ i. record { first = sym offset i; pools = map (entry_of name) (sym pools i) }) in
-      let total = s.total in
-      let bucket : bucket_of name w ≡ record (bucket_of name v) { pools = (bucket_of name w).pools } = λ i. record { first = s.offset i; pools = (bucket_of name w).pools } in
-      record {
-        numbers = (let n = s.numbers in let e = ap next_number is in omega arith);
-        few = s.few;
-        pools = (bucket_of name w).pools;
-        books = λ l. books_end name k w test same es at l ∙ ap (λ (b : Bucket). put_books (books_in name es) (key_of k) b l) (bucket ∙ ap (λ (b : Bucket). let r : Bucket = record b { pools = (bucket_of name w).pools } in r) (sym is));
-        out = (let a = sum_by-append (λ (r : BucketKey × DescriptorBucket P). r.1.total) es ((k, w) ∷ []) in let one : sum_by (λ (r : BucketKey × DescriptorBucket P). r.1.total) ((k, w) ∷ []) ≡ w.total = omega arith in omega arith);
-        load = (let a = sum_by-append load_in es ((k, w) ∷ []) in let one : sum_by load_in ((k, w) ∷ []) ≡ load_of k w.total = omega arith in let n : w.total ≡ length sets = omega arith in let e = ap (load_of k) n in omega arith);
-        done = subst (λ (b : Bucket). OnOk taken (IsTakenAll (key_of k) room count b.first (items_of set_name sets) b.pools (bucket_of name w).pools before after)) (sym is) s.done;
-        stopped = subst (λ (b : Bucket). IfErr taken (λ why. IsTakenUpTo why (key_of k) room count b.first (items_of set_name sets) b.pools (bucket_of name w).pools before after)) (sym is) s.stopped;
-      }
+  put_there : (es : List (BucketKey × DescriptorBucket P)) (l : Key) → books_in name es (key_of k) ≡ bucket_of name v → put_books (books_in name es) (key_of k) (bucket_of name w) l ≡ put_books (books_in name es) (key_of k) (record (books_in name es (key_of k)) { pools = (bucket_of name w).pools }) l
+  put_there es l is = ap (λ (b : Bucket). put_books (books_in name es) (key_of k) b l) (bucket_kept ∙ ap (λ (b : Bucket). let r : Bucket = record b { pools = (bucket_of name w).pools } in r) (sym is))
+
+  done_there : (b : Bucket) → b ≡ bucket_of name v → OnOk taken (IsTakenAll (key_of k) room count b.first (items_of set_name sets) b.pools (bucket_of name w).pools before after)
+  done_there b is = subst (λ (b : Bucket). OnOk taken (IsTakenAll (key_of k) room count b.first (items_of set_name sets) b.pools (bucket_of name w).pools before after)) (sym is) s.done
+
+  stopped_there : (b : Bucket) → b ≡ bucket_of name v → IfErr taken (λ why. IsTakenUpTo why (key_of k) room count b.first (items_of set_name sets) b.pools (bucket_of name w).pools before after)
+  stopped_there b is = subst (λ (b : Bucket). IfErr taken (λ why. IsTakenUpTo why (key_of k) room count b.first (items_of set_name sets) b.pools (bucket_of name w).pools before after)) (sym is) s.stopped
+
+  module _ {es fs : List (BucketKey × DescriptorBucket P)} where
+    pub serves_present : IsWritten (key_of k) es fs v w → ServesKey name set_name k room count sets taken es fs before after
+    serves_present r =
+        let is : books_in name es (key_of k) ≡ bucket_of name v = present name r.row in
+        let out = sum_set (λ b. b.1.total) r.row.test es v w r.row.at in
+        let load = sum_set load_in r.row.test es v w r.row.at in
+        let total = s.total in
+        let key : key_of load.0 ≡ key_of k = sym (key_exact.same (key_of k) (key_of load.0) (sym (r.row.same load.0) ∙ load.1)) in
+        let grows = load_grows k load.0 v w (length sets) key total in
+        rw r.wrote (record {
+          numbers = (let n = s.numbers in let e = ap next_number is in omega arith);
+          few = s.few;
+          pools = (bucket_of name w).pools;
+          books = λ l. written name r.row.test (key_of k) r.row.same es w (ap is_some r.row.at) l ∙ put_there es l is;
+          out = (let a = out.2 in let b = out.3 in omega arith);
+          load = (let a = load.2 in let b = load.3 in omega arith);
+          done = done_there (books_in name es (key_of k)) is;
+          stopped = stopped_there (books_in name es (key_of k)) is;
+        })
+
+    pub serves_new : (test : BucketKey → Bool) → ((l : BucketKey) → test l ≡ key_eq (key_of k) (key_of l)) → lookup test es ≡ None → fs ≡ es ++ (k, w) ∷ [] → v.offset ≡ 0 → v.pools.items ≡ [] → v.total ≡ 0 → ServesKey name set_name k room count sets taken es fs before after
+    serves_new test same at put offset pools none =
+        let is : books_in name es (key_of k) ≡ bucket_of name v = missing name (key_of k) es test same at ∙ (λ i. record { first = sym offset i; pools = map (entry_of name) (sym pools i) }) in
+        let total = s.total in
+        rw put (record {
+          numbers = (let n = s.numbers in let e = ap next_number is in omega arith);
+          few = s.few;
+          pools = (bucket_of name w).pools;
+          books = λ l. books_end name k w test same es at l ∙ put_there es l is;
+          out = (let a = sum_by-append (λ (r : BucketKey × DescriptorBucket P). r.1.total) es ((k, w) ∷ []) in let one : sum_by (λ (r : BucketKey × DescriptorBucket P). r.1.total) ((k, w) ∷ []) ≡ w.total = omega arith in omega arith);
+          load = (let a = sum_by-append load_in es ((k, w) ∷ []) in let one : sum_by load_in ((k, w) ∷ []) ≡ load_of k w.total = omega arith in let n : w.total ≡ length sets = omega arith in let e = ap (load_of k) n in omega arith);
+          done = done_there (books_in name es (key_of k)) is;
+          stopped = stopped_there (books_in name es (key_of k)) is;
+        })
 
 -- a write of what is there
-pub set_value-same : {P : Type 0} (test : BucketKey → Bool) (es : List (BucketKey × DescriptorBucket P)) (v : DescriptorBucket P) → lookup test es ≡ Some v → set_value test es v ≡ es
+set_value-same : {P : Type 0} (test : BucketKey → Bool) (es : List (BucketKey × DescriptorBucket P)) (v : DescriptorBucket P) → lookup test es ≡ Some v → set_value test es v ≡ es
 set_value-same test [] v at = refl
 set_value-same {P} test (e ∷ es) v at = elim (cases_Bool (test e.0)) [
   | inl here ↦ (
@@ -98,6 +108,9 @@ set_value-same {P} test (e ∷ es) v at = elim (cases_Bool (test e.0)) [
       rw here (ap (λ (b : DescriptorBucket P). (e.0, b) ∷ es) (sym is)))
   | inr there ↦ (let rest : lookup test es ≡ Some v = rw there at at in rw there (ap (λ (x : List (BucketKey × DescriptorBucket P)). e ∷ x) (set_value-same test es v rest)))
 ]
+
+pub written-same : {P : Type 0} {k : Key} {es fs : List (BucketKey × DescriptorBucket P)} {v w : DescriptorBucket P} → IsWritten k es fs v w → w ≡ v → fs ≡ es
+written-same {es = es} {v = v} r same = r.wrote ∙ ap (set_value r.row.test es) same ∙ set_value-same r.row.test es v r.row.at
 
 -- a test against what is left of the limit
 pub above-limit : (key : Bool) (left product limit current load count : ℕ) → key ≡ true → left ≡ limit - current → current ≡ load → current ≤ limit → product ≡ count → nat_lt left product ≡ key && nat_lt limit (count + load)

@@ -1,10 +1,9 @@
 -- What a request leaves of an allocator: why it is declined before the walk, and what it took.
-use Rattle.std.proofs.Common.{◌≡◌, ℕ, ◌+◌, ◌-◌, ◌*◌, ◌<◌, ◌≤◌, ◌&&◌, Bool, true, false, List, map, length, sum, sum_by, Result, Err, inl, inr, refl, sym, ap, subst, ◌∙◌, arith}
+use Rattle.std.proofs.Common.{[], ◌≡◌, ℕ, ◌+◌, ◌-◌, ◌*◌, ◌<◌, ◌≤◌, ◌&&◌, Bool, true, false, List, map, length, sum, sum_by, Result, Err, inl, inr, refl, sym, ap, subst, ◌∙◌, arith}
 use Rattle.std.proofs.Math.Path.{fun_ext}
 use Rattle.std.proofs.Math.Nat.{mul-le-mul_right}
-use Rattle.std.proofs.lemmas.Bool.{cases_Bool, ltb-false}
+use Rattle.std.proofs.lemmas.Bool.{cases_Bool, and_parts, ltb-true, ltb-false}
 use Rattle.std.specs.List.{IsDistinct}
-use Rattle.std.specs.Map.{keys_of as map_keys}
 use Rattle.std.specs.Prelude.{if◌then◌else◌, nat_lt, ◌⊎◌, OnOk, IfErr}
 use Rattle.gpu_descriptor_types.specs.Counts.{kinds}
 use Rattle.gpu_descriptor_types.specs.Ledger.{Ledger}
@@ -23,12 +22,12 @@ use Rattle.gpu_descriptor.specs.Inner.Takes.{Takes}
 use Rattle.gpu_descriptor.specs.Inner.Serves.{ServesKey, IsUnserved}
 use Rattle.gpu_descriptor.specs.Caller.Sets.{key_of, items_of}
 use Rattle.gpu_descriptor.specs.Caller.States.{named_row, sets_in, descriptors_in, pool_load_in, state_of, table_of, outstanding_of, marked_load_of, pool_load_of}
-use Rattle.gpu_descriptor.specs.Inner.Stored.{IsCounted, row_of, load_in, load_of, stored_load_in, books_in}
+use Rattle.gpu_descriptor.specs.Inner.Stored.{IsCounted, row_of, load_in, load_of, stored_keys, stored_load_in, books_in}
 use Rattle.gpu_descriptor.specs.Inner.Grow.{IsTakenAll, IsTakenUpTo}
 use Rattle.gpu_descriptor.specs.Caller.Values.{Allocations, Row}
 use Rattle.gpu_descriptor.proofs.Exact.{key_exact}
 use Rattle.gpu_descriptor.proofs.Loads.{rows_out, rows_load, rows_pool_load}
-use Rattle.gpu_descriptor.proofs.TableBooks.{rows_are, distinct_keys}
+use Rattle.gpu_descriptor.proofs.TableBooks.{rows_are, distinct_rows}
 use Rattle.gpu_descriptor.proofs.TableSums.{outstanding_of-table, marked_load_of-table, pool_load_of-table}
 
 -- what a test that failed says
@@ -49,28 +48,46 @@ module _ {P : Type 0} (a : Allocations P) (es : List (BucketKey × DescriptorBuc
   pub books_at : (name : P → ℕ) (before : Ledger) (k : Key) → (state_of name a before).books k ≡ books_in name es k
   books_at name before k = ap (λ (t : List (Row P)). books_of (map (named_row name) t) k) is
 
-  pub keys_apart : (name : P → ℕ) (eq : BucketKey → BucketKey → Bool) → ((k l : BucketKey) → eq k l ≡ key_eq (key_of k) (key_of l)) → IsDistinct eq (map_keys es) → HasDistinctKeys (table_of name a)
-  keys_apart name eq same unique = subst HasDistinctKeys (sym (rows_are name es) ∙ ap (map (named_row name)) (sym is)) (distinct_keys name eq same es unique)
+  pub keys_apart : (name : P → ℕ) → IsDistinct key_eq (stored_keys es) → HasDistinctKeys (table_of name a)
+  keys_apart name distinct = subst HasDistinctKeys (sym (rows_are name es) ∙ ap (map (named_row name)) (sym is)) (distinct_rows name es distinct)
 
 -- the fields of an allocator, as callers see them
-module _ {P : Type 0} {a : Allocations P} {most looks compared : ℕ} (es : List (BucketKey × DescriptorBucket P)) (is : ◌≡◌ {A = Allocations P} (record { limit = most; table = map row_of es; looks = looks; comparisons = compared }) a) where
+abbrev pub seen : {P : Type 0} → ℕ → ℕ → ℕ → List (BucketKey × DescriptorBucket P) → Allocations P
+seen most looks compared es = record { limit = most; table = map row_of es; looks = looks; comparisons = compared }
+
+-- no key has two rows, where the table has none twice
+pub rows_distinct : {P : Type 0} (name : P → ℕ) (es : List (BucketKey × DescriptorBucket P)) → IsDistinct key_eq (stored_keys es) → HasDistinctKeys (map (named_row name) (map row_of es))
+rows_distinct name es distinct = subst HasDistinctKeys (sym (rows_are name es)) (distinct_rows name es distinct)
+
+-- a table without keys
+pub counted_none : {P : Type 0} (most : ℕ) → IsCounted {P = P} most 0 most 0 []
+unfolding IsDistinct
+counted_none most = record { distinct = tt; is_load = refl; within = omega arith; is_room = omega arith; is_out = refl }
+
+-- the totals keep the limit
+module _ {P : Type 0} {most marked room out : ℕ} {es : List (BucketKey × DescriptorBucket P)} (counted : IsCounted most marked room out es) where
+  pub rows_within : sum_by descriptors_in (map row_of es) ≤ most
+  rows_within = (let rows = rows_load es in let load = counted.is_load in let within = counted.within in omega arith)
+
+  pub pools_within : sum_by pool_load_in (map row_of es) ≤ most
+  pools_within = (let rows = rows_pool_load es in let room = counted.is_room in omega arith)
+
+module _ {P : Type 0} {a : Allocations P} {most looks compared : ℕ} (es : List (BucketKey × DescriptorBucket P)) (is : seen most looks compared es ≡ a) where
   pub table_is : a.table ≡ map row_of es
   table_is = ap (λ (x : Allocations P). x.table) (sym is)
 
+  -- where nothing was written, callers see the same
+  pub seen_again : {looked : ℕ} (fs : List (BucketKey × DescriptorBucket P)) → fs ≡ es → looked ≡ looks → seen most looked compared fs ≡ a
+  seen_again fs rows count = (λ i. seen most (count i) compared (rows i)) ∙ is
+
+  pub rows_apart : (name : P → ℕ) → {marked room out : ℕ} → IsCounted most marked room out es → HasDistinctKeys (table_of name a)
+  rows_apart name counted = keys_apart a es table_is name counted.distinct
+
   pub load_within : {marked room out : ℕ} → IsCounted most marked room out es → marked_load_of a ≤ a.limit
-  load_within counted =
-      let load = load_of_rows a es table_is in
-      let limit : most ≡ a.limit = ap (λ (x : Allocations P). x.limit) is in
-      let is_load = counted.is_load in
-      let within = counted.within in
-      omega arith
+  load_within counted = subst (λ (x : Allocations P). marked_load_of x ≤ x.limit) is (rows_within counted)
 
   pub pool_load_within : {marked room out : ℕ} → IsCounted most marked room out es → pool_load_of a ≤ a.limit
-  pool_load_within counted =
-      let load = pool_load_of_rows a es table_is in
-      let limit : most ≡ a.limit = ap (λ (x : Allocations P). x.limit) is in
-      let is_room = counted.is_room in
-      omega arith
+  pool_load_within counted = subst (λ (x : Allocations P). pool_load_of x ≤ x.limit) is (pools_within counted)
 
 -- how the totals of the table grow, by so many sets of a key
 module _ {P S : Type 0} (name : P → ℕ) (set_name : S → ℕ) (key : BucketKey) (room count : ℕ) (sets : List (DescriptorSet S)) (taken : Result (Unit {0}) Refusal) (es fs : List (BucketKey × DescriptorBucket P)) (before after : Ledger)
@@ -86,14 +103,14 @@ module _ {P S : Type 0} (name : P → ℕ) (set_name : S → ℕ) (key : BucketK
     | inr off ↦ (let is : load_of key (length sets) ≡ 0 = rw off refl in let all = counted.within in omega arith)
   ]
 
-  pub counted_more : (most marked old left out more many : ℕ) → IsCounted most marked old out es → more ≡ load_of key (length sets) → many ≡ length sets → more + marked ≤ most → left + sum_by stored_load_in fs ≡ old + sum_by stored_load_in es → IsCounted most (marked + more) left (out + many) fs
-  counted_more most marked old left out more many counted load given fits pools =
+  pub counted_more : (most marked old left out more many : ℕ) → IsCounted most marked old out es → more ≡ load_of key (length sets) → many ≡ length sets → more + marked ≤ most → left + sum_by stored_load_in fs ≡ old + sum_by stored_load_in es → IsDistinct key_eq (stored_keys fs) → IsCounted most (marked + more) left (out + many) fs
+  counted_more most marked old left out more many counted load given fits pools distinct =
       let is_room = counted.is_room in
       let a = counted.is_load in
       let b = counted.is_out in
       let c = s.load in
       let d = s.out in
-      record { is_load = omega arith; within = omega arith; is_room = omega arith; is_out = omega arith }
+      record { distinct = distinct; is_load = omega arith; within = omega arith; is_room = omega arith; is_out = omega arith }
 
 module _ {P : Type 0} (name : P → ℕ) (a : Allocations P) (before : Ledger) (distinct : HasDistinctKeys (table_of name a)) where
   pub load_is : IsMarkedLoad (state_of name a before) (marked_load_of a)
@@ -154,3 +171,60 @@ module _ {P S : Type 0} (name : P → ℕ) (set_name : S → ℕ) (most looks_be
       at : (l : Key) (b : Bool) → key_eq (key_of key) l ≡ b → (if b then record (books_in name es (key_of key)) { pools = s.pools } else books_in name es l) ≡ (if b then record (books_in name es l) { pools = s.pools } else books_in name es l)
       at l true h = ap (λ (x : Key). let r : Bucket = record (books_in name es x) { pools = s.pools } in r) (key_exact.same (key_of key) l h)
       at l false h = refl
+
+-- ---- the tests of a request, over the fields of an allocator
+
+module _ {P : Type 0} (name : P → ℕ) {a : Allocations P} {most looks compared marked room out : ℕ} {es : List (BucketKey × DescriptorBucket P)} (is : seen most looks compared es ≡ a) (counted : IsCounted most marked room out es) (apart : HasDistinctKeys (table_of name a)) (before : Ledger)
+    (key : BucketKey) {count : ℕ} (some : 0 < count) {above : Bool} (test : above ≡ (key.update_after_bind && nat_lt a.limit (count * sum (kinds key.size) + marked_load_of a))) where
+  pub declined_by_limit : above ≡ true → Allocates (call_of name (key_of key) count a a before before (Err Fragmentation))
+  declined_by_limit passed =
+      let both = and_parts key.update_after_bind (nat_lt a.limit (count * sum (kinds key.size) + marked_load_of a)) (sym test ∙ passed) in
+      above_limit name a before apart (key_of key) count some a before refl refl both.0 (ltb-true a.limit (count * sum (kinds key.size) + marked_load_of a) both.1)
+
+  module _ (below : above ≡ false) {past : Bool} (bounded : past ≡ nat_lt 18446744073709551615 (out + count)) where
+    inside : key.update_after_bind ≡ true → count * sum (kinds key.size) + marked_load_of a ≤ a.limit
+    inside = within_of key.update_after_bind a.limit (count * sum (kinds key.size) + marked_load_of a) (sym test ∙ below)
+
+    pub declined_by_bound : past ≡ true → Allocates (call_of name (key_of key) count a a before before (Err Fragmentation))
+    declined_by_bound passed =
+        let more = ltb-true 18446744073709551615 (out + count) (sym bounded ∙ passed) in
+        let all = out_of a es (table_is es is) in
+        let is_out = counted.is_out in
+        past_bound name a before apart (key_of key) count some a before refl refl inside (inr (omega arith))
+
+    pub declined_unserved : past ≡ false → {b : Allocations P} {after : Ledger} → b ≡ a → after ≡ before → (e : AllocationError) → IsUnserved count e (books_in name es (key_of key)) → Allocates (call_of name (key_of key) count a b before after (Err e))
+    declined_unserved kept_in {b} {after} same kept e why =
+        let fits = ltb-false 18446744073709551615 (out + count) (sym bounded ∙ kept_in) in
+        let all = out_of a es (table_is es is) in
+        let is_out = counted.is_out in
+        unserved name a before apart (key_of key) count some b after same kept inside (omega arith) e (subst (λ (x : Bucket). IsUnserved count e x) (sym (books_at a es (table_is es is) name before (key_of key))) why)
+
+-- a request that passed them, and took what its key has
+module _ {P S : Type 0} {name : P → ℕ} {set_name : S → ℕ} {key : BucketKey} {room count : ℕ} {sets : List (DescriptorSet S)} {taken : Result (Unit {0}) Refusal} {es fs : List (BucketKey × DescriptorBucket P)} {before after : Ledger}
+    (s : ServesKey name set_name key room count sets taken es fs before after) {a : Allocations P} {most looks compared marked out : ℕ} (is : seen most looks compared es ≡ a) (counted : IsCounted most marked room out es)
+    {above : Bool} (test : above ≡ (key.update_after_bind && nat_lt a.limit (count * sum (kinds key.size) + marked_load_of a))) (below : above ≡ false) where
+  sets_within : key.update_after_bind ≡ true → count * sum (kinds key.size) + marked_load_of a ≤ a.limit
+  sets_within = within_of key.update_after_bind a.limit (count * sum (kinds key.size) + marked_load_of a) (sym test ∙ below)
+
+  -- their descriptors keep the limit
+  pub given_fits : {given : ℕ} → given ≡ length sets → load_of key given + marked ≤ most
+  given_fits long =
+      let load = load_of_rows a es (table_is es is) in
+      let limit = ap (λ (x : Allocations P). x.limit) is in
+      let is_load = counted.is_load in
+      let fits = load_below name set_name key room count sets taken es fs before after s most marked room out counted (λ on. (let all = sets_within on in omega arith)) in
+      let same = ap (load_of key) long in
+      omega arith
+
+  pub counted_now : {given more left : ℕ} → given ≡ length sets → more ≡ load_of key given → left + sum_by stored_load_in fs ≡ room + sum_by stored_load_in es → IsDistinct key_eq (stored_keys fs) → IsCounted most (marked + more) left (out + given) fs
+  counted_now {given} {more} {left} long load moved distinct =
+      let fits = given_fits long in
+      counted_more name set_name key room count sets taken es fs before after s most marked room left out more given counted (load ∙ ap (load_of key) long) long (omega arith) moved distinct
+
+  pub takes_of : {past : Bool} → past ≡ nat_lt 18446744073709551615 (out + count) → past ≡ false → HasDistinctKeys (table_of name a) → {looked : ℕ} → HasDistinctKeys (map (named_row name) (map row_of fs)) → Takes name set_name (key_of key) count sets taken a (seen most looked compared fs) before after
+  takes_of bounded kept_in distinct {looked} still =
+      let fits = ltb-false 18446744073709551615 (out + count) (sym bounded ∙ kept_in) in
+      let all = out_of a es (table_is es is) in
+      let is_out = counted.is_out in
+      subst (λ (x : Allocations P). HasDistinctKeys (table_of name x) → (key.update_after_bind ≡ true → count * sum (kinds key.size) + marked_load_of x ≤ x.limit) → outstanding_of x + count ≤ 18446744073709551615 → Takes name set_name (key_of key) count sets taken x (seen most looked compared fs) before after) is
+      (λ d w f. takes name set_name most looks looked compared es fs key room count sets taken before after d still s counted.is_room w f) distinct sets_within (omega arith)

@@ -2,7 +2,7 @@
 use Rattle.std.proofs.Common.{◌≡◌, ℕ, zero, suc, ◌+◌, ◌-◌, ◌<◌, ◌≤◌, Bool, true, false, ◌||◌, ◌==◌, List, [], ◌∷◌, length, map, filter, sum_by, slice_get, Option, Some, None, inl, inr, refl, sym, ap, subst, ◌∙◌, arith, eq-eqb, eqb-true, length-drop}
 use Rattle.std.specs.Prelude.{if◌then◌else◌}
 use Rattle.std.proofs.Math.Path.{fun_ext}
-use Rattle.std.specs.List.{list_any}
+use Rattle.std.specs.List.{list_any, IsDistinct}
 use Rattle.std.specs.Map.{values_of}
 use Rattle.std.proofs.lemmas.Bool.{cases_Bool, or_left, or_right, or_cases, or_parts, false_from_ne_true}
 use Rattle.std.proofs.lemmas.List.{length-map}
@@ -15,16 +15,16 @@ use Rattle.gpu_descriptor.specs.declared.bucket.DescriptorBucket.{DescriptorBuck
 use Rattle.gpu_descriptor.specs.Model.Agreement.{State, Agree}
 use Rattle.gpu_descriptor.specs.Inner.Allocated.{allocated_in}
 use Rattle.gpu_descriptor.specs.Model.Books.{Key, key_eq, Bucket, entry_at, no_pools, books_of, HasDistinctKeys}
-use Rattle.gpu_descriptor.specs.Inner.Buckets.{AreBookedIn, has_pools, cleared_bucket, cleared_ledger, pools_without}
+use Rattle.gpu_descriptor.specs.Inner.Buckets.{AreBookedIn, has_pools, front_but, trimmed_bucket, trimmed_ledger, ledger_without, pools_without}
 use Rattle.gpu_descriptor.specs.Model.Release.{more_destroyed, empty_front, in_front}
 use Rattle.gpu_descriptor.specs.Model.Cleanup.{cleaned_bucket, IsCleaned, pools_cleaned}
 use Rattle.gpu_descriptor.specs.Caller.Sets.{key_of}
 use Rattle.gpu_descriptor.specs.Caller.States.{named_row, state_of, keys_of}
-use Rattle.gpu_descriptor.specs.Inner.Stored.{row_of, entry_of, bucket_of, load_of, stored_load_in, stored_load, IsCounted}
+use Rattle.gpu_descriptor.specs.Inner.Stored.{row_of, entry_of, bucket_of, load_of, stored_keys, stored_load_in, stored_load, IsCounted}
 use Rattle.gpu_descriptor.specs.Caller.Values.{Allocations, Row}
 use Rattle.gpu_descriptor.proofs.Cleaning.{cleaned_cases}
 use Rattle.gpu_descriptor.proofs.Exact.{key_exact}
-use Rattle.gpu_descriptor.proofs.Fronts.{entry_at-from}
+use Rattle.gpu_descriptor.proofs.Fronts.{whole_front, whole_trimmed, entry_at-from}
 use Rattle.gpu_descriptor.proofs.Kept.{front_found}
 use Rattle.gpu_descriptor.proofs.LedgerPools.{destroyed_both, destroyed_none}
 use Rattle.gpu_descriptor.proofs.Loads.{load_at-none}
@@ -43,7 +43,7 @@ front b p = in_front (empty_front b) b p
 abbrev pub cleared : ℕ → Rows → Rows
 cleared zero rows = rows
 cleared (suc n) [] = []
-cleared (suc n) (r ∷ rows) = (r.0, cleared_bucket r.1) ∷ cleared n rows
+cleared (suc n) (r ∷ rows) = (r.0, trimmed_bucket 0 r.1) ∷ cleared n rows
 
 -- whether a pool goes with the first n rows
 abbrev pub gone : ℕ → Rows → ℕ → Bool
@@ -81,11 +81,11 @@ module _ {P : Type 0} (name : P → ℕ) where
       record { row = r; at = refl; is = ap (bucket_of name) (sym eq) ∙ ap (λ (x : Key × Bucket). x.1) head }
   next (suc i) (e ∷ es) [] bucket h at = absurd (let bad : ◌≡◌ {A = Rows} ((key_of e.0, bucket_of name e.1) ∷ rows_in name es) [] = h in cc)
   next (suc i) (e ∷ es) (r ∷ rows) bucket h at =
-      let tail : rows_in name es ≡ cleared i rows = (let whole : ◌≡◌ {A = Rows} ((key_of e.0, bucket_of name e.1) ∷ rows_in name es) ((r.0, cleared_bucket r.1) ∷ cleared i rows) = h in cc) in
+      let tail : rows_in name es ≡ cleared i rows = (let whole : ◌≡◌ {A = Rows} ((key_of e.0, bucket_of name e.1) ∷ rows_in name es) ((r.0, trimmed_bucket 0 r.1) ∷ cleared i rows) = h in cc) in
       let rest = next i es rows bucket tail at in
       record { row = rest.row; at = rest.at; is = rest.is }
 
-  pub step_rows : (i : ℕ) (es : List (BucketKey × DescriptorBucket P)) (rows : Rows) (bucket w : DescriptorBucket P) → rows_in name es ≡ cleared i rows → slice_get (values_of es) i ≡ Some bucket → bucket_of name w ≡ cleared_bucket (bucket_of name bucket) → rows_in name (set_value_at es i w) ≡ cleared (suc i) rows
+  pub step_rows : (i : ℕ) (es : List (BucketKey × DescriptorBucket P)) (rows : Rows) (bucket w : DescriptorBucket P) → rows_in name es ≡ cleared i rows → slice_get (values_of es) i ≡ Some bucket → bucket_of name w ≡ trimmed_bucket 0 (bucket_of name bucket) → rows_in name (set_value_at es i w) ≡ cleared (suc i) rows
   step_rows i [] rows bucket w h at new = absurd (let bad : ◌≡◌ {A = Option (DescriptorBucket P)} None (Some bucket) = at in cc)
   step_rows zero (e ∷ es) [] bucket w h at new = absurd (let bad : ◌≡◌ {A = Rows} ((key_of e.0, bucket_of name e.1) ∷ rows_in name es) [] = h in cc)
   step_rows zero (e ∷ es) (r ∷ rows) bucket w h at new =
@@ -94,12 +94,12 @@ module _ {P : Type 0} (name : P → ℕ) where
       let whole : ◌≡◌ {A = Rows} ((key_of e.0, bucket_of name e.1) ∷ rows_in name es) (r ∷ rows) = h in
       let head : ◌≡◌ {A = Key × Bucket} (key_of e.0, bucket_of name e.1) r = cc in
       let tail : rows_in name es ≡ rows = cc in
-      let bucket : bucket_of name w ≡ cleared_bucket r.1 = new ∙ ap (λ (s : DescriptorBucket P). cleared_bucket (bucket_of name s)) (sym eq) ∙ ap (λ (x : Key × Bucket). cleared_bucket x.1) head in
+      let bucket : bucket_of name w ≡ trimmed_bucket 0 r.1 = new ∙ ap (λ (s : DescriptorBucket P). trimmed_bucket 0 (bucket_of name s)) (sym eq) ∙ ap (λ (x : Key × Bucket). trimmed_bucket 0 x.1) head in
       λ j. ((head j).0, bucket j) ∷ tail j
   step_rows (suc i) (e ∷ es) [] bucket w h at new = absurd (let bad : ◌≡◌ {A = Rows} ((key_of e.0, bucket_of name e.1) ∷ rows_in name es) [] = h in cc)
   step_rows (suc i) (e ∷ es) (r ∷ rows) bucket w h at new =
-      let whole : ◌≡◌ {A = Rows} ((key_of e.0, bucket_of name e.1) ∷ rows_in name es) ((r.0, cleared_bucket r.1) ∷ cleared i rows) = h in
-      let head : ◌≡◌ {A = Key × Bucket} (key_of e.0, bucket_of name e.1) (r.0, cleared_bucket r.1) = cc in
+      let whole : ◌≡◌ {A = Rows} ((key_of e.0, bucket_of name e.1) ∷ rows_in name es) ((r.0, trimmed_bucket 0 r.1) ∷ cleared i rows) = h in
+      let head : ◌≡◌ {A = Key × Bucket} (key_of e.0, bucket_of name e.1) (r.0, trimmed_bucket 0 r.1) = cc in
       let tail : rows_in name es ≡ cleared i rows = cc in
       let rest = step_rows i es rows bucket w tail at new in
       λ j. head j ∷ rest j
@@ -122,14 +122,15 @@ fronts_step zero (x ∷ rows) r at = (let same : Some x ≡ Some r = at in let e
 fronts_step (suc i) [] r at = absurd (let bad : ◌≡◌ {A = Option (Key × Bucket)} None (Some r) = at in cc)
 fronts_step (suc i) (x ∷ rows) r at = (let rest = fronts_step i rows r at in omega arith)
 
-pub step_less : (i : ℕ) (rows : Rows) (r : Key × Bucket) (l now after : Ledger) (b : Bucket) → slice_get rows i ≡ Some r → b ≡ r.1 → now ≡ ledger_less i rows l → after ≡ cleared_ledger b now → after ≡ ledger_less (suc i) rows l
+pub step_less : (i : ℕ) (rows : Rows) (r : Key × Bucket) (l now after : Ledger) (b : Bucket) → slice_get rows i ≡ Some r → b ≡ r.1 → now ≡ ledger_less i rows l → after ≡ trimmed_ledger 0 b now → after ≡ ledger_less (suc i) rows l
 step_less i rows r l now after b at is was done =
     let pools : pools_without (empty_front r.1) r.1 (pools_less i rows l.pools) ≡ pools_less (suc i) rows l.pools = fun_ext (λ p.
     twice (front r.1 p) (gone i rows p) (l.pools p) ∙ ap (λ (g : Bool). if g then None else l.pools p) (sym (gone_step i rows r p at))) in
     let counters : more_destroyed (empty_front r.1) (more_destroyed (fronts i rows) l.counters) ≡ more_destroyed (fronts (suc i) rows) l.counters =
     destroyed_both (fronts i rows) (empty_front r.1) l.counters ∙ ap (λ (n : ℕ). more_destroyed n l.counters) (fronts_step i rows r at) in
-    let last : cleared_ledger r.1 (ledger_less i rows l) ≡ ledger_less (suc i) rows l = λ j. record { pools = pools j; counters = counters j } in
-    done ∙ ap (λ (m : Ledger). cleared_ledger b m) was ∙ ap (λ (x : Bucket). cleared_ledger x (ledger_less i rows l)) is ∙ last
+    let last : ledger_without (empty_front r.1) r.1 (ledger_less i rows l) ≡ ledger_less (suc i) rows l = λ j. record { pools = pools j; counters = counters j } in
+    done ∙ ap (λ (m : Ledger). trimmed_ledger 0 b m) was ∙ ap (λ (x : Bucket). trimmed_ledger 0 x (ledger_less i rows l)) is
+    ∙ ap (λ (n : ℕ). ledger_without n r.1 (ledger_less i rows l)) (whole_front r.1) ∙ last
   where
     twice : (a b : Bool) (o : Option Pool) → (if a then None else (if b then None else o)) ≡ (if a || b then None else o)
     twice true b o = refl
@@ -215,21 +216,23 @@ any_gone (suc n) (r ∷ rows) k p le h = elim (cases_Bool (key_eq r.0 k)) [
 ]
 
 -- what is left of a bucket that is cleared
-left_some : (b : Bucket) (n : ℕ) → n ≡ length (cleared_bucket b).pools → (n == 0) ≡ false → cleared_bucket b ≡ cleaned_bucket b
+left_some : (b : Bucket) (n : ℕ) → n ≡ length (trimmed_bucket 0 b).pools → (n == 0) ≡ false → trimmed_bucket 0 b ≡ cleaned_bucket b
 left_some b n is more = elim (cleaned_cases b) [
   | inl all ↦ (
-      let long = length-drop (empty_front b) b.pools in
+      let front = whole_front b in
+      let long = length-drop (front_but 0 b) b.pools in
       let whole = all.0 in
       let none : n ≡ 0 = omega arith in
       absurd (let bad : true ≡ false = sym (eq-eqb n 0 none) ∙ more in cc))
-  | inr some ↦ sym some.1
+  | inr some ↦ whole_trimmed b ∙ sym some.1
 ]
 
-left_none : (b : Bucket) (n : ℕ) → n ≡ length (cleared_bucket b).pools → (n == 0) ≡ true → cleaned_bucket b ≡ no_pools
+left_none : (b : Bucket) (n : ℕ) → n ≡ length (trimmed_bucket 0 b).pools → (n == 0) ≡ true → cleaned_bucket b ≡ no_pools
 left_none b n is none = elim (cleaned_cases b) [
   | inl all ↦ all.1
   | inr some ↦ (
-      let long = length-drop (empty_front b) b.pools in
+      let front = whole_front b in
+      let long = length-drop (front_but 0 b) b.pools in
       let more = some.0 in
       let zero_left : n ≡ 0 = eqb-true n 0 none in
       absurd (omega arith))
@@ -240,17 +243,17 @@ module _ {P : Type 0} (name : P → ℕ) where
   pub left_books : (n : ℕ) (es : List (BucketKey × DescriptorBucket P)) (rows : Rows) (k : Key) → HasDistinctKeys rows → length rows ≤ n → rows_in name es ≡ cleared n rows → books_of (rows_in name (filter (λ e. has_pools e.1) es)) k ≡ cleaned_bucket (books_of rows k)
   left_books n [] [] k d le h = refl
   left_books zero [] (r ∷ rows) k d le h = absurd (omega arith)
-  left_books (suc n) [] (r ∷ rows) k d le h = absurd (let bad : ◌≡◌ {A = Rows} [] ((r.0, cleared_bucket r.1) ∷ cleared n rows) = h in cc)
+  left_books (suc n) [] (r ∷ rows) k d le h = absurd (let bad : ◌≡◌ {A = Rows} [] ((r.0, trimmed_bucket 0 r.1) ∷ cleared n rows) = h in cc)
   left_books zero (e ∷ es) [] k d le h = absurd (let bad : ◌≡◌ {A = Rows} ((key_of e.0, bucket_of name e.1) ∷ rows_in name es) [] = h in cc)
   left_books (suc n) (e ∷ es) [] k d le h = absurd (let bad : ◌≡◌ {A = Rows} ((key_of e.0, bucket_of name e.1) ∷ rows_in name es) [] = h in cc)
   left_books zero (e ∷ es) (r ∷ rows) k d le h = absurd (omega arith)
   left_books (suc n) (e ∷ es) (r ∷ rows) k d le h =
-      let whole : ◌≡◌ {A = Rows} ((key_of e.0, bucket_of name e.1) ∷ rows_in name es) ((r.0, cleared_bucket r.1) ∷ cleared n rows) = h in
-      let head : ◌≡◌ {A = Key × Bucket} (key_of e.0, bucket_of name e.1) (r.0, cleared_bucket r.1) = cc in
+      let whole : ◌≡◌ {A = Rows} ((key_of e.0, bucket_of name e.1) ∷ rows_in name es) ((r.0, trimmed_bucket 0 r.1) ∷ cleared n rows) = h in
+      let head : ◌≡◌ {A = Key × Bucket} (key_of e.0, bucket_of name e.1) (r.0, trimmed_bucket 0 r.1) = cc in
       let tail : rows_in name es ≡ cleared n rows = cc in
       let key : key_of e.0 ≡ r.0 = ap (λ (x : Key × Bucket). x.0) head in
-      let bucket : bucket_of name e.1 ≡ cleared_bucket r.1 = ap (λ (x : Key × Bucket). x.1) head in
-      let size : length e.1.pools.items ≡ length (cleared_bucket r.1).pools = sym (length-map e.1.pools.items (entry_of name)) ∙ ap (λ (b : Bucket). length b.pools) bucket in
+      let bucket : bucket_of name e.1 ≡ trimmed_bucket 0 r.1 = ap (λ (x : Key × Bucket). x.1) head in
+      let size : length e.1.pools.items ≡ length (trimmed_bucket 0 r.1).pools = sym (length-map e.1.pools.items (entry_of name)) ∙ ap (λ (b : Bucket). length b.pools) bucket in
       let rest : books_of (rows_in name (filter (λ e. has_pools e.1) es)) k ≡ cleaned_bucket (books_of rows k) = left_books n es rows k d.1 (omega arith) tail in
       elim (cases_Bool (length e.1.pools.items == 0)) [
         | inl none ↦ rw none (rest ∙ elim (cases_Bool (key_eq r.0 k)) [
@@ -413,16 +416,24 @@ module _ {P : Type 0} where
         | inr some ↦ rw some (let a = sum_by-cons (stored_load_in {P = P}) e (filter (λ e. has_pools e.1) es) in omega arith)
       ]
 
+  -- a slot keeps its key
+  keys_at : (es : List (BucketKey × DescriptorBucket P)) (i : ℕ) (w : DescriptorBucket P) → stored_keys (set_value_at es i w) ≡ stored_keys es
+  keys_at [] i w = refl
+  keys_at (e ∷ es) zero w = refl
+  keys_at (e ∷ es) (suc i) w = ap (λ (ks : List Key). key_of e.0 ∷ ks) (keys_at es i w)
+
   pub counted_put : (limit marked room left out : ℕ) (es : List (BucketKey × DescriptorBucket P)) (i : ℕ) (v w : DescriptorBucket P) → slice_get (values_of es) i ≡ Some v → w.total ≡ v.total → left + sum_by stored_load_in (set_value_at es i w) ≡ room + sum_by stored_load_in es → IsCounted limit marked room out es → IsCounted limit marked left out (set_value_at es i w)
   counted_put limit marked room left out es i v w at same pools counted = record {
+    distinct = subst (IsDistinct key_eq) (sym (keys_at es i w)) counted.distinct;
     is_room = pools ∙ counted.is_room;
     is_load = counted.is_load ∙ sym (sum_put load_of es i v w at same);
     within = counted.within;
     is_out = counted.is_out ∙ sym (sum_put (λ k n. n) es i v w at same);
   }
 
-  pub counted_filter : (limit marked room out : ℕ) (es fs : List (BucketKey × DescriptorBucket P)) → fs ≡ filter (λ e. has_pools e.1) es → IsCounted limit marked room out es → IsCounted limit marked room out fs
-  counted_filter limit marked room out es fs kept counted = rw kept (record {
+  pub counted_filter : (limit marked room out : ℕ) (es fs : List (BucketKey × DescriptorBucket P)) → fs ≡ filter (λ e. has_pools e.1) es → IsDistinct key_eq (stored_keys fs) → IsCounted limit marked room out es → IsCounted limit marked room out fs
+  counted_filter limit marked room out es fs kept distinct counted = rw kept (record {
+    distinct = subst (λ (l : List (BucketKey × DescriptorBucket P)). IsDistinct key_eq (stored_keys l)) kept distinct;
     is_room = ap (λ n. room + n) (pools_filter es) ∙ counted.is_room;
     is_load = counted.is_load ∙ sym (sum_filter load_of (λ k. load_at-none (key_of k)) es);
     within = counted.within;

@@ -1,14 +1,14 @@
 -- One run: sets of one key and one number. What giving it back changes, and how its front goes pool by pool.
-use Rattle.std.proofs.Common.{◌≡◌, ◌≢◌, ℕ, zero, suc, ◌+◌, ◌-◌, ◌<◌, Bool, true, false, ◌&&◌, ◌==◌, List, [], ◌∷◌, length, map, drop, set, count_by, slice_get, Option, Some, None, inl, inr, refl, sym, ap, ◌∙◌, arith, eq-eqb, ne_eqb}
+use Rattle.std.proofs.Common.{◌≡◌, ◌≢◌, ℕ, zero, suc, ◌+◌, ◌-◌, ◌<◌, Bool, true, ◌&&◌, ◌==◌, List, [], ◌∷◌, length, map, set, count_by, slice_get, Option, Some, None, inl, inr, refl, sym, ap, ◌∙◌, arith, eq-eqb, ne_eqb}
 use Rattle.std.specs.Prelude.{if◌then◌else◌}
 use Rattle.std.proofs.Math.Path.{fun_ext}
 use Rattle.std.proofs.lemmas.Bool.{cases_Bool}
 use Rattle.gpu_descriptor.specs.Model.Agreement.{set_of, State, Item, count_of, Agree}
-use Rattle.gpu_descriptor.specs.Model.Books.{Key, Entry, Bucket, entry_at}
+use Rattle.gpu_descriptor.specs.Model.Books.{Key, Entry, entry_at}
 use Rattle.gpu_descriptor.specs.Inner.Buckets.{HasDistinctNames}
-use Rattle.gpu_descriptor.specs.Model.Release.{lies_in, entry_less, given_back, is_empty, spent_front, without_front}
+use Rattle.gpu_descriptor.specs.Model.Release.{lies_in, entry_less, given_back}
 use Rattle.gpu_descriptor_types.specs.Multiset.{LiveSet, set_eq}
-use Rattle.gpu_descriptor.proofs.Fronts.{spent, spent_yes, spent_no, spent_one, entry_at-from}
+use Rattle.gpu_descriptor.proofs.Fronts.{entry_at-from}
 use Rattle.gpu_descriptor_types.proofs.Counting.{count_by_yes, count_by_alike, count_by_none}
 use Rattle.gpu_descriptor.proofs.Exact.{item_exact}
 use Rattle.gpu_descriptor.proofs.Places.{back, back_named, lies_in-at}
@@ -79,14 +79,3 @@ run_books k i m s e agree run at place =
     ap (λ (f : ℕ → ℕ). map (λ (d : Entry). entry_less (f d.pool) d) (s.books k).pools) (fun_ext (run_back k i m s e run at))
     ∙ less_at (length m) (s.books k).pools (i - (s.books k).first) e (distinct_names s agree k) place in
     λ x. record { first = (s.books k).first; pools = pools x }
-
--- THE FRONT, POOL BY POOL. An empty pool with one behind it is the first of the front that goes
-pub front_step : (b : Bucket) (x y : Entry) (es : List Entry) → b.pools ≡ x ∷ y ∷ es → is_empty x ≡ true → spent_front b ≡ suc (spent_front (without_front 1 b))
-front_step b x y es is empty = ap spent is ∙ spent_yes x y es empty ∙ ap (λ (l : List Entry). suc (spent (drop 1 l))) (sym is)
-
--- a pool with sets ends the front, and so does the last pool
-pub front_stop : (b : Bucket) (x : Entry) (es : List Entry) → b.pools ≡ x ∷ es → is_empty x ≡ false → spent_front b ≡ 0
-front_stop b x es is full = ap spent is ∙ spent_no x es full
-
-pub front_last : (b : Bucket) (x : Entry) → b.pools ≡ x ∷ [] → spent_front b ≡ 0
-front_last b x is = ap spent is ∙ spent_one x

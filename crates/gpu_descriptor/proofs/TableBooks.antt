@@ -12,10 +12,20 @@ use Rattle.gpu_descriptor.specs.declared.bucket.DescriptorBucket.{DescriptorBuck
 use Rattle.gpu_descriptor.specs.Model.Books.{Key, key_eq, Entry, Bucket, no_pools, HasDistinctKeys}
 use Rattle.gpu_descriptor.specs.Caller.Sets.{key_of}
 use Rattle.gpu_descriptor.specs.Caller.States.{named, named_row, keys_of}
-use Rattle.gpu_descriptor.specs.Inner.Stored.{books_in, kept_of, row_of, entry_of, bucket_of}
+use Rattle.gpu_descriptor.specs.Inner.Stored.{books_in, kept_of, row_of, entry_of, bucket_of, stored_keys}
 use Rattle.gpu_descriptor.specs.Caller.Values.{Allocations, Row}
 use Rattle.gpu_descriptor.proofs.Exact.{key_exact}
 use Rattle.gpu_descriptor.proofs.Tables.{key_eq_symm}
+
+-- the map's keys are distinct, so those of the books are
+pub distinct_stored : {P : Type 0} (eq : BucketKey → BucketKey → Bool) → ((k l : BucketKey) → eq k l ≡ key_eq (key_of k) (key_of l)) → (es : List (BucketKey × DescriptorBucket P)) → IsDistinct eq (map_keys es) → IsDistinct key_eq (stored_keys es)
+unfolding IsDistinct
+distinct_stored eq same [] h = tt
+distinct_stored {P} eq same (e ∷ es) h = (others e es h.0, distinct_stored eq same es h.1)
+  where
+    others : (e : BucketKey × DescriptorBucket P) (es : List (BucketKey × DescriptorBucket P)) → AllByRecursion (λ y. eq e.0 y ≡ false) (map_keys es) → AllByRecursion (λ l. key_eq (key_of e.0) l ≡ false) (stored_keys es)
+    others e [] all = tt
+    others e (f ∷ es) all = (sym (same e.0 f.0) ∙ all.0, others e es all.1)
 
 -- the books with another bucket at one key
 abbrev pub put_books : (Key → Bucket) → Key → Bucket → Key → Bucket
@@ -79,15 +89,15 @@ module _ {P : Type 0} (name : P → ℕ) where
   rows_are [] = refl
   rows_are (e ∷ es) = λ i. (key_of e.0, row_bucket e i) ∷ rows_are es i
 
-  -- the map's keys are distinct, so those of the books are
-  pub distinct_keys : (eq : BucketKey → BucketKey → Bool) → ((k l : BucketKey) → eq k l ≡ key_eq (key_of k) (key_of l)) → (es : List (BucketKey × DescriptorBucket P)) → IsDistinct eq (map_keys es) → HasDistinctKeys (rows_in es)
+  -- distinct keys have a row each
+  pub distinct_rows : (es : List (BucketKey × DescriptorBucket P)) → IsDistinct key_eq (stored_keys es) → HasDistinctKeys (rows_in es)
   unfolding IsDistinct
-  distinct_keys eq same [] h = tt
-  distinct_keys eq same (e ∷ es) h = (none e es h.0, distinct_keys eq same es h.1)
+  distinct_rows [] h = tt
+  distinct_rows (e ∷ es) h = (none e es h.0, distinct_rows es h.1)
     where
-      none : (e : BucketKey × DescriptorBucket P) (es : List (BucketKey × DescriptorBucket P)) → AllByRecursion (λ y. eq e.0 y ≡ false) (map_keys es) → list_any (λ other. key_eq other.0 (key_of e.0)) (rows_in es) ≡ false
+      none : (e : BucketKey × DescriptorBucket P) (es : List (BucketKey × DescriptorBucket P)) → AllByRecursion (λ l. key_eq (key_of e.0) l ≡ false) (stored_keys es) → list_any (λ other. key_eq other.0 (key_of e.0)) (rows_in es) ≡ false
       none e [] all = refl
-      none e (f ∷ es) all = or_from (key_eq (key_of f.0) (key_of e.0)) (list_any (λ other. key_eq other.0 (key_of e.0)) (rows_in es)) (key_eq_symm (key_of f.0) (key_of e.0) ∙ sym (same e.0 f.0) ∙ all.0) (none e es all.1)
+      none e (f ∷ es) all = or_from (key_eq (key_of f.0) (key_of e.0)) (list_any (λ other. key_eq other.0 (key_of e.0)) (rows_in es)) (key_eq_symm (key_of f.0) (key_of e.0) ∙ all.0) (none e es all.1)
 
   -- a key that is in the map is there once
   pub key_once : (test : BucketKey → Bool) (k : Key) → ((l : BucketKey) → test l ≡ key_eq k (key_of l)) → (es : List (BucketKey × DescriptorBucket P)) (v : DescriptorBucket P) → HasDistinctKeys (rows_in es) → lookup test es ≡ Some v → count_by (key_eq k) (map (λ e. key_of e.0) es) ≡ 1

@@ -14,7 +14,7 @@ use Rattle.gpu_descriptor.specs.declared.set.DescriptorSet.{DescriptorSet}
 use Rattle.gpu_descriptor.specs.Model.Agreement.{set_of, State, Item, item_eq, count_of, live_in, AreOutstanding, Agree}
 use Rattle.gpu_descriptor.specs.Model.Books.{Key, key_eq, Entry, Bucket, entry_at}
 use Rattle.gpu_descriptor.specs.Inner.Releases.{IsTakenAt, names_of, bucket_back}
-use Rattle.gpu_descriptor.specs.Inner.Buckets.{settled_bucket, pools_without}
+use Rattle.gpu_descriptor.specs.Inner.Buckets.{trimmed_bucket, pools_without}
 use Rattle.gpu_descriptor.specs.Model.Release.{entry_less, pool_less, given_back, fronts_gone, released, spent_front, pools_gone}
 use Rattle.gpu_descriptor.specs.Caller.Sets.{key_of, item_of, items_of}
 use Rattle.gpu_descriptor.specs.Inner.RunSteps.{at_place, HaveKey}
@@ -29,8 +29,8 @@ use Rattle.gpu_descriptor.proofs.Runs.{IsRun, run_back, run_named, run_books, un
 use Rattle.gpu_descriptor.proofs.TableBooks.{put_books}
 
 -- the pools without those of a bucket's spent front
-abbrev pub settled_pools : Bucket → (ℕ → Option Pool) → ℕ → Option Pool
-settled_pools b pools = pools_without (spent_front b) b pools
+abbrev pub trimmed_pools : Bucket → (ℕ → Option Pool) → ℕ → Option Pool
+trimmed_pools b pools = pools_without (spent_front b) b pools
 
 pub at_parts : {S : Type 0} (k : BucketKey) (n : ℕ) (x : DescriptorSet S) → at_place k n x ≡ true → (key_of x.key ≡ key_of k) × (x.number ≡ n)
 unfolding at_place
@@ -154,7 +154,7 @@ module _ {S : Type 0} (name : S → ℕ) where
 
   -- THE FRONT OF THE RUN'S KEY
   pub front_run : (x : DescriptorSet S) (xs : List (DescriptorSet S)) → HaveKey x.key x.number xs → (books : Key → Bucket) (b : Bucket) (pools : ℕ → Option Pool)
-      → fronts_gone (items_of name (x ∷ xs)) (record { books = put_books books (key_of x.key) b; ledger = pools }) ≡ record { books = put_books books (key_of x.key) (settled_bucket b); ledger = settled_pools b pools }
+      → fronts_gone (items_of name (x ∷ xs)) (record { books = put_books books (key_of x.key) b; ledger = pools }) ≡ record { books = put_books books (key_of x.key) (trimmed_bucket 1 b); ledger = trimmed_pools b pools }
   front_run x xs have books b pools =
       let k = key_of x.key in
       let m = items_of name (x ∷ xs) in
@@ -165,17 +165,17 @@ module _ {S : Type 0} (name : S → ℕ) where
       let only : (l : Key) → names_key m l ≡ true → k ≡ l = λ l h.
       let who = any_found item_exact (λ u. key_eq u.key l) m h in
       sym (run who.0 who.1).0 ∙ key_exact.same who.0.key l who.2 in
-      let books_are : (fronts_gone m s).books ≡ put_books books k (settled_bucket b) = fun_ext (λ l. elim (cases_Bool (key_eq k l)) [
+      let books_are : (fronts_gone m s).books ≡ put_books books k (trimmed_bucket 1 b) = fun_ext (λ l. elim (cases_Bool (key_eq k l)) [
         | inl is ↦ (
             let same = key_exact.same k l is in
-            let here : put_books books k (settled_bucket b) l ≡ settled_bucket b = rw is refl in
-            let there : (fronts_gone m s).books k ≡ settled_bucket b = rw named (ap settled_bucket own) in
+            let here : put_books books k (trimmed_bucket 1 b) l ≡ trimmed_bucket 1 b = rw is refl in
+            let there : (fronts_gone m s).books k ≡ trimmed_bucket 1 b = rw named (ap (trimmed_bucket 1) own) in
             ap (fronts_gone m s).books (sym same) ∙ there ∙ sym here)
         | inr other ↦ (
             let unnamed : names_key m l ≡ false = false_from_ne_true (names_key m l) (λ h. let bad : true ≡ false = sym (ap (key_eq k) (sym (only l h)) ∙ key_exact.self k) ∙ other in cc) in
             rw (unnamed, other) refl)
       ]) in
-      let ledger : (fronts_gone m s).ledger ≡ settled_pools b pools = fun_ext (λ p.
+      let ledger : (fronts_gone m s).ledger ≡ trimmed_pools b pools = fun_ext (λ p.
       let gone : list_any (λ t. goes (s.books t.key) p) m ≡ goes b p = bool_iff (list_any (λ t. goes (s.books t.key) p) m) (goes b p)
       (λ h.
       let at = any_key (λ l. goes (s.books l) p) m h in
@@ -187,13 +187,13 @@ module _ {S : Type 0} (name : S → ℕ) where
 
   -- THE STATE AFTER ONE RUN
   pub whole_run : (s : State) → Agree s → (x : DescriptorSet S) (xs : List (DescriptorSet S)) → HaveKey x.key x.number xs → (e : Entry) → (s.books (key_of x.key)).first ≤ x.number → slice_get (s.books (key_of x.key)).pools (x.number - (s.books (key_of x.key)).first) ≡ Some e
-      → (c : Bucket) (pools : ℕ → Option Pool) → c ≡ settled_bucket (bucket_back (s.books (key_of x.key)) x.number (length (names_of name (x ∷ xs))) e) → pools ≡ settled_pools (bucket_back (s.books (key_of x.key)) x.number (length (names_of name (x ∷ xs))) e) (taken_from s.ledger e.pool (live_sets (key_of x.key).counts (names_of name (x ∷ xs))))
+      → (c : Bucket) (pools : ℕ → Option Pool) → c ≡ trimmed_bucket 1 (bucket_back (s.books (key_of x.key)) x.number (length (names_of name (x ∷ xs))) e) → pools ≡ trimmed_pools (bucket_back (s.books (key_of x.key)) x.number (length (names_of name (x ∷ xs))) e) (taken_from s.ledger e.pool (live_sets (key_of x.key).counts (names_of name (x ∷ xs))))
       → ◌≡◌ {A = State} (record { books = put_books s.books (key_of x.key) c; ledger = pools }) (released (items_of name (x ∷ xs)) s)
   whole_run s agree x xs have e above place c pools is are =
       let k = key_of x.key in
       let b = bucket_back (s.books k) x.number (length (names_of name (x ∷ xs))) e in
       let after = taken_from s.ledger e.pool (live_sets k.counts (names_of name (x ∷ xs))) in
-      let left : ◌≡◌ {A = State} (record { books = put_books s.books k c; ledger = pools }) (record { books = put_books s.books k (settled_bucket b); ledger = settled_pools b after }) = λ i. record { books = put_books s.books k (is i); ledger = are i } in
+      let left : ◌≡◌ {A = State} (record { books = put_books s.books k c; ledger = pools }) (record { books = put_books s.books k (trimmed_bucket 1 b); ledger = trimmed_pools b after }) = λ i. record { books = put_books s.books k (is i); ledger = are i } in
       left ∙ sym (front_run x xs have s.books b after) ∙ ap (fronts_gone (items_of name (x ∷ xs))) (sym (given_run s agree x xs have e above place))
 
   -- what is 0 at all other keys adds up to what it is at one that is there once

@@ -7,6 +7,7 @@ ghost use Rattle.gpu_descriptor.specs.Inner.OpenNumbers.{free_in, open_numbers};
 ghost use Rattle.gpu_descriptor.specs.Caller.Sets.{key_of};
 
 pub(crate) mod allocation;
+mod front;
 mod reads;
 mod release;
 mod run;

@@ -1,10 +1,10 @@
 -- One key's pools over a ledger: how they stand in it, and what a run and a front that goes do to both.
-use Rattle.std.specs.Prelude.{Bool, not, ◌==◌, ◌≡◌, ℕ, ◌-◌, if◌then◌else◌, List, length, slice_get, Option, None, Some}
+use Rattle.std.specs.Prelude.{Bool, not, ◌==◌, ◌≡◌, ℕ, ◌-◌, if◌then◌else◌, min, List, length, slice_get, Option, None, Some}
 use Rattle.gpu_descriptor_types.specs.Ledger.{Pool, Ledger}
 use Rattle.gpu_descriptor.specs.declared.bucket.DescriptorBucket.{DescriptorBucket}
 use Rattle.gpu_descriptor.specs.Model.Agreement.{IsAsBooked}
 use Rattle.gpu_descriptor.specs.Model.Books.{Key, Entry, Bucket}
-use Rattle.gpu_descriptor.specs.Model.Release.{empty_front, spent_front, without_front, in_front, more_destroyed}
+use Rattle.gpu_descriptor.specs.Model.Release.{empty_front, without_front, in_front, more_destroyed}
 
 -- no name stands at two places
 abbrev pub HasDistinctNames : List Entry → Type 0
@@ -21,9 +21,13 @@ pub record AreBookedIn (k : Key) (pools : ℕ → Option Pool) (entries : List E
   pub distinct : HasDistinctNames entries
   pub each : (i : ℕ) (e : Entry) → slice_get entries i ≡ Some e → IsBookedIn k pools e
 
--- the bucket without its spent front
-abbrev pub settled_bucket : Bucket → Bucket
-settled_bucket b = without_front (spent_front b) b
+-- how many empty pools may go from the front, if so many pools are to stay
+abbrev pub front_but : ℕ → Bucket → ℕ
+front_but keep b = min (empty_front b) (length b.pools - keep)
+
+-- the bucket without these
+abbrev pub trimmed_bucket : ℕ → Bucket → Bucket
+trimmed_bucket keep b = without_front (front_but keep b) b
 
 -- the pools without the first n of a bucket
 abbrev pub pools_without : ℕ → Bucket → (ℕ → Option Pool) → ℕ → Option Pool
@@ -33,17 +37,9 @@ pools_without n b pools p = if in_front n b p then None else pools p
 abbrev pub ledger_without : ℕ → Bucket → Ledger → Ledger
 ledger_without n b l = record { pools = pools_without n b l.pools; counters = more_destroyed n l.counters }
 
--- the ledger after a bucket's spent front was destroyed
-abbrev pub settled_ledger : Bucket → Ledger → Ledger
-settled_ledger b l = ledger_without (spent_front b) b l
-
--- the bucket without its empty front
-abbrev pub cleared_bucket : Bucket → Bucket
-cleared_bucket b = without_front (empty_front b) b
-
--- the ledger after a bucket's empty front was destroyed
-abbrev pub cleared_ledger : Bucket → Ledger → Ledger
-cleared_ledger b l = ledger_without (empty_front b) b l
+-- the ledger after the pools were destroyed that a trimmed bucket lost
+abbrev pub trimmed_ledger : ℕ → Bucket → Ledger → Ledger
+trimmed_ledger keep b l = ledger_without (front_but keep b) b l
 
 module _ {P : Type 0} where
   -- the key has pools

@@ -12,7 +12,7 @@ use Rattle.gpu_descriptor_types.specs.Multiset.{LiveSet, times}
 use Rattle.gpu_descriptor.specs.declared.bucket.DescriptorBucket.{DescriptorBucket}
 use Rattle.gpu_descriptor.specs.Model.Books.{Key, Entry, Bucket}
 use Rattle.gpu_descriptor.specs.Inner.Stored.{bucket_of}
-use Rattle.gpu_descriptor.specs.Inner.Buckets.{settled_bucket, settled_ledger}
+use Rattle.gpu_descriptor.specs.Inner.Buckets.{trimmed_bucket, trimmed_ledger}
 
 -- one run came, from first to before the set ahead, and has gone back
 pub record FreesRun {P S T : Type 0} (steps : T → Option (DescriptorSet S) → T → Type 0) (pool_name : P → ℕ) (set_name : S → ℕ) (first : DescriptorSet S) (given : T) (ahead : Option (DescriptorSet S)) (left : T) (old new : Allocations P) (before after : Ledger) : Type 0 where
@@ -38,8 +38,8 @@ pub record RunsInto (k : Key) (number : ℕ) (names : List ℕ) (b : Bucket) (be
   pub entry : Entry
   pub above : b.first ≤ number
   pub at : slice_get b.pools (number - b.first) ≡ Some entry
-  pub books : c ≡ settled_bucket (bucket_back b number (length names) entry)
-  pub ledger : after ≡ settled_ledger (bucket_back b number (length names) entry) (after_release entry.pool (live_sets k.counts names) before)
+  pub books : c ≡ trimmed_bucket 1 (bucket_back b number (length names) entry)
+  pub ledger : after ≡ trimmed_ledger 1 (bucket_back b number (length names) entry) (after_release entry.pool (live_sets k.counts names) before)
 
 -- the names of the raw sets
 abbrev pub names_of : {S : Type 0} → (S → ℕ) → List (DescriptorSet S) → List ℕ

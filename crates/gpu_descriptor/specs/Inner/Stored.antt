@@ -1,10 +1,11 @@
 -- The table of keys, as the code has it.
 use Rattle.std.specs.Prelude.{◌≡◌, ℕ, ◌+◌, ◌*◌, ◌≤◌, if◌then◌else◌, List, map, sum, sum_by}
+use Rattle.std.specs.List.{IsDistinct}
 use Rattle.gpu_descriptor_types.specs.Counts.{kinds}
 use Rattle.gpu_descriptor.specs.declared.set.BucketKey.{BucketKey}
 use Rattle.gpu_descriptor.specs.declared.bucket.DescriptorPool.{DescriptorPool}
 use Rattle.gpu_descriptor.specs.declared.bucket.DescriptorBucket.{DescriptorBucket}
-use Rattle.gpu_descriptor.specs.Model.Books.{Key, Entry, Bucket, books_of}
+use Rattle.gpu_descriptor.specs.Model.Books.{Key, key_eq, Entry, Bucket, books_of}
 use Rattle.gpu_descriptor.specs.Model.Load.{pool_load}
 use Rattle.gpu_descriptor.specs.Caller.States.{named_row}
 use Rattle.gpu_descriptor.specs.Caller.Sets.{key_of}
@@ -37,8 +38,10 @@ module _ {P : Type 0} where
   abbrev pub stored_load_in : BucketKey × DescriptorBucket P → ℕ
   stored_load_in r = stored_load (key_of r.0) r.1.pools.items
 
-  -- the running totals are those of the table, the marked descriptors keep the limit, and room is what those of the pools leave of it
+  -- no key stands twice, the running totals are those of the table, the marked descriptors keep
+  -- the limit, and room is what those of the pools leave of it
   pub record IsCounted (limit marked room out : ℕ) (table : List (BucketKey × DescriptorBucket P)) : Type 0 where
+    pub distinct : IsDistinct key_eq (stored_keys table)
     pub is_load : marked ≡ sum_by load_in table
     pub within : marked ≤ limit
     pub is_room : room + sum_by stored_load_in table ≡ limit

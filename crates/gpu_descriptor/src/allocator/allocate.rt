@@ -1,7 +1,8 @@
 //! Handing sets out, whole or not at all.
 ghost use Rattle.std.specs.Prelude.{◌≡◌, ◌+◌, ◌*◌, ◌^◌, ◌<◌, ◌≤◌, ◌&&◌, nat_lt, length, sum, sum_by, Err, IfOk, IfErr, OnOk, OnErr};
+ghost use Rattle.std.specs.List.{IsDistinct};
 ghost use Rattle.gpu_descriptor_types.specs.Counts.{kinds};
-ghost use Rattle.gpu_descriptor.specs.Model.Books.{HasDistinctKeys};
+ghost use Rattle.gpu_descriptor.specs.Model.Books.{HasDistinctKeys, key_eq};
 ghost use Rattle.gpu_descriptor.specs.Caller.Flags.{is_marked};
 ghost use Rattle.gpu_descriptor.specs.Caller.HandsOut.{HandsOut};
 ghost use Rattle.gpu_descriptor.specs.Caller.Keeps.{Keeps};
@@ -71,8 +72,6 @@ impl<P: Drop, S: Drop> DescriptorAllocator<P, S> {
             (D.ledger device.old) (D.ledger device.new) }
     {
         if count == 0 {
-            // The proof reads from the length that no key stands in the table twice.
-            let _keys = self.buckets.len();
             return Ok(Vec::new(self.alloc));
         }
         let key = BucketKey {
@@ -117,12 +116,11 @@ impl<P: Drop, S: Drop> DescriptorAllocator<P, S> {
         ensures pool_load { pool_load_of self.new ≤ self.new.limit }
         ensures limit { self.new.limit ≡ self.old.limit }
     {
-        // The proof reads from the lengths that no key stands in the table twice.
-        let _keys_before = self.buckets.len();
+        let outstanding = self.outstanding;
         if self.is_above_limit(&key, count) {
             return Err(AllocationError::Fragmentation);
         }
-        if is_past_bound(self.outstanding, count) {
+        if is_past_bound(outstanding, count) {
             return Err(AllocationError::Fragmentation);
         }
         let served = serve_key(
@@ -139,7 +137,6 @@ impl<P: Drop, S: Drop> DescriptorAllocator<P, S> {
             Ok(served) => served,
             Err(error) => return Err(error),
         };
-        let _keys_after = self.buckets.len();
         let given = sets.len() as u64;
         self.outstanding += given;
         self.current_update_after_bind_descriptors_in_all_pools += marked_descriptors(
@@ -190,6 +187,7 @@ fn serve_key<L, P: Drop, S: Drop, D: DescriptorDevice<L, P, S>>(
     ensures room { room.new + sum_by stored_load_in buckets.new.entries ≡ room.old + sum_by stored_load_in buckets.old.entries }
     ensures keys { OnOk result (StayOrGainLast (key_of key)
         (stored_keys buckets.old.entries) (stored_keys buckets.new.entries)) }
+    ensures distinct { OnOk result (IsDistinct key_eq (stored_keys buckets.new.entries)) }
     ensures entries { OnErr result (buckets.new.entries ≡ buckets.old.entries) }
     ensures ledger { OnErr result (D.ledger device.new ≡ D.ledger device.old) }
 {

@@ -62,8 +62,11 @@ impl<P, S> DescriptorAllocator<P, S> {
             ahead = self.release_run(device, first, sets);
         }
 
-        // The proof reads from the length that no key stands in the table twice.
-        let _keys = self.buckets.len();
+        // The proof of `keeps` has the allocator's invariant where a field is read.
+        prove!(
+            self.current_update_after_bind_descriptors_in_all_pools
+                <= self.max_update_after_bind_descriptors_in_all_pools
+        );
     }
 
     /// Gives back one run, from `first` to before the first set that lies elsewhere, which is handed

@@ -18,8 +18,6 @@ impl<P, S> DescriptorAllocator<P, S> {
         ensures books { (name : P → ℕ) → AddsUp sets_out (books_of (table_of name self.now)) result }
         ensures rows { (name : P → ℕ) → HasDistinctKeys (table_of name self.now) }
     {
-        // The proof reads from the length that no key stands in the table twice.
-        let _keys = self.buckets.len();
         self.outstanding
     }
 
@@ -30,7 +28,6 @@ impl<P, S> DescriptorAllocator<P, S> {
         ensures books { (name : P → ℕ) → AddsUp descriptors_out (books_of (table_of name self.now)) result }
         ensures within { result ≤ self.now.limit }
     {
-        let _keys = self.buckets.len();
         self.current_update_after_bind_descriptors_in_all_pools
     }
 
@@ -42,7 +39,6 @@ impl<P, S> DescriptorAllocator<P, S> {
         ensures books { (name : P → ℕ) → AddsUp bucket_load (books_of (table_of name self.now)) result }
         ensures within { result ≤ self.now.limit }
     {
-        let _keys = self.buckets.len();
         self.max_update_after_bind_descriptors_in_all_pools - self.update_after_bind_room
     }
 

@@ -1,18 +1,17 @@
 //! Giving a run back to the pools of its key.
 ghost use Rattle.std.specs.Prelude.{◌≡◌, ◌+◌, ◌<◌, ◌≤◌, ◌^◌, ◌∷◌, length, OnSome};
 ghost use Rattle.std.specs.Iterator.{HoldsAlong, IsFinite, IsNearerEnd};
-ghost use Rattle.gpu_descriptor.specs.Model.Books.{Key};
-ghost use Rattle.gpu_descriptor.specs.Inner.Buckets.{AreBookedIn, settled_bucket, settled_ledger};
+ghost use Rattle.gpu_descriptor.specs.Inner.Buckets.{AreBookedIn};
 ghost use Rattle.gpu_descriptor.specs.Inner.Releases.{IsTakenAt, ReleasesRun, names_of};
 ghost use Rattle.gpu_descriptor.specs.Caller.Comparisons.{open_pools, binary_digits};
 ghost use Rattle.gpu_descriptor.specs.Caller.Sets.{key_of};
 ghost use Rattle.gpu_descriptor.specs.Inner.RunSteps.{HaveKey};
 ghost use Rattle.gpu_descriptor.specs.Inner.Stored.{bucket_of, stored_load};
 
-use crate::bucket::{DescriptorBucket, descriptors_of_pool};
+use crate::bucket::DescriptorBucket;
 use crate::bucket::run::Run;
 use crate::bucket::search::enter_new;
-use crate::set::{BucketKey, DescriptorSet};
+use crate::set::DescriptorSet;
 use gpu_descriptor_types::{DescriptorDevice, Tally};
 
 impl<P> DescriptorBucket<P> {
@@ -65,32 +64,7 @@ impl<P> DescriptorBucket<P> {
         pool.available += count;
         self.total -= u64::from(count);
         enter_new(&mut self.listed, was_closed, number, comparisons);
-        self.drop_front(device, &key, room);
+        self.drop_front(device, &key, room, 1);
         ahead
-    }
-
-    /// Destroys the pools without sets at the front, but never the last pool.
-    fn drop_front<L, S, D: DescriptorDevice<L, P, S>>(
-        &mut self,
-        device: &mut D,
-        key: &BucketKey,
-        room: &mut u32,
-    )
-        requires room { room.old + stored_load (key_of key.now) self.old.pools.items < 2 ^ 32 }
-        requires stored { (k : Key) × AreBookedIn k (D.ledger device.old).pools (bucket_of D.pool_name self.old).pools }
-        ensures books { bucket_of D.pool_name self.new ≡ settled_bucket (bucket_of D.pool_name self.old) }
-        ensures ledger { D.ledger device.new ≡ settled_ledger (bucket_of D.pool_name self.old) (D.ledger device.old) }
-        ensures total { self.new.total ≡ self.old.total }
-        ensures room { room.new + stored_load (key_of key.now) self.new.pools.items ≡ room.old + stored_load (key_of key.now) self.old.pools.items }
-    {
-        while self.pools.len() > 1 && self.pools[0].allocated == 0 {
-            let front = self.pools.pop_front().unwrap();
-            if front.available > 0 {
-                let _number = self.listed.pop_front();
-            }
-            *room += descriptors_of_pool(key, front.capacity);
-            device.destroy_descriptor_pool(front.raw);
-            self.offset += 1;
-        }
     }
 }

@@ -1,4 +1,4 @@
-use Rattle.std.proofs.Common.{◌≡◌, ◌<◌, rules, refl, arith, ◌∙◌, subst, Err}
+use Rattle.std.proofs.Common.{◌≡◌, ◌<◌, refl, arith, ◌∙◌, subst, Err}
 use Rattle.gpu_descriptor.specs.Model.Books.{Key}
 use Rattle.gpu_descriptor.specs.Model.Outcomes.{Allocates}
 use Rattle.gpu_descriptor.specs.Caller.Call.{call_of, layout_key}
@@ -9,7 +9,7 @@ use Rattle.gpu_descriptor.specs.Inner.Takes.{Takes}
 use Rattle.gpu_descriptor.proofs.Allocating.{taken_agree, taken_as, taken_given}
 use Rattle.gpu_descriptor.proofs.HandedOut.{gained_as, hands_all, hands_back, hands_none, keeps_all, keeps_back}
 use Rattle.gpu_descriptor.proofs.Keeping.{keeps_still}
-use Rattle.gpu_descriptor.proofs.Requested.{keys_apart, load_within, pool_load_within, table_is}
+use Rattle.gpu_descriptor.proofs.Requested.{rows_apart, load_within, pool_load_within}
 use Rattle.gpu_descriptor.proofs.allocator.DescriptorAllocator.allocate.Goals.{After-contains, In-Ok}
 use Rattle.gpu_descriptor.proofs.allocator.DescriptorAllocator.allocate.Goals as goal
 
@@ -38,7 +38,7 @@ free_all-requires-clause-outstanding g c = taken_given c.in-Ok.ensures.taken c.r
 pub returns-then-count-eq0-clause-keeps : goal.returns-then-count-eq0-clause-keeps
 returns-then-count-eq0-clause-keeps g c =
     keeps_still refl refl c.requires.agree (load_within _ c.self.view_is c.self.invariant) (pool_load_within _ c.self.view_is c.self.invariant)
-    (keys_apart c.args.self.now c.self.inside.buckets.entries (table_is _ c.self.view_is) g.D.DescriptorDevice.pool_name _ (λ k l. search rules) c.len-keys.ensures.unique)
+    (rows_apart _ c.self.view_is g.D.DescriptorDevice.pool_name c.self.invariant)
 
 pub returns-in-Err-clause-hands_out : goal.returns-in-Err-clause-hands_out
 returns-in-Err-clause-hands_out g c =

@@ -15,23 +15,23 @@ use Rattle.gpu_descriptor.proofs.KeysKept.{keys_cleaned}
 use Rattle.gpu_descriptor.proofs.Requested.{keys_apart}
 use Rattle.gpu_descriptor.proofs.RowsCleaned.{next, next_stored, step_rows, step_less, agree_is, ledger_less, cleared, whole_clean, whole_count, pools_put, counted_put, counted_filter}
 use Rattle.gpu_descriptor.proofs.OthersStay.{emptied, others_stay}
-use Rattle.gpu_descriptor.proofs.TableBooks.{rows_are, rows_in, distinct_keys}
+use Rattle.gpu_descriptor.proofs.TableBooks.{rows_are, rows_in, distinct_rows, distinct_stored}
 use Rattle.gpu_descriptor.proofs.allocator.DescriptorAllocator.cleanup.Goals as goal
 
-pub drop_empty-requires-clause-stored : goal.drop_empty-requires-clause-stored
-drop_empty-requires-clause-stored g c =
+pub drop_front-requires-clause-stored : goal.drop_front-requires-clause-stored
+drop_front-requires-clause-stored g c =
     let name = g.D.DescriptorDevice.pool_name in
     let ledger = g.D.DescriptorDevice.ledger in
     let h = c.loop-place.invariant in
     let es = c.self.inside.buckets.entries in
     let n = next name c.loop-place.place c.loop-place.self-inside.buckets.entries (rows_in name es) c.index_mut-bucket.result.now h.rows c.index_mut-bucket.ensures.value in
-    let distinct = distinct_keys name _ (λ k l. search rules) es c.len-place-end.ensures.unique in
+    let distinct = distinct_rows name es c.self.invariant.distinct in
     let agree = agree_is name c.args.self.now (ledger c.args.device.now) es (ap (λ (a : Allocations _). a.table) (sym c.self.view_is)) c.requires.agree in
     let there = next_stored (rows_in name es) (ledger c.args.device.now).pools c.loop-place.place n.row distinct agree n.at in
     (n.row.0, subst (λ (b : Bucket). AreBookedIn n.row.0 (ledger c.loop-place.device).pools b.pools) (sym n.is) (subst (λ (l : Ledger). AreBookedIn n.row.0 l.pools n.row.1.pools) (sym h.ledger) there))
 
-pub drop_empty-requires-clause-room : goal.drop_empty-requires-clause-room
-drop_empty-requires-clause-room g c =
+pub drop_front-requires-clause-room : goal.drop_front-requires-clause-room
+drop_front-requires-clause-room g c =
     let now = c.loop-place.self-inside.buckets.entries in
     let below = (pools_put now c.loop-place.place (deref_pair c.unwrap.result) c.index_mut-bucket.result.now c.index_mut-bucket.result.now (ap (λ es. slice_get es c.loop-place.place) (sym c.as_slice.ensures.entries) ∙ sym c.get_index.ensures.entry ∙ ap (option_map deref_pair) c.unwrap.ensures) c.index_mut-bucket.ensures.value).0 in
     let all = c.loop-place.invariant.counted.is_room in
@@ -50,10 +50,10 @@ loop-place-preserved g c =
     let n = next name i now (rows_in name es) c.index_mut-bucket.result.now h.rows c.index_mut-bucket.ensures.value in
     let more : suc i ≡ i + 1 = omega arith in
     record {
-      rows = step_rows name i now (rows_in name es) c.index_mut-bucket.result.now c.drop_empty.new.self h.rows c.index_mut-bucket.ensures.value c.drop_empty.ensures.books ∙ ap (λ m. cleared m (rows_in name es)) more;
-      ledger = step_less i (rows_in name es) n.row (ledger c.args.device.now) (ledger c.loop-place.device) (ledger c.drop_empty.new.device) _ n.at n.is h.ledger c.drop_empty.ensures.ledger ∙ ap (λ m. ledger_less m (rows_in name es) (ledger c.args.device.now)) more;
-      counted = counted_put _ _ _ _ _ now i c.index_mut-bucket.result.now c.drop_empty.new.self c.index_mut-bucket.ensures.value c.drop_empty.ensures.total ((pools_put now i (deref_pair c.unwrap.result) c.index_mut-bucket.result.now c.drop_empty.new.self (ap (λ es. slice_get es c.loop-place.place) (sym c.as_slice.ensures.entries) ∙ sym c.get_index.ensures.entry ∙ ap (option_map deref_pair) c.unwrap.ensures) c.index_mut-bucket.ensures.value).1 _ _ c.drop_empty.ensures.room) h.counted;
-      long = length-set_value_at now i c.drop_empty.new.self ∙ h.long;
+      rows = step_rows name i now (rows_in name es) c.index_mut-bucket.result.now c.drop_front.new.self h.rows c.index_mut-bucket.ensures.value c.drop_front.ensures.books ∙ ap (λ m. cleared m (rows_in name es)) more;
+      ledger = step_less i (rows_in name es) n.row (ledger c.args.device.now) (ledger c.loop-place.device) (ledger c.drop_front.new.device) _ n.at n.is h.ledger c.drop_front.ensures.ledger ∙ ap (λ m. ledger_less m (rows_in name es) (ledger c.args.device.now)) more;
+      counted = counted_put _ _ _ _ _ now i c.index_mut-bucket.result.now c.drop_front.new.self c.index_mut-bucket.ensures.value c.drop_front.ensures.total ((pools_put now i (deref_pair c.unwrap.result) c.index_mut-bucket.result.now c.drop_front.new.self (ap (λ es. slice_get es c.loop-place.place) (sym c.as_slice.ensures.entries) ∙ sym c.get_index.ensures.entry ∙ ap (option_map deref_pair) c.unwrap.ensures) c.index_mut-bucket.ensures.value).1 _ _ c.drop_front.ensures.room) h.counted;
+      long = length-set_value_at now i c.drop_front.new.self ∙ h.long;
       out = h.out;
       marked = h.marked;
       limit = h.limit;
@@ -64,7 +64,7 @@ loop-place-preserved g c =
 pub invariant_of-self : goal.invariant_of-self
 invariant_of-self g c =
     let kept = filter-RetainsPairs _ (λ e. has_pools e.1) _ (λ k v b w f call. search rules) _ _ c.retain.ensures.filtered in
-    counted_filter _ _ _ _ _ _ kept c.loop-place.invariant.counted
+    counted_filter _ _ _ _ _ _ kept (distinct_stored _ (λ k l. search rules) _ c.retain.ensures.unique) c.loop-place.invariant.counted
 
 pub returns : goal.returns
 returns g c =
@@ -73,10 +73,10 @@ returns g c =
     let h = c.loop-place.invariant in
     let es = c.self.inside.buckets.entries in
     let was = ap (λ (a : Allocations _). a.table) (sym c.self.view_is) in
-    let distinct = distinct_keys name _ (λ k l. search rules) es c.len-place-end.ensures.unique in
+    let distinct = distinct_rows name es c.self.invariant.distinct in
     let kept = filter-RetainsPairs _ (λ e. has_pools e.1) _ (λ k v b w f call. search rules) _ _ c.retain.ensures.filtered in
     let le : length es ≤ c.loop-place.place = omega arith in
-    let counted = counted_filter _ _ _ _ _ _ kept h.counted in
+    let counted = counted_filter _ _ _ _ _ _ kept (distinct_stored _ (λ k l. search rules) _ c.retain.ensures.unique) h.counted in
     let now : Allocations _ = record { limit = c.loop-place.self-inside.max_update_after_bind_descriptors_in_all_pools; table = map row_of c.retain.new.self.entries; looks = c.loop-place.self-inside.looks.count; comparisons = c.loop-place.self-inside.comparisons.count } in
     let clean = whole_clean name c.args.self.now (ledger c.args.device.now) (ledger c.loop-place.device) es c.loop-place.self-inside.buckets.entries _ c.loop-place.place c.loop-place.self-inside.max_update_after_bind_descriptors_in_all_pools was distinct le h.rows h.ledger kept in
     let rows_before = subst HasDistinctKeys (sym (ap (map (named_row name)) was ∙ rows_are name es)) distinct in
@@ -101,7 +101,7 @@ returns g c =
         limit = h.limit ∙ ap (λ (a : Allocations _). a.limit) c.self.view_is;
         load = (let load = rows_load c.retain.new.self.entries in let is = counted.is_load in let within = counted.within in omega arith);
         pool_load = (let rows = rows_pool_load c.retain.new.self.entries in let is = counted.is_room in omega arith);
-        rows = keys_apart now c.retain.new.self.entries refl name _ (λ k l. search rules) c.len-keys.ensures.unique;
+        rows = keys_apart now c.retain.new.self.entries refl name counted.distinct;
         foreign = foreign;
         accounted = accounted;
         others = others_stay name c.args.self.now now (ledger c.args.device.now) (ledger c.loop-place.device) foreign accounted;

@@ -1,7 +1,7 @@
-use Rattle.std.proofs.Common.{rules, ◌∙◌, Some}
+use Rattle.std.proofs.Common.{◌∙◌, Some}
 use Rattle.gpu_descriptor.proofs.OthersStay.{others_stay}
 use Rattle.gpu_descriptor.proofs.Foreign.{freed_foreign, freed_loses}
-use Rattle.gpu_descriptor.proofs.Requested.{keys_apart, load_within, pool_load_within, table_is}
+use Rattle.gpu_descriptor.proofs.Requested.{rows_apart, load_within, pool_load_within}
 use Rattle.gpu_descriptor.proofs.Freed.{Freed, freed_none, call_out, freed_more, freed_all, less}
 use Rattle.gpu_descriptor.proofs.allocator.DescriptorAllocator.free_from.Goals.{In-Some}
 use Rattle.gpu_descriptor.proofs.allocator.DescriptorAllocator.free_from.Goals as goal
@@ -52,7 +52,7 @@ returns-clause-keeps g c =
       limit = c.loop-ahead.invariant.limit;
       load = load_within _ c.self.view_is c.self.invariant;
       pool_load = pool_load_within _ c.self.view_is c.self.invariant;
-      rows = keys_apart c.loop-ahead.self c.self.inside.buckets.entries (table_is _ c.self.view_is) name _ (λ k l. search rules) c.len-keys.ensures.unique;
+      rows = rows_apart _ c.self.view_is name c.self.invariant;
       foreign = foreign;
       accounted = accounted;
       others = others_stay name c.args.self.now c.loop-ahead.self before after foreign accounted;

@@ -1,9 +1,9 @@
-use Rattle.std.proofs.Common.{ℕ, rules, refl, sym, ap, ◌∙◌}
+use Rattle.std.proofs.Common.{ℕ, refl, sym, ap, ◌∙◌}
 use Rattle.gpu_descriptor.specs.Model.Books.{HasDistinctKeys}
 use Rattle.gpu_descriptor.specs.Caller.States.{outstanding_of, table_of}
 use Rattle.gpu_descriptor.specs.Caller.Values.{Allocations}
 use Rattle.gpu_descriptor.proofs.Loads.{rows_out}
-use Rattle.gpu_descriptor.proofs.Requested.{keys_apart}
+use Rattle.gpu_descriptor.proofs.Requested.{rows_apart}
 use Rattle.gpu_descriptor.proofs.TableSums.{outstanding_of-table}
 use Rattle.gpu_descriptor.proofs.allocator.DescriptorAllocator.outstanding.Goals as goal
 
@@ -11,7 +11,7 @@ pub returns : goal.returns
 returns g c =
     let total = c.self.invariant.is_out ∙ sym (rows_out c.self.inside.buckets.entries) ∙ ap outstanding_of c.self.view_is in
     let was = ap (λ (a : Allocations _). a.table) (sym c.self.view_is) in
-    let rows : (name : g.row.P.Denot → ℕ) → HasDistinctKeys (table_of name c.args.self.now) = λ name. keys_apart c.args.self.now c.self.inside.buckets.entries was name _ (λ k l. search rules) c.len-keys.ensures.unique in
+    let rows : (name : g.row.P.Denot → ℕ) → HasDistinctKeys (table_of name c.args.self.now) = λ name. rows_apart _ c.self.view_is name c.self.invariant in
     record {
       total = total;
       books = λ name. record {

@@ -1,7 +1,7 @@
-use Rattle.std.proofs.Common.{◌≡◌, ◌-◌, rules, refl, sym, ap, ◌∙◌, arith}
+use Rattle.std.proofs.Common.{◌≡◌, ◌-◌, refl, sym, ap, ◌∙◌, arith}
 use Rattle.gpu_descriptor.specs.Caller.States.{pool_load_of, table_of}
 use Rattle.gpu_descriptor.specs.Caller.Values.{Allocations}
-use Rattle.gpu_descriptor.proofs.Requested.{keys_apart, pool_load_of_rows}
+use Rattle.gpu_descriptor.proofs.Requested.{rows_apart, pool_load_of_rows}
 use Rattle.gpu_descriptor.proofs.TableSums.{pool_load_of-table}
 use Rattle.gpu_descriptor.proofs.allocator.DescriptorAllocator.update_after_bind_capacity.Goals as goal
 
@@ -16,7 +16,7 @@ returns g c =
       sum = sum;
       books = λ name. record {
         table = table_of name c.args.self.now;
-        distinct = keys_apart c.args.self.now c.self.inside.buckets.entries was name _ (λ k l. search rules) c.len-keys.ensures.unique;
+        distinct = rows_apart _ c.self.view_is name c.self.invariant;
         keeps = λ k. refl;
         total = sym (pool_load_of-table name c.args.self.now) ∙ sym sum;
       };

@@ -1,8 +1,8 @@
-use Rattle.std.proofs.Common.{◌≤◌, rules, refl, sym, ap, subst, ◌∙◌}
+use Rattle.std.proofs.Common.{◌≤◌, refl, sym, ap, subst, ◌∙◌}
 use Rattle.gpu_descriptor.specs.Caller.States.{marked_load_of, table_of}
 use Rattle.gpu_descriptor.specs.Caller.Values.{Allocations}
 use Rattle.gpu_descriptor.proofs.Loads.{rows_load}
-use Rattle.gpu_descriptor.proofs.Requested.{keys_apart}
+use Rattle.gpu_descriptor.proofs.Requested.{rows_apart}
 use Rattle.gpu_descriptor.proofs.TableSums.{marked_load_of-table}
 use Rattle.gpu_descriptor.proofs.allocator.DescriptorAllocator.update_after_bind_descriptors.Goals as goal
 
@@ -14,7 +14,7 @@ returns g c =
       sum = sum;
       books = λ name. record {
         table = table_of name c.args.self.now;
-        distinct = keys_apart c.args.self.now c.self.inside.buckets.entries was name _ (λ k l. search rules) c.len-keys.ensures.unique;
+        distinct = rows_apart _ c.self.view_is name c.self.invariant;
         keeps = λ k. refl;
         total = sym (marked_load_of-table name c.args.self.now) ∙ sym sum;
       };

@@ -1,6 +1,6 @@
 use Rattle.std.proofs.Common.{◌≡◌, ◌+◌, length}
 use Rattle.gpu_descriptor.specs.Model.Books.{Key}
-use Rattle.gpu_descriptor.specs.Inner.Buckets.{AreBookedIn, settled_bucket, settled_ledger}
+use Rattle.gpu_descriptor.specs.Inner.Buckets.{AreBookedIn, trimmed_bucket, trimmed_ledger}
 use Rattle.gpu_descriptor.specs.Caller.Sets.{key_of}
 use Rattle.gpu_descriptor.specs.Inner.Stored.{bucket_of, stored_load}
 use Rattle.gpu_descriptor.proofs.bucket.DescriptorBucket.drop_front.Given as goal
@@ -12,8 +12,8 @@ invariant-loop-self g l =
     let name = g.D.DescriptorDevice.pool_name in
     record {
       stored : (k : Key) × AreBookedIn k (ledger l.device).pools (bucket_of name l.self).pools;
-      books : settled_bucket (bucket_of name l.self) ≡ settled_bucket (bucket_of name l.fn.self);
-      ledger : settled_ledger (bucket_of name l.self) (ledger l.device) ≡ settled_ledger (bucket_of name l.fn.self) (ledger l.fn.device);
+      books : trimmed_bucket l.fn.keep (bucket_of name l.self) ≡ trimmed_bucket l.fn.keep (bucket_of name l.fn.self);
+      ledger : trimmed_ledger l.fn.keep (bucket_of name l.self) (ledger l.device) ≡ trimmed_ledger l.fn.keep (bucket_of name l.fn.self) (ledger l.fn.device);
       total : l.self.total ≡ l.fn.self.total;
       room : l.room + stored_load (key_of l.fn.key) l.self.pools.items ≡ l.fn.room + stored_load (key_of l.fn.key) l.fn.self.pools.items;
     }

@@ -8,7 +8,7 @@ use Rattle.gpu_descriptor_types.specs.Multiset.{LiveSet, AreIn}
 use Rattle.gpu_descriptor.specs.declared.set.DescriptorSet.{DescriptorSet}
 use Rattle.gpu_descriptor.specs.Model.Agreement.{live_in}
 use Rattle.gpu_descriptor.specs.Model.Books.{Entry}
-use Rattle.gpu_descriptor.specs.Inner.Buckets.{AreBookedIn, settled_bucket, settled_ledger}
+use Rattle.gpu_descriptor.specs.Inner.Buckets.{AreBookedIn, trimmed_bucket, trimmed_ledger}
 use Rattle.gpu_descriptor.specs.Inner.Releases.{IsTakenAt, names_of}
 use Rattle.std.specs.List.Sorted.{IsNonDecreasing}
 use Rattle.gpu_descriptor.specs.Inner.OpenNumbers.{free_in}
@@ -192,9 +192,9 @@ returns-clause-ran g c =
         entry = e;
         above = (c.requires.taken [] c.args.sets.now refl tt).above;
         at = at g r;
-        books = c.drop_front.ensures.books ∙ ap (λ (x : List Entry). settled_bucket (bucket c.args.self.now.offset x)) entries;
-        ledger = c.drop_front.ensures.ledger ∙ ap (λ (x : List Entry). settled_ledger (bucket c.args.self.now.offset x) (g.D.DescriptorDevice.ledger c.dealloc_descriptor_sets.new.self)) entries
-            ∙ ap (λ (l : Ledger). settled_ledger (bucket c.args.self.now.offset (set es place (entry_less (length (names_of g.D.DescriptorDevice.set_name (c.args.first ∷ d.run.xs))) e))) l) (t.ledger ∙ ap (λ (ls : List LiveSet). after_release e.pool ls (g.D.DescriptorDevice.ledger c.args.device.now)) d.sets);
+        books = c.drop_front.ensures.books ∙ ap (λ (x : List Entry). trimmed_bucket 1 (bucket c.args.self.now.offset x)) entries;
+        ledger = c.drop_front.ensures.ledger ∙ ap (λ (x : List Entry). trimmed_ledger 1 (bucket c.args.self.now.offset x) (g.D.DescriptorDevice.ledger c.dealloc_descriptor_sets.new.self)) entries
+            ∙ ap (λ (l : Ledger). trimmed_ledger 1 (bucket c.args.self.now.offset (set es place (entry_less (length (names_of g.D.DescriptorDevice.set_name (c.args.first ∷ d.run.xs))) e))) l) (t.ledger ∙ ap (λ (ls : List LiveSet). after_release e.pool ls (g.D.DescriptorDevice.ledger c.args.device.now)) d.sets);
       };
       total = (let total = c.drop_front.ensures.total in let from = c.from.ensures in let few = less.0 in let sum = c.args.self.now.counted in omega arith);
     }

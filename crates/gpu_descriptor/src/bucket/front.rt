@@ -1,0 +1,42 @@
+//! The front of a bucket: its oldest pools, which go when they have no sets.
+ghost use Rattle.std.specs.Prelude.{◌≡◌, ◌+◌, ◌<◌, ◌^◌};
+ghost use Rattle.gpu_descriptor.specs.Model.Books.{Key};
+ghost use Rattle.gpu_descriptor.specs.Inner.Buckets.{AreBookedIn, trimmed_bucket, trimmed_ledger};
+ghost use Rattle.gpu_descriptor.specs.Caller.Sets.{key_of};
+ghost use Rattle.gpu_descriptor.specs.Inner.Stored.{bucket_of, stored_load};
+
+use super::{DescriptorBucket, descriptors_of_pool};
+use crate::set::BucketKey;
+use gpu_descriptor_types::DescriptorDevice;
+
+impl<P> DescriptorBucket<P> {
+    /// Destroys the pools without sets at the front, but never the last `keep` pools.
+    pub(crate) fn drop_front<L, S, D: DescriptorDevice<L, P, S>>(
+        &mut self,
+        device: &mut D,
+        key: &BucketKey,
+        room: &mut u32,
+        keep: usize,
+    )
+        requires room { room.old + stored_load (key_of key.now) self.old.pools.items < 2 ^ 32 }
+        requires stored { (k : Key)
+            × AreBookedIn k (D.ledger device.old).pools (bucket_of D.pool_name self.old).pools }
+        ensures books { bucket_of D.pool_name self.new
+            ≡ trimmed_bucket keep (bucket_of D.pool_name self.old) }
+        ensures ledger { D.ledger device.new
+            ≡ trimmed_ledger keep (bucket_of D.pool_name self.old) (D.ledger device.old) }
+        ensures total { self.new.total ≡ self.old.total }
+        ensures room { room.new + stored_load (key_of key.now) self.new.pools.items
+            ≡ room.old + stored_load (key_of key.now) self.old.pools.items }
+    {
+        while self.pools.len() > keep && self.pools[0].allocated == 0 {
+            let front = self.pools.pop_front().unwrap();
+            if front.available > 0 {
+                let _number = self.listed.pop_front();
+            }
+            *room += descriptors_of_pool(key, front.capacity);
+            device.destroy_descriptor_pool(front.raw);
+            self.offset += 1;
+        }
+    }
+}
