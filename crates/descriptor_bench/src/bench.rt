@@ -39,8 +39,10 @@ impl Bench {
         layout: &Layout,
         count: u32,
     ) -> Result<Vec<DescriptorSet<u64>>, AllocationError>
-        ensures given { IfOk result (λ sets. AreOutBesides (items_of name_of sets.items) (state_in self.old) (state_in self.new)) }
-        ensures back { IfErr result (λ _. KeepsOutstanding (state_in self.old) (state_in self.new)) }
+        ensures given { IfOk result (λ sets. AreOutBesides (items_of name_of sets.items)
+            (state_in self.old) (state_in self.new)) }
+        ensures back { IfErr result (λ _. KeepsOutstanding (state_in self.old)
+            (state_in self.new)) }
     {
         self.allocator.allocate(
             &mut self.device,
@@ -54,7 +56,8 @@ impl Bench {
     /// Gives sets back.
     pub fn give_back(&mut self, sets: Vec<DescriptorSet<u64>>)
         requires { AreOutstanding (items_of name_of sets.items) (state_in self.old) }
-        ensures { AreOutBesides (items_of name_of sets.items) (state_in self.new) (state_in self.old) }
+        ensures { AreOutBesides (items_of name_of sets.items) (state_in self.new)
+            (state_in self.old) }
     {
         self.allocator.free_all(&mut self.device, sets);
     }

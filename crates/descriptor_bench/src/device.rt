@@ -66,7 +66,8 @@ fn counts_of(mut layouts: Layouts<'_, Layout>) -> DescriptorTotalCount
 fn fill<K: SetSink<u64>>(first: u64, many: u32, sink: &mut K)
     requires names { first + many < 2 ^ 64 }
     requires room { many ≤ K.room_left sink.old }
-    ensures kept { K.kept sink.new ≡ K.kept sink.old ++ map (K.kept_as sink.old) (range_with_len first many) }
+    ensures kept { K.kept sink.new ≡ K.kept sink.old
+        ++ map (K.kept_as sink.old) (range_with_len first many) }
     ensures alike { K.kept_as sink.new ≡ K.kept_as sink.old }
     ensures room { K.room_left sink.new + many ≡ K.room_left sink.old }
 {
@@ -79,7 +80,8 @@ fn fill<K: SetSink<u64>>(first: u64, many: u32, sink: &mut K)
 fn take_each<I: Iterator<Item = u64>>(owed: &mut Owed, pool: u64, sum: &mut u64, sets: &mut I)
     requires can { I.can_next sets.old }
     requires ends { IsFinite (I.remaining sets.old) }
-    ensures { (items : List ℕ) × YieldsThen I.next_gives sets.old items None sets.new × (owed.new.log ≡ record owed.old.log { taken = owed.old.log.taken ++ items }) }
+    ensures { (items : List ℕ) × YieldsThen I.next_gives sets.old items None sets.new
+        × (owed.new.log ≡ record owed.old.log { taken = owed.old.log.taken ++ items }) }
 {
     while let Some(set) = sets.next() {
         *sum = sum.wrapping_add(set ^ pool);
@@ -137,11 +139,23 @@ impl DescriptorDevice<Layout, u64, u64> for CountingDevice {
         layouts: Layouts<'_, Layout>,
         sets: &mut K,
     ) -> Result<(), DeviceAllocationError>
-        requires fits { HasRoom pool.old (left layouts) (counts_in (layout layouts)) (mark_of (layout layouts)) (ledger_of self.old) }
+        requires fits { HasRoom pool.old (left layouts) (counts_in (layout layouts))
+            (mark_of (layout layouts)) (ledger_of self.old) }
         requires room { left layouts ≤ K.room_left sets.old }
         ensures name { pool.new ≡ pool.old }
-        ensures ok { OnOk result (Puts (record { kept = K.kept; kept_as = K.kept_as; room_left = K.room_left }) name_of pool.old (left layouts.entry) (counts_in (layout layouts.entry)) sets.old sets.new (ledger_of self.old) (ledger_of self.new)) }
-        ensures err { IfErr result (λ e. PutsNone (record { kept = K.kept; kept_as = K.kept_as; room_left = K.room_left }) pool.old e sets.old sets.new (ledger_of self.old) (ledger_of self.new)) }
+        ensures ok { OnOk result (Puts (record {
+          kept = K.kept;
+          kept_as = K.kept_as;
+          room_left =
+              K.room_left;
+        }) name_of pool.old (left layouts.entry) (counts_in (layout layouts.entry))
+            sets.old sets.new (ledger_of self.old) (ledger_of self.new)) }
+        ensures err { IfErr result (λ e. PutsNone (record {
+          kept = K.kept;
+          kept_as = K.kept_as;
+          room_left = K.room_left;
+        }) pool.old e sets.old sets.new (ledger_of self.old)
+            (ledger_of self.new)) }
     {
         let many = layouts.len();
         let counts = counts_of(layouts);

@@ -81,9 +81,16 @@ pub fn round_trip<L, P, S: Drop, D: DescriptorDevice<L, P, S>>(
     last_first: bool,
 ) -> Result<(), TripError>
     requires plain { D.layout_mark layout.now ≡ false }
-    requires fits { (k : ℕ) → count * slice_index (D.layout_counts layout.now) k ≤ slice_index (kinds counts.now) k }
+    requires fits { (k : ℕ) → count * slice_index (D.layout_counts layout.now) k
+        ≤ slice_index (kinds counts.now) k }
     ensures pools { (D.ledger device.new).pools ≡ (D.ledger device.old).pools }
-    ensures counters { OnOk result (let n = (D.ledger device.old).counters in (D.ledger device.new).counters ≡ record n { created = n.created + 1; asked = n.asked + 1; released = n.released + 1; destroyed = n.destroyed + 1 }) }
+    ensures counters { OnOk result (let n = (D.ledger device.old).counters in
+        (D.ledger device.new).counters ≡ record n {
+          created = n.created + 1;
+          asked = n.asked + 1;
+          released = n.released + 1;
+          destroyed = n.destroyed + 1;
+        }) }
 {
     let mut sink = match Room::new(alloc, count) {
         Ok(room) => room,

@@ -16,7 +16,8 @@ pub const NO_MEMORY: &str = "refused: no memory\n";
 
 /// The answer of `limit`.
 pub fn limit_answer(answer: &mut String, max: u32) -> Result<(), AllocError>
-    ensures { OnOk result (string_bytes answer.new ≡ string_bytes answer.old ++ limit_answer_of max) }
+    ensures { OnOk result (string_bytes answer.new ≡ string_bytes answer.old
+        ++ limit_answer_of max) }
 {
     writeln!(answer, "limit {max}")
 }
@@ -27,7 +28,8 @@ pub fn layout_answer(
     name: &str,
     counts: &DescriptorTotalCount,
 ) -> Result<(), AllocError>
-    ensures { OnOk result (string_bytes answer.new ≡ string_bytes answer.old ++ layout_answer_of name.now (sum (kinds counts.now))) }
+    ensures { OnOk result (string_bytes answer.new ≡ string_bytes answer.old
+        ++ layout_answer_of name.now (sum (kinds counts.now))) }
 {
     let total = counts.total();
     writeln!(answer, "layout {name} total {total}")
@@ -39,7 +41,8 @@ pub fn size_answer(
     counts: &DescriptorTotalCount,
     sets: u32,
 ) -> Result<(), AllocError>
-    ensures { OnOk result (string_bytes answer.new ≡ string_bytes answer.old ++ size_answer_of sets (kinds counts.now)) }
+    ensures { OnOk result (string_bytes answer.new ≡ string_bytes answer.old
+        ++ size_answer_of sets (kinds counts.now)) }
 {
     write!(answer, "size {sets}")?;
     kinds_answer(answer, &counts.to_array())?;
@@ -48,7 +51,8 @@ pub fn size_answer(
 
 /// The kinds of which the counts are not 0, in the order of the fields.
 fn kinds_answer(answer: &mut String, counts: &[u32; 14]) -> Result<(), AllocError>
-    ensures { OnOk result (string_bytes answer.new ≡ string_bytes answer.old ++ kinds_answer_of counts.now) }
+    ensures { OnOk result (string_bytes answer.new ≡ string_bytes answer.old
+        ++ kinds_answer_of counts.now) }
 {
     for (place, count) in counts.iter().enumerate() {
         kind_answer(answer, kind_name(place), *count)?;
@@ -58,7 +62,8 @@ fn kinds_answer(answer: &mut String, counts: &[u32; 14]) -> Result<(), AllocErro
 
 /// A kind with its count, where that is not 0.
 fn kind_answer(answer: &mut String, name: &str, count: u32) -> Result<(), AllocError>
-    ensures { OnOk result (string_bytes answer.new ≡ string_bytes answer.old ++ kind_answer_of (name.now, count)) }
+    ensures { OnOk result (string_bytes answer.new ≡ string_bytes answer.old
+        ++ kind_answer_of (name.now, count)) }
 {
     if count == 0 {
         return Ok(());
@@ -68,14 +73,16 @@ fn kind_answer(answer: &mut String, name: &str, count: u32) -> Result<(), AllocE
 
 /// The answer of `script`, with the number of its words.
 pub fn script_answer(answer: &mut String, words: usize) -> Result<(), AllocError>
-    ensures { OnOk result (string_bytes answer.new ≡ string_bytes answer.old ++ script_answer_of words) }
+    ensures { OnOk result (string_bytes answer.new ≡ string_bytes answer.old
+        ++ script_answer_of words) }
 {
     writeln!(answer, "script {words}")
 }
 
 /// The line of `show` for a pool of the layout of this name.
 pub fn pool_answer(answer: &mut String, name: &str, pool: &PoolView) -> Result<(), AllocError>
-    ensures { OnOk result (string_bytes answer.new ≡ string_bytes answer.old ++ pool_answer_of name.now pool.now) }
+    ensures { OnOk result (string_bytes answer.new ≡ string_bytes answer.old
+        ++ pool_answer_of name.now pool.now) }
 {
     let PoolView {
         number,
@@ -93,7 +100,8 @@ pub fn device_answer(
     asked: u64,
     released: u64,
 ) -> Result<(), AllocError>
-    ensures { OnOk result (string_bytes answer.new ≡ string_bytes answer.old ++ device_answer_of created destroyed asked released) }
+    ensures { OnOk result (string_bytes answer.new ≡ string_bytes answer.old
+        ++ device_answer_of created destroyed asked released) }
 {
     writeln!(
         answer,
@@ -103,14 +111,16 @@ pub fn device_answer(
 
 /// The line of `show` for the sets that are out, and the descriptors of those that are marked.
 pub fn held_answer(answer: &mut String, held: u64, marked: u32) -> Result<(), AllocError>
-    ensures { OnOk result (string_bytes answer.new ≡ string_bytes answer.old ++ held_answer_of held marked) }
+    ensures { OnOk result (string_bytes answer.new ≡ string_bytes answer.old
+        ++ held_answer_of held marked) }
 {
     writeln!(answer, "held {held} marked {marked}")
 }
 
 /// The last line of the output of a run that ended at a fault. Lines are numbered from 1.
 pub fn fault_line(answer: &mut String, number: u64, fault: Fault) -> Result<(), AllocError>
-    ensures { OnOk result (string_bytes answer.new ≡ string_bytes answer.old ++ fault_line_of number fault) }
+    ensures { OnOk result (string_bytes answer.new ≡ string_bytes answer.old
+        ++ fault_line_of number fault) }
 {
     let words = fault.words();
     writeln!(answer, "line {number}: {words}")

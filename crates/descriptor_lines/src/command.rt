@@ -75,7 +75,8 @@ impl<'a> Command<'a> {
     ) -> Result<Option<Command<'a>>, Refusal>
         requires fresh { IsFalse has_begun → layout_count layouts.now ≡ 0 }
         ensures refusal { IfErr result (IsRefusalOf layouts.now has_begun (words_of line.now)) }
-        ensures command { IfOk result (λ command. IfSome command (IsCommandOf layouts.now (words_of line.now))) }
+        ensures command { IfOk result (λ command. IfSome command
+            (IsCommandOf layouts.now (words_of line.now))) }
         ensures in_time { IfOk result (λ command. IfSome command (IsInTime has_begun)) }
         ensures silent { result ≡ Ok None ↔ IsTrue (is_silent (words_of line.now)) }
         ensures runnable { IfOk result (λ command. IfSome command (IsRunnable layouts.now)) }
@@ -102,7 +103,8 @@ fn parse_words<'a>(
     has_begun: bool,
 ) -> Result<Command<'a>, Refusal>
     requires fresh { IsFalse has_begun → layout_count layouts.now ≡ 0 }
-    ensures refusal { IfErr result (IsRefusalOfWords layouts.now has_begun keyword (words_left words.entry)) }
+    ensures refusal { IfErr result (IsRefusalOfWords layouts.now has_begun keyword
+        (words_left words.entry)) }
     ensures command { IfOk result (GiveCommand layouts.now keyword (words_left words.entry)) }
     ensures in_time { IfOk result (IsInTime has_begun) }
     ensures runnable { IfOk result (IsRunnable layouts.now) }
@@ -136,7 +138,8 @@ fn parse_words<'a>(
 
 /// `limit N`.
 fn parse_limit(mut words: Words<'_>, has_begun: bool) -> Result<u32, Refusal>
-    ensures fault { IfErr result (λ reason. IsFaultAnd reason (IsFaultOfLimit has_begun (words_left words.entry))) }
+    ensures fault { IfErr result (λ reason. IsFaultAnd reason
+        (IsFaultOfLimit has_begun (words_left words.entry))) }
     ensures in_time { OnOk result (IsFalse has_begun) }
     ensures value { IfOk result (IsNumberOf (words_left words.entry)) }
 {
@@ -151,7 +154,8 @@ fn parse_limit(mut words: Words<'_>, has_begun: bool) -> Result<u32, Refusal>
 
 /// `size NAME TOTAL WANTED`.
 fn parse_size<'a>(mut words: Words<'a>, layouts: &Layouts) -> Result<Command<'a>, Refusal>
-    ensures fault { IfErr result (λ reason. IsFaultAnd reason (IsFaultOfSize layouts.now (words_left words.entry))) }
+    ensures fault { IfErr result (λ reason. IsFaultAnd reason
+        (IsFaultOfSize layouts.now (words_left words.entry))) }
     ensures value { IfOk result (GiveCommand layouts.now Keyword.Size (words_left words.entry)) }
     ensures runnable { IfOk result (IsRunnable layouts.now) }
 {
@@ -176,7 +180,8 @@ fn parse_size<'a>(mut words: Words<'a>, layouts: &Layouts) -> Result<Command<'a>
 
 /// `alloc NAME N`.
 fn parse_alloc<'a>(mut words: Words<'a>, layouts: &Layouts) -> Result<Command<'a>, Refusal>
-    ensures fault { IfErr result (λ reason. IsFaultAnd reason (IsFaultOfAlloc layouts.now (words_left words.entry))) }
+    ensures fault { IfErr result (λ reason. IsFaultAnd reason
+        (IsFaultOfAlloc layouts.now (words_left words.entry))) }
     ensures value { IfOk result (GiveCommand layouts.now Keyword.Alloc (words_left words.entry)) }
     ensures runnable { IfOk result (IsRunnable layouts.now) }
 {
@@ -192,7 +197,8 @@ fn parse_alloc<'a>(mut words: Words<'a>, layouts: &Layouts) -> Result<Command<'a
 /// The end of a line whose command has no arguments.
 fn expect_end(mut words: Words<'_>) -> Result<(), Refusal>
     ensures end { OnOk result (words_left words.entry ≡ []) }
-    ensures fault { IfErr result (λ reason. IsFaultAnd reason (IsFaultOfEnd (words_left words.entry))) }
+    ensures fault { IfErr result (λ reason. IsFaultAnd reason
+        (IsFaultOfEnd (words_left words.entry))) }
 {
     if words.next().is_some() {
         return Err(Refusal::Fault(Fault::BadWordCount));

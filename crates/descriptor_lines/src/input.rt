@@ -82,11 +82,16 @@ impl LineBuffer {
             IfSome (unread self.old (R.remaining input.old)) (λ bytes. bytes_at self.new span ≡ before_end bytes))) }
         ensures rest { IfOk result (λ span. IfSome span (λ _.
             LosesLine (unread self.old (R.remaining input.old)) (unread self.new (R.remaining input.new)))) }
-        ensures none { IfOk result (λ span. IfNone span (IsAtEnd (unread self.old (R.remaining input.old)))) }
-        ensures end { IfOk result (λ span. IfNone span (SeesEndOf self.old (R.remaining input.old) → IsAtEnd (R.remaining input.new))) }
-        ensures kept { OnErr result (Keeps (unread self.old (R.remaining input.old)) (unread self.new (R.remaining input.new))) }
-        ensures too_long { result ≡ Err InputFault.LineTooLong → BeginsTooLong (unread self.old (R.remaining input.old)) }
-        ensures sees { SeesEndOf self.old (R.remaining input.old) → SeesEndOf self.new (R.remaining input.new) }
+        ensures none { IfOk result (λ span. IfNone span
+            (IsAtEnd (unread self.old (R.remaining input.old)))) }
+        ensures end { IfOk result (λ span. IfNone span (SeesEndOf self.old (R.remaining input.old)
+            → IsAtEnd (R.remaining input.new))) }
+        ensures kept { OnErr result (Keeps (unread self.old (R.remaining input.old))
+            (unread self.new (R.remaining input.new))) }
+        ensures too_long { result ≡ Err InputFault.LineTooLong
+            → BeginsTooLong (unread self.old (R.remaining input.old)) }
+        ensures sees { SeesEndOf self.old (R.remaining input.old)
+            → SeesEndOf self.new (R.remaining input.new) }
     {
         loop {
             if let Some(span) = self.take_line()? {
@@ -112,8 +117,10 @@ impl LineBuffer {
     fn take_line(&mut self) -> Result<Option<Span>, InputFault>
         ensures short { IfOk result (λ span. IfSome span (λ span. span.end - span.start ≤ 4096)) }
         ensures found { IfOk result (λ span. IfSome span (λ _. HasEnd (buffered self.old))) }
-        ensures line { IfOk result (λ span. IfSome span (λ span. bytes_at self.new span ≡ before_end (buffered self.old))) }
-        ensures rest { IfOk result (λ span. IfSome span (λ _. buffered self.new ≡ after_end (buffered self.old))) }
+        ensures line { IfOk result (λ span. IfSome span (λ span. bytes_at self.new span
+            ≡ before_end (buffered self.old))) }
+        ensures rest { IfOk result (λ span. IfSome span (λ _. buffered self.new
+            ≡ after_end (buffered self.old))) }
         ensures none { IfOk result (λ span. IfNone span (HasNoEnd (buffered self.old))) }
         ensures kept { IfOk result (λ span. IfNone span (buffered self.new ≡ buffered self.old)) }
         ensures few { IfOk result (λ span. IfNone span (self.new.end - self.new.start ≤ 4096)) }
@@ -142,7 +149,8 @@ impl LineBuffer {
     /// The bytes, in which no line ends, as a last line, where there are some.
     fn take_rest(&mut self) -> Option<Span>
         requires { HasNoEnd (buffered self.old) }
-        ensures whole { IfSome result (λ span. span.end - span.start ≡ self.old.end - self.old.start) }
+        ensures whole { IfSome result (λ span. span.end - span.start
+            ≡ self.old.end - self.old.start) }
         ensures some { IfSome result (λ _. 0 < length (buffered self.old)) }
         ensures line { IfSome result (λ span. bytes_at self.new span ≡ buffered self.old) }
         ensures none { IfNone result (buffered self.old ≡ []) }
@@ -164,7 +172,8 @@ impl LineBuffer {
         requires open { IsFalse self.old.is_at_end }
         ensures counted { OnOk result (self.new.reads_left + 1 ≡ self.old.reads_left) }
         ensures fault { IfErr result (λ fault. fault ≡ InputFault.Read) }
-        ensures kept { Keeps (unread self.old (R.remaining input.old)) (unread self.new (R.remaining input.new)) }
+        ensures kept { Keeps (unread self.old (R.remaining input.old))
+            (unread self.new (R.remaining input.new)) }
         ensures sees { SeesEndOf self.new (R.remaining input.new) }
     {
         self.reads_left = self.reads_left.checked_sub(1).ok_or(InputFault::Read)?;

@@ -61,7 +61,8 @@ impl Layouts {
     pub fn place(&self, name: &str) -> Option<usize>
         ensures found { is_some result ≡ is_some (layout_named self.now name.now) }
         ensures within { IfSome result (λ place. place < layout_count self.now) }
-        ensures layout { IfSome result (λ place. layout_at self.now place ≡ layout_named self.now name.now) }
+        ensures layout { IfSome result (λ place. layout_at self.now place
+            ≡ layout_named self.now name.now) }
     {
         self.by_name.get_index_of(name)
     }
@@ -102,7 +103,8 @@ impl Layouts {
     pub fn push(&mut self, name: String, layout: Layout)
         requires room { HasRoom self.old }
         requires absent { layout_named self.old (string_bytes name) ≡ None }
-        ensures layouts { layouts_in self.new ≡ layouts_in self.old ++ (string_bytes name, layout) ∷ [] }
+        ensures layouts { layouts_in self.new ≡ layouts_in self.old ++ (string_bytes name, layout)
+            ∷ [] }
         ensures first { TellsFirst layout self.old self.new }
     {
         let is_first = self.is_new(&layout);

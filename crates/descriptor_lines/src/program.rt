@@ -59,10 +59,13 @@ impl Program {
         ensures ready { CanRun self.new }
         ensures does { OnOk result (DoesLine (words line.now) self.old self.new) }
         ensures err { OnErr result (IsUnchanged self.old self.new) }
-        ensures begun { self.new.has_begun ≡ (self.old.has_begun || not (is_silent (words line.now))) }
+        ensures begun { self.new.has_begun ≡ (self.old.has_begun || not
+            (is_silent (words line.now))) }
         ensures faulty { IfErr result (λ reason. IfFault reason (λ _. self.new ≡ begun self.old)) }
-        ensures own { IfErr result (λ reason. IfFault reason (λ _. IsRefusalOf self.old.layouts self.old.has_begun (words line.now) reason)) }
-        ensures quiet { IsTrue (is_silent (words line.now)) → string_bytes answer.new ≡ string_bytes answer.old }
+        ensures own { IfErr result (λ reason. IfFault reason (λ _. IsRefusalOf self.old.layouts
+            self.old.has_begun (words line.now) reason)) }
+        ensures quiet { IsTrue (is_silent (words line.now)) → string_bytes answer.new
+            ≡ string_bytes answer.old }
     {
         match Command::parse(self.alloc, line, &self.layouts, self.has_begun) {
             Ok(None) => Ok(()),
@@ -91,7 +94,8 @@ fn run_to_end<R: Read, W: Write>(
     requires open { IsFalse lines.old.is_at_end }
     requires reads { lines.old.reads_left ≡ 100000000 }
     ensures done { result ≡ Exit.Done → IsAtEnd (R.remaining input.new) }
-    ensures bad_line { result ≡ Exit.BadLine → EndsInFault (W.contents output.old) (W.contents output.new) }
+    ensures bad_line { result ≡ Exit.BadLine → EndsInFault (W.contents output.old)
+        (W.contents output.new) }
     ensures memory { result ≢ Exit.NoMemory }
 {
     for number in 1..=u64::MAX {
@@ -113,8 +117,10 @@ fn run_to_end<R: Read, W: Write>(
 /// after 100000000 read calls.
 pub fn run_lines<R: Read, W: Write>(alloc: Global, input: &mut R, output: &mut W) -> Exit
     ensures done { result ≡ Exit.Done → IsAtEnd (R.remaining input.new) }
-    ensures bad_line { result ≡ Exit.BadLine → EndsInFault (W.contents output.old) (W.contents output.new) }
-    ensures no_memory { result ≡ Exit.NoMemory → Keeps (W.contents output.old) (W.contents output.new) }
+    ensures bad_line { result ≡ Exit.BadLine → EndsInFault (W.contents output.old)
+        (W.contents output.new) }
+    ensures no_memory { result ≡ Exit.NoMemory → Keeps (W.contents output.old)
+        (W.contents output.new) }
 {
     let Ok(mut lines) = LineBuffer::new(alloc, MAX_READS) else {
         return Exit::NoMemory;

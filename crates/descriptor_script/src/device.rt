@@ -114,8 +114,10 @@ impl DescriptorDevice<ScriptLayout, RawPool, RawSet> for ScriptedDevice {
         flags: DescriptorPoolCreateFlags,
     ) -> Result<RawPool, CreatePoolError>
         ensures new_name { IfOk result (λ pool. (ledger_of self.old).pools (pool_id pool) ≡ None) }
-        ensures ok { IfOk result (λ pool. ledger_of self.new ≡ after_create (kinds counts.now) max_sets (bits flags) (pool_id pool) (ledger_of self.old)) }
-        ensures err { IfErr result (λ e. ledger_of self.new ≡ after_no_create e (ledger_of self.old)) }
+        ensures ok { IfOk result (λ pool. ledger_of self.new ≡ after_create (kinds counts.now)
+            max_sets (bits flags) (pool_id pool) (ledger_of self.old)) }
+        ensures err { IfErr result (λ e. ledger_of self.new
+            ≡ after_no_create e (ledger_of self.old)) }
 
         // One word is read, and decides.
         ensures rest { script_of self.new ≡ rest_words (script_of self.old) }
@@ -125,7 +127,8 @@ impl DescriptorDevice<ScriptLayout, RawPool, RawSet> for ScriptedDevice {
         // The pool has the next name.
         ensures next_name { IfOk result (λ pool. pool_id pool ≡ (names_given self.old).pools) }
         ensures in_range { IfOk result (λ pool. pool_id pool < 2 ^ 64 - 1) }
-        ensures named { OnOk result (names_given self.new ≡ record (names_given self.old) { pools = (names_given self.old).pools + 1 }) }
+        ensures named { OnOk result (names_given self.new ≡ record (names_given self.old)
+            { pools = (names_given self.old).pools + 1 }) }
         ensures unnamed { OnErr result (names_given self.new ≡ names_given self.old) }
     {
         let word = self.script.read();
@@ -156,11 +159,24 @@ impl DescriptorDevice<ScriptLayout, RawPool, RawSet> for ScriptedDevice {
         layouts: Layouts<'_, ScriptLayout>,
         sets: &mut K,
     ) -> Result<(), DeviceAllocationError>
-        requires fits { HasRoom (pool_id pool.old) (left layouts) (kinds (layout layouts).counts) (layout layouts).mark (ledger_of self.old) }
+        requires fits { HasRoom (pool_id pool.old) (left layouts) (kinds (layout layouts).counts)
+            (layout layouts).mark (ledger_of self.old) }
         requires room { left layouts ≤ K.room_left sets.old }
         ensures name { pool_id pool.new ≡ pool_id pool.old }
-        ensures ok { OnOk result (Puts (record { kept = K.kept; kept_as = K.kept_as; room_left = K.room_left }) set_id (pool_id pool.old) (left layouts.entry) (kinds (layout layouts.entry).counts) sets.old sets.new (ledger_of self.old) (ledger_of self.new)) }
-        ensures err { IfErr result (λ e. PutsNone (record { kept = K.kept; kept_as = K.kept_as; room_left = K.room_left }) (pool_id pool.old) e sets.old sets.new (ledger_of self.old) (ledger_of self.new)) }
+        ensures ok { OnOk result (Puts (record {
+          kept = K.kept;
+          kept_as = K.kept_as;
+          room_left =
+              K.room_left;
+        }) set_id (pool_id pool.old) (left layouts.entry)
+            (kinds (layout layouts.entry).counts) sets.old sets.new (ledger_of self.old)
+            (ledger_of self.new)) }
+        ensures err { IfErr result (λ e. PutsNone (record {
+          kept = K.kept;
+          kept_as = K.kept_as;
+          room_left = K.room_left;
+        }) (pool_id pool.old) e sets.old sets.new (ledger_of self.old)
+            (ledger_of self.new)) }
 
         // One word is read, and decides.
         ensures rest { script_of self.new ≡ rest_words (script_of self.old) }
@@ -168,9 +184,12 @@ impl DescriptorDevice<ScriptLayout, RawPool, RawSet> for ScriptedDevice {
         ensures refused { IfErr result (λ e. e ≡ alloc_error (next_word (script_of self.old))) }
 
         // The sets have the next names, and name their pool.
-        ensures sets { OnOk result (K.kept sets.new ≡ K.kept sets.old ++ map (K.kept_as sets.old) (raw_sets (pool_id pool.old) (names_given self.old).sets (left layouts.entry))) }
+        ensures sets { OnOk result (K.kept sets.new ≡ K.kept sets.old
+            ++ map (K.kept_as sets.old) (raw_sets (pool_id pool.old) (names_given self.old).sets
+            (left layouts.entry))) }
         ensures in_range { OnOk result ((names_given self.old).sets + left layouts.entry < 2 ^ 64) }
-        ensures named { OnOk result (names_given self.new ≡ record (names_given self.old) { sets = (names_given self.old).sets + left layouts.entry }) }
+        ensures named { OnOk result (names_given self.new ≡ record (names_given self.old)
+            { sets = (names_given self.old).sets + left layouts.entry }) }
         ensures unnamed { OnErr result (names_given self.new ≡ names_given self.old) }
     {
         let word = self.script.read();
@@ -193,9 +212,11 @@ impl DescriptorDevice<ScriptLayout, RawPool, RawSet> for ScriptedDevice {
     )
         requires can { I.can_next sets.old }
         requires ends { IsFinite (I.remaining sets.old) }
-        requires live { HoldsAlong I.next_gives sets.old (λ xs. AreLive (pool_id pool.old) (map set_id xs) (ledger_of self.old)) }
+        requires live { HoldsAlong I.next_gives sets.old
+            (λ xs. AreLive (pool_id pool.old) (map set_id xs) (ledger_of self.old)) }
         ensures name { pool_id pool.new ≡ pool_id pool.old }
-        ensures released { Releases I.next_gives set_id (pool_id pool.old) sets.old sets.new (ledger_of self.old) (ledger_of self.new) }
+        ensures released { Releases I.next_gives set_id (pool_id pool.old) sets.old sets.new
+            (ledger_of self.old) (ledger_of self.new) }
         ensures script { script_of self.new ≡ script_of self.old }
         ensures names { names_given self.new ≡ names_given self.old }
     {

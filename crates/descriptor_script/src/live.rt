@@ -39,9 +39,11 @@ pub fn fill<K: SetSink<RawSet>>(
     requires names { first + left layouts < 2 ^ 64 }
     requires fresh { (n : ℕ) → first ≤ n → get nat_eq live.old n ≡ None }
     requires room { left layouts ≤ K.room_left sink.old }
-    ensures live { live.new.entries ≡ live.old.entries ++ entries_named (layout layouts.entry).counts (range_with_len first (left layouts.entry)) }
+    ensures live { live.new.entries ≡ live.old.entries
+        ++ entries_named (layout layouts.entry).counts (range_with_len first (left layouts.entry)) }
     ensures fresh { (n : ℕ) → first + left layouts.entry ≤ n → get nat_eq live.new n ≡ None }
-    ensures sets { K.kept sink.new ≡ K.kept sink.old ++ map (K.kept_as sink.old) (raw_sets pool first (left layouts.entry)) }
+    ensures sets { K.kept sink.new ≡ K.kept sink.old
+        ++ map (K.kept_as sink.old) (raw_sets pool first (left layouts.entry)) }
     ensures alike { K.kept_as sink.new ≡ K.kept_as sink.old }
     ensures room { K.room_left sink.new + left layouts.entry ≡ K.room_left sink.old }
 {
@@ -57,8 +59,10 @@ pub fn fill<K: SetSink<RawSet>>(
 pub fn take_back<I: Iterator<Item = RawSet>>(live: &mut LiveSets, sets: &mut I)
     requires can { I.can_next sets.old }
     requires ends { IsFinite (I.remaining sets.old) }
-    requires live { HoldsAlong I.next_gives sets.old (λ xs. HasNamed (map set_id xs) (live_sets_of live.old.entries)) }
-    ensures back { TakesBack I.next_gives sets.old sets.new (live_sets_of live.old.entries) (live_sets_of live.new.entries) }
+    requires live { HoldsAlong I.next_gives sets.old
+        (λ xs. HasNamed (map set_id xs) (live_sets_of live.old.entries)) }
+    ensures back { TakesBack I.next_gives sets.old sets.new (live_sets_of live.old.entries)
+        (live_sets_of live.new.entries) }
     ensures fresh { (n : ℕ) → get nat_eq live.old n ≡ None → get nat_eq live.new n ≡ None }
 {
     while let Some(set) = sets.next() {

@@ -57,8 +57,10 @@ impl Pools {
         ensures name { IfOk result (λ name. name ≡ (names_of self.old).pools) }
         ensures in_range { IfOk result (λ name. name < 2 ^ 64 - 1) }
         ensures new_name { IfOk result (λ name. pools_of self.old name ≡ None) }
-        ensures ok { IfOk result (λ name. pools_of self.new ≡ update nat_eq (pools_of self.old) name (Some (fresh_pool (kinds counts.now) max_sets (bits flags)))) }
-        ensures names { OnOk result (names_of self.new ≡ record (names_of self.old) { pools = (names_of self.old).pools + 1 }) }
+        ensures ok { IfOk result (λ name. pools_of self.new ≡ update nat_eq (pools_of self.old) name
+            (Some (fresh_pool (kinds counts.now) max_sets (bits flags)))) }
+        ensures names { OnOk result (names_of self.new ≡ record (names_of self.old)
+            { pools = (names_of self.old).pools + 1 }) }
         ensures err { OnErr result (IsSame self.old self.new) }
     {
         let name = self.next_pool;
@@ -101,7 +103,8 @@ impl Pools {
 
     /// Counts an alloc that was refused, if it was the pool that refused.
     pub fn refuse(&mut self, pool: u64, error: DeviceAllocationError)
-        ensures pools { pools_of self.new ≡ on_pool pool (λ p. record p { refusals = p.refusals + pool_refusals error }) (pools_of self.old) }
+        ensures pools { pools_of self.new ≡ on_pool pool
+            (λ p. record p { refusals = p.refusals + pool_refusals error }) (pools_of self.old) }
         ensures names { names_of self.new ≡ names_of self.old }
     {
         match error {
@@ -113,7 +116,8 @@ impl Pools {
     }
 
     fn count_refusal(&mut self, pool: u64)
-        ensures pools { pools_of self.new ≡ on_pool pool (λ p. record p { refusals = p.refusals + 1 }) (pools_of self.old) }
+        ensures pools { pools_of self.new ≡ on_pool pool
+            (λ p. record p { refusals = p.refusals + 1 }) (pools_of self.old) }
         ensures names { names_of self.new ≡ names_of self.old }
     {
         if let Some(live) = self.live.get_mut(&pool) {
@@ -130,10 +134,18 @@ impl Pools {
     ) -> Result<(), Wanting>
         requires live { IsSome (pools_of self.old pool) }
         requires room { left layouts ≤ K.room_left sink.old }
-        ensures ok { OnOk result (Grants (record { kept = K.kept; kept_as = K.kept_as; room_left = K.room_left }) pool (left layouts.entry) (kinds (layout layouts.entry).counts) sink.old sink.new self.old self.new) }
+        ensures ok { OnOk result (Grants (record {
+          kept = K.kept;
+          kept_as = K.kept_as;
+          room_left =
+              K.room_left;
+        }) pool (left layouts.entry) (kinds (layout layouts.entry).counts) sink.old
+            sink.new self.old self.new) }
         ensures in_range { OnOk result ((names_of self.old).sets + left layouts.entry < 2 ^ 64) }
         ensures err { OnErr result (IsSame self.old self.new) }
-        ensures err_sink { OnErr result (IsSameSink (record { kept = K.kept; kept_as = K.kept_as; room_left = K.room_left }) sink.old sink.new) }
+        ensures err_sink { OnErr result (IsSameSink
+            (record { kept = K.kept; kept_as = K.kept_as; room_left = K.room_left }) sink.old
+            sink.new) }
     {
         let first = self.next_set;
         let count = layouts.len();
@@ -155,7 +167,8 @@ impl Pools {
     pub fn release<I: Iterator<Item = RawSet>>(&mut self, pool: u64, sets: &mut I)
         requires can { I.can_next sets.old }
         requires ends { IsFinite (I.remaining sets.old) }
-        requires live { HoldsAlong I.next_gives sets.old (λ xs. AreNamed pool (map set_id xs) (pools_of self.old)) }
+        requires live { HoldsAlong I.next_gives sets.old (λ xs. AreNamed pool (map set_id xs)
+            (pools_of self.old)) }
         ensures released { GivesBack I.next_gives pool sets.old sets.new self.old self.new }
         ensures names { names_of self.new ≡ names_of self.old }
     {

@@ -41,7 +41,12 @@ impl<L, P, S> Session<L, P, S> {
     /// A session without layouts and sets, whose allocator has this limit on update-after-bind
     /// descriptors. It takes no memory.
     pub fn new(alloc: Global, max: u32) -> Self
-        ensures allocator { allocator_of result ≡ record { limit = max; table = []; looks = 0; comparisons = 0 } }
+        ensures allocator { allocator_of result ≡ record {
+          limit = max;
+          table = [];
+          looks = 0;
+          comparisons = 0;
+        } }
         ensures layouts { layouts_of result ≡ [] }
         ensures sets { sets_of result ≡ [] }
     {
@@ -60,7 +65,8 @@ impl<L, P, S> Session<L, P, S> {
         flags: DescriptorSetLayoutCreateFlags,
     ) -> Result<usize, L>
         ensures place { IfOk result (λ place. place ≡ length (layouts_of self.old)) }
-        ensures last { OnOk result (layouts_of self.new ≡ layouts_of self.old ++ known layout counts flags ∷ []) }
+        ensures last { OnOk result (layouts_of self.new ≡ layouts_of self.old
+            ++ known layout counts flags ∷ []) }
         ensures back { IfErr result (λ l. l ≡ layout) }
         ensures layouts { OnErr result (layouts_of self.new ≡ layouts_of self.old) }
         ensures allocator { allocator_of self.new ≡ allocator_of self.old }

@@ -21,11 +21,13 @@ pub fn visit<L, P: Drop, S: Drop, D: DescriptorDevice<L, P, S>>(
     commands: &[Command],
 ) -> Result<Vec<Reply>, AllocError>
     requires began { (allocator_of session.old).table ≡ [] }
-    requires held { AreAllHeld D.set_name (sets_of session.old) (state_of D.pool_name (allocator_of session.old) (D.ledger device.old)) }
+    requires held { AreAllHeld D.set_name (sets_of session.old)
+        (state_of D.pool_name (allocator_of session.old) (D.ledger device.old)) }
     requires meant { AreMeant D.layout_counts D.layout_mark (layouts_of session.old) }
     ensures runs { IfOk result (λ replies. VisitsTo D.pool_name D.set_name D.layout_counts D.layout_mark
         commands.now replies.items session.old session.new (D.ledger device.old) (D.ledger device.new)) }
-    ensures pools { held_sets (sets_of session.new) ≡ [] → (D.ledger device.new).pools ≡ (D.ledger device.old).pools }
+    ensures pools { held_sets (sets_of session.new) ≡ [] → (D.ledger device.new).pools
+        ≡ (D.ledger device.old).pools }
     ensures agree { Agrees D.pool_name (allocator_of session.new) (D.ledger device.new) }
 {
     laws::books_alone();

@@ -117,24 +117,30 @@ impl DescriptorDevice<ScriptLayout, RawPool, RawSet> for LogDevice {
         max_sets: u32,
         flags: DescriptorPoolCreateFlags,
     ) -> Result<RawPool, CreatePoolError>
-        ensures new_name { IfOk result (λ pool. (ledger_logged self.old).pools (pool_id pool) ≡ None) }
-        ensures ok { IfOk result (λ pool. ledger_logged self.new ≡ after_create (kinds counts.now) max_sets (bits flags) (pool_id pool) (ledger_logged self.old)) }
-        ensures err { IfErr result (λ e. ledger_logged self.new ≡ after_no_create e (ledger_logged self.old)) }
+        ensures new_name { IfOk result (λ pool. (ledger_logged self.old).pools (pool_id pool)
+            ≡ None) }
+        ensures ok { IfOk result (λ pool. ledger_logged self.new ≡ after_create (kinds counts.now)
+            max_sets (bits flags) (pool_id pool) (ledger_logged self.old)) }
+        ensures err { IfErr result (λ e. ledger_logged self.new
+            ≡ after_no_create e (ledger_logged self.old)) }
 
         // One word is read, and decides.
         ensures granted { OnOk result (next_word (script_logged self.old) ≡ Answer.Ok) }
         ensures rest { OnOk result (script_logged self.new ≡ rest_words (script_logged self.old)) }
-        ensures refused { IfErr result (λ e. IsRefused create_error CreatePoolError.OutOfHostMemory e (script_logged self.old) (script_logged self.new)) }
+        ensures refused { IfErr result (λ e. IsRefused create_error CreatePoolError.OutOfHostMemory
+            e (script_logged self.old) (script_logged self.new)) }
 
         // Where no word is left only memory or names can be wanting.
-        ensures at_end { script_logged self.old ≡ [] → IfErr result (λ e. e ≡ CreatePoolError.OutOfHostMemory) }
+        ensures at_end { script_logged self.old ≡ []
+            → IfErr result (λ e. e ≡ CreatePoolError.OutOfHostMemory) }
 
         // The pool has the next name.
         ensures next_name { IfOk result (λ pool. pool_id pool ≡ next_pool self.old) }
         ensures named { OnOk result (next_pool self.new ≡ next_pool self.old + 1) }
         ensures unnamed { OnErr result (next_pool self.new ≡ next_pool self.old) }
 
-        ensures listed { IfOk result (λ pool. calls_of self.new ≡ calls_of self.old ++ Call.Create (pool_id pool) ∷ []) }
+        ensures listed { IfOk result (λ pool. calls_of self.new ≡ calls_of self.old
+            ++ Call.Create (pool_id pool) ∷ []) }
         ensures unlisted { OnErr result (calls_of self.new ≡ calls_of self.old) }
     {
         if !self.log.reserve(2) {
@@ -153,7 +159,8 @@ impl DescriptorDevice<ScriptLayout, RawPool, RawSet> for LogDevice {
 
     fn destroy_descriptor_pool(&mut self, pool: RawPool)
         requires { HasNoSets (pool_id pool) (ledger_logged self.old) }
-        ensures ledger { ledger_logged self.new ≡ after_destroy (pool_id pool) (ledger_logged self.old) }
+        ensures ledger { ledger_logged self.new ≡ after_destroy (pool_id pool)
+            (ledger_logged self.old) }
         ensures script { script_logged self.new ≡ script_logged self.old }
         ensures next_pool { next_pool self.new ≡ next_pool self.old }
         ensures listed { calls_of self.new ≡ calls_of self.old ++ Call.Destroy (pool_id pool) ∷ [] }
@@ -169,22 +176,39 @@ impl DescriptorDevice<ScriptLayout, RawPool, RawSet> for LogDevice {
         layouts: Layouts<'_, ScriptLayout>,
         sets: &mut K,
     ) -> Result<(), DeviceAllocationError>
-        requires fits { HasRoom (pool_id pool.old) (left layouts) (kinds (layout layouts).counts) (layout layouts).mark (ledger_logged self.old) }
+        requires fits { HasRoom (pool_id pool.old) (left layouts) (kinds (layout layouts).counts)
+            (layout layouts).mark (ledger_logged self.old) }
         requires room { left layouts ≤ K.room_left sets.old }
         ensures name { pool_id pool.new ≡ pool_id pool.old }
-        ensures ok { OnOk result (Puts (record { kept = K.kept; kept_as = K.kept_as; room_left = K.room_left }) set_id (pool_id pool.old) (left layouts.entry) (kinds (layout layouts.entry).counts) sets.old sets.new (ledger_logged self.old) (ledger_logged self.new)) }
-        ensures err { IfErr result (λ e. PutsNone (record { kept = K.kept; kept_as = K.kept_as; room_left = K.room_left }) (pool_id pool.old) e sets.old sets.new (ledger_logged self.old) (ledger_logged self.new)) }
+        ensures ok { OnOk result (Puts (record {
+          kept = K.kept;
+          kept_as = K.kept_as;
+          room_left =
+              K.room_left;
+        }) set_id (pool_id pool.old) (left layouts.entry)
+            (kinds (layout layouts.entry).counts) sets.old sets.new (ledger_logged self.old)
+            (ledger_logged self.new)) }
+        ensures err { IfErr result (λ e. PutsNone (record {
+          kept = K.kept;
+          kept_as = K.kept_as;
+          room_left = K.room_left;
+        }) (pool_id pool.old) e sets.old sets.new
+            (ledger_logged self.old) (ledger_logged self.new)) }
 
         // One word is read, and decides.
         ensures granted { OnOk result (next_word (script_logged self.old) ≡ Answer.Ok) }
         ensures rest { OnOk result (script_logged self.new ≡ rest_words (script_logged self.old)) }
-        ensures refused { IfErr result (λ e. IsRefused alloc_error DeviceAllocationError.OutOfHostMemory e (script_logged self.old) (script_logged self.new)) }
+        ensures refused { IfErr result (λ e. IsRefused alloc_error
+            DeviceAllocationError.OutOfHostMemory e (script_logged self.old)
+            (script_logged self.new)) }
 
         // Where no word is left only memory or names can be wanting.
-        ensures at_end { script_logged self.old ≡ [] → IfErr result (λ e. e ≡ DeviceAllocationError.OutOfHostMemory) }
+        ensures at_end { script_logged self.old ≡ []
+            → IfErr result (λ e. e ≡ DeviceAllocationError.OutOfHostMemory) }
 
         ensures next_pool { next_pool self.new ≡ next_pool self.old }
-        ensures listed { OnOk result (calls_of self.new ≡ calls_of self.old ++ Call.Alloc (pool_id pool.old) (left layouts.entry) ∷ []) }
+        ensures listed { OnOk result (calls_of self.new ≡ calls_of self.old
+            ++ Call.Alloc (pool_id pool.old) (left layouts.entry) ∷ []) }
         ensures unlisted { OnErr result (calls_of self.new ≡ calls_of self.old) }
     {
         let count = layouts.len();
@@ -213,12 +237,15 @@ impl DescriptorDevice<ScriptLayout, RawPool, RawSet> for LogDevice {
     )
         requires can { I.can_next sets.old }
         requires ends { IsFinite (I.remaining sets.old) }
-        requires live { HoldsAlong I.next_gives sets.old (λ xs. AreLive (pool_id pool.old) (map set_id xs) (ledger_logged self.old)) }
+        requires live { HoldsAlong I.next_gives sets.old
+            (λ xs. AreLive (pool_id pool.old) (map set_id xs) (ledger_logged self.old)) }
         ensures name { pool_id pool.new ≡ pool_id pool.old }
-        ensures released { Releases I.next_gives set_id (pool_id pool.old) sets.old sets.new (ledger_logged self.old) (ledger_logged self.new) }
+        ensures released { Releases I.next_gives set_id (pool_id pool.old) sets.old sets.new
+            (ledger_logged self.old) (ledger_logged self.new) }
         ensures script { script_logged self.new ≡ script_logged self.old }
         ensures next_pool { next_pool self.new ≡ next_pool self.old }
-        ensures listed { ListsRelease I.next_gives (pool_id pool.old) sets.old sets.new (calls_of self.old) (calls_of self.new) }
+        ensures listed { ListsRelease I.next_gives (pool_id pool.old) sets.old sets.new
+            (calls_of self.old) (calls_of self.new) }
     {
         let released = release(&mut self.device, pool, sets);
         if released > 0 {
@@ -239,9 +266,11 @@ fn release<I: Iterator<Item = RawSet>>(
 ) -> usize
     requires can { I.can_next sets.old }
     requires ends { IsFinite (I.remaining sets.old) }
-    requires live { HoldsAlong I.next_gives sets.old (λ xs. AreLive (pool_id pool.old) (map set_id xs) (ledger_of device.old)) }
+    requires live { HoldsAlong I.next_gives sets.old
+        (λ xs. AreLive (pool_id pool.old) (map set_id xs) (ledger_of device.old)) }
     ensures name { pool_id pool.new ≡ pool_id pool.old }
-    ensures released { ReleasesMany I.next_gives set_id (pool_id pool.old) result sets.old sets.new (ledger_of device.old) (ledger_of device.new) }
+    ensures released { ReleasesMany I.next_gives set_id (pool_id pool.old) result sets.old sets.new
+        (ledger_of device.old) (ledger_of device.new) }
     ensures script { script_of device.new ≡ script_of device.old }
     ensures names { names_given device.new ≡ names_given device.old }
 {

@@ -25,9 +25,11 @@ struct Span {
 ///
 /// The fault is that of the first word that is wrong, or with which the tickets are too many.
 pub fn parse_free(alloc: Global, words: Words<'_>) -> Result<Vec<usize>, Refusal>
-    ensures fault { IfErr result (λ reason. IfFault reason (IsFaultOfFree (words_left words.entry))) }
+    ensures fault { IfErr result (λ reason. IfFault reason
+        (IsFaultOfFree (words_left words.entry))) }
     ensures accepted { OnOk result (AreTickets (words_left words.entry)) }
-    ensures tickets { IfOk result (λ tickets. tickets.items ≡ flat_map tickets_of (words_left words.entry)) }
+    ensures tickets { IfOk result (λ tickets. tickets.items
+        ≡ flat_map tickets_of (words_left words.entry)) }
     ensures few { IfOk result (λ tickets. vec_len tickets ≤ 1000000) }
 {
     let mut tickets = Vec::new(alloc);
@@ -74,9 +76,12 @@ fn parse_ticket(word: &[u8]) -> Result<usize, Fault>
 /// Puts the tickets behind the others. A fault comes before any of them is written.
 fn add_tickets(tickets: &mut Vec<usize>, span: Span) -> Result<(), Refusal>
     requires { vec_len tickets.old ≤ 1000000 }
-    ensures fault { IfErr result (λ reason. IfFault reason (λ fault. fault ≡ Fault.TooManyTickets)) }
-    ensures too_many { result ≡ Err (faulty Fault.TooManyTickets) ↔ (1000000 < vec_len tickets.old + span_length span.first span.last) }
-    ensures added { OnOk result (tickets.new.items ≡ tickets.old.items ++ tickets_between span.first span.last) }
+    ensures fault { IfErr result (λ reason. IfFault reason (λ fault. fault
+        ≡ Fault.TooManyTickets)) }
+    ensures too_many { result ≡ Err (faulty Fault.TooManyTickets)
+        ↔ (1000000 < vec_len tickets.old + span_length span.first span.last) }
+    ensures added { OnOk result (tickets.new.items ≡ tickets.old.items ++ tickets_between span.first
+        span.last) }
     ensures few { OnOk result (vec_len tickets.new ≤ 1000000) }
 {
     let steps = span.first.abs_diff(span.last);

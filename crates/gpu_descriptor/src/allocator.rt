@@ -53,7 +53,13 @@ impl<P, S> DescriptorAllocator<P, S> {
     /// An allocator without keys, under a limit on the update-after-bind descriptors of all
     /// outstanding sets, and of all pools for such sets. It takes no memory.
     pub fn new(alloc: Global, max_update_after_bind_descriptors_in_all_pools: u32) -> Self
-        ensures { result ≡ record { limit = max_update_after_bind_descriptors_in_all_pools; table = []; looks = 0; comparisons = 0 } }
+        ensures { result ≡ record {
+          limit = max_update_after_bind_descriptors_in_all_pools;
+          table =
+              [];
+          looks = 0;
+          comparisons = 0;
+        } }
     {
         DescriptorAllocator {
             alloc,

@@ -131,10 +131,13 @@ pub fn items_are_their_parts()
 /// Flags of a layout are equal exactly where their bits are, and equal flags hash alike. A clone
 /// always succeeds, and is equal.
 pub fn flags_are_their_bits()
-    ensures equal { (a b : LayoutFlags) → IsTrue (⟦<DescriptorSetLayoutCreateFlags as PartialEq>⟧.eq a b) ↔ (layout_bits a ≡ layout_bits b) }
-    ensures clone { (a b : LayoutFlags) → ⟦<DescriptorSetLayoutCreateFlags as Clone>⟧.is_clone a b → b ≡ a }
+    ensures equal { (a b : LayoutFlags) → IsTrue (⟦<DescriptorSetLayoutCreateFlags as PartialEq>⟧.eq
+        a b) ↔ (layout_bits a ≡ layout_bits b) }
+    ensures clone { (a b : LayoutFlags) → ⟦<DescriptorSetLayoutCreateFlags as Clone>⟧.is_clone a b
+        → b ≡ a }
     ensures clone_succeeds { (a : LayoutFlags) → ⟦<DescriptorSetLayoutCreateFlags as Clone>⟧.is_infallible a }
-    ensures hash { (a b : LayoutFlags) → layout_bits a ≡ layout_bits b → ⟦<DescriptorSetLayoutCreateFlags as Hash>⟧.hash_input a ≡ ⟦<DescriptorSetLayoutCreateFlags as Hash>⟧.hash_input b }
+    ensures hash { (a b : LayoutFlags) → layout_bits a ≡ layout_bits b
+        → ⟦<DescriptorSetLayoutCreateFlags as Hash>⟧.hash_input a ≡ ⟦<DescriptorSetLayoutCreateFlags as Hash>⟧.hash_input b }
 {}
 
 /// Errors of a request are equal exactly where they are the same case. A clone always succeeds, and

@@ -42,7 +42,8 @@ pub trait DescriptorDevice<L, P, S> {
         flags: DescriptorPoolCreateFlags,
     ) -> Result<P, CreatePoolError>
         ensures new_name { IfOk result (λ pool. (ledger self.old).pools (pool_name pool) ≡ None) }
-        ensures ok { IfOk result (λ pool. ledger self.new ≡ after_create (kinds counts.now) max_sets (bits flags) (pool_name pool) (ledger self.old)) }
+        ensures ok { IfOk result (λ pool. ledger self.new ≡ after_create (kinds counts.now) max_sets
+            (bits flags) (pool_name pool) (ledger self.old)) }
         ensures err { IfErr result (λ e. ledger self.new ≡ after_no_create e (ledger self.old)) };
 
     /// Destroys a pool without live sets. It can't be refused.
@@ -57,17 +58,26 @@ pub trait DescriptorDevice<L, P, S> {
         layouts: Layouts<'_, L>,
         sets: &mut K,
     ) -> Result<(), DeviceAllocationError>
-        requires fits { HasRoom (pool_name pool.old) (left layouts) (layout_counts (layout layouts)) (layout_mark (layout layouts)) (ledger self.old) }
+        requires fits { HasRoom (pool_name pool.old) (left layouts) (layout_counts (layout layouts))
+            (layout_mark (layout layouts)) (ledger self.old) }
         requires room { left layouts ≤ K.room_left sets.old }
         ensures name { pool_name pool.new ≡ pool_name pool.old }
-        ensures ok { OnOk result (Puts (record { kept = K.kept; kept_as = K.kept_as; room_left = K.room_left }) set_name (pool_name pool.old) (left layouts.entry) (layout_counts (layout layouts.entry)) sets.old sets.new (ledger self.old) (ledger self.new)) }
+        ensures ok { OnOk result (Puts (record {
+          kept = K.kept;
+          kept_as = K.kept_as;
+          room_left =
+              K.room_left;
+        }) set_name (pool_name pool.old) (left layouts.entry)
+            (layout_counts (layout layouts.entry)) sets.old sets.new (ledger self.old)
+            (ledger self.new)) }
         ensures err { IfErr result (λ e. PutsNone (record { kept = K.kept; kept_as = K.kept_as; room_left = K.room_left }) (pool_name pool.old) e sets.old sets.new (ledger self.old) (ledger self.new)) };
 
     /// Releases the sets that the iterator gives, up to its end. It can't be refused.
     fn dealloc_descriptor_sets<I: Iterator<Item = S>>(&mut self, pool: &mut P, sets: &mut I)
         requires can { I.can_next sets.old }
         requires ends { IsFinite (I.remaining sets.old) }
-        requires live { HoldsAlong I.next_gives sets.old (λ xs. AreLive (pool_name pool.old) (map set_name xs) (ledger self.old)) }
+        requires live { HoldsAlong I.next_gives sets.old (λ xs. AreLive (pool_name pool.old)
+            (map set_name xs) (ledger self.old)) }
         ensures name { pool_name pool.new ≡ pool_name pool.old }
         ensures released { Releases I.next_gives set_name (pool_name pool.old) sets.old sets.new (ledger self.old) (ledger self.new) };
 

@@ -50,7 +50,8 @@ pub fn cut_pool_size(
     room: u32,
 ) -> Option<(DescriptorTotalCount, u32)>
     ensures sets { IfSome result (λ pool. IsCutSize (kinds_of size.now) room total wanted pool.1) }
-    ensures counts { IfSome result (λ pool. kinds_of pool.0 ≡ pool_counts (kinds_of size.now) pool.1) }
+    ensures counts { IfSome result (λ pool. kinds_of pool.0 ≡ pool_counts (kinds_of size.now)
+        pool.1) }
     ensures none { IfNone result (room < max 1 (sum (kinds_of size.now))) }
 
     ensures some { IfSome result (λ pool. 1 ≤ pool.1) }

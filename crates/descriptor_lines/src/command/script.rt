@@ -11,8 +11,10 @@ use std::alloc::Global;
 
 /// `script WORD ..`.
 pub fn parse_script(alloc: Global, words: Words<'_>) -> Result<Vec<Answer>, Refusal>
-    ensures fault { IfErr result (λ reason. IfFault reason (IsFaultOfScript (words_left words.entry))) }
-    ensures script { IfOk result (λ script. map word_of_answer script.items ≡ words_left words.entry) }
+    ensures fault { IfErr result (λ reason. IfFault reason
+        (IsFaultOfScript (words_left words.entry))) }
+    ensures script { IfOk result (λ script. map word_of_answer script.items
+        ≡ words_left words.entry) }
 {
     let mut script = Vec::new(alloc);
     for word in words {

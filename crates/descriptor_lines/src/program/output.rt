@@ -44,7 +44,8 @@ pub fn answer_line<W: Write>(
 
 /// Writes the whole text, where each write takes some of it.
 fn write_text<W: Write>(output: &mut W, text: &str) -> Result<(), Exit>
-    ensures written { OnOk result (Appends (W.contents output.old) (W.contents output.new) text.now) }
+    ensures written { OnOk result (Appends (W.contents output.old) (W.contents output.new)
+        text.now) }
     ensures fault { IfErr result (λ exit. exit ≡ Exit.WriteFault) }
 {
     let mut rest = text.as_bytes();

@@ -55,7 +55,8 @@ impl Program {
         requires empty { layout_count self.old.layouts ≡ 0 }
         ensures ready { CanRun self.new }
         ensures begins { OnOk result (Begins max self.old self.new) }
-        ensures answered { OnOk result (string_bytes answer.new ≡ string_bytes answer.old ++ limit_answer_of max) }
+        ensures answered { OnOk result (string_bytes answer.new ≡ string_bytes answer.old
+            ++ limit_answer_of max) }
         ensures device { OnErr result (KeepsDevice self.old self.new) }
         ensures err { OnErr result (IsUnchanged self.old self.new) }
         ensures begun { self.new.has_begun ≡ self.old.has_begun }
@@ -78,7 +79,8 @@ impl Program {
         ensures ready { CanRun self.new }
         ensures adds { OnOk result (AddsLayout name.now layout self.old self.new) }
         ensures device { OnErr result (KeepsDevice self.old self.new) }
-        ensures answered { OnOk result (string_bytes answer.new ≡ string_bytes answer.old ++ layout_answer_of name.now (sum (kinds layout.counts))) }
+        ensures answered { OnOk result (string_bytes answer.new ≡ string_bytes answer.old
+            ++ layout_answer_of name.now (sum (kinds layout.counts))) }
         ensures err { OnErr result (IsUnchanged self.old self.new) }
         ensures begun { self.new.has_begun ≡ self.old.has_begun }
     {
@@ -101,7 +103,8 @@ impl Program {
         requires ready { CanRun self.old }
         ensures ready { CanRun self.new }
         ensures loads { OnOk result (Loads script.items self.old self.new) }
-        ensures answered { OnOk result (string_bytes answer.new ≡ string_bytes answer.old ++ script_answer_of (length script.items)) }
+        ensures answered { OnOk result (string_bytes answer.new ≡ string_bytes answer.old
+            ++ script_answer_of (length script.items)) }
         ensures device { OnErr result (KeepsDevice self.old self.new) }
         ensures err { OnErr result (IsUnchanged self.old self.new) }
         ensures begun { self.new.has_begun ≡ self.old.has_begun }
@@ -164,7 +167,8 @@ fn answer_size(
     wanted: u32,
     answer: &mut String,
 ) -> Result<(), AllocError>
-    ensures { OnOk result (AnswersSize (kinds counts.now) total wanted (string_bytes answer.old) (string_bytes answer.new)) }
+    ensures { OnOk result (AnswersSize (kinds counts.now) total wanted (string_bytes answer.old)
+        (string_bytes answer.new)) }
 {
     let (pool, sets) = new_pool_size(counts, total, wanted);
     answer::size_answer(answer, &pool, sets)

@@ -13,7 +13,8 @@ impl ScriptedDevice {
 
     /// How many sets are live in the pool; 0 where the pool isn't live.
     pub fn live_sets(&self, pool: &RawPool) -> usize
-        ensures { IfSome ((ledger_of self.now).pools (pool_id pool.now)) (λ p. HasSize p.live result) }
+        ensures { IfSome ((ledger_of self.now).pools (pool_id pool.now))
+            (λ p. HasSize p.live result) }
     {
         self.pools.live_sets(pool.id)
     }
@@ -29,7 +30,8 @@ impl ScriptedDevice {
 
     /// Counts an alloc that the wrapping device refused. It reads no word.
     pub fn refuse_alloc(&mut self, pool: &RawPool, error: DeviceAllocationError)
-        ensures ledger { ledger_of self.new ≡ after_no_alloc (pool_id pool.now) error (ledger_of self.old) }
+        ensures ledger { ledger_of self.new ≡ after_no_alloc (pool_id pool.now) error
+            (ledger_of self.old) }
         ensures script { script_of self.new ≡ script_of self.old }
         ensures names { names_given self.new ≡ names_given self.old }
     {

@@ -17,7 +17,9 @@ impl<L, P: Drop, S: Drop> Session<L, P, S> {
     ) -> Result<Vec<Reply>, AllocError>
         requires ready { IsReady D.pool_name D.set_name D.layout_counts D.layout_mark
             self.old (D.ledger device.old) }
-        ensures runs { IfOk result (λ replies. RunsTo D.pool_name D.set_name D.layout_counts D.layout_mark commands.now replies.items self.old self.new (D.ledger device.old) (D.ledger device.new)) }
+        ensures runs { IfOk result (λ replies. RunsTo D.pool_name D.set_name D.layout_counts
+            D.layout_mark commands.now replies.items self.old self.new (D.ledger device.old)
+            (D.ledger device.new)) }
         ensures session { OnErr result (self.new ≡ self.old) }
         ensures ledger { OnErr result (D.ledger device.new ≡ D.ledger device.old) }
         ensures keeps { KeepsSession D.pool_name D.set_name D.layout_counts D.layout_mark

@@ -16,7 +16,8 @@ impl<L, P: Drop, S: Drop> Session<L, P, S> {
     pub fn step<D: DescriptorDevice<L, P, S>>(&mut self, device: &mut D, command: &Command) -> Reply
         requires ready { IsReady D.pool_name D.set_name D.layout_counts D.layout_mark
             self.old (D.ledger device.old) }
-        ensures step { StepsTo D.pool_name D.set_name D.layout_counts D.layout_mark command.now result self.old self.new (D.ledger device.old) (D.ledger device.new) }
+        ensures step { StepsTo D.pool_name D.set_name D.layout_counts D.layout_mark command.now
+            result self.old self.new (D.ledger device.old) (D.ledger device.new) }
         ensures tickets { KeepsTickets self.old self.new }
         ensures keeps { KeepsSession D.pool_name D.set_name D.layout_counts D.layout_mark
             self.old self.new (D.ledger device.old) (D.ledger device.new) }
@@ -37,7 +38,8 @@ impl<L, P: Drop, S: Drop> Session<L, P, S> {
     ) -> Reply
         requires ready { IsReady D.pool_name D.set_name D.layout_counts D.layout_mark
             self.old (D.ledger device.old) }
-        ensures step { AllocatesTo D.pool_name D.set_name D.layout_counts D.layout_mark layout count self.old self.new (D.ledger device.old) (D.ledger device.new) result }
+        ensures step { AllocatesTo D.pool_name D.set_name D.layout_counts D.layout_mark layout count
+            self.old self.new (D.ledger device.old) (D.ledger device.new) result }
         ensures keeps { KeepsSession D.pool_name D.set_name D.layout_counts D.layout_mark
             self.old self.new (D.ledger device.old) (D.ledger device.new) }
     {
@@ -66,7 +68,8 @@ impl<L, P: Drop, S: Drop> Session<L, P, S> {
     fn free<D: DescriptorDevice<L, P, S>>(&mut self, device: &mut D, tickets: &[usize]) -> Reply
         requires ready { IsReady D.pool_name D.set_name D.layout_counts D.layout_mark
             self.old (D.ledger device.old) }
-        ensures step { FreesTo D.pool_name D.set_name tickets.now self.old self.new (D.ledger device.old) (D.ledger device.new) result }
+        ensures step { FreesTo D.pool_name D.set_name tickets.now self.old self.new
+            (D.ledger device.old) (D.ledger device.new) result }
         ensures keeps { KeepsSession D.pool_name D.set_name D.layout_counts D.layout_mark
             self.old self.new (D.ledger device.old) (D.ledger device.new) }
     {
@@ -91,7 +94,8 @@ impl<L, P: Drop, S: Drop> Session<L, P, S> {
     fn cleanup<D: DescriptorDevice<L, P, S>>(&mut self, device: &mut D) -> Reply
         requires ready { IsReady D.pool_name D.set_name D.layout_counts D.layout_mark
             self.old (D.ledger device.old) }
-        ensures step { CleansTo D.pool_name self.old self.new (D.ledger device.old) (D.ledger device.new) result }
+        ensures step { CleansTo D.pool_name self.old self.new (D.ledger device.old)
+            (D.ledger device.new) result }
         ensures keeps { KeepsSession D.pool_name D.set_name D.layout_counts D.layout_mark
             self.old self.new (D.ledger device.old) (D.ledger device.new) }
     {

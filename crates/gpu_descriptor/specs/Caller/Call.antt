@@ -1,5 +1,5 @@
 -- A request to an allocator over a device, in the words of the books.
-use Rattle.std.specs.Prelude.{ℕ, ◌-◌, List, Result, Ok, Err, Bool}
+use Rattle.std.specs.Prelude.{ℕ, List, Result, Ok, Err, Bool}
 use Rattle.std.specs.Global.{Vec}
 use Rattle.gpu_descriptor_types.specs.Ledger.{Ledger}
 use Rattle.gpu_descriptor.specs.declared.errors.AllocationError.{AllocationError}

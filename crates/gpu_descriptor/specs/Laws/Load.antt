@@ -1,5 +1,5 @@
 -- Laws of what is out, and of the descriptors of marked keys' sets and pools.
-use Rattle.std.specs.Prelude.{◌≡◌, ℕ, ◌-◌, if◌then◌else◌, List, length, sum_by, Option, ◌↔◌, ◌<◌, ◌≤◌, true, Some, sum}
+use Rattle.std.specs.Prelude.{◌≡◌, ℕ, if◌then◌else◌, List, length, sum_by, Option, ◌↔◌, ◌<◌, ◌≤◌, true, Some, sum}
 use Rattle.gpu_descriptor.specs.Model.Books.{Key, Entry, Bucket, entry_at, no_pools, books_of, HasDistinctKeys, sum_over, AddsUp}
 use Rattle.std.specs.Option.{option_map_or}
 use Rattle.gpu_descriptor_types.specs.Ledger.{Pool}

@@ -1,5 +1,5 @@
 -- Laws of giving sets back.
-use Rattle.std.specs.Prelude.{flat_map, ◌≡◌, ◌+◌, ◌-◌, false, List, [], ◌++◌}
+use Rattle.std.specs.Prelude.{flat_map, ◌≡◌, ◌+◌, false, List, [], ◌++◌}
 use Rattle.std.specs.List.{list_any}
 use Rattle.gpu_descriptor.specs.Model.Books.{Key, key_eq}
 use Rattle.gpu_descriptor.specs.Model.Agreement.{State, Item, Agree, AreOutstanding, outstanding, count_of}

@@ -19,12 +19,12 @@ ghost use Rattle.gpu_descriptor.specs.Inner.Serves.{Serves, ServesKey, IsUnserve
 
 use super::DescriptorAllocator;
 use super::free::marked_descriptors;
-use crate::bucket::allocation::Allocation;
 use crate::bucket::DescriptorBucket;
+use crate::bucket::allocation::Allocation;
+use crate::bucket::take::{Refusal, Stop};
 use crate::errors::AllocationError;
 use crate::flags::DescriptorSetLayoutCreateFlags;
 use crate::set::{BucketKey, DescriptorSet};
-use crate::bucket::take::{Refusal, Stop};
 use bitflags::Flags;
 use gpu_descriptor_types::{DescriptorDevice, DescriptorTotalCount, DeviceAllocationError, Tally};
 use indexmap::IndexMap;
@@ -106,9 +106,11 @@ impl<P: Drop, S: Drop> DescriptorAllocator<P, S> {
             r.0.items r.1 self.old self.new (D.ledger device.old) (D.ledger device.new)) }
         ensures declined { IfErr result (λ e. Allocates (call_of D.pool_name (key_of key) count
             self.old self.new (D.ledger device.old) (D.ledger device.new) (Err e))) }
-        ensures looks { self.new.looks + (D.ledger device.old).counters.asked ≡ self.old.looks + (D.ledger device.new).counters.asked }
+        ensures looks { self.new.looks + (D.ledger device.old).counters.asked
+            ≡ self.old.looks + (D.ledger device.new).counters.asked }
         ensures comparisons_stay { self.new.comparisons ≡ self.old.comparisons }
-        ensures keys { OnOk result (StayOrGainLast (key_of key) (keys_of self.old) (keys_of self.new)) }
+        ensures keys { OnOk result (StayOrGainLast (key_of key) (keys_of self.old)
+            (keys_of self.new)) }
         ensures allocator { OnErr result (self.new ≡ self.old) }
         ensures ledger { OnErr result (D.ledger device.new ≡ D.ledger device.old) }
         ensures rows { HasDistinctKeys (table_of D.pool_name self.new) }
@@ -182,9 +184,11 @@ fn serve_key<L, P: Drop, S: Drop, D: DescriptorDevice<L, P, S>>(
         buckets.old.entries buckets.new.entries (D.ledger device.old) (D.ledger device.new)) }
     ensures refused { IfErr result (λ e. IsUnserved count e
         (books_in D.pool_name buckets.old.entries (key_of key))) }
-    ensures looks { looks.new.count + (D.ledger device.old).counters.asked ≡ looks.old.count + (D.ledger device.new).counters.asked }
+    ensures looks { looks.new.count + (D.ledger device.old).counters.asked
+        ≡ looks.old.count + (D.ledger device.new).counters.asked }
     ensures looks_stay { OnErr result (looks.new ≡ looks.old) }
-    ensures room { room.new + sum_by stored_load_in buckets.new.entries ≡ room.old + sum_by stored_load_in buckets.old.entries }
+    ensures room { room.new + sum_by stored_load_in buckets.new.entries
+        ≡ room.old + sum_by stored_load_in buckets.old.entries }
     ensures keys { OnOk result (StayOrGainLast (key_of key)
         (stored_keys buckets.old.entries) (stored_keys buckets.new.entries)) }
     ensures distinct { OnOk result (IsDistinct key_eq (stored_keys buckets.new.entries)) }
@@ -232,9 +236,11 @@ fn serve<L, P: Drop, S: Drop, D: DescriptorDevice<L, P, S>>(
     ensures served { IfOk result (λ r. Serves D.pool_name D.set_name (key_of key.now) room.old count
         r.0.items r.1 bucket.old bucket.new (D.ledger device.old) (D.ledger device.new)) }
     ensures refused { IfErr result (λ e. IsUnserved count e (bucket_of D.pool_name bucket.old)) }
-    ensures looks { looks.new.count + (D.ledger device.old).counters.asked ≡ looks.old.count + (D.ledger device.new).counters.asked }
+    ensures looks { looks.new.count + (D.ledger device.old).counters.asked
+        ≡ looks.old.count + (D.ledger device.new).counters.asked }
     ensures looks_stay { OnErr result (looks.new ≡ looks.old) }
-    ensures room { room.new + stored_load (key_of key.now) bucket.new.pools.items ≡ room.old + stored_load (key_of key.now) bucket.old.pools.items }
+    ensures room { room.new + stored_load (key_of key.now) bucket.new.pools.items
+        ≡ room.old + stored_load (key_of key.now) bucket.old.pools.items }
     ensures bucket { OnErr result (bucket.new ≡ bucket.old) }
     ensures ledger { OnErr result (D.ledger device.new ≡ D.ledger device.old) }
 {

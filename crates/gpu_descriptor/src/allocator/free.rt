@@ -27,8 +27,10 @@ impl<P, S> DescriptorAllocator<P, S> {
         device: &mut D,
         sets: I,
     )
-        requires can { (iter : I.IntoIter) → I.into_iter_gives sets iter → I.IntoIter.can_next iter }
-        requires ends { (iter : I.IntoIter) → I.into_iter_gives sets iter → IsFinite (I.IntoIter.remaining iter) }
+        requires can { (iter : I.IntoIter) → I.into_iter_gives sets iter
+            → I.IntoIter.can_next iter }
+        requires ends { (iter : I.IntoIter) → I.into_iter_gives sets iter
+            → IsFinite (I.IntoIter.remaining iter) }
         requires agree { Agrees D.pool_name self.old (D.ledger device.old) }
         requires outstanding { (iter : I.IntoIter) → I.into_iter_gives sets iter → HoldsAlong I.IntoIter.next_gives iter
             (λ xs. AreOutstanding (items_of D.set_name xs) (state_of D.pool_name self.old (D.ledger device.old))) }

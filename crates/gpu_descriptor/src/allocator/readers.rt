@@ -15,7 +15,8 @@ impl<P, S> DescriptorAllocator<P, S> {
     /// How many sets are outstanding.
     pub fn outstanding(&self) -> u64
         ensures total { result ≡ outstanding_of self.now }
-        ensures books { (name : P → ℕ) → AddsUp sets_out (books_of (table_of name self.now)) result }
+        ensures books { (name : P → ℕ) → AddsUp sets_out (books_of (table_of name self.now))
+            result }
         ensures rows { (name : P → ℕ) → HasDistinctKeys (table_of name self.now) }
     {
         self.outstanding
@@ -25,7 +26,8 @@ impl<P, S> DescriptorAllocator<P, S> {
     /// update-after-bind.
     pub fn update_after_bind_descriptors(&self) -> u32
         ensures sum { result ≡ marked_load_of self.now }
-        ensures books { (name : P → ℕ) → AddsUp descriptors_out (books_of (table_of name self.now)) result }
+        ensures books { (name : P → ℕ) → AddsUp descriptors_out (books_of (table_of name self.now))
+            result }
         ensures within { result ≤ self.now.limit }
     {
         self.current_update_after_bind_descriptors_in_all_pools
@@ -36,7 +38,8 @@ impl<P, S> DescriptorAllocator<P, S> {
     /// such reader.
     pub fn update_after_bind_capacity(&self) -> u32
         ensures sum { result ≡ pool_load_of self.now }
-        ensures books { (name : P → ℕ) → AddsUp bucket_load (books_of (table_of name self.now)) result }
+        ensures books { (name : P → ℕ) → AddsUp bucket_load (books_of (table_of name self.now))
+            result }
         ensures within { result ≤ self.now.limit }
     {
         self.max_update_after_bind_descriptors_in_all_pools - self.update_after_bind_room

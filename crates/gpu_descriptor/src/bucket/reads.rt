@@ -45,7 +45,8 @@ impl<'a, 'b, 'c, P> OpenPools<'a, 'b, 'c, P> {
     /// The number of the newest pool with known free places.
     pub(crate) fn newest(&self) -> Option<u64>
         ensures none { IfNone result (self.now.listed.now.items ≡ []) }
-        ensures last { IfSome result (λ n. self.now.listed.now.items ≡ take (length self.now.listed.now.items - 1) self.now.listed.now.items ++ n ∷ []) }
+        ensures last { IfSome result (λ n. self.now.listed.now.items
+            ≡ take (length self.now.listed.now.items - 1) self.now.listed.now.items ++ n ∷ []) }
     {
         self.listed.back().copied()
     }
@@ -55,7 +56,8 @@ impl<'a, 'b, 'c, P> OpenPools<'a, 'b, 'c, P> {
         requires above { self.old.offset ≤ number }
         requires within { number < self.old.offset + length self.old.pools.now.items }
         ensures* lends { sem 𝓛 (LendsPool P.row self.entry (number - self.old.offset) result) }
-        ensures value { result.now ≡ slice_index_or self.old.pools.now.items (number - self.old.offset) result.now }
+        ensures value { result.now ≡ slice_index_or self.old.pools.now.items
+            (number - self.old.offset) result.now }
     {
         *self.looks = Tally::next(self.looks);
         let place = (number - self.offset) as usize;
@@ -64,7 +66,8 @@ impl<'a, 'b, 'c, P> OpenPools<'a, 'b, 'c, P> {
 
     /// Takes the newest pool with known free places out of the list.
     pub(crate) fn close_newest(&mut self)
-        ensures listed { self.new.listed.now.items ≡ take (length self.old.listed.now.items - 1) self.old.listed.now.items }
+        ensures listed { self.new.listed.now.items ≡ take (length self.old.listed.now.items - 1)
+            self.old.listed.now.items }
         ensures capacity { deque_capacity self.new.listed.now ≡ deque_capacity self.old.listed.now }
         ensures pools { self.new.pools ≡ self.old.pools }
         ensures looks { self.new.looks ≡ self.old.looks }
@@ -115,7 +118,8 @@ impl<'a, 'b, 'c, P> OpenPools<'a, 'b, 'c, P> {
         requires listed { IsListed self.old }
         requires numbers { self.old.offset + length self.old.pools.now.items < 2 ^ 64 }
         requires room { length self.old.pools.now.items < deque_capacity self.old.pools.now }
-        requires room_listed { length self.old.pools.now.items < deque_capacity self.old.listed.now }
+        requires room_listed { length self.old.pools.now.items
+            < deque_capacity self.old.listed.now }
         ensures pools { self.new.pools.now.items ≡ self.old.pools.now.items ++ pool ∷ [] }
         ensures listed { IsListed self.new }
         ensures looks { self.new.looks ≡ self.old.looks }

@@ -33,7 +33,8 @@ impl<P> DescriptorBucket<P> {
     ) -> Option<DescriptorSet<S>>
         requires can { I.can_next sets.old }
         requires ends { IsFinite (I.remaining sets.old) }
-        requires stored { AreBookedIn (key_of first.key) (D.ledger device.old).pools (bucket_of D.pool_name self.old).pools }
+        requires stored { AreBookedIn (key_of first.key) (D.ledger device.old).pools
+            (bucket_of D.pool_name self.old).pools }
         requires taken { HoldsAlong I.next_gives sets.old (λ xs. HaveKey first.key first.number xs
             → IsTakenAt (key_of first.key) first.number (names_of D.set_name (first ∷ xs))
             (bucket_of D.pool_name self.old) (D.ledger device.old).pools) }
@@ -42,8 +43,10 @@ impl<P> DescriptorBucket<P> {
             self.old self.new (D.ledger device.old) (D.ledger device.new) }
         ensures goes { OnSome result (IsNearerEnd I.can_next I.remaining sets.old sets.new) }
         ensures rises { comparisons.old.count ≤ comparisons.new.count }
-        ensures few { comparisons.new.count ≤ comparisons.old.count + binary_digits (open_pools (bucket_of D.pool_name self.old)) }
-        ensures room { room.new + stored_load (key_of first.key) self.new.pools.items ≡ room.old + stored_load (key_of first.key) self.old.pools.items }
+        ensures few { comparisons.new.count ≤ comparisons.old.count + binary_digits
+            (open_pools (bucket_of D.pool_name self.old)) }
+        ensures room { room.new + stored_load (key_of first.key) self.new.pools.items
+            ≡ room.old + stored_load (key_of first.key) self.old.pools.items }
     {
         let key = first.key;
         let number = first.number;

@@ -13,9 +13,11 @@ use std::collections::VecDeque;
 pub(crate) fn place_of(view: &mut Numbers<'_, '_>, number: u64) -> usize
     requires { IsNonDecreasing view.old.numbers.now.items }
     ensures within { result ≤ length view.old.numbers.now.items }
-    ensures place { IsPartitionPoint (λ x. x < number) (λ x. number ≤ x) view.old.numbers.now.items result }
+    ensures place { IsPartitionPoint (λ x. x < number) (λ x. number ≤ x) view.old.numbers.now.items
+        result }
     ensures rises { view.old.comparisons.now.count ≤ view.new.comparisons.now.count }
-    ensures few { view.new.comparisons.now.count ≤ view.old.comparisons.now.count + binary_digits (length view.old.numbers.now.items) }
+    ensures few { view.new.comparisons.now.count ≤ view.old.comparisons.now.count + binary_digits
+        (length view.old.numbers.now.items) }
     ensures same_reference { view.new.comparisons.ghost_name ≡ view.old.comparisons.ghost_name }
 {
     let mut low = 0;
@@ -40,7 +42,8 @@ pub(crate) fn enter(listed: &mut VecDeque<u64>, number: u64, comparisons: &mut T
     ensures entered { IsEntered number listed.old.items listed.new.items }
     ensures capacity { deque_capacity listed.old ≤ deque_capacity listed.new }
     ensures rises { comparisons.old.count ≤ comparisons.new.count }
-    ensures few { comparisons.new.count ≤ comparisons.old.count + binary_digits (length listed.old.items) }
+    ensures few { comparisons.new.count ≤ comparisons.old.count + binary_digits
+        (length listed.old.items) }
 {
     let mut view = Numbers::new(listed, comparisons);
     let place = place_of(&mut view, number);
@@ -65,7 +68,8 @@ pub(crate) fn enter_new(
     ensures stays { is_new ≡ false → listed.new.items ≡ listed.old.items }
     ensures capacity { deque_capacity listed.old ≤ deque_capacity listed.new }
     ensures rises { comparisons.old.count ≤ comparisons.new.count }
-    ensures few { comparisons.new.count ≤ comparisons.old.count + binary_digits (length listed.old.items) }
+    ensures few { comparisons.new.count ≤ comparisons.old.count + binary_digits
+        (length listed.old.items) }
 {
     if is_new {
         enter(listed, number, comparisons);

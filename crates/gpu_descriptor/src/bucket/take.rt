@@ -18,8 +18,8 @@ ghost use Rattle.gpu_descriptor.specs.Caller.Call.{layout_key};
 ghost use Rattle.gpu_descriptor.specs.Inner.Grow.{IsGrown, IsNotGrown, TellsOfRoom, IsTakenAll, IsTakenUpTo};
 
 use crate::bucket::allocation::Allocation;
-use crate::bucket::{DescriptorBucket, DescriptorPool, descriptors_of_pool};
 use crate::bucket::reads::OpenPools;
+use crate::bucket::{DescriptorBucket, DescriptorPool, descriptors_of_pool};
 use crate::set::BucketKey;
 use bitflags::Flags;
 use gpu_descriptor_types::{
@@ -75,7 +75,8 @@ fn ask<L, P, S, D: DescriptorDevice<L, P, S>>(
     sink: &mut Allocation<S>,
 ) -> Result<u32, DeviceAllocationError>
     requires same { key_of key.now ≡ layout_key D.layout_counts D.layout_mark layout.now }
-    requires booked { IsBookedIn (key_of key.now) (D.ledger device.old).pools (entry_of D.pool_name pool.old) }
+    requires booked { IsBookedIn (key_of key.now) (D.ledger device.old).pools
+        (entry_of D.pool_name pool.old) }
     requires room { wanted ≤ sink.old.left }
     ensures asked { IfOk result (λ given. (put : List S)
         × (length put ≡ given)
@@ -119,7 +120,8 @@ fn walk<L, P, S, D: DescriptorDevice<L, P, S>>(
     sink: &mut Allocation<S>,
 ) -> Result<u32, DeviceAllocationError>
     requires same { key_of key.now ≡ layout_key D.layout_counts D.layout_mark layout.now }
-    requires booked { AreBookedIn (key_of key.now) (D.ledger device.old).pools (entries_of D.pool_name view.old.pools.now.items) }
+    requires booked { AreBookedIn (key_of key.now) (D.ledger device.old).pools
+        (entries_of D.pool_name view.old.pools.now.items) }
     requires numbers { view.old.offset + length view.old.pools.now.items < 2 ^ 64 }
     requires listed { IsListed view.old }
     requires room { count ≤ sink.old.left }
@@ -179,9 +181,11 @@ fn next_size(
     room: u32,
 ) -> Option<(DescriptorTotalCount, u32)>
     ensures sets { IfSome result (λ pool. IsNextSize (key_of key.now) room total wanted pool.1) }
-    ensures counts { IfSome result (λ pool. kinds pool.0 ≡ pool_counts_of (kinds key.now.size) pool.1) }
+    ensures counts { IfSome result (λ pool. kinds pool.0 ≡ pool_counts_of (kinds key.now.size)
+        pool.1) }
     ensures at_most { IfSome result (λ pool. pool.1 ≤ 2147483648) }
-    ensures room { IfSome result (λ pool. (pool_load (key_of key.now) pool.1 ≤ room) × (pool_load (key_of key.now) pool.1 < 2 ^ 32)) }
+    ensures room { IfSome result (λ pool. (pool_load (key_of key.now) pool.1 ≤ room)
+        × (pool_load (key_of key.now) pool.1 < 2 ^ 32)) }
     ensures none { IfNone result (room < pool_load (key_of key.now) 1) }
 {
     if key.update_after_bind {
@@ -271,7 +275,8 @@ pub(crate) fn take<L, P: Drop, S, D: DescriptorDevice<L, P, S>>(
     sink: &mut Allocation<S>,
 ) -> Result<(), Refusal>
     requires same { key_of key.now ≡ layout_key D.layout_counts D.layout_mark layout.now }
-    requires booked { AreBookedIn (key_of key.now) (D.ledger device.old).pools (entries_of D.pool_name view.old.pools.now.items) }
+    requires booked { AreBookedIn (key_of key.now) (D.ledger device.old).pools
+        (entries_of D.pool_name view.old.pools.now.items) }
     requires total { total ≡ held (entries_of D.pool_name view.old.pools.now.items) }
     requires bound { total + count < 2 ^ 64 }
     requires numbers { view.old.offset + length view.old.pools.now.items + count < 2 ^ 64 }
@@ -288,7 +293,9 @@ pub(crate) fn take<L, P: Drop, S, D: DescriptorDevice<L, P, S>>(
     ensures listed { IsListed view.new }
     ensures kept { KeepsView view.old view.new }
     ensures looks { CountsLooks view.old view.new (D.ledger device.old) (D.ledger device.new) }
-    ensures room { room.new + pools_load (key_of key.now) (entries_of D.pool_name view.new.pools.now.items) ≡ room.old + pools_load (key_of key.now) (entries_of D.pool_name view.old.pools.now.items) }
+    ensures room { room.new + pools_load (key_of key.now)
+        (entries_of D.pool_name view.new.pools.now.items) ≡ room.old + pools_load (key_of key.now)
+        (entries_of D.pool_name view.old.pools.now.items) }
 {
     let mut wanting = match walk(device, view, layout, key, count, sink) {
         Ok(wanting) => wanting,
@@ -320,7 +327,8 @@ impl<P: Drop> DescriptorBucket<P> {
         looks: &mut Tally,
     ) -> Result<(), Refusal>
         requires same { key_of key.now ≡ layout_key D.layout_counts D.layout_mark layout.now }
-        requires booked { AreBookedIn (key_of key.now) (D.ledger device.old).pools (bucket_of D.pool_name self.old).pools }
+        requires booked { AreBookedIn (key_of key.now) (D.ledger device.old).pools
+            (bucket_of D.pool_name self.old).pools }
         requires bound { self.old.total + count < 2 ^ 64 }
         requires numbers { next_number (bucket_of D.pool_name self.old) + count < 2 ^ 64 }
         requires empty { sink.old.sets.items ≡ [] }
@@ -328,10 +336,17 @@ impl<P: Drop> DescriptorBucket<P> {
         ensures offset { self.new.offset ≡ self.old.offset }
         ensures total { self.new.total ≡ self.old.total + length sink.new.sets.items }
         ensures few { length sink.new.sets.items ≤ count }
-        ensures done { OnOk result (IsTakenAll (key_of key.now) room.old count self.old.offset (items_of D.set_name sink.new.sets.items) (bucket_of D.pool_name self.old).pools (bucket_of D.pool_name self.new).pools (D.ledger device.old) (D.ledger device.new)) }
-        ensures stopped { IfErr result (λ why. IsTakenUpTo why (key_of key.now) room.old count self.old.offset (items_of D.set_name sink.new.sets.items) (bucket_of D.pool_name self.old).pools (bucket_of D.pool_name self.new).pools (D.ledger device.old) (D.ledger device.new)) }
-        ensures room { room.new + stored_load (key_of key.now) self.new.pools.items ≡ room.old + stored_load (key_of key.now) self.old.pools.items }
-        ensures looks { looks.new.count + (D.ledger device.old).counters.asked ≡ looks.old.count + (D.ledger device.new).counters.asked }
+        ensures done { OnOk result (IsTakenAll (key_of key.now) room.old count self.old.offset
+            (items_of D.set_name sink.new.sets.items) (bucket_of D.pool_name self.old).pools
+            (bucket_of D.pool_name self.new).pools (D.ledger device.old) (D.ledger device.new)) }
+        ensures stopped { IfErr result (λ why. IsTakenUpTo why (key_of key.now) room.old count
+            self.old.offset (items_of D.set_name sink.new.sets.items)
+            (bucket_of D.pool_name self.old).pools (bucket_of D.pool_name self.new).pools
+            (D.ledger device.old) (D.ledger device.new)) }
+        ensures room { room.new + stored_load (key_of key.now) self.new.pools.items
+            ≡ room.old + stored_load (key_of key.now) self.old.pools.items }
+        ensures looks { looks.new.count + (D.ledger device.old).counters.asked
+            ≡ looks.old.count + (D.ledger device.new).counters.asked }
     {
         let mut view = OpenPools::new(self.offset, &mut self.pools, &mut self.listed, looks);
         let taken = take(

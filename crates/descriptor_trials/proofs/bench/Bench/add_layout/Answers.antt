@@ -7,8 +7,10 @@ pub invariant_of-self : goal.invariant_of-self
 invariant_of-self g c =
     let old = c.args.self.now in
     let layout = c.args.layout in
-    record { ready = record {
-      agree = rw c.add_layout.ensures.allocator old.ready.agree;
-      held = rw (c.add_layout.ensures.allocator, c.add_layout.ensures.sets) old.ready.held;
-      meant = meant_after g.D.DescriptorDevice.layout_counts g.D.DescriptorDevice.layout_mark (layouts_of old.session) (layouts_of c.add_layout.new.self) (known layout layout.counts c.flags_of-flags.result) c.add_layout.result c.add_layout.ensures.last c.add_layout.ensures.layouts old.ready.meant (sym c.requires.counts) (c.flags_of-flags.ensures ∙ sym c.requires.mark);
-    } }
+    record {
+      ready = record {
+        agree = rw c.add_layout.ensures.allocator old.ready.agree;
+        held = rw (c.add_layout.ensures.allocator, c.add_layout.ensures.sets) old.ready.held;
+        meant = meant_after g.D.DescriptorDevice.layout_counts g.D.DescriptorDevice.layout_mark (layouts_of old.session) (layouts_of c.add_layout.new.self) (known layout layout.counts c.flags_of-flags.result) c.add_layout.result c.add_layout.ensures.last c.add_layout.ensures.layouts old.ready.meant (sym c.requires.counts) (c.flags_of-flags.ensures ∙ sym c.requires.mark);
+      };
+    }
