@@ -6,7 +6,7 @@ use Rattle.gpu_descriptor.specs.Caller.Sets.{items_of}
 use Rattle.gpu_descriptor.specs.Caller.States.{state_of}
 use Rattle.gpu_descriptor.specs.Caller.Values.{Allocations}
 use Rattle.gpu_descriptor.specs.declared.set.DescriptorSet.{DescriptorSet}
-use Rattle.descriptor_frames.specs.Retired.{due, sets_in}
+use Rattle.descriptor_frames.specs.Retired.{due, retired_sets}
 use Rattle.descriptor_frames.specs.declared.manager.FrameManager.{FrameManager}
 use Rattle.descriptor_frames.specs.declared.retired.Retired.{Retired}
 
@@ -24,11 +24,11 @@ module _ {P S : Type 0} where
 
   -- the sets that were retired at the frame or before
   abbrev pub due_sets : ℕ → FrameManager P S → List (DescriptorSet S)
-  due_sets frame m = sets_in (due frame (retired_of m))
+  due_sets frame m = retired_sets (due frame (retired_of m))
 
   -- the retired sets, as the books see them
   abbrev pub retired_items : (S → ℕ) → FrameManager P S → List Item
-  retired_items set_name m = items_of set_name (sets_in (retired_of m))
+  retired_items set_name m = items_of set_name (retired_sets (retired_of m))
 
   module _ (pool_name : P → ℕ) where
     -- the books of the manager's allocator, and the ledger
@@ -36,7 +36,7 @@ module _ {P S : Type 0} where
     state_in m l = state_of pool_name (allocator_of m) l
 
     -- nothing changed: books and ledger, the list, and the greatest frame
-    pub record IsAsBefore (old new : FrameManager P S) (before after : Ledger) : Type 0 where
+    pub record ManagerStays (old new : FrameManager P S) (before after : Ledger) : Type 0 where
       pub state : state_in new after ≡ state_in old before
       pub ledger : after ≡ before
       pub list : retired_of new ≡ retired_of old
@@ -46,6 +46,12 @@ module _ {P S : Type 0} where
       -- the retired sets together are outstanding
       abbrev pub AreRetiredOut : FrameManager P S → Ledger → Type 0
       AreRetiredOut m l = AreOutstanding (retired_items set_name m) (state_in m l)
+
+      -- the list and the greatest frame stay, and retired sets that were outstanding still are
+      pub record KeepsRetired (old new : FrameManager P S) (before after : Ledger) : Type 0 where
+        pub list : retired_of new ≡ retired_of old
+        pub greatest : greatest_of new ≡ greatest_of old
+        pub outstanding : AreRetiredOut old before → AreRetiredOut new after
 
       -- how often a set is in use: outstanding, and not retired
       abbrev pub in_use : FrameManager P S → Ledger → Item → ℕ

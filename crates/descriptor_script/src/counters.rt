@@ -1,7 +1,8 @@
 //! How often a device did each thing.
 ghost use Rattle.std.specs.Prelude.{◌≡◌, ◌+◌};
 ghost use Rattle.gpu_descriptor_types.specs.Ledger.{alloc_refused, create_refused};
-ghost use Rattle.descriptor_script.specs.Inner.Counters.{counters_of, no_counters};
+ghost use Rattle.gpu_descriptor.specs.Model.Outcomes.{no_rise};
+ghost use Rattle.descriptor_script.specs.Inner.Counters.{counters_of};
 
 use gpu_descriptor_types::{Counter, CreatePoolError, DeviceAllocationError};
 
@@ -20,7 +21,7 @@ pub struct Counters {
 
 impl Counters {
     pub fn zero() -> Self
-        ensures { counters_of result ≡ no_counters }
+        ensures { counters_of result ≡ no_rise }
     {
         Counters {
             created: Counter::zero(),

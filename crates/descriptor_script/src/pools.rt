@@ -34,7 +34,7 @@ pub struct Pools {
 }
 
 impl Pools {
-    ghost use Rattle.descriptor_script.specs.Inner.Pools.{Grants, GivesBack, IsNew, IsSame, IsSameSink, names_of, pools_of};
+    ghost use Rattle.descriptor_script.specs.Inner.Pools.{Grants, TakesBack, IsNew, IsSame, IsSameSink, names_of, pools_of};
 
     pub fn new(alloc: Global) -> Self
         ensures { IsNew result }
@@ -169,7 +169,7 @@ impl Pools {
         requires ends { IsFinite (I.remaining sets.old) }
         requires live { HoldsAlong I.next_gives sets.old (λ xs. AreNamed pool (map set_id xs)
             (pools_of self.old)) }
-        ensures released { GivesBack I.next_gives pool sets.old sets.new self.old self.new }
+        ensures released { TakesBack I.next_gives pool sets.old sets.new self.old self.new }
         ensures names { names_of self.new ≡ names_of self.old }
     {
         let Some(live) = self.live.get_mut(&pool) else {

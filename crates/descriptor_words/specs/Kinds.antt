@@ -1,7 +1,7 @@
 -- The names of the kinds of descriptors, and the words that give their counts.
 use Rattle.std.specs.Prelude.{◌≡◌, ◌≢◌, ℕ, List, [], ◌∷◌, codes, map, All, AllPairs, Contains, Some, slice_get, slice_index}
 use Rattle.std.specs.List.{before_first, after_first}
-use Rattle.descriptor_words.specs.Numbers.{WritesNumberWithin, value_of}
+use Rattle.descriptor_words.specs.Numbers.{WritesNumberWithin, greatest_u32, value_of}
 use Rattle.descriptor_words.specs.Words.{AtWord, is_byte}
 use Rattle.descriptor_words.specs.declared.fault.Fault.{Fault}
 use Rattle.descriptor_words.specs.declared.fault.Fault.TheVariants.{BadKind, KindTwice, BadNumber}
@@ -16,8 +16,8 @@ abbrev pub kind_of : List ℕ → List ℕ
 kind_of word = before_first (is_byte 61) word
 
 -- what stands after it
-abbrev pub count_of : List ℕ → List ℕ
-count_of word = after_first (is_byte 61) word
+abbrev pub count_in : List ℕ → List ℕ
+count_in word = after_first (is_byte 61) word
 
 -- the word has a `=`, with a kind before the first
 pub record NamesKind (word : List ℕ) : Type 0 where
@@ -26,7 +26,7 @@ pub record NamesKind (word : List ℕ) : Type 0 where
 
 -- the word gives a count
 abbrev pub GivesCount : List ℕ → Type 0
-GivesCount word = WritesNumberWithin 4294967295 (count_of word)
+GivesCount word = WritesNumberWithin greatest_u32 (count_in word)
 
 -- each word gives the count of a kind, and no two of the same
 pub record AreKinds (words : List (List ℕ)) : Type 0 where
@@ -64,5 +64,5 @@ IsKindAt place name = slice_get kind_names place ≡ Some name
 
 -- the words give these counts, and 0 where no word names the kind
 pub record GiveCounts (words : List (List ℕ)) (counts : List ℕ) : Type 0 where
-  pub named : All (λ word. (place : ℕ) → IsKindAt place (kind_of word) → slice_index counts place ≡ value_of (count_of word)) words
+  pub named : All (λ word. (place : ℕ) → IsKindAt place (kind_of word) → slice_index counts place ≡ value_of (count_in word)) words
   pub unnamed : (place : ℕ) (name : List ℕ) → IsKindAt place name → ¬ Contains (map kind_of words) name → slice_index counts place ≡ 0

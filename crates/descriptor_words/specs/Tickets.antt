@@ -1,7 +1,7 @@
 -- The tickets of a line that gives sets back.
 use Rattle.std.specs.Prelude.{ℕ, ◌+◌, ◌-◌, ◌<◌, ◌≤◌, List, [], ◌∷◌, ◌++◌, All, length, reverse, position, Option, is_some, if◌then◌else◌, nat_le}
 use Rattle.std.specs.List.{flat_map, range_with_len, before_first, after_first}
-use Rattle.descriptor_words.specs.Numbers.{WritesNumberWithin, value_of}
+use Rattle.descriptor_words.specs.Numbers.{WritesNumberWithin, greatest_u64, value_of}
 use Rattle.descriptor_words.specs.Words.{AtWord, is_byte}
 use Rattle.descriptor_words.specs.declared.fault.Fault.{Fault}
 use Rattle.descriptor_words.specs.declared.fault.Fault.TheVariants.{BadNumber, TooManyTickets}
@@ -20,8 +20,8 @@ last_side word = if is_some (dash word) then after_first (is_byte 45) word else 
 
 -- the word is a ticket, or a range with a ticket on each side of its one `-`
 pub record WritesTickets (word : List ℕ) : Type 0 where
-  pub first : WritesNumberWithin 18446744073709551615 (first_side word)
-  pub last : WritesNumberWithin 18446744073709551615 (last_side word)
+  pub first : WritesNumberWithin greatest_u64 (first_side word)
+  pub last : WritesNumberWithin greatest_u64 (last_side word)
 
 -- so many tickets from the first up
 abbrev pub rising : ℕ → ℕ → List ℕ
@@ -51,10 +51,14 @@ last_of word = value_of (last_side word)
 abbrev pub tickets_of : List ℕ → List ℕ
 tickets_of word = tickets_between (first_of word) (last_of word)
 
+-- the most tickets of a line
+abbrev pub most_tickets : ℕ
+most_tickets = 1000000
+
 -- each word writes tickets, and together they are not too many
 pub record AreTickets (words : List (List ℕ)) : Type 0 where
   pub written : All WritesTickets words
-  pub few : length (flat_map tickets_of words) ≤ 1000000
+  pub few : length (flat_map tickets_of words) ≤ most_tickets
 
 -- the first word that writes no tickets
 abbrev pub IsFirstWithout : List (List ℕ) → List ℕ → Type 0
@@ -63,7 +67,7 @@ IsFirstWithout before word = AreTickets before × ¬ WritesTickets word
 -- the first word with which the tickets are too many
 abbrev pub IsFirstTooMany : List (List ℕ) → List ℕ → Type 0
 IsFirstTooMany before word =
-    AreTickets before × WritesTickets word × 1000000 < length (flat_map tickets_of (before ++ word ∷ []))
+    AreTickets before × WritesTickets word × most_tickets < length (flat_map tickets_of (before ++ word ∷ []))
 
 -- what is wrong with the words of `free`
 abbrev pub IsFaultOfFree : List (List ℕ) → Fault → Type 0

@@ -2,7 +2,7 @@
 ghost use Rattle.std.specs.Prelude.{◌≡◌, ◌↔◌, IsOk, IfOk, IfErr, OnOk};
 ghost use Rattle.gpu_descriptor_types.specs.Counts.{kinds};
 ghost use Rattle.descriptor_words.specs.Kinds.{AreKinds, GiveCounts, IsFaultOfKinds};
-ghost use Rattle.descriptor_words.specs.Numbers.{WritesNumberWithin, value_of};
+ghost use Rattle.descriptor_words.specs.Numbers.{WritesNumberWithin, greatest_u32, value_of};
 ghost use Rattle.descriptor_words.specs.Words.{words_left};
 
 use crate::fault::Fault;
@@ -32,7 +32,7 @@ pub fn parse_counts(words: Words<'_>) -> Result<DescriptorTotalCount, Fault>
 
 /// The number of 32 bits that a word writes.
 pub fn parse_u32(word: &[u8]) -> Result<u32, Fault>
-    ensures accepted { IsOk result ↔ WritesNumberWithin 4294967295 word.now }
+    ensures accepted { IsOk result ↔ WritesNumberWithin greatest_u32 word.now }
     ensures value { IfOk result (λ number. number ≡ value_of word.now) }
     ensures fault { IfErr result (λ fault. fault ≡ Fault.BadNumber) }
 {

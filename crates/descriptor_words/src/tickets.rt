@@ -2,8 +2,8 @@
 ghost use Rattle.std.specs.Prelude.{◌≡◌, ◌≢◌, ◌+◌, ◌^◌, ◌≤◌, ◌<◌, ◌↔◌, ◌++◌, vec_len, vec_capacity, IsOk, IfOk, IfErr, OnOk, Err};
 ghost use Rattle.std.specs.List.{flat_map};
 ghost use Rattle.descriptor_words.specs.Fault.{IfFault, faulty};
-ghost use Rattle.descriptor_words.specs.Numbers.{WritesNumberWithin, value_of};
-ghost use Rattle.descriptor_words.specs.Tickets.{AreTickets, IsFaultOfFree, WritesTickets, falling, first_of, first_side, last_of, last_side, rising, span_length, tickets_between, tickets_of};
+ghost use Rattle.descriptor_words.specs.Numbers.{WritesNumberWithin, greatest_u64, value_of};
+ghost use Rattle.descriptor_words.specs.Tickets.{AreTickets, IsFaultOfFree, WritesTickets, falling, first_of, first_side, last_of, last_side, most_tickets, rising, span_length, tickets_between, tickets_of};
 ghost use Rattle.descriptor_words.specs.Words.{words_left};
 
 use crate::fault::{Fault, Refusal};
@@ -30,7 +30,7 @@ pub fn parse_free(alloc: Global, words: Words<'_>) -> Result<Vec<usize>, Refusal
     ensures accepted { OnOk result (AreTickets (words_left words.entry)) }
     ensures tickets { IfOk result (λ tickets. tickets.items
         ≡ flat_map tickets_of (words_left words.entry)) }
-    ensures few { IfOk result (λ tickets. vec_len tickets ≤ 1000000) }
+    ensures few { IfOk result (λ tickets. vec_len tickets ≤ most_tickets) }
 {
     let mut tickets = Vec::new(alloc);
     for word in words {
@@ -65,7 +65,7 @@ fn sides(word: &[u8]) -> (&[u8], &[u8])
 }
 
 fn parse_ticket(word: &[u8]) -> Result<usize, Fault>
-    ensures accepted { IsOk result ↔ WritesNumberWithin 18446744073709551615 word.now }
+    ensures accepted { IsOk result ↔ WritesNumberWithin greatest_u64 word.now }
     ensures value { IfOk result (λ ticket. ticket ≡ value_of word.now) }
     ensures fault { IfErr result (λ fault. fault ≡ Fault.BadNumber) }
 {
@@ -75,14 +75,14 @@ fn parse_ticket(word: &[u8]) -> Result<usize, Fault>
 
 /// Puts the tickets behind the others. A fault comes before any of them is written.
 fn add_tickets(tickets: &mut Vec<usize>, span: Span) -> Result<(), Refusal>
-    requires { vec_len tickets.old ≤ 1000000 }
+    requires { vec_len tickets.old ≤ most_tickets }
     ensures fault { IfErr result (λ reason. IfFault reason (λ fault. fault
         ≡ Fault.TooManyTickets)) }
     ensures too_many { result ≡ Err (faulty Fault.TooManyTickets)
-        ↔ (1000000 < vec_len tickets.old + span_length span.first span.last) }
+        ↔ (most_tickets < vec_len tickets.old + span_length span.first span.last) }
     ensures added { OnOk result (tickets.new.items ≡ tickets.old.items ++ tickets_between span.first
         span.last) }
-    ensures few { OnOk result (vec_len tickets.new ≤ 1000000) }
+    ensures few { OnOk result (vec_len tickets.new ≤ most_tickets) }
 {
     let steps = span.first.abs_diff(span.last);
     if MAX_TICKETS - tickets.len() <= steps {

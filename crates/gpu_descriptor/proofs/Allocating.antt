@@ -39,7 +39,6 @@ use Rattle.gpu_descriptor.proofs.Promises.{grant_many}
 use Rattle.gpu_descriptor.proofs.Meets.{is_done, stopped_state, stopped_at_state}
 use Rattle.gpu_descriptor.proofs.Requested.{load_is, pool_load_is, out_is}
 use Rattle.gpu_descriptor.proofs.Rollback.{give_back_rise, alloc_rise, only_key, keys_table, unnamed_key, load_of_items}
-use Rattle.gpu_descriptor.proofs.Loads.{load_at}
 
 -- what a request took keeps the key's part of the agreement, wherever it stopped
 keeps_up_to : (why : Refusal) (k : Key) (room n first : ℕ) (items : List Item) (old new : List Entry) (l m : Ledger) → IsTakenUpTo why k room n first items old new l m → KeepsKey k first items old new l.pools m.pools
@@ -162,22 +161,22 @@ module _ {P S : Type 0} {name : P → ℕ} {set_name : S → ℕ} {k : Key} {cou
           asked = st.asked;
           error = error;
           memory = st.memory;
-          back = is_back st.walked.grant (alloc_refused error no_rise) _ st.before st.walked.came st.walked.taken now.0 (now.1 ∙ alloc_rise error _);
+          back = is_back st.walked.grant (alloc_refused error no_rise) _ st.between st.walked.came st.walked.taken now.0 (now.1 ∙ alloc_rise error _);
         })
 
     back_from_new : (why : Stop) → IsGrowStopped why k room count (s.books k).first items (s.books k).pools t.pools before after → Allocates (call (refusal_answer (refusal.New why)))
     back_from_new stop.Room st =
         let now = stopped_state k room count stop.Room s t.pools items before after refl st in
-        stopped_without_room (proceeds some last final _) (record { grant = st.grant; front = record { all = st.all; pooled = pool_load_of old; is_pooled = pool_load_is name old before t.distinct; front = st.front }; no_room = st.in_room; back = is_back st.grant no_rise _ st.before st.came st.taken now.0 now.1 })
+        stopped_without_room (proceeds some last final _) (record { grant = st.grant; front = record { all = st.all; pooled = pool_load_of old; is_pooled = pool_load_is name old before t.distinct; front = st.front }; no_room = st.in_room; back = is_back st.grant no_rise _ st.between st.came st.taken now.0 now.1 })
     back_from_new stop.Books st =
         let now = stopped_state k room count stop.Books s t.pools items before after refl st in
-        stopped_for_memory (proceeds some last final _) (record { grant = st.grant; front = record { all = st.all; pooled = pool_load_of old; is_pooled = pool_load_is name old before t.distinct; front = st.front }; room = st.in_room; back = is_back st.grant no_rise _ st.before st.came st.taken now.0 now.1 })
+        stopped_for_memory (proceeds some last final _) (record { grant = st.grant; front = record { all = st.all; pooled = pool_load_of old; is_pooled = pool_load_is name old before t.distinct; front = st.front }; room = st.in_room; back = is_back st.grant no_rise _ st.between st.came st.taken now.0 now.1 })
     back_from_new (stop.Create error) st =
         let now = stopped_state k room count (stop.Create error) s t.pools items before after refl st in
-        stopped_at_create (proceeds some last final _) (record { grant = st.grant; front = record { all = st.all; pooled = pool_load_of old; is_pooled = pool_load_is name old before t.distinct; front = st.front }; room = st.in_room; error = error; back = is_back st.grant (create_refused error no_rise) _ st.before st.came st.taken now.0 now.1 })
+        stopped_at_create (proceeds some last final _) (record { grant = st.grant; front = record { all = st.all; pooled = pool_load_of old; is_pooled = pool_load_is name old before t.distinct; front = st.front }; room = st.in_room; error = error; back = is_back st.grant (create_refused error no_rise) _ st.between st.came st.taken now.0 now.1 })
     back_from_new (stop.Fresh error) st =
         let now = stopped_state k room count (stop.Fresh error) s t.pools items before after refl st in
-        stopped_at_fresh (proceeds some last final _) (record { grant = st.grant; front = record { all = st.all; pooled = pool_load_of old; is_pooled = pool_load_is name old before t.distinct; front = st.front }; room = st.in_room; error = error; back = is_back st.grant (stop_rise (stop.Fresh error)) _ st.before st.came st.taken now.0 now.1 })
+        stopped_at_fresh (proceeds some last final _) (record { grant = st.grant; front = record { all = st.all; pooled = pool_load_of old; is_pooled = pool_load_is name old before t.distinct; front = st.front }; room = st.in_room; error = error; back = is_back st.grant (stop_rise (stop.Fresh error)) _ st.between st.came st.taken now.0 now.1 })
 
     pub went_back : {why : Refusal} → taken ≡ Err why → Allocates (call (refusal_answer why))
     went_back {why} is = by_why why (subst (λ (r : Result (Unit {0}) Refusal). IfErr r (λ w. IsTakenUpTo w k room count (s.books k).first items (s.books k).pools t.pools before after)) is t.stopped)
@@ -208,7 +207,7 @@ module _ {P S : Type 0} {name : P → ℕ} {set_name : S → ℕ} {k : Key} {cou
         let total = t.total in
         let more = t.marked in
         let load = load_of_items k items keeps.of_key in
-        let long = ap (load_at k) (length-map sets (λ (x : DescriptorSet S). item_of set_name x)) in
+        let long = ap (marked_load k) (length-map sets (λ (x : DescriptorSet S). item_of set_name x)) in
         ((let e : outstanding_of last ≡ outstanding_of old = omega arith in e), (let e : marked_load_of last ≡ marked_load_of old = omega arith in e))
 
     pub back_leaves : KeepsForeign s (state_of name last final)

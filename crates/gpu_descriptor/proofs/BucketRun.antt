@@ -1,5 +1,5 @@
 -- Giving one run back to a stored bucket.
-use Rattle.std.proofs.Common.{◌≡◌, ◌≢◌, ◌⊎◌, ℕ, zero, suc, ◌+◌, ◌-◌, ◌<◌, ◌≤◌, List, [], ◌∷◌, length, map, set, get_or, slice_get, Option, Some, None, option_map, inl, inr, refl, sym, ap, ◌∙◌, arith}
+use Rattle.std.proofs.Common.{◌≡◌, ◌≢◌, ◌⊎◌, ℕ, zero, suc, ◌+◌, ◌-◌, ◌<◌, ◌≤◌, List, [], ◌∷◌, length, map, sum_by, set, get_or, slice_get, Option, Some, None, option_map, inl, inr, refl, sym, ap, ◌∙◌, arith}
 use Rattle.std.specs.Prelude.{IfSome}
 use Rattle.std.proofs.lemmas.Bool.{cases_Bool}
 use Rattle.std.proofs.lemmas.Option.{slice_get_within}
@@ -10,7 +10,6 @@ use Rattle.gpu_descriptor_types.specs.Ledger.{Pool, live_sets}
 use Rattle.gpu_descriptor_types.specs.Multiset.{LiveSet, times, AreIn}
 use Rattle.gpu_descriptor.specs.declared.bucket.DescriptorPool.{DescriptorPool}
 use Rattle.gpu_descriptor.specs.Model.Agreement.{live_in, flags_of, IsAsBooked}
-use Rattle.gpu_descriptor.specs.Inner.Allocated.{allocated_in}
 use Rattle.gpu_descriptor.specs.Model.Books.{Key, Entry, Bucket}
 use Rattle.gpu_descriptor.specs.Inner.Buckets.{AreBookedIn}
 use Rattle.gpu_descriptor.specs.Inner.Releases.{IsTakenAt}
@@ -148,21 +147,24 @@ place_room k b pools i e stored at =
 pub length_names : (k : Key) (names : List ℕ) → length (live_sets k.counts names) ≡ length names
 length_names k names = length-map names (λ (name : ℕ). record { name = name; counts = k.counts })
 
+abbrev allocated_from : {P : Type 0} → List (DescriptorPool P) → ℕ
+allocated_from pools = sum_by (λ p. p.allocated) pools
+
 -- the sets that go back are no longer counted
 pub total_less : {P : Type 0} (items : List (DescriptorPool P)) (i : ℕ) (q : DescriptorPool P) (raw : P) (m : ℕ) → i < length items → q ≡ get_or items i q → m ≤ q.allocated
-    → (m ≤ allocated_in items) × (allocated_in (set items i (record { raw = raw; capacity = q.capacity; allocated = q.allocated - m; available = q.available + m })) + m ≡ allocated_in items)
+    → (m ≤ allocated_from items) × (allocated_from (set items i (record { raw = raw; capacity = q.capacity; allocated = q.allocated - m; available = q.available + m })) + m ≡ allocated_from items)
 total_less [] i q raw m lt is fits = absurd (omega arith)
 total_less {P = P} (x ∷ items) zero q raw m lt is fits =
     let e : q.allocated ≡ x.allocated = ap (λ (p : DescriptorPool P). p.allocated) is in
-    let old : allocated_in (x ∷ items) ≡ x.allocated + allocated_in items = sum_by-cons (λ (p : DescriptorPool P). p.allocated) x items in
+    let old : allocated_from (x ∷ items) ≡ x.allocated + allocated_from items = sum_by-cons (λ (p : DescriptorPool P). p.allocated) x items in
     let y : DescriptorPool P = record { raw = raw; capacity = q.capacity; allocated = q.allocated - m; available = q.available + m } in
-    let new : allocated_in (y ∷ items) ≡ y.allocated + allocated_in items = sum_by-cons (λ (p : DescriptorPool P). p.allocated) y items in
+    let new : allocated_from (y ∷ items) ≡ y.allocated + allocated_from items = sum_by-cons (λ (p : DescriptorPool P). p.allocated) y items in
     (omega arith, omega arith)
 total_less {P = P} (x ∷ items) (suc i) q raw m lt is fits =
     let rest = total_less items i q raw m (omega arith) is fits in
     let a = rest.0 in
     let b = rest.1 in
     let y : DescriptorPool P = record { raw = raw; capacity = q.capacity; allocated = q.allocated - m; available = q.available + m } in
-    let old : allocated_in (x ∷ items) ≡ x.allocated + allocated_in items = sum_by-cons (λ (p : DescriptorPool P). p.allocated) x items in
-    let new : allocated_in (x ∷ set items i y) ≡ x.allocated + allocated_in (set items i y) = sum_by-cons (λ (p : DescriptorPool P). p.allocated) x (set items i y) in
+    let old : allocated_from (x ∷ items) ≡ x.allocated + allocated_from items = sum_by-cons (λ (p : DescriptorPool P). p.allocated) x items in
+    let new : allocated_from (x ∷ set items i y) ≡ x.allocated + allocated_from (set items i y) = sum_by-cons (λ (p : DescriptorPool P). p.allocated) x (set items i y) in
     (omega arith, omega arith)

@@ -7,13 +7,14 @@ use Rattle.std.proofs.lemmas.List.{map-append}
 use Rattle.std.proofs.lemmas.List.Sums.{sum_by-append}
 use Rattle.gpu_descriptor_types.specs.Ledger.{Counters, Ledger}
 use Rattle.gpu_descriptor_types.proofs.Counting.{bool_iff}
+use Rattle.gpu_descriptor.specs.Model.Load.{marked_load}
 use Rattle.gpu_descriptor.specs.declared.set.BucketKey.{BucketKey}
 use Rattle.gpu_descriptor.specs.declared.set.DescriptorSet.{DescriptorSet}
 use Rattle.gpu_descriptor.specs.Model.Agreement.{State, Item, AreOutstanding, Agree, count_of}
 use Rattle.gpu_descriptor.specs.Model.Books.{Key, key_eq}
 use Rattle.gpu_descriptor.specs.Model.Release.{more_released, more_destroyed, released, given_back, pools_gone}
 use Rattle.gpu_descriptor.specs.Caller.Comparisons.{open_pools, run_digits, binary_digits}
-use Rattle.gpu_descriptor.specs.Caller.Frees.{descriptors_of, GivesBack, Frees}
+use Rattle.gpu_descriptor.specs.Caller.Frees.{GivesBack, Frees}
 use Rattle.gpu_descriptor.specs.Inner.Releases.{FreesRun}
 use Rattle.gpu_descriptor.specs.Model.Runs.{runs, breaks}
 use Rattle.gpu_descriptor.specs.Caller.Sets.{key_of, item_of, items_of}
@@ -113,7 +114,7 @@ module _ {S : Type 0} (set_name : S → ℕ) where
       let sum : pools_gone (keys_of old) (items xs) (given_back (items xs) s) + pools_gone (keys_of old) (items ys) (given_back (items ys) (released (items xs) s)) ≡ pools_gone (keys_of old) (items (xs ++ ys)) (given_back (items (xs ++ ys)) s) =
       gone (keys_of old) (items xs) (items ys) s agree out ∙ ap (λ (l : List Item). pools_gone (keys_of old) l (given_back l s)) (sym whole) in
       let long = length-append xs ys in
-      let load = ap (sum_by descriptors_of) whole ∙ sum_by-append descriptors_of (items xs) (items ys) in
+      let load = ap (sum_by (λ (t : Item). marked_load t.key 1)) whole ∙ sum_by-append (λ (t : Item). marked_load t.key 1) (items xs) (items ys) in
       let a = one.outstanding in
       let b = two.outstanding in
       let c = one.marked in

@@ -15,7 +15,7 @@ use Rattle.gpu_descriptor.specs.Model.Books.{Key, Entry}
 use Rattle.gpu_descriptor.specs.Model.FreshPools.{Fresh, fresh_portions, fresh_entry, given_by, IsNextSize, room_after, AreSized, AreFull, AreNew, IsFreshFront, IsFreshList}
 use Rattle.gpu_descriptor.specs.Model.Grants.{Grant, Part, items_at, items_in, portion_of, came, pool_with, ledger_with, entries_with, fresh_or}
 use Rattle.gpu_descriptor.specs.Inner.Grow.{IsGrown, IsNotGrown, TellsOfRoom, IsTakenAll, IsGrowStopped}
-use Rattle.gpu_descriptor.specs.Model.Load.{held, pool_load, pools_load}
+use Rattle.gpu_descriptor.specs.Model.Load.{allocated_in, pool_load, pools_load}
 use Rattle.gpu_descriptor.specs.Model.Outcomes.{no_rise, risen, grant_rise}
 use Rattle.gpu_descriptor.specs.Model.Shares.{offer, rest, share, shared, all_shared, Portion, portions_of}
 use Rattle.gpu_descriptor.specs.Inner.Buckets.{AreBookedIn}
@@ -39,12 +39,12 @@ pub record Growing (k : Key) (start n first room total wanting : ℕ) (items : L
   pub parts : List Part
   pub fresh : List Fresh
   pub came : items_in k parts ≡ items
-  pub totals : total ≡ held (all_shared refused n old) + given_by fresh
+  pub totals : total ≡ allocated_in (all_shared refused n old) + given_by fresh
   pub wants : wanting + given_by fresh ≡ rest refused n old
-  pub sized : AreSized k start (held (all_shared refused n old)) (rest refused n old) fresh
+  pub sized : AreSized k start (allocated_in (all_shared refused n old)) (rest refused n old) fresh
   pub room_now : room ≡ room_after k start fresh
   pub full : 0 < wanting → AreFull fresh
-  pub list : wanting ≡ 0 → IsFreshList k start (held (all_shared refused n old)) (rest refused n old) fresh
+  pub list : wanting ≡ 0 → IsFreshList k start (allocated_in (all_shared refused n old)) (rest refused n old) fresh
   pub keeps : KeepsKey k first items old new l.pools m.pools
   pub taken : HasTaken k n first (all_so_far refused fresh parts) old new l m
 
@@ -60,13 +60,13 @@ grown_long k start n first room total wanting items old new l m s =
     ∙ (let a = length-all_shared s.refused n old in let b = length-map s.fresh fresh_entry in omega arith)
 
 -- what is out rises by what was given
-pub held_shared : (refused : ℕ → Bool) (n : ℕ) (es : List Entry) → held (all_shared refused n es) + rest refused n es ≡ held es + n
-held_shared refused n [] = omega arith
-held_shared refused n (e ∷ newer) =
+pub allocated_shared : (refused : ℕ → Bool) (n : ℕ) (es : List Entry) → allocated_in (all_shared refused n es) + rest refused n es ≡ allocated_in es + n
+allocated_shared refused n [] = omega arith
+allocated_shared refused n (e ∷ newer) =
     let a = sum_by-cons (λ (x : Entry). x.allocated) (shared refused n newer e) (all_shared refused n newer) in
     let b = sum_by-cons (λ (x : Entry). x.allocated) e newer in
     let s = sum_by-cons (offer refused) e newer in
-    let ih = held_shared refused n newer in
+    let ih = allocated_shared refused n newer in
     omega arith
 
 -- no pool of the name among the new ones, and none in the ledger
@@ -227,10 +227,10 @@ module _ (k : Key) (start n first room left total wanting : ℕ) (items : List I
       let long = length-append s.fresh (f ∷ []) in
       a.counters ∙ up ∙ same_counters _ _ (omega arith) (omega arith) (omega arith) (omega arith) (omega arith) (omega arith) (omega arith) (omega arith)
 
-  sized_now : AreSized k start (held (all_shared s.refused n old)) (rest s.refused n old) fresh_now
+  sized_now : AreSized k start (allocated_in (all_shared s.refused n old)) (rest s.refused n old) fresh_now
   sized_now =
       let w : wanting ≡ rest s.refused n old - given_by s.fresh = (let x = s.wants in omega arith) in
-      sized_more k start (held (all_shared s.refused n old)) (rest s.refused n old) s.fresh f s.sized (subst (λ (x : ℕ). IsNextSize k (room_after k start s.fresh) x (rest s.refused n old - given_by s.fresh) f.size) s.totals (subst (λ (x : ℕ). IsNextSize k (room_after k start s.fresh) total x f.size) w (subst (λ (x : ℕ). IsNextSize k x total wanting f.size) s.room_now a.size)))
+      sized_more k start (allocated_in (all_shared s.refused n old)) (rest s.refused n old) s.fresh f s.sized (subst (λ (x : ℕ). IsNextSize k (room_after k start s.fresh) x (rest s.refused n old - given_by s.fresh) f.size) s.totals (subst (λ (x : ℕ). IsNextSize k (room_after k start s.fresh) total x f.size) w (subst (λ (x : ℕ). IsNextSize k x total wanting f.size) s.room_now a.size)))
 
   pub grow_more : (total' wanting' : ℕ) → 0 < wanting → total' ≡ total + length more → wanting' + length more ≡ wanting → Growing k start n first left total' wanting' (items ++ items_at k (first + length old + length s.fresh) more) old new' l m'
   grow_more total' wanting' some totals' less =
@@ -259,7 +259,7 @@ module _ (k : Key) (start n first room left total wanting : ℕ) (items : List I
         };
       }
 
-pub grow_start : (k : Key) (start n first total wanting : ℕ) (items : List Item) (old new : List Entry) (l m : Ledger) → (w : IsWalked k n first 0 items old new l m) → wanting ≡ rest w.grant.refused n old → total ≡ held old + (n - wanting) → Growing k start n first start total wanting items old new l m
+pub grow_start : (k : Key) (start n first total wanting : ℕ) (items : List Item) (old new : List Entry) (l m : Ledger) → (w : IsWalked k n first 0 items old new l m) → wanting ≡ rest w.grant.refused n old → total ≡ allocated_in old + (n - wanting) → Growing k start n first start total wanting items old new l m
 grow_start k start n first total wanting items old new l m w wants totals =
     let grant : w.grant ≡ all_so_far w.grant.refused [] w.grant.parts = (λ i. record { left = w.from i; refused = w.grant.refused; fresh = w.no_fresh i; parts = w.grant.parts }) in
     record {
@@ -267,7 +267,7 @@ grow_start k start n first total wanting items old new l m w wants totals =
       parts = w.grant.parts;
       fresh = [];
       came = w.came;
-      totals = (let h = held_shared w.grant.refused n old in let none : given_by [] ≡ 0 = omega arith in omega arith);
+      totals = (let h = allocated_shared w.grant.refused n old in let none : given_by [] ≡ 0 = omega arith in omega arith);
       wants = (let none : given_by [] ≡ 0 = omega arith in omega arith);
       sized = tt;
       room_now = refl;
@@ -293,7 +293,7 @@ grow_stop why k start n first room total wanting items old new l m m' some s non
   all = refl;
   came = s.came;
   front = record { sized = s.sized; full = s.full some; short = (let w = s.wants in omega arith) };
-  before = m;
+  between = m;
   keeps = s.keeps;
   taken = s.taken;
   stopped = none;

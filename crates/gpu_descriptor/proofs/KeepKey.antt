@@ -12,7 +12,7 @@ use Rattle.gpu_descriptor_types.proofs.Counting.{count_by_yes, count_by_no, set_
 use Rattle.gpu_descriptor.specs.Model.Books.{Key, key_eq, Entry}
 use Rattle.gpu_descriptor.specs.Model.Agreement.{Item, item_eq, set_of, count_of, IsAsBooked}
 use Rattle.gpu_descriptor.specs.Model.Grants.{items_at, pool_with}
-use Rattle.gpu_descriptor.specs.Model.Load.{held}
+use Rattle.gpu_descriptor.specs.Model.Load.{allocated_in}
 use Rattle.gpu_descriptor.specs.Inner.Buckets.{IsBookedIn}
 use Rattle.gpu_descriptor.specs.Inner.Walk.{IsAsked}
 use Rattle.gpu_descriptor.proofs.Exact.{item_exact, item_from}
@@ -118,18 +118,18 @@ any_written q [] i e f at same = absurd (cc)
 any_written q (x ∷ es) zero e f at same = (let is : x ≡ e = cc in ap (λ n. (n == q) || list_any (λ (d : Entry). d.pool == q) es) (same ∙ ap (λ (y : Entry). y.pool) (sym is)))
 any_written q (x ∷ es) (suc i) e f at same = ap (λ b. (x.pool == q) || b) (any_written q es i e f at same)
 
-pub held_written : (es : List Entry) (i : ℕ) (e f : Entry) (n : ℕ) → slice_get es i ≡ Some e → f.allocated ≡ e.allocated + n → held (slice_set es i f) ≡ held es + n
-held_written [] i e f n at more = absurd (cc)
-held_written (x ∷ es) zero e f n at more =
+pub allocated_written : (es : List Entry) (i : ℕ) (e f : Entry) (n : ℕ) → slice_get es i ≡ Some e → f.allocated ≡ e.allocated + n → allocated_in (slice_set es i f) ≡ allocated_in es + n
+allocated_written [] i e f n at more = absurd (cc)
+allocated_written (x ∷ es) zero e f n at more =
     let is : x ≡ e = cc in
     let was : x.allocated ≡ e.allocated = ap (λ (y : Entry). y.allocated) is in
     let a = sum_by-cons (λ (y : Entry). y.allocated) f es in
     let b = sum_by-cons (λ (y : Entry). y.allocated) x es in
     omega arith
-held_written (x ∷ es) (suc i) e f n at more =
+allocated_written (x ∷ es) (suc i) e f n at more =
     let a = sum_by-cons (λ (y : Entry). y.allocated) x (slice_set es i f) in
     let b = sum_by-cons (λ (y : Entry). y.allocated) x es in
-    let rest = held_written es i e f n at more in
+    let rest = allocated_written es i e f n at more in
     omega arith
 
 -- what stands in a list with one more at its end

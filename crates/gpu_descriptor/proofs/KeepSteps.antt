@@ -18,11 +18,11 @@ use Rattle.gpu_descriptor.specs.Model.Books.{Key, Entry}
 use Rattle.gpu_descriptor.specs.Model.Agreement.{Item, item_eq, set_of, count_of, live_in, flags_of, IsAsBooked}
 use Rattle.gpu_descriptor.specs.Model.FreshPools.{fresh_entry}
 use Rattle.gpu_descriptor.specs.Model.Grants.{items_at, pool_with}
-use Rattle.gpu_descriptor.specs.Model.Load.{held}
+use Rattle.gpu_descriptor.specs.Model.Load.{allocated_in}
 use Rattle.gpu_descriptor.specs.Inner.Buckets.{IsBookedIn, AreBookedIn}
 use Rattle.gpu_descriptor.specs.Inner.Walk.{IsAsked, KeepsKey, live_at}
 use Rattle.gpu_descriptor.specs.Inner.Grow.{IsGrown}
-use Rattle.gpu_descriptor.proofs.KeepKey.{pool_booked, on_pool_here, asked_booked, any_at, not_any, set_got, set_here, set_there, any_written, held_written, end_got, end_before, end_here, end_past, place_of_items, count_of_items, count_elsewhere}
+use Rattle.gpu_descriptor.proofs.KeepKey.{pool_booked, on_pool_here, asked_booked, any_at, not_any, set_got, set_here, set_there, any_written, allocated_written, end_got, end_before, end_here, end_past, place_of_items, count_of_items, count_elsewhere}
 
 pub keeps_start : (k : Key) (first : ℕ) (old : List Entry) (pools : ℕ → Option Pool) → AreBookedIn k pools old → KeepsKey k first [] old old pools pools
 keeps_start k first old pools booked = record {
@@ -32,7 +32,7 @@ keeps_start k first old pools booked = record {
   others = λ q none. refl;
   of_key = λ t some. absurd (omega arith);
   out = λ t key. (let e : live_at pools (record { first = first; pools = old }) t ≡ live_at pools (record { first = first; pools = old }) t + 0 = omega arith in e);
-  more = (let e : held old ≡ held old + 0 = omega arith in e);
+  more = (let e : allocated_in old ≡ allocated_in old + 0 = omega arith in e);
 }
 
 -- how often a set is live in an entry's pool, if there is an entry
@@ -131,7 +131,7 @@ module _ (k : Key) (first i wanted : ℕ) (items : List Item) (old new : List En
     out = λ t key. (let one = out_now t key in let rest = s.out t key in let both = count_append t items (items_at k (first + i) names) in omega arith);
     more = (
         let allocated : f.allocated ≡ e.allocated + length names = ap (λ (x : Entry). x.allocated) a.entry in
-        let now = held_written new i e f (length names) at allocated in
+        let now = allocated_written new i e f (length names) at allocated in
         let long = length-append items (items_at k (first + i) names) in
         let each = length-map names (λ (n : ℕ). let u : Item = record { key = k; number = first + i; name = n } in u) in
         let was = s.more in
@@ -270,7 +270,7 @@ module _ (k : Key) (first room left total wanted : ℕ) (items : List Item) (old
     out = λ t key. (let one = out_grown t key in let rest = s.out t key in let both = count_append t items (items_at k (first + length new) names) in omega arith);
     more = (
         let now = sum_by-append (λ (e : Entry). e.allocated) new (x ∷ []) in
-        let one : held (x ∷ []) ≡ g.pool.given = omega arith in
+        let one : allocated_in (x ∷ []) ≡ g.pool.given = omega arith in
         let long = length-append items (items_at k (first + length new) names) in
         let each = length-map names (λ (n : ℕ). let u : Item = record { key = k; number = first + length new; name = n } in u) in
         let was = s.more in

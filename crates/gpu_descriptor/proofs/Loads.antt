@@ -1,7 +1,6 @@
 -- The running totals of a table, and what a run takes from them.
-use Rattle.std.proofs.Common.{◌≡◌, ℕ, ◌+◌, ◌*◌, ◌-◌, ◌≤◌, Bool, true, List, [], ◌∷◌, ◌++◌, length, map, sum, sum_by, Option, Some, None, inl, inr, refl, sym, ap, subst, ◌∙◌, arith}
+use Rattle.std.proofs.Common.{◌≡◌, ℕ, ◌+◌, ◌-◌, ◌≤◌, Bool, true, List, [], ◌∷◌, ◌++◌, length, map, sum_by, Option, Some, None, inl, inr, refl, sym, ap, subst, ◌∙◌, arith}
 use Rattle.std.specs.List.{IsDistinct}
-use Rattle.std.specs.Prelude.{if◌then◌else◌}
 use Rattle.std.specs.Map.{lookup, set_value}
 use Rattle.std.proofs.lemmas.Bool.{cases_Bool}
 use Rattle.std.proofs.lemmas.List.Sums.{sum_by-cons, sum_by-append}
@@ -9,33 +8,29 @@ use Rattle.gpu_descriptor.specs.declared.set.BucketKey.{BucketKey}
 use Rattle.gpu_descriptor.specs.declared.set.DescriptorSet.{DescriptorSet}
 use Rattle.gpu_descriptor.specs.declared.bucket.DescriptorPool.{DescriptorPool}
 use Rattle.gpu_descriptor.specs.declared.bucket.DescriptorBucket.{DescriptorBucket}
-use Rattle.gpu_descriptor.specs.Inner.Allocated.{allocated_in}
 use Rattle.gpu_descriptor.specs.Model.Books.{Key, key_eq}
-use Rattle.gpu_descriptor.specs.Model.Load.{pool_load}
-use Rattle.gpu_descriptor.specs.Caller.Frees.{descriptors_of, marked_descriptors}
+use Rattle.gpu_descriptor.specs.Model.Agreement.{Item}
+use Rattle.gpu_descriptor.specs.Model.Load.{marked_load, pool_load}
+use Rattle.gpu_descriptor.specs.Caller.Frees.{marked_descriptors}
 use Rattle.gpu_descriptor.specs.Caller.Sets.{key_of, item_of, items_of}
 use Rattle.gpu_descriptor.specs.Caller.States.{sets_in, descriptors_in, pool_load_in, outstanding_of, marked_load_of}
 use Rattle.gpu_descriptor.specs.Inner.RunSteps.{HaveKey}
-use Rattle.gpu_descriptor.specs.Inner.Stored.{kept_of, row_of, load_in, stored_keys, stored_load_in, stored_load, IsCounted}
+use Rattle.gpu_descriptor.specs.Inner.Stored.{kept_of, row_of, load_in, stored_keys, stored_load_in, stored_load, IsConsistent}
 use Rattle.gpu_descriptor.specs.Caller.Values.{Allocations, Kept}
 use Rattle.gpu_descriptor.proofs.Exact.{key_exact}
 use Rattle.gpu_descriptor.proofs.WholeRun.{at_parts}
 
--- the descriptors of so many sets of a key, if it is marked
-abbrev pub load_at : Key → ℕ → ℕ
-load_at k n = if k.marked then n * sum k.counts else 0
+pub marked_load-none : (k : Key) → marked_load k 0 ≡ 0
+marked_load-none k = elim (cases_Bool k.marked) [ inl on ↦ rw on (omega arith) | inr off ↦ rw off refl ]
 
-pub load_at-none : (k : Key) → load_at k 0 ≡ 0
-load_at-none k = elim (cases_Bool k.marked) [ inl on ↦ rw on (omega arith) | inr off ↦ rw off refl ]
+pub marked_load-add : (k : Key) (m n : ℕ) → marked_load k (m + n) ≡ marked_load k m + marked_load k n
+marked_load-add k m n = elim (cases_Bool k.marked) [ inl on ↦ rw on (grind arith) | inr off ↦ rw off refl ]
 
-pub load_at-add : (k : Key) (m n : ℕ) → load_at k (m + n) ≡ load_at k m + load_at k n
-load_at-add k m n = elim (cases_Bool k.marked) [ inl on ↦ rw on (grind arith) | inr off ↦ rw off refl ]
-
-pub load_at-le : (k : Key) (m n : ℕ) → m ≤ n → load_at k m ≤ load_at k n
-load_at-le k m n le =
+pub marked_load-le : (k : Key) (m n : ℕ) → m ≤ n → marked_load k m ≤ marked_load k n
+marked_load-le k m n le =
     let rest : m + (n - m) ≡ n = omega arith in
-    let parts = load_at-add k m (n - m) in
-    let whole : load_at k (m + (n - m)) ≡ load_at k n = ap (load_at k) rest in
+    let parts = marked_load-add k m (n - m) in
+    let whole : marked_load k (m + (n - m)) ≡ marked_load k n = ap (marked_load k) rest in
     omega arith
 
 -- the row of a key, which a test of the map finds
@@ -75,7 +70,7 @@ module _ {P : Type 0} where
   pub pools_out : (b : DescriptorBucket P) → sum_by (λ (p : Kept P). p.allocated) (map kept_of b.pools.items) ≡ b.total
   pools_out b = go b.pools.items ∙ sym b.counted
     where
-      go : (ps : List (DescriptorPool P)) → sum_by (λ (p : Kept P). p.allocated) (map kept_of ps) ≡ allocated_in ps
+      go : (ps : List (DescriptorPool P)) → sum_by (λ (p : Kept P). p.allocated) (map kept_of ps) ≡ sum_by (λ (p : DescriptorPool P). p.allocated) ps
       go [] = refl
       go (p ∷ ps) = sum_by-cons (λ (q : Kept P). q.allocated) (kept_of p) (map kept_of ps) ∙ ap (λ n. p.allocated + n) (go ps) ∙ sym (sum_by-cons (λ (q : DescriptorPool P). q.allocated) p ps)
 
@@ -91,7 +86,7 @@ module _ {P : Type 0} where
   pub rows_load : (es : List (BucketKey × DescriptorBucket P)) → sum_by descriptors_in (map row_of es) ≡ sum_by load_in es
   rows_load [] = refl
   rows_load (e ∷ es) =
-      let own : load_at (key_of e.0) (sets_in (row_of e)) ≡ load_at (key_of e.0) e.1.total = ap (load_at (key_of e.0)) (pools_out e.1) in
+      let own : marked_load (key_of e.0) (sets_in (row_of e)) ≡ marked_load (key_of e.0) e.1.total = ap (marked_load (key_of e.0)) (pools_out e.1) in
       let rest = rows_load es in
       let a = sum_by-cons descriptors_in (row_of e) (map row_of es) in
       let b = sum_by-cons (load_in {P = P}) e es in
@@ -111,20 +106,17 @@ module _ {P : Type 0} where
       go k (p ∷ ps) = sum_by-cons (λ (q : Kept P). pool_load k q.capacity) (kept_of p) (map kept_of ps) ∙ ap (λ n. pool_load k p.capacity + n) (go k ps) ∙ sym (sum_by-cons (λ (q : DescriptorPool P). pool_load k q.capacity) p ps)
 
 -- the descriptors of a run
-pub run_load : {S : Type 0} (name : S → ℕ) (k : BucketKey) (n : ℕ) (xs : List (DescriptorSet S)) → HaveKey k n xs → marked_descriptors (items_of name xs) ≡ load_at (key_of k) (length xs)
-run_load name k n [] have = sym (load_at-none (key_of k))
+pub run_load : {S : Type 0} (name : S → ℕ) (k : BucketKey) (n : ℕ) (xs : List (DescriptorSet S)) → HaveKey k n xs → marked_descriptors (items_of name xs) ≡ marked_load (key_of k) (length xs)
+run_load name k n [] have = sym (marked_load-none (key_of k))
 run_load name k n (x ∷ xs) have =
     let key : key_of x.key ≡ key_of k = (at_parts k n x have.0).0 in
-    let one : load_at (key_of k) 1 ≡ descriptors_of (item_of name x) = ap (λ (l : Key). load_at l 1) (sym key) ∙ single (key_of x.key) in
+    let one : marked_load (key_of k) 1 ≡ marked_load (key_of x.key) 1 = ap (λ (l : Key). marked_load l 1) (sym key) in
     let rest = run_load name k n xs have.1 in
-    let a = sum_by-cons descriptors_of (item_of name x) (items_of name xs) in
-    let b = load_at-add (key_of k) 1 (length xs) in
+    let a = sum_by-cons (λ (t : Item). marked_load t.key 1) (item_of name x) (items_of name xs) in
+    let b = marked_load-add (key_of k) 1 (length xs) in
     let long : 1 + length xs ≡ length (x ∷ xs) = omega arith in
-    let c = ap (load_at (key_of k)) long in
+    let c = ap (marked_load (key_of k)) long in
     omega arith
-  where
-    single : (l : Key) → load_at l 1 ≡ (if l.marked then sum l.counts else 0)
-    single l = elim (cases_Bool l.marked) [ inl on ↦ rw on (omega arith) | inr off ↦ rw off refl ]
 
 pub pools_end : {P : Type 0} (k : BucketKey) (es : List (BucketKey × DescriptorBucket P)) (w : DescriptorBucket P) (left room : ℕ) → left + stored_load (key_of k) w.pools.items ≡ room → left + sum_by stored_load_in (es ++ (k, w) ∷ []) ≡ room + sum_by stored_load_in es
 pools_end {P} k es w left room moved =
@@ -135,7 +127,7 @@ pools_end {P} k es w left room moved =
 -- what a run takes from the totals
 pub record Taken {P : Type 0} (k : Key) (n : ℕ) (es fs : List (BucketKey × DescriptorBucket P)) : Type 0 where
   pub out : sum_by (λ r. r.1.total) fs + n ≡ sum_by (λ r. r.1.total) es
-  pub load : sum_by load_in fs + load_at k n ≡ sum_by load_in es
+  pub load : sum_by load_in fs + marked_load k n ≡ sum_by load_in es
 
 module _ {P : Type 0} {k : Key} {es : List (BucketKey × DescriptorBucket P)} {v : DescriptorBucket P} (row : IsRow k es v) where
   -- its sets are of the table's
@@ -164,13 +156,13 @@ module _ {P : Type 0} {k : Key} {es fs : List (BucketKey × DescriptorBucket P)}
   taken_out : (n : ℕ) → w.total + n ≡ v.total → sum_by (λ b. b.1.total) (set_value r.row.test es w) + n ≡ sum_by (λ b. b.1.total) es
   taken_out n total = (let moved = (sum_set (λ (b : BucketKey × DescriptorBucket P). b.1.total) r.row.test es v w r.row.at).3 in omega arith)
 
-  taken_load : (n : ℕ) → w.total + n ≡ v.total → sum_by load_in (set_value r.row.test es w) + load_at k n ≡ sum_by load_in es
+  taken_load : (n : ℕ) → w.total + n ≡ v.total → sum_by load_in (set_value r.row.test es w) + marked_load k n ≡ sum_by load_in es
   taken_load n total =
       let a = sum_set (load_in {P = P}) r.row.test es v w r.row.at in
       let is : k ≡ key_of a.0 = key_exact.same k (key_of a.0) (sym (r.row.same a.0) ∙ a.1) in
-      let old : load_in {P = P} (a.0, v) ≡ load_at k v.total = ap (λ (l : Key). load_at l v.total) (sym is) in
-      let new : load_in {P = P} (a.0, w) ≡ load_at k w.total = ap (λ (l : Key). load_at l w.total) (sym is) in
-      let parts : load_at k v.total ≡ load_at k w.total + load_at k n = ap (load_at k) (sym total) ∙ load_at-add k w.total n in
+      let old : load_in {P = P} (a.0, v) ≡ marked_load k v.total = ap (λ (l : Key). marked_load l v.total) (sym is) in
+      let new : load_in {P = P} (a.0, w) ≡ marked_load k w.total = ap (λ (l : Key). marked_load l w.total) (sym is) in
+      let parts : marked_load k v.total ≡ marked_load k w.total + marked_load k n = ap (marked_load k) (sym total) ∙ marked_load-add k w.total n in
       let moved = a.3 in
       omega arith
 
@@ -179,10 +171,10 @@ module _ {P : Type 0} {k : Key} {es fs : List (BucketKey × DescriptorBucket P)}
 
 module _ {P : Type 0} {k : Key} {n : ℕ} {es fs : List (BucketKey × DescriptorBucket P)} (t : Taken k n es fs) where
   -- what goes was there
-  pub load_fits : {limit marked room out : ℕ} → IsCounted limit marked room out es → load_at k n ≤ marked
+  pub load_fits : {limit marked room out : ℕ} → IsConsistent limit marked room out es → marked_load k n ≤ marked
   load_fits counted = (let is = counted.is_load in let load = t.load in omega arith)
 
-  pub counted_after : {limit marked room left out less : ℕ} → IsCounted limit marked room out es → less ≡ load_at k n → left + sum_by stored_load_in fs ≡ room + sum_by stored_load_in es → stored_keys fs ≡ stored_keys es → IsCounted limit (marked - less) left (out - n) fs
+  pub counted_after : {limit marked room left out less : ℕ} → IsConsistent limit marked room out es → less ≡ marked_load k n → left + sum_by stored_load_in fs ≡ room + sum_by stored_load_in es → stored_keys fs ≡ stored_keys es → IsConsistent limit (marked - less) left (out - n) fs
   counted_after counted load pools keys = record {
     distinct = subst (IsDistinct key_eq) (sym keys) counted.distinct;
     is_load = (let is = counted.is_load in let gone = t.load in omega arith);
@@ -199,7 +191,7 @@ module _ {P : Type 0} {k : Key} {n : ℕ} {es fs : List (BucketKey × Descriptor
         let out = t.out in
         omega arith
 
-    pub load_after : (m : ℕ) → m ≡ load_at k n → sum_by descriptors_in (map row_of fs) + m ≡ marked_load_of old
+    pub load_after : (m : ℕ) → m ≡ marked_load k n → sum_by descriptors_in (map row_of fs) + m ≡ marked_load_of old
     load_after m same =
         let a = ap (sum_by descriptors_in) is ∙ rows_load es in
         let b = rows_load fs in

@@ -41,7 +41,7 @@ is_done c new items l m ledger before now after pooled is_pooled t answer = reco
 pub stopped_state : (k : Key) (room n : ℕ) (why : Stop) (s : State) (new : List Entry) (items : List Item) (l m : Ledger) → s.ledger ≡ l.pools → (t : IsGrowStopped why k room n (s.books k).first items (s.books k).pools new l m)
     → (with_pools k new m.pools s ≡ granted k n t.grant s) × (m.counters ≡ risen (stop_rise why) (risen (grant_rise n t.grant (s.books k).pools) l.counters))
 stopped_state k room n why s new items l m ledger t = (
-  ap (λ (p : ℕ → Option Pool). with_pools k new p s) t.stopped.pools ∙ granted_is k n t.grant s new l t.before ledger t.taken,
+  ap (λ (p : ℕ → Option Pool). with_pools k new p s) t.stopped.pools ∙ granted_is k n t.grant s new l t.between ledger t.taken,
   t.stopped.counters ∙ ap (risen (stop_rise why)) t.taken.counters,
 )
 
@@ -49,6 +49,6 @@ stopped_state k room n why s new items l m ledger t = (
 pub stopped_at_state : (k : Key) (n : ℕ) (error : DeviceAllocationError) (s : State) (new : List Entry) (items : List Item) (l m : Ledger) → s.ledger ≡ l.pools → (t : IsWalkStopped k n (s.books k).first error items (s.books k).pools new l m)
     → (with_pools k new m.pools s ≡ granted k n t.walked.grant s) × (m.counters ≡ alloc_refused error (risen (grant_rise n t.walked.grant (s.books k).pools) l.counters))
 stopped_at_state k n error s new items l m ledger t = (
-  ap (λ (p : ℕ → Option Pool). with_pools k new p s) t.pools ∙ granted_is k n t.walked.grant s new l t.before ledger t.walked.taken,
+  ap (λ (p : ℕ → Option Pool). with_pools k new p s) t.pools ∙ granted_is k n t.walked.grant s new l t.between ledger t.walked.taken,
   t.counters ∙ ap (alloc_refused error) t.walked.taken.counters,
 )

@@ -16,14 +16,14 @@ use Rattle.gpu_descriptor.specs.Model.Books.{Key, key_eq, Entry, Bucket, entry_a
 use Rattle.gpu_descriptor.specs.Model.FreshPools.{Fresh, AreNew, AreSized, AreFull, IsFreshList, given_by, fresh_entry}
 use Rattle.gpu_descriptor.specs.Model.FreshPools.IsFreshList.{none as no_fresh, some as some_fresh}
 use Rattle.gpu_descriptor.specs.Model.Grants.{Grant, items_in, came, granted, entries_with, fresh_or, pool_with}
-use Rattle.gpu_descriptor.specs.Model.Load.{held, pool_load}
+use Rattle.gpu_descriptor.specs.Model.Load.{allocated_in, pool_load}
 use Rattle.gpu_descriptor.specs.Model.Outcomes.{Call, IsBack, IsDone, IsFront, out_then, wanting}
 use Rattle.gpu_descriptor.specs.Model.Promises.{AreBelowTwice, HasNewPools}
 use Rattle.gpu_descriptor.specs.Model.Release.{released, given_back, pool_less, lies_in, in_front, spent_front, bucket_less}
 use Rattle.gpu_descriptor.specs.Model.Shares.{offer, rest, shared, all_shared}
 use Rattle.gpu_descriptor.proofs.Exact.{key_exact}
 use Rattle.gpu_descriptor.proofs.Fronts.{entry_at-found, slice_get-drop}
-use Rattle.gpu_descriptor.proofs.Growing.{held_shared, length-all_shared}
+use Rattle.gpu_descriptor.proofs.Growing.{allocated_shared, length-all_shared}
 use Rattle.gpu_descriptor.proofs.NextSize.{next_below}
 use Rattle.gpu_descriptor.proofs.Places.{back, front_of, released_books, was_there}
 
@@ -59,10 +59,10 @@ all_below k room total wanted pools (some_fresh front last is short sized le giv
     subst (λ fs. AreBelowTwice total wanted (sizes_of fs)) (sym is) (list_below k room total wanted front last (subst (AreSized k room total wanted) is sized) short.full short.short)
 
 -- what is out once the existing pools have given
-from_shared : (refused : ℕ → Bool) (n : ℕ) (es : List Entry) (sizes : List ℕ) → AreBelowTwice (held (all_shared refused n es)) (rest refused n es) sizes → AreBelowTwice (held es + (n - rest refused n es)) (rest refused n es) sizes
+from_shared : (refused : ℕ → Bool) (n : ℕ) (es : List Entry) (sizes : List ℕ) → AreBelowTwice (allocated_in (all_shared refused n es)) (rest refused n es) sizes → AreBelowTwice (allocated_in es + (n - rest refused n es)) (rest refused n es) sizes
 from_shared refused n es sizes below =
-    let both = held_shared refused n es in
-    let out : held (all_shared refused n es) ≡ held es + (n - rest refused n es) = omega arith in
+    let both = allocated_shared refused n es in
+    let out : allocated_in (all_shared refused n es) ≡ allocated_in es + (n - rest refused n es) = omega arith in
     subst (λ m. AreBelowTwice m (rest refused n es) sizes) out below
 
 -- ---- known free places

@@ -10,9 +10,9 @@ use Rattle.gpu_descriptor_types.proofs.Counting.{count_by_yes, count_by_no, coun
 use Rattle.gpu_descriptor.specs.Model.Agreement.{Item, item_eq, set_of, count_of}
 use Rattle.gpu_descriptor.specs.Model.Books.{Key, key_eq, Entry, Bucket, books_of, HasDistinctKeys, sum_over}
 use Rattle.gpu_descriptor.specs.Model.Grants.{items_at}
-use Rattle.gpu_descriptor.specs.Caller.Frees.{descriptors_of, marked_descriptors}
+use Rattle.gpu_descriptor.specs.Caller.Frees.{marked_descriptors}
 use Rattle.gpu_descriptor.specs.Laws.Load.{LoadIsDescriptors, OutIsLength, OutIsSize}
-use Rattle.gpu_descriptor.specs.Model.Load.{descriptors_out, held, sets_out}
+use Rattle.gpu_descriptor.specs.Model.Load.{marked_load, descriptors_out, allocated_in, sets_out}
 use Rattle.gpu_descriptor.specs.Inner.Buckets.{IsBookedIn}
 use Rattle.gpu_descriptor.specs.Inner.Walk.{live_at}
 use Rattle.gpu_descriptor.proofs.Exact.{item_exact, key_exact}
@@ -20,7 +20,6 @@ use Rattle.gpu_descriptor.proofs.Holding.{count_of-append}
 use Rattle.gpu_descriptor.proofs.KeepKey.{place_of_items, count_of_items, count_elsewhere}
 use Rattle.gpu_descriptor.proofs.KeepState.{booked_of}
 use Rattle.gpu_descriptor.proofs.KeepSteps.{live_of, live_below, live_from, count_append}
-use Rattle.gpu_descriptor.proofs.Loads.{load_at}
 use Rattle.gpu_descriptor.proofs.Rollback.{load_of_items}
 use Rattle.gpu_descriptor.proofs.Tables.{first_books, none_behind}
 use Rattle.gpu_descriptor.proofs.Sized.{size_of}
@@ -47,7 +46,7 @@ by_name counts (x ∷ sets) all =
 -- the sets that are out of a key's pools
 record OutOf (k : Key) (b : Bucket) (ledger : ℕ → Option Pool) : Type 0 where
   items : List Item
-  many : length items ≡ held b.pools
+  many : length items ≡ allocated_in b.pools
   of_key : (t : Item) → 0 < count_of t items → t.key ≡ k
   each : (t : Item) → t.key ≡ k → count_of t items ≡ live_at ledger b t
 
@@ -134,8 +133,8 @@ table_out ledger (row ∷ table) distinct booked =
                   | inr none ↦ omega arith
                 ])
           ]),
-      (let both = sum_by-append descriptors_of here.items rest.0 in
-          let first : marked_descriptors here.items ≡ descriptors_out row.0 row.1 = load_of_items row.0 here.items here.of_key ∙ ap (load_at row.0) here.many in
+      (let both = sum_by-append (λ (t : Item). marked_load t.key 1) here.items rest.0 in
+          let first : marked_descriptors here.items ≡ descriptors_out row.0 row.1 = load_of_items row.0 here.items here.of_key ∙ ap (marked_load row.0) here.many in
           let later = rest.3 in
           let whole = sum_by-cons (λ (r : Key × Bucket). descriptors_out r.0 r.1) row table in
           omega arith),
@@ -206,4 +205,4 @@ sums_alike f (t ∷ m) n alike =
 pub load_is_descriptors : LoadIsDescriptors
 load_is_descriptors s n agree load items alike =
     let all = table_out s.ledger load.table load.distinct (λ k i e at. (booked_of s k agree).each i e (ap (λ (b : Bucket). slice_get b.pools i) (sym (load.keeps k)) ∙ at)) in
-    sums_alike descriptors_of items all.0 (λ t. alike t ∙ sym (all.2 t ∙ ap (λ (b : Bucket). live_at s.ledger b t) (load.keeps t.key))) ∙ all.3 ∙ load.total
+    sums_alike (λ (t : Item). marked_load t.key 1) items all.0 (λ t. alike t ∙ sym (all.2 t ∙ ap (λ (b : Bucket). live_at s.ledger b t) (load.keeps t.key))) ∙ all.3 ∙ load.total

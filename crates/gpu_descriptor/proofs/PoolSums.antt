@@ -8,10 +8,10 @@ use Rattle.gpu_descriptor_types.specs.Ledger.{Pool}
 use Rattle.gpu_descriptor.specs.Model.Agreement.{State, Agree}
 use Rattle.gpu_descriptor.specs.Model.Books.{Key, Entry, Bucket, no_pools, books_of, HasDistinctKeys, sum_over}
 use Rattle.gpu_descriptor.specs.Inner.Buckets.{IsBookedIn}
-use Rattle.gpu_descriptor.specs.Model.Load.{held, pool_load, pools_load, bucket_load, descriptors_out}
+use Rattle.gpu_descriptor.specs.Model.Load.{allocated_in, marked_load, pool_load, pools_load, bucket_load, descriptors_out}
 use Rattle.gpu_descriptor.specs.Laws.Load.{created_with, descriptors_created, PoolLoadIsCreated, MarkedWithinPools}
 use Rattle.gpu_descriptor.proofs.KeepState.{booked_of}
-use Rattle.gpu_descriptor.proofs.Loads.{load_at, load_at-none, load_at-add, load_at-le}
+use Rattle.gpu_descriptor.proofs.Loads.{marked_load-none, marked_load-add, marked_load-le}
 use Rattle.gpu_descriptor.proofs.PoolCounts.{booked_load}
 use Rattle.gpu_descriptor.proofs.Tables.{sum_over_below, sum_by_books}
 
@@ -43,19 +43,19 @@ plain_entries k (e ∷ es) plain =
 
 -- ---- what is out of a key's pools
 
-out_of_entry : (k : Key) (n : ℕ) → load_at k n ≤ pool_load k n
+out_of_entry : (k : Key) (n : ℕ) → marked_load k n ≤ pool_load k n
 out_of_entry k n = elim (cases_Bool k.marked) [ inl on ↦ rw on (omega arith) | inr off ↦ rw off (omega arith) ]
 
-out_of_entries : (k : Key) (ledger : ℕ → Option Pool) (es : List Entry) → AllBooked k ledger es → load_at k (held es) ≤ pools_load k es
-out_of_entries k ledger [] booked = (let none = load_at-none k in omega arith)
+out_of_entries : (k : Key) (ledger : ℕ → Option Pool) (es : List Entry) → AllBooked k ledger es → marked_load k (allocated_in es) ≤ pools_load k es
+out_of_entries k ledger [] booked = (let none = marked_load-none k in omega arith)
 out_of_entries k ledger (e ∷ es) booked =
     let own = (booked 0 e refl).booked in
     let room = own.room in
     let capacity = own.capacity in
-    let first = load_at-le k e.allocated e.capacity (omega arith) in
+    let first = marked_load-le k e.allocated e.capacity (omega arith) in
     let fits = out_of_entry k e.capacity in
     let rest = out_of_entries k ledger es (λ i. booked (suc i)) in
-    let parts = ap (load_at k) (sum_by-cons (λ (d : Entry). d.allocated) e es) ∙ load_at-add k e.allocated (held es) in
+    let parts = ap (marked_load k) (sum_by-cons (λ (d : Entry). d.allocated) e es) ∙ marked_load-add k e.allocated (allocated_in es) in
     let whole = sum_by-cons (λ (d : Entry). pool_load k d.capacity) e es in
     omega arith
 
@@ -90,7 +90,7 @@ module _ (s : State) (agree : Agree s) where
         none_created k = elim (cases_Bool k.marked) [ inl on ↦ rw on refl | inr off ↦ rw off refl ]
 
     out_over : sum_over descriptors_out table ≤ sum_over bucket_load table
-    out_over = sum_over_below descriptors_out bucket_load table load_at-none distinct (λ k.
+    out_over = sum_over_below descriptors_out bucket_load table marked_load-none distinct (λ k.
         let left = ap (descriptors_out k) (keeps k) in
         let right = ap (bucket_load k) (keeps k) in
         let within = out_at k in

@@ -6,17 +6,18 @@ use Rattle.std.specs.Prelude.{nat_lt, sum_by, if◌then◌else◌, OnOk, IfErr}
 use Rattle.std.proofs.lemmas.Bool.{cases_Bool, cases_lt}
 use Rattle.std.proofs.lemmas.List.Sums.{sum_by-append}
 use Rattle.gpu_descriptor_types.specs.Ledger.{Ledger}
+use Rattle.gpu_descriptor.specs.Model.Load.{marked_load}
 use Rattle.gpu_descriptor.specs.declared.set.BucketKey.{BucketKey}
 use Rattle.gpu_descriptor.specs.declared.set.DescriptorSet.{DescriptorSet}
 use Rattle.gpu_descriptor.specs.declared.bucket.DescriptorBucket.{DescriptorBucket}
 use Rattle.gpu_descriptor.specs.declared.bucket.take.Refusal.{Refusal}
 use Rattle.gpu_descriptor.specs.Model.Books.{Key, key_eq, Bucket, no_pools, next_number}
 use Rattle.gpu_descriptor.specs.Caller.Sets.{key_of, items_of}
-use Rattle.gpu_descriptor.specs.Inner.Stored.{books_in, entry_of, bucket_of, load_of, load_in}
+use Rattle.gpu_descriptor.specs.Inner.Stored.{books_in, entry_of, bucket_of, load_in}
 use Rattle.gpu_descriptor.specs.Inner.Grow.{IsTakenAll, IsTakenUpTo}
 use Rattle.gpu_descriptor.specs.Inner.Serves.{Serves, ServesKey}
 use Rattle.gpu_descriptor.proofs.Exact.{key_exact}
-use Rattle.gpu_descriptor.proofs.Loads.{IsRow, IsWritten, sum_set, load_at, load_at-add}
+use Rattle.gpu_descriptor.proofs.Loads.{IsRow, IsWritten, sum_set, marked_load-add}
 use Rattle.gpu_descriptor.proofs.TableBooks.{put_books, written, looked_up, row_bucket}
 
 -- a new key goes last
@@ -44,9 +45,9 @@ present {P} name {k} {es} row = looked_up name row.test k row.same es ∙ ap (λ
 pub missing : {P : Type 0} (name : P → ℕ) (k : Key) (es : List (BucketKey × DescriptorBucket P)) (test : BucketKey → Bool) → ((l : BucketKey) → test l ≡ key_eq k (key_of l)) → lookup test es ≡ None → books_in name es k ≡ no_pools
 missing {P} name k es test same at = looked_up name test k same es ∙ ap (λ (o : Option (DescriptorBucket P)). option_map_or (bucket_of name) o no_pools) at
 
-load_grows : {P : Type 0} (k l : BucketKey) (v w : DescriptorBucket P) (n : ℕ) → key_of l ≡ key_of k → w.total ≡ v.total + n → load_in (l, w) ≡ load_in (l, v) + load_of k n
+load_grows : {P : Type 0} (k l : BucketKey) (v w : DescriptorBucket P) (n : ℕ) → key_of l ≡ key_of k → w.total ≡ v.total + n → load_in (l, w) ≡ load_in (l, v) + marked_load (key_of k) n
 load_grows k l v w n is more =
-    ap (λ (x : Key). load_at x w.total) is ∙ ap (load_at (key_of k)) more ∙ load_at-add (key_of k) v.total n ∙ ap (λ (x : Key). load_at x v.total + load_at (key_of k) n) (sym is)
+    ap (λ (x : Key). marked_load x w.total) is ∙ ap (marked_load (key_of k)) more ∙ marked_load-add (key_of k) v.total n ∙ ap (λ (x : Key). marked_load x v.total + marked_load (key_of k) n) (sym is)
 
 -- what one key gave, in the table
 module _ {P S : Type 0} {name : P → ℕ} {set_name : S → ℕ} (k : BucketKey) {v w : DescriptorBucket P} {room count : ℕ} {sets : List (DescriptorSet S)} {taken : Result (Unit {0}) Refusal} {before after : Ledger}
@@ -93,7 +94,7 @@ module _ {P S : Type 0} {name : P → ℕ} {set_name : S → ℕ} (k : BucketKey
           pools = (bucket_of name w).pools;
           books = λ l. books_end name k w test same es at l ∙ put_there es l is;
           out = (let a = sum_by-append (λ (r : BucketKey × DescriptorBucket P). r.1.total) es ((k, w) ∷ []) in let one : sum_by (λ (r : BucketKey × DescriptorBucket P). r.1.total) ((k, w) ∷ []) ≡ w.total = omega arith in omega arith);
-          load = (let a = sum_by-append load_in es ((k, w) ∷ []) in let one : sum_by load_in ((k, w) ∷ []) ≡ load_of k w.total = omega arith in let n : w.total ≡ length sets = omega arith in let e = ap (load_of k) n in omega arith);
+          load = (let a = sum_by-append load_in es ((k, w) ∷ []) in let one : sum_by load_in ((k, w) ∷ []) ≡ marked_load (key_of k) w.total = omega arith in let n : w.total ≡ length sets = omega arith in let e = ap (marked_load (key_of k)) n in omega arith);
           done = done_there (books_in name es (key_of k)) is;
           stopped = stopped_there (books_in name es (key_of k)) is;
         })

@@ -14,7 +14,7 @@ use Rattle.gpu_descriptor.specs.declared.set.DescriptorSet.{DescriptorSet}
 use Rattle.gpu_descriptor.specs.declared.bucket.DescriptorBucket.{DescriptorBucket}
 use Rattle.gpu_descriptor.specs.declared.bucket.take.Refusal.{Refusal}
 use Rattle.gpu_descriptor.specs.Model.Books.{Key, key_eq, Bucket, HasDistinctKeys, books_of, next_number}
-use Rattle.gpu_descriptor.specs.Model.Load.{IsOut, IsMarkedLoad, IsPoolLoad}
+use Rattle.gpu_descriptor.specs.Model.Load.{marked_load, IsOut, IsMarkedLoad, IsPoolLoad}
 use Rattle.gpu_descriptor.specs.Model.Outcomes.{Allocates, IsWithinLimit, Stays}
 use Rattle.gpu_descriptor.specs.Model.Outcomes.Allocates.{limit, bound, start}
 use Rattle.gpu_descriptor.specs.Caller.Call.{call_of}
@@ -22,7 +22,7 @@ use Rattle.gpu_descriptor.specs.Inner.Takes.{Takes}
 use Rattle.gpu_descriptor.specs.Inner.Serves.{ServesKey, IsUnserved}
 use Rattle.gpu_descriptor.specs.Caller.Sets.{key_of, items_of}
 use Rattle.gpu_descriptor.specs.Caller.States.{named_row, sets_in, descriptors_in, pool_load_in, state_of, table_of, outstanding_of, marked_load_of, pool_load_of}
-use Rattle.gpu_descriptor.specs.Inner.Stored.{IsCounted, row_of, load_in, load_of, stored_keys, stored_load_in, books_in}
+use Rattle.gpu_descriptor.specs.Inner.Stored.{IsConsistent, row_of, load_in, stored_keys, stored_load_in, books_in}
 use Rattle.gpu_descriptor.specs.Inner.Grow.{IsTakenAll, IsTakenUpTo}
 use Rattle.gpu_descriptor.specs.Caller.Values.{Allocations, Row}
 use Rattle.gpu_descriptor.proofs.Exact.{key_exact}
@@ -60,12 +60,12 @@ pub rows_distinct : {P : Type 0} (name : P → ℕ) (es : List (BucketKey × Des
 rows_distinct name es distinct = subst HasDistinctKeys (sym (rows_are name es)) (distinct_rows name es distinct)
 
 -- a table without keys
-pub counted_none : {P : Type 0} (most : ℕ) → IsCounted {P = P} most 0 most 0 []
+pub counted_none : {P : Type 0} (most : ℕ) → IsConsistent {P = P} most 0 most 0 []
 unfolding IsDistinct
 counted_none most = record { distinct = tt; is_load = refl; within = omega arith; is_room = omega arith; is_out = refl }
 
 -- the totals keep the limit
-module _ {P : Type 0} {most marked room out : ℕ} {es : List (BucketKey × DescriptorBucket P)} (counted : IsCounted most marked room out es) where
+module _ {P : Type 0} {most marked room out : ℕ} {es : List (BucketKey × DescriptorBucket P)} (counted : IsConsistent most marked room out es) where
   pub rows_within : sum_by descriptors_in (map row_of es) ≤ most
   rows_within = (let rows = rows_load es in let load = counted.is_load in let within = counted.within in omega arith)
 
@@ -80,30 +80,30 @@ module _ {P : Type 0} {a : Allocations P} {most looks compared : ℕ} (es : List
   pub seen_again : {looked : ℕ} (fs : List (BucketKey × DescriptorBucket P)) → fs ≡ es → looked ≡ looks → seen most looked compared fs ≡ a
   seen_again fs rows count = (λ i. seen most (count i) compared (rows i)) ∙ is
 
-  pub rows_apart : (name : P → ℕ) → {marked room out : ℕ} → IsCounted most marked room out es → HasDistinctKeys (table_of name a)
+  pub rows_apart : (name : P → ℕ) → {marked room out : ℕ} → IsConsistent most marked room out es → HasDistinctKeys (table_of name a)
   rows_apart name counted = keys_apart a es table_is name counted.distinct
 
-  pub load_within : {marked room out : ℕ} → IsCounted most marked room out es → marked_load_of a ≤ a.limit
+  pub load_within : {marked room out : ℕ} → IsConsistent most marked room out es → marked_load_of a ≤ a.limit
   load_within counted = subst (λ (x : Allocations P). marked_load_of x ≤ x.limit) is (rows_within counted)
 
-  pub pool_load_within : {marked room out : ℕ} → IsCounted most marked room out es → pool_load_of a ≤ a.limit
+  pub pool_load_within : {marked room out : ℕ} → IsConsistent most marked room out es → pool_load_of a ≤ a.limit
   pool_load_within counted = subst (λ (x : Allocations P). pool_load_of x ≤ x.limit) is (pools_within counted)
 
 -- how the totals of the table grow, by so many sets of a key
 module _ {P S : Type 0} (name : P → ℕ) (set_name : S → ℕ) (key : BucketKey) (room count : ℕ) (sets : List (DescriptorSet S)) (taken : Result (Unit {0}) Refusal) (es fs : List (BucketKey × DescriptorBucket P)) (before after : Ledger)
     (s : ServesKey name set_name key room count sets taken es fs before after) where
-  pub load_below : (most marked left out : ℕ) → IsCounted most marked left out es → (key.update_after_bind ≡ true → count * sum (kinds key.size) + marked ≤ most) → load_of key (length sets) + marked ≤ most
+  pub load_below : (most marked left out : ℕ) → IsConsistent most marked left out es → (key.update_after_bind ≡ true → count * sum (kinds key.size) + marked ≤ most) → marked_load (key_of key) (length sets) + marked ≤ most
   load_below most marked left out counted within = elim (cases_Bool key.update_after_bind) [
     | inl on ↦ (
         let few = s.few in
         let all = within on in
-        let is : load_of key (length sets) ≡ length sets * sum (kinds key.size) = rw on refl in
+        let is : marked_load (key_of key) (length sets) ≡ length sets * sum (kinds key.size) = rw on refl in
         let le = mul-le-mul_right (sum (kinds key.size)) few in
         omega arith)
-    | inr off ↦ (let is : load_of key (length sets) ≡ 0 = rw off refl in let all = counted.within in omega arith)
+    | inr off ↦ (let is : marked_load (key_of key) (length sets) ≡ 0 = rw off refl in let all = counted.within in omega arith)
   ]
 
-  pub counted_more : (most marked old left out more many : ℕ) → IsCounted most marked old out es → more ≡ load_of key (length sets) → many ≡ length sets → more + marked ≤ most → left + sum_by stored_load_in fs ≡ old + sum_by stored_load_in es → IsDistinct key_eq (stored_keys fs) → IsCounted most (marked + more) left (out + many) fs
+  pub counted_more : (most marked old left out more many : ℕ) → IsConsistent most marked old out es → more ≡ marked_load (key_of key) (length sets) → many ≡ length sets → more + marked ≤ most → left + sum_by stored_load_in fs ≡ old + sum_by stored_load_in es → IsDistinct key_eq (stored_keys fs) → IsConsistent most (marked + more) left (out + many) fs
   counted_more most marked old left out more many counted load given fits pools distinct =
       let is_room = counted.is_room in
       let a = counted.is_load in
@@ -174,7 +174,7 @@ module _ {P S : Type 0} (name : P → ℕ) (set_name : S → ℕ) (most looks_be
 
 -- ---- the tests of a request, over the fields of an allocator
 
-module _ {P : Type 0} (name : P → ℕ) {a : Allocations P} {most looks compared marked room out : ℕ} {es : List (BucketKey × DescriptorBucket P)} (is : seen most looks compared es ≡ a) (counted : IsCounted most marked room out es) (apart : HasDistinctKeys (table_of name a)) (before : Ledger)
+module _ {P : Type 0} (name : P → ℕ) {a : Allocations P} {most looks compared marked room out : ℕ} {es : List (BucketKey × DescriptorBucket P)} (is : seen most looks compared es ≡ a) (counted : IsConsistent most marked room out es) (apart : HasDistinctKeys (table_of name a)) (before : Ledger)
     (key : BucketKey) {count : ℕ} (some : 0 < count) {above : Bool} (test : above ≡ (key.update_after_bind && nat_lt a.limit (count * sum (kinds key.size) + marked_load_of a))) where
   pub declined_by_limit : above ≡ true → Allocates (call_of name (key_of key) count a a before before (Err Fragmentation))
   declined_by_limit passed =
@@ -201,25 +201,25 @@ module _ {P : Type 0} (name : P → ℕ) {a : Allocations P} {most looks compare
 
 -- a request that passed them, and took what its key has
 module _ {P S : Type 0} {name : P → ℕ} {set_name : S → ℕ} {key : BucketKey} {room count : ℕ} {sets : List (DescriptorSet S)} {taken : Result (Unit {0}) Refusal} {es fs : List (BucketKey × DescriptorBucket P)} {before after : Ledger}
-    (s : ServesKey name set_name key room count sets taken es fs before after) {a : Allocations P} {most looks compared marked out : ℕ} (is : seen most looks compared es ≡ a) (counted : IsCounted most marked room out es)
+    (s : ServesKey name set_name key room count sets taken es fs before after) {a : Allocations P} {most looks compared marked out : ℕ} (is : seen most looks compared es ≡ a) (counted : IsConsistent most marked room out es)
     {above : Bool} (test : above ≡ (key.update_after_bind && nat_lt a.limit (count * sum (kinds key.size) + marked_load_of a))) (below : above ≡ false) where
   sets_within : key.update_after_bind ≡ true → count * sum (kinds key.size) + marked_load_of a ≤ a.limit
   sets_within = within_of key.update_after_bind a.limit (count * sum (kinds key.size) + marked_load_of a) (sym test ∙ below)
 
   -- their descriptors keep the limit
-  pub given_fits : {given : ℕ} → given ≡ length sets → load_of key given + marked ≤ most
+  pub given_fits : {given : ℕ} → given ≡ length sets → marked_load (key_of key) given + marked ≤ most
   given_fits long =
       let load = load_of_rows a es (table_is es is) in
       let limit = ap (λ (x : Allocations P). x.limit) is in
       let is_load = counted.is_load in
       let fits = load_below name set_name key room count sets taken es fs before after s most marked room out counted (λ on. (let all = sets_within on in omega arith)) in
-      let same = ap (load_of key) long in
+      let same = ap (marked_load (key_of key)) long in
       omega arith
 
-  pub counted_now : {given more left : ℕ} → given ≡ length sets → more ≡ load_of key given → left + sum_by stored_load_in fs ≡ room + sum_by stored_load_in es → IsDistinct key_eq (stored_keys fs) → IsCounted most (marked + more) left (out + given) fs
+  pub counted_now : {given more left : ℕ} → given ≡ length sets → more ≡ marked_load (key_of key) given → left + sum_by stored_load_in fs ≡ room + sum_by stored_load_in es → IsDistinct key_eq (stored_keys fs) → IsConsistent most (marked + more) left (out + given) fs
   counted_now {given} {more} {left} long load moved distinct =
       let fits = given_fits long in
-      counted_more name set_name key room count sets taken es fs before after s most marked room left out more given counted (load ∙ ap (load_of key) long) long (omega arith) moved distinct
+      counted_more name set_name key room count sets taken es fs before after s most marked room left out more given counted (load ∙ ap (marked_load (key_of key)) long) long (omega arith) moved distinct
 
   pub takes_of : {past : Bool} → past ≡ nat_lt 18446744073709551615 (out + count) → past ≡ false → HasDistinctKeys (table_of name a) → {looked : ℕ} → HasDistinctKeys (map (named_row name) (map row_of fs)) → Takes name set_name (key_of key) count sets taken a (seen most looked compared fs) before after
   takes_of bounded kept_in distinct {looked} still =

@@ -1,5 +1,5 @@
 -- What giving the sets of a request back leaves, and how it raises the counters.
-use Rattle.std.proofs.Common.{◌+◌, ◌≡◌, ℕ, ◌<◌, true, false, List, [], ◌∷◌, map, sum_by, inl, inr, refl, sym, ap, ◌∙◌, arith, suc, length, sum}
+use Rattle.std.proofs.Common.{◌+◌, ◌≡◌, ℕ, ◌<◌, true, false, List, [], ◌∷◌, map, sum_by, inl, inr, refl, sym, ap, ◌∙◌, arith, suc, length}
 use Rattle.std.proofs.Math.Path.{fun_ext}
 use Rattle.std.proofs.lemmas.Bool.{cases_Bool, or_parts, false_from_ne_true}
 use Rattle.std.proofs.lemmas.List.Sums.{sum_by-cons}
@@ -9,17 +9,18 @@ use Rattle.gpu_descriptor_types.proofs.Counting.{any_found, count_by_yes, count_
 use Rattle.gpu_descriptor_types.specs.Ledger.{Counters, alloc_refused}
 use Rattle.gpu_descriptor_types.specs.declared.errors.DeviceAllocationError.{DeviceAllocationError}
 use Rattle.gpu_descriptor_types.specs.declared.errors.DeviceAllocationError.TheVariants as alloc_error
+use Rattle.gpu_descriptor.specs.Model.Load.{marked_load}
 use Rattle.gpu_descriptor.specs.Model.Agreement.{State, Item, item_eq, count_of, Agree}
 use Rattle.gpu_descriptor.specs.Model.Books.{Key, key_eq, Bucket, books_of, no_pools, HasDistinctKeys}
 use Rattle.gpu_descriptor.specs.Model.Release.{more_released, more_destroyed, given_back, released, pools_gone, spent_front, bucket_less}
-use Rattle.gpu_descriptor.specs.Caller.Frees.{descriptors_of, marked_descriptors}
+use Rattle.gpu_descriptor.specs.Caller.Frees.{marked_descriptors}
 use Rattle.gpu_descriptor.specs.Model.Outcomes.{no_rise, risen}
 use Rattle.gpu_descriptor.specs.Caller.States.{named_row}
 use Rattle.gpu_descriptor.specs.Caller.Values.{Row}
 use Rattle.gpu_descriptor.proofs.Asks.{same_counters}
 use Rattle.gpu_descriptor.proofs.Exact.{key_exact, item_exact}
 use Rattle.gpu_descriptor.proofs.Kept.{none_back}
-use Rattle.gpu_descriptor.proofs.Loads.{load_at, load_at-none, load_at-add}
+use Rattle.gpu_descriptor.proofs.Loads.{marked_load-none, marked_load-add}
 use Rattle.gpu_descriptor.proofs.Parts.{names_key, quiet_key}
 use Rattle.gpu_descriptor.proofs.Places.{back}
 use Rattle.gpu_descriptor.proofs.Tables.{key_eq_symm}
@@ -98,22 +99,19 @@ keys_table name (r ∷ rows) = ap (λ (l : List Key). r.key ∷ l) (keys_table n
 -- ---- totals
 
 -- sets of one key have as many descriptors as their number says
-pub load_of_items : (k : Key) (m : List Item) → ((u : Item) → 0 < count_of u m → u.key ≡ k) → marked_descriptors m ≡ load_at k (length m)
-load_of_items k [] of_key = sym (load_at-none k)
+pub load_of_items : (k : Key) (m : List Item) → ((u : Item) → 0 < count_of u m → u.key ≡ k) → marked_descriptors m ≡ marked_load k (length m)
+load_of_items k [] of_key = sym (marked_load-none k)
 load_of_items k (t ∷ m) of_key =
     let own : count_of t (t ∷ m) ≡ suc (count_of t m) = count_by_yes (λ u. item_eq u t) t m (item_exact.self t) in
     let key : t.key ≡ k = of_key t (omega arith) in
-    let one : descriptors_of t ≡ load_at k 1 = single t.key ∙ ap (λ (l : Key). load_at l 1) key in
+    let one : marked_load t.key 1 ≡ marked_load k 1 = ap (λ (l : Key). marked_load l 1) key in
     let rest = load_of_items k m (λ u some. of_key u (up u some)) in
-    let sum = sum_by-cons descriptors_of t m in
-    let parts = load_at-add k 1 (length m) in
+    let sum = sum_by-cons (λ (t : Item). marked_load t.key 1) t m in
+    let parts = marked_load-add k 1 (length m) in
     let long : 1 + length m ≡ length (t ∷ m) = omega arith in
-    let whole = ap (load_at k) long in
+    let whole = ap (marked_load k) long in
     omega arith
   where
-    single : (l : Key) → (if l.marked then sum l.counts else 0) ≡ load_at l 1
-    single l = elim (cases_Bool l.marked) [ inl on ↦ rw on (omega arith) | inr off ↦ rw off refl ]
-
     up : (u : Item) → 0 < count_of u m → 0 < count_of u (t ∷ m)
     up u some = elim (cases_Bool (item_eq t u)) [
       | inl on ↦ (let e = count_by_yes (λ v. item_eq v u) t m on in omega arith)

@@ -9,25 +9,25 @@ use Rattle.std.proofs.lemmas.List.{length-map}
 use Rattle.std.proofs.lemmas.List.Sums.{sum_by-cons}
 use Rattle.indexmap.specs.Layout.{set_value_at}
 use Rattle.gpu_descriptor_types.specs.Ledger.{Pool, Ledger}
+use Rattle.gpu_descriptor.specs.Model.Load.{marked_load}
 use Rattle.gpu_descriptor.specs.declared.set.BucketKey.{BucketKey}
 use Rattle.gpu_descriptor.specs.declared.bucket.DescriptorPool.{DescriptorPool}
 use Rattle.gpu_descriptor.specs.declared.bucket.DescriptorBucket.{DescriptorBucket}
 use Rattle.gpu_descriptor.specs.Model.Agreement.{State, Agree}
-use Rattle.gpu_descriptor.specs.Inner.Allocated.{allocated_in}
 use Rattle.gpu_descriptor.specs.Model.Books.{Key, key_eq, Bucket, entry_at, no_pools, books_of, HasDistinctKeys}
 use Rattle.gpu_descriptor.specs.Inner.Buckets.{AreBookedIn, has_pools, front_but, trimmed_bucket, trimmed_ledger, ledger_without, pools_without}
 use Rattle.gpu_descriptor.specs.Model.Release.{more_destroyed, empty_front, in_front}
 use Rattle.gpu_descriptor.specs.Model.Cleanup.{cleaned_bucket, IsCleaned, pools_cleaned}
 use Rattle.gpu_descriptor.specs.Caller.Sets.{key_of}
 use Rattle.gpu_descriptor.specs.Caller.States.{named_row, state_of, keys_of}
-use Rattle.gpu_descriptor.specs.Inner.Stored.{row_of, entry_of, bucket_of, load_of, stored_keys, stored_load_in, stored_load, IsCounted}
+use Rattle.gpu_descriptor.specs.Inner.Stored.{row_of, entry_of, bucket_of, stored_keys, stored_load_in, stored_load, IsConsistent}
 use Rattle.gpu_descriptor.specs.Caller.Values.{Allocations, Row}
 use Rattle.gpu_descriptor.proofs.Cleaning.{cleaned_cases}
 use Rattle.gpu_descriptor.proofs.Exact.{key_exact}
 use Rattle.gpu_descriptor.proofs.Fronts.{whole_front, whole_trimmed, entry_at-from}
 use Rattle.gpu_descriptor.proofs.Kept.{front_found}
 use Rattle.gpu_descriptor.proofs.LedgerPools.{destroyed_both, destroyed_none}
-use Rattle.gpu_descriptor.proofs.Loads.{load_at-none}
+use Rattle.gpu_descriptor.proofs.Loads.{marked_load-none}
 use Rattle.gpu_descriptor.proofs.TableBooks.{rows_in, rows_are, keys_are}
 use Rattle.gpu_descriptor.proofs.Tables.{key_eq_symm, absent}
 use Rattle.gpu_descriptor.proofs.KeepState.{booked_of}
@@ -366,7 +366,7 @@ module _ {P : Type 0} where
   none_out : (b : DescriptorBucket P) → (length b.pools.items == 0) ≡ true → b.total ≡ 0
   none_out b h = b.counted ∙ go b.pools.items h
     where
-      go : (ps : List (DescriptorPool P)) → (length ps == 0) ≡ true → allocated_in ps ≡ 0
+      go : (ps : List (DescriptorPool P)) → (length ps == 0) ≡ true → sum_by (λ (p : DescriptorPool P). p.allocated) ps ≡ 0
       go [] h = refl
       go (p ∷ ps) h = absurd (let bad : length (p ∷ ps) ≡ 0 = eqb-true (length (p ∷ ps)) 0 h in omega arith)
 
@@ -422,20 +422,20 @@ module _ {P : Type 0} where
   keys_at (e ∷ es) zero w = refl
   keys_at (e ∷ es) (suc i) w = ap (λ (ks : List Key). key_of e.0 ∷ ks) (keys_at es i w)
 
-  pub counted_put : (limit marked room left out : ℕ) (es : List (BucketKey × DescriptorBucket P)) (i : ℕ) (v w : DescriptorBucket P) → slice_get (values_of es) i ≡ Some v → w.total ≡ v.total → left + sum_by stored_load_in (set_value_at es i w) ≡ room + sum_by stored_load_in es → IsCounted limit marked room out es → IsCounted limit marked left out (set_value_at es i w)
+  pub counted_put : (limit marked room left out : ℕ) (es : List (BucketKey × DescriptorBucket P)) (i : ℕ) (v w : DescriptorBucket P) → slice_get (values_of es) i ≡ Some v → w.total ≡ v.total → left + sum_by stored_load_in (set_value_at es i w) ≡ room + sum_by stored_load_in es → IsConsistent limit marked room out es → IsConsistent limit marked left out (set_value_at es i w)
   counted_put limit marked room left out es i v w at same pools counted = record {
     distinct = subst (IsDistinct key_eq) (sym (keys_at es i w)) counted.distinct;
     is_room = pools ∙ counted.is_room;
-    is_load = counted.is_load ∙ sym (sum_put load_of es i v w at same);
+    is_load = counted.is_load ∙ sym (sum_put (λ k n. marked_load (key_of k) n) es i v w at same);
     within = counted.within;
     is_out = counted.is_out ∙ sym (sum_put (λ k n. n) es i v w at same);
   }
 
-  pub counted_filter : (limit marked room out : ℕ) (es fs : List (BucketKey × DescriptorBucket P)) → fs ≡ filter (λ e. has_pools e.1) es → IsDistinct key_eq (stored_keys fs) → IsCounted limit marked room out es → IsCounted limit marked room out fs
+  pub counted_filter : (limit marked room out : ℕ) (es fs : List (BucketKey × DescriptorBucket P)) → fs ≡ filter (λ e. has_pools e.1) es → IsDistinct key_eq (stored_keys fs) → IsConsistent limit marked room out es → IsConsistent limit marked room out fs
   counted_filter limit marked room out es fs kept distinct counted = rw kept (record {
     distinct = subst (λ (l : List (BucketKey × DescriptorBucket P)). IsDistinct key_eq (stored_keys l)) kept distinct;
     is_room = ap (λ n. room + n) (pools_filter es) ∙ counted.is_room;
-    is_load = counted.is_load ∙ sym (sum_filter load_of (λ k. load_at-none (key_of k)) es);
+    is_load = counted.is_load ∙ sym (sum_filter (λ k n. marked_load (key_of k) n) (λ k. marked_load-none (key_of k)) es);
     within = counted.within;
     is_out = counted.is_out ∙ sym (sum_filter (λ k n. n) (λ k. refl) es);
   })

@@ -6,16 +6,15 @@ use Rattle.std.proofs.lemmas.List.Sums.{sum_by-cons}
 use Rattle.std.proofs.lemmas.Option.{slice_get-map}
 use Rattle.gpu_descriptor.specs.declared.view.PoolView.{PoolView}
 use Rattle.gpu_descriptor.specs.Model.Books.{Key, key_eq, Entry, Bucket, books_of, sum_over}
-use Rattle.gpu_descriptor.specs.Model.Load.{held, pool_load, pools_load, bucket_load, sets_out, descriptors_out}
+use Rattle.gpu_descriptor.specs.Model.Load.{allocated_in, marked_load, pool_load, pools_load, bucket_load, sets_out, descriptors_out}
 use Rattle.gpu_descriptor.specs.Caller.States.{named, named_row, table_of, sets_in, descriptors_in, pool_load_in, outstanding_of, marked_load_of, pool_load_of}
 use Rattle.gpu_descriptor.specs.Caller.Values.{Kept, Row, Allocations}
 use Rattle.gpu_descriptor.specs.Caller.Views.{first_at, pools_at, view_at, view_in}
-use Rattle.gpu_descriptor.proofs.Loads.{load_at}
 
 module _ {P : Type 0} (name : P → ℕ) where
-  held_named : (ps : List (Kept P)) → held (map (named name) ps) ≡ sum_by (λ p. p.allocated) ps
-  held_named [] = refl
-  held_named (p ∷ ps) = sum_by-cons (λ (e : Entry). e.allocated) (named name p) (map (named name) ps) ∙ ap (λ n. p.allocated + n) (held_named ps) ∙ sym (sum_by-cons (λ (q : Kept P). q.allocated) p ps)
+  allocated_named : (ps : List (Kept P)) → allocated_in (map (named name) ps) ≡ sum_by (λ p. p.allocated) ps
+  allocated_named [] = refl
+  allocated_named (p ∷ ps) = sum_by-cons (λ (e : Entry). e.allocated) (named name p) (map (named name) ps) ∙ ap (λ n. p.allocated + n) (allocated_named ps) ∙ sym (sum_by-cons (λ (q : Kept P). q.allocated) p ps)
 
   -- a sum over the rows of the books is one over the rows that callers see
   sum_named : (f : Key → Bucket → ℕ) (g : Row P → ℕ) → ((r : Row P) → f r.key (named_row name r).1 ≡ g r) → (rows : List (Row P)) → sum_over f (map (named_row name) rows) ≡ sum_by g rows
@@ -26,10 +25,10 @@ module _ {P : Type 0} (name : P → ℕ) where
       ∙ sym (sum_by-cons g r rows)
 
   pub outstanding_of-table : (a : Allocations P) → outstanding_of a ≡ sum_over sets_out (table_of name a)
-  outstanding_of-table a = sym (sum_named sets_out sets_in (λ r. held_named r.pools) a.table)
+  outstanding_of-table a = sym (sum_named sets_out sets_in (λ r. allocated_named r.pools) a.table)
 
   pub marked_load_of-table : (a : Allocations P) → marked_load_of a ≡ sum_over descriptors_out (table_of name a)
-  marked_load_of-table a = sym (sum_named descriptors_out descriptors_in (λ r. ap (load_at r.key) (held_named r.pools)) a.table)
+  marked_load_of-table a = sym (sum_named descriptors_out descriptors_in (λ r. ap (marked_load r.key) (allocated_named r.pools)) a.table)
 
   pub pool_load_of-table : (a : Allocations P) → pool_load_of a ≡ sum_over bucket_load (table_of name a)
   pool_load_of-table a = sym (sum_named bucket_load pool_load_in (λ r. go r.key r.pools) a.table)

@@ -138,7 +138,7 @@ walk_stop k n first i wanting items old new l m m' e f error s was is same none 
   pool = e;
   newer = drop (suc i) old;
   here = split_at old i e was;
-  before = m;
+  between = m;
   walked = record {
     grant = so_far (suc i) s.refused s.parts;
     from = (let long = long_take old i e was in omega arith);

@@ -1,5 +1,4 @@
 -- What only the code's own contracts say. No public clause needs it.
-pub mod Allocated
 pub mod Buckets
 pub mod Grow
 pub mod OpenNumbers

@@ -1,7 +1,6 @@
 //! The pools of one key.
-ghost use Rattle.std.specs.Prelude.{◌≡◌, ◌+◌, ◌<◌, ◌≤◌, ◌^◌, length};
+ghost use Rattle.std.specs.Prelude.{◌≡◌, ◌+◌, ◌<◌, ◌≤◌, ◌^◌, length, nat_lt, sum_by};
 ghost use Rattle.std.specs.VecDeque.{deque_capacity};
-ghost use Rattle.gpu_descriptor.specs.Inner.Allocated.{allocated_in};
 ghost use Rattle.gpu_descriptor.specs.Model.Load.{pool_load};
 ghost use Rattle.gpu_descriptor.specs.Inner.OpenNumbers.{free_in, open_numbers};
 ghost use Rattle.gpu_descriptor.specs.Caller.Sets.{key_of};
@@ -47,7 +46,7 @@ pub(crate) struct DescriptorBucket<P> {
     /// Number of sets allocated from these pools.
     pub(crate) total: u64,
     ghost numbered: { offset + length pools.items < 2 ^ 64 },
-    ghost counted: { total ≡ allocated_in pools.items },
+    ghost counted: { total ≡ sum_by (λ p. p.allocated) pools.items },
     ghost open: { listed.items ≡ open_numbers offset (free_in pools.items) },
     ghost room: { length pools.items ≤ deque_capacity listed },
 }
@@ -63,4 +62,11 @@ pub(crate) fn descriptors_of_pool(key: &BucketKey, sets: u32) -> u32
     } else {
         0
     }
+}
+
+/// Whether so many more would pass the greatest number of 64 bits.
+pub(crate) fn is_past_bound(number: u64, count: u32) -> bool
+    ensures { result ≡ nat_lt 18446744073709551615 (number + count) }
+{
+    number.checked_add(u64::from(count)).is_none()
 }

@@ -15,7 +15,7 @@ use gpu_descriptor::{
 };
 
 impl<P: Drop, S: Drop> FrameManager<P, S> {
-    ghost use Rattle.descriptor_frames.specs.Frames.{AreRetiredOut, BringsIntoUse, KeepsInUse, allocator_of, greatest_of, retired_of};
+    ghost use Rattle.descriptor_frames.specs.Frames.{AreRetiredOut, BringsIntoUse, KeepsInUse, KeepsRetired, allocator_of};
 
     /// Allocates sets, as `DescriptorAllocator::allocate` does. The retired sets stay.
     pub fn allocate<L, D: DescriptorDevice<L, P, S>>(
@@ -37,12 +37,9 @@ impl<P: Drop, S: Drop> FrameManager<P, S> {
         ensures keeps { Keeps D.pool_name (allocator_of self.old) (allocator_of self.new)
             (D.ledger device.old) (D.ledger device.new) }
 
-        ensures list { retired_of self.new ≡ retired_of self.old }
-        ensures greatest { greatest_of self.new ≡ greatest_of self.old }
-
         // If the retired sets were outstanding they still are, and only the answer comes into use.
-        ensures retired { AreRetiredOut D.pool_name D.set_name self.old (D.ledger device.old)
-            → AreRetiredOut D.pool_name D.set_name self.new (D.ledger device.new) }
+        ensures retired { KeepsRetired D.pool_name D.set_name self.old self.new
+            (D.ledger device.old) (D.ledger device.new) }
         ensures in_use { AreRetiredOut D.pool_name D.set_name self.old (D.ledger device.old)
             → IfOk result (λ sets. BringsIntoUse D.pool_name D.set_name
             (items_of D.set_name sets.items) self.old self.new

@@ -8,7 +8,7 @@ use super::FrameManager;
 use gpu_descriptor::DescriptorDevice;
 
 impl<P: Drop, S> FrameManager<P, S> {
-    ghost use Rattle.descriptor_frames.specs.Frames.{AreRetiredOut, KeepsInUse, allocator_of, greatest_of, retired_of};
+    ghost use Rattle.descriptor_frames.specs.Frames.{KeepsInUse, KeepsRetired, allocator_of};
 
     /// Destroys pools without sets, as `DescriptorAllocator::cleanup` does. A pool of a retired set
     /// stays.
@@ -19,10 +19,8 @@ impl<P: Drop, S> FrameManager<P, S> {
         ensures keeps { Keeps D.pool_name (allocator_of self.old) (allocator_of self.new)
             (D.ledger device.old) (D.ledger device.new) }
 
-        ensures list { retired_of self.new ≡ retired_of self.old }
-        ensures greatest { greatest_of self.new ≡ greatest_of self.old }
-        ensures retired { AreRetiredOut D.pool_name D.set_name self.old (D.ledger device.old)
-            → AreRetiredOut D.pool_name D.set_name self.new (D.ledger device.new) }
+        ensures retired { KeepsRetired D.pool_name D.set_name self.old self.new
+            (D.ledger device.old) (D.ledger device.new) }
         ensures in_use { KeepsInUse D.pool_name D.set_name self.old self.new
             (D.ledger device.old) (D.ledger device.new) }
     {

@@ -10,7 +10,7 @@ use crate::due::Due;
 use gpu_descriptor::DescriptorDevice;
 
 impl<P, S> FrameManager<P, S> {
-    ghost use Rattle.descriptor_frames.specs.Frames.{AreRetiredOut, IsAsBefore, KeepsInUse, allocator_of, due_sets, greatest_of, retired_of};
+    ghost use Rattle.descriptor_frames.specs.Frames.{AreRetiredOut, ManagerStays, KeepsInUse, allocator_of, due_sets, greatest_of, retired_of};
 
     /// Gives back all sets that were retired at this frame or before, in the order in which they
     /// were retired. It takes no memory and can't be refused. The device must be done with the work
@@ -33,7 +33,7 @@ impl<P, S> FrameManager<P, S> {
         ensures retired { AreRetiredOut D.pool_name D.set_name self.new (D.ledger device.new) }
         ensures in_use { KeepsInUse D.pool_name D.set_name self.old self.new
             (D.ledger device.old) (D.ledger device.new) }
-        ensures none { due_sets frame self.old ≡ [] → IsAsBefore D.pool_name self.old self.new
+        ensures none { due_sets frame self.old ≡ [] → ManagerStays D.pool_name self.old self.new
             (D.ledger device.old) (D.ledger device.new) }
     {
         let mut due = Due {

@@ -13,7 +13,3 @@ counters_of n = record {
   fragmentation = n.fragmentation.tally.count;
   pool_refused = n.pool_refused.tally.count;
 }
-
--- nothing was done yet
-abbrev pub no_counters : ledger.Counters
-no_counters = record { created = 0; destroyed = 0; asked = 0; released = 0; device_memory = 0; host_memory = 0; fragmentation = 0; pool_refused = 0 }

@@ -39,7 +39,7 @@ pub record IsSameSink {K X : Type 0} (sink : Sink K RawSet X) (before after : K)
   pub room : sink.room_left after ≡ sink.room_left before
 
 -- the iterator gave its items, up to its end, and sets of their names have left the pool
-pub record GivesBack {I : Type 0} (steps : I → Option RawSet → I → Type 0) (name : ℕ) (before after : I) (old new : Pools) : Type 0 where
+pub record TakesBack {I : Type 0} (steps : I → Option RawSet → I → Type 0) (name : ℕ) (before after : I) (old new : Pools) : Type 0 where
   pub items : List RawSet
   pub drained : YieldsThen steps before items None after
   pub gone : List LiveSet

@@ -1,7 +1,8 @@
 -- What a scripted device owes, and what it is to answer.
 use Rattle.std.specs.Prelude.{List, None}
 use Rattle.gpu_descriptor_types.specs.Ledger.{Ledger}
-use Rattle.descriptor_script.specs.Inner.Counters.{counters_of, no_counters}
+use Rattle.gpu_descriptor.specs.Model.Outcomes.{no_rise}
+use Rattle.descriptor_script.specs.Inner.Counters.{counters_of}
 use Rattle.descriptor_script.specs.Inner.Pools.{pools_of, names_of}
 use Rattle.descriptor_script.specs.Scripted.Raw.{Names}
 use Rattle.descriptor_script.specs.Inner.Words.{words_of}
@@ -21,4 +22,4 @@ names_given d = names_of d.pools
 
 -- no pool, and nothing done
 abbrev pub empty_ledger : Ledger
-empty_ledger = record { pools = λ _. None; counters = no_counters }
+empty_ledger = record { pools = λ _. None; counters = no_rise }

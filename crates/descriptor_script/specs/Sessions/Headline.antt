@@ -21,9 +21,9 @@ use Rattle.descriptor_script.specs.declared.session.KnownLayout.{KnownLayout}
 use Rattle.descriptor_script.specs.declared.session.Session.{Session}
 
 -- the tickets that a command frees
-abbrev pub tickets_of : Command → List ℕ
-tickets_of (Free tickets) = tickets.items
-tickets_of _ = []
+abbrev pub freed_tickets : Command → List ℕ
+freed_tickets (Free tickets) = tickets.items
+freed_tickets _ = []
 
 -- the fact holds where sets went back
 abbrev pub IfFreed : Reply → Type 0 → Type 0
@@ -44,13 +44,13 @@ LeaveOneByOne items old new = (order : List Item) → ((t : Item) → count_of t
 -- what a reply leaves held: the sets that were handed out stand under the next tickets, and those that were freed are gone
 abbrev pub AreHeldAfter : {S : Type 0} → Command → Reply → List (Option (DescriptorSet S)) → List (Option (DescriptorSet S)) → Type 0
 AreHeldAfter {S} (Allocate layout count) (Sets first many) old new = (many ≡ count) × (first ≡ length old) × (sets : List (DescriptorSet S)) × (length sets ≡ many) × (new ≡ old ++ map Some sets)
-AreHeldAfter command (Freed many) old new = (many ≡ length (tickets_of command)) × (new ≡ emptied old (tickets_of command))
+AreHeldAfter command (Freed many) old new = (many ≡ length (freed_tickets command)) × (new ≡ emptied old (freed_tickets command))
 AreHeldAfter command _ old new = new ≡ old
 
 module _ {L P S : Type 0} where
   -- these are the sets of the tickets that a command frees, in their order
   abbrev pub AreOfTickets : List (DescriptorSet S) → Step L P S → Type 0
-  AreOfTickets sets s = map Some sets ≡ map (set_at (sets_of s.old)) (tickets_of s.command)
+  AreOfTickets sets s = map Some sets ≡ map (set_at (sets_of s.old)) (freed_tickets s.command)
 
   -- a free calls the device once for each run of its sets
   abbrev pub CallsOnceARun : (S → ℕ) → Step L P S → Type 0

@@ -14,7 +14,8 @@ pub record CleansUp {P : Type 0} (name : P → ℕ) (old new : Allocations P) (b
   pub cleaned : IsCleaned (state_of name old before) (state_of name new after)
   -- all other counters stay
   pub destroyed : after.counters ≡ more_destroyed (pools_cleaned (keys_of old) (state_of name old before)) before.counters
-  -- so each key is counted once there
+  -- for the reader of `destroyed`: no key has two rows before, so that sum counts each key once.
+  -- No body can break it, since it holds of each allocator
   pub rows_before : HasDistinctKeys (table_of name old)
   -- those that still have pools, in their order
   pub keys : keys_of new ≡ keys_with_pools (state_of name new after) (keys_of old)

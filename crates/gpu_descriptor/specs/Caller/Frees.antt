@@ -1,10 +1,11 @@
 -- What giving sets back leaves of an allocator and of the ledger, and how often it calls the device.
-use Rattle.std.specs.Prelude.{◌≡◌, ℕ, ◌+◌, ◌≤◌, if◌then◌else◌, List, [], length, sum, sum_by, Option, None}
+use Rattle.std.specs.Prelude.{◌≡◌, ℕ, ◌+◌, ◌≤◌, List, [], length, sum_by, Option, None}
 use Rattle.std.specs.Iterator.{YieldsThen}
 use Rattle.gpu_descriptor_types.specs.Ledger.{Ledger}
 use Rattle.gpu_descriptor.specs.declared.set.DescriptorSet.{DescriptorSet}
 use Rattle.gpu_descriptor.specs.Model.Agreement.{Item}
 use Rattle.gpu_descriptor.specs.Caller.Comparisons.{run_digits}
+use Rattle.gpu_descriptor.specs.Model.Load.{marked_load}
 use Rattle.gpu_descriptor.specs.Model.Release.{more_released, more_destroyed, given_back, released, pools_gone}
 use Rattle.gpu_descriptor.specs.Model.Promises.{AreOutBesides}
 use Rattle.gpu_descriptor.specs.Model.Runs.{runs}
@@ -12,13 +13,9 @@ use Rattle.gpu_descriptor.specs.Caller.Sets.{items_of}
 use Rattle.gpu_descriptor.specs.Caller.States.{state_of, keys_of, outstanding_of, marked_load_of}
 use Rattle.gpu_descriptor.specs.Caller.Values.{Allocations}
 
--- the descriptors of a set, if its key is marked
-abbrev pub descriptors_of : Item → ℕ
-descriptors_of t = if t.key.marked then sum t.key.counts else 0
-
 -- the descriptors of the marked sets of a list
 abbrev pub marked_descriptors : List Item → ℕ
-marked_descriptors m = sum_by descriptors_of m
+marked_descriptors m = sum_by (λ t. marked_load t.key 1) m
 
 -- these sets have gone back, in so many release calls
 pub record GivesBack {P S : Type 0} (pool_name : P → ℕ) (set_name : S → ℕ) (sets : List (DescriptorSet S)) (calls : ℕ) (old new : Allocations P) (before after : Ledger) : Type 0 where

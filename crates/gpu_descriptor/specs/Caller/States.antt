@@ -1,9 +1,9 @@
 -- Books and ledger of an allocator over a device.
-use Rattle.std.specs.Prelude.{ℕ, ◌*◌, if◌then◌else◌, map, List, sum, sum_by}
+use Rattle.std.specs.Prelude.{ℕ, map, List, sum_by}
 use Rattle.gpu_descriptor_types.specs.Ledger.{Ledger}
 use Rattle.gpu_descriptor.specs.Model.Books.{Key, Entry, Bucket, books_of}
 use Rattle.gpu_descriptor.specs.Model.Agreement.{State, Agree}
-use Rattle.gpu_descriptor.specs.Model.Load.{pool_load}
+use Rattle.gpu_descriptor.specs.Model.Load.{marked_load, pool_load}
 use Rattle.gpu_descriptor.specs.Caller.Values.{Kept, Row, Allocations}
 
 module _ {P : Type 0} (name : P → ℕ) where
@@ -37,7 +37,7 @@ module _ {P : Type 0} where
 
   -- how many descriptors they have, if the key is marked
   abbrev pub descriptors_in : Row P → ℕ
-  descriptors_in r = if r.key.marked then sets_in r * sum r.key.counts else 0
+  descriptors_in r = marked_load r.key (sets_in r)
 
   -- how many sets are out
   abbrev pub outstanding_of : Allocations P → ℕ

@@ -10,7 +10,7 @@ use Rattle.gpu_descriptor.specs.declared.errors.AllocationError.TheVariants.{Out
 use Rattle.gpu_descriptor.specs.Model.Outcomes.{error_of_create, error_of_alloc, no_rise, risen}
 use Rattle.gpu_descriptor.specs.Model.Books.{Key, Entry}
 use Rattle.gpu_descriptor.specs.Model.Agreement.{Item, flags_of}
-use Rattle.gpu_descriptor.specs.Model.Load.{held, pool_load}
+use Rattle.gpu_descriptor.specs.Model.Load.{allocated_in, pool_load}
 use Rattle.gpu_descriptor.specs.Model.Shares.{rest, all_shared}
 use Rattle.gpu_descriptor.specs.Model.FreshPools.{Fresh, fresh_entry, IsNextSize, IsFreshFront, IsFreshList, room_after}
 use Rattle.gpu_descriptor.specs.Model.Grants.{Grant, items_in, pool_with}
@@ -33,47 +33,47 @@ TellsOfRoom (stop.Create e) k room = pool_load k 1 ≤ room
 TellsOfRoom (stop.Fresh e) k room = pool_load k 1 ≤ room
 
 -- a new pool was created and gave what it has of so many sets. It took of the room what it has
-pub record IsGrown (k : Key) (room left total wanted : ℕ) (names : List ℕ) (old new : List Entry) (l m : Ledger) : Type 0 where
+pub record IsGrown (k : Key) (room left total wanted : ℕ) (names : List ℕ) (old new : List Entry) (before after : Ledger) : Type 0 where
   pub pool : Fresh
   pub size : IsNextSize k room total wanted pool.size
   pub less : left + pool_load k pool.size ≡ room
   pub given : pool.given ≡ min pool.size wanted
   pub many : length names ≡ pool.given
-  pub is_new : l.pools pool.pool ≡ None
+  pub is_new : before.pools pool.pool ≡ None
   pub entries : new ≡ old ++ fresh_entry pool ∷ []
-  pub pools : m.pools ≡ on_pool pool.pool (pool_with (live_sets k.counts names) false) (update nat_eq l.pools pool.pool (Some (fresh (pool_counts k.counts pool.size) pool.size (flags_of k))))
-  pub counters : m.counters ≡ risen (record no_rise { created = 1; asked = 1 }) l.counters
+  pub pools : after.pools ≡ on_pool pool.pool (pool_with (live_sets k.counts names) false) (update nat_eq before.pools pool.pool (Some (fresh (pool_counts k.counts pool.size) pool.size (flags_of k))))
+  pub counters : after.counters ≡ risen (record no_rise { created = 1; asked = 1 }) before.counters
 
 -- no new pool came, and the ledger's pools are as before
-pub record IsNotGrown (why : Stop) (l m : Ledger) : Type 0 where
-  pub pools : m.pools ≡ l.pools
-  pub counters : m.counters ≡ risen (stop_rise why) l.counters
+pub record IsNotGrown (why : Stop) (before after : Ledger) : Type 0 where
+  pub pools : after.pools ≡ before.pools
+  pub counters : after.counters ≡ risen (stop_rise why) before.counters
 
 -- the sets of a request were had: shares of the existing pools, and new pools for the rest
-pub record IsTakenAll (k : Key) (room n first : ℕ) (items : List Item) (old new : List Entry) (l m : Ledger) : Type 0 where
+pub record IsTakenAll (k : Key) (room n first : ℕ) (items : List Item) (old new : List Entry) (before after : Ledger) : Type 0 where
   pub grant : Grant
   pub all : grant.left ≡ 0
   pub came : items_in k grant.parts ≡ items
-  pub keeps : KeepsKey k first items old new l.pools m.pools
-  pub fresh : IsFreshList k room (held (all_shared grant.refused n old)) (rest grant.refused n old) grant.fresh
-  pub taken : HasTaken k n first grant old new l m
+  pub keeps : KeepsKey k first items old new before.pools after.pools
+  pub fresh : IsFreshList k room (allocated_in (all_shared grant.refused n old)) (rest grant.refused n old) grant.fresh
+  pub taken : HasTaken k n first grant old new before after
 
 -- after a front of new pools no more came
-pub record IsGrowStopped (why : Stop) (k : Key) (room n first : ℕ) (items : List Item) (old new : List Entry) (l m : Ledger) : Type 0 where
+pub record IsGrowStopped (why : Stop) (k : Key) (room n first : ℕ) (items : List Item) (old new : List Entry) (before after : Ledger) : Type 0 where
   pub grant : Grant
   pub all : grant.left ≡ 0
   pub came : items_in k grant.parts ≡ items
-  pub front : IsFreshFront k room (held (all_shared grant.refused n old)) (rest grant.refused n old) grant.fresh
-  pub before : Ledger
-  pub keeps : KeepsKey k first items old new l.pools before.pools
-  pub taken : HasTaken k n first grant old new l before
-  pub stopped : IsNotGrown why before m
+  pub front : IsFreshFront k room (allocated_in (all_shared grant.refused n old)) (rest grant.refused n old) grant.fresh
+  pub between : Ledger
+  pub keeps : KeepsKey k first items old new before.pools between.pools
+  pub taken : HasTaken k n first grant old new before between
+  pub stopped : IsNotGrown why between after
   pub in_room : TellsOfRoom why k (room_after k room grant.fresh)
 
 -- what was taken when the request stopped
 abbrev pub IsTakenUpTo : Refusal → Key → (room n first : ℕ) → List Item → List Entry → List Entry → Ledger → Ledger → Type 0
-IsTakenUpTo (refusal.Existing error) k room n first items old new l m = IsWalkStopped k n first error items old new l m
-IsTakenUpTo (refusal.New why) k room n first items old new l m = IsGrowStopped why k room n first items old new l m
+IsTakenUpTo (refusal.Existing error) k room n first items old new before after = IsWalkStopped k n first error items old new before after
+IsTakenUpTo (refusal.New why) k room n first items old new before after = IsGrowStopped why k room n first items old new before after
 
 -- what the request answers then
 abbrev pub refusal_answer : Refusal → AllocationError

@@ -25,7 +25,7 @@ module _ {P : Type 0} where
 
   -- looks rose as often as pools were asked
   abbrev pub CountsLooks : OpenPools P → OpenPools P → Ledger → Ledger → Type 0
-  CountsLooks old new l m = new.looks.now.count + l.counters.asked ≡ old.looks.now.count + m.counters.asked
+  CountsLooks old new before after = new.looks.now.count + before.counters.asked ≡ old.looks.now.count + after.counters.asked
 
 abbrev pub LendsPool : (P : RattleType) → MutBor (OpenPools P.Denot) → ℕ → MutBor (DescriptorPool P.Denot) → Fml
 LendsPool P v place r = Lends (open_pools.the_row (record { mir = named 1; lft = [] }) (record { mir = named 2; lft = [] }) (record { mir = named 3; lft = [] }) P) (pool.the_row P) v r (looked_at v.now place)

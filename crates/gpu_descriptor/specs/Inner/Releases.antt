@@ -34,12 +34,12 @@ abbrev pub bucket_back : Bucket → ℕ → ℕ → Entry → Bucket
 bucket_back b number n e = record { first = b.first; pools = set b.pools (number - b.first) (entry_less n e) }
 
 -- giving back sets of these names takes a bucket and the ledger to these
-pub record RunsInto (k : Key) (number : ℕ) (names : List ℕ) (b : Bucket) (before : Ledger) (c : Bucket) (after : Ledger) : Type 0 where
+pub record RunsInto (k : Key) (number : ℕ) (names : List ℕ) (old : Bucket) (before : Ledger) (new : Bucket) (after : Ledger) : Type 0 where
   pub entry : Entry
-  pub above : b.first ≤ number
-  pub at : slice_get b.pools (number - b.first) ≡ Some entry
-  pub books : c ≡ trimmed_bucket 1 (bucket_back b number (length names) entry)
-  pub ledger : after ≡ trimmed_ledger 1 (bucket_back b number (length names) entry) (after_release entry.pool (live_sets k.counts names) before)
+  pub above : old.first ≤ number
+  pub at : slice_get old.pools (number - old.first) ≡ Some entry
+  pub books : new ≡ trimmed_bucket 1 (bucket_back old number (length names) entry)
+  pub ledger : after ≡ trimmed_ledger 1 (bucket_back old number (length names) entry) (after_release entry.pool (live_sets k.counts names) before)
 
 -- the names of the raw sets
 abbrev pub names_of : {S : Type 0} → (S → ℕ) → List (DescriptorSet S) → List ℕ

@@ -1,6 +1,7 @@
 -- What a request took of one key, before any of it goes back: in the bucket, and in the table.
 use Rattle.std.specs.Prelude.{◌≡◌, ℕ, ◌+◌, ◌<◌, ◌≤◌, ◌⊎◌, if◌then◌else◌, List, length, sum_by, OnOk, IfErr, Result}
 use Rattle.gpu_descriptor_types.specs.Ledger.{Ledger}
+use Rattle.gpu_descriptor.specs.Model.Load.{marked_load}
 use Rattle.gpu_descriptor.specs.declared.errors.AllocationError.{AllocationError}
 use Rattle.gpu_descriptor.specs.declared.errors.AllocationError.TheVariants.{OutOfHostMemory, Fragmentation}
 use Rattle.gpu_descriptor.specs.declared.set.BucketKey.{BucketKey}
@@ -9,7 +10,7 @@ use Rattle.gpu_descriptor.specs.declared.bucket.DescriptorBucket.{DescriptorBuck
 use Rattle.gpu_descriptor.specs.declared.bucket.take.Refusal.{Refusal}
 use Rattle.gpu_descriptor.specs.Model.Books.{Key, key_eq, Entry, Bucket, next_number}
 use Rattle.gpu_descriptor.specs.Caller.Sets.{key_of, items_of}
-use Rattle.gpu_descriptor.specs.Inner.Stored.{bucket_of, books_in, load_in, load_of}
+use Rattle.gpu_descriptor.specs.Inner.Stored.{bucket_of, books_in, load_in}
 use Rattle.gpu_descriptor.specs.Inner.Grow.{IsTakenAll, IsTakenUpTo}
 
 module _ {P S : Type 0} (pool_name : P → ℕ) (set_name : S → ℕ) where
@@ -27,7 +28,7 @@ module _ {P S : Type 0} (pool_name : P → ℕ) (set_name : S → ℕ) where
     pub pools : List Entry
     pub books : (l : Key) → books_in pool_name new l ≡ (if key_eq (key_of key) l then record (books_in pool_name old (key_of key)) { pools = pools } else books_in pool_name old l)
     pub out : sum_by (λ r. r.1.total) new ≡ sum_by (λ r. r.1.total) old + length sets
-    pub load : sum_by load_in new ≡ sum_by load_in old + load_of key (length sets)
+    pub load : sum_by load_in new ≡ sum_by load_in old + marked_load (key_of key) (length sets)
     pub done : OnOk taken (let b = books_in pool_name old (key_of key) in IsTakenAll (key_of key) room count b.first (items_of set_name sets) b.pools pools before after)
     pub stopped : IfErr taken (λ why. let b = books_in pool_name old (key_of key) in IsTakenUpTo why (key_of key) room count b.first (items_of set_name sets) b.pools pools before after)
 

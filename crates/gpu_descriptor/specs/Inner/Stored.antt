@@ -1,19 +1,14 @@
 -- The table of keys, as the code has it.
-use Rattle.std.specs.Prelude.{◌≡◌, ℕ, ◌+◌, ◌*◌, ◌≤◌, if◌then◌else◌, List, map, sum, sum_by}
+use Rattle.std.specs.Prelude.{◌≡◌, ℕ, ◌+◌, ◌≤◌, List, map, sum_by}
 use Rattle.std.specs.List.{IsDistinct}
-use Rattle.gpu_descriptor_types.specs.Counts.{kinds}
 use Rattle.gpu_descriptor.specs.declared.set.BucketKey.{BucketKey}
 use Rattle.gpu_descriptor.specs.declared.bucket.DescriptorPool.{DescriptorPool}
 use Rattle.gpu_descriptor.specs.declared.bucket.DescriptorBucket.{DescriptorBucket}
 use Rattle.gpu_descriptor.specs.Model.Books.{Key, key_eq, Entry, Bucket, books_of}
-use Rattle.gpu_descriptor.specs.Model.Load.{pool_load}
+use Rattle.gpu_descriptor.specs.Model.Load.{marked_load, pool_load}
 use Rattle.gpu_descriptor.specs.Caller.States.{named_row}
 use Rattle.gpu_descriptor.specs.Caller.Sets.{key_of}
 use Rattle.gpu_descriptor.specs.Caller.Values.{Kept, Row}
-
--- the descriptors of so many sets of a key, if it is marked
-abbrev pub load_of : BucketKey → ℕ → ℕ
-load_of k sets = if k.update_after_bind then sets * sum (kinds k.size) else 0
 
 module _ {P : Type 0} where
   abbrev pub kept_of : DescriptorPool P → Kept P
@@ -32,7 +27,7 @@ module _ {P : Type 0} where
 
   -- the descriptors of a marked key's sets
   abbrev pub load_in : BucketKey × DescriptorBucket P → ℕ
-  load_in r = load_of r.0 r.1.total
+  load_in r = marked_load (key_of r.0) r.1.total
 
   -- the descriptors of a marked key's pools
   abbrev pub stored_load_in : BucketKey × DescriptorBucket P → ℕ
@@ -40,7 +35,7 @@ module _ {P : Type 0} where
 
   -- no key stands twice, the running totals are those of the table, the marked descriptors keep
   -- the limit, and room is what those of the pools leave of it
-  pub record IsCounted (limit marked room out : ℕ) (table : List (BucketKey × DescriptorBucket P)) : Type 0 where
+  pub record IsConsistent (limit marked room out : ℕ) (table : List (BucketKey × DescriptorBucket P)) : Type 0 where
     pub distinct : IsDistinct key_eq (stored_keys table)
     pub is_load : marked ≡ sum_by load_in table
     pub within : marked ≤ limit

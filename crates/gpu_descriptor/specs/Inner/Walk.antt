@@ -10,7 +10,7 @@ use Rattle.gpu_descriptor.specs.declared.set.DescriptorSet.{DescriptorSet}
 use Rattle.gpu_descriptor.specs.Inner.Buckets.{AreBookedIn}
 use Rattle.gpu_descriptor.specs.Model.Books.{Key, key_eq, Entry, Bucket, entry_at}
 use Rattle.gpu_descriptor.specs.Model.Agreement.{State, Item, count_of, set_of, live_in}
-use Rattle.gpu_descriptor.specs.Model.Load.{held}
+use Rattle.gpu_descriptor.specs.Model.Load.{allocated_in}
 use Rattle.gpu_descriptor.specs.Inner.Stored.{entry_of}
 use Rattle.gpu_descriptor.specs.Model.Shares.{is_asked, OnlyAskedRefuse, portions_of}
 use Rattle.gpu_descriptor.specs.Model.FreshPools.{AreNew, fresh_portions}
@@ -41,51 +41,51 @@ pub record KeepsKey (k : Key) (first : ℕ) (items : List Item) (old new : List 
   pub others : (q : ℕ) → list_any (λ e. e.pool == q) new ≡ false → after q ≡ before q
   pub of_key : (t : Item) → 0 < count_of t items → t.key ≡ k
   pub out : (t : Item) → t.key ≡ k → live_at after (record { first = first; pools = new }) t ≡ live_at before (record { first = first; pools = old }) t + count_of t items
-  pub more : held new ≡ held old + length items
+  pub more : allocated_in new ≡ allocated_in old + length items
 
 -- a pool was asked for what it has of so many sets, or skipped where it has no places or none are wanted
-pub record IsAsked (k : Key) (wanted : ℕ) (names : List ℕ) (old new : Entry) (l m : Ledger) : Type 0 where
+pub record IsAsked (k : Key) (wanted : ℕ) (names : List ℕ) (old new : Entry) (before after : Ledger) : Type 0 where
   pub refused : Bool
   pub refusing : refused ≡ true → nat_lt 0 old.free && nat_lt 0 wanted ≡ true
   pub many : length names ≡ min (if refused then 0 else old.free) wanted
   pub entry : new ≡ record old { allocated = old.allocated + length names; free = (if refused then 0 else old.free) - length names }
-  pub pools : m.pools ≡ on_pool old.pool (pool_with (live_sets k.counts names) refused) l.pools
-  pub counters : m.counters ≡ risen (record no_rise { asked = if nat_lt 0 old.free && nat_lt 0 wanted then 1 else 0; pool_refused = if refused then 1 else 0 }) l.counters
+  pub pools : after.pools ≡ on_pool old.pool (pool_with (live_sets k.counts names) refused) before.pools
+  pub counters : after.counters ≡ risen (record no_rise { asked = if nat_lt 0 old.free && nat_lt 0 wanted then 1 else 0; pool_refused = if refused then 1 else 0 }) before.counters
 
 -- a pool that was asked answered want of memory
-pub record IsNoMemory (wanted : ℕ) (e : Entry) (error : DeviceAllocationError) (l m : Ledger) : Type 0 where
+pub record IsNoMemory (wanted : ℕ) (e : Entry) (error : DeviceAllocationError) (before after : Ledger) : Type 0 where
   pub asked : nat_lt 0 e.free && nat_lt 0 wanted ≡ true
   pub memory : pool_refusals error ≡ 0
-  pub pools : m.pools ≡ l.pools
-  pub counters : m.counters ≡ alloc_refused error l.counters
+  pub pools : after.pools ≡ before.pools
+  pub counters : after.counters ≡ alloc_refused error before.counters
 
 -- a request of n sets took so much of a key's pools, the oldest of which has the number first
-pub record HasTaken (k : Key) (n first : ℕ) (g : Grant) (old new : List Entry) (l m : Ledger) : Type 0 where
+pub record HasTaken (k : Key) (n first : ℕ) (g : Grant) (old new : List Entry) (before after : Ledger) : Type 0 where
   pub refusing : OnlyAskedRefuse g.refused n (drop g.left old)
   pub parts : map portion_of g.parts ≡ portions_of g.refused n (first + g.left) (drop g.left old) ++ fresh_portions (first + length old) g.fresh
-  pub is_new : AreNew l.pools g.fresh
+  pub is_new : AreNew before.pools g.fresh
   pub entries : new ≡ entries_with n g old
-  pub pools : m.pools ≡ ledger_with k g l.pools
-  pub counters : m.counters ≡ risen (grant_rise n g old) l.counters
+  pub pools : after.pools ≡ ledger_with k g before.pools
+  pub counters : after.counters ≡ risen (grant_rise n g old) before.counters
 
 -- all existing pools were asked, and so many sets are still wanting
-pub record IsWalked (k : Key) (n first left : ℕ) (items : List Item) (old new : List Entry) (l m : Ledger) : Type 0 where
+pub record IsWalked (k : Key) (n first left : ℕ) (items : List Item) (old new : List Entry) (before after : Ledger) : Type 0 where
   pub grant : Grant
   pub from : grant.left ≡ left
   pub no_fresh : grant.fresh ≡ []
   pub came : items_in k grant.parts ≡ items
-  pub keeps : KeepsKey k first items old new l.pools m.pools
-  pub taken : HasTaken k n first grant old new l m
+  pub keeps : KeepsKey k first items old new before.pools after.pools
+  pub taken : HasTaken k n first grant old new before after
 
 -- the walk stopped at a pool that answered want of memory
-pub record IsWalkStopped (k : Key) (n first : ℕ) (error : DeviceAllocationError) (items : List Item) (old new : List Entry) (l m : Ledger) : Type 0 where
+pub record IsWalkStopped (k : Key) (n first : ℕ) (error : DeviceAllocationError) (items : List Item) (old new : List Entry) (before after : Ledger) : Type 0 where
   pub older : List Entry
   pub pool : Entry
   pub newer : List Entry
   pub here : old ≡ older ++ pool ∷ newer
-  pub before : Ledger
-  pub walked : IsWalked k n first (length older + 1) items old new l before
+  pub between : Ledger
+  pub walked : IsWalked k n first (length older + 1) items old new before between
   pub asked : is_asked walked.grant.refused n newer pool ≡ true
   pub memory : pool_refusals error ≡ 0
-  pub pools : m.pools ≡ before.pools
-  pub counters : m.counters ≡ alloc_refused error before.counters
+  pub pools : after.pools ≡ between.pools
+  pub counters : after.counters ≡ alloc_refused error between.counters

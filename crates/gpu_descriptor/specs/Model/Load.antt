@@ -3,19 +3,11 @@ use Rattle.std.specs.Prelude.{ℕ, ◌*◌, max, if◌then◌else◌, List, sum,
 use Rattle.gpu_descriptor.specs.Model.Books.{Key, Entry, Bucket, AddsUp}
 use Rattle.gpu_descriptor.specs.Model.Agreement.{State}
 
--- the sets that are out of these pools
-abbrev pub held : List Entry → ℕ
-held pools = sum_by (λ e. e.allocated) pools
+-- how many sets are out of these pools
+abbrev pub allocated_in : List Entry → ℕ
+allocated_in pools = sum_by (λ e. e.allocated) pools
 
--- the sets that are out of a key's pools
-abbrev pub sets_out : Key → Bucket → ℕ
-sets_out k b = held b.pools
-
--- the descriptors of the sets that are out of a marked key's pools
-abbrev pub descriptors_out : Key → Bucket → ℕ
-descriptors_out k b = if k.marked then held b.pools * sum k.counts else 0
-
--- the descriptors of so many sets of a key, if it is marked
+-- how many descriptors so many sets of a key have, if it is marked
 abbrev pub marked_load : Key → ℕ → ℕ
 marked_load k sets = if k.marked then sets * sum k.counts else 0
 
@@ -23,9 +15,17 @@ marked_load k sets = if k.marked then sets * sum k.counts else 0
 abbrev pub pool_load : Key → ℕ → ℕ
 pool_load k sets = if k.marked then max 1 (sets * sum k.counts) else 0
 
--- the descriptors of these pools
+-- the descriptors of these pools of a key, if it is marked
 abbrev pub pools_load : Key → List Entry → ℕ
 pools_load k pools = sum_by (λ e. pool_load k e.capacity) pools
+
+-- ---- over all keys: what a key with its bucket adds to each of the three sums
+
+abbrev pub sets_out : Key → Bucket → ℕ
+sets_out k b = allocated_in b.pools
+
+abbrev pub descriptors_out : Key → Bucket → ℕ
+descriptors_out k b = marked_load k (allocated_in b.pools)
 
 abbrev pub bucket_load : Key → Bucket → ℕ
 bucket_load k b = pools_load k b.pools

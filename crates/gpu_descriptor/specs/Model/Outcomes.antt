@@ -8,7 +8,7 @@ use Rattle.gpu_descriptor_types.specs.Ledger.{Counters, create_refused, alloc_re
 use Rattle.gpu_descriptor.specs.Model.Books.{Key, Entry, next_number}
 use Rattle.gpu_descriptor.specs.Model.Agreement.{State, Item}
 use Rattle.gpu_descriptor.specs.Model.Release.{given_back, released, pools_gone}
-use Rattle.gpu_descriptor.specs.Model.Load.{held, pool_load, IsOut, IsMarkedLoad, IsPoolLoad}
+use Rattle.gpu_descriptor.specs.Model.Load.{allocated_in, pool_load, IsOut, IsMarkedLoad, IsPoolLoad}
 use Rattle.gpu_descriptor.specs.Model.Runs.{runs}
 use Rattle.gpu_descriptor.specs.Model.Shares.{rest, is_asked, all_shared, asked_count, refused_count, OnlyAskedRefuse, portions_of}
 use Rattle.gpu_descriptor.specs.Model.FreshPools.{AreNew, IsFreshFront, IsFreshList, fresh_portions, room_after}
@@ -37,6 +37,7 @@ pub record Request : Type 0 where
 
 -- ---- counters
 
+-- eight zeros: no counter rises, or none has risen yet
 abbrev pub no_rise : Counters
 no_rise = record { created = 0; destroyed = 0; asked = 0; released = 0; device_memory = 0; host_memory = 0; fragmentation = 0; pool_refused = 0 }
 
@@ -77,7 +78,7 @@ abbrev pub wanting : Request → State → Grant → ℕ
 wanting r s g = rest g.refused r.count (s.books r.key).pools
 
 abbrev pub out_then : Request → State → Grant → ℕ
-out_then r s g = held (all_shared g.refused r.count (s.books r.key).pools)
+out_then r s g = allocated_in (all_shared g.refused r.count (s.books r.key).pools)
 
 -- after a front of new pools one more is wanting
 pub record IsFront (r : Request) (s : State) (g : Grant) : Type 0 where

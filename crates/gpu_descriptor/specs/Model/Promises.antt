@@ -7,7 +7,7 @@ use Rattle.gpu_descriptor.specs.declared.errors.AllocationError.TheVariants.{Out
 use Rattle.gpu_descriptor.specs.Model.Books.{Key, Entry, entry_at, next_number, key_eq}
 use Rattle.gpu_descriptor.specs.Model.Agreement.{State, Item, count_of, outstanding}
 use Rattle.gpu_descriptor.specs.Model.Outcomes.{Call, IsAboveLimit, IsPastBound, IsDone, IsStoppedWithoutRoom, IsStoppedAtCreate, IsStoppedForMemory, IsStoppedAtFresh, Proceeds, Stays}
-use Rattle.gpu_descriptor.specs.Model.Load.{held}
+use Rattle.gpu_descriptor.specs.Model.Load.{allocated_in}
 use Rattle.gpu_descriptor.specs.Model.Shares.{offer, rest, all_shared, refused_count, OnlyAskedRefuse}
 use Rattle.gpu_descriptor_types.specs.declared.errors.CreatePoolError.TheVariants as create_error
 
@@ -54,7 +54,7 @@ AreBelowTwice out wanted (size ∷ later) = (0 < wanted) × (size < 2 * start_si
 pub record HasNewPools (c : Call) (wanted gone : ℕ) : Type 0 where
   -- their sizes, in the order in which they came
   pub sizes : List ℕ
-  pub below_twice : let pools = (c.old.books c.request.key).pools in AreBelowTwice (held pools + (c.request.count - wanted)) wanted sizes
+  pub below_twice : let pools = (c.old.books c.request.key).pools in AreBelowTwice (allocated_in pools + (c.request.count - wanted)) wanted sizes
   -- they took the next numbers
   pub numbers : next_number (c.new.books c.request.key) ≡ next_number (c.old.books c.request.key) + length sizes
   -- where the pool of such a number still stands in the books, it has the size

@@ -14,14 +14,13 @@ ghost use Rattle.gpu_descriptor.specs.Caller.Call.{call_of, layout_key};
 ghost use Rattle.gpu_descriptor.specs.Inner.Takes.{Takes};
 ghost use Rattle.gpu_descriptor.specs.Inner.Buckets.{AreBookedIn};
 ghost use Rattle.gpu_descriptor.specs.Inner.Grow.{refusal_answer};
-ghost use Rattle.gpu_descriptor.specs.Inner.Stored.{bucket_of, books_in, stored_keys, stored_load_in, stored_load};
-ghost use Rattle.gpu_descriptor.specs.Inner.Serves.{Serves, ServesKey, IsUnserved};
+ghost use Rattle.gpu_descriptor.specs.Inner.Stored.{books_in, stored_keys, stored_load_in};
+ghost use Rattle.gpu_descriptor.specs.Inner.Serves.{ServesKey, IsUnserved};
 
 use super::DescriptorAllocator;
-use super::free::marked_descriptors;
-use crate::bucket::DescriptorBucket;
-use crate::bucket::allocation::Allocation;
-use crate::bucket::take::{Refusal, Stop};
+use super::free::descriptors_of_sets;
+use crate::bucket::take::{Refusal, Served, Stop};
+use crate::bucket::{DescriptorBucket, is_past_bound};
 use crate::errors::AllocationError;
 use crate::flags::DescriptorSetLayoutCreateFlags;
 use crate::set::{BucketKey, DescriptorSet};
@@ -78,8 +77,8 @@ impl<P: Drop, S: Drop> DescriptorAllocator<P, S> {
             size: *layout_descriptor_count,
             update_after_bind: flags.contains(DescriptorSetLayoutCreateFlags::UPDATE_AFTER_BIND),
         };
-        let (sets, taken) = match self.request(device, layout, key, count) {
-            Ok(given) => given,
+        let Served { sets, taken } = match self.request(device, layout, key, count) {
+            Ok(served) => served,
             Err(error) => return Err(error),
         };
         match taken {
@@ -98,12 +97,12 @@ impl<P: Drop, S: Drop> DescriptorAllocator<P, S> {
         layout: &L,
         key: BucketKey,
         count: u32,
-    ) -> Result<(Vec<DescriptorSet<S>>, Result<(), Refusal>), AllocationError>
+    ) -> Result<Served<S>, AllocationError>
         requires same { key_of key ≡ layout_key D.layout_counts D.layout_mark layout.now }
         requires some { 0 < count }
         requires agree { Agrees D.pool_name self.old (D.ledger device.old) }
         ensures taken { IfOk result (λ r. Takes D.pool_name D.set_name (key_of key) count
-            r.0.items r.1 self.old self.new (D.ledger device.old) (D.ledger device.new)) }
+            r.sets.items r.taken self.old self.new (D.ledger device.old) (D.ledger device.new)) }
         ensures declined { IfErr result (λ e. Allocates (call_of D.pool_name (key_of key) count
             self.old self.new (D.ledger device.old) (D.ledger device.new) (Err e))) }
         ensures looks { self.new.looks + (D.ledger device.old).counters.asked
@@ -135,16 +134,16 @@ impl<P: Drop, S: Drop> DescriptorAllocator<P, S> {
             self.alloc,
             &mut self.looks,
         );
-        let (sets, taken) = match served {
+        let Served { sets, taken } = match served {
             Ok(served) => served,
             Err(error) => return Err(error),
         };
         let given = sets.len() as u64;
         self.outstanding += given;
-        self.current_update_after_bind_descriptors_in_all_pools += marked_descriptors(
+        self.current_update_after_bind_descriptors_in_all_pools += descriptors_of_sets(
             &key, given,
         ) as u32;
-        Ok((sets, taken))
+        Ok(Served { sets, taken })
     }
 
     /// Whether so many sets would pass the limit on marked descriptors.
@@ -158,13 +157,6 @@ impl<P: Drop, S: Drop> DescriptorAllocator<P, S> {
     }
 }
 
-/// Whether so many more would pass the greatest number of 64 bits.
-fn is_past_bound(number: u64, count: u32) -> bool
-    ensures { result ≡ nat_lt 18446744073709551615 (number + count) }
-{
-    number.checked_add(u64::from(count)).is_none()
-}
-
 /// Takes sets of a key. If the key is absent, it is put last.
 fn serve_key<L, P: Drop, S: Drop, D: DescriptorDevice<L, P, S>>(
     buckets: &mut IndexMap<BucketKey, DescriptorBucket<P>>,
@@ -175,13 +167,14 @@ fn serve_key<L, P: Drop, S: Drop, D: DescriptorDevice<L, P, S>>(
     room: &mut u32,
     alloc: Global,
     looks: &mut Tally,
-) -> Result<(Vec<DescriptorSet<S>>, Result<(), Refusal>), AllocationError>
+) -> Result<Served<S>, AllocationError>
     requires same { key_of key ≡ layout_key D.layout_counts D.layout_mark layout.now }
     requires booked { AreBookedIn (key_of key) (D.ledger device.old).pools
         (books_in D.pool_name buckets.old.entries (key_of key)).pools }
     requires bound { sum_by (λ r. r.1.total) buckets.old.entries + count < 2 ^ 64 }
-    ensures served { IfOk result (λ r. ServesKey D.pool_name D.set_name key room.old count r.0.items r.1
-        buckets.old.entries buckets.new.entries (D.ledger device.old) (D.ledger device.new)) }
+    ensures served { IfOk result (λ r. ServesKey D.pool_name D.set_name key room.old count
+        r.sets.items r.taken buckets.old.entries buckets.new.entries
+        (D.ledger device.old) (D.ledger device.new)) }
     ensures refused { IfErr result (λ e. IsUnserved count e
         (books_in D.pool_name buckets.old.entries (key_of key))) }
     ensures looks { looks.new.count + (D.ledger device.old).counters.asked
@@ -196,7 +189,7 @@ fn serve_key<L, P: Drop, S: Drop, D: DescriptorDevice<L, P, S>>(
     ensures ledger { OnErr result (D.ledger device.new ≡ D.ledger device.old) }
 {
     match buckets.get_mut(&key) {
-        Some(bucket) => return serve(bucket, device, layout, &key, count, room, alloc, looks),
+        Some(bucket) => return bucket.serve(device, layout, &key, count, room, alloc, looks),
         None => {}
     }
     if buckets.reserve(1).is_err() {
@@ -208,7 +201,7 @@ fn serve_key<L, P: Drop, S: Drop, D: DescriptorDevice<L, P, S>>(
         listed: VecDeque::new(alloc),
         total: 0,
     };
-    let served = match serve(&mut bucket, device, layout, &key, count, room, alloc, looks) {
+    let served = match bucket.serve(device, layout, &key, count, room, alloc, looks) {
         Ok(served) => served,
         Err(error) => return Err(error),
     };
@@ -216,42 +209,6 @@ fn serve_key<L, P: Drop, S: Drop, D: DescriptorDevice<L, P, S>>(
         Ok(_) => Ok(served),
         Err(_) => unreachable!(),
     }
-}
-
-/// Takes sets from a key's pools, and from new ones, over room that is taken first.
-fn serve<L, P: Drop, S: Drop, D: DescriptorDevice<L, P, S>>(
-    bucket: &mut DescriptorBucket<P>,
-    device: &mut D,
-    layout: &L,
-    key: &BucketKey,
-    count: u32,
-    room: &mut u32,
-    alloc: Global,
-    looks: &mut Tally,
-) -> Result<(Vec<DescriptorSet<S>>, Result<(), Refusal>), AllocationError>
-    requires same { key_of key.now ≡ layout_key D.layout_counts D.layout_mark layout.now }
-    requires booked { AreBookedIn (key_of key.now) (D.ledger device.old).pools
-        (bucket_of D.pool_name bucket.old).pools }
-    requires bound { bucket.old.total + count < 2 ^ 64 }
-    ensures served { IfOk result (λ r. Serves D.pool_name D.set_name (key_of key.now) room.old count
-        r.0.items r.1 bucket.old bucket.new (D.ledger device.old) (D.ledger device.new)) }
-    ensures refused { IfErr result (λ e. IsUnserved count e (bucket_of D.pool_name bucket.old)) }
-    ensures looks { looks.new.count + (D.ledger device.old).counters.asked
-        ≡ looks.old.count + (D.ledger device.new).counters.asked }
-    ensures looks_stay { OnErr result (looks.new ≡ looks.old) }
-    ensures room { room.new + stored_load (key_of key.now) bucket.new.pools.items
-        ≡ room.old + stored_load (key_of key.now) bucket.old.pools.items }
-    ensures bucket { OnErr result (bucket.new ≡ bucket.old) }
-    ensures ledger { OnErr result (D.ledger device.new ≡ D.ledger device.old) }
-{
-    if is_past_bound(bucket.offset + bucket.pools.len() as u64, count) {
-        return Err(AllocationError::Fragmentation);
-    }
-    let Ok(mut sink) = Allocation::with_room(alloc, *key, count) else {
-        return Err(AllocationError::OutOfHostMemory);
-    };
-    let taken = bucket.take(device, layout, key, count, room, &mut sink, looks);
-    Ok((sink.into_sets(), taken))
 }
 
 /// The error of a request that stopped.

@@ -1,6 +1,7 @@
 //! Giving sets back.
 ghost use Rattle.std.specs.Prelude.{◌≡◌, ◌+◌, ◌<◌, ◌≤◌, ◌^◌, ◌∷◌, OnSome};
 ghost use Rattle.std.specs.Iterator.{HoldsAlong, IsFinite, IsNearerEnd};
+ghost use Rattle.gpu_descriptor.specs.Model.Load.{marked_load};
 ghost use Rattle.gpu_descriptor.specs.Model.Agreement.{AreOutstanding};
 ghost use Rattle.gpu_descriptor.specs.Caller.Comparisons.{open_pools, binary_digits};
 ghost use Rattle.gpu_descriptor.specs.Caller.Keeps.{Keeps};
@@ -8,7 +9,6 @@ ghost use Rattle.gpu_descriptor.specs.Caller.Frees.{Frees, Returns};
 ghost use Rattle.gpu_descriptor.specs.Inner.Releases.{FreesRun};
 ghost use Rattle.gpu_descriptor.specs.Caller.Sets.{items_of, key_of};
 ghost use Rattle.gpu_descriptor.specs.Caller.States.{Agrees, keys_of, state_of};
-ghost use Rattle.gpu_descriptor.specs.Inner.Stored.{load_of};
 
 use super::DescriptorAllocator;
 use crate::set::{BucketKey, DescriptorSet};
@@ -107,7 +107,7 @@ impl<P, S> DescriptorAllocator<P, S> {
                 );
                 let released = before - bucket.total;
                 self.outstanding -= released;
-                let descriptors = marked_descriptors(&key, released) as u32;
+                let descriptors = descriptors_of_sets(&key, released) as u32;
                 self.current_update_after_bind_descriptors_in_all_pools -= descriptors;
                 ahead
             }
@@ -138,9 +138,9 @@ impl<P, S: Drop> DescriptorAllocator<P, S> {
 }
 
 /// How many descriptors so many sets of a key have, if the key is marked, and else 0.
-pub(super) fn marked_descriptors(key: &BucketKey, sets: u64) -> u64
-    requires { load_of key.now sets < 2 ^ 64 }
-    ensures { result ≡ load_of key.now sets }
+pub(super) fn descriptors_of_sets(key: &BucketKey, sets: u64) -> u64
+    requires { marked_load (key_of key.now) sets < 2 ^ 64 }
+    ensures { result ≡ marked_load (key_of key.now) sets }
 {
     if key.update_after_bind {
         sets * key.size.total()

@@ -1,11 +1,11 @@
 //! How a request takes sets from the pools of its key.
-ghost use Rattle.std.specs.Prelude.{◌≡◌, ◌+◌, ◌<◌, ◌≤◌, ◌++◌, ◌^◌, List, [], length, map, if◌then◌else◌, IfOk, IfErr, IfSome, IfNone, OnOk};
+ghost use Rattle.std.specs.Prelude.{◌≡◌, ◌+◌, ◌<◌, ◌≤◌, ◌++◌, ◌^◌, List, [], length, map, if◌then◌else◌, IfOk, IfErr, IfSome, IfNone, OnOk, OnErr};
 ghost use Rattle.gpu_descriptor_types.specs.Counts.{kinds};
 ghost use Rattle.gpu_descriptor_types.specs.Flags.{bits};
 ghost use Rattle.gpu_descriptor_types.specs.Ledger.{pool_refusals};
 ghost use Rattle.gpu_descriptor_types.specs.PoolSize.{pool_counts as pool_counts_of};
 ghost use Rattle.gpu_descriptor.specs.declared.set.DescriptorSet.{DescriptorSet};
-ghost use Rattle.gpu_descriptor.specs.Model.Load.{pools_load, held, pool_load};
+ghost use Rattle.gpu_descriptor.specs.Model.Load.{pools_load, allocated_in, pool_load};
 ghost use Rattle.gpu_descriptor.specs.Caller.Sets.{key_of, items_of};
 ghost use Rattle.gpu_descriptor.specs.Inner.Stored.{bucket_of, entry_of, stored_load};
 ghost use Rattle.gpu_descriptor.specs.Model.Books.{next_number};
@@ -15,17 +15,20 @@ ghost use Rattle.gpu_descriptor.specs.Model.FreshPools.{IsNextSize};
 ghost use Rattle.gpu_descriptor.specs.Inner.Buckets.{IsBookedIn, AreBookedIn};
 ghost use Rattle.gpu_descriptor.specs.Inner.Walk.{entries_of, sets_at, IsAsked, IsNoMemory, IsWalked, IsWalkStopped};
 ghost use Rattle.gpu_descriptor.specs.Caller.Call.{layout_key};
+ghost use Rattle.gpu_descriptor.specs.Inner.Serves.{IsUnserved, Serves};
 ghost use Rattle.gpu_descriptor.specs.Inner.Grow.{IsGrown, IsNotGrown, TellsOfRoom, IsTakenAll, IsTakenUpTo};
 
 use crate::bucket::allocation::Allocation;
 use crate::bucket::reads::OpenPools;
-use crate::bucket::{DescriptorBucket, DescriptorPool, descriptors_of_pool};
-use crate::set::BucketKey;
+use crate::bucket::{DescriptorBucket, DescriptorPool, descriptors_of_pool, is_past_bound};
+use crate::errors::AllocationError;
+use crate::set::{BucketKey, DescriptorSet};
 use bitflags::Flags;
 use gpu_descriptor_types::{
     CreatePoolError, DescriptorDevice, DescriptorPoolCreateFlags, DescriptorTotalCount,
     DeviceAllocationError, Layouts, Tally, cut_pool_size, new_pool_size,
 };
+use std::alloc::Global;
 
 /// Why no new pool came.
 #[derive(Clone, Copy)]
@@ -51,6 +54,15 @@ pub(crate) enum Refusal {
 
     /// No new pool came.
     New(Stop),
+}
+
+/// What a request took, before any of it goes back.
+pub(crate) struct Served<S> {
+    /// The sets that came.
+    pub(crate) sets: Vec<DescriptorSet<S>>,
+
+    /// Whether they are all, or why the request stopped.
+    pub(crate) taken: Result<(), Refusal>,
 }
 
 /// Whether a refusal speaks of the pool alone, and not of want of memory.
@@ -82,11 +94,14 @@ fn ask<L, P, S, D: DescriptorDevice<L, P, S>>(
         × (length put ≡ given)
         × (sink.new.sets.items ≡ sink.old.sets.items ++ sets_at sink.old.key sink.old.number put)
         × (sink.new.left + given ≡ sink.old.left)
-        × IsAsked (key_of key.now) wanted (map D.set_name put) (entry_of D.pool_name pool.old) (entry_of D.pool_name pool.new) (D.ledger device.old) (D.ledger device.new)) }
+        × IsAsked (key_of key.now) wanted (map D.set_name put)
+        (entry_of D.pool_name pool.old) (entry_of D.pool_name pool.new)
+        (D.ledger device.old) (D.ledger device.new)) }
     ensures err { IfErr result (λ e.
         (sink.new.sets.items ≡ sink.old.sets.items)
         × (entry_of D.pool_name pool.new ≡ entry_of D.pool_name pool.old)
-        × IsNoMemory wanted (entry_of D.pool_name pool.old) e (D.ledger device.old) (D.ledger device.new)) }
+        × IsNoMemory wanted (entry_of D.pool_name pool.old) e
+        (D.ledger device.old) (D.ledger device.new)) }
 {
     let count = wanted.min(pool.available);
     if count == 0 {
@@ -109,8 +124,8 @@ fn ask<L, P, S, D: DescriptorDevice<L, P, S>>(
     }
 }
 
-/// Asks the pools for sets that have known free places, the newest first, until none are wanting. It
-/// answers how many are wanting then.
+/// Asks the pools for sets that have known free places, the newest first, until none are wanting.
+/// It answers how many are wanting then.
 fn walk<L, P, S, D: DescriptorDevice<L, P, S>>(
     device: &mut D,
     view: &mut OpenPools<'_, '_, '_, P>,
@@ -128,12 +143,19 @@ fn walk<L, P, S, D: DescriptorDevice<L, P, S>>(
     ensures walked { IfOk result (λ wanting. (put : List (DescriptorSet S))
         × (sink.new.sets.items ≡ sink.old.sets.items ++ put)
         × (sink.new.left + count ≡ sink.old.left + wanting)
-        × (walked : IsWalked (key_of key.now) count view.old.offset 0 (items_of D.set_name put) (entries_of D.pool_name view.old.pools.now.items) (entries_of D.pool_name view.new.pools.now.items) (D.ledger device.old) (D.ledger device.new))
-        × (wanting ≡ rest walked.grant.refused count (entries_of D.pool_name view.old.pools.now.items))
+        × (walked : IsWalked (key_of key.now) count view.old.offset 0 (items_of D.set_name put)
+        (entries_of D.pool_name view.old.pools.now.items)
+        (entries_of D.pool_name view.new.pools.now.items)
+        (D.ledger device.old) (D.ledger device.new))
+        × (wanting ≡ rest walked.grant.refused count
+        (entries_of D.pool_name view.old.pools.now.items))
         × (length put + wanting ≡ count)) }
     ensures stopped { IfErr result (λ e. (put : List (DescriptorSet S))
         × (sink.new.sets.items ≡ sink.old.sets.items ++ put)
-        × IsWalkStopped (key_of key.now) count view.old.offset e (items_of D.set_name put) (entries_of D.pool_name view.old.pools.now.items) (entries_of D.pool_name view.new.pools.now.items) (D.ledger device.old) (D.ledger device.new)) }
+        × IsWalkStopped (key_of key.now) count view.old.offset e (items_of D.set_name put)
+        (entries_of D.pool_name view.old.pools.now.items)
+        (entries_of D.pool_name view.new.pools.now.items)
+        (D.ledger device.old) (D.ledger device.new)) }
     ensures pools { length view.new.pools.now.items ≡ length view.old.pools.now.items }
     ensures given { length sink.new.sets.items ≤ length sink.old.sets.items + count }
     ensures listed { IsListed view.new }
@@ -160,7 +182,7 @@ fn walk<L, P, S, D: DescriptorDevice<L, P, S>>(
     Ok(wanting)
 }
 
-/// The flags of a new pool: sets go back singly.
+/// The flags of a new pool: sets go back singly, and it takes marked sets if its key is marked.
 fn pool_flags(update_after_bind: bool) -> DescriptorPoolCreateFlags
     ensures { bits result ≡ (if update_after_bind then 3 else 1) }
 {
@@ -195,128 +217,180 @@ fn next_size(
     }
 }
 
-/// Creates a pool, and asks it for what it has of so many sets. It answers how many came.
-///
-/// `total` sets of the key are out already. A pool of a marked key takes of the room what
-/// descriptors it has.
-#[inline(never)]
-fn grow_one<L, P: Drop, S, D: DescriptorDevice<L, P, S>>(
-    device: &mut D,
-    view: &mut OpenPools<'_, '_, '_, P>,
-    layout: &L,
-    key: &BucketKey,
-    total: u64,
-    wanted: u32,
-    room: &mut u32,
-    sink: &mut Allocation<S>,
-) -> Result<u32, Stop>
-    requires same { key_of key.now ≡ layout_key D.layout_counts D.layout_mark layout.now }
-    requires numbers { view.old.offset + length view.old.pools.now.items < 2 ^ 64 }
-    requires listed { IsListed view.old }
-    requires room { wanted ≤ sink.old.left }
-    ensures grown { IfOk result (λ given. (put : List S)
-        × (length put ≡ given)
-        × (sink.new.sets.items ≡ sink.old.sets.items ++ sets_at key.now (view.old.offset + length view.old.pools.now.items) put)
-        × (sink.new.left + given ≡ sink.old.left)
-        × IsGrown (key_of key.now) room.old room.new total wanted (map D.set_name put) (entries_of D.pool_name view.old.pools.now.items) (entries_of D.pool_name view.new.pools.now.items) (D.ledger device.old) (D.ledger device.new)) }
-    ensures err { IfErr result (λ why.
-        (sink.new.sets.items ≡ sink.old.sets.items)
-        × (view.new.pools.now.items ≡ view.old.pools.now.items)
-        × IsNotGrown why (D.ledger device.old) (D.ledger device.new)
-        × TellsOfRoom why (key_of key.now) room.old
-        × (room.new ≡ room.old)) }
-    ensures listed { IsListed view.new }
-    ensures kept { KeepsView view.old view.new }
-    ensures looks { CountsLooks view.old view.new (D.ledger device.old) (D.ledger device.new) }
-{
-    let Some((pool_counts, size)) = next_size(key, total, wanted, *room) else {
-        return Err(Stop::Room);
-    };
-    if !view.make_room() {
-        return Err(Stop::Books);
-    }
-    let flags = pool_flags(key.update_after_bind);
-    let mut raw = match device.create_descriptor_pool(&pool_counts, size, flags) {
-        Ok(raw) => raw,
-        Err(error) => return Err(Stop::Create(error)),
-    };
-    let given = size.min(wanted);
-    sink.aim(*key, view.next_number());
-    view.count_fresh();
-    match device.alloc_descriptor_sets(&mut raw, Layouts::new(layout, given), sink) {
-        Ok(()) => {
-            view.push(DescriptorPool {
-                raw,
-                capacity: size,
-                allocated: given,
-                available: size - given,
-            });
-            *room -= descriptors_of_pool(key, size);
-            Ok(given)
+impl<'a, 'b, 'c, P: Drop> OpenPools<'a, 'b, 'c, P> {
+    /// Creates a pool, and asks it for what it has of so many sets. It answers how many came.
+    ///
+    /// `total` sets of the key are out already. A pool of a marked key takes of the room what
+    /// descriptors it has.
+    #[inline(never)]
+    fn grow_one<L, S, D: DescriptorDevice<L, P, S>>(
+        &mut self,
+        device: &mut D,
+        layout: &L,
+        key: &BucketKey,
+        total: u64,
+        wanted: u32,
+        room: &mut u32,
+        sink: &mut Allocation<S>,
+    ) -> Result<u32, Stop>
+        requires same { key_of key.now ≡ layout_key D.layout_counts D.layout_mark layout.now }
+        requires numbers { self.old.offset + length self.old.pools.now.items < 2 ^ 64 }
+        requires listed { IsListed self.old }
+        requires room { wanted ≤ sink.old.left }
+        ensures grown { IfOk result (λ given. (put : List S)
+            × (length put ≡ given)
+            × (sink.new.sets.items ≡ sink.old.sets.items
+            ++ sets_at key.now (self.old.offset + length self.old.pools.now.items) put)
+            × (sink.new.left + given ≡ sink.old.left)
+            × IsGrown (key_of key.now) room.old room.new total wanted (map D.set_name put)
+            (entries_of D.pool_name self.old.pools.now.items)
+            (entries_of D.pool_name self.new.pools.now.items)
+            (D.ledger device.old) (D.ledger device.new)) }
+        ensures err { IfErr result (λ why.
+            (sink.new.sets.items ≡ sink.old.sets.items)
+            × (self.new.pools.now.items ≡ self.old.pools.now.items)
+            × IsNotGrown why (D.ledger device.old) (D.ledger device.new)
+            × TellsOfRoom why (key_of key.now) room.old
+            × (room.new ≡ room.old)) }
+        ensures listed { IsListed self.new }
+        ensures kept { KeepsView self.old self.new }
+        ensures looks { CountsLooks self.old self.new (D.ledger device.old) (D.ledger device.new) }
+    {
+        let Some((pool_counts, size)) = next_size(key, total, wanted, *room) else {
+            return Err(Stop::Room);
+        };
+        if !self.make_room() {
+            return Err(Stop::Books);
         }
-        Err(error) => {
-            device.destroy_descriptor_pool(raw);
-            Err(Stop::Fresh(error))
-        }
-    }
-}
-
-/// Takes sets from a key's pools: from the existing ones, the newest first, and then from new ones.
-///
-/// `total` sets of the key are out already.
-pub(crate) fn take<L, P: Drop, S, D: DescriptorDevice<L, P, S>>(
-    device: &mut D,
-    view: &mut OpenPools<'_, '_, '_, P>,
-    layout: &L,
-    key: &BucketKey,
-    total: u64,
-    count: u32,
-    room: &mut u32,
-    sink: &mut Allocation<S>,
-) -> Result<(), Refusal>
-    requires same { key_of key.now ≡ layout_key D.layout_counts D.layout_mark layout.now }
-    requires booked { AreBookedIn (key_of key.now) (D.ledger device.old).pools
-        (entries_of D.pool_name view.old.pools.now.items) }
-    requires total { total ≡ held (entries_of D.pool_name view.old.pools.now.items) }
-    requires bound { total + count < 2 ^ 64 }
-    requires numbers { view.old.offset + length view.old.pools.now.items + count < 2 ^ 64 }
-    requires listed { IsListed view.old }
-    requires room { count ≤ sink.old.left }
-    ensures done { OnOk result ((put : List (DescriptorSet S))
-        × (sink.new.sets.items ≡ sink.old.sets.items ++ put)
-        × IsTakenAll (key_of key.now) room.old count view.old.offset (items_of D.set_name put) (entries_of D.pool_name view.old.pools.now.items) (entries_of D.pool_name view.new.pools.now.items) (D.ledger device.old) (D.ledger device.new)) }
-    ensures stopped { IfErr result (λ why. (put : List (DescriptorSet S))
-        × (sink.new.sets.items ≡ sink.old.sets.items ++ put)
-        × IsTakenUpTo why (key_of key.now) room.old count view.old.offset (items_of D.set_name put) (entries_of D.pool_name view.old.pools.now.items) (entries_of D.pool_name view.new.pools.now.items) (D.ledger device.old) (D.ledger device.new)) }
-    ensures pools { length view.new.pools.now.items ≤ length view.old.pools.now.items + count }
-    ensures given { length sink.new.sets.items ≤ length sink.old.sets.items + count }
-    ensures listed { IsListed view.new }
-    ensures kept { KeepsView view.old view.new }
-    ensures looks { CountsLooks view.old view.new (D.ledger device.old) (D.ledger device.new) }
-    ensures room { room.new + pools_load (key_of key.now)
-        (entries_of D.pool_name view.new.pools.now.items) ≡ room.old + pools_load (key_of key.now)
-        (entries_of D.pool_name view.old.pools.now.items) }
-{
-    let mut wanting = match walk(device, view, layout, key, count, sink) {
-        Ok(wanting) => wanting,
-        Err(error) => return Err(Refusal::Existing(error)),
-    };
-    let mut out = total + u64::from(count - wanting);
-    while wanting > 0 {
-        match grow_one(device, view, layout, key, out, wanting, room, sink) {
-            Ok(given) => {
-                wanting -= given;
-                out += u64::from(given);
+        let flags = pool_flags(key.update_after_bind);
+        let mut raw = match device.create_descriptor_pool(&pool_counts, size, flags) {
+            Ok(raw) => raw,
+            Err(error) => return Err(Stop::Create(error)),
+        };
+        let given = size.min(wanted);
+        sink.aim(*key, self.next_number());
+        self.count_fresh();
+        match device.alloc_descriptor_sets(&mut raw, Layouts::new(layout, given), sink) {
+            Ok(()) => {
+                self.push(DescriptorPool {
+                    raw,
+                    capacity: size,
+                    allocated: given,
+                    available: size - given,
+                });
+                *room -= descriptors_of_pool(key, size);
+                Ok(given)
             }
-            Err(why) => return Err(Refusal::New(why)),
+            Err(error) => {
+                device.destroy_descriptor_pool(raw);
+                Err(Stop::Fresh(error))
+            }
         }
     }
-    Ok(())
+
+    /// Takes sets from a key's pools: from the existing ones, the newest first, and then from new
+    /// ones.
+    ///
+    /// `total` sets of the key are out already.
+    fn take<L, S, D: DescriptorDevice<L, P, S>>(
+        &mut self,
+        device: &mut D,
+        layout: &L,
+        key: &BucketKey,
+        total: u64,
+        count: u32,
+        room: &mut u32,
+        sink: &mut Allocation<S>,
+    ) -> Result<(), Refusal>
+        requires same { key_of key.now ≡ layout_key D.layout_counts D.layout_mark layout.now }
+        requires booked { AreBookedIn (key_of key.now) (D.ledger device.old).pools
+            (entries_of D.pool_name self.old.pools.now.items) }
+        requires total { total ≡ allocated_in (entries_of D.pool_name self.old.pools.now.items) }
+        requires bound { total + count < 2 ^ 64 }
+        requires numbers { self.old.offset + length self.old.pools.now.items + count < 2 ^ 64 }
+        requires listed { IsListed self.old }
+        requires room { count ≤ sink.old.left }
+        ensures done { OnOk result ((put : List (DescriptorSet S))
+            × (sink.new.sets.items ≡ sink.old.sets.items ++ put)
+            × IsTakenAll (key_of key.now) room.old count self.old.offset (items_of D.set_name put)
+            (entries_of D.pool_name self.old.pools.now.items)
+            (entries_of D.pool_name self.new.pools.now.items)
+            (D.ledger device.old) (D.ledger device.new)) }
+        ensures stopped { IfErr result (λ why. (put : List (DescriptorSet S))
+            × (sink.new.sets.items ≡ sink.old.sets.items ++ put)
+            × IsTakenUpTo why (key_of key.now) room.old count self.old.offset (items_of D.set_name put)
+            (entries_of D.pool_name self.old.pools.now.items)
+            (entries_of D.pool_name self.new.pools.now.items)
+            (D.ledger device.old) (D.ledger device.new)) }
+        ensures pools { length self.new.pools.now.items ≤ length self.old.pools.now.items + count }
+        ensures given { length sink.new.sets.items ≤ length sink.old.sets.items + count }
+        ensures listed { IsListed self.new }
+        ensures kept { KeepsView self.old self.new }
+        ensures looks { CountsLooks self.old self.new (D.ledger device.old) (D.ledger device.new) }
+        ensures room { room.new
+            + pools_load (key_of key.now) (entries_of D.pool_name self.new.pools.now.items)
+            ≡ room.old
+            + pools_load (key_of key.now) (entries_of D.pool_name self.old.pools.now.items) }
+    {
+        let mut wanting = match walk(device, self, layout, key, count, sink) {
+            Ok(wanting) => wanting,
+            Err(error) => return Err(Refusal::Existing(error)),
+        };
+        let mut out = total + u64::from(count - wanting);
+        while wanting > 0 {
+            match self.grow_one(device, layout, key, out, wanting, room, sink) {
+                Ok(given) => {
+                    wanting -= given;
+                    out += u64::from(given);
+                }
+                Err(why) => return Err(Refusal::New(why)),
+            }
+        }
+        Ok(())
+    }
 }
 
 impl<P: Drop> DescriptorBucket<P> {
+    /// Takes sets from the pools, and from new ones, over room that is taken first.
+    pub(crate) fn serve<L, S: Drop, D: DescriptorDevice<L, P, S>>(
+        &mut self,
+        device: &mut D,
+        layout: &L,
+        key: &BucketKey,
+        count: u32,
+        room: &mut u32,
+        alloc: Global,
+        looks: &mut Tally,
+    ) -> Result<Served<S>, AllocationError>
+        requires same { key_of key.now ≡ layout_key D.layout_counts D.layout_mark layout.now }
+        requires booked { AreBookedIn (key_of key.now) (D.ledger device.old).pools
+            (bucket_of D.pool_name self.old).pools }
+        requires bound { self.old.total + count < 2 ^ 64 }
+        ensures served { IfOk result (λ r. Serves D.pool_name D.set_name (key_of key.now) room.old
+            count r.sets.items r.taken self.old self.new
+            (D.ledger device.old) (D.ledger device.new)) }
+        ensures refused { IfErr result (λ e. IsUnserved count e (bucket_of D.pool_name self.old)) }
+        ensures looks { looks.new.count + (D.ledger device.old).counters.asked
+            ≡ looks.old.count + (D.ledger device.new).counters.asked }
+        ensures looks_stay { OnErr result (looks.new ≡ looks.old) }
+        ensures room { room.new + stored_load (key_of key.now) self.new.pools.items
+            ≡ room.old + stored_load (key_of key.now) self.old.pools.items }
+        ensures bucket { OnErr result (self.new ≡ self.old) }
+        ensures ledger { OnErr result (D.ledger device.new ≡ D.ledger device.old) }
+    {
+        if is_past_bound(self.offset + self.pools.len() as u64, count) {
+            return Err(AllocationError::Fragmentation);
+        }
+        let Ok(mut sink) = Allocation::with_room(alloc, *key, count) else {
+            return Err(AllocationError::OutOfHostMemory);
+        };
+        let taken = self.take(device, layout, key, count, room, &mut sink, looks);
+        let sets = sink.into_sets();
+        Ok(Served { sets, taken })
+    }
+
     /// Takes sets from the pools, and from new ones.
-    pub(crate) fn take<L, S, D: DescriptorDevice<L, P, S>>(
+    fn take<L, S, D: DescriptorDevice<L, P, S>>(
         &mut self,
         device: &mut D,
         layout: &L,
@@ -349,9 +423,7 @@ impl<P: Drop> DescriptorBucket<P> {
             ≡ looks.old.count + (D.ledger device.new).counters.asked }
     {
         let mut view = OpenPools::new(self.offset, &mut self.pools, &mut self.listed, looks);
-        let taken = take(
-            device, &mut view, layout, key, self.total, count, room, sink,
-        );
+        let taken = view.take(device, layout, key, self.total, count, room, sink);
         self.total += sink.sets.len() as u64;
         taken
     }

@@ -3,7 +3,7 @@ use Rattle.std.proofs.lemmas.List.{map-append}
 use Rattle.std.proofs.lemmas.Bool.{false≢true}
 use Rattle.std.proofs.lemmas.Iterator.Consumers.{YieldsList-from_first, YieldsList-end}
 use Rattle.gpu_descriptor_types.specs.Counts.{kinds}
-use Rattle.descriptor_words.specs.Kinds.{GivesCount, IsAgain, IsFaultOfKinds, IsFirstNoKind, IsFirstNoCount, IsFirstTwice, IsKindAt, NamesKind, count_of, kind_names, kind_of}
+use Rattle.descriptor_words.specs.Kinds.{GivesCount, IsAgain, IsFaultOfKinds, IsFirstNoKind, IsFirstNoCount, IsFirstTwice, IsKindAt, NamesKind, count_in, kind_names, kind_of}
 use Rattle.descriptor_words.specs.Numbers.{value_of}
 use Rattle.descriptor_words.specs.declared.fault.Fault.TheVariants.{BadKind, BadNumber}
 use Rattle.descriptor_words.specs.Words.{words_left}
@@ -47,7 +47,7 @@ returns-in_err-parse_u32-clause-fault c =
     let kind : c.in_ok-kind.kind.now ≡ kind_of c.in-Some.word.now = rw c.in_ok-kind.ensures.ok_part at c.around.ensures.before in
     let place : IsKindAt c.in_ok-kind-2.kind (kind_of c.in-Some.word.now) = (let named = rw c.in_ok-kind-2.ensures.ok_part at c.kind.ensures.named in cc) in
     let names : NamesKind c.in-Some.word.now = record { equals = c.around.ensures.found.0 (sym c.in_ok-kind.ensures.variant); kind = contains_name c.in_ok-kind-2.kind (kind_of c.in-Some.word.now) place } in
-    let count : c.in_ok-kind.count.now ≡ count_of c.in-Some.word.now = rw c.in_ok-kind.ensures.ok_part at c.around.ensures.after in
+    let count : c.in_ok-kind.count.now ≡ count_in c.in-Some.word.now = rw c.in_ok-kind.ensures.ok_part at c.around.ensures.after in
     let unwritten : ¬ GivesCount c.in-Some.word.now = λ gives. false≢true (c.in_err-parse_u32.ensures.accepted.1 (rw count gives)) in
     let new : ¬ IsAgain (map (λ word. word.now) c.loop-word.yielded) c.in-Some.word.now = c.loop-word.invariant.marks.unmarked c.in_ok-kind-2.kind (kind_of c.in-Some.word.now) place c.if-is_named-kind.false in
     fault_of c.from_residual-in_err-parse_u32.result c.in_err-parse_u32.field-0.0 BadNumber (IsFaultOfKinds (words_left c.args.words)) c.from_residual-in_err-parse_u32.ensures.1 c.in_err-parse_u32.ensures.fault (at_next IsFirstNoCount (words_left c.args.words) c.loop-word.yielded c.into_iter-word-iterator.result c.loop-word.word-iterator c.next.new.self c.in-Some.word.now c.loop-word.yielded_by (ap words_left c.into_iter-word-iterator.ensures.into_iter_gives) c.in-Some.ensures.steps (c.loop-word.invariant.are, names, new, unwritten))
@@ -59,10 +59,10 @@ loop-word-preserved c =
     let kind : c.in_ok-kind.kind.now ≡ kind_of c.in-Some.word.now = rw c.in_ok-kind.ensures.ok_part at c.around.ensures.before in
     let place : IsKindAt c.in_ok-kind-2.kind (kind_of c.in-Some.word.now) = (let named = rw c.in_ok-kind-2.ensures.ok_part at c.kind.ensures.named in cc) in
     let names : NamesKind c.in-Some.word.now = record { equals = c.around.ensures.found.0 (sym c.in_ok-kind.ensures.variant); kind = contains_name c.in_ok-kind-2.kind (kind_of c.in-Some.word.now) place } in
-    let count : c.in_ok-kind.count.now ≡ count_of word = rw c.in_ok-kind.ensures.ok_part at c.around.ensures.after in
+    let count : c.in_ok-kind.count.now ≡ count_in word = rw c.in_ok-kind.ensures.ok_part at c.around.ensures.after in
     let gives : GivesCount word = rw (← count) (c.in_ok-parse_u32.ensures.accepted.0 refl) in
     let new : ¬ IsAgain words word = c.loop-word.invariant.marks.unmarked c.in_ok-kind-2.kind (kind_of word) place c.if-is_named-kind.false in
-    let counts : kinds c.set_kind.new.self ≡ set (kinds c.loop-word.counts) c.in_ok-kind-2.kind (value_of (count_of word)) = c.set_kind.ensures ∙ ap (set (kinds c.loop-word.counts) c.in_ok-kind-2.kind) (c.in_ok-parse_u32.ensures.value ∙ ap value_of count) in
+    let counts : kinds c.set_kind.new.self ≡ set (kinds c.loop-word.counts) c.in_ok-kind-2.kind (value_of (count_in word)) = c.set_kind.ensures ∙ ap (set (kinds c.loop-word.counts) c.in_ok-kind-2.kind) (c.in_ok-parse_u32.ensures.value ∙ ap value_of count) in
     let more : map (λ word. word.now) (c.loop-word.yielded ++ c.in-Some.word ∷ []) ≡ words ++ word ∷ [] = map-append (λ word. word.now) c.loop-word.yielded (c.in-Some.word ∷ []) in
     record {
       are = rw more (kinds_more words word c.loop-word.invariant.are names gives new);

@@ -9,14 +9,14 @@ use Rattle.descriptor_words.proofs.TicketLemmas.{count_more}
 use Rattle.descriptor_words.proofs.WordLemmas.{at_next}
 use Rattle.descriptor_words.specs.Fault.{faulty}
 use Rattle.descriptor_words.specs.declared.fault.Fault.TheVariants.{TooManyTickets}
-use Rattle.descriptor_words.specs.Tickets.{AreTickets, IsFaultOfFree, IsFirstTooMany, IsFirstWithout, WritesTickets, first_of, last_of, tickets_between, tickets_of}
+use Rattle.descriptor_words.specs.Tickets.{AreTickets, IsFaultOfFree, IsFirstTooMany, IsFirstWithout, WritesTickets, first_of, last_of, most_tickets, tickets_between, tickets_of}
 use Rattle.descriptor_words.specs.Words.{words_left}
 use Rattle.descriptor_words.proofs.tickets.parse_free.Goals as goal
 
 vec_count : {Z : Type 0} (tickets : Vec ℕ Z) (all : List ℕ) → tickets.items ≡ all → vec_len tickets ≡ length all
 vec_count tickets all is = let counted = tickets.ok in rw (← is) (omega (arith, counted))
 
-are_tickets : {Z : Type 0} (tickets : Vec ℕ Z) (words : List (List ℕ)) → All WritesTickets words → tickets.items ≡ flat_map tickets_of words → vec_len tickets ≤ 1000000 → AreTickets words
+are_tickets : {Z : Type 0} (tickets : Vec ℕ Z) (words : List (List ℕ)) → All WritesTickets words → tickets.items ≡ flat_map tickets_of words → vec_len tickets ≤ most_tickets → AreTickets words
 are_tickets tickets words written items few = record {
   written = written;
   few = (let count = vec_count tickets _ items in omega arith);
@@ -67,7 +67,7 @@ returns-in_err-add_tickets-clause-fault c =
     let span = c.in_ok-parse_span.ensures in
     let refused = c.in_err-add_tickets in
     let count : vec_len c.loop-word.tickets ≡ length (flat_map tickets_of words) = vec_count c.loop-word.tickets _ c.loop-word.invariant.items in
-    let too_many : refused.field-0.0 ≡ faulty TooManyTickets → 1000000 < length (flat_map tickets_of (words ++ word ∷ [])) = λ is. (let past = refused.ensures.too_many.0 (ap Err is) in rw (count_more words word, ← span.first, ← span.last, ← count) past) in
+    let too_many : refused.field-0.0 ≡ faulty TooManyTickets → most_tickets < length (flat_map tickets_of (words ++ word ∷ [])) = λ is. (let past = refused.ensures.too_many.0 (ap Err is) in rw (count_more words word, ← span.first, ← span.last, ← count) past) in
     let at = λ (is : refused.field-0.0 ≡ faulty TooManyTickets). at_next IsFirstTooMany (words_left c.args.words) c.loop-word.yielded start c.loop-word.word-iterator c.next.new.self word c.loop-word.yielded_by (ap words_left c.into_iter-word-iterator.ensures.into_iter_gives) c.in-Some.ensures.steps (given, span.accepted.0 refl, too_many is) in
     handed_on c.from_residual-in_err-add_tickets.result refused.field-0.0 (IsFaultOfFree (words_left c.args.words)) c.from_residual-in_err-add_tickets.ensures.1 (only_for refused.field-0.0 TooManyTickets (IsFaultOfFree (words_left c.args.words)) refused.ensures.fault at)
 

@@ -1,10 +1,14 @@
-use Rattle.std.proofs.Common.{◌-◌, ap, arith}
+use Rattle.std.proofs.Common.{◌-◌, ap, arith, refl}
 use Rattle.gpu_descriptor.specs.Model.Agreement.{count_of}
 use Rattle.descriptor_frames.specs.Frames.{retired_items}
 use Rattle.descriptor_frames.proofs.manager.FrameManager.cleanup.Goals as goal
 
 pub returns-clause-retired : goal.returns-clause-retired
-returns-clause-retired g c out t = (let a = out t in let b = c.cleanup.ensures.cleans_up.outstanding_stay t in omega arith)
+returns-clause-retired g c = record {
+  list = refl;
+  greatest = refl;
+  outstanding = λ out t. (let a = out t in let b = c.cleanup.ensures.cleans_up.outstanding_stay t in omega arith);
+}
 
 pub returns-clause-in_use : goal.returns-clause-in_use
 returns-clause-in_use g c t = ap (λ n. n - count_of t (retired_items g.D.DescriptorDevice.set_name c.args.self.now)) (c.cleanup.ensures.cleans_up.outstanding_stay t)

@@ -4,7 +4,7 @@ use Rattle.gpu_descriptor.specs.Caller.States.{state_of}
 use Rattle.gpu_descriptor.specs.Caller.Values.{Allocations}
 use Rattle.gpu_descriptor_types.specs.Ledger.{Ledger}
 use Rattle.descriptor_frames.specs.Frames.{retired_of, state_in}
-use Rattle.descriptor_frames.specs.Retired.{AreInOrder, sets_in}
+use Rattle.descriptor_frames.specs.Retired.{AreInOrder, retired_sets}
 use Rattle.gpu_descriptor.proofs.Holding.{out_front}
 use Rattle.descriptor_frames.proofs.InUse.{later_out, same_besides}
 use Rattle.descriptor_frames.proofs.Taken.{both_parts, none_taken, same_list_then, still_in_order, stood_before, took_due}
@@ -13,7 +13,7 @@ use Rattle.descriptor_frames.proofs.manager.FrameManager.finish.Goals as goal
 
 pub free_from-requires-clause-outstanding : goal.free_from-requires-clause-outstanding
 free_from-requires-clause-outstanding g c xs t y =
-    out_front g.D.DescriptorDevice.set_name xs (sets_in t.retired.now.items) (sets_in (retired_of c.args.self.now)) (state_in g.D.DescriptorDevice.pool_name c.args.self.now (g.D.DescriptorDevice.ledger c.args.device.now)) (stood_before xs _ t y) c.requires.retired
+    out_front g.D.DescriptorDevice.set_name xs (retired_sets t.retired.now.items) (retired_sets (retired_of c.args.self.now)) (state_in g.D.DescriptorDevice.pool_name c.args.self.now (g.D.DescriptorDevice.ledger c.args.device.now)) (stood_before xs _ t y) c.requires.retired
 
 pub shape_of-self : goal.shape_of-self
 shape_of-self g c = sym (same_list_then c.free_from.ensures.frees)
@@ -40,10 +40,10 @@ abbrev after : (g : _) → After-end g → State
 after g c = state_of g.D.DescriptorDevice.pool_name c.free_from.new.self (g.D.DescriptorDevice.ledger c.free_from.new.device)
 
 -- the list is what went back and what is left of it
-list_parts : (g : _) (c : After-end g) → sets_in (retired_of c.args.self.now) ≡ c.free_from.ensures.frees.sets ++ sets_in c.end.new.self.0.items
+list_parts : (g : _) (c : After-end g) → retired_sets (retired_of c.args.self.now) ≡ c.free_from.ensures.frees.sets ++ retired_sets c.end.new.self.0.items
 list_parts g c =
     let f = c.free_from.ensures.frees in
-    both_parts f ∙ ap (λ q. f.sets ++ sets_in q.items) (sym c.end.ensures)
+    both_parts f ∙ ap (λ q. f.sets ++ retired_sets q.items) (sym c.end.ensures)
 
 pub returns-clause-retired : goal.returns-clause-retired
 returns-clause-retired g c =

@@ -18,7 +18,7 @@ keyed : (g : _) (c : After-contains g) → key_of (record { size = c.args.layout
 keyed g c = λ i. record { counts = c.requires.counts i; marked = (c.contains.ensures tt ∙ c.requires.mark) i }
 
 -- what the request took, under the layout's key
-taken : (g : _) (c : In-Ok g) → Takes g.D.DescriptorDevice.pool_name g.D.DescriptorDevice.set_name (layout_key g.D.DescriptorDevice.layout_counts g.D.DescriptorDevice.layout_mark c.args.layout.now) c.args.count c.in-Ok.given.0.items c.in-Ok.given.1 c.args.self.now c.request.new.self (g.D.DescriptorDevice.ledger c.args.device.now) (g.D.DescriptorDevice.ledger c.request.new.device)
+taken : (g : _) (c : In-Ok g) → Takes g.D.DescriptorDevice.pool_name g.D.DescriptorDevice.set_name (layout_key g.D.DescriptorDevice.layout_counts g.D.DescriptorDevice.layout_mark c.args.layout.now) c.args.count c.in-Ok.served.sets.items c.in-Ok.served.taken c.args.self.now c.request.new.self (g.D.DescriptorDevice.ledger c.args.device.now) (g.D.DescriptorDevice.ledger c.request.new.device)
 taken g c = taken_as (λ i. record { counts = c.requires.counts i; marked = (c.contains.ensures tt ∙ c.requires.mark) i }) c.in-Ok.ensures.taken
 
 -- and the keys
@@ -52,7 +52,7 @@ returns-in-Err-clause-keeps g c =
 pub returns-in-Ok-taken-clause-hands_out : goal.returns-in-Ok-taken-clause-hands_out
 returns-in-Ok-taken-clause-hands_out g c =
     let r = (goal.at.returns-in-Ok-taken-clause-hands_out g c).In-Ok in
-    hands_all c.in-Ok.given.0 (taken g r) c.requires.agree (gained g r) c.in-Ok.ensures.looks c.in-Ok.ensures.comparisons_stay (some g r) c.in-Ok-taken.is
+    hands_all c.in-Ok.served.sets (taken g r) c.requires.agree (gained g r) c.in-Ok.ensures.looks c.in-Ok.ensures.comparisons_stay (some g r) c.in-Ok-taken.is
 
 pub returns-in-Ok-taken-clause-keeps : goal.returns-in-Ok-taken-clause-keeps
 returns-in-Ok-taken-clause-keeps g c =
@@ -61,7 +61,7 @@ returns-in-Ok-taken-clause-keeps g c =
 pub returns-in-Err-taken-clause-hands_out : goal.returns-in-Err-taken-clause-hands_out
 returns-in-Err-taken-clause-hands_out g c =
     let r = (goal.at.returns-in-Err-taken-clause-hands_out g c).In-Ok in
-    rw c.error_of_refusal.ensures (hands_back c.in-Ok.given.0 (taken g r) c.requires.agree (gained g r) c.in-Ok.ensures.looks c.in-Ok.ensures.comparisons_stay (some g r) c.free_all.ensures.returns c.in-Err-taken.is)
+    rw c.error_of_refusal.ensures (hands_back c.in-Ok.served.sets (taken g r) c.requires.agree (gained g r) c.in-Ok.ensures.looks c.in-Ok.ensures.comparisons_stay (some g r) c.free_all.ensures.returns c.in-Err-taken.is)
 
 pub returns-in-Err-taken-clause-keeps : goal.returns-in-Err-taken-clause-keeps
 returns-in-Err-taken-clause-keeps g c =

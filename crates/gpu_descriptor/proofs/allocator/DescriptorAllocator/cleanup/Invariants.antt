@@ -1,5 +1,5 @@
 use Rattle.std.proofs.Common.{◌≡◌, length}
-use Rattle.gpu_descriptor.specs.Inner.Stored.{IsCounted}
+use Rattle.gpu_descriptor.specs.Inner.Stored.{IsConsistent}
 use Rattle.gpu_descriptor.proofs.RowsCleaned.{cleared, ledger_less}
 use Rattle.gpu_descriptor.proofs.TableBooks.{rows_in}
 use Rattle.gpu_descriptor.proofs.allocator.DescriptorAllocator.cleanup.Given as goal
@@ -13,7 +13,7 @@ invariant-loop-place g l =
     record {
       rows : rows_in name l.self-inside.buckets.entries ≡ cleared l.place start;
       ledger : ledger l.device ≡ ledger_less l.place start (ledger l.fn.device);
-      counted : IsCounted l.self-inside.max_update_after_bind_descriptors_in_all_pools l.self-inside.current_update_after_bind_descriptors_in_all_pools l.self-inside.update_after_bind_room l.self-inside.outstanding l.self-inside.buckets.entries;
+      counted : IsConsistent l.self-inside.max_update_after_bind_descriptors_in_all_pools l.self-inside.current_update_after_bind_descriptors_in_all_pools l.self-inside.update_after_bind_room l.self-inside.outstanding l.self-inside.buckets.entries;
       long : length l.self-inside.buckets.entries ≡ length l.initial.self-inside.buckets.entries;
       out : l.self-inside.outstanding ≡ l.initial.self-inside.outstanding;
       marked : l.self-inside.current_update_after_bind_descriptors_in_all_pools ≡ l.initial.self-inside.current_update_after_bind_descriptors_in_all_pools;

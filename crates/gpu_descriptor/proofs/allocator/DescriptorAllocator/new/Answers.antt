@@ -1,7 +1,7 @@
 use Rattle.std.proofs.Common.{sym, subst}
-use Rattle.gpu_descriptor.specs.Inner.Stored.{IsCounted}
+use Rattle.gpu_descriptor.specs.Inner.Stored.{IsConsistent}
 use Rattle.gpu_descriptor.proofs.Requested.{counted_none}
 use Rattle.gpu_descriptor.proofs.allocator.DescriptorAllocator.new.Goals as goal
 
 pub invariant_of-result : goal.invariant_of-result
-invariant_of-result g c = subst (λ es. IsCounted c.args.max_update_after_bind_descriptors_in_all_pools 0 c.args.max_update_after_bind_descriptors_in_all_pools 0 es) (sym c.new.ensures.empty) (counted_none c.args.max_update_after_bind_descriptors_in_all_pools)
+invariant_of-result g c = subst (λ es. IsConsistent c.args.max_update_after_bind_descriptors_in_all_pools 0 c.args.max_update_after_bind_descriptors_in_all_pools 0 es) (sym c.new.ensures.empty) (counted_none c.args.max_update_after_bind_descriptors_in_all_pools)

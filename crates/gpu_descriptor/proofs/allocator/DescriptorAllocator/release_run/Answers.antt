@@ -58,9 +58,9 @@ overflow_sub-self g c =
     let is = c.self.invariant.is_out in
     omega arith
 
-pub marked_descriptors-descriptors-requires : goal.marked_descriptors-descriptors-requires
-marked_descriptors-descriptors-requires g c =
-    let fits = load_fits (run_taken g (goal.at.marked_descriptors-descriptors-requires g c).After-release_run-ahead) c.self.invariant in
+pub descriptors_of_sets-descriptors-requires : goal.descriptors_of_sets-descriptors-requires
+descriptors_of_sets-descriptors-requires g c =
+    let fits = load_fits (run_taken g (goal.at.descriptors_of_sets-descriptors-requires g c).After-release_run-ahead) c.self.invariant in
     let ranges = c.self.ranges in
     omega arith
 
@@ -68,19 +68,19 @@ pub overflow_cast-descriptors : goal.overflow_cast-descriptors
 overflow_cast-descriptors g c =
     let fits = load_fits (run_taken g (goal.at.overflow_cast-descriptors g c).After-release_run-ahead) c.self.invariant in
     let ranges = c.self.ranges in
-    let is = c.marked_descriptors-descriptors.ensures in
+    let is = c.descriptors_of_sets-descriptors.ensures in
     omega arith
 
 pub overflow_sub-self-in-Some : goal.overflow_sub-self-in-Some
 overflow_sub-self-in-Some g c =
     let fits = load_fits (run_taken g (goal.at.overflow_sub-self-in-Some g c).After-release_run-ahead) c.self.invariant in
-    let is = c.marked_descriptors-descriptors.ensures in
+    let is = c.descriptors_of_sets-descriptors.ensures in
     omega arith
 
 pub invariant_of-self : goal.invariant_of-self
 invariant_of-self g c =
     let r = (goal.at.invariant_of-self g c).After-release_run-ahead in
-    counted_after (run_taken g r) c.self.invariant c.marked_descriptors-descriptors.ensures
+    counted_after (run_taken g r) c.self.invariant c.descriptors_of_sets-descriptors.ensures
     (pools_set (written g r) _ _ c.release_run-ahead.ensures.room)
     (ap stored_keys (c.get_mut.follows.holds c.release_run-ahead.new.self).0 ∙ keys_set _ c.self.inside.buckets.entries c.release_run-ahead.new.self)
 

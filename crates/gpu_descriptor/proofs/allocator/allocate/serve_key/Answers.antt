@@ -50,10 +50,10 @@ serve-requires-clause-bound g c =
     omega arith
 
 -- the row that is left
-left : (g : _) (c : After-serve g) → IsWritten (key_of c.args.key) c.args.buckets.now.entries (c.get_mut.follows.lender c.serve.new.bucket).entries c.in-Some.bucket.now c.serve.new.bucket
+left : (g : _) (c : After-serve g) → IsWritten (key_of c.args.key) c.args.buckets.now.entries (c.get_mut.follows.lender c.serve.new.self).entries c.in-Some.bucket.now c.serve.new.self
 left g c = record {
   row = record { test = _; same = λ k. search rules; at = sym c.get_mut.ensures.value ∙ ap option_copied_mut c.in-Some.is };
-  wrote = (c.get_mut.follows.holds c.serve.new.bucket).0;
+  wrote = (c.get_mut.follows.holds c.serve.new.self).0;
 }
 
 pub returns-in-Some-clause-served : goal.returns-in-Some-clause-served
@@ -73,7 +73,7 @@ pub returns-in-Some-clause-room : goal.returns-in-Some-clause-room
 returns-in-Some-clause-room g c = pools_set (left g (goal.at.returns-in-Some-clause-room g c).After-serve) _ _ c.serve.ensures.room
 
 pub returns-in-Some-clause-keys : goal.returns-in-Some-clause-keys
-returns-in-Some-clause-keys g c = on_ok c.serve.result (keys_written (key_of c.args.key) _ c.args.buckets.now.entries _ c.serve.new.bucket (c.get_mut.follows.holds c.serve.new.bucket).0)
+returns-in-Some-clause-keys g c = on_ok c.serve.result (keys_written (key_of c.args.key) _ c.args.buckets.now.entries _ c.serve.new.self (c.get_mut.follows.holds c.serve.new.self).0)
 
 -- a key that the table lacks has no pools
 absent : (g : _) (c : In-None g) → books_in g.D.DescriptorDevice.pool_name c.args.buckets.now.entries (key_of c.args.key) ≡ no_pools
@@ -91,9 +91,9 @@ returns-in-Err-clause-refused g c =
     subst (λ (b : Bucket). IsUnserved c.args.count c.in-Err.error b) (sym (is ∙ empty)) c.in-Err.ensures.refused
 
 -- the new key goes last
-put : (g : _) (c : In-Ok-insert g) → c.insert.new.self.entries ≡ c.args.buckets.now.entries ++ (c.args.key, c.serve-2.new.bucket) ∷ []
+put : (g : _) (c : In-Ok-insert g) → c.insert.new.self.entries ≡ c.args.buckets.now.entries ++ (c.args.key, c.serve-2.new.self) ∷ []
 put g c =
-    put_new _ c.args.buckets.now c.args.key c.serve-2.new.bucket c.reserve.new.self.entries c.insert.new.self.entries c.in-Ok-insert.ensures.entries (c.reserve.ensures.entries ∙ ap (λ b. b.entries) c.get_mut.follows.holds-at-none)
+    put_new _ c.args.buckets.now c.args.key c.serve-2.new.self c.reserve.new.self.entries c.insert.new.self.entries c.in-Ok-insert.ensures.entries (c.reserve.ensures.entries ∙ ap (λ b. b.entries) c.get_mut.follows.holds-at-none)
     (sym c.get_mut.ensures.value ∙ ap option_copied_mut c.in-None.is)
 
 pub returns-clause-served : goal.returns-clause-served
@@ -104,14 +104,14 @@ pub returns-clause-room : goal.returns-clause-room
 returns-clause-room g c =
     let empty : stored_load (key_of c.args.key) c.new.result.items ≡ 0 = ap (stored_load (key_of c.args.key)) c.new.ensures.items in
     let moved = c.serve-2.ensures.room in
-    rw (put g (goal.at.returns-clause-room g c).In-Ok-insert) (pools_end c.args.key c.args.buckets.now.entries c.serve-2.new.bucket c.serve-2.new.room c.args.room.now (omega arith))
+    rw (put g (goal.at.returns-clause-room g c).In-Ok-insert) (pools_end c.args.key c.args.buckets.now.entries c.serve-2.new.self c.serve-2.new.room c.args.room.now (omega arith))
 
 pub returns-clause-keys : goal.returns-clause-keys
-returns-clause-keys g c = keys_put (key_of c.args.key) c.args.key c.args.buckets.now.entries c.insert.new.self.entries c.serve-2.new.bucket refl (put g (goal.at.returns-clause-keys g c).In-Ok-insert)
+returns-clause-keys g c = keys_put (key_of c.args.key) c.args.key c.args.buckets.now.entries c.insert.new.self.entries c.serve-2.new.self refl (put g (goal.at.returns-clause-keys g c).In-Ok-insert)
 
 pub returns-in-Some-clause-distinct : goal.returns-in-Some-clause-distinct
 returns-in-Some-clause-distinct g c =
-    let same = ap stored_keys (c.get_mut.follows.holds c.serve.new.bucket).0 ∙ keys_set _ c.args.buckets.now.entries c.serve.new.bucket in
+    let same = ap stored_keys (c.get_mut.follows.holds c.serve.new.self).0 ∙ keys_set _ c.args.buckets.now.entries c.serve.new.self in
     on_ok c.serve.result (subst (IsDistinct key_eq) (sym same) (distinct_stored _ (λ k l. search rules) c.args.buckets.now.entries c.get_mut.ensures.unique))
 
 pub returns-clause-distinct : goal.returns-clause-distinct

@@ -7,19 +7,19 @@ use Rattle.gpu_descriptor.specs.Model.Books.{Key}
 use Rattle.gpu_descriptor.specs.Caller.Sets.{key_of}
 use Rattle.gpu_descriptor.specs.Inner.Stored.{entry_of}
 use Rattle.gpu_descriptor.specs.Inner.Serves.{Serves}
-use Rattle.gpu_descriptor.proofs.allocator.allocate.serve.Goals as goal
+use Rattle.gpu_descriptor.proofs.bucket.DescriptorBucket.serve.Goals as goal
 
 pub returns-clause-served : goal.returns-clause-served
 returns-clause-served g c =
     let key : Key = key_of c.args.key.now in
     let l : Ledger = g.D.DescriptorDevice.ledger c.args.device.now in
     let m : Ledger = g.D.DescriptorDevice.ledger c.take-taken.new.device in
-    subst (λ (x : List (DescriptorSet g.row.S.Denot)). Serves g.D.DescriptorDevice.pool_name g.D.DescriptorDevice.set_name key c.args.room.now c.args.count x c.take-taken.result c.args.bucket.now c.take-taken.new.self l m) (sym c.into_sets.ensures) (record {
+    subst (λ (x : List (DescriptorSet g.row.S.Denot)). Serves g.D.DescriptorDevice.pool_name g.D.DescriptorDevice.set_name key c.args.room.now c.args.count x c.take-taken.result c.args.self.now c.take-taken.new.self l m) (sym c.into_sets-sets.ensures) (record {
       numbers = (
-          let below : c.args.bucket.now.offset + c.len.result + c.args.count ≤ 18446744073709551615 = ltb-false 18446744073709551615 (c.args.bucket.now.offset + c.len.result + c.args.count) (sym c.is_past_bound.ensures ∙ c.if-is_past_bound.false) in
-          let long = length-map c.args.bucket.now.pools.items (entry_of g.D.DescriptorDevice.pool_name) in
+          let below : c.args.self.now.offset + c.len.result + c.args.count ≤ 18446744073709551615 = ltb-false 18446744073709551615 (c.args.self.now.offset + c.len.result + c.args.count) (sym c.is_past_bound.ensures ∙ c.if-is_past_bound.false) in
+          let long = length-map c.args.self.now.pools.items (entry_of g.D.DescriptorDevice.pool_name) in
           let n = c.len.ensures in
-          let ok = c.args.bucket.now.pools.ok.0 in
+          let ok = c.args.self.now.pools.ok.0 in
           omega arith);
       offset = c.take-taken.ensures.offset;
       total = c.take-taken.ensures.total;

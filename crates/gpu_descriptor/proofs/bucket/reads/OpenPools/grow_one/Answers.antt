@@ -14,7 +14,7 @@ use Rattle.gpu_descriptor.specs.Inner.Walk.{entries_of, sets_at}
 use Rattle.gpu_descriptor.proofs.NextSize.{one_fits}
 use Rattle.gpu_descriptor.proofs.Asks.{same_entry}
 use Rattle.gpu_descriptor.proofs.Grows.{created_for, created_at, fresh_room, no_sets, grown, not_grown, not_created, not_begun, create_asked, alloc_asked}
-use Rattle.gpu_descriptor.proofs.bucket.take.grow_one.Goals as goal
+use Rattle.gpu_descriptor.proofs.bucket.reads.OpenPools.grow_one.Goals as goal
 
 pub alloc_descriptor_sets-requires-clause-fits : goal.alloc_descriptor_sets-requires-clause-fits
 alloc_descriptor_sets-requires-clause-fits g c =
@@ -69,16 +69,16 @@ returns-in-Ok-alloc_descriptor_sets-clause-grown g c =
     let many : length put.sets ≡ c.min-given.result = put.many ∙ c.new.ensures.left in
     let long : length names ≡ min size c.args.wanted = length-map put.sets g.D.DescriptorDevice.set_name ∙ many ∙ count in
     let is : m' ≡ after_alloc name (live_sets key.counts names) m = put.ledger ∙ ap (λ cs. after_alloc name (live_sets cs names) m) (ap g.D.DescriptorDevice.layout_counts c.new.ensures.layout ∙ sym (ap (λ (k : Key). k.counts) c.requires.same)) in
-    let old : List Entry = entries_of g.D.DescriptorDevice.pool_name c.args.view.now.pools.now.items in
+    let old : List Entry = entries_of g.D.DescriptorDevice.pool_name c.args.self.now.pools.now.items in
     let new : List Entry = entries_of g.D.DescriptorDevice.pool_name c.push.new.self.pools.now.items in
     let value : DescriptorPool g.row.P.Denot = record { raw = c.alloc_descriptor_sets.new.pool; capacity = size; allocated = c.min-given.result; available = size - c.min-given.result } in
     let items : c.push.new.self.pools.now.items ≡ c.make_room.new.self.pools.now.items ++ value ∷ [] = c.push.ensures.pools ∙ ap (λ x. x.now.items ++ value ∷ []) c.count_fresh.ensures.pools in
     let now : new ≡ old ++ record { pool = name; capacity = size; allocated = min size c.args.wanted; free = size - min size c.args.wanted } ∷ [] =
     ap (map (entry_of g.D.DescriptorDevice.pool_name)) (items ∙ ap (λ x. x ++ value ∷ []) c.make_room.ensures.pools)
-    ∙ map-append (entry_of g.D.DescriptorDevice.pool_name) c.args.view.now.pools.now.items (value ∷ [])
+    ∙ map-append (entry_of g.D.DescriptorDevice.pool_name) c.args.self.now.pools.now.items (value ∷ [])
     ∙ ap (λ (e : Entry). old ++ e ∷ []) (same_entry (entry_of g.D.DescriptorDevice.pool_name value) _ c.in-Ok-alloc_descriptor_sets.ensures.name refl count (ap (λ n. size - n) count)) in
-    let number : c.aim.new.self.number ≡ c.args.view.now.offset + length c.args.view.now.pools.now.items = c.aim.ensures.number ∙ c.next_number.ensures ∙ (let k = c.make_room.ensures.kept.0 in let same = ap length c.make_room.ensures.pools in omega arith) in
-    let kept : c.alloc_descriptor_sets.new.sets.sets.items ≡ c.args.sink.now.sets.items ++ sets_at c.args.key.now (c.args.view.now.offset + length c.args.view.now.pools.now.items) put.sets = put.kept ∙ ap (λ (l : List (DescriptorSet g.row.S.Denot)). l ++ sets_at c.aim.new.self.key c.aim.new.self.number put.sets) c.aim.ensures.sets ∙ ap (λ (k : BucketKey). c.args.sink.now.sets.items ++ sets_at k c.aim.new.self.number put.sets) c.aim.ensures.key ∙ ap (λ (n : ℕ). c.args.sink.now.sets.items ++ sets_at c.args.key.now n put.sets) number in
+    let number : c.aim.new.self.number ≡ c.args.self.now.offset + length c.args.self.now.pools.now.items = c.aim.ensures.number ∙ c.next_number.ensures ∙ (let k = c.make_room.ensures.kept.0 in let same = ap length c.make_room.ensures.pools in omega arith) in
+    let kept : c.alloc_descriptor_sets.new.sets.sets.items ≡ c.args.sink.now.sets.items ++ sets_at c.args.key.now (c.args.self.now.offset + length c.args.self.now.pools.now.items) put.sets = put.kept ∙ ap (λ (l : List (DescriptorSet g.row.S.Denot)). l ++ sets_at c.aim.new.self.key c.aim.new.self.number put.sets) c.aim.ensures.sets ∙ ap (λ (k : BucketKey). c.args.sink.now.sets.items ++ sets_at k c.aim.new.self.number put.sets) c.aim.ensures.key ∙ ap (λ (n : ℕ). c.args.sink.now.sets.items ++ sets_at c.args.key.now n put.sets) number in
     let room : c.alloc_descriptor_sets.new.sets.left + c.min-given.result ≡ c.args.sink.now.left = (let r = put.room in let n = c.new.ensures.left in let a = c.aim.ensures.left in omega arith) in
     (put.sets, many, kept, room, grown key c.args.room.now _ c.args.total c.args.wanted size name names old new l m m' c.in-Some.ensures.sets (let fits = c.in-Some.ensures.room.0 in let load = c.descriptors_of_pool.ensures in omega arith) long c.in-Ok.ensures.new_name made is now)
 

@@ -6,7 +6,7 @@ use Rattle.gpu_descriptor.specs.Inner.OpenPools.{CountsLooks, IsListed, KeepsVie
 use Rattle.gpu_descriptor.specs.Caller.Sets.{key_of, items_of}
 use Rattle.gpu_descriptor.specs.Inner.Walk.{entries_of}
 use Rattle.gpu_descriptor.proofs.Growing.{Growing}
-use Rattle.gpu_descriptor.proofs.bucket.take.take.Given as goal
+use Rattle.gpu_descriptor.proofs.bucket.reads.OpenPools.take.Given as goal
 
 abbrev pub invariant-loop-wanting : goal.invariant-loop-wanting
 invariant-loop-wanting g l = record {
@@ -15,12 +15,12 @@ invariant-loop-wanting g l = record {
   room : l.wanting ≤ l.sink.left;
   given : length put + l.wanting ≡ l.fn.count;
   totals : l.out + l.wanting ≡ l.fn.total + l.fn.count;
-  pools : length l.view.pools.now.items + l.wanting ≤ length l.fn.view.pools.now.items + l.fn.count;
-  growing : Growing (key_of l.fn.key) l.fn.room l.fn.count l.fn.view.offset l.room l.out l.wanting (items_of g.D.DescriptorDevice.set_name put) (entries_of g.D.DescriptorDevice.pool_name l.fn.view.pools.now.items) (entries_of g.D.DescriptorDevice.pool_name l.view.pools.now.items) (g.D.DescriptorDevice.ledger l.fn.device) (g.D.DescriptorDevice.ledger l.device);
-  load : l.room + pools_load (key_of l.fn.key) (entries_of g.D.DescriptorDevice.pool_name l.view.pools.now.items) ≡ l.fn.room + pools_load (key_of l.fn.key) (entries_of g.D.DescriptorDevice.pool_name l.fn.view.pools.now.items);
-  listed : IsListed l.view;
-  kept : KeepsView l.fn.view l.view;
-  looks : CountsLooks l.fn.view l.view (g.D.DescriptorDevice.ledger l.fn.device) (g.D.DescriptorDevice.ledger l.device);
+  pools : length l.self.pools.now.items + l.wanting ≤ length l.fn.self.pools.now.items + l.fn.count;
+  growing : Growing (key_of l.fn.key) l.fn.room l.fn.count l.fn.self.offset l.room l.out l.wanting (items_of g.D.DescriptorDevice.set_name put) (entries_of g.D.DescriptorDevice.pool_name l.fn.self.pools.now.items) (entries_of g.D.DescriptorDevice.pool_name l.self.pools.now.items) (g.D.DescriptorDevice.ledger l.fn.device) (g.D.DescriptorDevice.ledger l.device);
+  load : l.room + pools_load (key_of l.fn.key) (entries_of g.D.DescriptorDevice.pool_name l.self.pools.now.items) ≡ l.fn.room + pools_load (key_of l.fn.key) (entries_of g.D.DescriptorDevice.pool_name l.fn.self.pools.now.items);
+  listed : IsListed l.self;
+  kept : KeepsView l.fn.self l.self;
+  looks : CountsLooks l.fn.self l.self (g.D.DescriptorDevice.ledger l.fn.device) (g.D.DescriptorDevice.ledger l.device);
 }
 
 abbrev pub decreases-loop-wanting : goal.decreases-loop-wanting
