@@ -1,0 +1,17 @@
+// The calls of a trace (docs/TRACE.md).
+#pragma once
+#include <stdbool.h>
+#include <stddef.h>
+#include <stdint.h>
+
+enum { KINDS = 14, BYTES = 12, BLOCKS = 13 };
+
+struct call {
+    enum { CREATE, ALLOC, RELEASE, DESTROY } verb;
+    uint64_t pool;
+    uint32_t sets, counts[KINDS];
+    bool mark, keeps_sets, refused; // `keeps_sets`: none can be released
+};
+
+// The calls of a file, without its comments. It ends the program where a line is no call.
+struct call *read_trace(const char *path, size_t *count);
