@@ -16,7 +16,7 @@ each_same (x ∷ []) (y ∷ []) = nat_eq x y
 each_same (x ∷ next ∷ xs) (y ∷ other ∷ ys) = nat_eq x y && each_same (next ∷ xs) (other ∷ ys)
 each_same xs ys = pointwise nat_eq xs ys
 
-each_is_pointwise : (xs ys : List ℕ) → each_same xs ys ≡ pointwise nat_eq xs ys
+pub each_is_pointwise : (xs ys : List ℕ) → each_same xs ys ≡ pointwise nat_eq xs ys
 each_is_pointwise [] ys = refl
 each_is_pointwise (x ∷ []) [] = refl
 each_is_pointwise (x ∷ []) (y ∷ []) = sym (and-true (nat_eq x y))

@@ -1,5 +1,5 @@
 -- Sessions that are ready, and the replies of their steps.
-use Rattle.std.proofs.Common.{◌≡◌, ℕ, zero, suc, ◌+◌, ◌-◌, ◌<◌, ◌≤◌, ◌^◌, Bool, true, false, cond, List, [], ◌∷◌, ◌++◌, length, length-append, map, get_or, slice_index_or, Option, None, Some, IsSome, refl, sym, ap, ◌∙◌, arith}
+use Rattle.std.proofs.Common.{◌≡◌, ◌≢◌, ℕ, zero, suc, zero-le, ◌+◌, ◌-◌, ◌<◌, ◌≤◌, ◌^◌, Bool, true, false, cond, List, [], ◌∷◌, ◌++◌, length, length-append, map, get_or, slice_index_or, Option, None, Some, IsSome, refl, sym, ap, ◌∙◌, arith}
 use Rattle.std.proofs.lemmas.List.{get_or-append_right, length-map}
 use Rattle.gpu_descriptor_types.specs.Counts.{kinds}
 use Rattle.gpu_descriptor_types.specs.Ledger.{Ledger}
@@ -25,6 +25,7 @@ use Rattle.descriptor_lines.specs.Commands.{IsKnown}
 use Rattle.descriptor_lines.specs.LayoutTable.{layout_count, layouts_in}
 use Rattle.descriptor_lines.specs.Programs.{CanRun}
 use Rattle.descriptor_lines.specs.Replies.{LineSession, HasAnswer}
+use Rattle.descriptor_lines.specs.ReplyTexts.{sets_asked, sets_given}
 use Rattle.descriptor_lines.specs.declared.layouts.Layouts.{Layouts}
 use Rattle.descriptor_lines.specs.declared.program.Program.{Program}
 
@@ -93,24 +94,36 @@ no_memory_changes_nothing (Allocate layout count) old new before after step = st
 no_memory_changes_nothing (Free tickets) old new before after step = absurd step
 no_memory_changes_nothing Cleanup old new before after step = absurd step
 
--- the reply to a command whose layout is there has an answer
-pub has_answer : (command : Command) (reply : Reply) (old new : LineSession) (before after : Ledger) → Steps command reply old new before after → IsKnown (length (layouts_of old)) command → length (sets_of new) < 2 ^ 64 → HasAnswer new reply
-has_answer command (Refused error) old new before after step known small = tt
-has_answer command (Freed count) old new before after step known small = tt
-has_answer command BadTicket old new before after step known small = tt
-has_answer command NoMemory old new before after step known small = tt
-has_answer command Clean old new before after step known small = tt
-has_answer (Allocate layout count) (Sets first many) old new before after step known small =
+-- the reply to a command is answered where its layout is there, and memory
+pub has_answer : (command : Command) (reply : Reply) (old new : LineSession) (before after : Ledger) → Steps command reply old new before after → reply ≢ NoMemory → IsKnown (length (layouts_of old)) command → length (sets_of new) < 2 ^ 64 → HasAnswer new reply
+has_answer command (Refused error) old new before after step memory known small = tt
+has_answer command (Freed count) old new before after step memory known small = tt
+has_answer command BadTicket old new before after step memory known small = tt
+has_answer command NoMemory old new before after step memory known small = absurd (memory refl)
+has_answer command Clean old new before after step memory known small = tt
+has_answer (Allocate layout count) (Sets first many) old new before after step memory known small =
     let longer : length (sets_of new) ≡ length (sets_of old) + length step.given = ap length step.sets ∙ length-append (sets_of old) (map Some step.given) ∙ ap (λ n. length (sets_of old) + n) (length-map step.given Some) in
     record {
       held = λ ticket from to. rw step.sets (some_behind (sets_of old) step.given ticket (omega (arith, step.first)) (omega (arith, step.first, step.asked, step.all_given)));
       fits = omega (arith, longer, step.first, step.asked, step.all_given);
     }
-has_answer (Allocate layout count) BadLayout old new before after step known small = absurd (omega (arith, step.0, known))
-has_answer (Free tickets) (Sets first many) old new before after step known small = absurd step
-has_answer (Free tickets) BadLayout old new before after step known small = absurd step
-has_answer Cleanup (Sets first many) old new before after step known small = absurd step
-has_answer Cleanup BadLayout old new before after step known small = absurd step
+has_answer (Allocate layout count) BadLayout old new before after step memory known small = absurd (omega (arith, step.0, known))
+has_answer (Free tickets) (Sets first many) old new before after step memory known small = absurd step
+has_answer (Free tickets) BadLayout old new before after step memory known small = absurd step
+has_answer Cleanup (Sets first many) old new before after step memory known small = absurd step
+has_answer Cleanup BadLayout old new before after step memory known small = absurd step
+
+-- a reply hands out no more sets than the command asks for
+pub given_as_asked : (command : Command) (reply : Reply) (old new : LineSession) (before after : Ledger) → Steps command reply old new before after → sets_given reply ≤ sets_asked command
+given_as_asked command (Refused error) old new before after step = zero-le
+given_as_asked command (Freed count) old new before after step = zero-le
+given_as_asked command BadTicket old new before after step = zero-le
+given_as_asked command BadLayout old new before after step = zero-le
+given_as_asked command NoMemory old new before after step = zero-le
+given_as_asked command Clean old new before after step = zero-le
+given_as_asked (Allocate layout count) (Sets first many) old new before after step = omega (arith, step.asked)
+given_as_asked (Free tickets) (Sets first many) old new before after step = absurd step
+given_as_asked Cleanup (Sets first many) old new before after step = absurd step
 
 -- the tickets of a session fit in 64 bits
 pub few_tickets : (s : LineSession) → length (sets_of s) < 2 ^ 64

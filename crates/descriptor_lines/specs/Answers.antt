@@ -1,5 +1,5 @@
 -- What the output says.
-use Rattle.std.specs.Prelude.{◌≡◌, ℕ, List, [], ◌∷◌, ◌++◌, codes, if◌then◌else◌, ◌==◌}
+use Rattle.std.specs.Prelude.{◌≡◌, ◌≤◌, ◌+◌, ℕ, List, [], ◌∷◌, ◌++◌, length, codes, String, string_bytes, string_capacity, if◌then◌else◌, ◌==◌}
 use Rattle.std.specs.Fmt.{decimal}
 use Rattle.std.specs.List.{flat_map, zip}
 use Rattle.gpu_descriptor_types.specs.PoolSize.{IsPoolSize, pool_counts}
@@ -7,6 +7,10 @@ use Rattle.gpu_descriptor.specs.declared.view.PoolView.{PoolView}
 use Rattle.descriptor_words.specs.declared.fault.Fault.{Fault}
 use Rattle.descriptor_words.specs.Fault.{words_of_fault}
 use Rattle.descriptor_words.specs.Kinds.{kind_names}
+
+-- so many bytes may go behind the text without memory
+abbrev pub HasRoomFor : {Z : Type 0} → ℕ → String Z → Type 0
+HasRoomFor more text = length (string_bytes text) + more ≤ string_capacity text
 
 -- the answer of `limit`
 abbrev pub limit_answer : ℕ → List ℕ
@@ -29,11 +33,11 @@ kinds_answer counts = flat_map kind_answer (zip kind_names counts)
 abbrev pub size_answer : ℕ → List ℕ → List ℕ
 size_answer sets counts = codes "size " ++ decimal sets ++ kinds_answer counts ++ 10 ∷ []
 
--- a text got behind it the answer of `size` for a pool of these counts
-pub record AnswersSize (counts : List ℕ) (total wanted : ℕ) (old new : List ℕ) : Type 0 where
+-- the text is the answer of `size` for a pool of these counts
+pub record AnswersSize (counts : List ℕ) (total wanted : ℕ) (text : List ℕ) : Type 0 where
   pub sets : ℕ
   pub is_size : IsPoolSize counts total wanted sets
-  pub text : new ≡ old ++ size_answer sets (pool_counts counts sets)
+  pub said : text ≡ size_answer sets (pool_counts counts sets)
 
 -- the answer of `script`, with the number of its words
 abbrev pub script_answer : ℕ → List ℕ

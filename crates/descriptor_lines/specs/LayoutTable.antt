@@ -1,13 +1,14 @@
 -- The layouts by name.
-use Rattle.std.specs.Prelude.{◌≡◌, ◌<◌, ◌↔◌, ◌++◌, ◌∷◌, [], ℕ, Bool, IsTrue, List, Contains, map, length, Option, slice_get, string_bytes}
+use Rattle.std.specs.Prelude.{◌≡◌, ◌<◌, ℕ, List, Contains, map, length, Option, slice_get}
 use Rattle.std.specs.Option.{option_map}
 use Rattle.indexmap.specs.IndexMap.{get_by_text, spare}
+use Rattle.descriptor_lines.specs.FirstLayouts.{listed}
 use Rattle.descriptor_lines.specs.declared.layouts.Layout.{Layout}
 use Rattle.descriptor_lines.specs.declared.layouts.Layouts.{Layouts}
 
 -- the layouts with their names, in the order in which they came
 abbrev pub layouts_in : Layouts → List (List ℕ × Layout)
-layouts_in layouts = map (λ e. (string_bytes e.0, e.1.layout)) layouts.by_name.entries
+layouts_in layouts = map listed layouts.by_name.entries
 
 -- the layout of this name
 abbrev pub layout_named : Layouts → List ℕ → Option Layout
@@ -23,16 +24,6 @@ layout_count layouts = length layouts.by_name.entries
 -- no layout has these counts and this mark, and so its pools
 abbrev pub IsNewKey : Layouts → Layout → Type 0
 IsNewKey layouts layout = ¬ Contains (map (λ l. l.1) (layouts_in layouts)) layout
-
--- whether each layout is the first with its counts and mark, as the table keeps it
-abbrev pub firsts_in : Layouts → List Bool
-firsts_in layouts = map (λ e. e.1.is_first) layouts.by_name.entries
-
--- of a layout that came last the table keeps whether it is the first with its counts and mark
-pub record TellsFirst (layout : Layout) (old new : Layouts) : Type 0 where
-  pub is_first : Bool
-  pub kept : firsts_in new ≡ firsts_in old ++ is_first ∷ []
-  pub exactly : IsTrue is_first ↔ IsNewKey old layout
 
 -- one more layout needs no memory
 abbrev pub HasRoom : Layouts → Type 0

@@ -2,10 +2,15 @@ pub mod Answers
 pub mod Arguments
 pub mod Commands
 pub mod Exit
+pub mod FirstLayouts
 pub mod LayoutTable
 pub mod LineBuffers
 pub mod Lines
 pub mod Outcomes
 pub mod Programs
 pub mod Replies
+pub mod ReplyTexts
+pub mod Rows
 pub mod ScriptWords
+pub mod Shown
+pub mod Transcripts

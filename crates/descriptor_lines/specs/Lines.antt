@@ -1,6 +1,6 @@
 -- The lines that known bytes begin with.
-use Rattle.std.specs.Prelude.{◌≡◌, ℕ, ◌<◌, Bool, true, false, List, Option, None, Some, ⊤, length, IfSome}
-use Rattle.std.specs.List.{after_first, before_first, position_or_len}
+use Rattle.std.specs.Prelude.{◌≡◌, ℕ, ◌<◌, Bool, true, false, List, [], ◌∷◌, Option, None, Some, ⊤, length, IfSome}
+use Rattle.std.specs.List.{after_first, before_first, position_or_len, slice_split}
 use Rattle.std.specs.Io.KnownBytes.{prepend_known}
 use Rattle.descriptor_words.specs.Words.{is_byte}
 
@@ -19,6 +19,17 @@ before_end bytes = before_first (is_byte 10) bytes
 -- the bytes after the first end of a line, or none
 abbrev pub after_end : List ℕ → List ℕ
 after_end bytes = after_first (is_byte 10) bytes
+
+-- the pieces, but for an empty last one
+abbrev pub without_empty_last : List (List ℕ) → List (List ℕ)
+without_empty_last [] = []
+without_empty_last ([] ∷ []) = []
+without_empty_last ((byte ∷ bytes) ∷ []) = (byte ∷ bytes) ∷ []
+without_empty_last (piece ∷ next ∷ pieces) = piece ∷ without_empty_last (next ∷ pieces)
+
+-- the lines of the bytes: what stands before each end of a line, and what is left behind the last, where that is not empty
+unfoldable pub lines_of : List ℕ → List (List ℕ)
+lines_of bytes = without_empty_last (slice_split (is_byte 10) bytes)
 
 -- known bytes are not at their end, and lose the first line and its end
 abbrev pub LosesLine : Option (List ℕ) → Option (List ℕ) → Type 0

@@ -22,3 +22,10 @@ pub record EndsInFault (old new : Option (List ℕ)) : Type 0 where
   pub number : ℕ
   pub fault : Fault
   pub grown : Appends old new (answers ++ fault_line number fault)
+
+-- known bytes grow by a front of a text
+pub record AppendsFront (old new : Option (List ℕ)) (text : List ℕ) : Type 0 where
+  pub front : List ℕ
+  pub lost : List ℕ
+  pub split : text ≡ front ++ lost
+  pub grown : Appends old new front

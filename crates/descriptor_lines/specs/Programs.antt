@@ -1,7 +1,7 @@
 -- What the lines so far made.
-use Rattle.std.specs.Prelude.{◌≡◌, ◌⊎◌, ◌++◌, ◌∷◌, [], ℕ, List, map, true, IsTrue, IsFalse}
+use Rattle.std.specs.Prelude.{◌≡◌, ◌⊎◌, ◌++◌, ◌∷◌, [], ℕ, List, length, map, sum, true, IsTrue, IsFalse}
 use Rattle.gpu_descriptor_types.specs.Counts.{kinds}
-use Rattle.descriptor_script.specs.Scripted.Device.{ledger_of, script_of}
+use Rattle.descriptor_script.specs.Scripted.Device.{empty_ledger, ledger_of, script_of}
 use Rattle.descriptor_script.specs.Scripted.Raw.{pool_id, set_id}
 use Rattle.descriptor_script.specs.Sessions.Ready.{IsScriptReady}
 use Rattle.descriptor_script.specs.Sessions.Session.{allocator_of, layouts_of, sets_of}
@@ -11,8 +11,12 @@ use Rattle.descriptor_script.specs.declared.command.Command.{Command}
 use Rattle.descriptor_script.specs.declared.command.Command.TheVariants.{Allocate, Free, Cleanup}
 use Rattle.descriptor_script.specs.declared.command.Reply.{Reply}
 use Rattle.descriptor_script.specs.declared.raw.ScriptLayout.{ScriptLayout}
+use Rattle.descriptor_lines.specs.Answers.{AnswersSize, layout_answer, limit_answer, script_answer}
 use Rattle.descriptor_lines.specs.Arguments.{IsCommandOf}
+use Rattle.descriptor_lines.specs.Commands.{IsInTime}
 use Rattle.descriptor_lines.specs.LayoutTable.{SameLayouts, layout_count, layouts_in}
+use Rattle.descriptor_lines.specs.ReplyTexts.{text_of_reply}
+use Rattle.descriptor_lines.specs.Shown.{show_answer}
 use Rattle.descriptor_words.specs.Words.{is_silent}
 use Rattle.descriptor_lines.specs.declared.command.Command as line
 use Rattle.descriptor_lines.specs.declared.command.Command.TheVariants as step
@@ -31,6 +35,16 @@ pub record CanRun (p : Program) : Type 0 where
   pub layouts : map (λ k. k.layout) (layouts_of p.session) ≡ map (λ l. scripted l.1) (layouts_in p.layouts)
   -- before the first command there is no layout
   pub fresh : IsFalse p.has_begun → layout_count p.layouts ≡ 0
+
+-- no line was run yet
+pub record IsFresh (p : Program) : Type 0 where
+  pub layouts : layouts_in p.layouts ≡ []
+  pub begun : IsFalse p.has_begun
+  pub allocator : allocator_of p.session ≡ record { limit = 4294967295; table = []; looks = 0; comparisons = 0 }
+  pub known : layouts_of p.session ≡ []
+  pub sets : sets_of p.session ≡ []
+  pub script : script_of p.device ≡ []
+  pub ledger : ledger_of p.device ≡ empty_ledger
 
 -- the device has the script and the ledger that it had
 pub record KeepsDevice (old new : Program) : Type 0 where
@@ -71,30 +85,34 @@ pub record Loads (script : List Answer) (old new : Program) : Type 0 where
   pub session : KeepsSession old new
   pub layouts : SameLayouts old.layouts new.layouts
 
--- the session of the program did the command
-pub record Does (command : Command) (old new : Program) : Type 0 where
+-- the session of the program did the command, and the text is the answer to its reply
+pub record Does (command : Command) (text : List ℕ) (old new : Program) : Type 0 where
   pub reply : Reply
+  pub said : text ≡ text_of_reply (sets_of new.session) reply
   pub step : StepsTo pool_id set_id (λ l. kinds l.counts) (λ l. l.mark) command reply old.session new.session (ledger_of old.device) (ledger_of new.device)
   pub known : layouts_of new.session ≡ layouts_of old.session
   pub layouts : SameLayouts old.layouts new.layouts
 
--- what the command of a line does, where memory is there
-abbrev pub DoesCommand : line.Command → Program → Program → Type 0
-DoesCommand (step.Limit max) old new = Begins max old new
-DoesCommand (step.Layout name layout) old new = AddsLayout name.now layout old new
-DoesCommand (step.Size counts total wanted) old new = new ≡ old
-DoesCommand (step.Script script) old new = Loads script.items old new
-DoesCommand (step.Alloc layout count) old new = Does (Allocate layout count) old new
-DoesCommand (step.Free tickets) old new = Does (Free tickets) old new
-DoesCommand step.Cleanup old new = Does Cleanup old new
-DoesCommand step.Show old new = new ≡ old
+-- what the command of a line does, and its answer, where memory is there
+abbrev pub DoesCommand : line.Command → List ℕ → Program → Program → Type 0
+DoesCommand (step.Limit max) text old new = Begins max old new × (text ≡ limit_answer max)
+DoesCommand (step.Layout name layout) text old new =
+    AddsLayout name.now layout old new × (text ≡ layout_answer name.now (sum (kinds layout.counts)))
+DoesCommand (step.Size counts total wanted) text old new =
+    (new ≡ old) × AnswersSize (kinds counts) total wanted text
+DoesCommand (step.Script script) text old new =
+    Loads script.items old new × (text ≡ script_answer (length script.items))
+DoesCommand (step.Alloc layout count) text old new = Does (Allocate layout count) text old new
+DoesCommand (step.Free tickets) text old new = Does (Free tickets) text old new
+DoesCommand step.Cleanup text old new = Does Cleanup text old new
+DoesCommand step.Show text old new = (new ≡ old) × (text ≡ show_answer old)
 
 -- a line gave a command, and from then on one had come
 abbrev pub begun : Program → Program
 begun p = record p { has_begun = true }
 
--- what a line does, where memory is there: nothing where it is silent, and else what its command does
-abbrev pub DoesLine : List (List ℕ) → Program → Program → Type 0
-DoesLine words old new =
-    (IsTrue (is_silent words) × (new ≡ old))
-    ⊎ ((command : line.Command) × IsCommandOf old.layouts words command × DoesCommand command (begun old) new)
+-- what a line does, and its answer, where memory is there: nothing where it is silent, and else what its command does
+abbrev pub DoesLine : List (List ℕ) → List ℕ → Program → Program → Type 0
+DoesLine words text old new =
+    (IsTrue (is_silent words) × (text ≡ []) × (new ≡ old))
+    ⊎ ((command : line.Command) × IsCommandOf old.layouts words command × IsInTime old.has_begun command × DoesCommand command text (begun old) new × IsTrue new.has_begun)

@@ -5,7 +5,7 @@ use Rattle.descriptor_script.specs.Scripted.Raw.{set_pool}
 use Rattle.descriptor_script.specs.Sessions.Session.{sets_of}
 use Rattle.descriptor_script.specs.Sessions.Tickets.{set_at}
 use Rattle.descriptor_script.specs.declared.command.Reply.{Reply}
-use Rattle.descriptor_script.specs.declared.command.Reply.TheVariants.{Sets, BadLayout}
+use Rattle.descriptor_script.specs.declared.command.Reply.TheVariants.{Sets, BadLayout, NoMemory}
 use Rattle.descriptor_script.specs.declared.raw.RawPool.{RawPool}
 use Rattle.descriptor_script.specs.declared.raw.RawSet.{RawSet}
 use Rattle.descriptor_script.specs.declared.raw.ScriptLayout.{ScriptLayout}
@@ -27,8 +27,9 @@ pub record AreHeld (session : LineSession) (first count : ℕ) : Type 0 where
   pub held : (ticket : ℕ) → first ≤ ticket → ticket < first + count → IsSome (set_at (sets_of session) ticket)
   pub fits : first + count < 2 ^ 64
 
--- the reply has an answer: its tickets have sets, and the layout was there
+-- the reply is answered here: its tickets have sets, the layout was there, and so was memory
 abbrev pub HasAnswer : LineSession → Reply → Type 0
 HasAnswer session (Sets first count) = AreHeld session first count
 HasAnswer session BadLayout = ⊥
+HasAnswer session NoMemory = ⊥
 HasAnswer session _ = Unit {0}

@@ -4,11 +4,12 @@ ghost use Rattle.gpu_descriptor_types.specs.Counts.{kinds};
 ghost use Rattle.descriptor_lines.specs.Answers.{limit_answer as limit_answer_of, layout_answer as layout_answer_of, size_answer as size_answer_of, kind_answer as kind_answer_of, kinds_answer as kinds_answer_of, script_answer as script_answer_of, pool_answer as pool_answer_of, device_answer as device_answer_of, held_answer as held_answer_of, fault_line as fault_line_of};
 
 mod reply;
+mod room;
 
 use descriptor_words::{Fault, kind_name};
 use gpu_descriptor::PoolView;
 use gpu_descriptor_types::DescriptorTotalCount;
-pub use reply::{reply_answer, room_for_sets};
+pub use reply::{reply_answer, room_for};
 use std::alloc::AllocError;
 
 /// The answer where there was no memory to run a line.

@@ -1,6 +1,6 @@
 //! The layouts that the lines made, by name.
 ghost use Rattle.std.specs.Prelude.{◌≡◌, ◌+◌, ◌<◌, ◌≤◌, ◌↔◌, ◌++◌, ◌∷◌, [], IsTrue, IfOk, IfSome, OnOk, None, is_some, string_bytes};
-ghost use Rattle.descriptor_lines.specs.LayoutTable.{layout_at, layout_named, layouts_in, layout_count, HasRoom, IsNewKey, SameLayouts, TellsFirst};
+ghost use Rattle.descriptor_lines.specs.FirstLayouts.{TellFirsts};
 
 use gpu_descriptor_types::DescriptorTotalCount;
 use indexmap::IndexMap;
@@ -31,9 +31,14 @@ pub struct Entry {
 pub struct Layouts {
     alloc: Global,
     by_name: IndexMap<String, Entry>,
+    ghost told: { TellFirsts by_name.entries },
 }
 
 impl Layouts {
+    ghost use Rattle.descriptor_lines.specs.LayoutTable.{layout_at, layout_count};
+    ghost use Rattle.descriptor_lines.specs.LayoutTable.{layout_named, layouts_in};
+    ghost use Rattle.descriptor_lines.specs.LayoutTable.{HasRoom, IsNewKey, SameLayouts};
+
     pub fn new(alloc: Global) -> Self
         ensures { layouts_in result ≡ [] }
     {
@@ -68,7 +73,9 @@ impl Layouts {
     }
 
     /// The layouts with their names, in the order in which they came.
-    pub fn iter(&self) -> Iter<'_, String, Entry> {
+    pub fn iter(&self) -> Iter<'_, String, Entry>
+        ensures { result ≡ self.now.by_name.entries }
+    {
         self.by_name.iter()
     }
 
@@ -105,7 +112,6 @@ impl Layouts {
         requires absent { layout_named self.old (string_bytes name) ≡ None }
         ensures layouts { layouts_in self.new ≡ layouts_in self.old ++ (string_bytes name, layout)
             ∷ [] }
-        ensures first { TellsFirst layout self.old self.new }
     {
         let is_first = self.is_new(&layout);
         // There is room, and the name is new.

@@ -6,6 +6,7 @@ mod answer;
 mod command;
 mod exit;
 mod input;
+pub mod laws;
 mod layouts;
 mod program;
 

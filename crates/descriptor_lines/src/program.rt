@@ -1,10 +1,12 @@
 //! The program: lines in, answers out.
-ghost use Rattle.std.specs.Prelude.{◌≡◌, ◌≢◌, ◌||◌, not, IsTrue, IsFalse, IfErr, OnOk, OnErr, string_bytes};
+ghost use Rattle.std.specs.Prelude.{◌≡◌, ◌≢◌, ◌||◌, [], not, IsTrue, IsFalse, IfErr, OnOk, OnErr, string_bytes};
 ghost use Rattle.std.specs.Io.KnownBytes.{IsAtEnd, Keeps};
 ghost use Rattle.descriptor_lines.specs.Arguments.{IsRefusalOf};
 ghost use Rattle.descriptor_words.specs.Fault.{IfFault};
 ghost use Rattle.descriptor_lines.specs.Outcomes.{EndsInFault};
-ghost use Rattle.descriptor_lines.specs.Programs.{CanRun, DoesLine, IsUnchanged, begun};
+ghost use Rattle.descriptor_lines.specs.LineBuffers.{unread};
+ghost use Rattle.descriptor_lines.specs.Programs.{CanRun, DoesLine, IsFresh, IsUnchanged, begun};
+ghost use Rattle.descriptor_lines.specs.Transcripts.{Writes, WritesFromStart};
 ghost use Rattle.descriptor_words.specs.Words.{words, is_silent};
 
 mod output;
@@ -42,7 +44,8 @@ pub struct Program {
 impl Program {
     /// A program without layouts and sets, whose limit is the greatest.
     fn new(alloc: Global) -> Self
-        ensures { CanRun result }
+        ensures ready { CanRun result }
+        ensures fresh { IsFresh result }
     {
         Program {
             alloc,
@@ -56,16 +59,17 @@ impl Program {
     /// Runs a line, and puts its answer behind the text. Where there is none, nothing changes.
     fn run_line(&mut self, line: &[u8], answer: &mut String) -> Result<(), Refusal>
         requires ready { CanRun self.old }
+        requires empty { string_bytes answer.old ≡ [] }
         ensures ready { CanRun self.new }
-        ensures does { OnOk result (DoesLine (words line.now) self.old self.new) }
+        ensures does { OnOk result (DoesLine (words line.now) (string_bytes answer.new) self.old
+            self.new) }
         ensures err { OnErr result (IsUnchanged self.old self.new) }
         ensures begun { self.new.has_begun ≡ (self.old.has_begun || not
             (is_silent (words line.now))) }
         ensures faulty { IfErr result (λ reason. IfFault reason (λ _. self.new ≡ begun self.old)) }
         ensures own { IfErr result (λ reason. IfFault reason (λ _. IsRefusalOf self.old.layouts
             self.old.has_begun (words line.now) reason)) }
-        ensures quiet { IsTrue (is_silent (words line.now)) → string_bytes answer.new
-            ≡ string_bytes answer.old }
+        ensures heard { OnErr result (IsFalse (is_silent (words line.now))) }
     {
         match Command::parse(self.alloc, line, &self.layouts, self.has_begun) {
             Ok(None) => Ok(()),
@@ -91,8 +95,11 @@ fn run_to_end<R: Read, W: Write>(
     output: &mut W,
 ) -> Exit
     requires ready { CanRun program.old }
+    requires empty { string_bytes answer.old ≡ [] }
     requires open { IsFalse lines.old.is_at_end }
     requires reads { lines.old.reads_left ≡ 100000000 }
+    ensures writes { Writes (unread lines.old (R.remaining input.old)) program.old result
+        (W.contents output.old) (W.contents output.new) }
     ensures done { result ≡ Exit.Done → IsAtEnd (R.remaining input.new) }
     ensures bad_line { result ≡ Exit.BadLine → EndsInFault (W.contents output.old)
         (W.contents output.new) }
@@ -116,6 +123,8 @@ fn run_to_end<R: Read, W: Write>(
 /// is run. It ends early at a faulty line, at a read or a write that fails, of whatever kind, and
 /// after 100000000 read calls.
 pub fn run_lines<R: Read, W: Write>(alloc: Global, input: &mut R, output: &mut W) -> Exit
+    ensures writes { WritesFromStart (R.remaining input.old) result (W.contents output.old)
+        (W.contents output.new) }
     ensures done { result ≡ Exit.Done → IsAtEnd (R.remaining input.new) }
     ensures bad_line { result ≡ Exit.BadLine → EndsInFault (W.contents output.old)
         (W.contents output.new) }

@@ -1,17 +1,24 @@
 //! The answers of the commands that a session runs.
-ghost use Rattle.std.specs.Prelude.{◌≡◌, ◌<◌, ◌+◌, IsSome};
-ghost use Rattle.descriptor_lines.specs.Replies.{AreHeld, HasAnswer, pool_at};
+ghost use Rattle.std.specs.Prelude.{◌≡◌, ◌<◌, ◌≤◌, ◌*◌, ◌++◌, length, IsSome};
+ghost use Rattle.std.specs.Prelude.{string_bytes, string_capacity};
+ghost use Rattle.gpu_descriptor.specs.Caller.Errors.{error_text};
 ghost use Rattle.descriptor_script.specs.Sessions.Session.{sets_of};
 ghost use Rattle.descriptor_script.specs.Sessions.Tickets.{set_at};
+ghost use Rattle.descriptor_lines.specs.Answers.{HasRoomFor};
+ghost use Rattle.descriptor_lines.specs.Replies.{AreHeld, HasAnswer, pool_at};
+ghost use Rattle.descriptor_lines.specs.ReplyTexts.{most_bytes, sets_asked, sets_given};
+ghost use Rattle.descriptor_lines.specs.ReplyTexts.{freed_text, refused_text, text_of_reply};
+ghost use Rattle.descriptor_lines.specs.ReplyTexts.{pools_from, range_text, sets_text};
+ghost use Rattle.descriptor_lines.specs.ReplyTexts.{stretch_text, stretches_text};
 
-use super::NO_MEMORY;
+use super::room::{put, put_number};
 use crate::program::LineSession;
-use descriptor_script::Reply;
-use std::alloc::AllocError;
+use descriptor_script::{Command, Reply};
+use gpu_descriptor::AllocationError;
 
-/// The most bytes of an answer to `alloc` without its stretches: two tickets of up to 20 digits,
-/// and what stands about them.
-const SETS_LEN: usize = 64;
+/// The most bytes of an answer without its stretches: two tickets of up to 20 digits, and what
+/// stands about them.
+const SHORT_LEN: usize = 64;
 
 /// The most bytes of a stretch for each of its sets: the name of a pool of up to 20 digits, the
 /// length, a blank and `*`.
@@ -21,61 +28,121 @@ const STRETCH_LEN: usize = 23;
 #[derive(Clone, Copy, Debug)]
 struct Stretch {
     pool: u64,
-    length: u32,
+    length: u64,
 }
 
-/// How many bytes the answer of a request for so many sets may have.
-pub fn room_for_sets(count: u32) -> usize {
-    SETS_LEN + STRETCH_LEN * count as usize
+/// How many bytes the answer of a command may have.
+pub fn room_for(command: &Command) -> usize
+    ensures { result ≡ most_bytes (sets_asked command.now) }
+{
+    match command {
+        Command::Allocate { layout: _, count } => SHORT_LEN + STRETCH_LEN * *count as usize,
+        Command::Free { tickets: _ } | Command::Cleanup => SHORT_LEN,
+    }
 }
 
-/// What the session replied.
-pub fn reply_answer(
-    answer: &mut String,
-    session: &LineSession,
-    reply: &Reply,
-) -> Result<(), AllocError>
-    requires { HasAnswer session.now reply.now }
+/// Puts what the session replied behind the answer.
+pub fn reply_answer(answer: &mut String, session: &LineSession, reply: &Reply)
+    requires replied { HasAnswer session.now reply.now }
+    requires room { HasRoomFor (most_bytes (sets_given reply.now)) answer.old }
+    ensures text { string_bytes answer.new ≡ string_bytes answer.old
+        ++ text_of_reply (sets_of session.now) reply.now }
+    ensures enough { length (text_of_reply (sets_of session.now) reply.now)
+        ≤ most_bytes (sets_given reply.now) }
 {
     match reply {
         Reply::Sets { first, count } => sets_answer(answer, session, *first, *count),
-        Reply::Refused(error) => writeln!(answer, "refused: {error}"),
-        Reply::Freed(count) => writeln!(answer, "freed {count}"),
-        Reply::BadTicket => answer.push_str("bad ticket\n"),
-        Reply::BadLayout => unreachable!(),
-        Reply::NoMemory => answer.push_str(NO_MEMORY),
-        Reply::Clean => answer.push_str("clean\n"),
+        Reply::Refused(error) => refused_answer(answer, error),
+        Reply::Freed(count) => freed_answer(answer, *count),
+        Reply::BadTicket => put(answer, "bad ticket\n"),
+        Reply::Clean => put(answer, "clean\n"),
+        Reply::BadLayout | Reply::NoMemory => unreachable!(),
     }
 }
 
+/// That the allocator refused, and why.
+fn refused_answer(answer: &mut String, error: &AllocationError)
+    requires { HasRoomFor (length (refused_text error.now)) answer.old }
+    ensures { string_bytes answer.new ≡ string_bytes answer.old ++ refused_text error.now }
+{
+    put(answer, "refused: ");
+    put(answer, text_of_error(error));
+    put(answer, "\n");
+}
+
+/// What the output says of the error.
+fn text_of_error(error: &AllocationError) -> &'static str
+    ensures { result.now ≡ error_text error.now }
+{
+    match error {
+        AllocationError::OutOfDeviceMemory => "Device memory exhausted",
+        AllocationError::OutOfHostMemory => "Host memory exhausted",
+        AllocationError::Fragmentation => "Fragmentation",
+    }
+}
+
+/// How many sets went back.
+fn freed_answer(answer: &mut String, count: usize)
+    requires { HasRoomFor (length (freed_text count)) answer.old }
+    ensures { string_bytes answer.new ≡ string_bytes answer.old ++ freed_text count }
+{
+    put_number(answer, "freed ", count as u64);
+    put(answer, "\n");
+}
+
 /// The tickets of sets that were handed out, and their device pools in stretches of neighbours.
-fn sets_answer(
-    answer: &mut String,
-    session: &LineSession,
-    first: usize,
-    count: u32,
-) -> Result<(), AllocError>
-    requires { AreHeld session.now first count }
+fn sets_answer(answer: &mut String, session: &LineSession, first: usize, count: u32)
+    requires held { AreHeld session.now first count }
+    requires room { HasRoomFor (most_bytes count) answer.old }
+    ensures text { string_bytes answer.new ≡ string_bytes answer.old
+        ++ sets_text (sets_of session.now) first count }
+    ensures enough { length (sets_text (sets_of session.now) first count) ≤ most_bytes count }
 {
     if count == 0 {
-        return answer.push_str("sets none\n");
+        put(answer, "sets none\n");
+        return;
     }
-    let end = first + count as usize;
-    write!(answer, "sets {first}-{}:", end - 1)?;
+    range_answer(answer, first, first + count as usize - 1);
+    stretches_answer(answer, session, first, count);
+    put(answer, "\n");
+}
+
+/// The tickets from the first to the last.
+fn range_answer(answer: &mut String, first: usize, last: usize)
+    requires { HasRoomFor (length (range_text first last)) answer.old }
+    ensures text { string_bytes answer.new ≡ string_bytes answer.old ++ range_text first last }
+    ensures room { string_capacity answer.old ≤ string_capacity answer.new }
+{
+    put_number(answer, "sets ", first as u64);
+    put_number(answer, "-", last as u64);
+    put(answer, ":");
+}
+
+/// The device pools of so many tickets from the first up, in stretches of neighbours.
+fn stretches_answer(answer: &mut String, session: &LineSession, first: usize, count: u32)
+    requires some { 0 < count }
+    requires held { AreHeld session.now first count }
+    requires room { HasRoomFor (23 * count) answer.old }
+    ensures text { string_bytes answer.new ≡ string_bytes answer.old
+        ++ stretches_text (pools_from (sets_of session.now) first count) }
+    ensures enough { length (stretches_text (pools_from (sets_of session.now) first count))
+        ≤ 23 * count }
+    ensures room { string_capacity answer.old ≤ string_capacity answer.new }
+{
     let mut stretch = Stretch {
         pool: device_pool(session, first),
-        length: 0,
+        length: 1,
     };
-    for ticket in first..end {
+    for ticket in first + 1..first + count as usize {
         let pool = device_pool(session, ticket);
-        if pool != stretch.pool {
-            stretch_answer(answer, stretch)?;
-            stretch = Stretch { pool, length: 0 };
+        if pool == stretch.pool {
+            stretch.length += 1;
+        } else {
+            stretch_answer(answer, stretch);
+            stretch = Stretch { pool, length: 1 };
         }
-        stretch.length += 1;
     }
-    stretch_answer(answer, stretch)?;
-    answer.push('\n')
+    stretch_answer(answer, stretch);
 }
 
 /// The name of the device pool of a ticket's set.
@@ -89,7 +156,13 @@ fn device_pool(session: &LineSession, ticket: usize) -> u64
     }
 }
 
-fn stretch_answer(answer: &mut String, stretch: Stretch) -> Result<(), AllocError> {
-    let Stretch { pool, length } = stretch;
-    write!(answer, " {pool}*{length}")
+/// A stretch: the name of its pool, and its length.
+fn stretch_answer(answer: &mut String, stretch: Stretch)
+    requires { HasRoomFor (length (stretch_text (stretch.pool, stretch.length))) answer.old }
+    ensures text { string_bytes answer.new ≡ string_bytes answer.old
+        ++ stretch_text (stretch.pool, stretch.length) }
+    ensures room { string_capacity answer.old ≤ string_capacity answer.new }
+{
+    put_number(answer, " ", stretch.pool);
+    put_number(answer, "*", stretch.length);
 }

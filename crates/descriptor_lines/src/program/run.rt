@@ -1,12 +1,15 @@
 //! The commands, run.
-ghost use Rattle.std.specs.Prelude.{◌≡◌, ◌<◌, ◌++◌, ◌∷◌, [], None, IsTrue, OnOk, OnErr, length, sum, string_bytes};
+ghost use Rattle.std.specs.Prelude.{◌≡◌, ◌++◌, [], None, IsTrue, OnOk, OnErr, length, sum};
+ghost use Rattle.std.specs.Prelude.{string_bytes};
 ghost use Rattle.gpu_descriptor_types.specs.Counts.{kinds};
 ghost use Rattle.gpu_descriptor.specs.Caller.Flags.{is_marked};
-ghost use Rattle.descriptor_script.specs.declared.command.Command.TheVariants.{Allocate};
-ghost use Rattle.descriptor_lines.specs.Answers.{layout_answer as layout_answer_of, limit_answer as limit_answer_of, script_answer as script_answer_of, AnswersSize};
+ghost use Rattle.descriptor_lines.specs.Answers.{AnswersSize, layout_answer as layout_answer_of};
+ghost use Rattle.descriptor_lines.specs.Answers.{limit_answer as limit_answer_of};
+ghost use Rattle.descriptor_lines.specs.Answers.{script_answer as script_answer_of};
 ghost use Rattle.descriptor_lines.specs.Commands.{IsKnown, IsRunnable};
 ghost use Rattle.descriptor_lines.specs.LayoutTable.{layout_count, layout_named};
-ghost use Rattle.descriptor_lines.specs.Programs.{AddsLayout, Begins, CanRun, Does, DoesCommand, IsUnchanged, KeepsDevice, Loads};
+ghost use Rattle.descriptor_lines.specs.Programs.{AddsLayout, Begins, CanRun, Does, DoesCommand};
+ghost use Rattle.descriptor_lines.specs.Programs.{IsUnchanged, KeepsDevice, Loads};
 
 use super::Program;
 use crate::answer;
@@ -19,7 +22,7 @@ use gpu_descriptor_types::{DescriptorTotalCount, new_pool_size};
 use std::alloc::AllocError;
 
 impl Program {
-    /// Runs a command, and puts its answer behind the text. An error changes nothing.
+    /// Runs a command, and puts its answer into the empty text. An error changes nothing.
     pub(super) fn run(
         &mut self,
         command: Command<'_>,
@@ -28,8 +31,10 @@ impl Program {
         requires ready { CanRun self.old }
         requires begun { IsTrue self.old.has_begun }
         requires runnable { IsRunnable self.old.layouts command }
+        requires empty { string_bytes answer.old ≡ [] }
         ensures ready { CanRun self.new }
-        ensures does { OnOk result (DoesCommand command.entry self.old self.new) }
+        ensures does { OnOk result (DoesCommand command.entry (string_bytes answer.new) self.old
+            self.new) }
         ensures err { OnErr result (IsUnchanged self.old self.new) }
         ensures begun { IsTrue self.new.has_begun }
     {
@@ -42,7 +47,9 @@ impl Program {
                 wanted,
             } => answer_size(&counts, total, wanted, answer),
             Command::Script { script } => self.load(script, answer),
-            Command::Alloc { layout, count } => self.allocate(layout, count, answer),
+            Command::Alloc { layout, count } => {
+                self.ask(SessionCommand::Allocate { layout, count }, answer)
+            }
             Command::Free { tickets } => self.ask(SessionCommand::Free { tickets }, answer),
             Command::Cleanup => self.ask(SessionCommand::Cleanup, answer),
             Command::Show => self.show(answer),
@@ -114,35 +121,23 @@ impl Program {
         Ok(())
     }
 
-    /// Allocates sets of the layout at a place.
-    fn allocate(&mut self, layout: usize, count: u32, answer: &mut String) -> Result<(), AllocError>
-        requires ready { CanRun self.old }
-        requires known { layout < layout_count self.old.layouts }
-        ensures ready { CanRun self.new }
-        ensures does { OnOk result (Does (Allocate layout count) self.old self.new) }
-        ensures err { OnErr result (IsUnchanged self.old self.new) }
-        ensures begun { self.new.has_begun ≡ self.old.has_begun }
-    {
-        // The text has its room before the command is run.
-        answer.reserve(answer::room_for_sets(count))?;
-        self.ask(SessionCommand::Allocate { layout, count }, answer)
-    }
-
-    /// Runs a command of the session, and puts the answer behind the text, which has room for it.
+    /// Runs a command of the session, and puts its answer into the empty text.
     fn ask(&mut self, command: SessionCommand, answer: &mut String) -> Result<(), AllocError>
         requires ready { CanRun self.old }
         requires known { IsKnown (layout_count self.old.layouts) command }
+        requires empty { string_bytes answer.old ≡ [] }
         ensures ready { CanRun self.new }
-        ensures does { OnOk result (Does command self.old self.new) }
+        ensures does { OnOk result (Does command (string_bytes answer.new) self.old self.new) }
         ensures err { OnErr result (IsUnchanged self.old self.new) }
         ensures begun { self.new.has_begun ≡ self.old.has_begun }
     {
+        // The answer has its room before the command is run.
+        answer.reserve(answer::room_for(&command))?;
         let replies = self.session.run(&mut self.device, &[command])?;
         match replies[0] {
             Reply::NoMemory => Err(AllocError),
             reply => {
-                // There is room for it.
-                let _ = answer::reply_answer(answer, &self.session, &reply);
+                answer::reply_answer(answer, &self.session, &reply);
                 Ok(())
             }
         }
@@ -160,15 +155,15 @@ fn flags_of(mark: bool) -> DescriptorSetLayoutCreateFlags
     }
 }
 
-/// Puts the size of a new pool for these counts behind the text.
+/// Puts the size of a new pool for these counts into the empty text.
 fn answer_size(
     counts: &DescriptorTotalCount,
     total: u64,
     wanted: u32,
     answer: &mut String,
 ) -> Result<(), AllocError>
-    ensures { OnOk result (AnswersSize (kinds counts.now) total wanted (string_bytes answer.old)
-        (string_bytes answer.new)) }
+    requires { string_bytes answer.old ≡ [] }
+    ensures { OnOk result (AnswersSize (kinds counts.now) total wanted (string_bytes answer.new)) }
 {
     let (pool, sets) = new_pool_size(counts, total, wanted);
     answer::size_answer(answer, &pool, sets)

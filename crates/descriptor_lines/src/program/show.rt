@@ -1,4 +1,7 @@
 //! The command that shows the pools and the counters.
+ghost use Rattle.std.specs.Prelude.{◌≡◌, ◌++◌, OnOk, string_bytes};
+ghost use Rattle.descriptor_script.specs.Sessions.Session.{allocator_of};
+ghost use Rattle.descriptor_lines.specs.Shown.{pools_answer, show_answer};
 
 use super::Program;
 use crate::answer;
@@ -8,7 +11,10 @@ use std::alloc::AllocError;
 impl Program {
     /// Puts the pools of each key behind the text, under the first layout that has it, and then the
     /// counters.
-    pub(super) fn show(&self, answer: &mut String) -> Result<(), AllocError> {
+    pub(super) fn show(&self, answer: &mut String) -> Result<(), AllocError>
+        ensures { OnOk result (string_bytes answer.new ≡ string_bytes answer.old
+            ++ show_answer self.now) }
+    {
         for (name, entry) in self.layouts.iter() {
             if entry.is_first {
                 self.show_pools(name.as_str(), &entry.layout, answer)?;
@@ -27,12 +33,10 @@ impl Program {
     }
 
     /// Puts the pools of a layout behind the text, oldest first.
-    fn show_pools(
-        &self,
-        name: &str,
-        layout: &Layout,
-        answer: &mut String,
-    ) -> Result<(), AllocError> {
+    fn show_pools(&self, name: &str, layout: &Layout, answer: &mut String) -> Result<(), AllocError>
+        ensures { OnOk result (string_bytes answer.new ≡ string_bytes answer.old
+            ++ pools_answer (allocator_of self.now.session).table (name.now, layout.now)) }
+    {
         let allocator = self.session.allocator();
         for index in 0..allocator.pool_count(&layout.counts, layout.mark) {
             if let Some(pool) = allocator.pool(&layout.counts, layout.mark, index) {

@@ -1,11 +1,15 @@
-use Rattle.std.proofs.Common.{◌≡◌, ◌⊎◌, inl, inr, Ok, Err, Result, Option, List, ℕ, refl, ap, ◌∙◌}
+use Rattle.std.proofs.Common.{◌≡◌, [], ◌⊎◌, inl, inr, Ok, Err, Result, Option, List, ℕ, refl, ap, ◌∙◌}
+use Rattle.std.specs.String.{string_bytes}
 use Rattle.std.specs.Io.KnownBytes.{Appends}
-use Rattle.std.proofs.KnownBytes.{Appends-trans}
+use Rattle.descriptor_lines.specs.LineBuffers.{unread}
+use Rattle.std.proofs.KnownBytes.{Appends-nil, Appends-trans}
 use Rattle.descriptor_lines.specs.Outcomes.{EndsInFault, IsNoFault, said_of}
 use Rattle.descriptor_lines.specs.declared.exit.Exit.{Exit}
 use Rattle.descriptor_lines.specs.declared.exit.Exit.TheVariants.{BadLine, Done, NoMemory, WriteFault}
 use Rattle.descriptor_words.specs.declared.fault.Refusal.{Refusal}
 use Rattle.descriptor_words.specs.declared.fault.Refusal.TheVariants as refusal
+use Rattle.descriptor_lines.proofs.EndLemmas.{Takes, ends_at_fault, ends_done, ends_early, ends_unread, ends_unwritten, stands_on, takes_long, takes_span}
+use Rattle.descriptor_lines.proofs.TranscriptLemmas.{stands_first}
 use Rattle.descriptor_lines.proofs.program.run_to_end.Goals as goal
 use Rattle.descriptor_lines.proofs.program.run_to_end.Goals.{in-Ok-Some, in-Err-LineTooLong}
 
@@ -24,22 +28,68 @@ has_memory : (exit : Exit) → (exit ≡ BadLine) ⊎ (exit ≡ WriteFault) → 
 has_memory exit (inl bad) none = cc
 has_memory exit (inr bad) none = cc
 
-pub loop-number-preserved : goal.loop-number-preserved
-loop-number-preserved g c = record {
-  ready = elim c.match-next_line.branch [
-    | in-Ok-Some w ↦ rw w.program-is w.run_line-outcome.ensures.ready
-    | in-Err-LineTooLong w ↦ rw w.program-is c.loop-number.invariant.ready
-  ];
-  answered = (_, Appends-trans _ _ _ _ _ c.loop-number.invariant.answered.1 c.in_default.ensures.answered);
-  sees = c.next_line.ensures.sees c.loop-number.invariant.sees;
+pub loop-number-init : goal.loop-number-init
+loop-number-init g c = record {
+  ready = c.requires.ready;
+  empty = c.requires.empty;
+  answers = ([], Appends-nil _, stands_first _ c.args.program.now);
+  sees = λ seen. absurd (let «open» = c.requires.open in cc);
 }
+
+pub loop-number-preserved : goal.loop-number-preserved
+loop-number-preserved g c =
+    let (text, grown, stands) = c.loop-number.invariant.answers in
+    let takes : Takes c.loop-number.number (unread c.loop-number.lines (g.R.Read.remaining c.loop-number.input)) (unread c.next_line.new.self (g.R.Read.remaining c.next_line.new.input)) c.match-next_line.outcome (string_bytes c.match-next_line.answer) c.loop-number.program c.match-next_line.program = elim c.match-next_line.branch [
+      | in-Ok-Some w ↦ let ran = w.run_line-outcome.ensures in let found = w.in-Ok-Some.ensures in rw (w.program-is, w.answer-is, w.outcome-is) (takes_span _ c.next_line.new.self w.in-Ok-Some.span _ _ _ _ _ _ _ (rw w.in-Ok-Some.field-0-is at found.line) (rw w.in-Ok-Some.field-0-is at found.rest) (rw w.in-Ok-Some.field-0-is at found.short) w.line.ensures.bytes ran.does ran.err ran.begun ran.heard ran.own)
+      | in-Err-LineTooLong w ↦ rw (w.program-is, w.answer-is) (takes_long _ _ _ _ _ _ _ w.outcome-is (c.next_line.ensures.too_long (w.in-Err-LineTooLong.is ∙ ap Err w.in-Err-LineTooLong.field-0-is)))
+    ] in
+    record {
+      ready = elim c.match-next_line.branch [
+        | in-Ok-Some w ↦ rw w.program-is w.run_line-outcome.ensures.ready
+        | in-Err-LineTooLong w ↦ rw w.program-is c.loop-number.invariant.ready
+      ];
+      empty = c.in_default.ensures.emptied;
+      answers = (_, Appends-trans _ _ _ _ _ grown c.in_default.ensures.answered, stands_on _ _ _ _ _ _ _ _ _ _ stands takes c.in_default.ensures.ok);
+      sees = c.next_line.ensures.sees c.loop-number.invariant.sees;
+    }
+
+pub returns-in_default-clause-writes : goal.returns-in_default-clause-writes
+returns-in_default-clause-writes g c =
+    let (text, grown, stands) = c.loop-number.invariant.answers in
+    let takes : Takes c.loop-number.number (unread c.loop-number.lines (g.R.Read.remaining c.loop-number.input)) (unread c.next_line.new.self (g.R.Read.remaining c.next_line.new.input)) c.match-next_line.outcome (string_bytes c.match-next_line.answer) c.loop-number.program c.match-next_line.program = elim c.match-next_line.branch [
+      | in-Ok-Some w ↦ let ran = w.run_line-outcome.ensures in let found = w.in-Ok-Some.ensures in rw (w.program-is, w.answer-is, w.outcome-is) (takes_span _ c.next_line.new.self w.in-Ok-Some.span _ _ _ _ _ _ _ (rw w.in-Ok-Some.field-0-is at found.line) (rw w.in-Ok-Some.field-0-is at found.rest) (rw w.in-Ok-Some.field-0-is at found.short) w.line.ensures.bytes ran.does ran.err ran.begun ran.heard ran.own)
+      | in-Err-LineTooLong w ↦ rw (w.program-is, w.answer-is) (takes_long _ _ _ _ _ _ _ w.outcome-is (c.next_line.ensures.too_long (w.in-Err-LineTooLong.is ∙ ap Err w.in-Err-LineTooLong.field-0-is)))
+    ] in
+    ends_unread _ _ _ _ _ _ _ _ (stands_on _ _ _ _ _ _ _ _ _ _ stands takes c.in_default.ensures.ok) (Appends-trans _ _ _ _ _ grown c.in_default.ensures.answered)
 
 pub returns-in-Ok-None-clause-done : goal.returns-in-Ok-None-clause-done
 returns-in-Ok-None-clause-done g c = λ _. (rw c.in-Ok-None.field-0-is at c.in-Ok-None.ensures.end) c.loop-number.invariant.sees
 
-pub returns-in-Err : goal.returns-in-Err
-returns-in-Err g c = record {
-  done = λ done. absurd (not_done c.in-Err.exit c.in-Err.ensures.err done);
-  bad_line = λ bad. ends_in_fault c.loop-number.number c.match-next_line.outcome _ _ _ _ _ (c.answer_line.ensures.bad_line (c.in-Err.is ∙ ap Err bad)) c.loop-number.invariant.answered.1 (c.answer_line.ensures.told (c.in-Err.is ∙ ap Err bad));
-  memory = has_memory c.in-Err.exit c.in-Err.ensures.err;
-}
+pub returns-in-Ok-None-clause-writes : goal.returns-in-Ok-None-clause-writes
+returns-in-Ok-None-clause-writes g c =
+    let (text, grown, stands) = c.loop-number.invariant.answers in
+    ends_done _ _ _ _ text _ _ _ stands (rw c.in-Ok-None.field-0-is at c.in-Ok-None.ensures.none) grown
+
+pub returns-in-Err-Read-clause-writes : goal.returns-in-Err-Read-clause-writes
+returns-in-Err-Read-clause-writes g c =
+    let (text, grown, stands) = c.loop-number.invariant.answers in
+    ends_unread _ _ _ _ text _ _ _ stands grown
+
+pub returns-in-Err-clause-writes : goal.returns-in-Err-clause-writes
+returns-in-Err-clause-writes g c =
+    let (text, grown, stands) = c.loop-number.invariant.answers in
+    let said = c.in-Err.ensures in
+    let takes : Takes c.loop-number.number (unread c.loop-number.lines (g.R.Read.remaining c.loop-number.input)) (unread c.next_line.new.self (g.R.Read.remaining c.next_line.new.input)) c.match-next_line.outcome (string_bytes c.match-next_line.answer) c.loop-number.program c.match-next_line.program = elim c.match-next_line.branch [
+      | in-Ok-Some w ↦ let ran = w.run_line-outcome.ensures in let found = w.in-Ok-Some.ensures in rw (w.program-is, w.answer-is, w.outcome-is) (takes_span _ c.next_line.new.self w.in-Ok-Some.span _ _ _ _ _ _ _ (rw w.in-Ok-Some.field-0-is at found.line) (rw w.in-Ok-Some.field-0-is at found.rest) (rw w.in-Ok-Some.field-0-is at found.short) w.line.ensures.bytes ran.does ran.err ran.begun ran.heard ran.own)
+      | in-Err-LineTooLong w ↦ rw (w.program-is, w.answer-is) (takes_long _ _ _ _ _ _ _ w.outcome-is (c.next_line.ensures.too_long (w.in-Err-LineTooLong.is ∙ ap Err w.in-Err-LineTooLong.field-0-is)))
+    ] in
+    ends_early _ _ c.in-Err.exit _ _ said.err (λ bad. ends_at_fault _ _ _ _ _ _ _ _ _ _ _ _ _ (c.answer_line.ensures.bad_line (c.in-Err.is ∙ ap Err bad)) stands takes grown (c.answer_line.ensures.told (c.in-Err.is ∙ ap Err bad))) (λ lost. ends_unwritten _ _ _ _ _ _ _ _ _ _ _ _ _ stands takes grown (c.answer_line.ensures.broken (c.in-Err.is ∙ ap Err lost)))
+
+pub returns-in-Err-clause-done : goal.returns-in-Err-clause-done
+returns-in-Err-clause-done g c = λ done. absurd (not_done c.in-Err.exit c.in-Err.ensures.err done)
+
+pub returns-in-Err-clause-bad_line : goal.returns-in-Err-clause-bad_line
+returns-in-Err-clause-bad_line g c = λ bad. ends_in_fault c.loop-number.number c.match-next_line.outcome _ _ _ _ _ (c.answer_line.ensures.bad_line (c.in-Err.is ∙ ap Err bad)) c.loop-number.invariant.answers.1 (c.answer_line.ensures.told (c.in-Err.is ∙ ap Err bad))
+
+pub returns-in-Err-clause-memory : goal.returns-in-Err-clause-memory
+returns-in-Err-clause-memory g c = has_memory c.in-Err.exit c.in-Err.ensures.err

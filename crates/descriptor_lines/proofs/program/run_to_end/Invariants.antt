@@ -1,13 +1,16 @@
-use Rattle.std.proofs.Common.{List, ℕ}
+use Rattle.std.proofs.Common.{◌≡◌, List, [], ℕ}
+use Rattle.std.specs.String.{string_bytes}
 use Rattle.std.specs.Io.KnownBytes.{Appends}
-use Rattle.descriptor_lines.specs.LineBuffers.{SeesEndOf}
+use Rattle.descriptor_lines.specs.LineBuffers.{SeesEndOf, unread}
 use Rattle.descriptor_lines.specs.Programs.{CanRun}
+use Rattle.descriptor_lines.proofs.TranscriptLemmas.{Stands}
 use Rattle.descriptor_lines.proofs.program.run_to_end.Given as goal
 
--- the program can run a line, the output got the answers so far, and the end is seen where it is
+-- the program can run a line, its text is empty, the output got the answers of the lines so far, and the end is seen where it is
 abbrev pub invariant-loop-number : goal.invariant-loop-number
 invariant-loop-number g l = record {
   ready : CanRun l.program;
-  answered : (answers : List ℕ) × Appends (g.W.Write.contents l.initial.output) (g.W.Write.contents l.output) answers;
+  empty : string_bytes l.answer ≡ [];
+  answers : (text : List ℕ) × Appends (g.W.Write.contents l.initial.output) (g.W.Write.contents l.output) text × Stands (unread l.initial.lines (g.R.Read.remaining l.initial.input)) l.initial.program text l.number (unread l.lines (g.R.Read.remaining l.input)) l.program;
   sees : SeesEndOf l.lines (g.R.Read.remaining l.input);
 }

@@ -1,11 +1,15 @@
-use Rattle.std.proofs.Common.{◌≡◌, map, Option, None, Some, Result, Ok, Err, OnOk, IsOk, ◌++◌, ◌∷◌, [], string_bytes, refl, ap, ◌∙◌}
+use Rattle.std.proofs.Common.{◌≡◌, map, Option, None, Some, Result, Ok, Err, OnOk, IsOk, ◌++◌, ◌∷◌, [], Global, String, string_bytes, refl, subst, sym, ap, ◌∙◌}
 use Rattle.std.proofs.lemmas.List.{map-append}
 use Rattle.std.specs.Option.{option_map}
 use Rattle.std.specs.String.{string_eq}
-use Rattle.indexmap.specs.IndexMap.{get_by_text}
+use Rattle.indexmap.specs.IndexMap.{insert_entry}
 use Rattle.indexmap.proofs.CallerLemmas.{insert_entry-new}
+use Rattle.descriptor_lines.specs.FirstLayouts.{TellFirsts, listed}
+use Rattle.descriptor_lines.specs.LayoutTable.{layout_named}
+use Rattle.descriptor_lines.specs.declared.layouts.Entry.{Entry}
+use Rattle.descriptor_lines.specs.declared.layouts.Layouts.{Layouts}
+use Rattle.descriptor_lines.proofs.FirstLayoutLemmas.{tell_more}
 use Rattle.descriptor_lines.proofs.layouts.Layouts.push.Goals as goal
-use Rattle.descriptor_lines.proofs.layouts.Layouts.push.Goals.{Joined-insert}
 
 none_from_mapped : {X Y : Type 0} (f : X → Y) (o : Option X) → option_map f o ≡ None → o ≡ None
 none_from_mapped f None none = refl
@@ -15,20 +19,18 @@ on_ok : {T E : Type 0} (r : Result T E) (P : Type 0) → IsOk r → OnOk r P →
 on_ok (Ok x) P is holds = holds
 on_ok (Err e) P is holds = (cc)
 
--- the entry of the new layout stands last
-last_entry : (c : Joined-insert) → c.insert.new.self.entries ≡ c.args.self.now.by_name.entries ++ (c.args.name, record { layout = c.args.layout; is_first = c.is_new-is_first.result }) ∷ []
-last_entry c =
-    let absent : get_by_text c.args.self.now.by_name (string_bytes c.args.name) ≡ None = none_from_mapped _ _ c.requires.absent in
+-- the entry of a layout with a new name stands last
+last_entry : (layouts : Layouts) (name : String Global) (entry : Entry) → layout_named layouts (string_bytes name) ≡ None → insert_entry string_eq layouts.by_name.entries name entry ≡ layouts.by_name.entries ++ (name, entry) ∷ []
+last_entry layouts name entry absent = insert_entry-new string_eq layouts.by_name name entry (none_from_mapped _ _ absent)
+
+pub returns : goal.returns
+returns c =
     let entries = on_ok c.insert.result _ (c.insert.ensures.succeeds c.requires.room) c.insert.ensures.entries in
-    entries ∙ insert_entry-new string_eq c.args.self.now.by_name c.args.name (record { layout = c.args.layout; is_first = c.is_new-is_first.result }) absent
+    record { layouts = ap (map listed) (entries ∙ last_entry c.args.self.now _ _ c.requires.absent) ∙ map-append listed _ _ }
 
-pub returns-clause-layouts : goal.returns-clause-layouts
-returns-clause-layouts c =
-    ap (λ es. map (λ e. (string_bytes e.0, e.1.layout)) es) (last_entry c) ∙ map-append (λ e. (string_bytes e.0, e.1.layout)) _ _
-
-pub returns-clause-first : goal.returns-clause-first
-returns-clause-first c = record {
-  is_first = c.is_new-is_first.result;
-  kept = ap (λ es. map (λ e. e.1.is_first) es) (last_entry c) ∙ map-append (λ e. e.1.is_first) _ _;
-  exactly = c.is_new-is_first.ensures;
-}
+pub invariant_of-self : goal.invariant_of-self
+invariant_of-self c =
+    let entries = on_ok c.insert.result _ (c.insert.ensures.succeeds c.requires.room) c.insert.ensures.entries in
+    record {
+      told = subst TellFirsts (sym (entries ∙ last_entry c.args.self.now _ _ c.requires.absent)) (tell_more _ _ c.args.self.now.told c.is_new-is_first.ensures);
+    }

@@ -1,6 +1,6 @@
-use Rattle.std.proofs.Common.{ap, ◌∙◌, ◌++◌}
+use Rattle.std.proofs.Common.{◌++◌, ap, ◌∙◌}
 use Rattle.std.proofs.lemmas.Result.{IfOk-weaker}
-use Rattle.std.specs.String.{string_bytes}
+use Rattle.gpu_descriptor_types.specs.Counts.{kinds}
 use Rattle.descriptor_lines.specs.Answers.{size_answer}
 use Rattle.descriptor_lines.proofs.program.run.answer_size.Goals as goal
 
@@ -10,5 +10,5 @@ returns c =
     IfOk-weaker c.size_answer.result _ _ (λ _ written. record {
       sets = pool.result.1;
       is_size = pool.ensures.sets;
-      text = written ∙ ap (λ counts. string_bytes c.args.answer.now ++ size_answer pool.result.1 counts) pool.ensures.counts;
+      said = written ∙ ap (λ old. old ++ size_answer pool.result.1 (kinds pool.result.0)) c.requires ∙ ap (λ counts. size_answer pool.result.1 counts) pool.ensures.counts;
     }) c.size_answer.ensures

@@ -1,0 +1,114 @@
+-- Lemmas on the texts of replies, and on how long they are.
+use Rattle.std.proofs.Common.{◌≡◌, ◌≢◌, ℕ, zero, suc, ◌+◌, ◌-◌, ◌<◌, ◌≤◌, ◌^◌, ◌⊎◌, inl, inr, List, [], ◌∷◌, ◌++◌, length, replicate, codes, Option, append-nil, append_assoc, length-append, refl, sym, ap, ◌∙◌, arith}
+use Rattle.std.specs.Fmt.{decimal}
+use Rattle.std.specs.List.{flat_map}
+use Rattle.std.proofs.lemmas.Bool.{cases_lt}
+use Rattle.std.proofs.lemmas.Bool.Decides.{nat_tests}
+use Rattle.std.proofs.lemmas.Fmt.{length-decimal-le}
+use Rattle.std.proofs.lemmas.List.{replicate_more}
+use Rattle.gpu_descriptor.specs.declared.set.DescriptorSet.{DescriptorSet}
+use Rattle.descriptor_script.specs.declared.raw.RawSet.{RawSet}
+use Rattle.descriptor_lines.specs.Replies.{pool_at}
+use Rattle.descriptor_lines.specs.ReplyTexts.{freed_text, front_of, pools_from, range_text, sets_text, stretch_text, stretches, stretches_behind, stretches_text}
+
+-- ---- stretches
+
+front_of_one : (pool n : ℕ) (rest : List ℕ) → front_of pool (replicate n pool ++ rest) ≡ n + front_of pool rest
+front_of_one pool zero rest = grind arith
+front_of_one pool (suc n) rest = grind (arith, nat_tests, front_of_one pool n rest)
+
+front_of_another : (pool next : ℕ) (rest : List ℕ) → next ≢ pool → front_of pool (next ∷ rest) ≡ 0
+front_of_another pool next rest apart = grind (arith, nat_tests)
+
+behind_one : (pool n : ℕ) (rest : List ℕ) → stretches_behind pool (replicate n pool ++ rest) ≡ stretches_behind pool rest
+unfolding stretches_behind
+behind_one pool zero rest = refl
+behind_one pool (suc n) rest = grind (arith, nat_tests, behind_one pool n rest)
+
+behind_another : (pool next : ℕ) (rest : List ℕ) → next ≢ pool → stretches_behind pool (next ∷ rest) ≡ stretches (next ∷ rest)
+unfolding stretches_behind stretches
+behind_another pool next rest apart = grind (arith, nat_tests)
+
+stretch_over : (pool n next : ℕ) (rest : List ℕ) → 0 < n → next ≢ pool → stretches_text (replicate n pool ++ next ∷ rest) ≡ stretch_text (pool, n) ++ stretches_text (next ∷ rest)
+unfolding stretches_text stretches
+stretch_over pool zero next rest some apart = absurd (omega arith)
+stretch_over pool (suc n) next rest some apart =
+    let front : front_of pool (replicate n pool ++ next ∷ rest) ≡ n = omega (arith, front_of_one pool n (next ∷ rest), front_of_another pool next rest apart) in
+    let behind : stretches_behind pool (replicate n pool ++ next ∷ rest) ≡ stretches (next ∷ rest) = behind_one pool n (next ∷ rest) ∙ behind_another pool next rest apart in
+    ap (λ k. stretch_text (pool, suc k) ++ flat_map stretch_text (stretches_behind pool (replicate n pool ++ next ∷ rest))) front ∙ ap (λ more. stretch_text (pool, suc n) ++ flat_map stretch_text more) behind
+
+stretch_last : (pool n : ℕ) → 0 < n → stretches_text (replicate n pool ++ []) ≡ stretch_text (pool, n)
+unfolding stretches_text stretches stretches_behind
+stretch_last pool zero some = absurd (omega arith)
+stretch_last pool (suc n) some =
+    let front : front_of pool (replicate n pool ++ []) ≡ n = omega (arith, front_of_one pool n []) in
+    ap (λ k. stretch_text (pool, suc k) ++ flat_map stretch_text (stretches_behind pool (replicate n pool ++ []))) front ∙ ap (λ more. stretch_text (pool, suc n) ++ flat_map stretch_text more) (behind_one pool n []) ∙ append-nil (stretch_text (pool, suc n))
+
+-- ---- the pools of tickets up to the end, one by one
+
+module _ (slots : List (Option (DescriptorSet RawSet))) (ticket end : ℕ) where
+  no_pool : end ≤ ticket → pools_from slots ticket (end - ticket) ≡ []
+  no_pool done =
+      let none : end - ticket ≡ 0 = omega arith in
+      ap (pools_from slots ticket) none
+
+  next_pool : ticket < end → pools_from slots ticket (end - ticket) ≡ pool_at slots ticket ∷ pools_from slots (ticket + 1) (end - (ticket + 1))
+  next_pool more =
+      let left : end - ticket ≡ suc (end - (ticket + 1)) = omega arith in
+      ap (pools_from slots ticket) left
+
+  -- the next ticket's pool is that of the stretch
+  pub stretch_grows : (pool n : ℕ) → ticket < end → pool_at slots ticket ≡ pool → replicate (n + 1) pool ++ pools_from slots (ticket + 1) (end - (ticket + 1)) ≡ replicate n pool ++ pools_from slots ticket (end - ticket)
+  stretch_grows pool n more same =
+      let rest : List ℕ = pools_from slots (ticket + 1) (end - (ticket + 1)) in
+      ap (λ l. l ++ rest) (sym (replicate_more n pool)) ∙ append_assoc (replicate n pool) (pool ∷ []) rest ∙ ap (λ p. replicate n pool ++ p ∷ rest) (sym same) ∙ ap (λ l. replicate n pool ++ l) (sym (next_pool more))
+
+  -- the next ticket's pool is another
+  pub stretch_ends : (pool n next : ℕ) → ticket < end → 0 < n → pool_at slots ticket ≡ next → next ≢ pool
+      → stretch_text (pool, n) ++ stretches_text (replicate 1 next ++ pools_from slots (ticket + 1) (end - (ticket + 1))) ≡ stretches_text (replicate n pool ++ pools_from slots ticket (end - ticket))
+  stretch_ends pool n next more some is apart =
+      let rest : List ℕ = pools_from slots (ticket + 1) (end - (ticket + 1)) in
+      sym (stretch_over pool n next rest some apart) ∙ ap (λ p. stretches_text (replicate n pool ++ p ∷ rest)) (sym is) ∙ ap (λ l. stretches_text (replicate n pool ++ l)) (sym (next_pool more))
+
+  -- no ticket is left
+  pub stretch_is_last : (pool n : ℕ) → end ≤ ticket → 0 < n → stretch_text (pool, n) ≡ stretches_text (replicate n pool ++ pools_from slots ticket (end - ticket))
+  stretch_is_last pool n done some = sym (stretch_last pool n some) ∙ ap (λ l. stretches_text (replicate n pool ++ l)) (sym (no_pool done))
+
+-- the answer to a request for some sets, part by part
+pub text_of_some : (slots : List (Option (DescriptorSet RawSet))) (first count : ℕ) → 0 < count
+    → sets_text slots first count ≡ range_text first (first + count - 1) ++ stretches_text (pools_from slots first count) ++ codes "\n"
+text_of_some slots first zero some = absurd (omega arith)
+text_of_some slots first (suc more) some =
+    let last : first + more ≡ first + suc more - 1 = omega arith in
+    ap (λ l. range_text first l ++ stretches_text (pools_from slots first (suc more)) ++ codes "\n") last
+
+-- ---- lengths
+
+digits_at_most_by : (n : ℕ) → 0 < n → n < 2 ^ 64 → (n < 10) ⊎ (10 ≤ n) → (n < 100) ⊎ (100 ≤ n) → length (decimal n) ≤ n
+digits_at_most_by n some fits (inl one) two = omega (arith, length-decimal-le 1 n (omega arith) (omega arith) fits)
+digits_at_most_by n some fits (inr one) (inl two) = omega (arith, length-decimal-le 2 n (omega arith) (omega arith) fits)
+digits_at_most_by n some fits (inr one) (inr two) = omega (arith, length-decimal-le 20 n (omega arith) (omega arith) fits)
+
+-- a number above 0 has no more digits than it says
+digits_at_most : (n : ℕ) → 0 < n → n < 2 ^ 64 → length (decimal n) ≤ n
+digits_at_most n some fits = digits_at_most_by n some fits (cases_lt n 10) (cases_lt n 100)
+
+-- a stretch of one set has at most 23 bytes, and each further set adds at most one
+pub length_of_stretch : (pool n : ℕ) → 0 < n → pool < 2 ^ 64 → n < 2 ^ 64 → length (stretch_text (pool, n)) ≤ 22 + n
+length_of_stretch pool n some named fits =
+    let name : length (decimal pool) ≤ 20 = length-decimal-le 20 pool (omega arith) (omega arith) named in
+    let sum : length (decimal pool ++ 42 ∷ decimal n) ≡ length (decimal pool) + suc (length (decimal n)) = length-append (decimal pool) (42 ∷ decimal n) in
+    omega (arith, digits_at_most n some fits)
+
+pub length_of_range : (first last : ℕ) → first < 2 ^ 64 → last < 2 ^ 64 → length (range_text first last) ≤ 47
+length_of_range first last from to =
+    let low : length (decimal first) ≤ 20 = length-decimal-le 20 first (omega arith) (omega arith) from in
+    let high : length (decimal last) ≤ 20 = length-decimal-le 20 last (omega arith) (omega arith) to in
+    let sum : length ((decimal first ++ 45 ∷ decimal last) ++ 58 ∷ []) ≡ length (decimal first) + suc (length (decimal last)) + 1 = length-append (decimal first ++ 45 ∷ decimal last) (58 ∷ []) ∙ ap (λ n. n + 1) (length-append (decimal first) (45 ∷ decimal last)) in
+    omega arith
+
+pub length_of_freed : (n : ℕ) → n < 2 ^ 64 → length (freed_text n) ≤ 27
+length_of_freed n fits =
+    let number : length (decimal n) ≤ 20 = length-decimal-le 20 n (omega arith) (omega arith) fits in
+    let sum : length (decimal n ++ 10 ∷ []) ≡ length (decimal n) + 1 = length-append (decimal n) (10 ∷ []) in
+    omega arith

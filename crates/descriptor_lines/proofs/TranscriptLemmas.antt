@@ -1,0 +1,96 @@
+-- How far a run of lines has come, and one line more.
+use Rattle.std.proofs.Common.{◌≡◌, ℕ, ◌+◌, ◌<◌, ◌≤◌, ◌⊎◌, inl, inr, List, [], ◌∷◌, ◌++◌, Option, None, Some, IfSome, length, append_assoc, append-nil, subst, refl, sym, ap, ◌∙◌, arith}
+use Rattle.std.specs.Bool.{⊤}
+use Rattle.std.specs.List.{position_or_len, slice_split}
+use Rattle.std.proofs.lemmas.Bool.{cases_lt}
+use Rattle.std.proofs.lemmas.List.Splits.{length-slice_split, slice_split_first, slice_split_none}
+use Rattle.std.proofs.lemmas.List.Sums.{fails_before_first, prefix_len-le-length}
+use Rattle.descriptor_words.specs.Words.{is_byte}
+use Rattle.descriptor_lines.specs.Lines.{HasEnd, LosesLine, after_end, before_end, lines_of, without_empty_last}
+use Rattle.descriptor_lines.specs.Transcripts.{IsAnswered, Reaches}
+use Rattle.descriptor_lines.specs.declared.program.Program.{Program}
+use Rattle.descriptor_lines.proofs.LineLemmas.{after_end-whole, before_end-whole}
+
+-- ---- the lines of bytes
+
+first_piece : (piece : List ℕ) (pieces : List (List ℕ)) → 0 < length pieces → without_empty_last (piece ∷ pieces) ≡ piece ∷ without_empty_last pieces
+first_piece piece [] some = absurd (omega arith)
+first_piece [] (next ∷ pieces) some = refl
+first_piece (byte ∷ bytes) (next ∷ pieces) some = refl
+
+only_piece : (piece : List ℕ) → 0 < length piece → without_empty_last (piece ∷ []) ≡ piece ∷ []
+only_piece [] some = absurd (omega arith)
+only_piece (byte ∷ bytes) some = refl
+
+pub no_lines : lines_of [] ≡ []
+unfolding lines_of
+no_lines =
+    refl
+
+-- bytes without an end of a line are one line
+one_line : (bytes : List ℕ) → 0 < length bytes → length bytes ≤ position_or_len (is_byte 10) bytes → lines_of bytes ≡ bytes ∷ []
+unfolding lines_of
+one_line bytes some none =
+    let whole : slice_split (is_byte 10) bytes ≡ bytes ∷ [] = slice_split_none (is_byte 10) bytes (λ k d inside. fails_before_first (is_byte 10) bytes k d (omega arith)) in
+    ap without_empty_last whole ∙ only_piece bytes some
+
+-- the first line ends
+ended_line : (bytes : List ℕ) → HasEnd bytes → lines_of bytes ≡ before_end bytes ∷ lines_of (after_end bytes)
+unfolding lines_of
+ended_line bytes ends =
+    let others : List (List ℕ) = slice_split (is_byte 10) (after_end bytes) in
+    ap without_empty_last (slice_split_first (is_byte 10) bytes 0 ends) ∙ first_piece (before_end bytes) others (omega (arith, length-slice_split (is_byte 10) (after_end bytes)))
+
+lines_split_by : (bytes : List ℕ) → 0 < length bytes → HasEnd bytes ⊎ (length bytes ≤ position_or_len (is_byte 10) bytes) → lines_of bytes ≡ before_end bytes ∷ lines_of (after_end bytes)
+lines_split_by bytes some (inl ends) = ended_line bytes ends
+lines_split_by bytes some (inr none) =
+    let at_most : position_or_len (is_byte 10) bytes ≤ length bytes = prefix_len-le-length _ bytes in
+    let no_end : position_or_len (is_byte 10) bytes ≡ length bytes = omega arith in
+    let nothing : lines_of (after_end bytes) ≡ [] = ap lines_of (after_end-whole bytes no_end) ∙ no_lines in
+    one_line bytes some none ∙ ap (λ line. line ∷ []) (sym (before_end-whole bytes no_end)) ∙ ap (λ lines. before_end bytes ∷ lines) (sym nothing)
+
+-- the first line of bytes, and those behind it
+pub lines_split : (bytes : List ℕ) → 0 < length bytes → lines_of bytes ≡ before_end bytes ∷ lines_of (after_end bytes)
+lines_split bytes some = lines_split_by bytes some (cases_lt _ _)
+
+-- ---- one line more
+
+pub here : (number : ℕ) (lines : List (List ℕ)) (p : Program) → Reaches number lines p [] number lines p
+here number [] p = record { nothing = refl; number = refl; all = refl; program = refl }
+here number (line ∷ lines) p = inl (record { nothing = refl; number = refl; all = refl; program = refl })
+
+-- where a run has come to, it goes on with the next line
+pub goes_on : (number : ℕ) (lines : List (List ℕ)) (old : Program) (text : List ℕ) (next : ℕ) (line : List ℕ) (left : List (List ℕ)) (new : Program) (answer : List ℕ) (after : Program) → Reaches number lines old text next (line ∷ left) new → IsAnswered line answer new after → Reaches number lines old (text ++ answer) (next + 1) left after
+goes_on number [] old text next line left new answer after at answered = let lines_is : line ∷ left ≡ [] = at.all in absurd (cc)
+goes_on number (first ∷ lines) old text next line left new answer after (inl at) answered =
+    let lines_is : line ∷ left ≡ first ∷ lines = at.all in
+    let same : line ≡ first = cc in
+    let others : left ≡ lines = cc in
+    let first_answered : IsAnswered first answer old after = subst (λ l. IsAnswered l answer old after) same (subst (λ p. IsAnswered line answer p after) at.program answered) in
+    inr (answer, [], after, first_answered, rw at.nothing (sym (append-nil answer)), rw (at.number, others) (here (number + 1) lines after))
+goes_on number (first ∷ lines) old text next line left new answer after (inr (said, answers, p, was, is, reaches)) answered =
+    inr (said, answers ++ answer, p, was, ap (λ l. l ++ answer) is ∙ append_assoc said answers answer, goes_on (number + 1) lines p answers next line left new answer after reaches answered)
+
+-- ---- known bytes
+
+-- how far a run over known bytes has come, where these are left
+abbrev pub Stands : Option (List ℕ) → Program → List ℕ → ℕ → Option (List ℕ) → Program → Type 0
+Stands None old text next left new = ⊤
+Stands (Some bytes) old text next None new = ⊥
+Stands (Some bytes) old text next (Some left) new = Reaches 1 (lines_of bytes) old text next (lines_of left) new
+
+pub stands_first : (known : Option (List ℕ)) (p : Program) → Stands known p [] 1 known p
+stands_first None p = tt
+stands_first (Some bytes) p = here 1 (lines_of bytes) p
+
+-- the first line of known bytes
+abbrev pub IsFirstOf : List ℕ → Option (List ℕ) → Type 0
+IsFirstOf line known = IfSome known (λ bytes. line ≡ before_end bytes)
+
+pub stands_next : (known left rest : Option (List ℕ)) (old p new : Program) (text answer line : List ℕ) (next : ℕ) → Stands known old text next left p → IsFirstOf line left → LosesLine left rest → IsAnswered line answer p new → Stands known old (text ++ answer) (next + 1) rest new
+stands_next None left rest old p new text answer line next at first loses answered = tt
+stands_next (Some bytes) None rest old p new text answer line next at first loses answered = absurd at
+stands_next (Some bytes) (Some left) None old p new text answer line next at first loses answered = absurd loses
+stands_next (Some bytes) (Some left) (Some rest) old p new text answer line next at first loses answered =
+    let split : lines_of left ≡ line ∷ lines_of rest = lines_split left loses.0 ∙ ap (λ l. l ∷ lines_of (after_end left)) (sym first) ∙ ap (λ l. line ∷ lines_of l) (sym loses.1) in
+    goes_on 1 (lines_of bytes) old text next line (lines_of rest) p answer new (subst (λ lines. Reaches 1 (lines_of bytes) old text next lines p) split at) answered

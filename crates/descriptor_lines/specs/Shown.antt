@@ -1,0 +1,44 @@
+-- What `show` says.
+use Rattle.std.specs.Prelude.{ℕ, ◌-◌, ◌^◌, List, ◌++◌, length, map, min}
+use Rattle.std.specs.List.{enumerate_from, flat_map}
+use Rattle.gpu_descriptor_types.specs.Ledger.{Counters}
+use Rattle.gpu_descriptor.specs.Caller.States.{marked_load_of}
+use Rattle.gpu_descriptor.specs.Caller.Values.{Kept, Row}
+use Rattle.gpu_descriptor.specs.Caller.Views.{first_at, pools_at}
+use Rattle.gpu_descriptor.specs.Model.Books.{Key}
+use Rattle.gpu_descriptor.specs.declared.view.PoolView.{PoolView}
+use Rattle.descriptor_script.specs.Scripted.Device.{ledger_of}
+use Rattle.descriptor_script.specs.Sessions.Session.{allocator_of, sets_of}
+use Rattle.descriptor_script.specs.Sessions.Tickets.{held_sets}
+use Rattle.descriptor_script.specs.declared.raw.RawPool.{RawPool}
+use Rattle.descriptor_lines.specs.Answers.{device_answer, held_answer, pool_answer}
+use Rattle.descriptor_lines.specs.FirstLayouts.{first_layouts, key_of}
+use Rattle.descriptor_lines.specs.LayoutTable.{layouts_in}
+use Rattle.descriptor_lines.specs.declared.layouts.Layout.{Layout}
+use Rattle.descriptor_lines.specs.declared.program.Program.{Program}
+
+-- a pool with its number, as readers see it
+abbrev pub view_of : ℕ × Kept RawPool → PoolView
+view_of (number, pool) = record { number = number; allocated = pool.allocated; available = pool.free }
+
+-- the pools of a key, oldest first
+abbrev pub views_of : List (Row RawPool) → Key → List PoolView
+views_of rows key = map view_of (enumerate_from (first_at rows key) (pools_at rows key))
+
+-- the lines of the pools for a layout's sets, under the layout's name
+unfoldable pub pools_answer : List (Row RawPool) → List ℕ × Layout → List ℕ
+pools_answer rows (name, layout) = flat_map (pool_answer name) (views_of rows (key_of layout))
+
+-- a counter as readers see it, up to the greatest `u64`
+abbrev pub shown : ℕ → ℕ
+shown count = min count (2 ^ 64 - 1)
+
+-- the line of the calls that a device had
+abbrev pub calls_answer : Counters → List ℕ
+calls_answer n = device_answer (shown n.created) (shown n.destroyed) (shown n.asked) (shown n.released)
+
+-- what `show` says: the pools of each layout that is the first with its counts and mark, the calls that the device had, and the sets that are out
+unfoldable pub show_answer : Program → List ℕ
+show_answer p =
+    let allocator = allocator_of p.session in
+    flat_map (pools_answer allocator.table) (first_layouts (layouts_in p.layouts)) ++ calls_answer (ledger_of p.device).counters ++ held_answer (length (held_sets (sets_of p.session))) (marked_load_of allocator)
