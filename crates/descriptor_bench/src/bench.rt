@@ -17,7 +17,8 @@ use std::alloc::Global;
 pub struct Bench {
     pub allocator: DescriptorAllocator<u64, u64>,
     pub device: CountingDevice,
-    ghost agree: { Agrees name_of allocator (ledger_of device) } by { Agree-prop (state_of name_of allocator (ledger_of device)) },
+    ghost agree: { Agrees name_of allocator (ledger_of device) } by { Agree-prop
+        (state_of name_of allocator (ledger_of device)) },
 }
 
 impl Bench {

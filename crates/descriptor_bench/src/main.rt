@@ -1,8 +1,8 @@
 //! Times workloads of the allocator over a device that only counts.
 //!
 //! Arguments: a workload, or `all`, and a number N. For each workload it writes its name, N, the
-//! number of operations and a checksum of the device's calls to standard output, and the time of all
-//! operations to standard error.
+//! number of operations and a checksum of the device's calls to standard output, and the time of
+//! all operations to standard error.
 #![tactic(auto)]
 
 mod act;

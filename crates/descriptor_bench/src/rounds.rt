@@ -60,7 +60,8 @@ impl Bench {
         times: u32,
         held: &mut Vec<DescriptorSet<u64>>,
     ) -> Result<(), AllocationError>
-        ensures { OnOk result ((taken : List (GivenSet ℕ)) × (held.new.items ≡ held.old.items ++ taken)
+        ensures { OnOk result ((taken : List (GivenSet ℕ)) × (held.new.items
+            ≡ held.old.items ++ taken)
             × AreOutBesides (items_of name_of taken) (state_in self.old) (state_in self.new)) }
     {
         for _ in 0..times {

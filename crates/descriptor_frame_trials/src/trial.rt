@@ -26,9 +26,11 @@ pub struct Trial {
     pub manager: FrameManager<RawPool, RawSet>,
     pub in_use: VecDeque<DescriptorSet<RawSet>>,
     pub counts: DescriptorTotalCount,
-    ghost agree: { Agrees pool_id (allocator_of manager) (ledger_of device) } by { Agree-prop (state_of pool_id (allocator_of manager) (ledger_of device)) },
+    ghost agree: { Agrees pool_id (allocator_of manager) (ledger_of device) } by { Agree-prop
+        (state_of pool_id (allocator_of manager) (ledger_of device)) },
     ghost retired: { AreRetiredOut pool_id set_id manager (ledger_of device) },
-    ghost used: { AreInUse pool_id set_id (items_of set_id in_use.items) manager (ledger_of device) },
+    ghost used: { AreInUse pool_id set_id (items_of set_id in_use.items) manager
+        (ledger_of device) },
 }
 
 /// What became of a set that was to be retired, with its name if it came back.

@@ -1,5 +1,6 @@
 //! The manager: an allocator, and the sets that wait for the end of their frame.
-ghost use Rattle.std.specs.Prelude.{◌≡◌, ℕ, ◌<◌, ◌↔◌, [], ◌∷◌, ◌++◌, length, IfErr, IsErrOf, OnOk, OnErr};
+ghost use Rattle.std.specs.Prelude.{◌≡◌, ℕ, ◌<◌, ◌↔◌, [], ◌∷◌, ◌++◌, length, IfErr, IsErrOf, OnOk};
+ghost use Rattle.std.specs.Prelude.{OnErr};
 ghost use Rattle.gpu_descriptor_types.specs.Ledger.{Ledger};
 ghost use Rattle.gpu_descriptor.specs.Model.Books.{AddsUp, HasDistinctKeys, books_of};
 ghost use Rattle.gpu_descriptor.specs.Model.Load.{sets_out};
@@ -33,7 +34,8 @@ pub struct FrameManager<P, S> {
 }
 
 impl<P, S> FrameManager<P, S> {
-    ghost use Rattle.descriptor_frames.specs.Frames.{AreInUse, AreRetiredOut, LeavesUse, allocator_of, greatest_of, retired_of};
+    ghost use Rattle.descriptor_frames.specs.Frames.{AreInUse, AreRetiredOut, LeavesUse};
+    ghost use Rattle.descriptor_frames.specs.Frames.{allocator_of, greatest_of, retired_of};
 
     /// A manager without sets, whose allocator has this limit on update-after-bind descriptors. It
     /// takes no memory.

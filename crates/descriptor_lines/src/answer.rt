@@ -1,7 +1,7 @@
 //! What the output says: an answer or a fault for a line.
 ghost use Rattle.std.specs.Prelude.{◌≡◌, ◌++◌, OnOk, sum, string_bytes};
 ghost use Rattle.gpu_descriptor_types.specs.Counts.{kinds};
-ghost use Rattle.descriptor_lines.specs.Answers.{limit_answer as limit_answer_of, layout_answer as layout_answer_of, size_answer as size_answer_of, kind_answer as kind_answer_of, kinds_answer as kinds_answer_of, script_answer as script_answer_of, pool_answer as pool_answer_of, device_answer as device_answer_of, held_answer as held_answer_of, fault_line as fault_line_of};
+ghost use Rattle.descriptor_lines.specs.Answers as says;
 
 mod reply;
 mod room;
@@ -18,7 +18,7 @@ pub const NO_MEMORY: &str = "refused: no memory\n";
 /// The answer of `limit`.
 pub fn limit_answer(answer: &mut String, max: u32) -> Result<(), AllocError>
     ensures { OnOk result (string_bytes answer.new ≡ string_bytes answer.old
-        ++ limit_answer_of max) }
+        ++ says.limit_answer max) }
 {
     writeln!(answer, "limit {max}")
 }
@@ -30,7 +30,7 @@ pub fn layout_answer(
     counts: &DescriptorTotalCount,
 ) -> Result<(), AllocError>
     ensures { OnOk result (string_bytes answer.new ≡ string_bytes answer.old
-        ++ layout_answer_of name.now (sum (kinds counts.now))) }
+        ++ says.layout_answer name.now (sum (kinds counts.now))) }
 {
     let total = counts.total();
     writeln!(answer, "layout {name} total {total}")
@@ -43,7 +43,7 @@ pub fn size_answer(
     sets: u32,
 ) -> Result<(), AllocError>
     ensures { OnOk result (string_bytes answer.new ≡ string_bytes answer.old
-        ++ size_answer_of sets (kinds counts.now)) }
+        ++ says.size_answer sets (kinds counts.now)) }
 {
     write!(answer, "size {sets}")?;
     kinds_answer(answer, &counts.to_array())?;
@@ -53,7 +53,7 @@ pub fn size_answer(
 /// The kinds of which the counts are not 0, in the order of the fields.
 fn kinds_answer(answer: &mut String, counts: &[u32; 14]) -> Result<(), AllocError>
     ensures { OnOk result (string_bytes answer.new ≡ string_bytes answer.old
-        ++ kinds_answer_of counts.now) }
+        ++ says.kinds_answer counts.now) }
 {
     for (place, count) in counts.iter().enumerate() {
         kind_answer(answer, kind_name(place), *count)?;
@@ -64,7 +64,7 @@ fn kinds_answer(answer: &mut String, counts: &[u32; 14]) -> Result<(), AllocErro
 /// A kind with its count, where that is not 0.
 fn kind_answer(answer: &mut String, name: &str, count: u32) -> Result<(), AllocError>
     ensures { OnOk result (string_bytes answer.new ≡ string_bytes answer.old
-        ++ kind_answer_of (name.now, count)) }
+        ++ says.kind_answer (name.now, count)) }
 {
     if count == 0 {
         return Ok(());
@@ -75,7 +75,7 @@ fn kind_answer(answer: &mut String, name: &str, count: u32) -> Result<(), AllocE
 /// The answer of `script`, with the number of its words.
 pub fn script_answer(answer: &mut String, words: usize) -> Result<(), AllocError>
     ensures { OnOk result (string_bytes answer.new ≡ string_bytes answer.old
-        ++ script_answer_of words) }
+        ++ says.script_answer words) }
 {
     writeln!(answer, "script {words}")
 }
@@ -83,7 +83,7 @@ pub fn script_answer(answer: &mut String, words: usize) -> Result<(), AllocError
 /// The line of `show` for a pool of the layout of this name.
 pub fn pool_answer(answer: &mut String, name: &str, pool: &PoolView) -> Result<(), AllocError>
     ensures { OnOk result (string_bytes answer.new ≡ string_bytes answer.old
-        ++ pool_answer_of name.now pool.now) }
+        ++ says.pool_answer name.now pool.now) }
 {
     let PoolView {
         number,
@@ -102,7 +102,7 @@ pub fn device_answer(
     released: u64,
 ) -> Result<(), AllocError>
     ensures { OnOk result (string_bytes answer.new ≡ string_bytes answer.old
-        ++ device_answer_of created destroyed asked released) }
+        ++ says.device_answer created destroyed asked released) }
 {
     writeln!(
         answer,
@@ -113,7 +113,7 @@ pub fn device_answer(
 /// The line of `show` for the sets that are out, and the descriptors of those that are marked.
 pub fn held_answer(answer: &mut String, held: u64, marked: u32) -> Result<(), AllocError>
     ensures { OnOk result (string_bytes answer.new ≡ string_bytes answer.old
-        ++ held_answer_of held marked) }
+        ++ says.held_answer held marked) }
 {
     writeln!(answer, "held {held} marked {marked}")
 }
@@ -121,7 +121,7 @@ pub fn held_answer(answer: &mut String, held: u64, marked: u32) -> Result<(), Al
 /// The last line of the output of a run that ended at a fault. Lines are numbered from 1.
 pub fn fault_line(answer: &mut String, number: u64, fault: Fault) -> Result<(), AllocError>
     ensures { OnOk result (string_bytes answer.new ≡ string_bytes answer.old
-        ++ fault_line_of number fault) }
+        ++ says.fault_line number fault) }
 {
     let words = fault.words();
     writeln!(answer, "line {number}: {words}")

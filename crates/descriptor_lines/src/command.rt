@@ -1,6 +1,9 @@
 //! The commands that lines give.
-ghost use Rattle.std.specs.Prelude.{◌≡◌, ◌↔◌, IsTrue, IsFalse, IfOk, IfErr, IfSome, OnOk, Ok, None, []};
-ghost use Rattle.descriptor_lines.specs.Arguments.{GiveCommand, IsCommandOf, IsFaultOfAlloc, IsFaultOfEnd, IsFaultOfLimit, IsFaultOfSize, IsRefusalOf, IsRefusalOfWords};
+ghost use Rattle.std.specs.Prelude.{◌≡◌, ◌↔◌, IsTrue, IsFalse, IfOk, IfErr, IfSome, OnOk, Ok, None};
+ghost use Rattle.std.specs.Prelude.{[]};
+ghost use Rattle.descriptor_lines.specs.Arguments.{GiveCommand, IsCommandOf, IsFaultOfAlloc};
+ghost use Rattle.descriptor_lines.specs.Arguments.{IsFaultOfEnd, IsFaultOfLimit, IsFaultOfSize};
+ghost use Rattle.descriptor_lines.specs.Arguments.{IsRefusalOf, IsRefusalOfWords};
 ghost use Rattle.descriptor_lines.specs.Commands.{IsInTime, IsNumberOf, IsRunnable};
 ghost use Rattle.descriptor_words.specs.Fault.{IsFaultAnd};
 ghost use Rattle.descriptor_lines.specs.LayoutTable.{layout_count};

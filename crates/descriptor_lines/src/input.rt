@@ -1,8 +1,10 @@
 //! Lines out of a reader.
-ghost use Rattle.std.specs.Prelude.{◌≡◌, ◌+◌, ◌-◌, ◌<◌, ◌≤◌, [], IfOk, IfSome, IfErr, IfNone, OnErr, OnOk, Err, IsFalse, length, vec_len, slice_range};
+ghost use Rattle.std.specs.Prelude.{◌≡◌, ◌+◌, ◌-◌, ◌<◌, ◌≤◌, [], IfOk, IfSome, IfErr, IfNone};
+ghost use Rattle.std.specs.Prelude.{OnErr, OnOk, Err, IsFalse, length, vec_len, slice_range};
 ghost use Rattle.std.specs.Io.BufRead.{strip_last};
 ghost use Rattle.std.specs.Io.KnownBytes.{IsAtEnd, Keeps};
-ghost use Rattle.descriptor_lines.specs.Lines.{HasEnd, HasNoEnd, LosesLine, BeginsTooLong, before_end, after_end};
+ghost use Rattle.descriptor_lines.specs.Lines.{HasEnd, HasNoEnd, LosesLine, BeginsTooLong};
+ghost use Rattle.descriptor_lines.specs.Lines.{before_end, after_end};
 
 use descriptor_words::first_of;
 use std::alloc::{AllocError, Global};
@@ -79,9 +81,11 @@ impl LineBuffer {
 
         // Where the reader's bytes are known.
         ensures line { IfOk result (λ span. IfSome span (λ span.
-            IfSome (unread self.old (R.remaining input.old)) (λ bytes. bytes_at self.new span ≡ before_end bytes))) }
+            IfSome (unread self.old (R.remaining input.old)) (λ bytes. bytes_at self.new span
+            ≡ before_end bytes))) }
         ensures rest { IfOk result (λ span. IfSome span (λ _.
-            LosesLine (unread self.old (R.remaining input.old)) (unread self.new (R.remaining input.new)))) }
+            LosesLine (unread self.old (R.remaining input.old)) (unread self.new
+            (R.remaining input.new)))) }
         ensures none { IfOk result (λ span. IfNone span
             (IsAtEnd (unread self.old (R.remaining input.old)))) }
         ensures end { IfOk result (λ span. IfNone span (SeesEndOf self.old (R.remaining input.old)

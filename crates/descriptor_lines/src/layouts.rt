@@ -1,5 +1,6 @@
 //! The layouts that the lines made, by name.
-ghost use Rattle.std.specs.Prelude.{◌≡◌, ◌+◌, ◌<◌, ◌≤◌, ◌↔◌, ◌++◌, ◌∷◌, [], IsTrue, IfOk, IfSome, OnOk, None, is_some, string_bytes};
+ghost use Rattle.std.specs.Prelude.{◌≡◌, ◌+◌, ◌<◌, ◌≤◌, ◌↔◌, ◌++◌, ◌∷◌, [], IsTrue, IfOk, IfSome};
+ghost use Rattle.std.specs.Prelude.{OnOk, None, is_some, string_bytes};
 ghost use Rattle.descriptor_lines.specs.FirstLayouts.{TellFirsts};
 
 use gpu_descriptor_types::DescriptorTotalCount;

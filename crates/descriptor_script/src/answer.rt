@@ -1,6 +1,7 @@
 //! The words of a script.
 ghost use Rattle.std.specs.Prelude.{◌≡◌};
-ghost use Rattle.descriptor_script.specs.Scripted.Script.{alloc_error as alloc_error_of, create_error as create_error_of};
+ghost use Rattle.descriptor_script.specs.Scripted.Script.{alloc_error as alloc_error_of};
+ghost use Rattle.descriptor_script.specs.Scripted.Script.{create_error as create_error_of};
 
 use gpu_descriptor_types::{CreatePoolError, DeviceAllocationError};
 

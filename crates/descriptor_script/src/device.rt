@@ -1,12 +1,16 @@
 //! The scripted device.
-ghost use Rattle.std.specs.Prelude.{◌≡◌, ℕ, ◌+◌, ◌-◌, ◌<◌, ◌≤◌, ◌^◌, ◌++◌, min, map, None, IfOk, IfErr, OnOk, OnErr};
+ghost use Rattle.std.specs.Prelude.{◌≡◌, ℕ, ◌+◌, ◌-◌, ◌<◌, ◌≤◌, ◌^◌, ◌++◌, min, map, None, IfOk};
+ghost use Rattle.std.specs.Prelude.{IfErr, OnOk, OnErr};
 ghost use Rattle.std.specs.Iterator.{IsFinite, HoldsAlong};
 ghost use Rattle.gpu_descriptor_types.specs.Counts.{kinds};
 ghost use Rattle.gpu_descriptor_types.specs.Flags.{bits};
 ghost use Rattle.gpu_descriptor_types.specs.Layouts.{layout, left};
-ghost use Rattle.gpu_descriptor_types.specs.Ledger.{AreLive, HasNoSets, HasRoom, Puts, PutsNone, Releases, after_create, after_destroy, after_no_create};
+ghost use Rattle.gpu_descriptor_types.specs.Ledger.{AreLive, HasNoSets, HasRoom, Puts, PutsNone};
+ghost use Rattle.gpu_descriptor_types.specs.Ledger.{Releases, after_create, after_destroy};
+ghost use Rattle.gpu_descriptor_types.specs.Ledger.{after_no_create};
 ghost use Rattle.descriptor_script.specs.Scripted.Raw.{pool_id, raw_sets, set_id};
-ghost use Rattle.descriptor_script.specs.Scripted.Script.{alloc_error, create_error, next_word, rest_words};
+ghost use Rattle.descriptor_script.specs.Scripted.Script.{alloc_error, create_error, next_word};
+ghost use Rattle.descriptor_script.specs.Scripted.Script.{rest_words};
 
 mod wrapped;
 
@@ -38,7 +42,8 @@ pub struct ScriptedDevice {
 }
 
 impl ScriptedDevice {
-    ghost use Rattle.descriptor_script.specs.Scripted.Device.{empty_ledger, ledger_of, names_given, script_of};
+    ghost use Rattle.descriptor_script.specs.Scripted.Device.{empty_ledger, ledger_of, names_given};
+    ghost use Rattle.descriptor_script.specs.Scripted.Device.{script_of};
 
     /// A device without pools, which begins with this script.
     pub fn new(alloc: Global, script: Vec<Answer>) -> Self

@@ -5,7 +5,8 @@ ghost use Rattle.std.specs.Iterator.{IsFinite, HoldsAlong};
 ghost use Rattle.indexmap.specs.IndexMap.{get, spare};
 ghost use Rattle.gpu_descriptor_types.specs.Layouts.{layout, left};
 ghost use Rattle.descriptor_script.specs.Scripted.Raw.{raw_sets, set_id};
-ghost use Rattle.descriptor_script.specs.Inner.Live.{HasNamed, TakesBack, entries_named, live_sets_of};
+ghost use Rattle.descriptor_script.specs.Inner.Live.{HasNamed, TakesBack, entries_named};
+ghost use Rattle.descriptor_script.specs.Inner.Live.{live_sets_of};
 
 use crate::raw::{RawSet, ScriptLayout};
 use gpu_descriptor_types::{

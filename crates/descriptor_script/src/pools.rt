@@ -1,5 +1,6 @@
 //! The live pools of a device, by name.
-ghost use Rattle.std.specs.Prelude.{◌≡◌, ℕ, ◌+◌, ◌-◌, ◌<◌, ◌≤◌, ◌^◌, map, Some, None, IsSome, IfOk, IfSome, OnOk, OnErr, nat_eq};
+ghost use Rattle.std.specs.Prelude.{◌≡◌, ℕ, ◌+◌, ◌-◌, ◌<◌, ◌≤◌, ◌^◌, map, Some, None, IsSome, IfOk};
+ghost use Rattle.std.specs.Prelude.{IfSome, OnOk, OnErr, nat_eq};
 ghost use Rattle.std.specs.Iterator.{IsFinite, HoldsAlong};
 ghost use Rattle.std.specs.Map.{update};
 ghost use Rattle.gpu_descriptor_types.specs.Counts.{kinds};
@@ -34,7 +35,8 @@ pub struct Pools {
 }
 
 impl Pools {
-    ghost use Rattle.descriptor_script.specs.Inner.Pools.{Grants, TakesBack, IsNew, IsSame, IsSameSink, names_of, pools_of};
+    ghost use Rattle.descriptor_script.specs.Inner.Pools.{Grants, TakesBack, IsNew, IsSame};
+    ghost use Rattle.descriptor_script.specs.Inner.Pools.{IsSameSink, names_of, pools_of};
 
     pub fn new(alloc: Global) -> Self
         ensures { IsNew result }

@@ -36,7 +36,8 @@ pub struct Session<L, P, S> {
 }
 
 impl<L, P, S> Session<L, P, S> {
-    ghost use Rattle.descriptor_script.specs.Sessions.Session.{allocator_of, known, layouts_of, sets_of};
+    ghost use Rattle.descriptor_script.specs.Sessions.Session.{allocator_of, known, layouts_of};
+    ghost use Rattle.descriptor_script.specs.Sessions.Session.{sets_of};
 
     /// A session without layouts and sets, whose allocator has this limit on update-after-bind
     /// descriptors. It takes no memory.

@@ -1,7 +1,9 @@
 //! Sets by ticket.
-ghost use Rattle.std.specs.Prelude.{◌≡◌, ◌++◌, ◌∷◌, ◌<◌, ◌↔◌, [], length, map, slice_set, Some, None, IsSome, IsTrue, OnOk, OnErr, vec_len};
+ghost use Rattle.std.specs.Prelude.{◌≡◌, ◌++◌, ◌∷◌, ◌<◌, ◌↔◌, [], length, map, slice_set, Some};
+ghost use Rattle.std.specs.Prelude.{None, IsSome, IsTrue, OnOk, OnErr, vec_len};
 ghost use Rattle.std.specs.Option.{option_copied};
-ghost use Rattle.descriptor_script.specs.Sessions.Tickets.{AreClear, AreHeldOnce, held_sets, set_at};
+ghost use Rattle.descriptor_script.specs.Sessions.Tickets.{AreClear, AreHeldOnce, held_sets};
+ghost use Rattle.descriptor_script.specs.Sessions.Tickets.{set_at};
 
 use crate::marks::{clear_each, mark_each};
 use gpu_descriptor::DescriptorSet;

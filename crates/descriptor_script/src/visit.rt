@@ -1,8 +1,9 @@
-//! A visit to a device: of an allocator that is made, used and cleaned up nothing is left there, once
-//! all its sets are free.
+//! A visit to a device: of an allocator that is made, used and cleaned up nothing is left there,
+//! once all its sets are free.
 ghost use Rattle.std.specs.Prelude.{◌≡◌, [], IfOk};
 ghost use Rattle.gpu_descriptor.specs.Caller.States.{Agrees, state_of};
-ghost use Rattle.descriptor_script.specs.Sessions.Session.{AreAllHeld, AreMeant, allocator_of, layouts_of, sets_of};
+ghost use Rattle.descriptor_script.specs.Sessions.Session.{AreAllHeld, AreMeant, allocator_of};
+ghost use Rattle.descriptor_script.specs.Sessions.Session.{layouts_of, sets_of};
 ghost use Rattle.descriptor_script.specs.Sessions.SessionRun.{VisitsTo};
 ghost use Rattle.descriptor_script.specs.Sessions.Tickets.{held_sets};
 
@@ -24,8 +25,10 @@ pub fn visit<L, P: Drop, S: Drop, D: DescriptorDevice<L, P, S>>(
     requires held { AreAllHeld D.set_name (sets_of session.old)
         (state_of D.pool_name (allocator_of session.old) (D.ledger device.old)) }
     requires meant { AreMeant D.layout_counts D.layout_mark (layouts_of session.old) }
-    ensures runs { IfOk result (λ replies. VisitsTo D.pool_name D.set_name D.layout_counts D.layout_mark
-        commands.now replies.items session.old session.new (D.ledger device.old) (D.ledger device.new)) }
+    ensures runs { IfOk result
+        (λ replies. VisitsTo D.pool_name D.set_name D.layout_counts D.layout_mark
+        commands.now replies.items session.old session.new (D.ledger device.old)
+        (D.ledger device.new)) }
     ensures pools { held_sets (sets_of session.new) ≡ [] → (D.ledger device.new).pools
         ≡ (D.ledger device.old).pools }
     ensures agree { Agrees D.pool_name (allocator_of session.new) (D.ledger device.new) }

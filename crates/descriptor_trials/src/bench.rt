@@ -19,7 +19,9 @@ use std::test::Fail;
 pub struct Bench<D: DescriptorDevice<ScriptLayout, RawPool, RawSet>> {
     pub session: Session<ScriptLayout, RawPool, RawSet>,
     pub device: D,
-    ghost ready: { IsReady D.pool_name D.set_name D.layout_counts D.layout_mark session (D.ledger device) } by { IsReady-prop D.pool_name D.set_name D.layout_counts D.layout_mark session (D.ledger device) },
+    ghost ready: { IsReady D.pool_name D.set_name D.layout_counts D.layout_mark session
+        (D.ledger device) } by { IsReady-prop D.pool_name D.set_name D.layout_counts D.layout_mark
+            session (D.ledger device) },
 }
 
 /// A layout with so many samplers, and no other descriptors.

@@ -1,5 +1,5 @@
-//! Commands of a session: that each finds memory where memory is there, and what the replies and the
-//! tickets are in numbers.
+//! Commands of a session: that each finds memory where memory is there, and what the replies and
+//! the tickets are in numbers.
 use crate::acts::Act::{Allocate, Cleanup, Free, Held, Next, Tickets};
 use crate::acts::{expect_tickets, play, play_new};
 use crate::bench::{Bench, layout_of, scripted, sets};

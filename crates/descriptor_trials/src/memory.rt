@@ -1,6 +1,6 @@
-//! What a session keeps where memory is wanting, which no contract can ask for. In a plain run every
-//! growth is granted; `tools/refuse-memory` refuses each growth of each test in turn, and grants the
-//! next ones.
+//! What a session keeps where memory is wanting, which no contract can ask for. In a plain run
+//! every growth is granted; `tools/refuse-memory` refuses each growth of each test in turn, and
+//! grants the next ones.
 use crate::bench::{Bench, layout_of, scripted, sets};
 use descriptor_script::{Command, RawPool, RawSet, Reply, ScriptLayout, ScriptedDevice};
 use gpu_descriptor::{AllocationError, DescriptorDevice};

@@ -16,7 +16,8 @@ pub struct Pair {
     pub one: Session<ScriptLayout, RawPool, RawSet>,
     pub other: Session<ScriptLayout, RawPool, RawSet>,
     pub device: LogDevice,
-    ghost paired: { ArePaired one other (ledger_logged device) } by { paired-prop one other (ledger_logged device) },
+    ghost paired: { ArePaired one other (ledger_logged device) } by { paired-prop one other
+        (ledger_logged device) },
 }
 
 /// A session with a plain layout of one sampler.

@@ -1,6 +1,6 @@
 //! Whole runs of a session in which growths are refused: one alone, or each from one on. In a plain
-//! run every growth is granted; `tools/refuse-memory` refuses them in turn. It also compares how many
-//! growths two tests ask for.
+//! run every growth is granted; `tools/refuse-memory` refuses them in turn. It also compares how
+//! many growths two tests ask for.
 use crate::bench::{Bench, layout_of, scripted, sets};
 use crate::memory::{expect_counted, is_out_of_memory};
 use descriptor_script::{Answer, Command, Reply, ScriptedDevice};

@@ -1,5 +1,5 @@
-//! Sets in a caller's hands: that a raw set is read and written in its place, that an iterator which
-//! the caller keeps is emptied, and that there is a debug text.
+//! Sets in a caller's hands: that a raw set is read and written in its place, that an iterator
+//! which the caller keeps is emptied, and that there is a debug text.
 use crate::bench::layout_of;
 use descriptor_script::RawSet;
 use descriptor_uses::LogDevice;

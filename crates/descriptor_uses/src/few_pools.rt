@@ -76,11 +76,17 @@ impl DescriptorDevice<ScriptLayout, RawPool, RawSet> for FewPools {
         layouts: Layouts<'_, ScriptLayout>,
         sets: &mut K,
     ) -> Result<(), DeviceAllocationError>
-        requires fits { HasRoom (pool_id pool.old) (left layouts) (kinds (layout layouts).counts) (layout layouts).mark (few_ledger self.old) }
+        requires fits { HasRoom (pool_id pool.old) (left layouts) (kinds (layout layouts).counts)
+            (layout layouts).mark (few_ledger self.old) }
         requires room { left layouts ≤ K.room_left sets.old }
         ensures name { pool_id pool.new ≡ pool_id pool.old }
-        ensures ok { OnOk result (Puts (record { kept = K.kept; kept_as = K.kept_as; room_left = K.room_left }) set_id (pool_id pool.old) (left layouts.entry) (kinds (layout layouts.entry).counts) sets.old sets.new (few_ledger self.old) (few_ledger self.new)) }
-        ensures err { IfErr result (λ e. PutsNone (record { kept = K.kept; kept_as = K.kept_as; room_left = K.room_left }) (pool_id pool.old) e sets.old sets.new (few_ledger self.old) (few_ledger self.new)) }
+        ensures ok { OnOk result (Puts
+            (record { kept = K.kept; kept_as = K.kept_as; room_left = K.room_left }) set_id
+            (pool_id pool.old) (left layouts.entry) (kinds (layout layouts.entry).counts)
+            sets.old sets.new (few_ledger self.old) (few_ledger self.new)) }
+        ensures err { IfErr result (λ e. PutsNone
+            (record { kept = K.kept; kept_as = K.kept_as; room_left = K.room_left })
+            (pool_id pool.old) e sets.old sets.new (few_ledger self.old) (few_ledger self.new)) }
     {
         self.device.alloc_descriptor_sets(pool, layouts, sets)
     }

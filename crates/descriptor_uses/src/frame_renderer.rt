@@ -16,15 +16,18 @@ use std::marker::PhantomData;
 
 /// A device with a frame manager, and the sets that are in use, in the order in which they came.
 ///
-/// Its ghost fields are what the manager's calls ask, so only `begin` asks something: of the layout.
+/// Its ghost fields are what the manager's calls ask, so only `begin` asks something: of the
+/// layout.
 pub struct FrameRenderer<L, P, S, D: DescriptorDevice<L, P, S>> {
     device: D,
     manager: FrameManager<P, S>,
     in_use: VecDeque<DescriptorSet<S>>,
     layouts: PhantomData<L>,
-    ghost agree: { Agrees D.pool_name (allocator_of manager) (D.ledger device) } by { Agree-prop (state_of D.pool_name (allocator_of manager) (D.ledger device)) },
+    ghost agree: { Agrees D.pool_name (allocator_of manager) (D.ledger device) } by { Agree-prop
+        (state_of D.pool_name (allocator_of manager) (D.ledger device)) },
     ghost retired: { AreRetiredOut D.pool_name D.set_name manager (D.ledger device) },
-    ghost used: { AreInUse D.pool_name D.set_name (items_of D.set_name in_use.items) manager (D.ledger device) },
+    ghost used: { AreInUse D.pool_name D.set_name (items_of D.set_name in_use.items) manager
+        (D.ledger device) },
 }
 
 impl<L, P: Drop, S: Drop, D: DescriptorDevice<L, P, S>> FrameRenderer<L, P, S, D> {

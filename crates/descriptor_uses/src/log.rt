@@ -1,5 +1,6 @@
 //! The list of a device's calls, over room that is taken ahead.
-ghost use Rattle.std.specs.Prelude.{◌≡◌, ◌+◌, ◌<◌, ◌≤◌, ◌++◌, [], ◌∷◌, IsTrue, vec_len, vec_capacity};
+ghost use Rattle.std.specs.Prelude.{◌≡◌, ◌+◌, ◌<◌, ◌≤◌, ◌++◌, [], ◌∷◌, IsTrue, vec_len};
+ghost use Rattle.std.specs.Prelude.{vec_capacity};
 
 use std::alloc::Global;
 

@@ -1,13 +1,18 @@
 //! A device that answers by a script and keeps a list of the calls that it granted.
-ghost use Rattle.std.specs.Prelude.{◌≡◌, ◌+◌, ◌-◌, ◌<◌, ◌≤◌, ◌^◌, ◌++◌, [], ◌∷◌, min, map, None, IfOk, IfErr, OnOk, OnErr};
+ghost use Rattle.std.specs.Prelude.{◌≡◌, ◌+◌, ◌-◌, ◌<◌, ◌≤◌, ◌^◌, ◌++◌, [], ◌∷◌, min, map, None};
+ghost use Rattle.std.specs.Prelude.{IfOk, IfErr, OnOk, OnErr};
 ghost use Rattle.std.specs.Iterator.{IsFinite, HoldsAlong};
 ghost use Rattle.gpu_descriptor_types.specs.Counts.{kinds};
 ghost use Rattle.gpu_descriptor_types.specs.Flags.{bits};
 ghost use Rattle.gpu_descriptor_types.specs.Layouts.{layout, left};
-ghost use Rattle.gpu_descriptor_types.specs.Ledger.{AreLive, HasNoSets, HasRoom, Puts, PutsNone, Releases, after_create, after_destroy, after_no_create};
-ghost use Rattle.descriptor_script.specs.Scripted.Device.{empty_ledger, ledger_of, names_given, script_of};
+ghost use Rattle.gpu_descriptor_types.specs.Ledger.{AreLive, HasNoSets, HasRoom, Puts, PutsNone};
+ghost use Rattle.gpu_descriptor_types.specs.Ledger.{Releases, after_create, after_destroy};
+ghost use Rattle.gpu_descriptor_types.specs.Ledger.{after_no_create};
+ghost use Rattle.descriptor_script.specs.Scripted.Device.{empty_ledger, ledger_of, names_given};
+ghost use Rattle.descriptor_script.specs.Scripted.Device.{script_of};
 ghost use Rattle.descriptor_script.specs.Scripted.Raw.{pool_id, set_id};
-ghost use Rattle.descriptor_script.specs.Scripted.Script.{alloc_error, create_error, next_word, rest_words};
+ghost use Rattle.descriptor_script.specs.Scripted.Script.{alloc_error, create_error, next_word};
+ghost use Rattle.descriptor_script.specs.Scripted.Script.{rest_words};
 ghost use Rattle.descriptor_uses.specs.Owed.{IsOwed, ReleasesMany};
 ghost use Rattle.descriptor_uses.specs.Released.{ListsRelease};
 
@@ -34,7 +39,8 @@ pub struct LogDevice {
 }
 
 impl LogDevice {
-    ghost use Rattle.descriptor_uses.specs.Logged.{calls_of, ledger_logged, next_pool, script_logged};
+    ghost use Rattle.descriptor_uses.specs.Logged.{calls_of, ledger_logged, next_pool};
+    ghost use Rattle.descriptor_uses.specs.Logged.{script_logged};
 
     /// A device without pools, which grants all that its memory allows.
     pub fn new(alloc: Global) -> Self
@@ -97,7 +103,8 @@ impl LogDevice {
 
 impl DescriptorDevice<ScriptLayout, RawPool, RawSet> for LogDevice {
     ghost use Rattle.descriptor_script.specs.Inner.Finite.{scripted_finite};
-    ghost use Rattle.descriptor_uses.specs.Logged.{IsRefused, calls_of, ledger_logged, next_pool, script_logged};
+    ghost use Rattle.descriptor_uses.specs.Logged.{IsRefused, calls_of, ledger_logged, next_pool};
+    ghost use Rattle.descriptor_uses.specs.Logged.{script_logged};
 
     ghost pool_name = { pool_id };
 

@@ -42,7 +42,8 @@ pub fn borrow_set(
     }
 }
 
-/// Allocates sets, and gives them back by an iterator that it keeps. Whether that is then at its end.
+/// Allocates sets, and gives them back by an iterator that it keeps. Whether that is then at its
+/// end.
 pub fn borrow_sets(
     allocator: &mut DescriptorAllocator<RawPool, RawSet>,
     device: &mut LogDevice,

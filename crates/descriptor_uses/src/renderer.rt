@@ -17,7 +17,8 @@ pub struct Renderer<L, P, S, D: DescriptorDevice<L, P, S>> {
     pub device: D,
     pub allocator: DescriptorAllocator<P, S>,
     pub layouts: PhantomData<L>,
-    ghost agree: { Agrees D.pool_name allocator (D.ledger device) } by { Agree-prop (state_of D.pool_name allocator (D.ledger device)) },
+    ghost agree: { Agrees D.pool_name allocator (D.ledger device) } by { Agree-prop
+        (state_of D.pool_name allocator (D.ledger device)) },
 }
 
 impl<L, P: Drop, S: Drop, D: DescriptorDevice<L, P, S>> Renderer<L, P, S, D> {

@@ -20,8 +20,10 @@ pub struct Scene<L, P, S, D: DescriptorDevice<L, P, S>> {
     allocator: DescriptorAllocator<P, S>,
     sets: Vec<DescriptorSet<S>>,
     layouts: PhantomData<L>,
-    ghost agree: { Agrees D.pool_name allocator (D.ledger device) } by { Agree-prop (state_of D.pool_name allocator (D.ledger device)) },
-    ghost held: { AreOutstanding (items_of D.set_name sets.items) (state_of D.pool_name allocator (D.ledger device)) },
+    ghost agree: { Agrees D.pool_name allocator (D.ledger device) } by { Agree-prop
+        (state_of D.pool_name allocator (D.ledger device)) },
+    ghost held: { AreOutstanding (items_of D.set_name sets.items) (state_of D.pool_name allocator
+        (D.ledger device)) },
 }
 
 impl<L, P: Drop, S: Drop, D: DescriptorDevice<L, P, S>> Scene<L, P, S, D> {

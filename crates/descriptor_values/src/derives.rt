@@ -1,5 +1,5 @@
-//! The derives of the public types: no clause says what a debug text is, or that unequal values have
-//! unequal hashes.
+//! The derives of the public types: no clause says what a debug text is, or that unequal values
+//! have unequal hashes.
 use bitflags::Flags;
 use gpu_descriptor::{
     AllocationError, CreatePoolError, DescriptorAllocator, DescriptorPoolCreateFlags,

@@ -1,5 +1,5 @@
-//! Input that is cut, reads and writes that fail, and few bytes a call: no clause says that the
-//! output is then the answers of the lines that were complete, or how the run ends.
+//! Input that is cut, reads and writes that fail, and few bytes a call: no contract sees a reader or
+//! a writer fail, so no clause says when a run ends so.
 use crate::dialogues::{DIALOGUES, Exchange, answers_of, answers_within, lines_of};
 use crate::ends::{empty_writer, expect, reader_of};
 use descriptor_lines::{Exit, run_lines};

@@ -1,9 +1,9 @@
-//! Lines of the program, and their answers: no clause ties the output of a run to its input, or
-//! says the texts of `alloc` and `show` as wholes.
+//! Lines of the program and their answers, worked out: what is written is proved, but not that a
+//! request is met where memory and places are there.
 //!
-//! A body that gives up for memory where memory is there meets every contract. The tests whose names
-//! begin with `memory_is_found` catch it: at each request, at a second new pool of a request, at
-//! marked keys, and where places are known.
+//! A body that gives up for memory where memory is there meets every contract. The tests whose
+//! names begin with `memory_is_found` catch it: at each request, at a second new pool of a request,
+//! at marked keys, and where places are known.
 mod cleanup;
 mod faults;
 mod frees;

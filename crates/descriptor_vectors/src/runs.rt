@@ -1,5 +1,5 @@
-//! Whole runs: no clause says that the answers are those of the input's lines in order, or how the
-//! lines are numbered.
+//! Whole runs at the edges of the line language, worked out beside their proof; and that the rest
+//! of a line which is too long is not read, of which no clause speaks.
 use crate::ends::{empty_writer, expect, reader_of};
 use descriptor_lines::{Exit, run_lines};
 use std::alloc::Global;

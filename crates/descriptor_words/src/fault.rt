@@ -1,7 +1,8 @@
 //! What can be wrong with a line, and why a line has no answer of its own.
 ghost use Rattle.std.specs.Prelude.{◌≡◌};
 ghost use Rattle.descriptor_words.specs.Fault.{words_of_fault};
-ghost use Rattle.descriptor_words.specs.declared.fault.Refusal.TheVariants.{Fault as IsFault, NoMemory};
+ghost use Rattle.descriptor_words.specs.declared.fault.Refusal.TheVariants.{Fault as IsFault};
+ghost use Rattle.descriptor_words.specs.declared.fault.Refusal.TheVariants.{NoMemory};
 
 use std::alloc::AllocError;
 

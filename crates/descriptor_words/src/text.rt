@@ -1,11 +1,14 @@
 //! The parts of a line: words, numbers, names and kinds.
-ghost use Rattle.std.specs.Prelude.{◌≡◌, ℕ, ◌≤◌, ◌<◌, ◌≢◌, ◌↔◌, ◌++◌, ◌∷◌, length, All, Contains, IsTrue, is_some, IsSome, IfSome, IfNone, position, slice_get, slice_index, Some, false};
+ghost use Rattle.std.specs.Prelude.{◌≡◌, ℕ, ◌≤◌, ◌<◌, ◌≢◌, ◌↔◌, ◌++◌, ◌∷◌, length, All, Contains};
+ghost use Rattle.std.specs.Prelude.{IsTrue, is_some, IsSome, IfSome, IfNone, position, slice_get};
+ghost use Rattle.std.specs.Prelude.{slice_index, Some, false};
 ghost use Rattle.std.specs.Iterator.{YieldsFirstBy, item_count};
 ghost use Rattle.std.specs.List.{before_first, after_first};
 ghost use Rattle.descriptor_words.specs.Kinds.{kind_names};
 ghost use Rattle.descriptor_words.specs.Names.{IsName, IsNameByte};
 ghost use Rattle.descriptor_words.specs.Numbers.{WritesNumberWithin, value_of};
-ghost use Rattle.descriptor_words.specs.Words.{words as words_of, is_blank as is_blank_of, is_byte, words_left};
+ghost use Rattle.descriptor_words.specs.Words.{words as words_of, is_blank as is_blank_of, is_byte};
+ghost use Rattle.descriptor_words.specs.Words.{words_left};
 
 use std::str;
 

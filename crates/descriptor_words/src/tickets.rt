@@ -1,9 +1,13 @@
 //! The tickets of a line that gives sets back.
-ghost use Rattle.std.specs.Prelude.{◌≡◌, ◌≢◌, ◌+◌, ◌^◌, ◌≤◌, ◌<◌, ◌↔◌, ◌++◌, vec_len, vec_capacity, IsOk, IfOk, IfErr, OnOk, Err};
+ghost use Rattle.std.specs.Prelude.{◌≡◌, ◌≢◌, ◌+◌, ◌^◌, ◌≤◌, ◌<◌, ◌↔◌, ◌++◌, vec_len, vec_capacity};
+ghost use Rattle.std.specs.Prelude.{IsOk, IfOk, IfErr, OnOk, Err};
 ghost use Rattle.std.specs.List.{flat_map};
 ghost use Rattle.descriptor_words.specs.Fault.{IfFault, faulty};
 ghost use Rattle.descriptor_words.specs.Numbers.{WritesNumberWithin, greatest_u64, value_of};
-ghost use Rattle.descriptor_words.specs.Tickets.{AreTickets, IsFaultOfFree, WritesTickets, falling, first_of, first_side, last_of, last_side, most_tickets, rising, span_length, tickets_between, tickets_of};
+ghost use Rattle.descriptor_words.specs.Tickets.{AreTickets, IsFaultOfFree, WritesTickets, falling};
+ghost use Rattle.descriptor_words.specs.Tickets.{first_of, first_side, last_of, last_side};
+ghost use Rattle.descriptor_words.specs.Tickets.{most_tickets, rising, span_length};
+ghost use Rattle.descriptor_words.specs.Tickets.{tickets_between, tickets_of};
 ghost use Rattle.descriptor_words.specs.Words.{words_left};
 
 use crate::fault::{Fault, Refusal};

@@ -44,9 +44,16 @@ impl<P, S> Model for DescriptorAllocator<P, S> {
     ghost use Rattle.std.specs.Prelude.{map};
     ghost use Rattle.gpu_descriptor.specs.Inner.Stored.{row_of, IsConsistent};
 
-    ghost view = { λ a. record { limit = a.max_update_after_bind_descriptors_in_all_pools; table = map row_of a.buckets.entries; looks = a.looks.count; comparisons = a.comparisons.count } };
+    ghost view = { λ a. record {
+      limit = a.max_update_after_bind_descriptors_in_all_pools;
+      table = map row_of a.buckets.entries;
+      looks = a.looks.count;
+      comparisons = a.comparisons.count;
+    } };
 
-    ghost invariant = { λ a. IsConsistent a.max_update_after_bind_descriptors_in_all_pools a.current_update_after_bind_descriptors_in_all_pools a.update_after_bind_room a.outstanding a.buckets.entries };
+    ghost invariant = { λ a. IsConsistent a.max_update_after_bind_descriptors_in_all_pools
+        a.current_update_after_bind_descriptors_in_all_pools a.update_after_bind_room
+        a.outstanding a.buckets.entries };
 }
 
 impl<P, S> DescriptorAllocator<P, S> {

@@ -18,9 +18,9 @@ pub enum AllocationError {
     /// request may succeed once some of it is given up.
     OutOfHostMemory,
 
-    /// The sets, or a new pool for them, would pass the limit on update-after-bind descriptors, or a
-    /// number would pass 64 bits; or the device's memory is too fragmented for a new pool, or a new
-    /// pool refused.
+    /// The sets, or a new pool for them, would pass the limit on update-after-bind descriptors, or
+    /// a number would pass 64 bits; or the device's memory is too fragmented for a new pool, or a
+    /// new pool refused.
     Fragmentation,
 }
 

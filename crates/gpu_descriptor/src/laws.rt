@@ -1,19 +1,27 @@
 //! Laws of giving sets back and of cleaning up, over the books of an allocator and the ledger of a
-//! device, and of the types, which their derives keep. The functions do nothing: their contracts are
-//! the laws.
+//! device, and of the types, which their derives keep. The functions do nothing: their contracts
+//! are the laws.
 
 ghost use Rattle.std.specs.Prelude.{◌≡◌, ◌↔◌, ℕ, [], IsTrue};
 ghost use Rattle.gpu_descriptor_types.specs.Ledger.{Ledger};
-ghost use Rattle.gpu_descriptor.specs.Laws.Release.{ReleaseParts, ReleaseGone, ReleaseOrder, ReleaseEach, ReleaseSingly, ReleaseNone, ReleaseAgrees, ReleaseTakes, ReleaseOthers};
-ghost use Rattle.gpu_descriptor.specs.Laws.Cleanup.{CleanAgain, CleanAgainNone, CleanAll, CleanAllGone, CleanOnce, CleanAgrees, CleanRestores, CleanTakesNone};
-ghost use Rattle.gpu_descriptor.specs.Laws.Agreement.{AgreesOnce, BookedIsListed, EmptyAgrees, OwnAgrees, OwnOutstanding};
+ghost use Rattle.gpu_descriptor.specs.Laws.Release.{ReleaseParts, ReleaseGone, ReleaseOrder};
+ghost use Rattle.gpu_descriptor.specs.Laws.Release.{ReleaseEach, ReleaseSingly, ReleaseNone};
+ghost use Rattle.gpu_descriptor.specs.Laws.Release.{ReleaseAgrees, ReleaseTakes, ReleaseOthers};
+ghost use Rattle.gpu_descriptor.specs.Laws.Cleanup.{CleanAgain, CleanAgainNone, CleanAll};
+ghost use Rattle.gpu_descriptor.specs.Laws.Cleanup.{CleanAllGone, CleanOnce, CleanAgrees};
+ghost use Rattle.gpu_descriptor.specs.Laws.Cleanup.{CleanRestores, CleanTakesNone};
+ghost use Rattle.gpu_descriptor.specs.Laws.Agreement.{AgreesOnce, BookedIsListed, EmptyAgrees};
+ghost use Rattle.gpu_descriptor.specs.Laws.Agreement.{OwnAgrees, OwnOutstanding};
 ghost use Rattle.gpu_descriptor.specs.Model.Agreement.{Item, item_eq};
 ghost use Rattle.gpu_descriptor.specs.Model.Books.{HasDistinctKeys, Key, key_eq};
-ghost use Rattle.gpu_descriptor.specs.Laws.Load.{SumByBooks, LoadIsDescriptors, MarkedWithinPools, PoolLoadIsCounts, PoolLoadIsCreated, OutIsLength, OutIsSize};
+ghost use Rattle.gpu_descriptor.specs.Laws.Load.{SumByBooks, LoadIsDescriptors, MarkedWithinPools};
+ghost use Rattle.gpu_descriptor.specs.Laws.Load.{PoolLoadIsCounts, PoolLoadIsCreated, OutIsLength};
+ghost use Rattle.gpu_descriptor.specs.Laws.Load.{OutIsSize};
 ghost use Rattle.gpu_descriptor.specs.Laws.Foreign.{LosesNoneInTurn, NamedOrForeign};
 ghost use Rattle.gpu_descriptor.specs.Caller.Others.{others_of};
 ghost use Rattle.gpu_descriptor.specs.Model.Load.{IsMarkedLoad, IsOut, IsPoolLoad};
-ghost use Rattle.gpu_descriptor.specs.Caller.States.{marked_load_of, outstanding_of, pool_load_of, state_of, table_of};
+ghost use Rattle.gpu_descriptor.specs.Caller.States.{marked_load_of, outstanding_of, pool_load_of};
+ghost use Rattle.gpu_descriptor.specs.Caller.States.{state_of, table_of};
 ghost use Rattle.gpu_descriptor.specs.Caller.Values.{Allocations};
 ghost use Rattle.gpu_descriptor.specs.Caller.Flags.{layout_bits};
 ghost use Rattle.gpu_descriptor.specs.declared.errors.AllocationError.{AllocationError as Error};
@@ -79,8 +87,8 @@ pub fn books_alone()
 {}
 
 /// That books and ledger agree has one proof at most, so a struct that owns an allocator and its
-/// device can keep it as a ghost field, with `Agree-prop` of `proofs.OneAgreement` after `by`. Nothing
-/// is lost by that: the list of a pool's live sets can be read off.
+/// device can keep it as a ghost field, with `Agree-prop` of `proofs.OneAgreement` after `by`.
+/// Nothing is lost by that: the list of a pool's live sets can be read off.
 pub fn agreement_is_one()
     ensures one { AgreesOnce }
     ensures listed { BookedIsListed }
@@ -89,11 +97,14 @@ pub fn agreement_is_one()
 /// Where no key has two rows, the sets, the marked descriptors and the descriptors of marked keys'
 /// pools that an allocator's rows add up to are those of its books.
 pub fn rows_add_up<P>()
-    ensures out { (name : P → ℕ) (a : Allocations P) (l : Ledger) → HasDistinctKeys (table_of name a)
+    ensures out { (name : P → ℕ) (a : Allocations P) (l : Ledger)
+        → HasDistinctKeys (table_of name a)
         → IsOut (state_of name a l) (outstanding_of a) }
-    ensures load { (name : P → ℕ) (a : Allocations P) (l : Ledger) → HasDistinctKeys (table_of name a)
+    ensures load { (name : P → ℕ) (a : Allocations P) (l : Ledger)
+        → HasDistinctKeys (table_of name a)
         → IsMarkedLoad (state_of name a l) (marked_load_of a) }
-    ensures pool_load { (name : P → ℕ) (a : Allocations P) (l : Ledger) → HasDistinctKeys (table_of name a)
+    ensures pool_load { (name : P → ℕ) (a : Allocations P) (l : Ledger)
+        → HasDistinctKeys (table_of name a)
         → IsPoolLoad (state_of name a l) (pool_load_of a) }
 {}
 
@@ -107,8 +118,8 @@ pub fn pools_have_their_load()
 {}
 
 /// Where books and ledger agree, as many sets are out as are outstanding: a list has each set as
-/// often as it is outstanding, and each such list has as many sets as are out. The marked load is the
-/// sum of the descriptors of its marked sets.
+/// often as it is outstanding, and each such list has as many sets as are out. The marked load is
+/// the sum of the descriptors of its marked sets.
 pub fn out_is_outstanding()
     ensures size { OutIsSize }
     ensures any_list { OutIsLength }
@@ -135,9 +146,11 @@ pub fn flags_are_their_bits()
         a b) ↔ (layout_bits a ≡ layout_bits b) }
     ensures clone { (a b : LayoutFlags) → ⟦<DescriptorSetLayoutCreateFlags as Clone>⟧.is_clone a b
         → b ≡ a }
-    ensures clone_succeeds { (a : LayoutFlags) → ⟦<DescriptorSetLayoutCreateFlags as Clone>⟧.is_infallible a }
+    ensures clone_succeeds { (a : LayoutFlags)
+        → ⟦<DescriptorSetLayoutCreateFlags as Clone>⟧.is_infallible a }
     ensures hash { (a b : LayoutFlags) → layout_bits a ≡ layout_bits b
-        → ⟦<DescriptorSetLayoutCreateFlags as Hash>⟧.hash_input a ≡ ⟦<DescriptorSetLayoutCreateFlags as Hash>⟧.hash_input b }
+        → ⟦<DescriptorSetLayoutCreateFlags as Hash>⟧.hash_input a
+        ≡ ⟦<DescriptorSetLayoutCreateFlags as Hash>⟧.hash_input b }
 {}
 
 /// Errors of a request are equal exactly where they are the same case. A clone always succeeds, and

@@ -131,7 +131,13 @@ fn joined(low: u64, high: u64) -> u128
 
 /// Four counts at a time: the hasher of the tables multiplies once for each 16 bytes of a write.
 impl Hash for DescriptorTotalCount {
-    ghost hash_input = { λ c. fed.u128 (c.sampler + c.combined_image_sampler * 2 ^ 32 + (c.sampled_image + c.storage_image * 2 ^ 32) * 2 ^ 64) ++ fed.u128 (c.uniform_texel_buffer + c.storage_texel_buffer * 2 ^ 32 + (c.uniform_buffer + c.storage_buffer * 2 ^ 32) * 2 ^ 64) ++ fed.u128 (c.uniform_buffer_dynamic + c.storage_buffer_dynamic * 2 ^ 32 + (c.input_attachment + c.acceleration_structure * 2 ^ 32) * 2 ^ 64) ++ fed.u64 (c.inline_uniform_block_bytes + c.inline_uniform_block_bindings * 2 ^ 32) };
+    ghost hash_input = { λ c. fed.u128 (c.sampler + c.combined_image_sampler * 2 ^ 32 +
+        (c.sampled_image + c.storage_image * 2 ^ 32) * 2 ^ 64) ++ fed.u128
+        (c.uniform_texel_buffer + c.storage_texel_buffer * 2 ^ 32 +
+        (c.uniform_buffer + c.storage_buffer * 2 ^ 32) * 2 ^ 64) ++ fed.u128
+        (c.uniform_buffer_dynamic + c.storage_buffer_dynamic * 2 ^ 32 +
+        (c.input_attachment + c.acceleration_structure * 2 ^ 32) * 2 ^ 64)
+        ++ fed.u64 (c.inline_uniform_block_bytes + c.inline_uniform_block_bindings * 2 ^ 32) };
 
     ghost respects_eq = { Prim.search (hashing, rules) };
 

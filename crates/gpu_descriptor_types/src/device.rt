@@ -4,7 +4,9 @@ ghost use Rattle.std.specs.Iterator.{IsFinite, HoldsAlong};
 ghost use Rattle.gpu_descriptor_types.specs.Counts.{kinds};
 ghost use Rattle.gpu_descriptor_types.specs.Flags.{bits};
 ghost use Rattle.gpu_descriptor_types.specs.Layouts.{layout, left};
-ghost use Rattle.gpu_descriptor_types.specs.Ledger.{Ledger, after_create, after_no_create, after_destroy, HasNoSets, HasRoom, AreLive, Puts, PutsNone, Releases, IsFiniteLedger};
+ghost use Rattle.gpu_descriptor_types.specs.Ledger.{Ledger, after_create, after_no_create};
+ghost use Rattle.gpu_descriptor_types.specs.Ledger.{after_destroy, HasNoSets, HasRoom, AreLive};
+ghost use Rattle.gpu_descriptor_types.specs.Ledger.{Puts, PutsNone, Releases, IsFiniteLedger};
 
 use crate::counts::DescriptorTotalCount;
 use crate::errors::{CreatePoolError, DeviceAllocationError};
@@ -70,7 +72,9 @@ pub trait DescriptorDevice<L, P, S> {
         }) set_name (pool_name pool.old) (left layouts.entry)
             (layout_counts (layout layouts.entry)) sets.old sets.new (ledger self.old)
             (ledger self.new)) }
-        ensures err { IfErr result (λ e. PutsNone (record { kept = K.kept; kept_as = K.kept_as; room_left = K.room_left }) (pool_name pool.old) e sets.old sets.new (ledger self.old) (ledger self.new)) };
+        ensures err { IfErr result (λ e. PutsNone
+            (record { kept = K.kept; kept_as = K.kept_as; room_left = K.room_left })
+            (pool_name pool.old) e sets.old sets.new (ledger self.old) (ledger self.new)) };
 
     /// Releases the sets that the iterator gives, up to its end. It can't be refused.
     fn dealloc_descriptor_sets<I: Iterator<Item = S>>(&mut self, pool: &mut P, sets: &mut I)
@@ -79,7 +83,8 @@ pub trait DescriptorDevice<L, P, S> {
         requires live { HoldsAlong I.next_gives sets.old (λ xs. AreLive (pool_name pool.old)
             (map set_name xs) (ledger self.old)) }
         ensures name { pool_name pool.new ≡ pool_name pool.old }
-        ensures released { Releases I.next_gives set_name (pool_name pool.old) sets.old sets.new (ledger self.old) (ledger self.new) };
+        ensures released { Releases I.next_gives set_name (pool_name pool.old) sets.old sets.new
+            (ledger self.old) (ledger self.new) };
 
     /// The ledger is of finitely many pools, each with finitely many sets.
     ghost finite: { (d : Self) → IsFiniteLedger (ledger d) };

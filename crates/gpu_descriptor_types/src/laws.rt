@@ -1,5 +1,5 @@
-//! Laws of the types, which their derives and impls keep. The functions do nothing: their contracts are the
-//! laws.
+//! Laws of the types, which their derives and impls keep. The functions do nothing: their contracts
+//! are the laws.
 ghost use Rattle.std.specs.Prelude.{◌≡◌, ◌↔◌, IsTrue};
 ghost use Rattle.gpu_descriptor_types.specs.Counts.{kinds, no_counts};
 ghost use Rattle.gpu_descriptor_types.specs.Flags.{bits};
@@ -47,5 +47,6 @@ pub fn errors_are_their_cases()
         b) ↔ (a ≡ b) }
     ensures alloc_clone { (a b : AllocError) → ⟦<DeviceAllocationError as Clone>⟧.is_clone a b → b
         ≡ a }
-    ensures alloc_clone_succeeds { (a : AllocError) → ⟦<DeviceAllocationError as Clone>⟧.is_infallible a }
+    ensures alloc_clone_succeeds { (a : AllocError)
+        → ⟦<DeviceAllocationError as Clone>⟧.is_infallible a }
 {}

@@ -1,7 +1,11 @@
 //! The size of a new pool.
-ghost use Rattle.std.specs.Prelude.{◌≡◌, ℕ, ◌*◌, ◌<◌, ◌≤◌, ◌^◌, All, IfSome, IfNone, min, max, sum, map, length};
+ghost use Rattle.std.specs.Prelude.{◌≡◌, ℕ, ◌*◌, ◌<◌, ◌≤◌, ◌^◌, All, IfSome, IfNone, min, max, sum};
+ghost use Rattle.std.specs.Prelude.{map, length};
 ghost use Rattle.gpu_descriptor_types.specs.Counts.{kinds as kinds_of};
-ghost use Rattle.gpu_descriptor_types.specs.PoolSize.{IsCutSize, IsPoolSize, IsRounded, least_of, pool_counts, pool_size_floor, sets_in_room as sets_in_room_of, sets_of_kind, start_size as start_size_of};
+ghost use Rattle.gpu_descriptor_types.specs.PoolSize.{IsCutSize, IsPoolSize, IsRounded, least_of};
+ghost use Rattle.gpu_descriptor_types.specs.PoolSize.{pool_counts, pool_size_floor};
+ghost use Rattle.gpu_descriptor_types.specs.PoolSize.{sets_in_room as sets_in_room_of};
+ghost use Rattle.gpu_descriptor_types.specs.PoolSize.{sets_of_kind, start_size as start_size_of};
 
 use crate::counts::DescriptorTotalCount;
 

@@ -4,7 +4,8 @@ ghost use Rattle.std.specs.Prelude.{◌≡◌, ℕ, ◌+◌, ◌<◌, List, [], 
 /// Takes sets, as long as it has room.
 ///
 /// A sink is lent to the device, which hands it back in a state of which its caller knows what the
-/// clauses of `put` say. So they say the whole of it: what is kept of each set, and that this stays.
+/// clauses of `put` say. So they say the whole of it: what is kept of each set, and that this
+/// stays.
 pub trait SetSink<S> {
     /// What a sink keeps of a set.
     type Kept;

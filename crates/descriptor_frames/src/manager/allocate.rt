@@ -15,7 +15,8 @@ use gpu_descriptor::{
 };
 
 impl<P: Drop, S: Drop> FrameManager<P, S> {
-    ghost use Rattle.descriptor_frames.specs.Frames.{AreRetiredOut, BringsIntoUse, KeepsInUse, KeepsRetired, allocator_of};
+    ghost use Rattle.descriptor_frames.specs.Frames.{AreRetiredOut, BringsIntoUse, KeepsInUse};
+    ghost use Rattle.descriptor_frames.specs.Frames.{KeepsRetired, allocator_of};
 
     /// Allocates sets, as `DescriptorAllocator::allocate` does. The retired sets stay.
     pub fn allocate<L, D: DescriptorDevice<L, P, S>>(

@@ -10,7 +10,9 @@ use crate::due::Due;
 use gpu_descriptor::DescriptorDevice;
 
 impl<P, S> FrameManager<P, S> {
-    ghost use Rattle.descriptor_frames.specs.Frames.{AreRetiredOut, ManagerStays, KeepsInUse, allocator_of, due_sets, greatest_of, retired_of};
+    ghost use Rattle.descriptor_frames.specs.Frames.{AreRetiredOut, ManagerStays, KeepsInUse};
+    ghost use Rattle.descriptor_frames.specs.Frames.{allocator_of, due_sets, greatest_of};
+    ghost use Rattle.descriptor_frames.specs.Frames.{retired_of};
 
     /// Gives back all sets that were retired at this frame or before, in the order in which they
     /// were retired. It takes no memory and can't be refused. The device must be done with the work

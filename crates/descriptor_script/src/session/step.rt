@@ -1,6 +1,7 @@
 //! One command of a session.
 ghost use Rattle.descriptor_script.specs.Sessions.Session.{IsReady, KeepsSession};
-ghost use Rattle.descriptor_script.specs.Sessions.Steps.{AllocatesTo, CleansTo, FreesTo, KeepsTickets, StepsTo};
+ghost use Rattle.descriptor_script.specs.Sessions.Steps.{AllocatesTo, CleansTo, FreesTo};
+ghost use Rattle.descriptor_script.specs.Sessions.Steps.{KeepsTickets, StepsTo};
 
 use super::Session;
 use crate::command::{Command, Reply};

@@ -1,5 +1,5 @@
-//! Lines that are faulty: no clause says which line of the input a fault is said of, that the lines
-//! before it were answered, or that the run reads no further.
+//! Lines that are faulty, worked out beside their proof: the words of each fault and their order,
+//! and that the run reads no further.
 use super::expect_bad_line;
 use crate::ends::expect;
 use descriptor_lines::Exit;

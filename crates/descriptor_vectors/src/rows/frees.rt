@@ -1,5 +1,4 @@
-//! Sets that go back: the texts of `free` and `show`, and that ranges of a million tickets are
-//! served.
+//! Sets that go back: that ranges of a million tickets are served.
 use super::{expect_bad_line, expect_done};
 use std::test::Fail;
 

@@ -1,6 +1,5 @@
-//! What one line leaves to the next: the words of a script that were not read, the sets that are out,
-//! the pools of each key. No clause says what an `alloc` leaves of the script, and which layouts show
-//! their pools.
+//! What one line leaves to the next: the words of a script that were not read. No clause says what
+//! an `alloc` leaves of the script.
 use super::expect_done;
 use std::test::Fail;
 

@@ -1,5 +1,4 @@
-//! Requests that the device refuses: the texts of `alloc` and `show` behind a refusal, and that what
-//! comes next is granted.
+//! Requests that the device refuses: that what comes next is granted.
 use super::expect_done;
 use std::test::Fail;
 

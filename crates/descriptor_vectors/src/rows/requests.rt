@@ -1,5 +1,4 @@
-//! Requests that a device grants: that they are, and from which device pools `alloc` says that the
-//! sets came.
+//! Requests that a device grants: that they are.
 use super::expect_done;
 use std::test::Fail;
 

@@ -1,4 +1,4 @@
-//! The sizes of new pools: the text of `size`, line by line.
+//! The sizes of new pools, worked out beside their proof.
 use super::expect_done;
 use std::test::Fail;
 

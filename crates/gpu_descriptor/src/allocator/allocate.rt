@@ -1,5 +1,6 @@
 //! Handing sets out, whole or not at all.
-ghost use Rattle.std.specs.Prelude.{◌≡◌, ◌+◌, ◌*◌, ◌^◌, ◌<◌, ◌≤◌, ◌&&◌, nat_lt, length, sum, sum_by, Err, IfOk, IfErr, OnOk, OnErr};
+ghost use Rattle.std.specs.Prelude.{◌≡◌, ◌+◌, ◌*◌, ◌^◌, ◌<◌, ◌≤◌, ◌&&◌, nat_lt, length, sum};
+ghost use Rattle.std.specs.Prelude.{sum_by, Err, IfOk, IfErr, OnOk, OnErr};
 ghost use Rattle.std.specs.List.{IsDistinct};
 ghost use Rattle.gpu_descriptor_types.specs.Counts.{kinds};
 ghost use Rattle.gpu_descriptor.specs.Model.Books.{HasDistinctKeys, key_eq};
@@ -8,7 +9,8 @@ ghost use Rattle.gpu_descriptor.specs.Caller.HandsOut.{HandsOut};
 ghost use Rattle.gpu_descriptor.specs.Caller.Keeps.{Keeps};
 ghost use Rattle.gpu_descriptor.specs.Caller.Keys.{StayOrGainLast};
 ghost use Rattle.gpu_descriptor.specs.Caller.Sets.{key_of};
-ghost use Rattle.gpu_descriptor.specs.Caller.States.{Agrees, keys_of, marked_load_of, pool_load_of, table_of};
+ghost use Rattle.gpu_descriptor.specs.Caller.States.{Agrees, keys_of, marked_load_of, pool_load_of};
+ghost use Rattle.gpu_descriptor.specs.Caller.States.{table_of};
 ghost use Rattle.gpu_descriptor.specs.Model.Outcomes.{Allocates, error_of_alloc as alloc_answer};
 ghost use Rattle.gpu_descriptor.specs.Caller.Call.{call_of, layout_key};
 ghost use Rattle.gpu_descriptor.specs.Inner.Takes.{Takes};
@@ -42,16 +44,16 @@ impl<P: Drop, S: Drop> DescriptorAllocator<P, S> {
     /// of neighbours. If sets went back, the empty pools at the key's front are then destroyed, but
     /// never its last pool. The errors:
     ///
-    /// - `Fragmentation`: the sets of a marked layout would pass the limit, the limit leaves no room
-    ///   for a new pool of a marked layout, a number would pass 64 bits, the device refused a new
-    ///   pool so, or a new pool refused for its own sake;
+    /// - `Fragmentation`: the sets of a marked layout would pass the limit, the limit leaves no
+    ///   room for a new pool of a marked layout, a number would pass 64 bits, the device refused a
+    ///   new pool so, or a new pool refused for its own sake;
     /// - `OutOfDeviceMemory`: the device said so, at an existing or a new pool;
     /// - `OutOfHostMemory`: the device said so, or there was no memory for the answer or the books.
     ///
     /// `flags` and `layout_descriptor_count` must be those of the layout, and `device` that of all
     /// other calls. In the original the product that is held against the limit is taken in 32 bits;
-    /// here it is exact. In the original the limit counts only the sets that are out; here the pools
-    /// as well.
+    /// here it is exact. In the original the limit counts only the sets that are out; here the
+    /// pools as well.
     pub fn allocate<L, D: DescriptorDevice<L, P, S>>(
         &mut self,
         device: &mut D,

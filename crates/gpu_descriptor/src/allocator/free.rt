@@ -32,10 +32,13 @@ impl<P, S> DescriptorAllocator<P, S> {
         requires ends { (iter : I.IntoIter) → I.into_iter_gives sets iter
             → IsFinite (I.IntoIter.remaining iter) }
         requires agree { Agrees D.pool_name self.old (D.ledger device.old) }
-        requires outstanding { (iter : I.IntoIter) → I.into_iter_gives sets iter → HoldsAlong I.IntoIter.next_gives iter
-            (λ xs. AreOutstanding (items_of D.set_name xs) (state_of D.pool_name self.old (D.ledger device.old))) }
+        requires outstanding { (iter : I.IntoIter) → I.into_iter_gives sets iter
+            → HoldsAlong I.IntoIter.next_gives iter
+            (λ xs. AreOutstanding (items_of D.set_name xs) (state_of D.pool_name self.old
+            (D.ledger device.old))) }
         ensures frees { (iter : I.IntoIter) × (left : I.IntoIter) × I.into_iter_gives sets iter
-            × Frees I.IntoIter.next_gives D.pool_name D.set_name iter left self.old self.new (D.ledger device.old) (D.ledger device.new) }
+            × Frees I.IntoIter.next_gives D.pool_name D.set_name iter left self.old self.new
+            (D.ledger device.old) (D.ledger device.new) }
         ensures keeps { Keeps D.pool_name self.old self.new
             (D.ledger device.old) (D.ledger device.new) }
     {
@@ -53,7 +56,8 @@ impl<P, S> DescriptorAllocator<P, S> {
         requires ends { IsFinite (I.remaining sets.old) }
         requires agree { Agrees D.pool_name self.old (D.ledger device.old) }
         requires outstanding { HoldsAlong I.next_gives sets.old
-            (λ xs. AreOutstanding (items_of D.set_name xs) (state_of D.pool_name self.old (D.ledger device.old))) }
+            (λ xs. AreOutstanding (items_of D.set_name xs) (state_of D.pool_name self.old
+            (D.ledger device.old))) }
         ensures frees { Frees I.next_gives D.pool_name D.set_name sets.old sets.new
             self.old self.new (D.ledger device.old) (D.ledger device.new) }
         ensures keeps { Keeps D.pool_name self.old self.new
@@ -71,8 +75,8 @@ impl<P, S> DescriptorAllocator<P, S> {
         );
     }
 
-    /// Gives back one run, from `first` to before the first set that lies elsewhere, which is handed
-    /// back.
+    /// Gives back one run, from `first` to before the first set that lies elsewhere, which is
+    /// handed back.
     fn release_run<L, D: DescriptorDevice<L, P, S>, I: Iterator<Item = DescriptorSet<S>>>(
         &mut self,
         device: &mut D,
@@ -83,7 +87,8 @@ impl<P, S> DescriptorAllocator<P, S> {
         requires ends { IsFinite (I.remaining sets.old) }
         requires agree { Agrees D.pool_name self.old (D.ledger device.old) }
         requires outstanding { HoldsAlong I.next_gives sets.old
-            (λ xs. AreOutstanding (items_of D.set_name (first ∷ xs)) (state_of D.pool_name self.old (D.ledger device.old))) }
+            (λ xs. AreOutstanding (items_of D.set_name (first ∷ xs))
+            (state_of D.pool_name self.old (D.ledger device.old))) }
         ensures ran { FreesRun I.next_gives D.pool_name D.set_name first sets.old result sets.new
             self.old self.new (D.ledger device.old) (D.ledger device.new) }
         ensures goes { OnSome result (IsNearerEnd I.can_next I.remaining sets.old sets.new) }
@@ -92,7 +97,8 @@ impl<P, S> DescriptorAllocator<P, S> {
         ensures looks_stay { self.new.looks ≡ self.old.looks }
         ensures rises { self.old.comparisons ≤ self.new.comparisons }
         ensures few { self.new.comparisons ≤ self.old.comparisons
-            + binary_digits (open_pools ((state_of D.pool_name self.old (D.ledger device.old)).books (key_of first.key))) }
+            + binary_digits (open_pools ((state_of D.pool_name self.old
+            (D.ledger device.old)).books (key_of first.key))) }
     {
         let key = first.key;
         match self.buckets.get_mut(&key) {
@@ -117,8 +123,8 @@ impl<P, S> DescriptorAllocator<P, S> {
 }
 
 impl<P, S: Drop> DescriptorAllocator<P, S> {
-    /// The same as `free`, for the sets of a vector. What it asks of them is one clause on their list,
-    /// which `allocate` leaves met.
+    /// The same as `free`, for the sets of a vector. What it asks of them is one clause on their
+    /// list, which `allocate` leaves met.
     pub fn free_all<L, D: DescriptorDevice<L, P, S>>(
         &mut self,
         device: &mut D,

@@ -3,7 +3,8 @@ ghost use Rattle.std.specs.Prelude.{◌≡◌, ℕ, ◌≤◌, length};
 ghost use Rattle.gpu_descriptor_types.specs.Counts.{kinds};
 ghost use Rattle.gpu_descriptor.specs.Model.Books.{AddsUp, HasDistinctKeys, books_of};
 ghost use Rattle.gpu_descriptor.specs.Model.Load.{descriptors_out, bucket_load, sets_out};
-ghost use Rattle.gpu_descriptor.specs.Caller.States.{marked_load_of, outstanding_of, pool_load_of, table_of};
+ghost use Rattle.gpu_descriptor.specs.Caller.States.{marked_load_of, outstanding_of, pool_load_of};
+ghost use Rattle.gpu_descriptor.specs.Caller.States.{table_of};
 ghost use Rattle.gpu_descriptor.specs.Caller.Views.{pools_at, view_at, view_in};
 
 use super::DescriptorAllocator;
@@ -33,9 +34,9 @@ impl<P, S> DescriptorAllocator<P, S> {
         self.current_update_after_bind_descriptors_in_all_pools
     }
 
-    /// How many descriptors the pools of update-after-bind layouts have, as they were created; a pool
-    /// for sets without descriptors counts as one. So much of the limit is used. The original has no
-    /// such reader.
+    /// How many descriptors the pools of update-after-bind layouts have, as they were created; a
+    /// pool for sets without descriptors counts as one. So much of the limit is used. The original
+    /// has no such reader.
     pub fn update_after_bind_capacity(&self) -> u32
         ensures sum { result ≡ pool_load_of self.now }
         ensures books { (name : P → ℕ) → AddsUp bucket_load (books_of (table_of name self.now))
@@ -48,7 +49,8 @@ impl<P, S> DescriptorAllocator<P, S> {
     /// How many pools there are for sets of layouts with these counts and this mark.
     pub fn pool_count(&self, size: &DescriptorTotalCount, update_after_bind: bool) -> usize
         ensures count { result ≡ length
-            (pools_at self.now.table (record { counts = kinds size.now; marked = update_after_bind })) }
+            (pools_at self.now.table
+            (record { counts = kinds size.now; marked = update_after_bind })) }
         ensures books { (name : P → ℕ) → result ≡ length (books_of (table_of name self.now)
             (record { counts = kinds size.now; marked = update_after_bind })).pools }
     {

@@ -1,5 +1,6 @@
 //! Views of a key's pools and of its list of open ones, through which each read is counted.
-ghost use Rattle.std.specs.Prelude.{◌≡◌, ◌+◌, ◌-◌, ◌<◌, ◌≤◌, ◌^◌, ◌++◌, ◌∷◌, [], length, take, nat_lt, slice_index, slice_index_or, IfSome, IfNone, true};
+ghost use Rattle.std.specs.Prelude.{◌≡◌, ◌+◌, ◌-◌, ◌<◌, ◌≤◌, ◌^◌, ◌++◌, ◌∷◌, [], length, take};
+ghost use Rattle.std.specs.Prelude.{nat_lt, slice_index, slice_index_or, IfSome, IfNone, true};
 ghost use Rattle.std.specs.VecDeque.{deque_capacity};
 ghost use Rattle.std.specs.Borrow.{sem};
 
@@ -92,7 +93,8 @@ impl<'a, 'b, 'c, P> OpenPools<'a, 'b, 'c, P> {
         ensures listed { IsListed self.new }
         ensures looks { self.new.looks ≡ self.old.looks }
         ensures kept { KeepsView self.old self.new }
-        ensures room { result ≡ true → (length self.new.pools.now.items < deque_capacity self.new.pools.now)
+        ensures room { result ≡ true →
+            (length self.new.pools.now.items < deque_capacity self.new.pools.now)
             × (length self.new.pools.now.items < deque_capacity self.new.listed.now) }
     {
         if self.pools.reserve(1).is_err() {

@@ -6,8 +6,8 @@ ghost use Rattle.gpu_descriptor.specs.Inner.RunSteps.{CountsFrom, RunStep};
 
 use crate::set::{BucketKey, DescriptorSet};
 
-/// Gives the raw sets of one run: those of `source` up to the first that lies elsewhere, which stays
-/// in `ahead`. What `ahead` has at first comes before those of `source`.
+/// Gives the raw sets of one run: those of `source` up to the first that lies elsewhere, which
+/// stays in `ahead`. What `ahead` has at first comes before those of `source`.
 #[derive(Drop)]
 pub(crate) struct Run<'a, 'b, I, S> {
     pub(crate) source: &'a mut I,
@@ -26,11 +26,13 @@ pub(crate) struct Run<'a, 'b, I, S> {
 impl<S, I: Iterator<Item = DescriptorSet<S>>> Iterator for Run<'_, '_, I, S> {
     type Item = S;
 
-    ghost can_next = { λ s. I.can_next s.source.now × CountsFrom I.next_gives s.key s.number s.source.now (s.count + option_len s.ahead.now) };
+    ghost can_next = { λ s. I.can_next s.source.now
+        × CountsFrom I.next_gives s.key s.number s.source.now (s.count + option_len s.ahead.now) };
 
     ghost next_gives = { RunStep I.next_gives I.can_next I.remaining };
 
-    ghost remaining = { λ s. count_map (λ n. n + option_len s.ahead.now) (I.remaining s.source.now) };
+    ghost remaining = { λ s. count_map (λ n. n + option_len s.ahead.now)
+        (I.remaining s.source.now) };
 
     fn next(&mut self) -> Option<S> {
         let set = match self.ahead.take() {

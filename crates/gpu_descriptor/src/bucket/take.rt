@@ -1,5 +1,6 @@
 //! How a request takes sets from the pools of its key.
-ghost use Rattle.std.specs.Prelude.{◌≡◌, ◌+◌, ◌<◌, ◌≤◌, ◌++◌, ◌^◌, List, [], length, map, if◌then◌else◌, IfOk, IfErr, IfSome, IfNone, OnOk, OnErr};
+ghost use Rattle.std.specs.Prelude.{◌≡◌, ◌+◌, ◌<◌, ◌≤◌, ◌++◌, ◌^◌, List, [], length, map};
+ghost use Rattle.std.specs.Prelude.{if◌then◌else◌, IfOk, IfErr, IfSome, IfNone, OnOk, OnErr};
 ghost use Rattle.gpu_descriptor_types.specs.Counts.{kinds};
 ghost use Rattle.gpu_descriptor_types.specs.Flags.{bits};
 ghost use Rattle.gpu_descriptor_types.specs.Ledger.{pool_refusals};
@@ -13,10 +14,12 @@ ghost use Rattle.gpu_descriptor.specs.Inner.OpenPools.{CountsLooks, IsListed, Ke
 ghost use Rattle.gpu_descriptor.specs.Model.Shares.{rest};
 ghost use Rattle.gpu_descriptor.specs.Model.FreshPools.{IsNextSize};
 ghost use Rattle.gpu_descriptor.specs.Inner.Buckets.{IsBookedIn, AreBookedIn};
-ghost use Rattle.gpu_descriptor.specs.Inner.Walk.{entries_of, sets_at, IsAsked, IsNoMemory, IsWalked, IsWalkStopped};
+ghost use Rattle.gpu_descriptor.specs.Inner.Walk.{entries_of, sets_at, IsAsked, IsNoMemory};
+ghost use Rattle.gpu_descriptor.specs.Inner.Walk.{IsWalked, IsWalkStopped};
 ghost use Rattle.gpu_descriptor.specs.Caller.Call.{layout_key};
 ghost use Rattle.gpu_descriptor.specs.Inner.Serves.{IsUnserved, Serves};
-ghost use Rattle.gpu_descriptor.specs.Inner.Grow.{IsGrown, IsNotGrown, TellsOfRoom, IsTakenAll, IsTakenUpTo};
+ghost use Rattle.gpu_descriptor.specs.Inner.Grow.{IsGrown, IsNotGrown, TellsOfRoom, IsTakenAll};
+ghost use Rattle.gpu_descriptor.specs.Inner.Grow.{IsTakenUpTo};
 
 use crate::bucket::allocation::Allocation;
 use crate::bucket::reads::OpenPools;
@@ -318,7 +321,8 @@ impl<'a, 'b, 'c, P: Drop> OpenPools<'a, 'b, 'c, P> {
             (D.ledger device.old) (D.ledger device.new)) }
         ensures stopped { IfErr result (λ why. (put : List (DescriptorSet S))
             × (sink.new.sets.items ≡ sink.old.sets.items ++ put)
-            × IsTakenUpTo why (key_of key.now) room.old count self.old.offset (items_of D.set_name put)
+            × IsTakenUpTo why (key_of key.now) room.old count self.old.offset
+            (items_of D.set_name put)
             (entries_of D.pool_name self.old.pools.now.items)
             (entries_of D.pool_name self.new.pools.now.items)
             (D.ledger device.old) (D.ledger device.new)) }
