@@ -5,18 +5,17 @@ use Rattle.std.specs.List.{position_or_len}
 use Rattle.std.specs.Io.BufRead.{strip_last}
 use Rattle.std.specs.Io.KnownBytes.{Appends, IsAtEnd}
 use Rattle.std.proofs.KnownBytes.{Appends-trans}
-use Rattle.descriptor_words.specs.Fault.{IfFault, faulty}
+use Rattle.descriptor_words.specs.Fault.{faulty}
 use Rattle.descriptor_words.specs.Words.{is_byte, is_silent, words}
 use Rattle.descriptor_words.specs.declared.fault.Fault.{Fault}
 use Rattle.descriptor_words.specs.declared.fault.Fault.TheVariants.{LineTooLong}
 use Rattle.descriptor_words.specs.declared.fault.Refusal.{Refusal}
 use Rattle.descriptor_words.specs.declared.fault.Refusal.TheVariants as refusal
 use Rattle.descriptor_lines.specs.Answers.{fault_line}
-use Rattle.descriptor_lines.specs.Arguments.{IsRefusalOf}
 use Rattle.descriptor_lines.specs.LineBuffers.{buffered, bytes_at, unread}
 use Rattle.descriptor_lines.specs.Lines.{BeginsTooLong, LosesLine, after_end, before_end, lines_of, to_come}
 use Rattle.descriptor_lines.specs.Outcomes.{AppendsFront, IsNoFault, said_of}
-use Rattle.descriptor_lines.specs.Programs.{DoesLine, IsFresh, IsUnchanged}
+use Rattle.descriptor_lines.specs.Programs.{CanRun, DoesLine, IsFresh, IsReasonFor, IsUnchanged}
 use Rattle.descriptor_lines.specs.Transcripts.{IsAnswered, IsFaultOfLine, Reached, Writes, WritesFromStart, words_in}
 use Rattle.descriptor_lines.specs.declared.exit.Exit.{Exit}
 use Rattle.descriptor_lines.specs.declared.exit.Exit.TheVariants.{BadLine, Done, NoMemory, ReadFault, WriteFault}
@@ -44,38 +43,39 @@ has_begun : (was now silent : Bool) → now ≡ (was || not silent) → IsFalse 
 has_begun was now silent is heard = grind (arith)
 
 -- what a line that was run is answered
-run_answer : (number : ℕ) (outcome : Result Unit Refusal) (line text : List ℕ) (old new : Program) → IsNoFault outcome → length line ≤ 4096 → OnOk outcome (DoesLine (words_in line) text old new) → OnErr outcome (IsUnchanged old new) → new.has_begun ≡ (old.has_begun || not (is_silent (words_in line))) → OnErr outcome (IsFalse (is_silent (words_in line))) → IsAnswered line (said_of number outcome text) old new
-run_answer number (Ok done) line text old new fine short does same begun heard = record { short = short; answer = inl does }
-run_answer number (Err refusal.NoMemory) line text old new fine short does same begun heard = record {
+run_answer : (number : ℕ) (outcome : Result Unit Refusal) (line text : List ℕ) (old new : Program) → IsNoFault outcome → length line ≤ 4096 → OnOk outcome (DoesLine (words_in line) text old new) → OnErr outcome (IsUnchanged old new) → new.has_begun ≡ (old.has_begun || not (is_silent (words_in line))) → OnErr outcome (IsFalse (is_silent (words_in line))) → IfErr outcome (IsReasonFor old (words_in line)) → CanRun new → IsAnswered line (said_of number outcome text) old new
+run_answer number (Ok done) line text old new fine short does same begun heard own ready = record { short = short; answer = inl does; ready = ready }
+run_answer number (Err refusal.NoMemory) line text old new fine short does same begun heard own ready = record {
   short = short;
-  answer = inr (record { heard = heard; said = refl; unchanged = same; begun = has_begun _ _ _ begun heard });
+  answer = inr (record { heard = heard; reason = own; said = refl; unchanged = same; begun = has_begun _ _ _ begun heard });
+  ready = ready;
 }
-run_answer number (Err (refusal.Fault fault)) line text old new fine short does same begun heard = absurd (cc)
+run_answer number (Err (refusal.Fault fault)) line text old new fine short does same begun heard own ready = absurd (cc)
 
 -- what is wrong with a line that was refused
-run_fault : (outcome : Result Unit Refusal) (line : List ℕ) (old : Program) (fault : Fault) → outcome ≡ Err (refusal.Fault fault) → length line ≤ 4096 → IfErr outcome (λ reason. IfFault reason (λ _. IsRefusalOf old.layouts old.has_begun (words_in line) reason)) → IsFaultOfLine old line fault
+run_fault : (outcome : Result Unit Refusal) (line : List ℕ) (old : Program) (fault : Fault) → outcome ≡ Err (refusal.Fault fault) → length line ≤ 4096 → IfErr outcome (IsReasonFor old (words_in line)) → IsFaultOfLine old line fault
 run_fault outcome line old fault is short own = inr (short, rw is at own)
 
 -- a line that was run
-pub takes_run : (number : ℕ) (left rest : Option (List ℕ)) (line : List ℕ) (outcome : Result Unit Refusal) (text : List ℕ) (old new : Program) → IsFirstOf line left → LosesLine left rest → length line ≤ 4096 → OnOk outcome (DoesLine (words_in line) text old new) → OnErr outcome (IsUnchanged old new) → new.has_begun ≡ (old.has_begun || not (is_silent (words_in line))) → OnErr outcome (IsFalse (is_silent (words_in line))) → IfErr outcome (λ reason. IfFault reason (λ _. IsRefusalOf old.layouts old.has_begun (words_in line) reason)) → Takes number left rest outcome text old new
-takes_run number None rest line outcome text old new first loses short does same begun heard own = tt
-takes_run number (Some bytes) None line outcome text old new first loses short does same begun heard own = absurd loses
-takes_run number (Some bytes) (Some others) line outcome text old new first loses short does same begun heard own = (
+pub takes_run : (number : ℕ) (left rest : Option (List ℕ)) (line : List ℕ) (outcome : Result Unit Refusal) (text : List ℕ) (old new : Program) → IsFirstOf line left → LosesLine left rest → length line ≤ 4096 → OnOk outcome (DoesLine (words_in line) text old new) → OnErr outcome (IsUnchanged old new) → new.has_begun ≡ (old.has_begun || not (is_silent (words_in line))) → OnErr outcome (IsFalse (is_silent (words_in line))) → IfErr outcome (IsReasonFor old (words_in line)) → CanRun new → Takes number left rest outcome text old new
+takes_run number None rest line outcome text old new first loses short does same begun heard own ready = tt
+takes_run number (Some bytes) None line outcome text old new first loses short does same begun heard own ready = absurd loses
+takes_run number (Some bytes) (Some others) line outcome text old new first loses short does same begun heard own ready = (
   line,
   record {
     some = loses.0;
     first = first;
     loses = λ _. loses;
-    answered = λ fine. run_answer number outcome line text old new fine short does same begun heard;
+    answered = λ fine. run_answer number outcome line text old new fine short does same begun heard own ready;
     wrong = λ fault is. run_fault outcome line old fault is short own;
   },
 )
 
 -- a line at its place in the buffer, run
-pub takes_span : (number : ℕ) (buffer : LineBuffer) (span : Span) (left rest : Option (List ℕ)) (line : List ℕ) (outcome : Result Unit Refusal) (text : List ℕ) (old new : Program) → IsFirstOf (bytes_at buffer span) left → LosesLine left rest → span.end - span.start ≤ 4096 → line ≡ strip_last 13 (bytes_at buffer span) → OnOk outcome (DoesLine (words line) text old new) → OnErr outcome (IsUnchanged old new) → new.has_begun ≡ (old.has_begun || not (is_silent (words line))) → OnErr outcome (IsFalse (is_silent (words line))) → IfErr outcome (λ reason. IfFault reason (λ _. IsRefusalOf old.layouts old.has_begun (words line) reason)) → Takes number left rest outcome text old new
-takes_span number buffer span left rest line outcome text old new first loses short is does same begun heard own =
+pub takes_span : (number : ℕ) (buffer : LineBuffer) (span : Span) (left rest : Option (List ℕ)) (line : List ℕ) (outcome : Result Unit Refusal) (text : List ℕ) (old new : Program) → IsFirstOf (bytes_at buffer span) left → LosesLine left rest → span.end - span.start ≤ 4096 → line ≡ strip_last 13 (bytes_at buffer span) → OnOk outcome (DoesLine (words line) text old new) → OnErr outcome (IsUnchanged old new) → new.has_begun ≡ (old.has_begun || not (is_silent (words line))) → OnErr outcome (IsFalse (is_silent (words line))) → IfErr outcome (IsReasonFor old (words line)) → CanRun new → Takes number left rest outcome text old new
+takes_span number buffer span left rest line outcome text old new first loses short is does same begun heard own ready =
     let few : length (bytes_at buffer span) ≤ 4096 = omega (arith, length-take (span.end - span.start) (drop span.start buffer.bytes.items)) in
-    takes_run number left rest (bytes_at buffer span) outcome text old new first loses few (rw is at does) same (rw is at begun) (rw is at heard) (rw is at own)
+    takes_run number left rest (bytes_at buffer span) outcome text old new first loses few (rw is at does) same (rw is at begun) (rw is at heard) (rw is at own) ready
 
 -- a line that is too long
 pub takes_long : (number : ℕ) (left rest : Option (List ℕ)) (outcome : Result Unit Refusal) (text : List ℕ) (old new : Program) → outcome ≡ Err (refusal.Fault LineTooLong) → BeginsTooLong left → Takes number left rest outcome text old new

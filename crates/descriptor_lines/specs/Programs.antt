@@ -4,7 +4,7 @@ use Rattle.gpu_descriptor_types.specs.Counts.{kinds}
 use Rattle.descriptor_script.specs.Scripted.Device.{empty_ledger, ledger_of, script_of}
 use Rattle.descriptor_script.specs.Scripted.Raw.{pool_id, set_id}
 use Rattle.descriptor_script.specs.Sessions.Ready.{IsScriptReady}
-use Rattle.descriptor_script.specs.Sessions.Session.{allocator_of, layouts_of, sets_of}
+use Rattle.descriptor_script.specs.Sessions.Session.{KeepsSession, allocator_of, layouts_of, sets_of}
 use Rattle.descriptor_script.specs.Sessions.Steps.{StepsTo}
 use Rattle.descriptor_script.specs.declared.answer.Answer.{Answer}
 use Rattle.descriptor_script.specs.declared.command.Command.{Command}
@@ -12,12 +12,15 @@ use Rattle.descriptor_script.specs.declared.command.Command.TheVariants.{Allocat
 use Rattle.descriptor_script.specs.declared.command.Reply.{Reply}
 use Rattle.descriptor_script.specs.declared.raw.ScriptLayout.{ScriptLayout}
 use Rattle.descriptor_lines.specs.Answers.{AnswersSize, layout_answer, limit_answer, script_answer}
-use Rattle.descriptor_lines.specs.Arguments.{IsCommandOf}
+use Rattle.descriptor_lines.specs.Arguments.{IsCommandOf, IsRefusalOf}
 use Rattle.descriptor_lines.specs.Commands.{IsInTime}
 use Rattle.descriptor_lines.specs.LayoutTable.{SameLayouts, layout_count, layouts_in}
 use Rattle.descriptor_lines.specs.ReplyTexts.{text_of_reply}
 use Rattle.descriptor_lines.specs.Shown.{show_answer}
 use Rattle.descriptor_words.specs.Words.{is_silent}
+use Rattle.descriptor_words.specs.Fault.{faulty}
+use Rattle.descriptor_words.specs.declared.fault.Refusal.{Refusal}
+use Rattle.descriptor_words.specs.declared.fault.Refusal.TheVariants as refusal
 use Rattle.descriptor_lines.specs.declared.command.Command as line
 use Rattle.descriptor_lines.specs.declared.command.Command.TheVariants as step
 use Rattle.descriptor_lines.specs.declared.layouts.Layout.{Layout}
@@ -52,7 +55,7 @@ pub record KeepsDevice (old new : Program) : Type 0 where
   pub ledger : ledger_of new.device ≡ ledger_of old.device
 
 -- the session has the layouts, books and sets that it had
-pub record KeepsSession (old new : Program) : Type 0 where
+pub record SameSession (old new : Program) : Type 0 where
   pub known : layouts_of new.session ≡ layouts_of old.session
   pub allocator : allocator_of new.session ≡ allocator_of old.session
   pub sets : sets_of new.session ≡ sets_of old.session
@@ -60,7 +63,7 @@ pub record KeepsSession (old new : Program) : Type 0 where
 -- layouts, books, sets and ledger are as before
 pub record IsUnchanged (old new : Program) : Type 0 where
   pub layouts : SameLayouts old.layouts new.layouts
-  pub session : KeepsSession old new
+  pub session : SameSession old new
   pub ledger : ledger_of new.device ≡ ledger_of old.device
 
 -- the session is a new one with this limit
@@ -82,7 +85,7 @@ pub record AddsLayout (name : List ℕ) (layout : Layout) (old new : Program) : 
 pub record Loads (script : List Answer) (old new : Program) : Type 0 where
   pub script_is : script_of new.device ≡ script
   pub ledger : ledger_of new.device ≡ ledger_of old.device
-  pub session : KeepsSession old new
+  pub session : SameSession old new
   pub layouts : SameLayouts old.layouts new.layouts
 
 -- the session of the program did the command, and the text is the answer to its reply
@@ -90,7 +93,8 @@ pub record Does (command : Command) (text : List ℕ) (old new : Program) : Type
   pub reply : Reply
   pub said : text ≡ text_of_reply (sets_of new.session) reply
   pub step : StepsTo pool_id set_id (λ l. kinds l.counts) (λ l. l.mark) command reply old.session new.session (ledger_of old.device) (ledger_of new.device)
-  pub known : layouts_of new.session ≡ layouts_of old.session
+  -- limit and layouts stay, and no key has two rows
+  pub keeps : KeepsSession pool_id set_id (λ l. kinds l.counts) (λ l. l.mark) old.session new.session (ledger_of old.device) (ledger_of new.device)
   pub layouts : SameLayouts old.layouts new.layouts
 
 -- what the command of a line does, and its answer, where memory is there
@@ -106,6 +110,17 @@ DoesCommand (step.Alloc layout count) text old new = Does (Allocate layout count
 DoesCommand (step.Free tickets) text old new = Does (Free tickets) text old new
 DoesCommand step.Cleanup text old new = Does Cleanup text old new
 DoesCommand step.Show text old new = (new ≡ old) × (text ≡ show_answer old)
+
+-- a line of these words gives this command, in its time
+abbrev pub IsCommandNow : Program → List (List ℕ) → line.Command → Type 0
+IsCommandNow p words command =
+    IsCommandOf p.layouts words command × IsInTime p.has_begun command
+
+-- why a line is not run: a fault of its words; or there was no memory to read them, or to run the command that they give
+abbrev pub IsReasonFor : Program → List (List ℕ) → Refusal → Type 0
+IsReasonFor p words (refusal.Fault fault) = IsRefusalOf p.layouts p.has_begun words (faulty fault)
+IsReasonFor p words refusal.NoMemory =
+    IsRefusalOf p.layouts p.has_begun words refusal.NoMemory ⊎ ((command : line.Command) × IsCommandNow p words command)
 
 -- a line gave a command, and from then on one had come
 abbrev pub begun : Program → Program

@@ -6,10 +6,11 @@ use Rattle.descriptor_words.specs.Fault.{faulty}
 use Rattle.descriptor_words.specs.Words.{is_silent, words}
 use Rattle.descriptor_words.specs.declared.fault.Fault.{Fault}
 use Rattle.descriptor_words.specs.declared.fault.Fault.TheVariants.{LineTooLong}
+use Rattle.descriptor_words.specs.declared.fault.Refusal.TheVariants as refusal
 use Rattle.descriptor_lines.specs.Answers.{fault_line}
 use Rattle.descriptor_lines.specs.Arguments.{IsRefusalOf}
 use Rattle.descriptor_lines.specs.Lines.{lines_of}
-use Rattle.descriptor_lines.specs.Programs.{DoesLine, IsFresh, IsUnchanged}
+use Rattle.descriptor_lines.specs.Programs.{CanRun, DoesLine, IsFresh, IsReasonFor, IsUnchanged}
 use Rattle.descriptor_lines.specs.declared.exit.Exit.{Exit}
 use Rattle.descriptor_lines.specs.declared.exit.Exit.TheVariants.{Done, BadLine, ReadFault, WriteFault, NoMemory}
 use Rattle.descriptor_lines.specs.declared.program.Program.{Program}
@@ -21,6 +22,7 @@ words_in line = words (strip_last 13 line)
 -- there was no memory to run a line of these words
 pub record LacksMemory (words : List (List ℕ)) (text : List ℕ) (old new : Program) : Type 0 where
   pub heard : IsFalse (is_silent words)
+  pub reason : IsReasonFor old words refusal.NoMemory
   pub said : text ≡ codes "refused: no memory" ++ 10 ∷ []
   pub unchanged : IsUnchanged old new
   pub begun : IsTrue new.has_begun
@@ -29,6 +31,8 @@ pub record LacksMemory (words : List (List ℕ)) (text : List ℕ) (old new : Pr
 pub record IsAnswered (line text : List ℕ) (old new : Program) : Type 0 where
   pub short : length line ≤ 4096
   pub answer : DoesLine (words_in line) text old new ⊎ LacksMemory (words_in line) text old new
+  -- the session has the layouts of the lines, and its books agree with the device
+  pub ready : CanRun new
 
 -- what is wrong with a line: its length, or else its words
 abbrev pub IsFaultOfLine : Program → List ℕ → Fault → Type 0

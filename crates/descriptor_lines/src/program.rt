@@ -1,11 +1,12 @@
 //! The program: lines in, answers out.
-ghost use Rattle.std.specs.Prelude.{◌≡◌, ◌≢◌, ◌||◌, [], not, IsTrue, IsFalse, IfErr, OnOk, OnErr, string_bytes};
+ghost use Rattle.std.specs.Prelude.{◌≡◌, ◌≢◌, ◌||◌, [], not, IsTrue, IsFalse, IfErr, OnOk, OnErr};
+ghost use Rattle.std.specs.Prelude.{string_bytes};
 ghost use Rattle.std.specs.Io.KnownBytes.{IsAtEnd, Keeps};
-ghost use Rattle.descriptor_lines.specs.Arguments.{IsRefusalOf};
 ghost use Rattle.descriptor_words.specs.Fault.{IfFault};
 ghost use Rattle.descriptor_lines.specs.Outcomes.{EndsInFault};
 ghost use Rattle.descriptor_lines.specs.LineBuffers.{unread};
-ghost use Rattle.descriptor_lines.specs.Programs.{CanRun, DoesLine, IsFresh, IsUnchanged, begun};
+ghost use Rattle.descriptor_lines.specs.Programs.{CanRun, DoesLine, IsFresh, IsReasonFor};
+ghost use Rattle.descriptor_lines.specs.Programs.{IsUnchanged, begun};
 ghost use Rattle.descriptor_lines.specs.Transcripts.{Writes, WritesFromStart};
 ghost use Rattle.descriptor_words.specs.Words.{words, is_silent};
 
@@ -67,8 +68,7 @@ impl Program {
         ensures begun { self.new.has_begun ≡ (self.old.has_begun || not
             (is_silent (words line.now))) }
         ensures faulty { IfErr result (λ reason. IfFault reason (λ _. self.new ≡ begun self.old)) }
-        ensures own { IfErr result (λ reason. IfFault reason (λ _. IsRefusalOf self.old.layouts
-            self.old.has_begun (words line.now) reason)) }
+        ensures own { IfErr result (IsReasonFor self.old (words line.now)) }
         ensures heard { OnErr result (IsFalse (is_silent (words line.now))) }
     {
         match Command::parse(self.alloc, line, &self.layouts, self.has_begun) {

@@ -40,7 +40,7 @@ pub loop-number-preserved : goal.loop-number-preserved
 loop-number-preserved g c =
     let (text, grown, stands) = c.loop-number.invariant.answers in
     let takes : Takes c.loop-number.number (unread c.loop-number.lines (g.R.Read.remaining c.loop-number.input)) (unread c.next_line.new.self (g.R.Read.remaining c.next_line.new.input)) c.match-next_line.outcome (string_bytes c.match-next_line.answer) c.loop-number.program c.match-next_line.program = elim c.match-next_line.branch [
-      | in-Ok-Some w ↦ let ran = w.run_line-outcome.ensures in let found = w.in-Ok-Some.ensures in rw (w.program-is, w.answer-is, w.outcome-is) (takes_span _ c.next_line.new.self w.in-Ok-Some.span _ _ _ _ _ _ _ (rw w.in-Ok-Some.field-0-is at found.line) (rw w.in-Ok-Some.field-0-is at found.rest) (rw w.in-Ok-Some.field-0-is at found.short) w.line.ensures.bytes ran.does ran.err ran.begun ran.heard ran.own)
+      | in-Ok-Some w ↦ let ran = w.run_line-outcome.ensures in let found = w.in-Ok-Some.ensures in rw (w.program-is, w.answer-is, w.outcome-is) (takes_span _ c.next_line.new.self w.in-Ok-Some.span _ _ _ _ _ _ _ (rw w.in-Ok-Some.field-0-is at found.line) (rw w.in-Ok-Some.field-0-is at found.rest) (rw w.in-Ok-Some.field-0-is at found.short) w.line.ensures.bytes ran.does ran.err ran.begun ran.heard ran.own ran.ready)
       | in-Err-LineTooLong w ↦ rw (w.program-is, w.answer-is) (takes_long _ _ _ _ _ _ _ w.outcome-is (c.next_line.ensures.too_long (w.in-Err-LineTooLong.is ∙ ap Err w.in-Err-LineTooLong.field-0-is)))
     ] in
     record {
@@ -57,7 +57,7 @@ pub returns-in_default-clause-writes : goal.returns-in_default-clause-writes
 returns-in_default-clause-writes g c =
     let (text, grown, stands) = c.loop-number.invariant.answers in
     let takes : Takes c.loop-number.number (unread c.loop-number.lines (g.R.Read.remaining c.loop-number.input)) (unread c.next_line.new.self (g.R.Read.remaining c.next_line.new.input)) c.match-next_line.outcome (string_bytes c.match-next_line.answer) c.loop-number.program c.match-next_line.program = elim c.match-next_line.branch [
-      | in-Ok-Some w ↦ let ran = w.run_line-outcome.ensures in let found = w.in-Ok-Some.ensures in rw (w.program-is, w.answer-is, w.outcome-is) (takes_span _ c.next_line.new.self w.in-Ok-Some.span _ _ _ _ _ _ _ (rw w.in-Ok-Some.field-0-is at found.line) (rw w.in-Ok-Some.field-0-is at found.rest) (rw w.in-Ok-Some.field-0-is at found.short) w.line.ensures.bytes ran.does ran.err ran.begun ran.heard ran.own)
+      | in-Ok-Some w ↦ let ran = w.run_line-outcome.ensures in let found = w.in-Ok-Some.ensures in rw (w.program-is, w.answer-is, w.outcome-is) (takes_span _ c.next_line.new.self w.in-Ok-Some.span _ _ _ _ _ _ _ (rw w.in-Ok-Some.field-0-is at found.line) (rw w.in-Ok-Some.field-0-is at found.rest) (rw w.in-Ok-Some.field-0-is at found.short) w.line.ensures.bytes ran.does ran.err ran.begun ran.heard ran.own ran.ready)
       | in-Err-LineTooLong w ↦ rw (w.program-is, w.answer-is) (takes_long _ _ _ _ _ _ _ w.outcome-is (c.next_line.ensures.too_long (w.in-Err-LineTooLong.is ∙ ap Err w.in-Err-LineTooLong.field-0-is)))
     ] in
     ends_unread _ _ _ _ _ _ _ _ (stands_on _ _ _ _ _ _ _ _ _ _ stands takes c.in_default.ensures.ok) (Appends-trans _ _ _ _ _ grown c.in_default.ensures.answered)
@@ -80,7 +80,7 @@ returns-in-Err-clause-writes g c =
     let (text, grown, stands) = c.loop-number.invariant.answers in
     let said = c.in-Err.ensures in
     let takes : Takes c.loop-number.number (unread c.loop-number.lines (g.R.Read.remaining c.loop-number.input)) (unread c.next_line.new.self (g.R.Read.remaining c.next_line.new.input)) c.match-next_line.outcome (string_bytes c.match-next_line.answer) c.loop-number.program c.match-next_line.program = elim c.match-next_line.branch [
-      | in-Ok-Some w ↦ let ran = w.run_line-outcome.ensures in let found = w.in-Ok-Some.ensures in rw (w.program-is, w.answer-is, w.outcome-is) (takes_span _ c.next_line.new.self w.in-Ok-Some.span _ _ _ _ _ _ _ (rw w.in-Ok-Some.field-0-is at found.line) (rw w.in-Ok-Some.field-0-is at found.rest) (rw w.in-Ok-Some.field-0-is at found.short) w.line.ensures.bytes ran.does ran.err ran.begun ran.heard ran.own)
+      | in-Ok-Some w ↦ let ran = w.run_line-outcome.ensures in let found = w.in-Ok-Some.ensures in rw (w.program-is, w.answer-is, w.outcome-is) (takes_span _ c.next_line.new.self w.in-Ok-Some.span _ _ _ _ _ _ _ (rw w.in-Ok-Some.field-0-is at found.line) (rw w.in-Ok-Some.field-0-is at found.rest) (rw w.in-Ok-Some.field-0-is at found.short) w.line.ensures.bytes ran.does ran.err ran.begun ran.heard ran.own ran.ready)
       | in-Err-LineTooLong w ↦ rw (w.program-is, w.answer-is) (takes_long _ _ _ _ _ _ _ w.outcome-is (c.next_line.ensures.too_long (w.in-Err-LineTooLong.is ∙ ap Err w.in-Err-LineTooLong.field-0-is)))
     ] in
     ends_early _ _ c.in-Err.exit _ _ said.err (λ bad. ends_at_fault _ _ _ _ _ _ _ _ _ _ _ _ _ (c.answer_line.ensures.bad_line (c.in-Err.is ∙ ap Err bad)) stands takes grown (c.answer_line.ensures.told (c.in-Err.is ∙ ap Err bad))) (λ lost. ends_unwritten _ _ _ _ _ _ _ _ _ _ _ _ _ stands takes grown (c.answer_line.ensures.broken (c.in-Err.is ∙ ap Err lost)))

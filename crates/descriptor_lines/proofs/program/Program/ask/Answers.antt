@@ -39,7 +39,7 @@ returns c = record {
     reply = c.index.result.now;
     said = c.reply_answer.ensures.text ∙ ap (λ old. old ++ text_of_reply (sets_of c.run.new.self) c.index.result.now) (c.reserve.ensures.bytes ∙ c.requires.empty);
     step = step_of_one c.args.command c.in_ok-replies.replies.items c.index.result.now c.args.self.now.session c.run.new.self (ledger_of c.args.self.now.device) (ledger_of c.run.new.device) c.in_ok-replies.ensures.runs c.index.ensures;
-    known = c.run.ensures.keeps.layouts;
+    keeps = c.run.ensures.keeps;
     layouts = refl;
   };
   err = tt;
