@@ -22,6 +22,13 @@ impl<'a, L> Layouts<'a, L> {
         }
     }
 
+    /// The layout.
+    pub fn layout(&self) -> &'a L
+        ensures { result.now ≡ layout_of self.now }
+    {
+        self.layout
+    }
+
     /// How many are still to come.
     pub fn len(&self) -> u32
         ensures { result ≡ left_of self.now }
