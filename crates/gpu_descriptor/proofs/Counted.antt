@@ -12,7 +12,7 @@ use Rattle.gpu_descriptor.proofs.Fronts.{less-less, spent_front-less}
 use Rattle.gpu_descriptor_types.proofs.Counting.{count_by-append, count_by_alike}
 use Rattle.gpu_descriptor.proofs.Exact.{item_exact}
 use Rattle.gpu_descriptor.proofs.Places.{back, lies_in-at, kept}
-use Rattle.gpu_descriptor.proofs.Parts.{trimmed_if, names_key, quiet_key}
+use Rattle.gpu_descriptor.proofs.Parts.{trimmed_if, names_key, quiet_key, back_still}
 
 count_law : (first second : Bool) (f g : ℕ → ℕ) (b : Bucket) → (second ≡ false → bucket_less (λ p. f p + g p) b ≡ bucket_less f b)
     → (if first then spent_front (bucket_less f b) else 0) + (if second then spent_front (bucket_less g (trimmed_if first (bucket_less f b))) else 0) ≡ (if first || second then spent_front (bucket_less (λ p. f p + g p) b) else 0)
@@ -37,14 +37,7 @@ sum_both f g h each (k ∷ keys) =
 pub gone : ReleaseGone
 gone keys m n s agree out =
     let u = released m s in
-    let split : (t : Item) → count_of t (m ++ n) ≡ count_of t m + count_of t n = λ t. count_by-append (λ x. item_eq x t) m n in
-    let out_m : AreOutstanding m s = λ t. let a = split t in let b = out t in omega arith in
-    let lies : (pool : ℕ) (t : Item) → 0 < count_of t n → lies_in u.books pool t ≡ lies_in s.books pool t = λ pool t in_n.
-    let a = split t in
-    let b = out t in
-    let keeps = kept m s agree out_m t (omega arith) in
-    lies_in-at u.books pool t (entry_less (back m s keeps.0.pool) keeps.0) keeps.2 ∙ sym (lies_in-at s.books pool t keeps.0 keeps.1) in
-    let counts : back n u ≡ back n s = fun_ext (λ pool. count_by_alike item_exact (lies_in u.books pool) (lies_in s.books pool) n (lies pool)) in
+    let counts : back n u ≡ back n s = back_still m n s agree out in
     let sums : back (m ++ n) s ≡ (λ pool. back m s pool + back n s pool) = fun_ext (λ pool. count_by-append (lies_in s.books pool) m n) in
     sum_both
     (λ k. if names_key m k then spent_front (bucket_less (back m s) (s.books k)) else 0)

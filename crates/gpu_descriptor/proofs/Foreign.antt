@@ -22,6 +22,7 @@ use Rattle.gpu_descriptor.specs.Inner.Walk.{KeepsKey, with_pools}
 use Rattle.gpu_descriptor.proofs.Exact.{key_exact}
 use Rattle.gpu_descriptor.proofs.Fronts.{entry_at-found, entry_at-from, slice_get-drop}
 use Rattle.gpu_descriptor.proofs.Kept.{front_found, none_back}
+use Rattle.gpu_descriptor.proofs.KeepState.{pool_found}
 use Rattle.gpu_descriptor.proofs.Cleaning.{cleaned_cases, was_kept}
 use Rattle.gpu_descriptor.proofs.Parts.{names_key, key_any}
 use Rattle.gpu_descriptor.proofs.Places.{back, front_of, lies_in-found, entry_at-less, released_books, some_before, was_there}
@@ -165,18 +166,11 @@ module _ (k : Key) (items : List Item) (new : List Entry) (s : State) (after : �
   own_apart : (name : ℕ) (pool : Pool) → IsApart name → s.ledger name ≡ Some pool → (i : ℕ) (e : Entry) → slice_get new i ≡ Some e → e.pool ≢ name
   own_apart name pool apart live i e at same = elim (h.named i e at) [
     | inl old ↦ (
-        let found = find (s.books k).pools old in
+        let found = pool_found e.pool (s.books k).pools old in
         let b = s.books k in
         apart (b.first + found.0) found.1 (entry_at-from b (b.first + found.0) found.1 (omega arith) (ap (slice_get b.pools) (let n : b.first + found.0 - b.first ≡ found.0 = omega arith in n) ∙ found.2)) (found.3 ∙ same))
     | inr none ↦ (let bad : ◌≡◌ {A = Option Pool} None (Some pool) = sym none ∙ ap s.ledger same ∙ live in absurd (cc))
   ]
-    where
-      find : (es : List Entry) → list_any (λ d. d.pool == e.pool) es ≡ true → (j : ℕ) × (c : Entry) × (slice_get es j ≡ Some c) × (c.pool ≡ e.pool)
-      find [] any = absurd (let bad : true ≡ false = sym any in cc)
-      find (c ∷ es) any = elim (or_cases (c.pool == e.pool) (list_any (λ d. d.pool == e.pool) es) any) [
-        | inl here ↦ (0, c, refl, eqb-true c.pool e.pool here)
-        | inr later ↦ (let f = find es later in (suc f.0, f.1, f.2, f.3))
-      ]
 
   -- a live pool that is none of the key's stays
   pub taken_apart : (name : ℕ) (pool : Pool) → IsApart name → s.ledger name ≡ Some pool → after name ≡ s.ledger name

@@ -12,6 +12,14 @@ use Rattle.gpu_descriptor.specs.Inner.Walk.{with_pools, KeepsKey, live_at}
 use Rattle.gpu_descriptor.proofs.Exact.{key_exact}
 use Rattle.gpu_descriptor.proofs.Fronts.{entry_at-found, entry_at-from}
 
+-- a pool that some entry names stands at its place
+pub pool_found : (name : ℕ) (es : List Entry) → list_any (λ d. d.pool == name) es ≡ true → (j : ℕ) × (c : Entry) × (slice_get es j ≡ Some c) × (c.pool ≡ name)
+pool_found name [] any = absurd (let bad : true ≡ false = sym any in cc)
+pool_found name (c ∷ es) any = elim (or_cases (c.pool == name) (list_any (λ d. d.pool == name) es) any) [
+  | inl here ↦ (0, c, refl, eqb-true c.pool name here)
+  | inr later ↦ (let f = pool_found name es later in (suc f.0, f.1, f.2, f.3))
+]
+
 -- the key's part of the agreement
 pub booked_of : (s : State) (k : Key) → Agree s → AreBookedIn k s.ledger (s.books k).pools
 booked_of s k agree = record {
@@ -45,7 +53,7 @@ module _ (k : Key) (items : List Item) (new : List Entry) (s : State) (after : �
   foreign : (l : Key) (m : ℕ) (d : Entry) → key_eq k l ≡ false → entry_at (s.books l) m ≡ Some d → (i : ℕ) (e : Entry) → slice_get new i ≡ Some e → d.pool ≢ e.pool
   foreign l m d ne at i e there same = elim (h.named i e there) [
     | inl old ↦ (
-        let found = find (s.books k).pools old in
+        let found = pool_found e.pool (s.books k).pools old in
         let b = s.books k in
         let both = agree.distinct k l (b.first + found.0) m found.1 d (entry_at-from b (b.first + found.0) found.1 (omega arith) (ap (slice_get b.pools) (let n : b.first + found.0 - b.first ≡ found.0 = omega arith in n) ∙ found.2)) at (found.3 ∙ sym same) in
         let bad : true ≡ false = sym (key_exact.self k) ∙ ap (key_eq k) both.0 ∙ ne in
@@ -55,13 +63,6 @@ module _ (k : Key) (items : List Item) (new : List Entry) (s : State) (after : �
         let bad : ◌≡◌ {A = Option Pool} None (Some live.0) = sym none ∙ ap s.ledger (sym same) ∙ live.1 in
         absurd (cc))
   ]
-    where
-      find : (es : List Entry) → list_any (λ d. d.pool == e.pool) es ≡ true → (j : ℕ) × (c : Entry) × (slice_get es j ≡ Some c) × (c.pool ≡ e.pool)
-      find [] any = absurd (let bad : true ≡ false = sym any in cc)
-      find (c ∷ es) any = elim (or_cases (c.pool == e.pool) (list_any (λ d. d.pool == e.pool) es) any) [
-        | inl here ↦ (0, c, refl, eqb-true c.pool e.pool here)
-        | inr later ↦ (let f = find es later in (suc f.0, f.1, f.2, f.3))
-      ]
 
   -- so it stays in the ledger
   foreign_stays : (l : Key) (m : ℕ) (d : Entry) → key_eq k l ≡ false → entry_at (s.books l) m ≡ Some d → after d.pool ≡ s.ledger d.pool

@@ -69,6 +69,24 @@ front_of-last m s k =
       | inr h ↦ rw h (omega arith)
     ]
 
+-- a pool and its books still match once its sets went back
+less_booked : (m : List Item) (s : State) → Agree s → AreOutstanding m s → (k : Key) (i : ℕ) (d : Entry) (pool : Pool) → entry_at (s.books k) i ≡ Some d → s.ledger d.pool ≡ Some pool → IsAsBooked k pool d → IsAsBooked k (pool_less (back_named m s d.pool) pool) (entry_less (back m s d.pool) d)
+less_booked m s agree out k i d pool at live is =
+    let left = size_less pool.live d.allocated (lies_in s.books d.pool) m (size_of is) (part_fits m s agree out k i d pool at live) in
+    let fits = left.0 in
+    let room = is.room in
+    record {
+      allocated = ∣ left.1 ∣₁;
+      room = (let e : d.allocated - back m s d.pool + (d.free + back m s d.pool) ≤ pool.capacity = omega arith in e);
+      flags = is.flags;
+      at_least = is.at_least;
+      small = is.small;
+      capacity = is.capacity;
+      counts = is.counts;
+      sets = λ x lt. is.sets x (omega arith);
+      full = λ none. (let whole = is.full none in let e : d.allocated - back m s d.pool + (d.free + back m s d.pool) ≡ pool.capacity = omega arith in e);
+    }
+
 pub agrees : ReleaseAgrees
 agrees m s agree out = record {
   distinct = λ k l i j d e at at' same.
@@ -80,26 +98,12 @@ agrees m s agree out = record {
       let d = was.0 in
       let booked = agree.booked k i d was.1 in
       let pool = booked.0 in
-      let is = booked.2 in
-      let left = size_less pool.live d.allocated (lies_in s.books d.pool) m (size_of is) (part_fits m s agree out k i d pool was.1 booked.1) in
       let here : entry_at ((released m s).books k) i ≡ Some (entry_less (back m s d.pool) d) = at ∙ ap Some (sym was.2) in
-      let fits = left.0 in
-      let room = is.room in
       let P : Entry → Type 0 = λ x. (p : Pool) × ((released m s).ledger x.pool ≡ Some p) × IsAsBooked k p x in
       subst P was.2 (
         pool_less (back_named m s d.pool) pool,
         ledger_after m s agree k i (entry_less (back m s d.pool) d) pool here booked.1,
-        record {
-          allocated = ∣ left.1 ∣₁;
-          room = (let e : d.allocated - back m s d.pool + (d.free + back m s d.pool) ≤ pool.capacity = omega arith in e);
-          flags = is.flags;
-          at_least = is.at_least;
-          small = is.small;
-          capacity = is.capacity;
-          counts = is.counts;
-          sets = λ x lt. is.sets x (omega arith);
-          full = λ none. (let whole = is.full none in let e : d.allocated - back m s d.pool + (d.free + back m s d.pool) ≡ pool.capacity = omega arith in e);
-        },
+        less_booked m s agree out k i d pool was.1 booked.1 booked.2,
       );
   absent = λ k none.
       let b = s.books k in
@@ -222,25 +226,11 @@ given_agrees m s agree out =
           let d = had.0 in
           let booked = agree.booked k i d had.1 in
           let pool = booked.0 in
-          let is = booked.2 in
-          let left = size_less pool.live d.allocated (lies_in s.books d.pool) m (size_of is) (part_fits m s agree out k i d pool had.1 booked.1) in
-          let fits = left.0 in
-          let room = is.room in
           let P : Entry → Type 0 = λ x. (p : Pool) × ((given_back m s).ledger x.pool ≡ Some p) × IsAsBooked k p x in
           subst P had.2 (
             pool_less (back_named m s d.pool) pool,
             ap (option_map (pool_less (back_named m s d.pool))) booked.1,
-            record {
-              allocated = ∣ left.1 ∣₁;
-              room = (let e : d.allocated - back m s d.pool + (d.free + back m s d.pool) ≤ pool.capacity = omega arith in e);
-              flags = is.flags;
-              at_least = is.at_least;
-              small = is.small;
-              capacity = is.capacity;
-              counts = is.counts;
-              sets = λ x lt. is.sets x (omega arith);
-              full = λ none. (let whole = is.full none in let e : d.allocated - back m s d.pool + (d.free + back m s d.pool) ≡ pool.capacity = omega arith in e);
-            },
+            less_booked m s agree out k i d pool had.1 booked.1 booked.2,
           );
       absent = λ k none.
           let long : length (bucket_less (back m s) (s.books k)).pools ≡ length (s.books k).pools = length-map (s.books k).pools (λ (e : Entry). entry_less (back m s e.pool) e) in

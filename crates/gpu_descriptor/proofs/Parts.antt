@@ -138,18 +138,25 @@ quiet_key m n s agree k none =
     ap (λ (x : ℕ). entry_less x e) same) in
     λ i. record { first = b.first; pools = pools i }
 
-pub parts : ReleaseParts
-parts m n s agree out =
-    let u = released m s in
+-- a set of the second part lies in the pool in which it lay
+still_lies : (m n : List Item) (s : State) → Agree s → AreOutstanding (m ++ n) s → (pool : ℕ) (t : Item) → 0 < count_of t n → lies_in (released m s).books pool t ≡ lies_in s.books pool t
+still_lies m n s agree out pool t in_n =
     let split : (t : Item) → count_of t (m ++ n) ≡ count_of t m + count_of t n = λ t. count_by-append (λ x. item_eq x t) m n in
     let out_m : AreOutstanding m s = λ t. let a = split t in let b = out t in omega arith in
-    -- a set of the second part lies in the pool in which it lay
-    let lies : (pool : ℕ) (t : Item) → 0 < count_of t n → lies_in u.books pool t ≡ lies_in s.books pool t = λ pool t in_n.
     let a = split t in
     let b = out t in
     let keeps = kept m s agree out_m t (omega arith) in
-    lies_in-at u.books pool t (entry_less (back m s keeps.0.pool) keeps.0) keeps.2 ∙ sym (lies_in-at s.books pool t keeps.0 keeps.1) in
-    let counts : back n u ≡ back n s = fun_ext (λ pool. count_by_alike item_exact (lies_in u.books pool) (lies_in s.books pool) n (lies pool)) in
+    lies_in-at (released m s).books pool t (entry_less (back m s keeps.0.pool) keeps.0) keeps.2 ∙ sym (lies_in-at s.books pool t keeps.0 keeps.1)
+
+-- so as many of its sets go back to each pool
+pub back_still : (m n : List Item) (s : State) → Agree s → AreOutstanding (m ++ n) s → back n (released m s) ≡ back n s
+back_still m n s agree out = fun_ext (λ pool. count_by_alike item_exact (lies_in (released m s).books pool) (lies_in s.books pool) n (still_lies m n s agree out pool))
+
+pub parts : ReleaseParts
+parts m n s agree out =
+    let u = released m s in
+    let lies : (pool : ℕ) (t : Item) → 0 < count_of t n → lies_in u.books pool t ≡ lies_in s.books pool t = λ pool t in_n. still_lies m n s agree out pool t in_n in
+    let counts : back n u ≡ back n s = back_still m n s agree out in
     let named : (pool : ℕ) → back_named n u pool ≡ back_named n s pool = λ pool. fun_ext (λ name.
     count_by_alike item_exact (λ t. lies_in u.books pool t && (set_eq (set_of t) name)) (λ t. lies_in s.books pool t && (set_eq (set_of t) name)) n (λ t in_n. ap (λ (x : Bool). x && (set_eq (set_of t) name)) (lies pool t in_n))) in
     let sums : back (m ++ n) s ≡ (λ pool. back m s pool + back n s pool) = fun_ext (λ pool. count_by-append (lies_in s.books pool) m n) in

@@ -20,7 +20,7 @@ use Rattle.gpu_descriptor.specs.Model.Grants.{Grant, Part, portion_of, items_at,
 use Rattle.gpu_descriptor.specs.Model.Outcomes.Allocates.{none, limit, bound, start, done, stopped_at_pool, stopped_without_room, stopped_at_create, stopped_for_memory, stopped_at_fresh}
 use Rattle.gpu_descriptor.specs.Model.FreshPools.IsFreshList.{none as no_fresh, some as some_fresh}
 use Rattle.std.proofs.lemmas.Bool.{cases_Bool}
-use Rattle.gpu_descriptor.specs.Model.Promises.{HasCause, HasNewPools, EndsWith, IsShort, CreatesOnlyWhereShort, last_refusal}
+use Rattle.gpu_descriptor.specs.Model.Promises.{HasCause, IsFragmentation, HasNewPools, EndsWith, IsShort, CreatesOnlyWhereShort, last_refusal}
 use Rattle.gpu_descriptor.specs.Model.Promises.EndsWith.{met as met_all, without_room, for_memory, at_create, at_fresh}
 use Rattle.gpu_descriptor.specs.Model.Promises.IsFragmentation.{above_limit, past_bound, no_room_left, no_pool_created, new_pool_refused}
 use Rattle.gpu_descriptor.specs.Model.Promises.IsHostMemory.{device_refused, no_memory_at_start, no_memory_for_a_pool}
@@ -95,41 +95,41 @@ create_cause c s = by_error s.error refl
         let one = ap (λ (e : CreatePoolError). (create_refused e no_rise).fragmentation) is in
         no_pool_created s is (omega arith)
 
+-- a memory error of a pool, which the device counted
+memory_cause : (c : Call) (g : Grant) (rise : Counters) (error : AllocationError) → IsBack c g rise error → (e : DeviceAllocationError) → pool_refusals e ≡ 0 → rise.device_memory ≡ (alloc_refused e no_rise).device_memory → rise.host_memory ≡ (alloc_refused e no_rise).host_memory → HasCause (error_of_alloc e) c
+memory_cause c g rise error back alloc_error.OutOfDeviceMemory memory device host = (let n = ap (λ (k : Counters). k.device_memory) back.counters in omega arith)
+memory_cause c g rise error back alloc_error.OutOfHostMemory memory device host = (let n = ap (λ (k : Counters). k.host_memory) back.counters in device_refused (omega arith))
+memory_cause c g rise error back alloc_error.FragmentedPool memory device host = absurd (omega arith)
+memory_cause c g rise error back alloc_error.OutOfPoolMemory memory device host = absurd (omega arith)
+
+-- a pool's refusals are those that the device counts
+refusals_counted : (e : DeviceAllocationError) → (alloc_refused e no_rise).pool_refused ≡ pool_refusals e
+refusals_counted alloc_error.OutOfDeviceMemory = refl
+refusals_counted alloc_error.OutOfHostMemory = refl
+refusals_counted alloc_error.FragmentedPool = refl
+refusals_counted alloc_error.OutOfPoolMemory = refl
+
 pool_cause : (c : Call) (s : IsStoppedAtPool c) → HasCause (error_of_alloc s.error) c
-pool_cause c s = by_error s.error refl
-  where
-    by_error : (e : DeviceAllocationError) → s.error ≡ e → HasCause (error_of_alloc e) c
-    by_error alloc_error.OutOfDeviceMemory is =
-        let n = ap (λ (k : Counters). k.device_memory) s.back.counters in
-        let one = ap (λ (e : DeviceAllocationError). (alloc_refused e no_rise).device_memory) is in
-        omega arith
-    by_error alloc_error.OutOfHostMemory is =
-        let n = ap (λ (k : Counters). k.host_memory) s.back.counters in
-        let one = ap (λ (e : DeviceAllocationError). (alloc_refused e no_rise).host_memory) is in
-        device_refused (omega arith)
-    by_error alloc_error.FragmentedPool is = (let m = s.memory in let one = ap pool_refusals is in absurd (omega arith))
-    by_error alloc_error.OutOfPoolMemory is = (let m = s.memory in let one = ap pool_refusals is in absurd (omega arith))
+pool_cause c s = memory_cause c s.grant _ _ s.back s.error s.memory refl refl
 
 fresh_cause : (c : Call) (s : IsStoppedAtFresh c) → HasCause (error_of_alloc s.error) c
 fresh_cause c s = by_error s.error refl
   where
+    counted : {e : DeviceAllocationError} → pool_refusals e ≡ 0 → s.error ≡ e → HasCause (error_of_alloc e) c
+    counted {e} memory is =
+        memory_cause c s.grant _ _ s.back e memory (ap (λ (f : DeviceAllocationError). (alloc_refused f no_rise).device_memory) is) (ap (λ (f : DeviceAllocationError). (alloc_refused f no_rise).host_memory) is)
+
+    refused : {e : DeviceAllocationError} → s.error ≡ e → (alloc_refused e no_rise).pool_refused ≡ 1 → IsFragmentation c
+    refused {e} is once =
+        let n = ap (λ (k : Counters). k.pool_refused) s.back.counters in
+        let one = ap (λ (f : DeviceAllocationError). (alloc_refused f no_rise).pool_refused) is in
+        new_pool_refused s (ap pool_refusals is ∙ sym (refusals_counted e) ∙ once) (omega arith)
+
     by_error : (e : DeviceAllocationError) → s.error ≡ e → HasCause (error_of_alloc e) c
-    by_error alloc_error.OutOfDeviceMemory is =
-        let n = ap (λ (k : Counters). k.device_memory) s.back.counters in
-        let one = ap (λ (e : DeviceAllocationError). (alloc_refused e no_rise).device_memory) is in
-        omega arith
-    by_error alloc_error.OutOfHostMemory is =
-        let n = ap (λ (k : Counters). k.host_memory) s.back.counters in
-        let one = ap (λ (e : DeviceAllocationError). (alloc_refused e no_rise).host_memory) is in
-        device_refused (omega arith)
-    by_error alloc_error.FragmentedPool is =
-        let n = ap (λ (k : Counters). k.pool_refused) s.back.counters in
-        let one = ap (λ (e : DeviceAllocationError). (alloc_refused e no_rise).pool_refused) is in
-        new_pool_refused s (ap pool_refusals is) (omega arith)
-    by_error alloc_error.OutOfPoolMemory is =
-        let n = ap (λ (k : Counters). k.pool_refused) s.back.counters in
-        let one = ap (λ (e : DeviceAllocationError). (alloc_refused e no_rise).pool_refused) is in
-        new_pool_refused s (ap pool_refusals is) (omega arith)
+    by_error alloc_error.OutOfDeviceMemory is = counted refl is
+    by_error alloc_error.OutOfHostMemory is = counted refl is
+    by_error alloc_error.FragmentedPool is = refused is refl
+    by_error alloc_error.OutOfPoolMemory is = refused is refl
 
 -- ---- which pools refused
 
