@@ -13,7 +13,7 @@ use Rattle.descriptor_words.specs.declared.fault.Refusal.{Refusal}
 use Rattle.descriptor_words.specs.declared.fault.Refusal.TheVariants as refusal
 use Rattle.descriptor_lines.specs.Answers.{fault_line}
 use Rattle.descriptor_lines.specs.LineBuffers.{buffered, bytes_at, unread}
-use Rattle.descriptor_lines.specs.Lines.{BeginsTooLong, LosesLine, after_end, before_end, lines_of, to_come}
+use Rattle.descriptor_lines.specs.Lines.{BeginsTooLong, LosesLine, after_end, before_end, lines_of, known_left}
 use Rattle.descriptor_lines.specs.Outcomes.{AppendsFront, IsNoFault, said_of}
 use Rattle.descriptor_lines.specs.Programs.{CanRun, DoesLine, IsFresh, IsReasonFor, IsUnchanged}
 use Rattle.descriptor_lines.specs.Transcripts.{IsAnswered, IsFaultOfLine, Reached, Writes, WritesFromStart, words_in}
@@ -208,7 +208,7 @@ slice_range_none bytes place =
     let none : place - place ≡ 0 = omega arith in
     ap (λ n. take n (drop place bytes)) none
 
-to_come_of_none : (ended : Bool) (known : Option (List ℕ)) → ended ≡ false → to_come ended [] known ≡ known
+to_come_of_none : (ended : Bool) (known : Option (List ℕ)) → ended ≡ false → known_left ended [] known ≡ known
 to_come_of_none true known «open» = absurd (cc)
 to_come_of_none false None «open» = refl
 to_come_of_none false (Some bytes) «open» = refl
@@ -217,7 +217,7 @@ to_come_of_none false (Some bytes) «open» = refl
 pub unread_first : (buffer : LineBuffer) (known : Option (List ℕ)) → buffer.start ≡ buffer.end → buffer.is_at_end ≡ false → unread buffer known ≡ known
 unread_first buffer known empty «open» =
     let nothing : buffered buffer ≡ [] = ap (slice_range buffer.bytes.items buffer.start) (sym empty) ∙ slice_range_none buffer.bytes.items buffer.start in
-    ap (λ l. to_come buffer.is_at_end l known) nothing ∙ to_come_of_none buffer.is_at_end known «open»
+    ap (λ l. known_left buffer.is_at_end l known) nothing ∙ to_come_of_none buffer.is_at_end known «open»
 
 pub from_start : (known : Option (List ℕ)) (start : Program) (exit : Exit) (old new : Option (List ℕ)) → (exit ≡ NoMemory → ⊥) → IsFresh start → Writes known start exit old new → WritesFromStart known exit old new
 from_start known start Done old new memory fresh wrote = (start, fresh, wrote)

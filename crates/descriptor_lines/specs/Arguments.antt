@@ -2,9 +2,10 @@
 use Rattle.std.specs.Prelude.{◌≡◌, ◌⊎◌, ◌<◌, Some, map, ◌≤◌, codes, ℕ, Bool, true, false, List, [], ◌∷◌, None, IsSome}
 use Rattle.std.specs.List.{flat_map}
 use Rattle.std.specs.Option.{option_map}
+use Rattle.gpu_descriptor_types.specs.Bounds.{greatest_u32, greatest_u64}
 use Rattle.gpu_descriptor_types.specs.Counts.{kinds}
 use Rattle.gpu_descriptor_types.specs.declared.counts.DescriptorTotalCount.{DescriptorTotalCount}
-use Rattle.descriptor_lines.specs.Commands.{IsNumberOf}
+use Rattle.descriptor_lines.specs.Commands.{IsNumberOf, most_sets}
 use Rattle.descriptor_lines.specs.declared.command.Command.{Command}
 use Rattle.descriptor_lines.specs.declared.command.Command.TheVariants.{Limit, Layout as MakesLayout, Size, Script, Alloc, Free, Cleanup, Show}
 use Rattle.descriptor_lines.specs.declared.layouts.Layout.{Layout}
@@ -26,7 +27,7 @@ use Rattle.descriptor_lines.specs.declared.layouts.Layouts.{Layouts}
 -- what is wrong with the words of `limit`, which comes too late where a line had a command
 abbrev pub IsFaultOfLimit : Bool → List (List ℕ) → Fault → Type 0
 IsFaultOfLimit true words fault = fault ≡ LimitNotFirst
-IsFaultOfLimit false (word ∷ []) fault = (fault ≡ BadNumber) × ¬ WritesNumberWithin 4294967295 word
+IsFaultOfLimit false (word ∷ []) fault = (fault ≡ BadNumber) × ¬ WritesNumberWithin greatest_u32 word
 IsFaultOfLimit false words fault = fault ≡ BadWordCount
 
 -- what is wrong with the name of a layout, or else with numbers behind it
@@ -39,8 +40,8 @@ IsFaultOfUse layouts name Numbers _ = ⊥
 
 -- the numbers of `size`
 pub record WriteSize (total wanted : List ℕ) : Type 0 where
-  pub total_fits : WritesNumberWithin 18446744073709551615 total
-  pub wanted_fits : WritesNumberWithin 4294967295 wanted
+  pub total_fits : WritesNumberWithin greatest_u64 total
+  pub wanted_fits : WritesNumberWithin greatest_u32 wanted
 
 -- what is wrong with the words of `size`
 abbrev pub IsFaultOfSize : Layouts → List (List ℕ) → Fault → Type 0
@@ -51,7 +52,7 @@ IsFaultOfSize layouts words fault = fault ≡ BadWordCount
 -- what is wrong with the words of `alloc`
 abbrev pub IsFaultOfAlloc : Layouts → List (List ℕ) → Fault → Type 0
 IsFaultOfAlloc layouts (name ∷ count ∷ []) fault =
-    IsFaultOfUse layouts name (WritesNumberWithin 1000000 count) fault
+    IsFaultOfUse layouts name (WritesNumberWithin most_sets count) fault
 IsFaultOfAlloc layouts words fault = fault ≡ BadWordCount
 
 -- the word of a mark, or of none
@@ -135,7 +136,7 @@ pub record GiveAlloc (layouts : Layouts) (name count : List ℕ) (place sets : �
   pub is_name : IsName name
   pub known : IsSome (layout_named layouts name)
   pub place_is : layout_at layouts place ≡ layout_named layouts name
-  pub number : WritesNumberWithin 1000000 count
+  pub number : WritesNumberWithin most_sets count
   pub count_is : sets ≡ value_of count
 
 -- the words behind that of a command give the command

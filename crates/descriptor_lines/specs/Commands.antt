@@ -1,5 +1,6 @@
 -- What the parser knows of the command of a line.
 use Rattle.std.specs.Prelude.{◌≡◌, ◌≤◌, ◌<◌, ℕ, Bool, List, [], ◌∷◌, None, IsFalse}
+use Rattle.gpu_descriptor_types.specs.Bounds.{greatest_u32}
 use Rattle.descriptor_script.specs.declared.command.Command as session
 use Rattle.descriptor_script.specs.declared.command.Command.TheVariants as step
 use Rattle.descriptor_lines.specs.LayoutTable.{layout_named, layout_count}
@@ -8,11 +9,15 @@ use Rattle.descriptor_lines.specs.declared.command.Command.{Command}
 use Rattle.descriptor_lines.specs.declared.command.Command.TheVariants.{Limit, Layout, Alloc}
 use Rattle.descriptor_lines.specs.declared.layouts.Layouts.{Layouts}
 
+-- the most sets of a line that asks for sets
+abbrev pub most_sets : ℕ
+most_sets = 1000000
+
 -- the command can be run where these layouts are
 abbrev pub IsRunnable : Layouts → Command → Type 0
 IsRunnable layouts (Limit max) = layout_count layouts ≡ 0
 IsRunnable layouts (Layout name layout) = layout_named layouts name.now ≡ None
-IsRunnable layouts (Alloc layout count) = (layout < layout_count layouts) × (count ≤ 1000000)
+IsRunnable layouts (Alloc layout count) = (layout < layout_count layouts) × (count ≤ most_sets)
 IsRunnable layouts _ = Unit {0}
 
 -- a limit comes before all other commands
@@ -22,7 +27,7 @@ IsInTime has_begun _ = Unit {0}
 
 -- there is one word, which writes this number
 abbrev pub IsNumberOf : List (List ℕ) → ℕ → Type 0
-IsNumberOf (word ∷ []) number = WritesNumberWithin 4294967295 word × (number ≡ value_of word)
+IsNumberOf (word ∷ []) number = WritesNumberWithin greatest_u32 word × (number ≡ value_of word)
 IsNumberOf _ number = ⊥
 
 -- the session has the layout that the command asks for, where there are so many

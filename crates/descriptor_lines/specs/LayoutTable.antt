@@ -26,8 +26,8 @@ abbrev pub IsNewKey : Layouts → Layout → Type 0
 IsNewKey layouts layout = ¬ Contains (map (λ l. l.1) (layouts_in layouts)) layout
 
 -- one more layout needs no memory
-abbrev pub HasRoom : Layouts → Type 0
-HasRoom layouts = 0 < spare layouts.by_name
+abbrev pub HasSparePlace : Layouts → Type 0
+HasSparePlace layouts = 0 < spare layouts.by_name
 
 -- the same layouts under the same names, in the same order
 abbrev pub SameLayouts : Layouts → Layouts → Type 0

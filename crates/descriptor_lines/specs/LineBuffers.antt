@@ -1,7 +1,7 @@
 -- What a buffer of lines has to give.
 use Rattle.std.specs.Prelude.{ℕ, List, Option, IsTrue, slice_range}
 use Rattle.std.specs.Io.KnownBytes.{IsAtEnd}
-use Rattle.descriptor_lines.specs.Lines.{to_come}
+use Rattle.descriptor_lines.specs.Lines.{known_left}
 use Rattle.descriptor_lines.specs.declared.input.LineBuffer.{LineBuffer}
 use Rattle.descriptor_lines.specs.declared.input.Span.{Span}
 
@@ -15,7 +15,7 @@ bytes_at buffer span = slice_range buffer.bytes.items span.start span.end
 
 -- the bytes that are in no line yet: those in the buffer, and then those that the reader has left
 abbrev pub unread : LineBuffer → Option (List ℕ) → Option (List ℕ)
-unread buffer known = to_come buffer.is_at_end (buffered buffer) known
+unread buffer known = known_left buffer.is_at_end (buffered buffer) known
 
 -- the buffer has seen the end of a reader only where that has nothing left
 abbrev pub SeesEndOf : LineBuffer → Option (List ℕ) → Type 0

@@ -37,11 +37,15 @@ LosesLine None new = ⊤
 LosesLine (Some bytes) None = ⊥
 LosesLine (Some bytes) (Some rest) = (0 < length bytes) × (rest ≡ after_end bytes)
 
+-- the most bytes of a line
+abbrev pub longest_line : ℕ
+longest_line = 4096
+
 -- the first line of known bytes has more bytes than a line may have
 abbrev pub BeginsTooLong : Option (List ℕ) → Type 0
-BeginsTooLong known = IfSome known (λ bytes. 4096 < length (before_end bytes))
+BeginsTooLong known = IfSome known (λ bytes. longest_line < length (before_end bytes))
 
 -- the bytes at hand, and then, before the end of the reader was seen, those that it has left
-abbrev pub to_come : Bool → List ℕ → Option (List ℕ) → Option (List ℕ)
-to_come true bytes known = Some bytes
-to_come false bytes known = prepend_known bytes known
+abbrev pub known_left : Bool → List ℕ → Option (List ℕ) → Option (List ℕ)
+known_left true bytes known = Some bytes
+known_left false bytes known = prepend_known bytes known

@@ -4,7 +4,7 @@ ghost use Rattle.std.specs.Prelude.{OnErr, OnOk, Err, IsFalse, length, vec_len, 
 ghost use Rattle.std.specs.Io.BufRead.{strip_last};
 ghost use Rattle.std.specs.Io.KnownBytes.{IsAtEnd, Keeps};
 ghost use Rattle.descriptor_lines.specs.Lines.{HasEnd, HasNoEnd, LosesLine, BeginsTooLong};
-ghost use Rattle.descriptor_lines.specs.Lines.{before_end, after_end};
+ghost use Rattle.descriptor_lines.specs.Lines.{before_end, after_end, longest_line};
 
 use descriptor_words::first_of;
 use std::alloc::{AllocError, Global};
@@ -77,7 +77,8 @@ impl LineBuffer {
     ///
     /// After an error the lines that were complete have been given, and the next one is not.
     pub fn next_line<R: Read>(&mut self, input: &mut R) -> Result<Option<Span>, InputFault>
-        ensures short { IfOk result (λ span. IfSome span (λ span. span.end - span.start ≤ 4096)) }
+        ensures short { IfOk result (λ span. IfSome span (λ span.
+            span.end - span.start ≤ longest_line)) }
 
         // Where the reader's bytes are known.
         ensures line { IfOk result (λ span. IfSome span (λ span.
@@ -119,7 +120,8 @@ impl LineBuffer {
 
     /// The line that ends among the bytes.
     fn take_line(&mut self) -> Result<Option<Span>, InputFault>
-        ensures short { IfOk result (λ span. IfSome span (λ span. span.end - span.start ≤ 4096)) }
+        ensures short { IfOk result (λ span. IfSome span (λ span.
+            span.end - span.start ≤ longest_line)) }
         ensures found { IfOk result (λ span. IfSome span (λ _. HasEnd (buffered self.old))) }
         ensures line { IfOk result (λ span. IfSome span (λ span. bytes_at self.new span
             ≡ before_end (buffered self.old))) }
@@ -127,9 +129,10 @@ impl LineBuffer {
             ≡ after_end (buffered self.old))) }
         ensures none { IfOk result (λ span. IfNone span (HasNoEnd (buffered self.old))) }
         ensures kept { IfOk result (λ span. IfNone span (buffered self.new ≡ buffered self.old)) }
-        ensures few { IfOk result (λ span. IfNone span (self.new.end - self.new.start ≤ 4096)) }
+        ensures few { IfOk result (λ span. IfNone span
+            (self.new.end - self.new.start ≤ longest_line)) }
         ensures fault { IfErr result (λ fault. fault ≡ InputFault.LineTooLong) }
-        ensures too_long { OnErr result (4096 < length (before_end (buffered self.old))) }
+        ensures too_long { OnErr result (longest_line < length (before_end (buffered self.old))) }
         ensures kept_whole { OnErr result (buffered self.new ≡ buffered self.old) }
         ensures reads { self.new.reads_left ≡ self.old.reads_left }
         ensures end { self.new.is_at_end ≡ self.old.is_at_end }
@@ -172,7 +175,7 @@ impl LineBuffer {
 
     /// Reads once behind the bytes, of which there are at most as many as a line may have.
     fn read_more<R: Read>(&mut self, input: &mut R) -> Result<(), InputFault>
-        requires few { self.old.end - self.old.start ≤ 4096 }
+        requires few { self.old.end - self.old.start ≤ longest_line }
         requires open { IsFalse self.old.is_at_end }
         ensures counted { OnOk result (self.new.reads_left + 1 ≡ self.old.reads_left) }
         ensures fault { IfErr result (λ fault. fault ≡ InputFault.Read) }
@@ -192,8 +195,8 @@ impl LineBuffer {
 
     /// Moves the bytes to the front of the buffer, so that there is room behind them.
     fn move_to_front(&mut self)
-        requires { self.old.end - self.old.start ≤ 4096 }
-        ensures room { self.new.end ≤ 4096 }
+        requires { self.old.end - self.old.start ≤ longest_line }
+        ensures room { self.new.end ≤ longest_line }
         ensures bytes { buffered self.new ≡ buffered self.old }
         ensures reads { self.new.reads_left ≡ self.old.reads_left }
         ensures end { self.new.is_at_end ≡ self.old.is_at_end }

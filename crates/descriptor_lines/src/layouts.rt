@@ -38,7 +38,7 @@ pub struct Layouts {
 impl Layouts {
     ghost use Rattle.descriptor_lines.specs.LayoutTable.{layout_at, layout_count};
     ghost use Rattle.descriptor_lines.specs.LayoutTable.{layout_named, layouts_in};
-    ghost use Rattle.descriptor_lines.specs.LayoutTable.{HasRoom, IsNewKey, SameLayouts};
+    ghost use Rattle.descriptor_lines.specs.LayoutTable.{HasSparePlace, IsNewKey, SameLayouts};
 
     pub fn new(alloc: Global) -> Self
         ensures { layouts_in result ≡ [] }
@@ -82,7 +82,7 @@ impl Layouts {
 
     /// Takes room for one more layout.
     pub fn reserve(&mut self) -> Result<(), AllocError>
-        ensures room { OnOk result (HasRoom self.new) }
+        ensures room { OnOk result (HasSparePlace self.new) }
         ensures same { SameLayouts self.old self.new }
     {
         self.by_name.reserve(1)
@@ -109,7 +109,7 @@ impl Layouts {
 
     /// Puts a layout of a new name last, over room that was taken.
     pub fn push(&mut self, name: String, layout: Layout)
-        requires room { HasRoom self.old }
+        requires room { HasSparePlace self.old }
         requires absent { layout_named self.old (string_bytes name) ≡ None }
         ensures layouts { layouts_in self.new ≡ layouts_in self.old ++ (string_bytes name, layout)
             ∷ [] }

@@ -1,7 +1,8 @@
 -- The names of the kinds of descriptors, and the words that give their counts.
 use Rattle.std.specs.Prelude.{◌≡◌, ◌≢◌, ℕ, List, [], ◌∷◌, codes, map, All, AllPairs, Contains, Some, slice_get, slice_index}
 use Rattle.std.specs.List.{before_first, after_first}
-use Rattle.descriptor_words.specs.Numbers.{WritesNumberWithin, greatest_u32, value_of}
+use Rattle.gpu_descriptor_types.specs.Bounds.{greatest_u32}
+use Rattle.descriptor_words.specs.Numbers.{WritesNumberWithin, value_of}
 use Rattle.descriptor_words.specs.Words.{AtWord, is_byte}
 use Rattle.descriptor_words.specs.declared.fault.Fault.{Fault}
 use Rattle.descriptor_words.specs.declared.fault.Fault.TheVariants.{BadKind, KindTwice, BadNumber}

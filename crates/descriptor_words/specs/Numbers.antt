@@ -7,13 +7,6 @@ use Rattle.std.specs.Str.Parse.{digits_value}
 abbrev pub value_of : List ℕ → ℕ
 value_of digits = digits_value 10 digits
 
--- the greatest number of 32 bits, and of 64
-abbrev pub greatest_u32 : ℕ
-greatest_u32 = 4294967295
-
-abbrev pub greatest_u64 : ℕ
-greatest_u64 = 18446744073709551615
-
 -- a word writes a number of at most `greatest`: 1 to 20 digits, leading zeros allowed
 pub record WritesNumberWithin (greatest : ℕ) (word : List ℕ) : Type 0 where
   pub some : 1 ≤ length word

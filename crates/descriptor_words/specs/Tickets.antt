@@ -1,7 +1,8 @@
 -- The tickets of a line that gives sets back.
 use Rattle.std.specs.Prelude.{ℕ, ◌+◌, ◌-◌, ◌<◌, ◌≤◌, List, [], ◌∷◌, ◌++◌, All, length, reverse, position, Option, is_some, if◌then◌else◌, nat_le}
 use Rattle.std.specs.List.{flat_map, range_with_len, before_first, after_first}
-use Rattle.descriptor_words.specs.Numbers.{WritesNumberWithin, greatest_u64, value_of}
+use Rattle.gpu_descriptor_types.specs.Bounds.{greatest_u64}
+use Rattle.descriptor_words.specs.Numbers.{WritesNumberWithin, value_of}
 use Rattle.descriptor_words.specs.Words.{AtWord, is_byte}
 use Rattle.descriptor_words.specs.declared.fault.Fault.{Fault}
 use Rattle.descriptor_words.specs.declared.fault.Fault.TheVariants.{BadNumber, TooManyTickets}

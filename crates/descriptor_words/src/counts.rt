@@ -2,7 +2,8 @@
 ghost use Rattle.std.specs.Prelude.{◌≡◌, ◌↔◌, IsOk, IfOk, IfErr, OnOk};
 ghost use Rattle.gpu_descriptor_types.specs.Counts.{kinds};
 ghost use Rattle.descriptor_words.specs.Kinds.{AreKinds, GiveCounts, IsFaultOfKinds};
-ghost use Rattle.descriptor_words.specs.Numbers.{WritesNumberWithin, greatest_u32, value_of};
+ghost use Rattle.gpu_descriptor_types.specs.Bounds.{greatest_u32};
+ghost use Rattle.descriptor_words.specs.Numbers.{WritesNumberWithin, value_of};
 ghost use Rattle.descriptor_words.specs.Words.{words_left};
 
 use crate::fault::Fault;

@@ -3,7 +3,8 @@ ghost use Rattle.std.specs.Prelude.{◌≡◌, ◌≢◌, ◌+◌, ◌^◌, ◌�
 ghost use Rattle.std.specs.Prelude.{IsOk, IfOk, IfErr, OnOk, Err};
 ghost use Rattle.std.specs.List.{flat_map};
 ghost use Rattle.descriptor_words.specs.Fault.{IfFault, faulty};
-ghost use Rattle.descriptor_words.specs.Numbers.{WritesNumberWithin, greatest_u64, value_of};
+ghost use Rattle.gpu_descriptor_types.specs.Bounds.{greatest_u64};
+ghost use Rattle.descriptor_words.specs.Numbers.{WritesNumberWithin, value_of};
 ghost use Rattle.descriptor_words.specs.Tickets.{AreTickets, IsFaultOfFree, WritesTickets, falling};
 ghost use Rattle.descriptor_words.specs.Tickets.{first_of, first_side, last_of, last_side};
 ghost use Rattle.descriptor_words.specs.Tickets.{most_tickets, rising, span_length};

@@ -1,4 +1,5 @@
 -- What a request leaves of an allocator: why it is declined before the walk, and what it took.
+use Rattle.gpu_descriptor_types.specs.Bounds.{greatest_u64}
 use Rattle.std.proofs.Common.{[], ◌≡◌, ℕ, ◌+◌, ◌-◌, ◌*◌, ◌<◌, ◌≤◌, ◌&&◌, Bool, true, false, List, map, length, sum, sum_by, Result, Err, inl, inr, refl, sym, ap, subst, ◌∙◌, arith}
 use Rattle.std.proofs.Math.Path.{fun_ext}
 use Rattle.std.proofs.Math.Nat.{mul-le-mul_right}
@@ -133,10 +134,10 @@ module _ {P : Type 0} (name : P → ℕ) (a : Allocations P) (before : Ledger) (
       in_limit : (answer : Result _ AllocationError) → IsWithinLimit (call_of name k count a b before after answer)
       in_limit answer = record { load = marked_load_of a; is_load = load_is; within = within }
 
-      pub past_bound : (18446744073709551615 < next_number ((state_of name a before).books k) + count) ⊎ (18446744073709551615 < outstanding_of a + count) → Allocates (call_of name k count a b before after (Err Fragmentation))
+      pub past_bound : (greatest_u64 < next_number ((state_of name a before).books k) + count) ⊎ (greatest_u64 < outstanding_of a + count) → Allocates (call_of name k count a b before after (Err Fragmentation))
       past_bound past = bound some (in_limit _) (record { out = outstanding_of a; is_out = out_is; past = past }) refl (stays _)
 
-      pub unserved : outstanding_of a + count ≤ 18446744073709551615 → (e : AllocationError) → IsUnserved count e ((state_of name a before).books k) → Allocates (call_of name k count a b before after (Err e))
+      pub unserved : outstanding_of a + count ≤ greatest_u64 → (e : AllocationError) → IsUnserved count e ((state_of name a before).books k) → Allocates (call_of name k count a b before after (Err e))
       unserved sets e why = elim why [
         | inl memory ↦ (rw memory.0 (start (record { some = some; limit = in_limit _; bound = record { out = outstanding_of a; is_out = out_is; numbers = memory.1; sets = sets } }) refl (stays _)))
         | inr past ↦ (rw past.0 (past_bound (inl past.1)))
@@ -150,7 +151,7 @@ module _ {P S : Type 0} (name : P → ℕ) (set_name : S → ℕ) (most looks_be
   new = record { limit = most; table = map row_of fs; looks = looks_after; comparisons = compared }
 
   pub takes : (key : BucketKey) (room count : ℕ) (sets : List (DescriptorSet S)) (taken : Result (Unit {0}) Refusal) (before after : Ledger) → HasDistinctKeys (table_of name old) → HasDistinctKeys (table_of name new) → ServesKey name set_name key room count sets taken es fs before after → room + sum_by stored_load_in es ≡ most
-      → ((key_of key).marked ≡ true → count * sum (key_of key).counts + marked_load_of old ≤ most) → outstanding_of old + count ≤ 18446744073709551615 → Takes name set_name (key_of key) count sets taken old new before after
+      → ((key_of key).marked ≡ true → count * sum (key_of key).counts + marked_load_of old ≤ most) → outstanding_of old + count ≤ greatest_u64 → Takes name set_name (key_of key) count sets taken old new before after
   takes key room count sets taken before after distinct still s all within fits = record {
     distinct = distinct;
     still = still;
@@ -181,20 +182,20 @@ module _ {P : Type 0} (name : P → ℕ) {a : Allocations P} {most looks compare
       let both = and_parts key.update_after_bind (nat_lt a.limit (count * sum (kinds key.size) + marked_load_of a)) (sym test ∙ passed) in
       above_limit name a before apart (key_of key) count some a before refl refl both.0 (ltb-true a.limit (count * sum (kinds key.size) + marked_load_of a) both.1)
 
-  module _ (below : above ≡ false) {past : Bool} (bounded : past ≡ nat_lt 18446744073709551615 (out + count)) where
+  module _ (below : above ≡ false) {past : Bool} (bounded : past ≡ nat_lt greatest_u64 (out + count)) where
     inside : key.update_after_bind ≡ true → count * sum (kinds key.size) + marked_load_of a ≤ a.limit
     inside = within_of key.update_after_bind a.limit (count * sum (kinds key.size) + marked_load_of a) (sym test ∙ below)
 
     pub declined_by_bound : past ≡ true → Allocates (call_of name (key_of key) count a a before before (Err Fragmentation))
     declined_by_bound passed =
-        let more = ltb-true 18446744073709551615 (out + count) (sym bounded ∙ passed) in
+        let more = ltb-true greatest_u64 (out + count) (sym bounded ∙ passed) in
         let all = out_of a es (table_is es is) in
         let is_out = counted.is_out in
         past_bound name a before apart (key_of key) count some a before refl refl inside (inr (omega arith))
 
     pub declined_unserved : past ≡ false → {b : Allocations P} {after : Ledger} → b ≡ a → after ≡ before → (e : AllocationError) → IsUnserved count e (books_in name es (key_of key)) → Allocates (call_of name (key_of key) count a b before after (Err e))
     declined_unserved kept_in {b} {after} same kept e why =
-        let fits = ltb-false 18446744073709551615 (out + count) (sym bounded ∙ kept_in) in
+        let fits = ltb-false greatest_u64 (out + count) (sym bounded ∙ kept_in) in
         let all = out_of a es (table_is es is) in
         let is_out = counted.is_out in
         unserved name a before apart (key_of key) count some b after same kept inside (omega arith) e (subst (λ (x : Bucket). IsUnserved count e x) (sym (books_at a es (table_is es is) name before (key_of key))) why)
@@ -221,10 +222,10 @@ module _ {P S : Type 0} {name : P → ℕ} {set_name : S → ℕ} {key : BucketK
       let fits = given_fits long in
       counted_more name set_name key room count sets taken es fs before after s most marked room left out more given counted (load ∙ ap (marked_load (key_of key)) long) long (omega arith) moved distinct
 
-  pub takes_of : {past : Bool} → past ≡ nat_lt 18446744073709551615 (out + count) → past ≡ false → HasDistinctKeys (table_of name a) → {looked : ℕ} → HasDistinctKeys (map (named_row name) (map row_of fs)) → Takes name set_name (key_of key) count sets taken a (seen most looked compared fs) before after
+  pub takes_of : {past : Bool} → past ≡ nat_lt greatest_u64 (out + count) → past ≡ false → HasDistinctKeys (table_of name a) → {looked : ℕ} → HasDistinctKeys (map (named_row name) (map row_of fs)) → Takes name set_name (key_of key) count sets taken a (seen most looked compared fs) before after
   takes_of bounded kept_in distinct {looked} still =
-      let fits = ltb-false 18446744073709551615 (out + count) (sym bounded ∙ kept_in) in
+      let fits = ltb-false greatest_u64 (out + count) (sym bounded ∙ kept_in) in
       let all = out_of a es (table_is es is) in
       let is_out = counted.is_out in
-      subst (λ (x : Allocations P). HasDistinctKeys (table_of name x) → (key.update_after_bind ≡ true → count * sum (kinds key.size) + marked_load_of x ≤ x.limit) → outstanding_of x + count ≤ 18446744073709551615 → Takes name set_name (key_of key) count sets taken x (seen most looked compared fs) before after) is
+      subst (λ (x : Allocations P). HasDistinctKeys (table_of name x) → (key.update_after_bind ≡ true → count * sum (kinds key.size) + marked_load_of x ≤ x.limit) → outstanding_of x + count ≤ greatest_u64 → Takes name set_name (key_of key) count sets taken x (seen most looked compared fs) before after) is
       (λ d w f. takes name set_name most looks looked compared es fs key room count sets taken before after d still s counted.is_room w f) distinct sets_within (omega arith)

@@ -1,6 +1,7 @@
 //! The pools of one key.
 ghost use Rattle.std.specs.Prelude.{◌≡◌, ◌+◌, ◌<◌, ◌≤◌, ◌^◌, length, nat_lt, sum_by};
 ghost use Rattle.std.specs.VecDeque.{deque_capacity};
+ghost use Rattle.gpu_descriptor_types.specs.Bounds.{greatest_u64};
 ghost use Rattle.gpu_descriptor.specs.Model.Load.{pool_load};
 ghost use Rattle.gpu_descriptor.specs.Inner.OpenNumbers.{free_in, open_numbers};
 ghost use Rattle.gpu_descriptor.specs.Caller.Sets.{key_of};
@@ -66,7 +67,7 @@ pub(crate) fn descriptors_of_pool(key: &BucketKey, sets: u32) -> u32
 
 /// Whether so many more would pass the greatest number of 64 bits.
 pub(crate) fn is_past_bound(number: u64, count: u32) -> bool
-    ensures { result ≡ nat_lt 18446744073709551615 (number + count) }
+    ensures { result ≡ nat_lt greatest_u64 (number + count) }
 {
     number.checked_add(u64::from(count)).is_none()
 }

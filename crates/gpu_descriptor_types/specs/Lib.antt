@@ -1,3 +1,4 @@
+pub mod Bounds
 pub mod Counts
 pub mod Flags
 pub mod Layouts

@@ -1,4 +1,5 @@
 -- What a request took of one key, before any of it goes back: in the bucket, and in the table.
+use Rattle.gpu_descriptor_types.specs.Bounds.{greatest_u64}
 use Rattle.std.specs.Prelude.{◌≡◌, ℕ, ◌+◌, ◌<◌, ◌≤◌, ◌⊎◌, if◌then◌else◌, List, length, sum_by, OnOk, IfErr, Result}
 use Rattle.gpu_descriptor_types.specs.Ledger.{Ledger}
 use Rattle.gpu_descriptor.specs.Model.Load.{marked_load}
@@ -15,7 +16,7 @@ use Rattle.gpu_descriptor.specs.Inner.Grow.{IsTakenAll, IsTakenUpTo}
 
 module _ {P S : Type 0} (pool_name : P → ℕ) (set_name : S → ℕ) where
   pub record Serves (k : Key) (room count : ℕ) (sets : List (DescriptorSet S)) (taken : Result (Unit {0}) Refusal) (old new : DescriptorBucket P) (before after : Ledger) : Type 0 where
-    pub numbers : next_number (bucket_of pool_name old) + count ≤ 18446744073709551615
+    pub numbers : next_number (bucket_of pool_name old) + count ≤ greatest_u64
     pub offset : new.offset ≡ old.offset
     pub total : new.total ≡ old.total + length sets
     pub few : length sets ≤ count
@@ -23,7 +24,7 @@ module _ {P S : Type 0} (pool_name : P → ℕ) (set_name : S → ℕ) where
     pub stopped : IfErr taken (λ why. IsTakenUpTo why k room count old.offset (items_of set_name sets) (bucket_of pool_name old).pools (bucket_of pool_name new).pools before after)
 
   pub record ServesKey (key : BucketKey) (room count : ℕ) (sets : List (DescriptorSet S)) (taken : Result (Unit {0}) Refusal) (old new : List (BucketKey × DescriptorBucket P)) (before after : Ledger) : Type 0 where
-    pub numbers : next_number (books_in pool_name old (key_of key)) + count ≤ 18446744073709551615
+    pub numbers : next_number (books_in pool_name old (key_of key)) + count ≤ greatest_u64
     pub few : length sets ≤ count
     pub pools : List Entry
     pub books : (l : Key) → books_in pool_name new l ≡ (if key_eq (key_of key) l then record (books_in pool_name old (key_of key)) { pools = pools } else books_in pool_name old l)
@@ -34,4 +35,4 @@ module _ {P S : Type 0} (pool_name : P → ℕ) (set_name : S → ℕ) where
 
 -- nothing was taken: memory was wanting, or the numbers of the key's pools would pass 64 bits
 abbrev pub IsUnserved : ℕ → AllocationError → Bucket → Type 0
-IsUnserved count e b = ((e ≡ OutOfHostMemory) × (next_number b + count ≤ 18446744073709551615)) ⊎ ((e ≡ Fragmentation) × (18446744073709551615 < next_number b + count))
+IsUnserved count e b = ((e ≡ OutOfHostMemory) × (next_number b + count ≤ greatest_u64)) ⊎ ((e ≡ Fragmentation) × (greatest_u64 < next_number b + count))

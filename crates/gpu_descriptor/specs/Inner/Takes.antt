@@ -1,4 +1,5 @@
 -- What a request took of its key's pools, before any of it goes back.
+use Rattle.gpu_descriptor_types.specs.Bounds.{greatest_u64}
 use Rattle.std.specs.Prelude.{◌≡◌, ℕ, ◌+◌, ◌-◌, ◌*◌, ◌≤◌, true, List, length, sum, OnOk, IfErr, Result}
 use Rattle.gpu_descriptor_types.specs.Ledger.{Ledger}
 use Rattle.gpu_descriptor.specs.declared.set.DescriptorSet.{DescriptorSet}
@@ -17,8 +18,8 @@ pub record Takes {P S : Type 0} (pool_name : P → ℕ) (set_name : S → ℕ) (
   pub distinct : HasDistinctKeys (table_of pool_name old)
   pub still : HasDistinctKeys (table_of pool_name new)
   pub within : k.marked ≡ true → count * sum k.counts + marked_load_of old ≤ old.limit
-  pub numbers : next_number ((state_of pool_name old before).books k) + count ≤ 18446744073709551615
-  pub fits : outstanding_of old + count ≤ 18446744073709551615
+  pub numbers : next_number ((state_of pool_name old before).books k) + count ≤ greatest_u64
+  pub fits : outstanding_of old + count ≤ greatest_u64
   pub total : outstanding_of new ≡ outstanding_of old + length sets
   pub marked : marked_load_of new ≡ marked_load_of old + marked_load k (length sets)
   pub pools : List Entry

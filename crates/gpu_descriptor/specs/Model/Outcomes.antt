@@ -1,4 +1,5 @@
 -- What a request for sets may do: its outcomes.
+use Rattle.gpu_descriptor_types.specs.Bounds.{greatest_u64}
 use Rattle.std.specs.Prelude.{ℕ, List, ◌≡◌, ◌+◌, ◌-◌, ◌*◌, ◌≤◌, ◌<◌, true, ◌⊎◌, [], ◌∷◌, ◌++◌, map, length, sum, drop, Result, Ok, Err}
 use Rattle.gpu_descriptor_types.specs.declared.errors.CreatePoolError.{CreatePoolError}
 use Rattle.gpu_descriptor_types.specs.declared.errors.DeviceAllocationError.{DeviceAllocationError}
@@ -130,13 +131,13 @@ pub record IsWithinLimit (c : Call) : Type 0 where
 pub record IsPastBound (c : Call) : Type 0 where
   pub out : ℕ
   pub is_out : IsOut c.old out
-  pub past : (18446744073709551615 < next_number (c.old.books c.request.key) + c.request.count) ⊎ (18446744073709551615 < out + c.request.count)
+  pub past : (greatest_u64 < next_number (c.old.books c.request.key) + c.request.count) ⊎ (greatest_u64 < out + c.request.count)
 
 pub record IsInBound (c : Call) : Type 0 where
   pub out : ℕ
   pub is_out : IsOut c.old out
-  pub numbers : next_number (c.old.books c.request.key) + c.request.count ≤ 18446744073709551615
-  pub sets : out + c.request.count ≤ 18446744073709551615
+  pub numbers : next_number (c.old.books c.request.key) + c.request.count ≤ greatest_u64
+  pub sets : out + c.request.count ≤ greatest_u64
 
 -- the tests before the walk are passed
 pub record Proceeds (c : Call) : Type 0 where

@@ -1,13 +1,13 @@
 use Rattle.std.proofs.Common.{◌≡◌, ◌<◌, length}
 use Rattle.descriptor_lines.specs.LineBuffers.{buffered, bytes_at}
-use Rattle.descriptor_lines.specs.Lines.{before_end}
+use Rattle.descriptor_lines.specs.Lines.{before_end, longest_line}
 use Rattle.descriptor_lines.proofs.LineLemmas.{Keeps-IfSome, Keeps-LosesLine, taken, taken_line, too_long}
 use Rattle.descriptor_lines.proofs.input.LineBuffer.next_line.Goals as goal
 
 pub returns-in_err-span-clause-too_long : goal.returns-in_err-span-clause-too_long
 returns-in_err-span-clause-too_long g c =
     let s = c.loop-span.self in
-    λ _. Keeps-IfSome _ _ (λ bytes. 4096 < length (before_end bytes)) c.loop-span.invariant.kept (too_long s.is_at_end _ (buffered s) c.in_err-span.ensures.too_long)
+    λ _. Keeps-IfSome _ _ (λ bytes. longest_line < length (before_end bytes)) c.loop-span.invariant.kept (too_long s.is_at_end _ (buffered s) c.in_err-span.ensures.too_long)
 
 pub returns-in-Some-clause-line : goal.returns-in-Some-clause-line
 returns-in-Some-clause-line g c =

@@ -1,3 +1,4 @@
+use Rattle.gpu_descriptor_types.specs.Bounds.{greatest_u64}
 use Rattle.std.proofs.Common.{◌+◌, ◌≤◌, arith, refl, ap, subst, sym, ◌∙◌}
 use Rattle.std.proofs.lemmas.Bool.{ltb-false}
 use Rattle.gpu_descriptor_types.specs.Ledger.{Ledger}
@@ -30,7 +31,7 @@ serve_key-served-requires-clause-booked g c =
 
 pub serve_key-served-requires-clause-bound : goal.serve_key-served-requires-clause-bound
 serve_key-served-requires-clause-bound g c =
-    let below = ltb-false 18446744073709551615 (c.self.inside.outstanding + c.args.count) (sym c.is_past_bound.ensures ∙ c.if-is_past_bound.false) in
+    let below = ltb-false greatest_u64 (c.self.inside.outstanding + c.args.count) (sym c.is_past_bound.ensures ∙ c.if-is_past_bound.false) in
     let is = c.self.invariant.is_out in
     omega arith
 
@@ -60,7 +61,7 @@ pub overflow_add-self : goal.overflow_add-self
 overflow_add-self g c =
     let given = c.len-given.ensures ∙ c.in-Ok.served.sets.ok.0 in
     let few = c.in-Ok.ensures.served.few in
-    let below = ltb-false 18446744073709551615 (c.self.inside.outstanding + c.args.count) (sym c.is_past_bound.ensures ∙ c.if-is_past_bound.false) in
+    let below = ltb-false greatest_u64 (c.self.inside.outstanding + c.args.count) (sym c.is_past_bound.ensures ∙ c.if-is_past_bound.false) in
     omega arith
 
 pub overflow_add-self-2 : goal.overflow_add-self-2

@@ -1,3 +1,4 @@
+use Rattle.gpu_descriptor_types.specs.Bounds.{greatest_u64}
 use Rattle.std.proofs.Common.{◌≡◌, ◌+◌, ◌≤◌, ◌++◌, ◌∷◌, [], Bool, List, Result, Ok, Err, None, inl, refl, sym, ap, ◌∙◌, subst, arith, rules, map}
 use Rattle.std.specs.List.{IsDistinct}
 use Rattle.std.specs.Option.{option_copied_mut}
@@ -82,7 +83,7 @@ absent g c = missing g.D.DescriptorDevice.pool_name (key_of c.args.key) c.args.b
 pub returns-then-is_err-clause-refused : goal.returns-then-is_err-clause-refused
 returns-then-is_err-clause-refused g c =
     let is = absent g (goal.at.returns-then-is_err-clause-refused g c).In-None in
-    inl (refl, subst (λ (b : Bucket). next_number b + c.args.count ≤ 18446744073709551615) (sym is) (let n = c.ranges.count.fits in omega arith))
+    inl (refl, subst (λ (b : Bucket). next_number b + c.args.count ≤ greatest_u64) (sym is) (let n = c.ranges.count.fits in omega arith))
 
 pub returns-in-Err-clause-refused : goal.returns-in-Err-clause-refused
 returns-in-Err-clause-refused g c =

@@ -1,3 +1,4 @@
+use Rattle.gpu_descriptor_types.specs.Bounds.{greatest_u64}
 use Rattle.std.proofs.Common.{◌≤◌, ◌+◌, List, arith, sym, ◌∙◌, subst}
 use Rattle.std.proofs.lemmas.Bool.{ltb-false}
 use Rattle.std.proofs.lemmas.List.{length-map}
@@ -16,7 +17,7 @@ returns-clause-served g c =
     let m : Ledger = g.D.DescriptorDevice.ledger c.take-taken.new.device in
     subst (λ (x : List (DescriptorSet g.row.S.Denot)). Serves g.D.DescriptorDevice.pool_name g.D.DescriptorDevice.set_name key c.args.room.now c.args.count x c.take-taken.result c.args.self.now c.take-taken.new.self l m) (sym c.into_sets-sets.ensures) (record {
       numbers = (
-          let below : c.args.self.now.offset + c.len.result + c.args.count ≤ 18446744073709551615 = ltb-false 18446744073709551615 (c.args.self.now.offset + c.len.result + c.args.count) (sym c.is_past_bound.ensures ∙ c.if-is_past_bound.false) in
+          let below : c.args.self.now.offset + c.len.result + c.args.count ≤ greatest_u64 = ltb-false greatest_u64 (c.args.self.now.offset + c.len.result + c.args.count) (sym c.is_past_bound.ensures ∙ c.if-is_past_bound.false) in
           let long = length-map c.args.self.now.pools.items (entry_of g.D.DescriptorDevice.pool_name) in
           let n = c.len.ensures in
           let ok = c.args.self.now.pools.ok.0 in

@@ -1,0 +1,10 @@
+-- The greatest numbers that a machine's integers hold.
+use Rattle.std.specs.Prelude.{ℕ}
+
+-- the greatest number of 32 bits
+abbrev pub greatest_u32 : ℕ
+greatest_u32 = 4294967295
+
+-- the greatest number of 64 bits
+abbrev pub greatest_u64 : ℕ
+greatest_u64 = 18446744073709551615
