@@ -1,5 +1,5 @@
 use Rattle.std.proofs.Common.{◌≡◌, ℕ, List, set, ◌+◌, ◌<◌, ◌≤◌, ◌-◌, rules, arith, sym, refl, ◌∙◌, ap, subst, length, map, slice_get, [], ◌∷◌, Some, length-set, eqb-true}
-use Rattle.std.specs.Prelude.{IfSome}
+
 use Rattle.std.proofs.lemmas.List.{length-map}
 use Rattle.std.proofs.lemmas.Option.{slice_get_read}
 use Rattle.gpu_descriptor.specs.declared.bucket.DescriptorPool.{DescriptorPool}
@@ -24,7 +24,7 @@ use Rattle.gpu_descriptor.proofs.BucketRun.{AreTaken, are_taken, is_within, read
 use Rattle.gpu_descriptor.proofs.LedgerPools.{taken_from, release_pools}
 use Rattle.gpu_descriptor.proofs.OneRun.{run_counts, run_live, run_ends, run_goes, done}
 use Rattle.gpu_descriptor.proofs.Turns.{bucket}
-use Rattle.gpu_descriptor.proofs.bucket.DescriptorBucket.release_run.Goals.{Start, After-index_mut-pool}
+use Rattle.gpu_descriptor.proofs.bucket.DescriptorBucket.release_run.Goals.{Start, After-index_mut-pool, After-finish-count}
 use Rattle.gpu_descriptor.proofs.bucket.DescriptorBucket.release_run.Goals as goal
 
 -- one set alone is in the place
@@ -64,10 +64,35 @@ here g c =
 read : (g : _) (c : After-index_mut-pool g) → slice_get c.args.self.now.pools.items (c.args.first.number - c.args.self.now.offset) ≡ Some c.index_mut-pool.result.now
 read g c = slice_get_read c.args.self.now.pools.items (length c.args.self.now.pools.items) (c.args.first.number - c.args.self.now.offset) c.index_mut-pool.result.now refl (here g c) c.index_mut-pool.ensures.value
 
--- the sets of which the release speaks are live in the place
-taken : (g : _) (c : After-index_mut-pool g) (ls : List LiveSet) (ys : List _) → map (λ x. x.name) ls ≡ map g.D.DescriptorDevice.set_name ys → IfSome ((g.D.DescriptorDevice.ledger c.args.device.now).pools (g.D.DescriptorDevice.pool_name c.index_mut-pool.result.now.raw)) (λ pool. AreIn ls pool.live)
-    → AreTaken (map g.D.DescriptorDevice.set_name ys) (live_in (g.D.DescriptorDevice.ledger c.args.device.now).pools (g.D.DescriptorDevice.pool_name c.index_mut-pool.result.now.raw)) ls
-taken g c ls ys are live = are_taken (key_of c.args.first.key) (bucket_of g.D.DescriptorDevice.pool_name c.args.self.now) (g.D.DescriptorDevice.ledger c.args.device.now).pools (c.args.first.number - c.args.self.now.offset) (entry_of g.D.DescriptorDevice.pool_name c.index_mut-pool.result.now) (map g.D.DescriptorDevice.set_name ys) ls c.requires.stored (at g c) are live
+-- what the run says of the place, once its sets are counted
+module _ (g : _) (c : After-finish-count g) where
+  abbrev place : ℕ
+  place = c.args.first.number - c.args.self.now.offset
+
+  abbrev e : Entry
+  e = entry_of g.D.DescriptorDevice.pool_name c.index_mut-pool.result.now
+
+  module _ (at : slice_get (bucket_of g.D.DescriptorDevice.pool_name c.args.self.now).pools place ≡ Some e) where
+    -- the sets of which the release speaks are live in the place
+    taken : AreTaken (map g.D.DescriptorDevice.set_name c.dealloc_descriptor_sets.ensures.released.items) (live_in (g.D.DescriptorDevice.ledger c.args.device.now).pools e.pool) c.dealloc_descriptor_sets.ensures.released.gone
+    taken =
+        let t = c.dealloc_descriptor_sets.ensures.released in
+        are_taken (key_of c.args.first.key) (bucket_of g.D.DescriptorDevice.pool_name c.args.self.now) (g.D.DescriptorDevice.ledger c.args.device.now).pools place e (map g.D.DescriptorDevice.set_name t.items) t.gone c.requires.stored at t.named t.live
+
+    -- as many sets were counted as went
+    counted : (c.finish-count.result ≤ e.allocated) × (c.finish-count.result ≡ length c.dealloc_descriptor_sets.ensures.released.gone) × (0 < c.finish-count.result)
+    counted =
+        let t = c.dealloc_descriptor_sets.ensures.released in
+        let d = done g.I.Iterator.next_gives g.I.Iterator.can_next g.I.Iterator.remaining g.D.DescriptorDevice.set_name _ c.args.first (bucket_of g.D.DescriptorDevice.pool_name c.args.self.now) (g.D.DescriptorDevice.ledger c.args.device.now).pools e c.dealloc_descriptor_sets.new.sets t.items t.gone refl refl refl refl c.requires.stored at c.requires.taken t.drained taken in
+        let fits = d.fits in
+        let count = d.count in
+        let long = d.long in
+        let is = c.finish-count.ensures.count in
+        (omega arith, is ∙ count ∙ sym long, omega arith)
+
+    changed : map (entry_of g.D.DescriptorDevice.pool_name) (set c.args.self.now.pools.items place (record { raw = c.dealloc_descriptor_sets.new.pool; capacity = c.index_mut-pool.result.now.capacity; allocated = c.index_mut-pool.result.now.allocated - c.finish-count.result; available = c.index_mut-pool.result.now.available + c.finish-count.result })) ≡ set (map (entry_of g.D.DescriptorDevice.pool_name) c.args.self.now.pools.items) place (entry_less (length c.dealloc_descriptor_sets.ensures.released.gone) e)
+    changed =
+        changed_at g.D.DescriptorDevice.pool_name c.args.self.now.pools.items place c.index_mut-pool.result.now c.dealloc_descriptor_sets.new.pool c.finish-count.result (length c.dealloc_descriptor_sets.ensures.released.gone) c.dealloc_descriptor_sets.ensures.name counted.1
 
 pub dealloc_descriptor_sets-requires-clause-can : goal.dealloc_descriptor_sets-requires-clause-can
 dealloc_descriptor_sets-requires-clause-can g c =
@@ -83,32 +108,20 @@ dealloc_descriptor_sets-requires-clause-live g c =
 pub overflow_sub-pool : goal.overflow_sub-pool
 overflow_sub-pool g c =
     let r = (goal.at.overflow_sub-pool g c).After-index_mut-pool in
-    let t = c.dealloc_descriptor_sets.ensures.released in
-    let d = done g.I.Iterator.next_gives g.I.Iterator.can_next g.I.Iterator.remaining g.D.DescriptorDevice.set_name _ c.args.first (bucket_of g.D.DescriptorDevice.pool_name c.args.self.now) (g.D.DescriptorDevice.ledger c.args.device.now).pools (entry_of g.D.DescriptorDevice.pool_name c.index_mut-pool.result.now) c.dealloc_descriptor_sets.new.sets t.items t.gone refl refl refl refl c.requires.stored (at g r) c.requires.taken t.drained (taken g r t.gone t.items t.named t.live) in
-    let fits = d.fits in
-    let count = d.count in
-    let is = c.finish-count.ensures.count in
+    let fits = (counted g (goal.at.overflow_sub-pool g c).After-finish-count (at g r)).0 in
     omega arith
 
 pub overflow_add-pool : goal.overflow_add-pool
 overflow_add-pool g c =
     let r = (goal.at.overflow_add-pool g c).After-index_mut-pool in
-    let t = c.dealloc_descriptor_sets.ensures.released in
-    let d = done g.I.Iterator.next_gives g.I.Iterator.can_next g.I.Iterator.remaining g.D.DescriptorDevice.set_name _ c.args.first (bucket_of g.D.DescriptorDevice.pool_name c.args.self.now) (g.D.DescriptorDevice.ledger c.args.device.now).pools (entry_of g.D.DescriptorDevice.pool_name c.index_mut-pool.result.now) c.dealloc_descriptor_sets.new.sets t.items t.gone refl refl refl refl c.requires.stored (at g r) c.requires.taken t.drained (taken g r t.gone t.items t.named t.live) in
-    let fits = d.fits in
-    let count = d.count in
-    let is = c.finish-count.ensures.count in
+    let fits = (counted g (goal.at.overflow_add-pool g c).After-finish-count (at g r)).0 in
     let small = room g r in
     omega arith
 
 pub overflow_sub-self : goal.overflow_sub-self
 overflow_sub-self g c =
     let r = (goal.at.overflow_sub-self g c).After-index_mut-pool in
-    let t = c.dealloc_descriptor_sets.ensures.released in
-    let d = done g.I.Iterator.next_gives g.I.Iterator.can_next g.I.Iterator.remaining g.D.DescriptorDevice.set_name _ c.args.first (bucket_of g.D.DescriptorDevice.pool_name c.args.self.now) (g.D.DescriptorDevice.ledger c.args.device.now).pools (entry_of g.D.DescriptorDevice.pool_name c.index_mut-pool.result.now) c.dealloc_descriptor_sets.new.sets t.items t.gone refl refl refl refl c.requires.stored (at g r) c.requires.taken t.drained (taken g r t.gone t.items t.named t.live) in
-    let fits = d.fits in
-    let count = d.count in
-    let is = c.finish-count.ensures.count in
+    let fits = (counted g (goal.at.overflow_sub-self g c).After-finish-count (at g r)).0 in
     let less = total_less c.args.self.now.pools.items (c.args.first.number - c.args.self.now.offset) c.index_mut-pool.result.now c.dealloc_descriptor_sets.new.pool c.finish-count.result (here g r) c.index_mut-pool.ensures.value (omega arith) in
     let few = less.0 in
     let total = c.args.self.now.counted in
@@ -118,33 +131,26 @@ overflow_sub-self g c =
 pub drop_front-requires-clause-stored : goal.drop_front-requires-clause-stored
 drop_front-requires-clause-stored g c =
     let r = (goal.at.drop_front-requires-clause-stored g c).After-index_mut-pool in
+    let f = (goal.at.drop_front-requires-clause-stored g c).After-finish-count in
     let t = c.dealloc_descriptor_sets.ensures.released in
-    let d = done g.I.Iterator.next_gives g.I.Iterator.can_next g.I.Iterator.remaining g.D.DescriptorDevice.set_name _ c.args.first (bucket_of g.D.DescriptorDevice.pool_name c.args.self.now) (g.D.DescriptorDevice.ledger c.args.device.now).pools (entry_of g.D.DescriptorDevice.pool_name c.index_mut-pool.result.now) c.dealloc_descriptor_sets.new.sets t.items t.gone refl refl refl refl c.requires.stored (at g r) c.requires.taken t.drained (taken g r t.gone t.items t.named t.live) in
-    let n : c.finish-count.result ≡ length t.gone = c.finish-count.ensures.count ∙ d.count ∙ sym d.long in
-    let es : List Entry = map (entry_of g.D.DescriptorDevice.pool_name) c.args.self.now.pools.items in
-    let place : ℕ = c.args.first.number - c.args.self.now.offset in
     let e = entry_of g.D.DescriptorDevice.pool_name c.index_mut-pool.result.now in
-    let changed = changed_at g.D.DescriptorDevice.pool_name c.args.self.now.pools.items place c.index_mut-pool.result.now c.dealloc_descriptor_sets.new.pool c.finish-count.result (length t.gone) c.dealloc_descriptor_sets.ensures.name n in
     let pools : (g.D.DescriptorDevice.ledger c.dealloc_descriptor_sets.new.self).pools ≡ taken_from (g.D.DescriptorDevice.ledger c.args.device.now).pools e.pool t.gone = ap (λ (l : Ledger). l.pools) t.ledger ∙ release_pools e.pool t.gone (g.D.DescriptorDevice.ledger c.args.device.now) in
-    let after = stored_after (key_of c.args.first.key) c.args.self.now.offset es (g.D.DescriptorDevice.ledger c.args.device.now).pools place e t.gone c.requires.stored (at g r) (taken g r t.gone t.items t.named t.live).within in
-    let there = subst (λ (x : List Entry). AreBookedIn (key_of c.args.first.key) (taken_from (g.D.DescriptorDevice.ledger c.args.device.now).pools e.pool t.gone) x) (sym changed) after in
+    let after = stored_after (key_of c.args.first.key) c.args.self.now.offset (map (entry_of g.D.DescriptorDevice.pool_name) c.args.self.now.pools.items) (g.D.DescriptorDevice.ledger c.args.device.now).pools (place g f) e t.gone c.requires.stored (at g r) (taken g f (at g r)).within in
+    let there = subst (λ (x : List Entry). AreBookedIn (key_of c.args.first.key) (taken_from (g.D.DescriptorDevice.ledger c.args.device.now).pools e.pool t.gone) x) (sym (changed g f (at g r))) after in
     (key_of c.args.first.key, rw pools there)
 
 pub invariant_of-self : goal.invariant_of-self
 invariant_of-self g c =
     let r = (goal.at.invariant_of-self g c).After-index_mut-pool in
-    let t = c.dealloc_descriptor_sets.ensures.released in
-    let d = done g.I.Iterator.next_gives g.I.Iterator.can_next g.I.Iterator.remaining g.D.DescriptorDevice.set_name _ c.args.first (bucket_of g.D.DescriptorDevice.pool_name c.args.self.now) (g.D.DescriptorDevice.ledger c.args.device.now).pools (entry_of g.D.DescriptorDevice.pool_name c.index_mut-pool.result.now) c.dealloc_descriptor_sets.new.sets t.items t.gone refl refl refl refl c.requires.stored (at g r) c.requires.taken t.drained (taken g r t.gone t.items t.named t.live) in
-    let fits = d.fits in
-    let count = d.count in
-    let is = c.finish-count.ensures.count in
+    let f = (goal.at.invariant_of-self g c).After-finish-count in
+    let fits = (counted g f (at g r)).0 in
     let less = total_less c.args.self.now.pools.items (c.args.first.number - c.args.self.now.offset) c.index_mut-pool.result.now c.dealloc_descriptor_sets.new.pool c.finish-count.result (here g r) c.index_mut-pool.ensures.value (omega arith) in
     let few = less.0 in
     let left = less.1 in
     let total = c.args.self.now.counted in
     let from = c.from.ensures in
     let numbered = c.args.self.now.numbered in
-    let some : 0 < c.index_mut-pool.result.now.available + c.finish-count.result = (let long = d.long in omega arith) in
+    let some : 0 < c.index_mut-pool.result.now.available + c.finish-count.result = (let some = (counted g f (at g r)).2 in omega arith) in
     let above = (c.requires.taken [] c.args.sets.now refl tt).above in
     let named : c.args.first.number ≡ c.args.self.now.offset + (c.args.first.number - c.args.self.now.offset) = omega (arith, above) in
     let new : DescriptorPool g.row.P.Denot = record { raw = c.dealloc_descriptor_sets.new.pool; capacity = c.index_mut-pool.result.now.capacity; allocated = c.index_mut-pool.result.now.allocated - c.finish-count.result; available = c.index_mut-pool.result.now.available + c.finish-count.result } in
@@ -168,33 +174,29 @@ enter_new-requires-clause-room g c = λ full.
 pub returns-clause-ran : goal.returns-clause-ran
 returns-clause-ran g c =
     let r = (goal.at.returns-clause-ran g c).After-index_mut-pool in
+    let f = (goal.at.returns-clause-ran g c).After-finish-count in
     let t = c.dealloc_descriptor_sets.ensures.released in
-    let d = done g.I.Iterator.next_gives g.I.Iterator.can_next g.I.Iterator.remaining g.D.DescriptorDevice.set_name _ c.args.first (bucket_of g.D.DescriptorDevice.pool_name c.args.self.now) (g.D.DescriptorDevice.ledger c.args.device.now).pools (entry_of g.D.DescriptorDevice.pool_name c.index_mut-pool.result.now) c.dealloc_descriptor_sets.new.sets t.items t.gone refl refl refl refl c.requires.stored (at g r) c.requires.taken t.drained (taken g r t.gone t.items t.named t.live) in
-    let n : c.finish-count.result ≡ length t.gone = c.finish-count.ensures.count ∙ d.count ∙ sym d.long in
     let es : List Entry = map (entry_of g.D.DescriptorDevice.pool_name) c.args.self.now.pools.items in
-    let place : ℕ = c.args.first.number - c.args.self.now.offset in
     let e = entry_of g.D.DescriptorDevice.pool_name c.index_mut-pool.result.now in
-    let changed = changed_at g.D.DescriptorDevice.pool_name c.args.self.now.pools.items place c.index_mut-pool.result.now c.dealloc_descriptor_sets.new.pool c.finish-count.result (length t.gone) c.dealloc_descriptor_sets.ensures.name n in
+    let d = done g.I.Iterator.next_gives g.I.Iterator.can_next g.I.Iterator.remaining g.D.DescriptorDevice.set_name _ c.args.first (bucket_of g.D.DescriptorDevice.pool_name c.args.self.now) (g.D.DescriptorDevice.ledger c.args.device.now).pools e c.dealloc_descriptor_sets.new.sets t.items t.gone refl refl refl refl c.requires.stored (at g r) c.requires.taken t.drained (taken g f (at g r)) in
     let m = sym d.run.aname in
     let h = c.finish-count.ensures.ahead in
     let v = sym d.run.name in
-    let f = c.finish-count.ensures.source in
-    let fits = d.fits in
-    let count = d.count in
-    let is = c.finish-count.ensures.count in
-    let less = total_less c.args.self.now.pools.items place c.index_mut-pool.result.now c.dealloc_descriptor_sets.new.pool c.finish-count.result (here g r) c.index_mut-pool.ensures.value (omega arith) in
+    let w = c.finish-count.ensures.source in
+    let fits = (counted g f (at g r)).0 in
+    let less = total_less c.args.self.now.pools.items (place g f) c.index_mut-pool.result.now c.dealloc_descriptor_sets.new.pool c.finish-count.result (here g r) c.index_mut-pool.ensures.value (omega arith) in
     let long = length-map d.run.xs (λ (x : DescriptorSet _). g.D.DescriptorDevice.set_name x.raw) in
-    let entries = changed ∙ ap (λ (l : ℕ). set es place (entry_less l e)) d.long in
+    let entries = changed g f (at g r) ∙ ap (λ (l : ℕ). set es (place g f) (entry_less l e)) d.long in
     record {
       sets = d.run.xs;
-      came = run_ends g.I.Iterator.next_gives g.I.Iterator.can_next g.I.Iterator.remaining g.D.DescriptorDevice.set_name c.args.first _ c.dealloc_descriptor_sets.new.sets t.items d.run _ _ (search (rules, m, h)) (search (rules, v, f));
+      came = run_ends g.I.Iterator.next_gives g.I.Iterator.can_next g.I.Iterator.remaining g.D.DescriptorDevice.set_name c.args.first _ c.dealloc_descriptor_sets.new.sets t.items d.run _ _ (search (rules, m, h)) (search (rules, v, w));
       went = record {
         entry = e;
         above = (c.requires.taken [] c.args.sets.now refl tt).above;
         at = at g r;
         books = c.drop_front.ensures.books ∙ ap (λ (x : List Entry). trimmed_bucket 1 (bucket c.args.self.now.offset x)) entries;
         ledger = c.drop_front.ensures.ledger ∙ ap (λ (x : List Entry). trimmed_ledger 1 (bucket c.args.self.now.offset x) (g.D.DescriptorDevice.ledger c.dealloc_descriptor_sets.new.self)) entries
-            ∙ ap (λ (l : Ledger). trimmed_ledger 1 (bucket c.args.self.now.offset (set es place (entry_less (length (names_of g.D.DescriptorDevice.set_name (c.args.first ∷ d.run.xs))) e))) l) (t.ledger ∙ ap (λ (ls : List LiveSet). after_release e.pool ls (g.D.DescriptorDevice.ledger c.args.device.now)) d.sets);
+            ∙ ap (λ (l : Ledger). trimmed_ledger 1 (bucket c.args.self.now.offset (set es (place g f) (entry_less (length (names_of g.D.DescriptorDevice.set_name (c.args.first ∷ d.run.xs))) e))) l) (t.ledger ∙ ap (λ (ls : List LiveSet). after_release e.pool ls (g.D.DescriptorDevice.ledger c.args.device.now)) d.sets);
       };
       total = (let total = c.drop_front.ensures.total in let from = c.from.ensures in let few = less.0 in let sum = c.args.self.now.counted in omega arith);
     }
@@ -203,7 +205,7 @@ pub returns-clause-goes : goal.returns-clause-goes
 returns-clause-goes g c =
     let r = (goal.at.returns-clause-goes g c).After-index_mut-pool in
     let t = c.dealloc_descriptor_sets.ensures.released in
-    let d = done g.I.Iterator.next_gives g.I.Iterator.can_next g.I.Iterator.remaining g.D.DescriptorDevice.set_name _ c.args.first (bucket_of g.D.DescriptorDevice.pool_name c.args.self.now) (g.D.DescriptorDevice.ledger c.args.device.now).pools (entry_of g.D.DescriptorDevice.pool_name c.index_mut-pool.result.now) c.dealloc_descriptor_sets.new.sets t.items t.gone refl refl refl refl c.requires.stored (at g r) c.requires.taken t.drained (taken g r t.gone t.items t.named t.live) in
+    let d = done g.I.Iterator.next_gives g.I.Iterator.can_next g.I.Iterator.remaining g.D.DescriptorDevice.set_name _ c.args.first (bucket_of g.D.DescriptorDevice.pool_name c.args.self.now) (g.D.DescriptorDevice.ledger c.args.device.now).pools (entry_of g.D.DescriptorDevice.pool_name c.index_mut-pool.result.now) c.dealloc_descriptor_sets.new.sets t.items t.gone refl refl refl refl c.requires.stored (at g r) c.requires.taken t.drained (taken g (goal.at.returns-clause-goes g c).After-finish-count (at g r)) in
     let m = sym d.run.aname in
     let h = c.finish-count.ensures.ahead in
     let v = sym d.run.name in

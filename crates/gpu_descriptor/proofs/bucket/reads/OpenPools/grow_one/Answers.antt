@@ -1,7 +1,7 @@
 use Rattle.std.proofs.Common.{◌≡◌, ℕ, ◌+◌, ◌-◌, ◌≤◌, ◌++◌, List, [], ◌∷◌, length, map, min, refl, sym, ap, ◌∙◌, subst, arith}
 use Rattle.std.proofs.lemmas.List.{length-map, map-append}
 use Rattle.std.specs.Prelude.{Some}
-use Rattle.gpu_descriptor_types.specs.Ledger.{Ledger, after_alloc, after_destroy, live_sets, HasNoSets, fresh}
+use Rattle.gpu_descriptor_types.specs.Ledger.{Ledger, after_alloc, after_create, after_destroy, live_sets, HasNoSets, fresh}
 use Rattle.gpu_descriptor_types.specs.PoolSize.{pool_counts}
 use Rattle.gpu_descriptor.specs.declared.bucket.DescriptorPool.{DescriptorPool}
 use Rattle.gpu_descriptor.specs.declared.set.BucketKey.{BucketKey}
@@ -14,73 +14,76 @@ use Rattle.gpu_descriptor.specs.Inner.Walk.{entries_of, sets_at}
 use Rattle.gpu_descriptor.proofs.NextSize.{one_fits}
 use Rattle.gpu_descriptor.proofs.Asks.{same_entry}
 use Rattle.gpu_descriptor.proofs.Grows.{created_for, created_at, fresh_room, no_sets, grown, not_grown, not_created, not_begun, create_asked, alloc_asked}
+use Rattle.gpu_descriptor.proofs.bucket.reads.OpenPools.grow_one.Goals.{In-Ok}
 use Rattle.gpu_descriptor.proofs.bucket.reads.OpenPools.grow_one.Goals as goal
+
+-- the pool that was created
+module _ (g : _) (c : In-Ok g) where
+  abbrev key : Key
+  key = key_of c.args.key.now
+
+  abbrev size : ℕ
+  size = c.in-Some.size
+
+  abbrev name : ℕ
+  name = g.D.DescriptorDevice.pool_name c.in-Ok.raw
+
+  abbrev before : Ledger
+  before = g.D.DescriptorDevice.ledger c.args.device.now
+
+  abbrev created : Ledger
+  created = g.D.DescriptorDevice.ledger c.create_descriptor_pool.new.self
+
+  made : created ≡ after_create (pool_counts key.counts size) size (flags_of key) name before
+  made = created_for key size name _ _ before created c.in-Some.ensures.counts c.pool_flags-flags.ensures c.in-Ok.ensures.ok
+
+  at : created.pools name ≡ Some (fresh (pool_counts key.counts size) size (flags_of key))
+  at = created_at key size name before created made
 
 pub alloc_descriptor_sets-requires-clause-fits : goal.alloc_descriptor_sets-requires-clause-fits
 alloc_descriptor_sets-requires-clause-fits g c =
-    let key : Key = key_of c.args.key.now in
-    let size : ℕ = c.in-Some.size in
-    let name : ℕ = g.D.DescriptorDevice.pool_name c.in-Ok.raw in
-    let l : Ledger = g.D.DescriptorDevice.ledger c.args.device.now in
-    let m : Ledger = g.D.DescriptorDevice.ledger c.create_descriptor_pool.new.self in
-    let made = created_for key size name _ _ l m c.in-Some.ensures.counts c.pool_flags-flags.ensures c.in-Ok.ensures.ok in
-    let few : c.min-given.result ≤ size = (let a = c.min-given.ensures in omega arith) in
-    let at = created_at key size name l m made in
-    let keyed = subst (λ (k : Key). m.pools name ≡ Some (fresh (pool_counts k.counts size) size (flags_of k))) c.requires.same at in
-    rw (c.new.ensures.left, c.new.ensures.layout) (fresh_room (g.D.DescriptorDevice.layout_counts c.args.layout.now) (g.D.DescriptorDevice.layout_mark c.args.layout.now) size name c.min-given.result m keyed few)
+    let d = (goal.at.alloc_descriptor_sets-requires-clause-fits g c).In-Ok in
+    let few : c.min-given.result ≤ c.in-Some.size = (let a = c.min-given.ensures in omega arith) in
+    let keyed = subst (λ (k : Key). (created g d).pools (name g d) ≡ Some (fresh (pool_counts k.counts (size g d)) (size g d) (flags_of k))) c.requires.same (at g d) in
+    rw (c.new.ensures.left, c.new.ensures.layout) (fresh_room (g.D.DescriptorDevice.layout_counts c.args.layout.now) (g.D.DescriptorDevice.layout_mark c.args.layout.now) (size g d) (name g d) c.min-given.result (created g d) keyed few)
 
 pub destroy_descriptor_pool-requires : goal.destroy_descriptor_pool-requires
 destroy_descriptor_pool-requires g c =
-    let key : Key = key_of c.args.key.now in
-    let size : ℕ = c.in-Some.size in
-    let name : ℕ = g.D.DescriptorDevice.pool_name c.in-Ok.raw in
-    let l : Ledger = g.D.DescriptorDevice.ledger c.args.device.now in
-    let m : Ledger = g.D.DescriptorDevice.ledger c.create_descriptor_pool.new.self in
-    let made = created_for key size name _ _ l m c.in-Some.ensures.counts c.pool_flags-flags.ensures c.in-Ok.ensures.ok in
+    let d = (goal.at.destroy_descriptor_pool-requires g c).In-Ok in
     let m' : Ledger = g.D.DescriptorDevice.ledger c.alloc_descriptor_sets.new.self in
-    subst (λ (q : ℕ). HasNoSets q m') (sym c.in-Err-alloc_descriptor_sets.ensures.name) (no_sets key size name c.in-Err-alloc_descriptor_sets.error m m' (created_at key size name l m made) c.in-Err-alloc_descriptor_sets.ensures.err.ledger)
+    subst (λ (q : ℕ). HasNoSets q m') (sym c.in-Err-alloc_descriptor_sets.ensures.name) (no_sets (key g d) (size g d) (name g d) c.in-Err-alloc_descriptor_sets.error (created g d) m' (at g d) c.in-Err-alloc_descriptor_sets.ensures.err.ledger)
 
 pub returns-in-Err-alloc_descriptor_sets-clause-err : goal.returns-in-Err-alloc_descriptor_sets-clause-err
 returns-in-Err-alloc_descriptor_sets-clause-err g c =
-    let key : Key = key_of c.args.key.now in
-    let size : ℕ = c.in-Some.size in
-    let name : ℕ = g.D.DescriptorDevice.pool_name c.in-Ok.raw in
-    let l : Ledger = g.D.DescriptorDevice.ledger c.args.device.now in
-    let m : Ledger = g.D.DescriptorDevice.ledger c.create_descriptor_pool.new.self in
-    let made = created_for key size name _ _ l m c.in-Some.ensures.counts c.pool_flags-flags.ensures c.in-Ok.ensures.ok in
+    let d = (goal.at.returns-in-Err-alloc_descriptor_sets-clause-err g c).In-Ok in
     let m' : Ledger = g.D.DescriptorDevice.ledger c.alloc_descriptor_sets.new.self in
     let m'' : Ledger = g.D.DescriptorDevice.ledger c.destroy_descriptor_pool.new.self in
-    let gone : m'' ≡ after_destroy name m' = c.destroy_descriptor_pool.ensures ∙ ap (λ q. after_destroy q m') c.in-Err-alloc_descriptor_sets.ensures.name in
+    let gone : m'' ≡ after_destroy (name g d) m' = c.destroy_descriptor_pool.ensures ∙ ap (λ q. after_destroy q m') c.in-Err-alloc_descriptor_sets.ensures.name in
     let err = c.in-Err-alloc_descriptor_sets.ensures.err in
-    (err.kept ∙ c.aim.ensures.sets, ap (λ x. x.now.items) c.count_fresh.ensures.pools ∙ c.make_room.ensures.pools, not_grown key size name c.in-Err-alloc_descriptor_sets.error l m m' m'' c.in-Ok.ensures.new_name made err.ledger gone, one_fits key c.args.room.now c.args.total c.args.wanted size c.in-Some.ensures.sets, refl)
+    (err.kept ∙ c.aim.ensures.sets, ap (λ x. x.now.items) c.count_fresh.ensures.pools ∙ c.make_room.ensures.pools, not_grown (key g d) (size g d) (name g d) c.in-Err-alloc_descriptor_sets.error (before g d) (created g d) m' m'' c.in-Ok.ensures.new_name (made g d) err.ledger gone, one_fits (key g d) c.args.room.now c.args.total c.args.wanted (size g d) c.in-Some.ensures.sets, refl)
 
 pub returns-in-Ok-alloc_descriptor_sets-clause-grown : goal.returns-in-Ok-alloc_descriptor_sets-clause-grown
 returns-in-Ok-alloc_descriptor_sets-clause-grown g c =
-    let key : Key = key_of c.args.key.now in
-    let size : ℕ = c.in-Some.size in
-    let name : ℕ = g.D.DescriptorDevice.pool_name c.in-Ok.raw in
-    let l : Ledger = g.D.DescriptorDevice.ledger c.args.device.now in
-    let m : Ledger = g.D.DescriptorDevice.ledger c.create_descriptor_pool.new.self in
-    let made = created_for key size name _ _ l m c.in-Some.ensures.counts c.pool_flags-flags.ensures c.in-Ok.ensures.ok in
+    let d = (goal.at.returns-in-Ok-alloc_descriptor_sets-clause-grown g c).In-Ok in
     let m' : Ledger = g.D.DescriptorDevice.ledger c.alloc_descriptor_sets.new.self in
     let put = c.in-Ok-alloc_descriptor_sets.ensures.ok in
     let names : List ℕ = map g.D.DescriptorDevice.set_name put.sets in
     let count = c.min-given.ensures in
     let many : length put.sets ≡ c.min-given.result = put.many ∙ c.new.ensures.left in
-    let long : length names ≡ min size c.args.wanted = length-map put.sets g.D.DescriptorDevice.set_name ∙ many ∙ count in
-    let is : m' ≡ after_alloc name (live_sets key.counts names) m = put.ledger ∙ ap (λ cs. after_alloc name (live_sets cs names) m) (ap g.D.DescriptorDevice.layout_counts c.new.ensures.layout ∙ sym (ap (λ (k : Key). k.counts) c.requires.same)) in
+    let long : length names ≡ min c.in-Some.size c.args.wanted = length-map put.sets g.D.DescriptorDevice.set_name ∙ many ∙ count in
+    let is : m' ≡ after_alloc (name g d) (live_sets (key g d).counts names) (created g d) = put.ledger ∙ ap (λ cs. after_alloc (name g d) (live_sets cs names) (created g d)) (ap g.D.DescriptorDevice.layout_counts c.new.ensures.layout ∙ sym (ap (λ (k : Key). k.counts) c.requires.same)) in
     let old : List Entry = entries_of g.D.DescriptorDevice.pool_name c.args.self.now.pools.now.items in
     let new : List Entry = entries_of g.D.DescriptorDevice.pool_name c.push.new.self.pools.now.items in
-    let value : DescriptorPool g.row.P.Denot = record { raw = c.alloc_descriptor_sets.new.pool; capacity = size; allocated = c.min-given.result; available = size - c.min-given.result } in
+    let value : DescriptorPool g.row.P.Denot = record { raw = c.alloc_descriptor_sets.new.pool; capacity = c.in-Some.size; allocated = c.min-given.result; available = c.in-Some.size - c.min-given.result } in
     let items : c.push.new.self.pools.now.items ≡ c.make_room.new.self.pools.now.items ++ value ∷ [] = c.push.ensures.pools ∙ ap (λ x. x.now.items ++ value ∷ []) c.count_fresh.ensures.pools in
-    let now : new ≡ old ++ record { pool = name; capacity = size; allocated = min size c.args.wanted; free = size - min size c.args.wanted } ∷ [] =
+    let now : new ≡ old ++ record { pool = name g d; capacity = size g d; allocated = min (size g d) c.args.wanted; free = size g d - min (size g d) c.args.wanted } ∷ [] =
     ap (map (entry_of g.D.DescriptorDevice.pool_name)) (items ∙ ap (λ x. x ++ value ∷ []) c.make_room.ensures.pools)
     ∙ map-append (entry_of g.D.DescriptorDevice.pool_name) c.args.self.now.pools.now.items (value ∷ [])
-    ∙ ap (λ (e : Entry). old ++ e ∷ []) (same_entry (entry_of g.D.DescriptorDevice.pool_name value) _ c.in-Ok-alloc_descriptor_sets.ensures.name refl count (ap (λ n. size - n) count)) in
+    ∙ ap (λ (e : Entry). old ++ e ∷ []) (same_entry (entry_of g.D.DescriptorDevice.pool_name value) _ c.in-Ok-alloc_descriptor_sets.ensures.name refl count (ap (λ n. c.in-Some.size - n) count)) in
     let number : c.aim.new.self.number ≡ c.args.self.now.offset + length c.args.self.now.pools.now.items = c.aim.ensures.number ∙ c.next_number.ensures ∙ (let k = c.make_room.ensures.kept.0 in let same = ap length c.make_room.ensures.pools in omega arith) in
     let kept : c.alloc_descriptor_sets.new.sets.sets.items ≡ c.args.sink.now.sets.items ++ sets_at c.args.key.now (c.args.self.now.offset + length c.args.self.now.pools.now.items) put.sets = put.kept ∙ ap (λ (l : List (DescriptorSet g.row.S.Denot)). l ++ sets_at c.aim.new.self.key c.aim.new.self.number put.sets) c.aim.ensures.sets ∙ ap (λ (k : BucketKey). c.args.sink.now.sets.items ++ sets_at k c.aim.new.self.number put.sets) c.aim.ensures.key ∙ ap (λ (n : ℕ). c.args.sink.now.sets.items ++ sets_at c.args.key.now n put.sets) number in
     let room : c.alloc_descriptor_sets.new.sets.left + c.min-given.result ≡ c.args.sink.now.left = (let r = put.room in let n = c.new.ensures.left in let a = c.aim.ensures.left in omega arith) in
-    (put.sets, many, kept, room, grown key c.args.room.now _ c.args.total c.args.wanted size name names old new l m m' c.in-Some.ensures.sets (let fits = c.in-Some.ensures.room.0 in let load = c.descriptors_of_pool.ensures in omega arith) long c.in-Ok.ensures.new_name made is now)
+    (put.sets, many, kept, room, grown (key g d) c.args.room.now _ c.args.total c.args.wanted (size g d) (name g d) names old new (before g d) (created g d) m' c.in-Some.ensures.sets (let fits = c.in-Some.ensures.room.0 in let load = c.descriptors_of_pool.ensures in omega arith) long c.in-Ok.ensures.new_name (made g d) is now)
 
 pub returns-then-not-make_room-clause-err : goal.returns-then-not-make_room-clause-err
 returns-then-not-make_room-clause-err g c =
