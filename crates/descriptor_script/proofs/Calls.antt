@@ -5,7 +5,7 @@ use Rattle.gpu_descriptor_types.specs.Ledger.{Ledger, Sink, Puts, PutsNone, on_p
 use Rattle.gpu_descriptor_types.specs.declared.errors.DeviceAllocationError.{DeviceAllocationError}
 use Rattle.descriptor_script.specs.Inner.Counters.{counters_of}
 use Rattle.descriptor_script.specs.Scripted.Device.{ledger_of}
-use Rattle.descriptor_script.specs.Inner.Pools.{Grants, IsSameSink, pools_of, names_of}
+use Rattle.descriptor_script.specs.Inner.Pools.{Grants, IsSameSink, pools_of, next_names}
 use Rattle.descriptor_script.specs.Scripted.Raw.{raw_set, raw_sets, set_id}
 use Rattle.descriptor_script.specs.declared.device.ScriptedDevice.{ScriptedDevice}
 use Rattle.descriptor_script.specs.declared.raw.RawSet.{RawSet}
@@ -18,8 +18,8 @@ module _ {K X : Type 0} (sink : Sink K RawSet X) (before after : K) where
   pub puts : (old new : ScriptedDevice) (name many : ℕ) (counts : List ℕ) → Grants sink name many counts before after old.pools new.pools
       → counters_of new.counters ≡ record (counters_of old.counters) { asked = (counters_of old.counters).asked + 1 } → Puts sink set_id name many counts before after (ledger_of old) (ledger_of new)
   puts old new name many counts grants asked = record {
-    sets = raw_sets name (names_of old.pools).sets many;
-    many = length-map-range_with_len (raw_set name) (names_of old.pools).sets many;
+    sets = raw_sets name (next_names old.pools).sets many;
+    many = length-map-range_with_len (raw_set name) (next_names old.pools).sets many;
     kept = grants.kept;
     alike = grants.alike;
     room = grants.room;

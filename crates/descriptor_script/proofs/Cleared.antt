@@ -1,6 +1,6 @@
 -- Marks of slots.
 use Rattle.std.proofs.Common.{zero, suc, Bool, false, List, [], ◌∷◌, ◌++◌, refl}
-use Rattle.descriptor_script.specs.Sessions.Tickets.{AreClear}
+use Rattle.descriptor_script.specs.Inner.Marks.{AreClear}
 
 -- one more that isn't set
 pub clear_more : (marks : List Bool) → AreClear marks → AreClear (marks ++ false ∷ [])

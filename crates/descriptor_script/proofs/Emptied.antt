@@ -11,8 +11,8 @@ use Rattle.gpu_descriptor.specs.Model.Promises.{AreOutBesides}
 use Rattle.gpu_descriptor.specs.Caller.Sets.{item_of, items_of}
 use Rattle.gpu_descriptor.specs.declared.set.DescriptorSet.{DescriptorSet}
 use Rattle.descriptor_script.specs.Sessions.Session.{AreAllHeld}
-use Rattle.descriptor_script.specs.Inner.Taking.{TakesNext, slots_in, to_come}
-use Rattle.descriptor_script.specs.Sessions.Tickets.{AreHeldOnce, CanTake, emptied, held_sets, set_at}
+use Rattle.descriptor_script.specs.Inner.Taking.{CanTake, TakesNext, slots_in, tickets_left}
+use Rattle.descriptor_script.specs.Sessions.Tickets.{AreHeldOnce, emptied, held_sets, set_at}
 use Rattle.descriptor_script.specs.declared.taking.Taking.{Taking}
 
 module _ {X : Type 0} where
@@ -127,19 +127,19 @@ module _ {S : Type 0} where
       omega arith
 
   -- the set of each ticket came
-  pub each_taken : (xs : List (DescriptorSet S)) (s t : Taking S) → Yields TakesNext s xs t → to_come t ≡ [] → map Some xs ≡ map (set_at (slots_in s)) (to_come s)
-  each_taken [] s t y none = sym (ap (map (set_at (slots_in s))) (ap to_come y ∙ none))
+  pub each_taken : (xs : List (DescriptorSet S)) (s t : Taking S) → Yields TakesNext s xs t → tickets_left t ≡ [] → map Some xs ≡ map (set_at (slots_in s)) (tickets_left s)
+  each_taken [] s t y none = sym (ap (map (set_at (slots_in s))) (ap tickets_left y ∙ none))
   each_taken (x ∷ xs) s t y none =
       let n = y.1.0 in
-      let rest = each_taken xs y.0 t y.2 none ∙ ap (λ l. map (set_at l) (to_come y.0)) y.1.3 in
-      let same = still_each (slots_in s) n xs (to_come y.0) rest in
+      let rest = each_taken xs y.0 t y.2 none ∙ ap (λ l. map (set_at l) (tickets_left y.0)) y.1.3 in
+      let same = still_each (slots_in s) n xs (tickets_left y.0) rest in
       ap (λ o. o ∷ map Some xs) (sym y.1.2) ∙ ap (λ l. set_at (slots_in s) n ∷ l) same ∙ sym (ap (map (set_at (slots_in s))) y.1.1)
 
   -- the slots of the tickets are empty
-  pub all_emptied : (xs : List (DescriptorSet S)) (s t : Taking S) → Yields TakesNext s xs t → to_come t ≡ [] → slots_in t ≡ emptied (slots_in s) (to_come s)
-  all_emptied [] s t y none = ap slots_in (sym y) ∙ sym (ap (emptied (slots_in s)) (ap to_come y ∙ none))
+  pub all_emptied : (xs : List (DescriptorSet S)) (s t : Taking S) → Yields TakesNext s xs t → tickets_left t ≡ [] → slots_in t ≡ emptied (slots_in s) (tickets_left s)
+  all_emptied [] s t y none = ap slots_in (sym y) ∙ sym (ap (emptied (slots_in s)) (ap tickets_left y ∙ none))
   all_emptied (x ∷ xs) s t y none =
-      all_emptied xs y.0 t y.2 none ∙ ap (λ l. emptied l (to_come y.0)) y.1.3 ∙ sym (ap (emptied (slots_in s)) y.1.1)
+      all_emptied xs y.0 t y.2 none ∙ ap (λ l. emptied l (tickets_left y.0)) y.1.3 ∙ sym (ap (emptied (slots_in s)) y.1.1)
 
   tally-items : (name : S → ℕ) (i : Item) (xs : List (DescriptorSet S)) → tally (λ x. count_of i (item_of name x ∷ [])) xs ≡ count_of i (items_of name xs)
   tally-items name i [] = refl

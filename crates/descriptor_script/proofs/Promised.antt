@@ -74,36 +74,31 @@ module _ {L P S : Type 0} (pool_name : P → ℕ) (set_name : S → ℕ) (counts
       go Cleanup NoMemory h = absurd h
       go Cleanup Clean h = h.sets
 
-  pub frees_one_by_one : IsKept (FreesOneByOne pool_name set_name)
-  frees_one_by_one command reply old new before after ready s = go command reply s.step
+  -- what is promised of sets that go back, and of nothing else
+  frees_in_runs : IsKept (λ step. FreesOneByOne pool_name set_name step × CallsOnceARun set_name step)
+  frees_in_runs command reply old new before after ready s = go command reply s.step
     where
-      go : (command : Command) (reply : Reply) → Steps command reply old new before after → FreesOneByOne pool_name set_name (step_of command reply old new before after)
+      go : (command : Command) (reply : Reply) → Steps command reply old new before after → FreesOneByOne pool_name set_name (step_of command reply old new before after) × CallsOnceARun set_name (step_of command reply old new before after)
       go (Free tickets) (Freed n) h =
           let start = state_of pool_name (allocator_of old) before in
-          let out = listed_out set_name (sets_of old) tickets.items h.given start h.good h.each ready.held in
-          (h.given, h.each, (λ order alike. h.back.state ∙ sym (one_by_one (items_of set_name h.given) order start ready.agree out alike)))
+          let out = listed_out set_name (sets_of old) tickets.items h.given start h.good h.each ready.held in (
+            (h.given, h.each, (λ order alike. h.back.state ∙ sym (one_by_one (items_of set_name h.given) order start ready.agree out alike))),
+            (h.given, h.each, ap (λ (c : Counters). c.released) h.back.counters),
+          )
       go (Allocate layout count) (Freed n) h = absurd h
       go Cleanup (Freed n) h = absurd h
-      go command (Sets first many) h = tt
-      go command (Refused e) h = tt
-      go command BadTicket h = tt
-      go command BadLayout h = tt
-      go command NoMemory h = tt
-      go command Clean h = tt
+      go command (Sets first many) h = (tt, tt)
+      go command (Refused e) h = (tt, tt)
+      go command BadTicket h = (tt, tt)
+      go command BadLayout h = (tt, tt)
+      go command NoMemory h = (tt, tt)
+      go command Clean h = (tt, tt)
+
+  pub frees_one_by_one : IsKept (FreesOneByOne pool_name set_name)
+  frees_one_by_one command reply old new before after ready s = (frees_in_runs command reply old new before after ready s).0
 
   pub calls_once_a_run : IsKept (CallsOnceARun set_name)
-  calls_once_a_run command reply old new before after ready s = go command reply s.step
-    where
-      go : (command : Command) (reply : Reply) → Steps command reply old new before after → CallsOnceARun set_name (step_of command reply old new before after)
-      go (Free tickets) (Freed n) h = (h.given, h.each, ap (λ (c : Counters). c.released) h.back.counters)
-      go (Allocate layout count) (Freed n) h = absurd h
-      go Cleanup (Freed n) h = absurd h
-      go command (Sets first many) h = tt
-      go command (Refused e) h = tt
-      go command BadTicket h = tt
-      go command BadLayout h = tt
-      go command NoMemory h = tt
-      go command Clean h = tt
+  calls_once_a_run command reply old new before after ready s = (frees_in_runs command reply old new before after ready s).1
 
   pub fails_for_cause : IsKept (FailsForCause pool_name counts mark)
   fails_for_cause command reply old new before after ready s = go command reply s.step

@@ -2,6 +2,7 @@
 pub mod Counters
 pub mod Finite
 pub mod Live
+pub mod Marks
 pub mod Pools
 pub mod Slots
 pub mod Table

@@ -1,7 +1,7 @@
 //! Whether a list of tickets can be freed: a walk over the list, with a mark for each ticket.
 ghost use Rattle.std.specs.Prelude.{◌≡◌, ◌↔◌, IsTrue, is_some, length};
-ghost use Rattle.descriptor_script.specs.Sessions.Tickets.{AreClear, AreHeldOnce, AreOnlyAt};
-ghost use Rattle.descriptor_script.specs.Sessions.Tickets.{set_at};
+ghost use Rattle.descriptor_script.specs.Inner.Marks.{AreClear, AreOnlyAt};
+ghost use Rattle.descriptor_script.specs.Sessions.Tickets.{AreHeldOnce, set_at};
 
 use gpu_descriptor::DescriptorSet;
 

@@ -35,11 +35,11 @@ pub struct Pools {
 }
 
 impl Pools {
-    ghost use Rattle.descriptor_script.specs.Inner.Pools.{Grants, TakesBack, IsNew, IsSame};
-    ghost use Rattle.descriptor_script.specs.Inner.Pools.{IsSameSink, names_of, pools_of};
+    ghost use Rattle.descriptor_script.specs.Inner.Pools.{Grants, TakesBack, HasNoPools, IsSame};
+    ghost use Rattle.descriptor_script.specs.Inner.Pools.{IsSameSink, next_names, pools_of};
 
     pub fn new(alloc: Global) -> Self
-        ensures { IsNew result }
+        ensures { HasNoPools result }
     {
         Pools {
             alloc,
@@ -56,13 +56,13 @@ impl Pools {
         max_sets: u32,
         flags: DescriptorPoolCreateFlags,
     ) -> Result<u64, Wanting>
-        ensures name { IfOk result (λ name. name ≡ (names_of self.old).pools) }
+        ensures name { IfOk result (λ name. name ≡ (next_names self.old).pools) }
         ensures in_range { IfOk result (λ name. name < 2 ^ 64 - 1) }
         ensures new_name { IfOk result (λ name. pools_of self.old name ≡ None) }
         ensures ok { IfOk result (λ name. pools_of self.new ≡ update nat_eq (pools_of self.old) name
             (Some (fresh_pool (kinds counts.now) max_sets (bits flags)))) }
-        ensures names { OnOk result (names_of self.new ≡ record (names_of self.old)
-            { pools = (names_of self.old).pools + 1 }) }
+        ensures names { OnOk result (next_names self.new ≡ record (next_names self.old)
+            { pools = (next_names self.old).pools + 1 }) }
         ensures err { OnErr result (IsSame self.old self.new) }
     {
         let name = self.next_pool;
@@ -88,7 +88,7 @@ impl Pools {
     /// Drops a pool.
     pub fn destroy(&mut self, pool: u64)
         ensures pools { pools_of self.new ≡ update nat_eq (pools_of self.old) pool None }
-        ensures names { names_of self.new ≡ names_of self.old }
+        ensures names { next_names self.new ≡ next_names self.old }
     {
         self.live.swap_remove(&pool);
     }
@@ -107,7 +107,7 @@ impl Pools {
     pub fn refuse(&mut self, pool: u64, error: DeviceAllocationError)
         ensures pools { pools_of self.new ≡ on_pool pool
             (λ p. record p { refusals = p.refusals + pool_refusals error }) (pools_of self.old) }
-        ensures names { names_of self.new ≡ names_of self.old }
+        ensures names { next_names self.new ≡ next_names self.old }
     {
         match error {
             DeviceAllocationError::OutOfDeviceMemory | DeviceAllocationError::OutOfHostMemory => {}
@@ -120,7 +120,7 @@ impl Pools {
     fn count_refusal(&mut self, pool: u64)
         ensures pools { pools_of self.new ≡ on_pool pool
             (λ p. record p { refusals = p.refusals + 1 }) (pools_of self.old) }
-        ensures names { names_of self.new ≡ names_of self.old }
+        ensures names { next_names self.new ≡ next_names self.old }
     {
         if let Some(live) = self.live.get_mut(&pool) {
             live.refusals = Tally::next(&live.refusals);
@@ -143,7 +143,7 @@ impl Pools {
               K.room_left;
         }) pool (left layouts.entry) (kinds (layout layouts.entry).counts) sink.old
             sink.new self.old self.new) }
-        ensures in_range { OnOk result ((names_of self.old).sets + left layouts.entry < 2 ^ 64) }
+        ensures in_range { OnOk result ((next_names self.old).sets + left layouts.entry < 2 ^ 64) }
         ensures err { OnErr result (IsSame self.old self.new) }
         ensures err_sink { OnErr result (IsSameSink
             (record { kept = K.kept; kept_as = K.kept_as; room_left = K.room_left }) sink.old
@@ -172,7 +172,7 @@ impl Pools {
         requires live { HoldsAlong I.next_gives sets.old (λ xs. AreNamed pool (map set_id xs)
             (pools_of self.old)) }
         ensures released { TakesBack I.next_gives pool sets.old sets.new self.old self.new }
-        ensures names { names_of self.new ≡ names_of self.old }
+        ensures names { next_names self.new ≡ next_names self.old }
     {
         let Some(live) = self.live.get_mut(&pool) else {
             unreachable!()

@@ -2,8 +2,8 @@
 ghost use Rattle.std.specs.Prelude.{◌≡◌, ◌++◌, ◌∷◌, ◌<◌, ◌↔◌, [], length, map, slice_set, Some};
 ghost use Rattle.std.specs.Prelude.{None, IsSome, IsTrue, OnOk, OnErr, vec_len};
 ghost use Rattle.std.specs.Option.{option_copied};
-ghost use Rattle.descriptor_script.specs.Sessions.Tickets.{AreClear, AreHeldOnce, held_sets};
-ghost use Rattle.descriptor_script.specs.Sessions.Tickets.{set_at};
+ghost use Rattle.descriptor_script.specs.Inner.Marks.{AreClear};
+ghost use Rattle.descriptor_script.specs.Sessions.Tickets.{AreHeldOnce, held_sets, set_at};
 
 use crate::marks::{clear_each, mark_each};
 use gpu_descriptor::DescriptorSet;
@@ -26,7 +26,7 @@ pub(crate) struct Slots<S> {
 }
 
 impl<S> Slots<S> {
-    ghost use Rattle.descriptor_script.specs.Inner.Slots.{HasRoom, KeepsRoom, slots_of};
+    ghost use Rattle.descriptor_script.specs.Inner.Slots.{HasSpareSlots, KeepsRoom, slots_of};
 
     /// No ticket was given. It takes no memory.
     pub(crate) fn new(alloc: Global) -> Self
@@ -66,7 +66,7 @@ impl<S> Slots<S> {
 
     /// Takes room for so many tickets.
     pub(crate) fn reserve(&mut self, count: u32) -> Result<(), AllocError>
-        ensures room { OnOk result (HasRoom count self.new) }
+        ensures room { OnOk result (HasSpareSlots count self.new) }
         ensures some { OnErr result (0 < count) }
         ensures sets { slots_of self.new ≡ slots_of self.old }
     {
@@ -78,7 +78,7 @@ impl<S> Slots<S> {
     pub(crate) fn append(&mut self, sets: Vec<DescriptorSet<S>>)
     where
         S: Drop,
-        requires { HasRoom (length sets.items) self.old }
+        requires { HasSpareSlots (length sets.items) self.old }
         ensures { slots_of self.new ≡ slots_of self.old ++ map Some sets.items }
     {
         for set in sets {
@@ -88,7 +88,7 @@ impl<S> Slots<S> {
 
     /// Puts a set under the next ticket, over room that was taken.
     fn push(&mut self, set: DescriptorSet<S>)
-        requires { HasRoom 1 self.old }
+        requires { HasSpareSlots 1 self.old }
         ensures sets { slots_of self.new ≡ slots_of self.old ++ Some set ∷ [] }
         ensures room { KeepsRoom 1 self.old self.new }
     {

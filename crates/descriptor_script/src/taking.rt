@@ -14,16 +14,16 @@ pub(crate) struct Taking<'a, S> {
 }
 
 impl<S: Drop> Iterator for Taking<'_, S> {
-    ghost use Rattle.descriptor_script.specs.Inner.Taking.{TakesNext, slots_in, to_come};
-    ghost use Rattle.descriptor_script.specs.Sessions.Tickets.{CanTake};
+    ghost use Rattle.descriptor_script.specs.Inner.Taking.{CanTake, TakesNext, slots_in};
+    ghost use Rattle.descriptor_script.specs.Inner.Taking.{tickets_left};
 
     type Item = DescriptorSet<S>;
 
-    ghost can_next = { λ s. CanTake (slots_in s) (to_come s) };
+    ghost can_next = { λ s. CanTake (slots_in s) (tickets_left s) };
 
     ghost next_gives = { TakesNext };
 
-    ghost remaining = { λ s. at_most (length (to_come s)) };
+    ghost remaining = { λ s. at_most (length (tickets_left s)) };
 
     fn next(&mut self) -> Option<DescriptorSet<S>> {
         let ticket = self.tickets.next()?;

@@ -31,7 +31,7 @@ pub(crate) struct Log {
 }
 
 impl Log {
-    ghost use Rattle.descriptor_uses.specs.Log.{HasRoom};
+    ghost use Rattle.descriptor_uses.specs.Log.{HasLogRoom};
 
     pub(crate) fn new(alloc: Global) -> Self
         ensures calls { result.calls.items ≡ [] }
@@ -45,7 +45,7 @@ impl Log {
 
     /// Takes room for so many calls more. Whether it is there.
     pub(crate) fn reserve(&mut self, more: usize) -> bool
-        ensures room { IsTrue result → HasRoom more self.new }
+        ensures room { IsTrue result → HasLogRoom more self.new }
         ensures calls { self.new.calls.items ≡ self.old.calls.items }
         ensures owed { self.new.owed ≡ self.old.owed }
     {
@@ -57,7 +57,7 @@ impl Log {
 
     /// Puts a call that owes so many others.
     pub(crate) fn put(&mut self, call: Call, owes: usize)
-        requires { HasRoom (owes + 1) self.old }
+        requires { HasLogRoom (owes + 1) self.old }
         ensures calls { self.new.calls.items ≡ self.old.calls.items ++ call ∷ [] }
         ensures owed { self.new.owed ≡ self.old.owed + owes }
     {

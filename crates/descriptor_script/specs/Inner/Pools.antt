@@ -11,26 +11,26 @@ use Rattle.descriptor_script.specs.declared.raw.RawSet.{RawSet}
 abbrev pub pools_of : Pools → ℕ → Option Pool
 pools_of p = pools_in p.live
 
-abbrev pub names_of : Pools → Names
-names_of p = record { pools = p.next_pool; sets = p.next_set }
+abbrev pub next_names : Pools → Names
+next_names p = record { pools = p.next_pool; sets = p.next_set }
 
 -- no pool is live, and no name was given
-pub record IsNew (new : Pools) : Type 0 where
+pub record HasNoPools (new : Pools) : Type 0 where
   pub pools : pools_of new ≡ (λ _. None)
-  pub names : names_of new ≡ record { pools = 0; sets = 0 }
+  pub names : next_names new ≡ record { pools = 0; sets = 0 }
 
 -- the live pools and the names stay
 pub record IsSame (old new : Pools) : Type 0 where
   pub pools : pools_of new ≡ pools_of old
-  pub names : names_of new ≡ names_of old
+  pub names : next_names new ≡ next_names old
 
 -- n sets of these counts were put, under the next names, and are live in the pool
 pub record Grants {K X : Type 0} (sink : Sink K RawSet X) (name n : ℕ) (counts : List ℕ) (before after : K) (old new : Pools) : Type 0 where
-  pub kept : sink.kept after ≡ sink.kept before ++ map (sink.kept_as before) (raw_sets name (names_of old).sets n)
+  pub kept : sink.kept after ≡ sink.kept before ++ map (sink.kept_as before) (raw_sets name (next_names old).sets n)
   pub alike : sink.kept_as after ≡ sink.kept_as before
   pub room : sink.room_left after + n ≡ sink.room_left before
-  pub pools : let sets = live_sets counts (map set_id (raw_sets name (names_of old).sets n)) in pools_of new ≡ on_pool name (λ pool. record pool { live = λ x. pool.live x + times sets x }) (pools_of old)
-  pub names : names_of new ≡ record (names_of old) { sets = (names_of old).sets + n }
+  pub pools : let sets = live_sets counts (map set_id (raw_sets name (next_names old).sets n)) in pools_of new ≡ on_pool name (λ pool. record pool { live = λ x. pool.live x + times sets x }) (pools_of old)
+  pub names : next_names new ≡ record (next_names old) { sets = (next_names old).sets + n }
 
 -- the sink is as it was
 pub record IsSameSink {K X : Type 0} (sink : Sink K RawSet X) (before after : K) : Type 0 where

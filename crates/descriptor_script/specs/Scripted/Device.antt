@@ -3,7 +3,7 @@ use Rattle.std.specs.Prelude.{List, None}
 use Rattle.gpu_descriptor_types.specs.Ledger.{Ledger}
 use Rattle.gpu_descriptor.specs.Model.Outcomes.{no_rise}
 use Rattle.descriptor_script.specs.Inner.Counters.{counters_of}
-use Rattle.descriptor_script.specs.Inner.Pools.{pools_of, names_of}
+use Rattle.descriptor_script.specs.Inner.Pools.{pools_of, next_names}
 use Rattle.descriptor_script.specs.Scripted.Raw.{Names}
 use Rattle.descriptor_script.specs.Inner.Words.{words_of}
 use Rattle.descriptor_script.specs.declared.answer.Answer.{Answer}
@@ -18,7 +18,7 @@ script_of d = words_of d.script
 
 -- how many names were given to pools and to sets
 abbrev pub names_given : ScriptedDevice → Names
-names_given d = names_of d.pools
+names_given d = next_names d.pools
 
 -- no pool, and nothing done
 abbrev pub empty_ledger : Ledger

@@ -1,5 +1,5 @@
 -- Slots by ticket: the slot of a ticket has its set until that is freed.
-use Rattle.std.specs.Prelude.{◌≡◌, ◌≢◌, ℕ, ◌<◌, Bool, true, false, List, [], ◌∷◌, length, slice_index, slice_index_or, slice_set, Option, None, Some, IsSome}
+use Rattle.std.specs.Prelude.{◌≢◌, ℕ, ◌<◌, List, [], ◌∷◌, length, slice_index, slice_index_or, slice_set, Option, None, Some, IsSome}
 
 module _ {X : Type 0} where
   -- the set of the ticket
@@ -21,16 +21,3 @@ module _ {X : Type 0} where
   pub record AreHeldOnce (slots : List (Option X)) (tickets : List ℕ) : Type 0 where
     pub held : (i : ℕ) → i < length tickets → IsSome (set_at slots (slice_index tickets i))
     pub once : (i j : ℕ) → i < j → j < length tickets → slice_index tickets i ≢ slice_index tickets j
-
-  -- each ticket has a set when those before it are taken
-  abbrev pub CanTake : List (Option X) → List ℕ → Type 0
-  CanTake slots [] = Unit {0}
-  CanTake slots (ticket ∷ tickets) = IsSome (set_at slots ticket) × CanTake (slice_set slots ticket None) tickets
-
--- no mark is set
-abbrev pub AreClear : List Bool → Type 0
-AreClear marks = (n : ℕ) → slice_index_or marks n false ≡ false
-
--- marks are set at tickets of the list alone
-abbrev pub AreOnlyAt : List ℕ → List Bool → Type 0
-AreOnlyAt tickets marks = (n : ℕ) → slice_index_or marks n false ≡ true → (i : ℕ) × (i < length tickets) × (slice_index tickets i ≡ n)

@@ -1,7 +1,7 @@
 use Rattle.std.proofs.Common.{◌≡◌, ◌++◌, map, Some, OnOk, Result, Ok, Err, is_err, true, false, length, slice_get, refl, rules, sym, ap, ◌∙◌, arith}
 use Rattle.std.proofs.lemmas.Option.{slice_get_read}
 use Rattle.gpu_descriptor.specs.Caller.States.{state_of}
-use Rattle.descriptor_script.specs.Inner.Slots.{HasRoom}
+use Rattle.descriptor_script.specs.Inner.Slots.{HasSpareSlots}
 use Rattle.descriptor_script.specs.Sessions.Tickets.{held_sets}
 use Rattle.descriptor_script.proofs.Held.{all_held_more, held_sum}
 use Rattle.descriptor_script.proofs.session.Session.allocate.Goals.{In-Some}
@@ -21,7 +21,7 @@ allocate-requires-clause-mark g c = (c.requires.ready.meant c.args.layout c.in-S
 
 pub append-requires : goal.append-requires
 append-requires g c =
-    let room = is_ok_then c.reserve.result (HasRoom c.args.count c.reserve.new.self) (sym c.is_err.ensures.value ∙ c.if-is_err.false) c.reserve.ensures.room in
+    let room = is_ok_then c.reserve.result (HasSpareSlots c.args.count c.reserve.new.self) (sym c.is_err.ensures.value ∙ c.if-is_err.false) c.reserve.ensures.room in
     let many = c.in-Ok.ensures.hands_out.many in
     let sets = room.sets in
     let listed = room.listed in

@@ -1,6 +1,6 @@
 use Rattle.std.proofs.Common.{◌≡◌, ◌++◌, length, map, Some}
 use Rattle.std.specs.Vec.Iter.{into_iter_items}
-use Rattle.descriptor_script.specs.Inner.Slots.{HasRoom, slots_of}
+use Rattle.descriptor_script.specs.Inner.Slots.{HasSpareSlots, slots_of}
 use Rattle.descriptor_script.proofs.slots.Slots.append.Given as goal
 
 -- the sets so far are put, and there is room for the others
@@ -8,5 +8,5 @@ abbrev pub invariant-loop-set : goal.invariant-loop-set
 invariant-loop-set g l = record {
   ahead : l.yielded ++ into_iter_items l.set-iterator ≡ l.fn.sets.items;
   sets : slots_of l.self ≡ slots_of l.fn.self ++ map Some l.yielded;
-  room : HasRoom (length (into_iter_items l.set-iterator)) l.self;
+  room : HasSpareSlots (length (into_iter_items l.set-iterator)) l.self;
 }

@@ -1,5 +1,6 @@
 use Rattle.std.proofs.Common.{◌+◌, ◌∷◌, [], length, length-append, sym, ap, ◌∙◌, arith}
-use Rattle.descriptor_script.specs.Sessions.Tickets.{AreClear, held_sets}
+use Rattle.descriptor_script.specs.Inner.Marks.{AreClear}
+use Rattle.descriptor_script.specs.Sessions.Tickets.{held_sets}
 use Rattle.descriptor_script.proofs.Held.{held_few, held_more}
 use Rattle.descriptor_script.proofs.Cleared.{clear_more}
 use Rattle.descriptor_script.proofs.slots.Slots.push.Goals as goal
