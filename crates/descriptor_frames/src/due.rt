@@ -1,7 +1,7 @@
 //! The sets that go back at the end of a frame.
 ghost use Rattle.std.specs.Prelude.{◌≡◌};
 ghost use Rattle.std.specs.Iterator.{item_count};
-ghost use Rattle.descriptor_frames.specs.Due.{TakesDue, waiting};
+ghost use Rattle.descriptor_frames.specs.Inner.Due.{TakesDue, waiting};
 
 use crate::retired::Retired;
 use gpu_descriptor::DescriptorSet;
