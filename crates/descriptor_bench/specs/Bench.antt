@@ -5,5 +5,5 @@ use Rattle.descriptor_bench.specs.Device.{ledger_of, name_of}
 use Rattle.descriptor_bench.specs.declared.bench.Bench.{Bench}
 
 -- the books of its allocator, and the ledger of its device
-abbrev pub state_in : Bench → State
-state_in b = state_of name_of b.allocator (ledger_of b.device)
+abbrev pub bench_state : Bench → State
+bench_state b = state_of name_of b.allocator (ledger_of b.device)

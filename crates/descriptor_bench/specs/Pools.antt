@@ -3,17 +3,17 @@ use Rattle.std.specs.Prelude.{◌≡◌, ℕ, ◌≤◌, ◌==◌, List, [], ◌
 use Rattle.std.specs.Option.{option_map}
 use Rattle.gpu_descriptor_types.specs.Ledger.{Pool, Ledger}
 use Rattle.gpu_descriptor_types.specs.Multiset.{LiveSet, times}
-use Rattle.descriptor_bench.specs.Log.{Row, Log}
+use Rattle.descriptor_bench.specs.Log.{OwedPool, Log}
 
 -- no pool of this device ever refuses
-abbrev pub seen : Row → Pool
+abbrev pub seen : OwedPool → Pool
 seen r = record { counts = r.counts; capacity = r.capacity; flags = r.flags; refusals = 0; live = times r.live }
 
-abbrev pub row_at : List (ℕ × Option Row) → ℕ → Option Row
+abbrev pub row_at : List (ℕ × Option OwedPool) → ℕ → Option OwedPool
 row_at [] q = None
 row_at (r ∷ rs) q = if nat_eq r.0 q then r.1 else row_at rs q
 
-abbrev pub pools_in : List (ℕ × Option Row) → ℕ → Option Pool
+abbrev pub pools_in : List (ℕ × Option OwedPool) → ℕ → Option Pool
 pools_in rows q = option_map seen (row_at rows q)
 
 abbrev pub ledger_in : Log → Ledger
@@ -26,21 +26,12 @@ ledger_in l = record {
 abbrev pub AreBelow : Log → ℕ → Type 0
 AreBelow l next = (q : ℕ) → next ≤ q → is_some (row_at l.rows q) ≡ false
 
--- the first set of this name
-abbrev pub first_named : ℕ → List LiveSet → LiveSet
-first_named n [] = record { name = n; counts = [] }
-first_named n (s ∷ ss) = if s.name == n then s else first_named n ss
-
--- the others
+-- the sets but the first of this name
 abbrev pub rest_named : ℕ → List LiveSet → List LiveSet
 rest_named n [] = []
 rest_named n (s ∷ ss) = if s.name == n then ss else s ∷ rest_named n ss
 
--- a set for each name
-abbrev pub all_named : List ℕ → List LiveSet → List LiveSet
-all_named [] sets = []
-all_named (n ∷ ns) sets = first_named n sets ∷ all_named ns (rest_named n sets)
-
+-- the sets but the first of each name
 abbrev pub none_named : List ℕ → List LiveSet → List LiveSet
 none_named [] sets = sets
 none_named (n ∷ ns) sets = none_named ns (rest_named n sets)

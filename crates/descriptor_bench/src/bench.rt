@@ -22,7 +22,7 @@ pub struct Bench {
 }
 
 impl Bench {
-    ghost use Rattle.descriptor_bench.specs.Bench.{state_in};
+    ghost use Rattle.descriptor_bench.specs.Bench.{bench_state};
 
     /// An allocator without keys, under the greatest limit, and a device with memory for so many
     /// pools.
@@ -41,9 +41,9 @@ impl Bench {
         count: u32,
     ) -> Result<Vec<DescriptorSet<u64>>, AllocationError>
         ensures given { IfOk result (λ sets. AreOutBesides (items_of name_of sets.items)
-            (state_in self.old) (state_in self.new)) }
-        ensures back { IfErr result (λ _. KeepsOutstanding (state_in self.old)
-            (state_in self.new)) }
+            (bench_state self.old) (bench_state self.new)) }
+        ensures back { IfErr result (λ _. KeepsOutstanding (bench_state self.old)
+            (bench_state self.new)) }
     {
         self.allocator.allocate(
             &mut self.device,
@@ -56,16 +56,16 @@ impl Bench {
 
     /// Gives sets back.
     pub fn give_back(&mut self, sets: Vec<DescriptorSet<u64>>)
-        requires { AreOutstanding (items_of name_of sets.items) (state_in self.old) }
-        ensures { AreOutBesides (items_of name_of sets.items) (state_in self.new)
-            (state_in self.old) }
+        requires { AreOutstanding (items_of name_of sets.items) (bench_state self.old) }
+        ensures { AreOutBesides (items_of name_of sets.items) (bench_state self.new)
+            (bench_state self.old) }
     {
         self.allocator.free_all(&mut self.device, sets);
     }
 
     /// Takes sets, and gives them back.
     pub fn round(&mut self, layout: &Layout, count: u32) -> Result<(), AllocationError>
-        ensures { KeepsOutstanding (state_in self.old) (state_in self.new) }
+        ensures { KeepsOutstanding (bench_state self.old) (bench_state self.new) }
     {
         match self.take(layout, count) {
             Ok(sets) => {

@@ -3,7 +3,7 @@ ghost use Rattle.std.specs.Prelude.{◌≡◌, ◌<◌, ◌++◌, ℕ, List, len
 ghost use Rattle.gpu_descriptor.specs.declared.set.DescriptorSet.{DescriptorSet as GivenSet};
 ghost use Rattle.gpu_descriptor.specs.Model.Promises.{AreOutBesides, KeepsOutstanding};
 ghost use Rattle.gpu_descriptor.specs.Caller.Sets.{items_of};
-ghost use Rattle.descriptor_bench.specs.Bench.{state_in};
+ghost use Rattle.descriptor_bench.specs.Bench.{bench_state};
 ghost use Rattle.descriptor_bench.specs.Device.{name_of};
 
 use crate::bench::Bench;
@@ -14,7 +14,7 @@ use gpu_descriptor::{AllocationError, DescriptorSet};
 impl Bench {
     /// So many rounds.
     pub fn rounds(&mut self, layout: &Layout, count: u32, times: u32) -> Result<(), AllocationError>
-        ensures { KeepsOutstanding (state_in self.old) (state_in self.new) }
+        ensures { KeepsOutstanding (bench_state self.old) (bench_state self.new) }
     {
         for _ in 0..times {
             self.round(layout, count)?;
@@ -25,7 +25,7 @@ impl Bench {
     /// So many rounds of one set, of each layout in turn.
     pub fn rounds_in_turn(&mut self, layouts: &[Layout], times: u32) -> Result<(), AllocationError>
         requires { 0 < length layouts.now }
-        ensures { KeepsOutstanding (state_in self.old) (state_in self.new) }
+        ensures { KeepsOutstanding (bench_state self.old) (bench_state self.new) }
     {
         for turn in 0..times {
             self.round(&layouts[turn as usize % layouts.len()], 1)?;
@@ -40,7 +40,7 @@ impl Bench {
         count: u32,
         times: u32,
     ) -> Result<(), anyhow::Error>
-        ensures { KeepsOutstanding (state_in self.old) (state_in self.new) }
+        ensures { KeepsOutstanding (bench_state self.old) (bench_state self.new) }
     {
         for _ in 0..times {
             match self.round(layout, count) {
@@ -62,7 +62,8 @@ impl Bench {
     ) -> Result<(), AllocationError>
         ensures { OnOk result ((taken : List (GivenSet ℕ)) × (held.new.items
             ≡ held.old.items ++ taken)
-            × AreOutBesides (items_of name_of taken) (state_in self.old) (state_in self.new)) }
+            × AreOutBesides (items_of name_of taken)
+            (bench_state self.old) (bench_state self.new)) }
     {
         for _ in 0..times {
             let mut sets = self.take(layout, count)?;
