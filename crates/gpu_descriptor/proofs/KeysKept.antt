@@ -16,7 +16,7 @@ use Rattle.gpu_descriptor.specs.Inner.Stored.{bucket_of, entry_of, row_of, store
 use Rattle.gpu_descriptor.specs.Caller.Values.{Allocations}
 use Rattle.gpu_descriptor.proofs.Cleaning.{cleaned_cases}
 use Rattle.gpu_descriptor.proofs.Fronts.{whole_front, whole_trimmed}
-use Rattle.gpu_descriptor.proofs.RowsCleaned.{Rows, cleared, first_keys, row_books}
+use Rattle.gpu_descriptor.proofs.RowsCleaned.{Rows, cleared, first_keys, row_books, row_left}
 use Rattle.gpu_descriptor.proofs.TableBooks.{keys_are, keys_set, rows_are, rows_in}
 
 -- ---- a request
@@ -57,14 +57,10 @@ module _ {P : Type 0} (name : P → ℕ) (stays : Key → Bool) where
   keys_left (suc n) (e ∷ es) [] says le h = absurd (let bad : ◌≡◌ {A = Rows} ((key_of e.0, bucket_of name e.1) ∷ rows_in name es) [] = h in cc)
   keys_left zero (e ∷ es) (r ∷ rows) says le h = absurd (omega arith)
   keys_left (suc n) (e ∷ es) (r ∷ rows) says le h =
-      let whole : ◌≡◌ {A = Rows} ((key_of e.0, bucket_of name e.1) ∷ rows_in name es) ((r.0, trimmed_bucket 0 r.1) ∷ cleared n rows) = h in
-      let head : ◌≡◌ {A = Key × Bucket} (key_of e.0, bucket_of name e.1) (r.0, trimmed_bucket 0 r.1) = cc in
-      let tail : rows_in name es ≡ cleared n rows = cc in
-      let key : key_of e.0 ≡ r.0 = ap (λ (x : Key × Bucket). x.0) head in
-      let bucket : bucket_of name e.1 ≡ trimmed_bucket 0 r.1 = ap (λ (x : Key × Bucket). x.1) head in
-      let size : length e.1.pools.items ≡ length (trimmed_bucket 0 r.1).pools = sym (length-map e.1.pools.items (entry_of name)) ∙ ap (λ (b : Bucket). length b.pools) bucket in
-      let own : stays r.0 ≡ not (length e.1.pools.items == 0) = says 0 r refl ∙ ap (λ (m : ℕ). not (m == 0)) (sym size) in
-      let rest = keys_left n es rows (λ i. says (suc i)) (omega arith) tail in
+      let row = row_left name n e es r rows h in
+      let key = row.key in
+      let own : stays r.0 ≡ not (length e.1.pools.items == 0) = says 0 r refl ∙ ap (λ (m : ℕ). not (m == 0)) (sym row.size) in
+      let rest = keys_left n es rows (λ i. says (suc i)) (omega arith) row.tail in
       elim (cases_Bool (length e.1.pools.items == 0)) [
         | inl none ↦ (let gone : stays r.0 ≡ false = own ∙ ap not none in rw (none, gone) rest)
         | inr some ↦ (let still : stays r.0 ≡ true = own ∙ ap not some in rw (some, still) (λ j. key j ∷ rest j))

@@ -239,6 +239,25 @@ left_none b n is none = elim (cleaned_cases b) [
 ]
 
 module _ {P : Type 0} (name : P → ℕ) where
+  -- what the first entry says of the first row, where the fronts are cleared
+  pub record IsRowLeft (n : ℕ) (e : BucketKey × DescriptorBucket P) (es : List (BucketKey × DescriptorBucket P)) (r : Key × Bucket) (rows : Rows) : Type 0 where
+    pub key : key_of e.0 ≡ r.0
+    pub bucket : bucket_of name e.1 ≡ trimmed_bucket 0 r.1
+    pub tail : rows_in name es ≡ cleared n rows
+    pub size : length e.1.pools.items ≡ length (trimmed_bucket 0 r.1).pools
+
+  pub row_left : (n : ℕ) (e : BucketKey × DescriptorBucket P) (es : List (BucketKey × DescriptorBucket P)) (r : Key × Bucket) (rows : Rows) → rows_in name (e ∷ es) ≡ cleared (suc n) (r ∷ rows) → IsRowLeft n e es r rows
+  row_left n e es r rows h =
+      let whole : ◌≡◌ {A = Rows} ((key_of e.0, bucket_of name e.1) ∷ rows_in name es) ((r.0, trimmed_bucket 0 r.1) ∷ cleared n rows) = h in
+      let head : ◌≡◌ {A = Key × Bucket} (key_of e.0, bucket_of name e.1) (r.0, trimmed_bucket 0 r.1) = cc in
+      let bucket : bucket_of name e.1 ≡ trimmed_bucket 0 r.1 = ap (λ (x : Key × Bucket). x.1) head in
+      record {
+        key = ap (λ (x : Key × Bucket). x.0) head;
+        bucket = bucket;
+        tail = cc;
+        size = sym (length-map e.1.pools.items (entry_of name)) ∙ ap (λ (b : Bucket). length b.pools) bucket;
+      }
+
   -- the rows that are left
   pub left_books : (n : ℕ) (es : List (BucketKey × DescriptorBucket P)) (rows : Rows) (k : Key) → HasDistinctKeys rows → length rows ≤ n → rows_in name es ≡ cleared n rows → books_of (rows_in name (filter (λ e. has_pools e.1) es)) k ≡ cleaned_bucket (books_of rows k)
   left_books n [] [] k d le h = refl
@@ -248,22 +267,18 @@ module _ {P : Type 0} (name : P → ℕ) where
   left_books (suc n) (e ∷ es) [] k d le h = absurd (let bad : ◌≡◌ {A = Rows} ((key_of e.0, bucket_of name e.1) ∷ rows_in name es) [] = h in cc)
   left_books zero (e ∷ es) (r ∷ rows) k d le h = absurd (omega arith)
   left_books (suc n) (e ∷ es) (r ∷ rows) k d le h =
-      let whole : ◌≡◌ {A = Rows} ((key_of e.0, bucket_of name e.1) ∷ rows_in name es) ((r.0, trimmed_bucket 0 r.1) ∷ cleared n rows) = h in
-      let head : ◌≡◌ {A = Key × Bucket} (key_of e.0, bucket_of name e.1) (r.0, trimmed_bucket 0 r.1) = cc in
-      let tail : rows_in name es ≡ cleared n rows = cc in
-      let key : key_of e.0 ≡ r.0 = ap (λ (x : Key × Bucket). x.0) head in
-      let bucket : bucket_of name e.1 ≡ trimmed_bucket 0 r.1 = ap (λ (x : Key × Bucket). x.1) head in
-      let size : length e.1.pools.items ≡ length (trimmed_bucket 0 r.1).pools = sym (length-map e.1.pools.items (entry_of name)) ∙ ap (λ (b : Bucket). length b.pools) bucket in
-      let rest : books_of (rows_in name (filter (λ e. has_pools e.1) es)) k ≡ cleaned_bucket (books_of rows k) = left_books n es rows k d.1 (omega arith) tail in
+      let row = row_left n e es r rows h in
+      let key = row.key in
+      let rest : books_of (rows_in name (filter (λ e. has_pools e.1) es)) k ≡ cleaned_bucket (books_of rows k) = left_books n es rows k d.1 (omega arith) row.tail in
       elim (cases_Bool (length e.1.pools.items == 0)) [
         | inl none ↦ rw none (rest ∙ elim (cases_Bool (key_eq r.0 k)) [
           | inl at ↦ (
               let gone_row : books_of rows k ≡ no_pools = absent k rows (ap (λ (x : Key). list_any (λ o. key_eq o.0 x) rows) (sym (key_exact.same r.0 k at)) ∙ d.0) in
-              rw at (ap cleaned_bucket gone_row ∙ sym (left_none r.1 (length e.1.pools.items) size none)))
+              rw at (ap cleaned_bucket gone_row ∙ sym (left_none r.1 (length e.1.pools.items) row.size none)))
           | inr other ↦ rw other refl
         ])
         | inr some ↦ rw some (elim (cases_Bool (key_eq r.0 k)) [
-          | inl at ↦ (let here : key_eq (key_of e.0) k ≡ true = ap (λ (x : Key). key_eq x k) key ∙ at in rw (here, at) (bucket ∙ left_some r.1 (length e.1.pools.items) size some))
+          | inl at ↦ (let here : key_eq (key_of e.0) k ≡ true = ap (λ (x : Key). key_eq x k) key ∙ at in rw (here, at) (row.bucket ∙ left_some r.1 (length e.1.pools.items) row.size some))
           | inr other ↦ (let here : key_eq (key_of e.0) k ≡ false = ap (λ (x : Key). key_eq x k) key ∙ other in rw (here, other) rest)
         ])
       ]

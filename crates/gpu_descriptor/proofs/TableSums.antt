@@ -5,7 +5,7 @@ use Rattle.std.proofs.lemmas.List.{length-map}
 use Rattle.std.proofs.lemmas.List.Sums.{sum_by-cons}
 use Rattle.std.proofs.lemmas.Option.{slice_get-map}
 use Rattle.gpu_descriptor.specs.declared.view.PoolView.{PoolView}
-use Rattle.gpu_descriptor.specs.Model.Books.{Key, key_eq, Entry, Bucket, books_of, sum_over}
+use Rattle.gpu_descriptor.specs.Model.Books.{Key, key_eq, Entry, Bucket, AddsUp, HasDistinctKeys, books_of, sum_over}
 use Rattle.gpu_descriptor.specs.Model.Load.{allocated_in, marked_load, pool_load, pools_load, bucket_load, sets_out, descriptors_out}
 use Rattle.gpu_descriptor.specs.Caller.States.{named, named_row, table_of, sets_in, descriptors_in, pool_load_in, outstanding_of, marked_load_of, pool_load_of}
 use Rattle.gpu_descriptor.specs.Caller.Values.{Kept, Row, Allocations}
@@ -36,6 +36,10 @@ module _ {P : Type 0} (name : P → ℕ) where
       go : (k : Key) (ps : List (Kept P)) → pools_load k (map (named name) ps) ≡ sum_by (λ p. pool_load k p.capacity) ps
       go k [] = refl
       go k (p ∷ ps) = sum_by-cons (λ (e : Entry). pool_load k e.capacity) (named name p) (map (named name) ps) ∙ ap (λ n. pool_load k p.capacity + n) (go k ps) ∙ sym (sum_by-cons (λ (q : Kept P). pool_load k q.capacity) p ps)
+
+  -- so each adds up over the books
+  pub adds_up : (a : Allocations P) (f : Key → Bucket → ℕ) {all n : ℕ} → HasDistinctKeys (table_of name a) → all ≡ sum_over f (table_of name a) → n ≡ all → AddsUp f (books_of (table_of name a)) n
+  adds_up a f distinct sum is = record { table = table_of name a; distinct = distinct; keeps = λ k. refl; total = sym sum ∙ sym is }
 
   -- a key's pools that readers see are those of the books
   pub books_of-table : (a : Allocations P) (k : Key) → books_of (table_of name a) k ≡ record { first = first_at a.table k; pools = map (named name) (pools_at a.table k) }

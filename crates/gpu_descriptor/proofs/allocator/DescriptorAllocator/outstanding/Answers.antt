@@ -1,10 +1,11 @@
 use Rattle.std.proofs.Common.{ℕ, refl, sym, ap, ◌∙◌}
 use Rattle.gpu_descriptor.specs.Model.Books.{HasDistinctKeys}
 use Rattle.gpu_descriptor.specs.Caller.States.{outstanding_of, table_of}
+use Rattle.gpu_descriptor.specs.Model.Load.{sets_out}
 use Rattle.gpu_descriptor.specs.Caller.Values.{Allocations}
 use Rattle.gpu_descriptor.proofs.Loads.{rows_out}
 use Rattle.gpu_descriptor.proofs.Requested.{rows_apart}
-use Rattle.gpu_descriptor.proofs.TableSums.{outstanding_of-table}
+use Rattle.gpu_descriptor.proofs.TableSums.{adds_up, outstanding_of-table}
 use Rattle.gpu_descriptor.proofs.allocator.DescriptorAllocator.outstanding.Goals as goal
 
 pub returns : goal.returns
@@ -14,11 +15,6 @@ returns g c =
     let rows : (name : g.row.P.Denot → ℕ) → HasDistinctKeys (table_of name c.args.self.now) = λ name. rows_apart _ c.self.view_is name c.self.invariant in
     record {
       total = total;
-      books = λ name. record {
-        table = table_of name c.args.self.now;
-        distinct = rows name;
-        keeps = λ k. refl;
-        total = sym (outstanding_of-table name c.args.self.now) ∙ sym total;
-      };
+      books = λ name. adds_up name c.args.self.now sets_out (rows name) (outstanding_of-table name c.args.self.now) total;
       rows = rows;
     }

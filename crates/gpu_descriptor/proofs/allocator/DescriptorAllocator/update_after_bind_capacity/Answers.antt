@@ -1,8 +1,9 @@
 use Rattle.std.proofs.Common.{◌≡◌, ◌-◌, refl, sym, ap, ◌∙◌, arith}
-use Rattle.gpu_descriptor.specs.Caller.States.{pool_load_of, table_of}
+use Rattle.gpu_descriptor.specs.Caller.States.{pool_load_of}
+use Rattle.gpu_descriptor.specs.Model.Load.{bucket_load}
 use Rattle.gpu_descriptor.specs.Caller.Values.{Allocations}
 use Rattle.gpu_descriptor.proofs.Requested.{rows_apart, pool_load_of_rows}
-use Rattle.gpu_descriptor.proofs.TableSums.{pool_load_of-table}
+use Rattle.gpu_descriptor.proofs.TableSums.{adds_up, pool_load_of-table}
 use Rattle.gpu_descriptor.proofs.allocator.DescriptorAllocator.update_after_bind_capacity.Goals as goal
 
 pub returns : goal.returns
@@ -14,11 +15,6 @@ returns g c =
     let limit : c.self.inside.max_update_after_bind_descriptors_in_all_pools ≡ c.args.self.now.limit = ap (λ (a : Allocations _). a.limit) c.self.view_is in
     record {
       sum = sum;
-      books = λ name. record {
-        table = table_of name c.args.self.now;
-        distinct = rows_apart _ c.self.view_is name c.self.invariant;
-        keeps = λ k. refl;
-        total = sym (pool_load_of-table name c.args.self.now) ∙ sym sum;
-      };
+      books = λ name. adds_up name c.args.self.now bucket_load (rows_apart _ c.self.view_is name c.self.invariant) (pool_load_of-table name c.args.self.now) sum;
       within = omega arith;
     }

@@ -1,9 +1,10 @@
 use Rattle.std.proofs.Common.{◌≤◌, refl, sym, ap, subst, ◌∙◌}
-use Rattle.gpu_descriptor.specs.Caller.States.{marked_load_of, table_of}
+use Rattle.gpu_descriptor.specs.Caller.States.{marked_load_of}
+use Rattle.gpu_descriptor.specs.Model.Load.{descriptors_out}
 use Rattle.gpu_descriptor.specs.Caller.Values.{Allocations}
 use Rattle.gpu_descriptor.proofs.Loads.{rows_load}
 use Rattle.gpu_descriptor.proofs.Requested.{rows_apart}
-use Rattle.gpu_descriptor.proofs.TableSums.{marked_load_of-table}
+use Rattle.gpu_descriptor.proofs.TableSums.{adds_up, marked_load_of-table}
 use Rattle.gpu_descriptor.proofs.allocator.DescriptorAllocator.update_after_bind_descriptors.Goals as goal
 
 pub returns : goal.returns
@@ -12,11 +13,6 @@ returns g c =
     let was = ap (λ (a : Allocations _). a.table) (sym c.self.view_is) in
     record {
       sum = sum;
-      books = λ name. record {
-        table = table_of name c.args.self.now;
-        distinct = rows_apart _ c.self.view_is name c.self.invariant;
-        keeps = λ k. refl;
-        total = sym (marked_load_of-table name c.args.self.now) ∙ sym sum;
-      };
+      books = λ name. adds_up name c.args.self.now descriptors_out (rows_apart _ c.self.view_is name c.self.invariant) (marked_load_of-table name c.args.self.now) sum;
       within = subst (λ (a : Allocations _). c.self.inside.current_update_after_bind_descriptors_in_all_pools ≤ a.limit) c.self.view_is c.self.invariant.within;
     }

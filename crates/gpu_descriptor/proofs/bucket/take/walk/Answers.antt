@@ -1,4 +1,4 @@
-use Rattle.std.proofs.Common.{◌≡◌, ℕ, ◌+◌, ◌-◌, ◌++◌, List, [], length, map, slice_set, refl, sym, ap, ◌∙◌, subst, arith, append_assoc, length-append}
+use Rattle.std.proofs.Common.{◌≡◌, ℕ, ◌+◌, ◌-◌, ◌++◌, List, [], length, map, slice_get, slice_set, Some, refl, sym, ap, ◌∙◌, subst, arith, append_assoc, length-append}
 use Rattle.std.proofs.lemmas.List.{length-map, append-nil, map-append, length-set}
 use Rattle.gpu_descriptor_types.specs.Ledger.{Ledger}
 use Rattle.gpu_descriptor.specs.declared.bucket.DescriptorPool.{DescriptorPool}
@@ -13,6 +13,7 @@ use Rattle.gpu_descriptor.specs.Model.Shares.{rest}
 use Rattle.gpu_descriptor.specs.Inner.Walk.{sets_at, IsWalked, IsWalkStopped}
 use Rattle.gpu_descriptor.proofs.Newest.{OpenWalk, open_walk_start, open_walk_more, open_walk_stop, walk_sated, walk_empty, above, inside, next_is_booked, listed_now_closed, listed_now_open, listed_now_same, one_asked, looked_at}
 use Rattle.gpu_descriptor.proofs.Walking.{Walking, walk_end, items_of-sets_at}
+use Rattle.gpu_descriptor.proofs.bucket.take.walk.Goals.{In-Ok}
 use Rattle.gpu_descriptor.proofs.bucket.take.walk.Goals as goal
 
 -- sets of one key and number are those of another that are the same
@@ -103,29 +104,53 @@ returns-in-Err-clause-listed g c =
       (let a = inv.space in let b = length-set c.loop-wanting.view.pools.now.items (c.in-Some.number - c.loop-wanting.view.offset) c.ask.new.pool in omega arith),
     )
 
+-- what came of the pool that was asked
+module _ (g : _) (c : In-Ok g) where
+  abbrev raws : List g.row.S.Denot
+  raws = c.in-Ok.ensures.asked.0
+
+  abbrev put : List (DescriptorSet g.row.S.Denot)
+  put = c.loop-wanting.invariant.put ++ sets_at c.args.key.now c.in-Some.number raws
+
+  abbrev names : List ℕ
+  names = map g.D.DescriptorDevice.set_name raws
+
+  at : slice_get c.loop-wanting.view.pools.now.items (c.in-Some.number - c.loop-wanting.view.offset) ≡ Some c.look-pool.result.now
+  at = looked_at c.requires.booked c.loop-wanting.invariant.walk c.loop-wanting-test.true _ _ c.in-Some.ensures.last _ c.look-pool.ensures.value
+
+  many : length names ≡ c.in-Ok.given
+  many = length-map raws g.D.DescriptorDevice.set_name ∙ c.in-Ok.ensures.asked.1
+
+  less : c.loop-wanting.wanting - c.in-Ok.given + length names ≡ c.loop-wanting.wanting
+  less = (let a = c.in-Ok.ensures.asked.4.many in let d = many in omega arith)
+
+  sets : c.ask.new.sink.sets.items ≡ c.args.sink.now.sets.items ++ put
+  sets =
+      c.in-Ok.ensures.asked.2 ∙ ap (λ x. c.aim.new.self.sets.items ++ x) (aimed_at raws c.aim.ensures.key c.aim.ensures.number) ∙ ap (λ x. x ++ sets_at c.args.key.now c.in-Some.number raws) (c.aim.ensures.sets ∙ c.loop-wanting.invariant.sets) ∙ append_assoc c.args.sink.now.sets.items c.loop-wanting.invariant.put _
+
+  room : c.ask.new.sink.left + c.args.count ≡ c.args.sink.now.left + (c.loop-wanting.wanting - c.in-Ok.given)
+  room = (let a = c.loop-wanting.invariant.room in let b = c.in-Ok.ensures.asked.3 in let d = many in let q = c.aim.ensures.left in let few = less in omega arith)
+
+  given : length put + (c.loop-wanting.wanting - c.in-Ok.given) ≡ c.args.count
+  given = (let a = c.loop-wanting.invariant.given in let b = counted c.args.key.now c.in-Some.number _ c.loop-wanting.invariant.put raws c.in-Ok.ensures.asked.1 in let d = many in let few = less in omega arith)
+
 pub loop-wanting-preserved : goal.loop-wanting-preserved
 loop-wanting-preserved g c =
+    let r = (goal.at.loop-wanting-preserved g c).In-Ok in
     let inv = c.loop-wanting.invariant in
     let last = c.in-Some.ensures.last in
-    let at = looked_at c.requires.booked inv.walk c.loop-wanting-test.true _ _ last _ c.look-pool.ensures.value in
-    let got = c.in-Ok.ensures.asked in
-    let set_name = g.D.DescriptorDevice.set_name in
-    let key = c.args.key.now in
-    let number = c.in-Some.number in
     let q = c.ask.new.pool in
-    let named : length (map set_name got.0) ≡ c.in-Ok.given = length-map got.0 set_name ∙ got.1 in
-    let less : c.loop-wanting.wanting - c.in-Ok.given + length (map set_name got.0) ≡ c.loop-wanting.wanting = (let a = got.4.many in omega arith) in
-    let open_still = listed_now_open c.requires.booked inv.walk c.loop-wanting-test.true _ _ last _ at q (let a = c.if-pool-eq0.false in omega arith) in
-    let walked = open_walk_more c.requires.booked inv.walk c.loop-wanting-test.true _ _ last _ at q _ _ _ _ open_still got.4 less in
-    let asked_one = one_asked c.requires.booked inv.walk c.loop-wanting-test.true _ _ last _ at q _ _ got.4 in
-    let many = length-set c.loop-wanting.view.pools.now.items (number - c.loop-wanting.view.offset) q in
+    let open_still = listed_now_open c.requires.booked inv.walk c.loop-wanting-test.true _ _ last _ (at g r) q (let a = c.if-pool-eq0.false in omega arith) in
+    let walked = open_walk_more c.requires.booked inv.walk c.loop-wanting-test.true _ _ last _ (at g r) q _ _ _ _ open_still c.in-Ok.ensures.asked.4 (less g r) in
+    let asked_one = one_asked c.requires.booked inv.walk c.loop-wanting-test.true _ _ last _ (at g r) q _ _ c.in-Ok.ensures.asked.4 in
+    let many = length-set c.loop-wanting.view.pools.now.items (c.in-Some.number - c.loop-wanting.view.offset) q in
     record {
-      put = inv.put ++ sets_at key number got.0;
-      sets = got.2 ∙ ap (λ x. c.aim.new.self.sets.items ++ x) (aimed_at got.0 c.aim.ensures.key c.aim.ensures.number) ∙ ap (λ x. x ++ sets_at key number got.0) (c.aim.ensures.sets ∙ inv.sets) ∙ append_assoc c.args.sink.now.sets.items inv.put _;
-      room = (let a = inv.room in let b = got.3 in let d = got.1 in let q = c.aim.ensures.left in omega arith);
-      given = (let a = inv.given in let b = counted key number _ inv.put got.0 got.1 in omega arith);
+      put = put g r;
+      sets = sets g r;
+      room = room g r;
+      given = given g r;
       long = many ∙ inv.long;
-      walk = closed_walk (gave_more set_name key number inv.put got.0) refl refl refl walked;
+      walk = closed_walk (gave_more g.D.DescriptorDevice.set_name c.args.key.now c.in-Some.number inv.put (raws g r)) refl refl refl walked;
       space = (let a = inv.space in omega arith);
       kept = inv.kept;
       looks = (let a = inv.looks in omega arith);
@@ -133,30 +158,24 @@ loop-wanting-preserved g c =
 
 pub loop-wanting-preserved-then-pool-eq0 : goal.loop-wanting-preserved-then-pool-eq0
 loop-wanting-preserved-then-pool-eq0 g c =
+    let r = (goal.at.loop-wanting-preserved-then-pool-eq0 g c).In-Ok in
     let inv = c.loop-wanting.invariant in
     let last = c.in-Some.ensures.last in
-    let at = looked_at c.requires.booked inv.walk c.loop-wanting-test.true _ _ last _ c.look-pool.ensures.value in
-    let got = c.in-Ok.ensures.asked in
-    let set_name = g.D.DescriptorDevice.set_name in
-    let key = c.args.key.now in
-    let number = c.in-Some.number in
     let q = c.ask.new.pool in
-    let named : length (map set_name got.0) ≡ c.in-Ok.given = length-map got.0 set_name ∙ got.1 in
-    let less : c.loop-wanting.wanting - c.in-Ok.given + length (map set_name got.0) ≡ c.loop-wanting.wanting = (let a = got.4.many in omega arith) in
-    let closed = listed_now_closed c.requires.booked inv.walk c.loop-wanting-test.true _ _ last _ at q c.if-pool-eq0.true in
-    let walked = open_walk_more c.requires.booked inv.walk c.loop-wanting-test.true _ _ last _ at q _ _ _ _ closed got.4 less in
-    let asked_one = one_asked c.requires.booked inv.walk c.loop-wanting-test.true _ _ last _ at q _ _ got.4 in
+    let closed = listed_now_closed c.requires.booked inv.walk c.loop-wanting-test.true _ _ last _ (at g r) q c.if-pool-eq0.true in
+    let walked = open_walk_more c.requires.booked inv.walk c.loop-wanting-test.true _ _ last _ (at g r) q _ _ _ _ closed c.in-Ok.ensures.asked.4 (less g r) in
+    let asked_one = one_asked c.requires.booked inv.walk c.loop-wanting-test.true _ _ last _ (at g r) q _ _ c.in-Ok.ensures.asked.4 in
     let now = c.close_newest.ensures in
-    let pools : c.close_newest.new.self.pools.now.items ≡ slice_set c.loop-wanting.view.pools.now.items (number - c.loop-wanting.view.offset) q = ap (λ x. x.now.items) now.pools in
-    let many : length c.close_newest.new.self.pools.now.items ≡ length c.loop-wanting.view.pools.now.items = ap length pools ∙ length-set c.loop-wanting.view.pools.now.items (number - c.loop-wanting.view.offset) q in
+    let pools : c.close_newest.new.self.pools.now.items ≡ slice_set c.loop-wanting.view.pools.now.items (c.in-Some.number - c.loop-wanting.view.offset) q = ap (λ x. x.now.items) now.pools in
+    let many : length c.close_newest.new.self.pools.now.items ≡ length c.loop-wanting.view.pools.now.items = ap length pools ∙ length-set c.loop-wanting.view.pools.now.items (c.in-Some.number - c.loop-wanting.view.offset) q in
     let looked : c.close_newest.new.self.looks.now.count ≡ c.loop-wanting.view.looks.now.count + 1 = ap (λ x. x.now.count) now.looks in
     record {
-      put = inv.put ++ sets_at key number got.0;
-      sets = got.2 ∙ ap (λ x. c.aim.new.self.sets.items ++ x) (aimed_at got.0 c.aim.ensures.key c.aim.ensures.number) ∙ ap (λ x. x ++ sets_at key number got.0) (c.aim.ensures.sets ∙ inv.sets) ∙ append_assoc c.args.sink.now.sets.items inv.put _;
-      room = (let a = inv.room in let b = got.3 in let d = got.1 in let q = c.aim.ensures.left in omega arith);
-      given = (let a = inv.given in let b = counted key number _ inv.put got.0 got.1 in omega arith);
+      put = put g r;
+      sets = sets g r;
+      room = room g r;
+      given = given g r;
       long = many ∙ inv.long;
-      walk = closed_walk (gave_more set_name key number inv.put got.0) pools now.listed now.kept.0 walked;
+      walk = closed_walk (gave_more g.D.DescriptorDevice.set_name c.args.key.now c.in-Some.number inv.put (raws g r)) pools now.listed now.kept.0 walked;
       space = (let a = inv.space in let b = now.capacity in omega arith);
       kept = (now.kept.0 ∙ inv.kept.0, now.kept.1 ∙ inv.kept.1, now.kept.2 ∙ inv.kept.2, now.kept.3 ∙ inv.kept.3);
       looks = (let a = inv.looks in omega arith);
