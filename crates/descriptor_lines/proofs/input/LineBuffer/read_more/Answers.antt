@@ -16,6 +16,12 @@ read_behind v shown got end size fits room =
     let rest : List ℕ = post_of end (length shown - end) shown in
     with_items_is v _ (omega (arith, length-between shown end (length shown) (omega arith), length-append (take end shown) (got ++ rest), length-append got rest, length-take-le end shown fits, length-drop (length shown - end) (drop end shown), length-drop end shown))
 
+-- what stands before the place of a read stays
+front_stays : {Z : Type 0} (v : Vec ℕ Z) (shown got : List ℕ) (start place end : ℕ) → length shown ≡ v.len → end ≤ length shown → place ≤ end → length got ≡ length (slice_range shown end (length shown))
+    → slice_range (with_items v (take end shown ++ (got ++ post_of end (length shown - end) shown))).items start place ≡ slice_range shown start place
+front_stays v shown got start place end size fits before room =
+    ap (λ l. slice_range l start place) (read_behind v shown got end size fits room) ∙ front_part shown (got ++ post_of end (length shown - end) shown) start place end before fits
+
 pub returns-clause-kept : goal.returns-clause-kept
 returns-clause-kept g c =
     let s = c.move_to_front.new.self in
@@ -31,24 +37,19 @@ invariant_of-self-2-clause-unended g c =
     let s = c.move_to_front.new.self in
     let shown = c.deref_mut.result.now in
     let fits : s.end ≤ length shown = omega (arith, c.deref_mut.ensures.len) in
-    let behind = read_behind s.bytes shown c.read.new.buf s.end c.deref_mut.ensures.len fits c.read.auto.buf in
-    let same = ap (λ l. slice_range l s.start s.searched) behind ∙ front_part shown (c.read.new.buf ++ post_of s.end (length shown - s.end) shown) s.start s.searched s.end s.to_end fits ∙ ap (λ l. slice_range l s.start s.searched) c.deref_mut.ensures.value in
-    subst HasNoEnd (sym same) s.unended
+    subst HasNoEnd (sym (front_stays s.bytes shown c.read.new.buf s.start s.searched s.end c.deref_mut.ensures.len fits s.to_end c.read.auto.buf ∙ ap (λ l. slice_range l s.start s.searched) c.deref_mut.ensures.value)) s.unended
 
 pub invariant_of-self-in_default-clause-unended : goal.invariant_of-self-in_default-clause-unended
 invariant_of-self-in_default-clause-unended g c =
     let s = c.move_to_front.new.self in
     let shown = c.deref_mut.result.now in
     let fits : s.end ≤ length shown = omega (arith, c.deref_mut.ensures.len) in
-    let behind = read_behind s.bytes shown c.read.new.buf s.end c.deref_mut.ensures.len fits c.read.auto.buf in
-    let same = ap (λ l. slice_range l s.start s.searched) behind ∙ front_part shown (c.read.new.buf ++ post_of s.end (length shown - s.end) shown) s.start s.searched s.end s.to_end fits ∙ ap (λ l. slice_range l s.start s.searched) c.deref_mut.ensures.value in
-    subst HasNoEnd (sym same) s.unended
+    subst HasNoEnd (sym (front_stays s.bytes shown c.read.new.buf s.start s.searched s.end c.deref_mut.ensures.len fits s.to_end c.read.auto.buf ∙ ap (λ l. slice_range l s.start s.searched) c.deref_mut.ensures.value)) s.unended
 
 pub returns-in_default-clause-kept : goal.returns-in_default-clause-kept
 returns-in_default-clause-kept g c =
     let s = c.move_to_front.new.self in
     let shown = c.deref_mut.result.now in
     let fits : s.end ≤ length shown = omega (arith, c.deref_mut.ensures.len) in
-    let behind = read_behind s.bytes shown c.read.new.buf s.end c.deref_mut.ensures.len fits c.read.auto.buf in
-    let same = ap (λ l. slice_range l s.start s.end) behind ∙ front_part shown (c.read.new.buf ++ post_of s.end (length shown - s.end) shown) s.start s.end s.end (omega arith) fits ∙ ap (λ l. slice_range l s.start s.end) c.deref_mut.ensures.value in
+    let same = front_stays s.bytes shown c.read.new.buf s.start s.end s.end c.deref_mut.ensures.len fits (omega arith) c.read.auto.buf ∙ ap (λ l. slice_range l s.start s.end) c.deref_mut.ensures.value in
     read_failed_kept c.args.self.now.is_at_end s.is_at_end _ _ _ _ c.requires.open c.move_to_front.ensures.end (same ∙ c.move_to_front.ensures.bytes) c.in_default.ensures.bytes
