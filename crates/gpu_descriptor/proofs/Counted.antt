@@ -1,17 +1,15 @@
 -- How many pools go, in two parts and at once.
-use Rattle.std.proofs.Common.{◌≡◌, ℕ, ◌+◌, ◌<◌, Bool, true, false, ◌||◌, List, [], ◌∷◌, ◌++◌, sum_by, refl, sym, ap, ◌∙◌, arith}
+use Rattle.std.proofs.Common.{◌≡◌, ℕ, ◌+◌, Bool, true, false, ◌||◌, List, [], ◌∷◌, ◌++◌, sum_by, refl, sym, ap, ◌∙◌, arith}
 use Rattle.std.specs.Prelude.{if◌then◌else◌}
 use Rattle.std.proofs.Math.Path.{fun_ext}
 use Rattle.std.proofs.lemmas.List.Sums.{sum_by-append}
 use Rattle.std.proofs.lemmas.List.Folds.{list_any-append}
-use Rattle.gpu_descriptor.specs.Model.Agreement.{Item, item_eq, count_of, AreOutstanding}
 use Rattle.gpu_descriptor.specs.Model.Books.{Key, key_eq, Bucket}
-use Rattle.gpu_descriptor.specs.Model.Release.{lies_in, entry_less, bucket_less, spent_front, released}
+use Rattle.gpu_descriptor.specs.Model.Release.{lies_in, bucket_less, spent_front, released}
 use Rattle.gpu_descriptor.specs.Laws.Release.{ReleaseGone}
 use Rattle.gpu_descriptor.proofs.Fronts.{less-less, spent_front-less}
-use Rattle.gpu_descriptor_types.proofs.Counting.{count_by-append, count_by_alike}
-use Rattle.gpu_descriptor.proofs.Exact.{item_exact}
-use Rattle.gpu_descriptor.proofs.Places.{back, lies_in-at, kept}
+use Rattle.gpu_descriptor_types.proofs.Counting.{count_by-append}
+use Rattle.gpu_descriptor.proofs.Places.{back}
 use Rattle.gpu_descriptor.proofs.Parts.{trimmed_if, names_key, quiet_key, back_still}
 
 count_law : (first second : Bool) (f g : ℕ → ℕ) (b : Bucket) → (second ≡ false → bucket_less (λ p. f p + g p) b ≡ bucket_less f b)

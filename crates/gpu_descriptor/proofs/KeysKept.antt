@@ -12,7 +12,7 @@ use Rattle.gpu_descriptor.specs.Model.Cleanup.{IsCleaned, cleaned_bucket}
 use Rattle.gpu_descriptor.specs.Caller.Keys.{StayOrGainLast, keys_with_pools}
 use Rattle.gpu_descriptor.specs.Caller.Sets.{key_of}
 use Rattle.gpu_descriptor.specs.Caller.States.{keys_of, named_row, state_of}
-use Rattle.gpu_descriptor.specs.Inner.Stored.{bucket_of, entry_of, row_of, stored_keys}
+use Rattle.gpu_descriptor.specs.Inner.Stored.{bucket_of, row_of, stored_keys}
 use Rattle.gpu_descriptor.specs.Caller.Values.{Allocations}
 use Rattle.gpu_descriptor.proofs.Cleaning.{cleaned_cases}
 use Rattle.gpu_descriptor.proofs.Fronts.{whole_front, whole_trimmed}

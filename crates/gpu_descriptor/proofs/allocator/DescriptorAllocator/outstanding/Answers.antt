@@ -1,4 +1,4 @@
-use Rattle.std.proofs.Common.{ℕ, refl, sym, ap, ◌∙◌}
+use Rattle.std.proofs.Common.{ℕ, sym, ap, ◌∙◌}
 use Rattle.gpu_descriptor.specs.Model.Books.{HasDistinctKeys}
 use Rattle.gpu_descriptor.specs.Caller.States.{outstanding_of, table_of}
 use Rattle.gpu_descriptor.specs.Model.Load.{sets_out}

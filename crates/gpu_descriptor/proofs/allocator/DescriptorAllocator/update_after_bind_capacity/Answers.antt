@@ -1,4 +1,4 @@
-use Rattle.std.proofs.Common.{◌≡◌, ◌-◌, refl, sym, ap, ◌∙◌, arith}
+use Rattle.std.proofs.Common.{◌≡◌, ◌-◌, sym, ap, arith}
 use Rattle.gpu_descriptor.specs.Caller.States.{pool_load_of}
 use Rattle.gpu_descriptor.specs.Model.Load.{bucket_load}
 use Rattle.gpu_descriptor.specs.Caller.Values.{Allocations}

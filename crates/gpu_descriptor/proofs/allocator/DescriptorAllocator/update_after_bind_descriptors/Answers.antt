@@ -1,4 +1,4 @@
-use Rattle.std.proofs.Common.{◌≤◌, refl, sym, ap, subst, ◌∙◌}
+use Rattle.std.proofs.Common.{◌≤◌, sym, ap, subst, ◌∙◌}
 use Rattle.gpu_descriptor.specs.Caller.States.{marked_load_of}
 use Rattle.gpu_descriptor.specs.Model.Load.{descriptors_out}
 use Rattle.gpu_descriptor.specs.Caller.Values.{Allocations}
