@@ -1,6 +1,8 @@
-//! Tests of a session as lists of acts at a bench with a scripted device.
-use crate::bench::{Bench, scripted};
-use descriptor_script::{Answer, Reply, ScriptLayout, ScriptedDevice};
+//! Tests of a session as lists of acts at a bench, whose device answers by a script and lists its
+//! calls.
+use crate::bench::{Bench, expect_pools, expect_same, layout_of};
+use descriptor_script::{Answer, Command, Reply, ScriptLayout};
+use descriptor_uses::{Call, LogDevice};
 use std::alloc::{AllocError, Global};
 use std::process::Abort;
 use std::test::Fail;
@@ -12,82 +14,151 @@ pub enum Act<'a> {
     Allocate(usize, u32, Reply),
     /// The sets of these tickets go back, with this reply.
     Free(&'a [usize], Reply),
+    /// The sets of these tickets go back, each by a command of its own.
+    FreeEach(&'a [usize]),
     Cleanup,
-    /// How many sets are held.
+    /// Commands in one run, with these replies.
+    Run(&'a [Command], &'a [Reply]),
+    /// How many sets are held, and out.
     Held(u64),
-    /// Which tickets are held, from the first one that was given.
-    Tickets(&'a [bool]),
+    /// The names of the sets under the tickets, from the first one that was given.
+    Names(&'a [Option<u64>]),
     /// The ticket that is given next.
     Next(usize),
     /// Descriptors of the pools for marked sets, and of these sets.
     Loads(u32, u32),
+    /// The pools of a plain layout of so many samplers: number, allocated and available of each.
+    Pools(u32, &'a [(u64, u32, u32)]),
+    /// All calls that the device granted.
+    Calls(&'a [Call]),
 }
 
-/// Sees which tickets hold a set, from the first one on.
-pub fn expect_tickets(rt: &impl Abort, bench: &Bench<ScriptedDevice>, tickets: &[bool]) {
-    for (ticket, wanted) in tickets.iter().enumerate() {
-        let held = bench.session.set(ticket).is_some();
-        assert_eq!(rt; held, *wanted, "at {ticket}");
+/// Gives the sets back, each by a command of its own.
+fn free_each(
+    rt: &impl Abort,
+    alloc: Global,
+    bench: &mut Bench<LogDevice>,
+    tickets: &[usize],
+) -> Result<(), AllocError> {
+    for ticket in tickets {
+        expect_same(rt, bench.free(alloc, &[*ticket])?, Reply::Freed(1));
+    }
+    Ok(())
+}
+
+/// Does the commands in one run, and compares their replies.
+fn expect_run(
+    rt: &impl Abort,
+    bench: &mut Bench<LogDevice>,
+    commands: &[Command],
+    wanted: &[Reply],
+) -> Result<(), AllocError> {
+    let replies = bench.run(commands)?;
+    assert_eq!(rt; replies.as_slice(), wanted);
+    Ok(())
+}
+
+/// Compares the names of the sets under the tickets, from the first one on.
+fn expect_names(rt: &impl Abort, bench: &Bench<LogDevice>, names: &[Option<u64>]) {
+    for (ticket, wanted) in names.iter().enumerate() {
+        let seen = bench.session.set(ticket).map(|set| set.raw().id());
+        assert_eq!(rt; seen, *wanted, "at {ticket}");
     }
 }
 
 /// Compares how many descriptors the pools for marked sets have, and how many these sets have.
-fn expect_loads(rt: &impl Abort, bench: &Bench<ScriptedDevice>, capacity: u32, marked: u32) {
+fn expect_loads(rt: &impl Abort, bench: &Bench<LogDevice>, capacity: u32, marked: u32) {
     let allocator = bench.session.allocator();
     let seen = [
         allocator.update_after_bind_capacity(),
         allocator.update_after_bind_descriptors(),
     ];
-    assert_eq!(rt; seen, [capacity, marked]);
+    expect_same(rt, seen, [capacity, marked]);
+}
+
+/// Compares how many sets the session holds, and how many are out.
+fn expect_held(rt: &impl Abort, bench: &Bench<LogDevice>, held: u64) {
+    let out = bench.session.allocator().outstanding();
+    expect_same(rt, [bench.session.held(), out], [held, held]);
+}
+
+/// Compares the calls of a device.
+pub fn expect_calls(rt: &impl Abort, device: &LogDevice, calls: &[Call]) {
+    assert_eq!(rt; device.calls(), calls);
+}
+
+/// Sees what an act says that stands at the bench.
+fn see(rt: &impl Abort, bench: &Bench<LogDevice>, next: Act<'_>) {
+    match next {
+        Act::Held(held) => expect_held(rt, bench, held),
+        Act::Names(names) => expect_names(rt, bench, names),
+        Act::Next(ticket) => expect_same(rt, bench.session.next_ticket(), ticket),
+        Act::Loads(capacity, marked) => expect_loads(rt, bench, capacity, marked),
+        Act::Pools(samplers, pools) => {
+            let layout = layout_of(samplers, false);
+            expect_pools(rt, bench.session.allocator(), &layout, pools);
+        }
+        Act::Calls(calls) => expect_calls(rt, &bench.device, calls),
+        _ => assert!(rt; false, "an act that is not made"),
+    }
 }
 
 /// Does one act, or sees what it says.
 fn make(
     rt: &impl Abort,
     alloc: Global,
-    bench: &mut Bench<ScriptedDevice>,
+    bench: &mut Bench<LogDevice>,
     next: Act<'_>,
 ) -> Result<(), AllocError> {
     match next {
         Act::Allocate(layout, count, wanted) => {
-            assert_eq!(rt; bench.allocate(layout, count), wanted);
+            expect_same(rt, bench.allocate(layout, count), wanted);
+            Ok(())
         }
         Act::Free(tickets, wanted) => {
-            assert_eq!(rt; bench.free(alloc, tickets)?, wanted, "of {tickets:?}");
+            expect_same(rt, bench.free(alloc, tickets)?, wanted);
+            Ok(())
         }
-        Act::Cleanup => assert_eq!(rt; bench.cleanup(), Reply::Clean),
-        Act::Held(held) => assert_eq!(rt; bench.session.held(), held),
-        Act::Tickets(tickets) => expect_tickets(rt, bench, tickets),
-        Act::Next(ticket) => assert_eq!(rt; bench.session.next_ticket(), ticket),
-        Act::Loads(capacity, marked) => expect_loads(rt, bench, capacity, marked),
+        Act::FreeEach(tickets) => free_each(rt, alloc, bench, tickets),
+        Act::Cleanup => {
+            expect_same(rt, bench.cleanup(), Reply::Clean);
+            Ok(())
+        }
+        Act::Run(commands, wanted) => expect_run(rt, bench, commands, wanted),
+        seen => {
+            see(rt, bench, seen);
+            Ok(())
+        }
     }
-    Ok(())
 }
 
-/// Does the acts in order.
-pub fn play(
+/// Puts the layouts, and does the acts in order.
+fn play(
     rt: &impl Abort,
     alloc: Global,
-    bench: &mut Bench<ScriptedDevice>,
+    bench: &mut Bench<LogDevice>,
+    layouts: &[ScriptLayout],
     acts: &[Act<'_>],
-) -> Result<(), AllocError> {
+) -> Result<(), Fail> {
+    for layout in layouts {
+        bench.add_layout(*layout)?;
+    }
     for next in acts {
         make(rt, alloc, bench, *next)?;
     }
     Ok(())
 }
 
-/// Does the acts at a new bench, with a limit, two layouts and a script.
+/// Does the acts at a new bench, with a limit, layouts and a script.
 pub fn play_new(
     rt: &impl Abort,
     alloc: Global,
     limit: u32,
-    [first, second]: [ScriptLayout; 2],
+    layouts: &[ScriptLayout],
     script: &[Answer],
     acts: &[Act<'_>],
 ) -> Result<(), Fail> {
-    let mut bench = scripted(alloc, limit, first, script)?;
-    bench.add_layout(second)?;
-    play(rt, alloc, &mut bench, acts)?;
-    Ok(())
+    let script = script.to_vec(alloc)?;
+    let mut bench = Bench::new(alloc, limit, LogDevice::with_script(alloc, script));
+    play(rt, alloc, &mut bench, layouts, acts)
 }

@@ -11,8 +11,8 @@ use descriptor_script::{
 use descriptor_uses::proper_use::flags_of;
 use gpu_descriptor::{DescriptorAllocator, DescriptorDevice, DescriptorTotalCount};
 use std::alloc::{AllocError, Global};
+use std::fmt::Debug;
 use std::process::Abort;
-use std::test::Fail;
 
 /// A session and its device, ready for the next step.
 #[derive(Drop)]
@@ -76,25 +76,29 @@ impl<D: DescriptorDevice<ScriptLayout, RawPool, RawSet>> Bench<D> {
     }
 }
 
-/// A session with one layout on a device with a script. The layout is handed in once more where
-/// memory was wanting.
-pub fn scripted(
-    alloc: Global,
-    limit: u32,
-    layout: ScriptLayout,
-    script: &[Answer],
-) -> Result<Bench<ScriptedDevice>, Fail> {
-    let device = ScriptedDevice::new(alloc, script.to_vec(alloc)?);
-    let mut bench = Bench::new(alloc, limit, device);
-    if bench.add_layout(layout).is_err() {
-        bench.add_layout(layout)?;
-    }
-    Ok(bench)
+/// A session without layouts on a device that answers by a script.
+pub fn scripted(alloc: Global, limit: u32, script: Vec<Answer>) -> Bench<ScriptedDevice> {
+    Bench::new(alloc, limit, ScriptedDevice::new(alloc, script))
 }
 
 /// A reply with so many sets, from this ticket on.
 pub fn sets(first: usize, count: u32) -> Reply {
     Reply::Sets { first, count }
+}
+
+/// Compares two values. A call of it costs the prover less than an assertion in its place.
+pub fn expect_same<T: Copy + PartialEq + Debug>(rt: &impl Abort, seen: T, wanted: T) {
+    assert_eq!(rt; seen, wanted);
+}
+
+/// The number, the allocated and the available of a pool.
+fn pool_at(
+    allocator: &DescriptorAllocator<RawPool, RawSet>,
+    layout: &ScriptLayout,
+    index: usize,
+) -> Option<(u64, u32, u32)> {
+    let view = allocator.pool(&layout.counts, layout.mark, index)?;
+    Some((view.number, view.allocated, view.available))
 }
 
 /// Compares the pools of a layout: the number, the allocated and the available of each.
@@ -104,12 +108,12 @@ pub fn expect_pools(
     layout: &ScriptLayout,
     pools: &[(u64, u32, u32)],
 ) {
-    let (counts, mark) = (&layout.counts, layout.mark);
-    assert_eq!(rt; allocator.pool_count(counts, mark), pools.len());
+    expect_same(
+        rt,
+        allocator.pool_count(&layout.counts, layout.mark),
+        pools.len(),
+    );
     for (index, pool) in pools.iter().enumerate() {
-        let seen = allocator
-            .pool(counts, mark, index)
-            .map(|view| (view.number, view.allocated, view.available));
-        assert_eq!(rt; seen, Some(*pool), "at {index}");
+        expect_same(rt, pool_at(allocator, layout, index), Some(*pool));
     }
 }

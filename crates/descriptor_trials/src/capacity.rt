@@ -20,7 +20,7 @@ fn pools_count_as_they_were_cut(rt: HostRuntime) -> Result<(), Fail> {
         Allocate(0, 20, REFUSED),
         Loads(298, 193),
     ];
-    play_new(&rt, rt.alloc(), 300, layouts, &[], &acts)
+    play_new(&rt, rt.alloc(), 300, &layouts, &[], &acts)
 }
 
 #[test]
@@ -37,7 +37,7 @@ fn pools_count_until_they_go(rt: HostRuntime) -> Result<(), Fail> {
         Allocate(1, 1, sets(1, 1)),
         Loads(8, 4),
     ];
-    play_new(&rt, rt.alloc(), 10, layouts, &[], &acts)
+    play_new(&rt, rt.alloc(), 10, &layouts, &[], &acts)
 }
 
 #[test]
@@ -51,7 +51,7 @@ fn front_that_refused_counts_as_it_was_created(rt: HostRuntime) -> Result<(), Fa
         Free(&[0], Reply::Freed(1)),
         Loads(192, 3),
     ];
-    play_new(&rt, rt.alloc(), 387, layouts, &script, &acts)
+    play_new(&rt, rt.alloc(), 387, &layouts, &script, &acts)
 }
 
 #[test]
@@ -63,5 +63,5 @@ fn pools_that_count_one_or_nothing(rt: HostRuntime) -> Result<(), Fail> {
         Allocate(1, 1, sets(1, 1)),
         Loads(1, 0),
     ];
-    play_new(&rt, rt.alloc(), 10, layouts, &[], &acts)
+    play_new(&rt, rt.alloc(), 10, &layouts, &[], &acts)
 }

@@ -1,20 +1,17 @@
 //! Commands of a session: that each finds memory where memory is there, and what the replies and
 //! the tickets are in numbers.
-use crate::acts::Act::{Allocate, Cleanup, Free, Held, Next, Tickets};
-use crate::acts::{expect_tickets, play, play_new};
-use crate::bench::{Bench, layout_of, scripted, sets};
-use descriptor_script::{Command, Reply, ScriptedDevice};
+use crate::acts::Act::{Allocate, Cleanup, Free, Held, Names, Next, Run};
+use crate::acts::play_new;
+use crate::bench::{layout_of, sets};
+use descriptor_script::{Command, Reply};
 use std::alloc::{AllocError, Global};
 use std::process::Abort;
 use std::test::Fail;
 
 #[test]
 fn a_new_session_is_ready(rt: HostRuntime) -> Result<(), Fail> {
-    let device = ScriptedDevice::new(rt.alloc(), Vec::new(rt.alloc()));
-    let mut bench = Bench::new(rt.alloc(), 0, device);
     let acts = [Next(0), Cleanup, Allocate(0, 1, Reply::BadLayout)];
-    play(&rt, rt.alloc(), &mut bench, &acts)?;
-    Ok(())
+    play_new(&rt, rt.alloc(), 0, &[], &[], &acts)
 }
 
 #[test]
@@ -30,11 +27,11 @@ fn tickets_are_given_once(rt: HostRuntime) -> Result<(), Fail> {
         Free(&[0], Reply::BadTicket),
         Free(&[], Reply::Freed(0)),
         Held(1),
-        Tickets(&[false, true, false]),
+        Names(&[None, Some(1), None]),
         Allocate(0, 1, sets(2, 1)),
         Next(3),
     ];
-    play_new(&rt, rt.alloc(), u32::MAX, layouts, &[], &acts)
+    play_new(&rt, rt.alloc(), u32::MAX, &layouts, &[], &acts)
 }
 
 /// Sets come, two of them go back, and all is cleaned up.
@@ -51,24 +48,22 @@ fn three_commands(alloc: Global) -> Result<Vec<Command>, AllocError> {
     Ok(commands)
 }
 
-/// Does three commands in one run, and compares their replies.
-fn expect_replies(
+/// Does the commands in one run at a new session, and compares their replies.
+fn expect_replies<'a>(
     rt: &impl Abort,
     alloc: Global,
-    bench: &mut Bench<ScriptedDevice>,
-) -> Result<(), AllocError> {
-    let replies = bench.run(&three_commands(alloc)?)?;
-    let wanted = [sets(0, 3), Reply::Freed(2), Reply::Clean];
-    assert_eq!(rt; replies.as_slice(), wanted.as_slice());
-    Ok(())
+    commands: &'a [Command],
+    replies: &'a [Reply],
+) -> Result<(), Fail> {
+    let acts = [Run(commands, replies), Names(&[Some(0), None, None])];
+    play_new(rt, alloc, u32::MAX, &[layout_of(1, true)], &[], &acts)
 }
 
 #[test]
 fn replies_in_order(rt: HostRuntime) -> Result<(), Fail> {
-    let mut bench = scripted(rt.alloc(), u32::MAX, layout_of(1, true), &[])?;
-    expect_replies(&rt, rt.alloc(), &mut bench)?;
-    expect_tickets(&rt, &bench, &[true, false, false]);
-    Ok(())
+    let commands = three_commands(rt.alloc())?;
+    let replies = [sets(0, 3), Reply::Freed(2), Reply::Clean];
+    expect_replies(&rt, rt.alloc(), &commands, &replies)
 }
 
 #[test]
@@ -82,12 +77,12 @@ fn memory_is_found_where_pools_are_many(rt: HostRuntime) -> Result<(), Fail> {
         Allocate(1, 1, sets(70, 1)),
         Allocate(1, 63, sets(71, 63)),
     ];
-    play_new(&rt, rt.alloc(), 0, layouts, &[], &acts)
+    play_new(&rt, rt.alloc(), 0, &layouts, &[], &acts)
 }
 
 #[test]
 fn memory_is_found_for_more_than_a_million(rt: HostRuntime) -> Result<(), Fail> {
     let layouts = [layout_of(1, false), layout_of(2, false)];
     let acts = [Allocate(0, 1_000_001, sets(0, 1_000_001)), Held(1_000_001)];
-    play_new(&rt, rt.alloc(), 0, layouts, &[], &acts)
+    play_new(&rt, rt.alloc(), 0, &layouts, &[], &acts)
 }

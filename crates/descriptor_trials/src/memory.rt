@@ -1,7 +1,7 @@
 //! What a session keeps where memory is wanting, which no contract can ask for. In a plain run
 //! every growth is granted; `tools/refuse-memory` refuses each growth of each test in turn, and
 //! grants the next ones.
-use crate::bench::{Bench, layout_of, scripted, sets};
+use crate::bench::{Bench, expect_same, layout_of, scripted, sets};
 use descriptor_script::{Command, RawPool, RawSet, Reply, ScriptLayout, ScriptedDevice};
 use gpu_descriptor::{AllocationError, DescriptorDevice};
 use std::alloc::{AllocError, Global};
@@ -23,8 +23,16 @@ pub fn expect_counted<D: DescriptorDevice<ScriptLayout, RawPool, RawSet>>(
             allocated = allocated.saturating_add(u64::from(pool.allocated));
         }
     }
-    assert_eq!(rt; bench.session.held(), allocated);
-    assert_eq!(rt; allocator.outstanding(), allocated);
+    expect_same(rt, bench.session.held(), allocated);
+    expect_same(rt, allocator.outstanding(), allocated);
+}
+
+/// Puts a layout, and once more where memory was wanting.
+pub fn put_layout(bench: &mut Bench<ScriptedDevice>, layout: ScriptLayout) -> Result<(), Fail> {
+    if bench.add_layout(layout).is_err() {
+        bench.add_layout(layout)?;
+    }
+    Ok(())
 }
 
 /// Whether the reply says that the host's memory was wanting.
@@ -44,12 +52,12 @@ fn expect_step(
     let reply = bench.step(command);
     expect_counted(rt, bench, &layout_of(1, true));
     if !is_out_of_memory(reply) {
-        assert_eq!(rt; reply, wanted);
+        expect_same(rt, reply, wanted);
         return;
     }
-    assert_eq!(rt; bench.session.held(), held);
-    assert_eq!(rt; bench.session.next_ticket(), first);
-    assert_eq!(rt; bench.step(command), wanted);
+    expect_same(rt, bench.session.held(), held);
+    expect_same(rt, bench.session.next_ticket(), first);
+    expect_same(rt, bench.step(command), wanted);
     expect_counted(rt, bench, &layout_of(1, true));
 }
 
@@ -68,58 +76,76 @@ fn free(alloc: Global, tickets: &[usize]) -> Result<Command, AllocError> {
     }
 }
 
-#[test]
-fn steps_where_memory_is_wanting(rt: HostRuntime) -> Result<(), Fail> {
-    let alloc = rt.alloc();
-    let mut bench = scripted(alloc, u32::MAX, layout_of(1, true), &[])?;
-    expect_step(&rt, &mut bench, &allocate(60), sets(0, 60));
-    expect_step(&rt, &mut bench, &allocate(200), sets(60, 200));
+fn expect_steps(
+    rt: &impl Abort,
+    alloc: Global,
+    bench: &mut Bench<ScriptedDevice>,
+) -> Result<(), Fail> {
+    put_layout(bench, layout_of(1, true))?;
+    expect_step(rt, bench, &allocate(60), sets(0, 60));
+    expect_step(rt, bench, &allocate(200), sets(60, 200));
     let some = free(alloc, &[0, 65, 64, 3])?;
-    expect_step(&rt, &mut bench, &some, Reply::Freed(4));
-    expect_step(&rt, &mut bench, &Command::Cleanup, Reply::Clean);
-    assert_eq!(rt; bench.session.held(), 256);
+    expect_step(rt, bench, &some, Reply::Freed(4));
+    expect_step(rt, bench, &Command::Cleanup, Reply::Clean);
+    expect_same(rt, bench.session.held(), 256);
     Ok(())
 }
 
 #[test]
-fn runs_where_memory_is_wanting(rt: HostRuntime) -> Result<(), Fail> {
-    let mut bench = scripted(rt.alloc(), u32::MAX, layout_of(1, true), &[])?;
+fn steps_where_memory_is_wanting(rt: HostRuntime) -> Result<(), Fail> {
+    let mut bench = scripted(rt.alloc(), u32::MAX, Vec::new(rt.alloc()));
+    expect_steps(&rt, rt.alloc(), &mut bench)
+}
+
+fn expect_run(rt: &impl Abort, bench: &mut Bench<ScriptedDevice>) -> Result<(), Fail> {
+    put_layout(bench, layout_of(1, true))?;
     match bench.run(&[allocate(2), Command::Cleanup]) {
         Ok(replies) => {
             assert_eq!(rt; replies.len(), 2);
             assert!(rt; bench.session.held() == 2 || is_out_of_memory(replies[0]));
         }
-        Err(_) => assert_eq!(rt; bench.session.held(), 0),
+        Err(_) => expect_same(rt, bench.session.held(), 0),
     }
-    expect_counted(&rt, &bench, &layout_of(1, true));
+    expect_counted(rt, bench, &layout_of(1, true));
     Ok(())
+}
+
+#[test]
+fn runs_where_memory_is_wanting(rt: HostRuntime) -> Result<(), Fail> {
+    let mut bench = scripted(rt.alloc(), u32::MAX, Vec::new(rt.alloc()));
+    expect_run(&rt, &mut bench)
 }
 
 /// Sees that nothing is out, and that each pool that was created was asked at once: none was made
 /// before there was room for its books and its place in the list.
 fn expect_nothing_out(rt: &impl Abort, bench: &Bench<ScriptedDevice>) {
     let allocator = bench.session.allocator();
-    assert_eq!(rt; bench.session.held(), 0);
-    assert_eq!(rt; allocator.outstanding(), 0);
+    expect_same(rt, bench.session.held(), 0);
+    expect_same(rt, allocator.outstanding(), 0);
     let created = bench.device.created();
-    assert_eq!(rt; bench.device.asked(), created);
+    expect_same(rt, bench.device.asked(), created);
     let counts = layout_of(u32::MAX, false).counts;
     let left = allocator.pool_count(&counts, false) as u64;
     let live = created.saturating_sub(bench.device.destroyed());
-    assert_eq!(rt; left, live);
+    expect_same(rt, left, live);
+}
+
+fn expect_many(rt: &impl Abort, bench: &mut Bench<ScriptedDevice>) -> Result<(), Fail> {
+    // A pool of this layout holds one set.
+    put_layout(bench, layout_of(u32::MAX, false))?;
+    let request = allocate(9);
+    let mut reply = bench.step(&request);
+    if is_out_of_memory(reply) {
+        expect_nothing_out(rt, bench);
+        reply = bench.step(&request);
+    }
+    expect_same(rt, reply, sets(0, 9));
+    expect_same(rt, bench.session.held(), 9);
+    Ok(())
 }
 
 #[test]
 fn many_new_pools_where_memory_is_wanting(rt: HostRuntime) -> Result<(), Fail> {
-    // A pool of this layout holds one set.
-    let mut bench = scripted(rt.alloc(), 0, layout_of(u32::MAX, false), &[])?;
-    let request = allocate(9);
-    let mut reply = bench.step(&request);
-    if is_out_of_memory(reply) {
-        expect_nothing_out(&rt, &bench);
-        reply = bench.step(&request);
-    }
-    assert_eq!(rt; reply, sets(0, 9));
-    assert_eq!(rt; bench.session.held(), 9);
-    Ok(())
+    let mut bench = scripted(rt.alloc(), 0, Vec::new(rt.alloc()));
+    expect_many(&rt, &mut bench)
 }

@@ -1,7 +1,9 @@
 //! Each answer of a device at each of its calls, at one and at two of them. Clauses say what each
 //! step may reply and leaves; none says that a refused call costs one request and no other, that
 //! later requests are met, or how many calls a run makes.
-use crate::bench::{Bench, expect_pools};
+use crate::acts::Act::{Allocate, Pools};
+use crate::acts::play_new;
+use crate::bench::{Bench, expect_pools, expect_same, layout_of, scripted, sets};
 use crate::plans::{Ask, Plan, dropped_pools, keys_in_turn, new_pools, old_pools};
 use descriptor_script::{Answer, Command, Reply, ScriptLayout, ScriptedDevice, refuse_at};
 use gpu_descriptor::AllocationError;
@@ -34,19 +36,6 @@ const REFUSALS: [Refusal; 4] = [
         error: AllocationError::Fragmentation,
     },
 ];
-
-/// A session with the layouts of a plan, on a device that begins with this script.
-fn bench_of(
-    alloc: Global,
-    plan: &Plan<'_>,
-    script: Vec<Answer>,
-) -> Result<Bench<ScriptedDevice>, Fail> {
-    let mut bench = Bench::new(alloc, u32::MAX, ScriptedDevice::new(alloc, script));
-    for layout in plan.layouts {
-        bench.add_layout(layout)?;
-    }
-    Ok(bench)
-}
 
 /// Does what the plan asks, and lists the errors of the requests that were refused. A free whose
 /// tickets a refused request did not give is a bad one.
@@ -84,18 +73,35 @@ fn give_back(
         }
     }
     let held = tickets.len();
-    assert_eq!(rt; bench.step(&Command::Free { tickets }), Reply::Freed(held));
-    assert_eq!(rt; bench.cleanup(), Reply::Clean);
+    let freed = bench.step(&Command::Free { tickets });
+    expect_same(rt, freed, Reply::Freed(held));
+    expect_same(rt, bench.cleanup(), Reply::Clean);
     Ok(())
 }
 
 /// Sees that nothing is held, and that neither the allocator nor the device has a pool.
 fn expect_nothing_left(rt: &impl Abort, bench: &Bench<ScriptedDevice>, layouts: &[ScriptLayout]) {
-    assert_eq!(rt; bench.session.held(), 0);
+    expect_same(rt, bench.session.held(), 0);
     for layout in layouts {
         expect_pools(rt, bench.session.allocator(), layout, &[]);
     }
-    assert_eq!(rt; bench.device.created(), bench.device.destroyed());
+    expect_same(rt, bench.device.created(), bench.device.destroyed());
+}
+
+/// Puts the plan's layouts, does what it asks, gives back all sets, and lists the errors.
+fn run_at(
+    rt: &impl Abort,
+    alloc: Global,
+    bench: &mut Bench<ScriptedDevice>,
+    plan: &Plan<'_>,
+) -> Result<Vec<AllocationError>, Fail> {
+    for layout in plan.layouts {
+        bench.add_layout(layout)?;
+    }
+    let refused = refused_of(rt, alloc, bench, plan.asks)?;
+    give_back(rt, alloc, bench)?;
+    expect_nothing_left(rt, bench, &plan.layouts);
+    Ok(refused)
 }
 
 /// Runs the plan with this script, up to where nothing is left, and lists the errors.
@@ -105,11 +111,8 @@ fn run(
     plan: &Plan<'_>,
     script: Vec<Answer>,
 ) -> Result<Vec<AllocationError>, Fail> {
-    let mut bench = bench_of(alloc, plan, script)?;
-    let refused = refused_of(rt, alloc, &mut bench, plan.asks)?;
-    give_back(rt, alloc, &mut bench)?;
-    expect_nothing_left(rt, &bench, &plan.layouts);
-    Ok(refused)
+    let mut bench = scripted(alloc, u32::MAX, script);
+    run_at(rt, alloc, &mut bench, plan)
 }
 
 /// Whether the word at this place costs no request: an existing pool that refuses for its own sake
@@ -143,14 +146,15 @@ fn one_call_is_refused(rt: HostRuntime) -> Result<(), Fail> {
 
 #[test]
 fn pool_that_is_passed_over_shows_no_free_place(rt: HostRuntime) -> Result<(), Fail> {
+    let acts = [
+        Allocate(0, 60, sets(0, 60)),
+        Allocate(0, 10, sets(60, 10)),
+        Pools(1, &[(0, 60, 0), (1, 10, 54)]),
+    ];
+    let layouts = [layout_of(1, false)];
     for word in [Answer::Frag, Answer::Pool] {
-        let plan = new_pools();
-        let mut bench = bench_of(rt.alloc(), &plan, refuse_at(rt.alloc(), 2, word)?)?;
-        let refused = refused_of(&rt, rt.alloc(), &mut bench, plan.asks)?;
-        assert!(rt; refused.is_empty());
-        let [first, ..] = plan.layouts;
-        let pools = [(0, 60, 0), (1, 10, 54)];
-        expect_pools(&rt, bench.session.allocator(), &first, &pools);
+        let script = [Answer::Ok, Answer::Ok, word];
+        play_new(&rt, rt.alloc(), u32::MAX, &layouts, &script, &acts)?;
     }
     Ok(())
 }

@@ -1,9 +1,14 @@
-//! Sets in a caller's hands: that a raw set is read and written in its place, that an iterator
-//! which the caller keeps is emptied, and that there is a debug text.
-use crate::bench::layout_of;
-use descriptor_script::RawSet;
+//! Sets in a caller's hands: that they stand in an answer as they came, that a raw set is read and
+//! written in its place, that each goes back, by an iterator which the caller keeps too, and that
+//! there is a debug text.
+ghost use Rattle.gpu_descriptor.specs.Caller.States.{Agrees};
+ghost use Rattle.descriptor_script.specs.Scripted.Raw.{pool_id};
+ghost use Rattle.descriptor_uses.specs.Logged.{ledger_logged};
+
+use crate::bench::{expect_same, layout_of};
+use descriptor_script::{RawPool, RawSet, ScriptLayout};
 use descriptor_uses::LogDevice;
-use descriptor_uses::proper_use::{borrow_sets, flags_of};
+use descriptor_uses::proper_use::{borrow_pool, borrow_set, borrow_sets, flags_of};
 use gpu_descriptor::{AllocationError, DescriptorAllocator, DescriptorSet};
 use std::alloc::Global;
 use std::process::Abort;
@@ -20,10 +25,10 @@ fn two_sets(alloc: Global) -> Result<Vec<DescriptorSet<RawSet>>, AllocationError
 }
 
 /// Compares the names of the sets.
-pub fn expect_names(rt: &impl Abort, sets: &[DescriptorSet<RawSet>], names: &[u64]) {
-    assert_eq!(rt; sets.len(), names.len());
+fn expect_names(rt: &impl Abort, sets: &[DescriptorSet<RawSet>], names: &[u64]) {
+    expect_same(rt, sets.len(), names.len());
     for (set, name) in sets.iter().zip(names) {
-        assert_eq!(rt; set.raw().id(), *name);
+        expect_same(rt, set.raw().id(), *name);
     }
 }
 
@@ -45,14 +50,64 @@ fn raw_sets_are_read_and_written(rt: HostRuntime) -> Result<(), Fail> {
     Ok(())
 }
 
+/// Allocates three sets, compares their names in the order of the answer, and gives them back.
+fn expect_answer(
+    rt: &impl Abort,
+    allocator: &mut DescriptorAllocator<RawPool, RawSet>,
+    device: &mut LogDevice,
+    layout: &ScriptLayout,
+    names: &[u64],
+) -> Result<(), AllocationError>
+    requires { Agrees pool_id allocator.old (ledger_logged device.old) }
+    ensures { Agrees pool_id allocator.new (ledger_logged device.new) }
+{
+    let flags = flags_of(layout.mark);
+    let sets = allocator.allocate(device, layout, flags, &layout.counts, 3)?;
+    expect_names(rt, &sets, names);
+    allocator.free_all(device, sets);
+    Ok(())
+}
+
+/// Borrows a set, and sees that it has this name and is back.
+fn expect_borrowed(
+    rt: &impl Abort,
+    allocator: &mut DescriptorAllocator<RawPool, RawSet>,
+    device: &mut LogDevice,
+    layout: &ScriptLayout,
+    name: u64,
+) -> Result<(), AllocationError>
+    requires { Agrees pool_id allocator.old (ledger_logged device.old) }
+    ensures { Agrees pool_id allocator.new (ledger_logged device.new) }
+{
+    expect_same(rt, borrow_set(allocator, device, layout)?, name);
+    expect_same(rt, allocator.outstanding(), 0);
+    Ok(())
+}
+
+/// Borrows sets of a plain layout, then a pool, and then sets of a marked layout by an iterator.
+fn expect_all_lent(
+    rt: &impl Abort,
+    allocator: &mut DescriptorAllocator<RawPool, RawSet>,
+    device: &mut LogDevice,
+) -> Result<(), Fail>
+    requires { Agrees pool_id allocator.old (ledger_logged device.old) }
+{
+    let plain = layout_of(1, false);
+    expect_answer(rt, allocator, device, &plain, &[0, 1, 2])?;
+    expect_answer(rt, allocator, device, &plain, &[3, 4, 5])?;
+    expect_borrowed(rt, allocator, device, &plain, 6)?;
+    expect_borrowed(rt, allocator, device, &plain, 7)?;
+    expect_same(rt, allocator.pool_count(&plain.counts, false), 1);
+    expect_same(rt, borrow_pool(device, &plain.counts)?, 1);
+    let is_at_end = borrow_sets(allocator, device, &layout_of(3, true), 3)?;
+    expect_same(rt, (is_at_end, allocator.outstanding()), (true, 0));
+    Ok(())
+}
+
 #[test]
-fn iterator_that_the_caller_keeps_is_emptied(rt: HostRuntime) -> Result<(), Fail> {
+fn sets_are_lent_and_come_back(rt: HostRuntime) -> Result<(), Fail> {
     let mut device = LogDevice::new(rt.alloc());
     gpu_descriptor::laws::books_alone();
     let mut allocator = DescriptorAllocator::new(rt.alloc(), 10);
-    let layout = layout_of(3, true);
-    let is_at_end = borrow_sets(&mut allocator, &mut device, &layout, 3)?;
-    assert!(rt; is_at_end);
-    assert_eq!(rt; allocator.outstanding(), 0);
-    Ok(())
+    expect_all_lent(&rt, &mut allocator, &mut device)
 }
