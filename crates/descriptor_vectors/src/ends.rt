@@ -75,8 +75,20 @@ pub fn empty_writer(alloc: Global) -> Sink {
 
 /// Runs the input and compares all of the output.
 pub fn expect(rt: &impl Abort, alloc: Global, input: &[u8], output: &str, exit: Exit) {
+    expect_of(rt, alloc, "input", input, output, exit);
+}
+
+/// Runs the input with this name and compares all of the output.
+pub fn expect_of(
+    rt: &impl Abort,
+    alloc: Global,
+    name: &str,
+    input: &[u8],
+    output: &str,
+    exit: Exit,
+) {
     let mut written = empty_writer(alloc);
     let ended = run_lines(alloc, &mut reader_of(input), &mut written);
-    assert_eq!(rt; written.text.as_slice(), output.as_bytes(), "of {input:?}");
-    assert_eq!(rt; ended, exit, "of {input:?}");
+    let seen = (written.text.as_slice(), ended);
+    assert_eq!(rt; seen, (output.as_bytes(), exit), "{name}: {input:?}");
 }

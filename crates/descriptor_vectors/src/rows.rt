@@ -1,7 +1,9 @@
 //! Lines of the program and their answers, worked out: what is written is proved, but not that a
 //! request is met where memory and places are there.
 //!
-//! A body that gives up for memory where memory is there meets every contract. The tests whose
+//! Each row has a name, and a test for each file goes through its rows.
+//!
+//! A body that gives up for memory where memory is there meets every contract. The rows whose
 //! names begin with `memory_is_found` catch it: at each request, at a second new pool of a request,
 //! at marked keys, and where places are known.
 mod cleanup;
@@ -13,7 +15,7 @@ mod refusals;
 mod requests;
 mod sizes;
 
-use crate::ends::expect;
+use crate::ends::{expect, expect_of};
 use descriptor_lines::Exit;
 use std::alloc::{AllocError, Global};
 use std::process::Abort;
@@ -28,11 +30,23 @@ fn lines_of(alloc: Global, rows: &str) -> Result<String, AllocError> {
     Ok(text)
 }
 
-/// Runs the lines to their end, and compares all of the output.
-fn expect_done(rt: &impl Abort, alloc: Global, lines: &str, answers: &str) -> Result<(), Fail> {
-    let input = lines_of(alloc, lines)?;
-    let output = lines_of(alloc, answers)?;
-    expect(rt, alloc, input.as_bytes(), output.as_str(), Exit::Done);
+/// What a run shows, its lines, and all its answers.
+type Row = (&'static str, &'static str, &'static str);
+
+/// Runs the lines of each row to their end, and compares all of the output.
+fn expect_rows(rt: &impl Abort, alloc: Global, rows: &[Row]) -> Result<(), Fail> {
+    for (name, lines, answers) in rows {
+        let input = lines_of(alloc, lines)?;
+        let output = lines_of(alloc, answers)?;
+        expect_of(
+            rt,
+            alloc,
+            name,
+            input.as_bytes(),
+            output.as_str(),
+            Exit::Done,
+        );
+    }
     Ok(())
 }
 

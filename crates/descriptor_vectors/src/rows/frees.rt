@@ -1,114 +1,81 @@
 //! Sets that go back: that ranges of a million tickets are served.
-use super::{expect_bad_line, expect_done};
+use super::{Row, expect_bad_line, expect_rows};
 use std::test::Fail;
 
-#[test]
-fn one_release_for_each_run(rt: HostRuntime) -> Result<(), Fail> {
-    expect_done(
-        &rt,
-        rt.alloc(),
+const ROWS: [Row; 11] = [
+    (
+        "one_release_for_each_run",
         "layout s plain sampler=1; alloc s 64; alloc s 64; free 64-127 0-63; show",
         "layout s total 1; sets 0-63: 0*64; sets 64-127: 1*64; freed 128; pool s 1 0/64; \
          device created 2 destroyed 1 asked 2 released 2; held 0 marked 0",
-    )?;
-    expect_done(
-        &rt,
-        rt.alloc(),
+    ),
+    (
+        "one_release_for_each_run",
         "layout s plain sampler=1; alloc s 64; alloc s 64; free 0-63 64-127; show",
         "layout s total 1; sets 0-63: 0*64; sets 64-127: 1*64; freed 128; pool s 1 0/64; \
          device created 2 destroyed 1 asked 2 released 2; held 0 marked 0",
-    )
-}
-
-#[test]
-fn memory_is_found_for_a_second_new_pool(rt: HostRuntime) -> Result<(), Fail> {
-    expect_done(
-        &rt,
-        rt.alloc(),
+    ),
+    (
+        "memory_is_found_for_a_second_new_pool",
         "layout d plain sampler=2147483647; alloc d 4; free 0 2 1 3; show",
         "layout d total 2147483647; sets 0-3: 0*2 1*2; freed 4; pool d 1 0/2; \
          device created 2 destroyed 1 asked 2 released 4; held 0 marked 0",
-    )?;
-    expect_done(
-        &rt,
-        rt.alloc(),
+    ),
+    (
+        "memory_is_found_for_a_second_new_pool",
         "layout d plain sampler=2147483647; alloc d 4; free 0 1 2 3; show",
         "layout d total 2147483647; sets 0-3: 0*2 1*2; freed 4; pool d 1 0/2; \
          device created 2 destroyed 1 asked 2 released 2; held 0 marked 0",
-    )
-}
-
-#[test]
-fn runs_of_two_keys(rt: HostRuntime) -> Result<(), Fail> {
-    expect_done(
-        &rt,
-        rt.alloc(),
+    ),
+    (
+        "runs_of_two_keys",
         "layout d plain sampler=2147483647; layout e plain sampler=1; alloc d 4; alloc e 2; \
          free 0 4 2 5 1 3; show",
         "layout d total 2147483647; layout e total 1; sets 0-3: 0*2 1*2; sets 4-5: 2*2; freed 6; \
          pool d 1 0/2; pool e 0 0/64; device created 3 destroyed 1 asked 3 released 6; \
          held 0 marked 0",
-    )?;
-    expect_done(
-        &rt,
-        rt.alloc(),
+    ),
+    (
+        "runs_of_two_keys",
         "layout d plain sampler=2147483647; layout e plain sampler=1; alloc d 4; alloc e 2; \
          free 0-5; show",
         "layout d total 2147483647; layout e total 1; sets 0-3: 0*2 1*2; sets 4-5: 2*2; freed 6; \
          pool d 1 0/2; pool e 0 0/64; device created 3 destroyed 1 asked 3 released 3; \
          held 0 marked 0",
-    )?;
-    Ok(())
-}
-
-#[test]
-fn memory_is_found_for_a_marked_set_behind_a_plain_one(rt: HostRuntime) -> Result<(), Fail> {
-    expect_done(
-        &rt,
-        rt.alloc(),
+    ),
+    (
+        "memory_is_found_for_a_marked_set_behind_a_plain_one",
         "layout a plain sampler=3; layout b mark sampler=5; alloc a 1; alloc b 1; free 0 1; show",
         "layout a total 3; layout b total 5; sets 0-0: 0*1; sets 1-1: 1*1; freed 2; pool a 0 0/64; \
          pool b 0 0/64; device created 2 destroyed 0 asked 2 released 2; held 0 marked 0",
-    )
-}
-
-#[test]
-fn tickets_that_are_not_held(rt: HostRuntime) -> Result<(), Fail> {
-    expect_done(
-        &rt,
-        rt.alloc(),
+    ),
+    (
+        "tickets_that_are_not_held",
         "layout s plain sampler=1; alloc s 2; free 0 0; free 2; free 0; free 0; free",
         "layout s total 1; sets 0-1: 0*2; bad ticket; bad ticket; freed 1; bad ticket; freed 0",
-    )
-}
-
-#[test]
-fn range_that_counts_down(rt: HostRuntime) -> Result<(), Fail> {
-    expect_done(
-        &rt,
-        rt.alloc(),
+    ),
+    (
+        "range_that_counts_down",
         "layout s plain sampler=1; alloc s 3; free 2-0; show",
         "layout s total 1; sets 0-2: 0*3; freed 3; pool s 0 0/64; \
          device created 1 destroyed 0 asked 1 released 1; held 0 marked 0",
-    )?;
-    expect_done(
-        &rt,
-        rt.alloc(),
+    ),
+    (
+        "range_that_counts_down",
         "layout s plain sampler=1; alloc s 5000; free 4999-0; show",
         "layout s total 1; sets 0-4999: 0*5000; freed 5000; pool s 0 0/8192; \
          device created 1 destroyed 0 asked 1 released 1; held 0 marked 0",
-    )?;
-    Ok(())
-}
-
-#[test]
-fn ranges_and_single_tickets(rt: HostRuntime) -> Result<(), Fail> {
-    expect_done(
-        &rt,
-        rt.alloc(),
+    ),
+    (
+        "ranges_and_single_tickets",
         "layout s plain sampler=1; alloc s 9; free 3 5-4 6-7 0-0; free 007-8; free 2-1 08",
         "layout s total 1; sets 0-8: 0*9; freed 6; bad ticket; freed 3",
-    )
+    ),
+];
+
+#[test]
+fn rows_hold(rt: HostRuntime) -> Result<(), Fail> {
+    expect_rows(&rt, rt.alloc(), &ROWS)
 }
 
 #[test]
