@@ -22,17 +22,22 @@ fn expect_retired(rt: &impl Abort, trial: &mut Trial, frame: u64) -> Result<(), 
     Ok(())
 }
 
+/// Retires nine sets, and finishes their frames.
+fn expect_nine_retired(rt: &impl Abort, trial: &mut Trial) -> Result<(), Fail> {
+    for frame in 0..9 {
+        expect_retired(rt, trial, frame)?;
+    }
+    expect_sets(rt, trial, 9, 9);
+    trial.finish(8);
+    expect_sets(rt, trial, 0, 0);
+    expect_device(rt, trial, 0, 1);
+    Ok(())
+}
+
 #[test]
 fn sets_are_retired_where_memory_is_wanting(rt: HostRuntime) -> Result<(), Fail> {
-    let Ok(mut trial) = Trial::new(rt.alloc(), 9) else {
-        return Ok(());
-    };
-    for frame in 0..9 {
-        expect_retired(&rt, &mut trial, frame)?;
+    match Trial::new(rt.alloc(), 9) {
+        Ok(mut trial) => expect_nine_retired(&rt, &mut trial),
+        Err(_) => Ok(()),
     }
-    expect_sets(&rt, &trial, 9, 9);
-    trial.finish(8);
-    expect_sets(&rt, &trial, 0, 0);
-    expect_device(&rt, &trial, 0, 1);
-    Ok(())
 }

@@ -1,7 +1,8 @@
 //! Sets that are retired while growths are refused: one alone, or each from one on. In a plain run
 //! every growth is granted; `tools/refuse-memory` refuses them in turn. It also compares how many
 //! growths two tests ask for.
-use crate::trial::{Outcome, Trial, expect_device, expect_pools, expect_sets};
+use crate::trial::Act::{Cleanup, Device, Finish, Pools, Retire, Sets};
+use crate::trial::{Act, Outcome, Trial, expect_sets, play};
 use gpu_descriptor::AllocationError;
 use std::alloc::Global;
 use std::process::Abort;
@@ -30,49 +31,60 @@ fn expect_retired(
     Ok(retired)
 }
 
-#[test]
-fn sets_are_retired_until_memory_is_wanting(rt: HostRuntime) -> Result<(), Fail> {
-    let mut trial = match Trial::new(rt.alloc(), 9) {
-        Ok(trial) => trial,
-        Err(error) => {
-            assert_eq!(rt; error, AllocationError::OutOfHostMemory);
-            return Ok(());
-        }
-    };
+/// Retires nine sets, as far as memory is there, and finishes their frames.
+fn expect_nine_retired(rt: &impl Abort, trial: &mut Trial) -> Result<(), Fail> {
     let mut retired = 0;
     for frame in 0..9 {
-        retired = expect_retired(&rt, &mut trial, frame, retired)?;
+        retired = expect_retired(rt, trial, frame, retired)?;
     }
     trial.finish(8);
-    expect_sets(&rt, &trial, 9_u64.saturating_sub(retired), 0);
+    expect_sets(rt, trial, 9_u64.saturating_sub(retired), 0);
     Ok(())
 }
 
-/// Three sets that are retired at frames 5, 6 and 7.
-fn with_retired(rt: &impl Abort, alloc: Global) -> Result<Trial, Fail> {
-    let mut trial = Trial::new(alloc, 3)?;
-    for frame in 5..8 {
-        assert_eq!(rt; trial.retire(frame)?, Outcome::Retired);
+#[test]
+fn sets_are_retired_until_memory_is_wanting(rt: HostRuntime) -> Result<(), Fail> {
+    match Trial::new(rt.alloc(), 9) {
+        Ok(mut trial) => expect_nine_retired(&rt, &mut trial),
+        Err(error) => {
+            assert_eq!(rt; error, AllocationError::OutOfHostMemory);
+            Ok(())
+        }
     }
-    Ok(trial)
+}
+
+/// Does the acts behind three sets that are retired at frames 5, 6 and 7.
+fn play_behind(rt: &impl Abort, trial: &mut Trial, acts: &[Act<'_>]) -> Result<(), Fail> {
+    let retired = [
+        Retire(5, Outcome::Retired),
+        Retire(6, Outcome::Retired),
+        Retire(7, Outcome::Retired),
+    ];
+    play(rt, trial, &retired)?;
+    play(rt, trial, acts)
+}
+
+/// Does the acts at three new sets that are retired at frames 5, 6 and 7.
+fn play_retired(rt: &impl Abort, alloc: Global, acts: &[Act<'_>]) -> Result<(), Fail> {
+    let mut trial = Trial::new(alloc, 3)?;
+    play_behind(rt, &mut trial, acts)
 }
 
 #[test]
 fn sets_are_retired(rt: HostRuntime) -> Result<(), Fail> {
-    let trial = with_retired(&rt, rt.alloc())?;
-    expect_sets(&rt, &trial, 3, 3);
-    Ok(())
+    play_retired(&rt, rt.alloc(), &[Sets(3, 3)])
 }
 
 /// Asks for as many growths as `sets_are_retired`.
 #[test]
 fn sets_are_retired_and_finished(rt: HostRuntime) -> Result<(), Fail> {
-    let mut trial = with_retired(&rt, rt.alloc())?;
-    trial.finish(6);
-    expect_sets(&rt, &trial, 1, 1);
-    trial.finish(7);
-    expect_pools(&rt, &trial, &[(0, 0, 64)]);
-    trial.cleanup();
-    expect_device(&rt, &trial, 1, 2);
-    Ok(())
+    let acts = [
+        Finish(6),
+        Sets(1, 1),
+        Finish(7),
+        Pools(&[(0, 0, 64)]),
+        Cleanup,
+        Device(1, 2),
+    ];
+    play_retired(&rt, rt.alloc(), &acts)
 }

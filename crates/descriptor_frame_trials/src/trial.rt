@@ -92,26 +92,66 @@ impl Trial {
     }
 }
 
+/// What is done at a trial, or seen there.
+#[derive(Clone, Copy)]
+pub enum Act<'a> {
+    /// The first of the sets in use is retired at this frame, with this outcome.
+    Retire(u64, Outcome),
+    /// A frame is finished.
+    Finish(u64),
+    Cleanup,
+    /// The number, the allocated and the available of each pool.
+    Pools(&'a [(u64, u32, u32)]),
+    /// How many sets are out, and how many of these are retired.
+    Sets(u64, u64),
+    /// How many pools were destroyed, and how many calls released sets.
+    Device(u64, u64),
+}
+
+/// The number, the allocated and the available of a pool.
+fn pool_at(trial: &Trial, index: usize) -> Option<(u64, u32, u32)> {
+    let view = trial.manager.allocator().pool(&trial.counts, false, index)?;
+    Some((view.number, view.allocated, view.available))
+}
+
 /// Compares the pools: the number, the allocated and the available of each.
-pub fn expect_pools(rt: &impl Abort, trial: &Trial, pools: &[(u64, u32, u32)]) {
-    let allocator = trial.manager.allocator();
-    assert_eq!(rt; allocator.pool_count(&trial.counts, false), pools.len());
+fn expect_pools(rt: &impl Abort, trial: &Trial, pools: &[(u64, u32, u32)]) {
+    let count = trial.manager.allocator().pool_count(&trial.counts, false);
+    assert_eq!(rt; count, pools.len());
     for (index, pool) in pools.iter().enumerate() {
-        let seen = allocator
-            .pool(&trial.counts, false, index)
-            .map(|view| (view.number, view.allocated, view.available));
-        assert_eq!(rt; seen, Some(*pool), "at {index}");
+        assert_eq!(rt; pool_at(trial, index), Some(*pool), "at {index}");
     }
 }
 
 /// Compares how many sets are out, and how many of these are retired.
 pub fn expect_sets(rt: &impl Abort, trial: &Trial, outstanding: u64, retired: u64) {
-    assert_eq!(rt; trial.manager.outstanding(), outstanding);
-    assert_eq!(rt; trial.manager.retired(), retired);
+    let seen = [trial.manager.outstanding(), trial.manager.retired()];
+    assert_eq!(rt; seen, [outstanding, retired]);
 }
 
 /// Compares how many pools were destroyed, and how many calls released sets.
 pub fn expect_device(rt: &impl Abort, trial: &Trial, destroyed: u64, released: u64) {
-    assert_eq!(rt; trial.device.destroyed(), destroyed);
-    assert_eq!(rt; trial.device.released(), released);
+    let seen = [trial.device.destroyed(), trial.device.released()];
+    assert_eq!(rt; seen, [destroyed, released]);
+}
+
+/// Does one act, or sees what it says.
+fn make(rt: &impl Abort, trial: &mut Trial, next: Act<'_>) -> Result<(), Fail> {
+    match next {
+        Act::Retire(frame, wanted) => assert_eq!(rt; trial.retire(frame)?, wanted, "at {frame}"),
+        Act::Finish(frame) => trial.finish(frame),
+        Act::Cleanup => trial.cleanup(),
+        Act::Pools(pools) => expect_pools(rt, trial, pools),
+        Act::Sets(outstanding, retired) => expect_sets(rt, trial, outstanding, retired),
+        Act::Device(destroyed, released) => expect_device(rt, trial, destroyed, released),
+    }
+    Ok(())
+}
+
+/// Does the acts in order.
+pub fn play(rt: &impl Abort, trial: &mut Trial, acts: &[Act<'_>]) -> Result<(), Fail> {
+    for next in acts {
+        make(rt, trial, *next)?;
+    }
+    Ok(())
 }
