@@ -13,28 +13,28 @@ use Rattle.descriptor_words.specs.declared.fault.Refusal.{Refusal}
 use Rattle.descriptor_words.specs.declared.fault.Refusal.TheVariants as refusal
 use Rattle.descriptor_lines.specs.Answers.{fault_line}
 use Rattle.descriptor_lines.specs.LineBuffers.{buffered, bytes_at, unread}
+use Rattle.descriptor_lines.specs.LineStates.{LineState}
 use Rattle.descriptor_lines.specs.Lines.{BeginsTooLong, LosesLine, after_end, before_end, lines_of, known_left}
 use Rattle.descriptor_lines.specs.Outcomes.{AppendsFront, IsNoFault, said_of}
 use Rattle.descriptor_lines.specs.Programs.{CanRun, DoesLine, IsFresh, IsReasonFor, IsUnchanged}
-use Rattle.descriptor_lines.specs.Transcripts.{IsAnswered, IsFaultOfLine, Reached, Writes, WritesFromStart, words_in}
+use Rattle.descriptor_lines.specs.Transcripts.{IsAnswered, IsFaultOfLine, IsSaid, Reached, Writes, WritesFromStart, words_in}
 use Rattle.descriptor_lines.specs.declared.exit.Exit.{Exit}
 use Rattle.descriptor_lines.specs.declared.exit.Exit.TheVariants.{BadLine, Done, NoMemory, ReadFault, WriteFault}
 use Rattle.descriptor_lines.specs.declared.input.LineBuffer.{LineBuffer}
 use Rattle.descriptor_lines.specs.declared.input.Span.{Span}
-use Rattle.descriptor_lines.specs.declared.program.Program.{Program}
 use Rattle.descriptor_lines.proofs.TranscriptLemmas.{IsFirstOf, Stands, lines_split, no_lines, stands_next}
 
 -- ---- what comes of a line
 
 -- a line that was taken from the front of these bytes, and what came of it
-pub record IsTaken (number : ℕ) (line bytes : List ℕ) (rest : Option (List ℕ)) (outcome : Result Unit Refusal) (text : List ℕ) (old new : Program) : Type 0 where
+pub record IsTaken (number : ℕ) (line bytes : List ℕ) (rest : Option (List ℕ)) (outcome : Result Unit Refusal) (text : List ℕ) (old new : LineState) : Type 0 where
   pub some : 0 < length bytes
   pub first : line ≡ before_end bytes
   pub loses : IsNoFault outcome → LosesLine (Some bytes) rest
   pub answered : IsNoFault outcome → IsAnswered line (said_of number outcome text) old new
   pub wrong : (fault : Fault) → outcome ≡ Err (refusal.Fault fault) → IsFaultOfLine old line fault
 
-abbrev pub Takes : ℕ → Option (List ℕ) → Option (List ℕ) → Result Unit Refusal → List ℕ → Program → Program → Type 0
+abbrev pub Takes : ℕ → Option (List ℕ) → Option (List ℕ) → Result Unit Refusal → List ℕ → LineState → LineState → Type 0
 Takes number None rest outcome text old new = ⊤
 Takes number (Some bytes) rest outcome text old new =
     (line : List ℕ) × IsTaken number line bytes rest outcome text old new
@@ -43,7 +43,7 @@ has_begun : (was now silent : Bool) → now ≡ (was || not silent) → IsFalse 
 has_begun was now silent is heard = grind (arith)
 
 -- what a line that was run is answered
-run_answer : (number : ℕ) (outcome : Result Unit Refusal) (line text : List ℕ) (old new : Program) → IsNoFault outcome → length line ≤ 4096 → OnOk outcome (DoesLine (words_in line) text old new) → OnErr outcome (IsUnchanged old new) → new.has_begun ≡ (old.has_begun || not (is_silent (words_in line))) → OnErr outcome (IsFalse (is_silent (words_in line))) → IfErr outcome (IsReasonFor old (words_in line)) → CanRun new → IsAnswered line (said_of number outcome text) old new
+run_answer : (number : ℕ) (outcome : Result Unit Refusal) (line text : List ℕ) (old new : LineState) → IsNoFault outcome → length line ≤ 4096 → OnOk outcome (DoesLine (words_in line) text old new) → OnErr outcome (IsUnchanged old new) → new.has_begun ≡ (old.has_begun || not (is_silent (words_in line))) → OnErr outcome (IsFalse (is_silent (words_in line))) → IfErr outcome (IsReasonFor old (words_in line)) → CanRun new → IsAnswered line (said_of number outcome text) old new
 run_answer number (Ok done) line text old new fine short does same begun heard own ready = record { short = short; answer = inl does; ready = ready }
 run_answer number (Err refusal.NoMemory) line text old new fine short does same begun heard own ready = record {
   short = short;
@@ -53,11 +53,11 @@ run_answer number (Err refusal.NoMemory) line text old new fine short does same 
 run_answer number (Err (refusal.Fault fault)) line text old new fine short does same begun heard own ready = absurd (cc)
 
 -- what is wrong with a line that was refused
-run_fault : (outcome : Result Unit Refusal) (line : List ℕ) (old : Program) (fault : Fault) → outcome ≡ Err (refusal.Fault fault) → length line ≤ 4096 → IfErr outcome (IsReasonFor old (words_in line)) → IsFaultOfLine old line fault
+run_fault : (outcome : Result Unit Refusal) (line : List ℕ) (old : LineState) (fault : Fault) → outcome ≡ Err (refusal.Fault fault) → length line ≤ 4096 → IfErr outcome (IsReasonFor old (words_in line)) → IsFaultOfLine old line fault
 run_fault outcome line old fault is short own = inr (short, rw is at own)
 
 -- a line that was run
-pub takes_run : (number : ℕ) (left rest : Option (List ℕ)) (line : List ℕ) (outcome : Result Unit Refusal) (text : List ℕ) (old new : Program) → IsFirstOf line left → LosesLine left rest → length line ≤ 4096 → OnOk outcome (DoesLine (words_in line) text old new) → OnErr outcome (IsUnchanged old new) → new.has_begun ≡ (old.has_begun || not (is_silent (words_in line))) → OnErr outcome (IsFalse (is_silent (words_in line))) → IfErr outcome (IsReasonFor old (words_in line)) → CanRun new → Takes number left rest outcome text old new
+pub takes_run : (number : ℕ) (left rest : Option (List ℕ)) (line : List ℕ) (outcome : Result Unit Refusal) (text : List ℕ) (old new : LineState) → IsFirstOf line left → LosesLine left rest → length line ≤ 4096 → OnOk outcome (DoesLine (words_in line) text old new) → OnErr outcome (IsUnchanged old new) → new.has_begun ≡ (old.has_begun || not (is_silent (words_in line))) → OnErr outcome (IsFalse (is_silent (words_in line))) → IfErr outcome (IsReasonFor old (words_in line)) → CanRun new → Takes number left rest outcome text old new
 takes_run number None rest line outcome text old new first loses short does same begun heard own ready = tt
 takes_run number (Some bytes) None line outcome text old new first loses short does same begun heard own ready = absurd loses
 takes_run number (Some bytes) (Some others) line outcome text old new first loses short does same begun heard own ready = (
@@ -72,13 +72,13 @@ takes_run number (Some bytes) (Some others) line outcome text old new first lose
 )
 
 -- a line at its place in the buffer, run
-pub takes_span : (number : ℕ) (buffer : LineBuffer) (span : Span) (left rest : Option (List ℕ)) (line : List ℕ) (outcome : Result Unit Refusal) (text : List ℕ) (old new : Program) → IsFirstOf (bytes_at buffer span) left → LosesLine left rest → span.end - span.start ≤ 4096 → line ≡ strip_last 13 (bytes_at buffer span) → OnOk outcome (DoesLine (words line) text old new) → OnErr outcome (IsUnchanged old new) → new.has_begun ≡ (old.has_begun || not (is_silent (words line))) → OnErr outcome (IsFalse (is_silent (words line))) → IfErr outcome (IsReasonFor old (words line)) → CanRun new → Takes number left rest outcome text old new
+pub takes_span : (number : ℕ) (buffer : LineBuffer) (span : Span) (left rest : Option (List ℕ)) (line : List ℕ) (outcome : Result Unit Refusal) (text : List ℕ) (old new : LineState) → IsFirstOf (bytes_at buffer span) left → LosesLine left rest → span.end - span.start ≤ 4096 → line ≡ strip_last 13 (bytes_at buffer span) → OnOk outcome (DoesLine (words line) text old new) → OnErr outcome (IsUnchanged old new) → new.has_begun ≡ (old.has_begun || not (is_silent (words line))) → OnErr outcome (IsFalse (is_silent (words line))) → IfErr outcome (IsReasonFor old (words line)) → CanRun new → Takes number left rest outcome text old new
 takes_span number buffer span left rest line outcome text old new first loses short is does same begun heard own ready =
     let few : length (bytes_at buffer span) ≤ 4096 = omega (arith, length-take (span.end - span.start) (drop span.start buffer.bytes.items)) in
     takes_run number left rest (bytes_at buffer span) outcome text old new first loses few (rw is at does) same (rw is at begun) (rw is at heard) (rw is at own) ready
 
 -- a line that is too long
-pub takes_long : (number : ℕ) (left rest : Option (List ℕ)) (outcome : Result Unit Refusal) (text : List ℕ) (old new : Program) → outcome ≡ Err (refusal.Fault LineTooLong) → BeginsTooLong left → Takes number left rest outcome text old new
+pub takes_long : (number : ℕ) (left rest : Option (List ℕ)) (outcome : Result Unit Refusal) (text : List ℕ) (old new : LineState) → outcome ≡ Err (refusal.Fault LineTooLong) → BeginsTooLong left → Takes number left rest outcome text old new
 takes_long number None rest outcome text old new is long = tt
 takes_long number (Some bytes) rest outcome text old new is long = (
   before_end bytes,
@@ -93,7 +93,7 @@ takes_long number (Some bytes) rest outcome text old new is long = (
 
 -- ---- one line more
 
-pub stands_on : (known left rest : Option (List ℕ)) (start old new : Program) (answers text : List ℕ) (number : ℕ) (outcome : Result Unit Refusal) → Stands known start answers number left old → Takes number left rest outcome text old new → IsNoFault outcome → Stands known start (answers ++ said_of number outcome text) (number + 1) rest new
+pub stands_on : (known left rest : Option (List ℕ)) (start old new : LineState) (answers text : List ℕ) (number : ℕ) (outcome : Result Unit Refusal) → Stands known start answers number left old → Takes number left rest outcome text old new → IsNoFault outcome → Stands known start (answers ++ said_of number outcome text) (number + 1) rest new
 stands_on None left rest start old new answers text number outcome at takes fine = tt
 stands_on (Some bytes) None rest start old new answers text number outcome at takes fine = absurd at
 stands_on (Some bytes) (Some left) rest start old new answers text number outcome at (line, taken) fine =
@@ -101,26 +101,26 @@ stands_on (Some bytes) (Some left) rest start old new answers text number outcom
 
 -- ---- the ends
 
-pub ends_done : (known left : Option (List ℕ)) (start p : Program) (answers : List ℕ) (number : ℕ) (old new : Option (List ℕ)) → Stands known start answers number left p → IsAtEnd left → Appends old new answers → Writes known start Done old new
+pub ends_done : (known left : Option (List ℕ)) (start p : LineState) (answers : List ℕ) (number : ℕ) (old new : Option (List ℕ)) → Stands known start answers number left p → IsAtEnd left → Appends old new answers → Writes known start Done old new
 ends_done None left start p answers number old new at end grown = tt
 ends_done (Some bytes) None start p answers number old new at end grown = absurd at
 ends_done (Some bytes) (Some left) start p answers number old new at end grown =
     let nothing : lines_of left ≡ [] = ap lines_of end ∙ no_lines in
     (answers, record { number = number; program = p; reaches = rw nothing at at }, grown)
 
-pub ends_unread : (known left : Option (List ℕ)) (start p : Program) (answers : List ℕ) (number : ℕ) (old new : Option (List ℕ)) → Stands known start answers number left p → Appends old new answers → Writes known start ReadFault old new
+pub ends_unread : (known left : Option (List ℕ)) (start p : LineState) (answers : List ℕ) (number : ℕ) (old new : Option (List ℕ)) → Stands known start answers number left p → Appends old new answers → Writes known start ReadFault old new
 ends_unread None left start p answers number old new at grown = tt
 ends_unread (Some bytes) None start p answers number old new at grown = absurd at
 ends_unread (Some bytes) (Some left) start p answers number old new at grown =
     (answers, (lines_of left, record { number = number; program = p; reaches = at }), grown)
 
 -- where a run has come to, with the next line
-abbrev reached : (bytes left line : List ℕ) (start p : Program) (answers : List ℕ) (number : ℕ) → Stands (Some bytes) start answers number (Some left) p → 0 < length left → line ≡ before_end left → Reached (lines_of bytes) start answers (line ∷ lines_of (after_end left))
+abbrev reached : (bytes left line : List ℕ) (start p : LineState) (answers : List ℕ) (number : ℕ) → Stands (Some bytes) start answers number (Some left) p → 0 < length left → line ≡ before_end left → Reached (lines_of bytes) start answers (line ∷ lines_of (after_end left))
 reached bytes left line start p answers number at some first =
     let split : lines_of left ≡ line ∷ lines_of (after_end left) = lines_split left some ∙ ap (λ l. l ∷ lines_of (after_end left)) (sym first) in
     record { number = number; program = p; reaches = rw split at at }
 
-ends_refused : (known left rest : Option (List ℕ)) (start p now : Program) (answers text : List ℕ) (number : ℕ) (outcome : Result Unit Refusal) (fault : Fault) (old mid new : Option (List ℕ)) → outcome ≡ Err (refusal.Fault fault) → Stands known start answers number left p → Takes number left rest outcome text p now → Appends old mid answers → Appends mid new (said_of number outcome text) → Writes known start BadLine old new
+ends_refused : (known left rest : Option (List ℕ)) (start p now : LineState) (answers text : List ℕ) (number : ℕ) (outcome : Result Unit Refusal) (fault : Fault) (old mid new : Option (List ℕ)) → outcome ≡ Err (refusal.Fault fault) → Stands known start answers number left p → Takes number left rest outcome text p now → Appends old mid answers → Appends mid new (said_of number outcome text) → Writes known start BadLine old new
 ends_refused None left rest start p now answers text number outcome fault old mid new is at takes before said = tt
 ends_refused (Some bytes) None rest start p now answers text number outcome fault old mid new is at takes before said = absurd at
 ends_refused (Some bytes) (Some left) rest start p now answers text number outcome fault old mid new is at (line, taken) before said =
@@ -144,16 +144,21 @@ is_fault (Err refusal.NoMemory) faulty = absurd (faulty refl)
 is_fault (Err (refusal.Fault fault)) faulty = (fault, refl)
 
 -- a faulty line was the last
-pub ends_at_fault : (known left rest : Option (List ℕ)) (start p now : Program) (answers text : List ℕ) (number : ℕ) (outcome : Result Unit Refusal) (old mid new : Option (List ℕ)) → ¬ (IsNoFault outcome) → Stands known start answers number left p → Takes number left rest outcome text p now → Appends old mid answers → Appends mid new (said_of number outcome text) → Writes known start BadLine old new
+pub ends_at_fault : (known left rest : Option (List ℕ)) (start p now : LineState) (answers text : List ℕ) (number : ℕ) (outcome : Result Unit Refusal) (old mid new : Option (List ℕ)) → ¬ (IsNoFault outcome) → Stands known start answers number left p → Takes number left rest outcome text p now → Appends old mid answers → Appends mid new (said_of number outcome text) → Writes known start BadLine old new
 ends_at_fault known left rest start p now answers text number outcome old mid new faulty at takes before said =
     let (fault, is) = is_fault outcome faulty in
     ends_refused known left rest start p now answers text number outcome fault old mid new is at takes before said
 
+is_said : (number : ℕ) (line bytes : List ℕ) (rest : Option (List ℕ)) (outcome : Result Unit Refusal) (text : List ℕ) (old new : LineState) → IsTaken number line bytes rest outcome text old new → IsSaid number line (said_of number outcome text) old
+is_said number line bytes rest (Ok done) text old new taken = inl (new, taken.answered tt)
+is_said number line bytes rest (Err refusal.NoMemory) text old new taken = inl (new, taken.answered refl)
+is_said number line bytes rest (Err (refusal.Fault fault)) text old new taken = inr (record { fault = fault; wrong = taken.wrong fault refl; said = refl })
+
 -- a write failed
-pub ends_unwritten : (known left rest : Option (List ℕ)) (start p now : Program) (answers text : List ℕ) (number : ℕ) (outcome : Result Unit Refusal) (old mid new : Option (List ℕ)) → Stands known start answers number left p → Takes number left rest outcome text p now → Appends old mid answers → AppendsFront mid new (said_of number outcome text) → Writes known start WriteFault old new
+pub ends_unwritten : (known left rest : Option (List ℕ)) (start p now : LineState) (answers text : List ℕ) (number : ℕ) (outcome : Result Unit Refusal) (old mid new : Option (List ℕ)) → Stands known start answers number left p → Takes number left rest outcome text p now → Appends old mid answers → AppendsFront mid new (said_of number outcome text) → Writes known start WriteFault old new
 ends_unwritten None left rest start p now answers text number outcome old mid new at takes before wrote = tt
 ends_unwritten (Some bytes) None rest start p now answers text number outcome old mid new at takes before wrote = absurd at
-ends_unwritten (Some bytes) (Some left) rest start p now answers text number (Ok done) old mid new at (line, taken) before wrote = (
+ends_unwritten (Some bytes) (Some left) rest start p now answers text number outcome old mid new at (line, taken) before wrote = (
   answers ++ wrote.front,
   record {
     line = line;
@@ -162,42 +167,14 @@ ends_unwritten (Some bytes) (Some left) rest start p now answers text number (Ok
     reached = reached bytes left line start p answers number at taken.some taken.first;
     front = wrote.front;
     lost = wrote.lost;
-    last = inl (now, subst (λ t. IsAnswered line t p now) wrote.split (taken.answered tt));
-    said = refl;
-  },
-  Appends-trans old mid new answers _ before wrote.grown,
-)
-ends_unwritten (Some bytes) (Some left) rest start p now answers text number (Err refusal.NoMemory) old mid new at (line, taken) before wrote = (
-  answers ++ wrote.front,
-  record {
-    line = line;
-    left = lines_of (after_end left);
-    answers = answers;
-    reached = reached bytes left line start p answers number at taken.some taken.first;
-    front = wrote.front;
-    lost = wrote.lost;
-    last = inl (now, subst (λ t. IsAnswered line t p now) wrote.split (taken.answered refl));
-    said = refl;
-  },
-  Appends-trans old mid new answers _ before wrote.grown,
-)
-ends_unwritten (Some bytes) (Some left) rest start p now answers text number (Err (refusal.Fault fault)) old mid new at (line, taken) before wrote = (
-  answers ++ wrote.front,
-  record {
-    line = line;
-    left = lines_of (after_end left);
-    answers = answers;
-    reached = reached bytes left line start p answers number at taken.some taken.first;
-    front = wrote.front;
-    lost = wrote.lost;
-    last = inr (record { fault = fault; wrong = taken.wrong fault refl; said = sym wrote.split });
+    last = subst (λ t. IsSaid number line t p) wrote.split (is_said number line left rest outcome text p now taken);
     said = refl;
   },
   Appends-trans old mid new answers _ before wrote.grown,
 )
 
 -- an answer ends a run early only at a fault or a failed write
-pub ends_early : (known : Option (List ℕ)) (start : Program) (exit : Exit) (old new : Option (List ℕ)) → (exit ≡ BadLine) ⊎ (exit ≡ WriteFault) → (exit ≡ BadLine → Writes known start BadLine old new) → (exit ≡ WriteFault → Writes known start WriteFault old new) → Writes known start exit old new
+pub ends_early : (known : Option (List ℕ)) (start : LineState) (exit : Exit) (old new : Option (List ℕ)) → (exit ≡ BadLine) ⊎ (exit ≡ WriteFault) → (exit ≡ BadLine → Writes known start BadLine old new) → (exit ≡ WriteFault → Writes known start WriteFault old new) → Writes known start exit old new
 ends_early known start exit old new (inl bad) faulty failed = rw bad (faulty bad)
 ends_early known start exit old new (inr lost) faulty failed = rw lost (failed lost)
 
@@ -208,18 +185,18 @@ slice_range_none bytes place =
     let none : place - place ≡ 0 = omega arith in
     ap (λ n. take n (drop place bytes)) none
 
-to_come_of_none : (ended : Bool) (known : Option (List ℕ)) → ended ≡ false → known_left ended [] known ≡ known
-to_come_of_none true known «open» = absurd (cc)
-to_come_of_none false None «open» = refl
-to_come_of_none false (Some bytes) «open» = refl
+known_left_of_none : (ended : Bool) (known : Option (List ℕ)) → ended ≡ false → known_left ended [] known ≡ known
+known_left_of_none true known «open» = absurd (cc)
+known_left_of_none false None «open» = refl
+known_left_of_none false (Some bytes) «open» = refl
 
 -- a new buffer has read nothing
 pub unread_first : (buffer : LineBuffer) (known : Option (List ℕ)) → buffer.start ≡ buffer.end → buffer.is_at_end ≡ false → unread buffer known ≡ known
 unread_first buffer known empty «open» =
     let nothing : buffered buffer ≡ [] = ap (slice_range buffer.bytes.items buffer.start) (sym empty) ∙ slice_range_none buffer.bytes.items buffer.start in
-    ap (λ l. known_left buffer.is_at_end l known) nothing ∙ to_come_of_none buffer.is_at_end known «open»
+    ap (λ l. known_left buffer.is_at_end l known) nothing ∙ known_left_of_none buffer.is_at_end known «open»
 
-pub from_start : (known : Option (List ℕ)) (start : Program) (exit : Exit) (old new : Option (List ℕ)) → (exit ≡ NoMemory → ⊥) → IsFresh start → Writes known start exit old new → WritesFromStart known exit old new
+pub from_start : (known : Option (List ℕ)) (start : LineState) (exit : Exit) (old new : Option (List ℕ)) → (exit ≡ NoMemory → ⊥) → IsFresh start → Writes known start exit old new → WritesFromStart known exit old new
 from_start known start Done old new memory fresh wrote = (start, fresh, wrote)
 from_start known start BadLine old new memory fresh wrote = (start, fresh, wrote)
 from_start known start ReadFault old new memory fresh wrote = (start, fresh, wrote)

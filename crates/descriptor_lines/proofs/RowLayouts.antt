@@ -22,6 +22,7 @@ use Rattle.descriptor_lines.specs.Arguments.{GiveCommand, IsCommandOf, IsFaultOf
 use Rattle.descriptor_lines.specs.Commands.{IsInTime}
 use Rattle.descriptor_lines.specs.FirstLayouts.{listed}
 use Rattle.descriptor_lines.specs.LayoutTable.{layout_count, layout_named, layouts_in}
+use Rattle.descriptor_lines.specs.LineStates.{LineState}
 use Rattle.descriptor_lines.specs.Programs.{AddsLayout, DoesCommand, DoesLine, IsFresh, begun}
 use Rattle.descriptor_lines.specs.Rows.{HadMemory}
 use Rattle.descriptor_lines.specs.Transcripts.{IsFaultOfLine, LacksMemory, words_in}
@@ -32,7 +33,6 @@ use Rattle.descriptor_lines.specs.declared.exit.Exit.TheVariants.{BadLine}
 use Rattle.descriptor_lines.specs.declared.layouts.Entry.{Entry}
 use Rattle.descriptor_lines.specs.declared.layouts.Layout.{Layout}
 use Rattle.descriptor_lines.specs.declared.layouts.Layouts.{Layouts}
-use Rattle.descriptor_lines.specs.declared.program.Program.{Program}
 use Rattle.descriptor_lines.proofs.LayoutLemmas.{contains_cases, contains_none}
 use Rattle.descriptor_lines.proofs.RowLemmas.{Ends, Goes, has_memory, one_keyword, layout_in_none, step_of}
 
@@ -119,7 +119,7 @@ no_refusal layouts has_begun name mark words fault good (inr (word, same, wrong)
     no_fault_of_new layouts name mark words fault good (subst (λ k. IsRefusalOfWords layouts has_begun k (name ∷ word_of_mark mark ∷ words) (faulty fault)) layout wrong)
 
 -- a new layout was kept, and the answer has its total
-pub record Adds (name : List ℕ) (mark : Bool) (words : List (List ℕ)) (answer : List ℕ) (old new : Program) : Type 0 where
+pub record Adds (name : List ℕ) (mark : Bool) (words : List (List ℕ)) (answer : List ℕ) (old new : LineState) : Type 0 where
   pub layout : Layout
   pub adds : AddsLayout name layout old new
   pub counts_are : GiveCounts words (kinds layout.counts)
@@ -133,7 +133,7 @@ same_mark true false same = absurd (let long = ap length same in omega arith)
 same_mark false true same = absurd (let long = ap length same in omega arith)
 same_mark false false same = refl
 
-adds_from : (name : List ℕ) (mark : Bool) (words : List (List ℕ)) (answer : List ℕ) (c : Command) (old new : Program) → GiveCommand old.layouts keyword.Layout (name ∷ word_of_mark mark ∷ words) c → DoesCommand c answer (begun old) new → IsTrue new.has_begun → Adds name mark words answer (begun old) new
+adds_from : (name : List ℕ) (mark : Bool) (words : List (List ℕ)) (answer : List ℕ) (c : Command) (old new : LineState) → GiveCommand old.layouts keyword.Layout (name ∷ word_of_mark mark ∷ words) c → DoesCommand c answer (begun old) new → IsTrue new.has_begun → Adds name mark words answer (begun old) new
 adds_from name mark words answer (command.Limit max) old new gives does has = absurd gives
 adds_from name mark words answer (command.Layout named layout) old new gives does has = record {
   layout = layout;
@@ -151,10 +151,10 @@ adds_from name mark words answer command.Cleanup old new gives does has = absurd
 adds_from name mark words answer command.Show old new gives does has = absurd gives
 
 -- where memory is there a layout line with which nothing is wrong keeps its layout
-pub layout_line : (number : ℕ) (line : List ℕ) (lines : List (List ℕ)) (old : Program) (exit : Exit) (text name : List ℕ) (mark : Bool) (words : List (List ℕ)) → length line ≤ 4096 → words_in line ≡ codes "layout" ∷ name ∷ word_of_mark mark ∷ words → IsGood old.layouts name words → HadMemory text → Ends number (line ∷ lines) old exit text → (answer : List ℕ) × (rest : List ℕ) × (p : Program) × Adds name mark words answer (begun old) p × (text ≡ answer ++ rest) × Ends (number + 1) lines p exit rest
+pub layout_line : (number : ℕ) (line : List ℕ) (lines : List (List ℕ)) (old : LineState) (exit : Exit) (text name : List ℕ) (mark : Bool) (words : List (List ℕ)) → length line ≤ 4096 → words_in line ≡ codes "layout" ∷ name ∷ word_of_mark mark ∷ words → IsGood old.layouts name words → HadMemory text → Ends number (line ∷ lines) old exit text → (answer : List ℕ) × (rest : List ℕ) × (p : LineState) × Adds name mark words answer (begun old) p × (text ≡ answer ++ rest) × Ends (number + 1) lines p exit rest
 layout_line number line lines old exit text name mark words short are good had ends = passed (step_of number line lines old exit text ends)
   where
-    passed : Goes number line lines old exit text → (answer : List ℕ) × (rest : List ℕ) × (p : Program) × Adds name mark words answer (begun old) p × (text ≡ answer ++ rest) × Ends (number + 1) lines p exit rest
+    passed : Goes number line lines old exit text → (answer : List ℕ) × (rest : List ℕ) × (p : LineState) × Adds name mark words answer (begun old) p × (text ≡ answer ++ rest) × Ends (number + 1) lines p exit rest
     passed (inl (bad, refused)) = absurd (not_refused refused.wrong)
       where
         not_refused : IsFaultOfLine old line refused.fault → ⊥
@@ -212,7 +212,7 @@ late_refusal layouts has_begun words fault has (inr (word, same, wrong)) =
     rw has at late
 
 -- a limit behind a command is that fault
-pub late_limit : (number : ℕ) (line : List ℕ) (lines : List (List ℕ)) (old : Program) (exit : Exit) (text : List ℕ) (words : List (List ℕ)) → length line ≤ 4096 → words_in line ≡ codes "limit" ∷ words → IsTrue old.has_begun → HadMemory text → Ends number (line ∷ lines) old exit text → (exit ≡ BadLine) × (text ≡ fault_line number LimitNotFirst)
+pub late_limit : (number : ℕ) (line : List ℕ) (lines : List (List ℕ)) (old : LineState) (exit : Exit) (text : List ℕ) (words : List (List ℕ)) → length line ≤ 4096 → words_in line ≡ codes "limit" ∷ words → IsTrue old.has_begun → HadMemory text → Ends number (line ∷ lines) old exit text → (exit ≡ BadLine) × (text ≡ fault_line number LimitNotFirst)
 late_limit number line lines old exit text words short are has had ends = passed (step_of number line lines old exit text ends)
   where
     passed : Goes number line lines old exit text → (exit ≡ BadLine) × (text ≡ fault_line number LimitNotFirst)
@@ -278,7 +278,7 @@ samplers_given counts number gives =
 -- ---- at the start
 
 -- a program that is fresh has room for a layout, and none of any name
-pub good_at_start : (start : Program) (name : List ℕ) (words : List (List ℕ)) → IsFresh start → IsName name → AreKinds words → IsGood start.layouts name words
+pub good_at_start : (start : LineState) (name : List ℕ) (words : List (List ℕ)) → IsFresh start → IsName name → AreKinds words → IsGood start.layouts name words
 good_at_start start name words fresh is are = record {
   is_name = is;
   absent = layout_in_none start.layouts name fresh.layouts;

@@ -16,6 +16,7 @@ use Rattle.descriptor_words.specs.Numbers.{WritesNumberWithin}
 use Rattle.descriptor_lines.specs.Answers.{fault_line}
 use Rattle.descriptor_lines.specs.FirstLayouts.{listed}
 use Rattle.descriptor_lines.specs.LayoutTable.{layout_named, layouts_in}
+use Rattle.descriptor_lines.specs.LineStates.{LineState}
 use Rattle.descriptor_lines.specs.Programs.{DoesLine}
 use Rattle.descriptor_lines.specs.Rows.{HadMemory, no_memory}
 use Rattle.descriptor_lines.specs.Transcripts.{IsAnswered, IsFaultOfLine, IsRefused, LacksMemory, Reaches, Wrote, words_in}
@@ -25,20 +26,19 @@ use Rattle.descriptor_lines.specs.declared.exit.Exit.{Exit}
 use Rattle.descriptor_lines.specs.declared.exit.Exit.TheVariants.{Done, BadLine, ReadFault, WriteFault, NoMemory}
 use Rattle.descriptor_lines.specs.declared.layouts.Layout.{Layout}
 use Rattle.descriptor_lines.specs.declared.layouts.Layouts.{Layouts}
-use Rattle.descriptor_lines.specs.declared.program.Program.{Program}
 
 -- a run of lines from this number on that ended well, or at a faulty line
-abbrev pub Ends : ℕ → List (List ℕ) → Program → Exit → List ℕ → Type 0
-Ends number lines old Done text = (next : ℕ) × (new : Program) × Reaches number lines old text next [] new
+abbrev pub Ends : ℕ → List (List ℕ) → LineState → Exit → List ℕ → Type 0
+Ends number lines old Done text = (next : ℕ) × (new : LineState) × Reaches number lines old text next [] new
 Ends number lines old BadLine text =
-    (next : ℕ) × (line : List ℕ) × (left : List (List ℕ)) × (new : Program) × (answers : List ℕ) × (last : List ℕ) × Reaches number lines old answers next (line ∷ left) new × IsRefused next line last new × (text ≡ answers ++ last)
+    (next : ℕ) × (line : List ℕ) × (left : List (List ℕ)) × (new : LineState) × (answers : List ℕ) × (last : List ℕ) × Reaches number lines old answers next (line ∷ left) new × IsRefused next line last new × (text ≡ answers ++ last)
 Ends number lines old _ text = ⊥
 
 -- its first line is faulty, or was answered before the others
-abbrev pub Goes : ℕ → List ℕ → List (List ℕ) → Program → Exit → List ℕ → Type 0
+abbrev pub Goes : ℕ → List ℕ → List (List ℕ) → LineState → Exit → List ℕ → Type 0
 Goes number line lines old exit text =
     ((exit ≡ BadLine) × IsRefused number line text old)
-    ⊎ ((answer : List ℕ) × (rest : List ℕ) × (p : Program) × IsAnswered line answer old p × (text ≡ answer ++ rest) × Ends (number + 1) lines p exit rest)
+    ⊎ ((answer : List ℕ) × (rest : List ℕ) × (p : LineState) × IsAnswered line answer old p × (text ≡ answer ++ rest) × Ends (number + 1) lines p exit rest)
 
 not_end : {X : Type 0} {line : X} {lines : List X} → [] ≡ line ∷ lines → ⊥
 not_end same = cc
@@ -46,7 +46,7 @@ not_end same = cc
 head_same : {line other : List ℕ} {lines others : List (List ℕ)} → line ∷ lines ≡ other ∷ others → line ≡ other
 head_same same = cc
 
-pub step_of : (number : ℕ) (line : List ℕ) (lines : List (List ℕ)) (old : Program) (exit : Exit) (text : List ℕ) → Ends number (line ∷ lines) old exit text → Goes number line lines old exit text
+pub step_of : (number : ℕ) (line : List ℕ) (lines : List (List ℕ)) (old : LineState) (exit : Exit) (text : List ℕ) → Ends number (line ∷ lines) old exit text → Goes number line lines old exit text
 step_of number line lines old Done text (next, new, inl here) = absurd (not_end here.all)
 step_of number line lines old Done text (next, new, inr (answer, answers, p, answered, said, reaches)) =
     inr (answer, answers, p, answered, said, (next, new, reaches))
@@ -58,7 +58,7 @@ step_of number line lines old ReadFault text ends = absurd ends
 step_of number line lines old WriteFault text ends = absurd ends
 step_of number line lines old NoMemory text ends = absurd ends
 
-pub end_of : (number : ℕ) (old : Program) (exit : Exit) (text : List ℕ) → Ends number [] old exit text → (exit ≡ Done) × (text ≡ [])
+pub end_of : (number : ℕ) (old : LineState) (exit : Exit) (text : List ℕ) → Ends number [] old exit text → (exit ≡ Done) × (text ≡ [])
 end_of number old Done text (next, new, here) = (refl, here.nothing)
 end_of number old BadLine text (next, line, left, new, answers, last, here, refused, said) = absurd (not_end (sym here.all))
 end_of number old ReadFault text ends = absurd ends
@@ -66,7 +66,7 @@ end_of number old WriteFault text ends = absurd ends
 end_of number old NoMemory text ends = absurd ends
 
 -- a run whose reads and writes were good
-pub ends_from : (lines : List (List ℕ)) (start : Program) (exit : Exit) (text : List ℕ) → (exit ≡ Done) ⊎ (exit ≡ BadLine) → Wrote lines start exit text → Ends 1 lines start exit text
+pub ends_from : (lines : List (List ℕ)) (start : LineState) (exit : Exit) (text : List ℕ) → (exit ≡ Done) ⊎ (exit ≡ BadLine) → Wrote lines start exit text → Ends 1 lines start exit text
 ends_from lines start Done text well wrote = (wrote.number, wrote.program, wrote.reaches)
 ends_from lines start BadLine text well wrote =
     (wrote.reached.number, wrote.line, wrote.left, wrote.reached.program, wrote.answers, wrote.last, wrote.reached.reaches, wrote.refused, wrote.said)
@@ -142,7 +142,7 @@ name_of_letter letter from to = record {
 -- ---- lines
 
 -- a line without words and a comment are passed over
-pub silent_line : (number : ℕ) (line : List ℕ) (lines : List (List ℕ)) (old : Program) (exit : Exit) (text : List ℕ) → length line ≤ 4096 → IsTrue (is_silent (words_in line)) → Ends number (line ∷ lines) old exit text → Ends (number + 1) lines old exit text
+pub silent_line : (number : ℕ) (line : List ℕ) (lines : List (List ℕ)) (old : LineState) (exit : Exit) (text : List ℕ) → length line ≤ 4096 → IsTrue (is_silent (words_in line)) → Ends number (line ∷ lines) old exit text → Ends (number + 1) lines old exit text
 silent_line number line lines old exit text short silent ends = passed (step_of number line lines old exit text ends)
   where
     passed : Goes number line lines old exit text → Ends (number + 1) lines old exit text
@@ -213,7 +213,7 @@ no_layout_command layouts name count command none (word, same, gives) =
     no_place layouts name count command none (subst (λ k. GiveCommand layouts k (name ∷ count ∷ []) command) alloc gives)
 
 -- a request for sets of a layout that is not there is that fault
-pub unknown_layout : (number : ℕ) (line : List ℕ) (lines : List (List ℕ)) (old : Program) (exit : Exit) (text name count : List ℕ) → length line ≤ 4096 → words_in line ≡ codes "alloc" ∷ name ∷ count ∷ [] → IsName name → layout_named old.layouts name ≡ None → HadMemory text → Ends number (line ∷ lines) old exit text → (exit ≡ BadLine) × (text ≡ fault_line number NoSuchLayout)
+pub unknown_layout : (number : ℕ) (line : List ℕ) (lines : List (List ℕ)) (old : LineState) (exit : Exit) (text name count : List ℕ) → length line ≤ 4096 → words_in line ≡ codes "alloc" ∷ name ∷ count ∷ [] → IsName name → layout_named old.layouts name ≡ None → HadMemory text → Ends number (line ∷ lines) old exit text → (exit ≡ BadLine) × (text ≡ fault_line number NoSuchLayout)
 unknown_layout number line lines old exit text name count short words is none had ends = (passed (step_of number line lines old exit text ends))
   where
     passed : Goes number line lines old exit text → (exit ≡ BadLine) × (text ≡ fault_line number NoSuchLayout)

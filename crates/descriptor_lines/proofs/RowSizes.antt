@@ -14,6 +14,7 @@ use Rattle.descriptor_words.specs.declared.keyword.Keyword.TheVariants as keywor
 use Rattle.descriptor_lines.specs.Answers.{AnswersSize}
 use Rattle.descriptor_lines.specs.Arguments.{GiveCommand, IsCommandOf, IsFaultOfUse, WriteSize, IsRefusalOf, IsRefusalOfWords}
 use Rattle.descriptor_lines.specs.LayoutTable.{layout_named}
+use Rattle.descriptor_lines.specs.LineStates.{LineState}
 use Rattle.descriptor_lines.specs.Programs.{DoesCommand, DoesLine, begun}
 use Rattle.descriptor_lines.specs.Rows.{HadMemory}
 use Rattle.descriptor_lines.specs.Transcripts.{IsFaultOfLine, LacksMemory, words_in}
@@ -22,7 +23,6 @@ use Rattle.descriptor_lines.specs.declared.command.Command.TheVariants as comman
 use Rattle.descriptor_lines.specs.declared.exit.Exit.{Exit}
 use Rattle.descriptor_lines.specs.declared.layouts.Layout.{Layout}
 use Rattle.descriptor_lines.specs.declared.layouts.Layouts.{Layouts}
-use Rattle.descriptor_lines.specs.declared.program.Program.{Program}
 use Rattle.descriptor_lines.proofs.RowLemmas.{Ends, Goes, has_memory, one_keyword, step_of}
 use Rattle.gpu_descriptor_types.specs.PoolSize.{IsPoolSize, least_of, sets_of_kind}
 
@@ -57,7 +57,7 @@ no_size_refusal layouts has_begun name total wanted layout fault is there write 
     let size = one_keyword word keyword.Size (sym same) in
     no_fault_of_use layouts name (WriteSize total wanted) layout fault is there write (subst (λ k. IsRefusalOfWords layouts has_begun k (name ∷ total ∷ wanted ∷ []) (faulty fault)) size wrong)
 
-size_from : (name total wanted answer : List ℕ) (layout : Layout) (c : Command) (old new : Program) → layout_named old.layouts name ≡ Some layout → GiveCommand old.layouts keyword.Size (name ∷ total ∷ wanted ∷ []) c → DoesCommand c answer (begun old) new → AnswersSize (kinds layout.counts) (value_of total) (value_of wanted) answer
+size_from : (name total wanted answer : List ℕ) (layout : Layout) (c : Command) (old new : LineState) → layout_named old.layouts name ≡ Some layout → GiveCommand old.layouts keyword.Size (name ∷ total ∷ wanted ∷ []) c → DoesCommand c answer (begun old) new → AnswersSize (kinds layout.counts) (value_of total) (value_of wanted) answer
 size_from name total wanted answer layout (command.Limit max) old new there gives does = absurd gives
 size_from name total wanted answer layout (command.Layout named other) old new there gives does = absurd gives
 size_from name total wanted answer layout (command.Size counts all sets) old new there gives does =
@@ -71,10 +71,10 @@ size_from name total wanted answer layout command.Cleanup old new there gives do
 size_from name total wanted answer layout command.Show old new there gives does = absurd gives
 
 -- where memory is there a size line with which nothing is wrong is answered by a size
-pub size_line : (number : ℕ) (line : List ℕ) (lines : List (List ℕ)) (old : Program) (exit : Exit) (text name total wanted : List ℕ) (layout : Layout) → length line ≤ 4096 → words_in line ≡ codes "size" ∷ name ∷ total ∷ wanted ∷ [] → IsName name → layout_named old.layouts name ≡ Some layout → WriteSize total wanted → HadMemory text → Ends number (line ∷ lines) old exit text → (answer : List ℕ) × (rest : List ℕ) × (p : Program) × AnswersSize (kinds layout.counts) (value_of total) (value_of wanted) answer × (text ≡ answer ++ rest) × Ends (number + 1) lines p exit rest
+pub size_line : (number : ℕ) (line : List ℕ) (lines : List (List ℕ)) (old : LineState) (exit : Exit) (text name total wanted : List ℕ) (layout : Layout) → length line ≤ 4096 → words_in line ≡ codes "size" ∷ name ∷ total ∷ wanted ∷ [] → IsName name → layout_named old.layouts name ≡ Some layout → WriteSize total wanted → HadMemory text → Ends number (line ∷ lines) old exit text → (answer : List ℕ) × (rest : List ℕ) × (p : LineState) × AnswersSize (kinds layout.counts) (value_of total) (value_of wanted) answer × (text ≡ answer ++ rest) × Ends (number + 1) lines p exit rest
 size_line number line lines old exit text name total wanted layout short are is there write had ends = passed (step_of number line lines old exit text ends)
   where
-    passed : Goes number line lines old exit text → (answer : List ℕ) × (rest : List ℕ) × (p : Program) × AnswersSize (kinds layout.counts) (value_of total) (value_of wanted) answer × (text ≡ answer ++ rest) × Ends (number + 1) lines p exit rest
+    passed : Goes number line lines old exit text → (answer : List ℕ) × (rest : List ℕ) × (p : LineState) × AnswersSize (kinds layout.counts) (value_of total) (value_of wanted) answer × (text ≡ answer ++ rest) × Ends (number + 1) lines p exit rest
     passed (inl (bad, refused)) = absurd (not_refused refused.wrong)
       where
         not_refused : IsFaultOfLine old line refused.fault → ⊥

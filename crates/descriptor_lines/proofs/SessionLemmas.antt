@@ -1,5 +1,5 @@
 -- Sessions that are ready, and the replies of their steps.
-use Rattle.std.proofs.Common.{◌≡◌, ◌≢◌, ℕ, zero, suc, zero-le, ◌+◌, ◌-◌, ◌<◌, ◌≤◌, ◌^◌, Bool, true, false, cond, List, [], ◌∷◌, ◌++◌, length, length-append, map, get_or, slice_index_or, Option, None, Some, IsSome, refl, sym, ap, ◌∙◌, arith}
+use Rattle.std.proofs.Common.{◌≡◌, ◌≢◌, ℕ, zero, suc, zero-le, ◌+◌, ◌-◌, ◌<◌, ◌≤◌, ◌^◌, Bool, true, false, cond, List, [], ◌∷◌, ◌++◌, length, length-append, map, get_or, slice_index_or, Option, None, Some, IsSome, subst, refl, sym, ap, ◌∙◌, arith}
 use Rattle.std.proofs.lemmas.List.{get_or-append_right, length-map}
 use Rattle.gpu_descriptor_types.specs.Counts.{kinds}
 use Rattle.gpu_descriptor_types.specs.Ledger.{Ledger}
@@ -7,27 +7,28 @@ use Rattle.gpu_descriptor.specs.Model.Agreement.{Item, outstanding}
 use Rattle.gpu_descriptor.specs.Caller.Flags.{is_marked}
 use Rattle.gpu_descriptor.specs.Caller.States.{state_of}
 use Rattle.gpu_descriptor.proofs.Places.{empty_agrees}
-use Rattle.descriptor_script.specs.Scripted.Device.{ledger_of}
 use Rattle.descriptor_script.specs.Scripted.Raw.{pool_id, set_id}
 use Rattle.descriptor_script.specs.Sessions.Ready.{IsScriptReady}
 use Rattle.descriptor_script.specs.Sessions.Session.{AreMeant, allocator_of, layouts_of, sets_of}
 use Rattle.descriptor_script.specs.Sessions.SessionRun.{RunsTo}
 use Rattle.descriptor_script.specs.Sessions.Steps.{IsAsBefore, StepsTo}
+use Rattle.descriptor_script.specs.declared.answer.Answer.{Answer}
 use Rattle.descriptor_script.specs.declared.command.Command.{Command}
 use Rattle.descriptor_script.specs.declared.command.Command.TheVariants.{Allocate, Free, Cleanup}
 use Rattle.descriptor_script.specs.declared.command.Reply.{Reply}
 use Rattle.descriptor_script.specs.declared.command.Reply.TheVariants.{Sets, Refused, Freed, BadTicket, BadLayout, NoMemory, Clean}
-use Rattle.descriptor_script.specs.declared.device.ScriptedDevice.{ScriptedDevice}
 use Rattle.descriptor_script.specs.declared.raw.RawPool.{RawPool}
+use Rattle.descriptor_script.specs.declared.raw.RawSet.{RawSet}
 use Rattle.descriptor_script.specs.declared.raw.ScriptLayout.{ScriptLayout}
 use Rattle.descriptor_script.specs.declared.session.KnownLayout.{KnownLayout}
 use Rattle.descriptor_lines.specs.Commands.{IsKnown}
 use Rattle.descriptor_lines.specs.LayoutTable.{layout_count, layouts_in}
+use Rattle.descriptor_lines.specs.LineDevices.{HasScriptedMeanings}
+use Rattle.descriptor_lines.specs.LineStates.{LineState}
 use Rattle.descriptor_lines.specs.Programs.{CanRun}
 use Rattle.descriptor_lines.specs.Replies.{LineSession, HasAnswer}
 use Rattle.descriptor_lines.specs.ReplyTexts.{sets_asked, sets_given}
 use Rattle.descriptor_lines.specs.declared.layouts.Layouts.{Layouts}
-use Rattle.descriptor_lines.specs.declared.program.Program.{Program}
 
 same_branches : {X : Type 0} (b : Bool) (x : X) → cond b x x ≡ x
 same_branches true x = refl
@@ -37,24 +38,24 @@ none_out : (max : ℕ) (l : Ledger) (t : Item) → outstanding (state_of {P = Ra
 none_out max l t = simp same_branches
 
 -- a new session can make a step on any device
-pub new_is_ready : (s : LineSession) (d : ScriptedDevice) (max : ℕ) → allocator_of s ≡ record { limit = max; table = []; looks = 0; comparisons = 0 } → layouts_of s ≡ [] → sets_of s ≡ [] → IsScriptReady s (ledger_of d)
-new_is_ready s d max allocator layouts sets = record {
-  agree = rw allocator (empty_agrees (ledger_of d).pools);
-  held = rw (allocator, sets) (λ t. none_out max (ledger_of d) t);
+pub new_is_ready : (s : LineSession) (l : Ledger) (max : ℕ) → allocator_of s ≡ record { limit = max; table = []; looks = 0; comparisons = 0 } → layouts_of s ≡ [] → sets_of s ≡ [] → IsScriptReady s l
+new_is_ready s l max allocator layouts sets = record {
+  agree = rw allocator (empty_agrees l.pools);
+  held = rw (allocator, sets) (λ t. none_out max l t);
   meant = rw layouts (λ i k at. (cc));
 }
 
 -- after a step the program can run the next line
-pub still_runs : (p : Program) (s : LineSession) (d : ScriptedDevice) → CanRun p → IsScriptReady s (ledger_of d) → layouts_of s ≡ layouts_of p.session → CanRun (record p { session = s; device = d })
-still_runs p s d can ready layouts = record {
+pub still_runs : (p : LineState) (s : LineSession) (script : List Answer) (l : Ledger) → CanRun p → IsScriptReady s l → layouts_of s ≡ layouts_of p.session → CanRun (record p { session = s; script = script; ledger = l })
+still_runs p s script l can ready layouts = record {
   ready = ready;
   layouts = rw layouts can.layouts;
   fresh = can.fresh;
 }
 
 -- a session with the same books and sets is ready as well
-pub same_is_ready : (s t : LineSession) (d : ScriptedDevice) → IsScriptReady s (ledger_of d) → allocator_of t ≡ allocator_of s → sets_of t ≡ sets_of s → AreMeant (λ l. kinds l.counts) (λ l. l.mark) (layouts_of t) → IsScriptReady t (ledger_of d)
-same_is_ready s t d ready allocator sets meant = record {
+pub same_is_ready : (s t : LineSession) (l : Ledger) → IsScriptReady s l → allocator_of t ≡ allocator_of s → sets_of t ≡ sets_of s → AreMeant (λ l. kinds l.counts) (λ l. l.mark) (layouts_of t) → IsScriptReady t l
+same_is_ready s t l ready allocator sets meant = record {
   agree = rw allocator ready.agree;
   held = rw (allocator, sets) ready.held;
   meant = meant;
@@ -78,7 +79,19 @@ module _ {X : Type 0} where
   some_behind slots given n past inside =
       rw (get_or-append_right slots (map Some given) (length slots) n None refl past) (some_at given (n - length slots) (omega arith))
 
--- a step of a session over the scripted device
+-- ---- what a device means that has the pools, sets and layouts of the scripted one
+
+module _ {pool_name : RawPool → ℕ} {set_name : RawSet → ℕ} {counts : ScriptLayout → List ℕ} {mark : ScriptLayout → Bool} (own : HasScriptedMeanings pool_name set_name counts mark) (F : (RawPool → ℕ) → (RawSet → ℕ) → (ScriptLayout → List ℕ) → (ScriptLayout → Bool) → Type 0) where
+  -- what holds of its meanings holds of those that the values carry
+  pub as_carried : F pool_name set_name counts mark → F pool_id set_id (λ l. kinds l.counts) (λ l. l.mark)
+  as_carried holds =
+      subst (F pool_id set_id (λ l. kinds l.counts)) own.marks (subst (λ c. F pool_id set_id c mark) own.counts (subst (λ s. F pool_id s counts mark) own.sets (subst (λ p. F p set_name counts mark) own.pools holds)))
+
+  pub as_meant : F pool_id set_id (λ l. kinds l.counts) (λ l. l.mark) → F pool_name set_name counts mark
+  as_meant holds =
+      subst (F pool_name set_name counts) (sym own.marks) (subst (λ c. F pool_name set_name c (λ l. l.mark)) (sym own.counts) (subst (λ s. F pool_name s (λ l. kinds l.counts) (λ l. l.mark)) (sym own.sets) (subst (λ p. F p set_id (λ l. kinds l.counts) (λ l. l.mark)) (sym own.pools) holds)))
+
+-- a step of a session, where pools, sets and layouts mean what they carry
 abbrev Steps : Command → Reply → LineSession → LineSession → Ledger → Ledger → Type 0
 Steps command reply old new before after = StepsTo pool_id set_id (λ l. kinds l.counts) (λ l. l.mark) command reply old new before after
 
@@ -141,6 +154,6 @@ pub none_counted : (layouts : Layouts) → layouts_in layouts ≡ [] → layout_
 none_counted layouts none = sym (length-map layouts.by_name.entries _) ∙ ap length none
 
 -- the session has as many layouts as the table
-pub as_many : (p : Program) → CanRun p → layout_count p.layouts ≡ length (layouts_of p.session)
+pub as_many : (p : LineState) → CanRun p → layout_count p.layouts ≡ length (layouts_of p.session)
 as_many p can =
     sym (length-map p.layouts.by_name.entries _) ∙ sym (length-map (layouts_in p.layouts) _) ∙ sym (ap length can.layouts) ∙ length-map (layouts_of p.session) _

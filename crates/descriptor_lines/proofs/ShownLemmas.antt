@@ -9,16 +9,15 @@ use Rattle.gpu_descriptor.specs.Caller.Values.{Kept, Row}
 use Rattle.gpu_descriptor.specs.Caller.Views.{first_at, pools_at, view_at}
 use Rattle.gpu_descriptor.specs.Model.Books.{Key}
 use Rattle.gpu_descriptor.specs.declared.view.PoolView.{PoolView}
-use Rattle.descriptor_script.specs.Scripted.Device.{ledger_of}
 use Rattle.descriptor_script.specs.Sessions.Session.{allocator_of, sets_of}
 use Rattle.descriptor_script.specs.Sessions.Tickets.{held_sets}
 use Rattle.descriptor_script.specs.declared.raw.RawPool.{RawPool}
 use Rattle.descriptor_lines.specs.Answers.{held_answer, pool_answer}
 use Rattle.descriptor_lines.specs.FirstLayouts.{first_layouts, key_of, listed}
+use Rattle.descriptor_lines.specs.LineStates.{LineState}
 use Rattle.descriptor_lines.specs.Shown.{calls_answer, pools_answer, show_answer, view_of, views_of}
 use Rattle.descriptor_lines.specs.declared.layouts.Entry.{Entry}
 use Rattle.descriptor_lines.specs.declared.layouts.Layout.{Layout}
-use Rattle.descriptor_lines.specs.declared.program.Program.{Program}
 
 slice_get-enumerate_from : {X : Type 0} (n : ℕ) (xs : List X) (i : ℕ) → slice_get (enumerate_from n xs) i ≡ option_map (λ x. (n + i, x)) (slice_get xs i)
 slice_get-enumerate_from n [] i = refl
@@ -88,10 +87,10 @@ joined : (old pools calls held : List ℕ) → ((old ++ pools) ++ calls) ++ held
 joined old pools calls held = simp append_assoc
 
 -- behind the pools of those that are told to be first the calls and the sets make the text of `show`
-pub said_whole : (p : Program) (old text : List ℕ) → text ≡ old ++ said_of_told (allocator_of p.session).table p.layouts.by_name.entries → (text ++ calls_answer (ledger_of p.device).counters) ++ held_answer (length (held_sets (sets_of p.session))) (marked_load_of (allocator_of p.session)) ≡ old ++ show_answer p
+pub said_whole : (p : LineState) (old text : List ℕ) → text ≡ old ++ said_of_told (allocator_of p.session).table p.layouts.by_name.entries → (text ++ calls_answer p.ledger.counters) ++ held_answer (length (held_sets (sets_of p.session))) (marked_load_of (allocator_of p.session)) ≡ old ++ show_answer p
 unfolding said_of_told show_answer
 said_whole p old text pools =
-    let calls = calls_answer (ledger_of p.device).counters in
+    let calls = calls_answer p.ledger.counters in
     let held = held_answer (length (held_sets (sets_of p.session))) (marked_load_of (allocator_of p.session)) in
     let firsts = pools ∙ ap (λ layouts. old ++ flat_map (pools_answer (allocator_of p.session).table) layouts) p.layouts.told in
     ap (λ said. (said ++ calls) ++ held) firsts ∙ joined old (flat_map (pools_answer (allocator_of p.session).table) (first_layouts (map listed p.layouts.by_name.entries))) calls held

@@ -6,9 +6,9 @@ use Rattle.std.proofs.lemmas.Bool.{cases_lt}
 use Rattle.std.proofs.lemmas.List.Splits.{length-slice_split, slice_split_first, slice_split_none}
 use Rattle.std.proofs.lemmas.List.Sums.{fails_before_first, prefix_len-le-length}
 use Rattle.descriptor_words.specs.Words.{is_byte}
+use Rattle.descriptor_lines.specs.LineStates.{LineState}
 use Rattle.descriptor_lines.specs.Lines.{HasEnd, LosesLine, after_end, before_end, lines_of, without_empty_last}
 use Rattle.descriptor_lines.specs.Transcripts.{IsAnswered, Reaches}
-use Rattle.descriptor_lines.specs.declared.program.Program.{Program}
 use Rattle.descriptor_lines.proofs.LineLemmas.{after_end-whole, before_end-whole}
 
 -- ---- the lines of bytes
@@ -55,12 +55,12 @@ lines_split bytes some = lines_split_by bytes some (cases_lt _ _)
 
 -- ---- one line more
 
-pub here : (number : ℕ) (lines : List (List ℕ)) (p : Program) → Reaches number lines p [] number lines p
+pub here : (number : ℕ) (lines : List (List ℕ)) (p : LineState) → Reaches number lines p [] number lines p
 here number [] p = record { nothing = refl; number = refl; all = refl; program = refl }
 here number (line ∷ lines) p = inl (record { nothing = refl; number = refl; all = refl; program = refl })
 
 -- where a run has come to, it goes on with the next line
-pub goes_on : (number : ℕ) (lines : List (List ℕ)) (old : Program) (text : List ℕ) (next : ℕ) (line : List ℕ) (left : List (List ℕ)) (new : Program) (answer : List ℕ) (after : Program) → Reaches number lines old text next (line ∷ left) new → IsAnswered line answer new after → Reaches number lines old (text ++ answer) (next + 1) left after
+pub goes_on : (number : ℕ) (lines : List (List ℕ)) (old : LineState) (text : List ℕ) (next : ℕ) (line : List ℕ) (left : List (List ℕ)) (new : LineState) (answer : List ℕ) (after : LineState) → Reaches number lines old text next (line ∷ left) new → IsAnswered line answer new after → Reaches number lines old (text ++ answer) (next + 1) left after
 goes_on number [] old text next line left new answer after at answered = let lines_is : line ∷ left ≡ [] = at.all in absurd (cc)
 goes_on number (first ∷ lines) old text next line left new answer after (inl at) answered =
     let lines_is : line ∷ left ≡ first ∷ lines = at.all in
@@ -74,12 +74,12 @@ goes_on number (first ∷ lines) old text next line left new answer after (inr (
 -- ---- known bytes
 
 -- how far a run over known bytes has come, where these are left
-abbrev pub Stands : Option (List ℕ) → Program → List ℕ → ℕ → Option (List ℕ) → Program → Type 0
+abbrev pub Stands : Option (List ℕ) → LineState → List ℕ → ℕ → Option (List ℕ) → LineState → Type 0
 Stands None old text next left new = ⊤
 Stands (Some bytes) old text next None new = ⊥
 Stands (Some bytes) old text next (Some left) new = Reaches 1 (lines_of bytes) old text next (lines_of left) new
 
-pub stands_first : (known : Option (List ℕ)) (p : Program) → Stands known p [] 1 known p
+pub stands_first : (known : Option (List ℕ)) (p : LineState) → Stands known p [] 1 known p
 stands_first None p = tt
 stands_first (Some bytes) p = here 1 (lines_of bytes) p
 
@@ -87,7 +87,7 @@ stands_first (Some bytes) p = here 1 (lines_of bytes) p
 abbrev pub IsFirstOf : List ℕ → Option (List ℕ) → Type 0
 IsFirstOf line known = IfSome known (λ bytes. line ≡ before_end bytes)
 
-pub stands_next : (known left rest : Option (List ℕ)) (old p new : Program) (text answer line : List ℕ) (next : ℕ) → Stands known old text next left p → IsFirstOf line left → LosesLine left rest → IsAnswered line answer p new → Stands known old (text ++ answer) (next + 1) rest new
+pub stands_next : (known left rest : Option (List ℕ)) (old p new : LineState) (text answer line : List ℕ) (next : ℕ) → Stands known old text next left p → IsFirstOf line left → LosesLine left rest → IsAnswered line answer p new → Stands known old (text ++ answer) (next + 1) rest new
 stands_next None left rest old p new text answer line next at first loses answered = tt
 stands_next (Some bytes) None rest old p new text answer line next at first loses answered = absurd at
 stands_next (Some bytes) (Some left) None old p new text answer line next at first loses answered = absurd loses

@@ -5,6 +5,8 @@ pub mod Exit
 pub mod FirstLayouts
 pub mod LayoutTable
 pub mod LineBuffers
+pub mod LineDevices
+pub mod LineStates
 pub mod Lines
 pub mod Outcomes
 pub mod Programs

@@ -1,7 +1,8 @@
--- What the lines so far made.
+-- What a line does to what the lines before it made.
 use Rattle.std.specs.Prelude.{◌≡◌, ◌⊎◌, ◌++◌, ◌∷◌, [], ℕ, List, length, map, sum, true, IsTrue, IsFalse}
+use Rattle.gpu_descriptor_types.specs.Bounds.{greatest_u32}
 use Rattle.gpu_descriptor_types.specs.Counts.{kinds}
-use Rattle.descriptor_script.specs.Scripted.Device.{empty_ledger, ledger_of, script_of}
+use Rattle.descriptor_script.specs.Scripted.Device.{empty_ledger}
 use Rattle.descriptor_script.specs.Scripted.Raw.{pool_id, set_id}
 use Rattle.descriptor_script.specs.Sessions.Ready.{IsScriptReady}
 use Rattle.descriptor_script.specs.Sessions.Session.{KeepsSession, allocator_of, layouts_of, sets_of}
@@ -15,6 +16,7 @@ use Rattle.descriptor_lines.specs.Answers.{AnswersSize, layout_answer, limit_ans
 use Rattle.descriptor_lines.specs.Arguments.{IsCommandOf, IsRefusalOf}
 use Rattle.descriptor_lines.specs.Commands.{IsInTime}
 use Rattle.descriptor_lines.specs.LayoutTable.{SameLayouts, layout_count, layouts_in}
+use Rattle.descriptor_lines.specs.LineStates.{LineState}
 use Rattle.descriptor_lines.specs.ReplyTexts.{text_of_reply}
 use Rattle.descriptor_lines.specs.Shown.{show_answer}
 use Rattle.descriptor_words.specs.Words.{is_silent}
@@ -24,50 +26,49 @@ use Rattle.descriptor_words.specs.declared.fault.Refusal.TheVariants as refusal
 use Rattle.descriptor_lines.specs.declared.command.Command as line
 use Rattle.descriptor_lines.specs.declared.command.Command.TheVariants as step
 use Rattle.descriptor_lines.specs.declared.layouts.Layout.{Layout}
-use Rattle.descriptor_lines.specs.declared.program.Program.{Program}
 
 -- the layout that the device sees
 abbrev pub scripted : Layout → ScriptLayout
 scripted layout = record { counts = layout.counts; mark = layout.mark }
 
 -- the program can run a line
-pub record CanRun (p : Program) : Type 0 where
+pub record CanRun (p : LineState) : Type 0 where
   -- the session can make a step on the device
-  pub ready : IsScriptReady p.session (ledger_of p.device)
+  pub ready : IsScriptReady p.session p.ledger
   -- the session has the layouts of the lines, in their order
   pub layouts : map (λ k. k.layout) (layouts_of p.session) ≡ map (λ l. scripted l.1) (layouts_in p.layouts)
   -- before the first command there is no layout
   pub fresh : IsFalse p.has_begun → layout_count p.layouts ≡ 0
 
 -- no line was run yet
-pub record IsFresh (p : Program) : Type 0 where
+pub record IsFresh (p : LineState) : Type 0 where
   pub layouts : layouts_in p.layouts ≡ []
   pub begun : IsFalse p.has_begun
-  pub allocator : allocator_of p.session ≡ record { limit = 4294967295; table = []; looks = 0; comparisons = 0 }
+  pub allocator : allocator_of p.session ≡ record { limit = greatest_u32; table = []; looks = 0; comparisons = 0 }
   pub known : layouts_of p.session ≡ []
   pub sets : sets_of p.session ≡ []
-  pub script : script_of p.device ≡ []
-  pub ledger : ledger_of p.device ≡ empty_ledger
+  pub script : p.script ≡ []
+  pub ledger : p.ledger ≡ empty_ledger
 
 -- the device has the script and the ledger that it had
-pub record KeepsDevice (old new : Program) : Type 0 where
-  pub script : script_of new.device ≡ script_of old.device
-  pub ledger : ledger_of new.device ≡ ledger_of old.device
+pub record KeepsDevice (old new : LineState) : Type 0 where
+  pub script : new.script ≡ old.script
+  pub ledger : new.ledger ≡ old.ledger
 
 -- the session has the layouts, books and sets that it had
-pub record SameSession (old new : Program) : Type 0 where
+pub record SameSession (old new : LineState) : Type 0 where
   pub known : layouts_of new.session ≡ layouts_of old.session
   pub allocator : allocator_of new.session ≡ allocator_of old.session
   pub sets : sets_of new.session ≡ sets_of old.session
 
 -- layouts, books, sets and ledger are as before
-pub record IsUnchanged (old new : Program) : Type 0 where
+pub record IsUnchanged (old new : LineState) : Type 0 where
   pub layouts : SameLayouts old.layouts new.layouts
   pub session : SameSession old new
-  pub ledger : ledger_of new.device ≡ ledger_of old.device
+  pub ledger : new.ledger ≡ old.ledger
 
 -- the session is a new one with this limit
-pub record Begins (max : ℕ) (old new : Program) : Type 0 where
+pub record Begins (max : ℕ) (old new : LineState) : Type 0 where
   pub allocator : allocator_of new.session ≡ record { limit = max; table = []; looks = 0; comparisons = 0 }
   pub known : layouts_of new.session ≡ []
   pub sets : sets_of new.session ≡ []
@@ -75,30 +76,30 @@ pub record Begins (max : ℕ) (old new : Program) : Type 0 where
   pub device : KeepsDevice old new
 
 -- a layout of a new name came last
-pub record AddsLayout (name : List ℕ) (layout : Layout) (old new : Program) : Type 0 where
+pub record AddsLayout (name : List ℕ) (layout : Layout) (old new : LineState) : Type 0 where
   pub layouts : layouts_in new.layouts ≡ layouts_in old.layouts ++ (name, layout) ∷ []
   pub allocator : allocator_of new.session ≡ allocator_of old.session
   pub sets : sets_of new.session ≡ sets_of old.session
   pub device : KeepsDevice old new
 
 -- the device has a new script
-pub record Loads (script : List Answer) (old new : Program) : Type 0 where
-  pub script_is : script_of new.device ≡ script
-  pub ledger : ledger_of new.device ≡ ledger_of old.device
+pub record Loads (script : List Answer) (old new : LineState) : Type 0 where
+  pub script_is : new.script ≡ script
+  pub ledger : new.ledger ≡ old.ledger
   pub session : SameSession old new
   pub layouts : SameLayouts old.layouts new.layouts
 
 -- the session of the program did the command, and the text is the answer to its reply
-pub record Does (command : Command) (text : List ℕ) (old new : Program) : Type 0 where
+pub record Does (command : Command) (text : List ℕ) (old new : LineState) : Type 0 where
   pub reply : Reply
   pub said : text ≡ text_of_reply (sets_of new.session) reply
-  pub step : StepsTo pool_id set_id (λ l. kinds l.counts) (λ l. l.mark) command reply old.session new.session (ledger_of old.device) (ledger_of new.device)
+  pub step : StepsTo pool_id set_id (λ l. kinds l.counts) (λ l. l.mark) command reply old.session new.session old.ledger new.ledger
   -- limit and layouts stay, and no key has two rows
-  pub keeps : KeepsSession pool_id set_id (λ l. kinds l.counts) (λ l. l.mark) old.session new.session (ledger_of old.device) (ledger_of new.device)
+  pub keeps : KeepsSession pool_id set_id (λ l. kinds l.counts) (λ l. l.mark) old.session new.session old.ledger new.ledger
   pub layouts : SameLayouts old.layouts new.layouts
 
 -- what the command of a line does, and its answer, where memory is there
-abbrev pub DoesCommand : line.Command → List ℕ → Program → Program → Type 0
+abbrev pub DoesCommand : line.Command → List ℕ → LineState → LineState → Type 0
 DoesCommand (step.Limit max) text old new = Begins max old new × (text ≡ limit_answer max)
 DoesCommand (step.Layout name layout) text old new =
     AddsLayout name.now layout old new × (text ≡ layout_answer name.now (sum (kinds layout.counts)))
@@ -112,22 +113,22 @@ DoesCommand step.Cleanup text old new = Does Cleanup text old new
 DoesCommand step.Show text old new = (new ≡ old) × (text ≡ show_answer old)
 
 -- a line of these words gives this command, in its time
-abbrev pub IsCommandNow : Program → List (List ℕ) → line.Command → Type 0
+abbrev pub IsCommandNow : LineState → List (List ℕ) → line.Command → Type 0
 IsCommandNow p words command =
     IsCommandOf p.layouts words command × IsInTime p.has_begun command
 
 -- why a line is not run: a fault of its words; or there was no memory to read them, or to run the command that they give
-abbrev pub IsReasonFor : Program → List (List ℕ) → Refusal → Type 0
+abbrev pub IsReasonFor : LineState → List (List ℕ) → Refusal → Type 0
 IsReasonFor p words (refusal.Fault fault) = IsRefusalOf p.layouts p.has_begun words (faulty fault)
 IsReasonFor p words refusal.NoMemory =
     IsRefusalOf p.layouts p.has_begun words refusal.NoMemory ⊎ ((command : line.Command) × IsCommandNow p words command)
 
 -- a line gave a command, and from then on one had come
-abbrev pub begun : Program → Program
+abbrev pub begun : LineState → LineState
 begun p = record p { has_begun = true }
 
 -- what a line does, and its answer, where memory is there: nothing where it is silent, and else what its command does
-abbrev pub DoesLine : List (List ℕ) → List ℕ → Program → Program → Type 0
+abbrev pub DoesLine : List (List ℕ) → List ℕ → LineState → LineState → Type 0
 DoesLine words text old new =
     (IsTrue (is_silent words) × (text ≡ []) × (new ≡ old))
     ⊎ ((command : line.Command) × IsCommandOf old.layouts words command × IsInTime old.has_begun command × DoesCommand command text (begun old) new × IsTrue new.has_begun)

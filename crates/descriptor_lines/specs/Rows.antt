@@ -1,12 +1,12 @@
 -- Rows: what runs over given bytes write, where memory is there and reads and writes are good.
 use Rattle.std.specs.Prelude.{◌≡◌, ◌≢◌, ◌⊎◌, ℕ, List, [], ◌∷◌, ◌++◌, codes}
 use Rattle.std.specs.List.{flat_map}
+use Rattle.descriptor_lines.specs.LineStates.{LineState}
 use Rattle.descriptor_lines.specs.Lines.{lines_of}
 use Rattle.descriptor_lines.specs.Programs.{IsFresh}
 use Rattle.descriptor_lines.specs.Transcripts.{Wrote}
 use Rattle.descriptor_lines.specs.declared.exit.Exit.{Exit}
 use Rattle.descriptor_lines.specs.declared.exit.Exit.TheVariants.{Done, BadLine}
-use Rattle.descriptor_lines.specs.declared.program.Program.{Program}
 
 -- each line with its end
 abbrev pub in_lines : List (List ℕ) → List ℕ
@@ -23,4 +23,4 @@ HadMemory text = (before after : List ℕ) → text ≢ before ++ no_memory ++ a
 -- every run over these bytes from the start whose reads and writes were good, and which had memory, ended so and wrote this text
 abbrev pub IsRow : List ℕ → Exit → List ℕ → Type 0
 IsRow bytes exit said =
-    (start : Program) (end : Exit) (text : List ℕ) → IsFresh start → (end ≡ Done) ⊎ (end ≡ BadLine) → HadMemory text → Wrote (lines_of bytes) start end text → (end ≡ exit) × (text ≡ said)
+    (start : LineState) (end : Exit) (text : List ℕ) → IsFresh start → (end ≡ Done) ⊎ (end ≡ BadLine) → HadMemory text → Wrote (lines_of bytes) start end text → (end ≡ exit) × (text ≡ said)

@@ -7,15 +7,14 @@ use Rattle.gpu_descriptor.specs.Caller.Values.{Kept, Row}
 use Rattle.gpu_descriptor.specs.Caller.Views.{first_at, pools_at}
 use Rattle.gpu_descriptor.specs.Model.Books.{Key}
 use Rattle.gpu_descriptor.specs.declared.view.PoolView.{PoolView}
-use Rattle.descriptor_script.specs.Scripted.Device.{ledger_of}
 use Rattle.descriptor_script.specs.Sessions.Session.{allocator_of, sets_of}
 use Rattle.descriptor_script.specs.Sessions.Tickets.{held_sets}
 use Rattle.descriptor_script.specs.declared.raw.RawPool.{RawPool}
 use Rattle.descriptor_lines.specs.Answers.{device_answer, held_answer, pool_answer}
 use Rattle.descriptor_lines.specs.FirstLayouts.{first_layouts, key_of}
 use Rattle.descriptor_lines.specs.LayoutTable.{layouts_in}
+use Rattle.descriptor_lines.specs.LineStates.{LineState}
 use Rattle.descriptor_lines.specs.declared.layouts.Layout.{Layout}
-use Rattle.descriptor_lines.specs.declared.program.Program.{Program}
 
 -- a pool with its number, as readers see it
 abbrev pub view_of : ℕ × Kept RawPool → PoolView
@@ -38,7 +37,7 @@ abbrev pub calls_answer : Counters → List ℕ
 calls_answer n = device_answer (shown n.created) (shown n.destroyed) (shown n.asked) (shown n.released)
 
 -- what `show` says: the pools of each layout that is the first with its counts and mark, the calls that the device had, and the sets that are out
-unfoldable pub show_answer : Program → List ℕ
+unfoldable pub show_answer : LineState → List ℕ
 show_answer p =
     let allocator = allocator_of p.session in
-    flat_map (pools_answer allocator.table) (first_layouts (layouts_in p.layouts)) ++ calls_answer (ledger_of p.device).counters ++ held_answer (length (held_sets (sets_of p.session))) (marked_load_of allocator)
+    flat_map (pools_answer allocator.table) (first_layouts (layouts_in p.layouts)) ++ calls_answer p.ledger.counters ++ held_answer (length (held_sets (sets_of p.session))) (marked_load_of allocator)

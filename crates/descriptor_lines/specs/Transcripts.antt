@@ -9,18 +9,18 @@ use Rattle.descriptor_words.specs.declared.fault.Fault.TheVariants.{LineTooLong}
 use Rattle.descriptor_words.specs.declared.fault.Refusal.TheVariants as refusal
 use Rattle.descriptor_lines.specs.Answers.{fault_line}
 use Rattle.descriptor_lines.specs.Arguments.{IsRefusalOf}
-use Rattle.descriptor_lines.specs.Lines.{lines_of}
+use Rattle.descriptor_lines.specs.LineStates.{LineState}
+use Rattle.descriptor_lines.specs.Lines.{lines_of, longest_line}
 use Rattle.descriptor_lines.specs.Programs.{CanRun, DoesLine, IsFresh, IsReasonFor, IsUnchanged}
 use Rattle.descriptor_lines.specs.declared.exit.Exit.{Exit}
 use Rattle.descriptor_lines.specs.declared.exit.Exit.TheVariants.{Done, BadLine, ReadFault, WriteFault, NoMemory}
-use Rattle.descriptor_lines.specs.declared.program.Program.{Program}
 
 -- the words of a line, less the carriage return that it may end in
 abbrev pub words_in : List ℕ → List (List ℕ)
 words_in line = words (strip_last 13 line)
 
 -- there was no memory to run a line of these words
-pub record LacksMemory (words : List (List ℕ)) (text : List ℕ) (old new : Program) : Type 0 where
+pub record LacksMemory (words : List (List ℕ)) (text : List ℕ) (old new : LineState) : Type 0 where
   pub heard : IsFalse (is_silent words)
   pub reason : IsReasonFor old words refusal.NoMemory
   pub said : text ≡ codes "refused: no memory" ++ 10 ∷ []
@@ -28,46 +28,50 @@ pub record LacksMemory (words : List (List ℕ)) (text : List ℕ) (old new : Pr
   pub begun : IsTrue new.has_begun
 
 -- a line is answered by a text: it does what its words say, or there was no memory to run it
-pub record IsAnswered (line text : List ℕ) (old new : Program) : Type 0 where
-  pub short : length line ≤ 4096
+pub record IsAnswered (line text : List ℕ) (old new : LineState) : Type 0 where
+  pub short : length line ≤ longest_line
   pub answer : DoesLine (words_in line) text old new ⊎ LacksMemory (words_in line) text old new
   -- the session has the layouts of the lines, and its books agree with the device
   pub ready : CanRun new
 
 -- what is wrong with a line: its length, or else its words
-abbrev pub IsFaultOfLine : Program → List ℕ → Fault → Type 0
+abbrev pub IsFaultOfLine : LineState → List ℕ → Fault → Type 0
 IsFaultOfLine p line fault =
-    ((4096 < length line) × (fault ≡ LineTooLong))
-    ⊎ ((length line ≤ 4096) × IsRefusalOf p.layouts p.has_begun (words_in line) (faulty fault))
+    ((longest_line < length line) × (fault ≡ LineTooLong))
+    ⊎ ((length line ≤ longest_line) × IsRefusalOf p.layouts p.has_begun (words_in line) (faulty fault))
 
 -- a faulty line is answered by the line of its fault, with its number
-pub record IsRefused (number : ℕ) (line text : List ℕ) (p : Program) : Type 0 where
+pub record IsRefused (number : ℕ) (line text : List ℕ) (p : LineState) : Type 0 where
   pub fault : Fault
   pub wrong : IsFaultOfLine p line fault
   pub said : text ≡ fault_line number fault
 
+-- what there is to say of a line: its answer, or its fault
+abbrev pub IsSaid : ℕ → List ℕ → List ℕ → LineState → Type 0
+IsSaid number line text old = ((new : LineState) × IsAnswered line text old new) ⊎ IsRefused number line text old
+
 -- no line was answered yet
-pub record IsHere (first : ℕ) (lines : List (List ℕ)) (old : Program) (text : List ℕ) (next : ℕ) (left : List (List ℕ)) (new : Program) : Type 0 where
+pub record IsHere (first : ℕ) (lines : List (List ℕ)) (old : LineState) (text : List ℕ) (next : ℕ) (left : List (List ℕ)) (new : LineState) : Type 0 where
   pub nothing : text ≡ []
   pub number : next ≡ first
   pub all : left ≡ lines
   pub program : new ≡ old
 
 -- of lines that are numbered from the first number on, those before the ones that are left were answered in order, each by its text
-abbrev pub Reaches : ℕ → List (List ℕ) → Program → List ℕ → ℕ → List (List ℕ) → Program → Type 0
+abbrev pub Reaches : ℕ → List (List ℕ) → LineState → List ℕ → ℕ → List (List ℕ) → LineState → Type 0
 Reaches number [] old text next left new = IsHere number [] old text next left new
 Reaches number (line ∷ lines) old text next left new =
     IsHere number (line ∷ lines) old text next left new
-    ⊎ ((answer : List ℕ) × (answers : List ℕ) × (p : Program) × IsAnswered line answer old p × (text ≡ answer ++ answers) × Reaches (number + 1) lines p answers next left new)
+    ⊎ ((answer : List ℕ) × (answers : List ℕ) × (p : LineState) × IsAnswered line answer old p × (text ≡ answer ++ answers) × Reaches (number + 1) lines p answers next left new)
 
 -- where a run of lines from 1 on has come to: the lines before the next were answered by this text
-pub record Reached (lines : List (List ℕ)) (start : Program) (text : List ℕ) (left : List (List ℕ)) : Type 0 where
+pub record Reached (lines : List (List ℕ)) (start : LineState) (text : List ℕ) (left : List (List ℕ)) : Type 0 where
   pub number : ℕ
-  pub program : Program
+  pub program : LineState
   pub reaches : Reaches 1 lines start text number left program
 
 -- the lines before a faulty one were answered, and then its fault was said
-pub record StopsAtFault (lines : List (List ℕ)) (start : Program) (text : List ℕ) : Type 0 where
+pub record StopsAtFault (lines : List (List ℕ)) (start : LineState) (text : List ℕ) : Type 0 where
   pub line : List ℕ
   pub left : List (List ℕ)
   pub answers : List ℕ
@@ -77,20 +81,18 @@ pub record StopsAtFault (lines : List (List ℕ)) (start : Program) (text : List
   pub said : text ≡ answers ++ last
 
 -- the lines before one were answered, and then a front of what there is to say of that
-pub record BreaksOff (lines : List (List ℕ)) (start : Program) (text : List ℕ) : Type 0 where
+pub record BreaksOff (lines : List (List ℕ)) (start : LineState) (text : List ℕ) : Type 0 where
   pub line : List ℕ
   pub left : List (List ℕ)
   pub answers : List ℕ
   pub reached : Reached lines start answers (line ∷ left)
   pub front : List ℕ
   pub lost : List ℕ
-  pub last :
-      ((p : Program) × IsAnswered line (front ++ lost) reached.program p)
-      ⊎ IsRefused reached.number line (front ++ lost) reached.program
+  pub last : IsSaid reached.number line (front ++ lost) reached.program
   pub said : text ≡ answers ++ front
 
 -- what a run of these lines wrote, by how it ended
-abbrev pub Wrote : List (List ℕ) → Program → Exit → List ℕ → Type 0
+abbrev pub Wrote : List (List ℕ) → LineState → Exit → List ℕ → Type 0
 Wrote lines start Done text = Reached lines start text []
 Wrote lines start BadLine text = StopsAtFault lines start text
 Wrote lines start ReadFault text = (left : List (List ℕ)) × Reached lines start text left
@@ -98,7 +100,7 @@ Wrote lines start WriteFault text = BreaksOff lines start text
 Wrote lines start NoMemory text = text ≡ []
 
 -- known bytes grow by what a run of the lines of known bytes wrote
-abbrev pub Writes : Option (List ℕ) → Program → Exit → Option (List ℕ) → Option (List ℕ) → Type 0
+abbrev pub Writes : Option (List ℕ) → LineState → Exit → Option (List ℕ) → Option (List ℕ) → Type 0
 Writes None start exit old new = ⊤
 Writes (Some bytes) start exit old new =
     (text : List ℕ) × Wrote (lines_of bytes) start exit text × Appends old new text
@@ -107,4 +109,4 @@ Writes (Some bytes) start exit old new =
 abbrev pub WritesFromStart : Option (List ℕ) → Exit → Option (List ℕ) → Option (List ℕ) → Type 0
 WritesFromStart known NoMemory old new = Keeps old new
 WritesFromStart known exit old new =
-    (start : Program) × IsFresh start × Writes known start exit old new
+    (start : LineState) × IsFresh start × Writes known start exit old new

@@ -7,11 +7,11 @@ ghost use Rattle.descriptor_lines.specs.Exit.{code_of};
 pub enum Exit {
     /// The input was at its end, and each line had its answer.
     Done,
-    /// A line was faulty, and the last line of the output says which and how.
+    /// A line was faulty; the last line of its output says which and how.
     BadLine,
     /// A read failed, or the run made as many read calls as it may.
     ReadFault,
-    /// A write failed, or took nothing.
+    /// A write failed or took nothing, or the device lost something that it was to write down.
     WriteFault,
     /// There was no memory for the buffers that are made at the start.
     NoMemory,

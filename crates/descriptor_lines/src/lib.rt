@@ -4,11 +4,14 @@
 
 mod answer;
 mod command;
+mod device;
 mod exit;
 mod input;
 pub mod laws;
 mod layouts;
 mod program;
 
+pub use answer::kinds_answer;
+pub use device::{LineDevice, ScriptedMeaning};
 pub use exit::Exit;
-pub use program::run_lines;
+pub use program::{run_lines, run_lines_on};

@@ -2,9 +2,11 @@
 ghost use Rattle.std.specs.Prelude.{◌≡◌, ◌≢◌, ◌||◌, [], not, IsTrue, IsFalse, IfErr, OnOk, OnErr};
 ghost use Rattle.std.specs.Prelude.{string_bytes};
 ghost use Rattle.std.specs.Io.KnownBytes.{IsAtEnd, Keeps};
+ghost use Rattle.descriptor_script.specs.Scripted.Device.{empty_ledger};
 ghost use Rattle.descriptor_words.specs.Fault.{IfFault};
 ghost use Rattle.descriptor_lines.specs.Outcomes.{EndsInFault};
 ghost use Rattle.descriptor_lines.specs.LineBuffers.{unread};
+ghost use Rattle.descriptor_lines.specs.LineStates.{line_state};
 ghost use Rattle.descriptor_lines.specs.Programs.{CanRun, DoesLine, IsFresh, IsReasonFor};
 ghost use Rattle.descriptor_lines.specs.Programs.{IsUnchanged, begun};
 ghost use Rattle.descriptor_lines.specs.Transcripts.{Writes, WritesFromStart};
@@ -15,6 +17,7 @@ mod run;
 mod show;
 
 use crate::command::Command;
+use crate::device::LineDevice;
 use crate::exit::Exit;
 use crate::input::{InputFault, LineBuffer, MAX_READS};
 use crate::layouts::Layouts;
@@ -32,45 +35,52 @@ pub type LineSession = Session<ScriptLayout, RawPool, RawSet>;
 
 /// What the lines so far made.
 #[derive(Drop)]
-pub struct Program {
+pub struct Program<D> {
     alloc: Global,
     layouts: Layouts,
     session: LineSession,
-    device: ScriptedDevice,
+    device: D,
 
     /// Whether a line had a command. From then on a limit comes too late.
     has_begun: bool,
 }
 
-impl Program {
+impl<D: LineDevice> Program<D> {
     /// A program without layouts and sets, whose limit is the greatest.
-    fn new(alloc: Global) -> Self
-        ensures ready { CanRun result }
-        ensures fresh { IsFresh result }
+    fn new(alloc: Global, device: D) -> Self
+        requires ledger { D.ledger device ≡ empty_ledger }
+        requires script { D.script device ≡ [] }
+        ensures ready { CanRun (line_state D.ledger D.script result) }
+        ensures fresh { IsFresh (line_state D.ledger D.script result) }
     {
         Program {
             alloc,
             layouts: Layouts::new(alloc),
             session: Session::new(alloc, u32::MAX),
-            device: ScriptedDevice::new(alloc, Vec::new(alloc)),
+            device,
             has_begun: false,
         }
     }
 
     /// Runs a line, and puts its answer behind the text. Where there is none, nothing changes.
     fn run_line(&mut self, line: &[u8], answer: &mut String) -> Result<(), Refusal>
-        requires ready { CanRun self.old }
+        requires ready { CanRun (line_state D.ledger D.script self.old) }
         requires empty { string_bytes answer.old ≡ [] }
-        ensures ready { CanRun self.new }
-        ensures does { OnOk result (DoesLine (words line.now) (string_bytes answer.new) self.old
-            self.new) }
-        ensures err { OnErr result (IsUnchanged self.old self.new) }
+        ensures ready { CanRun (line_state D.ledger D.script self.new) }
+        ensures does { OnOk result (DoesLine (words line.now) (string_bytes answer.new)
+            (line_state D.ledger D.script self.old) (line_state D.ledger D.script self.new)) }
+        ensures err { OnErr result (IsUnchanged (line_state D.ledger D.script self.old)
+            (line_state D.ledger D.script self.new)) }
         ensures begun { self.new.has_begun ≡ (self.old.has_begun || not
             (is_silent (words line.now))) }
-        ensures faulty { IfErr result (λ reason. IfFault reason (λ _. self.new ≡ begun self.old)) }
-        ensures own { IfErr result (IsReasonFor self.old (words line.now)) }
+        ensures faulty { IfErr result (λ reason. IfFault reason (λ _.
+            line_state D.ledger D.script self.new
+            ≡ begun (line_state D.ledger D.script self.old))) }
+        ensures own { IfErr result (IsReasonFor (line_state D.ledger D.script self.old)
+            (words line.now)) }
         ensures heard { OnErr result (IsFalse (is_silent (words line.now))) }
     {
+        self.device.hear(line);
         match Command::parse(self.alloc, line, &self.layouts, self.has_begun) {
             Ok(None) => Ok(()),
             Ok(Some(command)) => {
@@ -87,19 +97,20 @@ impl Program {
 }
 
 /// Runs the lines that are to come, and says how that ends.
-fn run_to_end<R: Read, W: Write>(
-    program: &mut Program,
+fn run_to_end<D: LineDevice, R: Read, W: Write>(
+    program: &mut Program<D>,
     lines: &mut LineBuffer,
     answer: &mut String,
     input: &mut R,
     output: &mut W,
 ) -> Exit
-    requires ready { CanRun program.old }
+    requires ready { CanRun (line_state D.ledger D.script program.old) }
     requires empty { string_bytes answer.old ≡ [] }
     requires open { IsFalse lines.old.is_at_end }
     requires reads { lines.old.reads_left ≡ 100000000 }
-    ensures writes { Writes (unread lines.old (R.remaining input.old)) program.old result
-        (W.contents output.old) (W.contents output.new) }
+    ensures writes { Writes (unread lines.old (R.remaining input.old))
+        (line_state D.ledger D.script program.old) result (W.contents output.old)
+        (W.contents output.new) }
     ensures done { result ≡ Exit.Done → IsAtEnd (R.remaining input.new) }
     ensures bad_line { result ≡ Exit.BadLine → EndsInFault (W.contents output.old)
         (W.contents output.new) }
@@ -112,6 +123,9 @@ fn run_to_end<R: Read, W: Write>(
             Err(InputFault::LineTooLong) => Err(Refusal::Fault(Fault::LineTooLong)),
             Err(InputFault::Read) => return Exit::ReadFault,
         };
+        if program.device.has_lost() {
+            return Exit::WriteFault;
+        }
         if let Err(exit) = answer_line(output, answer, number, outcome) {
             return exit;
         }
@@ -131,12 +145,34 @@ pub fn run_lines<R: Read, W: Write>(alloc: Global, input: &mut R, output: &mut W
     ensures no_memory { result ≡ Exit.NoMemory → Keeps (W.contents output.old)
         (W.contents output.new) }
 {
+    let device = ScriptedDevice::new(alloc, Vec::new(alloc));
+    run_lines_on(alloc, device, input, output)
+}
+
+/// The same on any device that has nothing live yet and no script. It ends with
+/// [`Exit::WriteFault`] where the device lost something that it was to write down.
+pub fn run_lines_on<D: LineDevice + Drop, R: Read, W: Write>(
+    alloc: Global,
+    device: D,
+    input: &mut R,
+    output: &mut W,
+) -> Exit
+    requires ledger { D.ledger device ≡ empty_ledger }
+    requires script { D.script device ≡ [] }
+    ensures writes { WritesFromStart (R.remaining input.old) result (W.contents output.old)
+        (W.contents output.new) }
+    ensures done { result ≡ Exit.Done → IsAtEnd (R.remaining input.new) }
+    ensures bad_line { result ≡ Exit.BadLine → EndsInFault (W.contents output.old)
+        (W.contents output.new) }
+    ensures no_memory { result ≡ Exit.NoMemory → Keeps (W.contents output.old)
+        (W.contents output.new) }
+{
     let Ok(mut lines) = LineBuffer::new(alloc, MAX_READS) else {
         return Exit::NoMemory;
     };
     let Ok(mut answer) = String::with_capacity(alloc, ANSWER_LEN) else {
         return Exit::NoMemory;
     };
-    let mut program = Program::new(alloc);
+    let mut program = Program::new(alloc, device);
     run_to_end(&mut program, &mut lines, &mut answer, input, output)
 }

@@ -1,4 +1,4 @@
--- What only the code's own contracts say. No public clause needs it.
+-- What the code's own contracts say, and what the public definitions are made of.
 pub mod Counters
 pub mod Finite
 pub mod Live

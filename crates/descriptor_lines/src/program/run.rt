@@ -8,12 +8,14 @@ ghost use Rattle.descriptor_lines.specs.Answers.{limit_answer as limit_answer_of
 ghost use Rattle.descriptor_lines.specs.Answers.{script_answer as script_answer_of};
 ghost use Rattle.descriptor_lines.specs.Commands.{IsKnown, IsRunnable};
 ghost use Rattle.descriptor_lines.specs.LayoutTable.{layout_count, layout_named};
+ghost use Rattle.descriptor_lines.specs.LineStates.{line_state};
 ghost use Rattle.descriptor_lines.specs.Programs.{AddsLayout, Begins, CanRun, Does, DoesCommand};
 ghost use Rattle.descriptor_lines.specs.Programs.{IsUnchanged, KeepsDevice, Loads};
 
 use super::Program;
 use crate::answer;
 use crate::command::Command;
+use crate::device::LineDevice;
 use crate::layouts::Layout;
 use bitflags::Flags;
 use descriptor_script::{Answer, Command as SessionCommand, Reply, ScriptLayout, Session};
@@ -21,21 +23,22 @@ use gpu_descriptor::DescriptorSetLayoutCreateFlags;
 use gpu_descriptor_types::{DescriptorTotalCount, new_pool_size};
 use std::alloc::AllocError;
 
-impl Program {
+impl<D: LineDevice> Program<D> {
     /// Runs a command, and puts its answer into the empty text. An error changes nothing.
     pub(super) fn run(
         &mut self,
         command: Command<'_>,
         answer: &mut String,
     ) -> Result<(), AllocError>
-        requires ready { CanRun self.old }
+        requires ready { CanRun (line_state D.ledger D.script self.old) }
         requires begun { IsTrue self.old.has_begun }
         requires runnable { IsRunnable self.old.layouts command }
         requires empty { string_bytes answer.old ≡ [] }
-        ensures ready { CanRun self.new }
-        ensures does { OnOk result (DoesCommand command.entry (string_bytes answer.new) self.old
-            self.new) }
-        ensures err { OnErr result (IsUnchanged self.old self.new) }
+        ensures ready { CanRun (line_state D.ledger D.script self.new) }
+        ensures does { OnOk result (DoesCommand command.entry (string_bytes answer.new)
+            (line_state D.ledger D.script self.old) (line_state D.ledger D.script self.new)) }
+        ensures err { OnErr result (IsUnchanged (line_state D.ledger D.script self.old)
+            (line_state D.ledger D.script self.new)) }
         ensures begun { IsTrue self.new.has_begun }
     {
         match command {
@@ -58,14 +61,17 @@ impl Program {
 
     /// Begins with this limit on marked descriptors.
     fn begin(&mut self, max: u32, answer: &mut String) -> Result<(), AllocError>
-        requires ready { CanRun self.old }
+        requires ready { CanRun (line_state D.ledger D.script self.old) }
         requires empty { layout_count self.old.layouts ≡ 0 }
-        ensures ready { CanRun self.new }
-        ensures begins { OnOk result (Begins max self.old self.new) }
+        ensures ready { CanRun (line_state D.ledger D.script self.new) }
+        ensures begins { OnOk result (Begins max (line_state D.ledger D.script self.old)
+            (line_state D.ledger D.script self.new)) }
         ensures answered { OnOk result (string_bytes answer.new ≡ string_bytes answer.old
             ++ limit_answer_of max) }
-        ensures device { OnErr result (KeepsDevice self.old self.new) }
-        ensures err { OnErr result (IsUnchanged self.old self.new) }
+        ensures device { OnErr result (KeepsDevice (line_state D.ledger D.script self.old)
+            (line_state D.ledger D.script self.new)) }
+        ensures err { OnErr result (IsUnchanged (line_state D.ledger D.script self.old)
+            (line_state D.ledger D.script self.new)) }
         ensures begun { self.new.has_begun ≡ self.old.has_begun }
     {
         answer::limit_answer(answer, max)?;
@@ -80,15 +86,18 @@ impl Program {
         layout: Layout,
         answer: &mut String,
     ) -> Result<(), AllocError>
-        requires ready { CanRun self.old }
+        requires ready { CanRun (line_state D.ledger D.script self.old) }
         requires begun { IsTrue self.old.has_begun }
         requires absent { layout_named self.old.layouts name.now ≡ None }
-        ensures ready { CanRun self.new }
-        ensures adds { OnOk result (AddsLayout name.now layout self.old self.new) }
-        ensures device { OnErr result (KeepsDevice self.old self.new) }
+        ensures ready { CanRun (line_state D.ledger D.script self.new) }
+        ensures adds { OnOk result (AddsLayout name.now layout
+            (line_state D.ledger D.script self.old) (line_state D.ledger D.script self.new)) }
+        ensures device { OnErr result (KeepsDevice (line_state D.ledger D.script self.old)
+            (line_state D.ledger D.script self.new)) }
         ensures answered { OnOk result (string_bytes answer.new ≡ string_bytes answer.old
             ++ layout_answer_of name.now (sum (kinds layout.counts))) }
-        ensures err { OnErr result (IsUnchanged self.old self.new) }
+        ensures err { OnErr result (IsUnchanged (line_state D.ledger D.script self.old)
+            (line_state D.ledger D.script self.new)) }
         ensures begun { self.new.has_begun ≡ self.old.has_begun }
     {
         answer::layout_answer(answer, name, &layout.counts)?;
@@ -107,13 +116,16 @@ impl Program {
 
     /// Gives the device a new script.
     fn load(&mut self, script: Vec<Answer>, answer: &mut String) -> Result<(), AllocError>
-        requires ready { CanRun self.old }
-        ensures ready { CanRun self.new }
-        ensures loads { OnOk result (Loads script.items self.old self.new) }
+        requires ready { CanRun (line_state D.ledger D.script self.old) }
+        ensures ready { CanRun (line_state D.ledger D.script self.new) }
+        ensures loads { OnOk result (Loads script.items (line_state D.ledger D.script self.old)
+            (line_state D.ledger D.script self.new)) }
         ensures answered { OnOk result (string_bytes answer.new ≡ string_bytes answer.old
             ++ script_answer_of (length script.items)) }
-        ensures device { OnErr result (KeepsDevice self.old self.new) }
-        ensures err { OnErr result (IsUnchanged self.old self.new) }
+        ensures device { OnErr result (KeepsDevice (line_state D.ledger D.script self.old)
+            (line_state D.ledger D.script self.new)) }
+        ensures err { OnErr result (IsUnchanged (line_state D.ledger D.script self.old)
+            (line_state D.ledger D.script self.new)) }
         ensures begun { self.new.has_begun ≡ self.old.has_begun }
     {
         answer::script_answer(answer, script.len())?;
@@ -123,12 +135,14 @@ impl Program {
 
     /// Runs a command of the session, and puts its answer into the empty text.
     fn ask(&mut self, command: SessionCommand, answer: &mut String) -> Result<(), AllocError>
-        requires ready { CanRun self.old }
+        requires ready { CanRun (line_state D.ledger D.script self.old) }
         requires known { IsKnown (layout_count self.old.layouts) command }
         requires empty { string_bytes answer.old ≡ [] }
-        ensures ready { CanRun self.new }
-        ensures does { OnOk result (Does command (string_bytes answer.new) self.old self.new) }
-        ensures err { OnErr result (IsUnchanged self.old self.new) }
+        ensures ready { CanRun (line_state D.ledger D.script self.new) }
+        ensures does { OnOk result (Does command (string_bytes answer.new)
+            (line_state D.ledger D.script self.old) (line_state D.ledger D.script self.new)) }
+        ensures err { OnErr result (IsUnchanged (line_state D.ledger D.script self.old)
+            (line_state D.ledger D.script self.new)) }
         ensures begun { self.new.has_begun ≡ self.old.has_begun }
     {
         // The answer has its room before the command is run.

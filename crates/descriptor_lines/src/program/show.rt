@@ -1,19 +1,21 @@
 //! The command that shows the pools and the counters.
 ghost use Rattle.std.specs.Prelude.{◌≡◌, ◌++◌, OnOk, string_bytes};
 ghost use Rattle.descriptor_script.specs.Sessions.Session.{allocator_of};
+ghost use Rattle.descriptor_lines.specs.LineStates.{line_state};
 ghost use Rattle.descriptor_lines.specs.Shown.{pools_answer, show_answer};
 
 use super::Program;
 use crate::answer;
+use crate::device::LineDevice;
 use crate::layouts::Layout;
 use std::alloc::AllocError;
 
-impl Program {
+impl<D: LineDevice> Program<D> {
     /// Puts the pools of each key behind the text, under the first layout that has it, and then the
     /// counters.
     pub(super) fn show(&self, answer: &mut String) -> Result<(), AllocError>
         ensures { OnOk result (string_bytes answer.new ≡ string_bytes answer.old
-            ++ show_answer self.now) }
+            ++ show_answer (line_state D.ledger D.script self.now)) }
     {
         for (name, entry) in self.layouts.iter() {
             if entry.is_first {

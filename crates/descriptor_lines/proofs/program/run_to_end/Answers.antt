@@ -2,6 +2,7 @@ use Rattle.std.proofs.Common.{◌≡◌, [], ◌⊎◌, inl, inr, Ok, Err, Resul
 use Rattle.std.specs.String.{string_bytes}
 use Rattle.std.specs.Io.KnownBytes.{Appends}
 use Rattle.descriptor_lines.specs.LineBuffers.{unread}
+use Rattle.descriptor_lines.specs.LineStates.{line_state}
 use Rattle.std.proofs.KnownBytes.{Appends-nil, Appends-trans}
 use Rattle.descriptor_lines.specs.Outcomes.{EndsInFault, IsNoFault, said_of}
 use Rattle.descriptor_lines.specs.declared.exit.Exit.{Exit}
@@ -32,14 +33,14 @@ pub loop-number-init : goal.loop-number-init
 loop-number-init g c = record {
   ready = c.requires.ready;
   empty = c.requires.empty;
-  answers = ([], Appends-nil _, stands_first _ c.args.program.now);
+  answers = ([], Appends-nil _, stands_first _ (line_state g.D.DescriptorDevice.ledger g.D.LineDevice.script c.args.program.now));
   sees = λ seen. absurd (let «open» = c.requires.open in cc);
 }
 
 pub loop-number-preserved : goal.loop-number-preserved
 loop-number-preserved g c =
     let (text, grown, stands) = c.loop-number.invariant.answers in
-    let takes : Takes c.loop-number.number (unread c.loop-number.lines (g.R.Read.remaining c.loop-number.input)) (unread c.next_line.new.self (g.R.Read.remaining c.next_line.new.input)) c.match-next_line.outcome (string_bytes c.match-next_line.answer) c.loop-number.program c.match-next_line.program = elim c.match-next_line.branch [
+    let takes : Takes c.loop-number.number (unread c.loop-number.lines (g.R.Read.remaining c.loop-number.input)) (unread c.next_line.new.self (g.R.Read.remaining c.next_line.new.input)) c.match-next_line.outcome (string_bytes c.match-next_line.answer) (line_state g.D.DescriptorDevice.ledger g.D.LineDevice.script c.loop-number.program) (line_state g.D.DescriptorDevice.ledger g.D.LineDevice.script c.match-next_line.program) = elim c.match-next_line.branch [
       | in-Ok-Some w ↦ let ran = w.run_line-outcome.ensures in let found = w.in-Ok-Some.ensures in rw (w.program-is, w.answer-is, w.outcome-is) (takes_span _ c.next_line.new.self w.in-Ok-Some.span _ _ _ _ _ _ _ (rw w.in-Ok-Some.field-0-is at found.line) (rw w.in-Ok-Some.field-0-is at found.rest) (rw w.in-Ok-Some.field-0-is at found.short) w.line.ensures.bytes ran.does ran.err ran.begun ran.heard ran.own ran.ready)
       | in-Err-LineTooLong w ↦ rw (w.program-is, w.answer-is) (takes_long _ _ _ _ _ _ _ w.outcome-is (c.next_line.ensures.too_long (w.in-Err-LineTooLong.is ∙ ap Err w.in-Err-LineTooLong.field-0-is)))
     ] in
@@ -56,11 +57,20 @@ loop-number-preserved g c =
 pub returns-in_default-clause-writes : goal.returns-in_default-clause-writes
 returns-in_default-clause-writes g c =
     let (text, grown, stands) = c.loop-number.invariant.answers in
-    let takes : Takes c.loop-number.number (unread c.loop-number.lines (g.R.Read.remaining c.loop-number.input)) (unread c.next_line.new.self (g.R.Read.remaining c.next_line.new.input)) c.match-next_line.outcome (string_bytes c.match-next_line.answer) c.loop-number.program c.match-next_line.program = elim c.match-next_line.branch [
+    let takes : Takes c.loop-number.number (unread c.loop-number.lines (g.R.Read.remaining c.loop-number.input)) (unread c.next_line.new.self (g.R.Read.remaining c.next_line.new.input)) c.match-next_line.outcome (string_bytes c.match-next_line.answer) (line_state g.D.DescriptorDevice.ledger g.D.LineDevice.script c.loop-number.program) (line_state g.D.DescriptorDevice.ledger g.D.LineDevice.script c.match-next_line.program) = elim c.match-next_line.branch [
       | in-Ok-Some w ↦ let ran = w.run_line-outcome.ensures in let found = w.in-Ok-Some.ensures in rw (w.program-is, w.answer-is, w.outcome-is) (takes_span _ c.next_line.new.self w.in-Ok-Some.span _ _ _ _ _ _ _ (rw w.in-Ok-Some.field-0-is at found.line) (rw w.in-Ok-Some.field-0-is at found.rest) (rw w.in-Ok-Some.field-0-is at found.short) w.line.ensures.bytes ran.does ran.err ran.begun ran.heard ran.own ran.ready)
       | in-Err-LineTooLong w ↦ rw (w.program-is, w.answer-is) (takes_long _ _ _ _ _ _ _ w.outcome-is (c.next_line.ensures.too_long (w.in-Err-LineTooLong.is ∙ ap Err w.in-Err-LineTooLong.field-0-is)))
     ] in
     ends_unread _ _ _ _ _ _ _ _ (stands_on _ _ _ _ _ _ _ _ _ _ stands takes c.in_default.ensures.ok) (Appends-trans _ _ _ _ _ grown c.in_default.ensures.answered)
+
+pub returns-then-has_lost-clause-writes : goal.returns-then-has_lost-clause-writes
+returns-then-has_lost-clause-writes g c =
+    let (text, grown, stands) = c.loop-number.invariant.answers in
+    let takes : Takes c.loop-number.number (unread c.loop-number.lines (g.R.Read.remaining c.loop-number.input)) (unread c.next_line.new.self (g.R.Read.remaining c.next_line.new.input)) c.match-next_line.outcome (string_bytes c.match-next_line.answer) (line_state g.D.DescriptorDevice.ledger g.D.LineDevice.script c.loop-number.program) (line_state g.D.DescriptorDevice.ledger g.D.LineDevice.script c.match-next_line.program) = elim c.match-next_line.branch [
+      | in-Ok-Some w ↦ let ran = w.run_line-outcome.ensures in let found = w.in-Ok-Some.ensures in rw (w.program-is, w.answer-is, w.outcome-is) (takes_span _ c.next_line.new.self w.in-Ok-Some.span _ _ _ _ _ _ _ (rw w.in-Ok-Some.field-0-is at found.line) (rw w.in-Ok-Some.field-0-is at found.rest) (rw w.in-Ok-Some.field-0-is at found.short) w.line.ensures.bytes ran.does ran.err ran.begun ran.heard ran.own ran.ready)
+      | in-Err-LineTooLong w ↦ rw (w.program-is, w.answer-is) (takes_long _ _ _ _ _ _ _ w.outcome-is (c.next_line.ensures.too_long (w.in-Err-LineTooLong.is ∙ ap Err w.in-Err-LineTooLong.field-0-is)))
+    ] in
+    ends_unwritten _ _ _ _ _ _ _ _ _ _ _ _ _ stands takes grown (record { front = []; lost = _; split = refl; grown = Appends-nil _ })
 
 pub returns-in-Ok-None-clause-done : goal.returns-in-Ok-None-clause-done
 returns-in-Ok-None-clause-done g c = λ _. (rw c.in-Ok-None.field-0-is at c.in-Ok-None.ensures.end) c.loop-number.invariant.sees
@@ -79,7 +89,7 @@ pub returns-in-Err-clause-writes : goal.returns-in-Err-clause-writes
 returns-in-Err-clause-writes g c =
     let (text, grown, stands) = c.loop-number.invariant.answers in
     let said = c.in-Err.ensures in
-    let takes : Takes c.loop-number.number (unread c.loop-number.lines (g.R.Read.remaining c.loop-number.input)) (unread c.next_line.new.self (g.R.Read.remaining c.next_line.new.input)) c.match-next_line.outcome (string_bytes c.match-next_line.answer) c.loop-number.program c.match-next_line.program = elim c.match-next_line.branch [
+    let takes : Takes c.loop-number.number (unread c.loop-number.lines (g.R.Read.remaining c.loop-number.input)) (unread c.next_line.new.self (g.R.Read.remaining c.next_line.new.input)) c.match-next_line.outcome (string_bytes c.match-next_line.answer) (line_state g.D.DescriptorDevice.ledger g.D.LineDevice.script c.loop-number.program) (line_state g.D.DescriptorDevice.ledger g.D.LineDevice.script c.match-next_line.program) = elim c.match-next_line.branch [
       | in-Ok-Some w ↦ let ran = w.run_line-outcome.ensures in let found = w.in-Ok-Some.ensures in rw (w.program-is, w.answer-is, w.outcome-is) (takes_span _ c.next_line.new.self w.in-Ok-Some.span _ _ _ _ _ _ _ (rw w.in-Ok-Some.field-0-is at found.line) (rw w.in-Ok-Some.field-0-is at found.rest) (rw w.in-Ok-Some.field-0-is at found.short) w.line.ensures.bytes ran.does ran.err ran.begun ran.heard ran.own ran.ready)
       | in-Err-LineTooLong w ↦ rw (w.program-is, w.answer-is) (takes_long _ _ _ _ _ _ _ w.outcome-is (c.next_line.ensures.too_long (w.in-Err-LineTooLong.is ∙ ap Err w.in-Err-LineTooLong.field-0-is)))
     ] in

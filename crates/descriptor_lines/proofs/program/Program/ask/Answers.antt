@@ -1,47 +1,74 @@
-use Rattle.std.proofs.Common.{◌≤◌, ◌++◌, length, refl, ap, ◌∙◌, arith}
-use Rattle.descriptor_script.specs.Scripted.Device.{ledger_of}
-use Rattle.descriptor_script.specs.Sessions.Session.{layouts_of, sets_of}
+use Rattle.std.proofs.Common.{◌≤◌, ◌++◌, ◌∷◌, [], length, refl, ap, ◌∙◌, arith}
+use Rattle.descriptor_script.specs.Sessions.Session.{IsReady, KeepsSession, layouts_of, sets_of}
+use Rattle.descriptor_script.specs.Sessions.SessionRun.{RunsTo}
 use Rattle.descriptor_lines.specs.Commands.{IsKnown}
+use Rattle.descriptor_lines.specs.LineStates.{line_state}
 use Rattle.descriptor_lines.specs.ReplyTexts.{sets_asked, sets_given, text_of_reply}
-use Rattle.descriptor_lines.proofs.SessionLemmas.{as_many, few_tickets, given_as_asked, has_answer, no_memory_changes_nothing, step_of_one, still_runs}
+use Rattle.descriptor_lines.proofs.SessionLemmas.{as_carried, as_many, as_meant, few_tickets, given_as_asked, has_answer, no_memory_changes_nothing, step_of_one, still_runs}
 use Rattle.descriptor_lines.proofs.program.Program.ask.Goals as goal
 
+pub run-requires : goal.run-requires
+run-requires g c =
+    let before = g.D.DescriptorDevice.ledger c.args.self.now.device in
+    record { ready = as_meant g.met.D.ScriptedMeaning.meanings (λ p s k m. IsReady p s k m c.args.self.now.session before) c.requires.ready.ready }
+
 pub returns-in_err-replies-clause-ready : goal.returns-in_err-replies-clause-ready
-returns-in_err-replies-clause-ready c =
-    still_runs c.args.self.now c.run.new.self c.run.new.device c.requires.ready c.run.ensures.keeps.ready c.run.ensures.keeps.layouts
+returns-in_err-replies-clause-ready g c =
+    let before = g.D.DescriptorDevice.ledger c.args.self.now.device in
+    let after = g.D.DescriptorDevice.ledger c.run.new.device in
+    let keeps = as_carried g.met.D.ScriptedMeaning.meanings (λ p s k m. KeepsSession p s k m c.args.self.now.session c.run.new.self before after) c.run.ensures.keeps in
+    still_runs (line_state g.D.DescriptorDevice.ledger g.D.LineDevice.script c.args.self.now) c.run.new.self (g.D.LineDevice.script c.run.new.device) after c.requires.ready keeps.ready keeps.layouts
 
 pub returns-in-NoMemory-clause-ready : goal.returns-in-NoMemory-clause-ready
-returns-in-NoMemory-clause-ready c =
-    still_runs c.args.self.now c.run.new.self c.run.new.device c.requires.ready c.run.ensures.keeps.ready c.run.ensures.keeps.layouts
+returns-in-NoMemory-clause-ready g c =
+    let before = g.D.DescriptorDevice.ledger c.args.self.now.device in
+    let after = g.D.DescriptorDevice.ledger c.run.new.device in
+    let keeps = as_carried g.met.D.ScriptedMeaning.meanings (λ p s k m. KeepsSession p s k m c.args.self.now.session c.run.new.self before after) c.run.ensures.keeps in
+    still_runs (line_state g.D.DescriptorDevice.ledger g.D.LineDevice.script c.args.self.now) c.run.new.self (g.D.LineDevice.script c.run.new.device) after c.requires.ready keeps.ready keeps.layouts
 
 pub returns-in-NoMemory-clause-err : goal.returns-in-NoMemory-clause-err
-returns-in-NoMemory-clause-err c =
-    let step = step_of_one c.args.command c.in_ok-replies.replies.items c.index.result.now c.args.self.now.session c.run.new.self (ledger_of c.args.self.now.device) (ledger_of c.run.new.device) c.in_ok-replies.ensures.runs c.index.ensures in
-    let same = no_memory_changes_nothing c.args.command c.args.self.now.session c.run.new.self (ledger_of c.args.self.now.device) (ledger_of c.run.new.device) (rw c.in-NoMemory.is at step) in
+returns-in-NoMemory-clause-err g c =
+    let old = c.args.self.now.session in
+    let new = c.run.new.self in
+    let before = g.D.DescriptorDevice.ledger c.args.self.now.device in
+    let after = g.D.DescriptorDevice.ledger c.run.new.device in
+    let runs = as_carried g.met.D.ScriptedMeaning.meanings (λ p s k m. RunsTo p s k m (c.args.command ∷ []) c.in_ok-replies.replies.items old new before after) c.in_ok-replies.ensures.runs in
+    let step = step_of_one c.args.command c.in_ok-replies.replies.items c.index.result.now old new before after runs c.index.ensures in
+    let same = no_memory_changes_nothing c.args.command old new before after (rw c.in-NoMemory.is at step) in
     record { layouts = refl; session = record { known = c.run.ensures.keeps.layouts; allocator = same.allocator; sets = same.sets }; ledger = same.ledger }
 
 pub reply_answer-requires : goal.reply_answer-requires
-reply_answer-requires c =
-    let before = ledger_of c.args.self.now.device in
-    let after = ledger_of c.run.new.device in
-    let known : IsKnown (length (layouts_of c.args.self.now.session)) c.args.command = rw (as_many c.args.self.now c.requires.ready) at c.requires.known in
-    let step = step_of_one c.args.command c.in_ok-replies.replies.items c.index.result.now c.args.self.now.session c.run.new.self before after c.in_ok-replies.ensures.runs c.index.ensures in
-    let few : sets_given c.index.result.now ≤ sets_asked c.args.command = given_as_asked c.args.command c.index.result.now c.args.self.now.session c.run.new.self before after step in
+reply_answer-requires g c =
+    let old = c.args.self.now.session in
+    let new = c.run.new.self in
+    let before = g.D.DescriptorDevice.ledger c.args.self.now.device in
+    let after = g.D.DescriptorDevice.ledger c.run.new.device in
+    let known : IsKnown (length (layouts_of old)) c.args.command = rw (as_many (line_state g.D.DescriptorDevice.ledger g.D.LineDevice.script c.args.self.now) c.requires.ready) at c.requires.known in
+    let runs = as_carried g.met.D.ScriptedMeaning.meanings (λ p s k m. RunsTo p s k m (c.args.command ∷ []) c.in_ok-replies.replies.items old new before after) c.in_ok-replies.ensures.runs in
+    let step = step_of_one c.args.command c.in_ok-replies.replies.items c.index.result.now old new before after runs c.index.ensures in
+    let few : sets_given c.index.result.now ≤ sets_asked c.args.command = given_as_asked c.args.command c.index.result.now old new before after step in
     record {
-      replied = has_answer c.args.command c.index.result.now c.args.self.now.session c.run.new.self before after step c.in_default.not-NoMemory known (few_tickets c.run.new.self);
+      replied = has_answer c.args.command c.index.result.now old new before after step c.in_default.not-NoMemory known (few_tickets new);
       room = omega (arith, c.in_ok-reserve.ensures.ok, c.room_for.ensures, c.reserve.new.self.bytes.ok.0);
     }
 
 pub returns : goal.returns
-returns c = record {
-  ready = still_runs c.args.self.now c.run.new.self c.run.new.device c.requires.ready c.run.ensures.keeps.ready c.run.ensures.keeps.layouts;
-  does = record {
-    reply = c.index.result.now;
-    said = c.reply_answer.ensures.text ∙ ap (λ old. old ++ text_of_reply (sets_of c.run.new.self) c.index.result.now) (c.reserve.ensures.bytes ∙ c.requires.empty);
-    step = step_of_one c.args.command c.in_ok-replies.replies.items c.index.result.now c.args.self.now.session c.run.new.self (ledger_of c.args.self.now.device) (ledger_of c.run.new.device) c.in_ok-replies.ensures.runs c.index.ensures;
-    keeps = c.run.ensures.keeps;
-    layouts = refl;
-  };
-  err = tt;
-  begun = refl;
-}
+returns g c =
+    let old = c.args.self.now.session in
+    let new = c.run.new.self in
+    let before = g.D.DescriptorDevice.ledger c.args.self.now.device in
+    let after = g.D.DescriptorDevice.ledger c.run.new.device in
+    let keeps = as_carried g.met.D.ScriptedMeaning.meanings (λ p s k m. KeepsSession p s k m old new before after) c.run.ensures.keeps in
+    let runs = as_carried g.met.D.ScriptedMeaning.meanings (λ p s k m. RunsTo p s k m (c.args.command ∷ []) c.in_ok-replies.replies.items old new before after) c.in_ok-replies.ensures.runs in
+    record {
+      ready = still_runs (line_state g.D.DescriptorDevice.ledger g.D.LineDevice.script c.args.self.now) new (g.D.LineDevice.script c.run.new.device) after c.requires.ready keeps.ready keeps.layouts;
+      does = record {
+        reply = c.index.result.now;
+        said = c.reply_answer.ensures.text ∙ ap (λ text. text ++ text_of_reply (sets_of new) c.index.result.now) (c.reserve.ensures.bytes ∙ c.requires.empty);
+        step = step_of_one c.args.command c.in_ok-replies.replies.items c.index.result.now old new before after runs c.index.ensures;
+        keeps = keeps;
+        layouts = refl;
+      };
+      err = tt;
+      begun = refl;
+    }

@@ -5,6 +5,6 @@ use Rattle.descriptor_lines.proofs.program.Program.show.Given as goal
 
 -- with what is still to be said the text has the pools of all layouts
 abbrev pub invariant-loop-name : goal.invariant-loop-name
-invariant-loop-name l =
+invariant-loop-name g l =
     let table = (allocator_of l.self.session).table in
     string_bytes l.answer ++ said_of_told table l.name-iterator ≡ string_bytes l.initial.answer ++ said_of_told table l.self.layouts.by_name.entries

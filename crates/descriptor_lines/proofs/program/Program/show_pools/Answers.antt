@@ -8,12 +8,12 @@ use Rattle.descriptor_lines.proofs.program.Program.show_pools.Goals as goal
 use Rattle.descriptor_lines.proofs.program.Program.show_pools.Goals.{in-Some+in_ok-pool_answer, in_default}
 
 pub loop-index-init : goal.loop-index-init
-loop-index-init c =
+loop-index-init g c =
     let table = (allocator_of c.args.self.now.session).table in
     rw (none_so_far table (c.args.name.now, c.args.layout.now)) (sym (append-nil (string_bytes c.args.answer.now)))
 
 pub loop-index-preserved : goal.loop-index-preserved
-loop-index-preserved c =
+loop-index-preserved g c =
     let name = c.args.name.now in
     let layout = c.args.layout.now in
     let index = c.loop-index.index in
@@ -26,7 +26,7 @@ loop-index-preserved c =
     ]
 
 pub returns : goal.returns
-returns c =
+returns g c =
     let table = (allocator_of c.args.self.now.session).table in
     let count : c.pool_count-index-end.result ≡ length (pools_at table (key_of c.args.layout.now)) = c.pool_count-index-end.ensures.count ∙ ap (λ a. length (pools_at a.table (key_of c.args.layout.now))) c.allocator-allocator.ensures in
     c.loop-index.invariant ∙ ap (λ said. string_bytes c.args.answer.now ++ said) (all_so_far table (c.args.name.now, c.args.layout.now) c.loop-index.index (omega (arith, count, c.loop-index-test.false)))

@@ -5,5 +5,5 @@ use Rattle.descriptor_lines.proofs.program.Program.show_pools.Given as goal
 
 -- the pools before the next one are said
 abbrev pub invariant-loop-index : goal.invariant-loop-index
-invariant-loop-index l =
+invariant-loop-index g l =
     string_bytes l.answer ≡ string_bytes l.initial.answer ++ pools_so_far l.index (allocator_of l.self.session).table (l.name, l.layout)
