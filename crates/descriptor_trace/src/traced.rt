@@ -1,0 +1,266 @@
+//! A device that writes down what passes through it.
+ghost use Rattle.std.specs.Prelude.{◌≡◌, ◌+◌, ◌≤◌, [], map, None, IsFalse, IsOk, IfErr, IfOk};
+ghost use Rattle.std.specs.Prelude.{OnErr, OnOk, string_bytes};
+ghost use Rattle.std.specs.Iterator.{IsFinite, HoldsAlong};
+ghost use Rattle.gpu_descriptor_types.specs.Counts.{kinds};
+ghost use Rattle.gpu_descriptor_types.specs.Flags.{bits};
+ghost use Rattle.gpu_descriptor_types.specs.Layouts.{layout, left};
+ghost use Rattle.gpu_descriptor_types.specs.Ledger.{AreLive, HasNoSets, HasRoom, Puts, PutsNone};
+ghost use Rattle.gpu_descriptor_types.specs.Ledger.{after_create, after_destroy, after_no_create};
+ghost use Rattle.gpu_descriptor_types.specs.Ledger.{Releases};
+ghost use Rattle.descriptor_script.specs.Scripted.Device.{empty_ledger};
+ghost use Rattle.descriptor_script.specs.Scripted.Raw.{pool_id, set_id};
+ghost use Rattle.descriptor_script.specs.Scripted.Script.{alloc_error, create_error, next_word};
+ghost use Rattle.descriptor_script.specs.Scripted.Script.{rest_words};
+ghost use Rattle.descriptor_trace.specs.TraceTexts as says;
+ghost use Rattle.descriptor_trace.specs.Traced.{WritesDown, WritesRelease};
+
+use crate::text;
+use descriptor_lines::{LineDevice, ScriptedMeaning};
+use descriptor_script::{Answer, RawPool, RawSet, ScriptLayout, ScriptedDevice};
+use gpu_descriptor::{
+    CreatePoolError, DescriptorDevice, DescriptorPoolCreateFlags, DescriptorTotalCount,
+    DeviceAllocationError, Layouts, SetSink,
+};
+use std::alloc::{AllocError, Global};
+use std::io::Write;
+
+/// The scripted device, each call of which is written as a line (docs/TRACE.md). From the first
+/// line that can't be written on, nothing more is, and the device `has_lost`.
+#[derive(Drop)]
+pub struct Traced<W> {
+    device: ScriptedDevice,
+    output: W,
+    text: String,
+    has_lost: bool,
+}
+
+impl<W: Write + Drop> Traced<W> {
+    ghost use Rattle.descriptor_trace.specs.Traced.{traced_ledger, traced_names, traced_script};
+
+    /// A device without pools and without a script.
+    pub fn new(alloc: Global, output: W) -> Result<Self, AllocError>
+        ensures ledger { IfOk result (λ d. traced_ledger d ≡ empty_ledger) }
+        ensures script { IfOk result (λ d. traced_script d ≡ []) }
+        ensures names { IfOk result (λ d. traced_names d ≡ record { pools = 0; sets = 0 }) }
+        ensures output { IfOk result (λ d. d.output ≡ output) }
+        ensures whole { IfOk result (λ d. IsFalse d.has_lost) }
+    {
+        Ok(Traced {
+            device: ScriptedDevice::new(alloc, Vec::new(alloc)),
+            output,
+            text: String::with_capacity(alloc, text::LINE_LEN)?,
+            has_lost: false,
+        })
+    }
+}
+
+impl<W: Write> Traced<W> {
+    /// Writes the text, if it was made.
+    fn write_text(&mut self, made: Result<(), AllocError>)
+        ensures device { self.new.device ≡ self.old.device }
+        ensures made { IsFalse self.new.has_lost → IsOk made }
+        ensures written { WritesDown W.contents self.old self.new (string_bytes self.old.text) }
+    {
+        if self.has_lost {
+            return;
+        }
+        if made.is_err() || self.output.write_all(self.text.as_bytes()).is_err() {
+            self.has_lost = true;
+        }
+    }
+
+    /// Writes that so many sets went back to a pool.
+    fn write_release(&mut self, pool: u64, sets: usize)
+        ensures device { self.new.device ≡ self.old.device }
+        ensures written { WritesDown W.contents self.old self.new (says.release_line pool sets) }
+    {
+        self.text.clear();
+        let made = text::release_line(&mut self.text, pool, sets);
+        self.write_text(made);
+    }
+}
+
+impl<W: Write> DescriptorDevice<ScriptLayout, RawPool, RawSet> for Traced<W> {
+    ghost use Rattle.descriptor_script.specs.Inner.Finite.{scripted_finite};
+    ghost use Rattle.descriptor_trace.specs.Traced.{traced_ledger, traced_names, traced_script};
+
+    ghost pool_name = { pool_id };
+
+    ghost set_name = { set_id };
+
+    ghost layout_counts = { λ l. kinds l.counts };
+
+    ghost layout_mark = { λ l. l.mark };
+
+    ghost ledger = { traced_ledger };
+
+    ghost finite = { λ d. scripted_finite d.device };
+
+    fn create_descriptor_pool(
+        &mut self,
+        counts: &DescriptorTotalCount,
+        max_sets: u32,
+        flags: DescriptorPoolCreateFlags,
+    ) -> Result<RawPool, CreatePoolError>
+        ensures new_name { IfOk result (λ pool. (traced_ledger self.old).pools (pool_id pool)
+            ≡ None) }
+        ensures ok { IfOk result (λ pool. traced_ledger self.new ≡ after_create (kinds counts.now)
+            max_sets (bits flags) (pool_id pool) (traced_ledger self.old)) }
+        ensures err { IfErr result (λ e. traced_ledger self.new
+            ≡ after_no_create e (traced_ledger self.old)) }
+        ensures rest { traced_script self.new ≡ rest_words (traced_script self.old) }
+        ensures granted { OnOk result (next_word (traced_script self.old) ≡ Answer.Ok) }
+        ensures refused { IfErr result (λ e. e ≡ create_error (next_word
+            (traced_script self.old))) }
+        ensures next_name { IfOk result (λ pool. pool_id pool ≡ (traced_names self.old).pools) }
+        ensures named { OnOk result (traced_names self.new ≡ record (traced_names self.old)
+            { pools = (traced_names self.old).pools + 1 }) }
+        ensures unnamed { OnErr result (traced_names self.new ≡ traced_names self.old) }
+        ensures written { WritesDown W.contents self.old self.new
+            (says.create_line max_sets (bits flags) (kinds counts.now) result) }
+    {
+        let answer = self.device.create_descriptor_pool(counts, max_sets, flags);
+        self.text.clear();
+        let made = text::create_line(&mut self.text, max_sets, flags, counts, &answer);
+        self.write_text(made);
+        answer
+    }
+
+    fn destroy_descriptor_pool(&mut self, pool: RawPool)
+        requires { HasNoSets (pool_id pool) (traced_ledger self.old) }
+        ensures ledger { traced_ledger self.new
+            ≡ after_destroy (pool_id pool) (traced_ledger self.old) }
+        ensures script { traced_script self.new ≡ traced_script self.old }
+        ensures names { traced_names self.new ≡ traced_names self.old }
+        ensures written { WritesDown W.contents self.old self.new
+            (says.destroy_line (pool_id pool)) }
+    {
+        let id = pool.id();
+        self.device.destroy_descriptor_pool(pool);
+        self.text.clear();
+        let made = text::destroy_line(&mut self.text, id);
+        self.write_text(made);
+    }
+
+    fn alloc_descriptor_sets<K: SetSink<RawSet>>(
+        &mut self,
+        pool: &mut RawPool,
+        layouts: Layouts<'_, ScriptLayout>,
+        sets: &mut K,
+    ) -> Result<(), DeviceAllocationError>
+        requires fits { HasRoom (pool_id pool.old) (left layouts) (kinds (layout layouts).counts)
+            (layout layouts).mark (traced_ledger self.old) }
+        requires room { left layouts ≤ K.room_left sets.old }
+        ensures name { pool_id pool.new ≡ pool_id pool.old }
+        ensures ok { OnOk result (Puts (record {
+          kept = K.kept;
+          kept_as = K.kept_as;
+          room_left = K.room_left;
+        }) set_id (pool_id pool.old) (left layouts.entry)
+            (kinds (layout layouts.entry).counts) sets.old sets.new (traced_ledger self.old)
+            (traced_ledger self.new)) }
+        ensures err { IfErr result (λ e. PutsNone (record {
+          kept = K.kept;
+          kept_as = K.kept_as;
+          room_left = K.room_left;
+        }) (pool_id pool.old) e sets.old sets.new
+            (traced_ledger self.old) (traced_ledger self.new)) }
+        ensures rest { traced_script self.new ≡ rest_words (traced_script self.old) }
+        ensures granted { OnOk result (next_word (traced_script self.old) ≡ Answer.Ok) }
+        ensures refused { IfErr result (λ e. e ≡ alloc_error (next_word
+            (traced_script self.old))) }
+        ensures pools { (traced_names self.new).pools ≡ (traced_names self.old).pools }
+        ensures written { WritesDown W.contents self.old self.new
+            (says.alloc_line (pool_id pool.old) (left layouts.entry) (layout layouts.entry).mark
+            (kinds (layout layouts.entry).counts) result) }
+    {
+        let (layout, count) = (layouts.layout(), layouts.len());
+        let answer = self.device.alloc_descriptor_sets(pool, layouts, sets);
+        self.text.clear();
+        let made = text::alloc_line(&mut self.text, pool.id(), count, layout, &answer);
+        self.write_text(made);
+        answer
+    }
+
+    fn dealloc_descriptor_sets<I: Iterator<Item = RawSet>>(
+        &mut self,
+        pool: &mut RawPool,
+        sets: &mut I,
+    )
+        requires can { I.can_next sets.old }
+        requires ends { IsFinite (I.remaining sets.old) }
+        requires live { HoldsAlong I.next_gives sets.old
+            (λ xs. AreLive (pool_id pool.old) (map set_id xs) (traced_ledger self.old)) }
+        ensures name { pool_id pool.new ≡ pool_id pool.old }
+        ensures released { Releases I.next_gives set_id (pool_id pool.old) sets.old sets.new
+            (traced_ledger self.old) (traced_ledger self.new) }
+        ensures script { traced_script self.new ≡ traced_script self.old }
+        ensures names { traced_names self.new ≡ traced_names self.old }
+        ensures written { WritesRelease W.contents I.next_gives (pool_id pool.old) sets.old
+            sets.new self.old self.new }
+    {
+        let before = self.device.live_sets(pool);
+        self.device.dealloc_descriptor_sets(pool, sets);
+        let after = self.device.live_sets(pool);
+        self.write_release(pool.id(), before - after);
+    }
+}
+
+impl<W: Write> ScriptedMeaning for Traced<W> {
+    ghost use Rattle.std.specs.Prelude.{refl};
+
+    ghost meanings = { record { pools = refl; sets = refl; counts = refl; marks = refl } };
+}
+
+impl<W: Write> LineDevice for Traced<W> {
+    ghost use Rattle.descriptor_trace.specs.Traced.{traced_ledger, traced_names, traced_script};
+
+    ghost script = { traced_script };
+
+    fn hear(&mut self, line: &[u8])
+        ensures ledger { traced_ledger self.new ≡ traced_ledger self.old }
+        ensures script { traced_script self.new ≡ traced_script self.old }
+        ensures written { WritesDown W.contents self.old self.new (says.input_line line.now) }
+    {
+        let is_written = !self.has_lost
+            && self.output.write_all(b"# ").is_ok()
+            && self.output.write_all(line).is_ok()
+            && self.output.write_all(b"\n").is_ok();
+        if !is_written {
+            self.has_lost = true;
+        }
+    }
+
+    fn has_lost(&self) -> bool
+        ensures { result ≡ self.now.has_lost }
+    {
+        self.has_lost
+    }
+
+    fn load(&mut self, words: Vec<Answer>)
+        ensures script { traced_script self.new ≡ words.items }
+        ensures ledger { traced_ledger self.new ≡ traced_ledger self.old }
+        ensures names { traced_names self.new ≡ traced_names self.old }
+        ensures output { self.new.output ≡ self.old.output }
+        ensures lost { self.new.has_lost ≡ self.old.has_lost }
+    {
+        self.device.load(words);
+    }
+
+    fn created(&self) -> u64 {
+        self.device.created()
+    }
+
+    fn destroyed(&self) -> u64 {
+        self.device.destroyed()
+    }
+
+    fn asked(&self) -> u64 {
+        self.device.asked()
+    }
+
+    fn released(&self) -> u64 {
+        self.device.released()
+    }
+}
