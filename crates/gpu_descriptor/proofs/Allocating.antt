@@ -170,13 +170,13 @@ module _ {P S : Type 0} {name : P → ℕ} {set_name : S → ℕ} {k : Key} {cou
         stopped_without_room (proceeds some last final _) (record { grant = st.grant; front = record { all = st.all; pooled = pool_load_of old; is_pooled = pool_load_is name old before t.distinct; front = st.front }; no_room = st.in_room; back = is_back st.grant no_rise _ st.between st.came st.taken now.0 now.1 })
     back_from_new stop.Books st =
         let now = stopped_state k room count stop.Books s t.pools items before after refl st in
-        stopped_for_memory (proceeds some last final _) (record { grant = st.grant; front = record { all = st.all; pooled = pool_load_of old; is_pooled = pool_load_is name old before t.distinct; front = st.front }; room = st.in_room; back = is_back st.grant no_rise _ st.between st.came st.taken now.0 now.1 })
+        stopped_for_memory (proceeds some last final _) (record { at = record { grant = st.grant; front = record { all = st.all; pooled = pool_load_of old; is_pooled = pool_load_is name old before t.distinct; front = st.front }; room = st.in_room }; back = is_back st.grant no_rise _ st.between st.came st.taken now.0 now.1 })
     back_from_new (stop.Create error) st =
         let now = stopped_state k room count (stop.Create error) s t.pools items before after refl st in
-        stopped_at_create (proceeds some last final _) (record { grant = st.grant; front = record { all = st.all; pooled = pool_load_of old; is_pooled = pool_load_is name old before t.distinct; front = st.front }; room = st.in_room; error = error; back = is_back st.grant (create_refused error no_rise) _ st.between st.came st.taken now.0 now.1 })
+        stopped_at_create (proceeds some last final _) (record { at = record { grant = st.grant; front = record { all = st.all; pooled = pool_load_of old; is_pooled = pool_load_is name old before t.distinct; front = st.front }; room = st.in_room }; error = error; back = is_back st.grant (create_refused error no_rise) _ st.between st.came st.taken now.0 now.1 })
     back_from_new (stop.Fresh error) st =
         let now = stopped_state k room count (stop.Fresh error) s t.pools items before after refl st in
-        stopped_at_fresh (proceeds some last final _) (record { grant = st.grant; front = record { all = st.all; pooled = pool_load_of old; is_pooled = pool_load_is name old before t.distinct; front = st.front }; room = st.in_room; error = error; back = is_back st.grant (stop_rise (stop.Fresh error)) _ st.between st.came st.taken now.0 now.1 })
+        stopped_at_fresh (proceeds some last final _) (record { at = record { grant = st.grant; front = record { all = st.all; pooled = pool_load_of old; is_pooled = pool_load_is name old before t.distinct; front = st.front }; room = st.in_room }; error = error; back = is_back st.grant (stop_rise (stop.Fresh error)) _ st.between st.came st.taken now.0 now.1 })
 
     pub went_back : {why : Refusal} → taken ≡ Err why → Allocates (call (refusal_answer why))
     went_back {why} is = by_why why (subst (λ (r : Result (Unit {0}) Refusal). IfErr r (λ w. IsTakenUpTo w k room count (s.books k).first items (s.books k).pools t.pools before after)) is t.stopped)

@@ -117,7 +117,7 @@ fresh_cause c s = by_error s.error refl
   where
     counted : {e : DeviceAllocationError} → pool_refusals e ≡ 0 → s.error ≡ e → HasCause (error_of_alloc e) c
     counted {e} memory is =
-        memory_cause c s.grant _ _ s.back e memory (ap (λ (f : DeviceAllocationError). (alloc_refused f no_rise).device_memory) is) (ap (λ (f : DeviceAllocationError). (alloc_refused f no_rise).host_memory) is)
+        memory_cause c s.at.grant _ _ s.back e memory (ap (λ (f : DeviceAllocationError). (alloc_refused f no_rise).device_memory) is) (ap (λ (f : DeviceAllocationError). (alloc_refused f no_rise).host_memory) is)
 
     refused : {e : DeviceAllocationError} → s.error ≡ e → (alloc_refused e no_rise).pool_refused ≡ 1 → IsFragmentation c
     refused {e} is once =
@@ -342,17 +342,17 @@ module _ (c : Call) where
       let fragmented = ap (λ (k : Counters). k.fragmentation) s.back.counters in
       let last = ap last_refusal s.back.answer in
       let rise = create_last s.error in
-      front_short c s.grant _ _ s.back s.front (last_refusal c.answer) 0 (at_create s refl refl) (omega arith) (omega arith) (omega arith) (few_any c s.grant s.front)
+      front_short c s.at.grant _ _ s.back s.at.front (last_refusal c.answer) 0 (at_create s refl refl) (omega arith) (omega arith) (omega arith) (few_any c s.at.grant s.at.front)
   short (stopped_for_memory p s) more =
       let n = ap (λ (k : Counters). k.created) s.back.counters in
       let refused = ap (λ (k : Counters). k.pool_refused) s.back.counters in
       let fragmented = ap (λ (k : Counters). k.fragmentation) s.back.counters in
       let last = ap last_refusal s.back.answer in
-      front_short c s.grant _ _ s.back s.front 0 0 (for_memory s refl refl) (omega arith) (omega arith) (omega arith) (few_any c s.grant s.front)
+      front_short c s.at.grant _ _ s.back s.at.front 0 0 (for_memory s refl refl) (omega arith) (omega arith) (omega arith) (few_any c s.at.grant s.at.front)
   short (stopped_at_fresh p s) more =
       let n = ap (λ (k : Counters). k.created) s.back.counters in
       let refused = ap (λ (k : Counters). k.pool_refused) s.back.counters in
       let fragmented = ap (λ (k : Counters). k.fragmentation) s.back.counters in
       let last = ap last_refusal s.back.answer in
       let rise = alloc_last s.error in
-      front_short c s.grant _ _ s.back s.front (last_refusal c.answer) 1 (at_fresh s refl refl) (omega arith) (omega arith) (omega arith) (few_with_room c s.grant s.front s.room)
+      front_short c s.at.grant _ _ s.back s.at.front (last_refusal c.answer) 1 (at_fresh s refl refl) (omega arith) (omega arith) (omega arith) (few_with_room c s.at.grant s.at.front s.at.room)

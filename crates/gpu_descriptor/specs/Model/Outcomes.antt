@@ -185,28 +185,29 @@ pub record IsStoppedWithoutRoom (c : Call) : Type 0 where
   pub no_room : HasNoRoomLeft front
   pub back : IsBack c grant no_rise Fragmentation
 
--- at the create of a new pool
-pub record IsStoppedAtCreate (c : Call) : Type 0 where
+-- a request came to one more new pool, for which there was room
+pub record IsAtNewPool (c : Call) : Type 0 where
+  -- what it had taken before
   pub grant : Grant
   pub front : IsFront c.request c.old grant
   pub room : HasRoomLeft front
+
+-- at the create of a new pool
+pub record IsStoppedAtCreate (c : Call) : Type 0 where
+  pub at : IsAtNewPool c
   pub error : CreatePoolError
-  pub back : IsBack c grant (create_refused error no_rise) (error_of_create error)
+  pub back : IsBack c at.grant (create_refused error no_rise) (error_of_create error)
 
 -- for want of memory for a new pool's books
 pub record IsStoppedForMemory (c : Call) : Type 0 where
-  pub grant : Grant
-  pub front : IsFront c.request c.old grant
-  pub room : HasRoomLeft front
-  pub back : IsBack c grant no_rise OutOfHostMemory
+  pub at : IsAtNewPool c
+  pub back : IsBack c at.grant no_rise OutOfHostMemory
 
 -- at a new pool, which was created, refused, and was destroyed
 pub record IsStoppedAtFresh (c : Call) : Type 0 where
-  pub grant : Grant
-  pub front : IsFront c.request c.old grant
-  pub room : HasRoomLeft front
+  pub at : IsAtNewPool c
   pub error : DeviceAllocationError
-  pub back : IsBack c grant (let asked = alloc_refused error no_rise in record asked { created = 1; destroyed = 1 }) (error_of_alloc error)
+  pub back : IsBack c at.grant (let asked = alloc_refused error no_rise in record asked { created = 1; destroyed = 1 }) (error_of_alloc error)
 
 pub data Allocates (c : Call) : Type 0 where
   none : c.request.count ≡ 0 → c.answer ≡ Ok [] → Stays c → Allocates c
