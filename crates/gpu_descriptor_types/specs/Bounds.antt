@@ -5,6 +5,10 @@ use Rattle.std.specs.Prelude.{ℕ}
 abbrev pub greatest_u32 : ℕ
 greatest_u32 = 4294967295
 
+-- the greatest number of 32 bits with a sign
+abbrev pub greatest_i32 : ℕ
+greatest_i32 = 2147483647
+
 -- the greatest number of 64 bits
 abbrev pub greatest_u64 : ℕ
 greatest_u64 = 18446744073709551615

@@ -1,4 +1,5 @@
 -- How many sets a new pool holds, and its counts.
+use Rattle.gpu_descriptor_types.specs.Bounds.{greatest_i32, greatest_u32}
 use Rattle.gpu_descriptor_types.specs.Counts.{greatest}
 use Rattle.std.specs.Prelude.{◌≡◌, ℕ, ◌*◌, ◌/◌, ◌^◌, ◌≤◌, ◌==◌, max, min, List, map, sum, fold, slice_set, if◌then◌else◌, nat_le}
 
@@ -17,11 +18,11 @@ pub record IsLeastPower (start power : ℕ) : Type 0 where
 pub record IsRounded (start size : ℕ) : Type 0 where
   pub power : ℕ
   pub rounded : IsLeastPower start power
-  pub fits : size ≡ (if nat_le power 4294967295 then power else 2147483647)
+  pub fits : size ≡ (if nat_le power greatest_u32 then power else greatest_i32)
 
 -- how many sets keep the count of a kind within 32 bits
 abbrev pub sets_of_kind : ℕ → ℕ
-sets_of_kind count = 4294967295 / max 1 count
+sets_of_kind count = greatest_u32 / max 1 count
 
 -- the least of a number and a list
 abbrev pub least_of : ℕ → List ℕ → ℕ
@@ -46,7 +47,7 @@ pub record IsCutSize (counts : List ℕ) (room total wanted sets : ℕ) : Type 0
 
 -- how many sets a new pool holds at least, unless fewer are wanting
 abbrev pub pool_size_floor : List ℕ → ℕ
-pool_size_floor counts = min 2147483647 (sets_of_kind (greatest counts))
+pool_size_floor counts = min greatest_i32 (sets_of_kind (greatest counts))
 
 -- the counts of a pool of so many sets. Without descriptors it has one sampler
 abbrev pub pool_counts : List ℕ → ℕ → List ℕ
