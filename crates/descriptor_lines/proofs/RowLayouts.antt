@@ -21,7 +21,7 @@ use Rattle.descriptor_lines.specs.Answers.{fault_line, layout_answer}
 use Rattle.descriptor_lines.specs.Arguments.{GiveCommand, IsCommandOf, IsFaultOfLimit, IsFaultOfNew, IsRefusalOf, IsRefusalOfWords, word_of_mark}
 use Rattle.descriptor_lines.specs.Commands.{IsInTime}
 use Rattle.descriptor_lines.specs.FirstLayouts.{listed}
-use Rattle.descriptor_lines.specs.LayoutTable.{layout_count, layout_named, layouts_in}
+use Rattle.descriptor_lines.specs.LayoutTable.{layout_count, layout_named, layouts_in, most_layouts}
 use Rattle.descriptor_lines.specs.LineStates.{LineState}
 use Rattle.descriptor_lines.specs.Programs.{AddsLayout, DoesCommand, DoesLine, IsFresh, begun}
 use Rattle.descriptor_lines.specs.Rows.{HadMemory}
@@ -89,7 +89,7 @@ no_fault_of_kinds words TooManyLayouts are wrong = wrong
 pub record IsGood (layouts : Layouts) (name : List ℕ) (words : List (List ℕ)) : Type 0 where
   pub is_name : IsName name
   pub absent : layout_named layouts name ≡ None
-  pub few : layout_count layouts < 1024
+  pub few : layout_count layouts < most_layouts
   pub kinds_are : AreKinds words
 
 none_there : {X : Type 0} (o : Option X) → o ≡ None → IsSome o → ⊥

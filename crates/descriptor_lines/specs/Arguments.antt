@@ -11,7 +11,7 @@ use Rattle.descriptor_lines.specs.declared.command.Command.TheVariants.{Limit, L
 use Rattle.descriptor_lines.specs.declared.layouts.Layout.{Layout}
 use Rattle.descriptor_words.specs.Fault.{IfFault, IsFaultAnd, faulty}
 use Rattle.descriptor_words.specs.Kinds.{AreKinds, GiveCounts, IsFaultOfKinds}
-use Rattle.descriptor_lines.specs.LayoutTable.{layout_at, layout_count, layout_named}
+use Rattle.descriptor_lines.specs.LayoutTable.{layout_at, layout_count, layout_named, most_layouts}
 use Rattle.descriptor_words.specs.Names.{IsName}
 use Rattle.descriptor_words.specs.Numbers.{WritesNumberWithin, value_of}
 use Rattle.descriptor_lines.specs.ScriptWords.{IsFaultOfScript, word_of_answer}
@@ -75,7 +75,7 @@ IsFaultOfNew layouts name mark words NameIsTaken =
     IsName name × IsSome (layout_named layouts name)
 IsFaultOfNew layouts name mark words BadMark = IsNew layouts name × ¬ IsMarkWord mark
 IsFaultOfNew layouts name mark words TooManyLayouts =
-    IsNew layouts name × IsMarkWord mark × AreKinds words × 1024 ≤ layout_count layouts
+    IsNew layouts name × IsMarkWord mark × AreKinds words × most_layouts ≤ layout_count layouts
 IsFaultOfNew layouts name mark words fault =
     IsNew layouts name × IsMarkWord mark × IsFaultOfKinds words fault
 
@@ -118,7 +118,7 @@ IsRefusalOf layouts has_begun (word ∷ words) reason =
 -- the words of `layout` give this new layout
 pub record GiveLayout (layouts : Layouts) (name mark : List ℕ) (words : List (List ℕ)) (layout : Layout) : Type 0 where
   pub new : IsNew layouts name
-  pub fits : layout_count layouts < 1024
+  pub fits : layout_count layouts < most_layouts
   pub mark_is : mark ≡ word_of_mark layout.mark
   pub kinds_are : AreKinds words
   pub counts_are : GiveCounts words (kinds layout.counts)

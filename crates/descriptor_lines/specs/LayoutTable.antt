@@ -18,6 +18,10 @@ layout_named layouts name = option_map (λ e. e.layout) (get_by_text layouts.by_
 abbrev pub layout_at : Layouts → ℕ → Option Layout
 layout_at layouts place = option_map (λ l. l.1) (slice_get (layouts_in layouts) place)
 
+-- the most layouts that there may be
+abbrev pub most_layouts : ℕ
+most_layouts = 1024
+
 abbrev pub layout_count : Layouts → ℕ
 layout_count layouts = length layouts.by_name.entries
 

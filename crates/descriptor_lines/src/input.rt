@@ -4,7 +4,7 @@ ghost use Rattle.std.specs.Prelude.{OnErr, OnOk, Err, IsFalse, length, vec_len, 
 ghost use Rattle.std.specs.Io.BufRead.{strip_last};
 ghost use Rattle.std.specs.Io.KnownBytes.{IsAtEnd, Keeps};
 ghost use Rattle.descriptor_lines.specs.Lines.{HasEnd, HasNoEnd, LosesLine, BeginsTooLong};
-ghost use Rattle.descriptor_lines.specs.Lines.{before_end, after_end, longest_line};
+ghost use Rattle.descriptor_lines.specs.Lines.{before_end, after_end, buffer_len, longest_line};
 
 use descriptor_words::first_of;
 use std::alloc::{AllocError, Global};
@@ -34,7 +34,7 @@ pub struct Span {
     start: usize,
     end: usize,
     ghost ordered: { start ≤ end },
-    ghost within: { end ≤ 65536 },
+    ghost within: { end ≤ buffer_len },
 }
 
 /// Bytes that were read and are in no line yet.
@@ -47,10 +47,10 @@ pub struct LineBuffer {
     end: usize,
     is_at_end: bool,
     reads_left: u32,
-    ghost room: { vec_len bytes ≡ 65536 },
+    ghost room: { vec_len bytes ≡ buffer_len },
     ghost from_start: { start ≤ searched },
     ghost to_end: { searched ≤ end },
-    ghost within: { end ≤ 65536 },
+    ghost within: { end ≤ buffer_len },
     ghost unended: { HasNoEnd (slice_range bytes.items start searched) },
 }
 

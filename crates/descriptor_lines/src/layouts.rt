@@ -38,7 +38,7 @@ pub struct Layouts {
 impl Layouts {
     ghost use Rattle.descriptor_lines.specs.LayoutTable.{layout_at, layout_count};
     ghost use Rattle.descriptor_lines.specs.LayoutTable.{layout_named, layouts_in};
-    ghost use Rattle.descriptor_lines.specs.LayoutTable.{HasSparePlace, IsNewKey, SameLayouts};
+    ghost use Rattle.descriptor_lines.specs.LayoutTable.{HasSparePlace, IsNewKey, SameLayouts, most_layouts};
 
     pub fn new(alloc: Global) -> Self
         ensures { layouts_in result ≡ [] }
@@ -51,7 +51,7 @@ impl Layouts {
 
     /// Whether there are as many layouts as there may be.
     pub fn is_full(&self) -> bool
-        ensures { IsTrue result ↔ (1024 ≤ layout_count self.now) }
+        ensures { IsTrue result ↔ (most_layouts ≤ layout_count self.now) }
     {
         MAX_LAYOUTS <= self.by_name.len()
     }

@@ -7,6 +7,7 @@ ghost use Rattle.descriptor_words.specs.Fault.{IfFault};
 ghost use Rattle.descriptor_lines.specs.Outcomes.{EndsInFault};
 ghost use Rattle.descriptor_lines.specs.LineBuffers.{unread};
 ghost use Rattle.descriptor_lines.specs.LineStates.{line_state};
+ghost use Rattle.descriptor_lines.specs.Lines.{most_reads};
 ghost use Rattle.descriptor_lines.specs.Programs.{CanRun, DoesLine, IsFresh, IsReasonFor};
 ghost use Rattle.descriptor_lines.specs.Programs.{IsUnchanged, begun};
 ghost use Rattle.descriptor_lines.specs.Transcripts.{Writes, WritesFromStart};
@@ -107,7 +108,7 @@ fn run_to_end<D: LineDevice, R: Read, W: Write>(
     requires ready { CanRun (line_state D.ledger D.script program.old) }
     requires empty { string_bytes answer.old ≡ [] }
     requires open { IsFalse lines.old.is_at_end }
-    requires reads { lines.old.reads_left ≡ 100000000 }
+    requires reads { lines.old.reads_left ≡ most_reads }
     ensures writes { Writes (unread lines.old (R.remaining input.old))
         (line_state D.ledger D.script program.old) result (W.contents output.old)
         (W.contents output.new) }
