@@ -1,7 +1,7 @@
 -- What a run of the program writes: the answers of the lines of its input, in order, up to the end or the line that stopped it.
 use Rattle.std.specs.Prelude.{◌≡◌, ◌⊎◌, ◌≤◌, ◌<◌, ◌+◌, ◌++◌, ◌∷◌, [], ⊤, ℕ, List, Option, None, Some, IsTrue, IsFalse, codes, length}
 use Rattle.std.specs.Io.BufRead.{strip_last}
-use Rattle.std.specs.Io.KnownBytes.{Appends, Keeps}
+use Rattle.std.specs.Io.KnownBytes.{Appends, IsAtEnd, Keeps}
 use Rattle.descriptor_words.specs.Fault.{faulty}
 use Rattle.descriptor_words.specs.Words.{is_silent, words}
 use Rattle.descriptor_words.specs.declared.fault.Fault.{Fault}
@@ -11,6 +11,7 @@ use Rattle.descriptor_lines.specs.Answers.{fault_line}
 use Rattle.descriptor_lines.specs.Arguments.{IsRefusalOf}
 use Rattle.descriptor_lines.specs.LineStates.{LineState}
 use Rattle.descriptor_lines.specs.Lines.{lines_of, longest_line}
+use Rattle.descriptor_lines.specs.Outcomes.{EndsInFault}
 use Rattle.descriptor_lines.specs.Programs.{CanRun, DoesLine, IsFresh, IsReasonFor, IsUnchanged}
 use Rattle.descriptor_lines.specs.declared.exit.Exit.{Exit}
 use Rattle.descriptor_lines.specs.declared.exit.Exit.TheVariants.{Done, BadLine, ReadFault, WriteFault, NoMemory}
@@ -110,3 +111,12 @@ abbrev pub WritesFromStart : Option (List ℕ) → Exit → Option (List ℕ) �
 WritesFromStart known NoMemory old new = Keeps old new
 WritesFromStart known exit old new =
     (start : LineState) × IsFresh start × Writes known start exit old new
+
+-- a run of the lines that a reader gives: what the reader had left and has left, how the run ended, and what the writer held and holds
+pub record RunsLines (unread rest : Option (List ℕ)) (exit : Exit) (old new : Option (List ℕ)) : Type 0 where
+  pub writes : WritesFromStart unread exit old new
+  -- it is done only at the end of the input
+  pub done : exit ≡ Done → IsAtEnd rest
+  -- whatever the reader, a bad line is named last, and for want of memory nothing is written
+  pub bad_line : exit ≡ BadLine → EndsInFault old new
+  pub no_memory : exit ≡ NoMemory → Keeps old new

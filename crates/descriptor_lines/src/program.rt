@@ -1,7 +1,7 @@
 //! The program: lines in, answers out.
 ghost use Rattle.std.specs.Prelude.{◌≡◌, ◌≢◌, ◌||◌, [], not, IsTrue, IsFalse, IfErr, OnOk, OnErr};
 ghost use Rattle.std.specs.Prelude.{string_bytes};
-ghost use Rattle.std.specs.Io.KnownBytes.{IsAtEnd, Keeps};
+ghost use Rattle.std.specs.Io.KnownBytes.{IsAtEnd};
 ghost use Rattle.descriptor_script.specs.Scripted.Device.{empty_ledger};
 ghost use Rattle.descriptor_words.specs.Fault.{IfFault};
 ghost use Rattle.descriptor_lines.specs.Outcomes.{EndsInFault};
@@ -10,7 +10,7 @@ ghost use Rattle.descriptor_lines.specs.LineStates.{line_state};
 ghost use Rattle.descriptor_lines.specs.Lines.{most_reads};
 ghost use Rattle.descriptor_lines.specs.Programs.{CanRun, DoesLine, IsFresh, IsReasonFor};
 ghost use Rattle.descriptor_lines.specs.Programs.{IsUnchanged, begun};
-ghost use Rattle.descriptor_lines.specs.Transcripts.{Writes, WritesFromStart};
+ghost use Rattle.descriptor_lines.specs.Transcripts.{RunsLines, Writes};
 ghost use Rattle.descriptor_words.specs.Words.{words, is_silent};
 
 mod output;
@@ -138,13 +138,8 @@ fn run_to_end<D: LineDevice, R: Read, W: Write>(
 /// is run. It ends early at a faulty line, at a read or a write that fails, of whatever kind, and
 /// after 100000000 read calls.
 pub fn run_lines<R: Read, W: Write>(alloc: Global, input: &mut R, output: &mut W) -> Exit
-    ensures writes { WritesFromStart (R.remaining input.old) result (W.contents output.old)
-        (W.contents output.new) }
-    ensures done { result ≡ Exit.Done → IsAtEnd (R.remaining input.new) }
-    ensures bad_line { result ≡ Exit.BadLine → EndsInFault (W.contents output.old)
-        (W.contents output.new) }
-    ensures no_memory { result ≡ Exit.NoMemory → Keeps (W.contents output.old)
-        (W.contents output.new) }
+    ensures runs { RunsLines (R.remaining input.old) (R.remaining input.new) result
+        (W.contents output.old) (W.contents output.new) }
 {
     let device = ScriptedDevice::new(alloc, Vec::new(alloc));
     run_lines_on(alloc, device, input, output)
@@ -160,13 +155,8 @@ pub fn run_lines_on<D: LineDevice + Drop, R: Read, W: Write>(
 ) -> Exit
     requires ledger { D.ledger device ≡ empty_ledger }
     requires script { D.script device ≡ [] }
-    ensures writes { WritesFromStart (R.remaining input.old) result (W.contents output.old)
-        (W.contents output.new) }
-    ensures done { result ≡ Exit.Done → IsAtEnd (R.remaining input.new) }
-    ensures bad_line { result ≡ Exit.BadLine → EndsInFault (W.contents output.old)
-        (W.contents output.new) }
-    ensures no_memory { result ≡ Exit.NoMemory → Keeps (W.contents output.old)
-        (W.contents output.new) }
+    ensures runs { RunsLines (R.remaining input.old) (R.remaining input.new) result
+        (W.contents output.old) (W.contents output.new) }
 {
     let Ok(mut lines) = LineBuffer::new(alloc, MAX_READS) else {
         return Exit::NoMemory;

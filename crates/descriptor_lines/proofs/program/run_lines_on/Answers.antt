@@ -2,7 +2,14 @@ use Rattle.descriptor_lines.specs.LineStates.{line_state}
 use Rattle.descriptor_lines.proofs.EndLemmas.{from_start, unread_first}
 use Rattle.descriptor_lines.proofs.program.run_lines_on.Goals as goal
 
-pub returns-clause-writes : goal.returns-clause-writes
-returns-clause-writes g c =
-    let known = unread_first c.in-Ok.lines (g.R.Read.remaining c.args.input.now) c.in-Ok.ensures.empty c.in-Ok.ensures.open in
-    from_start _ (line_state g.D.DescriptorDevice.ledger g.D.LineDevice.script c.new-program.result) _ _ _ c.run_to_end.ensures.memory c.new-program.ensures.fresh (rw known at c.run_to_end.ensures.writes)
+pub returns : goal.returns
+returns g c = record {
+  runs = record {
+    writes = (
+        let known = unread_first c.in-Ok.lines (g.R.Read.remaining c.args.input.now) c.in-Ok.ensures.empty c.in-Ok.ensures.open in
+        from_start _ (line_state g.D.DescriptorDevice.ledger g.D.LineDevice.script c.new-program.result) _ _ _ c.run_to_end.ensures.memory c.new-program.ensures.fresh (rw known at c.run_to_end.ensures.writes));
+    done = c.run_to_end.ensures.done;
+    bad_line = c.run_to_end.ensures.bad_line;
+    no_memory = λ is. absurd (c.run_to_end.ensures.memory is);
+  };
+}
