@@ -6,19 +6,19 @@ use Rattle.gpu_descriptor_types.specs.Multiset.{LiveSet, times}
 use Rattle.descriptor_bench.specs.Log.{OwedPool, Log}
 
 -- no pool of this device ever refuses
-abbrev pub seen : OwedPool → Pool
-seen r = record { counts = r.counts; capacity = r.capacity; flags = r.flags; refusals = 0; live = times r.live }
+abbrev pub pool_owed : OwedPool → Pool
+pool_owed r = record { counts = r.counts; capacity = r.capacity; flags = r.flags; refusals = 0; live = times r.live }
 
 abbrev pub row_at : List (ℕ × Option OwedPool) → ℕ → Option OwedPool
 row_at [] q = None
 row_at (r ∷ rs) q = if nat_eq r.0 q then r.1 else row_at rs q
 
-abbrev pub pools_in : List (ℕ × Option OwedPool) → ℕ → Option Pool
-pools_in rows q = option_map seen (row_at rows q)
+abbrev pub pools_owed : List (ℕ × Option OwedPool) → ℕ → Option Pool
+pools_owed rows q = option_map pool_owed (row_at rows q)
 
 abbrev pub ledger_in : Log → Ledger
 ledger_in l = record {
-  pools = pools_in l.rows;
+  pools = pools_owed l.rows;
   counters = record { created = l.created; destroyed = l.destroyed; asked = l.asked; released = l.released; device_memory = l.refused; host_memory = 0; fragmentation = 0; pool_refused = 0 };
 }
 

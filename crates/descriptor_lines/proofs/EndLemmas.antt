@@ -40,17 +40,17 @@ Takes number (Some bytes) rest outcome text old new =
     (line : List ℕ) × IsTaken number line bytes rest outcome text old new
 
 has_begun : (was now silent : Bool) → now ≡ (was || not silent) → IsFalse silent → IsTrue now
-has_begun was now silent is heard = grind (arith)
+has_begun was now silent is speaks = grind (arith)
 
 -- what a line that was run is answered
 run_answer : (number : ℕ) (outcome : Result Unit Refusal) (line text : List ℕ) (old new : LineState) → IsNoFault outcome → length line ≤ 4096 → OnOk outcome (DoesLine (words_in line) text old new) → OnErr outcome (IsUnchanged old new) → new.has_begun ≡ (old.has_begun || not (is_silent (words_in line))) → OnErr outcome (IsFalse (is_silent (words_in line))) → IfErr outcome (IsReasonFor old (words_in line)) → CanRun new → IsAnswered line (said_of number outcome text) old new
-run_answer number (Ok done) line text old new fine short does same begun heard own ready = record { short = short; answer = inl does; ready = ready }
-run_answer number (Err refusal.NoMemory) line text old new fine short does same begun heard own ready = record {
+run_answer number (Ok done) line text old new fine short does same begun speaks own ready = record { short = short; answer = inl does; ready = ready }
+run_answer number (Err refusal.NoMemory) line text old new fine short does same begun speaks own ready = record {
   short = short;
-  answer = inr (record { heard = heard; reason = own; said = refl; unchanged = same; begun = has_begun _ _ _ begun heard });
+  answer = inr (record { speaks = speaks; reason = own; said = refl; unchanged = same; begun = has_begun _ _ _ begun speaks });
   ready = ready;
 }
-run_answer number (Err (refusal.Fault fault)) line text old new fine short does same begun heard own ready = absurd (cc)
+run_answer number (Err (refusal.Fault fault)) line text old new fine short does same begun speaks own ready = absurd (cc)
 
 -- what is wrong with a line that was refused
 run_fault : (outcome : Result Unit Refusal) (line : List ℕ) (old : LineState) (fault : Fault) → outcome ≡ Err (refusal.Fault fault) → length line ≤ 4096 → IfErr outcome (IsReasonFor old (words_in line)) → IsFaultOfLine old line fault
@@ -58,24 +58,24 @@ run_fault outcome line old fault is short own = inr (short, rw is at own)
 
 -- a line that was run
 pub takes_run : (number : ℕ) (left rest : Option (List ℕ)) (line : List ℕ) (outcome : Result Unit Refusal) (text : List ℕ) (old new : LineState) → IsFirstOf line left → LosesLine left rest → length line ≤ 4096 → OnOk outcome (DoesLine (words_in line) text old new) → OnErr outcome (IsUnchanged old new) → new.has_begun ≡ (old.has_begun || not (is_silent (words_in line))) → OnErr outcome (IsFalse (is_silent (words_in line))) → IfErr outcome (IsReasonFor old (words_in line)) → CanRun new → Takes number left rest outcome text old new
-takes_run number None rest line outcome text old new first loses short does same begun heard own ready = tt
-takes_run number (Some bytes) None line outcome text old new first loses short does same begun heard own ready = absurd loses
-takes_run number (Some bytes) (Some others) line outcome text old new first loses short does same begun heard own ready = (
+takes_run number None rest line outcome text old new first loses short does same begun speaks own ready = tt
+takes_run number (Some bytes) None line outcome text old new first loses short does same begun speaks own ready = absurd loses
+takes_run number (Some bytes) (Some others) line outcome text old new first loses short does same begun speaks own ready = (
   line,
   record {
     some = loses.0;
     first = first;
     loses = λ _. loses;
-    answered = λ fine. run_answer number outcome line text old new fine short does same begun heard own ready;
+    answered = λ fine. run_answer number outcome line text old new fine short does same begun speaks own ready;
     wrong = λ fault is. run_fault outcome line old fault is short own;
   },
 )
 
 -- a line at its place in the buffer, run
 pub takes_span : (number : ℕ) (buffer : LineBuffer) (span : Span) (left rest : Option (List ℕ)) (line : List ℕ) (outcome : Result Unit Refusal) (text : List ℕ) (old new : LineState) → IsFirstOf (bytes_at buffer span) left → LosesLine left rest → span.end - span.start ≤ 4096 → line ≡ strip_last 13 (bytes_at buffer span) → OnOk outcome (DoesLine (words line) text old new) → OnErr outcome (IsUnchanged old new) → new.has_begun ≡ (old.has_begun || not (is_silent (words line))) → OnErr outcome (IsFalse (is_silent (words line))) → IfErr outcome (IsReasonFor old (words line)) → CanRun new → Takes number left rest outcome text old new
-takes_span number buffer span left rest line outcome text old new first loses short is does same begun heard own ready =
+takes_span number buffer span left rest line outcome text old new first loses short is does same begun speaks own ready =
     let few : length (bytes_at buffer span) ≤ 4096 = omega (arith, length-take (span.end - span.start) (drop span.start buffer.bytes.items)) in
-    takes_run number left rest (bytes_at buffer span) outcome text old new first loses few (rw is at does) same (rw is at begun) (rw is at heard) (rw is at own) ready
+    takes_run number left rest (bytes_at buffer span) outcome text old new first loses few (rw is at does) same (rw is at begun) (rw is at speaks) (rw is at own) ready
 
 -- a line that is too long
 pub takes_long : (number : ℕ) (left rest : Option (List ℕ)) (outcome : Result Unit Refusal) (text : List ℕ) (old new : LineState) → outcome ≡ Err (refusal.Fault LineTooLong) → BeginsTooLong left → Takes number left rest outcome text old new
@@ -166,7 +166,7 @@ ends_unwritten (Some bytes) (Some left) rest start p now answers text number out
     answers = answers;
     reached = reached bytes left line start p answers number at taken.some taken.first;
     front = wrote.front;
-    lost = wrote.lost;
+    unwritten = wrote.unwritten;
     last = subst (λ t. IsSaid number line t p) wrote.split (is_said number line left rest outcome text p now taken);
     said = refl;
   },
@@ -176,7 +176,7 @@ ends_unwritten (Some bytes) (Some left) rest start p now answers text number out
 -- an answer ends a run early only at a fault or a failed write
 pub ends_early : (known : Option (List ℕ)) (start : LineState) (exit : Exit) (old new : Option (List ℕ)) → (exit ≡ BadLine) ⊎ (exit ≡ WriteFault) → (exit ≡ BadLine → Writes known start BadLine old new) → (exit ≡ WriteFault → Writes known start WriteFault old new) → Writes known start exit old new
 ends_early known start exit old new (inl bad) faulty failed = rw bad (faulty bad)
-ends_early known start exit old new (inr lost) faulty failed = rw lost (failed lost)
+ends_early known start exit old new (inr broken) faulty failed = rw broken (failed broken)
 
 -- ---- the start
 

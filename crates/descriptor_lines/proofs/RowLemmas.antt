@@ -156,7 +156,7 @@ silent_line number line lines old exit text short silent ends = passed (step_of 
         by_answer : DoesLine (words_in line) answer old p ⊎ LacksMemory (words_in line) answer old p → Ends (number + 1) lines old exit text
         by_answer (inl (inl (is, none, same))) = rw (said, none, ← same) more
         by_answer (inl (inr (command, is, in_time, does, begun))) = absurd (command_is_heard _ _ _ is silent)
-        by_answer (inr lacks) = absurd (false≢true (sym lacks.heard ∙ silent))
+        by_answer (inr lacks) = absurd (false≢true (sym lacks.speaks ∙ silent))
 
 -- where memory was there for all lines, it was for the first and for the others
 pub has_memory : (answer rest text : List ℕ) → text ≡ answer ++ rest → HadMemory text → answer ≡ no_memory → ⊥

@@ -26,6 +26,6 @@ pub record EndsInFault (old new : Option (List ℕ)) : Type 0 where
 -- known bytes grow by a front of a text
 pub record AppendsFront (old new : Option (List ℕ)) (text : List ℕ) : Type 0 where
   pub front : List ℕ
-  pub lost : List ℕ
-  pub split : text ≡ front ++ lost
+  pub unwritten : List ℕ
+  pub split : text ≡ front ++ unwritten
   pub grown : Appends old new front

@@ -22,7 +22,7 @@ words_in line = words (strip_last 13 line)
 
 -- there was no memory to run a line of these words
 pub record LacksMemory (words : List (List ℕ)) (text : List ℕ) (old new : LineState) : Type 0 where
-  pub heard : IsFalse (is_silent words)
+  pub speaks : IsFalse (is_silent words)
   pub reason : IsReasonFor old words refusal.NoMemory
   pub said : text ≡ codes "refused: no memory" ++ 10 ∷ []
   pub unchanged : IsUnchanged old new
@@ -88,8 +88,8 @@ pub record BreaksOff (lines : List (List ℕ)) (start : LineState) (text : List 
   pub answers : List ℕ
   pub reached : Reached lines start answers (line ∷ left)
   pub front : List ℕ
-  pub lost : List ℕ
-  pub last : IsSaid reached.number line (front ++ lost) reached.program
+  pub unwritten : List ℕ
+  pub last : IsSaid reached.number line (front ++ unwritten) reached.program
   pub said : text ≡ answers ++ front
 
 -- what a run of these lines wrote, by how it ended

@@ -79,7 +79,7 @@ impl<D: LineDevice> Program<D> {
             ≡ begun (line_state D.ledger D.script self.old))) }
         ensures own { IfErr result (IsReasonFor (line_state D.ledger D.script self.old)
             (words line.now)) }
-        ensures heard { OnErr result (IsFalse (is_silent (words line.now))) }
+        ensures speaks { OnErr result (IsFalse (is_silent (words line.now))) }
     {
         self.device.hear(line);
         match Command::parse(self.alloc, line, &self.layouts, self.has_begun) {

@@ -5,7 +5,7 @@ ghost use Rattle.std.specs.Iterator.{IsFinite, HoldsAlong};
 ghost use Rattle.indexmap.specs.IndexMap.{get, spare};
 ghost use Rattle.gpu_descriptor_types.specs.Layouts.{layout, left};
 ghost use Rattle.descriptor_script.specs.Scripted.Raw.{raw_sets, set_id};
-ghost use Rattle.descriptor_script.specs.Inner.Live.{HasNamed, TakesBack, entries_named};
+ghost use Rattle.descriptor_script.specs.Inner.Live.{HasNamed, TakesOut, entries_named};
 ghost use Rattle.descriptor_script.specs.Inner.Live.{live_sets_of};
 
 use crate::raw::{RawSet, ScriptLayout};
@@ -62,7 +62,7 @@ pub fn take_back<I: Iterator<Item = RawSet>>(live: &mut LiveSets, sets: &mut I)
     requires ends { IsFinite (I.remaining sets.old) }
     requires live { HoldsAlong I.next_gives sets.old
         (λ xs. HasNamed (map set_id xs) (live_sets_of live.old.entries)) }
-    ensures back { TakesBack I.next_gives sets.old sets.new (live_sets_of live.old.entries)
+    ensures back { TakesOut I.next_gives sets.old sets.new (live_sets_of live.old.entries)
         (live_sets_of live.new.entries) }
     ensures fresh { (n : ℕ) → get nat_eq live.old n ≡ None → get nat_eq live.new n ≡ None }
 {

@@ -20,21 +20,21 @@ use Rattle.descriptor_script.specs.declared.raw.RawPool.{RawPool}
 use Rattle.descriptor_script.specs.declared.raw.RawSet.{RawSet}
 use Rattle.descriptor_script.specs.declared.raw.ScriptLayout.{ScriptLayout}
 use Rattle.descriptor_script.specs.declared.session.Session.{Session}
-use Rattle.descriptor_trials.specs.Pairs.{AreApart, ArePaired, IsNewSession, state_in}
+use Rattle.descriptor_trials.specs.Pairs.{AreApart, ArePaired, IsNewSession, session_state}
 use Rattle.descriptor_script.specs.Sessions.Ready.{IsScriptReady}
 
 abbrev Held : Type 0
 Held = Session ScriptLayout RawPool RawSet
 
 -- what stands in one's books is foreign to the other
-module _ (x x' y : Held) (l m : Ledger) (foreign : KeepsForeign (state_in x l) (state_in x' m)) (pair : ArePaired x y l) where
-  not_touched : (k : Key) (n : ℕ) (e : Entry) → entry_at ((state_in y l).books k) n ≡ Some e → (m.pools e.pool ≡ l.pools e.pool) × IsForeign (state_in x' m) e.pool
+module _ (x x' y : Held) (l m : Ledger) (foreign : KeepsForeign (session_state x l) (session_state x' m)) (pair : ArePaired x y l) where
+  not_touched : (k : Key) (n : ℕ) (e : Entry) → entry_at ((session_state y l).books k) n ≡ Some e → (m.pools e.pool ≡ l.pools e.pool) × IsForeign (session_state x' m) e.pool
   not_touched k n e at =
       let b = pair.other.agree.booked k n e at in
       let after = foreign e.pool b.0 (λ j i d there. pair.apart j k i n d e there at) b.1 in
       (after.0 ∙ sym b.1, after.1)
 
-  keeps : KeepsOwn (state_in y l) (state_in y m)
+  keeps : KeepsOwn (session_state y l) (session_state y m)
   keeps = record { books = λ k. refl; pools = λ k n e at. (not_touched k n e at).0 }
 
   -- after a step of one session both can make the next, and no pool stands in both books
@@ -42,8 +42,8 @@ module _ (x x' y : Held) (l m : Ledger) (foreign : KeepsForeign (state_in x l) (
   stepped ready = record {
     one = ready;
     other = record {
-      agree = own_agrees (state_in y l) (state_in y m) keeps pair.other.agree;
-      held = λ t. own_outstanding (state_in y l) (state_in y m) keeps t ∙ pair.other.held t;
+      agree = own_agrees (session_state y l) (session_state y m) keeps pair.other.agree;
+      held = λ t. own_outstanding (session_state y l) (session_state y m) keeps t ∙ pair.other.held t;
       meant = pair.other.meant;
     };
     apart = λ j k i n d e there at. (not_touched k n e at).1 j i d there;
@@ -63,9 +63,9 @@ none_there n = elim (cases_Bool (ltb n 0)) [
 ]
 
 -- an allocator without keys shares no pool
-pub none_shared : (x y : Held) (l : Ledger) (limit : ℕ) → allocator_of x ≡ record { limit = limit; table = []; looks = 0; comparisons = 0 } → AreApart (state_in x l) (state_in y l)
+pub none_shared : (x y : Held) (l : Ledger) (limit : ℕ) → allocator_of x ≡ record { limit = limit; table = []; looks = 0; comparisons = 0 } → AreApart (session_state x l) (session_state y l)
 none_shared x y l limit empty k j m n d e there at same =
-    let no_books : (state_in x l).books k ≡ no_pools = ap (λ (a : Allocations RawPool). (state_of pool_id a l).books k) empty in
+    let no_books : (session_state x l).books k ≡ no_pools = ap (λ (a : Allocations RawPool). (state_of pool_id a l).books k) empty in
     let bad : ◌≡◌ {A = Option Entry} None (Some d) = sym (none_there m) ∙ ap (λ (b : Bucket). entry_at b m) (sym no_books) ∙ there in
     cc
 

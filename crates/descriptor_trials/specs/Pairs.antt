@@ -16,8 +16,8 @@ use Rattle.descriptor_script.specs.declared.raw.ScriptLayout.{ScriptLayout}
 use Rattle.descriptor_script.specs.declared.session.Session.{Session}
 
 -- books and ledger of the session's allocator
-abbrev pub state_in : Session ScriptLayout RawPool RawSet → Ledger → State
-state_in s l = state_of pool_id (allocator_of s) l
+abbrev pub session_state : Session ScriptLayout RawPool RawSet → Ledger → State
+session_state s l = state_of pool_id (allocator_of s) l
 
 -- no key came, and no set is held
 pub record IsNewSession (s : Session ScriptLayout RawPool RawSet) : Type 0 where
@@ -34,7 +34,7 @@ AreApart s t = (k l : Key) (m n : ℕ) (d e : Entry) → entry_at (s.books k) m 
 pub record ArePaired (x y : Session ScriptLayout RawPool RawSet) (l : Ledger) : Type 0 where
   pub one : IsScriptReady x l
   pub other : IsScriptReady y l
-  pub apart : AreApart (state_in x l) (state_in y l)
+  pub apart : AreApart (session_state x l) (session_state y l)
 
 pub paired-prop : (x y : Session ScriptLayout RawPool RawSet) (l : Ledger) → IsProp (ArePaired x y l)
 paired-prop x y l = Prim.hlevel (Agree-prop, props)

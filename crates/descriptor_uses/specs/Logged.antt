@@ -23,7 +23,7 @@ abbrev pub calls_of : LogDevice → List Call
 calls_of d = d.log.calls.items
 
 -- a refused call answers its word, or there was no room in the list and none was read
-abbrev pub IsRefused : {E : Type 0} → (Answer → E) → E → E → List Answer → List Answer → Type 0
-IsRefused error_of no_room error old new =
+abbrev pub IsErrorOfCall : {E : Type 0} → (Answer → E) → E → E → List Answer → List Answer → Type 0
+IsErrorOfCall error_of no_room error old new =
     ((error ≡ error_of (next_word old)) × (new ≡ rest_words old))
     ⊎ ((error ≡ no_room) × (new ≡ old))

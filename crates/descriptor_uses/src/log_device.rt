@@ -103,7 +103,7 @@ impl LogDevice {
 
 impl DescriptorDevice<ScriptLayout, RawPool, RawSet> for LogDevice {
     ghost use Rattle.descriptor_script.specs.Inner.Finite.{scripted_finite};
-    ghost use Rattle.descriptor_uses.specs.Logged.{IsRefused, calls_of, ledger_logged, next_pool};
+    ghost use Rattle.descriptor_uses.specs.Logged.{IsErrorOfCall, calls_of, ledger_logged, next_pool};
     ghost use Rattle.descriptor_uses.specs.Logged.{script_logged};
 
     ghost pool_name = { pool_id };
@@ -134,7 +134,7 @@ impl DescriptorDevice<ScriptLayout, RawPool, RawSet> for LogDevice {
         // One word is read, and decides.
         ensures granted { OnOk result (next_word (script_logged self.old) ≡ Answer.Ok) }
         ensures rest { OnOk result (script_logged self.new ≡ rest_words (script_logged self.old)) }
-        ensures refused { IfErr result (λ e. IsRefused create_error CreatePoolError.OutOfHostMemory
+        ensures refused { IfErr result (λ e. IsErrorOfCall create_error CreatePoolError.OutOfHostMemory
             e (script_logged self.old) (script_logged self.new)) }
 
         // Where no word is left only memory or names can be wanting.
@@ -205,7 +205,7 @@ impl DescriptorDevice<ScriptLayout, RawPool, RawSet> for LogDevice {
         // One word is read, and decides.
         ensures granted { OnOk result (next_word (script_logged self.old) ≡ Answer.Ok) }
         ensures rest { OnOk result (script_logged self.new ≡ rest_words (script_logged self.old)) }
-        ensures refused { IfErr result (λ e. IsRefused alloc_error
+        ensures refused { IfErr result (λ e. IsErrorOfCall alloc_error
             DeviceAllocationError.OutOfHostMemory e (script_logged self.old)
             (script_logged self.new)) }
 

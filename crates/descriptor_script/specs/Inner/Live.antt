@@ -25,7 +25,7 @@ pub record HasNamed (names : List ℕ) (all : List LiveSet) : Type 0 where
   pub live : AreIn gone (times all)
 
 -- the iterator gave its items, up to its end, and sets of their names were taken from the list
-pub record TakesBack {I : Type 0} (steps : I → Option RawSet → I → Type 0) (old new : I) (before after : List LiveSet) : Type 0 where
+pub record TakesOut {I : Type 0} (steps : I → Option RawSet → I → Type 0) (old new : I) (before after : List LiveSet) : Type 0 where
   pub items : List RawSet
   pub drained : YieldsThen steps old items None new
   pub gone : List LiveSet

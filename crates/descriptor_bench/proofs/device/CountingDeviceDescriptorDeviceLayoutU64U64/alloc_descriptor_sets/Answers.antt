@@ -9,7 +9,7 @@ use Rattle.gpu_descriptor_types.specs.Multiset.{LiveSet, times}
 use Rattle.gpu_descriptor_types.proofs.Counting.{times-append}
 use Rattle.descriptor_bench.specs.Layouts.{counts_in}
 use Rattle.descriptor_bench.specs.Log.{OwedPool}
-use Rattle.descriptor_bench.specs.Pools.{ledger_in, seen}
+use Rattle.descriptor_bench.specs.Pools.{ledger_in, pool_owed}
 use Rattle.descriptor_bench.proofs.Rows.{change_row, live_alike, map-id, same_ledger}
 use Rattle.descriptor_bench.proofs.device.CountingDeviceDescriptorDeviceLayoutU64U64.alloc_descriptor_sets.Goals as goal
 
@@ -27,5 +27,5 @@ returns-clause-ok g c =
       kept = c.fill.ensures.kept ∙ ap (λ l. g.K.SetSink.kept c.args.sets.now ++ map (g.K.SetSink.kept_as c.args.sets.now) l) (sym (map-id (range_with_len first many)));
       alike = c.fill.ensures.alike;
       room = (let r = c.fill.ensures.room in let l = c.len-many.ensures in omega arith);
-      ledger = ap ledger_in c.note.ensures ∙ same_ledger _ _ (change_row old.rows c.args.pool.now (λ (r : OwedPool). record r { live = r.live ++ more }) (λ pool. record pool { live = λ x. pool.live x + times (live_sets (counts_in (layout c.args.layouts)) (map (λ n. n) names)) x }) (λ r at. ap (λ l. record (seen r) { live = l }) (fun_ext (λ x. times-append r.live more x ∙ ap (λ s. times r.live x + times s x) same)))) refl;
+      ledger = ap ledger_in c.note.ensures ∙ same_ledger _ _ (change_row old.rows c.args.pool.now (λ (r : OwedPool). record r { live = r.live ++ more }) (λ pool. record pool { live = λ x. pool.live x + times (live_sets (counts_in (layout c.args.layouts)) (map (λ n. n) names)) x }) (λ r at. ap (λ l. record (pool_owed r) { live = l }) (fun_ext (λ x. times-append r.live more x ∙ ap (λ s. times r.live x + times s x) same)))) refl;
     }
