@@ -9,6 +9,7 @@ use Rattle.descriptor_bench.specs.Log.{OwedPool, Log}
 abbrev pub pool_owed : OwedPool → Pool
 pool_owed r = record { counts = r.counts; capacity = r.capacity; flags = r.flags; refusals = 0; live = times r.live }
 
+-- the last that became of the pool of this name
 abbrev pub row_at : List (ℕ × Option OwedPool) → ℕ → Option OwedPool
 row_at [] q = None
 row_at (r ∷ rs) q = if nat_eq r.0 q then r.1 else row_at rs q

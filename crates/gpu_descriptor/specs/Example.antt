@@ -42,8 +42,8 @@ abbrev either : Bucket → Bucket → Bool → Bool → Bucket
 either b c is_plain is_marked = if is_plain then b else if is_marked then c else no_pools
 
 -- the books where the plain key has the one bucket and the marked key the other
-abbrev books_of : Bucket → Bucket → Key → Bucket
-books_of b c k = either b c (key_eq plain k) (key_eq marked k)
+abbrev books_with : Bucket → Bucket → Key → Bucket
+books_with b c k = either b c (key_eq plain k) (key_eq marked k)
 
 abbrev plain_pools : Bucket
 plain_pools = from 7 (unused 10 ∷ unused 11 ∷ used 12 ∷ unused 13 ∷ used 14 ∷ unused 15 ∷ [])
@@ -74,7 +74,7 @@ is_of names name = list_any (λ n. n == name) names
 
 abbrev state : State
 state = record {
-  books = books_of plain_pools marked_pools;
+  books = books_with plain_pools marked_pools;
   ledger = λ pool.
       if is_of (10 ∷ 11 ∷ 13 ∷ 15 ∷ []) pool then Some (plain_pool none)
       else if 12 == pool then Some (plain_pool (one 102))
@@ -141,7 +141,7 @@ none_back = λ i. record { books = λ k. books (key_eq plain k) (key_eq marked k
 -- set 102 goes back: its pool is empty then, so the front goes up to the pool that has a set, and numbers
 -- rise. The marked key keeps its empty front, and the last pool of the plain key stays
 first_back : released (set_102 ∷ []) state ≡ record {
-  books = books_of (from 11 (used 14 ∷ unused 15 ∷ [])) marked_pools;
+  books = books_with (from 11 (used 14 ∷ unused 15 ∷ [])) marked_pools;
   ledger = without (10 ∷ 11 ∷ 12 ∷ 13 ∷ []) state.ledger;
 }
 first_back = λ i. record { books = λ k. books (key_eq plain k) (key_eq marked k) i; ledger = λ p. ledger (10 == p) (11 == p) (12 == p) (13 == p) (state.ledger p) i }
@@ -162,7 +162,7 @@ first_back = λ i. record { books = λ k. books (key_eq plain k) (key_eq marked 
 
 -- set 104 goes back: the front goes that was empty before, and pool 14 stands empty behind a pool with a set
 second_back : released (set_104 ∷ []) state ≡ record {
-  books = books_of (from 9 (used 12 ∷ unused 13 ∷ unused 14 ∷ unused 15 ∷ [])) marked_pools;
+  books = books_with (from 9 (used 12 ∷ unused 13 ∷ unused 14 ∷ unused 15 ∷ [])) marked_pools;
   ledger = λ pool. if is_of (10 ∷ 11 ∷ []) pool then None else if 14 == pool then Some (plain_pool none) else state.ledger pool;
 }
 second_back = λ i. record { books = λ k. books (key_eq plain k) (key_eq marked k) i; ledger = λ p. ledger (10 == p) (11 == p) (14 == p) (state.ledger p) (at_14 p) i }
@@ -191,7 +191,7 @@ second_back = λ i. record { books = λ k. books (key_eq plain k) (key_eq marked
 
 -- both go back: all pools are empty then, and the last one stays
 both_back : released (set_104 ∷ set_102 ∷ []) state ≡ record {
-  books = books_of (from 12 (unused 15 ∷ [])) marked_pools;
+  books = books_with (from 12 (unused 15 ∷ [])) marked_pools;
   ledger = without (10 ∷ 11 ∷ 12 ∷ 13 ∷ 14 ∷ []) state.ledger;
 }
 both_back = λ i. record { books = λ k. books (key_eq plain k) (key_eq marked k) i; ledger = λ p. ledger (10 == p) (11 == p) (12 == p) (13 == p) (14 == p) (state.ledger p) i }
@@ -221,7 +221,7 @@ one_by_one = refl
 -- pools, the last one too, and is as one that never came
 abbrev cleaned : State
 cleaned = record {
-  books = books_of (from 9 (used 12 ∷ unused 13 ∷ used 14 ∷ unused 15 ∷ [])) no_pools;
+  books = books_with (from 9 (used 12 ∷ unused 13 ∷ used 14 ∷ unused 15 ∷ [])) no_pools;
   ledger = without (10 ∷ 11 ∷ 20 ∷ 21 ∷ []) state.ledger;
 }
 
