@@ -21,7 +21,7 @@ ghost use Rattle.gpu_descriptor.specs.Inner.Serves.{ServesKey, IsUnserved};
 
 use super::DescriptorAllocator;
 use super::free::descriptors_of_sets;
-use crate::bucket::take::{Refusal, Served, Stop};
+use crate::bucket::take::{Refusal, Served, SetRequest, Stop};
 use crate::bucket::{DescriptorBucket, is_past_bound};
 use crate::errors::AllocationError;
 use crate::flags::DescriptorSetLayoutCreateFlags;
@@ -126,12 +126,11 @@ impl<P: Drop, S: Drop> DescriptorAllocator<P, S> {
         if is_past_bound(outstanding, count) {
             return Err(AllocationError::Fragmentation);
         }
+        let request = SetRequest { layout, key, count };
         let served = serve_key(
             &mut self.buckets,
             device,
-            layout,
-            key,
-            count,
+            &request,
             &mut self.update_after_bind_room,
             self.alloc,
             &mut self.looks,
@@ -163,35 +162,34 @@ impl<P: Drop, S: Drop> DescriptorAllocator<P, S> {
 fn serve_key<L, P: Drop, S: Drop, D: DescriptorDevice<L, P, S>>(
     buckets: &mut IndexMap<BucketKey, DescriptorBucket<P>>,
     device: &mut D,
-    layout: &L,
-    key: BucketKey,
-    count: u32,
+    request: &SetRequest<'_, L>,
     room: &mut u32,
     alloc: Global,
     looks: &mut Tally,
 ) -> Result<Served<S>, AllocationError>
-    requires same { key_of key ≡ layout_key D.layout_counts D.layout_mark layout.now }
-    requires booked { AreBookedIn (key_of key) (D.ledger device.old).pools
-        (books_in D.pool_name buckets.old.entries (key_of key)).pools }
-    requires bound { sum_by (λ r. r.1.total) buckets.old.entries + count < 2 ^ 64 }
-    ensures served { IfOk result (λ r. ServesKey D.pool_name D.set_name key room.old count
-        r.sets.items r.taken buckets.old.entries buckets.new.entries
+    requires same { key_of request.now.key ≡ layout_key D.layout_counts D.layout_mark
+        request.now.layout.now }
+    requires booked { AreBookedIn (key_of request.now.key) (D.ledger device.old).pools
+        (books_in D.pool_name buckets.old.entries (key_of request.now.key)).pools }
+    requires bound { sum_by (λ r. r.1.total) buckets.old.entries + request.now.count < 2 ^ 64 }
+    ensures served { IfOk result (λ r. ServesKey D.pool_name D.set_name request.now.key room.old
+        request.now.count r.sets.items r.taken buckets.old.entries buckets.new.entries
         (D.ledger device.old) (D.ledger device.new)) }
-    ensures refused { IfErr result (λ e. IsUnserved count e
-        (books_in D.pool_name buckets.old.entries (key_of key))) }
+    ensures refused { IfErr result (λ e. IsUnserved request.now.count e
+        (books_in D.pool_name buckets.old.entries (key_of request.now.key))) }
     ensures looks { looks.new.count + (D.ledger device.old).counters.asked
         ≡ looks.old.count + (D.ledger device.new).counters.asked }
     ensures looks_stay { OnErr result (looks.new ≡ looks.old) }
     ensures room { room.new + sum_by stored_load_in buckets.new.entries
         ≡ room.old + sum_by stored_load_in buckets.old.entries }
-    ensures keys { OnOk result (StayOrGainLast (key_of key)
+    ensures keys { OnOk result (StayOrGainLast (key_of request.now.key)
         (stored_keys buckets.old.entries) (stored_keys buckets.new.entries)) }
     ensures distinct { OnOk result (IsDistinct key_eq (stored_keys buckets.new.entries)) }
     ensures entries { OnErr result (buckets.new.entries ≡ buckets.old.entries) }
     ensures ledger { OnErr result (D.ledger device.new ≡ D.ledger device.old) }
 {
-    match buckets.get_mut(&key) {
-        Some(bucket) => return bucket.serve(device, layout, &key, count, room, alloc, looks),
+    match buckets.get_mut(&request.key) {
+        Some(bucket) => return bucket.serve(device, request, room, alloc, looks),
         None => {}
     }
     if buckets.reserve(1).is_err() {
@@ -203,11 +201,11 @@ fn serve_key<L, P: Drop, S: Drop, D: DescriptorDevice<L, P, S>>(
         listed: VecDeque::new(alloc),
         total: 0,
     };
-    let served = match bucket.serve(device, layout, &key, count, room, alloc, looks) {
+    let served = match bucket.serve(device, request, room, alloc, looks) {
         Ok(served) => served,
         Err(error) => return Err(error),
     };
-    match buckets.insert(key, bucket) {
+    match buckets.insert(request.key, bucket) {
         Ok(_) => Ok(served),
         Err(_) => unreachable!(),
     }

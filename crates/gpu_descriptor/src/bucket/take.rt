@@ -59,6 +59,14 @@ pub(crate) enum Refusal {
     New(Stop),
 }
 
+/// What a request asks for: so many sets of a layout, whose pools have this key.
+#[derive(Drop)]
+pub(crate) struct SetRequest<'a, L> {
+    pub(crate) layout: &'a L,
+    pub(crate) key: BucketKey,
+    pub(crate) count: u32,
+}
+
 /// What a request took, before any of it goes back.
 pub(crate) struct Served<S> {
     /// The sets that came.
@@ -359,36 +367,37 @@ impl<P: Drop> DescriptorBucket<P> {
     pub(crate) fn serve<L, S: Drop, D: DescriptorDevice<L, P, S>>(
         &mut self,
         device: &mut D,
-        layout: &L,
-        key: &BucketKey,
-        count: u32,
+        request: &SetRequest<'_, L>,
         room: &mut u32,
         alloc: Global,
         looks: &mut Tally,
     ) -> Result<Served<S>, AllocationError>
-        requires same { key_of key.now ≡ layout_key D.layout_counts D.layout_mark layout.now }
-        requires booked { AreBookedIn (key_of key.now) (D.ledger device.old).pools
+        requires same { key_of request.now.key ≡ layout_key D.layout_counts D.layout_mark
+            request.now.layout.now }
+        requires booked { AreBookedIn (key_of request.now.key) (D.ledger device.old).pools
             (bucket_of D.pool_name self.old).pools }
-        requires bound { self.old.total + count < 2 ^ 64 }
-        ensures served { IfOk result (λ r. Serves D.pool_name D.set_name (key_of key.now) room.old
-            count r.sets.items r.taken self.old self.new
+        requires bound { self.old.total + request.now.count < 2 ^ 64 }
+        ensures served { IfOk result (λ r. Serves D.pool_name D.set_name (key_of request.now.key)
+            room.old request.now.count r.sets.items r.taken self.old self.new
             (D.ledger device.old) (D.ledger device.new)) }
-        ensures refused { IfErr result (λ e. IsUnserved count e (bucket_of D.pool_name self.old)) }
+        ensures refused { IfErr result (λ e. IsUnserved request.now.count e
+            (bucket_of D.pool_name self.old)) }
         ensures looks { looks.new.count + (D.ledger device.old).counters.asked
             ≡ looks.old.count + (D.ledger device.new).counters.asked }
         ensures looks_stay { OnErr result (looks.new ≡ looks.old) }
-        ensures room { room.new + stored_load (key_of key.now) self.new.pools.items
-            ≡ room.old + stored_load (key_of key.now) self.old.pools.items }
+        ensures room { room.new + stored_load (key_of request.now.key) self.new.pools.items
+            ≡ room.old + stored_load (key_of request.now.key) self.old.pools.items }
         ensures bucket { OnErr result (self.new ≡ self.old) }
         ensures ledger { OnErr result (D.ledger device.new ≡ D.ledger device.old) }
     {
+        let SetRequest { layout, key, count } = *request;
         if is_past_bound(self.offset + self.pools.len() as u64, count) {
             return Err(AllocationError::Fragmentation);
         }
-        let Ok(mut sink) = Allocation::with_room(alloc, *key, count) else {
+        let Ok(mut sink) = Allocation::with_room(alloc, key, count) else {
             return Err(AllocationError::OutOfHostMemory);
         };
-        let taken = self.take(device, layout, key, count, room, &mut sink, looks);
+        let taken = self.take(device, layout, &key, count, room, &mut sink, looks);
         let sets = sink.into_sets();
         Ok(Served { sets, taken })
     }

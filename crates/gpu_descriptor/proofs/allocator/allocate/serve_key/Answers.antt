@@ -37,12 +37,12 @@ on_ok (Ok x) a = a
 on_ok (Err e) a = tt
 
 -- the row of the key
-row : (g : _) (c : In-Some g) → IsRow (key_of c.args.key) c.args.buckets.now.entries c.in-Some.bucket.now
+row : (g : _) (c : In-Some g) → IsRow (key_of c.args.request.now.key) c.args.buckets.now.entries c.in-Some.bucket.now
 row g c = record { test = _; same = λ k. search rules; at = sym c.get_mut.ensures.value ∙ ap option_copied_mut c.in-Some.is }
 
 pub serve-requires-clause-booked : goal.serve-requires-clause-booked
 serve-requires-clause-booked g c =
-    subst (λ (b : Bucket). AreBookedIn (key_of c.args.key) (g.D.DescriptorDevice.ledger c.args.device.now).pools b.pools) (present g.D.DescriptorDevice.pool_name (row g (goal.at.serve-requires-clause-booked g c).In-Some)) c.requires.booked
+    subst (λ (b : Bucket). AreBookedIn (key_of c.args.request.now.key) (g.D.DescriptorDevice.ledger c.args.device.now).pools b.pools) (present g.D.DescriptorDevice.pool_name (row g (goal.at.serve-requires-clause-booked g c).In-Some)) c.requires.booked
 
 pub serve-requires-clause-bound : goal.serve-requires-clause-bound
 serve-requires-clause-bound g c =
@@ -51,7 +51,7 @@ serve-requires-clause-bound g c =
     omega arith
 
 -- the row that is left
-left : (g : _) (c : After-serve g) → IsWritten (key_of c.args.key) c.args.buckets.now.entries (c.get_mut.follows.lender c.serve.new.self).entries c.in-Some.bucket.now c.serve.new.self
+left : (g : _) (c : After-serve g) → IsWritten (key_of c.args.request.now.key) c.args.buckets.now.entries (c.get_mut.follows.lender c.serve.new.self).entries c.in-Some.bucket.now c.serve.new.self
 left g c = record {
   row = record { test = _; same = λ k. search rules; at = sym c.get_mut.ensures.value ∙ ap option_copied_mut c.in-Some.is };
   wrote = (c.get_mut.follows.holds c.serve.new.self).0;
@@ -60,12 +60,12 @@ left g c = record {
 pub returns-in-Some-clause-served : goal.returns-in-Some-clause-served
 returns-in-Some-clause-served g c =
     let r = left g (goal.at.returns-in-Some-clause-served g c).After-serve in
-    if_ok _ _ c.serve.result (λ taken s. serves_present c.args.key s r) c.serve.ensures.served
+    if_ok _ _ c.serve.result (λ taken s. serves_present c.args.request.now.key s r) c.serve.ensures.served
 
 pub returns-in-Some-clause-refused : goal.returns-in-Some-clause-refused
 returns-in-Some-clause-refused g c =
     let is = present g.D.DescriptorDevice.pool_name (row g (goal.at.returns-in-Some-clause-refused g c).In-Some) in
-    if_err _ _ c.serve.result (λ e why. subst (λ (b : Bucket). IsUnserved c.args.count e b) (sym is) why) c.serve.ensures.refused
+    if_err _ _ c.serve.result (λ e why. subst (λ (b : Bucket). IsUnserved c.args.request.now.count e b) (sym is) why) c.serve.ensures.refused
 
 pub returns-in-Some-clause-entries : goal.returns-in-Some-clause-entries
 returns-in-Some-clause-entries g c = on_err c.serve.result (written-same (left g (goal.at.returns-in-Some-clause-entries g c).After-serve)) c.serve.ensures.bucket
@@ -74,41 +74,41 @@ pub returns-in-Some-clause-room : goal.returns-in-Some-clause-room
 returns-in-Some-clause-room g c = pools_set (left g (goal.at.returns-in-Some-clause-room g c).After-serve) _ _ c.serve.ensures.room
 
 pub returns-in-Some-clause-keys : goal.returns-in-Some-clause-keys
-returns-in-Some-clause-keys g c = on_ok c.serve.result (keys_written (key_of c.args.key) _ c.args.buckets.now.entries _ c.serve.new.self (c.get_mut.follows.holds c.serve.new.self).0)
+returns-in-Some-clause-keys g c = on_ok c.serve.result (keys_written (key_of c.args.request.now.key) _ c.args.buckets.now.entries _ c.serve.new.self (c.get_mut.follows.holds c.serve.new.self).0)
 
 -- a key that the table lacks has no pools
-absent : (g : _) (c : In-None g) → books_in g.D.DescriptorDevice.pool_name c.args.buckets.now.entries (key_of c.args.key) ≡ no_pools
-absent g c = missing g.D.DescriptorDevice.pool_name (key_of c.args.key) c.args.buckets.now.entries _ (λ k. search rules) (sym c.get_mut.ensures.value ∙ ap option_copied_mut c.in-None.is)
+absent : (g : _) (c : In-None g) → books_in g.D.DescriptorDevice.pool_name c.args.buckets.now.entries (key_of c.args.request.now.key) ≡ no_pools
+absent g c = missing g.D.DescriptorDevice.pool_name (key_of c.args.request.now.key) c.args.buckets.now.entries _ (λ k. search rules) (sym c.get_mut.ensures.value ∙ ap option_copied_mut c.in-None.is)
 
 pub returns-then-is_err-clause-refused : goal.returns-then-is_err-clause-refused
 returns-then-is_err-clause-refused g c =
     let is = absent g (goal.at.returns-then-is_err-clause-refused g c).In-None in
-    inl (refl, subst (λ (b : Bucket). next_number b + c.args.count ≤ greatest_u64) (sym is) (let n = c.ranges.count.fits in omega arith))
+    inl (refl, subst (λ (b : Bucket). next_number b + c.args.request.now.count ≤ greatest_u64) (sym is) (let n = c.requires.bound in omega arith))
 
 pub returns-in-Err-clause-refused : goal.returns-in-Err-clause-refused
 returns-in-Err-clause-refused g c =
     let is = absent g (goal.at.returns-in-Err-clause-refused g c).In-None in
     let empty : no_pools ≡ record { first = 0; pools = map (entry_of g.D.DescriptorDevice.pool_name) c.new.result.items } = λ i. record { first = 0; pools = map (entry_of g.D.DescriptorDevice.pool_name) (sym c.new.ensures.items i) } in
-    subst (λ (b : Bucket). IsUnserved c.args.count c.in-Err.error b) (sym (is ∙ empty)) c.in-Err.ensures.refused
+    subst (λ (b : Bucket). IsUnserved c.args.request.now.count c.in-Err.error b) (sym (is ∙ empty)) c.in-Err.ensures.refused
 
 -- the new key goes last
-put : (g : _) (c : In-Ok-insert g) → c.insert.new.self.entries ≡ c.args.buckets.now.entries ++ (c.args.key, c.serve-2.new.self) ∷ []
+put : (g : _) (c : In-Ok-insert g) → c.insert.new.self.entries ≡ c.args.buckets.now.entries ++ (c.args.request.now.key, c.serve-2.new.self) ∷ []
 put g c =
-    put_new _ c.args.buckets.now c.args.key c.serve-2.new.self c.reserve.new.self.entries c.insert.new.self.entries c.in-Ok-insert.ensures.entries (c.reserve.ensures.entries ∙ ap (λ b. b.entries) c.get_mut.follows.holds-at-none)
+    put_new _ c.args.buckets.now c.args.request.now.key c.serve-2.new.self c.reserve.new.self.entries c.insert.new.self.entries c.in-Ok-insert.ensures.entries (c.reserve.ensures.entries ∙ ap (λ b. b.entries) c.get_mut.follows.holds-at-none)
     (sym c.get_mut.ensures.value ∙ ap option_copied_mut c.in-None.is)
 
 pub returns-clause-served : goal.returns-clause-served
 returns-clause-served g c =
-    serves_new c.args.key c.in-Ok.ensures.served _ (λ k. search rules) (sym c.get_mut.ensures.value ∙ ap option_copied_mut c.in-None.is) (put g (goal.at.returns-clause-served g c).In-Ok-insert) refl c.new.ensures.items refl
+    serves_new c.args.request.now.key c.in-Ok.ensures.served _ (λ k. search rules) (sym c.get_mut.ensures.value ∙ ap option_copied_mut c.in-None.is) (put g (goal.at.returns-clause-served g c).In-Ok-insert) refl c.new.ensures.items refl
 
 pub returns-clause-room : goal.returns-clause-room
 returns-clause-room g c =
-    let empty : stored_load (key_of c.args.key) c.new.result.items ≡ 0 = ap (stored_load (key_of c.args.key)) c.new.ensures.items in
+    let empty : stored_load (key_of c.args.request.now.key) c.new.result.items ≡ 0 = ap (stored_load (key_of c.args.request.now.key)) c.new.ensures.items in
     let moved = c.serve-2.ensures.room in
-    rw (put g (goal.at.returns-clause-room g c).In-Ok-insert) (pools_end c.args.key c.args.buckets.now.entries c.serve-2.new.self c.serve-2.new.room c.args.room.now (omega arith))
+    rw (put g (goal.at.returns-clause-room g c).In-Ok-insert) (pools_end c.args.request.now.key c.args.buckets.now.entries c.serve-2.new.self c.serve-2.new.room c.args.room.now (omega arith))
 
 pub returns-clause-keys : goal.returns-clause-keys
-returns-clause-keys g c = keys_put (key_of c.args.key) c.args.key c.args.buckets.now.entries c.insert.new.self.entries c.serve-2.new.self refl (put g (goal.at.returns-clause-keys g c).In-Ok-insert)
+returns-clause-keys g c = keys_put (key_of c.args.request.now.key) c.args.request.now.key c.args.buckets.now.entries c.insert.new.self.entries c.serve-2.new.self refl (put g (goal.at.returns-clause-keys g c).In-Ok-insert)
 
 pub returns-in-Some-clause-distinct : goal.returns-in-Some-clause-distinct
 returns-in-Some-clause-distinct g c =

@@ -12,12 +12,12 @@ use Rattle.gpu_descriptor.proofs.bucket.DescriptorBucket.serve.Goals as goal
 
 pub returns-clause-served : goal.returns-clause-served
 returns-clause-served g c =
-    let key : Key = key_of c.args.key.now in
+    let key : Key = key_of c.args.request.now.key in
     let l : Ledger = g.D.DescriptorDevice.ledger c.args.device.now in
     let m : Ledger = g.D.DescriptorDevice.ledger c.take-taken.new.device in
-    subst (λ (x : List (DescriptorSet g.row.S.Denot)). Serves g.D.DescriptorDevice.pool_name g.D.DescriptorDevice.set_name key c.args.room.now c.args.count x c.take-taken.result c.args.self.now c.take-taken.new.self l m) (sym c.into_sets-sets.ensures) (record {
+    subst (λ (x : List (DescriptorSet g.row.S.Denot)). Serves g.D.DescriptorDevice.pool_name g.D.DescriptorDevice.set_name key c.args.room.now c.args.request.now.count x c.take-taken.result c.args.self.now c.take-taken.new.self l m) (sym c.into_sets-sets.ensures) (record {
       numbers = (
-          let below : c.args.self.now.offset + c.len.result + c.args.count ≤ greatest_u64 = ltb-false greatest_u64 (c.args.self.now.offset + c.len.result + c.args.count) (sym c.is_past_bound.ensures ∙ c.if-is_past_bound.false) in
+          let below : c.args.self.now.offset + c.len.result + c.args.request.now.count ≤ greatest_u64 = ltb-false greatest_u64 (c.args.self.now.offset + c.len.result + c.args.request.now.count) (sym c.is_past_bound.ensures ∙ c.if-is_past_bound.false) in
           let long = length-map c.args.self.now.pools.items (entry_of g.D.DescriptorDevice.pool_name) in
           let n = c.len.ensures in
           let ok = c.args.self.now.pools.ok.0 in
