@@ -5,6 +5,10 @@ use Rattle.descriptor_lines.specs.Lines.{known_left}
 use Rattle.descriptor_lines.specs.declared.input.LineBuffer.{LineBuffer}
 use Rattle.descriptor_lines.specs.declared.input.Span.{Span}
 
+-- the most read calls of a run
+abbrev pub most_reads : ℕ
+most_reads = 100000000
+
 -- the bytes in the buffer that are in no line yet
 abbrev pub buffered : LineBuffer → List ℕ
 buffered buffer = slice_range buffer.bytes.items buffer.start buffer.end

@@ -45,10 +45,6 @@ longest_line = 4096
 abbrev pub buffer_len : ℕ
 buffer_len = 65536
 
--- the most read calls of a run
-abbrev pub most_reads : ℕ
-most_reads = 100000000
-
 -- the first line of known bytes has more bytes than a line may have
 abbrev pub BeginsTooLong : Option (List ℕ) → Type 0
 BeginsTooLong known = IfSome known (λ bytes. longest_line < length (before_end bytes))

@@ -128,11 +128,11 @@ impl<P: Drop, S: Drop> DescriptorAllocator<P, S> {
         }
         let request = SetRequest { layout, key, count };
         let served = serve_key(
+            self.alloc,
             &mut self.buckets,
             device,
             &request,
             &mut self.update_after_bind_room,
-            self.alloc,
             &mut self.looks,
         );
         let Served { sets, taken } = match served {
@@ -160,11 +160,11 @@ impl<P: Drop, S: Drop> DescriptorAllocator<P, S> {
 
 /// Takes sets of a key. If the key is absent, it is put last.
 fn serve_key<L, P: Drop, S: Drop, D: DescriptorDevice<L, P, S>>(
+    alloc: Global,
     buckets: &mut IndexMap<BucketKey, DescriptorBucket<P>>,
     device: &mut D,
     request: &SetRequest<'_, L>,
     room: &mut u32,
-    alloc: Global,
     looks: &mut Tally,
 ) -> Result<Served<S>, AllocationError>
     requires same { key_of request.now.key ≡ layout_key D.layout_counts D.layout_mark
