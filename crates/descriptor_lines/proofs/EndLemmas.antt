@@ -17,7 +17,7 @@ use Rattle.descriptor_lines.specs.LineStates.{LineState}
 use Rattle.descriptor_lines.specs.Lines.{BeginsTooLong, LosesLine, after_end, before_end, lines_of, known_left}
 use Rattle.descriptor_lines.specs.Outcomes.{AppendsFront, IsNoFault, said_of}
 use Rattle.descriptor_lines.specs.Programs.{CanRun, DoesLine, IsFresh, IsReasonFor, IsUnchanged}
-use Rattle.descriptor_lines.specs.Transcripts.{IsAnswered, IsFaultOfLine, IsSaid, Reached, Writes, WritesFromStart, words_in}
+use Rattle.descriptor_lines.specs.Transcripts.{IsAnswered, IsAtLine, IsFaultOfLine, IsSaid, Writes, WritesFromStart, words_in}
 use Rattle.descriptor_lines.specs.declared.exit.Exit.{Exit}
 use Rattle.descriptor_lines.specs.declared.exit.Exit.TheVariants.{BadLine, Done, NoMemory, ReadFault, WriteFault}
 use Rattle.descriptor_lines.specs.declared.input.LineBuffer.{LineBuffer}
@@ -115,10 +115,10 @@ ends_unread (Some bytes) (Some left) start p answers number old new at grown =
     (answers, (lines_of left, record { number = number; program = p; reaches = at }), grown)
 
 -- where a run has come to, with the next line
-abbrev reached : (bytes left line : List ℕ) (start p : LineState) (answers : List ℕ) (number : ℕ) → Stands (Some bytes) start answers number (Some left) p → 0 < length left → line ≡ before_end left → Reached (lines_of bytes) start answers (line ∷ lines_of (after_end left))
-reached bytes left line start p answers number at some first =
+abbrev at_line : (bytes left line : List ℕ) (start p : LineState) (answers : List ℕ) (number : ℕ) → Stands (Some bytes) start answers number (Some left) p → 0 < length left → line ≡ before_end left → IsAtLine (lines_of bytes) start
+at_line bytes left line start p answers number at some first =
     let split : lines_of left ≡ line ∷ lines_of (after_end left) = lines_split left some ∙ ap (λ l. l ∷ lines_of (after_end left)) (sym first) in
-    record { number = number; program = p; reaches = rw split at at }
+    record { line = line; left = lines_of (after_end left); answers = answers; reached = record { number = number; program = p; reaches = rw split at at } }
 
 ends_refused : (known left rest : Option (List ℕ)) (start p now : LineState) (answers text : List ℕ) (number : ℕ) (outcome : Result Unit Refusal) (fault : Fault) (old mid new : Option (List ℕ)) → outcome ≡ Err (refusal.Fault fault) → Stands known start answers number left p → Takes number left rest outcome text p now → Appends old mid answers → Appends mid new (said_of number outcome text) → Writes known start BadLine old new
 ends_refused None left rest start p now answers text number outcome fault old mid new is at takes before said = tt
@@ -127,10 +127,7 @@ ends_refused (Some bytes) (Some left) rest start p now answers text number outco
     let last : said_of number outcome text ≡ fault_line number fault = ap (λ o. said_of number o text) is in (
       answers ++ said_of number outcome text,
       record {
-        line = line;
-        left = lines_of (after_end left);
-        answers = answers;
-        reached = reached bytes left line start p answers number at taken.some taken.first;
+        at = at_line bytes left line start p answers number at taken.some taken.first;
         last = said_of number outcome text;
         refused = record { fault = fault; wrong = taken.wrong fault is; said = last };
         said = refl;
@@ -161,10 +158,7 @@ ends_unwritten (Some bytes) None rest start p now answers text number outcome ol
 ends_unwritten (Some bytes) (Some left) rest start p now answers text number outcome old mid new at (line, taken) before wrote = (
   answers ++ wrote.front,
   record {
-    line = line;
-    left = lines_of (after_end left);
-    answers = answers;
-    reached = reached bytes left line start p answers number at taken.some taken.first;
+    at = at_line bytes left line start p answers number at taken.some taken.first;
     front = wrote.front;
     unwritten = wrote.unwritten;
     last = subst (λ t. IsSaid number line t p) wrote.split (is_said number line left rest outcome text p now taken);

@@ -69,7 +69,7 @@ end_of number old NoMemory text ends = absurd ends
 pub ends_from : (lines : List (List ℕ)) (start : LineState) (exit : Exit) (text : List ℕ) → (exit ≡ Done) ⊎ (exit ≡ BadLine) → Wrote lines start exit text → Ends 1 lines start exit text
 ends_from lines start Done text well wrote = (wrote.number, wrote.program, wrote.reaches)
 ends_from lines start BadLine text well wrote =
-    (wrote.reached.number, wrote.line, wrote.left, wrote.reached.program, wrote.answers, wrote.last, wrote.reached.reaches, wrote.refused, wrote.said)
+    (wrote.at.reached.number, wrote.at.line, wrote.at.left, wrote.at.reached.program, wrote.at.answers, wrote.last, wrote.at.reached.reaches, wrote.refused, wrote.said)
 ends_from lines start ReadFault text (inl well) wrote = cc
 ends_from lines start ReadFault text (inr well) wrote = cc
 ends_from lines start WriteFault text (inl well) wrote = cc

@@ -71,26 +71,27 @@ pub record Reached (lines : List (List ℕ)) (start : LineState) (text : List �
   pub program : LineState
   pub reaches : Reaches 1 lines start text number left program
 
--- the lines before a faulty one were answered, and then its fault was said
-pub record StopsAtFault (lines : List (List ℕ)) (start : LineState) (text : List ℕ) : Type 0 where
+-- a run has come to a line: those before it were answered
+pub record IsAtLine (lines : List (List ℕ)) (start : LineState) : Type 0 where
   pub line : List ℕ
   pub left : List (List ℕ)
   pub answers : List ℕ
   pub reached : Reached lines start answers (line ∷ left)
-  pub last : List ℕ
-  pub refused : IsRefused reached.number line last reached.program
-  pub said : text ≡ answers ++ last
 
--- the lines before one were answered, and then a front of what there is to say of that
+-- it came to a faulty line, and then the fault was said
+pub record StopsAtFault (lines : List (List ℕ)) (start : LineState) (text : List ℕ) : Type 0 where
+  pub at : IsAtLine lines start
+  pub last : List ℕ
+  pub refused : IsRefused at.reached.number at.line last at.reached.program
+  pub said : text ≡ at.answers ++ last
+
+-- it came to a line, and then a front was written of what there is to say of that
 pub record BreaksOff (lines : List (List ℕ)) (start : LineState) (text : List ℕ) : Type 0 where
-  pub line : List ℕ
-  pub left : List (List ℕ)
-  pub answers : List ℕ
-  pub reached : Reached lines start answers (line ∷ left)
+  pub at : IsAtLine lines start
   pub front : List ℕ
   pub unwritten : List ℕ
-  pub last : IsSaid reached.number line (front ++ unwritten) reached.program
-  pub said : text ≡ answers ++ front
+  pub last : IsSaid at.reached.number at.line (front ++ unwritten) at.reached.program
+  pub said : text ≡ at.answers ++ front
 
 -- what a run of these lines wrote, by how it ended
 abbrev pub Wrote : List (List ℕ) → LineState → Exit → List ℕ → Type 0
