@@ -37,8 +37,8 @@ pub struct Layouts {
 
 impl Layouts {
     ghost use Rattle.descriptor_lines.specs.LayoutTable.{layout_at, layout_count};
-    ghost use Rattle.descriptor_lines.specs.LayoutTable.{layout_named, layouts_in};
-    ghost use Rattle.descriptor_lines.specs.LayoutTable.{HasSparePlace, IsNewKey, SameLayouts, most_layouts};
+    ghost use Rattle.descriptor_lines.specs.LayoutTable.{layout_named, layouts_in, most_layouts};
+    ghost use Rattle.descriptor_lines.specs.LayoutTable.{HasSparePlace, IsNewKey, SameLayouts};
 
     pub fn new(alloc: Global) -> Self
         ensures { layouts_in result ≡ [] }

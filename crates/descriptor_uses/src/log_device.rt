@@ -103,8 +103,8 @@ impl LogDevice {
 
 impl DescriptorDevice<ScriptLayout, RawPool, RawSet> for LogDevice {
     ghost use Rattle.descriptor_script.specs.Inner.Finite.{scripted_finite};
-    ghost use Rattle.descriptor_uses.specs.Logged.{IsErrorOfCall, calls_of, ledger_logged, next_pool};
-    ghost use Rattle.descriptor_uses.specs.Logged.{script_logged};
+    ghost use Rattle.descriptor_uses.specs.Logged.{IsErrorOfCall, calls_of, ledger_logged};
+    ghost use Rattle.descriptor_uses.specs.Logged.{next_pool, script_logged};
 
     ghost pool_name = { pool_id };
 
@@ -134,8 +134,9 @@ impl DescriptorDevice<ScriptLayout, RawPool, RawSet> for LogDevice {
         // One word is read, and decides.
         ensures granted { OnOk result (next_word (script_logged self.old) ≡ Answer.Ok) }
         ensures rest { OnOk result (script_logged self.new ≡ rest_words (script_logged self.old)) }
-        ensures refused { IfErr result (λ e. IsErrorOfCall create_error CreatePoolError.OutOfHostMemory
-            e (script_logged self.old) (script_logged self.new)) }
+        ensures refused { IfErr result (λ e. IsErrorOfCall create_error
+            CreatePoolError.OutOfHostMemory e (script_logged self.old)
+            (script_logged self.new)) }
 
         // Where no word is left only memory or names can be wanting.
         ensures at_end { script_logged self.old ≡ []
