@@ -1,5 +1,5 @@
 //! The device that the lines speak to.
-ghost use Rattle.std.specs.Prelude.{◌≡◌, ◌-◌, ◌^◌, List, min};
+ghost use Rattle.std.specs.Prelude.{◌≡◌, ◌-◌, ◌^◌, Bool, List, false, min};
 ghost use Rattle.descriptor_script.specs.declared.answer.Answer.{Answer};
 ghost use Rattle.descriptor_lines.specs.LineDevices.{HasScriptedMeanings};
 
@@ -18,13 +18,17 @@ pub trait LineDevice: ScriptedMeaning {
     /// The words that are still to be read.
     ghost script: { Self → List Answer };
 
+    /// Whether something was lost that was to be written down.
+    ghost lost: { Self → Bool };
+
     /// Hears a line that was read, before anything is run of it.
     fn hear(&mut self, line: &[u8])
         ensures ledger { Self.ledger self.new ≡ Self.ledger self.old }
         ensures script { script self.new ≡ script self.old };
 
     /// Whether the device lost something that it was to write down.
-    fn has_lost(&self) -> bool;
+    fn has_lost(&self) -> bool
+        ensures { result ≡ lost self.now };
 
     /// Gives up the words that are still to come, and begins with these.
     fn load(&mut self, words: Vec<Answer>)
@@ -59,6 +63,8 @@ impl LineDevice for ScriptedDevice {
     ghost use Rattle.descriptor_script.specs.Scripted.Device.{script_of};
 
     ghost script = { script_of };
+
+    ghost lost = { λ _. false };
 
     fn hear(&mut self, _: &[u8]) {}
 

@@ -52,6 +52,7 @@ impl<D: LineDevice> Program<D> {
         requires script { D.script device ≡ [] }
         ensures ready { CanRun (line_state D.ledger D.script result) }
         ensures fresh { IsFresh (line_state D.ledger D.script result) }
+        ensures device { result.device ≡ device }
     {
         Program {
             alloc,
@@ -115,6 +116,8 @@ fn run_to_end<D: LineDevice, R: Read, W: Write>(
     ensures bad_line { result ≡ Exit.BadLine → EndsInFault (W.contents output.old)
         (W.contents output.new) }
     ensures memory { result ≢ Exit.NoMemory }
+    ensures whole { result ≢ Exit.WriteFault → IsFalse (D.lost program.old.device)
+        → IsFalse (D.lost program.new.device) }
 {
     for number in 1..=u64::MAX {
         let outcome = match lines.next_line(input) {
@@ -141,28 +144,32 @@ pub fn run_lines<R: Read, W: Write>(alloc: Global, input: &mut R, output: &mut W
         (W.contents output.old) (W.contents output.new) }
 {
     let device = ScriptedDevice::new(alloc, Vec::new(alloc));
-    run_lines_on(alloc, device, input, output)
+    let (exit, _) = run_lines_on(alloc, device, input, output);
+    exit
 }
 
-/// The same on any device that has nothing live yet and no script. It ends with
-/// [`Exit::WriteFault`] where the device lost something that it was to write down.
+/// The same on any device that has nothing live yet and no script, which is given back. It ends
+/// with [`Exit::WriteFault`] where the device lost something that it was to write down.
 pub fn run_lines_on<D: LineDevice + Drop, R: Read, W: Write>(
     alloc: Global,
     device: D,
     input: &mut R,
     output: &mut W,
-) -> Exit
+) -> (Exit, D)
     requires ledger { D.ledger device ≡ empty_ledger }
     requires script { D.script device ≡ [] }
-    ensures runs { RunsLines (R.remaining input.old) (R.remaining input.new) result
+    ensures runs { RunsLines (R.remaining input.old) (R.remaining input.new) result.0
         (W.contents output.old) (W.contents output.new) }
+    ensures whole { result.0 ≢ Exit.WriteFault → IsFalse (D.lost device)
+        → IsFalse (D.lost result.1) }
 {
     let Ok(mut lines) = LineBuffer::new(alloc, MAX_READS) else {
-        return Exit::NoMemory;
+        return (Exit::NoMemory, device);
     };
     let Ok(mut answer) = String::with_capacity(alloc, ANSWER_LEN) else {
-        return Exit::NoMemory;
+        return (Exit::NoMemory, device);
     };
     let mut program = Program::new(alloc, device);
-    run_to_end(&mut program, &mut lines, &mut answer, input, output)
+    let exit = run_to_end(&mut program, &mut lines, &mut answer, input, output);
+    (exit, program.device)
 }

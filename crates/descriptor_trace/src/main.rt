@@ -16,7 +16,7 @@ fn main(rt: HostRuntime) -> ExitCode {
         return ExitCode::from(Exit::NoMemory.code());
     };
     let exit = match Traced::new(rt.alloc(), &mut output) {
-        Ok(device) => run_lines_on(rt.alloc(), device, &mut rt.stdin(), &mut io::sink()),
+        Ok(device) => run_lines_on(rt.alloc(), device, &mut rt.stdin(), &mut io::sink()).0,
         Err(_) => Exit::NoMemory,
     };
     if output.flush().is_err() {

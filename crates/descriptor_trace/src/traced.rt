@@ -218,6 +218,8 @@ impl<W: Write> LineDevice for Traced<W> {
 
     ghost script = { traced_script };
 
+    ghost lost = { λ d. d.has_lost };
+
     fn hear(&mut self, line: &[u8])
         ensures ledger { traced_ledger self.new ≡ traced_ledger self.old }
         ensures script { traced_script self.new ≡ traced_script self.old }
@@ -232,9 +234,7 @@ impl<W: Write> LineDevice for Traced<W> {
         }
     }
 
-    fn has_lost(&self) -> bool
-        ensures { result ≡ self.now.has_lost }
-    {
+    fn has_lost(&self) -> bool {
         self.has_lost
     }
 

@@ -1,4 +1,4 @@
-use Rattle.std.proofs.Common.{◌≡◌, [], ◌⊎◌, inl, inr, Ok, Err, Result, Option, List, ℕ, refl, ap, ◌∙◌}
+use Rattle.std.proofs.Common.{◌≡◌, [], ◌⊎◌, inl, inr, Ok, Err, Result, Option, List, ℕ, refl, sym, ap, ◌∙◌}
 use Rattle.std.specs.String.{string_bytes}
 use Rattle.std.specs.Io.KnownBytes.{Appends}
 use Rattle.descriptor_lines.specs.LineBuffers.{unread}
@@ -35,6 +35,7 @@ loop-number-init g c = record {
   empty = c.requires.empty;
   answers = ([], Appends-nil _, stands_first _ (line_state g.D.DescriptorDevice.ledger g.D.LineDevice.script c.args.program.now));
   sees = λ seen. absurd (let «open» = c.requires.open in cc);
+  whole = λ whole. whole;
 }
 
 pub loop-number-preserved : goal.loop-number-preserved
@@ -52,6 +53,7 @@ loop-number-preserved g c =
       empty = c.in_default.ensures.emptied;
       answers = (_, Appends-trans _ _ _ _ _ grown c.in_default.ensures.answered, stands_on _ _ _ _ _ _ _ _ _ _ stands takes c.in_default.ensures.ok);
       sees = c.next_line.ensures.sees c.loop-number.invariant.sees;
+      whole = λ _. sym c.has_lost.ensures ∙ c.if-has_lost.false;
     }
 
 pub returns-in_default-clause-writes : goal.returns-in_default-clause-writes
@@ -103,3 +105,9 @@ returns-in-Err-clause-bad_line g c = λ bad. ends_in_fault c.loop-number.number 
 
 pub returns-in-Err-clause-memory : goal.returns-in-Err-clause-memory
 returns-in-Err-clause-memory g c = has_memory c.in-Err.exit c.in-Err.ensures.err
+
+pub returns-in-Ok-None-clause-whole : goal.returns-in-Ok-None-clause-whole
+returns-in-Ok-None-clause-whole g c = λ _. c.loop-number.invariant.whole
+
+pub returns-in-Err-Read-clause-whole : goal.returns-in-Err-Read-clause-whole
+returns-in-Err-Read-clause-whole g c = λ _. c.loop-number.invariant.whole
