@@ -237,23 +237,23 @@ impl<'a, 'b, 'c, P: Drop> OpenPools<'a, 'b, 'c, P> {
     fn grow_one<L, S, D: DescriptorDevice<L, P, S>>(
         &mut self,
         device: &mut D,
-        layout: &L,
-        key: &BucketKey,
+        request: &SetRequest<'_, L>,
         total: u64,
         wanted: u32,
         room: &mut u32,
         sink: &mut Allocation<S>,
     ) -> Result<u32, Stop>
-        requires same { key_of key.now ≡ layout_key D.layout_counts D.layout_mark layout.now }
+        requires same { key_of request.now.key ≡ layout_key D.layout_counts D.layout_mark
+            request.now.layout.now }
         requires numbers { self.old.offset + length self.old.pools.now.items < 2 ^ 64 }
         requires listed { IsListed self.old }
         requires room { wanted ≤ sink.old.left }
         ensures grown { IfOk result (λ given. (put : List S)
             × (length put ≡ given)
             × (sink.new.sets.items ≡ sink.old.sets.items
-            ++ sets_at key.now (self.old.offset + length self.old.pools.now.items) put)
+            ++ sets_at request.now.key (self.old.offset + length self.old.pools.now.items) put)
             × (sink.new.left + given ≡ sink.old.left)
-            × IsGrown (key_of key.now) room.old room.new total wanted (map D.set_name put)
+            × IsGrown (key_of request.now.key) room.old room.new total wanted (map D.set_name put)
             (entries_of D.pool_name self.old.pools.now.items)
             (entries_of D.pool_name self.new.pools.now.items)
             (D.ledger device.old) (D.ledger device.new)) }
@@ -261,12 +261,13 @@ impl<'a, 'b, 'c, P: Drop> OpenPools<'a, 'b, 'c, P> {
             (sink.new.sets.items ≡ sink.old.sets.items)
             × (self.new.pools.now.items ≡ self.old.pools.now.items)
             × IsNotGrown why (D.ledger device.old) (D.ledger device.new)
-            × TellsOfRoom why (key_of key.now) room.old
+            × TellsOfRoom why (key_of request.now.key) room.old
             × (room.new ≡ room.old)) }
         ensures listed { IsListed self.new }
         ensures kept { KeepsView self.old self.new }
         ensures looks { CountsLooks self.old self.new (D.ledger device.old) (D.ledger device.new) }
     {
+        let (layout, key) = (request.layout, &request.key);
         let Some((pool_counts, size)) = next_size(key, total, wanted, *room) else {
             return Err(Stop::Room);
         };
@@ -306,51 +307,57 @@ impl<'a, 'b, 'c, P: Drop> OpenPools<'a, 'b, 'c, P> {
     fn take<L, S, D: DescriptorDevice<L, P, S>>(
         &mut self,
         device: &mut D,
-        layout: &L,
-        key: &BucketKey,
+        request: &SetRequest<'_, L>,
         total: u64,
-        count: u32,
         room: &mut u32,
         sink: &mut Allocation<S>,
     ) -> Result<(), Refusal>
-        requires same { key_of key.now ≡ layout_key D.layout_counts D.layout_mark layout.now }
-        requires booked { AreBookedIn (key_of key.now) (D.ledger device.old).pools
+        requires same { key_of request.now.key ≡ layout_key D.layout_counts D.layout_mark
+            request.now.layout.now }
+        requires booked { AreBookedIn (key_of request.now.key) (D.ledger device.old).pools
             (entries_of D.pool_name self.old.pools.now.items) }
         requires total { total ≡ allocated_in (entries_of D.pool_name self.old.pools.now.items) }
-        requires bound { total + count < 2 ^ 64 }
-        requires numbers { self.old.offset + length self.old.pools.now.items + count < 2 ^ 64 }
+        requires bound { total + request.now.count < 2 ^ 64 }
+        requires numbers { self.old.offset + length self.old.pools.now.items + request.now.count
+            < 2 ^ 64 }
         requires listed { IsListed self.old }
-        requires room { count ≤ sink.old.left }
+        requires room { request.now.count ≤ sink.old.left }
         ensures done { OnOk result ((put : List (DescriptorSet S))
             × (sink.new.sets.items ≡ sink.old.sets.items ++ put)
-            × IsTakenAll (key_of key.now) room.old count self.old.offset (items_of D.set_name put)
+            × IsTakenAll (key_of request.now.key) room.old request.now.count self.old.offset
+            (items_of D.set_name put)
             (entries_of D.pool_name self.old.pools.now.items)
             (entries_of D.pool_name self.new.pools.now.items)
             (D.ledger device.old) (D.ledger device.new)) }
         ensures stopped { IfErr result (λ why. (put : List (DescriptorSet S))
             × (sink.new.sets.items ≡ sink.old.sets.items ++ put)
-            × IsTakenUpTo why (key_of key.now) room.old count self.old.offset
+            × IsTakenUpTo why (key_of request.now.key) room.old request.now.count self.old.offset
             (items_of D.set_name put)
             (entries_of D.pool_name self.old.pools.now.items)
             (entries_of D.pool_name self.new.pools.now.items)
             (D.ledger device.old) (D.ledger device.new)) }
-        ensures pools { length self.new.pools.now.items ≤ length self.old.pools.now.items + count }
-        ensures given { length sink.new.sets.items ≤ length sink.old.sets.items + count }
+        ensures pools { length self.new.pools.now.items
+            ≤ length self.old.pools.now.items + request.now.count }
+        ensures given { length sink.new.sets.items
+            ≤ length sink.old.sets.items + request.now.count }
         ensures listed { IsListed self.new }
         ensures kept { KeepsView self.old self.new }
         ensures looks { CountsLooks self.old self.new (D.ledger device.old) (D.ledger device.new) }
         ensures room { room.new
-            + pools_load (key_of key.now) (entries_of D.pool_name self.new.pools.now.items)
+            + pools_load (key_of request.now.key)
+            (entries_of D.pool_name self.new.pools.now.items)
             ≡ room.old
-            + pools_load (key_of key.now) (entries_of D.pool_name self.old.pools.now.items) }
+            + pools_load (key_of request.now.key)
+            (entries_of D.pool_name self.old.pools.now.items) }
     {
-        let mut wanting = match walk(device, self, layout, key, count, sink) {
+        let count = request.count;
+        let mut wanting = match walk(device, self, request.layout, &request.key, count, sink) {
             Ok(wanting) => wanting,
             Err(error) => return Err(Refusal::Existing(error)),
         };
         let mut out = total + u64::from(count - wanting);
         while wanting > 0 {
-            match self.grow_one(device, layout, key, out, wanting, room, sink) {
+            match self.grow_one(device, request, out, wanting, room, sink) {
                 Ok(given) => {
                     wanting -= given;
                     out += u64::from(given);
@@ -390,14 +397,13 @@ impl<P: Drop> DescriptorBucket<P> {
         ensures bucket { OnErr result (self.new ≡ self.old) }
         ensures ledger { OnErr result (D.ledger device.new ≡ D.ledger device.old) }
     {
-        let SetRequest { layout, key, count } = *request;
-        if is_past_bound(self.offset + self.pools.len() as u64, count) {
+        if is_past_bound(self.offset + self.pools.len() as u64, request.count) {
             return Err(AllocationError::Fragmentation);
         }
-        let Ok(mut sink) = Allocation::with_room(alloc, key, count) else {
+        let Ok(mut sink) = Allocation::with_room(alloc, request.key, request.count) else {
             return Err(AllocationError::OutOfHostMemory);
         };
-        let taken = self.take(device, layout, &key, count, room, &mut sink, looks);
+        let taken = self.take(device, request, room, &mut sink, looks);
         let sets = sink.into_sets();
         Ok(Served { sets, taken })
     }
@@ -406,37 +412,38 @@ impl<P: Drop> DescriptorBucket<P> {
     fn take<L, S, D: DescriptorDevice<L, P, S>>(
         &mut self,
         device: &mut D,
-        layout: &L,
-        key: &BucketKey,
-        count: u32,
+        request: &SetRequest<'_, L>,
         room: &mut u32,
         sink: &mut Allocation<S>,
         looks: &mut Tally,
     ) -> Result<(), Refusal>
-        requires same { key_of key.now ≡ layout_key D.layout_counts D.layout_mark layout.now }
-        requires booked { AreBookedIn (key_of key.now) (D.ledger device.old).pools
+        requires same { key_of request.now.key ≡ layout_key D.layout_counts D.layout_mark
+            request.now.layout.now }
+        requires booked { AreBookedIn (key_of request.now.key) (D.ledger device.old).pools
             (bucket_of D.pool_name self.old).pools }
-        requires bound { self.old.total + count < 2 ^ 64 }
-        requires numbers { next_number (bucket_of D.pool_name self.old) + count < 2 ^ 64 }
+        requires bound { self.old.total + request.now.count < 2 ^ 64 }
+        requires numbers { next_number (bucket_of D.pool_name self.old) + request.now.count
+            < 2 ^ 64 }
         requires empty { sink.old.sets.items ≡ [] }
-        requires room { count ≤ sink.old.left }
+        requires room { request.now.count ≤ sink.old.left }
         ensures offset { self.new.offset ≡ self.old.offset }
         ensures total { self.new.total ≡ self.old.total + length sink.new.sets.items }
-        ensures few { length sink.new.sets.items ≤ count }
-        ensures done { OnOk result (IsTakenAll (key_of key.now) room.old count self.old.offset
-            (items_of D.set_name sink.new.sets.items) (bucket_of D.pool_name self.old).pools
-            (bucket_of D.pool_name self.new).pools (D.ledger device.old) (D.ledger device.new)) }
-        ensures stopped { IfErr result (λ why. IsTakenUpTo why (key_of key.now) room.old count
+        ensures few { length sink.new.sets.items ≤ request.now.count }
+        ensures done { OnOk result (IsTakenAll (key_of request.now.key) room.old request.now.count
             self.old.offset (items_of D.set_name sink.new.sets.items)
             (bucket_of D.pool_name self.old).pools (bucket_of D.pool_name self.new).pools
             (D.ledger device.old) (D.ledger device.new)) }
-        ensures room { room.new + stored_load (key_of key.now) self.new.pools.items
-            ≡ room.old + stored_load (key_of key.now) self.old.pools.items }
+        ensures stopped { IfErr result (λ why. IsTakenUpTo why (key_of request.now.key) room.old
+            request.now.count self.old.offset (items_of D.set_name sink.new.sets.items)
+            (bucket_of D.pool_name self.old).pools (bucket_of D.pool_name self.new).pools
+            (D.ledger device.old) (D.ledger device.new)) }
+        ensures room { room.new + stored_load (key_of request.now.key) self.new.pools.items
+            ≡ room.old + stored_load (key_of request.now.key) self.old.pools.items }
         ensures looks { looks.new.count + (D.ledger device.old).counters.asked
             ≡ looks.old.count + (D.ledger device.new).counters.asked }
     {
         let mut view = OpenPools::new(self.offset, &mut self.pools, &mut self.listed, looks);
-        let taken = view.take(device, layout, key, self.total, count, room, sink);
+        let taken = view.take(device, request, self.total, room, sink);
         self.total += sink.sets.len() as u64;
         taken
     }

@@ -37,29 +37,29 @@ if_err A B (Err e) f a = f e a
 
 pub returns-clause-done : goal.returns-clause-done
 returns-clause-done g c =
-    let key : Key = key_of c.args.key.now in
+    let key : Key = key_of c.args.request.now.key in
     let old : List Entry = entries_of g.D.DescriptorDevice.pool_name c.args.self.now.pools.items in
     let new : List Entry = entries_of g.D.DescriptorDevice.pool_name c.take-taken.new.self.pools.now.items in
     let l : Ledger = g.D.DescriptorDevice.ledger c.args.device.now in
     let m : Ledger = g.D.DescriptorDevice.ledger c.take-taken.new.device in
-    on_ok c.take-taken.result (λ p. subst (λ (x : List (DescriptorSet g.row.S.Denot)). IsTakenAll key c.args.room.now c.args.count c.args.self.now.offset (items_of g.D.DescriptorDevice.set_name x) old new l m) (sym (p.1 ∙ ap (λ x. x ++ p.0) c.requires.empty))
-    (subst (λ (f : ℕ). IsTakenAll key c.args.room.now c.args.count f (items_of g.D.DescriptorDevice.set_name p.0) old new l m) c.new-view.ensures.offset (subst (λ (q : VecDeque (DescriptorPool g.row.P.Denot) Global). IsTakenAll key c.args.room.now c.args.count c.new-view.result.offset (items_of g.D.DescriptorDevice.set_name p.0) (entries_of g.D.DescriptorDevice.pool_name q.items) new l m) c.new-view.ensures.pools p.2))) c.take-taken.ensures.done
+    on_ok c.take-taken.result (λ p. subst (λ (x : List (DescriptorSet g.row.S.Denot)). IsTakenAll key c.args.room.now c.args.request.now.count c.args.self.now.offset (items_of g.D.DescriptorDevice.set_name x) old new l m) (sym (p.1 ∙ ap (λ x. x ++ p.0) c.requires.empty))
+    (subst (λ (f : ℕ). IsTakenAll key c.args.room.now c.args.request.now.count f (items_of g.D.DescriptorDevice.set_name p.0) old new l m) c.new-view.ensures.offset (subst (λ (q : VecDeque (DescriptorPool g.row.P.Denot) Global). IsTakenAll key c.args.room.now c.args.request.now.count c.new-view.result.offset (items_of g.D.DescriptorDevice.set_name p.0) (entries_of g.D.DescriptorDevice.pool_name q.items) new l m) c.new-view.ensures.pools p.2))) c.take-taken.ensures.done
 
 pub returns-clause-stopped : goal.returns-clause-stopped
 returns-clause-stopped g c =
-    let key : Key = key_of c.args.key.now in
+    let key : Key = key_of c.args.request.now.key in
     let old : List Entry = entries_of g.D.DescriptorDevice.pool_name c.args.self.now.pools.items in
     let new : List Entry = entries_of g.D.DescriptorDevice.pool_name c.take-taken.new.self.pools.now.items in
     let l : Ledger = g.D.DescriptorDevice.ledger c.args.device.now in
     let m : Ledger = g.D.DescriptorDevice.ledger c.take-taken.new.device in
-    if_err _ _ c.take-taken.result (λ why p. subst (λ (x : List (DescriptorSet g.row.S.Denot)). IsTakenUpTo why key c.args.room.now c.args.count c.args.self.now.offset (items_of g.D.DescriptorDevice.set_name x) old new l m) (sym (p.1 ∙ ap (λ x. x ++ p.0) c.requires.empty))
-    (subst (λ (f : ℕ). IsTakenUpTo why key c.args.room.now c.args.count f (items_of g.D.DescriptorDevice.set_name p.0) old new l m) c.new-view.ensures.offset (subst (λ (q : VecDeque (DescriptorPool g.row.P.Denot) Global). IsTakenUpTo why key c.args.room.now c.args.count c.new-view.result.offset (items_of g.D.DescriptorDevice.set_name p.0) (entries_of g.D.DescriptorDevice.pool_name q.items) new l m) c.new-view.ensures.pools p.2))) c.take-taken.ensures.stopped
+    if_err _ _ c.take-taken.result (λ why p. subst (λ (x : List (DescriptorSet g.row.S.Denot)). IsTakenUpTo why key c.args.room.now c.args.request.now.count c.args.self.now.offset (items_of g.D.DescriptorDevice.set_name x) old new l m) (sym (p.1 ∙ ap (λ x. x ++ p.0) c.requires.empty))
+    (subst (λ (f : ℕ). IsTakenUpTo why key c.args.room.now c.args.request.now.count f (items_of g.D.DescriptorDevice.set_name p.0) old new l m) c.new-view.ensures.offset (subst (λ (q : VecDeque (DescriptorPool g.row.P.Denot) Global). IsTakenUpTo why key c.args.room.now c.args.request.now.count c.new-view.result.offset (items_of g.D.DescriptorDevice.set_name p.0) (entries_of g.D.DescriptorDevice.pool_name q.items) new l m) c.new-view.ensures.pools p.2))) c.take-taken.ensures.stopped
 
 pub returns-clause-few : goal.returns-clause-few
 returns-clause-few g c = (let few = c.take-taken.ensures.given in let none = ap length c.requires.empty in omega arith)
 
 pub take-taken-requires-clause-booked : goal.take-taken-requires-clause-booked
-take-taken-requires-clause-booked g c = subst (λ (q : VecDeque (DescriptorPool g.row.P.Denot) Global). AreBookedIn (key_of c.args.key.now) (g.D.DescriptorDevice.ledger c.args.device.now).pools (entries_of g.D.DescriptorDevice.pool_name q.items)) (sym c.new-view.ensures.pools) c.requires.booked
+take-taken-requires-clause-booked g c = subst (λ (q : VecDeque (DescriptorPool g.row.P.Denot) Global). AreBookedIn (key_of c.args.request.now.key) (g.D.DescriptorDevice.ledger c.args.device.now).pools (entries_of g.D.DescriptorDevice.pool_name q.items)) (sym c.new-view.ensures.pools) c.requires.booked
 
 pub invariant_of-self-clause-open : goal.invariant_of-self-clause-open
 invariant_of-self-clause-open g c = c.take-taken.ensures.listed.0 ∙ ap (λ f. open_numbers f (free_in c.take-taken.new.self.pools.now.items)) (c.take-taken.ensures.kept.0 ∙ c.new-view.ensures.offset)
@@ -84,7 +84,7 @@ invariant_of-self-clause-counted g c =
     let name = g.D.DescriptorDevice.pool_name in
     let old : List Entry = entries_of name c.new-view.result.pools.now.items in
     let new : List Entry = entries_of name c.take-taken.new.self.pools.now.items in
-    let all : allocated_in new ≡ allocated_in old + length c.take-taken.new.sink.sets.items = more g.D.DescriptorDevice.set_name c.args.sink.now.sets.items c.take-taken.new.sink.sets.items c.requires.empty (key_of c.args.key.now) c.args.room.now c.args.count c.new-view.result.offset old new (g.D.DescriptorDevice.ledger c.args.device.now) (g.D.DescriptorDevice.ledger c.take-taken.new.device) c.take-taken.result c.take-taken.ensures.done c.take-taken.ensures.stopped in
+    let all : allocated_in new ≡ allocated_in old + length c.take-taken.new.sink.sets.items = more g.D.DescriptorDevice.set_name c.args.sink.now.sets.items c.take-taken.new.sink.sets.items c.requires.empty (key_of c.args.request.now.key) c.args.room.now c.args.request.now.count c.new-view.result.offset old new (g.D.DescriptorDevice.ledger c.args.device.now) (g.D.DescriptorDevice.ledger c.take-taken.new.device) c.take-taken.result c.take-taken.ensures.done c.take-taken.ensures.stopped in
     let was : allocated_in old ≡ sum_by (λ (p : DescriptorPool g.row.P.Denot). p.allocated) c.args.self.now.pools.items = allocated_entries name c.new-view.result.pools.now.items ∙ ap (λ (q : VecDeque (DescriptorPool g.row.P.Denot) Global). sum_by (λ (p : DescriptorPool g.row.P.Denot). p.allocated) q.items) c.new-view.ensures.pools in
     let is : allocated_in new ≡ sum_by (λ (p : DescriptorPool g.row.P.Denot). p.allocated) c.take-taken.new.self.pools.now.items = allocated_entries name c.take-taken.new.self.pools.now.items in
     let total = c.args.self.now.counted in
@@ -95,7 +95,7 @@ invariant_of-self-clause-counted g c =
 pub returns-clause-room : goal.returns-clause-room
 returns-clause-room g c =
     let name = g.D.DescriptorDevice.pool_name in
-    let key : Key = key_of c.args.key.now in
+    let key : Key = key_of c.args.request.now.key in
     let was : pools_load key (entries_of name c.new-view.result.pools.now.items) ≡ stored_load key c.args.self.now.pools.items = load_in name key c.new-view.result.pools.now.items ∙ ap (λ (q : VecDeque (DescriptorPool g.row.P.Denot) Global). stored_load key q.items) c.new-view.ensures.pools in
     let is = load_in name key c.take-taken.new.self.pools.now.items in
     let room = c.take-taken.ensures.room in

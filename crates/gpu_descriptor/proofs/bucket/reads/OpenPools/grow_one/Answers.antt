@@ -20,7 +20,7 @@ use Rattle.gpu_descriptor.proofs.bucket.reads.OpenPools.grow_one.Goals as goal
 -- the pool that was created
 module _ (g : _) (c : In-Ok g) where
   abbrev key : Key
-  key = key_of c.args.key.now
+  key = key_of c.args.request.now.key
 
   abbrev size : ℕ
   size = c.in-Some.size
@@ -45,7 +45,7 @@ alloc_descriptor_sets-requires-clause-fits g c =
     let d = (goal.at.alloc_descriptor_sets-requires-clause-fits g c).In-Ok in
     let few : c.min-given.result ≤ c.in-Some.size = (let a = c.min-given.ensures in omega arith) in
     let keyed = subst (λ (k : Key). (created g d).pools (name g d) ≡ Some (fresh (pool_counts k.counts (size g d)) (size g d) (flags_of k))) c.requires.same (at g d) in
-    rw (c.new.ensures.left, c.new.ensures.layout) (fresh_room (g.D.DescriptorDevice.layout_counts c.args.layout.now) (g.D.DescriptorDevice.layout_mark c.args.layout.now) (size g d) (name g d) c.min-given.result (created g d) keyed few)
+    rw (c.new.ensures.left, c.new.ensures.layout) (fresh_room (g.D.DescriptorDevice.layout_counts c.args.request.now.layout.now) (g.D.DescriptorDevice.layout_mark c.args.request.now.layout.now) (size g d) (name g d) c.min-given.result (created g d) keyed few)
 
 pub destroy_descriptor_pool-requires : goal.destroy_descriptor_pool-requires
 destroy_descriptor_pool-requires g c =
@@ -81,19 +81,19 @@ returns-in-Ok-alloc_descriptor_sets-clause-grown g c =
     ∙ map-append (entry_of g.D.DescriptorDevice.pool_name) c.args.self.now.pools.now.items (value ∷ [])
     ∙ ap (λ (e : Entry). old ++ e ∷ []) (same_entry (entry_of g.D.DescriptorDevice.pool_name value) _ c.in-Ok-alloc_descriptor_sets.ensures.name refl count (ap (λ n. c.in-Some.size - n) count)) in
     let number : c.aim.new.self.number ≡ c.args.self.now.offset + length c.args.self.now.pools.now.items = c.aim.ensures.number ∙ c.next_number.ensures ∙ (let k = c.make_room.ensures.kept.0 in let same = ap length c.make_room.ensures.pools in omega arith) in
-    let kept : c.alloc_descriptor_sets.new.sets.sets.items ≡ c.args.sink.now.sets.items ++ sets_at c.args.key.now (c.args.self.now.offset + length c.args.self.now.pools.now.items) put.sets = put.kept ∙ ap (λ (l : List (DescriptorSet g.row.S.Denot)). l ++ sets_at c.aim.new.self.key c.aim.new.self.number put.sets) c.aim.ensures.sets ∙ ap (λ (k : BucketKey). c.args.sink.now.sets.items ++ sets_at k c.aim.new.self.number put.sets) c.aim.ensures.key ∙ ap (λ (n : ℕ). c.args.sink.now.sets.items ++ sets_at c.args.key.now n put.sets) number in
+    let kept : c.alloc_descriptor_sets.new.sets.sets.items ≡ c.args.sink.now.sets.items ++ sets_at c.args.request.now.key (c.args.self.now.offset + length c.args.self.now.pools.now.items) put.sets = put.kept ∙ ap (λ (l : List (DescriptorSet g.row.S.Denot)). l ++ sets_at c.aim.new.self.key c.aim.new.self.number put.sets) c.aim.ensures.sets ∙ ap (λ (k : BucketKey). c.args.sink.now.sets.items ++ sets_at k c.aim.new.self.number put.sets) c.aim.ensures.key ∙ ap (λ (n : ℕ). c.args.sink.now.sets.items ++ sets_at c.args.request.now.key n put.sets) number in
     let room : c.alloc_descriptor_sets.new.sets.left + c.min-given.result ≡ c.args.sink.now.left = (let r = put.room in let n = c.new.ensures.left in let a = c.aim.ensures.left in omega arith) in
     (put.sets, many, kept, room, grown (key g d) c.args.room.now _ c.args.total c.args.wanted (size g d) (name g d) names old new (before g d) (created g d) m' c.in-Some.ensures.sets (let fits = c.in-Some.ensures.room.0 in let load = c.descriptors_of_pool.ensures in omega arith) long c.in-Ok.ensures.new_name (made g d) is now)
 
 pub returns-then-not-make_room-clause-err : goal.returns-then-not-make_room-clause-err
 returns-then-not-make_room-clause-err g c =
-    (refl, c.make_room.ensures.pools, not_begun (g.D.DescriptorDevice.ledger c.args.device.now), one_fits (key_of c.args.key.now) c.args.room.now c.args.total c.args.wanted c.in-Some.size c.in-Some.ensures.sets, refl)
+    (refl, c.make_room.ensures.pools, not_begun (g.D.DescriptorDevice.ledger c.args.device.now), one_fits (key_of c.args.request.now.key) c.args.room.now c.args.total c.args.wanted c.in-Some.size c.in-Some.ensures.sets, refl)
 
 pub returns-in-Err-clause-err : goal.returns-in-Err-clause-err
 returns-in-Err-clause-err g c =
     let l : Ledger = g.D.DescriptorDevice.ledger c.args.device.now in
     let m : Ledger = g.D.DescriptorDevice.ledger c.create_descriptor_pool.new.self in
-    (refl, c.make_room.ensures.pools, not_created c.in-Err.error l m c.in-Err.ensures.err, one_fits (key_of c.args.key.now) c.args.room.now c.args.total c.args.wanted c.in-Some.size c.in-Some.ensures.sets, refl)
+    (refl, c.make_room.ensures.pools, not_created c.in-Err.error l m c.in-Err.ensures.err, one_fits (key_of c.args.request.now.key) c.args.room.now c.args.total c.args.wanted c.in-Some.size c.in-Some.ensures.sets, refl)
 
 pub returns-in-Err-clause-looks : goal.returns-in-Err-clause-looks
 returns-in-Err-clause-looks g c =

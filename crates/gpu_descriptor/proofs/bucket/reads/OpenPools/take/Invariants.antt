@@ -13,11 +13,11 @@ invariant-loop-wanting g l = record {
   put : List (DescriptorSet g.row.S.Denot);
   sets : l.sink.sets.items ≡ l.fn.sink.sets.items ++ put;
   room : l.wanting ≤ l.sink.left;
-  given : length put + l.wanting ≡ l.fn.count;
-  totals : l.out + l.wanting ≡ l.fn.total + l.fn.count;
-  pools : length l.self.pools.now.items + l.wanting ≤ length l.fn.self.pools.now.items + l.fn.count;
-  growing : Growing (key_of l.fn.key) l.fn.room l.fn.count l.fn.self.offset l.room l.out l.wanting (items_of g.D.DescriptorDevice.set_name put) (entries_of g.D.DescriptorDevice.pool_name l.fn.self.pools.now.items) (entries_of g.D.DescriptorDevice.pool_name l.self.pools.now.items) (g.D.DescriptorDevice.ledger l.fn.device) (g.D.DescriptorDevice.ledger l.device);
-  load : l.room + pools_load (key_of l.fn.key) (entries_of g.D.DescriptorDevice.pool_name l.self.pools.now.items) ≡ l.fn.room + pools_load (key_of l.fn.key) (entries_of g.D.DescriptorDevice.pool_name l.fn.self.pools.now.items);
+  given : length put + l.wanting ≡ l.fn.request.count;
+  totals : l.out + l.wanting ≡ l.fn.total + l.fn.request.count;
+  pools : length l.self.pools.now.items + l.wanting ≤ length l.fn.self.pools.now.items + l.fn.request.count;
+  growing : Growing (key_of l.fn.request.key) l.fn.room l.fn.request.count l.fn.self.offset l.room l.out l.wanting (items_of g.D.DescriptorDevice.set_name put) (entries_of g.D.DescriptorDevice.pool_name l.fn.self.pools.now.items) (entries_of g.D.DescriptorDevice.pool_name l.self.pools.now.items) (g.D.DescriptorDevice.ledger l.fn.device) (g.D.DescriptorDevice.ledger l.device);
+  load : l.room + pools_load (key_of l.fn.request.key) (entries_of g.D.DescriptorDevice.pool_name l.self.pools.now.items) ≡ l.fn.room + pools_load (key_of l.fn.request.key) (entries_of g.D.DescriptorDevice.pool_name l.fn.self.pools.now.items);
   listed : IsListed l.self;
   kept : KeepsView l.fn.self l.self;
   looks : CountsLooks l.fn.self l.self (g.D.DescriptorDevice.ledger l.fn.device) (g.D.DescriptorDevice.ledger l.device);
