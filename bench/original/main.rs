@@ -24,6 +24,9 @@ use types::*;
 /// How many sets a frame takes.
 const FRAME: u32 = 64;
 
+/// How many times the sets of a request are taken and given back.
+const ROUNDS: u32 = 100;
+
 /// How many requests are made while pools are full.
 const REQUESTS: u32 = 1000;
 
@@ -195,6 +198,10 @@ fn main() {
             bench.rounds(plain(), FRAME, n)
         }
         "bulk" => bench.rounds(plain(), n, 1),
+        "request" => {
+            operations *= u64::from(ROUNDS);
+            bench.rounds(plain(), n, ROUNDS)
+        }
         "shuffled" => bench.shuffled(n),
         "keys" => bench.keys(n),
         "marked" => bench.rounds(DescriptorSetLayoutCreateFlags::UPDATE_AFTER_BIND, 1, n),

@@ -12,6 +12,9 @@ pub enum Workload {
     /// N sets are taken by one request, and given back.
     Bulk,
 
+    /// A hundred times N sets are taken by one request, and given back.
+    Request,
+
     /// N sets that were taken one by one are given back in a mixed order.
     Shuffled,
 
@@ -32,10 +35,11 @@ pub enum Workload {
 }
 
 /// All workloads.
-pub const WORKLOADS: [Workload; 9] = [
+pub const WORKLOADS: [Workload; 10] = [
     Workload::Single,
     Workload::Frame,
     Workload::Bulk,
+    Workload::Request,
     Workload::Shuffled,
     Workload::Keys,
     Workload::Marked,
@@ -51,6 +55,7 @@ impl Workload {
             Workload::Single => "single",
             Workload::Frame => "frame",
             Workload::Bulk => "bulk",
+            Workload::Request => "request",
             Workload::Shuffled => "shuffled",
             Workload::Keys => "keys",
             Workload::Marked => "marked",
@@ -64,6 +69,7 @@ impl Workload {
     pub fn operations(self, n: u32) -> u64 {
         match self {
             Workload::Frame => u64::from(n) * u64::from(FRAME),
+            Workload::Request => u64::from(n) * u64::from(ROUNDS),
             Workload::Full => u64::from(REQUESTS),
             _ => u64::from(n),
         }
@@ -80,6 +86,9 @@ impl Workload {
 
 /// How many sets a frame takes.
 pub const FRAME: u32 = 64;
+
+/// How many times the sets of a request are taken and given back.
+pub const ROUNDS: u32 = 100;
 
 /// How many requests are made while pools are full.
 pub const REQUESTS: u32 = 1000;

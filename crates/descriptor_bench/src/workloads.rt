@@ -6,7 +6,7 @@ ghost use Rattle.descriptor_bench.specs.Bench.{bench_state};
 use crate::bench::Bench;
 use crate::layout::Layout;
 use crate::mix::shuffle;
-use crate::workload::{FRAME, REQUESTS, Workload};
+use crate::workload::{FRAME, REQUESTS, ROUNDS, Workload};
 use std::alloc::Global;
 use std::time::{Clock, Duration, Instant};
 
@@ -28,6 +28,7 @@ impl Bench {
             Workload::Single => self.of_one_layout(clock, &Layout::of_samplers(1), 1, n),
             Workload::Frame => self.of_one_layout(clock, &Layout::of_samplers(1), FRAME, n),
             Workload::Bulk => self.of_one_layout(clock, &Layout::of_samplers(1), n, 1),
+            Workload::Request => self.of_one_layout(clock, &Layout::of_samplers(1), n, ROUNDS),
             Workload::Shuffled => self.shuffled(clock, alloc, n),
             Workload::Keys => self.keys(clock, n),
             Workload::Marked => {

@@ -41,22 +41,22 @@ use Rattle.gpu_descriptor.proofs.Requested.{load_is, pool_load_is, out_is}
 use Rattle.gpu_descriptor.proofs.Rollback.{give_back_rise, alloc_rise, only_key, keys_table, unnamed_key, load_of_items}
 
 -- what a request took keeps the key's part of the agreement, wherever it stopped
-keeps_up_to : (why : Refusal) (k : Key) (room n first : ℕ) (items : List Item) (old new : List Entry) (l m : Ledger) → IsTakenUpTo why k room n first items old new l m → KeepsKey k first items old new l.pools m.pools
-keeps_up_to (refusal.Existing error) k room n first items old new l m s = subst (KeepsKey k first items old new l.pools) (sym s.pools) s.walked.keeps
-keeps_up_to (refusal.New why) k room n first items old new l m s = subst (KeepsKey k first items old new l.pools) (sym s.stopped.pools) s.keeps
+keeps_up_to : (why : Refusal) (k : Key) (room n id first : ℕ) (items : List Item) (old new : List Entry) (l m : Ledger) → IsTakenUpTo why k room n id first items old new l m → KeepsKey k id first items old new l.pools m.pools
+keeps_up_to (refusal.Existing error) k room n id first items old new l m s = subst (KeepsKey k id first items old new l.pools) (sym s.pools) s.walked.keeps
+keeps_up_to (refusal.New why) k room n id first items old new l m s = subst (KeepsKey k id first items old new l.pools) (sym s.stopped.pools) s.keeps
 
-keeps_taken : (taken : Result (Unit {0}) Refusal) (k : Key) (room n first : ℕ) (items : List Item) (old new : List Entry) (l m : Ledger) → OnOk taken (IsTakenAll k room n first items old new l m) → IfErr taken (λ why. IsTakenUpTo why k room n first items old new l m) → KeepsKey k first items old new l.pools m.pools
-keeps_taken (Ok x) k room n first items old new l m all stopped = all.keeps
-keeps_taken (Err why) k room n first items old new l m all stopped = keeps_up_to why k room n first items old new l m stopped
+keeps_taken : (taken : Result (Unit {0}) Refusal) (k : Key) (room n id first : ℕ) (items : List Item) (old new : List Entry) (l m : Ledger) → OnOk taken (IsTakenAll k room n id first items old new l m) → IfErr taken (λ why. IsTakenUpTo why k room n id first items old new l m) → KeepsKey k id first items old new l.pools m.pools
+keeps_taken (Ok x) k room n id first items old new l m all stopped = all.keeps
+keeps_taken (Err why) k room n id first items old new l m all stopped = keeps_up_to why k room n id first items old new l m stopped
 
 -- what it left of the key's pools
-entries_up_to : (why : Refusal) (k : Key) (room n first : ℕ) (items : List Item) (old new : List Entry) (l m : Ledger) → IsTakenUpTo why k room n first items old new l m → (g : Grant) × (new ≡ entries_with n g old)
-entries_up_to (refusal.Existing error) k room n first items old new l m s = (s.walked.grant, s.walked.taken.entries)
-entries_up_to (refusal.New why) k room n first items old new l m s = (s.grant, s.taken.entries)
+entries_up_to : (why : Refusal) (k : Key) (room n id first : ℕ) (items : List Item) (old new : List Entry) (l m : Ledger) → IsTakenUpTo why k room n id first items old new l m → (g : Grant) × (new ≡ entries_with n g old)
+entries_up_to (refusal.Existing error) k room n id first items old new l m s = (s.walked.grant, s.walked.taken.entries)
+entries_up_to (refusal.New why) k room n id first items old new l m s = (s.grant, s.taken.entries)
 
-entries_taken : (taken : Result (Unit {0}) Refusal) (k : Key) (room n first : ℕ) (items : List Item) (old new : List Entry) (l m : Ledger) → OnOk taken (IsTakenAll k room n first items old new l m) → IfErr taken (λ why. IsTakenUpTo why k room n first items old new l m) → (g : Grant) × (new ≡ entries_with n g old)
-entries_taken (Ok x) k room n first items old new l m all stopped = (all.grant, all.taken.entries)
-entries_taken (Err why) k room n first items old new l m all stopped = entries_up_to why k room n first items old new l m stopped
+entries_taken : (taken : Result (Unit {0}) Refusal) (k : Key) (room n id first : ℕ) (items : List Item) (old new : List Entry) (l m : Ledger) → OnOk taken (IsTakenAll k room n id first items old new l m) → IfErr taken (λ why. IsTakenUpTo why k room n id first items old new l m) → (g : Grant) × (new ≡ entries_with n g old)
+entries_taken (Ok x) k room n id first items old new l m all stopped = (all.grant, all.taken.entries)
+entries_taken (Err why) k room n id first items old new l m all stopped = entries_up_to why k room n id first items old new l m stopped
 
 -- a request of a key is one of another that is the same
 pub taken_as : {P S : Type 0} {name : P → ℕ} {set_name : S → ℕ} {k l : Key} {count : ℕ} {sets : List (DescriptorSet S)} {taken : Result (Unit {0}) Refusal} {old new : Allocations P} {before after : Ledger}
@@ -75,23 +75,23 @@ module _ {P S : Type 0} {name : P → ℕ} {set_name : S → ℕ} {k : Key} {cou
   abbrev room : ℕ
   room = old.limit - pool_load_of old
 
-  keeps : KeepsKey k (s.books k).first items (s.books k).pools t.pools s.ledger after.pools
-  keeps = keeps_taken taken k room count (s.books k).first items (s.books k).pools t.pools before after t.done t.stopped
+  keeps : KeepsKey k t.id (s.books k).first items (s.books k).pools t.pools s.ledger after.pools
+  keeps = keeps_taken taken k room count t.id (s.books k).first items (s.books k).pools t.pools before after t.done t.stopped
 
   -- books and ledger agree after it
   pub taken_agree : Agrees name new after
-  taken_agree = subst Agree (sym t.state) (keeps_agree k items t.pools s after.pools agree keeps)
+  taken_agree = subst Agree (sym t.state) (keeps_agree k t.id items t.pools s after.pools agree t.kept keeps)
 
   -- and the sets may be given back
   pub taken_given : AreOutstanding items (state_of name new after)
-  taken_given = subst (AreOutstanding items) (sym t.state) (keeps_given k items t.pools s after.pools agree keeps)
+  taken_given = subst (AreOutstanding items) (sym t.state) (keeps_given k t.id items t.pools s after.pools agree t.kept keeps)
 
   -- exactly these sets are outstanding besides
   pub taken_out : AreOutBesides items s (state_of name new after)
-  taken_out u = ap (λ (w : State). outstanding w u) t.state ∙ keeps_outstanding k items t.pools s after.pools agree keeps u
+  taken_out u = ap (λ (w : State). outstanding w u) t.state ∙ keeps_outstanding k t.id items t.pools s after.pools agree t.kept keeps u
 
   pub taken_own : AreOfKey k items
-  taken_own = keeps.of_key
+  taken_own = λ u some. (keeps.of_key u some).0
 
   pub taken_others : KeepsOtherKeys k s (state_of name new after)
   taken_others l other = record {
@@ -101,17 +101,17 @@ module _ {P S : Type 0} {name : P → ℕ} {set_name : S → ℕ} {k : Key} {cou
         let apart : (m : ℕ) (d : Entry) → entry_at (s.books k) m ≡ Some d → d.pool ≢ e.pool = λ m d there same.
         let bad : true ≡ false = sym (ap (key_eq k) (sym (agree.distinct k l m n d e there at same).0) ∙ key_exact.self k) ∙ other in
         absurd (cc) in
-        ap (λ (w : State). w.ledger e.pool) t.state ∙ taken_apart k items t.pools s after.pools keeps e.pool booked.0 apart booked.1);
+        ap (λ (w : State). w.ledger e.pool) t.state ∙ taken_apart k t.id items t.pools s after.pools keeps e.pool booked.0 apart booked.1);
   }
 
   pub taken_leaves : KeepsForeign s (state_of name new after)
-  taken_leaves = subst (KeepsForeign s) (sym t.state) (taken_foreign k items t.pools s after.pools keeps)
+  taken_leaves = subst (KeepsForeign s) (sym t.state) (taken_foreign k t.id items t.pools s after.pools keeps)
 
   pub taken_loses_none : LosesNone s (state_of name new after)
   taken_loses_none =
-      let left = entries_taken taken k room count (s.books k).first items (s.books k).pools t.pools before after t.done t.stopped in
+      let left = entries_taken taken k room count t.id (s.books k).first items (s.books k).pools t.pools before after t.done t.stopped in
       let g = left.0 in
-      subst (LosesNone s) (sym t.state) (taken_loses k items t.pools s after.pools keeps (λ i e at.
+      subst (LosesNone s) (sym t.state) (taken_loses k t.id items t.pools s after.pools keeps (λ i e at.
       let kept = entries_named g.left count g.refused (s.books k).pools (map fresh_entry g.fresh) i e at in
       (kept.0, ap (λ (es : List Entry). slice_get es i) left.1 ∙ kept.1, kept.2)))
 
@@ -130,7 +130,7 @@ module _ {P S : Type 0} {name : P → ℕ} {set_name : S → ℕ} {k : Key} {cou
   module _ (some : 0 < count) {last : Allocations P} {final : Ledger} (back : GivesBack name set_name sets (runs items) new last after final) where
     -- which of the new allocator's pools go
     gone : pools_gone (keys_of new) items (given_back items (state_of name new after)) ≡ pools_gone (k ∷ []) items (given_back items (state_of name new after))
-    gone = ap (λ (keys : List Key). pools_gone keys items (given_back items (state_of name new after))) (keys_table name new.table) ∙ only_key k items (state_of name new after) (table_of name new) t.still (λ l. refl) keeps.of_key
+    gone = ap (λ (keys : List Key). pools_gone keys items (given_back items (state_of name new after))) (keys_table name new.table) ∙ only_key k items (state_of name new after) (table_of name new) t.still (λ l. refl) taken_own
 
     went : (m : List Item) (u : State) → m ≡ items → u ≡ state_of name new after → final.counters ≡ risen (rollback_rise m k u) after.counters
     went m u is same = back.counters ∙ give_back_rise _ (runs items) after.counters ∙ (λ i. risen (record no_rise { released = runs (sym is i); destroyed = (gone ∙ (λ j. pools_gone (k ∷ []) (sym is j) (given_back (sym is j) (sym same j)))) i }) after.counters)
@@ -138,18 +138,18 @@ module _ {P S : Type 0} {name : P → ℕ} {set_name : S → ℕ} {k : Key} {cou
     abbrev call : AllocationError → Call
     call error = call_of name k count old last before final (Err error)
 
-    is_back : (g : Grant) (rise : Counters) (error : AllocationError) (walked : Ledger) → items_in k g.parts ≡ items → HasTaken k count (s.books k).first g (s.books k).pools t.pools before walked → with_pools k t.pools after.pools s ≡ granted k count g s
+    is_back : (g : Grant) (rise : Counters) (error : AllocationError) (walked : Ledger) → g.id ≡ t.id → items_in k t.id g.parts ≡ items → HasTaken k count (s.books k).first g (s.books k).pools t.pools before walked → with_pools k t.id t.pools after.pools s ≡ granted k count g s
         → after.counters ≡ risen rise (risen (grant_rise count g (s.books k).pools) before.counters) → IsBack (call error) g rise error
-    is_back g rise error walked came taken now counters = record {
-      taken = record { refusing = taken.refusing; parts = taken.parts; new = taken.is_new };
+    is_back g rise error walked named first_came taken now counters = let came : items_in k g.id g.parts ≡ items = ap (λ (i : ℕ). items_in k i g.parts) named ∙ first_came in record {
+      taken = record { id = λ has. named ∙ t.kept has; refusing = taken.refusing; parts = taken.parts; new = taken.is_new };
       answer = refl;
       state = back.state ∙ (λ i. released (sym came i) ((t.state ∙ now) i));
-      counters = went (items_in k g.parts) (granted k count g s) came (sym (t.state ∙ now)) ∙ ap (risen (rollback_rise (items_in k g.parts) k (granted k count g s))) counters;
+      counters = went (items_in k g.id g.parts) (granted k count g s) came (sym (t.state ∙ now)) ∙ ap (risen (rollback_rise (items_in k g.id g.parts) k (granted k count g s))) counters;
     }
 
-    back_from_pool : (error : _) → IsWalkStopped k count (s.books k).first error items (s.books k).pools t.pools before after → Allocates (call (refusal_answer (refusal.Existing error)))
+    back_from_pool : (error : _) → IsWalkStopped k count t.id (s.books k).first error items (s.books k).pools t.pools before after → Allocates (call (refusal_answer (refusal.Existing error)))
     back_from_pool error st =
-        let now = stopped_at_state k count error s t.pools items before after refl st in
+        let now = stopped_at_state k count error s t.id t.pools items before after refl st in
         stopped_at_pool (proceeds some last final _) (record {
           older = st.older;
           pool = st.pool;
@@ -161,27 +161,27 @@ module _ {P S : Type 0} {name : P → ℕ} {set_name : S → ℕ} {k : Key} {cou
           asked = st.asked;
           error = error;
           memory = st.memory;
-          back = is_back st.walked.grant (alloc_refused error no_rise) _ st.between st.walked.came st.walked.taken now.0 (now.1 ∙ alloc_rise error _);
+          back = is_back st.walked.grant (alloc_refused error no_rise) _ st.between st.walked.named st.walked.came st.walked.taken now.0 (now.1 ∙ alloc_rise error _);
         })
 
-    back_from_new : (why : Stop) → IsGrowStopped why k room count (s.books k).first items (s.books k).pools t.pools before after → Allocates (call (refusal_answer (refusal.New why)))
+    back_from_new : (why : Stop) → IsGrowStopped why k room count t.id (s.books k).first items (s.books k).pools t.pools before after → Allocates (call (refusal_answer (refusal.New why)))
     back_from_new stop.Room st =
-        let now = stopped_state k room count stop.Room s t.pools items before after refl st in
-        stopped_without_room (proceeds some last final _) (record { grant = st.grant; front = record { all = st.all; pooled = pool_load_of old; is_pooled = pool_load_is name old before t.distinct; front = st.front }; no_room = st.in_room; back = is_back st.grant no_rise _ st.between st.came st.taken now.0 now.1 })
+        let now = stopped_state k room count stop.Room s t.id t.pools items before after refl st in
+        stopped_without_room (proceeds some last final _) (record { grant = st.grant; front = record { all = st.all; pooled = pool_load_of old; is_pooled = pool_load_is name old before t.distinct; front = st.front }; no_room = st.in_room; back = is_back st.grant no_rise _ st.between st.named st.came st.taken now.0 now.1 })
     back_from_new stop.Books st =
-        let now = stopped_state k room count stop.Books s t.pools items before after refl st in
-        stopped_for_memory (proceeds some last final _) (record { at = record { grant = st.grant; front = record { all = st.all; pooled = pool_load_of old; is_pooled = pool_load_is name old before t.distinct; front = st.front }; room = st.in_room }; back = is_back st.grant no_rise _ st.between st.came st.taken now.0 now.1 })
+        let now = stopped_state k room count stop.Books s t.id t.pools items before after refl st in
+        stopped_for_memory (proceeds some last final _) (record { at = record { grant = st.grant; front = record { all = st.all; pooled = pool_load_of old; is_pooled = pool_load_is name old before t.distinct; front = st.front }; room = st.in_room }; back = is_back st.grant no_rise _ st.between st.named st.came st.taken now.0 now.1 })
     back_from_new (stop.Create error) st =
-        let now = stopped_state k room count (stop.Create error) s t.pools items before after refl st in
-        stopped_at_create (proceeds some last final _) (record { at = record { grant = st.grant; front = record { all = st.all; pooled = pool_load_of old; is_pooled = pool_load_is name old before t.distinct; front = st.front }; room = st.in_room }; error = error; back = is_back st.grant (create_refused error no_rise) _ st.between st.came st.taken now.0 now.1 })
+        let now = stopped_state k room count (stop.Create error) s t.id t.pools items before after refl st in
+        stopped_at_create (proceeds some last final _) (record { at = record { grant = st.grant; front = record { all = st.all; pooled = pool_load_of old; is_pooled = pool_load_is name old before t.distinct; front = st.front }; room = st.in_room }; error = error; back = is_back st.grant (create_refused error no_rise) _ st.between st.named st.came st.taken now.0 now.1 })
     back_from_new (stop.Fresh error) st =
-        let now = stopped_state k room count (stop.Fresh error) s t.pools items before after refl st in
-        stopped_at_fresh (proceeds some last final _) (record { at = record { grant = st.grant; front = record { all = st.all; pooled = pool_load_of old; is_pooled = pool_load_is name old before t.distinct; front = st.front }; room = st.in_room }; error = error; back = is_back st.grant (stop_rise (stop.Fresh error)) _ st.between st.came st.taken now.0 now.1 })
+        let now = stopped_state k room count (stop.Fresh error) s t.id t.pools items before after refl st in
+        stopped_at_fresh (proceeds some last final _) (record { at = record { grant = st.grant; front = record { all = st.all; pooled = pool_load_of old; is_pooled = pool_load_is name old before t.distinct; front = st.front }; room = st.in_room }; error = error; back = is_back st.grant (stop_rise (stop.Fresh error)) _ st.between st.named st.came st.taken now.0 now.1 })
 
     pub went_back : {why : Refusal} → taken ≡ Err why → Allocates (call (refusal_answer why))
-    went_back {why} is = by_why why (subst (λ (r : Result (Unit {0}) Refusal). IfErr r (λ w. IsTakenUpTo w k room count (s.books k).first items (s.books k).pools t.pools before after)) is t.stopped)
+    went_back {why} is = by_why why (subst (λ (r : Result (Unit {0}) Refusal). IfErr r (λ w. IsTakenUpTo w k room count t.id (s.books k).first items (s.books k).pools t.pools before after)) is t.stopped)
       where
-        by_why : (why : Refusal) → IsTakenUpTo why k room count (s.books k).first items (s.books k).pools t.pools before after → Allocates (call (refusal_answer why))
+        by_why : (why : Refusal) → IsTakenUpTo why k room count t.id (s.books k).first items (s.books k).pools t.pools before after → Allocates (call (refusal_answer why))
         by_why (refusal.Existing error) st = back_from_pool error st
         by_why (refusal.New why) st = back_from_new why st
 
@@ -196,7 +196,7 @@ module _ {P S : Type 0} {name : P → ℕ} {set_name : S → ℕ} {k : Key} {cou
 
     pub back_others : KeepsOtherKeys k s (state_of name last final)
     back_others l other =
-        let left = release_others items (state_of name new after) taken_agree l (unnamed_key k items keeps.of_key l other) in
+        let left = release_others items (state_of name new after) taken_agree l (unnamed_key k items taken_own l other) in
         subst (IsUntouched l s) (sym back.state) (untouched_twice l s (state_of name new after) (released items (state_of name new after)) (taken_others l other) left)
 
     -- the totals are as before
@@ -206,7 +206,7 @@ module _ {P S : Type 0} {name : P → ℕ} {set_name : S → ℕ} {k : Key} {cou
         let marked = back.marked in
         let total = t.total in
         let more = t.marked in
-        let load = load_of_items k items keeps.of_key in
+        let load = load_of_items k items taken_own in
         let long = ap (marked_load k) (length-map sets (λ (x : DescriptorSet S). item_of set_name x)) in
         ((let e : outstanding_of last ≡ outstanding_of old = omega arith in e), (let e : marked_load_of last ≡ marked_load_of old = omega arith in e))
 
@@ -223,9 +223,9 @@ module _ {P S : Type 0} {name : P → ℕ} {set_name : S → ℕ} {k : Key} {cou
 
   pub kept_many : {x : Unit {0}} → taken ≡ Ok x → length sets ≡ count
   kept_many is =
-      let all = subst (λ (r : Result (Unit {0}) Refusal). OnOk r (IsTakenAll k room count (s.books k).first items (s.books k).pools t.pools before after)) is t.done in
+      let all = subst (λ (r : Result (Unit {0}) Refusal). OnOk r (IsTakenAll k room count t.id (s.books k).first items (s.books k).pools t.pools before after)) is t.done in
       let many = grant_many k count _ _ (s.books k) all.grant all.taken.parts all.all all.fresh in
-      let same = ap length all.came in
+      let same = ap length (ap (λ (i : ℕ). items_in k i all.grant.parts) all.named ∙ all.came) in
       let long = length-map sets (λ (x : DescriptorSet S). item_of set_name x) in
       omega arith
 
@@ -236,5 +236,5 @@ module _ {P S : Type 0} {name : P → ℕ} {set_name : S → ℕ} {k : Key} {cou
 
   pub kept : 0 < count → {x : Unit {0}} → taken ≡ Ok x → Allocates (call_of name k count old new before after (Ok items))
   kept some is =
-      let all = subst (λ (r : Result (Unit {0}) Refusal). OnOk r (IsTakenAll k room count (s.books k).first items (s.books k).pools t.pools before after)) is t.done in
-      done (proceeds some new after _) (is_done _ t.pools items before after refl refl t.state refl (pool_load_of old) (pool_load_is name old before t.distinct) all (ap Ok (sym all.came)))
+      let all = subst (λ (r : Result (Unit {0}) Refusal). OnOk r (IsTakenAll k room count t.id (s.books k).first items (s.books k).pools t.pools before after)) is t.done in
+      done (proceeds some new after _) (is_done _ t.id t.pools items before after refl refl t.state refl (pool_load_of old) (pool_load_is name old before t.distinct) all t.kept (ap Ok (sym all.came)))

@@ -131,9 +131,9 @@ stored_after k first es pools i e ls stored at within =
       ];
     }
 
-pub read_first : {P : Type 0} (name : P → ℕ) (k : Key) (number : ℕ) (names : List ℕ) (first : ℕ) (items : List (DescriptorPool P)) (pools : ℕ → Option Pool) (q : DescriptorPool P) → IsTakenAt k number names (bucket first (map (entry_of name) items)) pools → q ≡ get_or items (number - first) q → slice_get (map (entry_of name) items) (number - first) ≡ Some (entry_of name q)
-read_first name k number names first items pools q t is =
-    let lt = is_within k number names (bucket first (map (entry_of name) items)) pools t in
+pub read_first : {P : Type 0} (name : P → ℕ) (k : Key) (number : ℕ) (names : List ℕ) (id first : ℕ) (items : List (DescriptorPool P)) (pools : ℕ → Option Pool) (q : DescriptorPool P) → IsTakenAt k number names (bucket id first (map (entry_of name) items)) pools → q ≡ get_or items (number - first) q → slice_get (map (entry_of name) items) (number - first) ≡ Some (entry_of name q)
+read_first name k number names id first items pools q t is =
+    let lt = is_within k number names (bucket id first (map (entry_of name) items)) pools t in
     let long = length-map items (entry_of name) in
     read_at name items (number - first) q (omega arith) is
 

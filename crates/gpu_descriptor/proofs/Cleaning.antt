@@ -1,10 +1,11 @@
+use Rattle.std.specs.Prelude.{if◌then◌else◌}
 -- Cleaning up: the whole empty front of each key goes.
 use Rattle.std.proofs.Common.{◌≡◌, ℕ, zero, suc, ◌==◌, ◌+◌, ◌-◌, ◌<◌, ◌≤◌, Bool, true, false, List, [], ◌∷◌, length, take, drop, count_by, slice_get, Option, Some, None, ◌⊎◌, inl, inr, refl, sym, ap, ◌∙◌, arith, eq-eqb, ne_eqb, length-drop}
 use Rattle.std.proofs.Math.Path.{fun_ext}
 use Rattle.std.specs.List.{list_any, prefix_len}
 use Rattle.std.proofs.lemmas.Bool.{cases_Bool, cases_eq, false_from_ne_true, or_left, or_right}
 use Rattle.std.proofs.lemmas.List.Sums.{prefix_len-le-length, sum_by-cons}
-use Rattle.gpu_descriptor.specs.Model.Agreement.{set_of, Item, State, live_in, outstanding, HasSize, Agree}
+use Rattle.gpu_descriptor.specs.Model.Agreement.{live_there, set_of, Item, State, live_in, outstanding, HasSize, Agree}
 use Rattle.gpu_descriptor.specs.Model.Books.{Key, key_eq, Entry, Bucket, entry_at}
 use Rattle.gpu_descriptor.specs.Model.Cleanup.{IsCleaned, cleaned_bucket}
 use Rattle.gpu_descriptor.specs.Laws.Cleanup.{CleanAgain, CleanAgainNone, CleanAll, CleanAllGone, CleanAgrees, CleanTakesNone, CleanOnce}
@@ -13,8 +14,8 @@ use Rattle.gpu_descriptor_types.specs.Multiset.{LiveSet, set_eq}
 use Rattle.gpu_descriptor.proofs.Fronts.{entry_at-found, entry_at-from, entry_at-without, entry_at-kept}
 use Rattle.gpu_descriptor_types.proofs.Counting.{set_exact, count_by_yes, any_found, any_from}
 use Rattle.gpu_descriptor.proofs.Exact.{key_exact}
-use Rattle.gpu_descriptor.proofs.Places.{outstanding_at, outstanding_found, size_pos}
-use Rattle.gpu_descriptor.proofs.Kept.{front_found, cases_option}
+use Rattle.gpu_descriptor.proofs.Places.{live_there_at, outstanding_at, outstanding_found, size_pos}
+use Rattle.gpu_descriptor.proofs.Kept.{if_none, front_found, cases_option}
 use Rattle.gpu_descriptor.proofs.Sized.{size_of}
 
 front_yes : (x : Entry) (es : List Entry) → is_empty x ≡ true → prefix_len is_empty (x ∷ es) ≡ suc (prefix_len is_empty es)
@@ -32,7 +33,7 @@ behind_front (x ∷ es) = elim (cases_Bool (is_empty x)) [
 ]
 
 -- what is cleaned is the bucket without pools, or the one without its front
-pub cleaned_cases : (b : Bucket) → ((empty_front b ≡ length b.pools) × (cleaned_bucket b ≡ record { first = 0; pools = [] })) ⊎ ((empty_front b < length b.pools) × (cleaned_bucket b ≡ without_front (empty_front b) b))
+pub cleaned_cases : (b : Bucket) → ((empty_front b ≡ length b.pools) × (cleaned_bucket b ≡ record { id = 0; first = 0; pools = [] })) ⊎ ((empty_front b < length b.pools) × (cleaned_bucket b ≡ without_front (empty_front b) b))
 cleaned_cases b = elim (cases_eq (empty_front b) (length b.pools)) [
   | inl all ↦ inl (all, rw (eq-eqb (empty_front b) (length b.pools) all) refl)
   | inr some ↦ inr ((let le = prefix_len-le-length is_empty b.pools in omega arith), rw (ne_eqb (empty_front b) (length b.pools) some) refl)
@@ -54,7 +55,7 @@ cleaned_twice b = elim (cleaned_cases b) [
       let more = some.0 in
       let same : cleaned_bucket c ≡ c = elim (cleaned_cases c) [
         | inl all ↦ (let bad = all.0 in absurd (omega arith))
-        | inr rest ↦ rest.1 ∙ ap (λ (n : ℕ). without_front n c) still ∙ (let first : c.first + 0 ≡ c.first = omega arith in λ i. record { first = first i; pools = c.pools })
+        | inr rest ↦ rest.1 ∙ ap (λ (n : ℕ). without_front n c) still ∙ (let first : c.first + 0 ≡ c.first = omega arith in λ i. record c { first = first i; pools = c.pools })
       ] in
       ap cleaned_bucket some.1 ∙ same ∙ sym some.1)
 ]
@@ -100,9 +101,9 @@ whole_front s agree nothing k =
       | inl none ↦ sym none
       | inr some ↦ (
           let counts = booked.2.sets x (omega arith) in
-          let t : Item = record { key = k; number = b.first + i; name = x.name } in
+          let t : Item = record { key = k; id = b.id; number = b.first + i; name = x.name } in
           let one : set_of t ≡ x = λ j. record { name = x.name; counts = sym counts j } in
-          ap booked.0.live (sym one) ∙ sym (outstanding_at s t e booked.0 here booked.1) ∙ nothing t)
+          ap booked.0.live (sym one) ∙ sym (outstanding_at s t e booked.0 refl here booked.1) ∙ nothing t)
     ] in
     eq-eqb e.allocated 0 (none_live booked.0.live e.allocated (size_of booked.2) zero_live))
 
@@ -130,7 +131,7 @@ all_gone s t agree nothing clean k n e at =
 pub was_kept : (b : Bucket) (i : ℕ) (e : Entry) → entry_at (cleaned_bucket b) i ≡ Some e → (b.first + empty_front b ≤ i) × (entry_at b i ≡ Some e)
 was_kept b i e h = elim (cleaned_cases b) [
   | inl all ↦ (
-      let found = entry_at-found (record { first = 0; pools = [] }) i e (ap (λ (x : Bucket). entry_at x i) (sym all.1) ∙ h) in
+      let found = entry_at-found (record { id = 0; first = 0; pools = [] }) i e (ap (λ (x : Bucket). entry_at x i) (sym all.1) ∙ h) in
       absurd (let bad : ◌≡◌ {A = Option Entry} None (Some e) = found.1 in cc))
   | inr some ↦ entry_at-without (empty_front b) b i e (ap (λ (x : Bucket). entry_at x i) (sym some.1) ∙ h)
 ]
@@ -196,9 +197,18 @@ takes_none s t agree clean x = elim (cases_option (entry_at (t.books x.key) x.nu
       let was = was_kept (s.books x.key) x.number e (ap (λ (b : Bucket). entry_at b x.number) (sym (clean.books x.key)) ∙ some.1) in
       let booked = agree.booked x.key x.number e was.1 in
       let found : t.ledger e.pool ≡ Some booked.0 = clean_stays s t agree clean x.key x.number e some.1 ∙ booked.1 in
-      outstanding_at t x e booked.0 some.1 found ∙ sym (outstanding_at s x e booked.0 was.1 booked.1))
+      let id : (t.books x.key).id ≡ (s.books x.key).id = elim (cleaned_cases (s.books x.key)) [
+        | inl whole ↦ absurd (
+            let gone = entry_at-found (record { id = 0; first = 0; pools = [] }) x.number e (ap (λ (b : Bucket). entry_at b x.number) (sym (clean.books x.key ∙ whole.1)) ∙ some.1) in
+            let bad : ◌≡◌ {A = Option Entry} None (Some e) = gone.1 in
+            cc)
+        | inr rest ↦ ap (λ (b : Bucket). b.id) (clean.books x.key ∙ rest.1)
+      ] in
+      ap (λ (i : ℕ). if i == x.id then live_there t x else 0) id
+      ∙ ap (λ (n : ℕ). if (s.books x.key).id == x.id then n else 0) (live_there_at t x e booked.0 some.1 found ∙ sym (live_there_at s x e booked.0 was.1 booked.1)))
   | inl missing ↦ (
-      let nothing : outstanding t x ≡ 0 = rw missing refl in
+      let empty : live_there t x ≡ 0 = rw missing refl in
+      let nothing : outstanding t x ≡ 0 = ap (λ (n : ℕ). if (t.books x.key).id == x.id then n else 0) empty ∙ if_none ((t.books x.key).id == x.id) in
       nothing ∙ elim (cases_eq 0 (outstanding s x)) [
         | inl same ↦ same
         | inr other ↦ (

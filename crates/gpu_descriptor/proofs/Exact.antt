@@ -19,19 +19,20 @@ key_exact = record {
   self = λ a. and_from _ _ ((pointwise_decides Decides-eqb a.counts a.counts).1 refl) ((booleans_Decides a.marked a.marked).1 refl);
 }
 
-pub item_parts : (s t : Item) → item_eq s t ≡ true → (s.key ≡ t.key) × (s.number ≡ t.number) × (s.name ≡ t.name)
+pub item_parts : (s t : Item) → item_eq s t ≡ true → (s.key ≡ t.key) × (s.number ≡ t.number) × (s.name ≡ t.name) × (s.id ≡ t.id)
 item_parts s t h =
-    let outer = and_parts (key_eq s.key t.key && (s.number == t.number)) (s.name == t.name) h in
+    let whole = and_parts (key_eq s.key t.key && (s.number == t.number) && (s.name == t.name)) (s.id == t.id) h in
+    let outer = and_parts (key_eq s.key t.key && (s.number == t.number)) (s.name == t.name) whole.0 in
     let inner = and_parts (key_eq s.key t.key) (s.number == t.number) outer.0 in
-    (key_exact.same s.key t.key inner.0, eqb-true s.number t.number inner.1, eqb-true s.name t.name outer.1)
+    (key_exact.same s.key t.key inner.0, eqb-true s.number t.number inner.1, eqb-true s.name t.name outer.1, eqb-true s.id t.id whole.1)
 
-pub item_from : (s t : Item) → s.key ≡ t.key → s.number ≡ t.number → s.name ≡ t.name → item_eq s t ≡ true
-item_from s t key number name =
+pub item_from : (s t : Item) → s.key ≡ t.key → s.number ≡ t.number → s.name ≡ t.name → s.id ≡ t.id → item_eq s t ≡ true
+item_from s t key number name id =
     let keys : key_eq s.key t.key ≡ true = rw key (key_exact.self t.key) in
-    and_from _ _ (and_from _ _ keys (eq-eqb s.number t.number number)) (eq-eqb s.name t.name name)
+    and_from _ _ (and_from _ _ (and_from _ _ keys (eq-eqb s.number t.number number)) (eq-eqb s.name t.name name)) (eq-eqb s.id t.id id)
 
 pub item_exact : IsExact item_eq
 item_exact = record {
-  same = λ s t h. let p = item_parts s t h in λ i. record { key = p.0 i; number = p.1 i; name = p.2 i };
-  self = λ s. item_from s s refl refl refl;
+  same = λ s t h. let p = item_parts s t h in λ i. record { key = p.0 i; id = p.3 i; number = p.1 i; name = p.2 i };
+  self = λ s. item_from s s refl refl refl refl;
 }

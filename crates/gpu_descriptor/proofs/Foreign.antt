@@ -155,9 +155,9 @@ none_named : {name : ℕ} (es : List Entry) → ((i : ℕ) (e : Entry) → slice
 none_named [] apart = refl
 none_named {name} (e ∷ es) apart = or_from (e.pool == name) (list_any (λ e. e.pool == name) es) (ne_eqb e.pool name (apart 0 e refl)) (none_named es (λ i c there. apart (suc i) c there))
 
-module _ (k : Key) (items : List Item) (new : List Entry) (s : State) (after : ℕ → Option Pool) (h : KeepsKey k (s.books k).first items (s.books k).pools new s.ledger after) where
+module _ (k : Key) (id : ℕ) (items : List Item) (new : List Entry) (s : State) (after : ℕ → Option Pool) (h : KeepsKey k id (s.books k).first items (s.books k).pools new s.ledger after) where
   abbrev t : State
-  t = with_pools k new after s
+  t = with_pools k id new after s
 
   -- the key's own pools don't have the name
   abbrev IsApart : ℕ → Type 0
@@ -179,7 +179,7 @@ module _ (k : Key) (items : List Item) (new : List Entry) (s : State) (after : �
   still_foreign : (name : ℕ) (pool : Pool) → IsForeign s name → s.ledger name ≡ Some pool → IsForeign t name
   still_foreign name pool foreign live l n e at same = elim (cases_Bool (key_eq k l)) [
     | inl own ↦ (
-        let b : Bucket = record (s.books l) { pools = new } in
+        let b : Bucket = record (s.books l) { id = id; pools = new } in
         let here : t.books l ≡ b = rw own refl in
         let f = entry_at-found b n e (ap (λ (x : Bucket). entry_at x n) (sym here) ∙ at) in
         own_apart name pool (foreign k) live (n - b.first) e f.1 same)
@@ -196,7 +196,7 @@ module _ (k : Key) (items : List Item) (new : List Entry) (s : State) (after : �
   KeepsNames = (i : ℕ) (e : Entry) → slice_get (s.books k).pools i ≡ Some e → (d : Entry) × (slice_get new i ≡ Some d) × (d.pool ≡ e.pool)
 
   -- the key's books
-  own_books : (l : Key) → key_eq k l ≡ true → t.books l ≡ record (s.books l) { pools = new }
+  own_books : (l : Key) → key_eq k l ≡ true → t.books l ≡ record (s.books l) { id = id; pools = new }
   own_books l own = rw own refl
 
   pub taken_loses : KeepsNames → LosesNone s t
@@ -216,9 +216,9 @@ module _ (k : Key) (items : List Item) (new : List Entry) (s : State) (after : �
     ]),
   )
     where
-      place : (i : ℕ) (e : Entry) → slice_get new i ≡ Some e → entry_at (record (s.books k) { pools = new }) ((s.books k).first + i) ≡ Some e
+      place : (i : ℕ) (e : Entry) → slice_get new i ≡ Some e → entry_at (record (s.books k) { id = id; pools = new }) ((s.books k).first + i) ≡ Some e
       place i e at =
-          let b : Bucket = record (s.books k) { pools = new } in
+          let b : Bucket = record (s.books k) { id = id; pools = new } in
           entry_at-from b (b.first + i) e (omega arith) (ap (slice_get new) (let n : b.first + i - b.first ≡ i = omega arith in n) ∙ at)
 
 -- pools that a request takes from keep their places and names

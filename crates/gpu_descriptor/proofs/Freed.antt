@@ -8,7 +8,6 @@ use Rattle.std.proofs.lemmas.List.Sums.{sum_by-append}
 use Rattle.gpu_descriptor_types.specs.Ledger.{Counters, Ledger}
 use Rattle.gpu_descriptor_types.proofs.Counting.{bool_iff}
 use Rattle.gpu_descriptor.specs.Model.Load.{marked_load}
-use Rattle.gpu_descriptor.specs.declared.set.BucketKey.{BucketKey}
 use Rattle.gpu_descriptor.specs.declared.set.DescriptorSet.{DescriptorSet}
 use Rattle.gpu_descriptor.specs.Model.Agreement.{State, Item, AreOutstanding, Agree, count_of}
 use Rattle.gpu_descriptor.specs.Model.Books.{Key, key_eq}
@@ -17,8 +16,8 @@ use Rattle.gpu_descriptor.specs.Caller.Comparisons.{open_pools, run_digits, bina
 use Rattle.gpu_descriptor.specs.Caller.Frees.{GivesBack, Frees}
 use Rattle.gpu_descriptor.specs.Inner.Releases.{FreesRun}
 use Rattle.gpu_descriptor.specs.Model.Runs.{runs, breaks}
-use Rattle.gpu_descriptor.specs.Caller.Sets.{key_of, item_of, items_of}
-use Rattle.gpu_descriptor.specs.Inner.RunSteps.{at_place, HaveKey}
+use Rattle.gpu_descriptor.specs.Caller.Sets.{item_of, items_of}
+use Rattle.gpu_descriptor.specs.Inner.RunSteps.{lies_at, LieAt}
 use Rattle.gpu_descriptor.specs.Caller.States.{state_of, keys_of}
 use Rattle.gpu_descriptor.specs.Caller.Values.{Allocations}
 use Rattle.gpu_descriptor.proofs.Comparisons.{run_digits_more}
@@ -26,9 +25,8 @@ use Rattle.gpu_descriptor.proofs.Counted.{gone}
 use Rattle.gpu_descriptor.proofs.Exact.{key_exact}
 use Rattle.gpu_descriptor.proofs.Holding.{count_of-append}
 use Rattle.gpu_descriptor.proofs.Kept.{agrees, takes, none_back}
-use Rattle.gpu_descriptor.proofs.OneRun.{at_own}
+use Rattle.gpu_descriptor.proofs.WholeRun.{at_from, at_parts, lies_own}
 use Rattle.gpu_descriptor.proofs.Parts.{parts}
-use Rattle.gpu_descriptor.proofs.WholeRun.{at_parts}
 
 -- with x in hand one set more is to come
 abbrev pub weight : {A : Type 0} → Option A → ℕ → ℕ
@@ -36,23 +34,19 @@ weight None n = 0
 weight (Some x) n = n + 1
 
 -- the list is empty or begins in another place
-abbrev pub BeginsApart : {S : Type 0} → BucketKey → ℕ → List (DescriptorSet S) → Type 0
+abbrev pub BeginsApart : {S : Type 0} → Key → ℕ → List (DescriptorSet S) → Type 0
 BeginsApart k n [] = Unit {0}
-BeginsApart k n (y ∷ ys) = at_place k n y ≡ false
-
-at_from : {S : Type 0} (k : BucketKey) (n : ℕ) (x : DescriptorSet S) → key_of x.key ≡ key_of k → x.number ≡ n → at_place k n x ≡ true
-unfolding at_place
-at_from k n x e f = and_from _ _ (ap (λ (l : Key). key_eq l (key_of k)) e ∙ key_exact.self (key_of k)) (eq-eqb x.number n f)
+BeginsApart k n (y ∷ ys) = lies_at k n y ≡ false
 
 -- whether a neighbour lies in the same place
-same_spot : {S : Type 0} (k : BucketKey) (n : ℕ) (x y : DescriptorSet S) → at_place k n x ≡ true → (key_eq (key_of x.key) (key_of y.key) && (x.number == y.number)) ≡ at_place k n y
+same_spot : {S : Type 0} (k : Key) (n : ℕ) (x y : DescriptorSet S) → lies_at k n x ≡ true → (key_eq x.key.is y.key.is && (x.number == y.number)) ≡ lies_at k n y
 same_spot k n x y own =
     let here = at_parts k n x own in
-    bool_iff (key_eq (key_of x.key) (key_of y.key) && (x.number == y.number)) (at_place k n y)
-    (λ h. let both = and_parts (key_eq (key_of x.key) (key_of y.key)) (x.number == y.number) h in
-    at_from k n y (sym (key_exact.same (key_of x.key) (key_of y.key) both.0) ∙ here.0) (sym (eqb-true x.number y.number both.1) ∙ here.1))
+    bool_iff (key_eq x.key.is y.key.is && (x.number == y.number)) (lies_at k n y)
+    (λ h. let both = and_parts (key_eq x.key.is y.key.is) (x.number == y.number) h in
+    at_from k n y (sym (key_exact.same x.key.is y.key.is both.0) ∙ here.0) (sym (eqb-true x.number y.number both.1) ∙ here.1))
     (λ h. let there = at_parts k n y h in
-    and_from _ _ (ap (λ (l : Key). key_eq l (key_of y.key)) (here.0 ∙ sym there.0) ∙ key_exact.self (key_of y.key)) (eq-eqb x.number y.number (here.1 ∙ sym there.1)))
+    and_from _ _ (ap (λ (l : Key). key_eq l y.key.is) (here.0 ∙ sym there.0) ∙ key_exact.self y.key.is) (eq-eqb x.number y.number (here.1 ∙ sym there.1)))
 
 -- the counters after both
 counters_both : (a b m n : ℕ) (c : Counters) → more_destroyed m (more_released n (more_destroyed a (more_released b c))) ≡ more_destroyed (a + m) (more_released (b + n) c)
@@ -78,7 +72,7 @@ module _ {S : Type 0} (set_name : S → ℕ) where
   abbrev pub items : List (DescriptorSet S) → List Item
   items xs = items_of set_name xs
 
-  pub run_then : (k : BucketKey) (n : ℕ) (x : DescriptorSet S) (xs zs : List (DescriptorSet S)) → at_place k n x ≡ true → HaveKey k n xs → BeginsApart k n zs → runs (items ((x ∷ xs) ++ zs)) ≡ 1 + runs (items zs)
+  pub run_then : (k : Key) (n : ℕ) (x : DescriptorSet S) (xs zs : List (DescriptorSet S)) → lies_at k n x ≡ true → LieAt k n xs → BeginsApart k n zs → runs (items ((x ∷ xs) ++ zs)) ≡ 1 + runs (items zs)
   run_then k n x [] [] own have apart = refl
   run_then k n x [] (z ∷ zs) own have apart =
       let other = same_spot k n x z own ∙ apart in
@@ -183,7 +177,7 @@ module _ {S : Type 0} (set_name : S → ℕ) where
           omega arith)
 
       pub freed_more : (new : Allocations P) (after : Ledger) (a : Option (DescriptorSet S)) (t : T) → FreesRun steps name set_name x rest a t now new mid after → keys_of new ≡ keys_of now → OnSome a (IsNearerEnd can left rest t)
-          → now.comparisons ≤ new.comparisons → new.comparisons ≤ now.comparisons + binary_digits (open_pools ((state_of name now mid).books (key_of x.key))) → Freed first old before new after a t
+          → now.comparisons ≤ new.comparisons → new.comparisons ≤ now.comparisons + binary_digits (open_pools ((state_of name now mid).books x.key.is)) → Freed first old before new after a t
       freed_more new after a t run same n more few = record {
         sets = r.sets ++ x ∷ xs;
         back = subst (λ (m : ℕ). GivesBack name set_name (r.sets ++ x ∷ xs) m old new before after) (sym count) (gives_both name r.sets (x ∷ xs) (runs (items r.sets)) 1 old now new before mid after agree (all_out xs run.came.1.0 run.came.1.1) r.keys r.back run.back);
@@ -198,8 +192,8 @@ module _ {S : Type 0} (set_name : S → ℕ) where
           xs = run.sets
 
           -- the run, and what follows in another place
-          behind_it : (zs : List (DescriptorSet S)) → BeginsApart x.key x.number zs → runs (items (x ∷ (xs ++ zs))) ≡ 1 + runs (items zs)
-          behind_it zs b = run_then x.key x.number x xs zs (at_own x) run.came.0 b
+          behind_it : (zs : List (DescriptorSet S)) → BeginsApart x.key.is x.number zs → runs (items (x ∷ (xs ++ zs))) ≡ 1 + runs (items zs)
+          behind_it zs b = run_then x.key.is x.number x xs zs (lies_own x) run.came.0 b
 
           alone : runs (items (x ∷ xs)) ≡ 1
           alone = ap (λ zs. runs (items (x ∷ zs))) (sym (append-nil xs)) ∙ behind_it [] tt ∙ refl
@@ -208,17 +202,17 @@ module _ {S : Type 0} (set_name : S → ℕ) where
           count = r.comes.1 xs ∙ ap (λ n. runs (items r.sets) + n) alone
 
           -- the digits that this run adds
-          cost : run_digits (state_of name old before) (items (r.sets ++ x ∷ xs)) ≡ run_digits (state_of name old before) (items r.sets) + binary_digits (open_pools ((state_of name now mid).books (key_of x.key)))
+          cost : run_digits (state_of name old before) (items (r.sets ++ x ∷ xs)) ≡ run_digits (state_of name old before) (items r.sets) + binary_digits (open_pools ((state_of name now mid).books x.key.is))
           cost =
               let s = state_of name old before in
               let whole = items-append r.sets (x ∷ xs) in
               ap (run_digits s) whole ∙ run_digits_more s (items r.sets) (item_of set_name x) (items xs) (ap runs (sym whole) ∙ count) alone
-              ∙ ap (λ (t : State). run_digits s (items r.sets) + binary_digits (open_pools (t.books (key_of x.key)))) (sym r.back.state)
+              ∙ ap (λ (t : State). run_digits s (items r.sets) + binary_digits (open_pools (t.books x.key.is))) (sym r.back.state)
 
           came : Yields steps first (r.sets ++ x ∷ xs) run.came.1.0
           came = behind first r.sets x xs rest run.came.1.0 r.comes.0 run.came.1.1
 
-          parted : (y : DescriptorSet S) → at_place x.key x.number y ≡ false → Splits (r.sets ++ x ∷ xs) y
+          parted : (y : DescriptorSet S) → lies_at x.key.is x.number y ≡ false → Splits (r.sets ++ x ∷ xs) y
           parted y b zs =
               let whole : runs (items ((r.sets ++ x ∷ xs) ++ y ∷ zs)) ≡ runs (items (r.sets ++ x ∷ (xs ++ y ∷ zs))) = ap (λ vs. runs (items vs)) (append_assoc r.sets (x ∷ xs) (y ∷ zs)) in
               let split = r.comes.1 (xs ++ y ∷ zs) in
@@ -226,7 +220,7 @@ module _ {S : Type 0} (set_name : S → ℕ) where
               let so = count in
               omega arith
 
-          stop : (a : Option (DescriptorSet S)) → steps run.came.1.0 a t → IfSome a (λ y. at_place x.key x.number y ≡ false) → OnSome a (IsNearerEnd can left rest t) → Comes first (r.sets ++ x ∷ xs) a t
+          stop : (a : Option (DescriptorSet S)) → steps run.came.1.0 a t → IfSome a (λ y. lies_at x.key.is x.number y ≡ false) → OnSome a (IsNearerEnd can left rest t) → Comes first (r.sets ++ x ∷ xs) a t
           stop None s b n = (run.came.1.0, came, s)
           stop (Some y) s b n = (Yields-more steps first (r.sets ++ x ∷ xs) run.came.1.0 y t came s, parted y b, n.0, n.1)
 

@@ -93,19 +93,19 @@ entry_less-less a c e =
     λ i. record { pool = e.pool; capacity = e.capacity; allocated = allocated i; free = free i }
 
 pub less-less : (f g : ℕ → ℕ) (b : Bucket) → bucket_less g (bucket_less f b) ≡ bucket_less (λ p. f p + g p) b
-less-less f g b = λ i. record { first = b.first; pools = each b.pools i }
+less-less f g b = λ i. record b { pools = each b.pools i }
   where
     each : (es : List Entry) → map (λ e. entry_less (g e.pool) e) (map (λ e. entry_less (f e.pool) e) es) ≡ map (λ e. entry_less (f e.pool + g e.pool) e) es
     each [] = refl
     each (e ∷ es) = λ i. entry_less-less (f e.pool) (g e.pool) e i ∷ each es i
 
 pub less-without : (g : ℕ → ℕ) (n : ℕ) (b : Bucket) → bucket_less g (without_front n b) ≡ without_front n (bucket_less g b)
-less-without g n b = λ i. record { first = b.first + n; pools = sym (drop-map (λ (e : Entry). entry_less (g e.pool) e) n b.pools) i }
+less-without g n b = λ i. record b { first = b.first + n; pools = sym (drop-map (λ (e : Entry). entry_less (g e.pool) e) n b.pools) i }
 
 pub without-without : (m n : ℕ) (b : Bucket) → without_front n (without_front m b) ≡ without_front (m + n) b
 without-without m n b =
     let first : b.first + m + n ≡ b.first + (m + n) = omega arith in
-    λ i. record { first = first i; pools = drop-drop n m b.pools i }
+    λ i. record b { first = first i; pools = drop-drop n m b.pools i }
 
 less-keeps_empty : (g : ℕ → ℕ) → KeepsEmpty (λ e. entry_less (g e.pool) e)
 less-keeps_empty g e h =

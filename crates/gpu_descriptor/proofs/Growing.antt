@@ -31,30 +31,30 @@ use Rattle.gpu_descriptor.proofs.Asks.{same_counters}
 use Rattle.gpu_descriptor.proofs.Shares.{IsApart, apart_from, not_refused}
 use Rattle.gpu_descriptor.proofs.Steps.{part, came_more}
 
-abbrev pub all_so_far : (ℕ → Bool) → List Fresh → List Part → Grant
-all_so_far refused fresh parts = record { left = 0; refused = refused; fresh = fresh; parts = parts }
+abbrev pub all_so_far : ℕ → (ℕ → Bool) → List Fresh → List Part → Grant
+all_so_far id refused fresh parts = record { id = id; left = 0; refused = refused; fresh = fresh; parts = parts }
 
-pub record Growing (k : Key) (start n first room total wanting : ℕ) (items : List Item) (old new : List Entry) (l m : Ledger) : Type 0 where
+pub record Growing (k : Key) (start n id first room total wanting : ℕ) (items : List Item) (old new : List Entry) (l m : Ledger) : Type 0 where
   pub refused : ℕ → Bool
   pub parts : List Part
   pub fresh : List Fresh
-  pub came : items_in k parts ≡ items
+  pub came : items_in k id parts ≡ items
   pub totals : total ≡ allocated_in (all_shared refused n old) + given_by fresh
   pub wants : wanting + given_by fresh ≡ rest refused n old
   pub sized : AreSized k start (allocated_in (all_shared refused n old)) (rest refused n old) fresh
   pub room_now : room ≡ room_after k start fresh
   pub full : 0 < wanting → AreFull fresh
   pub list : wanting ≡ 0 → IsFreshList k start (allocated_in (all_shared refused n old)) (rest refused n old) fresh
-  pub keeps : KeepsKey k first items old new l.pools m.pools
-  pub taken : HasTaken k n first (all_so_far refused fresh parts) old new l m
+  pub keeps : KeepsKey k id first items old new l.pools m.pools
+  pub taken : HasTaken k n first (all_so_far id refused fresh parts) old new l m
 
 pub length-all_shared : (refused : ℕ → Bool) (n : ℕ) (es : List Entry) → length (all_shared refused n es) ≡ length es
 length-all_shared refused n [] = refl
 length-all_shared refused n (e ∷ es) = ap suc (length-all_shared refused n es)
 
 -- there is one pool more for each new one
-pub grown_long : (k : Key) (start n first room total wanting : ℕ) (items : List Item) (old new : List Entry) (l m : Ledger) → (s : Growing k start n first room total wanting items old new l m) → length new ≡ length old + length s.fresh
-grown_long k start n first room total wanting items old new l m s =
+pub grown_long : (k : Key) (start n id first room total wanting : ℕ) (items : List Item) (old new : List Entry) (l m : Ledger) → (s : Growing k start n id first room total wanting items old new l m) → length new ≡ length old + length s.fresh
+grown_long k start n id first room total wanting items old new l m s =
     ap length s.taken.entries
     ∙ length-append (all_shared s.refused n old) (map fresh_entry s.fresh)
     ∙ (let a = length-all_shared s.refused n old in let b = length-map s.fresh fresh_entry in omega arith)
@@ -148,8 +148,8 @@ full_more : (fs : List Fresh) (f : Fresh) → AreFull fs → f.given ≡ f.size 
 full_more [] f all one = (one, tt)
 full_more (h ∷ fs) f all one = (all.0, full_more fs f all.1 one)
 
-module _ (k : Key) (start n first room left total wanting : ℕ) (items : List Item) (old new new' : List Entry) (l m m' : Ledger) (more : List ℕ)
-    (booked : AreBookedIn k l.pools old) (s : Growing k start n first room total wanting items old new l m) (a : IsGrown k room left total wanting more new new' m m') where
+module _ (k : Key) (start n id first room left total wanting : ℕ) (items : List Item) (old new new' : List Entry) (l m m' : Ledger) (more : List ℕ)
+    (booked : AreBookedIn k l.pools old) (s : Growing k start n id first room total wanting items old new l m) (a : IsGrown k room left total wanting more new new' m m') where
   abbrev f : Fresh
   f = a.pool
 
@@ -187,7 +187,7 @@ module _ (k : Key) (start n first room left total wanting : ℕ) (items : List I
   abbrev made : Pool
   made = ledgers.fresh (pool_counts k.counts f.size) f.size (flags_of k)
 
-  pools_now : m'.pools ≡ ledger_with k (all_so_far s.refused fresh_now parts_now) l.pools
+  pools_now : m'.pools ≡ ledger_with k (all_so_far id s.refused fresh_now parts_now) l.pools
   pools_now = a.pools ∙ fun_ext (λ r. at (nat_eq q r) r refl)
     where
       at : (b : Bool) (r : ℕ) → nat_eq q r ≡ b → cond b (changed (pool_with (live_sets k.counts more) false) (update nat_eq m.pools q (Some made) q)) (cond b (Some made) (m.pools r)) ≡ option_map (pool_with (live_sets k.counts (came parts_now r)) (s.refused r)) (fresh_or k fresh_now r (l.pools r))
@@ -214,14 +214,14 @@ module _ (k : Key) (start n first room left total wanting : ℕ) (items : List I
       ∙ append_assoc (portions_of s.refused n (first + 0) old) (fresh_portions (first + length old) s.fresh) (portion_of part_now ∷ [])
       ∙ ap (λ x. portions_of s.refused n (first + 0) old ++ x) (ap (λ g. fresh_portions (first + length old) s.fresh ++ record { number = first + length old + length s.fresh; pool = q; given = g } ∷ []) many ∙ sym (fresh_rows_more (first + length old) s.fresh f))
 
-  entries_now : new' ≡ entries_with n (all_so_far s.refused fresh_now parts_now) old
+  entries_now : new' ≡ entries_with n (all_so_far id s.refused fresh_now parts_now) old
   entries_now =
       a.entries
       ∙ ap (λ x. x ++ fresh_entry f ∷ []) s.taken.entries
       ∙ append_assoc (all_shared s.refused n old) (map fresh_entry s.fresh) (fresh_entry f ∷ [])
       ∙ ap (λ x. all_shared s.refused n old ++ x) (sym (map-append fresh_entry s.fresh (f ∷ [])))
 
-  counters_now : m'.counters ≡ risen (grant_rise n (all_so_far s.refused fresh_now parts_now) old) l.counters
+  counters_now : m'.counters ≡ risen (grant_rise n (all_so_far id s.refused fresh_now parts_now) old) l.counters
   counters_now =
       let up = ap (risen (record no_rise { created = 1; asked = 1 })) s.taken.counters in
       let long = length-append s.fresh (f ∷ []) in
@@ -232,22 +232,22 @@ module _ (k : Key) (start n first room left total wanting : ℕ) (items : List I
       let w : wanting ≡ rest s.refused n old - given_by s.fresh = (let x = s.wants in omega arith) in
       sized_more k start (allocated_in (all_shared s.refused n old)) (rest s.refused n old) s.fresh f s.sized (subst (λ (x : ℕ). IsNextSize k (room_after k start s.fresh) x (rest s.refused n old - given_by s.fresh) f.size) s.totals (subst (λ (x : ℕ). IsNextSize k (room_after k start s.fresh) total x f.size) w (subst (λ (x : ℕ). IsNextSize k x total wanting f.size) s.room_now a.size)))
 
-  pub grow_more : (total' wanting' : ℕ) → 0 < wanting → total' ≡ total + length more → wanting' + length more ≡ wanting → Growing k start n first left total' wanting' (items ++ items_at k (first + length old + length s.fresh) more) old new' l m'
+  pub grow_more : (total' wanting' : ℕ) → 0 < wanting → total' ≡ total + length more → wanting' + length more ≡ wanting → Growing k start n id first left total' wanting' (items ++ items_at k id (first + length old + length s.fresh) more) old new' l m'
   grow_more total' wanting' some totals' less =
       let all = given_more s.fresh f in
       let g = a.given in
-      let number : first + length new ≡ first + length old + length s.fresh = (let long = grown_long k start n first room total wanting items old new l m s in omega arith) in
+      let number : first + length new ≡ first + length old + length s.fresh = (let long = grown_long k start n id first room total wanting items old new l m s in omega arith) in
       record {
         refused = s.refused;
         parts = parts_now;
         fresh = fresh_now;
-        came = flat_map-append (λ (p : Part). items_at k p.number p.names) s.parts (part_now ∷ []) ∙ ap (λ x. items_in k s.parts ++ x) (append-nil (items_at k (first + length old + length s.fresh) more)) ∙ ap (λ x. x ++ items_at k (first + length old + length s.fresh) more) s.came;
+        came = flat_map-append (λ (p : Part). items_at k id p.number p.names) s.parts (part_now ∷ []) ∙ ap (λ x. items_in k id s.parts ++ x) (append-nil (items_at k id (first + length old + length s.fresh) more)) ∙ ap (λ x. x ++ items_at k id (first + length old + length s.fresh) more) s.came;
         totals = (let t = s.totals in let y = many in omega arith);
         wants = (let w = s.wants in let y = many in omega arith);
         sized = sized_now;
         room_now = (let r = s.room_now in let more = room_more k start s.fresh f in let less = a.less in omega arith);
         full = λ still. full_more s.fresh f (s.full some) (let y = many in omega arith);
-        keeps = subst (λ (n : ℕ). KeepsKey k first (items ++ items_at k n more) old new' l.pools m'.pools) number (keeps_grown k first room left total wanting items old new new' l.pools more m m' s.keeps a);
+        keeps = subst (λ (n : ℕ). KeepsKey k id first (items ++ items_at k id n more) old new' l.pools m'.pools) number (keeps_grown k id first room left total wanting items old new new' l.pools more m m' s.keeps a);
         list = λ none. grants.some s.fresh f refl (record { sized = s.sized; full = s.full some; short = (let w = s.wants in omega arith) }) sized_now (omega arith) (let w = s.wants in let y = many in omega arith);
         taken = record {
           refusing = s.taken.refusing;
@@ -259,9 +259,9 @@ module _ (k : Key) (start n first room left total wanting : ℕ) (items : List I
         };
       }
 
-pub grow_start : (k : Key) (start n first total wanting : ℕ) (items : List Item) (old new : List Entry) (l m : Ledger) → (w : IsWalked k n first 0 items old new l m) → wanting ≡ rest w.grant.refused n old → total ≡ allocated_in old + (n - wanting) → Growing k start n first start total wanting items old new l m
-grow_start k start n first total wanting items old new l m w wants totals =
-    let grant : w.grant ≡ all_so_far w.grant.refused [] w.grant.parts = (λ i. record { left = w.from i; refused = w.grant.refused; fresh = w.no_fresh i; parts = w.grant.parts }) in
+pub grow_start : (k : Key) (start n id first total wanting : ℕ) (items : List Item) (old new : List Entry) (l m : Ledger) → (w : IsWalked k n id first 0 items old new l m) → wanting ≡ rest w.grant.refused n old → total ≡ allocated_in old + (n - wanting) → Growing k start n id first start total wanting items old new l m
+grow_start k start n id first total wanting items old new l m w wants totals =
+    let grant : w.grant ≡ all_so_far id w.grant.refused [] w.grant.parts = (λ i. record { id = w.named i; left = w.from i; refused = w.grant.refused; fresh = w.no_fresh i; parts = w.grant.parts }) in
     record {
       refused = w.grant.refused;
       parts = w.grant.parts;
@@ -277,9 +277,10 @@ grow_start k start n first total wanting items old new l m w wants totals =
       taken = subst (λ (g : Grant). HasTaken k n first g old new l m) grant w.taken;
     }
 
-pub grow_end : (k : Key) (start n first room total : ℕ) (items : List Item) (old new : List Entry) (l m : Ledger) → Growing k start n first room total 0 items old new l m → IsTakenAll k start n first items old new l m
-grow_end k start n first room total items old new l m s = record {
-  grant = all_so_far s.refused s.fresh s.parts;
+pub grow_end : (k : Key) (start n id first room total : ℕ) (items : List Item) (old new : List Entry) (l m : Ledger) → Growing k start n id first room total 0 items old new l m → IsTakenAll k start n id first items old new l m
+grow_end k start n id first room total items old new l m s = record {
+  grant = all_so_far id s.refused s.fresh s.parts;
+  named = refl;
   all = refl;
   came = s.came;
   keeps = s.keeps;
@@ -287,9 +288,10 @@ grow_end k start n first room total items old new l m s = record {
   taken = s.taken;
 }
 
-pub grow_stop : (why : Stop) (k : Key) (start n first room total wanting : ℕ) (items : List Item) (old new : List Entry) (l m m' : Ledger) → 0 < wanting → Growing k start n first room total wanting items old new l m → IsNotGrown why m m' → TellsOfRoom why k room → IsGrowStopped why k start n first items old new l m'
-grow_stop why k start n first room total wanting items old new l m m' some s none in_room = record {
-  grant = all_so_far s.refused s.fresh s.parts;
+pub grow_stop : (why : Stop) (k : Key) (start n id first room total wanting : ℕ) (items : List Item) (old new : List Entry) (l m m' : Ledger) → 0 < wanting → Growing k start n id first room total wanting items old new l m → IsNotGrown why m m' → TellsOfRoom why k room → IsGrowStopped why k start n id first items old new l m'
+grow_stop why k start n id first room total wanting items old new l m m' some s none in_room = record {
+  grant = all_so_far id s.refused s.fresh s.parts;
+  named = refl;
   all = refl;
   came = s.came;
   front = record { sized = s.sized; full = s.full some; short = (let w = s.wants in omega arith) };
@@ -323,8 +325,8 @@ load_split k refused n (suc i) (e ∷ es) =
     omega arith
 
 -- a walk leaves it
-pub load_walked : (k : Key) (n first : ℕ) (g : Grant) (old new : List Entry) (l m : Ledger) → HasTaken k n first g old new l m → g.fresh ≡ [] → pools_load k new ≡ pools_load k old
-load_walked k n first g old new l m taken none =
+pub load_walked : (k : Key) (n id first : ℕ) (g : Grant) (old new : List Entry) (l m : Ledger) → HasTaken k n first g old new l m → g.fresh ≡ [] → pools_load k new ≡ pools_load k old
+load_walked k n id first g old new l m taken none =
     let shares : List Entry = take g.left old ++ all_shared g.refused n (drop g.left old) in
     let all : new ≡ shares ++ [] = taken.entries ∙ ap (λ fs. shares ++ map fresh_entry fs) none in
     ap (pools_load k) (all ∙ append-nil shares) ∙ load_split k g.refused n g.left old

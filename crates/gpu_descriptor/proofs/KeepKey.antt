@@ -156,33 +156,33 @@ end_past (z ∷ xs) x (suc j) lt = end_past xs x j (omega arith)
 
 -- ---- the sets of one pool
 
-pub place_of_items : (k : Key) (number : ℕ) (names : List ℕ) (t : Item) → 0 < count_of t (items_at k number names) → (t.key ≡ k) × (t.number ≡ number)
-place_of_items k number [] t some = absurd (omega arith)
-place_of_items k number (n ∷ names) t some =
-    let u : Item = record { key = k; number = number; name = n } in
+pub place_of_items : (k : Key) (id number : ℕ) (names : List ℕ) (t : Item) → 0 < count_of t (items_at k id number names) → (t.key ≡ k) × (t.number ≡ number) × (t.id ≡ id)
+place_of_items k id number [] t some = absurd (omega arith)
+place_of_items k id number (n ∷ names) t some =
+    let u : Item = record { key = k; id = id; number = number; name = n } in
     elim (cases_Bool (item_eq u t)) [
-      | inl same ↦ (let is : u ≡ t = item_exact.same u t same in (sym (ap (λ (v : Item). v.key) is), sym (ap (λ (v : Item). v.number) is)))
-      | inr other ↦ (let skip = count_by_no (λ v. item_eq v t) u (items_at k number names) other in place_of_items k number names t (omega arith))
+      | inl same ↦ (let is : u ≡ t = item_exact.same u t same in (sym (ap (λ (v : Item). v.key) is), sym (ap (λ (v : Item). v.number) is), sym (ap (λ (v : Item). v.id) is)))
+      | inr other ↦ (let skip = count_by_no (λ v. item_eq v t) u (items_at k id number names) other in place_of_items k id number names t (omega arith))
     ]
 
 -- as often as its name came
-pub count_of_items : (k : Key) (number : ℕ) (names : List ℕ) (t : Item) → t.key ≡ k → t.number ≡ number → count_of t (items_at k number names) ≡ times (live_sets k.counts names) (set_of t)
-count_of_items k number [] t key at = refl
-count_of_items k number (n ∷ names) t key at =
-    let u : Item = record { key = k; number = number; name = n } in
+pub count_of_items : (k : Key) (id number : ℕ) (names : List ℕ) (t : Item) → t.key ≡ k → t.number ≡ number → t.id ≡ id → count_of t (items_at k id number names) ≡ times (live_sets k.counts names) (set_of t)
+count_of_items k id number [] t key at own = refl
+count_of_items k id number (n ∷ names) t key at own =
+    let u : Item = record { key = k; id = id; number = number; name = n } in
     let y : LiveSet = record { name = n; counts = k.counts } in
-    let rest = count_of_items k number names t key at in
+    let rest = count_of_items k id number names t key at own in
     let counts : t.key.counts ≡ k.counts = ap (λ (x : Key). x.counts) key in
     elim (cases_Bool (n == t.name)) [
       | inl same ↦ (
           let is : n ≡ t.name = eqb-true n t.name same in
-          let one : item_eq u t ≡ true = item_from u t (sym key) (sym at) is in
+          let one : item_eq u t ≡ true = item_from u t (sym key) (sym at) is (sym own) in
           let two : set_eq y (set_of t) ≡ true = set_from n t.name k.counts t.key.counts is (sym counts) in
-          count_by_yes (λ v. item_eq v t) u (items_at k number names) one ∙ ap suc rest ∙ sym (count_by_yes (λ z. set_eq z (set_of t)) y (live_sets k.counts names) two))
+          count_by_yes (λ v. item_eq v t) u (items_at k id number names) one ∙ ap suc rest ∙ sym (count_by_yes (λ z. set_eq z (set_of t)) y (live_sets k.counts names) two))
       | inr other ↦ (
           let one : item_eq u t ≡ false = item_not u t other in
           let two : set_eq y (set_of t) ≡ false = set_not n t.name k.counts t.key.counts other in
-          count_by_no (λ v. item_eq v t) u (items_at k number names) one ∙ rest ∙ sym (count_by_no (λ z. set_eq z (set_of t)) y (live_sets k.counts names) two))
+          count_by_no (λ v. item_eq v t) u (items_at k id number names) one ∙ rest ∙ sym (count_by_no (λ z. set_eq z (set_of t)) y (live_sets k.counts names) two))
     ]
   where
     set_from : (m n : ℕ) (b c : List ℕ) → m ≡ n → b ≡ c → set_eq (record { name = m; counts = b }) (record { name = n; counts = c }) ≡ true
@@ -196,10 +196,10 @@ count_of_items k number (n ∷ names) t key at =
     and_off false = refl
 
     item_not : (u t : Item) → (u.name == t.name) ≡ false → item_eq u t ≡ false
-    item_not u t e = rw e (and_off (key_eq u.key t.key && (u.number == t.number)))
+    item_not u t e = rw e (ap (λ b. b && (u.id == t.id)) (and_off (key_eq u.key t.key && (u.number == t.number))))
 
-pub count_elsewhere : (k : Key) (number : ℕ) (names : List ℕ) (t : Item) → t.number ≢ number → count_of t (items_at k number names) ≡ 0
-count_elsewhere k number names t ne = elim (cases_lt 0 (count_of t (items_at k number names))) [
-  | inl some ↦ absurd (ne (place_of_items k number names t some).1)
+pub count_elsewhere : (k : Key) (id number : ℕ) (names : List ℕ) (t : Item) → t.number ≢ number → count_of t (items_at k id number names) ≡ 0
+count_elsewhere k id number names t ne = elim (cases_lt 0 (count_of t (items_at k id number names))) [
+  | inl some ↦ absurd (ne (place_of_items k id number names t some).1)
   | inr none ↦ (omega arith)
 ]

@@ -1,5 +1,5 @@
 -- What a request takes of a key keeps books and ledger of the whole allocator in agreement.
-use Rattle.std.proofs.Common.{◌≡◌, ◌≢◌, ℕ, suc, ◌+◌, ◌-◌, ◌≤◌, ◌==◌, inl, inr, List, [], ◌∷◌, length, Bool, true, false, Option, Some, None, refl, sym, ap, ◌∙◌, subst, arith, eqb-true, ne_eqb}
+use Rattle.std.proofs.Common.{◌≡◌, ◌≢◌, ℕ, suc, ◌+◌, ◌-◌, ◌<◌, ◌≤◌, ◌==◌, inl, inr, List, [], ◌∷◌, length, Bool, true, false, Option, Some, None, refl, sym, ap, ◌∙◌, subst, arith, eqb-true, eq-eqb, ne_eqb}
 use Rattle.std.proofs.lemmas.Bool.{cases_Bool, cases_lt, or_cases, or_from}
 use Rattle.std.specs.List.{slice_get, list_any}
 use Rattle.std.specs.Option.{option_map_or}
@@ -34,20 +34,20 @@ booked_of s k agree = record {
     at : (b : Bucket) (i : ℕ) (e : Entry) → slice_get b.pools i ≡ Some e → entry_at b (b.first + i) ≡ Some e
     at b i e there = entry_at-from b (b.first + i) e (omega arith) (ap (slice_get b.pools) (let n : b.first + i - b.first ≡ i = omega arith in n) ∙ there)
 
-module _ (k : Key) (items : List Item) (new : List Entry) (s : State) (after : ℕ → Option Pool) (agree : Agree s)
-    (h : KeepsKey k (s.books k).first items (s.books k).pools new s.ledger after) where
+module _ (k : Key) (id : ℕ) (items : List Item) (new : List Entry) (s : State) (after : ℕ → Option Pool) (agree : Agree s) (same_id : 0 < length (s.books k).pools → id ≡ (s.books k).id)
+    (h : KeepsKey k id (s.books k).first items (s.books k).pools new s.ledger after) where
   abbrev t : State
-  t = with_pools k new after s
+  t = with_pools k id new after s
 
-  own : t.books k ≡ record (s.books k) { pools = new }
-  own = ap (λ (b : Bool). if b then record (s.books k) { pools = new } else s.books k) (key_exact.self k)
+  own : t.books k ≡ record (s.books k) { id = id; pools = new }
+  own = ap (λ (b : Bool). if b then record (s.books k) { id = id; pools = new } else s.books k) (key_exact.self k)
 
   other : (l : Key) → key_eq k l ≡ false → t.books l ≡ s.books l
-  other l ne = ap (λ (b : Bool). if b then record (s.books l) { pools = new } else s.books l) ne
+  other l ne = ap (λ (b : Bool). if b then record (s.books l) { id = id; pools = new } else s.books l) ne
 
   -- a place of the key
   in_new : (n : ℕ) (e : Entry) → entry_at (t.books k) n ≡ Some e → ((s.books k).first ≤ n) × (slice_get new (n - (s.books k).first) ≡ Some e)
-  in_new n e at = entry_at-found (record (s.books k) { pools = new }) n e (ap (λ (b : Bucket). entry_at b n) (sym own) ∙ at)
+  in_new n e at = entry_at-found (record (s.books k) { id = id; pools = new }) n e (ap (λ (b : Bucket). entry_at b n) (sym own) ∙ at)
 
   -- another key's pool isn't among the key's
   foreign : (l : Key) (m : ℕ) (d : Entry) → key_eq k l ≡ false → entry_at (s.books l) m ≡ Some d → (i : ℕ) (e : Entry) → slice_get new i ≡ Some e → d.pool ≢ e.pool
@@ -125,25 +125,58 @@ module _ (k : Key) (items : List Item) (new : List Entry) (s : State) (after : �
       no_length [] e = refl
       no_length (x ∷ es) e = absurd (omega arith)
 
+  none_live : (u : Item) → (s.books k).pools ≡ [] → live_at s.ledger (s.books k) u ≡ 0
+  none_live u is = none_of (entry_at (s.books k) u.number) refl
+    where
+      none_of : (o : Option Entry) → entry_at (s.books k) u.number ≡ o → live_at s.ledger (s.books k) u ≡ 0
+      none_of None at = rw at refl
+      none_of (Some e) at = (let found = entry_at-found (s.books k) u.number e at in let bad : slice_get [] (u.number - (s.books k).first) ≡ Some e = ap (λ (es : List Entry). slice_get es (u.number - (s.books k).first)) (sym is) ∙ found.1 in let worse : ◌≡◌ {A = Option Entry} None (Some e) = bad in absurd (cc))
+
+  -- without pools nothing is live
+  with_id : (u : Item) (es : List Entry) → (s.books k).pools ≡ es → id ≡ u.id → (if (s.books k).id == u.id then live_at s.ledger (s.books k) u else 0) ≡ live_at s.ledger (s.books k) u
+  with_id u [] is named = (let none = none_live u is in elim (cases_Bool ((s.books k).id == u.id)) [ inl h ↦ rw h refl | inr h ↦ rw h (sym none) ])
+  with_id u (e ∷ es) is named = (let long : 0 < length (s.books k).pools = (let n = ap length is in omega arith) in rw (eq-eqb (s.books k).id u.id (sym (same_id long) ∙ named)) refl)
+
+  without_id : (u : Item) (es : List Entry) → (s.books k).pools ≡ es → (id == u.id) ≡ false → ◌≡◌ {A = ℕ} (if (s.books k).id == u.id then live_at s.ledger (s.books k) u else 0) 0
+  without_id u [] is other = (let none = none_live u is in elim (cases_Bool ((s.books k).id == u.id)) [ inl h ↦ rw h none | inr h ↦ rw h refl ])
+  without_id u (e ∷ es) is other = (let long : 0 < length (s.books k).pools = (let n = ap length is in omega arith) in rw (ap (λ (i : ℕ). i == u.id) (sym (same_id long)) ∙ other) refl)
+
   -- exactly these sets are outstanding besides
   pub keeps_outstanding : (u : Item) → outstanding t u ≡ outstanding s u + count_of u items
   keeps_outstanding u = elim (cases_Bool (key_eq k u.key)) [
     | inl own_u ↦ (
         let is_u : k ≡ u.key = key_exact.same k u.key own_u in
-        let left : outstanding t u ≡ live_at after (record { first = (s.books k).first; pools = new }) u = ap (λ (b : Bucket). live_at after b u) (ap t.books (sym is_u) ∙ own) in
-        let right : outstanding s u ≡ live_at s.ledger (record { first = (s.books k).first; pools = (s.books k).pools }) u = ap (λ (x : Key). live_at s.ledger (s.books x) u) (sym is_u) in
-        let more = h.out u (sym is_u) in
-        omega arith)
+        let now : outstanding t u ≡ (if id == u.id then live_at after (record { id = id; first = (s.books k).first; pools = new }) u else 0) = ap (λ (b : Bucket). if b.id == u.id then live_at after b u else 0) (ap t.books (sym is_u) ∙ own) in
+        let was : outstanding s u ≡ (if (s.books k).id == u.id then live_at s.ledger (s.books k) u else 0) = ap (λ (x : Key). if (s.books x).id == u.id then live_at s.ledger (s.books x) u else 0) (sym is_u) in
+        elim (cases_Bool (id == u.id)) [
+          | inl same ↦ (
+              let named : id ≡ u.id = eqb-true id u.id same in
+              let left : outstanding t u ≡ live_at after (record { id = id; first = (s.books k).first; pools = new }) u = now ∙ ap (λ (b : Bool). if b then live_at after (record { id = id; first = (s.books k).first; pools = new }) u else 0) same in
+              let right : outstanding s u ≡ live_at s.ledger (s.books k) u = was ∙ with_id u (s.books k).pools refl named in
+              let more = h.out u (sym is_u) (sym named) in
+              omega arith)
+          | inr other ↦ (
+              let left : outstanding t u ≡ 0 = now ∙ ap (λ (b : Bool). if b then live_at after (record { id = id; first = (s.books k).first; pools = new }) u else 0) other in
+              let right : outstanding s u ≡ 0 = was ∙ without_id u (s.books k).pools refl other in
+              let none = unnamed other in
+              omega arith)
+        ])
     | inr other_u ↦ (
         let none : count_of u items ≡ 0 = nothing other_u in
-        let left : outstanding t u ≡ live_at after (s.books u.key) u = ap (λ (b : Bucket). live_at after b u) (other u.key other_u) in
-        let same = by_entry (entry_at (s.books u.key) u.number) refl other_u in
+        let left : outstanding t u ≡ (if (s.books u.key).id == u.id then live_at after (s.books u.key) u else 0) = ap (λ (b : Bucket). if b.id == u.id then live_at after b u else 0) (other u.key other_u) in
+        let same = ap (λ (n : ℕ). if (s.books u.key).id == u.id then n else 0) (by_entry (entry_at (s.books u.key) u.number) refl other_u) in
         omega arith)
   ]
     where
+      unnamed : (id == u.id) ≡ false → count_of u items ≡ 0
+      unnamed ne = elim (cases_lt 0 (count_of u items)) [
+        | inl some ↦ (let bad : true ≡ false = sym (eq-eqb id u.id (sym (h.of_key u some).1)) ∙ ne in absurd (cc))
+        | inr none ↦ (omega arith)
+      ]
+
       nothing : key_eq k u.key ≡ false → count_of u items ≡ 0
       nothing ne = elim (cases_lt 0 (count_of u items)) [
-        | inl some ↦ (let bad : true ≡ false = sym (key_exact.self k) ∙ ap (key_eq k) (sym (h.of_key u some)) ∙ ne in absurd (cc))
+        | inl some ↦ (let bad : true ≡ false = sym (key_exact.self k) ∙ ap (key_eq k) (sym (h.of_key u some).0) ∙ ne in absurd (cc))
         | inr none ↦ (omega arith)
       ]
 

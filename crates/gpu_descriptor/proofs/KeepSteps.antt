@@ -24,14 +24,14 @@ use Rattle.gpu_descriptor.specs.Inner.Walk.{IsAsked, KeepsKey, live_at}
 use Rattle.gpu_descriptor.specs.Inner.Grow.{IsGrown}
 use Rattle.gpu_descriptor.proofs.KeepKey.{pool_booked, on_pool_here, asked_booked, any_at, not_any, set_got, set_here, set_there, any_written, allocated_written, end_got, end_before, end_here, end_past, place_of_items, count_of_items, count_elsewhere}
 
-pub keeps_start : (k : Key) (first : ℕ) (old : List Entry) (pools : ℕ → Option Pool) → AreBookedIn k pools old → KeepsKey k first [] old old pools pools
-keeps_start k first old pools booked = record {
+pub keeps_start : (k : Key) (id first : ℕ) (old : List Entry) (pools : ℕ → Option Pool) → AreBookedIn k pools old → KeepsKey k id first [] old old pools pools
+keeps_start k id first old pools booked = record {
   booked = booked;
   longer = omega arith;
   named = λ i e at. inl (any_at old i e at);
   others = λ q none. refl;
   of_key = λ t some. absurd (omega arith);
-  out = λ t key. (let e : live_at pools (record { first = first; pools = old }) t ≡ live_at pools (record { first = first; pools = old }) t + 0 = omega arith in e);
+  out = λ t key own. (let e : live_at pools (record { id = id; first = first; pools = old }) t ≡ live_at pools (record { id = id; first = first; pools = old }) t + 0 = omega arith in e);
   more = (let e : allocated_in old ≡ allocated_in old + 0 = omega arith in e);
 }
 
@@ -40,11 +40,11 @@ abbrev pub live_of : (ℕ → Option Pool) → Option Entry → LiveSet → ℕ
 live_of pools o x = option_map_or (λ e. live_in pools e.pool x) o 0
 
 -- what is live in the pool with a number
-pub live_below : (pools : ℕ → Option Pool) (first : ℕ) (es : List Entry) (t : Item) → t.number < first → live_at pools (record { first = first; pools = es }) t ≡ 0
-live_below pools first es t lt = rw (lt-ltb t.number first lt) refl
+pub live_below : (pools : ℕ → Option Pool) (id first : ℕ) (es : List Entry) (t : Item) → t.number < first → live_at pools (record { id = id; first = first; pools = es }) t ≡ 0
+live_below pools id first es t lt = rw (lt-ltb t.number first lt) refl
 
-pub live_from : (pools : ℕ → Option Pool) (first : ℕ) (es : List Entry) (t : Item) → first ≤ t.number → live_at pools (record { first = first; pools = es }) t ≡ live_of pools (slice_get es (t.number - first)) (set_of t)
-live_from pools first es t le = rw (le-ltb t.number first le) refl
+pub live_from : (pools : ℕ → Option Pool) (id first : ℕ) (es : List Entry) (t : Item) → first ≤ t.number → live_at pools (record { id = id; first = first; pools = es }) t ≡ live_of pools (slice_get es (t.number - first)) (set_of t)
+live_from pools id first es t le = rw (le-ltb t.number first le) refl
 
 same_name : (a b : ℕ → Option Pool) (e : Entry) (x : LiveSet) → a e.pool ≡ b e.pool → live_in a e.pool x ≡ live_in b e.pool x
 same_name a b e x same = ap (λ (o : Option Pool). option_map_or (λ (p : Pool). p.live x) o 0) same
@@ -52,8 +52,8 @@ same_name a b e x same = ap (λ (o : Option Pool). option_map_or (λ (p : Pool).
 pub count_append : (t : Item) (a b : List Item) → count_of t (a ++ b) ≡ count_of t a + count_of t b
 count_append t a b = count_by-append (λ u. item_eq u t) a b
 
-module _ (k : Key) (first i wanted : ℕ) (items : List Item) (old new : List Entry) (before : ℕ → Option Pool) (names : List ℕ) (e f : Entry) (l m : Ledger)
-    (s : KeepsKey k first items old new before l.pools) (at : slice_get new i ≡ Some e) (a : IsAsked k wanted names e f l m) where
+module _ (k : Key) (id first i wanted : ℕ) (items : List Item) (old new : List Entry) (before : ℕ → Option Pool) (names : List ℕ) (e f : Entry) (l m : Ledger)
+    (s : KeepsKey k id first items old new before l.pools) (at : slice_get new i ≡ Some e) (a : IsAsked k wanted names e f l m) where
   f_name : f.pool ≡ e.pool
   f_name = ap (λ (x : Entry). x.pool) a.entry
 
@@ -87,25 +87,25 @@ module _ (k : Key) (first i wanted : ℕ) (items : List Item) (old new : List En
       let right : live_in l.pools e.pool x ≡ b.pool.live x = ap (λ (o : Option Pool). option_map_or (λ (p : Pool). p.live x) o 0) b.is_live in
       omega arith
 
-  out_now : (t : Item) → t.key ≡ k → live_at m.pools (record { first = first; pools = slice_set new i f }) t ≡ live_at l.pools (record { first = first; pools = new }) t + count_of t (items_at k (first + i) names)
-  out_now t key = elim (cases_lt t.number first) [
+  out_now : (t : Item) → t.key ≡ k → t.id ≡ id → live_at m.pools (record { id = id; first = first; pools = slice_set new i f }) t ≡ live_at l.pools (record { id = id; first = first; pools = new }) t + count_of t (items_at k id (first + i) names)
+  out_now t key own = elim (cases_lt t.number first) [
     | inl below ↦ (
-        let none = count_elsewhere k (first + i) names t (λ same. omega arith) in
-        let left = live_below m.pools first (slice_set new i f) t below in
-        let right = live_below l.pools first new t below in
+        let none = count_elsewhere k id (first + i) names t (λ same. omega arith) in
+        let left = live_below m.pools id first (slice_set new i f) t below in
+        let right = live_below l.pools id first new t below in
         omega arith)
     | inr above ↦ (elim (cases_eq (t.number - first) i) [
       | inl here ↦ (
           let number : t.number ≡ first + i = omega arith in
-          let counts = count_of_items k (first + i) names t key number in
-          let left : live_at m.pools (record { first = first; pools = slice_set new i f }) t ≡ live_in m.pools f.pool (set_of t) = live_from m.pools first (slice_set new i f) t above ∙ ap (λ (o : Option Entry). live_of m.pools o (set_of t)) (ap (slice_get (slice_set new i f)) here ∙ set_here new i f e at) in
-          let right : live_at l.pools (record { first = first; pools = new }) t ≡ live_in l.pools e.pool (set_of t) = live_from l.pools first new t above ∙ ap (λ (o : Option Entry). live_of l.pools o (set_of t)) (ap (slice_get new) here ∙ at) in
+          let counts = count_of_items k id (first + i) names t key number own in
+          let left : live_at m.pools (record { id = id; first = first; pools = slice_set new i f }) t ≡ live_in m.pools f.pool (set_of t) = live_from m.pools id first (slice_set new i f) t above ∙ ap (λ (o : Option Entry). live_of m.pools o (set_of t)) (ap (slice_get (slice_set new i f)) here ∙ set_here new i f e at) in
+          let right : live_at l.pools (record { id = id; first = first; pools = new }) t ≡ live_in l.pools e.pool (set_of t) = live_from l.pools id first new t above ∙ ap (λ (o : Option Entry). live_of l.pools o (set_of t)) (ap (slice_get new) here ∙ at) in
           let live = live_now (set_of t) in
           omega arith)
       | inr there ↦ (
-          let none = count_elsewhere k (first + i) names t (λ same. there (omega arith)) in
-          let left : live_at m.pools (record { first = first; pools = slice_set new i f }) t ≡ live_of m.pools (slice_get new (t.number - first)) (set_of t) = live_from m.pools first (slice_set new i f) t above ∙ ap (λ (o : Option Entry). live_of m.pools o (set_of t)) (set_there new i f (t.number - first) there) in
-          let right : live_at l.pools (record { first = first; pools = new }) t ≡ live_of l.pools (slice_get new (t.number - first)) (set_of t) = live_from l.pools first new t above in
+          let none = count_elsewhere k id (first + i) names t (λ same. there (omega arith)) in
+          let left : live_at m.pools (record { id = id; first = first; pools = slice_set new i f }) t ≡ live_of m.pools (slice_get new (t.number - first)) (set_of t) = live_from m.pools id first (slice_set new i f) t above ∙ ap (λ (o : Option Entry). live_of m.pools o (set_of t)) (set_there new i f (t.number - first) there) in
+          let right : live_at l.pools (record { id = id; first = first; pools = new }) t ≡ live_of l.pools (slice_get new (t.number - first)) (set_of t) = live_from l.pools id first new t above in
           let same = by_entry (slice_get new (t.number - first)) refl there in
           omega arith)
     ])
@@ -115,7 +115,7 @@ module _ (k : Key) (first i wanted : ℕ) (items : List Item) (old new : List En
       by_entry None is ne = refl
       by_entry (Some d) is ne = same_name m.pools l.pools d (set_of t) (stays (t.number - first) d ne is)
 
-  pub keeps_asked : KeepsKey k first (items ++ items_at k (first + i) names) old (slice_set new i f) before m.pools
+  pub keeps_asked : KeepsKey k id first (items ++ items_at k id (first + i) names) old (slice_set new i f) before m.pools
   keeps_asked = record {
     booked = booked_now;
     longer = (let a = length-set new i f in let b = s.longer in omega arith);
@@ -126,14 +126,14 @@ module _ (k : Key) (first i wanted : ℕ) (items : List Item) (old new : List En
         ap (λ (x : ℕ → Option Pool). x q) a.pools ∙ update_apart l.pools e.pool (changed (pool_with (live_sets k.counts names) a.refused) (l.pools e.pool)) q apart ∙ s.others q none_new;
     of_key = λ t some. elim (cases_lt 0 (count_of t items)) [
       | inl had ↦ s.of_key t had
-      | inr none ↦ (let both = count_append t items (items_at k (first + i) names) in (place_of_items k (first + i) names t (omega arith)).0)
+      | inr none ↦ (let both = count_append t items (items_at k id (first + i) names) in (let p = place_of_items k id (first + i) names t (omega arith) in (p.0, p.2)))
     ];
-    out = λ t key. (let one = out_now t key in let rest = s.out t key in let both = count_append t items (items_at k (first + i) names) in omega arith);
+    out = λ t key own. (let one = out_now t key own in let rest = s.out t key own in let both = count_append t items (items_at k id (first + i) names) in omega arith);
     more = (
         let allocated : f.allocated ≡ e.allocated + length names = ap (λ (x : Entry). x.allocated) a.entry in
         let now = allocated_written new i e f (length names) at allocated in
-        let long = length-append items (items_at k (first + i) names) in
-        let each = length-map names (λ (n : ℕ). let u : Item = record { key = k; number = first + i; name = n } in u) in
+        let long = length-append items (items_at k id (first + i) names) in
+        let each = length-map names (λ (n : ℕ). let u : Item = record { key = k; id = id; number = first + i; name = n } in u) in
         let was = s.more in
         omega arith);
   }
@@ -145,8 +145,8 @@ any_end q es x none = (before es none, λ same. not_any q (es ++ x ∷ []) (leng
     before [] h = refl
     before (e ∷ es) h = (let both = or_parts (e.pool == q) (list_any (λ d. d.pool == q) (es ++ x ∷ [])) h in or_from (e.pool == q) (list_any (λ d. d.pool == q) es) both.0 (before es both.1))
 
-module _ (k : Key) (first room left total wanted : ℕ) (items : List Item) (old new new' : List Entry) (before : ℕ → Option Pool) (names : List ℕ) (l m : Ledger)
-    (s : KeepsKey k first items old new before l.pools) (g : IsGrown k room left total wanted names new new' l m) where
+module _ (k : Key) (id first room left total wanted : ℕ) (items : List Item) (old new new' : List Entry) (before : ℕ → Option Pool) (names : List ℕ) (l m : Ledger)
+    (s : KeepsKey k id first items old new before l.pools) (g : IsGrown k room left total wanted names new new' l m) where
   abbrev x : Entry
   x = fresh_entry g.pool
 
@@ -214,32 +214,32 @@ module _ (k : Key) (first room left total wanted : ℕ) (items : List Item) (old
   live_x : (y : LiveSet) → live_in m.pools x.pool y ≡ times (live_sets k.counts names) y
   live_x y = ap (λ (o : Option Pool). option_map_or (λ (p : Pool). p.live y) o 0) now_there ∙ (let e : 0 + times (live_sets k.counts names) y ≡ times (live_sets k.counts names) y = omega arith in e)
 
-  out_grown : (t : Item) → t.key ≡ k → live_at m.pools (record { first = first; pools = new ++ x ∷ [] }) t ≡ live_at l.pools (record { first = first; pools = new }) t + count_of t (items_at k (first + length new) names)
-  out_grown t key = elim (cases_lt t.number first) [
+  out_grown : (t : Item) → t.key ≡ k → t.id ≡ id → live_at m.pools (record { id = id; first = first; pools = new ++ x ∷ [] }) t ≡ live_at l.pools (record { id = id; first = first; pools = new }) t + count_of t (items_at k id (first + length new) names)
+  out_grown t key own = elim (cases_lt t.number first) [
     | inl below ↦ (
-        let none = count_elsewhere k (first + length new) names t (λ same. omega arith) in
-        let left = live_below m.pools first (new ++ x ∷ []) t below in
-        let right = live_below l.pools first new t below in
+        let none = count_elsewhere k id (first + length new) names t (λ same. omega arith) in
+        let left = live_below m.pools id first (new ++ x ∷ []) t below in
+        let right = live_below l.pools id first new t below in
         omega arith)
     | inr above ↦ (
-        let left = live_from m.pools first (new ++ x ∷ []) t above in
-        let right = live_from l.pools first new t above in
+        let left = live_from m.pools id first (new ++ x ∷ []) t above in
+        let right = live_from l.pools id first new t above in
         elim (cases_lt (t.number - first) (length new)) [
           | inl inside ↦ (
-              let none = count_elsewhere k (first + length new) names t (λ same. omega arith) in
+              let none = count_elsewhere k id (first + length new) names t (λ same. omega arith) in
               let same = by_entry (slice_get new (t.number - first)) refl in
               let there : live_of m.pools (slice_get (new ++ x ∷ []) (t.number - first)) (set_of t) ≡ live_of m.pools (slice_get new (t.number - first)) (set_of t) = ap (λ (o : Option Entry). live_of m.pools o (set_of t)) (end_before new x (t.number - first) inside) in
               omega arith)
           | inr outside ↦ (elim (cases_eq (t.number - first) (length new)) [
             | inl here ↦ (
                 let number : t.number ≡ first + length new = omega arith in
-                let counts = count_of_items k (first + length new) names t key number in
+                let counts = count_of_items k id (first + length new) names t key number own in
                 let there : live_of m.pools (slice_get (new ++ x ∷ []) (t.number - first)) (set_of t) ≡ live_in m.pools x.pool (set_of t) = ap (λ (o : Option Entry). live_of m.pools o (set_of t)) (ap (slice_get (new ++ x ∷ [])) here ∙ end_here new x) in
                 let was : live_of l.pools (slice_get new (t.number - first)) (set_of t) ≡ 0 = ap (λ (o : Option Entry). live_of l.pools o (set_of t)) (slice_get_past new (t.number - first) (omega arith)) in
                 let live = live_x (set_of t) in
                 omega arith)
             | inr past ↦ (
-                let none = count_elsewhere k (first + length new) names t (λ same. past (omega arith)) in
+                let none = count_elsewhere k id (first + length new) names t (λ same. past (omega arith)) in
                 let there : live_of m.pools (slice_get (new ++ x ∷ []) (t.number - first)) (set_of t) ≡ 0 = ap (λ (o : Option Entry). live_of m.pools o (set_of t)) (end_past new x (t.number - first) (omega arith)) in
                 let was : live_of l.pools (slice_get new (t.number - first)) (set_of t) ≡ 0 = ap (λ (o : Option Entry). live_of l.pools o (set_of t)) (slice_get_past new (t.number - first) (omega arith)) in
                 omega arith)
@@ -251,8 +251,8 @@ module _ (k : Key) (first room left total wanted : ℕ) (items : List Item) (old
       by_entry None is = refl
       by_entry (Some d) is = same_name m.pools l.pools d (set_of t) (stays' d.pool (apart' (t.number - first) d is))
 
-  pub keeps_grown : KeepsKey k first (items ++ items_at k (first + length new) names) old new' before m.pools
-  keeps_grown = subst (λ (es : List Entry). KeepsKey k first (items ++ items_at k (first + length new) names) old es before m.pools) (sym g.entries) (record {
+  pub keeps_grown : KeepsKey k id first (items ++ items_at k id (first + length new) names) old new' before m.pools
+  keeps_grown = subst (λ (es : List Entry). KeepsKey k id first (items ++ items_at k id (first + length new) names) old es before m.pools) (sym g.entries) (record {
     booked = booked_grown;
     longer = (let a = length-append new (x ∷ []) in let b = s.longer in omega arith);
     named = λ j d got. elim (end_got new x j d got) [
@@ -265,14 +265,14 @@ module _ (k : Key) (first room left total wanted : ℕ) (items : List Item) (old
     others = λ q none. (let both = any_end q new x none in stays' q both.1 ∙ s.others q both.0);
     of_key = λ t some. elim (cases_lt 0 (count_of t items)) [
       | inl had ↦ s.of_key t had
-      | inr none ↦ (let both = count_append t items (items_at k (first + length new) names) in (place_of_items k (first + length new) names t (omega arith)).0)
+      | inr none ↦ (let both = count_append t items (items_at k id (first + length new) names) in (let p = place_of_items k id (first + length new) names t (omega arith) in (p.0, p.2)))
     ];
-    out = λ t key. (let one = out_grown t key in let rest = s.out t key in let both = count_append t items (items_at k (first + length new) names) in omega arith);
+    out = λ t key own. (let one = out_grown t key own in let rest = s.out t key own in let both = count_append t items (items_at k id (first + length new) names) in omega arith);
     more = (
         let now = sum_by-append (λ (e : Entry). e.allocated) new (x ∷ []) in
         let one : allocated_in (x ∷ []) ≡ g.pool.given = omega arith in
-        let long = length-append items (items_at k (first + length new) names) in
-        let each = length-map names (λ (n : ℕ). let u : Item = record { key = k; number = first + length new; name = n } in u) in
+        let long = length-append items (items_at k id (first + length new) names) in
+        let each = length-map names (λ (n : ℕ). let u : Item = record { key = k; id = id; number = first + length new; name = n } in u) in
         let was = s.more in
         let many = g.many in
         omega arith);

@@ -24,13 +24,13 @@ module _ {P : Type 0} {name : P → ℕ} {old new : Allocations P} {before after
   }
 
 pub keeps_through : {P : Type 0} {name : P → ℕ} {a b c : Allocations P} {l m n : Ledger} → Keeps name a b l m → Keeps name b c m n → Keeps name a c l n
-keeps_through p q = record {
+keeps_through {P} {name} {a} {b} {c} {l} {m} {n} p q = record {
   agree = q.agree;
   limit = q.limit ∙ p.limit;
   load = q.load;
   pool_load = q.pool_load;
   rows = q.rows;
-  foreign = foreign_through _ _ _ p.foreign q.foreign;
-  accounted = loses_through _ _ _ p.accounted q.accounted;
+  foreign = foreign_through (state_of name a l) (state_of name b m) (state_of name c n) p.foreign q.foreign;
+  accounted = loses_through (state_of name a l) (state_of name b m) (state_of name c n) p.accounted q.accounted;
   others = q.others ∙ p.others;
 }

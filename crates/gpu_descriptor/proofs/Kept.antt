@@ -5,7 +5,7 @@ use Rattle.std.proofs.Math.Path.{fun_ext}
 use Rattle.std.specs.List.{list_any}
 use Rattle.std.proofs.lemmas.Bool.{cases_Bool, cases_lt, and_parts, or_cases, false_from_ne_true}
 use Rattle.std.proofs.lemmas.List.{length-map}
-use Rattle.gpu_descriptor.specs.Model.Agreement.{set_of, State, Item, item_eq, count_of, outstanding, AreOutstanding, IsAsBooked, Agree}
+use Rattle.gpu_descriptor.specs.Model.Agreement.{set_of, State, Item, item_eq, count_of, live_there, outstanding, AreOutstanding, IsAsBooked, Agree}
 use Rattle.gpu_descriptor.specs.Model.Books.{Key, key_eq, Entry, Bucket, entry_at}
 use Rattle.gpu_descriptor.specs.Model.Release.{lies_in, entry_less, bucket_less, pool_less, given_back, spent_front, without_front, in_front, fronts_gone, released, singly}
 use Rattle.gpu_descriptor.specs.Laws.Release.{ReleaseAgrees, ReleaseTakes, ReleaseOrder, ReleaseNone, ReleaseEach, ReleaseSingly}
@@ -122,14 +122,22 @@ pub cases_option : (o : Option Entry) → (o ≡ None) ⊎ ((e : Entry) × (o �
 cases_option None = inl refl
 cases_option (Some e) = inr (e, refl)
 
-pub takes : ReleaseTakes
-takes m s agree out t = elim (cases_option (entry_at ((released m s).books t.key) t.number)) [
+pub if_none : (b : Bool) → ◌≡◌ {A = ℕ} (if b then 0 else 0) 0
+if_none true = refl
+if_none false = refl
+
+-- giving back changes no id
+pub same_id : (m : List Item) (s : State) (k : Key) → ((released m s).books k).id ≡ (s.books k).id
+same_id m s k = ap (λ (b : Bucket). b.id) (released_books m s k)
+
+takes_own : (m : List Item) (s : State) → Agree s → AreOutstanding m s → (t : Item) → (s.books t.key).id ≡ t.id → outstanding (released m s) t + count_of t m ≡ outstanding s t
+takes_own m s agree out t own = elim (cases_option (entry_at ((released m s).books t.key) t.number)) [
   | inl none ↦ elim (cases_lt (count_of t m) (outstanding s t)) [
     | inl more ↦ (
         let keeps = kept m s agree out t more in
         absurd (let bad : ◌≡◌ {A = Option Entry} None (Some (entry_less (back m s keeps.0.pool) keeps.0)) = sym none ∙ keeps.2 in cc))
     | inr all ↦ (
-        let nothing : outstanding (released m s) t ≡ 0 = rw none refl in
+        let nothing : outstanding (released m s) t ≡ 0 = ap (λ (n : ℕ). if ((released m s).books t.key).id == t.id then n else 0) (rw none refl) ∙ if_none (((released m s).books t.key).id == t.id) in
         let fits = out t in
         omega arith)
   ]
@@ -141,11 +149,21 @@ takes m s agree out t = elim (cases_option (entry_at ((released m s).books t.key
       let booked = agree.booked t.key t.number d was.1 in
       let pool = booked.0 in
       let found : s.ledger e.pool ≡ Some pool = ap s.ledger (sym name) ∙ booked.1 in
-      let before : outstanding s t ≡ pool.live (set_of t) = outstanding_at s t d pool was.1 booked.1 in
-      let after : outstanding (released m s) t ≡ pool.live (set_of t) - back_named m s e.pool (set_of t) = outstanding_at (released m s) t e (pool_less (back_named m s e.pool) pool) some.1 (ledger_after m s agree t.key t.number e pool some.1 found) in
-      let named : back_named m s d.pool (set_of t) ≡ count_of t m = back_named-is m s agree t.key t.number d was.1 t.name in
+      let before : outstanding s t ≡ pool.live (set_of t) = outstanding_at s t d pool own was.1 booked.1 in
+      let after : outstanding (released m s) t ≡ pool.live (set_of t) - back_named m s e.pool (set_of t) = outstanding_at (released m s) t e (pool_less (back_named m s e.pool) pool) (same_id m s t.key ∙ own) some.1 (ledger_after m s agree t.key t.number e pool some.1 found) in
+      let named : back_named m s d.pool (set_of t) ≡ count_of t m = back_named-is m s agree out t.key t.number d was.1 t.name ∙ ap (λ (i : ℕ). let u : Item = record t { id = i } in count_of u m) own in
       let same : back_named m s d.pool (set_of t) ≡ back_named m s e.pool (set_of t) = ap (λ (p : ℕ). back_named m s p (set_of t)) name in
       let fits = out t in
+      omega arith)
+]
+
+pub takes : ReleaseTakes
+takes m s agree out t = elim (cases_Bool ((s.books t.key).id == t.id)) [
+  | inl same ↦ takes_own m s agree out t (eqb-true (s.books t.key).id t.id same)
+  | inr other ↦ (
+      let fits = out t in
+      let before : outstanding s t ≡ 0 = rw other refl in
+      let after : outstanding (released m s) t ≡ 0 = ap (λ (i : ℕ). if i == t.id then live_there (released m s) t else 0) (same_id m s t.key) ∙ rw other refl in
       omega arith)
 ]
 
@@ -171,7 +189,7 @@ none_back s =
     let allocated : e.allocated - 0 ≡ e.allocated = omega arith in
     let free : e.free + 0 ≡ e.free = omega arith in
     λ i. record { pool = e.pool; capacity = e.capacity; allocated = allocated i; free = free i } in
-    let books : (released [] s).books ≡ s.books = fun_ext (λ k. λ i. record { first = (s.books k).first; pools = map_same (λ e. entry_less 0 e) same (s.books k).pools i }) in
+    let books : (released [] s).books ≡ s.books = fun_ext (λ k. λ i. record (s.books k) { pools = map_same (λ e. entry_less 0 e) same (s.books k).pools i }) in
     let ledger : (released [] s).ledger ≡ s.ledger = fun_ext (λ pool. pool_same (s.ledger pool)) in
     λ i. record { books = books i; ledger = ledger i }
   where

@@ -10,7 +10,7 @@ use Rattle.gpu_descriptor.specs.Model.Books.{Key, Bucket, HasDistinctKeys, books
 use Rattle.gpu_descriptor.specs.Inner.Buckets.{has_pools, front_but, trimmed_bucket}
 use Rattle.gpu_descriptor.specs.Model.Cleanup.{IsCleaned, cleaned_bucket}
 use Rattle.gpu_descriptor.specs.Caller.Keys.{StayOrGainLast, keys_with_pools}
-use Rattle.gpu_descriptor.specs.Caller.Sets.{key_of}
+use Rattle.gpu_descriptor.specs.Caller.KeyOf.{key_of}
 use Rattle.gpu_descriptor.specs.Caller.States.{keys_of, named_row, state_of}
 use Rattle.gpu_descriptor.specs.Inner.Stored.{bucket_of, row_of, stored_keys}
 use Rattle.gpu_descriptor.specs.Caller.Values.{Allocations}

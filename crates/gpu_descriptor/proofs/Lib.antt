@@ -36,6 +36,7 @@ pub mod OneAgreement
 pub mod Others
 pub mod OthersStay
 pub mod OutSets
+pub mod Owned
 pub mod Parts
 pub mod Places
 pub mod PoolCounts
@@ -47,6 +48,8 @@ pub mod RequestSteps
 pub mod Requested
 pub mod Rollback
 pub mod Room
+pub mod Rising
+pub mod RowAt
 pub mod RowsCleaned
 pub mod Runs
 pub mod Searching

@@ -12,9 +12,10 @@ use Rattle.gpu_descriptor.specs.Model.Books.{Key, key_eq}
 use Rattle.gpu_descriptor.specs.Model.Agreement.{Item}
 use Rattle.gpu_descriptor.specs.Model.Load.{marked_load, pool_load}
 use Rattle.gpu_descriptor.specs.Caller.Frees.{marked_descriptors}
-use Rattle.gpu_descriptor.specs.Caller.Sets.{key_of, item_of, items_of}
+use Rattle.gpu_descriptor.specs.Caller.KeyOf.{key_of}
+use Rattle.gpu_descriptor.specs.Caller.Sets.{item_of, items_of}
 use Rattle.gpu_descriptor.specs.Caller.States.{sets_in, descriptors_in, pool_load_in, outstanding_of, marked_load_of}
-use Rattle.gpu_descriptor.specs.Inner.RunSteps.{HaveKey}
+use Rattle.gpu_descriptor.specs.Inner.RunSteps.{LieAt}
 use Rattle.gpu_descriptor.specs.Inner.Stored.{kept_of, row_of, load_in, stored_keys, stored_load_in, stored_load, IsConsistent}
 use Rattle.gpu_descriptor.specs.Caller.Values.{Allocations, Kept}
 use Rattle.gpu_descriptor.proofs.Exact.{key_exact}
@@ -106,16 +107,16 @@ module _ {P : Type 0} where
       go k (p ∷ ps) = sum_by-cons (λ (q : Kept P). pool_load k q.capacity) (kept_of p) (map kept_of ps) ∙ ap (λ n. pool_load k p.capacity + n) (go k ps) ∙ sym (sum_by-cons (λ (q : DescriptorPool P). pool_load k q.capacity) p ps)
 
 -- the descriptors of a run
-pub run_load : {S : Type 0} (name : S → ℕ) (k : BucketKey) (n : ℕ) (xs : List (DescriptorSet S)) → HaveKey k n xs → marked_descriptors (items_of name xs) ≡ marked_load (key_of k) (length xs)
-run_load name k n [] have = sym (marked_load-none (key_of k))
+pub run_load : {S : Type 0} (name : S → ℕ) (k : Key) (n : ℕ) (xs : List (DescriptorSet S)) → LieAt k n xs → marked_descriptors (items_of name xs) ≡ marked_load k (length xs)
+run_load name k n [] have = sym (marked_load-none k)
 run_load name k n (x ∷ xs) have =
-    let key : key_of x.key ≡ key_of k = (at_parts k n x have.0).0 in
-    let one : marked_load (key_of k) 1 ≡ marked_load (key_of x.key) 1 = ap (λ (l : Key). marked_load l 1) (sym key) in
+    let key : x.key.is ≡ k = (at_parts k n x have.0).0 in
+    let one : marked_load k 1 ≡ marked_load x.key.is 1 = ap (λ (l : Key). marked_load l 1) (sym key) in
     let rest = run_load name k n xs have.1 in
     let a = sum_by-cons (λ (t : Item). marked_load t.key 1) (item_of name x) (items_of name xs) in
-    let b = marked_load-add (key_of k) 1 (length xs) in
+    let b = marked_load-add k 1 (length xs) in
     let long : 1 + length xs ≡ length (x ∷ xs) = omega arith in
-    let c = ap (marked_load (key_of k)) long in
+    let c = ap (marked_load k) long in
     omega arith
 
 pub pools_end : {P : Type 0} (k : BucketKey) (es : List (BucketKey × DescriptorBucket P)) (w : DescriptorBucket P) (left room : ℕ) → left + stored_load (key_of k) w.pools.items ≡ room → left + sum_by stored_load_in (es ++ (k, w) ∷ []) ≡ room + sum_by stored_load_in es

@@ -3,32 +3,31 @@ use Rattle.std.proofs.Common.{◌≡◌, ℕ, ◌+◌, ◌<◌, ◌^◌, Bool, t
 use Rattle.std.specs.Bool.{MatchBool}
 use Rattle.std.specs.Iterator.{Count, IsFinite, size}
 use Rattle.std.specs.Option.{option_len}
-use Rattle.gpu_descriptor.specs.declared.set.BucketKey.{BucketKey}
 use Rattle.gpu_descriptor.specs.declared.set.DescriptorSet.{DescriptorSet}
 use Rattle.gpu_descriptor.specs.declared.bucket.run.Run.{Run}
 use Rattle.gpu_descriptor.specs.Inner.RunSteps.{at_place, CountsFrom, HaveKey, Looks, RunStep}
 
-module _ {T S : Type 0} (steps : T → Option (DescriptorSet S) → T → Type 0) (k : BucketKey) (i : ℕ) (s : T) (n : ℕ) where
+module _ {T S : Type 0} (steps : T → Option (DescriptorSet S) → T → Type 0) (k i : ℕ) (s : T) (n : ℕ) where
   pub count_now : CountsFrom steps k i s n → n < 2 ^ 32
   count_now h = let e : n + 0 < 2 ^ 32 = h [] s refl tt in omega arith
 
   pub count_more : (x : DescriptorSet S) (t : T) → at_place k i x ≡ true → CountsFrom steps k i s n → steps s (Some x) t → CountsFrom steps k i t (n + 1)
   count_more x t is h e = λ xs u y have. let r : n + length (x ∷ xs) < 2 ^ 32 = h (x ∷ xs) u (t, e, y) (is, have) in omega arith
 
-pub count_as : {T S : Type 0} (steps : T → Option (DescriptorSet S) → T → Type 0) (k l : BucketKey) (i j : ℕ) (s : T) (m n : ℕ) → k ≡ l → i ≡ j → m ≡ n → CountsFrom steps k i s m → CountsFrom steps l j s n
+pub count_as : {T S : Type 0} (steps : T → Option (DescriptorSet S) → T → Type 0) (k l i j : ℕ) (s : T) (m n : ℕ) → k ≡ l → i ≡ j → m ≡ n → CountsFrom steps k i s m → CountsFrom steps l j s n
 count_as steps k l i j s m n p q e h = λ xs t y have.
     let own : HaveKey k i xs = subst (λ a. HaveKey a i xs) (sym p) (subst (λ b. HaveKey l b xs) (sym q) have) in
     let r : m + length xs < 2 ^ 32 = h xs t y own in omega arith
 
 module _ {T S : Type 0} (steps : T → Option (DescriptorSet S) → T → Type 0) (can : T → Type 0) (left : T → Count) where
   -- the source may be asked on, with one set less to come
-  pub record Looked (k : BucketKey) (i : ℕ) (s : T) (a : Option (DescriptorSet S)) (n : ℕ) (t : T) : Type 0 where
+  pub record Looked (k i : ℕ) (s : T) (a : Option (DescriptorSet S)) (n : ℕ) (t : T) : Type 0 where
     pub can_go : can t
     pub counts : CountsFrom steps k i t (n + 1)
     pub fits : n + 1 < 2 ^ 32
     pub ends : IsFinite (left s) → IsFinite (left t) × (size (left t) < size (left s) + option_len a)
 
-  pub looked : (k : BucketKey) (i : ℕ) (s : T) (a : Option (DescriptorSet S)) (n : ℕ) (x : DescriptorSet S) (t : T) → at_place k i x ≡ true → can s → CountsFrom steps k i s (n + option_len a) → Looks steps can left s a (Some x) t → Looked k i s a n t
+  pub looked : (k i : ℕ) (s : T) (a : Option (DescriptorSet S)) (n : ℕ) (x : DescriptorSet S) (t : T) → at_place k i x ≡ true → can s → CountsFrom steps k i s (n + option_len a) → Looks steps can left s a (Some x) t → Looked k i s a n t
   looked k i s None n x t is c h l =
       let r = count_as steps k k i i s (n + 0) n refl refl (omega arith) h in
       let m = count_more steps k i s n x t is r l.0 in
@@ -41,20 +40,20 @@ module _ {T S : Type 0} (steps : T → Option (DescriptorSet S) → T → Type 0
     pub looks : Looks steps can left s.source.now s.ahead.now (Some x) m.source.now
     pub none : m.ahead.now ≡ None
     pub count : m.count ≡ s.count
-    pub key : m.key ≡ s.key
+    pub key : m.id ≡ s.id
     pub number : m.number ≡ s.number
     pub name : m.source.ghost_name ≡ s.source.ghost_name
     pub aname : m.ahead.ghost_name ≡ s.ahead.ghost_name
 
-  pub at_start : (s m : Run T S) (x : DescriptorSet S) (b c : Bool) → Came s x m → b ≡ c → b ≡ at_place m.key m.number x → at_place s.key s.number x ≡ c
+  pub at_start : (s m : Run T S) (x : DescriptorSet S) (b c : Bool) → Came s x m → b ≡ c → b ≡ at_place m.id m.number x → at_place s.id s.number x ≡ c
   at_start s m x b c came h is = rw (← came.key, ← came.number) (sym is ∙ h)
 
-  pub hands_it : (s m : Run T S) (x : DescriptorSet S) (b : Bool) → Came s x m → b ≡ true → b ≡ at_place m.key m.number x → RunStep steps can left s (Some x.raw) (record m { count = m.count + 1 })
+  pub hands_it : (s m : Run T S) (x : DescriptorSet S) (b : Bool) → Came s x m → b ≡ true → b ≡ at_place m.id m.number x → RunStep steps can left s (Some x.raw) (record m { count = m.count + 1 })
   hands_it s m x b c h is =
-      let e : MatchBool (at_place s.key s.number x) (((Some x.raw) ≡ Some x.raw) × (m.ahead.now ≡ None) × (m.count + 1 ≡ s.count + 1)) (◌≡◌ {A = Option S} (Some x.raw) None × (m.ahead.now ≡ Some x) × (m.count + 1 ≡ s.count)) = rw (at_start s m x b true c h is) (refl, c.none, ap (λ n. n + 1) c.count) in
+      let e : MatchBool (at_place s.id s.number x) (((Some x.raw) ≡ Some x.raw) × (m.ahead.now ≡ None) × (m.count + 1 ≡ s.count + 1)) (◌≡◌ {A = Option S} (Some x.raw) None × (m.ahead.now ≡ Some x) × (m.count + 1 ≡ s.count)) = rw (at_start s m x b true c h is) (refl, c.none, ap (λ n. n + 1) c.count) in
       (c.key, c.number, c.name, c.aname, (Some x, c.looks, e))
 
-  pub hands_none : (s m : Run T S) (x : DescriptorSet S) (b : Bool) (a : Option (DescriptorSet S)) → Came s x m → b ≡ false → b ≡ at_place m.key m.number x → a ≡ Some x → RunStep steps can left s None (record m { ahead = record m.ahead { now = a } })
+  pub hands_none : (s m : Run T S) (x : DescriptorSet S) (b : Bool) (a : Option (DescriptorSet S)) → Came s x m → b ≡ false → b ≡ at_place m.id m.number x → a ≡ Some x → RunStep steps can left s None (record m { ahead = record m.ahead { now = a } })
   hands_none s m x b a c h is put =
-      let e : MatchBool (at_place s.key s.number x) (◌≡◌ {A = Option S} None (Some x.raw) × (a ≡ None) × (m.count ≡ s.count + 1)) (◌≡◌ {A = Option S} None None × (a ≡ Some x) × (m.count ≡ s.count)) = rw (at_start s m x b false c h is) (refl, put, c.count) in
+      let e : MatchBool (at_place s.id s.number x) (◌≡◌ {A = Option S} None (Some x.raw) × (a ≡ None) × (m.count ≡ s.count + 1)) (◌≡◌ {A = Option S} None None × (a ≡ Some x) × (m.count ≡ s.count)) = rw (at_start s m x b false c h is) (refl, put, c.count) in
       (c.key, c.number, c.name, c.aname, (Some x, c.looks, e))

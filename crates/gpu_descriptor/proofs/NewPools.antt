@@ -120,8 +120,8 @@ module _ (k : Key) (n : ℕ) (g : Grant) (s : State) (all : g.left ≡ 0) where
   abbrev pools : List Entry
   pools = (s.books k).pools
 
-  own : (granted k n g s).books k ≡ record (s.books k) { pools = entries_with n g pools }
-  own = ap (λ (b : Bool). if b then record (s.books k) { pools = entries_with n g pools } else s.books k) (key_exact.self k)
+  own : (granted k n g s).books k ≡ record (s.books k) { id = g.id; pools = entries_with n g pools }
+  own = ap (λ (b : Bool). if b then record (s.books k) { id = g.id; pools = entries_with n g pools } else s.books k) (key_exact.self k)
 
   pub granted_first : ((granted k n g s).books k).first ≡ (s.books k).first
   granted_first = ap (λ (b : Bucket). b.first) own
@@ -237,7 +237,7 @@ pub back_new_pools : (c : Call) (g : Grant) (rise : Counters) (error : Allocatio
 back_new_pools c g rise error b front more one created =
     let k : Key = c.request.key in
     let t : State = granted k c.request.count g c.old in
-    let m : List Item = items_in k g.parts in
+    let m : List Item = items_in k g.id g.parts in
     let long = length-map g.fresh (λ (f : Fresh). f.size) in
     record {
       sizes = sizes_of g.fresh;

@@ -32,16 +32,16 @@ get_set_same (y ∷ xs) zero x lt = refl
 get_set_same (y ∷ xs) (suc i) x lt = get_set_same xs i x (omega arith)
 
 -- so far the pools from a place on were asked as far as they had something, and the list has the open pools
-pub record OpenWalk {P : Type 0} (name : P → ℕ) (k : Key) (n first wanting : ℕ) (out : List Item) (old : List Entry) (items : List (DescriptorPool P)) (numbers : List ℕ) (l m : Ledger) : Type 0 where
+pub record OpenWalk {P : Type 0} (name : P → ℕ) (k : Key) (n id first wanting : ℕ) (out : List Item) (old : List Entry) (items : List (DescriptorPool P)) (numbers : List ℕ) (l m : Ledger) : Type 0 where
   pub long : length items ≡ length old
   pub listed : numbers ≡ open_numbers first (free_in items)
   pub left : ℕ
   pub within : left ≤ length old
   pub closed : (j : ℕ) (e : Entry) → left ≤ j → slice_get (entries_of name items) j ≡ Some e → min wanting e.free ≡ 0
-  pub walking : Walking k n first left wanting out old (entries_of name items) l m
+  pub walking : Walking k n id first left wanting out old (entries_of name items) l m
 
-module _ {P : Type 0} {name : P → ℕ} {k : Key} {n first wanting : ℕ} {out : List Item} {old : List Entry} {items : List (DescriptorPool P)} {numbers : List ℕ} {l m : Ledger}
-    (booked : AreBookedIn k l.pools old) (s : OpenWalk name k n first wanting out old items numbers l m) where
+module _ {P : Type 0} {name : P → ℕ} {k : Key} {n id first wanting : ℕ} {out : List Item} {old : List Entry} {items : List (DescriptorPool P)} {numbers : List ℕ} {l m : Ledger}
+    (booked : AreBookedIn k l.pools old) (s : OpenWalk name k n id first wanting out old items numbers l m) where
   free_get : (j : ℕ) (e : Entry) → slice_get (entries_of name items) j ≡ Some e → slice_get (free_in items) j ≡ Some e.free
   free_get j e at = by_pool (slice_get items j) refl
     where
@@ -53,12 +53,12 @@ module _ {P : Type 0} {name : P → ℕ} {k : Key} {n first wanting : ℕ} {out 
           slice_get-map (λ p. p.available) items j ∙ ap (option_map (λ p. p.available)) is ∙ ap (λ (d : Entry). Some d.free) b
 
   -- where nothing is wanting the older pools are left
-  pub walk_sated : wanting ≡ 0 → Walking k n first 0 wanting out old (entries_of name items) l m
-  walk_sated none = walk_gap k n first wanting out old (entries_of name items) l m booked s.left 0 s.left (omega arith) s.within (λ j e le lt at. omega arith) s.walking
+  pub walk_sated : wanting ≡ 0 → Walking k n id first 0 wanting out old (entries_of name items) l m
+  walk_sated none = walk_gap k n id first wanting out old (entries_of name items) l m booked s.left 0 s.left (omega arith) s.within (λ j e le lt at. omega arith) s.walking
 
   -- where no pool is open they have nothing
-  pub walk_empty : numbers ≡ [] → Walking k n first 0 wanting out old (entries_of name items) l m
-  walk_empty none = walk_gap k n first wanting out old (entries_of name items) l m booked s.left 0 s.left (omega arith) s.within (λ j e le lt at. (let z = open_all_none first (free_in items) (sym s.listed ∙ none) j e.free (free_get j e at) in omega arith)) s.walking
+  pub walk_empty : numbers ≡ [] → Walking k n id first 0 wanting out old (entries_of name items) l m
+  walk_empty none = walk_gap k n id first wanting out old (entries_of name items) l m booked s.left 0 s.left (omega arith) s.within (λ j e le lt at. (let z = open_all_none first (free_in items) (sym s.listed ∙ none) j e.free (free_get j e at) in omega arith)) s.walking
 
   module _ (some : 0 < wanting) (front : List ℕ) (number : ℕ) (last : numbers ≡ front ++ number ∷ []) where
     newest : IsNewestOpen first (free_in items) front number
@@ -100,10 +100,10 @@ module _ {P : Type 0} {name : P → ℕ} {k : Key} {n first wanting : ℕ} {out 
         | inr le ↦ (let a = s.closed (number - first) (entry_of name p) le entry_at_place in let b = has_free in absurd (omega arith))
       ]
 
-      pub walk_reaches : Walking k n first (suc (number - first)) wanting out old (entries_of name items) l m
+      pub walk_reaches : Walking k n id first (suc (number - first)) wanting out old (entries_of name items) l m
       walk_reaches =
           let to = reached in
-          walk_gap k n first wanting out old (entries_of name items) l m booked (s.left - suc (number - first)) (suc (number - first)) s.left (omega arith) s.within (λ j e le lt there. (let z = newer j e.free (omega arith) (free_get j e there) in omega arith)) s.walking
+          walk_gap k n id first wanting out old (entries_of name items) l m booked (s.left - suc (number - first)) (suc (number - first)) s.left (omega arith) s.within (λ j e le lt there. (let z = newer j e.free (omega arith) (free_get j e there) in omega arith)) s.walking
 
       -- what stands in the books and the list once it was asked
       module _ (q : DescriptorPool P) where
@@ -139,27 +139,27 @@ module _ {P : Type 0} {name : P → ℕ} {k : Key} {n first wanting : ℕ} {out 
             is ∙ ap (λ (b : Bool). m.counters.asked + (if b then 1 else 0)) both
 
         pub open_walk_more : (numbers' : List ℕ) (names : List ℕ) (m' : Ledger) (wanting' : ℕ) → numbers' ≡ open_numbers first (free_in (slice_set items (number - first) q)) → IsAsked k wanting names (entry_of name p) (entry_of name q) m m' → wanting' + length names ≡ wanting
-            → OpenWalk name k n first wanting' (out ++ items_at k number names) old (slice_set items (number - first) q) numbers' l m'
+            → OpenWalk name k n id first wanting' (out ++ items_at k id number names) old (slice_set items (number - first) q) numbers' l m'
         open_walk_more numbers' names m' wanting' listed' asked less =
             let i : ℕ = number - first in
-            let was : slice_get old i ≡ Some (entry_of name p) = sym (next_was k n first i wanting out old (entries_of name items) l m booked walk_reaches (let a = inside in let b = s.long in omega arith)) ∙ entry_at_place in
-            let next = walk_more k n first i wanting out old (entries_of name items) l m booked walk_reaches (entry_of name p) (entry_of name q) names m' wanting' was asked less in
+            let was : slice_get old i ≡ Some (entry_of name p) = sym (next_was k n id first i wanting out old (entries_of name items) l m booked walk_reaches (let a = inside in let b = s.long in omega arith)) ∙ entry_at_place in
+            let next = walk_more k n id first i wanting out old (entries_of name items) l m booked walk_reaches (entry_of name p) (entry_of name q) names m' wanting' was asked less in
             let named : first + i ≡ number = (let a = above in omega arith) in
-            let out' : out ++ items_at k (first + i) names ≡ out ++ items_at k number names = ap (λ (j : ℕ). out ++ items_at k j names) named in
+            let out' : out ++ items_at k id (first + i) names ≡ out ++ items_at k id number names = ap (λ (j : ℕ). out ++ items_at k id j names) named in
             record {
               long = length-set items i q ∙ s.long;
               listed = listed';
               left = i;
               within = (let a = inside in let b = s.long in omega arith);
               closed = closed_now names m' wanting' asked less;
-              walking = subst (λ (x : List Entry). Walking k n first i wanting' (out ++ items_at k number names) old x l m') (sym (map-set (entry_of name) items i q)) (subst (λ (x : List Item). Walking k n first i wanting' x old (slice_set (entries_of name items) i (entry_of name q)) l m') out' next);
+              walking = subst (λ (x : List Entry). Walking k n id first i wanting' (out ++ items_at k id number names) old x l m') (sym (map-set (entry_of name) items i q)) (subst (λ (x : List Item). Walking k n id first i wanting' x old (slice_set (entries_of name items) i (entry_of name q)) l m') out' next);
             }
 
-        pub open_walk_stop : (error : DeviceAllocationError) (m' : Ledger) → entry_of name q ≡ entry_of name p → IsNoMemory wanting (entry_of name p) error m m' → IsWalkStopped k n first error out old (entries_of name (slice_set items (number - first) q)) l m'
+        pub open_walk_stop : (error : DeviceAllocationError) (m' : Ledger) → entry_of name q ≡ entry_of name p → IsNoMemory wanting (entry_of name p) error m m' → IsWalkStopped k n id first error out old (entries_of name (slice_set items (number - first) q)) l m'
         open_walk_stop error m' same none =
             let i : ℕ = number - first in
-            let was : slice_get old i ≡ Some (entry_of name p) = sym (next_was k n first i wanting out old (entries_of name items) l m booked walk_reaches (let a = inside in let b = s.long in omega arith)) ∙ entry_at_place in
-            subst (λ (x : List Entry). IsWalkStopped k n first error out old x l m') (sym (map-set (entry_of name) items i q)) (walk_stop k n first i wanting out old (entries_of name items) l m m' (entry_of name p) (entry_of name q) error walk_reaches was entry_at_place same none)
+            let was : slice_get old i ≡ Some (entry_of name p) = sym (next_was k n id first i wanting out old (entries_of name items) l m booked walk_reaches (let a = inside in let b = s.long in omega arith)) ∙ entry_at_place in
+            subst (λ (x : List Entry). IsWalkStopped k n id first error out old x l m') (sym (map-set (entry_of name) items i q)) (walk_stop k n id first i wanting out old (entries_of name items) l m m' (entry_of name p) (entry_of name q) error walk_reaches was entry_at_place same none)
 
         pub listed_now_same : entry_of name q ≡ entry_of name p → numbers ≡ open_numbers first (free_in (slice_set items (number - first) q))
         listed_now_same same = listed_now_open (let a : q.available ≡ p.available = ap (λ (d : Entry). d.free) same in let b = has_free in omega arith)
@@ -167,15 +167,15 @@ module _ {P : Type 0} {name : P → ℕ} {k : Key} {n first wanting : ℕ} {out 
       pub next_is_booked : IsBookedIn k m.pools (entry_of name p)
       next_is_booked =
           let i : ℕ = number - first in
-          let was : slice_get old i ≡ Some (entry_of name p) = sym (next_was k n first i wanting out old (entries_of name items) l m booked walk_reaches (let a = inside in let b = s.long in omega arith)) ∙ entry_at_place in
-          next_booked k n first i wanting out old (entries_of name items) l m booked walk_reaches (entry_of name p) was
+          let was : slice_get old i ≡ Some (entry_of name p) = sym (next_was k n id first i wanting out old (entries_of name items) l m booked walk_reaches (let a = inside in let b = s.long in omega arith)) ∙ entry_at_place in
+          next_booked k n id first i wanting out old (entries_of name items) l m booked walk_reaches (entry_of name p) was
 
-pub open_walk_start : {P : Type 0} (name : P → ℕ) (k : Key) (n first : ℕ) (items : List (DescriptorPool P)) (numbers : List ℕ) (l : Ledger) → AreBookedIn k l.pools (entries_of name items) → numbers ≡ open_numbers first (free_in items) → OpenWalk name k n first n [] (entries_of name items) items numbers l l
-open_walk_start name k n first items numbers l booked listed = record {
+pub open_walk_start : {P : Type 0} (name : P → ℕ) (k : Key) (n id first : ℕ) (items : List (DescriptorPool P)) (numbers : List ℕ) (l : Ledger) → AreBookedIn k l.pools (entries_of name items) → numbers ≡ open_numbers first (free_in items) → OpenWalk name k n id first n [] (entries_of name items) items numbers l l
+open_walk_start name k n id first items numbers l booked listed = record {
   long = sym (length-map items (entry_of name));
   listed = listed;
   left = length (entries_of name items);
   within = omega arith;
   closed = λ j e le at. (let a = slice_get_within (entries_of name items) j e at in absurd (omega arith));
-  walking = walk_start k n first (entries_of name items) l booked;
+  walking = walk_start k n id first (entries_of name items) l booked;
 }

@@ -1,7 +1,8 @@
 -- Agreement, and what is outstanding, speak of the pools in the books alone.
-use Rattle.std.proofs.Common.{◌≡◌, ℕ, Option, Some, inl, inr, refl, sym, ap, ◌∙◌}
+use Rattle.std.specs.Prelude.{if◌then◌else◌}
+use Rattle.std.proofs.Common.{◌≡◌, ◌==◌, ℕ, Option, Some, inl, inr, refl, sym, ap, ◌∙◌}
 use Rattle.std.specs.Option.{option_map_or}
-use Rattle.gpu_descriptor.specs.Model.Agreement.{set_of, live_in, outstanding}
+use Rattle.gpu_descriptor.specs.Model.Agreement.{set_of, live_in}
 use Rattle.gpu_descriptor.specs.Laws.Agreement.{OwnAgrees, OwnOutstanding}
 use Rattle.gpu_descriptor.specs.Model.Books.{Key, Entry, Bucket, entry_at}
 use Rattle.gpu_descriptor_types.specs.Ledger.{Pool}
@@ -21,9 +22,8 @@ own_agrees s t same agree =
 
 pub own_outstanding : OwnOutstanding
 own_outstanding s t same x =
-    let moved : outstanding t x ≡ option_map_or (λ (e : Entry). live_in t.ledger e.pool (set_of x)) (entry_at (s.books x.key) x.number) 0 =
-    ap (λ (b : Bucket). option_map_or (λ (e : Entry). live_in t.ledger e.pool (set_of x)) (entry_at b x.number) 0) (same.books x.key) in
-    moved ∙ elim (cases_option (entry_at (s.books x.key) x.number)) [
+    ap (λ (b : Bucket). if b.id == x.id then option_map_or (λ (e : Entry). live_in t.ledger e.pool (set_of x)) (entry_at b x.number) 0 else 0) (same.books x.key)
+    ∙ ap (λ (n : ℕ). if (s.books x.key).id == x.id then n else 0) (elim (cases_option (entry_at (s.books x.key) x.number)) [
       | inl none ↦ rw none refl
       | inr some ↦ rw some.1 (ap (λ (o : Option Pool). option_map_or (λ p. p.live (set_of x)) o 0) (same.pools x.key x.number some.0 some.1))
-    ]
+    ])

@@ -1,6 +1,7 @@
 -- As many sets are out as are outstanding.
-use Rattle.std.proofs.Common.{◌≡◌, ℕ, suc, ◌+◌, ◌-◌, ◌<◌, ◌≤◌, true, false, List, [], ◌∷◌, ◌++◌, length, map, count_by, sum_by, slice_get, Option, Some, None, inl, inr, refl, sym, ap, ◌∙◌, arith, length-append}
+use Rattle.std.proofs.Common.{◌≡◌, ℕ, suc, ◌+◌, ◌-◌, ◌<◌, ◌≤◌, ◌==◌, true, false, List, [], ◌∷◌, ◌++◌, length, map, count_by, sum_by, slice_get, Option, Some, None, inl, inr, refl, sym, ap, ◌∙◌, arith, eqb-true, eq-eqb, length-append}
 use Rattle.std.specs.Option.{option_map_or}
+use Rattle.std.specs.Prelude.{if◌then◌else◌}
 use Rattle.std.proofs.lemmas.Bool.{cases_Bool, cases_eq, cases_lt}
 use Rattle.std.proofs.lemmas.List.{length-map}
 use Rattle.std.proofs.lemmas.List.Sums.{sum_by-append, sum_by-cons}
@@ -8,7 +9,7 @@ use Rattle.gpu_descriptor_types.specs.Ledger.{Pool, live_sets}
 use Rattle.gpu_descriptor_types.specs.Multiset.{LiveSet, set_eq, times}
 use Rattle.gpu_descriptor_types.proofs.Counting.{count_by_yes, count_by_no, counts_alike, set_exact}
 use Rattle.gpu_descriptor.specs.Model.Agreement.{Item, item_eq, set_of, count_of}
-use Rattle.gpu_descriptor.specs.Model.Books.{Key, key_eq, Entry, Bucket, books_of, HasDistinctKeys, sum_over}
+use Rattle.gpu_descriptor.specs.Model.Books.{Key, key_eq, Entry, Bucket, no_pools, books_of, HasDistinctKeys, sum_over}
 use Rattle.gpu_descriptor.specs.Model.Grants.{items_at}
 use Rattle.gpu_descriptor.specs.Caller.Frees.{marked_descriptors}
 use Rattle.gpu_descriptor.specs.Laws.Load.{LoadIsDescriptors, OutIsLength, OutIsSize}
@@ -47,73 +48,89 @@ by_name counts (x ∷ sets) all =
 record OutOf (k : Key) (b : Bucket) (ledger : ℕ → Option Pool) : Type 0 where
   items : List Item
   many : length items ≡ allocated_in b.pools
-  of_key : (t : Item) → 0 < count_of t items → t.key ≡ k
-  each : (t : Item) → t.key ≡ k → count_of t items ≡ live_at ledger b t
+  of_key : (t : Item) → 0 < count_of t items → (t.key ≡ k) × (t.id ≡ b.id)
+  each : (t : Item) → t.key ≡ k → t.id ≡ b.id → count_of t items ≡ live_at ledger b t
 
-abbrev bucket : ℕ → List Entry → Bucket
-bucket first es = record { first = first; pools = es }
+abbrev bucket : ℕ → ℕ → List Entry → Bucket
+bucket id first es = record { id = id; first = first; pools = es }
 
-none_out : (ledger : ℕ → Option Pool) (first : ℕ) (t : Item) → live_at ledger (bucket first []) t ≡ 0
-none_out ledger first t = elim (cases_lt t.number first) [
-  | inl below ↦ live_below ledger first [] t below
-  | inr above ↦ live_from ledger first [] t above
+none_out : (ledger : ℕ → Option Pool) (id first : ℕ) (t : Item) → live_at ledger (bucket id first []) t ≡ 0
+none_out ledger id first t = elim (cases_lt t.number first) [
+  | inl below ↦ live_below ledger id first [] t below
+  | inr above ↦ live_from ledger id first [] t above
 ]
 
-key_out : (k : Key) (first : ℕ) (es : List Entry) (ledger : ℕ → Option Pool) → ((i : ℕ) (e : Entry) → slice_get es i ≡ Some e → IsBookedIn k ledger e) → OutOf k (bucket first es) ledger
+key_out : (k : Key) (id first : ℕ) (es : List Entry) (ledger : ℕ → Option Pool) → ((i : ℕ) (e : Entry) → slice_get es i ≡ Some e → IsBookedIn k ledger e) → OutOf k (bucket id first es) ledger
 unfolding names_in
-key_out k first [] ledger booked = record { items = []; many = refl; of_key = λ t some. absurd (omega arith); each = λ t key. sym (none_out ledger first t) }
-key_out k first (e ∷ es) ledger booked =
+key_out k id first [] ledger booked = record { items = []; many = refl; of_key = λ t some. absurd (omega arith); each = λ t key own_id. sym (none_out ledger id first t) }
+key_out k id first (e ∷ es) ledger booked =
     let own = booked 0 e refl in
     let size = size_of own.booked in
     let names = names_in size.0 in
     let same = by_name k.counts size.0 (λ x some. own.booked.sets x (let is = size.2 x in omega arith)) in
-    let rest = key_out k (first + 1) es ledger (λ i. booked (suc i)) in
+    let rest = key_out k id (first + 1) es ledger (λ i. booked (suc i)) in
     record {
-      items = items_at k first names ++ rest.items;
+      items = items_at k id first names ++ rest.items;
       many = (
-          let both = length-append (items_at k first names) rest.items in
-          let named : length (items_at k first names) ≡ length names = length-map names (λ n. let t : Item = record { key = k; number = first; name = n } in t) in
+          let both = length-append (items_at k id first names) rest.items in
+          let named : length (items_at k id first names) ≡ length names = length-map names (λ n. let t : Item = record { key = k; id = id; number = first; name = n } in t) in
           let all : length names ≡ length size.0 = length-map size.0 (λ (x : LiveSet). x.name) in
           let long = size.1 in
           let later = rest.many in
           let whole = sum_by-cons (λ (d : Entry). d.allocated) e es in
           omega arith);
-      of_key = λ t some. elim (cases_lt 0 (count_of t (items_at k first names))) [
-        | inl here ↦ (place_of_items k first names t here).0
-        | inr none ↦ (let sum = count_append t (items_at k first names) rest.items in rest.of_key t (omega arith))
+      of_key = λ t some. elim (cases_lt 0 (count_of t (items_at k id first names))) [
+        | inl here ↦ (let p = place_of_items k id first names t here in (p.0, p.2))
+        | inr none ↦ (let sum = count_append t (items_at k id first names) rest.items in rest.of_key t (omega arith))
       ];
-      each = λ t key.
-          let sum = count_append t (items_at k first names) rest.items in
-          let later = rest.each t key in
+      each = λ t key own_id.
+          let sum = count_append t (items_at k id first names) rest.items in
+          let later = rest.each t key own_id in
           elim (cases_lt t.number first) [
             | inl below ↦ (
-                let none = count_elsewhere k first names t (λ bad. omega arith) in
-                let left = live_below ledger (first + 1) es t (omega arith) in
-                let right = live_below ledger first (e ∷ es) t below in
+                let none = count_elsewhere k id first names t (λ bad. omega arith) in
+                let left = live_below ledger id (first + 1) es t (omega arith) in
+                let right = live_below ledger id first (e ∷ es) t below in
                 omega arith)
             | inr above ↦ (elim (cases_eq t.number first) [
               | inl here ↦ (
-                  let counted = count_of_items k first names t key here in
+                  let counted = count_of_items k id first names t key here own_id in
                   let spelled : times (live_sets k.counts names) (set_of t) ≡ own.pool.live (set_of t) = ap (λ (l : List LiveSet). times l (set_of t)) same ∙ size.2 (set_of t) in
                   let place : t.number - first ≡ 0 = omega arith in
-                  let left = live_below ledger (first + 1) es t (omega arith) in
-                  let right : live_at ledger (bucket first (e ∷ es)) t ≡ own.pool.live (set_of t) = live_from ledger first (e ∷ es) t above ∙ ap (λ (n : ℕ). live_of ledger (slice_get (e ∷ es) n) (set_of t)) place ∙ ap (λ (o : Option Pool). option_map_or (λ (p : Pool). p.live (set_of t)) o 0) own.is_live in
+                  let left = live_below ledger id (first + 1) es t (omega arith) in
+                  let right : live_at ledger (bucket id first (e ∷ es)) t ≡ own.pool.live (set_of t) = live_from ledger id first (e ∷ es) t above ∙ ap (λ (n : ℕ). live_of ledger (slice_get (e ∷ es) n) (set_of t)) place ∙ ap (λ (o : Option Pool). option_map_or (λ (p : Pool). p.live (set_of t)) o 0) own.is_live in
                   omega arith)
               | inr there ↦ (
-                  let none = count_elsewhere k first names t there in
+                  let none = count_elsewhere k id first names t there in
                   let place : t.number - first ≡ suc (t.number - (first + 1)) = omega arith in
-                  let left = live_from ledger (first + 1) es t (omega arith) in
-                  let right : live_at ledger (bucket first (e ∷ es)) t ≡ live_of ledger (slice_get es (t.number - (first + 1))) (set_of t) = live_from ledger first (e ∷ es) t above ∙ ap (λ (n : ℕ). live_of ledger (slice_get (e ∷ es) n) (set_of t)) place in
+                  let left = live_from ledger id (first + 1) es t (omega arith) in
+                  let right : live_at ledger (bucket id first (e ∷ es)) t ≡ live_of ledger (slice_get es (t.number - (first + 1))) (set_of t) = live_from ledger id first (e ∷ es) t above ∙ ap (λ (n : ℕ). live_of ledger (slice_get (e ∷ es) n) (set_of t)) place in
                   omega arith)
             ])
           ];
     }
 
+-- how often a set is out of a bucket: as often as it is live there, if its id is the bucket's
+abbrev out_at : (ℕ → Option Pool) → Bucket → Item → ℕ
+out_at ledger b t = if b.id == t.id then live_at ledger b t else 0
+
+out_of_none : (ledger : ℕ → Option Pool) (t : Item) → out_at ledger no_pools t ≡ 0
+out_of_none ledger t = elim (cases_Bool (0 == t.id)) [ inl same ↦ rw same (none_out ledger 0 0 t) | inr other ↦ rw other refl ]
+
+each_out : (k : Key) (b : Bucket) (ledger : ℕ → Option Pool) (out : OutOf k b ledger) (t : Item) → t.key ≡ k → count_of t out.items ≡ out_at ledger b t
+each_out k b ledger out t key = elim (cases_Bool (b.id == t.id)) [
+  | inl same ↦ rw same (out.each t key (sym (eqb-true b.id t.id same)))
+  | inr other ↦ rw other (elim (cases_lt 0 (count_of t out.items)) [
+    | inl some ↦ absurd (let bad : true ≡ false = sym (eq-eqb b.id t.id (sym (out.of_key t some).1)) ∙ other in cc)
+    | inr none ↦ (omega arith)
+  ])
+]
+
 -- the sets that are out of all keys of a table
-table_out : (ledger : ℕ → Option Pool) (table : List (Key × Bucket)) → HasDistinctKeys table → ((k : Key) (i : ℕ) (e : Entry) → slice_get (books_of table k).pools i ≡ Some e → IsBookedIn k ledger e) → (items : List Item) × (length items ≡ sum_over sets_out table) × ((t : Item) → count_of t items ≡ live_at ledger (books_of table t.key) t) × (marked_descriptors items ≡ sum_over descriptors_out table)
-table_out ledger [] distinct booked = ([], refl, (λ t. sym (none_out ledger 0 t)), refl)
+table_out : (ledger : ℕ → Option Pool) (table : List (Key × Bucket)) → HasDistinctKeys table → ((k : Key) (i : ℕ) (e : Entry) → slice_get (books_of table k).pools i ≡ Some e → IsBookedIn k ledger e) → (items : List Item) × (length items ≡ sum_over sets_out table) × ((t : Item) → count_of t items ≡ out_at ledger (books_of table t.key) t) × (marked_descriptors items ≡ sum_over descriptors_out table)
+table_out ledger [] distinct booked = ([], refl, (λ t. sym (out_of_none ledger t)), refl)
 table_out ledger (row ∷ table) distinct booked =
-    let here = key_out row.0 row.1.first row.1.pools ledger (λ i e at. booked row.0 i e (ap (λ (b : Bucket). slice_get b.pools i) (first_books row table) ∙ at)) in
+    let here = key_out row.0 row.1.id row.1.first row.1.pools ledger (λ i e at. booked row.0 i e (ap (λ (b : Bucket). slice_get b.pools i) (first_books row table) ∙ at)) in
     let rest = table_out ledger table distinct.1 (λ k i e at. booked k i e (behind k i e at)) in (
       here.items ++ rest.0,
       (let both = length-append here.items rest.0 in let first = here.many in let later = rest.1 in let whole = sum_by-cons (λ (r : Key × Bucket). sets_out r.0 r.1) row table in omega arith),
@@ -122,19 +139,19 @@ table_out ledger (row ∷ table) distinct booked =
           let later = rest.2 t in
           elim (cases_Bool (key_eq row.0 t.key)) [
             | inl at ↦ (
-                let first = here.each t (sym (key_exact.same row.0 t.key at)) in
-                let none : live_at ledger (books_of table t.key) t ≡ 0 = ap (λ (b : Bucket). live_at ledger b t) (none_behind row table distinct t.key at) ∙ none_out ledger 0 t in
-                let is : live_at ledger (books_of (row ∷ table) t.key) t ≡ live_at ledger row.1 t = rw at refl in
+                let first = each_out row.0 row.1 ledger here t (sym (key_exact.same row.0 t.key at)) in
+                let none : out_at ledger (books_of table t.key) t ≡ 0 = ap (λ (b : Bucket). out_at ledger b t) (none_behind row table distinct t.key at) ∙ out_of_none ledger t in
+                let is : out_at ledger (books_of (row ∷ table) t.key) t ≡ out_at ledger row.1 t = rw at refl in
                 omega arith)
             | inr other ↦ (
-                let is : live_at ledger (books_of (row ∷ table) t.key) t ≡ live_at ledger (books_of table t.key) t = rw other refl in
+                let is : out_at ledger (books_of (row ∷ table) t.key) t ≡ out_at ledger (books_of table t.key) t = rw other refl in
                 elim (cases_lt 0 (count_of t here.items)) [
-                  | inl some ↦ absurd (let bad : true ≡ false = sym (key_exact.self row.0) ∙ ap (key_eq row.0) (sym (here.of_key t some)) ∙ other in cc)
+                  | inl some ↦ absurd (let bad : true ≡ false = sym (key_exact.self row.0) ∙ ap (key_eq row.0) (sym (here.of_key t some).0) ∙ other in cc)
                   | inr none ↦ omega arith
                 ])
           ]),
       (let both = sum_by-append (λ (t : Item). marked_load t.key 1) here.items rest.0 in
-          let first : marked_descriptors here.items ≡ descriptors_out row.0 row.1 = load_of_items row.0 here.items here.of_key ∙ ap (marked_load row.0) here.many in
+          let first : marked_descriptors here.items ≡ descriptors_out row.0 row.1 = load_of_items row.0 here.items (λ t some. (here.of_key t some).0) ∙ ap (marked_load row.0) here.many in
           let later = rest.3 in
           let whole = sum_by-cons (λ (r : Key × Bucket). descriptors_out r.0 r.1) row table in
           omega arith),
@@ -149,7 +166,7 @@ table_out ledger (row ∷ table) distinct booked =
 pub out_is_size : OutIsSize
 out_is_size s n agree out =
     let all = table_out s.ledger out.table out.distinct (λ k i e at. (booked_of s k agree).each i e (ap (λ (b : Bucket). slice_get b.pools i) (sym (out.keeps k)) ∙ at)) in
-    (all.0, all.1 ∙ out.total, λ t. all.2 t ∙ ap (λ (b : Bucket). live_at s.ledger b t) (out.keeps t.key))
+    (all.0, all.1 ∙ out.total, λ t. all.2 t ∙ ap (λ (b : Bucket). out_at s.ledger b t) (out.keeps t.key))
 
 every : (items : List Item) → count_by (λ t. true) items ≡ length items
 every [] = refl
@@ -205,4 +222,4 @@ sums_alike f (t ∷ m) n alike =
 pub load_is_descriptors : LoadIsDescriptors
 load_is_descriptors s n agree load items alike =
     let all = table_out s.ledger load.table load.distinct (λ k i e at. (booked_of s k agree).each i e (ap (λ (b : Bucket). slice_get b.pools i) (sym (load.keeps k)) ∙ at)) in
-    sums_alike (λ (t : Item). marked_load t.key 1) items all.0 (λ t. alike t ∙ sym (all.2 t ∙ ap (λ (b : Bucket). live_at s.ledger b t) (load.keeps t.key))) ∙ all.3 ∙ load.total
+    sums_alike (λ (t : Item). marked_load t.key 1) items all.0 (λ t. alike t ∙ sym (all.2 t ∙ ap (λ (b : Bucket). out_at s.ledger b t) (load.keeps t.key))) ∙ all.3 ∙ load.total

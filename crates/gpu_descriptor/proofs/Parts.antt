@@ -136,7 +136,7 @@ quiet_key m n s agree k none =
     let zero_more : back n s e.pool ≡ 0 = untouched n s agree k none (b.first + i) e here in
     let same : back m s e.pool + back n s e.pool ≡ back m s e.pool = omega arith in
     ap (λ (x : ℕ). entry_less x e) same) in
-    λ i. record { first = b.first; pools = pools i }
+    λ i. record b { pools = pools i }
 
 -- a set of the second part lies in the pool in which it lay
 still_lies : (m n : List Item) (s : State) → Agree s → AreOutstanding (m ++ n) s → (pool : ℕ) (t : Item) → 0 < count_of t n → lies_in (released m s).books pool t ≡ lies_in s.books pool t

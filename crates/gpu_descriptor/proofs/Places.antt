@@ -1,20 +1,19 @@
 -- Which places of the books keep their pools when sets go back: those that still have a set out.
 use Rattle.std.proofs.Common.{◌≡◌, ℕ, suc, ◌+◌, ◌-◌, ◌<◌, ◌≤◌, Bool, true, false, cond, ltb, ◌&&◌, ◌==◌, List, [], ◌∷◌, length, map, filter, count_by, Option, Some, None, option_map, inl, inr, refl, sym, ap, ◌∙◌, arith, eqb-true, eq-eqb, ne_eqb}
-use Rattle.std.proofs.Math.Path.{fun_ext}
 use Rattle.std.specs.Option.{option_map_or}
 use Rattle.std.specs.List.{list_any}
 use Rattle.std.proofs.lemmas.Bool.{cases_Bool, false_from_ne_true, and_parts, and_from}
 use Rattle.std.proofs.lemmas.List.{length-map}
 use Rattle.std.proofs.lemmas.List.Sums.{length-filter, count_by-le-length}
 use Rattle.std.proofs.lemmas.Option.{slice_get-map}
-use Rattle.gpu_descriptor.specs.Model.Agreement.{set_of, State, Item, item_eq, count_of, live_in, outstanding, AreOutstanding, HasSize, Agree}
+use Rattle.gpu_descriptor.specs.Model.Agreement.{set_of, State, Item, item_eq, count_of, live_in, outstanding, AreOutstanding, HasSize, Agree, live_there}
 use Rattle.gpu_descriptor.specs.Laws.Agreement.{EmptyAgrees}
 use Rattle.gpu_descriptor.specs.Model.Books.{Key, key_eq, Entry, Bucket, entry_at, no_pools}
 use Rattle.gpu_descriptor.specs.Model.Release.{lies_in, entry_less, bucket_less, is_empty, empty_front, spent_front, without_front, released}
 use Rattle.gpu_descriptor_types.specs.Ledger.{Pool}
 use Rattle.gpu_descriptor_types.specs.Multiset.{LiveSet, set_eq}
 use Rattle.gpu_descriptor.proofs.Fronts.{entry_at-found, entry_at-without, entry_at-kept}
-use Rattle.gpu_descriptor_types.proofs.Counting.{bool_iff, count_by_none, set_exact, count_by_yes, count_by_no, all_taken_out}
+use Rattle.gpu_descriptor_types.proofs.Counting.{bool_iff, count_by_alike, count_by_none, set_exact, count_by_yes, count_by_no, all_taken_out}
 use Rattle.gpu_descriptor.proofs.Exact.{item_exact, item_parts, item_from}
 use Rattle.gpu_descriptor.proofs.Sized.{size_of}
 
@@ -82,22 +81,29 @@ lies_in-found books pool t h = some_of (entry_at (books t.key) t.number) pool h
 pub lies_in-at : (books : Key → Bucket) (pool : ℕ) (t : Item) (e : Entry) → entry_at (books t.key) t.number ≡ Some e → lies_in books pool t ≡ (e.pool == pool)
 lies_in-at books pool t e h = ap (λ (o : Option Entry). option_map_or (λ e. e.pool == pool) o false) h
 
+-- a set of an outstanding list has the id of its key
+pub own_id : (m : List Item) (s : State) → AreOutstanding m s → (t : Item) → 0 < count_of t m → (s.books t.key).id ≡ t.id
+own_id m s out t some = elim (cases_Bool ((s.books t.key).id == t.id)) [
+  | inl same ↦ eqb-true (s.books t.key).id t.id same
+  | inr other ↦ (let none : outstanding s t ≡ 0 = rw other refl in let fits = out t in absurd (omega arith))
+]
+
 -- the sets that lie in a pool are those of its key and number
-pub back_named-is : (m : List Item) (s : State) → Agree s → (k : Key) (i : ℕ) (e : Entry) → entry_at (s.books k) i ≡ Some e → (name : ℕ) → back_named m s e.pool (record { name = name; counts = k.counts }) ≡ count_of (record { key = k; number = i; name = name }) m
-back_named-is m s agree k i e at name =
+pub back_named-is : (m : List Item) (s : State) → Agree s → AreOutstanding m s → (k : Key) (i : ℕ) (e : Entry) → entry_at (s.books k) i ≡ Some e → (name : ℕ) → back_named m s e.pool (record { name = name; counts = k.counts }) ≡ count_of (record { key = k; id = (s.books k).id; number = i; name = name }) m
+back_named-is m s agree out k i e at name =
     let x : LiveSet = record { name = name; counts = k.counts } in
-    let u : Item = record { key = k; number = i; name = name } in
-    ap (λ (p : Item → Bool). count_by p m) (fun_ext (λ t. bool_iff (lies_in s.books e.pool t && set_eq (set_of t) x) (item_eq t u)
+    let u : Item = record { key = k; id = (s.books k).id; number = i; name = name } in
+    count_by_alike item_exact (λ t. lies_in s.books e.pool t && set_eq (set_of t) x) (λ t. item_eq t u) m (λ t in_m. bool_iff (lies_in s.books e.pool t && set_eq (set_of t) x) (item_eq t u)
     (λ h.
     let both = and_parts (lies_in s.books e.pool t) (set_eq (set_of t) x) h in
     let found = lies_in-found s.books e.pool t both.0 in
     let same = agree.distinct t.key k t.number i found.0 e found.1 at found.2 in
-    item_from t u same.0 same.1 (ap (λ (y : LiveSet). y.name) (set_exact.same (set_of t) x both.1)))
+    item_from t u same.0 same.1 (ap (λ (y : LiveSet). y.name) (set_exact.same (set_of t) x both.1)) (sym (own_id m s out t in_m) ∙ ap (λ (l : Key). (s.books l).id) same.0))
     (λ h.
     let same = item_parts t u h in
     let here : entry_at (s.books t.key) t.number ≡ Some e = rw (same.0, same.1) at in
     let one : set_of t ≡ x = λ j. record { name = same.2 j; counts = (same.0 j).counts } in
-    and_from _ _ (lies_in-at s.books e.pool t e here ∙ eq-eqb e.pool e.pool refl) (ap (λ (y : LiveSet). set_eq y x) one ∙ set_exact.self x))))
+    and_from _ _ (lies_in-at s.books e.pool t e here ∙ eq-eqb e.pool e.pool refl) (ap (λ (y : LiveSet). set_eq y x) one ∙ set_exact.self x)))
 
 -- no set of other counts goes back to the pool
 back_other : (m : List Item) (s : State) → Agree s → (k : Key) (i : ℕ) (e : Entry) → entry_at (s.books k) i ≡ Some e → (x : LiveSet) → set_eq x (record { name = x.name; counts = k.counts }) ≡ false → back_named m s e.pool x ≡ 0
@@ -111,9 +117,12 @@ back_other m s agree k i e at x other = count_by_none item_exact (λ t. lies_in 
     let is : x ≡ y = λ j. record { name = x.name; counts = counts j } in
     let bad : true ≡ false = sym (ap (λ (z : LiveSet). set_eq z y) is ∙ set_exact.self y) ∙ other in cc))
 
+pub live_there_at : (s : State) (t : Item) (e : Entry) (pool : Pool) → entry_at (s.books t.key) t.number ≡ Some e → s.ledger e.pool ≡ Some pool → live_there s t ≡ pool.live (set_of t)
+live_there_at s t e pool at found = rw at (rw found refl)
+
 -- how often a set is outstanding, read from the pool of its place
-pub outstanding_at : (s : State) (t : Item) (e : Entry) (pool : Pool) → entry_at (s.books t.key) t.number ≡ Some e → s.ledger e.pool ≡ Some pool → outstanding s t ≡ pool.live (set_of t)
-outstanding_at s t e pool at found = rw at (rw found refl)
+pub outstanding_at : (s : State) (t : Item) (e : Entry) (pool : Pool) → (s.books t.key).id ≡ t.id → entry_at (s.books t.key) t.number ≡ Some e → s.ledger e.pool ≡ Some pool → outstanding s t ≡ pool.live (set_of t)
+outstanding_at s t e pool own at found = rw (eq-eqb (s.books t.key).id t.id own) (rw at (rw found refl))
 
 -- a pool has the part that goes back to it
 pub part_fits : (m : List Item) (s : State) → Agree s → AreOutstanding m s → (k : Key) (i : ℕ) (e : Entry) (pool : Pool) → entry_at (s.books k) i ≡ Some e → s.ledger e.pool ≡ Some pool → (x : LiveSet) → back_named m s e.pool x ≤ pool.live x
@@ -121,10 +130,10 @@ part_fits m s agree out k i e pool at found x =
     let y : LiveSet = record { name = x.name; counts = k.counts } in
     elim (cases_Bool (set_eq x y)) [
       | inl same ↦ (
-          let t : Item = record { key = k; number = i; name = x.name } in
+          let t : Item = record { key = k; id = (s.books k).id; number = i; name = x.name } in
           let one : x ≡ y = set_exact.same x y same in
-          let is : back_named m s e.pool y ≡ count_of t m = back_named-is m s agree k i e at x.name in
-          let had : outstanding s t ≡ pool.live y = outstanding_at s t e pool at found in
+          let is : back_named m s e.pool y ≡ count_of t m = back_named-is m s agree out k i e at x.name in
+          let had : outstanding s t ≡ pool.live y = outstanding_at s t e pool refl at found in
           let fits = out t in
           let a : back_named m s e.pool x ≡ back_named m s e.pool y = ap (back_named m s e.pool) one in
           let b : pool.live x ≡ pool.live y = ap pool.live one in
@@ -136,8 +145,14 @@ some_above : (o : Option Entry) (f : Entry → ℕ) (a : ℕ) → a < option_map
 some_above None f a h = absurd (omega arith)
 some_above (Some e) f a h = (e, refl, h)
 
-pub outstanding_found : (s : State) (t : Item) (a : ℕ) → a < outstanding s t → (e : Entry) × (entry_at (s.books t.key) t.number ≡ Some e) × (a < live_in s.ledger e.pool (set_of t))
-outstanding_found s t a h = some_above (entry_at (s.books t.key) t.number) (λ e. live_in s.ledger e.pool (set_of t)) a h
+pub outstanding_found : (s : State) (t : Item) (a : ℕ) → a < outstanding s t → (e : Entry) × (entry_at (s.books t.key) t.number ≡ Some e) × (a < live_in s.ledger e.pool (set_of t)) × ((s.books t.key).id ≡ t.id)
+outstanding_found s t a h = elim (cases_Bool ((s.books t.key).id == t.id)) [
+  | inl same ↦ (
+      let there : outstanding s t ≡ live_there s t = rw same refl in
+      let found = some_above (entry_at (s.books t.key) t.number) (λ e. live_in s.ledger e.pool (set_of t)) a (omega (arith, there, h)) in
+      (found.0, found.1, found.2, eqb-true (s.books t.key).id t.id same))
+  | inr other ↦ (let none : outstanding s t ≡ 0 = rw other refl in absurd (omega arith))
+]
 
 pub entry_at-less : (g : ℕ → ℕ) (b : Bucket) (n : ℕ) → entry_at (bucket_less g b) n ≡ option_map (λ e. entry_less (g e.pool) e) (entry_at b n)
 entry_at-less g b n = elim (cases_Bool (ltb n b.first)) [
@@ -154,7 +169,7 @@ abbrev pub front_of : List Item → State → Key → ℕ
 front_of m s k = cond (list_any (λ t. key_eq t.key k) m) (spent_front (bucket_less (back m s) (s.books k))) 0
 
 without_none : (b : Bucket) → b ≡ without_front 0 b
-without_none b = let first : b.first ≡ b.first + 0 = omega arith in λ i. record { first = first i; pools = b.pools }
+without_none b = let first : b.first ≡ b.first + 0 = omega arith in λ i. record b { first = first i }
 
 pub released_books : (m : List Item) (s : State) (k : Key) → (released m s).books k ≡ without_front (front_of m s k) (bucket_less (back m s) (s.books k))
 released_books m s k = elim (cases_Bool (list_any (λ t. key_eq t.key k) m)) [
@@ -186,7 +201,7 @@ kept m s agree out t more =
     let pool = booked.0 in
     let live : live_in s.ledger e.pool (set_of t) ≡ pool.live (set_of t) = rw booked.1 refl in
     let left = size_less pool.live e.allocated (lies_in s.books e.pool) m (size_of booked.2) (part_fits m s agree out t.key t.number e pool here.1 booked.1) in
-    let named : back_named m s e.pool (set_of t) ≡ count_of t m = back_named-is m s agree t.key t.number e here.1 t.name in
+    let named : back_named m s e.pool (set_of t) ≡ count_of t m = back_named-is m s agree out t.key t.number e here.1 t.name ∙ ap (λ (i : ℕ). let u : Item = record t { id = i } in count_of u m) here.3 in
     let above = here.2 in
     let some : 0 < e.allocated - back m s e.pool = size_pos (λ name. pool.live name - back_named m s e.pool name) (e.allocated - back m s e.pool) (set_of t) left.1 (omega arith) in
     let full : is_empty (entry_less (back m s e.pool) e) ≡ false = ne_eqb (e.allocated - back m s e.pool) 0 (λ none. omega arith) in

@@ -34,13 +34,13 @@ use Rattle.gpu_descriptor.specs.Model.Shares.{Portion, offer, rest, portions_of,
 abbrev sum_given : List Portion → ℕ
 sum_given ps = sum_by (λ p. p.given) ps
 
-length_items : (k : Key) (parts : List Part) → length (items_in k parts) ≡ sum_given (map portion_of parts)
-length_items k [] = refl
-length_items k (p ∷ parts) =
-    let a = length-append (items_at k p.number p.names) (items_in k parts) in
-    let b = length-map p.names (λ (name : ℕ). let t : Item = record { key = k; number = p.number; name = name } in t) in
+length_items : (k : Key) (id : ℕ) (parts : List Part) → length (items_in k id parts) ≡ sum_given (map portion_of parts)
+length_items k id [] = refl
+length_items k id (p ∷ parts) =
+    let a = length-append (items_at k id p.number p.names) (items_in k id parts) in
+    let b = length-map p.names (λ (name : ℕ). let t : Item = record { key = k; id = id; number = p.number; name = name } in t) in
     let c = sum_by-cons (λ (q : Portion). q.given) (portion_of p) (map portion_of parts) in
-    let more = length_items k parts in
+    let more = length_items k id parts in
     omega arith
 
 shares_sum : (refused : ℕ → Bool) (n number : ℕ) (pools : List Entry) → sum_given (portions_of refused n number pools) + rest refused n pools ≡ n
@@ -67,9 +67,9 @@ all_given k room total wanted pools (no_fresh zero_wanted empty) = ap given_by e
 all_given k room total wanted pools (some_fresh front last is short sized le given) = given
 
 -- what was had in all is what was asked for
-pub grant_many : (k : Key) (n room total : ℕ) (b : Bucket) (g : Grant) → map portion_of g.parts ≡ portions_of g.refused n (b.first + g.left) (drop g.left b.pools) ++ fresh_portions (next_number b) g.fresh → g.left ≡ 0 → IsFreshList k room total (rest g.refused n b.pools) g.fresh → length (items_in k g.parts) ≡ n
+pub grant_many : (k : Key) (n room total : ℕ) (b : Bucket) (g : Grant) → map portion_of g.parts ≡ portions_of g.refused n (b.first + g.left) (drop g.left b.pools) ++ fresh_portions (next_number b) g.fresh → g.left ≡ 0 → IsFreshList k room total (rest g.refused n b.pools) g.fresh → length (items_in k g.id g.parts) ≡ n
 grant_many k n room total b g parts none_left fresh =
-    let long = length_items k g.parts ∙ ap sum_given parts in
+    let long = length_items k g.id g.parts ∙ ap sum_given parts in
     let two = sum_by-append (λ (q : Portion). q.given) (portions_of g.refused n (b.first + g.left) (drop g.left b.pools)) (fresh_portions (next_number b) g.fresh) in
     let new = fresh_sum (next_number b) g.fresh ∙ all_given _ _ _ _ _ fresh in
     let all : rest g.refused n (drop g.left b.pools) ≡ rest g.refused n b.pools = ap (λ i. rest g.refused n (drop i b.pools)) none_left in
@@ -152,7 +152,7 @@ granted_raises k n g s name p q new refused live after =
 -- what a request that stopped raised
 back_raises : (c : Call) (g : Grant) (rise : Counters) (error : AllocationError) → IsBack c g rise error → (name : ℕ) (p q : Pool) → g.refused name ≡ true → c.old.ledger name ≡ Some p → c.new.ledger name ≡ Some q → q.refusals ≡ p.refusals + 1
 back_raises c g rise error b name p q refused live after =
-    let r = released_pool (items_in c.request.key g.parts) (granted c.request.key c.request.count g c.old) name q (sym (ap (λ (w : State). w.ledger name) b.state) ∙ after) in
+    let r = released_pool (items_in c.request.key g.id g.parts) (granted c.request.key c.request.count g c.old) name q (sym (ap (λ (w : State). w.ledger name) b.state) ∙ after) in
     r.2 ∙ granted_raises c.request.key c.request.count g c.old name p r.0 b.taken.new refused live r.1
 
 -- ---- pools are created only where the existing ones don't do

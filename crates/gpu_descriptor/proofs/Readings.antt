@@ -7,7 +7,7 @@ use Rattle.gpu_descriptor.specs.Model.Books.{Key, key_eq}
 use Rattle.gpu_descriptor.proofs.Tables.{key_eq_symm}
 use Rattle.gpu_descriptor.specs.declared.set.BucketKey.{BucketKey}
 use Rattle.gpu_descriptor.specs.declared.bucket.DescriptorBucket.{DescriptorBucket}
-use Rattle.gpu_descriptor.specs.Caller.Sets.{key_of}
+use Rattle.gpu_descriptor.specs.Caller.KeyOf.{key_of}
 use Rattle.gpu_descriptor.specs.Caller.Values.{Kept, Row, Allocations}
 use Rattle.gpu_descriptor.specs.Inner.Stored.{kept_of, row_of}
 use Rattle.gpu_descriptor.specs.Caller.Views.{pools_at, first_at, view_at}

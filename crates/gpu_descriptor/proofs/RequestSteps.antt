@@ -12,7 +12,8 @@ use Rattle.gpu_descriptor.specs.declared.set.DescriptorSet.{DescriptorSet}
 use Rattle.gpu_descriptor.specs.declared.bucket.DescriptorBucket.{DescriptorBucket}
 use Rattle.gpu_descriptor.specs.declared.bucket.take.Refusal.{Refusal}
 use Rattle.gpu_descriptor.specs.Model.Books.{Key, key_eq, Bucket, no_pools, next_number}
-use Rattle.gpu_descriptor.specs.Caller.Sets.{key_of, items_of}
+use Rattle.gpu_descriptor.specs.Caller.KeyOf.{key_of}
+use Rattle.gpu_descriptor.specs.Caller.Sets.{items_of}
 use Rattle.gpu_descriptor.specs.Inner.Stored.{books_in, entry_of, bucket_of, load_in}
 use Rattle.gpu_descriptor.specs.Inner.Grow.{IsTakenAll, IsTakenUpTo}
 use Rattle.gpu_descriptor.specs.Inner.Serves.{Serves, ServesKey}
@@ -52,22 +53,27 @@ load_grows k l v w n is more =
 -- what one key gave, in the table
 module _ {P S : Type 0} {name : P → ℕ} {set_name : S → ℕ} (k : BucketKey) {v w : DescriptorBucket P} {room count : ℕ} {sets : List (DescriptorSet S)} {taken : Result (Unit {0}) Refusal} {before after : Ledger}
     (s : Serves name set_name (key_of k) room count sets taken v w before after) where
-  bucket_kept : bucket_of name w ≡ record (bucket_of name v) { pools = (bucket_of name w).pools }
-  bucket_kept = λ i. record { first = s.offset i; pools = (bucket_of name w).pools }
+  -- with the id that the key has from then on
+  abbrev own_id : Bucket → Bucket
+  own_id b = record b { id = v.id }
 
-  put_there : (es : List (BucketKey × DescriptorBucket P)) (l : Key) → books_in name es (key_of k) ≡ bucket_of name v → put_books (books_in name es) (key_of k) (bucket_of name w) l ≡ put_books (books_in name es) (key_of k) (record (books_in name es (key_of k)) { pools = (bucket_of name w).pools }) l
+  bucket_kept : bucket_of name w ≡ record (bucket_of name v) { pools = (bucket_of name w).pools }
+  bucket_kept = λ i. record { id = s.id i; first = s.offset i; pools = (bucket_of name w).pools }
+
+  put_there : (es : List (BucketKey × DescriptorBucket P)) (l : Key) → own_id (books_in name es (key_of k)) ≡ bucket_of name v → put_books (books_in name es) (key_of k) (bucket_of name w) l ≡ put_books (books_in name es) (key_of k) (record (books_in name es (key_of k)) { id = v.id; pools = (bucket_of name w).pools }) l
   put_there es l is = ap (λ (b : Bucket). put_books (books_in name es) (key_of k) b l) (bucket_kept ∙ ap (λ (b : Bucket). let r : Bucket = record b { pools = (bucket_of name w).pools } in r) (sym is))
 
-  done_there : (b : Bucket) → b ≡ bucket_of name v → OnOk taken (IsTakenAll (key_of k) room count b.first (items_of set_name sets) b.pools (bucket_of name w).pools before after)
-  done_there b is = subst (λ (b : Bucket). OnOk taken (IsTakenAll (key_of k) room count b.first (items_of set_name sets) b.pools (bucket_of name w).pools before after)) (sym is) s.done
+  done_there : (b : Bucket) → own_id b ≡ bucket_of name v → OnOk taken (IsTakenAll (key_of k) room count v.id b.first (items_of set_name sets) b.pools (bucket_of name w).pools before after)
+  done_there b is = subst (λ (b : Bucket). OnOk taken (IsTakenAll (key_of k) room count b.id b.first (items_of set_name sets) b.pools (bucket_of name w).pools before after)) (sym is) s.done
 
-  stopped_there : (b : Bucket) → b ≡ bucket_of name v → IfErr taken (λ why. IsTakenUpTo why (key_of k) room count b.first (items_of set_name sets) b.pools (bucket_of name w).pools before after)
-  stopped_there b is = subst (λ (b : Bucket). IfErr taken (λ why. IsTakenUpTo why (key_of k) room count b.first (items_of set_name sets) b.pools (bucket_of name w).pools before after)) (sym is) s.stopped
+  stopped_there : (b : Bucket) → own_id b ≡ bucket_of name v → IfErr taken (λ why. IsTakenUpTo why (key_of k) room count v.id b.first (items_of set_name sets) b.pools (bucket_of name w).pools before after)
+  stopped_there b is = subst (λ (b : Bucket). IfErr taken (λ why. IsTakenUpTo why (key_of k) room count b.id b.first (items_of set_name sets) b.pools (bucket_of name w).pools before after)) (sym is) s.stopped
 
   module _ {es fs : List (BucketKey × DescriptorBucket P)} where
     pub serves_present : IsWritten (key_of k) es fs v w → ServesKey name set_name k room count sets taken es fs before after
     serves_present r =
-        let is : books_in name es (key_of k) ≡ bucket_of name v = present name r.row in
+        let here : books_in name es (key_of k) ≡ bucket_of name v = present name r.row in
+        let is : own_id (books_in name es (key_of k)) ≡ bucket_of name v = ap own_id here in
         let out = sum_set (λ b. b.1.total) r.row.test es v w r.row.at in
         let load = sum_set load_in r.row.test es v w r.row.at in
         let total = s.total in
@@ -76,6 +82,8 @@ module _ {P S : Type 0} {name : P → ℕ} {set_name : S → ℕ} (k : BucketKey
         rw r.wrote (record {
           numbers = (let n = s.numbers in let e = ap next_number is in omega arith);
           few = s.few;
+          id = v.id;
+          kept = λ some. ap (λ (b : Bucket). b.id) (sym here);
           pools = (bucket_of name w).pools;
           books = λ l. written name r.row.test (key_of k) r.row.same es w (ap is_some r.row.at) l ∙ put_there es l is;
           out = (let a = out.2 in let b = out.3 in omega arith);
@@ -86,11 +94,14 @@ module _ {P S : Type 0} {name : P → ℕ} {set_name : S → ℕ} (k : BucketKey
 
     pub serves_new : (test : BucketKey → Bool) → ((l : BucketKey) → test l ≡ key_eq (key_of k) (key_of l)) → lookup test es ≡ None → fs ≡ es ++ (k, w) ∷ [] → v.offset ≡ 0 → v.pools.items ≡ [] → v.total ≡ 0 → ServesKey name set_name k room count sets taken es fs before after
     serves_new test same at put offset pools none =
-        let is : books_in name es (key_of k) ≡ bucket_of name v = missing name (key_of k) es test same at ∙ (λ i. record { first = sym offset i; pools = map (entry_of name) (sym pools i) }) in
+        let gone = missing name (key_of k) es test same at in
+        let is : own_id (books_in name es (key_of k)) ≡ bucket_of name v = ap own_id gone ∙ (λ i. record { id = v.id; first = sym offset i; pools = map (entry_of name) (sym pools i) }) in
         let total = s.total in
         rw put (record {
           numbers = (let n = s.numbers in let e = ap next_number is in omega arith);
           few = s.few;
+          id = v.id;
+          kept = λ some. absurd (let none = ap (λ (b : Bucket). length b.pools) gone in omega arith);
           pools = (bucket_of name w).pools;
           books = λ l. books_end name k w test same es at l ∙ put_there es l is;
           out = (let a = sum_by-append (λ (r : BucketKey × DescriptorBucket P). r.1.total) es ((k, w) ∷ []) in let one : sum_by (λ (r : BucketKey × DescriptorBucket P). r.1.total) ((k, w) ∷ []) ≡ w.total = omega arith in omega arith);

@@ -21,7 +21,8 @@ use Rattle.gpu_descriptor.specs.Model.Outcomes.Allocates.{limit, bound, start}
 use Rattle.gpu_descriptor.specs.Caller.Call.{call_of}
 use Rattle.gpu_descriptor.specs.Inner.Takes.{Takes}
 use Rattle.gpu_descriptor.specs.Inner.Serves.{ServesKey, IsUnserved}
-use Rattle.gpu_descriptor.specs.Caller.Sets.{key_of, items_of}
+use Rattle.gpu_descriptor.specs.Caller.KeyOf.{key_of}
+use Rattle.gpu_descriptor.specs.Caller.Sets.{items_of}
 use Rattle.gpu_descriptor.specs.Caller.States.{named_row, sets_in, descriptors_in, pool_load_in, state_of, table_of, outstanding_of, marked_load_of, pool_load_of}
 use Rattle.gpu_descriptor.specs.Inner.Stored.{IsConsistent, row_of, load_in, stored_keys, stored_load_in, books_in}
 use Rattle.gpu_descriptor.specs.Inner.Grow.{IsTakenAll, IsTakenUpTo}
@@ -160,17 +161,19 @@ module _ {P S : Type 0} (name : P → ℕ) (set_name : S → ℕ) (most looks_be
     fits = fits;
     total = (let a = rows_out es in let b = rows_out fs in let c = s.out in omega arith);
     marked = (let a = rows_load es in let b = rows_load fs in let c = s.load in omega arith);
+    id = s.id;
+    kept = s.kept;
     pools = s.pools;
     state = λ i. record { books = fun_ext (λ l. s.books l ∙ at l (key_eq (key_of key) l) refl) i; ledger = after.pools };
-    done = subst (λ r. OnOk taken (let b = books_in name es (key_of key) in IsTakenAll (key_of key) r count b.first (items_of set_name sets) b.pools s.pools before after)) room_is s.done;
-    stopped = subst (λ r. IfErr taken (λ why. let b = books_in name es (key_of key) in IsTakenUpTo why (key_of key) r count b.first (items_of set_name sets) b.pools s.pools before after)) room_is s.stopped;
+    done = subst (λ r. OnOk taken (let b = books_in name es (key_of key) in IsTakenAll (key_of key) r count s.id b.first (items_of set_name sets) b.pools s.pools before after)) room_is s.done;
+    stopped = subst (λ r. IfErr taken (λ why. let b = books_in name es (key_of key) in IsTakenUpTo why (key_of key) r count s.id b.first (items_of set_name sets) b.pools s.pools before after)) room_is s.stopped;
   }
     where
       room_is : room ≡ most - pool_load_of old
       room_is = (let rows = rows_pool_load es in omega arith)
 
-      at : (l : Key) (b : Bool) → key_eq (key_of key) l ≡ b → (if b then record (books_in name es (key_of key)) { pools = s.pools } else books_in name es l) ≡ (if b then record (books_in name es l) { pools = s.pools } else books_in name es l)
-      at l true h = ap (λ (x : Key). let r : Bucket = record (books_in name es x) { pools = s.pools } in r) (key_exact.same (key_of key) l h)
+      at : (l : Key) (b : Bool) → key_eq (key_of key) l ≡ b → (if b then record (books_in name es (key_of key)) { id = s.id; pools = s.pools } else books_in name es l) ≡ (if b then record (books_in name es l) { id = s.id; pools = s.pools } else books_in name es l)
+      at l true h = ap (λ (x : Key). let r : Bucket = record (books_in name es x) { id = s.id; pools = s.pools } in r) (key_exact.same (key_of key) l h)
       at l false h = refl
 
 -- ---- the tests of a request, over the fields of an allocator

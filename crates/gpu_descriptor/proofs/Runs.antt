@@ -73,9 +73,9 @@ distinct_names s agree k i j d e at at' same =
     let one : i ≡ j = omega arith in one
 
 -- THE BOOKS AFTER A RUN: one entry of one key
-pub run_books : (k : Key) (i : ℕ) (m : List Item) (s : State) (e : Entry) → Agree s → IsRun k i m → entry_at (s.books k) i ≡ Some e → slice_get (s.books k).pools (i - (s.books k).first) ≡ Some e → (given_back m s).books k ≡ record { first = (s.books k).first; pools = set (s.books k).pools (i - (s.books k).first) (entry_less (length m) e) }
+pub run_books : (k : Key) (i : ℕ) (m : List Item) (s : State) (e : Entry) → Agree s → IsRun k i m → entry_at (s.books k) i ≡ Some e → slice_get (s.books k).pools (i - (s.books k).first) ≡ Some e → (given_back m s).books k ≡ record (s.books k) { pools = set (s.books k).pools (i - (s.books k).first) (entry_less (length m) e) }
 run_books k i m s e agree run at place =
     let pools : map (λ d. entry_less (back m s d.pool) d) (s.books k).pools ≡ set (s.books k).pools (i - (s.books k).first) (entry_less (length m) e) =
     ap (λ (f : ℕ → ℕ). map (λ (d : Entry). entry_less (f d.pool) d) (s.books k).pools) (fun_ext (run_back k i m s e run at))
     ∙ less_at (length m) (s.books k).pools (i - (s.books k).first) e (distinct_names s agree k) place in
-    λ x. record { first = (s.books k).first; pools = pools x }
+    λ x. record (s.books k) { pools = pools x }

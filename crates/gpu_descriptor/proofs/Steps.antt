@@ -21,8 +21,8 @@ use Rattle.gpu_descriptor.proofs.Shares.{IsApart, or_at, or_at_apart, or_at_here
 abbrev pub part : ℕ → ℕ → List ℕ → Part
 part number pool names = record { number = number; pool = pool; names = names }
 
-abbrev pub so_far : ℕ → (ℕ → Bool) → List Part → Grant
-so_far left refused parts = record { left = left; refused = refused; fresh = []; parts = parts }
+abbrev pub so_far : ℕ → ℕ → (ℕ → Bool) → List Part → Grant
+so_far id left refused parts = record { id = id; left = left; refused = refused; fresh = []; parts = parts }
 
 -- the sets that came from a pool
 pub came_more : (parts : List Part) (p : Part) (q : ℕ) → came (parts ++ p ∷ []) q ≡ came parts q ++ (if p.pool == q then p.names else [])
@@ -39,10 +39,10 @@ pool_twice counts a b r p = λ i. record {
 }
 
 -- the ledger after one pool more
-pub ledger_more : (k : Key) (refused : ℕ → Bool) (parts : List Part) (r : Bool) (number name : ℕ) (names : List ℕ) (pools : ℕ → Option Pool) (left left' : ℕ) → refused name ≡ false
-    → on_pool name (pool_with (live_sets k.counts names) r) (ledger_with k (so_far left refused parts) pools)
-    ≡ ledger_with k (so_far left' (or_at r name refused) (parts ++ part number name names ∷ [])) pools
-ledger_more k refused parts r number name names pools left left' not_yet = fun_ext (λ q. at (nat_eq name q) q refl)
+pub ledger_more : (k : Key) (refused : ℕ → Bool) (parts : List Part) (r : Bool) (number name : ℕ) (names : List ℕ) (pools : ℕ → Option Pool) (id left left' : ℕ) → refused name ≡ false
+    → on_pool name (pool_with (live_sets k.counts names) r) (ledger_with k (so_far id left refused parts) pools)
+    ≡ ledger_with k (so_far id left' (or_at r name refused) (parts ++ part number name names ∷ [])) pools
+ledger_more k refused parts r number name names pools id left left' not_yet = fun_ext (λ q. at (nat_eq name q) q refl)
   where
     here : (o : Option Pool) → changed (pool_with (live_sets k.counts names) r) (option_map (pool_with (live_sets k.counts (came parts name)) false) o) ≡ option_map (pool_with (live_sets k.counts (came parts name ++ names)) r) o
     here None = refl
@@ -63,7 +63,7 @@ ledger_more k refused parts r number name names pools left left' not_yet = fun_e
         ap (λ (x : List ℕ). option_map (pool_with (live_sets k.counts x) (refused q)) (pools q)) (sym got)
         ∙ ap (λ (b : Bool). option_map (pool_with (live_sets k.counts (came (parts ++ part number name names ∷ []) q)) b) (pools q)) (sym (or_at_apart r name refused q ne))
 
-module _ (n first i : ℕ) (refused : ℕ → Bool) (parts : List Part) (old : List Entry) (e f : Entry) (names : List ℕ) (k : Key) (l m : Ledger)
+module _ (id n first i : ℕ) (refused : ℕ → Bool) (parts : List Part) (old : List Entry) (e f : Entry) (names : List ℕ) (k : Key) (l m : Ledger)
     (apart : IsApart e.pool (drop (suc i) old))
     (tail : drop i old ≡ e ∷ drop (suc i) old)
     (not_yet : refused e.pool ≡ false)
@@ -120,7 +120,7 @@ module _ (n first i : ℕ) (refused : ℕ → Bool) (parts : List Part) (old : L
       let b : ◌≡◌ {A = ℕ} (if now e.pool then 1 else 0) (if a.refused then 1 else 0) = ap (λ (b : Bool). if b then 1 else 0) (or_at_here a.refused e.pool refused not_yet) in
       omega arith
 
-  counters_now : (c : Counters) → l.counters ≡ risen (grant_rise n (so_far (suc i) refused parts) old) c → m.counters ≡ risen (grant_rise n (so_far i now (parts ++ part_now ∷ [])) old) c
+  counters_now : (c : Counters) → l.counters ≡ risen (grant_rise n (so_far id (suc i) refused parts) old) c → m.counters ≡ risen (grant_rise n (so_far id i now (parts ++ part_now ∷ [])) old) c
   counters_now c was =
       let asked : asked_count now n (drop i old) ≡ (if nat_lt 0 e.free && nat_lt 0 (rest refused n newer) then 1 else 0) + asked_count refused n newer = ap (asked_count now n) tail ∙ count_now in
       let refuse : refused_count now (drop i old) ≡ (if a.refused then 1 else 0) + refused_count refused newer = ap (refused_count now) tail ∙ refused_now in
@@ -144,10 +144,10 @@ module _ (n first i : ℕ) (refused : ℕ → Bool) (parts : List Part) (old : L
       ∙ ap (λ x. take i old ++ x) (sym shared_now ∙ ap (all_shared now n) (sym tail))
       ∙ sym (append-nil (take i old ++ all_shared now n (drop i old)))
 
-  pools_now : (before : Ledger) → l.pools ≡ ledger_with k (so_far (suc i) refused parts) before.pools → m.pools ≡ ledger_with k (so_far i now (parts ++ part_now ∷ [])) before.pools
-  pools_now before was = a.pools ∙ ap (on_pool e.pool (pool_with (live_sets k.counts names) a.refused)) was ∙ ledger_more k refused parts a.refused (first + i) e.pool names before.pools (suc i) i not_yet
+  pools_now : (before : Ledger) → l.pools ≡ ledger_with k (so_far id (suc i) refused parts) before.pools → m.pools ≡ ledger_with k (so_far id i now (parts ++ part_now ∷ [])) before.pools
+  pools_now before was = a.pools ∙ ap (on_pool e.pool (pool_with (live_sets k.counts names) a.refused)) was ∙ ledger_more k refused parts a.refused (first + i) e.pool names before.pools id (suc i) i not_yet
 
-  pub taken_more : (before : Ledger) (entries : List Entry) → length (take i old) ≡ i → take (suc i) old ≡ take i old ++ e ∷ [] → HasTaken k n first (so_far (suc i) refused parts) old entries before l → HasTaken k n first (so_far i now (parts ++ part_now ∷ [])) old (slice_set entries i f) before m
+  pub taken_more : (before : Ledger) (entries : List Entry) → length (take i old) ≡ i → take (suc i) old ≡ take i old ++ e ∷ [] → HasTaken k n first (so_far id (suc i) refused parts) old entries before l → HasTaken k n first (so_far id i now (parts ++ part_now ∷ [])) old (slice_set entries i f) before m
   taken_more before entries long more was = record {
     refusing = subst (λ (es : List Entry). OnlyAskedRefuse now n es) (sym tail) (refusing_now was.refusing);
     parts = parts_now was.parts;

@@ -10,7 +10,7 @@ use Rattle.gpu_descriptor.specs.declared.set.BucketKey.{BucketKey}
 use Rattle.gpu_descriptor.specs.declared.bucket.DescriptorPool.{DescriptorPool}
 use Rattle.gpu_descriptor.specs.declared.bucket.DescriptorBucket.{DescriptorBucket}
 use Rattle.gpu_descriptor.specs.Model.Books.{Key, key_eq, Entry, Bucket, no_pools, HasDistinctKeys}
-use Rattle.gpu_descriptor.specs.Caller.Sets.{key_of}
+use Rattle.gpu_descriptor.specs.Caller.KeyOf.{key_of}
 use Rattle.gpu_descriptor.specs.Caller.States.{named, named_row, keys_of}
 use Rattle.gpu_descriptor.specs.Inner.Stored.{books_in, kept_of, row_of, entry_of, bucket_of, stored_keys}
 use Rattle.gpu_descriptor.specs.Caller.Values.{Allocations, Row}
@@ -41,7 +41,7 @@ module _ {P : Type 0} (name : P → ℕ) where
   rows_in es = map (λ e. (key_of e.0, bucket_of name e.1)) es
 
   pub row_bucket : (r : BucketKey × DescriptorBucket P) → (named_row name (row_of r)).1 ≡ bucket_of name r.1
-  row_bucket r = λ i. record { first = r.1.offset; pools = entries r.1.pools.items i }
+  row_bucket r = λ i. record { id = r.1.id; first = r.1.offset; pools = entries r.1.pools.items i }
 
   head_books : (r : BucketKey × DescriptorBucket P) (es : List (BucketKey × DescriptorBucket P)) (l : Key) → books_in name (r ∷ es) l ≡ (if key_eq (key_of r.0) l then bucket_of name r.1 else books_in name es l)
   head_books r es l = ap (λ (b : Bucket). if key_eq (key_of r.0) l then b else books_in name es l) (row_bucket r)

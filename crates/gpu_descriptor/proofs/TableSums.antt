@@ -42,10 +42,10 @@ module _ {P : Type 0} (name : P → ℕ) where
   adds_up a f distinct sum is = record { table = table_of name a; distinct = distinct; keeps = λ k. refl; total = sym sum ∙ sym is }
 
   -- a key's pools that readers see are those of the books
-  pub books_of-table : (a : Allocations P) (k : Key) → books_of (table_of name a) k ≡ record { first = first_at a.table k; pools = map (named name) (pools_at a.table k) }
+  pub books_of-table : (a : Allocations P) (k : Key) → books_of (table_of name a) k ≡ record { id = (books_of (table_of name a) k).id; first = first_at a.table k; pools = map (named name) (pools_at a.table k) }
   books_of-table a k = go a.table
     where
-      go : (rows : List (Row P)) → books_of (map (named_row name) rows) k ≡ record { first = first_at rows k; pools = map (named name) (pools_at rows k) }
+      go : (rows : List (Row P)) → books_of (map (named_row name) rows) k ≡ record { id = (books_of (map (named_row name) rows) k).id; first = first_at rows k; pools = map (named name) (pools_at rows k) }
       go [] = refl
       go (r ∷ rows) = elim (cases_Bool (key_eq r.key k)) [
         | inl at ↦ rw at refl

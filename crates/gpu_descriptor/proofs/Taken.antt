@@ -3,7 +3,6 @@ use Rattle.std.proofs.Common.{ap, ◌≡◌, ℕ, ◌+◌, ◌≤◌, List, [], 
 use Rattle.std.specs.Iterator.{Count, IsFinite, size, MakesProgress, Yields, YieldsThen}
 use Rattle.gpu_descriptor.specs.declared.set.DescriptorSet.{DescriptorSet}
 use Rattle.gpu_descriptor.specs.declared.bucket.run.Run.{Run}
-use Rattle.gpu_descriptor.specs.declared.set.BucketKey.{BucketKey}
 use Rattle.gpu_descriptor.specs.Inner.RunSteps.{at_place, HaveKey, Looks, Hands, RunStep}
 
 module _ {T S : Type 0} (steps : T → Option (DescriptorSet S) → T → Type 0) (can : T → Type 0) (left : T → Count) where
@@ -12,38 +11,38 @@ module _ {T S : Type 0} (steps : T → Option (DescriptorSet S) → T → Type 0
     item : DescriptorSet S
     looks : Looks steps can left s.source.now s.ahead.now (Some item) t.source.now
     raw : item.raw ≡ y
-    place : at_place s.key s.number item ≡ true
+    place : at_place s.id s.number item ≡ true
     ahead : t.ahead.now ≡ None
     count : t.count ≡ s.count + 1
 
   gave : (s : Run T S) (y : S) (t : Run T S) → RunStep steps can left s (Some y) t → Gave s y t
   gave s y t h = go h.4.0 h.4.1 h.4.2
     where
-      some : (x : DescriptorSet S) (b : Bool) → at_place s.key s.number x ≡ b → Looks steps can left s.source.now s.ahead.now (Some x) t.source.now → MatchBool b ((Some y ≡ Some x.raw) × (t.ahead.now ≡ None) × (t.count ≡ s.count + 1)) ((Some y ≡ None) × (t.ahead.now ≡ Some x) × (t.count ≡ s.count)) → Gave s y t
+      some : (x : DescriptorSet S) (b : Bool) → at_place s.id s.number x ≡ b → Looks steps can left s.source.now s.ahead.now (Some x) t.source.now → MatchBool b ((Some y ≡ Some x.raw) × (t.ahead.now ≡ None) × (t.count ≡ s.count + 1)) ((Some y ≡ None) × (t.ahead.now ≡ Some x) × (t.count ≡ s.count)) → Gave s y t
       some x true e l m = record { item = x; looks = l; raw = (cc); place = e; ahead = m.1; count = m.2 }
       some x false e l m = let a = m.0 in (cc)
 
       go : (o : Option (DescriptorSet S)) → Looks steps can left s.source.now s.ahead.now o t.source.now → Hands steps can left s o (Some y) t → Gave s y t
       go None l m = let a = m.0 in (cc)
-      go (Some x) l m = some x (at_place s.key s.number x) refl l m
+      go (Some x) l m = some x (at_place s.id s.number x) refl l m
 
   asks : (s : T) (a : Option (DescriptorSet S)) (o : Option (DescriptorSet S)) (t : T) → a ≡ None → Looks steps can left s a o t → steps s o t × MakesProgress can left s o t
   asks s a o t e l = subst (λ b. Looks steps can left s b o t) e l
 
   -- what the source gave at the last step, which answered None
-  abbrev pub Stopped : BucketKey → ℕ → T → Option (DescriptorSet S) → T → Type 0
+  abbrev pub Stopped : ℕ → ℕ → T → Option (DescriptorSet S) → T → Type 0
   Stopped k n s ahead t = MatchOption ahead (steps s None t) (λ x. (at_place k n x ≡ false) × steps s (Some x) t × MakesProgress can left s (Some x) t)
 
-  stopped : (s : Run T S) (t : Run T S) → s.ahead.now ≡ None → RunStep steps can left s None t → Stopped s.key s.number s.source.now t.ahead.now t.source.now
+  stopped : (s : Run T S) (t : Run T S) → s.ahead.now ≡ None → RunStep steps can left s None t → Stopped s.id s.number s.source.now t.ahead.now t.source.now
   stopped s t n h = go h.4.0 (asks s.source.now s.ahead.now h.4.0 t.source.now n h.4.1) h.4.2
     where
-      some : (x : DescriptorSet S) (r : Option S) (b : Bool) → r ≡ None → at_place s.key s.number x ≡ b → steps s.source.now (Some x) t.source.now × MakesProgress can left s.source.now (Some x) t.source.now → MatchBool b ((r ≡ Some x.raw) × (t.ahead.now ≡ None) × (t.count ≡ s.count + 1)) ((r ≡ None) × (t.ahead.now ≡ Some x) × (t.count ≡ s.count)) → Stopped s.key s.number s.source.now t.ahead.now t.source.now
+      some : (x : DescriptorSet S) (r : Option S) (b : Bool) → r ≡ None → at_place s.id s.number x ≡ b → steps s.source.now (Some x) t.source.now × MakesProgress can left s.source.now (Some x) t.source.now → MatchBool b ((r ≡ Some x.raw) × (t.ahead.now ≡ None) × (t.count ≡ s.count + 1)) ((r ≡ None) × (t.ahead.now ≡ Some x) × (t.count ≡ s.count)) → Stopped s.id s.number s.source.now t.ahead.now t.source.now
       some x r true i e l m = let a = m.0 in (cc)
       some x r false i e l m = rw m.1 (e, l.0, l.1)
 
-      go : (o : Option (DescriptorSet S)) → steps s.source.now o t.source.now × MakesProgress can left s.source.now o t.source.now → Hands steps can left s o None t → Stopped s.key s.number s.source.now t.ahead.now t.source.now
+      go : (o : Option (DescriptorSet S)) → steps s.source.now o t.source.now × MakesProgress can left s.source.now o t.source.now → Hands steps can left s o None t → Stopped s.id s.number s.source.now t.ahead.now t.source.now
       go None l m = rw m.1 l.0
-      go (Some x) l m = some x None (at_place s.key s.number x) refl refl l m
+      go (Some x) l m = some x None (at_place s.id s.number x) refl refl l m
 
   kept_count : (s t : Run T S) → RunStep steps can left s None t → t.count ≡ s.count
   kept_count s t h = go h.4.0 h.4.2
@@ -54,16 +53,16 @@ module _ {T S : Type 0} (steps : T → Option (DescriptorSet S) → T → Type 0
 
       go : (o : Option (DescriptorSet S)) → Hands steps can left s o None t → t.count ≡ s.count
       go None m = m.2
-      go (Some x) m = some x None (at_place s.key s.number x) refl m
+      go (Some x) m = some x None (at_place s.id s.number x) refl m
 
   -- the steps from s gave ys: the source gave xs
   pub record Took (s : Run T S) (ys : List S) (t : Run T S) : Type 0 where
     pub xs : List (DescriptorSet S)
     pub raws : map (λ x. x.raw) xs ≡ ys
-    pub keys : HaveKey s.key s.number xs
+    pub keys : HaveKey s.id s.number xs
     pub came : Yields steps s.source.now xs t.source.now
     pub ahead : t.ahead.now ≡ None
-    pub key : t.key ≡ s.key
+    pub key : t.id ≡ s.id
     pub number : t.number ≡ s.number
     pub name : t.source.ghost_name ≡ s.source.ghost_name
     pub aname : t.ahead.ghost_name ≡ s.ahead.ghost_name
@@ -81,7 +80,7 @@ module _ {T S : Type 0} (steps : T → Option (DescriptorSet S) → T → Type 0
       let v = gave s z j y.1 in
       let l = asks s.source.now s.ahead.now (Some v.item) j.source.now n v.looks in
       let w = took zs j t v.ahead y.2 in
-      let ks : HaveKey s.key s.number w.xs = subst (λ a. HaveKey a s.number w.xs) y.1.0 (subst (λ b. HaveKey j.key b w.xs) y.1.1 w.keys) in
+      let ks : HaveKey s.id s.number w.xs = subst (λ a. HaveKey a s.number w.xs) y.1.0 (subst (λ b. HaveKey j.id b w.xs) y.1.1 w.keys) in
       let e = v.count in
       record {
         xs = v.item ∷ w.xs;
@@ -99,11 +98,11 @@ module _ {T S : Type 0} (steps : T → Option (DescriptorSet S) → T → Type 0
       }
 
   -- with an item of the run's key ahead, an item comes
-  comes : (s : Run T S) (x : DescriptorSet S) (u : Run T S) → s.ahead.now ≡ Some x → at_place s.key s.number x ≡ true → RunStep steps can left s None u → ⊥
+  comes : (s : Run T S) (x : DescriptorSet S) (u : Run T S) → s.ahead.now ≡ Some x → at_place s.id s.number x ≡ true → RunStep steps can left s None u → ⊥
   comes s x u n k h =
       let l : (h.4.0 ≡ Some x) × (u.source.now ≡ s.source.now) = subst (λ b. Looks steps can left s.source.now b h.4.0 u.source.now) n h.4.1 in
       let m : Hands steps can left s (Some x) None u = subst (λ o. Hands steps can left s o None u) l.0 h.4.2 in
-      some None refl (at_place s.key s.number x) k m
+      some None refl (at_place s.id s.number x) k m
     where
       some : (r : Option S) → r ≡ None → (b : Bool) → b ≡ true → MatchBool b ((r ≡ Some x.raw) × (u.ahead.now ≡ None) × (u.count ≡ s.count + 1)) ((r ≡ None) × (u.ahead.now ≡ Some x) × (u.count ≡ s.count)) → ⊥
       some r i true e m = let a = m.0 in (cc)
@@ -113,17 +112,17 @@ module _ {T S : Type 0} (steps : T → Option (DescriptorSet S) → T → Type 0
   pub record Whole (s : Run T S) (x : DescriptorSet S) (ys : List S) (u : Run T S) : Type 0 where
     pub xs : List (DescriptorSet S)
     pub raws : map (λ y. y.raw) (x ∷ xs) ≡ ys
-    pub keys : HaveKey s.key s.number xs
+    pub keys : HaveKey s.id s.number xs
     pub name : u.source.ghost_name ≡ s.source.ghost_name
     pub aname : u.ahead.ghost_name ≡ s.ahead.ghost_name
     pub source : T
     pub came : Yields steps s.source.now xs source
-    pub stop : Stopped s.key s.number source u.ahead.now u.source.now
+    pub stop : Stopped s.id s.number source u.ahead.now u.source.now
     pub count : u.count ≡ s.count + 1 + length xs
     pub goes : can s.source.now → can source
     pub ends : IsFinite (left s.source.now) → IsFinite (left source) × (size (left source) ≤ size (left s.source.now))
 
-  pub whole : (s : Run T S) (x : DescriptorSet S) (ys : List S) (u : Run T S) → s.ahead.now ≡ Some x → at_place s.key s.number x ≡ true → YieldsThen (RunStep steps can left) s ys None u → Whole s x ys u
+  pub whole : (s : Run T S) (x : DescriptorSet S) (ys : List S) (u : Run T S) → s.ahead.now ≡ Some x → at_place s.id s.number x ≡ true → YieldsThen (RunStep steps can left) s ys None u → Whole s x ys u
   whole s x [] u n k y = absurd (comes s x u n k (subst (λ t. RunStep steps can left t None u) (sym y.1) y.2))
   whole s x (z ∷ zs) u n k y =
       let j = y.1.0 in
@@ -132,7 +131,7 @@ module _ {T S : Type 0} (steps : T → Option (DescriptorSet S) → T → Type 0
       let w = took zs j y.0 v.ahead y.1.2 in
       let e = y.1.1.0 in
       let f = y.1.1.1 in
-      let ks : HaveKey s.key s.number w.xs = subst (λ a. HaveKey a s.number w.xs) e (subst (λ b. HaveKey j.key b w.xs) f w.keys) in
+      let ks : HaveKey s.id s.number w.xs = subst (λ a. HaveKey a s.number w.xs) e (subst (λ b. HaveKey j.id b w.xs) f w.keys) in
       let st = stopped y.0 u w.ahead y.2 in
       let vx : v.item ≡ x = (cc) in
       record {
@@ -143,7 +142,7 @@ module _ {T S : Type 0} (steps : T → Option (DescriptorSet S) → T → Type 0
         aname = y.2.3 ∙ (w.aname ∙ y.1.1.3);
         source = y.0.source.now;
         came = subst (λ a. Yields steps a w.xs y.0.source.now) l.1 w.came;
-        stop = subst (λ a. Stopped a s.number y.0.source.now u.ahead.now u.source.now) (w.key ∙ e) (subst (λ b. Stopped y.0.key b y.0.source.now u.ahead.now u.source.now) (w.number ∙ f) st);
+        stop = subst (λ a. Stopped a s.number y.0.source.now u.ahead.now u.source.now) (w.key ∙ e) (subst (λ b. Stopped y.0.id b y.0.source.now u.ahead.now u.source.now) (w.number ∙ f) st);
         count = kept_count y.0 u y.2 ∙ (w.count ∙ ap (λ n. n + length w.xs) v.count);
         goes = λ c. w.goes (subst can (sym l.1) c);
         ends = λ f. let q = w.ends (subst (λ a. IsFinite (left a)) (sym l.1) f) in (q.0, subst (λ a. size (left y.0.source.now) ≤ size (left a)) l.1 (omega (arith, q.1)));
@@ -153,7 +152,7 @@ module _ {T S : Type 0} (steps : T → Option (DescriptorSet S) → T → Type 0
   pub record Front (s : Run T S) (x : DescriptorSet S) (ys : List S) : Type 0 where
     pub xs : List (DescriptorSet S)
     pub raws : map (λ y. y.raw) (x ∷ xs) ≡ ys
-    pub keys : HaveKey s.key s.number xs
+    pub keys : HaveKey s.id s.number xs
     pub source : T
     pub came : Yields steps s.source.now xs source
 
@@ -167,7 +166,7 @@ module _ {T S : Type 0} (steps : T → Option (DescriptorSet S) → T → Type 0
       record {
         xs = w.xs;
         raws = rw (← vx, v.raw, w.raws) refl;
-        keys = subst (λ a. HaveKey a s.number w.xs) y.1.0 (subst (λ b. HaveKey j.key b w.xs) y.1.1 w.keys);
+        keys = subst (λ a. HaveKey a s.number w.xs) y.1.0 (subst (λ b. HaveKey j.id b w.xs) y.1.1 w.keys);
         source = t.source.now;
         came = subst (λ a. Yields steps a w.xs t.source.now) l.1 w.came;
       }

@@ -16,15 +16,15 @@ use Rattle.gpu_descriptor.proofs.Fronts.{trim, trim_yes, trim_no, trim_short}
 use Rattle.gpu_descriptor.proofs.LedgerPools.{with_pool, with_pool_other, destroyed_none, destroyed_both}
 use Rattle.gpu_descriptor.proofs.Sized.{size_of}
 
-abbrev pub bucket : ℕ → List Entry → Bucket
-bucket first es = record { first = first; pools = es }
+abbrev pub bucket : ℕ → ℕ → List Entry → Bucket
+bucket id first es = record { id = id; first = first; pools = es }
 
-pub step_books : (keep first : ℕ) (x : Entry) (es : List Entry) → keep ≤ length es → is_empty x ≡ true → trimmed_bucket keep (bucket (first + 1) es) ≡ trimmed_bucket keep (bucket first (x ∷ es))
-step_books keep first x es le empty =
+pub step_books : (keep id first : ℕ) (x : Entry) (es : List Entry) → keep ≤ length es → is_empty x ≡ true → trimmed_bucket keep (bucket id (first + 1) es) ≡ trimmed_bucket keep (bucket id first (x ∷ es))
+step_books keep id first x es le empty =
     let n : ℕ = trim keep es in
     let number : first + 1 + n ≡ first + suc n = omega arith in
-    let same : trimmed_bucket keep (bucket (first + 1) es) ≡ without_front (suc n) (bucket first (x ∷ es)) = λ i. record { first = number i; pools = drop n es } in
-    same ∙ ap (λ (m : ℕ). without_front m (bucket first (x ∷ es))) (sym (trim_yes keep x es le empty))
+    let same : trimmed_bucket keep (bucket id (first + 1) es) ≡ without_front (suc n) (bucket id first (x ∷ es)) = λ i. record { id = id; first = number i; pools = drop n es } in
+    same ∙ ap (λ (m : ℕ). without_front m (bucket id first (x ∷ es))) (sym (trim_yes keep x es le empty))
 
 -- a pool that is taken out of the ledger, seen at one name
 pub taken_at : (pools : ℕ → Option Pool) (pool p : ℕ) (rest : Bool) → (if rest then None else with_pool pools pool None p) ≡ (if (pool == p) || rest then None else pools p)
@@ -32,16 +32,16 @@ taken_at pools pool p true = elim (cases_Bool (pool == p)) [ inl h ↦ rw h refl
 taken_at pools pool p false = elim (cases_Bool (pool == p)) [ inl h ↦ rw h refl | inr h ↦ rw h refl ]
 
 -- a front that goes pool by pool goes at once
-pub step_without : (n : ℕ) (first : ℕ) (x : Entry) (es : List Entry) (l : Ledger) → ledger_without n (bucket (first + 1) es) (after_destroy x.pool l) ≡ ledger_without (suc n) (bucket first (x ∷ es)) l
-step_without n first x es l =
-    let pools : pools_without n (bucket (first + 1) es) (after_destroy x.pool l).pools ≡ pools_without (suc n) (bucket first (x ∷ es)) l.pools = fun_ext (λ p. taken_at l.pools x.pool p (in_front n (bucket (first + 1) es) p)) in
+pub step_without : (n : ℕ) (id first : ℕ) (x : Entry) (es : List Entry) (l : Ledger) → ledger_without n (bucket id (first + 1) es) (after_destroy x.pool l) ≡ ledger_without (suc n) (bucket id first (x ∷ es)) l
+step_without n id first x es l =
+    let pools : pools_without n (bucket id (first + 1) es) (after_destroy x.pool l).pools ≡ pools_without (suc n) (bucket id first (x ∷ es)) l.pools = fun_ext (λ p. taken_at l.pools x.pool p (in_front n (bucket id (first + 1) es) p)) in
     let more : 1 + n ≡ suc n = omega arith in
     let counters : more_destroyed n (more_destroyed 1 l.counters) ≡ more_destroyed (suc n) l.counters = destroyed_both 1 n l.counters ∙ ap (λ (m : ℕ). more_destroyed m l.counters) more in
     λ i. record { pools = pools i; counters = counters i }
 
-pub step_ledger : (keep first : ℕ) (x : Entry) (es : List Entry) (l : Ledger) → keep ≤ length es → is_empty x ≡ true → trimmed_ledger keep (bucket (first + 1) es) (after_destroy x.pool l) ≡ trimmed_ledger keep (bucket first (x ∷ es)) l
-step_ledger keep first x es l le empty =
-    step_without (trim keep es) first x es l ∙ ap (λ (m : ℕ). ledger_without m (bucket first (x ∷ es)) l) (sym (trim_yes keep x es le empty))
+pub step_ledger : (keep id first : ℕ) (x : Entry) (es : List Entry) (l : Ledger) → keep ≤ length es → is_empty x ≡ true → trimmed_ledger keep (bucket id (first + 1) es) (after_destroy x.pool l) ≡ trimmed_ledger keep (bucket id first (x ∷ es)) l
+step_ledger keep id first x es l le empty =
+    step_without (trim keep es) id first x es l ∙ ap (λ (m : ℕ). ledger_without m (bucket id first (x ∷ es)) l) (sym (trim_yes keep x es le empty))
 
 pub front_unused : (k : Key) (first : ℕ) (x : Entry) (es : List Entry) (l : Ledger) → AreBookedIn k l.pools (x ∷ es) → x.allocated ≡ 0 → HasNoSets x.pool l
 front_unused k first x es l stored none =
@@ -95,14 +95,14 @@ module _ {P : Type 0} (name : P → ℕ) (keep : ℕ) where
       rw is (front_unused k first (entry_of name x) (map (entry_of name) items) l agree empty))
 
   -- what the turn leaves
-  pub record Turned (k : Key) (first : ℕ) (items news : List (DescriptorPool P)) (before after : Ledger) : Type 0 where
+  pub record Turned (k : Key) (id first : ℕ) (items news : List (DescriptorPool P)) (before after : Ledger) : Type 0 where
     pub agree : stored k (first + 1) news after.pools
-    pub books : trimmed_bucket keep (bucket (first + 1) (map (entry_of name) news)) ≡ trimmed_bucket keep (bucket first (map (entry_of name) items))
-    pub ledger : trimmed_ledger keep (bucket (first + 1) (map (entry_of name) news)) after ≡ trimmed_ledger keep (bucket first (map (entry_of name) items)) before
+    pub books : trimmed_bucket keep (bucket id (first + 1) (map (entry_of name) news)) ≡ trimmed_bucket keep (bucket id first (map (entry_of name) items))
+    pub ledger : trimmed_ledger keep (bucket id (first + 1) (map (entry_of name) news)) after ≡ trimmed_ledger keep (bucket id first (map (entry_of name) items)) before
 
-  pub turn : (k : Key) (first : ℕ) (items news : List (DescriptorPool P)) (p : DescriptorPool P) (l after : Ledger) → IsFront items p → news ≡ drop 1 items → after ≡ after_destroy (name p.raw) l → stored k first items l.pools → Turned k first items news l after
-  turn k first [] news p l after front new taken agree = (let bad = front.long in absurd (omega arith))
-  turn k first (x ∷ items) news p l after front new taken agree =
+  pub turn : (k : Key) (id first : ℕ) (items news : List (DescriptorPool P)) (p : DescriptorPool P) (l after : Ledger) → IsFront items p → news ≡ drop 1 items → after ≡ after_destroy (name p.raw) l → stored k first items l.pools → Turned k id first items news l after
+  turn k id first [] news p l after front new taken agree = (let bad = front.long in absurd (omega arith))
+  turn k id first (x ∷ items) news p l after front new taken agree =
       let is : p ≡ x = front.is in
       let long : keep < suc (length items) = front.long in
       let same = length-map items (entry_of name) in
@@ -111,16 +111,16 @@ module _ {P : Type 0} (name : P → ℕ) (keep : ℕ) where
       let empty : is_empty (entry_of name x) ≡ true = eq-eqb x.allocated 0 (ap (λ (z : DescriptorPool P). z.allocated) (sym is) ∙ front.empty) in
       rw (new, gone) (record {
         agree = step_stored k first (entry_of name x) (map (entry_of name) items) l.pools agree;
-        books = step_books keep first (entry_of name x) (map (entry_of name) items) le empty;
-        ledger = step_ledger keep first (entry_of name x) (map (entry_of name) items) l le empty;
+        books = step_books keep id first (entry_of name x) (map (entry_of name) items) le empty;
+        ledger = step_ledger keep id first (entry_of name x) (map (entry_of name) items) l le empty;
       })
 
   -- a front with sets stays, and so do the last pools that are kept
-  pub stop_full : (first : ℕ) (items : List (DescriptorPool P)) (q : DescriptorPool P) → keep < length items → q ≡ get_or items 0 q → (q.allocated ≡ 0 → ⊥) → front_but keep (bucket first (map (entry_of name) items)) ≡ 0
-  stop_full first [] q long is full = absurd (omega arith)
-  stop_full first (x ∷ items) q long is full = (
+  pub stop_full : (id first : ℕ) (items : List (DescriptorPool P)) (q : DescriptorPool P) → keep < length items → q ≡ get_or items 0 q → (q.allocated ≡ 0 → ⊥) → front_but keep (bucket id first (map (entry_of name) items)) ≡ 0
+  stop_full id first [] q long is full = absurd (omega arith)
+  stop_full id first (x ∷ items) q long is full = (
       let same : q ≡ x = is in
       trim_no keep (entry_of name x) (map (entry_of name) items) (ne_eqb x.allocated 0 (λ none. full (ap (λ (z : DescriptorPool P). z.allocated) same ∙ none))))
 
-  pub stop_short : (first : ℕ) (items : List (DescriptorPool P)) → length items ≤ keep → front_but keep (bucket first (map (entry_of name) items)) ≡ 0
-  stop_short first items short = trim_short keep (map (entry_of name) items) (let same = length-map items (entry_of name) in omega arith)
+  pub stop_short : (id first : ℕ) (items : List (DescriptorPool P)) → length items ≤ keep → front_but keep (bucket id first (map (entry_of name) items)) ≡ 0
+  stop_short id first items short = trim_short keep (map (entry_of name) items) (let same = length-map items (entry_of name) in omega arith)

@@ -7,8 +7,7 @@ use Rattle.std.proofs.lemmas.Map.{update_apart}
 use Rattle.std.specs.List.{slice_get}
 use Rattle.std.specs.Prelude.{option_map}
 use Rattle.gpu_descriptor.specs.Model.Books.{Key, Entry}
-use Rattle.gpu_descriptor.specs.declared.set.BucketKey.{BucketKey}
-use Rattle.gpu_descriptor.specs.Caller.Sets.{key_of, items_of}
+use Rattle.gpu_descriptor.specs.Caller.Sets.{items_of}
 use Rattle.gpu_descriptor.specs.Model.Agreement.{Item}
 use Rattle.gpu_descriptor.specs.Model.Grants.{Part, items_at, items_in, pool_with, ledger_with}
 use Rattle.gpu_descriptor.specs.Model.Shares.{rest, all_shared, portions_of, asked_count, refused_count}
@@ -22,13 +21,13 @@ use Rattle.gpu_descriptor.proofs.Asks.{pool_same, same_counters, skipped}
 use Rattle.gpu_descriptor.proofs.Shares.{IsApart, apart_from, not_refused, drop_at, get_drop, or_at}
 use Rattle.gpu_descriptor.proofs.Steps.{part, so_far, taken_more, rest_now}
 
-pub record Walking (k : Key) (n first left wanting : ℕ) (items : List Item) (old new : List Entry) (l m : Ledger) : Type 0 where
+pub record Walking (k : Key) (n id first left wanting : ℕ) (items : List Item) (old new : List Entry) (l m : Ledger) : Type 0 where
   pub refused : ℕ → Bool
   pub parts : List Part
-  pub came : items_in k parts ≡ items
+  pub came : items_in k id parts ≡ items
   pub wants : wanting ≡ rest refused n (drop left old)
-  pub taken : HasTaken k n first (so_far left refused parts) old new l m
-  pub keeps : KeepsKey k first items old new l.pools m.pools
+  pub taken : HasTaken k n first (so_far id left refused parts) old new l m
+  pub keeps : KeepsKey k id first items old new l.pools m.pools
   pub untouched : (j : ℕ) (e : Entry) → j < left → slice_get old j ≡ Some e → m.pools e.pool ≡ l.pools e.pool
 
 take_get : {A : Type 0} (xs : List A) (i : ℕ) (x : A) → slice_get xs i ≡ Some x → take (suc i) xs ≡ take i xs ++ x ∷ []
@@ -46,7 +45,7 @@ get_take [] ys i h = absurd (omega arith)
 get_take (x ∷ xs) ys zero h = refl
 get_take (x ∷ xs) ys (suc i) h = get_take xs ys i (omega arith)
 
-module _ (k : Key) (n first i wanting : ℕ) (items : List Item) (old new : List Entry) (l m : Ledger) (booked : AreBookedIn k l.pools old) (s : Walking k n first (suc i) wanting items old new l m) where
+module _ (k : Key) (n id first i wanting : ℕ) (items : List Item) (old new : List Entry) (l m : Ledger) (booked : AreBookedIn k l.pools old) (s : Walking k n id first (suc i) wanting items old new l m) where
   -- the next pool is as it was
   pub next_was : i < length old → slice_get new i ≡ slice_get old i
   next_was here =
@@ -61,7 +60,7 @@ module _ (k : Key) (n first i wanting : ℕ) (items : List Item) (old new : List
   apart : (e : Entry) → slice_get old i ≡ Some e → IsApart e.pool (drop (suc i) old)
   apart e at = apart_from e.pool (drop (suc i) old) (λ j d there same. (let place = booked.distinct (suc i + j) i d e (sym (get_drop old (suc i) j) ∙ there) at same in absurd (omega arith)))
 
-  pub walk_more : (e f : Entry) (more : List ℕ) (m' : Ledger) (wanting' : ℕ) → slice_get old i ≡ Some e → IsAsked k wanting more e f m m' → wanting' + length more ≡ wanting → Walking k n first i wanting' (items ++ items_at k (first + i) more) old (slice_set new i f) l m'
+  pub walk_more : (e f : Entry) (more : List ℕ) (m' : Ledger) (wanting' : ℕ) → slice_get old i ≡ Some e → IsAsked k wanting more e f m m' → wanting' + length more ≡ wanting → Walking k n id first i wanting' (items ++ items_at k id (first + i) more) old (slice_set new i f) l m'
   walk_more e f more m' wanting' at asked less =
       let a : IsAsked k (rest s.refused n (drop (suc i) old)) more e f m m' = subst (λ (w : ℕ). IsAsked k w more e f m m') s.wants asked in
       let not_yet = not_refused s.refused n e.pool (drop (suc i) old) (apart e at) s.taken.refusing in
@@ -69,10 +68,10 @@ module _ (k : Key) (n first i wanting : ℕ) (items : List Item) (old new : List
       record {
         refused = or_at a.refused e.pool s.refused;
         parts = s.parts ++ part (first + i) e.pool more ∷ [];
-        came = flat_map-append (λ (p : Part). items_at k p.number p.names) s.parts (part (first + i) e.pool more ∷ []) ∙ ap (λ x. items_in k s.parts ++ x) (append-nil (items_at k (first + i) more)) ∙ ap (λ x. x ++ items_at k (first + i) more) s.came;
-        wants = (let r = rest_now n first i s.refused s.parts old e f more k m m' (apart e at) tail not_yet a in let w = s.wants in omega arith);
-        taken = taken_more n first i s.refused s.parts old e f more k m m' (apart e at) tail not_yet a l new (long_take old i e at) (take_get old i e at) s.taken;
-        keeps = keeps_asked k first i wanting items old new l.pools more e f m m' s.keeps (next_was (slice_get_within old i e at) ∙ at) asked;
+        came = flat_map-append (λ (p : Part). items_at k id p.number p.names) s.parts (part (first + i) e.pool more ∷ []) ∙ ap (λ x. items_in k id s.parts ++ x) (append-nil (items_at k id (first + i) more)) ∙ ap (λ x. x ++ items_at k id (first + i) more) s.came;
+        wants = (let r = rest_now id n first i s.refused s.parts old e f more k m m' (apart e at) tail not_yet a in let w = s.wants in omega arith);
+        taken = taken_more id n first i s.refused s.parts old e f more k m m' (apart e at) tail not_yet a l new (long_take old i e at) (take_get old i e at) s.taken;
+        keeps = keeps_asked k id first i wanting items old new l.pools more e f m m' s.keeps (next_was (slice_get_within old i e at) ∙ at) asked;
         untouched = λ j d lt there.
             let ne : d.pool ≢ e.pool = λ same. (let place = booked.distinct j i d e there at same in absurd (omega arith)) in
             ap (λ (f : ℕ → Option Pool). f d.pool) asked.pools
@@ -88,15 +87,15 @@ take_all : {A : Type 0} (xs : List A) → take (length xs) xs ≡ xs
 take_all [] = refl
 take_all (x ∷ xs) = ap (λ z. x ∷ z) (take_all xs)
 
-ledger_none : (k : Key) (left : ℕ) (pools : ℕ → Option Pool) → pools ≡ ledger_with k (so_far left (λ _. false) []) pools
-ledger_none k left pools = fun_ext (λ q. each (pools q))
+ledger_none : (k : Key) (id left : ℕ) (pools : ℕ → Option Pool) → pools ≡ ledger_with k (so_far id left (λ _. false) []) pools
+ledger_none k id left pools = fun_ext (λ q. each (pools q))
   where
     each : (o : Option Pool) → o ≡ option_map (pool_with [] false) o
     each None = refl
     each (Some p) = ap (λ (x : Pool). Some x) (sym (pool_same p))
 
-pub walk_start : (k : Key) (n first : ℕ) (old : List Entry) (l : Ledger) → AreBookedIn k l.pools old → Walking k n first (length old) n [] old old l l
-walk_start k n first old l booked =
+pub walk_start : (k : Key) (n id first : ℕ) (old : List Entry) (l : Ledger) → AreBookedIn k l.pools old → Walking k n id first (length old) n [] old old l l
+walk_start k n id first old l booked =
     let none : drop (length old) old ≡ [] = drop_all old in
     let none_refuse : ℕ → Bool = λ _. false in
     record {
@@ -109,18 +108,18 @@ walk_start k n first old l booked =
         parts = ap (λ es. portions_of none_refuse n (first + length old) es ++ []) (sym none);
         is_new = tt;
         entries = sym (ap (λ es. take (length old) old ++ all_shared none_refuse n es ++ []) none ∙ append-nil (take (length old) old ++ []) ∙ append-nil (take (length old) old) ∙ take_all old);
-        pools = ledger_none k (length old) l.pools;
+        pools = ledger_none k id (length old) l.pools;
         counters =
             let asked : asked_count none_refuse n (drop (length old) old) ≡ 0 = ap (asked_count none_refuse n) none in
             let refuse : refused_count none_refuse (drop (length old) old) ≡ 0 = ap (refused_count none_refuse) none in
             same_counters _ _ (omega arith) (omega arith) (omega arith) (omega arith) (omega arith) (omega arith) (omega arith) (omega arith);
       };
-      keeps = keeps_start k first old l.pools booked;
+      keeps = keeps_start k id first old l.pools booked;
       untouched = λ j e lt at. refl;
     }
 
-pub walk_end : (k : Key) (n first wanting : ℕ) (items : List Item) (old new : List Entry) (l m : Ledger) → Walking k n first 0 wanting items old new l m → (w : IsWalked k n first 0 items old new l m) × (wanting ≡ rest w.grant.refused n old)
-walk_end k n first wanting items old new l m s = (record { grant = so_far 0 s.refused s.parts; from = refl; no_fresh = refl; came = s.came; keeps = s.keeps; taken = s.taken }, s.wants)
+pub walk_end : (k : Key) (n id first wanting : ℕ) (items : List Item) (old new : List Entry) (l m : Ledger) → Walking k n id first 0 wanting items old new l m → (w : IsWalked k n id first 0 items old new l m) × (wanting ≡ rest w.grant.refused n old)
+walk_end k n id first wanting items old new l m s = (record { grant = so_far id 0 s.refused s.parts; named = refl; from = refl; no_fresh = refl; came = s.came; keeps = s.keeps; taken = s.taken }, s.wants)
 
 split_at : {A : Type 0} (xs : List A) (i : ℕ) (x : A) → slice_get xs i ≡ Some x → xs ≡ take i xs ++ x ∷ drop (suc i) xs
 split_at [] i x h = absurd (cc)
@@ -132,20 +131,21 @@ set_same [] i x h = absurd (cc)
 set_same (y ∷ xs) zero x h = (let e : y ≡ x = cc in ap (λ z. z ∷ xs) (sym e))
 set_same (y ∷ xs) (suc i) x h = ap (λ z. y ∷ z) (set_same xs i x h)
 
-pub walk_stop : (k : Key) (n first i wanting : ℕ) (items : List Item) (old new : List Entry) (l m m' : Ledger) (e f : Entry) (error : DeviceAllocationError) → Walking k n first (suc i) wanting items old new l m → slice_get old i ≡ Some e → slice_get new i ≡ Some e → f ≡ e → IsNoMemory wanting e error m m' → IsWalkStopped k n first error items old (slice_set new i f) l m'
-walk_stop k n first i wanting items old new l m m' e f error s was is same none = record {
+pub walk_stop : (k : Key) (n id first i wanting : ℕ) (items : List Item) (old new : List Entry) (l m m' : Ledger) (e f : Entry) (error : DeviceAllocationError) → Walking k n id first (suc i) wanting items old new l m → slice_get old i ≡ Some e → slice_get new i ≡ Some e → f ≡ e → IsNoMemory wanting e error m m' → IsWalkStopped k n id first error items old (slice_set new i f) l m'
+walk_stop k n id first i wanting items old new l m m' e f error s was is same none = record {
   older = take i old;
   pool = e;
   newer = drop (suc i) old;
   here = split_at old i e was;
   between = m;
   walked = record {
-    grant = so_far (suc i) s.refused s.parts;
+    grant = so_far id (suc i) s.refused s.parts;
+    named = refl;
     from = (let long = long_take old i e was in omega arith);
     no_fresh = refl;
     came = s.came;
-    keeps = subst (λ (es : List Entry). KeepsKey k first items old es l.pools m.pools) (sym (ap (slice_set new i) same ∙ set_same new i e is)) s.keeps;
-    taken = subst (λ (es : List Entry). HasTaken k n first (so_far (suc i) s.refused s.parts) old es l m) (sym (ap (slice_set new i) same ∙ set_same new i e is)) s.taken;
+    keeps = subst (λ (es : List Entry). KeepsKey k id first items old es l.pools m.pools) (sym (ap (slice_set new i) same ∙ set_same new i e is)) s.keeps;
+    taken = subst (λ (es : List Entry). HasTaken k n first (so_far id (suc i) s.refused s.parts) old es l m) (sym (ap (slice_set new i) same ∙ set_same new i e is)) s.taken;
   };
   asked = ap (λ w. nat_lt 0 e.free && nat_lt 0 w) (sym s.wants) ∙ none.asked;
   memory = none.memory;
@@ -159,31 +159,31 @@ get_at (x ∷ xs) zero h = (x, refl)
 get_at (x ∷ xs) (suc i) h = get_at xs i (omega arith)
 
 -- where none are wanting, the older pools are left as they are
-pub walk_skip : (k : Key) (n first i : ℕ) (items : List Item) (old new : List Entry) (l m : Ledger) → AreBookedIn k l.pools old → i ≤ length old → Walking k n first i 0 items old new l m → Walking k n first 0 0 items old new l m
-walk_skip k n first zero items old new l m booked here s = s
-walk_skip k n first (suc i) items old new l m booked here s =
+pub walk_skip : (k : Key) (n id first i : ℕ) (items : List Item) (old new : List Entry) (l m : Ledger) → AreBookedIn k l.pools old → i ≤ length old → Walking k n id first i 0 items old new l m → Walking k n id first 0 0 items old new l m
+walk_skip k n id first zero items old new l m booked here s = s
+walk_skip k n id first (suc i) items old new l m booked here s =
     let at = get_at old i (omega arith) in
     let e : Entry = at.0 in
-    let is : slice_get new i ≡ Some e = next_was k n first i 0 items old new l m booked s (omega arith) ∙ at.1 in
-    let next : Walking k n first i 0 (items ++ []) old (slice_set new i e) l m = walk_more k n first i 0 items old new l m booked s e e [] m 0 at.1 (skipped k 0 e m (omega arith)) refl in
-    walk_skip k n first i items old new l m booked (omega arith)
-    (subst (λ (x : List Entry). Walking k n first i 0 items old x l m) (set_same new i e is) (subst (λ (x : List Item). Walking k n first i 0 x old (slice_set new i e) l m) (append-nil items) next))
+    let is : slice_get new i ≡ Some e = next_was k n id first i 0 items old new l m booked s (omega arith) ∙ at.1 in
+    let next : Walking k n id first i 0 (items ++ []) old (slice_set new i e) l m = walk_more k n id first i 0 items old new l m booked s e e [] m 0 at.1 (skipped k 0 e m (omega arith)) refl in
+    walk_skip k n id first i items old new l m booked (omega arith)
+    (subst (λ (x : List Entry). Walking k n id first i 0 items old x l m) (set_same new i e is) (subst (λ (x : List Item). Walking k n id first i 0 x old (slice_set new i e) l m) (append-nil items) next))
 
 -- older pools that have nothing, or of which nothing is wanted, are left as they are
-pub walk_gap : (k : Key) (n first wanting : ℕ) (items : List Item) (old new : List Entry) (l m : Ledger) → AreBookedIn k l.pools old → (gap i left : ℕ) → left ≡ gap + i → left ≤ length old → ((j : ℕ) (e : Entry) → i ≤ j → j < left → slice_get new j ≡ Some e → min wanting e.free ≡ 0) → Walking k n first left wanting items old new l m → Walking k n first i wanting items old new l m
-walk_gap k n first wanting items old new l m booked zero i left is here none s = subst (λ (j : ℕ). Walking k n first j wanting items old new l m) (let e : left ≡ i = omega arith in e) s
-walk_gap k n first wanting items old new l m booked (suc gap) i left is here none s =
+pub walk_gap : (k : Key) (n id first wanting : ℕ) (items : List Item) (old new : List Entry) (l m : Ledger) → AreBookedIn k l.pools old → (gap i left : ℕ) → left ≡ gap + i → left ≤ length old → ((j : ℕ) (e : Entry) → i ≤ j → j < left → slice_get new j ≡ Some e → min wanting e.free ≡ 0) → Walking k n id first left wanting items old new l m → Walking k n id first i wanting items old new l m
+walk_gap k n id first wanting items old new l m booked zero i left is here none s = subst (λ (j : ℕ). Walking k n id first j wanting items old new l m) (let e : left ≡ i = omega arith in e) s
+walk_gap k n id first wanting items old new l m booked (suc gap) i left is here none s =
     let one : left ≡ suc (gap + i) = omega arith in
     let at = get_at old (gap + i) (omega arith) in
     let e : Entry = at.0 in
-    let from : Walking k n first (suc (gap + i)) wanting items old new l m = subst (λ (j : ℕ). Walking k n first j wanting items old new l m) one s in
-    let there : slice_get new (gap + i) ≡ Some e = next_was k n first (gap + i) wanting items old new l m booked from (omega arith) ∙ at.1 in
+    let from : Walking k n id first (suc (gap + i)) wanting items old new l m = subst (λ (j : ℕ). Walking k n id first j wanting items old new l m) one s in
+    let there : slice_get new (gap + i) ≡ Some e = next_was k n id first (gap + i) wanting items old new l m booked from (omega arith) ∙ at.1 in
     let nothing = none (gap + i) e (omega arith) (omega arith) there in
-    let next : Walking k n first (gap + i) wanting (items ++ []) old (slice_set new (gap + i) e) l m = walk_more k n first (gap + i) wanting items old new l m booked from e e [] m wanting at.1 (skipped k wanting e m nothing) (omega arith) in
-    walk_gap k n first wanting items old new l m booked gap i (gap + i) refl (omega arith) (λ j d le lt there. none j d le (omega arith) there)
-    (subst (λ (x : List Entry). Walking k n first (gap + i) wanting items old x l m) (set_same new (gap + i) e there) (subst (λ (x : List Item). Walking k n first (gap + i) wanting x old (slice_set new (gap + i) e) l m) (append-nil items) next))
+    let next : Walking k n id first (gap + i) wanting (items ++ []) old (slice_set new (gap + i) e) l m = walk_more k n id first (gap + i) wanting items old new l m booked from e e [] m wanting at.1 (skipped k wanting e m nothing) (omega arith) in
+    walk_gap k n id first wanting items old new l m booked gap i (gap + i) refl (omega arith) (λ j d le lt there. none j d le (omega arith) there)
+    (subst (λ (x : List Entry). Walking k n id first (gap + i) wanting items old x l m) (set_same new (gap + i) e there) (subst (λ (x : List Item). Walking k n id first (gap + i) wanting x old (slice_set new (gap + i) e) l m) (append-nil items) next))
 
 -- sets of one pool, as the books see them
-pub items_of-sets_at : {S : Type 0} (name : S → ℕ) (k : BucketKey) (number : ℕ) (raws : List S) → items_of name (sets_at k number raws) ≡ items_at (key_of k) number (map name raws)
-items_of-sets_at name k number [] = refl
-items_of-sets_at name k number (raw ∷ raws) = ap (λ rest. record { key = key_of k; number = number; name = name raw } ∷ rest) (items_of-sets_at name k number raws)
+pub items_of-sets_at : {S : Type 0} (name : S → ℕ) (k : Key) (id number : ℕ) (raws : List S) → items_of name (sets_at k id number raws) ≡ items_at k id number (map name raws)
+items_of-sets_at name k id number [] = refl
+items_of-sets_at name k id number (raw ∷ raws) = ap (λ rest. record { key = k; id = id; number = number; name = name raw } ∷ rest) (items_of-sets_at name k id number raws)

@@ -9,20 +9,18 @@ use Rattle.std.proofs.lemmas.List.Sums.{sum_by-cons}
 use Rattle.gpu_descriptor_types.specs.Ledger.{Pool, live_sets}
 use Rattle.gpu_descriptor_types.specs.Multiset.{LiveSet, set_eq, times}
 use Rattle.gpu_descriptor_types.proofs.Counting.{bool_iff, any_found, any_from, count_by_yes, count_by_no}
-use Rattle.gpu_descriptor.specs.declared.set.BucketKey.{BucketKey}
 use Rattle.gpu_descriptor.specs.declared.set.DescriptorSet.{DescriptorSet}
 use Rattle.gpu_descriptor.specs.Model.Agreement.{set_of, State, Item, item_eq, count_of, live_in, AreOutstanding, Agree}
 use Rattle.gpu_descriptor.specs.Model.Books.{Key, key_eq, Entry, Bucket, entry_at}
 use Rattle.gpu_descriptor.specs.Inner.Releases.{IsTakenAt, names_of, bucket_back}
 use Rattle.gpu_descriptor.specs.Inner.Buckets.{trimmed_bucket, pools_without}
 use Rattle.gpu_descriptor.specs.Model.Release.{entry_less, pool_less, given_back, fronts_gone, released, spent_front, pools_gone}
-use Rattle.gpu_descriptor.specs.Caller.Sets.{key_of, item_of, items_of}
-use Rattle.gpu_descriptor.specs.Inner.RunSteps.{at_place, HaveKey}
+use Rattle.gpu_descriptor.specs.Caller.Sets.{item_of, items_of}
+use Rattle.gpu_descriptor.specs.Inner.RunSteps.{lies_at, LieAt}
 use Rattle.gpu_descriptor.proofs.Exact.{key_exact, item_exact}
 use Rattle.gpu_descriptor.proofs.Fronts.{entry_at-found, entry_at-from}
 use Rattle.gpu_descriptor.proofs.Kept.{has_place}
 use Rattle.gpu_descriptor.proofs.LedgerPools.{taken_from, with_pool_same, with_pool_other}
-use Rattle.gpu_descriptor.proofs.OneRun.{at_own}
 use Rattle.gpu_descriptor.proofs.Parts.{names_key, any_key, key_any, goes}
 use Rattle.gpu_descriptor.proofs.Places.{back, back_named, part_fits}
 use Rattle.gpu_descriptor.proofs.Runs.{IsRun, run_back, run_named, run_books, untouched_rest}
@@ -32,14 +30,22 @@ use Rattle.gpu_descriptor.proofs.TableBooks.{put_books}
 abbrev pub trimmed_pools : Bucket → (ℕ → Option Pool) → ℕ → Option Pool
 trimmed_pools b pools = pools_without (spent_front b) b pools
 
-pub at_parts : {S : Type 0} (k : BucketKey) (n : ℕ) (x : DescriptorSet S) → at_place k n x ≡ true → (key_of x.key ≡ key_of k) × (x.number ≡ n)
-unfolding at_place
+pub at_from : {S : Type 0} (k : Key) (n : ℕ) (x : DescriptorSet S) → x.key.is ≡ k → x.number ≡ n → lies_at k n x ≡ true
+unfolding lies_at
+at_from k n x e f = and_from _ _ (ap (λ (l : Key). key_eq l k) e ∙ key_exact.self k) (eq-eqb x.number n f)
+
+pub lies_own : {S : Type 0} (x : DescriptorSet S) → lies_at x.key.is x.number x ≡ true
+unfolding lies_at
+lies_own x = and_from _ _ (key_exact.self x.key.is) (eq-eqb x.number x.number refl)
+
+pub at_parts : {S : Type 0} (k : Key) (n : ℕ) (x : DescriptorSet S) → lies_at k n x ≡ true → (x.key.is ≡ k) × (x.number ≡ n)
+unfolding lies_at
 at_parts k n x h =
-    let both = and_parts (key_eq (key_of x.key) (key_of k)) (x.number == n) h in
-    (key_exact.same (key_of x.key) (key_of k) both.0, eqb-true x.number n both.1)
+    let both = and_parts (key_eq x.key.is k) (x.number == n) h in
+    (key_exact.same x.key.is k both.0, eqb-true x.number n both.1)
 
 module _ {S : Type 0} (name : S → ℕ) where
-  in_run : (k : BucketKey) (n : ℕ) (xs : List (DescriptorSet S)) → HaveKey k n xs → (t : Item) → 0 < count_of t (items_of name xs) → (t.key ≡ key_of k) × (t.number ≡ n)
+  in_run : (k : Key) (n : ℕ) (xs : List (DescriptorSet S)) → LieAt k n xs → (t : Item) → 0 < count_of t (items_of name xs) → (t.key ≡ k) × (t.number ≡ n)
   in_run k n [] have t h = absurd (omega arith)
   in_run k n (x ∷ xs) have t h =
       let one : Item = item_of name x in
@@ -51,20 +57,20 @@ module _ {S : Type 0} (name : S → ℕ) where
         | inr other ↦ (let skip : count_of t (one ∷ items_of name xs) ≡ count_of t (items_of name xs) = count_by_no (λ u. item_eq u t) one (items_of name xs) other in in_run k n xs have.1 t (omega arith))
       ]
 
-  pub is_run : (k : BucketKey) (n : ℕ) (xs : List (DescriptorSet S)) → HaveKey k n xs → IsRun (key_of k) n (items_of name xs)
+  pub is_run : (k : Key) (n : ℕ) (xs : List (DescriptorSet S)) → LieAt k n xs → IsRun k n (items_of name xs)
   is_run k n xs have t h = in_run k n xs have t h
 
   -- the sets of a run, counted
-  pub named_times : (k : BucketKey) (n : ℕ) (xs : List (DescriptorSet S)) → HaveKey k n xs → (x : LiveSet) → count_by (λ t. set_eq (set_of t) x) (items_of name xs) ≡ times (live_sets (key_of k).counts (names_of name xs)) x
+  pub named_times : (k : Key) (n : ℕ) (xs : List (DescriptorSet S)) → LieAt k n xs → (x : LiveSet) → count_by (λ t. set_eq (set_of t) x) (items_of name xs) ≡ times (live_sets k.counts (names_of name xs)) x
   named_times k n [] have x = refl
   named_times k n (y ∷ ys) have x =
       let one : Item = item_of name y in
-      let it : LiveSet = record { name = name y.raw; counts = (key_of k).counts } in
+      let it : LiveSet = record { name = name y.raw; counts = k.counts } in
       let parts = at_parts k n y have.0 in
       let same : set_of one ≡ it = λ i. record { name = name y.raw; counts = (parts.0 i).counts } in
       elim (cases_Bool (set_eq (set_of one) x)) [
-        | inl h ↦ count_by_yes (λ t. set_eq (set_of t) x) one (items_of name ys) h ∙ ap suc (named_times k n ys have.1 x) ∙ sym (count_by_yes (λ z. set_eq z x) it (live_sets (key_of k).counts (names_of name ys)) (ap (λ (z : LiveSet). set_eq z x) (sym same) ∙ h))
-        | inr h ↦ count_by_no (λ t. set_eq (set_of t) x) one (items_of name ys) h ∙ named_times k n ys have.1 x ∙ sym (count_by_no (λ z. set_eq z x) it (live_sets (key_of k).counts (names_of name ys)) (ap (λ (z : LiveSet). set_eq z x) (sym same) ∙ h))
+        | inl h ↦ count_by_yes (λ t. set_eq (set_of t) x) one (items_of name ys) h ∙ ap suc (named_times k n ys have.1 x) ∙ sym (count_by_yes (λ z. set_eq z x) it (live_sets k.counts (names_of name ys)) (ap (λ (z : LiveSet). set_eq z x) (sym same) ∙ h))
+        | inr h ↦ count_by_no (λ t. set_eq (set_of t) x) one (items_of name ys) h ∙ named_times k n ys have.1 x ∙ sym (count_by_no (λ z. set_eq z x) it (live_sets k.counts (names_of name ys)) (ap (λ (z : LiveSet). set_eq z x) (sym same) ∙ h))
       ]
 
   first_of : (x : DescriptorSet S) (xs : List (DescriptorSet S)) → 0 < count_of (item_of name x) (items_of name (x ∷ xs))
@@ -73,16 +79,16 @@ module _ {S : Type 0} (name : S → ℕ) where
   same_length : (xs : List (DescriptorSet S)) → length (items_of name xs) ≡ length (names_of name xs)
   same_length xs = length-map xs (λ (x : DescriptorSet S). item_of name x) ∙ sym (length-map xs (λ (x : DescriptorSet S). name x.raw))
 
-  all_have : (x : DescriptorSet S) (xs : List (DescriptorSet S)) → HaveKey x.key x.number xs → HaveKey x.key x.number (x ∷ xs)
-  all_have x xs have = (at_own x, have)
+  all_have : (x : DescriptorSet S) (xs : List (DescriptorSet S)) → LieAt x.key.is x.number xs → LieAt x.key.is x.number (x ∷ xs)
+  all_have x xs have = (lies_own x, have)
 
   -- where a run lies
-  pub taken_of : (s : State) → Agree s → (x : DescriptorSet S) (xs : List (DescriptorSet S)) → HaveKey x.key x.number xs → AreOutstanding (items_of name (x ∷ xs)) s → IsTakenAt (key_of x.key) x.number (names_of name (x ∷ xs)) (s.books (key_of x.key)) s.ledger
+  pub taken_of : (s : State) → Agree s → (x : DescriptorSet S) (xs : List (DescriptorSet S)) → LieAt x.key.is x.number xs → AreOutstanding (items_of name (x ∷ xs)) s → IsTakenAt x.key.is x.number (names_of name (x ∷ xs)) (s.books x.key.is) s.ledger
   taken_of s agree x xs have out =
-      let k = key_of x.key in
+      let k = x.key.is in
       let n = x.number in
       let m = items_of name (x ∷ xs) in
-      let run = is_run x.key n (x ∷ xs) (all_have x xs have) in
+      let run = is_run x.key.is n (x ∷ xs) (all_have x xs have) in
       let has = has_place m s agree out (item_of name x) (first_of x xs) in
       let e = has.0 in
       let at : entry_at (s.books k) n ≡ Some e = has.1 in
@@ -99,7 +105,7 @@ module _ {S : Type 0} (name : S → ℕ) where
         live = λ y.
             let part = part_fits m s agree out k n e has.2 at has.3 y in
             let named : back_named m s e.pool y ≡ count_by (λ t. set_eq (set_of t) y) m = run_named k n m s e run at e.pool y ∙ (rw own refl) in
-            let counted = named_times x.key n (x ∷ xs) (all_have x xs have) y in
+            let counted = named_times x.key.is n (x ∷ xs) (all_have x xs have) y in
             let live : live_in s.ledger e.pool y ≡ has.2.live y = rw has.3 refl in
             omega arith;
       }
@@ -111,18 +117,18 @@ module _ {S : Type 0} (name : S → ℕ) where
       λ i. Some (record p { live = live i })
 
   -- THE STATE AFTER ONE RUN, before the front goes
-  pub given_run : (s : State) → Agree s → (x : DescriptorSet S) (xs : List (DescriptorSet S)) → HaveKey x.key x.number xs → (e : Entry) → (s.books (key_of x.key)).first ≤ x.number → slice_get (s.books (key_of x.key)).pools (x.number - (s.books (key_of x.key)).first) ≡ Some e
+  pub given_run : (s : State) → Agree s → (x : DescriptorSet S) (xs : List (DescriptorSet S)) → LieAt x.key.is x.number xs → (e : Entry) → (s.books x.key.is).first ≤ x.number → slice_get (s.books x.key.is).pools (x.number - (s.books x.key.is).first) ≡ Some e
       → given_back (items_of name (x ∷ xs)) s ≡ record {
-        books = put_books s.books (key_of x.key) (bucket_back (s.books (key_of x.key)) x.number (length (names_of name (x ∷ xs))) e);
-        ledger = taken_from s.ledger e.pool (live_sets (key_of x.key).counts (names_of name (x ∷ xs)));
+        books = put_books s.books x.key.is (bucket_back (s.books x.key.is) x.number (length (names_of name (x ∷ xs))) e);
+        ledger = taken_from s.ledger e.pool (live_sets x.key.is.counts (names_of name (x ∷ xs)));
       }
   given_run s agree x xs have e above place =
-      let k = key_of x.key in
+      let k = x.key.is in
       let n = x.number in
       let m = items_of name (x ∷ xs) in
       let b = s.books k in
       let ls = live_sets k.counts (names_of name (x ∷ xs)) in
-      let run = is_run x.key n (x ∷ xs) (all_have x xs have) in
+      let run = is_run x.key.is n (x ∷ xs) (all_have x xs have) in
       let at : entry_at b n ≡ Some e = entry_at-from b n e above place in
       let long : length m ≡ length (names_of name (x ∷ xs)) = same_length (x ∷ xs) in
       let c = bucket_back b n (length (names_of name (x ∷ xs))) e in
@@ -138,13 +144,13 @@ module _ {S : Type 0} (name : S → ℕ) where
             let spot : bl.first + i - bl.first ≡ i = omega arith in
             let keys = (agree.distinct k l n (bl.first + i) e d at (entry_at-from bl (bl.first + i) d (omega arith) (rw spot got)) same).0 in
             let bad : true ≡ false = sym (ap (key_eq k) (sym keys) ∙ key_exact.self k) ∙ other in cc) in
-            let whole : (given_back m s).books l ≡ s.books l = λ i. record { first = (s.books l).first; pools = pools i } in
+            let whole : (given_back m s).books l ≡ s.books l = λ i. record (s.books l) { pools = pools i } in
             whole ∙ sym here)
       ]) in
       let ledger : (given_back m s).ledger ≡ taken_from s.ledger e.pool ls = fun_ext (λ p. elim (cases_eq p e.pool) [
         | inl same ↦ rw same (
             let own : (e.pool == e.pool) ≡ true = eq-eqb e.pool e.pool refl in
-            let named : back_named m s e.pool ≡ times ls = fun_ext (λ y. run_named k n m s e run at e.pool y ∙ (rw own (named_times x.key n (x ∷ xs) (all_have x xs have) y))) in
+            let named : back_named m s e.pool ≡ times ls = fun_ext (λ y. run_named k n m s e run at e.pool y ∙ (rw own (named_times x.key.is n (x ∷ xs) (all_have x xs have) y))) in
             ap (λ (f : LiveSet → ℕ). option_map (pool_less f) (s.ledger e.pool)) named ∙ sym (with_pool_same s.ledger e.pool (option_map (pool_less (times ls)) (s.ledger e.pool))))
         | inr other ↦ (
             let named : back_named m s p ≡ (λ y. 0) = fun_ext (λ y. run_named k n m s e run at p y ∙ (let apart : (e.pool == p) ≡ false = ne_eqb e.pool p (λ h. other (sym h)) in rw apart refl)) in
@@ -153,12 +159,12 @@ module _ {S : Type 0} (name : S → ℕ) where
       λ i. record { books = books i; ledger = ledger i }
 
   -- THE FRONT OF THE RUN'S KEY
-  pub front_run : (x : DescriptorSet S) (xs : List (DescriptorSet S)) → HaveKey x.key x.number xs → (books : Key → Bucket) (b : Bucket) (pools : ℕ → Option Pool)
-      → fronts_gone (items_of name (x ∷ xs)) (record { books = put_books books (key_of x.key) b; ledger = pools }) ≡ record { books = put_books books (key_of x.key) (trimmed_bucket 1 b); ledger = trimmed_pools b pools }
+  pub front_run : (x : DescriptorSet S) (xs : List (DescriptorSet S)) → LieAt x.key.is x.number xs → (books : Key → Bucket) (b : Bucket) (pools : ℕ → Option Pool)
+      → fronts_gone (items_of name (x ∷ xs)) (record { books = put_books books x.key.is b; ledger = pools }) ≡ record { books = put_books books x.key.is (trimmed_bucket 1 b); ledger = trimmed_pools b pools }
   front_run x xs have books b pools =
-      let k = key_of x.key in
+      let k = x.key.is in
       let m = items_of name (x ∷ xs) in
-      let run = is_run x.key x.number (x ∷ xs) (all_have x xs have) in
+      let run = is_run x.key.is x.number (x ∷ xs) (all_have x xs have) in
       let s : State = record { books = put_books books k b; ledger = pools } in
       let own : put_books books k b k ≡ b = rw (key_exact.self k) refl in
       let named : names_key m k ≡ true = any_from item_exact (λ u. key_eq u.key k) m (item_of name x) (first_of x xs) (key_exact.self k) in
@@ -186,11 +192,11 @@ module _ {S : Type 0} (name : S → ℕ) where
       λ i. record { books = books_are i; ledger = ledger i }
 
   -- THE STATE AFTER ONE RUN
-  pub whole_run : (s : State) → Agree s → (x : DescriptorSet S) (xs : List (DescriptorSet S)) → HaveKey x.key x.number xs → (e : Entry) → (s.books (key_of x.key)).first ≤ x.number → slice_get (s.books (key_of x.key)).pools (x.number - (s.books (key_of x.key)).first) ≡ Some e
-      → (c : Bucket) (pools : ℕ → Option Pool) → c ≡ trimmed_bucket 1 (bucket_back (s.books (key_of x.key)) x.number (length (names_of name (x ∷ xs))) e) → pools ≡ trimmed_pools (bucket_back (s.books (key_of x.key)) x.number (length (names_of name (x ∷ xs))) e) (taken_from s.ledger e.pool (live_sets (key_of x.key).counts (names_of name (x ∷ xs))))
-      → ◌≡◌ {A = State} (record { books = put_books s.books (key_of x.key) c; ledger = pools }) (released (items_of name (x ∷ xs)) s)
+  pub whole_run : (s : State) → Agree s → (x : DescriptorSet S) (xs : List (DescriptorSet S)) → LieAt x.key.is x.number xs → (e : Entry) → (s.books x.key.is).first ≤ x.number → slice_get (s.books x.key.is).pools (x.number - (s.books x.key.is).first) ≡ Some e
+      → (c : Bucket) (pools : ℕ → Option Pool) → c ≡ trimmed_bucket 1 (bucket_back (s.books x.key.is) x.number (length (names_of name (x ∷ xs))) e) → pools ≡ trimmed_pools (bucket_back (s.books x.key.is) x.number (length (names_of name (x ∷ xs))) e) (taken_from s.ledger e.pool (live_sets x.key.is.counts (names_of name (x ∷ xs))))
+      → ◌≡◌ {A = State} (record { books = put_books s.books x.key.is c; ledger = pools }) (released (items_of name (x ∷ xs)) s)
   whole_run s agree x xs have e above place c pools is are =
-      let k = key_of x.key in
+      let k = x.key.is in
       let b = bucket_back (s.books k) x.number (length (names_of name (x ∷ xs))) e in
       let after = taken_from s.ledger e.pool (live_sets k.counts (names_of name (x ∷ xs))) in
       let left : ◌≡◌ {A = State} (record { books = put_books s.books k c; ledger = pools }) (record { books = put_books s.books k (trimmed_bucket 1 b); ledger = trimmed_pools b after }) = λ i. record { books = put_books s.books k (is i); ledger = are i } in
@@ -212,13 +218,13 @@ module _ {S : Type 0} (name : S → ℕ) where
   ]
 
   -- THE POOLS THAT GO are those of the run's key
-  pub gone_run : (s : State) → Agree s → (x : DescriptorSet S) (xs : List (DescriptorSet S)) → HaveKey x.key x.number xs → (e : Entry) → (s.books (key_of x.key)).first ≤ x.number → slice_get (s.books (key_of x.key)).pools (x.number - (s.books (key_of x.key)).first) ≡ Some e
-      → (keys : List Key) → count_by (key_eq (key_of x.key)) keys ≡ 1 → pools_gone keys (items_of name (x ∷ xs)) (given_back (items_of name (x ∷ xs)) s) ≡ spent_front (bucket_back (s.books (key_of x.key)) x.number (length (names_of name (x ∷ xs))) e)
+  pub gone_run : (s : State) → Agree s → (x : DescriptorSet S) (xs : List (DescriptorSet S)) → LieAt x.key.is x.number xs → (e : Entry) → (s.books x.key.is).first ≤ x.number → slice_get (s.books x.key.is).pools (x.number - (s.books x.key.is).first) ≡ Some e
+      → (keys : List Key) → count_by (key_eq x.key.is) keys ≡ 1 → pools_gone keys (items_of name (x ∷ xs)) (given_back (items_of name (x ∷ xs)) s) ≡ spent_front (bucket_back (s.books x.key.is) x.number (length (names_of name (x ∷ xs))) e)
   gone_run s agree x xs have e above place keys there =
-      let k = key_of x.key in
+      let k = x.key.is in
       let m = items_of name (x ∷ xs) in
       let b = bucket_back (s.books k) x.number (length (names_of name (x ∷ xs))) e in
-      let run = is_run x.key x.number (x ∷ xs) (all_have x xs have) in
+      let run = is_run x.key.is x.number (x ∷ xs) (all_have x xs have) in
       let f : Key → ℕ = λ l. if names_key m l then spent_front ((given_back m s).books l) else 0 in
       let named : names_key m k ≡ true = any_from item_exact (λ u. key_eq u.key k) m (item_of name x) (first_of x xs) (key_exact.self k) in
       let only : (l : Key) → key_eq k l ≡ false → f l ≡ 0 = λ l other.

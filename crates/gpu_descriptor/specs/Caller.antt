@@ -7,6 +7,7 @@ pub mod Flags
 pub mod Frees
 pub mod HandsOut
 pub mod Keeps
+pub mod KeyOf
 pub mod Keys
 pub mod Others
 pub mod SetLends

@@ -35,7 +35,7 @@ used pool = record { pool = pool; capacity = 64; allocated = 1; free = 63 }
 
 -- pools of a key from this number on
 abbrev from : ℕ → List Entry → Bucket
-from first pools = record { first = first; pools = pools }
+from first pools = record { id = 0; first = first; pools = pools }
 
 -- the pools of a key that is the plain one or the marked one, where they have these
 abbrev either : Bucket → Bucket → Bool → Bool → Bucket
@@ -90,10 +90,10 @@ without names ledger pool = if is_of names pool then None else ledger pool
 
 -- the sets that are out
 abbrev set_102 : Item
-set_102 = record { key = plain; number = 9; name = 102 }
+set_102 = record { key = plain; id = 0; number = 9; name = 102 }
 
 abbrev set_104 : Item
-set_104 = record { key = plain; number = 11; name = 104 }
+set_104 = record { key = plain; id = 0; number = 11; name = 104 }
 
 -- ---- the limit on pools
 

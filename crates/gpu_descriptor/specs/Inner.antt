@@ -1,11 +1,13 @@
 -- What only the code's own contracts say. No public clause needs it.
 pub mod Buckets
 pub mod Grow
+pub mod Ids
 pub mod OpenNumbers
 pub mod OpenPools
 pub mod Releases
 pub mod RunSteps
 pub mod Serves
+pub mod SetAt
 pub mod Stored
 pub mod Takes
 pub mod Walk

@@ -1,5 +1,6 @@
 //! The allocator: a table from keys to their pools.
-ghost use Rattle.std.specs.Prelude.{◌≡◌, []};
+ghost use Rattle.std.specs.Prelude.{◌≡◌, [], true};
+ghost use Rattle.gpu_descriptor.specs.Inner.Ids.{rise_below, stored_ids};
 
 mod allocate;
 mod cleanup;
@@ -7,6 +8,7 @@ mod free;
 mod readers;
 
 use crate::bucket::DescriptorBucket;
+use crate::ids::KeyIds;
 use crate::set::BucketKey;
 use gpu_descriptor_types::Tally;
 use indexmap::IndexMap;
@@ -29,9 +31,11 @@ pub struct DescriptorAllocator<P, S> {
     /// What the limit leaves for descriptors of further pools of marked layouts.
     update_after_bind_room: u32,
     outstanding: u64,
+    ids: KeyIds,
     looks: Tally,
     comparisons: Tally,
     sets: PhantomData<S>,
+    ghost rising: { rise_below ids.next (stored_ids buckets.entries) ≡ true },
 }
 
 impl<P, S> Model for DescriptorAllocator<P, S> {
@@ -75,6 +79,7 @@ impl<P, S> DescriptorAllocator<P, S> {
             current_update_after_bind_descriptors_in_all_pools: 0,
             update_after_bind_room: max_update_after_bind_descriptors_in_all_pools,
             outstanding: 0,
+            ids: KeyIds::new(),
             looks: Tally::zero(),
             comparisons: Tally::zero(),
             sets: PhantomData,

@@ -4,7 +4,7 @@ ghost use Rattle.std.specs.VecDeque.{deque_capacity};
 ghost use Rattle.gpu_descriptor_types.specs.Bounds.{greatest_u64};
 ghost use Rattle.gpu_descriptor.specs.Model.Load.{pool_load};
 ghost use Rattle.gpu_descriptor.specs.Inner.OpenNumbers.{free_in, open_numbers};
-ghost use Rattle.gpu_descriptor.specs.Caller.Sets.{key_of};
+ghost use Rattle.gpu_descriptor.specs.Caller.KeyOf.{key_of};
 
 pub(crate) mod allocation;
 mod front;
@@ -35,6 +35,9 @@ pub(crate) struct DescriptorPool<P> {
 /// The pools of one key, oldest first.
 #[derive(Debug, Drop)]
 pub(crate) struct DescriptorBucket<P> {
+    /// The id of the key.
+    pub(crate) id: u64,
+
     /// The number of the first pool.
     pub(crate) offset: u64,
 

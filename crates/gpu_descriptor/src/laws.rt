@@ -11,7 +11,7 @@ ghost use Rattle.gpu_descriptor.specs.Laws.Cleanup.{CleanAgain, CleanAgainNone, 
 ghost use Rattle.gpu_descriptor.specs.Laws.Cleanup.{CleanAllGone, CleanOnce, CleanAgrees};
 ghost use Rattle.gpu_descriptor.specs.Laws.Cleanup.{CleanRestores, CleanTakesNone};
 ghost use Rattle.gpu_descriptor.specs.Laws.Agreement.{AgreesOnce, BookedIsListed, EmptyAgrees};
-ghost use Rattle.gpu_descriptor.specs.Laws.Agreement.{OwnAgrees, OwnOutstanding};
+ghost use Rattle.gpu_descriptor.specs.Laws.Agreement.{KeyHasOneId, OwnAgrees, OwnOutstanding};
 ghost use Rattle.gpu_descriptor.specs.Model.Agreement.{Item, item_eq};
 ghost use Rattle.gpu_descriptor.specs.Model.Books.{HasDistinctKeys, Key, key_eq};
 ghost use Rattle.gpu_descriptor.specs.Laws.Load.{SumByBooks, LoadIsDescriptors, MarkedWithinPools};
@@ -131,6 +131,11 @@ pub fn out_is_outstanding()
 pub fn others_are_free()
     ensures agrees { OwnAgrees }
     ensures outstanding { OwnOutstanding }
+{}
+
+/// Of sets that are outstanding those of one key have one id.
+pub fn a_key_has_one_id()
+    ensures one_id { KeyHasOneId }
 {}
 
 /// Keys and items are equal exactly where the tests by which they are counted say so.

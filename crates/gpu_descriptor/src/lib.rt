@@ -26,6 +26,8 @@ mod allocator;
 mod bucket;
 mod errors;
 mod flags;
+mod ids;
+mod key;
 pub mod laws;
 mod set;
 mod view;

@@ -5,6 +5,7 @@ ghost use Rattle.gpu_descriptor.specs.Caller.SetLends.{LendsRaw};
 ghost use Rattle.gpu_descriptor.specs.Inner.RunSteps.{at_place};
 ghost use Rattle.gpu_descriptor.specs.Caller.Sets.{raw_of};
 
+use crate::key::SetKey;
 use gpu_descriptor_types::DescriptorTotalCount;
 
 /// The counts of a layout, and whether it is marked as update-after-bind. Layouts of one key share
@@ -20,8 +21,13 @@ pub(crate) struct BucketKey {
 #[derive(Debug, Drop)]
 pub struct DescriptorSet<S> {
     pub(crate) raw: S,
+
+    /// The number of its pool among those of its key.
     pub(crate) number: u64,
-    pub(crate) key: BucketKey,
+
+    /// The id of its key. No two keys of an allocator ever have one.
+    pub(crate) id: u64,
+    pub(crate) key: SetKey,
 }
 
 impl<S> DescriptorSet<S> {
@@ -41,11 +47,11 @@ impl<S> DescriptorSet<S> {
         &mut self.raw
     }
 
-    /// Whether it lies under this key in the pool with this number.
+    /// Whether it lies under the key with this id in the pool with this number.
     #[tactic(auto, unfolding(crate::specs::Inner::RunSteps::at_place))]
-    pub(crate) fn is_at(&self, key: &BucketKey, number: u64) -> bool
-        ensures { result ≡ at_place key.now number self.now }
+    pub(crate) fn is_at(&self, id: u64, number: u64) -> bool
+        ensures { result ≡ at_place id number self.now }
     {
-        self.key == *key && self.number == number
+        self.id == id && self.number == number
     }
 }

@@ -1,13 +1,7 @@
 -- Sets that were handed out, as the code has them and as the books see them.
 use Rattle.std.specs.Prelude.{ℕ, List, map}
-use Rattle.gpu_descriptor_types.specs.Counts.{kinds}
-use Rattle.gpu_descriptor.specs.declared.set.BucketKey.{BucketKey}
 use Rattle.gpu_descriptor.specs.declared.set.DescriptorSet.{DescriptorSet}
-use Rattle.gpu_descriptor.specs.Model.Books.{Key}
 use Rattle.gpu_descriptor.specs.Model.Agreement.{Item}
-
-abbrev pub key_of : BucketKey → Key
-key_of k = record { counts = kinds k.size; marked = k.update_after_bind }
 
 -- the raw set
 abbrev pub raw_of : {S : Type 0} → DescriptorSet S → S
@@ -15,7 +9,7 @@ raw_of x = x.raw
 
 -- the set as the books see it
 abbrev pub item_of : {S : Type 0} → (S → ℕ) → DescriptorSet S → Item
-item_of name x = record { key = key_of x.key; number = x.number; name = name x.raw }
+item_of name x = record { key = x.key.is; id = x.id; number = x.number; name = name x.raw }
 
 abbrev pub items_of : {S : Type 0} → (S → ℕ) → List (DescriptorSet S) → List Item
 items_of name xs = map (λ x. item_of name x) xs

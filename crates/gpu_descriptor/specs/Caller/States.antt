@@ -12,7 +12,7 @@ module _ {P : Type 0} (name : P → ℕ) where
   named p = record { pool = name p.raw; capacity = p.capacity; allocated = p.allocated; free = p.free }
 
   abbrev pub named_row : Row P → Key × Bucket
-  named_row r = (r.key, record { first = r.first; pools = map named r.pools })
+  named_row r = (r.key, record { id = r.id; first = r.first; pools = map named r.pools })
 
   -- the table of the books
   abbrev pub table_of : Allocations P → List (Key × Bucket)

@@ -13,6 +13,8 @@ pub record Kept (P : Type 0) : Type 0 where
 -- the pools of a key, oldest first, and the number of the first
 pub record Row (P : Type 0) : Type 0 where
   pub key : Key
+  -- no two keys of one allocator ever had the same
+  pub id : ℕ
   pub first : ℕ
   pub pools : List (Kept P)
 
@@ -30,7 +32,7 @@ abbrev pub kept_code : {P : Type 0} → Coded P → Coded (Kept P)
 kept_code {P} code = code_by (P × (ℕ × (ℕ × ℕ))) (coded× code (coded× coded_ℕ (coded× coded_ℕ coded_ℕ))) (λ e. (e.raw, (e.capacity, (e.allocated, e.free)))) (λ p. record { raw = p.0; capacity = p.1.0; allocated = p.1.1.0; free = p.1.1.1 }) (λ _. refl)
 
 abbrev pub row_code : {P : Type 0} → Coded P → Coded (Row P)
-row_code {P} code = code_by (Key × (ℕ × List (Kept P))) (coded× key_code (coded× coded_ℕ (coded_list (kept_code code)))) (λ r. (r.key, (r.first, r.pools))) (λ p. record { key = p.0; first = p.1.0; pools = p.1.1 }) (λ _. refl)
+row_code {P} code = code_by (Key × (ℕ × (ℕ × List (Kept P)))) (coded× key_code (coded× coded_ℕ (coded× coded_ℕ (coded_list (kept_code code))))) (λ r. (r.key, (r.id, (r.first, r.pools)))) (λ p. record { key = p.0; id = p.1.0; first = p.1.1.0; pools = p.1.1.1 }) (λ _. refl)
 
 abbrev pub allocations_code : {P : Type 0} → Coded P → Coded (Allocations P)
 allocations_code {P} code = code_by (ℕ × (List (Row P) × (ℕ × ℕ))) (coded× coded_ℕ (coded× (coded_list (row_code code)) (coded× coded_ℕ coded_ℕ))) (λ a. (a.limit, (a.table, (a.looks, a.comparisons)))) (λ p. record { limit = p.0; table = p.1.0; looks = p.1.1.0; comparisons = p.1.1.1 }) (λ _. refl)

@@ -50,30 +50,32 @@ pub record IsNotGrown (why : Stop) (before after : Ledger) : Type 0 where
   pub counters : after.counters ≡ risen (stop_rise why) before.counters
 
 -- the sets of a request were had: shares of the existing pools, and new pools for the rest
-pub record IsTakenAll (k : Key) (room n first : ℕ) (items : List Item) (old new : List Entry) (before after : Ledger) : Type 0 where
+pub record IsTakenAll (k : Key) (room n id first : ℕ) (items : List Item) (old new : List Entry) (before after : Ledger) : Type 0 where
   pub grant : Grant
+  pub named : grant.id ≡ id
   pub all : grant.left ≡ 0
-  pub came : items_in k grant.parts ≡ items
-  pub keeps : KeepsKey k first items old new before.pools after.pools
+  pub came : items_in k id grant.parts ≡ items
+  pub keeps : KeepsKey k id first items old new before.pools after.pools
   pub fresh : IsFreshList k room (allocated_in (all_shared grant.refused n old)) (rest grant.refused n old) grant.fresh
   pub taken : HasTaken k n first grant old new before after
 
 -- after a front of new pools no more came
-pub record IsGrowStopped (why : Stop) (k : Key) (room n first : ℕ) (items : List Item) (old new : List Entry) (before after : Ledger) : Type 0 where
+pub record IsGrowStopped (why : Stop) (k : Key) (room n id first : ℕ) (items : List Item) (old new : List Entry) (before after : Ledger) : Type 0 where
   pub grant : Grant
+  pub named : grant.id ≡ id
   pub all : grant.left ≡ 0
-  pub came : items_in k grant.parts ≡ items
+  pub came : items_in k id grant.parts ≡ items
   pub front : IsFreshFront k room (allocated_in (all_shared grant.refused n old)) (rest grant.refused n old) grant.fresh
   pub between : Ledger
-  pub keeps : KeepsKey k first items old new before.pools between.pools
+  pub keeps : KeepsKey k id first items old new before.pools between.pools
   pub taken : HasTaken k n first grant old new before between
   pub stopped : IsNotGrown why between after
   pub in_room : TellsOfRoom why k (room_after k room grant.fresh)
 
 -- what was taken when the request stopped
-abbrev pub IsTakenUpTo : Refusal → Key → (room n first : ℕ) → List Item → List Entry → List Entry → Ledger → Ledger → Type 0
-IsTakenUpTo (refusal.Existing error) k room n first items old new before after = IsWalkStopped k n first error items old new before after
-IsTakenUpTo (refusal.New why) k room n first items old new before after = IsGrowStopped why k room n first items old new before after
+abbrev pub IsTakenUpTo : Refusal → Key → (room n id first : ℕ) → List Item → List Entry → List Entry → Ledger → Ledger → Type 0
+IsTakenUpTo (refusal.Existing error) k room n id first items old new before after = IsWalkStopped k n id first error items old new before after
+IsTakenUpTo (refusal.New why) k room n id first items old new before after = IsGrowStopped why k room n id first items old new before after
 
 -- what the request answers then
 abbrev pub refusal_answer : Refusal → AllocationError

@@ -17,7 +17,7 @@ module _ {P : Type 0} where
 
   -- the numbers start where they did, and the view is over the same values
   abbrev pub KeepsView : OpenPools P → OpenPools P → Type 0
-  KeepsView old new = (new.offset ≡ old.offset) × (new.pools.ghost_name ≡ old.pools.ghost_name) × (new.listed.ghost_name ≡ old.listed.ghost_name) × (new.looks.ghost_name ≡ old.looks.ghost_name)
+  KeepsView old new = (new.offset ≡ old.offset) × (new.pools.ghost_name ≡ old.pools.ghost_name) × (new.listed.ghost_name ≡ old.listed.ghost_name) × (new.looks.ghost_name ≡ old.looks.ghost_name) × (new.id ≡ old.id)
 
   -- the view after a pool was looked at and left so
   abbrev pub looked_at : OpenPools P → ℕ → DescriptorPool P → OpenPools P

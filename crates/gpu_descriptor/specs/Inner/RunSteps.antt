@@ -1,29 +1,41 @@
 -- What a call of `RunIterator::next` does.
 use Rattle.std.specs.Prelude.{ℕ, Bool, ◌&&◌, nat_eq, List, [], ◌∷◌, IfSome, true, false, ◌≡◌, ◌+◌, ◌<◌, ◌^◌, length, Option, None, Some, MatchOption}
-use Rattle.gpu_descriptor.specs.declared.set.BucketKey.{BucketKey}
 use Rattle.gpu_descriptor.specs.declared.set.DescriptorSet.{DescriptorSet}
-use Rattle.gpu_descriptor.specs.Model.Books.{key_eq}
-use Rattle.gpu_descriptor.specs.Caller.Sets.{key_of}
+use Rattle.gpu_descriptor.specs.Model.Books.{Key, key_eq}
 use Rattle.std.specs.Bool.{MatchBool}
 use Rattle.std.specs.Iterator.{Count, HoldsAlong, MakesProgress, YieldsThen}
 use Rattle.gpu_descriptor.specs.declared.bucket.run.Run.{Run}
 
--- the set lies under the key in the pool with the number
-unfoldable pub at_place : {S : Type 0} → BucketKey → ℕ → DescriptorSet S → Bool
-at_place k n x = key_eq (key_of x.key) (key_of k) && nat_eq x.number n
+-- the set lies under the key with the id in the pool with the number
+unfoldable pub at_place : {S : Type 0} → ℕ → ℕ → DescriptorSet S → Bool
+at_place i n x = nat_eq x.id i && nat_eq x.number n
 
 -- each set lies in this place
-abbrev pub HaveKey : {S : Type 0} → BucketKey → ℕ → List (DescriptorSet S) → Type 0
+abbrev pub HaveKey : {S : Type 0} → ℕ → ℕ → List (DescriptorSet S) → Type 0
 HaveKey k n [] = Unit {0}
 HaveKey k n (x ∷ xs) = (at_place k n x ≡ true) × HaveKey k n xs
 
 -- n, and one for each set of the place that calls from s may give, stays below 2 ^ 32
-abbrev pub CountsFrom : {T S : Type 0} → (T → Option (DescriptorSet S) → T → Type 0) → BucketKey → ℕ → T → ℕ → Type 0
+abbrev pub CountsFrom : {T S : Type 0} → (T → Option (DescriptorSet S) → T → Type 0) → ℕ → ℕ → T → ℕ → Type 0
 CountsFrom steps k i s n = HoldsAlong steps s (λ xs. HaveKey k i xs → n + length xs < 2 ^ 32)
 
 -- calls from s gave xs, which lie in the place, and then nothing, or a set of another place
-abbrev pub EndsRun : {T S : Type 0} → (T → Option (DescriptorSet S) → T → Type 0) → BucketKey → ℕ → T → List (DescriptorSet S) → Option (DescriptorSet S) → T → Type 0
+abbrev pub EndsRun : {T S : Type 0} → (T → Option (DescriptorSet S) → T → Type 0) → ℕ → ℕ → T → List (DescriptorSet S) → Option (DescriptorSet S) → T → Type 0
 EndsRun steps k n s xs r t = HaveKey k n xs × YieldsThen steps s xs r t × IfSome r (λ y. at_place k n y ≡ false)
+
+-- ---- the same by the key, which the code does not see
+
+-- the set lies under the key in the pool with the number
+unfoldable pub lies_at : {S : Type 0} → Key → ℕ → DescriptorSet S → Bool
+lies_at k n x = key_eq x.key.is k && nat_eq x.number n
+
+abbrev pub LieAt : {S : Type 0} → Key → ℕ → List (DescriptorSet S) → Type 0
+LieAt k n [] = Unit {0}
+LieAt k n (x ∷ xs) = (lies_at k n x ≡ true) × LieAt k n xs
+
+-- calls from s gave xs, which lie there, and then nothing, or a set that lies elsewhere
+abbrev pub EndsAt : {T S : Type 0} → (T → Option (DescriptorSet S) → T → Type 0) → Key → ℕ → T → List (DescriptorSet S) → Option (DescriptorSet S) → T → Type 0
+EndsAt steps k n s xs r t = LieAt k n xs × YieldsThen steps s xs r t × IfSome r (λ y. lies_at k n y ≡ false)
 
 module _ {T S : Type 0} (steps : T → Option (DescriptorSet S) → T → Type 0) (can : T → Type 0) (left : T → Count) where
   -- o is the set ahead, and where there is none the answer of the source
@@ -33,9 +45,9 @@ module _ {T S : Type 0} (steps : T → Option (DescriptorSet S) → T → Type 0
   -- of the set o, one of the run's place comes and is counted, and one of another place stays ahead
   abbrev pub Hands : Run T S → Option (DescriptorSet S) → Option S → Run T S → Type 0
   Hands s o r t = MatchOption o ((r ≡ None) × (t.ahead.now ≡ None) × (t.count ≡ s.count))
-      (λ x. MatchBool (at_place s.key s.number x) ((r ≡ Some x.raw) × (t.ahead.now ≡ None) × (t.count ≡ s.count + 1))
+      (λ x. MatchBool (at_place s.id s.number x) ((r ≡ Some x.raw) × (t.ahead.now ≡ None) × (t.count ≡ s.count + 1))
       ((r ≡ None) × (t.ahead.now ≡ Some x) × (t.count ≡ s.count)))
 
   abbrev pub RunStep : Run T S → Option S → Run T S → Type 0
-  RunStep s r t = (t.key ≡ s.key) × (t.number ≡ s.number) × (t.source.ghost_name ≡ s.source.ghost_name) × (t.ahead.ghost_name ≡ s.ahead.ghost_name)
+  RunStep s r t = (t.id ≡ s.id) × (t.number ≡ s.number) × (t.source.ghost_name ≡ s.source.ghost_name) × (t.ahead.ghost_name ≡ s.ahead.ghost_name)
       × ((o : Option (DescriptorSet S)) × Looks s.source.now s.ahead.now o t.source.now × Hands s o r t)

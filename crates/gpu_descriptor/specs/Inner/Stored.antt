@@ -7,7 +7,7 @@ use Rattle.gpu_descriptor.specs.declared.bucket.DescriptorBucket.{DescriptorBuck
 use Rattle.gpu_descriptor.specs.Model.Books.{Key, key_eq, Entry, Bucket, books_of}
 use Rattle.gpu_descriptor.specs.Model.Load.{marked_load, pool_load}
 use Rattle.gpu_descriptor.specs.Caller.States.{named_row}
-use Rattle.gpu_descriptor.specs.Caller.Sets.{key_of}
+use Rattle.gpu_descriptor.specs.Caller.KeyOf.{key_of}
 use Rattle.gpu_descriptor.specs.Caller.Values.{Kept, Row}
 
 module _ {P : Type 0} where
@@ -15,7 +15,7 @@ module _ {P : Type 0} where
   kept_of p = record { raw = p.raw; capacity = p.capacity; allocated = p.allocated; free = p.available }
 
   abbrev pub row_of : BucketKey × DescriptorBucket P → Row P
-  row_of r = record { key = key_of r.0; first = r.1.offset; pools = map kept_of r.1.pools.items }
+  row_of r = record { key = key_of r.0; id = r.1.id; first = r.1.offset; pools = map kept_of r.1.pools.items }
 
   -- the keys of a table, in its order
   abbrev pub stored_keys : List (BucketKey × DescriptorBucket P) → List Key
@@ -47,7 +47,7 @@ module _ {P : Type 0} where
     entry_of p = record { pool = name p.raw; capacity = p.capacity; allocated = p.allocated; free = p.available }
 
     abbrev pub bucket_of : DescriptorBucket P → Bucket
-    bucket_of b = record { first = b.offset; pools = map entry_of b.pools.items }
+    bucket_of b = record { id = b.id; first = b.offset; pools = map entry_of b.pools.items }
 
 -- the books that the entries of the map keep
 abbrev pub books_in : {P : Type 0} → (P → ℕ) → List (BucketKey × DescriptorBucket P) → Key → Bucket

@@ -5,7 +5,7 @@ use Rattle.std.specs.Option.{option_map_or}
 use Rattle.gpu_descriptor_types.specs.Ledger.{Pool, Ledger, live_sets, on_pool, alloc_refused, pool_refusals}
 use Rattle.gpu_descriptor_types.specs.declared.errors.DeviceAllocationError.{DeviceAllocationError}
 use Rattle.gpu_descriptor.specs.declared.bucket.DescriptorPool.{DescriptorPool}
-use Rattle.gpu_descriptor.specs.declared.set.BucketKey.{BucketKey}
+use Rattle.gpu_descriptor.specs.Inner.SetAt.{set_at}
 use Rattle.gpu_descriptor.specs.declared.set.DescriptorSet.{DescriptorSet}
 use Rattle.gpu_descriptor.specs.Inner.Buckets.{AreBookedIn}
 use Rattle.gpu_descriptor.specs.Model.Books.{Key, key_eq, Entry, Bucket, entry_at}
@@ -21,26 +21,26 @@ abbrev pub entries_of : {P : Type 0} → (P → ℕ) → List (DescriptorPool P)
 entries_of name pools = map (entry_of name) pools
 
 -- the state with other pools of a key, and another ledger
-abbrev pub with_pools : Key → List Entry → (ℕ → Option Pool) → State → State
-with_pools k pools ledger s = record { books = λ l. let b = s.books l in if key_eq k l then record b { pools = pools } else b; ledger = ledger }
+abbrev pub with_pools : Key → ℕ → List Entry → (ℕ → Option Pool) → State → State
+with_pools k id pools ledger s = record { books = λ l. let b = s.books l in if key_eq k l then record b { id = id; pools = pools } else b; ledger = ledger }
 
 -- sets of one pool, out of the raw ones
-abbrev pub sets_at : {S : Type 0} → BucketKey → ℕ → List S → List (DescriptorSet S)
-sets_at key number raws = map (λ raw. record { raw = raw; number = number; key = key }) raws
+abbrev pub sets_at : {S : Type 0} → Key → ℕ → ℕ → List S → List (DescriptorSet S)
+sets_at k id number raws = map (set_at k id number) raws
 
 -- how often a set is live in the pool of the bucket that its number names
 abbrev pub live_at : (ℕ → Option Pool) → Bucket → Item → ℕ
 live_at pools b t = option_map_or (λ e. live_in pools e.pool (set_of t)) (entry_at b t.number) 0
 
 -- a key whose first pool has the number first: exactly these sets went out of its pools, and books and ledger agree on them as before
-pub record KeepsKey (k : Key) (first : ℕ) (items : List Item) (old new : List Entry) (before after : ℕ → Option Pool) : Type 0 where
+pub record KeepsKey (k : Key) (id first : ℕ) (items : List Item) (old new : List Entry) (before after : ℕ → Option Pool) : Type 0 where
   pub booked : AreBookedIn k after new
   pub longer : length old ≤ length new
   -- a pool is an old one, or its name is new
   pub named : (i : ℕ) (e : Entry) → slice_get new i ≡ Some e → (list_any (λ d. d.pool == e.pool) old ≡ true) ⊎ (before e.pool ≡ None)
   pub others : (q : ℕ) → list_any (λ e. e.pool == q) new ≡ false → after q ≡ before q
-  pub of_key : (t : Item) → 0 < count_of t items → t.key ≡ k
-  pub out : (t : Item) → t.key ≡ k → live_at after (record { first = first; pools = new }) t ≡ live_at before (record { first = first; pools = old }) t + count_of t items
+  pub of_key : (t : Item) → 0 < count_of t items → (t.key ≡ k) × (t.id ≡ id)
+  pub out : (t : Item) → t.key ≡ k → t.id ≡ id → live_at after (record { id = id; first = first; pools = new }) t ≡ live_at before (record { id = id; first = first; pools = old }) t + count_of t items
   pub more : allocated_in new ≡ allocated_in old + length items
 
 -- a pool was asked for what it has of so many sets, or skipped where it has no places or none are wanted
@@ -69,22 +69,23 @@ pub record HasTaken (k : Key) (n first : ℕ) (g : Grant) (old new : List Entry)
   pub counters : after.counters ≡ risen (grant_rise n g old) before.counters
 
 -- all existing pools were asked, and so many sets are still wanting
-pub record IsWalked (k : Key) (n first left : ℕ) (items : List Item) (old new : List Entry) (before after : Ledger) : Type 0 where
+pub record IsWalked (k : Key) (n id first left : ℕ) (items : List Item) (old new : List Entry) (before after : Ledger) : Type 0 where
   pub grant : Grant
+  pub named : grant.id ≡ id
   pub from : grant.left ≡ left
   pub no_fresh : grant.fresh ≡ []
-  pub came : items_in k grant.parts ≡ items
-  pub keeps : KeepsKey k first items old new before.pools after.pools
+  pub came : items_in k id grant.parts ≡ items
+  pub keeps : KeepsKey k id first items old new before.pools after.pools
   pub taken : HasTaken k n first grant old new before after
 
 -- the walk stopped at a pool that answered want of memory
-pub record IsWalkStopped (k : Key) (n first : ℕ) (error : DeviceAllocationError) (items : List Item) (old new : List Entry) (before after : Ledger) : Type 0 where
+pub record IsWalkStopped (k : Key) (n id first : ℕ) (error : DeviceAllocationError) (items : List Item) (old new : List Entry) (before after : Ledger) : Type 0 where
   pub older : List Entry
   pub pool : Entry
   pub newer : List Entry
   pub here : old ≡ older ++ pool ∷ newer
   pub between : Ledger
-  pub walked : IsWalked k n first (length older + 1) items old new before between
+  pub walked : IsWalked k n id first (length older + 1) items old new before between
   pub asked : is_asked walked.grant.refused n newer pool ≡ true
   pub memory : pool_refusals error ≡ 0
   pub pools : after.pools ≡ between.pools

@@ -1,5 +1,5 @@
 -- Laws of agreement between books and ledger.
-use Rattle.std.specs.Prelude.{◌≡◌, ℕ, Option, Some}
+use Rattle.std.specs.Prelude.{◌≡◌, ℕ, ◌<◌, Option, Some}
 use Rattle.gpu_descriptor_types.specs.Ledger.{Pool}
 use Rattle.gpu_descriptor.specs.Model.Books.{Key, Entry, entry_at, no_pools}
 use Rattle.gpu_descriptor.specs.Model.Agreement.{State, Item, outstanding, HasSize, IsAsBooked, Agree}
@@ -28,3 +28,7 @@ OwnAgrees = (s t : State) → KeepsOwn s t → Agree s → Agree t
 -- and the same sets are outstanding
 abbrev pub OwnOutstanding : Type 0
 OwnOutstanding = (s t : State) → KeepsOwn s t → (i : Item) → outstanding t i ≡ outstanding s i
+
+-- of sets that are outstanding those of one key have one id
+abbrev pub KeyHasOneId : Type 0
+KeyHasOneId = (s : State) (t u : Item) → 0 < outstanding s t → 0 < outstanding s u → t.key ≡ u.key → t.id ≡ u.id

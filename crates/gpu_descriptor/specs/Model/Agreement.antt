@@ -13,14 +13,15 @@ pub record State : Type 0 where
 
 -- ---- sets that were handed out
 
--- a set that was handed out: its key, the number of its pool, and its name
+-- a set that was handed out: its key and the id of that, the number of its pool, and its name
 pub record Item : Type 0 where
   pub key : Key
+  pub id : ℕ
   pub number : ℕ
   pub name : ℕ
 
 abbrev pub item_eq : Item → Item → Bool
-item_eq s t = key_eq s.key t.key && (s.number == t.number) && (s.name == t.name)
+item_eq s t = key_eq s.key t.key && (s.number == t.number) && (s.name == t.name) && (s.id == t.id)
 
 -- the set as the device keeps it
 abbrev pub set_of : Item → LiveSet
@@ -34,9 +35,13 @@ count_of s m = count_by (λ t. item_eq t s) m
 abbrev pub live_in : (ℕ → Option Pool) → ℕ → LiveSet → ℕ
 live_in ledger pool x = option_map_or (λ p. p.live x) (ledger pool) 0
 
--- how often a set is outstanding: how often it is live in the pool that its number names
+-- how often a set is live in the pool that its key and its number name
+abbrev pub live_there : State → Item → ℕ
+live_there s t = option_map_or (λ e. live_in s.ledger e.pool (set_of t)) (entry_at (s.books t.key) t.number) 0
+
+-- how often a set is outstanding: as often as it is live there, if its id is that of its key
 abbrev pub outstanding : State → Item → ℕ
-outstanding s t = option_map_or (λ e. live_in s.ledger e.pool (set_of t)) (entry_at (s.books t.key) t.number) 0
+outstanding s t = if (s.books t.key).id == t.id then live_there s t else 0
 
 -- the sets of the list, each as often as it stands there, are outstanding
 abbrev pub AreOutstanding : List Item → State → Type 0

@@ -19,8 +19,9 @@ pub record Entry : Type 0 where
   pub allocated : ℕ
   pub free : ℕ
 
--- the pools of a key, oldest first. The one at place i has the number first + i
+-- the pools of a key, oldest first. The one at place i has the number first + i. The id is the key's, and was never another's
 pub record Bucket : Type 0 where
+  pub id : ℕ
   pub first : ℕ
   pub pools : List Entry
 
@@ -34,7 +35,7 @@ next_number b = b.first + length b.pools
 
 -- what a key has that never came
 abbrev pub no_pools : Bucket
-no_pools = record { first = 0; pools = [] }
+no_pools = record { id = 0; first = 0; pools = [] }
 
 -- ---- the books of all keys, and a table that keeps them in some order
 

@@ -19,18 +19,20 @@ portion_of p = record { number = p.number; pool = p.pool; given = length p.names
 
 -- what a request took: how many of the oldest pools gave nothing because it stopped, which pools refused, the new pools, and the sets as they came
 pub record Grant : Type 0 where
+  -- the id of the key from then on
+  pub id : ℕ
   pub left : ℕ
   pub refused : ℕ → Bool
   pub fresh : List Fresh
   pub parts : List Part
 
 -- sets of a key's pool under these names
-abbrev pub items_at : Key → ℕ → List ℕ → List Item
-items_at k number names = map (λ name. record { key = k; number = number; name = name }) names
+abbrev pub items_at : Key → ℕ → ℕ → List ℕ → List Item
+items_at k id number names = map (λ name. record { key = k; id = id; number = number; name = name }) names
 
 -- the sets of the answer
-abbrev pub items_in : Key → List Part → List Item
-items_in k parts = flat_map (λ p. items_at k p.number p.names) parts
+abbrev pub items_in : Key → ℕ → List Part → List Item
+items_in k id parts = flat_map (λ p. items_at k id p.number p.names) parts
 
 -- the names of the sets that came from a pool
 abbrev pub came : List Part → ℕ → List ℕ
@@ -55,6 +57,6 @@ ledger_with k g ledger name = option_map (pool_with (live_sets k.counts (came g.
 -- books and ledger with what a request of n sets took
 abbrev pub granted : Key → ℕ → Grant → State → State
 granted k n g s = record {
-  books = λ l. let b = s.books l in if key_eq k l then record b { pools = entries_with n g b.pools } else b;
+  books = λ l. let b = s.books l in if key_eq k l then record b { id = g.id; pools = entries_with n g b.pools } else b;
   ledger = ledger_with k g s.ledger;
 }

@@ -70,6 +70,8 @@ rollback_rise items k t = record no_rise { released = runs items; destroyed = po
 
 -- what the request could take so: only asked pools refuse, the sets come in order, and the new pools' names are new
 pub record IsGrant (r : Request) (s : State) (g : Grant) : Type 0 where
+  -- a key that has pools keeps its id
+  pub id : let b = s.books r.key in 0 < length b.pools → g.id ≡ b.id
   pub refusing : let asked = drop g.left (s.books r.key).pools in OnlyAskedRefuse g.refused r.count asked
   pub parts : let b = s.books r.key in map portion_of g.parts ≡ portions_of g.refused r.count (b.first + g.left) (drop g.left b.pools) ++ fresh_portions (next_number b) g.fresh
   pub new : AreNew s.ledger g.fresh
@@ -153,7 +155,7 @@ pub record IsDone (c : Call) : Type 0 where
   pub pooled : ℕ
   pub is_pooled : IsPoolLoad c.old pooled
   pub fresh : IsFreshList c.request.key (c.request.limit - pooled) (out_then c.request c.old grant) (wanting c.request c.old grant) grant.fresh
-  pub answer : c.answer ≡ Ok (items_in c.request.key grant.parts)
+  pub answer : c.answer ≡ Ok (items_in c.request.key grant.id grant.parts)
   pub state : c.new ≡ granted c.request.key c.request.count grant c.old
   pub counters : c.after ≡ risen (grant_rise c.request.count grant (c.old.books c.request.key).pools) c.before
 
@@ -161,8 +163,8 @@ pub record IsDone (c : Call) : Type 0 where
 pub record IsBack (c : Call) (grant : Grant) (rise : Counters) (error : AllocationError) : Type 0 where
   pub taken : IsGrant c.request c.old grant
   pub answer : c.answer ≡ Err error
-  pub state : c.new ≡ released (items_in c.request.key grant.parts) (granted c.request.key c.request.count grant c.old)
-  pub counters : c.after ≡ risen (rollback_rise (items_in c.request.key grant.parts) c.request.key (granted c.request.key c.request.count grant c.old)) (risen rise (risen (grant_rise c.request.count grant (c.old.books c.request.key).pools) c.before))
+  pub state : c.new ≡ released (items_in c.request.key grant.id grant.parts) (granted c.request.key c.request.count grant c.old)
+  pub counters : c.after ≡ risen (rollback_rise (items_in c.request.key grant.id grant.parts) c.request.key (granted c.request.key c.request.count grant c.old)) (risen rise (risen (grant_rise c.request.count grant (c.old.books c.request.key).pools) c.before))
 
 -- at an existing pool, which answered a memory error. The newer pools were asked before it, where they had places
 pub record IsStoppedAtPool (c : Call) : Type 0 where

@@ -43,7 +43,7 @@ spent_front b = min (empty_front b) (length b.pools - 1)
 
 -- the bucket without its first n pools. The others keep their numbers
 abbrev pub without_front : ℕ → Bucket → Bucket
-without_front n b = record { first = b.first + n; pools = drop n b.pools }
+without_front n b = record b { first = b.first + n; pools = drop n b.pools }
 
 -- whether a pool is among the first n
 abbrev pub in_front : ℕ → Bucket → ℕ → Bool

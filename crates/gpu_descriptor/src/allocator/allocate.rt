@@ -1,6 +1,7 @@
 //! Handing sets out, whole or not at all.
 ghost use Rattle.std.specs.Prelude.{◌≡◌, ◌+◌, ◌*◌, ◌^◌, ◌<◌, ◌≤◌, ◌&&◌, nat_lt, length, sum};
-ghost use Rattle.std.specs.Prelude.{sum_by, Err, IfOk, IfErr, OnOk, OnErr};
+ghost use Rattle.gpu_descriptor.specs.Inner.Ids.{rise_below, stored_ids};
+ghost use Rattle.std.specs.Prelude.{sum_by, true, Err, IfOk, IfErr, OnOk, OnErr};
 ghost use Rattle.std.specs.List.{IsDistinct};
 ghost use Rattle.gpu_descriptor_types.specs.Counts.{kinds};
 ghost use Rattle.gpu_descriptor.specs.Model.Books.{HasDistinctKeys, key_eq};
@@ -8,7 +9,7 @@ ghost use Rattle.gpu_descriptor.specs.Caller.Flags.{is_marked};
 ghost use Rattle.gpu_descriptor.specs.Caller.HandsOut.{HandsOut};
 ghost use Rattle.gpu_descriptor.specs.Caller.Keeps.{Keeps};
 ghost use Rattle.gpu_descriptor.specs.Caller.Keys.{StayOrGainLast};
-ghost use Rattle.gpu_descriptor.specs.Caller.Sets.{key_of};
+ghost use Rattle.gpu_descriptor.specs.Caller.KeyOf.{key_of};
 ghost use Rattle.gpu_descriptor.specs.Caller.States.{Agrees, keys_of, marked_load_of, pool_load_of};
 ghost use Rattle.gpu_descriptor.specs.Caller.States.{table_of};
 ghost use Rattle.gpu_descriptor.specs.Model.Outcomes.{Allocates, error_of_alloc as alloc_answer};
@@ -25,6 +26,7 @@ use crate::bucket::take::{Refusal, Served, SetRequest, Stop};
 use crate::bucket::{DescriptorBucket, is_past_bound};
 use crate::errors::AllocationError;
 use crate::flags::DescriptorSetLayoutCreateFlags;
+use crate::ids::KeyIds;
 use crate::set::{BucketKey, DescriptorSet};
 use bitflags::Flags;
 use gpu_descriptor_types::{DescriptorDevice, DescriptorTotalCount, DeviceAllocationError, Tally};
@@ -130,6 +132,7 @@ impl<P: Drop, S: Drop> DescriptorAllocator<P, S> {
         let served = serve_key(
             self.alloc,
             &mut self.buckets,
+            &mut self.ids,
             device,
             &request,
             &mut self.update_after_bind_room,
@@ -162,6 +165,7 @@ impl<P: Drop, S: Drop> DescriptorAllocator<P, S> {
 fn serve_key<L, P: Drop, S: Drop, D: DescriptorDevice<L, P, S>>(
     alloc: Global,
     buckets: &mut IndexMap<BucketKey, DescriptorBucket<P>>,
+    ids: &mut KeyIds,
     device: &mut D,
     request: &SetRequest<'_, L>,
     room: &mut u32,
@@ -171,6 +175,8 @@ fn serve_key<L, P: Drop, S: Drop, D: DescriptorDevice<L, P, S>>(
         request.now.layout.now }
     requires booked { AreBookedIn (key_of request.now.key) (D.ledger device.old).pools
         (books_in D.pool_name buckets.old.entries (key_of request.now.key)).pools }
+    requires distinct { IsDistinct key_eq (stored_keys buckets.old.entries) }
+    requires rising { rise_below ids.old.next (stored_ids buckets.old.entries) ≡ true }
     requires bound { sum_by (λ r. r.1.total) buckets.old.entries + request.now.count < 2 ^ 64 }
     ensures served { IfOk result (λ r. ServesKey D.pool_name D.set_name request.now.key room.old
         request.now.count r.sets.items r.taken buckets.old.entries buckets.new.entries
@@ -185,17 +191,22 @@ fn serve_key<L, P: Drop, S: Drop, D: DescriptorDevice<L, P, S>>(
     ensures keys { OnOk result (StayOrGainLast (key_of request.now.key)
         (stored_keys buckets.old.entries) (stored_keys buckets.new.entries)) }
     ensures distinct { OnOk result (IsDistinct key_eq (stored_keys buckets.new.entries)) }
+    ensures rising { rise_below ids.new.next (stored_ids buckets.new.entries) ≡ true }
     ensures entries { OnErr result (buckets.new.entries ≡ buckets.old.entries) }
     ensures ledger { OnErr result (D.ledger device.new ≡ D.ledger device.old) }
 {
-    match buckets.get_mut(&request.key) {
-        Some(bucket) => return bucket.serve(device, request, room, alloc, looks),
+    match ids.place_of_key(buckets, &request.key) {
+        Some(place) => return buckets[place].serve(device, request, room, alloc, looks),
         None => {}
     }
     if buckets.reserve(1).is_err() {
         return Err(AllocationError::OutOfHostMemory);
     }
+    if ids.next == u64::MAX {
+        return Err(AllocationError::OutOfHostMemory);
+    }
     let mut bucket = DescriptorBucket {
+        id: ids.next,
         offset: 0,
         pools: VecDeque::new(alloc),
         listed: VecDeque::new(alloc),
@@ -206,7 +217,10 @@ fn serve_key<L, P: Drop, S: Drop, D: DescriptorDevice<L, P, S>>(
         Err(error) => return Err(error),
     };
     match buckets.insert(request.key, bucket) {
-        Ok(_) => Ok(served),
+        Ok(_) => {
+            ids.next += 1;
+            Ok(served)
+        }
         Err(_) => unreachable!(),
     }
 }

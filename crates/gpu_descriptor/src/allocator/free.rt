@@ -7,7 +7,8 @@ ghost use Rattle.gpu_descriptor.specs.Caller.Comparisons.{open_pools, binary_dig
 ghost use Rattle.gpu_descriptor.specs.Caller.Keeps.{Keeps};
 ghost use Rattle.gpu_descriptor.specs.Caller.Frees.{Frees, Returns};
 ghost use Rattle.gpu_descriptor.specs.Inner.Releases.{FreesRun};
-ghost use Rattle.gpu_descriptor.specs.Caller.Sets.{items_of, key_of};
+ghost use Rattle.gpu_descriptor.specs.Caller.KeyOf.{key_of};
+ghost use Rattle.gpu_descriptor.specs.Caller.Sets.{items_of};
 ghost use Rattle.gpu_descriptor.specs.Caller.States.{Agrees, keys_of, state_of};
 
 use super::DescriptorAllocator;
@@ -98,27 +99,25 @@ impl<P, S> DescriptorAllocator<P, S> {
         ensures rises { self.old.comparisons ≤ self.new.comparisons }
         ensures few { self.new.comparisons ≤ self.old.comparisons
             + binary_digits (open_pools ((state_of D.pool_name self.old
-            (D.ledger device.old)).books (key_of first.key))) }
+            (D.ledger device.old)).books first.key.is)) }
     {
-        let key = first.key;
-        match self.buckets.get_mut(&key) {
-            Some(bucket) => {
-                let before = bucket.total;
-                let ahead = bucket.release_run(
-                    device,
-                    first,
-                    sets,
-                    &mut self.comparisons,
-                    &mut self.update_after_bind_room,
-                );
-                let released = before - bucket.total;
-                self.outstanding -= released;
-                let descriptors = descriptors_of_sets(&key, released) as u32;
-                self.current_update_after_bind_descriptors_in_all_pools -= descriptors;
-                ahead
-            }
-            None => unreachable!(),
-        }
+        let place = self.ids.place_of_id(&self.buckets, first.id);
+        let key = *self.buckets.as_slice().get_index(place).unwrap().0;
+        let bucket = &mut self.buckets[place];
+        let before = bucket.total;
+        let ahead = bucket.release_run(
+            device,
+            &key,
+            first,
+            sets,
+            &mut self.comparisons,
+            &mut self.update_after_bind_room,
+        );
+        let released = before - bucket.total;
+        self.outstanding -= released;
+        let descriptors = descriptors_of_sets(&key, released) as u32;
+        self.current_update_after_bind_descriptors_in_all_pools -= descriptors;
+        ahead
     }
 }
 

@@ -1,24 +1,31 @@
 //! Where a request puts the sets that come from the device.
 ghost use Rattle.std.specs.Prelude.{◌≡◌, ◌+◌, ◌≤◌, [], IfOk, vec_len, vec_capacity};
 
+use crate::key::SetKey;
 use crate::set::{BucketKey, DescriptorSet};
 use gpu_descriptor_types::SetSink;
 use std::alloc::{AllocError, Global};
 
 /// The sets of a request, over room that was taken before the first device call. Each set that is
-/// put gets the key and the number of the pool that is asked.
+/// put gets the key with its id, and the number of the pool that is asked.
 #[derive(Drop)]
 pub(crate) struct Allocation<S> {
     pub(crate) sets: Vec<DescriptorSet<S>>,
     pub(crate) left: usize,
     pub(crate) key: BucketKey,
+    pub(crate) id: u64,
     pub(crate) number: u64,
     ghost fits: { vec_len sets + left ≤ vec_capacity sets },
 }
 
 impl<S> Allocation<S> {
     /// Room for so many sets of a key.
-    pub(crate) fn with_room(alloc: Global, key: BucketKey, count: u32) -> Result<Self, AllocError>
+    pub(crate) fn with_room(
+        alloc: Global,
+        key: BucketKey,
+        id: u64,
+        count: u32,
+    ) -> Result<Self, AllocError>
         ensures sets { IfOk result (λ sink. sink.sets.items ≡ []) }
         ensures left { IfOk result (λ sink. sink.left ≡ count) }
     {
@@ -26,6 +33,7 @@ impl<S> Allocation<S> {
             sets: Vec::with_capacity(alloc, count as usize)?,
             left: count as usize,
             key,
+            id,
             number: 0,
         })
     }
@@ -38,29 +46,36 @@ impl<S> Allocation<S> {
             sets,
             left: _,
             key: _,
+            id: _,
             number: _,
         } = self;
         sets
     }
 
     /// The next sets come from the pool of this key that has this number.
-    pub(crate) fn aim(&mut self, key: BucketKey, number: u64)
+    pub(crate) fn aim(&mut self, key: BucketKey, id: u64, number: u64)
         ensures sets { self.new.sets.items ≡ self.old.sets.items }
         ensures left { self.new.left ≡ self.old.left }
         ensures key { self.new.key ≡ key }
+        ensures id { self.new.id ≡ id }
         ensures number { self.new.number ≡ number }
     {
         self.key = key;
+        self.id = id;
         self.number = number;
     }
 }
 
 impl<S> SetSink<S> for Allocation<S> {
+    ghost use Rattle.gpu_descriptor.specs.Caller.KeyOf.{key_of};
+    ghost use Rattle.gpu_descriptor.specs.Inner.SetAt.{set_at};
+
     type Kept = DescriptorSet<S>;
 
     ghost kept = { λ sink. sink.sets.items };
 
-    ghost kept_as = { λ sink raw. record { raw = raw; number = sink.number; key = sink.key } };
+    ghost kept_as = { λ sink raw. set_at (key_of sink.key) sink.id
+        sink.number raw };
 
     ghost room_left = { λ sink. sink.left };
 
@@ -72,7 +87,8 @@ impl<S> SetSink<S> for Allocation<S> {
         self.sets.push_reserved(DescriptorSet {
             raw: set,
             number: self.number,
-            key: self.key,
+            id: self.id,
+            key: SetKey::of(&self.key),
         });
         self.left -= 1;
     }

@@ -11,6 +11,9 @@ use std::collections::VecDeque;
 /// Pools, oldest first, and the numbers of those with known free places, rising.
 #[derive(Drop)]
 pub(crate) struct OpenPools<'a, 'b, 'c, P> {
+    /// The id of the key.
+    id: u64,
+
     /// The number of the first pool.
     offset: u64,
     pools: &'a mut VecDeque<DescriptorPool<P>>,
@@ -22,11 +25,13 @@ impl<'a, 'b, 'c, P> OpenPools<'a, 'b, 'c, P> {
     ghost use Rattle.gpu_descriptor.specs.Inner.OpenPools.{IsListed, KeepsView, LendsPool};
 
     pub(crate) fn new(
+        id: u64,
         offset: u64,
         pools: &'a mut VecDeque<DescriptorPool<P>>,
         listed: &'b mut VecDeque<u64>,
         looks: &'c mut Tally,
     ) -> Self
+        ensures id { result.id ≡ id }
         ensures offset { result.offset ≡ offset }
         ensures pools { result.pools.now ≡ pools.old }
         ensures listed { result.listed.now ≡ listed.old }
@@ -36,6 +41,7 @@ impl<'a, 'b, 'c, P> OpenPools<'a, 'b, 'c, P> {
         ensures same_looks { result.looks.ghost_name ≡ looks.entry.ghost_name }
     {
         OpenPools {
+            id,
             offset,
             pools,
             listed,
@@ -50,6 +56,13 @@ impl<'a, 'b, 'c, P> OpenPools<'a, 'b, 'c, P> {
             ≡ take (length self.now.listed.now.items - 1) self.now.listed.now.items ++ n ∷ []) }
     {
         self.listed.back().copied()
+    }
+
+    /// The id of the key.
+    pub(crate) fn id(&self) -> u64
+        ensures { result ≡ self.now.id }
+    {
+        self.id
     }
 
     /// Reads the books of the pool with this number. This is a look.

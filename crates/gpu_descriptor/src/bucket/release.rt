@@ -4,14 +4,14 @@ ghost use Rattle.std.specs.Iterator.{HoldsAlong, IsFinite, IsNearerEnd};
 ghost use Rattle.gpu_descriptor.specs.Inner.Buckets.{AreBookedIn};
 ghost use Rattle.gpu_descriptor.specs.Inner.Releases.{IsTakenAt, ReleasesRun, names_of};
 ghost use Rattle.gpu_descriptor.specs.Caller.Comparisons.{open_pools, binary_digits};
-ghost use Rattle.gpu_descriptor.specs.Caller.Sets.{key_of};
+ghost use Rattle.gpu_descriptor.specs.Caller.KeyOf.{key_of};
 ghost use Rattle.gpu_descriptor.specs.Inner.RunSteps.{HaveKey};
 ghost use Rattle.gpu_descriptor.specs.Inner.Stored.{bucket_of, stored_load};
 
 use crate::bucket::DescriptorBucket;
 use crate::bucket::run::Run;
 use crate::bucket::search::enter_new;
-use crate::set::DescriptorSet;
+use crate::set::{BucketKey, DescriptorSet};
 use gpu_descriptor_types::{DescriptorDevice, Tally};
 
 impl<P> DescriptorBucket<P> {
@@ -26,29 +26,31 @@ impl<P> DescriptorBucket<P> {
     >(
         &mut self,
         device: &mut D,
+        key: &BucketKey,
         first: DescriptorSet<S>,
         sets: &mut I,
         comparisons: &mut Tally,
         room: &mut u32,
     ) -> Option<DescriptorSet<S>>
+        requires same { key_of key.now ≡ first.key.is }
         requires can { I.can_next sets.old }
         requires ends { IsFinite (I.remaining sets.old) }
-        requires stored { AreBookedIn (key_of first.key) (D.ledger device.old).pools
+        requires stored { AreBookedIn first.key.is (D.ledger device.old).pools
             (bucket_of D.pool_name self.old).pools }
-        requires taken { HoldsAlong I.next_gives sets.old (λ xs. HaveKey first.key first.number xs
-            → IsTakenAt (key_of first.key) first.number (names_of D.set_name (first ∷ xs))
+        requires taken { HoldsAlong I.next_gives sets.old (λ xs. HaveKey first.id first.number xs
+            → IsTakenAt first.key.is first.number (names_of D.set_name (first ∷ xs))
             (bucket_of D.pool_name self.old) (D.ledger device.old).pools) }
-        requires room { room.old + stored_load (key_of first.key) self.old.pools.items < 2 ^ 32 }
+        requires room { room.old + stored_load (key_of key.now) self.old.pools.items < 2 ^ 32 }
         ensures ran { ReleasesRun I.next_gives D.pool_name D.set_name first sets.old result sets.new
             self.old self.new (D.ledger device.old) (D.ledger device.new) }
         ensures goes { OnSome result (IsNearerEnd I.can_next I.remaining sets.old sets.new) }
         ensures rises { comparisons.old.count ≤ comparisons.new.count }
         ensures few { comparisons.new.count ≤ comparisons.old.count + binary_digits
             (open_pools (bucket_of D.pool_name self.old)) }
-        ensures room { room.new + stored_load (key_of first.key) self.new.pools.items
-            ≡ room.old + stored_load (key_of first.key) self.old.pools.items }
+        ensures room { room.new + stored_load (key_of key.now) self.new.pools.items
+            ≡ room.old + stored_load (key_of key.now) self.old.pools.items }
     {
-        let key = first.key;
+        let id = first.id;
         let number = first.number;
         let place = (number - self.offset) as usize;
         let mut ahead = Some(first);
@@ -57,7 +59,7 @@ impl<P> DescriptorBucket<P> {
         let mut run = Run {
             source: sets,
             ahead: &mut ahead,
-            key,
+            id,
             number,
             count: 0,
         };
@@ -67,7 +69,7 @@ impl<P> DescriptorBucket<P> {
         pool.available += count;
         self.total -= u64::from(count);
         enter_new(&mut self.listed, was_closed, number, comparisons);
-        self.drop_front(device, &key, room, 1);
+        self.drop_front(device, key, room, 1);
         ahead
     }
 }

@@ -4,7 +4,7 @@ ghost use Rattle.std.specs.Iterator.{count_map};
 ghost use Rattle.std.specs.Option.{option_len};
 ghost use Rattle.gpu_descriptor.specs.Inner.RunSteps.{CountsFrom, RunStep};
 
-use crate::set::{BucketKey, DescriptorSet};
+use crate::set::DescriptorSet;
 
 /// Gives the raw sets of one run: those of `source` up to the first that lies elsewhere, which
 /// stays in `ahead`. What `ahead` has at first comes before those of `source`.
@@ -13,8 +13,8 @@ pub(crate) struct Run<'a, 'b, I, S> {
     pub(crate) source: &'a mut I,
     pub(crate) ahead: &'b mut Option<DescriptorSet<S>>,
 
-    /// The key of the run's sets.
-    pub(crate) key: BucketKey,
+    /// The id of the key of the run's sets.
+    pub(crate) id: u64,
 
     /// The number of their pool.
     pub(crate) number: u64,
@@ -27,7 +27,7 @@ impl<S, I: Iterator<Item = DescriptorSet<S>>> Iterator for Run<'_, '_, I, S> {
     type Item = S;
 
     ghost can_next = { λ s. I.can_next s.source.now
-        × CountsFrom I.next_gives s.key s.number s.source.now (s.count + option_len s.ahead.now) };
+        × CountsFrom I.next_gives s.id s.number s.source.now (s.count + option_len s.ahead.now) };
 
     ghost next_gives = { RunStep I.next_gives I.can_next I.remaining };
 
@@ -39,11 +39,12 @@ impl<S, I: Iterator<Item = DescriptorSet<S>>> Iterator for Run<'_, '_, I, S> {
             Some(set) => set,
             None => self.source.next()?,
         };
-        if set.is_at(&self.key, self.number) {
+        if set.is_at(self.id, self.number) {
             self.count += 1;
             let DescriptorSet {
                 raw,
                 number: _,
+                id: _,
                 key: _,
             } = set;
             return Some(raw);

@@ -7,7 +7,8 @@ ghost use Rattle.gpu_descriptor_types.specs.Ledger.{pool_refusals};
 ghost use Rattle.gpu_descriptor_types.specs.PoolSize.{pool_counts as pool_counts_of};
 ghost use Rattle.gpu_descriptor.specs.declared.set.DescriptorSet.{DescriptorSet};
 ghost use Rattle.gpu_descriptor.specs.Model.Load.{pools_load, allocated_in, pool_load};
-ghost use Rattle.gpu_descriptor.specs.Caller.Sets.{key_of, items_of};
+ghost use Rattle.gpu_descriptor.specs.Caller.KeyOf.{key_of};
+ghost use Rattle.gpu_descriptor.specs.Caller.Sets.{items_of};
 ghost use Rattle.gpu_descriptor.specs.Inner.Stored.{bucket_of, entry_of, stored_load};
 ghost use Rattle.gpu_descriptor.specs.Model.Books.{next_number};
 ghost use Rattle.gpu_descriptor.specs.Inner.OpenPools.{CountsLooks, IsListed, KeepsView};
@@ -103,7 +104,8 @@ fn ask<L, P, S, D: DescriptorDevice<L, P, S>>(
     requires room { wanted ≤ sink.old.left }
     ensures asked { IfOk result (λ given. (put : List S)
         × (length put ≡ given)
-        × (sink.new.sets.items ≡ sink.old.sets.items ++ sets_at sink.old.key sink.old.number put)
+        × (sink.new.sets.items ≡ sink.old.sets.items ++ sets_at (key_of sink.old.key) sink.old.id
+        sink.old.number put)
         × (sink.new.left + given ≡ sink.old.left)
         × IsAsked (key_of key.now) wanted (map D.set_name put)
         (entry_of D.pool_name pool.old) (entry_of D.pool_name pool.new)
@@ -154,7 +156,7 @@ fn walk<L, P, S, D: DescriptorDevice<L, P, S>>(
     ensures walked { IfOk result (λ wanting. (put : List (DescriptorSet S))
         × (sink.new.sets.items ≡ sink.old.sets.items ++ put)
         × (sink.new.left + count ≡ sink.old.left + wanting)
-        × (walked : IsWalked (key_of key.now) count view.old.offset 0 (items_of D.set_name put)
+        × (walked : IsWalked (key_of key.now) count view.old.id view.old.offset 0 (items_of D.set_name put)
         (entries_of D.pool_name view.old.pools.now.items)
         (entries_of D.pool_name view.new.pools.now.items)
         (D.ledger device.old) (D.ledger device.new))
@@ -163,7 +165,7 @@ fn walk<L, P, S, D: DescriptorDevice<L, P, S>>(
         × (length put + wanting ≡ count)) }
     ensures stopped { IfErr result (λ e. (put : List (DescriptorSet S))
         × (sink.new.sets.items ≡ sink.old.sets.items ++ put)
-        × IsWalkStopped (key_of key.now) count view.old.offset e (items_of D.set_name put)
+        × IsWalkStopped (key_of key.now) count view.old.id view.old.offset e (items_of D.set_name put)
         (entries_of D.pool_name view.old.pools.now.items)
         (entries_of D.pool_name view.new.pools.now.items)
         (D.ledger device.old) (D.ledger device.new)) }
@@ -178,7 +180,7 @@ fn walk<L, P, S, D: DescriptorDevice<L, P, S>>(
         let Some(number) = view.newest() else {
             return Ok(wanting);
         };
-        sink.aim(*key, number);
+        sink.aim(*key, view.id(), number);
         let pool = view.look(number);
         match ask(device, pool, layout, key, wanting, sink) {
             Ok(given) => {
@@ -251,7 +253,7 @@ impl<'a, 'b, 'c, P: Drop> OpenPools<'a, 'b, 'c, P> {
         ensures grown { IfOk result (λ given. (put : List S)
             × (length put ≡ given)
             × (sink.new.sets.items ≡ sink.old.sets.items
-            ++ sets_at request.now.key (self.old.offset + length self.old.pools.now.items) put)
+            ++ sets_at (key_of request.now.key) self.old.id (self.old.offset + length self.old.pools.now.items) put)
             × (sink.new.left + given ≡ sink.old.left)
             × IsGrown (key_of request.now.key) room.old room.new total wanted (map D.set_name put)
             (entries_of D.pool_name self.old.pools.now.items)
@@ -280,7 +282,7 @@ impl<'a, 'b, 'c, P: Drop> OpenPools<'a, 'b, 'c, P> {
             Err(error) => return Err(Stop::Create(error)),
         };
         let given = size.min(wanted);
-        sink.aim(*key, self.next_number());
+        sink.aim(*key, self.id(), self.next_number());
         self.count_fresh();
         match device.alloc_descriptor_sets(&mut raw, Layouts::new(layout, given), sink) {
             Ok(()) => {
@@ -324,14 +326,14 @@ impl<'a, 'b, 'c, P: Drop> OpenPools<'a, 'b, 'c, P> {
         requires room { request.now.count ≤ sink.old.left }
         ensures done { OnOk result ((put : List (DescriptorSet S))
             × (sink.new.sets.items ≡ sink.old.sets.items ++ put)
-            × IsTakenAll (key_of request.now.key) room.old request.now.count self.old.offset
+            × IsTakenAll (key_of request.now.key) room.old request.now.count self.old.id self.old.offset
             (items_of D.set_name put)
             (entries_of D.pool_name self.old.pools.now.items)
             (entries_of D.pool_name self.new.pools.now.items)
             (D.ledger device.old) (D.ledger device.new)) }
         ensures stopped { IfErr result (λ why. (put : List (DescriptorSet S))
             × (sink.new.sets.items ≡ sink.old.sets.items ++ put)
-            × IsTakenUpTo why (key_of request.now.key) room.old request.now.count self.old.offset
+            × IsTakenUpTo why (key_of request.now.key) room.old request.now.count self.old.id self.old.offset
             (items_of D.set_name put)
             (entries_of D.pool_name self.old.pools.now.items)
             (entries_of D.pool_name self.new.pools.now.items)
@@ -394,13 +396,14 @@ impl<P: Drop> DescriptorBucket<P> {
         ensures looks_stay { OnErr result (looks.new ≡ looks.old) }
         ensures room { room.new + stored_load (key_of request.now.key) self.new.pools.items
             ≡ room.old + stored_load (key_of request.now.key) self.old.pools.items }
+        ensures id { self.new.id ≡ self.old.id }
         ensures bucket { OnErr result (self.new ≡ self.old) }
         ensures ledger { OnErr result (D.ledger device.new ≡ D.ledger device.old) }
     {
         if is_past_bound(self.offset + self.pools.len() as u64, request.count) {
             return Err(AllocationError::Fragmentation);
         }
-        let Ok(mut sink) = Allocation::with_room(alloc, request.key, request.count) else {
+        let Ok(mut sink) = Allocation::with_room(alloc, request.key, self.id, request.count) else {
             return Err(AllocationError::OutOfHostMemory);
         };
         let taken = self.take(device, request, room, &mut sink, looks);
@@ -426,15 +429,16 @@ impl<P: Drop> DescriptorBucket<P> {
             < 2 ^ 64 }
         requires empty { sink.old.sets.items ≡ [] }
         requires room { request.now.count ≤ sink.old.left }
+        ensures id { self.new.id ≡ self.old.id }
         ensures offset { self.new.offset ≡ self.old.offset }
         ensures total { self.new.total ≡ self.old.total + length sink.new.sets.items }
         ensures few { length sink.new.sets.items ≤ request.now.count }
         ensures done { OnOk result (IsTakenAll (key_of request.now.key) room.old request.now.count
-            self.old.offset (items_of D.set_name sink.new.sets.items)
+            self.old.id self.old.offset (items_of D.set_name sink.new.sets.items)
             (bucket_of D.pool_name self.old).pools (bucket_of D.pool_name self.new).pools
             (D.ledger device.old) (D.ledger device.new)) }
         ensures stopped { IfErr result (λ why. IsTakenUpTo why (key_of request.now.key) room.old
-            request.now.count self.old.offset (items_of D.set_name sink.new.sets.items)
+            request.now.count self.old.id self.old.offset (items_of D.set_name sink.new.sets.items)
             (bucket_of D.pool_name self.old).pools (bucket_of D.pool_name self.new).pools
             (D.ledger device.old) (D.ledger device.new)) }
         ensures room { room.new + stored_load (key_of request.now.key) self.new.pools.items
@@ -442,7 +446,13 @@ impl<P: Drop> DescriptorBucket<P> {
         ensures looks { looks.new.count + (D.ledger device.old).counters.asked
             ≡ looks.old.count + (D.ledger device.new).counters.asked }
     {
-        let mut view = OpenPools::new(self.offset, &mut self.pools, &mut self.listed, looks);
+        let mut view = OpenPools::new(
+            self.id,
+            self.offset,
+            &mut self.pools,
+            &mut self.listed,
+            looks,
+        );
         let taken = view.take(device, request, self.total, room, sink);
         self.total += sink.sets.len() as u64;
         taken

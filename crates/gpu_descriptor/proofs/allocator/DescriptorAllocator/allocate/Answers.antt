@@ -3,7 +3,7 @@ use Rattle.gpu_descriptor.specs.Model.Books.{Key}
 use Rattle.gpu_descriptor.specs.Model.Outcomes.{Allocates}
 use Rattle.gpu_descriptor.specs.Caller.Call.{call_of, layout_key}
 use Rattle.gpu_descriptor.specs.Caller.Keys.{StayOrGainLast}
-use Rattle.gpu_descriptor.specs.Caller.Sets.{key_of}
+use Rattle.gpu_descriptor.specs.Caller.KeyOf.{key_of}
 use Rattle.gpu_descriptor.specs.Caller.States.{keys_of}
 use Rattle.gpu_descriptor.specs.Inner.Takes.{Takes}
 use Rattle.gpu_descriptor.proofs.Allocating.{taken_agree, taken_as, taken_given}

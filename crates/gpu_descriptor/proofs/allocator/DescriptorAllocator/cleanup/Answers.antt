@@ -1,10 +1,12 @@
-use Rattle.std.proofs.Common.{◌≡◌, ◌≤◌, ◌+◌, suc, slice_get, option_map, rules, refl, sym, ap, subst, ◌∙◌, arith, length, map}
+use Rattle.std.proofs.Common.{◌≡◌, ◌≤◌, ◌+◌, ℕ, List, suc, slice_get, option_map, rules, refl, sym, ap, subst, ◌∙◌, arith, length, map}
 use Rattle.indexmap.proofs.CallerLemmas.{filter-RetainsPairs}
 use Rattle.indexmap.specs.Layout.{length-set_value_at}
 use Rattle.std.specs.Map.Iter.{deref_pair}
 use Rattle.gpu_descriptor_types.specs.Ledger.{Ledger}
 use Rattle.gpu_descriptor.specs.Model.Books.{Bucket, HasDistinctKeys}
 use Rattle.gpu_descriptor.specs.Inner.Buckets.{AreBookedIn, has_pools}
+use Rattle.gpu_descriptor.specs.Inner.Ids.{rise_below, stored_ids}
+use Rattle.gpu_descriptor.proofs.Rising.{ids_put, rise_left}
 use Rattle.gpu_descriptor.specs.Caller.States.{outstanding_of, marked_load_of, named_row}
 use Rattle.gpu_descriptor.specs.Inner.Stored.{row_of}
 use Rattle.gpu_descriptor.specs.Caller.Values.{Allocations}
@@ -39,6 +41,11 @@ drop_front-requires-clause-room g c =
     let ranges = c.self.ranges in
     omega arith
 
+pub invariant_of-self-inside-in-loop-place : goal.invariant_of-self-inside-in-loop-place
+invariant_of-self-inside-in-loop-place g c =
+    let same = ids_put c.loop-place.self-inside.buckets.entries c.loop-place.place c.index_mut-bucket.result.now c.drop_front.new.self c.index_mut-bucket.ensures.value (ap (λ (b : Bucket). b.id) c.drop_front.ensures.books) in
+    (ap (λ (ids : List ℕ). rise_below c.loop-place.self-inside.ids.next ids) same ∙ c.loop-place.self-inside.rising, tt)
+
 pub loop-place-preserved : goal.loop-place-preserved
 loop-place-preserved g c =
     let name = g.D.DescriptorDevice.pool_name in
@@ -60,6 +67,12 @@ loop-place-preserved g c =
       looks = h.looks;
       comparisons = h.comparisons;
     }
+
+pub invariant_of-self-inside-2 : goal.invariant_of-self-inside-2
+invariant_of-self-inside-2 g c =
+    let kept = filter-RetainsPairs _ (λ e. has_pools e.1) _ (λ k v b w f call. search rules) _ _ c.retain.ensures.filtered in
+    let left = rise_left (λ e. has_pools e.1) c.loop-place.self-inside.ids.next c.loop-place.self-inside.buckets.entries c.loop-place.self-inside.rising in
+    (ap (λ es. rise_below c.loop-place.self-inside.ids.next (stored_ids es)) kept ∙ left, tt)
 
 pub invariant_of-self : goal.invariant_of-self
 invariant_of-self g c =

@@ -1,110 +1,172 @@
-use Rattle.std.proofs.Common.{◌≡◌, ◌-◌, arith, rules, refl, sym, ap, ◌∙◌, List, [], ◌∷◌, map}
-use Rattle.std.specs.Option.{option_copied_mut}
-use Rattle.gpu_descriptor.specs.Caller.Sets.{key_of, items_of}
+use Rattle.std.proofs.Common.{◌≡◌, ◌+◌, ◌-◌, ℕ, arith, refl, sym, ap, ◌∙◌, List, [], ◌∷◌, Some, option_map, slice_get, subst}
+use Rattle.indexmap.specs.Layout.{set_value_at}
+use Rattle.std.specs.Map.Iter.{deref_pair}
+use Rattle.gpu_descriptor.specs.Model.Books.{Bucket, Key}
+use Rattle.gpu_descriptor.specs.Caller.KeyOf.{key_of}
+use Rattle.gpu_descriptor.specs.Caller.Sets.{items_of}
 use Rattle.gpu_descriptor.specs.Caller.States.{state_of}
 use Rattle.gpu_descriptor.specs.Caller.Values.{Allocations}
 use Rattle.gpu_descriptor.specs.declared.set.DescriptorSet.{DescriptorSet}
 use Rattle.gpu_descriptor.specs.Caller.Comparisons.{binary_digits}
-use Rattle.gpu_descriptor.proofs.Holding.{out_less}
-use Rattle.gpu_descriptor.proofs.Lent.{no_row, row_open, row_stored, row_taken, row_ran, row_counted}
+use Rattle.gpu_descriptor.specs.Inner.Ids.{rise_below, stored_ids}
+use Rattle.gpu_descriptor.specs.Inner.Stored.{stored_load}
+use Rattle.gpu_descriptor.specs.Model.Load.{marked_load}
+use Rattle.gpu_descriptor.proofs.Holding.{out_back, out_less}
+use Rattle.gpu_descriptor.proofs.Lent.{row_open, row_stored, row_taken, row_ran, row_counted}
 use Rattle.gpu_descriptor.proofs.Loads.{IsRow, IsWritten, Taken, taken, load_fits, counted_after, out_after, load_after, run_load, pools_present, pools_set}
+use Rattle.gpu_descriptor.proofs.Owned.{Owns, ends_at, first_owns, lie_at, stands}
 use Rattle.gpu_descriptor.proofs.Requested.{table_is}
-use Rattle.gpu_descriptor.specs.Inner.Stored.{stored_keys}
-use Rattle.gpu_descriptor.proofs.TableBooks.{distinct_rows, row_keys, keys_are, keys_set}
-use Rattle.gpu_descriptor.proofs.OneRun.{at_own}
-use Rattle.gpu_descriptor.proofs.allocator.DescriptorAllocator.release_run.Goals.{In-Some, After-release_run-ahead}
+use Rattle.gpu_descriptor.proofs.Rising.{id_of, ids_put, inside, own_key}
+use Rattle.gpu_descriptor.proofs.RowAt.{IsAt, is_at, key_at, keys_at, row_at, written_at}
+use Rattle.gpu_descriptor.proofs.TableBooks.{distinct_rows, row_keys, keys_are}
+use Rattle.gpu_descriptor.proofs.WholeRun.{lies_own}
+use Rattle.gpu_descriptor.proofs.allocator.DescriptorAllocator.release_run.Goals.{After-index_mut-bucket, After-release_run-ahead, After-unwrap}
 use Rattle.gpu_descriptor.proofs.allocator.DescriptorAllocator.release_run.Goals as goal
 
--- the row of the run's key
-row : (g : _) (c : In-Some g) → IsRow (key_of c.args.first.key) c.self.inside.buckets.entries c.in-Some.bucket.now
-row g c = record { test = _; same = λ k. search rules; at = sym c.get_mut.ensures.value ∙ ap option_copied_mut c.in-Some.is }
+pub place_of_id-place-requires-clause-there : goal.place_of_id-place-requires-clause-there
+place_of_id-place-requires-clause-there g c =
+    let es = c.self.inside.buckets.entries in
+    let own = first_owns g.D.DescriptorDevice.pool_name g.D.DescriptorDevice.set_name c.args.self.now (g.D.DescriptorDevice.ledger c.args.device.now) es (table_is _ c.self.view_is) c.args.first [] (c.requires.outstanding [] c.args.sets.now refl) in
+    let at = stands c.args.first.key.is es own.bucket own.found in
+    (at.place, at.id ∙ ap (λ (i : ℕ). Some i) own.has)
+
+-- the entry at the place, the row of the set's key, and that they are one
+entry : (g : _) (c : After-unwrap g) → slice_get c.self.inside.buckets.entries c.place_of_id-place.result ≡ Some (deref_pair c.unwrap.result)
+entry g c = ap (λ es. slice_get es c.place_of_id-place.result) (sym c.as_slice.ensures.entries) ∙ sym c.get_index.ensures.entry ∙ ap (option_map deref_pair) c.unwrap.ensures
+
+owner : (g : _) (c : After-unwrap g) → Owns c.args.first.key.is c.args.first.id c.self.inside.buckets.entries
+owner g c = first_owns g.D.DescriptorDevice.pool_name g.D.DescriptorDevice.set_name c.args.self.now (g.D.DescriptorDevice.ledger c.args.device.now) c.self.inside.buckets.entries (table_is _ c.self.view_is) c.args.first [] (c.requires.outstanding [] c.args.sets.now refl)
+
+own : (g : _) (c : After-unwrap g) → key_of c.unwrap.result.0.now ≡ c.args.first.key.is
+own g c =
+    let es = c.self.inside.buckets.entries in
+    let row = owner g c in
+    let at = entry g c in
+    let id = inside _ _ (sym (id_of es c.place_of_id-place.result _ at) ∙ c.place_of_id-place.ensures.place) in
+    (own_key c.self.inside.ids.next es c.self.inside.rising c.args.first.key.is row.bucket row.found c.place_of_id-place.result _ at (id ∙ sym row.has)).0
+
+-- the row that the place lends
+abbrev There : (g : _) → After-index_mut-bucket g → Type 0
+There g c = IsAt c.args.first.key.is c.self.inside.buckets.entries c.place_of_id-place.result c.index_mut-bucket.result.now
+
+there : (g : _) (c : After-index_mut-bucket g) → slice_get c.self.inside.buckets.entries c.place_of_id-place.result ≡ Some (deref_pair c.unwrap.result) → key_of c.unwrap.result.0.now ≡ c.args.first.key.is → There g c
+there g c at key = is_at c.args.first.key.is c.self.inside.buckets.entries c.place_of_id-place.result c.index_mut-bucket.result.now (key_at c.self.inside.buckets.entries c.place_of_id-place.result _ _ at ∙ ap (λ (k : Key). Some k) key) c.index_mut-bucket.ensures.value
+
+row : (g : _) (c : After-index_mut-bucket g) → There g c → IsRow c.args.first.key.is c.self.inside.buckets.entries c.index_mut-bucket.result.now
+row g c at = row_at c.args.first.key.is c.self.invariant.distinct at
+
+pub release_run-ahead-requires-clause-same : goal.release_run-ahead-requires-clause-same
+release_run-ahead-requires-clause-same g c = own g (goal.at.release_run-ahead-requires-clause-same g c).After-unwrap
 
 pub release_run-ahead-requires-clause-stored : goal.release_run-ahead-requires-clause-stored
 release_run-ahead-requires-clause-stored g c =
-    row_stored g.D.DescriptorDevice.pool_name g.D.DescriptorDevice.set_name c.args.self.now (g.D.DescriptorDevice.ledger c.args.device.now) c.self.inside.buckets.entries (table_is _ c.self.view_is) c.requires.agree c.args.first _ (λ k. search rules)
-    c.in-Some.bucket.now (sym c.get_mut.ensures.value ∙ ap option_copied_mut c.in-Some.is)
+    let at = goal.at.release_run-ahead-requires-clause-stored g c in
+    let r = row g at.After-index_mut-bucket (there g at.After-index_mut-bucket (entry g at.After-unwrap) (own g at.After-unwrap)) in
+    row_stored g.D.DescriptorDevice.pool_name g.D.DescriptorDevice.set_name c.args.self.now (g.D.DescriptorDevice.ledger c.args.device.now) c.self.inside.buckets.entries (table_is _ c.self.view_is) c.requires.agree c.args.first r.test r.same
+    c.index_mut-bucket.result.now r.at
 
 pub release_run-ahead-requires-clause-taken : goal.release_run-ahead-requires-clause-taken
 release_run-ahead-requires-clause-taken g c = λ xs t gave have.
-    row_taken g.D.DescriptorDevice.pool_name g.D.DescriptorDevice.set_name c.args.self.now (g.D.DescriptorDevice.ledger c.args.device.now) c.self.inside.buckets.entries (table_is _ c.self.view_is) c.requires.agree c.args.first _ (λ k. search rules)
-    c.in-Some.bucket.now (sym c.get_mut.ensures.value ∙ ap option_copied_mut c.in-Some.is) xs have (c.requires.outstanding xs t gave)
+    let at = goal.at.release_run-ahead-requires-clause-taken g c in
+    let r = row g at.After-index_mut-bucket (there g at.After-index_mut-bucket (entry g at.After-unwrap) (own g at.After-unwrap)) in
+    let es = c.self.inside.buckets.entries in
+    let was = table_is _ c.self.view_is in
+    let name = g.D.DescriptorDevice.pool_name in
+    let set_name = g.D.DescriptorDevice.set_name in
+    let before = g.D.DescriptorDevice.ledger c.args.device.now in
+    let out = c.requires.outstanding xs t gave in
+    let lie = lie_at name set_name c.args.self.now before es was c.self.inside.ids.next c.self.inside.rising c.args.first.key.is c.args.first.id c.args.first.number (owner g at.After-unwrap) xs (out_back set_name (c.args.first ∷ []) xs (c.args.first ∷ xs) (state_of name c.args.self.now before) refl out) have in
+    row_taken name set_name c.args.self.now before es was c.requires.agree c.args.first r.test r.same c.index_mut-bucket.result.now r.at xs lie out
 
 pub release_run-ahead-requires-clause-room : goal.release_run-ahead-requires-clause-room
 release_run-ahead-requires-clause-room g c =
-    let below = pools_present (row g (goal.at.release_run-ahead-requires-clause-room g c).In-Some) in
+    let at = goal.at.release_run-ahead-requires-clause-room g c in
+    let below = pools_present (row g at.After-index_mut-bucket (there g at.After-index_mut-bucket (entry g at.After-unwrap) (own g at.After-unwrap))) in
+    let same = ap (λ (k : Key). stored_load k c.index_mut-bucket.result.now.pools.items) (own g at.After-unwrap) in
     let all = c.self.invariant.is_room in
     let ranges = c.self.ranges in
     omega arith
 
-pub unreachable-requires : goal.unreachable-requires
-unreachable-requires g c =
-    no_row g.D.DescriptorDevice.pool_name g.D.DescriptorDevice.set_name c.args.self.now (g.D.DescriptorDevice.ledger c.args.device.now) c.self.inside.buckets.entries (table_is _ c.self.view_is) c.requires.agree c.args.first _ (λ k. search rules)
-    (c.requires.outstanding [] c.args.sets.now refl) (sym c.get_mut.ensures.value ∙ ap option_copied_mut c.in-None.is)
-
 -- the row that the run leaves
-written : (g : _) (c : After-release_run-ahead g) → IsWritten (key_of c.args.first.key) c.self.inside.buckets.entries (c.get_mut.follows.lender c.release_run-ahead.new.self).entries c.in-Some.bucket.now c.release_run-ahead.new.self
-written g c = record {
-  row = record { test = _; same = λ k. search rules; at = sym c.get_mut.ensures.value ∙ ap option_copied_mut c.in-Some.is };
-  wrote = (c.get_mut.follows.holds c.release_run-ahead.new.self).0;
-}
+written : (g : _) (c : After-release_run-ahead g) → IsAt c.args.first.key.is c.self.inside.buckets.entries c.place_of_id-place.result c.index_mut-bucket.result.now
+    → IsWritten c.args.first.key.is c.self.inside.buckets.entries (set_value_at c.self.inside.buckets.entries c.place_of_id-place.result c.release_run-ahead.new.self) c.index_mut-bucket.result.now c.release_run-ahead.new.self
+written g c at = written_at c.args.first.key.is c.self.invariant.distinct at _ _ refl
 
 -- what the run takes from the totals
-run_taken : (g : _) (c : After-release_run-ahead g) → Taken (key_of c.args.first.key) (c.in-Some.bucket.now.total - c.release_run-ahead.new.self.total) c.self.inside.buckets.entries (c.get_mut.follows.lender c.release_run-ahead.new.self).entries
-run_taken g c = taken (written g c) (let total = c.release_run-ahead.ensures.ran.total in omega arith)
+run_taken : (g : _) (c : After-release_run-ahead g) → IsAt c.args.first.key.is c.self.inside.buckets.entries c.place_of_id-place.result c.index_mut-bucket.result.now
+    → Taken c.args.first.key.is (c.index_mut-bucket.result.now.total - c.release_run-ahead.new.self.total) c.self.inside.buckets.entries (set_value_at c.self.inside.buckets.entries c.place_of_id-place.result c.release_run-ahead.new.self)
+run_taken g c at = taken (written g c at) (let total = c.release_run-ahead.ensures.ran.total in omega arith)
 
 pub overflow_sub-self : goal.overflow_sub-self
 overflow_sub-self g c =
-    let out = (run_taken g (goal.at.overflow_sub-self g c).After-release_run-ahead).out in
+    let at = goal.at.overflow_sub-self g c in
+    let out = (run_taken g at.After-release_run-ahead (there g at.After-index_mut-bucket (entry g at.After-unwrap) (own g at.After-unwrap))).out in
     let is = c.self.invariant.is_out in
     omega arith
 
 pub descriptors_of_sets-descriptors-requires : goal.descriptors_of_sets-descriptors-requires
 descriptors_of_sets-descriptors-requires g c =
-    let fits = load_fits (run_taken g (goal.at.descriptors_of_sets-descriptors-requires g c).After-release_run-ahead) c.self.invariant in
+    let at = goal.at.descriptors_of_sets-descriptors-requires g c in
+    let fits = load_fits (run_taken g at.After-release_run-ahead (there g at.After-index_mut-bucket (entry g at.After-unwrap) (own g at.After-unwrap))) c.self.invariant in
+    let same = ap (λ (k : Key). marked_load k (c.index_mut-bucket.result.now.total - c.release_run-ahead.new.self.total)) (own g at.After-unwrap) in
     let ranges = c.self.ranges in
     omega arith
 
 pub overflow_cast-descriptors : goal.overflow_cast-descriptors
 overflow_cast-descriptors g c =
-    let fits = load_fits (run_taken g (goal.at.overflow_cast-descriptors g c).After-release_run-ahead) c.self.invariant in
+    let at = goal.at.overflow_cast-descriptors g c in
+    let fits = load_fits (run_taken g at.After-release_run-ahead (there g at.After-index_mut-bucket (entry g at.After-unwrap) (own g at.After-unwrap))) c.self.invariant in
+    let same = ap (λ (k : Key). marked_load k (c.index_mut-bucket.result.now.total - c.release_run-ahead.new.self.total)) (own g at.After-unwrap) in
     let ranges = c.self.ranges in
     let is = c.descriptors_of_sets-descriptors.ensures in
     omega arith
 
-pub overflow_sub-self-in-Some : goal.overflow_sub-self-in-Some
-overflow_sub-self-in-Some g c =
-    let fits = load_fits (run_taken g (goal.at.overflow_sub-self-in-Some g c).After-release_run-ahead) c.self.invariant in
+pub overflow_sub-self-2 : goal.overflow_sub-self-2
+overflow_sub-self-2 g c =
+    let at = goal.at.overflow_sub-self-2 g c in
+    let fits = load_fits (run_taken g at.After-release_run-ahead (there g at.After-index_mut-bucket (entry g at.After-unwrap) (own g at.After-unwrap))) c.self.invariant in
+    let same = ap (λ (k : Key). marked_load k (c.index_mut-bucket.result.now.total - c.release_run-ahead.new.self.total)) (own g at.After-unwrap) in
     let is = c.descriptors_of_sets-descriptors.ensures in
     omega arith
 
+pub invariant_of-self-inside : goal.invariant_of-self-inside
+invariant_of-self-inside g c =
+    let es = c.self.inside.buckets.entries in
+    let same = ids_put es c.place_of_id-place.result c.index_mut-bucket.result.now c.release_run-ahead.new.self c.index_mut-bucket.ensures.value (ap (λ (b : Bucket). b.id) c.release_run-ahead.ensures.ran.went.books) in
+    (ap (λ (ids : List ℕ). rise_below c.place_of_id-place.new.self.next ids) same ∙ ap (λ (n : ℕ). rise_below n (stored_ids es)) c.place_of_id-place.ensures.next ∙ c.self.inside.rising, tt)
+
 pub invariant_of-self : goal.invariant_of-self
 invariant_of-self g c =
-    let r = (goal.at.invariant_of-self g c).After-release_run-ahead in
-    counted_after (run_taken g r) c.self.invariant c.descriptors_of_sets-descriptors.ensures
-    (pools_set (written g r) _ _ c.release_run-ahead.ensures.room)
-    (ap stored_keys (c.get_mut.follows.holds c.release_run-ahead.new.self).0 ∙ keys_set _ c.self.inside.buckets.entries c.release_run-ahead.new.self)
+    let at = goal.at.invariant_of-self g c in
+    let here = there g at.After-index_mut-bucket (entry g at.After-unwrap) (own g at.After-unwrap) in
+    counted_after (run_taken g at.After-release_run-ahead here) c.self.invariant (c.descriptors_of_sets-descriptors.ensures ∙ ap (λ (k : Key). marked_load k (c.index_mut-bucket.result.now.total - c.release_run-ahead.new.self.total)) (own g at.After-unwrap))
+    (pools_set (written g at.After-release_run-ahead here) _ _ (subst (λ (k : Key). c.release_run-ahead.new.room + stored_load k c.release_run-ahead.new.self.pools.items ≡ c.self.inside.update_after_bind_room + stored_load k c.index_mut-bucket.result.now.pools.items) (own g at.After-unwrap) c.release_run-ahead.ensures.room))
+    (keys_at c.self.inside.buckets.entries c.place_of_id-place.result c.release_run-ahead.new.self)
 
 pub returns-clause-ran : goal.returns-clause-ran
 returns-clause-ran g c =
     let ran = c.release_run-ahead.ensures.ran in
-    let left = written g (goal.at.returns-clause-ran g c).After-release_run-ahead in
+    let at = goal.at.returns-clause-ran g c in
+    let left = written g at.After-release_run-ahead (there g at.After-index_mut-bucket (entry g at.After-unwrap) (own g at.After-unwrap)) in
     let row = left.row in
     let t = taken left ran.total in
+    let es = c.self.inside.buckets.entries in
     let was = table_is _ c.self.view_is in
     let name = g.D.DescriptorDevice.pool_name in
     let set_name = g.D.DescriptorDevice.set_name in
     let before = g.D.DescriptorDevice.ledger c.args.device.now in
     let after = g.D.DescriptorDevice.ledger c.release_run-ahead.new.device in
-    let distinct = distinct_rows name c.self.inside.buckets.entries c.self.invariant.distinct in
-    let state = row_ran name set_name c.args.self.now before c.self.inside.buckets.entries was c.requires.agree c.args.first row.test row.same c.in-Some.bucket.now row.at ran.sets ran.came.0 c.release_run-ahead.new.self after ran.went c.self.inside.max_update_after_bind_descriptors_in_all_pools _ left.wrote in
+    let distinct = distinct_rows name es c.self.invariant.distinct in
+    let came = ends_at name set_name c.args.self.now before es was c.self.inside.ids.next c.self.inside.rising c.args.first.key.is c.args.first.id c.args.first.number (owner g at.After-unwrap) g.I.Iterator.next_gives c.args.first _ _ ran.sets _ c.requires.outstanding ran.came in
+    let state = row_ran name set_name c.args.self.now before es was c.requires.agree c.args.first row.test row.same c.index_mut-bucket.result.now row.at ran.sets came.0 c.release_run-ahead.new.self after ran.went c.self.inside.max_update_after_bind_descriptors_in_all_pools _ left.wrote in
     record {
       sets = ran.sets;
-      came = ran.came;
+      came = came;
       back = record {
         state = state;
-        counters = row_counted name set_name c.args.self.now before c.self.inside.buckets.entries was c.requires.agree c.args.first row.test row.same c.in-Some.bucket.now row.at ran.sets ran.came.0 c.release_run-ahead.new.self after ran.went distinct;
+        counters = row_counted name set_name c.args.self.now before es was c.requires.agree c.args.first row.test row.same c.index_mut-bucket.result.now row.at ran.sets came.0 c.release_run-ahead.new.self after ran.went distinct;
         outstanding = out_after t c.args.self.now was;
-        marked = load_after t c.args.self.now was _ (run_load set_name c.args.first.key c.args.first.number (c.args.first ∷ ran.sets) (at_own c.args.first, ran.came.0));
+        marked = load_after t c.args.self.now was _ (run_load set_name c.args.first.key.is c.args.first.number (c.args.first ∷ ran.sets) (lies_own c.args.first, came.0));
         returned = out_less (items_of set_name (c.args.first ∷ ran.sets)) (state_of name c.args.self.now before) _ c.requires.agree (c.requires.outstanding ran.sets ran.came.1.0 ran.came.1.1) state;
         none = λ bad. absurd (let some : ◌≡◌ {A = List (DescriptorSet g.row.S.Denot)} (c.args.first ∷ ran.sets) [] = bad in cc);
       };
@@ -112,14 +174,15 @@ returns-clause-ran g c =
 
 pub returns-clause-keys : goal.returns-clause-keys
 returns-clause-keys g c =
-    let wrote = c.get_mut.follows.holds c.release_run-ahead.new.self in
     let was = table_is _ c.self.view_is in
-    row_keys _ ∙ ap (map (λ e. key_of e.0)) wrote.0 ∙ keys_set _ c.self.inside.buckets.entries c.release_run-ahead.new.self ∙ sym (keys_are c.args.self.now c.self.inside.buckets.entries was)
+    row_keys _ ∙ keys_at c.self.inside.buckets.entries c.place_of_id-place.result c.release_run-ahead.new.self ∙ sym (keys_are c.args.self.now c.self.inside.buckets.entries was)
 
 pub returns-clause-few : goal.returns-clause-few
 returns-clause-few g c =
-    let open_ones = row_open g.D.DescriptorDevice.pool_name g.D.DescriptorDevice.set_name c.args.self.now (g.D.DescriptorDevice.ledger c.args.device.now) c.self.inside.buckets.entries (table_is _ c.self.view_is) c.requires.agree c.args.first _ (λ k. search rules)
-    c.in-Some.bucket.now (sym c.get_mut.ensures.value ∙ ap option_copied_mut c.in-Some.is) in
+    let at = goal.at.returns-clause-few g c in
+    let r = row g at.After-index_mut-bucket (there g at.After-index_mut-bucket (entry g at.After-unwrap) (own g at.After-unwrap)) in
+    let open_ones = row_open g.D.DescriptorDevice.pool_name g.D.DescriptorDevice.set_name c.args.self.now (g.D.DescriptorDevice.ledger c.args.device.now) c.self.inside.buckets.entries (table_is _ c.self.view_is) c.requires.agree c.args.first r.test r.same
+    c.index_mut-bucket.result.now r.at in
     let same = ap binary_digits open_ones in
     let count = ap (λ (a : Allocations _). a.comparisons) c.self.view_is in
     let few = c.release_run-ahead.ensures.few in

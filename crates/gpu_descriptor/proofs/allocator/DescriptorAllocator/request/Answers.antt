@@ -4,7 +4,7 @@ use Rattle.std.proofs.lemmas.Bool.{ltb-false}
 use Rattle.gpu_descriptor_types.specs.Ledger.{Ledger}
 use Rattle.gpu_descriptor.specs.Model.Load.{marked_load}
 use Rattle.gpu_descriptor.specs.Model.Books.{Bucket}
-use Rattle.gpu_descriptor.specs.Caller.Sets.{key_of}
+use Rattle.gpu_descriptor.specs.Caller.KeyOf.{key_of}
 use Rattle.gpu_descriptor.specs.Caller.States.{state_of}
 use Rattle.gpu_descriptor.specs.Inner.Stored.{IsConsistent}
 use Rattle.gpu_descriptor.specs.Inner.Buckets.{AreBookedIn}
@@ -108,3 +108,6 @@ returns-then-is_above_limit-clause-pool_load g c = pool_load_within _ c.self.vie
 
 pub returns-clause-keys : goal.returns-clause-keys
 returns-clause-keys g c = keys_seen (key_of c.args.key) c.args.self.now (seen 0 0 0 c.serve_key-served.new.buckets.entries) c.self.inside.buckets.entries c.serve_key-served.new.buckets.entries (table_is _ c.self.view_is) refl c.in-Ok.ensures.keys
+
+pub returns-in-Err-clause-pool_load : goal.returns-in-Err-clause-pool_load
+returns-in-Err-clause-pool_load g c = rw c.in-Err.ensures.entries (pools_within c.self.invariant)

@@ -1,20 +1,29 @@
+use Rattle.std.specs.Prelude.{ℕ}
+use Rattle.std.proofs.Common.{List}
+use Rattle.std.specs.Map.{lookup}
+use Rattle.gpu_descriptor.specs.declared.set.BucketKey.{BucketKey}
+use Rattle.gpu_descriptor.specs.declared.bucket.DescriptorBucket.{DescriptorBucket}
+use Rattle.gpu_descriptor.specs.Inner.Ids.{is_of, rise_below, stored_ids}
+use Rattle.gpu_descriptor.proofs.Rising.{ids_put, one_more}
+use Rattle.gpu_descriptor.proofs.RowAt.{IsAt, is_at, keys_at, lookup_same, row_at, written_at}
+use Rattle.indexmap.specs.Layout.{set_value_at}
+use Rattle.std.proofs.lemmas.List.{map-append}
 use Rattle.gpu_descriptor_types.specs.Bounds.{greatest_u64}
 use Rattle.std.proofs.Common.{◌≡◌, ◌+◌, ◌≤◌, ◌++◌, ◌∷◌, [], Bool, List, Result, Ok, Err, None, inl, refl, sym, ap, ◌∙◌, subst, arith, rules, map}
 use Rattle.std.specs.List.{IsDistinct}
-use Rattle.std.specs.Option.{option_copied_mut}
 use Rattle.std.specs.Prelude.{IfOk, IfErr, OnOk, OnErr}
-use Rattle.indexmap.specs.IndexMap.{IndexMap, insert_entry, get}
+use Rattle.indexmap.specs.IndexMap.{IndexMap, insert_entry}
 use Rattle.indexmap.proofs.CallerLemmas.{insert_entry-new}
 use Rattle.gpu_descriptor.specs.Model.Books.{Bucket, key_eq, no_pools, next_number}
-use Rattle.gpu_descriptor.specs.Caller.Sets.{key_of}
+use Rattle.gpu_descriptor.specs.Caller.KeyOf.{key_of}
 use Rattle.gpu_descriptor.specs.Inner.Buckets.{AreBookedIn}
 use Rattle.gpu_descriptor.specs.Inner.Stored.{books_in, entry_of, stored_keys, stored_load}
 use Rattle.gpu_descriptor.specs.Inner.Serves.{IsUnserved}
 use Rattle.gpu_descriptor.proofs.KeysKept.{keys_put, keys_written}
 use Rattle.gpu_descriptor.proofs.Loads.{IsRow, IsWritten, total_present, pools_set, pools_end}
 use Rattle.gpu_descriptor.proofs.RequestSteps.{present, missing, serves_present, serves_new, written-same}
-use Rattle.gpu_descriptor.proofs.TableBooks.{distinct_stored, keys_set}
-use Rattle.gpu_descriptor.proofs.allocator.allocate.serve_key.Goals.{In-Some, In-None, In-Ok-insert, After-serve}
+use Rattle.gpu_descriptor.proofs.TableBooks.{distinct_stored}
+use Rattle.gpu_descriptor.proofs.allocator.allocate.serve_key.Goals.{After-index_mut, In-None, In-Ok-insert, After-serve}
 use Rattle.gpu_descriptor.proofs.allocator.allocate.serve_key.Goals as goal
 
 if_ok : {T E : Type 0} (A B : T → Type 0) (r : Result T E) → ((x : T) → A x → B x) → IfOk r A → IfOk r B
@@ -29,33 +38,34 @@ on_err : {T E A B : Type 0} (r : Result T E) → (A → B) → OnErr r A → OnE
 on_err (Ok x) f a = tt
 on_err (Err e) f a = f a
 
-put_new : {K X S : Type 0} (eq : K → K → Bool) (m : IndexMap K X S) (k : K) (v : X) (es new : List (K × X)) → new ≡ insert_entry eq es k v → es ≡ m.entries → get eq m k ≡ None → new ≡ m.entries ++ (k, v) ∷ []
-put_new eq m k v es new put same none = put ∙ ap (λ l. insert_entry eq l k v) same ∙ insert_entry-new eq m k v none
+put_new : {X S : Type 0} (eq : BucketKey → BucketKey → Bool) → ((k l : BucketKey) → eq k l ≡ key_eq (key_of k) (key_of l)) → (m : IndexMap BucketKey (DescriptorBucket X) S) (k : BucketKey) (v : DescriptorBucket X) (es new : List (BucketKey × DescriptorBucket X)) → new ≡ insert_entry eq es k v → es ≡ m.entries → lookup (is_of (key_of k)) m.entries ≡ None → new ≡ m.entries ++ (k, v) ∷ []
+put_new eq same m k v es new put kept none = put ∙ ap (λ l. insert_entry eq l k v) kept ∙ insert_entry-new eq m k v (lookup_same (eq k) (is_of (key_of k)) (same k) m.entries ∙ none)
 
 on_ok : {T E A : Type 0} (r : Result T E) → A → OnOk r A
 on_ok (Ok x) a = a
 on_ok (Err e) a = tt
 
+-- the place has the key
+there : (g : _) (c : After-index_mut g) → IsAt (key_of c.args.request.now.key) c.args.buckets.now.entries c.in-Some.place c.index_mut.result.now
+there g c = is_at (key_of c.args.request.now.key) c.args.buckets.now.entries c.in-Some.place c.index_mut.result.now c.in-Some.ensures.place c.index_mut.ensures.value
+
 -- the row of the key
-row : (g : _) (c : In-Some g) → IsRow (key_of c.args.request.now.key) c.args.buckets.now.entries c.in-Some.bucket.now
-row g c = record { test = _; same = λ k. search rules; at = sym c.get_mut.ensures.value ∙ ap option_copied_mut c.in-Some.is }
+row : (g : _) (c : After-index_mut g) → IsRow (key_of c.args.request.now.key) c.args.buckets.now.entries c.index_mut.result.now
+row g c = row_at (key_of c.args.request.now.key) c.requires.distinct (there g c)
 
 pub serve-requires-clause-booked : goal.serve-requires-clause-booked
 serve-requires-clause-booked g c =
-    subst (λ (b : Bucket). AreBookedIn (key_of c.args.request.now.key) (g.D.DescriptorDevice.ledger c.args.device.now).pools b.pools) (present g.D.DescriptorDevice.pool_name (row g (goal.at.serve-requires-clause-booked g c).In-Some)) c.requires.booked
+    subst (λ (b : Bucket). AreBookedIn (key_of c.args.request.now.key) (g.D.DescriptorDevice.ledger c.args.device.now).pools b.pools) (present g.D.DescriptorDevice.pool_name (row g (goal.at.serve-requires-clause-booked g c).After-index_mut)) c.requires.booked
 
 pub serve-requires-clause-bound : goal.serve-requires-clause-bound
 serve-requires-clause-bound g c =
-    let below = total_present (row g (goal.at.serve-requires-clause-bound g c).In-Some) in
+    let below = total_present (row g (goal.at.serve-requires-clause-bound g c).After-index_mut) in
     let all = c.requires.bound in
     omega arith
 
 -- the row that is left
-left : (g : _) (c : After-serve g) → IsWritten (key_of c.args.request.now.key) c.args.buckets.now.entries (c.get_mut.follows.lender c.serve.new.self).entries c.in-Some.bucket.now c.serve.new.self
-left g c = record {
-  row = record { test = _; same = λ k. search rules; at = sym c.get_mut.ensures.value ∙ ap option_copied_mut c.in-Some.is };
-  wrote = (c.get_mut.follows.holds c.serve.new.self).0;
-}
+left : (g : _) (c : After-serve g) → IsWritten (key_of c.args.request.now.key) c.args.buckets.now.entries (set_value_at c.args.buckets.now.entries c.in-Some.place c.serve.new.self) c.index_mut.result.now c.serve.new.self
+left g c = written_at (key_of c.args.request.now.key) c.requires.distinct (there g (goal.at-After-serve g c).After-index_mut) _ _ refl
 
 pub returns-in-Some-clause-served : goal.returns-in-Some-clause-served
 returns-in-Some-clause-served g c =
@@ -64,7 +74,7 @@ returns-in-Some-clause-served g c =
 
 pub returns-in-Some-clause-refused : goal.returns-in-Some-clause-refused
 returns-in-Some-clause-refused g c =
-    let is = present g.D.DescriptorDevice.pool_name (row g (goal.at.returns-in-Some-clause-refused g c).In-Some) in
+    let is = present g.D.DescriptorDevice.pool_name (row g (goal.at.returns-in-Some-clause-refused g c).After-index_mut) in
     if_err _ _ c.serve.result (λ e why. subst (λ (b : Bucket). IsUnserved c.args.request.now.count e b) (sym is) why) c.serve.ensures.refused
 
 pub returns-in-Some-clause-entries : goal.returns-in-Some-clause-entries
@@ -74,32 +84,38 @@ pub returns-in-Some-clause-room : goal.returns-in-Some-clause-room
 returns-in-Some-clause-room g c = pools_set (left g (goal.at.returns-in-Some-clause-room g c).After-serve) _ _ c.serve.ensures.room
 
 pub returns-in-Some-clause-keys : goal.returns-in-Some-clause-keys
-returns-in-Some-clause-keys g c = on_ok c.serve.result (keys_written (key_of c.args.request.now.key) _ c.args.buckets.now.entries _ c.serve.new.self (c.get_mut.follows.holds c.serve.new.self).0)
+returns-in-Some-clause-keys g c = on_ok c.serve.result (let r = left g (goal.at.returns-in-Some-clause-keys g c).After-serve in keys_written (key_of c.args.request.now.key) r.row.test c.args.buckets.now.entries _ c.serve.new.self r.wrote)
 
 -- a key that the table lacks has no pools
 absent : (g : _) (c : In-None g) → books_in g.D.DescriptorDevice.pool_name c.args.buckets.now.entries (key_of c.args.request.now.key) ≡ no_pools
-absent g c = missing g.D.DescriptorDevice.pool_name (key_of c.args.request.now.key) c.args.buckets.now.entries _ (λ k. search rules) (sym c.get_mut.ensures.value ∙ ap option_copied_mut c.in-None.is)
+absent g c = missing g.D.DescriptorDevice.pool_name (key_of c.args.request.now.key) c.args.buckets.now.entries _ (λ k. search rules) (c.in-None.ensures.place)
 
 pub returns-then-is_err-clause-refused : goal.returns-then-is_err-clause-refused
 returns-then-is_err-clause-refused g c =
     let is = absent g (goal.at.returns-then-is_err-clause-refused g c).In-None in
     inl (refl, subst (λ (b : Bucket). next_number b + c.args.request.now.count ≤ greatest_u64) (sym is) (let n = c.requires.bound in omega arith))
 
+pub returns-then-ids-clause-refused : goal.returns-then-ids-clause-refused
+returns-then-ids-clause-refused g c =
+    let is = absent g (goal.at.returns-then-ids-clause-refused g c).In-None in
+    inl (refl, subst (λ (b : Bucket). next_number b + c.args.request.now.count ≤ greatest_u64) (sym is) (let n = c.requires.bound in omega arith))
+
 pub returns-in-Err-clause-refused : goal.returns-in-Err-clause-refused
 returns-in-Err-clause-refused g c =
     let is = absent g (goal.at.returns-in-Err-clause-refused g c).In-None in
-    let empty : no_pools ≡ record { first = 0; pools = map (entry_of g.D.DescriptorDevice.pool_name) c.new.result.items } = λ i. record { first = 0; pools = map (entry_of g.D.DescriptorDevice.pool_name) (sym c.new.ensures.items i) } in
-    subst (λ (b : Bucket). IsUnserved c.args.request.now.count c.in-Err.error b) (sym (is ∙ empty)) c.in-Err.ensures.refused
+    let given : Bucket → Bucket = λ b. record b { id = c.place_of_key.new.self.next } in
+    let empty : given no_pools ≡ record { id = c.place_of_key.new.self.next; first = 0; pools = map (entry_of g.D.DescriptorDevice.pool_name) c.new.result.items } = λ i. record { id = c.place_of_key.new.self.next; first = 0; pools = map (entry_of g.D.DescriptorDevice.pool_name) (sym c.new.ensures.items i) } in
+    subst (λ (b : Bucket). IsUnserved c.args.request.now.count c.in-Err.error b) (sym (ap given is ∙ empty)) c.in-Err.ensures.refused
 
 -- the new key goes last
 put : (g : _) (c : In-Ok-insert g) → c.insert.new.self.entries ≡ c.args.buckets.now.entries ++ (c.args.request.now.key, c.serve-2.new.self) ∷ []
 put g c =
-    put_new _ c.args.buckets.now c.args.request.now.key c.serve-2.new.self c.reserve.new.self.entries c.insert.new.self.entries c.in-Ok-insert.ensures.entries (c.reserve.ensures.entries ∙ ap (λ b. b.entries) c.get_mut.follows.holds-at-none)
-    (sym c.get_mut.ensures.value ∙ ap option_copied_mut c.in-None.is)
+    put_new _ (λ k l. search rules) c.args.buckets.now c.args.request.now.key c.serve-2.new.self c.reserve.new.self.entries c.insert.new.self.entries c.in-Ok-insert.ensures.entries c.reserve.ensures.entries
+    c.in-None.ensures.place
 
 pub returns-clause-served : goal.returns-clause-served
 returns-clause-served g c =
-    serves_new c.args.request.now.key c.in-Ok.ensures.served _ (λ k. search rules) (sym c.get_mut.ensures.value ∙ ap option_copied_mut c.in-None.is) (put g (goal.at.returns-clause-served g c).In-Ok-insert) refl c.new.ensures.items refl
+    serves_new c.args.request.now.key c.in-Ok.ensures.served _ (λ k. search rules) (c.in-None.ensures.place) (put g (goal.at.returns-clause-served g c).In-Ok-insert) refl c.new.ensures.items refl
 
 pub returns-clause-room : goal.returns-clause-room
 returns-clause-room g c =
@@ -111,9 +127,24 @@ pub returns-clause-keys : goal.returns-clause-keys
 returns-clause-keys g c = keys_put (key_of c.args.request.now.key) c.args.request.now.key c.args.buckets.now.entries c.insert.new.self.entries c.serve-2.new.self refl (put g (goal.at.returns-clause-keys g c).In-Ok-insert)
 
 pub returns-in-Some-clause-distinct : goal.returns-in-Some-clause-distinct
-returns-in-Some-clause-distinct g c =
-    let same = ap stored_keys (c.get_mut.follows.holds c.serve.new.self).0 ∙ keys_set _ c.args.buckets.now.entries c.serve.new.self in
-    on_ok c.serve.result (subst (IsDistinct key_eq) (sym same) (distinct_stored _ (λ k l. search rules) c.args.buckets.now.entries c.get_mut.ensures.unique))
+returns-in-Some-clause-distinct g c = on_ok c.serve.result (subst (IsDistinct key_eq) (sym (keys_at c.args.buckets.now.entries c.in-Some.place c.serve.new.self)) c.requires.distinct)
+
+distinct_still : (g : _) (c : In-Ok-insert g) → IsDistinct key_eq (stored_keys c.insert.new.self.entries)
+distinct_still g c = distinct_stored _ (λ k l. search rules) c.insert.new.self.entries c.insert.ensures.unique
 
 pub returns-clause-distinct : goal.returns-clause-distinct
-returns-clause-distinct g c = distinct_stored _ (λ k l. search rules) c.insert.new.self.entries c.insert.ensures.unique
+returns-clause-distinct g c = distinct_still g (goal.at.returns-clause-distinct g c).In-Ok-insert
+
+pub returns-in-Some-clause-rising : goal.returns-in-Some-clause-rising
+returns-in-Some-clause-rising g c =
+    let same = ids_put c.args.buckets.now.entries c.in-Some.place _ c.serve.new.self c.index_mut.ensures.value c.serve.ensures.id in
+    ap (λ (ids : List ℕ). rise_below c.place_of_key.new.self.next ids) same ∙ ap (λ (n : ℕ). rise_below n (stored_ids c.args.buckets.now.entries)) c.place_of_key.ensures.next ∙ c.requires.rising
+
+pub returns-clause-rising : goal.returns-clause-rising
+returns-clause-rising g c =
+    let next = c.place_of_key.new.self.next in
+    let es = c.args.buckets.now.entries in
+    let ids : stored_ids c.insert.new.self.entries ≡ stored_ids es ++ next ∷ [] =
+    ap stored_ids (put g (goal.at.returns-clause-rising g c).In-Ok-insert) ∙ map-append _ es _ ∙ ap (λ (n : ℕ). stored_ids es ++ n ∷ []) c.serve-2.ensures.id in
+    let before = ap (λ (n : ℕ). rise_below n (stored_ids es)) c.place_of_key.ensures.next ∙ c.requires.rising in
+    ap (rise_below (next + 1)) ids ∙ one_more next (next + 1) (stored_ids es) refl before

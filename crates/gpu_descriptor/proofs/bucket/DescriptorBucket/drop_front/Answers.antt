@@ -1,7 +1,7 @@
 use Rattle.std.proofs.Common.{◌≡◌, ℕ, ◌+◌, drop, ◌<◌, ◌≤◌, ◌∙◌, sym, ap, arith, length, get_or, Some}
 use Rattle.gpu_descriptor.specs.Inner.Buckets.{front_but}
 use Rattle.gpu_descriptor.specs.Model.Load.{pool_load}
-use Rattle.gpu_descriptor.specs.Caller.Sets.{key_of}
+use Rattle.gpu_descriptor.specs.Caller.KeyOf.{key_of}
 use Rattle.gpu_descriptor.specs.Inner.Stored.{bucket_of, stored_load}
 use Rattle.gpu_descriptor.proofs.PoolLoads.{stored_first}
 use Rattle.gpu_descriptor.proofs.Turns.{IsFront, is_front, turn_unused, turn, stop_full, stop_short, still}
@@ -45,7 +45,7 @@ destroy_descriptor_pool-requires g c =
 pub loop-self-preserved : goal.loop-self-preserved
 loop-self-preserved g c =
     let d = (goal.at.loop-self-preserved g c).After-unwrap-front in
-    let done = turn g.D.DescriptorDevice.pool_name c.args.keep c.loop-self.invariant.stored.0 c.loop-self.self.offset c.loop-self.self.pools.items c.pop_front.new.self.items c.unwrap-front.result (g.D.DescriptorDevice.ledger c.loop-self.device) (g.D.DescriptorDevice.ledger c.destroy_descriptor_pool.new.self)
+    let done = turn g.D.DescriptorDevice.pool_name c.args.keep c.loop-self.invariant.stored.0 c.loop-self.self.id c.loop-self.self.offset c.loop-self.self.pools.items c.pop_front.new.self.items c.unwrap-front.result (g.D.DescriptorDevice.ledger c.loop-self.device) (g.D.DescriptorDevice.ledger c.destroy_descriptor_pool.new.self)
     (front g d) c.pop_front.ensures.rest c.destroy_descriptor_pool.ensures c.loop-self.invariant.stored.1 in
     record {
       stored = (c.loop-self.invariant.stored.0, done.agree);
@@ -65,7 +65,7 @@ returns-else-index-eq0-clause-ledger g c =
     let name = g.D.DescriptorDevice.pool_name in
     let items = c.loop-self.self.pools.items in
     let many : c.args.keep < length items = omega (arith, c.loop-self.self.pools.ok.0) in
-    let none = stop_full name c.args.keep c.loop-self.self.offset items c.index.result.now many c.index.ensures c.if-index-eq0.false in
+    let none = stop_full name c.args.keep c.loop-self.self.id c.loop-self.self.offset items c.index.result.now many c.index.ensures c.if-index-eq0.false in
     sym (still (front_but c.args.keep (bucket_of name c.loop-self.self)) none (bucket_of name c.loop-self.self) (g.D.DescriptorDevice.ledger c.loop-self.device)) ∙ c.loop-self.invariant.ledger
 
 pub returns-after-loop-self-clause-ledger : goal.returns-after-loop-self-clause-ledger
@@ -73,5 +73,5 @@ returns-after-loop-self-clause-ledger g c =
     let name = g.D.DescriptorDevice.pool_name in
     let items = c.loop-self.self.pools.items in
     let short : length items ≤ c.args.keep = omega (arith, c.loop-self.self.pools.ok.0) in
-    let none = stop_short name c.args.keep c.loop-self.self.offset items short in
+    let none = stop_short name c.args.keep c.loop-self.self.id c.loop-self.self.offset items short in
     sym (still (front_but c.args.keep (bucket_of name c.loop-self.self)) none (bucket_of name c.loop-self.self) (g.D.DescriptorDevice.ledger c.loop-self.device)) ∙ c.loop-self.invariant.ledger

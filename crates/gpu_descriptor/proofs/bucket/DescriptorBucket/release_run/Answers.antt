@@ -1,3 +1,4 @@
+use Rattle.gpu_descriptor.specs.Caller.KeyOf.{key_of}
 use Rattle.std.proofs.Common.{◌≡◌, ℕ, List, set, ◌+◌, ◌<◌, ◌≤◌, ◌-◌, rules, arith, sym, refl, ◌∙◌, ap, subst, length, map, slice_get, [], ◌∷◌, Some, length-set, eqb-true}
 use Rattle.std.proofs.lemmas.List.{length-map}
 use Rattle.std.proofs.lemmas.Option.{slice_get_read}
@@ -15,7 +16,6 @@ use Rattle.gpu_descriptor.proofs.PoolLoads.{stored_put}
 use Rattle.gpu_descriptor.proofs.Open.{open_rises}
 use Rattle.gpu_descriptor.proofs.Listed.{listed_again, fewer_listed}
 use Rattle.gpu_descriptor.specs.Model.Release.{entry_less}
-use Rattle.gpu_descriptor.specs.Caller.Sets.{key_of}
 use Rattle.gpu_descriptor.specs.Inner.Stored.{bucket_of, entry_of}
 use Rattle.gpu_descriptor.specs.Caller.Comparisons.{binary_digits}
 use Rattle.gpu_descriptor.proofs.Comparisons.{listed_count}
@@ -27,13 +27,13 @@ use Rattle.gpu_descriptor.proofs.bucket.DescriptorBucket.release_run.Goals.{Star
 use Rattle.gpu_descriptor.proofs.bucket.DescriptorBucket.release_run.Goals as goal
 
 -- one set alone is in the place
-first_taken : (g : _) (c : Start g) → IsTakenAt (key_of c.args.first.key) c.args.first.number (g.D.DescriptorDevice.set_name c.args.first.raw ∷ []) (bucket_of g.D.DescriptorDevice.pool_name c.args.self.now) (g.D.DescriptorDevice.ledger c.args.device.now).pools
+first_taken : (g : _) (c : Start g) → IsTakenAt c.args.first.key.is c.args.first.number (g.D.DescriptorDevice.set_name c.args.first.raw ∷ []) (bucket_of g.D.DescriptorDevice.pool_name c.args.self.now) (g.D.DescriptorDevice.ledger c.args.device.now).pools
 first_taken g c = c.requires.taken [] c.args.sets.now refl tt
 
 within : (g : _) (c : Start g) → c.args.first.number - c.args.self.now.offset < length c.args.self.now.pools.items
 within g c =
     let items = c.args.self.now.pools.items in
-    let at = is_within (key_of c.args.first.key) c.args.first.number (g.D.DescriptorDevice.set_name c.args.first.raw ∷ []) (bucket_of g.D.DescriptorDevice.pool_name c.args.self.now) (g.D.DescriptorDevice.ledger c.args.device.now).pools (first_taken g c) in
+    let at = is_within c.args.first.key.is c.args.first.number (g.D.DescriptorDevice.set_name c.args.first.raw ∷ []) (bucket_of g.D.DescriptorDevice.pool_name c.args.self.now) (g.D.DescriptorDevice.ledger c.args.device.now).pools (first_taken g c) in
     let long = length-map items (entry_of g.D.DescriptorDevice.pool_name) in
     omega arith
 
@@ -45,17 +45,17 @@ index_mut-pool-requires g c = let lt = within g (goal.at.index_mut-pool-requires
 
 -- the place that was read
 at : (g : _) (c : After-index_mut-pool g) → slice_get (bucket_of g.D.DescriptorDevice.pool_name c.args.self.now).pools (c.args.first.number - c.args.self.now.offset) ≡ Some (entry_of g.D.DescriptorDevice.pool_name c.index_mut-pool.result.now)
-at g c = read_first g.D.DescriptorDevice.pool_name (key_of c.args.first.key) c.args.first.number (g.D.DescriptorDevice.set_name c.args.first.raw ∷ []) c.args.self.now.offset c.args.self.now.pools.items (g.D.DescriptorDevice.ledger c.args.device.now).pools c.index_mut-pool.result.now
+at g c = read_first g.D.DescriptorDevice.pool_name c.args.first.key.is c.args.first.number (g.D.DescriptorDevice.set_name c.args.first.raw ∷ []) c.args.self.now.id c.args.self.now.offset c.args.self.now.pools.items (g.D.DescriptorDevice.ledger c.args.device.now).pools c.index_mut-pool.result.now
     (c.requires.taken [] c.args.sets.now refl tt) c.index_mut-pool.ensures.value
 
 room : (g : _) (c : After-index_mut-pool g) → c.index_mut-pool.result.now.allocated + c.index_mut-pool.result.now.available ≤ 2147483648
-room g c = place_room (key_of c.args.first.key) (bucket_of g.D.DescriptorDevice.pool_name c.args.self.now) (g.D.DescriptorDevice.ledger c.args.device.now).pools (c.args.first.number - c.args.self.now.offset) (entry_of g.D.DescriptorDevice.pool_name c.index_mut-pool.result.now) c.requires.stored (at g c)
+room g c = place_room c.args.first.key.is (bucket_of g.D.DescriptorDevice.pool_name c.args.self.now) (g.D.DescriptorDevice.ledger c.args.device.now).pools (c.args.first.number - c.args.self.now.offset) (entry_of g.D.DescriptorDevice.pool_name c.index_mut-pool.result.now) c.requires.stored (at g c)
 
 -- the place is within
 here : (g : _) (c : After-index_mut-pool g) → c.args.first.number - c.args.self.now.offset < length c.args.self.now.pools.items
 here g c =
     let items = c.args.self.now.pools.items in
-    let at = is_within (key_of c.args.first.key) c.args.first.number (g.D.DescriptorDevice.set_name c.args.first.raw ∷ []) (bucket_of g.D.DescriptorDevice.pool_name c.args.self.now) (g.D.DescriptorDevice.ledger c.args.device.now).pools (c.requires.taken [] c.args.sets.now refl tt) in
+    let at = is_within c.args.first.key.is c.args.first.number (g.D.DescriptorDevice.set_name c.args.first.raw ∷ []) (bucket_of g.D.DescriptorDevice.pool_name c.args.self.now) (g.D.DescriptorDevice.ledger c.args.device.now).pools (c.requires.taken [] c.args.sets.now refl tt) in
     let long = length-map items (entry_of g.D.DescriptorDevice.pool_name) in
     omega arith
 
@@ -76,7 +76,7 @@ module _ (g : _) (c : After-finish-count g) where
     taken : AreTaken (map g.D.DescriptorDevice.set_name c.dealloc_descriptor_sets.ensures.released.items) (live_in (g.D.DescriptorDevice.ledger c.args.device.now).pools e.pool) c.dealloc_descriptor_sets.ensures.released.gone
     taken =
         let t = c.dealloc_descriptor_sets.ensures.released in
-        are_taken (key_of c.args.first.key) (bucket_of g.D.DescriptorDevice.pool_name c.args.self.now) (g.D.DescriptorDevice.ledger c.args.device.now).pools place e (map g.D.DescriptorDevice.set_name t.items) t.gone c.requires.stored at t.named t.live
+        are_taken c.args.first.key.is (bucket_of g.D.DescriptorDevice.pool_name c.args.self.now) (g.D.DescriptorDevice.ledger c.args.device.now).pools place e (map g.D.DescriptorDevice.set_name t.items) t.gone c.requires.stored at t.named t.live
 
     -- as many sets were counted as went
     counted : (c.finish-count.result ≤ e.allocated) × (c.finish-count.result ≡ length c.dealloc_descriptor_sets.ensures.released.gone) × (0 < c.finish-count.result)
@@ -134,9 +134,9 @@ drop_front-requires-clause-stored g c =
     let t = c.dealloc_descriptor_sets.ensures.released in
     let e = entry_of g.D.DescriptorDevice.pool_name c.index_mut-pool.result.now in
     let pools : (g.D.DescriptorDevice.ledger c.dealloc_descriptor_sets.new.self).pools ≡ taken_from (g.D.DescriptorDevice.ledger c.args.device.now).pools e.pool t.gone = ap (λ (l : Ledger). l.pools) t.ledger ∙ release_pools e.pool t.gone (g.D.DescriptorDevice.ledger c.args.device.now) in
-    let after = stored_after (key_of c.args.first.key) c.args.self.now.offset (map (entry_of g.D.DescriptorDevice.pool_name) c.args.self.now.pools.items) (g.D.DescriptorDevice.ledger c.args.device.now).pools (place g f) e t.gone c.requires.stored (at g r) (taken g f (at g r)).within in
-    let there = subst (λ (x : List Entry). AreBookedIn (key_of c.args.first.key) (taken_from (g.D.DescriptorDevice.ledger c.args.device.now).pools e.pool t.gone) x) (sym (changed g f (at g r))) after in
-    (key_of c.args.first.key, rw pools there)
+    let after = stored_after c.args.first.key.is c.args.self.now.offset (map (entry_of g.D.DescriptorDevice.pool_name) c.args.self.now.pools.items) (g.D.DescriptorDevice.ledger c.args.device.now).pools (place g f) e t.gone c.requires.stored (at g r) (taken g f (at g r)).within in
+    let there = subst (λ (x : List Entry). AreBookedIn c.args.first.key.is (taken_from (g.D.DescriptorDevice.ledger c.args.device.now).pools e.pool t.gone) x) (sym (changed g f (at g r))) after in
+    (c.args.first.key.is, rw pools there)
 
 pub invariant_of-self : goal.invariant_of-self
 invariant_of-self g c =
@@ -193,9 +193,9 @@ returns-clause-ran g c =
         entry = e;
         above = (c.requires.taken [] c.args.sets.now refl tt).above;
         at = at g r;
-        books = c.drop_front.ensures.books ∙ ap (λ (x : List Entry). trimmed_bucket 1 (bucket c.args.self.now.offset x)) entries;
-        ledger = c.drop_front.ensures.ledger ∙ ap (λ (x : List Entry). trimmed_ledger 1 (bucket c.args.self.now.offset x) (g.D.DescriptorDevice.ledger c.dealloc_descriptor_sets.new.self)) entries
-            ∙ ap (λ (l : Ledger). trimmed_ledger 1 (bucket c.args.self.now.offset (set es (place g f) (entry_less (length (names_of g.D.DescriptorDevice.set_name (c.args.first ∷ d.run.xs))) e))) l) (t.ledger ∙ ap (λ (ls : List LiveSet). after_release e.pool ls (g.D.DescriptorDevice.ledger c.args.device.now)) d.sets);
+        books = c.drop_front.ensures.books ∙ ap (λ (x : List Entry). trimmed_bucket 1 (bucket c.args.self.now.id c.args.self.now.offset x)) entries;
+        ledger = c.drop_front.ensures.ledger ∙ ap (λ (x : List Entry). trimmed_ledger 1 (bucket c.args.self.now.id c.args.self.now.offset x) (g.D.DescriptorDevice.ledger c.dealloc_descriptor_sets.new.self)) entries
+            ∙ ap (λ (l : Ledger). trimmed_ledger 1 (bucket c.args.self.now.id c.args.self.now.offset (set es (place g f) (entry_less (length (names_of g.D.DescriptorDevice.set_name (c.args.first ∷ d.run.xs))) e))) l) (t.ledger ∙ ap (λ (ls : List LiveSet). after_release e.pool ls (g.D.DescriptorDevice.ledger c.args.device.now)) d.sets);
       };
       total = (let total = c.drop_front.ensures.total in let from = c.from.ensures in let few = less.0 in let sum = c.args.self.now.counted in omega arith);
     }
@@ -214,14 +214,14 @@ returns-clause-goes g c =
 pub drop_front-requires-clause-room : goal.drop_front-requires-clause-room
 drop_front-requires-clause-room g c =
     let r = (goal.at.drop_front-requires-clause-room g c).After-index_mut-pool in
-    let same = stored_put (key_of c.args.first.key) c.args.self.now.pools.items (c.args.first.number - c.args.self.now.offset) c.index_mut-pool.result.now c.dealloc_descriptor_sets.new.pool (c.index_mut-pool.result.now.allocated - c.finish-count.result) (c.index_mut-pool.result.now.available + c.finish-count.result) (here g r) c.index_mut-pool.ensures.value in
+    let same = stored_put (key_of c.args.key.now) c.args.self.now.pools.items (c.args.first.number - c.args.self.now.offset) c.index_mut-pool.result.now c.dealloc_descriptor_sets.new.pool (c.index_mut-pool.result.now.allocated - c.finish-count.result) (c.index_mut-pool.result.now.available + c.finish-count.result) (here g r) c.index_mut-pool.ensures.value in
     let fits = c.requires.room in
     omega arith
 
 pub returns-clause-room : goal.returns-clause-room
 returns-clause-room g c =
     let r = (goal.at.returns-clause-room g c).After-index_mut-pool in
-    let same = stored_put (key_of c.args.first.key) c.args.self.now.pools.items (c.args.first.number - c.args.self.now.offset) c.index_mut-pool.result.now c.dealloc_descriptor_sets.new.pool (c.index_mut-pool.result.now.allocated - c.finish-count.result) (c.index_mut-pool.result.now.available + c.finish-count.result) (here g r) c.index_mut-pool.ensures.value in
+    let same = stored_put (key_of c.args.key.now) c.args.self.now.pools.items (c.args.first.number - c.args.self.now.offset) c.index_mut-pool.result.now c.dealloc_descriptor_sets.new.pool (c.index_mut-pool.result.now.allocated - c.finish-count.result) (c.index_mut-pool.result.now.available + c.finish-count.result) (here g r) c.index_mut-pool.ensures.value in
     let room = c.drop_front.ensures.room in
     omega arith
 

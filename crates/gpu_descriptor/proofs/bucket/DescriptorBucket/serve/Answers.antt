@@ -5,7 +5,7 @@ use Rattle.std.proofs.lemmas.List.{length-map}
 use Rattle.gpu_descriptor_types.specs.Ledger.{Ledger}
 use Rattle.gpu_descriptor.specs.declared.set.DescriptorSet.{DescriptorSet}
 use Rattle.gpu_descriptor.specs.Model.Books.{Key}
-use Rattle.gpu_descriptor.specs.Caller.Sets.{key_of}
+use Rattle.gpu_descriptor.specs.Caller.KeyOf.{key_of}
 use Rattle.gpu_descriptor.specs.Inner.Stored.{entry_of}
 use Rattle.gpu_descriptor.specs.Inner.Serves.{Serves}
 use Rattle.gpu_descriptor.proofs.bucket.DescriptorBucket.serve.Goals as goal
@@ -22,6 +22,7 @@ returns-clause-served g c =
           let n = c.len.ensures in
           let ok = c.args.self.now.pools.ok.0 in
           omega arith);
+      id = c.take-taken.ensures.id;
       offset = c.take-taken.ensures.offset;
       total = c.take-taken.ensures.total;
       few = c.take-taken.ensures.few;

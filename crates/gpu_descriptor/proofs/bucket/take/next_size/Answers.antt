@@ -1,5 +1,5 @@
 use Rattle.std.proofs.Common.{arith, refl, IfSome, Option, Some, None}
-use Rattle.gpu_descriptor.specs.Caller.Sets.{key_of}
+use Rattle.gpu_descriptor.specs.Caller.KeyOf.{key_of}
 use Rattle.gpu_descriptor.proofs.NextSize.{next_fits}
 use Rattle.gpu_descriptor.proofs.bucket.take.next_size.Goals as goal
 

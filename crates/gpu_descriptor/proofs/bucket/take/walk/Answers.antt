@@ -1,3 +1,4 @@
+use Rattle.gpu_descriptor.specs.Inner.SetAt.{set_at}
 use Rattle.std.proofs.Common.{◌≡◌, ℕ, ◌+◌, ◌-◌, ◌++◌, List, [], length, map, slice_get, slice_set, Some, refl, sym, ap, ◌∙◌, subst, arith, append_assoc, length-append}
 use Rattle.std.proofs.lemmas.List.{length-map, append-nil, map-append, length-set}
 use Rattle.gpu_descriptor_types.specs.Ledger.{Ledger}
@@ -8,7 +9,8 @@ use Rattle.gpu_descriptor.specs.declared.set.DescriptorSet.{DescriptorSet}
 use Rattle.gpu_descriptor.specs.Model.Agreement.{Item}
 use Rattle.gpu_descriptor.specs.Model.Books.{Entry, Key}
 use Rattle.gpu_descriptor.specs.Model.Grants.{items_at}
-use Rattle.gpu_descriptor.specs.Caller.Sets.{key_of, items_of}
+use Rattle.gpu_descriptor.specs.Caller.KeyOf.{key_of}
+use Rattle.gpu_descriptor.specs.Caller.Sets.{items_of}
 use Rattle.gpu_descriptor.specs.Model.Shares.{rest}
 use Rattle.gpu_descriptor.specs.Inner.Walk.{sets_at, IsWalked, IsWalkStopped}
 use Rattle.gpu_descriptor.proofs.Newest.{OpenWalk, open_walk_start, open_walk_more, open_walk_stop, walk_sated, walk_empty, above, inside, next_is_booked, listed_now_closed, listed_now_open, listed_now_same, one_asked, looked_at}
@@ -17,28 +19,28 @@ use Rattle.gpu_descriptor.proofs.bucket.take.walk.Goals.{In-Ok}
 use Rattle.gpu_descriptor.proofs.bucket.take.walk.Goals as goal
 
 -- sets of one key and number are those of another that are the same
-aimed_at : {S : Type 0} {k l : BucketKey} {m n : ℕ} (raws : List S) → k ≡ l → m ≡ n → sets_at k m raws ≡ sets_at l n raws
-aimed_at {l = l} {m = m} raws keys numbers = ap (λ (k : BucketKey). sets_at k m raws) keys ∙ ap (λ n. sets_at l n raws) numbers
+aimed_at : {S : Type 0} {k l : BucketKey} {i j m n : ℕ} (raws : List S) → k ≡ l → i ≡ j → m ≡ n → sets_at (key_of k) i m raws ≡ sets_at (key_of l) j n raws
+aimed_at {l = l} {i = i} {j = j} {m = m} raws keys ids numbers = ap (λ (k : BucketKey). sets_at (key_of k) i m raws) keys ∙ ap (λ i. sets_at (key_of l) i m raws) ids ∙ ap (λ n. sets_at (key_of l) j n raws) numbers
 
 -- what one pool gave stands behind what the others gave
-gave_more : {S : Type 0} (name : S → ℕ) (k : BucketKey) (number : ℕ) (put : List (DescriptorSet S)) (raws : List S) → items_of name put ++ items_at (key_of k) number (map name raws) ≡ items_of name (put ++ sets_at k number raws)
-gave_more name k number put raws = sym (map-append _ put (sets_at k number raws) ∙ ap (λ x. items_of name put ++ x) (items_of-sets_at name k number raws))
+gave_more : {S : Type 0} (name : S → ℕ) (k : Key) (id number : ℕ) (put : List (DescriptorSet S)) (raws : List S) → items_of name put ++ items_at k id number (map name raws) ≡ items_of name (put ++ sets_at k id number raws)
+gave_more name k id number put raws = sym (map-append _ put (sets_at k id number raws) ∙ ap (λ x. items_of name put ++ x) (items_of-sets_at name k id number raws))
 
 -- as many were given as there are raw sets
-counted : {S : Type 0} (k : BucketKey) (number given : ℕ) (put : List (DescriptorSet S)) (raws : List S) → length raws ≡ given → length (put ++ sets_at k number raws) ≡ length put + given
-counted {S} k number given put raws all =
-    let a = length-append put (sets_at k number raws) in
-    let b = length-map raws (λ raw. let x : DescriptorSet S = record { raw = raw; number = number; key = k } in x) in
+counted : {S : Type 0} (k : Key) (id number given : ℕ) (put : List (DescriptorSet S)) (raws : List S) → length raws ≡ given → length (put ++ sets_at k id number raws) ≡ length put + given
+counted {S} k id number given put raws all =
+    let a = length-append put (sets_at k id number raws) in
+    let b = length-map raws (λ raw. set_at k id number raw) in
     omega arith
 
 -- a walk over lists that are the same
-closed_walk : {P : Type 0} {name : P → ℕ} {k : Key} {n first start wanting : ℕ} {out given : List Item} {old : List Entry} {items now : List (DescriptorPool P)} {numbers listed : List ℕ} {l m : Ledger}
-    → out ≡ given → now ≡ items → listed ≡ numbers → start ≡ first → OpenWalk name k n first wanting out old items numbers l m → OpenWalk name k n start wanting given old now listed l m
-closed_walk gave pools shorter place walk = rw (pools, shorter, place, sym gave) walk
+closed_walk : {P : Type 0} {name : P → ℕ} {k : Key} {n id own first start wanting : ℕ} {out given : List Item} {old : List Entry} {items now : List (DescriptorPool P)} {numbers listed : List ℕ} {l m : Ledger}
+    → out ≡ given → now ≡ items → listed ≡ numbers → start ≡ first → own ≡ id → OpenWalk name k n id first wanting out old items numbers l m → OpenWalk name k n own start wanting given old now listed l m
+closed_walk gave pools shorter place ids walk = rw (pools, shorter, place, ids, sym gave) walk
 
 -- the walk stopped
-stopped_at : {k : Key} {n first start : ℕ} {error : DeviceAllocationError} {out : List Item} {old new : List Entry} {l m : Ledger} → first ≡ start → IsWalkStopped k n first error out old new l m → IsWalkStopped k n start error out old new l m
-stopped_at {k} {n} {first} {start} {error} {out} {old} {new} {l} {m} same stopped = subst (λ (f : ℕ). IsWalkStopped k n f error out old new l m) same stopped
+stopped_at : {k : Key} {n id own first start : ℕ} {error : DeviceAllocationError} {out : List Item} {old new : List Entry} {l m : Ledger} → id ≡ own → first ≡ start → IsWalkStopped k n id first error out old new l m → IsWalkStopped k n own start error out old new l m
+stopped_at {k} {n} {id} {own} {first} {start} {error} {out} {old} {new} {l} {m} ids same stopped = subst (λ (i : ℕ). IsWalkStopped k n i start error out old new l m) ids (subst (λ (f : ℕ). IsWalkStopped k n id f error out old new l m) same stopped)
 
 pub loop-wanting-init : goal.loop-wanting-init
 loop-wanting-init g c = record {
@@ -47,26 +49,26 @@ loop-wanting-init g c = record {
   room = refl;
   given = omega arith;
   long = refl;
-  walk = open_walk_start g.D.DescriptorDevice.pool_name (key_of c.args.key.now) c.args.count c.args.view.now.offset c.args.view.now.pools.now.items c.args.view.now.listed.now.items (g.D.DescriptorDevice.ledger c.args.device.now) c.requires.booked c.requires.listed.0;
+  walk = open_walk_start g.D.DescriptorDevice.pool_name (key_of c.args.key.now) c.args.count c.args.view.now.id c.args.view.now.offset c.args.view.now.pools.now.items c.args.view.now.listed.now.items (g.D.DescriptorDevice.ledger c.args.device.now) c.requires.booked c.requires.listed.0;
   space = c.requires.listed.1;
-  kept = (refl, refl, refl, refl);
+  kept = (refl, refl, refl, refl, refl);
   looks = refl;
 }
 
 -- the walk is over
-whole : {k : Key} {n first start wanting : ℕ} {out : List Item} {old new : List Entry} {l m : Ledger} → first ≡ start → Walking k n first 0 wanting out old new l m → (w : IsWalked k n start 0 out old new l m) × (wanting ≡ rest w.grant.refused n old)
-whole {k} {n} {first} {start} {wanting} {out} {old} {new} {l} {m} same walked = walk_end k n start wanting out old new l m (subst (λ (f : ℕ). Walking k n f 0 wanting out old new l m) same walked)
+whole : {k : Key} {n id own first start wanting : ℕ} {out : List Item} {old new : List Entry} {l m : Ledger} → id ≡ own → first ≡ start → Walking k n id first 0 wanting out old new l m → (w : IsWalked k n own start 0 out old new l m) × (wanting ≡ rest w.grant.refused n old)
+whole {k} {n} {id} {own} {first} {start} {wanting} {out} {old} {new} {l} {m} ids same walked = walk_end k n own start wanting out old new l m (subst (λ (i : ℕ). Walking k n i start 0 wanting out old new l m) ids (subst (λ (f : ℕ). Walking k n id f 0 wanting out old new l m) same walked))
 
 pub returns-in_default-clause-walked : goal.returns-in_default-clause-walked
 returns-in_default-clause-walked g c =
     let inv = c.loop-wanting.invariant in
-    let done = whole inv.kept.0 (walk_empty c.requires.booked inv.walk c.in_default.ensures.none) in
+    let done = whole inv.kept.4 inv.kept.0 (walk_empty c.requires.booked inv.walk c.in_default.ensures.none) in
     (inv.put, inv.sets, inv.room, done.0, done.1, inv.given)
 
 pub returns-clause-walked : goal.returns-clause-walked
 returns-clause-walked g c =
     let inv = c.loop-wanting.invariant in
-    let done = whole inv.kept.0 (walk_sated c.requires.booked inv.walk (let none = c.loop-wanting-test.false in omega arith)) in
+    let done = whole inv.kept.4 inv.kept.0 (walk_sated c.requires.booked inv.walk (let none = c.loop-wanting-test.false in omega arith)) in
     (inv.put, inv.sets, inv.room, done.0, done.1, inv.given)
 
 pub look-pool-requires-clause-above : goal.look-pool-requires-clause-above
@@ -93,7 +95,7 @@ returns-in-Err-clause-stopped g c =
     let at = looked_at c.requires.booked inv.walk c.loop-wanting-test.true _ _ last _ c.look-pool.ensures.value in
     let err = c.in-Err.ensures.err in
     let stopped = open_walk_stop c.requires.booked inv.walk c.loop-wanting-test.true _ _ last _ at c.ask.new.pool c.in-Err.error _ err.1 err.2 in
-    (inv.put, err.0 ∙ c.aim.ensures.sets ∙ inv.sets, stopped_at inv.kept.0 stopped)
+    (inv.put, err.0 ∙ c.aim.ensures.sets ∙ inv.sets, stopped_at inv.kept.4 inv.kept.0 stopped)
 
 pub returns-in-Err-clause-listed : goal.returns-in-Err-clause-listed
 returns-in-Err-clause-listed g c =
@@ -110,7 +112,7 @@ module _ (g : _) (c : In-Ok g) where
   raws = c.in-Ok.ensures.asked.0
 
   abbrev put : List (DescriptorSet g.row.S.Denot)
-  put = c.loop-wanting.invariant.put ++ sets_at c.args.key.now c.in-Some.number raws
+  put = c.loop-wanting.invariant.put ++ sets_at (key_of c.args.key.now) c.loop-wanting.view.id c.in-Some.number raws
 
   abbrev names : List ℕ
   names = map g.D.DescriptorDevice.set_name raws
@@ -126,13 +128,13 @@ module _ (g : _) (c : In-Ok g) where
 
   sets : c.ask.new.sink.sets.items ≡ c.args.sink.now.sets.items ++ put
   sets =
-      c.in-Ok.ensures.asked.2 ∙ ap (λ x. c.aim.new.self.sets.items ++ x) (aimed_at raws c.aim.ensures.key c.aim.ensures.number) ∙ ap (λ x. x ++ sets_at c.args.key.now c.in-Some.number raws) (c.aim.ensures.sets ∙ c.loop-wanting.invariant.sets) ∙ append_assoc c.args.sink.now.sets.items c.loop-wanting.invariant.put _
+      c.in-Ok.ensures.asked.2 ∙ ap (λ x. c.aim.new.self.sets.items ++ x) (aimed_at raws c.aim.ensures.key (c.aim.ensures.id ∙ c.id.ensures) c.aim.ensures.number) ∙ ap (λ x. x ++ sets_at (key_of c.args.key.now) c.loop-wanting.view.id c.in-Some.number raws) (c.aim.ensures.sets ∙ c.loop-wanting.invariant.sets) ∙ append_assoc c.args.sink.now.sets.items c.loop-wanting.invariant.put _
 
   room : c.ask.new.sink.left + c.args.count ≡ c.args.sink.now.left + (c.loop-wanting.wanting - c.in-Ok.given)
   room = (let a = c.loop-wanting.invariant.room in let b = c.in-Ok.ensures.asked.3 in let d = many in let q = c.aim.ensures.left in let few = less in omega arith)
 
   given : length put + (c.loop-wanting.wanting - c.in-Ok.given) ≡ c.args.count
-  given = (let a = c.loop-wanting.invariant.given in let b = counted c.args.key.now c.in-Some.number _ c.loop-wanting.invariant.put raws c.in-Ok.ensures.asked.1 in let d = many in let few = less in omega arith)
+  given = (let a = c.loop-wanting.invariant.given in let b = counted (key_of c.args.key.now) c.loop-wanting.view.id c.in-Some.number _ c.loop-wanting.invariant.put raws c.in-Ok.ensures.asked.1 in let d = many in let few = less in omega arith)
 
 pub loop-wanting-preserved : goal.loop-wanting-preserved
 loop-wanting-preserved g c =
@@ -150,7 +152,7 @@ loop-wanting-preserved g c =
       room = room g r;
       given = given g r;
       long = many ∙ inv.long;
-      walk = closed_walk (gave_more g.D.DescriptorDevice.set_name c.args.key.now c.in-Some.number inv.put (raws g r)) refl refl refl walked;
+      walk = closed_walk (gave_more g.D.DescriptorDevice.set_name (key_of c.args.key.now) c.loop-wanting.view.id c.in-Some.number inv.put (raws g r)) refl refl refl refl walked;
       space = (let a = inv.space in omega arith);
       kept = inv.kept;
       looks = (let a = inv.looks in omega arith);
@@ -175,8 +177,8 @@ loop-wanting-preserved-then-pool-eq0 g c =
       room = room g r;
       given = given g r;
       long = many ∙ inv.long;
-      walk = closed_walk (gave_more g.D.DescriptorDevice.set_name c.args.key.now c.in-Some.number inv.put (raws g r)) pools now.listed now.kept.0 walked;
+      walk = closed_walk (gave_more g.D.DescriptorDevice.set_name (key_of c.args.key.now) c.loop-wanting.view.id c.in-Some.number inv.put (raws g r)) pools now.listed now.kept.0 now.kept.4 walked;
       space = (let a = inv.space in let b = now.capacity in omega arith);
-      kept = (now.kept.0 ∙ inv.kept.0, now.kept.1 ∙ inv.kept.1, now.kept.2 ∙ inv.kept.2, now.kept.3 ∙ inv.kept.3);
+      kept = (now.kept.0 ∙ inv.kept.0, now.kept.1 ∙ inv.kept.1, now.kept.2 ∙ inv.kept.2, now.kept.3 ∙ inv.kept.3, now.kept.4 ∙ inv.kept.4);
       looks = (let a = inv.looks in omega arith);
     }

@@ -3,7 +3,8 @@ use Rattle.std.proofs.Common.{◌≡◌, ◌+◌, ◌≤◌, ◌++◌, List, len
 use Rattle.std.specs.VecDeque.{deque_capacity}
 use Rattle.gpu_descriptor.specs.declared.set.DescriptorSet.{DescriptorSet}
 use Rattle.gpu_descriptor.specs.Inner.OpenPools.{CountsLooks, KeepsView}
-use Rattle.gpu_descriptor.specs.Caller.Sets.{key_of, items_of}
+use Rattle.gpu_descriptor.specs.Caller.KeyOf.{key_of}
+use Rattle.gpu_descriptor.specs.Caller.Sets.{items_of}
 use Rattle.gpu_descriptor.specs.Inner.Walk.{entries_of}
 use Rattle.gpu_descriptor.proofs.Newest.{OpenWalk}
 use Rattle.gpu_descriptor.proofs.bucket.take.walk.Given as goal
@@ -15,7 +16,7 @@ invariant-loop-wanting g l = record {
   room : l.sink.left + l.count ≡ l.initial.sink.left + l.wanting;
   given : length put + l.wanting ≡ l.count;
   long : length l.view.pools.now.items ≡ length l.initial.view.pools.now.items;
-  walk : OpenWalk g.D.DescriptorDevice.pool_name (key_of l.key) l.count l.view.offset l.wanting (items_of g.D.DescriptorDevice.set_name put) (entries_of g.D.DescriptorDevice.pool_name l.initial.view.pools.now.items) l.view.pools.now.items l.view.listed.now.items (g.D.DescriptorDevice.ledger l.initial.device) (g.D.DescriptorDevice.ledger l.device);
+  walk : OpenWalk g.D.DescriptorDevice.pool_name (key_of l.key) l.count l.view.id l.view.offset l.wanting (items_of g.D.DescriptorDevice.set_name put) (entries_of g.D.DescriptorDevice.pool_name l.initial.view.pools.now.items) l.view.pools.now.items l.view.listed.now.items (g.D.DescriptorDevice.ledger l.initial.device) (g.D.DescriptorDevice.ledger l.device);
   space : length l.view.pools.now.items ≤ deque_capacity l.view.listed.now;
   kept : KeepsView l.initial.view l.view;
   looks : CountsLooks l.initial.view l.view (g.D.DescriptorDevice.ledger l.initial.device) (g.D.DescriptorDevice.ledger l.device);

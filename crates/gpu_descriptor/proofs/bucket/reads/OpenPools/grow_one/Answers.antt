@@ -8,7 +8,7 @@ use Rattle.gpu_descriptor.specs.declared.set.BucketKey.{BucketKey}
 use Rattle.gpu_descriptor.specs.declared.set.DescriptorSet.{DescriptorSet}
 use Rattle.gpu_descriptor.specs.Model.Books.{Entry, Key}
 use Rattle.gpu_descriptor.specs.Model.Agreement.{flags_of}
-use Rattle.gpu_descriptor.specs.Caller.Sets.{key_of}
+use Rattle.gpu_descriptor.specs.Caller.KeyOf.{key_of}
 use Rattle.gpu_descriptor.specs.Inner.Stored.{entry_of}
 use Rattle.gpu_descriptor.specs.Inner.Walk.{entries_of, sets_at}
 use Rattle.gpu_descriptor.proofs.NextSize.{one_fits}
@@ -81,7 +81,7 @@ returns-in-Ok-alloc_descriptor_sets-clause-grown g c =
     ∙ map-append (entry_of g.D.DescriptorDevice.pool_name) c.args.self.now.pools.now.items (value ∷ [])
     ∙ ap (λ (e : Entry). old ++ e ∷ []) (same_entry (entry_of g.D.DescriptorDevice.pool_name value) _ c.in-Ok-alloc_descriptor_sets.ensures.name refl count (ap (λ n. c.in-Some.size - n) count)) in
     let number : c.aim.new.self.number ≡ c.args.self.now.offset + length c.args.self.now.pools.now.items = c.aim.ensures.number ∙ c.next_number.ensures ∙ (let k = c.make_room.ensures.kept.0 in let same = ap length c.make_room.ensures.pools in omega arith) in
-    let kept : c.alloc_descriptor_sets.new.sets.sets.items ≡ c.args.sink.now.sets.items ++ sets_at c.args.request.now.key (c.args.self.now.offset + length c.args.self.now.pools.now.items) put.sets = put.kept ∙ ap (λ (l : List (DescriptorSet g.row.S.Denot)). l ++ sets_at c.aim.new.self.key c.aim.new.self.number put.sets) c.aim.ensures.sets ∙ ap (λ (k : BucketKey). c.args.sink.now.sets.items ++ sets_at k c.aim.new.self.number put.sets) c.aim.ensures.key ∙ ap (λ (n : ℕ). c.args.sink.now.sets.items ++ sets_at c.args.request.now.key n put.sets) number in
+    let kept : c.alloc_descriptor_sets.new.sets.sets.items ≡ c.args.sink.now.sets.items ++ sets_at (key_of c.args.request.now.key) c.args.self.now.id (c.args.self.now.offset + length c.args.self.now.pools.now.items) put.sets = put.kept ∙ ap (λ (l : List (DescriptorSet g.row.S.Denot)). l ++ sets_at (key_of c.aim.new.self.key) c.aim.new.self.id c.aim.new.self.number put.sets) c.aim.ensures.sets ∙ ap (λ (k : BucketKey). c.args.sink.now.sets.items ++ sets_at (key_of k) c.aim.new.self.id c.aim.new.self.number put.sets) c.aim.ensures.key ∙ ap (λ (j : ℕ). c.args.sink.now.sets.items ++ sets_at (key_of c.args.request.now.key) j c.aim.new.self.number put.sets) (c.aim.ensures.id ∙ c.id.ensures ∙ c.make_room.ensures.kept.4) ∙ ap (λ (n : ℕ). c.args.sink.now.sets.items ++ sets_at (key_of c.args.request.now.key) c.args.self.now.id n put.sets) number in
     let room : c.alloc_descriptor_sets.new.sets.left + c.min-given.result ≡ c.args.sink.now.left = (let r = put.room in let n = c.new.ensures.left in let a = c.aim.ensures.left in omega arith) in
     (put.sets, many, kept, room, grown (key g d) c.args.room.now _ c.args.total c.args.wanted (size g d) (name g d) names old new (before g d) (created g d) m' c.in-Some.ensures.sets (let fits = c.in-Some.ensures.room.0 in let load = c.descriptors_of_pool.ensures in omega arith) long c.in-Ok.ensures.new_name (made g d) is now)
 

@@ -3,7 +3,8 @@ use Rattle.std.proofs.Common.{◌≡◌, ◌+◌, ◌≤◌, ◌++◌, List, len
 use Rattle.gpu_descriptor.specs.declared.set.DescriptorSet.{DescriptorSet}
 use Rattle.gpu_descriptor.specs.Model.Load.{pools_load}
 use Rattle.gpu_descriptor.specs.Inner.OpenPools.{CountsLooks, IsListed, KeepsView}
-use Rattle.gpu_descriptor.specs.Caller.Sets.{key_of, items_of}
+use Rattle.gpu_descriptor.specs.Caller.KeyOf.{key_of}
+use Rattle.gpu_descriptor.specs.Caller.Sets.{items_of}
 use Rattle.gpu_descriptor.specs.Inner.Walk.{entries_of}
 use Rattle.gpu_descriptor.proofs.Growing.{Growing}
 use Rattle.gpu_descriptor.proofs.bucket.reads.OpenPools.take.Given as goal
@@ -16,7 +17,7 @@ invariant-loop-wanting g l = record {
   given : length put + l.wanting ≡ l.fn.request.count;
   totals : l.out + l.wanting ≡ l.fn.total + l.fn.request.count;
   pools : length l.self.pools.now.items + l.wanting ≤ length l.fn.self.pools.now.items + l.fn.request.count;
-  growing : Growing (key_of l.fn.request.key) l.fn.room l.fn.request.count l.fn.self.offset l.room l.out l.wanting (items_of g.D.DescriptorDevice.set_name put) (entries_of g.D.DescriptorDevice.pool_name l.fn.self.pools.now.items) (entries_of g.D.DescriptorDevice.pool_name l.self.pools.now.items) (g.D.DescriptorDevice.ledger l.fn.device) (g.D.DescriptorDevice.ledger l.device);
+  growing : Growing (key_of l.fn.request.key) l.fn.room l.fn.request.count l.fn.self.id l.fn.self.offset l.room l.out l.wanting (items_of g.D.DescriptorDevice.set_name put) (entries_of g.D.DescriptorDevice.pool_name l.fn.self.pools.now.items) (entries_of g.D.DescriptorDevice.pool_name l.self.pools.now.items) (g.D.DescriptorDevice.ledger l.fn.device) (g.D.DescriptorDevice.ledger l.device);
   load : l.room + pools_load (key_of l.fn.request.key) (entries_of g.D.DescriptorDevice.pool_name l.self.pools.now.items) ≡ l.fn.room + pools_load (key_of l.fn.request.key) (entries_of g.D.DescriptorDevice.pool_name l.fn.self.pools.now.items);
   listed : IsListed l.self;
   kept : KeepsView l.fn.self l.self;

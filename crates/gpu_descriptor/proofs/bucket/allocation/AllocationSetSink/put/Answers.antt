@@ -1,0 +1,8 @@
+use Rattle.std.proofs.Common.{◌∙◌, ap, [], ◌∷◌, ◌++◌}
+use Rattle.gpu_descriptor.specs.Model.Books.{Key}
+use Rattle.gpu_descriptor.specs.Inner.SetAt.{set_at}
+use Rattle.gpu_descriptor.proofs.bucket.allocation.AllocationSetSink.put.Goals as goal
+
+pub returns-clause-kept : goal.returns-clause-kept
+returns-clause-kept g c =
+    c.push_reserved.ensures.items ∙ ap (λ (k : Key). c.args.self.now.sets.items ++ set_at k c.args.self.now.id c.args.self.now.number c.args.set ∷ []) c.of.ensures

@@ -1,0 +1,31 @@
+use Rattle.std.proofs.Common.{◌≡◌, ◌<◌, ℕ, zero, suc, Bool, true, List, [], ◌∷◌, Some, None, length, get_or, slice_get, rules, sym, ap, ◌∙◌, arith}
+use Rattle.std.specs.List.{position}
+use Rattle.std.specs.Map.{keys_of, lookup}
+use Rattle.indexmap.proofs.MapLemmas.{Missing-position}
+use Rattle.gpu_descriptor.specs.Inner.Ids.{is_of}
+use Rattle.std.proofs.lemmas.List.Quantifiers.{position-Some}
+use Rattle.gpu_descriptor.specs.declared.set.BucketKey.{BucketKey}
+use Rattle.gpu_descriptor.specs.declared.bucket.DescriptorBucket.{DescriptorBucket}
+use Rattle.gpu_descriptor.specs.Model.Books.{Key, key_eq}
+use Rattle.gpu_descriptor.specs.Caller.KeyOf.{key_of}
+use Rattle.gpu_descriptor.specs.Inner.Stored.{stored_keys}
+use Rattle.gpu_descriptor.proofs.Exact.{key_exact}
+use Rattle.gpu_descriptor.proofs.RowAt.{lookup_same}
+use Rattle.gpu_descriptor.proofs.ids.KeyIds.place_of_key.Goals as goal
+
+tested_at : {P : Type 0} (test : BucketKey → Bool) (key : BucketKey) → ((l : BucketKey) → test l ≡ key_eq (key_of key) (key_of l)) → (es : List (BucketKey × DescriptorBucket P)) (i : ℕ) → i < length es → test (get_or (keys_of es) i key) ≡ true → slice_get (stored_keys es) i ≡ Some (key_of key)
+tested_at test key same [] i within h = absurd (omega arith)
+tested_at test key same (e ∷ es) zero within h = ap (λ (k : Key). Some k) (sym (key_exact.same (key_of key) (key_of e.0) (sym (same e.0) ∙ h)))
+tested_at test key same (e ∷ es) (suc i) within h = tested_at test key same es i (omega arith) h
+
+found_at : {P : Type 0} (test : BucketKey → Bool) (key : BucketKey) → ((l : BucketKey) → test l ≡ key_eq (key_of key) (key_of l)) → (es : List (BucketKey × DescriptorBucket P)) (i : ℕ) → i < length es → position test (keys_of es) ≡ Some i → slice_get (stored_keys es) i ≡ Some (key_of key)
+found_at test key same es i within at = tested_at test key same es i within (position-Some test (keys_of es) i key at).1
+
+none_at : {P : Type 0} (test : BucketKey → Bool) (key : BucketKey) → ((l : BucketKey) → test l ≡ key_eq (key_of key) (key_of l)) → (es : List (BucketKey × DescriptorBucket P)) → position test (keys_of es) ≡ None → lookup (is_of (key_of key)) es ≡ None
+none_at test key same es none = lookup_same (is_of (key_of key)) test (λ l. sym (same l)) es ∙ (Missing-position test es none).value
+
+pub returns-in-Some-clause-place : goal.returns-in-Some-clause-place
+returns-in-Some-clause-place g c = found_at _ c.args.key.now (λ k. search rules) c.args.buckets.now.entries c.in-Some.place c.in-Some.ensures.within (sym c.in-Some.ensures.index)
+
+pub returns-in-None-clause-place : goal.returns-in-None-clause-place
+returns-in-None-clause-place g c = none_at _ c.args.key.now (λ k. search rules) c.args.buckets.now.entries (sym c.in-None.ensures.index)
