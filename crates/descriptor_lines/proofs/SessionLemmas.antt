@@ -1,12 +1,11 @@
 -- Sessions that are ready, and the replies of their steps.
-use Rattle.std.proofs.Common.{◌≡◌, ◌≢◌, ℕ, zero, suc, zero-le, ◌+◌, ◌-◌, ◌<◌, ◌≤◌, ◌^◌, Bool, true, false, cond, List, [], ◌∷◌, ◌++◌, length, length-append, map, get_or, slice_index_or, Option, None, Some, IsSome, subst, refl, sym, ap, ◌∙◌, arith}
+use Rattle.std.proofs.Common.{◌≡◌, ◌≢◌, ℕ, zero, suc, zero-le, ◌+◌, ◌-◌, ◌<◌, ◌≤◌, ◌^◌, Bool, List, [], ◌∷◌, ◌++◌, length, length-append, map, get_or, slice_index_or, Option, None, Some, IsSome, subst, refl, sym, ap, ◌∙◌, arith}
 use Rattle.std.proofs.lemmas.List.{get_or-append_right, length-map}
 use Rattle.gpu_descriptor_types.specs.Counts.{kinds}
 use Rattle.gpu_descriptor_types.specs.Ledger.{Ledger}
-use Rattle.gpu_descriptor.specs.Model.Agreement.{Item, outstanding}
 use Rattle.gpu_descriptor.specs.Caller.Flags.{is_marked}
 use Rattle.gpu_descriptor.specs.Caller.States.{state_of}
-use Rattle.gpu_descriptor.proofs.Places.{empty_agrees}
+use Rattle.gpu_descriptor.proofs.Places.{empty_agrees, none_out}
 use Rattle.descriptor_script.specs.Scripted.Raw.{pool_id, set_id}
 use Rattle.descriptor_script.specs.Sessions.Ready.{IsScriptReady}
 use Rattle.descriptor_script.specs.Sessions.Session.{AreMeant, allocator_of, layouts_of, sets_of}
@@ -30,18 +29,11 @@ use Rattle.descriptor_lines.specs.Replies.{LineSession, HasAnswer}
 use Rattle.descriptor_lines.specs.ReplyTexts.{sets_asked, sets_given}
 use Rattle.descriptor_lines.specs.declared.layouts.Layouts.{Layouts}
 
-same_branches : {X : Type 0} (b : Bool) (x : X) → cond b x x ≡ x
-same_branches true x = refl
-same_branches false x = refl
-
-none_out : (max : ℕ) (l : Ledger) (t : Item) → outstanding (state_of {P = RawPool} pool_id (record { limit = max; table = []; looks = 0; comparisons = 0 }) l) t ≡ 0
-none_out max l t = simp same_branches
-
 -- a new session can make a step on any device
 pub new_is_ready : (s : LineSession) (l : Ledger) (max : ℕ) → allocator_of s ≡ record { limit = max; table = []; looks = 0; comparisons = 0 } → layouts_of s ≡ [] → sets_of s ≡ [] → IsScriptReady s l
 new_is_ready s l max allocator layouts sets = record {
   agree = rw allocator (empty_agrees l.pools);
-  held = rw (allocator, sets) (λ t. none_out max l t);
+  held = rw (allocator, sets) (λ t. none_out (state_of pool_id (record { limit = max; table = []; looks = 0; comparisons = 0 }) l) t refl);
   meant = rw layouts (λ i k at. (cc));
 }
 

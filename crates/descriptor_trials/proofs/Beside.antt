@@ -1,18 +1,17 @@
 -- Two sessions on one device: what a step of one leaves of the other.
-use Rattle.std.proofs.Common.{◌≡◌, ℕ, List, [], ltb, Option, None, Some, inl, inr, refl, sym, ap, ◌∙◌, subst}
-use Rattle.std.specs.Option.{option_map_or}
-use Rattle.std.proofs.lemmas.Bool.{cases_Bool}
+use Rattle.std.proofs.Common.{◌≡◌, ℕ, List, [], Option, Some, refl, sym, ap, ◌∙◌, subst}
 use Rattle.gpu_descriptor_types.specs.Ledger.{Ledger}
 use Rattle.gpu_descriptor.specs.Laws.Agreement.{KeepsOwn}
-use Rattle.gpu_descriptor.specs.Model.Agreement.{count_of, live_in, outstanding, set_of}
+use Rattle.gpu_descriptor.specs.Model.Agreement.{count_of, outstanding}
 use Rattle.gpu_descriptor.specs.Model.Books.{Key, Entry, Bucket, entry_at, no_pools}
 use Rattle.gpu_descriptor.specs.Model.Foreign.{IsForeign, KeepsForeign}
 use Rattle.gpu_descriptor.specs.Caller.Sets.{items_of}
 use Rattle.gpu_descriptor.specs.Caller.States.{Agrees, state_of}
 use Rattle.gpu_descriptor.specs.Caller.Values.{Allocations}
 use Rattle.gpu_descriptor.specs.declared.set.DescriptorSet.{DescriptorSet}
+use Rattle.gpu_descriptor.proofs.Lost.{none_at}
 use Rattle.gpu_descriptor.proofs.Others.{own_agrees, own_outstanding}
-use Rattle.gpu_descriptor.proofs.Places.{empty_agrees}
+use Rattle.gpu_descriptor.proofs.Places.{empty_agrees, none_out}
 use Rattle.descriptor_script.specs.Scripted.Raw.{pool_id, set_id}
 use Rattle.descriptor_script.specs.Sessions.Session.{allocator_of}
 use Rattle.descriptor_script.specs.Sessions.Tickets.{held_sets}
@@ -56,18 +55,11 @@ turned x y l pair = record {
   apart = λ j k i n d e there at same. pair.apart k j n i e d at there (sym same);
 }
 
-none_there : (n : ℕ) → entry_at no_pools n ≡ None
-none_there n = elim (cases_Bool (ltb n 0)) [
-  | inl below ↦ rw below refl
-  | inr other ↦ rw other refl
-]
-
 -- an allocator without keys shares no pool
 pub none_shared : (x y : Held) (l : Ledger) (limit : ℕ) → allocator_of x ≡ record { limit = limit; table = []; looks = 0; comparisons = 0 } → AreApart (session_state x l) (session_state y l)
 none_shared x y l limit empty k j m n d e there at same =
     let no_books : (session_state x l).books k ≡ no_pools = ap (λ (a : Allocations RawPool). (state_of pool_id a l).books k) empty in
-    let bad : ◌≡◌ {A = Option Entry} None (Some d) = sym (none_there m) ∙ ap (λ (b : Bucket). entry_at b m) (sym no_books) ∙ there in
-    cc
+    none_at m d (ap (λ (b : Bucket). entry_at b m) (sym no_books) ∙ there)
 
 -- a session without keys and sets can make a step on any device
 pub new_ready : (s : Held) (l : Ledger) → IsNewSession s → IsScriptReady s l
@@ -75,7 +67,7 @@ new_ready s l new = record {
   agree = subst (λ (a : Allocations RawPool). Agrees pool_id a l) (sym new.allocator) (empty_agrees l.pools);
   held = λ t.
       ap (λ (a : Allocations RawPool). outstanding (state_of pool_id a l) t) new.allocator
-      ∙ ap (λ (o : Option Entry). option_map_or (λ e. live_in l.pools e.pool (set_of t)) o 0) (none_there t.number)
+      ∙ none_out (state_of pool_id (record { limit = new.limit; table = []; looks = 0; comparisons = 0 }) l) t refl
       ∙ sym (ap (λ (slots : List (Option (DescriptorSet RawSet))). count_of t (items_of set_id (held_sets slots))) new.sets);
   meant = new.meant;
 }

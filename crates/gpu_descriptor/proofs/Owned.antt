@@ -21,6 +21,7 @@ use Rattle.gpu_descriptor.specs.Inner.RunSteps.{EndsAt, EndsRun, HaveKey, LieAt,
 use Rattle.gpu_descriptor.specs.Inner.Stored.{bucket_of, row_of}
 use Rattle.gpu_descriptor.proofs.Exact.{item_exact, key_exact}
 use Rattle.gpu_descriptor.proofs.Holding.{out_back}
+use Rattle.gpu_descriptor.proofs.Lost.{none_at}
 use Rattle.gpu_descriptor.proofs.Places.{outstanding_found}
 use Rattle.gpu_descriptor.proofs.Requested.{books_at}
 use Rattle.gpu_descriptor.proofs.Rising.{own_key}
@@ -45,9 +46,6 @@ pub record Stands {P : Type 0} (k : Key) (w : DescriptorBucket P) (es : List (Bu
 some_or_none : {A : Type 0} (o : Option A) → ((x : A) × (o ≡ Some x)) ⊎ (o ≡ None)
 some_or_none None = inr refl
 some_or_none (Some x) = inl (x, refl)
-
-none_at : (n : ℕ) → entry_at no_pools n ≡ None
-none_at n = elim (cases_Bool (nat_lt n 0)) [ inl below ↦ rw below refl | inr above ↦ rw above refl ]
 
 place_parts : {S : Type 0} (i n : ℕ) (x : DescriptorSet S) → at_place i n x ≡ true → (x.id ≡ i) × (x.number ≡ n)
 unfolding at_place
@@ -88,7 +86,7 @@ module _ {P S : Type 0} (name : P → ℕ) (set_name : S → ℕ) (a : Allocatio
       let f = outstanding_found s t 0 out in
       elim (some_or_none (lookup (is_of t.key) es)) [
         | inl row ↦ record { bucket = row.0; found = row.1; has = sym (ap (λ (b : Bucket). b.id) (looked t.key (Some row.0) row.1)) ∙ f.3 }
-        | inr none ↦ absurd (let bad : ◌≡◌ {A = Option Entry} None (Some f.0) = sym (none_at t.number) ∙ sym (ap (λ (b : Bucket). entry_at b t.number) (looked t.key None none)) ∙ f.1 in cc)
+        | inr none ↦ absurd (none_at t.number f.0 (ap (λ (b : Bucket). entry_at b t.number) (sym (looked t.key None none)) ∙ f.1))
       ]
 
   -- the first set of a list that is out

@@ -2,7 +2,7 @@
 use Rattle.std.proofs.Common.{◌≡◌, ℕ, suc, ◌+◌, ◌-◌, ◌<◌, ◌≤◌, Bool, true, false, cond, ltb, ◌&&◌, ◌==◌, List, [], ◌∷◌, length, map, filter, count_by, Option, Some, None, option_map, inl, inr, refl, sym, ap, ◌∙◌, arith, eqb-true, eq-eqb, ne_eqb}
 use Rattle.std.specs.Option.{option_map_or}
 use Rattle.std.specs.List.{list_any}
-use Rattle.std.proofs.lemmas.Bool.{cases_Bool, false_from_ne_true, and_parts, and_from}
+use Rattle.std.proofs.lemmas.Bool.{cases_Bool, cases_lt, false_from_ne_true, and_parts, and_from}
 use Rattle.std.proofs.lemmas.List.{length-map}
 use Rattle.std.proofs.lemmas.List.Sums.{length-filter, count_by-le-length}
 use Rattle.std.proofs.lemmas.Option.{slice_get-map}
@@ -152,6 +152,17 @@ outstanding_found s t a h = elim (cases_Bool ((s.books t.key).id == t.id)) [
       let found = some_above (entry_at (s.books t.key) t.number) (λ e. live_in s.ledger e.pool (set_of t)) a (omega (arith, there, h)) in
       (found.0, found.1, found.2, eqb-true (s.books t.key).id t.id same))
   | inr other ↦ (let none : outstanding s t ≡ 0 = rw other refl in absurd (omega arith))
+]
+
+-- a key without pools has no set out
+pub none_out : (s : State) (t : Item) → s.books t.key ≡ no_pools → outstanding s t ≡ 0
+none_out s t none = elim (cases_lt 0 (outstanding s t)) [
+  | inl some ↦ absurd (
+      let out = outstanding_found s t 0 some in
+      let at = entry_at-found no_pools t.number out.0 (ap (λ (b : Bucket). entry_at b t.number) (sym none) ∙ out.1) in
+      let bad : ◌≡◌ {A = Option Entry} None (Some out.0) = at.1 in
+      cc)
+  | inr zero_out ↦ omega arith
 ]
 
 pub entry_at-less : (g : ℕ → ℕ) (b : Bucket) (n : ℕ) → entry_at (bucket_less g b) n ≡ option_map (λ e. entry_less (g e.pool) e) (entry_at b n)
