@@ -7,3 +7,5 @@ mod counts;
 mod derives;
 #[cfg(test)]
 mod flags;
+#[cfg(test)]
+mod sets;

@@ -10,9 +10,6 @@ use crate::bucket::DescriptorBucket;
 use crate::set::BucketKey;
 use indexmap::IndexMap;
 
-/// How many places have a hint of their own on what follows them.
-const FOLLOWED: usize = 64;
-
 /// The id of the next key, and where the key of the next call is likely to stand.
 #[derive(Debug, Drop)]
 pub(crate) struct KeyIds {
@@ -21,33 +18,19 @@ pub(crate) struct KeyIds {
 
     /// The place of the last call's key.
     last: usize,
-
-    /// The place that came after each place the last time.
-    after: [usize; FOLLOWED],
 }
 
 impl KeyIds {
     pub(crate) fn new() -> Self
         ensures { result.next ≡ 0 }
     {
-        KeyIds {
-            next: 0,
-            last: 0,
-            after: [0; FOLLOWED],
-        }
+        KeyIds { next: 0, last: 0 }
     }
 
-    /// The place that came after the last one the last time.
+    /// The place behind the last one, which is right where keys are used in the order in which they
+    /// first came.
     fn likely(&self) -> usize {
-        self.after[self.last % FOLLOWED]
-    }
-
-    /// Notes the place of this call's key.
-    fn note(&mut self, place: usize)
-        ensures { self.new.next ≡ self.old.next }
-    {
-        self.after[self.last % FOLLOWED] = place;
-        self.last = place;
+        self.last.wrapping_add(1)
     }
 
     /// The place of a key. It is hashed only where neither hint is right.
@@ -66,12 +49,12 @@ impl KeyIds {
         }
         let likely = self.likely();
         if has_key(buckets, likely, key) {
-            self.note(likely);
+            self.last = likely;
             return Some(likely);
         }
         match buckets.get_index_of(key) {
             Some(place) => {
-                self.note(place);
+                self.last = place;
                 Some(place)
             }
             None => None,
@@ -95,11 +78,11 @@ impl KeyIds {
         }
         let likely = self.likely();
         if has_id(buckets, likely, id) {
-            self.note(likely);
+            self.last = likely;
             return likely;
         }
         let place = first_not_below(buckets, id);
-        self.note(place);
+        self.last = place;
         place
     }
 }

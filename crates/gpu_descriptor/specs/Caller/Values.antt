@@ -13,7 +13,7 @@ pub record Kept (P : Type 0) : Type 0 where
 -- the pools of a key, oldest first, and the number of the first
 pub record Row (P : Type 0) : Type 0 where
   pub key : Key
-  -- no two keys of one allocator ever had the same
+  -- the id of the key, which no other row has
   pub id : ℕ
   pub first : ℕ
   pub pools : List (Kept P)

@@ -19,7 +19,7 @@ pub record Entry : Type 0 where
   pub allocated : ℕ
   pub free : ℕ
 
--- the pools of a key, oldest first. The one at place i has the number first + i. The id is the key's, and was never another's
+-- the pools of a key, oldest first. The one at place i has the number first + i. The id is the key's
 pub record Bucket : Type 0 where
   pub id : ℕ
   pub first : ℕ
