@@ -18,7 +18,7 @@ use Rattle.gpu_descriptor.specs.Caller.Frees.{GivesBack}
 use Rattle.gpu_descriptor.specs.Model.Grants.{Grant, entries_with, items_in, granted}
 use Rattle.gpu_descriptor.specs.Inner.Grow.{IsTakenAll, IsTakenUpTo, IsGrowStopped, refusal_answer, stop_rise}
 use Rattle.gpu_descriptor.specs.Model.Load.{marked_load}
-use Rattle.gpu_descriptor.specs.Model.Outcomes.{Allocates, Call, Proceeds, IsBack, no_rise, risen, grant_rise, rollback_rise}
+use Rattle.gpu_descriptor.specs.Model.Outcomes.{Allocates, Call, Proceeds, IsBack, back_of, rolled_back, no_rise, risen, grant_rise, rollback_rise}
 use Rattle.gpu_descriptor.specs.Model.Outcomes.Allocates.{done, stopped_at_pool, stopped_without_room, stopped_at_create, stopped_for_memory, stopped_at_fresh}
 use Rattle.gpu_descriptor.specs.Model.Promises.{IsUntouched, KeepsOtherKeys, AreOfKey, AreOutBesides, KeepsOutstanding}
 use Rattle.gpu_descriptor.specs.Model.Release.{released, given_back, pools_gone}
@@ -139,49 +139,63 @@ module _ {P S : Type 0} {name : P → ℕ} {set_name : S → ℕ} {k : Key} {cou
     call error = call_of name k count old last before final (Err error)
 
     is_back : (g : Grant) (rise : Counters) (error : AllocationError) (walked : Ledger) → g.id ≡ t.id → items_in k t.id g.parts ≡ items → HasTaken k count (s.books k).first g (s.books k).pools t.pools before walked → with_pools k t.id t.pools after.pools s ≡ granted k count g s
-        → after.counters ≡ risen rise (risen (grant_rise count g (s.books k).pools) before.counters) → IsBack (call error) g rise error
-    is_back g rise error walked named first_came taken now counters = let came : items_in k g.id g.parts ≡ items = ap (λ (i : ℕ). items_in k i g.parts) named ∙ first_came in record {
-      taken = record { id = λ has. named ∙ t.kept has; refusing = taken.refusing; parts = taken.parts; new = taken.is_new };
-      answer = refl;
-      state = back.state ∙ (λ i. released (sym came i) ((t.state ∙ now) i));
-      counters = went (items_in k g.id g.parts) (granted k count g s) came (sym (t.state ∙ now)) ∙ ap (risen (rollback_rise (items_in k g.id g.parts) k (granted k count g s))) counters;
-    }
+        → after.counters ≡ risen rise (risen (grant_rise count g (s.books k).pools) before.counters) → (b : IsBack (call error) g rise error) × (back_of b ≡ (items, state_of name new after))
+    is_back g rise error walked named first_came taken now counters = let came : items_in k g.id g.parts ≡ items = ap (λ (i : ℕ). items_in k i g.parts) named ∙ first_came in (
+      record {
+        taken = record { id = λ has. named ∙ t.kept has; refusing = taken.refusing; parts = taken.parts; new = taken.is_new };
+        answer = refl;
+        state = back.state ∙ (λ i. released (sym came i) ((t.state ∙ now) i));
+        counters = went (items_in k g.id g.parts) (granted k count g s) came (sym (t.state ∙ now)) ∙ ap (risen (rollback_rise (items_in k g.id g.parts) k (granted k count g s))) counters;
+      },
+      λ i. (came i, sym (t.state ∙ now) i),
+    )
 
-    back_from_pool : (error : _) → IsWalkStopped k count t.id (s.books k).first error items (s.books k).pools t.pools before after → Allocates (call (refusal_answer (refusal.Existing error)))
+    -- the outcome, and what it says went back
+    abbrev Rolls : Refusal → Type 0
+    Rolls why = (o : Allocates (call (refusal_answer why))) × (rolled_back o ≡ Some (items, state_of name new after))
+
+    back_from_pool : (error : _) → IsWalkStopped k count t.id (s.books k).first error items (s.books k).pools t.pools before after → Rolls (refusal.Existing error)
     back_from_pool error st =
         let now = stopped_at_state k count error s t.id t.pools items before after refl st in
-        stopped_at_pool (proceeds some last final _) (record {
-          older = st.older;
-          pool = st.pool;
-          newer = st.newer;
-          here = st.here;
-          grant = st.walked.grant;
-          left = st.walked.from;
-          no_fresh = st.walked.no_fresh;
-          asked = st.asked;
-          error = error;
-          memory = st.memory;
-          back = is_back st.walked.grant (alloc_refused error no_rise) _ st.between st.walked.named st.walked.came st.walked.taken now.0 (now.1 ∙ alloc_rise error _);
-        })
+        let b = is_back st.walked.grant (alloc_refused error no_rise) _ st.between st.walked.named st.walked.came st.walked.taken now.0 (now.1 ∙ alloc_rise error _) in (
+          stopped_at_pool (proceeds some last final _) (record {
+            older = st.older;
+            pool = st.pool;
+            newer = st.newer;
+            here = st.here;
+            grant = st.walked.grant;
+            left = st.walked.from;
+            no_fresh = st.walked.no_fresh;
+            asked = st.asked;
+            error = error;
+            memory = st.memory;
+            back = b.0;
+          }),
+          ap (λ (r : List Item × State). Some r) b.1,
+        )
 
-    back_from_new : (why : Stop) → IsGrowStopped why k room count t.id (s.books k).first items (s.books k).pools t.pools before after → Allocates (call (refusal_answer (refusal.New why)))
+    back_from_new : (why : Stop) → IsGrowStopped why k room count t.id (s.books k).first items (s.books k).pools t.pools before after → Rolls (refusal.New why)
     back_from_new stop.Room st =
         let now = stopped_state k room count stop.Room s t.id t.pools items before after refl st in
-        stopped_without_room (proceeds some last final _) (record { grant = st.grant; front = record { all = st.all; pooled = pool_load_of old; is_pooled = pool_load_is name old before t.distinct; front = st.front }; no_room = st.in_room; back = is_back st.grant no_rise _ st.between st.named st.came st.taken now.0 now.1 })
+        let b = is_back st.grant no_rise _ st.between st.named st.came st.taken now.0 now.1 in
+        (stopped_without_room (proceeds some last final _) (record { grant = st.grant; front = record { all = st.all; pooled = pool_load_of old; is_pooled = pool_load_is name old before t.distinct; front = st.front }; no_room = st.in_room; back = b.0 }), ap (λ (r : List Item × State). Some r) b.1)
     back_from_new stop.Books st =
         let now = stopped_state k room count stop.Books s t.id t.pools items before after refl st in
-        stopped_for_memory (proceeds some last final _) (record { at = record { grant = st.grant; front = record { all = st.all; pooled = pool_load_of old; is_pooled = pool_load_is name old before t.distinct; front = st.front }; room = st.in_room }; back = is_back st.grant no_rise _ st.between st.named st.came st.taken now.0 now.1 })
+        let b = is_back st.grant no_rise _ st.between st.named st.came st.taken now.0 now.1 in
+        (stopped_for_memory (proceeds some last final _) (record { at = record { grant = st.grant; front = record { all = st.all; pooled = pool_load_of old; is_pooled = pool_load_is name old before t.distinct; front = st.front }; room = st.in_room }; back = b.0 }), ap (λ (r : List Item × State). Some r) b.1)
     back_from_new (stop.Create error) st =
         let now = stopped_state k room count (stop.Create error) s t.id t.pools items before after refl st in
-        stopped_at_create (proceeds some last final _) (record { at = record { grant = st.grant; front = record { all = st.all; pooled = pool_load_of old; is_pooled = pool_load_is name old before t.distinct; front = st.front }; room = st.in_room }; error = error; back = is_back st.grant (create_refused error no_rise) _ st.between st.named st.came st.taken now.0 now.1 })
+        let b = is_back st.grant (create_refused error no_rise) _ st.between st.named st.came st.taken now.0 now.1 in
+        (stopped_at_create (proceeds some last final _) (record { at = record { grant = st.grant; front = record { all = st.all; pooled = pool_load_of old; is_pooled = pool_load_is name old before t.distinct; front = st.front }; room = st.in_room }; error = error; back = b.0 }), ap (λ (r : List Item × State). Some r) b.1)
     back_from_new (stop.Fresh error) st =
         let now = stopped_state k room count (stop.Fresh error) s t.id t.pools items before after refl st in
-        stopped_at_fresh (proceeds some last final _) (record { at = record { grant = st.grant; front = record { all = st.all; pooled = pool_load_of old; is_pooled = pool_load_is name old before t.distinct; front = st.front }; room = st.in_room }; error = error; back = is_back st.grant (stop_rise (stop.Fresh error)) _ st.between st.named st.came st.taken now.0 now.1 })
+        let b = is_back st.grant (stop_rise (stop.Fresh error)) _ st.between st.named st.came st.taken now.0 now.1 in
+        (stopped_at_fresh (proceeds some last final _) (record { at = record { grant = st.grant; front = record { all = st.all; pooled = pool_load_of old; is_pooled = pool_load_is name old before t.distinct; front = st.front }; room = st.in_room }; error = error; back = b.0 }), ap (λ (r : List Item × State). Some r) b.1)
 
-    pub went_back : {why : Refusal} → taken ≡ Err why → Allocates (call (refusal_answer why))
+    pub went_back : {why : Refusal} → taken ≡ Err why → Rolls why
     went_back {why} is = by_why why (subst (λ (r : Result (Unit {0}) Refusal). IfErr r (λ w. IsTakenUpTo w k room count t.id (s.books k).first items (s.books k).pools t.pools before after)) is t.stopped)
       where
-        by_why : (why : Refusal) → IsTakenUpTo why k room count t.id (s.books k).first items (s.books k).pools t.pools before after → Allocates (call (refusal_answer why))
+        by_why : (why : Refusal) → IsTakenUpTo why k room count t.id (s.books k).first items (s.books k).pools t.pools before after → Rolls why
         by_why (refusal.Existing error) st = back_from_pool error st
         by_why (refusal.New why) st = back_from_new why st
 

@@ -1,24 +1,29 @@
 -- All that is promised of a request, from what it took: kept, given back, declined, or for no sets.
-use Rattle.std.proofs.Common.{◌≡◌, ◌≤◌, ℕ, ◌+◌, ◌<◌, List, Result, Ok, Err, inl, sym, ap, ◌∙◌, subst, arith}
+use Rattle.std.proofs.Common.{◌≡◌, ◌≤◌, ℕ, ◌+◌, ◌<◌, List, Option, None, Some, MatchOption, Result, Ok, Err, inl, sym, ap, ◌∙◌, subst, arith}
 use Rattle.std.specs.Global.{Vec}
 use Rattle.gpu_descriptor_types.specs.Ledger.{Ledger, Counters}
 use Rattle.gpu_descriptor.specs.declared.errors.AllocationError.{AllocationError}
 use Rattle.gpu_descriptor.specs.declared.set.DescriptorSet.{DescriptorSet}
 use Rattle.gpu_descriptor.specs.declared.bucket.take.Refusal.{Refusal}
-use Rattle.gpu_descriptor.specs.Model.Agreement.{outstanding}
+use Rattle.gpu_descriptor.specs.Model.Agreement.{Item, State, outstanding}
 use Rattle.gpu_descriptor.specs.Model.Books.{HasDistinctKeys, Key}
-use Rattle.gpu_descriptor.specs.Model.Outcomes.{Allocates}
+use Rattle.gpu_descriptor.specs.Model.Outcomes.{Allocates, rolled_back}
 use Rattle.gpu_descriptor.specs.Caller.Call.{call_of}
 use Rattle.gpu_descriptor.specs.Caller.Frees.{Returns}
 use Rattle.gpu_descriptor.specs.Caller.HandsOut.{HandsOut}
 use Rattle.gpu_descriptor.specs.Caller.Keeps.{Keeps}
 use Rattle.gpu_descriptor.specs.Caller.Keys.{StayOrGainLast}
+use Rattle.gpu_descriptor.specs.Caller.Sets.{items_of}
 use Rattle.gpu_descriptor.specs.Caller.States.{Agrees, keys_of, marked_load_of, outstanding_of, pool_load_of, state_of, table_of}
 use Rattle.gpu_descriptor.specs.Caller.Values.{Allocations}
 use Rattle.gpu_descriptor.specs.Inner.Grow.{refusal_answer}
 use Rattle.gpu_descriptor.specs.Inner.Takes.{Takes}
 use Rattle.gpu_descriptor.proofs.Allocating.{taken_agree, taken_out, taken_own, taken_others, taken_leaves, taken_loses_none, taken_others_of, went_back, back_out, back_leaves, back_loses_none, back_others, back_others_of, back_totals, kept, kept_many, kept_totals}
 use Rattle.gpu_descriptor.proofs.Promises.{has_cause, short}
+
+either : {A : Type 0} {B : Type 0} {C : A → Type 0} (o : Option A) → B → ((x : A) → C x) → MatchOption o B C
+either None none some = none
+either (Some x) none some = some x
 
 -- the keys of a request of one key are those of another that is the same
 pub gained_as : {k l : Key} {old new : List Key} → k ≡ l → StayOrGainLast k old new → StayOrGainLast l old new
@@ -72,6 +77,8 @@ module _ {P S : Type 0} {name : P → ℕ} {set_name : S → ℕ} {k : Key} {cou
         other_keys = taken_others t agree;
         keys = keys;
         looks = looks;
+        declined = tt;
+        searches = tt;
         comparisons_stay = comparisons;
         compared = omega arith;
       }
@@ -79,7 +86,8 @@ module _ {P S : Type 0} {name : P → ℕ} {set_name : S → ℕ} {k : Key} {cou
   -- the sets went back
   pub hands_back : {last : Allocations P} {final : Ledger} → Returns name set_name sets.items new last after final → {why : Refusal} → taken ≡ Err why → HandsOut name set_name k count (Err (refusal_answer why)) old last before final
   hands_back r is =
-      let outcome = went_back t agree some r.back is in
+      let went = went_back t agree some r.back is in
+      let outcome = went.0 in
       let asked = ap (λ (c : Counters). c.asked) r.back.counters in
       record {
         outcome = outcome;
@@ -95,6 +103,8 @@ module _ {P S : Type 0} {name : P → ℕ} {set_name : S → ℕ} {k : Key} {cou
         other_keys = back_others t agree r.back;
         keys = subst (StayOrGainLast k (keys_of old)) (sym r.keys) keys;
         looks = (let stay = r.looks_stay in omega arith);
+        declined = λ none. absurd (let bad : ◌≡◌ {A = Option (List Item × State)} None (Some (items_of set_name sets.items, state_of name new after)) = sym none ∙ went.1 in cc);
+        searches = rw went.1 (let few = r.comparisons in omega arith);
         comparisons_stay = tt;
         compared = (let more = r.compared in omega arith);
       }
@@ -116,6 +126,8 @@ module _ {P S : Type 0} {name : P → ℕ} {set_name : S → ℕ} {k : Key} {cou
     other_keys = λ l other. record { books = λ i. (state_of name (same i) (ledger i)).books l; pools = λ n e at i. (state_of name (same i) (ledger i)).ledger e.pool };
     keys = inl (ap keys_of same);
     looks = (let a = ap (λ (a : Allocations P). a.looks) same in let l = ap (λ (l : Ledger). l.counters.asked) ledger in omega arith);
+    declined = λ none. (same, ledger);
+    searches = either (rolled_back outcome) (let a = ap (λ (a : Allocations P). a.comparisons) same in omega arith) (λ r. (let a = ap (λ (a : Allocations P). a.comparisons) same in omega arith));
     comparisons_stay = tt;
     compared = (let a = ap (λ (a : Allocations P). a.comparisons) same in omega arith);
   }

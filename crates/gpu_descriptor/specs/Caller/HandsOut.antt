@@ -1,14 +1,15 @@
 -- What a request for sets leaves of an allocator and of the ledger.
-use Rattle.std.specs.Prelude.{◌≡◌, ℕ, ◌+◌, ◌≤◌, length, IfOk, IfErr, OnOk, OnErr, Result}
+use Rattle.std.specs.Prelude.{◌≡◌, ℕ, ◌+◌, ◌≤◌, length, IfOk, IfErr, MatchOption, None, OnOk, OnErr, Result}
 use Rattle.std.specs.Global.{Vec}
 use Rattle.gpu_descriptor_types.specs.Ledger.{Ledger}
 use Rattle.gpu_descriptor.specs.declared.errors.AllocationError.{AllocationError}
 use Rattle.gpu_descriptor.specs.declared.set.DescriptorSet.{DescriptorSet}
 use Rattle.gpu_descriptor.specs.Model.Books.{Key}
 use Rattle.gpu_descriptor.specs.Model.Load.{marked_load}
-use Rattle.gpu_descriptor.specs.Model.Outcomes.{Allocates}
+use Rattle.gpu_descriptor.specs.Model.Outcomes.{Allocates, rolled_back}
 use Rattle.gpu_descriptor.specs.Model.Promises.{AreOfKey, AreOutBesides, CreatesOnlyWhereShort, HasCause, KeepsOtherKeys, KeepsOutstanding}
 use Rattle.gpu_descriptor.specs.Caller.Call.{answer_of, call_of}
+use Rattle.gpu_descriptor.specs.Caller.Comparisons.{run_digits}
 use Rattle.gpu_descriptor.specs.Caller.Keys.{StayOrGainLast}
 use Rattle.gpu_descriptor.specs.Caller.Sets.{items_of}
 use Rattle.gpu_descriptor.specs.Caller.States.{keys_of, marked_load_of, outstanding_of, state_of}
@@ -34,5 +35,9 @@ pub record HandsOut {P S : Type 0} (pool_name : P → ℕ) (set_name : S → ℕ
   pub keys : StayOrGainLast k (keys_of old) (keys_of new)
   -- a look for each call that asks a pool
   pub looks : new.looks + before.counters.asked ≡ old.looks + after.counters.asked
+  -- a request that was refused before it took anything changes nothing
+  pub declined : OnErr answer (rolled_back outcome ≡ None → (new ≡ old) × (after ≡ before))
+  -- a rollback compares no more than a release of its sets, and no other request compares
+  pub searches : OnErr answer (MatchOption (rolled_back outcome) (new.comparisons ≡ old.comparisons) (λ r. new.comparisons ≤ old.comparisons + run_digits r.1 r.0))
   pub comparisons_stay : OnOk answer (new.comparisons ≡ old.comparisons)
   pub compared : old.comparisons ≤ new.comparisons

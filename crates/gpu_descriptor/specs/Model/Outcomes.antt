@@ -1,6 +1,6 @@
 -- What a request for sets may do: its outcomes.
 use Rattle.gpu_descriptor_types.specs.Bounds.{greatest_u64}
-use Rattle.std.specs.Prelude.{ℕ, List, ◌≡◌, ◌+◌, ◌-◌, ◌*◌, ◌≤◌, ◌<◌, true, ◌⊎◌, [], ◌∷◌, ◌++◌, map, length, sum, drop, Result, Ok, Err}
+use Rattle.std.specs.Prelude.{ℕ, List, ◌≡◌, ◌+◌, ◌-◌, ◌*◌, ◌≤◌, ◌<◌, true, ◌⊎◌, [], ◌∷◌, ◌++◌, map, length, sum, drop, Option, Some, None, Result, Ok, Err}
 use Rattle.gpu_descriptor_types.specs.declared.errors.CreatePoolError.{CreatePoolError}
 use Rattle.gpu_descriptor_types.specs.declared.errors.DeviceAllocationError.{DeviceAllocationError}
 use Rattle.gpu_descriptor.specs.declared.errors.AllocationError.{AllocationError}
@@ -222,3 +222,20 @@ pub data Allocates (c : Call) : Type 0 where
   stopped_at_create : Proceeds c → IsStoppedAtCreate c → Allocates c
   stopped_for_memory : Proceeds c → IsStoppedForMemory c → Allocates c
   stopped_at_fresh : Proceeds c → IsStoppedAtFresh c → Allocates c
+
+-- the sets that went back when a request stopped, and the state from which they went
+abbrev pub back_of : {c : Call} {grant : Grant} {rise : Counters} {error : AllocationError} → IsBack c grant rise error → List Item × State
+back_of {c} {grant} back = (items_in c.request.key grant.id grant.parts, granted c.request.key c.request.count grant c.old)
+
+-- the rollback of a request: there is none where it was met, and where it was refused before it took anything
+abbrev pub rolled_back : {c : Call} → Allocates c → Option (List Item × State)
+rolled_back (none zero_sets answer stays) = None
+rolled_back (limit some above answer stays) = None
+rolled_back (bound some within past answer stays) = None
+rolled_back (start goes answer stays) = None
+rolled_back (done goes is) = None
+rolled_back (stopped_at_pool goes is) = Some (back_of is.back)
+rolled_back (stopped_without_room goes is) = Some (back_of is.back)
+rolled_back (stopped_at_create goes is) = Some (back_of is.back)
+rolled_back (stopped_for_memory goes is) = Some (back_of is.back)
+rolled_back (stopped_at_fresh goes is) = Some (back_of is.back)
