@@ -2,8 +2,8 @@
 //! once all its sets are free.
 ghost use Rattle.std.specs.Prelude.{◌≡◌, [], IfOk};
 ghost use Rattle.gpu_descriptor.specs.Caller.States.{Agrees, state_of};
-ghost use Rattle.descriptor_script.specs.Sessions.Session.{AreAllHeld, AreMeant, allocator_of};
-ghost use Rattle.descriptor_script.specs.Sessions.Session.{layouts_of, sets_of};
+ghost use Rattle.descriptor_script.specs.Sessions.Session.{AreAllHeld, AreMeant, HasNoPools};
+ghost use Rattle.descriptor_script.specs.Sessions.Session.{KeepsSession, allocator_of, layouts_of, sets_of};
 ghost use Rattle.descriptor_script.specs.Sessions.SessionRun.{VisitsTo};
 ghost use Rattle.descriptor_script.specs.Sessions.Tickets.{held_sets};
 
@@ -11,9 +11,9 @@ use crate::{Command, Reply, Session};
 use gpu_descriptor::{DescriptorDevice, laws};
 use std::alloc::AllocError;
 
-/// Runs commands, as `Session::run` does, on a session whose allocator has no keys yet, and then
-/// cleans up. If no set is held then, the device has exactly the pools that it had before, whatever
-/// it refused in between.
+/// Runs commands, as `Session::run` does, on a session without pools, and then cleans up. If no set
+/// is held then, the device has exactly the pools that it had before, whatever it refused in
+/// between, and the session may visit it again.
 ///
 /// A session that was just made meets the conditions, with layouts as the device means them.
 pub fn visit<L, P: Drop, S: Drop, D: DescriptorDevice<L, P, S>>(
@@ -21,7 +21,9 @@ pub fn visit<L, P: Drop, S: Drop, D: DescriptorDevice<L, P, S>>(
     device: &mut D,
     commands: &[Command],
 ) -> Result<Vec<Reply>, AllocError>
-    requires began { (allocator_of session.old).table ≡ [] }
+    requires began { HasNoPools (state_of D.pool_name (allocator_of session.old)
+        (D.ledger device.old)) }
+    requires agree { Agrees D.pool_name (allocator_of session.old) (D.ledger device.old) }
     requires held { AreAllHeld D.set_name (sets_of session.old)
         (state_of D.pool_name (allocator_of session.old) (D.ledger device.old)) }
     requires meant { AreMeant D.layout_counts D.layout_mark (layouts_of session.old) }
@@ -31,10 +33,13 @@ pub fn visit<L, P: Drop, S: Drop, D: DescriptorDevice<L, P, S>>(
         (D.ledger device.new)) }
     ensures pools { held_sets (sets_of session.new) ≡ [] → (D.ledger device.new).pools
         ≡ (D.ledger device.old).pools }
-    ensures agree { Agrees D.pool_name (allocator_of session.new) (D.ledger device.new) }
+    ensures ended { held_sets (sets_of session.new) ≡ [] → HasNoPools (state_of D.pool_name
+        (allocator_of session.new) (D.ledger device.new)) }
+    ensures keeps { KeepsSession D.pool_name D.set_name D.layout_counts D.layout_mark
+        session.old session.new (D.ledger device.old) (D.ledger device.new) }
 {
-    laws::books_alone();
     laws::no_pool_is_lost::<P>();
+    laws::clean_again();
     let replies = session.run(device, commands);
     let _clean = session.step(device, &Command::Cleanup);
     replies

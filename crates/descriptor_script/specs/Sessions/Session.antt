@@ -3,6 +3,7 @@ use Rattle.std.specs.Prelude.{◌≡◌, ℕ, Bool, List, length, slice_get, Opt
 use Rattle.gpu_descriptor_types.specs.Counts.{kinds}
 use Rattle.gpu_descriptor_types.specs.declared.counts.DescriptorTotalCount.{DescriptorTotalCount}
 use Rattle.gpu_descriptor.specs.Model.Agreement.{Item, State, count_of, outstanding}
+use Rattle.gpu_descriptor.specs.Model.Books.{Key, no_pools}
 use Rattle.gpu_descriptor_types.specs.Ledger.{Ledger}
 use Rattle.gpu_descriptor.specs.Caller.Flags.{is_marked}
 use Rattle.gpu_descriptor.specs.Caller.Keeps.{Keeps}
@@ -33,6 +34,10 @@ known layout counts flags = record { layout = layout; counts = counts; flags = f
 -- the counts and the mark of each layout are those of the device's meaning
 abbrev pub AreMeant : {L : Type 0} → (L → List ℕ) → (L → Bool) → List (KnownLayout L) → Type 0
 AreMeant {L} counts mark layouts = (i : ℕ) (k : KnownLayout L) → slice_get layouts i ≡ Some k → (kinds k.counts ≡ counts k.layout) × (is_marked k.flags ≡ mark k.layout)
+
+-- the allocator has no pools
+abbrev pub HasNoPools : State → Type 0
+HasNoPools s = (k : Key) → s.books k ≡ no_pools
 
 -- the held sets are exactly the outstanding sets
 abbrev pub AreAllHeld : {S : Type 0} → (S → ℕ) → List (Option (DescriptorSet S)) → State → Type 0

@@ -1,16 +1,16 @@
-use Rattle.std.proofs.Common.{◌≡◌, ℕ, List, map, Result, Ok, Err, IfOk, sym, ap, ◌∙◌}
+use Rattle.std.proofs.Common.{◌≡◌, ℕ, [], Result, Ok, Err, IfOk, sym, ap, ◌∙◌}
 use Rattle.gpu_descriptor_types.specs.Ledger.{Ledger}
 use Rattle.gpu_descriptor.specs.Model.Agreement.{Item, State, count_of, outstanding}
-use Rattle.gpu_descriptor.specs.Model.Books.{Key, books_of, no_pools}
 use Rattle.gpu_descriptor.specs.Caller.Sets.{items_of}
-use Rattle.gpu_descriptor.specs.Caller.States.{named_row, state_of}
-use Rattle.gpu_descriptor.specs.Caller.Values.{Row}
-use Rattle.descriptor_script.specs.Sessions.Session.{allocator_of}
+use Rattle.gpu_descriptor.specs.Caller.States.{state_of}
+use Rattle.descriptor_script.specs.Sessions.Session.{allocator_of, sets_of}
 use Rattle.descriptor_script.specs.Sessions.Steps.{Cleans, CleansTo}
 use Rattle.descriptor_script.specs.Sessions.Tickets.{held_sets}
 use Rattle.descriptor_script.specs.declared.command.Reply.{Reply}
 use Rattle.descriptor_script.specs.declared.command.Reply.TheVariants.{Sets, Refused, Freed, BadTicket, BadLayout, NoMemory, Clean}
 use Rattle.descriptor_script.specs.declared.session.Session.{Session}
+use Rattle.descriptor_script.proofs.Running.{session_through}
+use Rattle.descriptor_script.proofs.visit.visit.Goals.{After-step-clean}
 use Rattle.descriptor_script.proofs.visit.visit.Goals as goal
 
 cleans : {L P S : Type 0} (pool_name : P → ℕ) (old new : Session L P S) (before after : Ledger) (reply : Reply) → CleansTo pool_name old new before after reply → Cleans pool_name old new before after
@@ -33,6 +33,14 @@ returns-clause-runs g c =
     let done = cleans name c.run-replies.new.self c.step-clean.new.self (ledger c.run-replies.new.device) (ledger c.step-clean.new.device) c.step-clean.result c.step-clean.ensures.step in
     if_ok c.run-replies.result _ _ (λ replies ran. (c.run-replies.new.self, ledger c.run-replies.new.device, ran, done)) c.run-replies.ensures.runs
 
+-- what the cleaning up did
+done : (g : _) (c : After-step-clean g) → Cleans g.D.DescriptorDevice.pool_name c.run-replies.new.self c.step-clean.new.self (g.D.DescriptorDevice.ledger c.run-replies.new.device) (g.D.DescriptorDevice.ledger c.step-clean.new.device)
+done g c = cleans g.D.DescriptorDevice.pool_name c.run-replies.new.self c.step-clean.new.self (g.D.DescriptorDevice.ledger c.run-replies.new.device) (g.D.DescriptorDevice.ledger c.step-clean.new.device) c.step-clean.result c.step-clean.ensures.step
+
+-- with no set held afterwards none was outstanding
+nothing : (g : _) (c : After-step-clean g) → held_sets (sets_of c.step-clean.new.self) ≡ [] → (i : Item) → outstanding (state_of g.D.DescriptorDevice.pool_name (allocator_of c.run-replies.new.self) (g.D.DescriptorDevice.ledger c.run-replies.new.device)) i ≡ 0
+nothing g c none i = c.run-replies.ensures.keeps.ready.held i ∙ ap (λ l. count_of i (items_of g.D.DescriptorDevice.set_name (held_sets l))) (sym (done g c).sets) ∙ ap (λ l. count_of i (items_of g.D.DescriptorDevice.set_name l)) none
+
 pub returns-clause-pools : goal.returns-clause-pools
 returns-clause-pools g c none =
     let name = g.D.DescriptorDevice.pool_name in
@@ -40,7 +48,15 @@ returns-clause-pools g c none =
     let s : State = state_of name (allocator_of c.args.session.now) (ledger c.args.device.now) in
     let t : State = state_of name (allocator_of c.run-replies.new.self) (ledger c.run-replies.new.device) in
     let u : State = state_of name (allocator_of c.step-clean.new.self) (ledger c.step-clean.new.device) in
-    let done = cleans name c.run-replies.new.self c.step-clean.new.self (ledger c.run-replies.new.device) (ledger c.step-clean.new.device) c.step-clean.result c.step-clean.ensures.step in
-    let began : (k : Key) → s.books k ≡ no_pools = λ k. ap (λ (rows : List (Row g.row.P.Denot)). books_of (map (named_row name) rows) k) c.requires.began in
-    let nothing : (i : Item) → outstanding t i ≡ 0 = λ i. c.run-replies.ensures.keeps.ready.held i ∙ ap (λ l. count_of i (items_of g.D.DescriptorDevice.set_name (held_sets l))) (sym done.sets) ∙ ap (λ l. count_of i (items_of g.D.DescriptorDevice.set_name l)) none in
-    c.no_pool_is_lost.ensures.restores s t u began c.run-replies.ensures.keeps.allocator.foreign c.run-replies.ensures.keeps.allocator.accounted c.run-replies.ensures.keeps.ready.agree nothing done.cleaned
+    let at = (goal.at.returns-clause-pools g c).After-step-clean in
+    c.no_pool_is_lost.ensures.restores s t u c.requires.began c.run-replies.ensures.keeps.allocator.foreign c.run-replies.ensures.keeps.allocator.accounted c.run-replies.ensures.keeps.ready.agree (nothing g at none) (done g at).cleaned
+
+pub returns-clause-ended : goal.returns-clause-ended
+returns-clause-ended g c none =
+    let name = g.D.DescriptorDevice.pool_name in
+    let ledger = g.D.DescriptorDevice.ledger in
+    let at = (goal.at.returns-clause-ended g c).After-step-clean in
+    c.clean_again.ensures.all (state_of name (allocator_of c.run-replies.new.self) (ledger c.run-replies.new.device)) _ c.run-replies.ensures.keeps.ready.agree (nothing g at none) (done g at).cleaned
+
+pub returns-clause-keeps : goal.returns-clause-keeps
+returns-clause-keeps g c = session_through _ _ _ _ c.run-replies.ensures.keeps c.step-clean.ensures.keeps
