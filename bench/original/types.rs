@@ -1,6 +1,7 @@
-//! The part of the original's types crate that its allocator uses.
+//! What the original's allocator uses of its crate of types, which was not looked at.
 //!
-//! Names and fields are those of gpu-descriptor-types 0.1, so that the allocator compiles as it is.
+//! Names, fields and signatures are those by which the allocator's own source uses them; what that
+//! source leaves open, such as the order of the fields and the bits, is this project's choice.
 
 #[derive(Clone, Copy, Debug, PartialEq, Eq, Hash, Default)]
 pub struct DescriptorTotalCount {

@@ -6,9 +6,9 @@
 // A call that the script refused isn't made. Which sets of a pool go back a trace doesn't say: the
 // oldest do.
 //
-// For each replay it prints 'NAME: Vulkan 1.N: C calls, M messages', or why the trace is left out.
-// It ends with 1 on any message and on any call that the driver refuses, and with 3 where there is
-// no layer or no driver.
+// For each replay it prints 'TRACE: Vulkan 1.N: C calls, M messages', or why the trace is left out.
+// It ends with 1 on any message and on any call that the driver refuses, with 2 where one of them is
+// no trace, before anything is replayed, and with 3 where there is no layer or no driver.
 //
 // usage: replay TRACE..
 #include "trace.h"
@@ -35,6 +35,12 @@ struct pool {
     VkDescriptorSet *sets; // from `first` to `last` they are out, oldest first
     size_t first, last;
     struct pool *next;
+};
+
+struct trace {
+    const char *name;
+    struct call *calls;
+    size_t count;
 };
 
 struct layout {
@@ -222,12 +228,12 @@ static void make_device(void) {
 
 // ---- the calls ----
 
+// The pool of this name, which is there, as it is in the trace.
 static struct pool *pool_named(uint64_t name) {
-    for (struct pool *it = pools; it; it = it->next)
-        if (it->name == name)
-            return it;
-    fprintf(stderr, "replay: %s names a pool that isn't there\n", trace_name);
-    exit(2);
+    struct pool *it = pools;
+    while (it->name != name)
+        it = it->next;
+    return it;
 }
 
 static VkDescriptorSetLayout make_layout(const struct call *call) {
@@ -333,10 +339,6 @@ static VkResult alloc(const struct call *call) {
 
 static VkResult release(const struct call *call) {
     struct pool *pool = pool_named(call->pool);
-    if (call->sets > pool->last - pool->first) {
-        fprintf(stderr, "replay: %s releases more sets than a pool has\n", trace_name);
-        exit(2);
-    }
     VkDescriptorSet *sets = pool->sets + pool->first;
     pool->first += call->sets;
     return call->sets ? vkFreeDescriptorSets(device, pool->handle, call->sets, sets) : VK_SUCCESS;
@@ -392,37 +394,46 @@ static bool replay(const struct call *calls, size_t count) {
     return answer == VK_SUCCESS && !messages;
 }
 
-static bool replay_file(const char *path) {
-    size_t count;
-    struct call *calls = read_trace(path, &count);
-    trace_name = strrchr(path, '/') ? strrchr(path, '/') + 1 : path;
-    const char *why = objection_of(calls, count);
-    bool is_fine = true;
+static bool replay_trace(const struct trace *trace) {
+    trace_name = trace->name;
+    const char *why = objection_of(trace->calls, trace->count);
     if (!why)
-        is_fine = replay(calls, count);
-    else if (!is_old)
+        return replay(trace->calls, trace->count);
+    if (!is_old)
         printf("%s: left out: %s\n", trace_name, why);
-    free(calls);
-    return is_fine;
+    return true;
 }
 
-int main(int count, char **words) {
+// Replays all on a device of a version. Whether the driver granted all, and the layer said nothing.
+static bool replay_all(const struct trace *traces, size_t count) {
     bool is_fine = true;
-    if (count < 2) {
+    make_instance();
+    if (!is_old)
+        ask_limits();
+    for (size_t place = 0; place < count; place++)
+        is_fine = replay_trace(&traces[place]) && is_fine;
+    messages = 0;
+    trace_name = "behind the last trace";
+    destroy_instance();
+    return is_fine && !messages;
+}
+
+int main(int words, char **paths) {
+    if (words < 2) {
         fputs("usage: replay TRACE..\n", stderr);
         return 2;
     }
-    for (int version = 0; version < 2; version++) {
-        is_old = version == 1;
-        make_instance();
-        if (!is_old)
-            ask_limits();
-        for (int place = 1; place < count; place++)
-            is_fine = replay_file(words[place]) && is_fine;
-        messages = 0;
-        trace_name = "behind the last trace";
-        destroy_instance();
-        is_fine = is_fine && !messages;
+    size_t count = (size_t)words - 1;
+    struct trace *traces = room(count * sizeof *traces);
+    for (size_t place = 0; place < count; place++) {
+        traces[place].name = paths[place + 1];
+        traces[place].calls = read_trace(paths[place + 1], &traces[place].count);
     }
+    bool is_fine = replay_all(traces, count);
+    is_old = true;
+    is_fine = replay_all(traces, count) && is_fine;
+    for (size_t place = 0; place < count; place++)
+        free(traces[place].calls);
+    free(traces);
     return is_fine ? 0 : 1;
 }

@@ -13,5 +13,6 @@ struct call {
     bool mark, keeps_sets, refused; // `keeps_sets`: none can be released
 };
 
-// The calls of a file, without its comments. It ends the program where a line is no call.
+// The calls of a file, without its comments. It ends the program with 2 and the line where the file
+// is no trace, or has no call.
 struct call *read_trace(const char *path, size_t *count);
