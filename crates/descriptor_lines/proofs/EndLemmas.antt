@@ -5,7 +5,7 @@ use Rattle.std.specs.List.{position_or_len}
 use Rattle.std.specs.Io.BufRead.{strip_last}
 use Rattle.std.specs.Io.KnownBytes.{Appends, IsAtEnd}
 use Rattle.std.proofs.KnownBytes.{Appends-trans}
-use Rattle.descriptor_words.specs.Fault.{faulty}
+use Rattle.descriptor_words.specs.Fault.{IfFault, faulty}
 use Rattle.descriptor_words.specs.Words.{is_byte, is_silent, words}
 use Rattle.descriptor_words.specs.declared.fault.Fault.{Fault}
 use Rattle.descriptor_words.specs.declared.fault.Fault.TheVariants.{LineTooLong}
@@ -16,7 +16,7 @@ use Rattle.descriptor_lines.specs.LineBuffers.{buffered, bytes_at, unread}
 use Rattle.descriptor_lines.specs.LineStates.{LineState}
 use Rattle.descriptor_lines.specs.Lines.{BeginsTooLong, LosesLine, after_end, before_end, lines_of, known_left}
 use Rattle.descriptor_lines.specs.Outcomes.{AppendsFront, IsNoFault, said_of}
-use Rattle.descriptor_lines.specs.Programs.{CanRun, DoesLine, IsFresh, IsReasonFor, IsUnchanged}
+use Rattle.descriptor_lines.specs.Programs.{CanRun, DoesLine, IsFresh, IsReasonFor, IsUnchanged, KeepsDevice, begun}
 use Rattle.descriptor_lines.specs.Transcripts.{IsAnswered, IsAtLine, IsFaultOfLine, IsSaid, Writes, WritesFromStart, words_in}
 use Rattle.descriptor_lines.specs.declared.exit.Exit.{Exit}
 use Rattle.descriptor_lines.specs.declared.exit.Exit.TheVariants.{BadLine, Done, NoMemory, ReadFault, WriteFault}
@@ -33,6 +33,7 @@ pub record IsTaken (number : ℕ) (line bytes : List ℕ) (rest : Option (List �
   pub loses : IsNoFault outcome → LosesLine (Some bytes) rest
   pub answered : IsNoFault outcome → IsAnswered line (said_of number outcome text) old new
   pub wrong : (fault : Fault) → outcome ≡ Err (refusal.Fault fault) → IsFaultOfLine old line fault
+  pub device : (fault : Fault) → outcome ≡ Err (refusal.Fault fault) → KeepsDevice old new
 
 abbrev pub Takes : ℕ → Option (List ℕ) → Option (List ℕ) → Result Unit Refusal → List ℕ → LineState → LineState → Type 0
 Takes number None rest outcome text old new = ⊤
@@ -44,43 +45,48 @@ has_begun was now silent is speaks = grind (arith)
 
 -- what a line that was run is answered
 run_answer : (number : ℕ) (outcome : Result Unit Refusal) (line text : List ℕ) (old new : LineState) → IsNoFault outcome → length line ≤ 4096 → OnOk outcome (DoesLine (words_in line) text old new) → OnErr outcome (IsUnchanged old new) → new.has_begun ≡ (old.has_begun || not (is_silent (words_in line))) → OnErr outcome (IsFalse (is_silent (words_in line))) → IfErr outcome (IsReasonFor old (words_in line)) → CanRun new → IsAnswered line (said_of number outcome text) old new
-run_answer number (Ok done) line text old new fine short does same begun speaks own ready = record { short = short; answer = inl does; ready = ready }
-run_answer number (Err refusal.NoMemory) line text old new fine short does same begun speaks own ready = record {
+run_answer number (Ok done) line text old new fine short does same started speaks own ready = record { short = short; answer = inl does; ready = ready }
+run_answer number (Err refusal.NoMemory) line text old new fine short does same started speaks own ready = record {
   short = short;
-  answer = inr (record { speaks = speaks; reason = own; said = refl; unchanged = same; begun = has_begun _ _ _ begun speaks });
+  answer = inr (record { speaks = speaks; reason = own; said = refl; unchanged = same; begun = has_begun _ _ _ started speaks });
   ready = ready;
 }
-run_answer number (Err (refusal.Fault fault)) line text old new fine short does same begun speaks own ready = absurd (cc)
+run_answer number (Err (refusal.Fault fault)) line text old new fine short does same started speaks own ready = absurd (cc)
 
 -- what is wrong with a line that was refused
 run_fault : (outcome : Result Unit Refusal) (line : List ℕ) (old : LineState) (fault : Fault) → outcome ≡ Err (refusal.Fault fault) → length line ≤ 4096 → IfErr outcome (IsReasonFor old (words_in line)) → IsFaultOfLine old line fault
 run_fault outcome line old fault is short own = inr (short, rw is at own)
 
+-- a line that was refused leaves the device alone
+left_alone : (outcome : Result Unit Refusal) (old new : LineState) (fault : Fault) → outcome ≡ Err (refusal.Fault fault) → IfErr outcome (λ reason. IfFault reason (λ _. new ≡ begun old)) → KeepsDevice old new
+left_alone outcome old new fault is stays = (let same : new ≡ begun old = rw is at stays in record { script = ap (λ (p : LineState). p.script) same; ledger = ap (λ (p : LineState). p.ledger) same })
+
 -- a line that was run
-pub takes_run : (number : ℕ) (left rest : Option (List ℕ)) (line : List ℕ) (outcome : Result Unit Refusal) (text : List ℕ) (old new : LineState) → IsFirstOf line left → LosesLine left rest → length line ≤ 4096 → OnOk outcome (DoesLine (words_in line) text old new) → OnErr outcome (IsUnchanged old new) → new.has_begun ≡ (old.has_begun || not (is_silent (words_in line))) → OnErr outcome (IsFalse (is_silent (words_in line))) → IfErr outcome (IsReasonFor old (words_in line)) → CanRun new → Takes number left rest outcome text old new
-takes_run number None rest line outcome text old new first loses short does same begun speaks own ready = tt
-takes_run number (Some bytes) None line outcome text old new first loses short does same begun speaks own ready = absurd loses
-takes_run number (Some bytes) (Some others) line outcome text old new first loses short does same begun speaks own ready = (
+pub takes_run : (number : ℕ) (left rest : Option (List ℕ)) (line : List ℕ) (outcome : Result Unit Refusal) (text : List ℕ) (old new : LineState) → IsFirstOf line left → LosesLine left rest → length line ≤ 4096 → OnOk outcome (DoesLine (words_in line) text old new) → OnErr outcome (IsUnchanged old new) → new.has_begun ≡ (old.has_begun || not (is_silent (words_in line))) → OnErr outcome (IsFalse (is_silent (words_in line))) → IfErr outcome (IsReasonFor old (words_in line)) → IfErr outcome (λ reason. IfFault reason (λ _. new ≡ begun old)) → CanRun new → Takes number left rest outcome text old new
+takes_run number None rest line outcome text old new first loses short does same started speaks own stays ready = tt
+takes_run number (Some bytes) None line outcome text old new first loses short does same started speaks own stays ready = absurd loses
+takes_run number (Some bytes) (Some others) line outcome text old new first loses short does same started speaks own stays ready = (
   line,
   record {
     some = loses.0;
     first = first;
     loses = λ _. loses;
-    answered = λ fine. run_answer number outcome line text old new fine short does same begun speaks own ready;
+    answered = λ fine. run_answer number outcome line text old new fine short does same started speaks own ready;
     wrong = λ fault is. run_fault outcome line old fault is short own;
+    device = λ fault is. left_alone outcome old new fault is stays;
   },
 )
 
 -- a line at its place in the buffer, run
-pub takes_span : (number : ℕ) (buffer : LineBuffer) (span : Span) (left rest : Option (List ℕ)) (line : List ℕ) (outcome : Result Unit Refusal) (text : List ℕ) (old new : LineState) → IsFirstOf (bytes_at buffer span) left → LosesLine left rest → span.end - span.start ≤ 4096 → line ≡ strip_last 13 (bytes_at buffer span) → OnOk outcome (DoesLine (words line) text old new) → OnErr outcome (IsUnchanged old new) → new.has_begun ≡ (old.has_begun || not (is_silent (words line))) → OnErr outcome (IsFalse (is_silent (words line))) → IfErr outcome (IsReasonFor old (words line)) → CanRun new → Takes number left rest outcome text old new
-takes_span number buffer span left rest line outcome text old new first loses short is does same begun speaks own ready =
+pub takes_span : (number : ℕ) (buffer : LineBuffer) (span : Span) (left rest : Option (List ℕ)) (line : List ℕ) (outcome : Result Unit Refusal) (text : List ℕ) (old new : LineState) → IsFirstOf (bytes_at buffer span) left → LosesLine left rest → span.end - span.start ≤ 4096 → line ≡ strip_last 13 (bytes_at buffer span) → OnOk outcome (DoesLine (words line) text old new) → OnErr outcome (IsUnchanged old new) → new.has_begun ≡ (old.has_begun || not (is_silent (words line))) → OnErr outcome (IsFalse (is_silent (words line))) → IfErr outcome (IsReasonFor old (words line)) → IfErr outcome (λ reason. IfFault reason (λ _. new ≡ begun old)) → CanRun new → Takes number left rest outcome text old new
+takes_span number buffer span left rest line outcome text old new first loses short is does same started speaks own stays ready =
     let few : length (bytes_at buffer span) ≤ 4096 = omega (arith, length-take (span.end - span.start) (drop span.start buffer.bytes.items)) in
-    takes_run number left rest (bytes_at buffer span) outcome text old new first loses few (rw is at does) same (rw is at begun) (rw is at speaks) (rw is at own) ready
+    takes_run number left rest (bytes_at buffer span) outcome text old new first loses few (rw is at does) same (rw is at started) (rw is at speaks) (rw is at own) stays ready
 
 -- a line that is too long
-pub takes_long : (number : ℕ) (left rest : Option (List ℕ)) (outcome : Result Unit Refusal) (text : List ℕ) (old new : LineState) → outcome ≡ Err (refusal.Fault LineTooLong) → BeginsTooLong left → Takes number left rest outcome text old new
-takes_long number None rest outcome text old new is long = tt
-takes_long number (Some bytes) rest outcome text old new is long = (
+pub takes_long : (number : ℕ) (left rest : Option (List ℕ)) (outcome : Result Unit Refusal) (text : List ℕ) (p : LineState) → outcome ≡ Err (refusal.Fault LineTooLong) → BeginsTooLong left → Takes number left rest outcome text p p
+takes_long number None rest outcome text p is long = tt
+takes_long number (Some bytes) rest outcome text p is long = (
   before_end bytes,
   record {
     some = omega (arith, length-take (position_or_len (is_byte 10) bytes) bytes);
@@ -88,6 +94,7 @@ takes_long number (Some bytes) rest outcome text old new is long = (
     loses = λ fine. absurd (let none = rw is at fine in cc);
     answered = λ fine. absurd (let none = rw is at fine in cc);
     wrong = λ fault same. inl (long, (let both = sym same ∙ is in cc));
+    device = λ fault same. record { script = refl; ledger = refl };
   },
 )
 
@@ -101,26 +108,26 @@ stands_on (Some bytes) (Some left) rest start old new answers text number outcom
 
 -- ---- the ends
 
-pub ends_done : (known left : Option (List ℕ)) (start p : LineState) (answers : List ℕ) (number : ℕ) (old new : Option (List ℕ)) → Stands known start answers number left p → IsAtEnd left → Appends old new answers → Writes known start Done old new
+pub ends_done : (known left : Option (List ℕ)) (start p : LineState) (answers : List ℕ) (number : ℕ) (old new : Option (List ℕ)) → Stands known start answers number left p → IsAtEnd left → Appends old new answers → Writes known start Done old new p
 ends_done None left start p answers number old new at end grown = tt
 ends_done (Some bytes) None start p answers number old new at end grown = absurd at
 ends_done (Some bytes) (Some left) start p answers number old new at end grown =
     let nothing : lines_of left ≡ [] = ap lines_of end ∙ no_lines in
-    (answers, record { number = number; program = p; reaches = rw nothing at at }, grown)
+    (answers, record { number = number; reaches = rw nothing at at }, grown)
 
-pub ends_unread : (known left : Option (List ℕ)) (start p : LineState) (answers : List ℕ) (number : ℕ) (old new : Option (List ℕ)) → Stands known start answers number left p → Appends old new answers → Writes known start ReadFault old new
+pub ends_unread : (known left : Option (List ℕ)) (start p : LineState) (answers : List ℕ) (number : ℕ) (old new : Option (List ℕ)) → Stands known start answers number left p → Appends old new answers → Writes known start ReadFault old new p
 ends_unread None left start p answers number old new at grown = tt
 ends_unread (Some bytes) None start p answers number old new at grown = absurd at
 ends_unread (Some bytes) (Some left) start p answers number old new at grown =
-    (answers, (lines_of left, record { number = number; program = p; reaches = at }), grown)
+    (answers, (lines_of left, record { number = number; reaches = at }), grown)
 
 -- where a run has come to, with the next line
 abbrev at_line : (bytes left line : List ℕ) (start p : LineState) (answers : List ℕ) (number : ℕ) → Stands (Some bytes) start answers number (Some left) p → 0 < length left → line ≡ before_end left → IsAtLine (lines_of bytes) start
 at_line bytes left line start p answers number at some first =
     let split : lines_of left ≡ line ∷ lines_of (after_end left) = lines_split left some ∙ ap (λ l. l ∷ lines_of (after_end left)) (sym first) in
-    record { line = line; left = lines_of (after_end left); answers = answers; reached = record { number = number; program = p; reaches = rw split at at } }
+    record { line = line; left = lines_of (after_end left); answers = answers; program = p; reached = record { number = number; reaches = rw split at at } }
 
-ends_refused : (known left rest : Option (List ℕ)) (start p now : LineState) (answers text : List ℕ) (number : ℕ) (outcome : Result Unit Refusal) (fault : Fault) (old mid new : Option (List ℕ)) → outcome ≡ Err (refusal.Fault fault) → Stands known start answers number left p → Takes number left rest outcome text p now → Appends old mid answers → Appends mid new (said_of number outcome text) → Writes known start BadLine old new
+ends_refused : (known left rest : Option (List ℕ)) (start p now : LineState) (answers text : List ℕ) (number : ℕ) (outcome : Result Unit Refusal) (fault : Fault) (old mid new : Option (List ℕ)) → outcome ≡ Err (refusal.Fault fault) → Stands known start answers number left p → Takes number left rest outcome text p now → Appends old mid answers → Appends mid new (said_of number outcome text) → Writes known start BadLine old new now
 ends_refused None left rest start p now answers text number outcome fault old mid new is at takes before said = tt
 ends_refused (Some bytes) None rest start p now answers text number outcome fault old mid new is at takes before said = absurd at
 ends_refused (Some bytes) (Some left) rest start p now answers text number outcome fault old mid new is at (line, taken) before said =
@@ -128,9 +135,10 @@ ends_refused (Some bytes) (Some left) rest start p now answers text number outco
       answers ++ said_of number outcome text,
       record {
         at = at_line bytes left line start p answers number at taken.some taken.first;
-        last = said_of number outcome text;
+        fault = said_of number outcome text;
         refused = record { fault = fault; wrong = taken.wrong fault is; said = last };
         said = refl;
+        device = taken.device fault is;
       },
       Appends-trans old mid new answers _ before said,
     )
@@ -141,18 +149,18 @@ is_fault (Err refusal.NoMemory) faulty = absurd (faulty refl)
 is_fault (Err (refusal.Fault fault)) faulty = (fault, refl)
 
 -- a faulty line was the last
-pub ends_at_fault : (known left rest : Option (List ℕ)) (start p now : LineState) (answers text : List ℕ) (number : ℕ) (outcome : Result Unit Refusal) (old mid new : Option (List ℕ)) → ¬ (IsNoFault outcome) → Stands known start answers number left p → Takes number left rest outcome text p now → Appends old mid answers → Appends mid new (said_of number outcome text) → Writes known start BadLine old new
+pub ends_at_fault : (known left rest : Option (List ℕ)) (start p now : LineState) (answers text : List ℕ) (number : ℕ) (outcome : Result Unit Refusal) (old mid new : Option (List ℕ)) → ¬ (IsNoFault outcome) → Stands known start answers number left p → Takes number left rest outcome text p now → Appends old mid answers → Appends mid new (said_of number outcome text) → Writes known start BadLine old new now
 ends_at_fault known left rest start p now answers text number outcome old mid new faulty at takes before said =
     let (fault, is) = is_fault outcome faulty in
     ends_refused known left rest start p now answers text number outcome fault old mid new is at takes before said
 
-is_said : (number : ℕ) (line bytes : List ℕ) (rest : Option (List ℕ)) (outcome : Result Unit Refusal) (text : List ℕ) (old new : LineState) → IsTaken number line bytes rest outcome text old new → IsSaid number line (said_of number outcome text) old
-is_said number line bytes rest (Ok done) text old new taken = inl (new, taken.answered tt)
-is_said number line bytes rest (Err refusal.NoMemory) text old new taken = inl (new, taken.answered refl)
-is_said number line bytes rest (Err (refusal.Fault fault)) text old new taken = inr (record { fault = fault; wrong = taken.wrong fault refl; said = refl })
+is_said : (number : ℕ) (line bytes : List ℕ) (rest : Option (List ℕ)) (outcome : Result Unit Refusal) (text : List ℕ) (old new : LineState) → IsTaken number line bytes rest outcome text old new → IsSaid number line (said_of number outcome text) old new
+is_said number line bytes rest (Ok done) text old new taken = inl (taken.answered tt)
+is_said number line bytes rest (Err refusal.NoMemory) text old new taken = inl (taken.answered refl)
+is_said number line bytes rest (Err (refusal.Fault fault)) text old new taken = inr (record { fault = fault; wrong = taken.wrong fault refl; said = refl }, taken.device fault refl)
 
 -- a write failed
-pub ends_unwritten : (known left rest : Option (List ℕ)) (start p now : LineState) (answers text : List ℕ) (number : ℕ) (outcome : Result Unit Refusal) (old mid new : Option (List ℕ)) → Stands known start answers number left p → Takes number left rest outcome text p now → Appends old mid answers → AppendsFront mid new (said_of number outcome text) → Writes known start WriteFault old new
+pub ends_unwritten : (known left rest : Option (List ℕ)) (start p now : LineState) (answers text : List ℕ) (number : ℕ) (outcome : Result Unit Refusal) (old mid new : Option (List ℕ)) → Stands known start answers number left p → Takes number left rest outcome text p now → Appends old mid answers → AppendsFront mid new (said_of number outcome text) → Writes known start WriteFault old new now
 ends_unwritten None left rest start p now answers text number outcome old mid new at takes before wrote = tt
 ends_unwritten (Some bytes) None rest start p now answers text number outcome old mid new at takes before wrote = absurd at
 ends_unwritten (Some bytes) (Some left) rest start p now answers text number outcome old mid new at (line, taken) before wrote = (
@@ -161,16 +169,16 @@ ends_unwritten (Some bytes) (Some left) rest start p now answers text number out
     at = at_line bytes left line start p answers number at taken.some taken.first;
     front = wrote.front;
     unwritten = wrote.unwritten;
-    last = subst (λ t. IsSaid number line t p) wrote.split (is_said number line left rest outcome text p now taken);
+    answer = subst (λ t. IsSaid number line t p now) wrote.split (is_said number line left rest outcome text p now taken);
     said = refl;
   },
   Appends-trans old mid new answers _ before wrote.grown,
 )
 
 -- an answer ends a run early only at a fault or a failed write
-pub ends_early : (known : Option (List ℕ)) (start : LineState) (exit : Exit) (old new : Option (List ℕ)) → (exit ≡ BadLine) ⊎ (exit ≡ WriteFault) → (exit ≡ BadLine → Writes known start BadLine old new) → (exit ≡ WriteFault → Writes known start WriteFault old new) → Writes known start exit old new
-ends_early known start exit old new (inl bad) faulty failed = rw bad (faulty bad)
-ends_early known start exit old new (inr broken) faulty failed = rw broken (failed broken)
+pub ends_early : (known : Option (List ℕ)) (start last : LineState) (exit : Exit) (old new : Option (List ℕ)) → (exit ≡ BadLine) ⊎ (exit ≡ WriteFault) → (exit ≡ BadLine → Writes known start BadLine old new last) → (exit ≡ WriteFault → Writes known start WriteFault old new last) → Writes known start exit old new last
+ends_early known start last exit old new (inl bad) faulty failed = rw bad (faulty bad)
+ends_early known start last exit old new (inr broken) faulty failed = rw broken (failed broken)
 
 -- ---- the start
 
@@ -190,9 +198,9 @@ unread_first buffer known empty «open» =
     let nothing : buffered buffer ≡ [] = ap (slice_range buffer.bytes.items buffer.start) (sym empty) ∙ slice_range_none buffer.bytes.items buffer.start in
     ap (λ l. known_left buffer.is_at_end l known) nothing ∙ known_left_of_none buffer.is_at_end known «open»
 
-pub from_start : (known : Option (List ℕ)) (start : LineState) (exit : Exit) (old new : Option (List ℕ)) → (exit ≡ NoMemory → ⊥) → IsFresh start → Writes known start exit old new → WritesFromStart known exit old new
-from_start known start Done old new memory fresh wrote = (start, fresh, wrote)
-from_start known start BadLine old new memory fresh wrote = (start, fresh, wrote)
-from_start known start ReadFault old new memory fresh wrote = (start, fresh, wrote)
-from_start known start WriteFault old new memory fresh wrote = (start, fresh, wrote)
-from_start known start NoMemory old new memory fresh wrote = absurd (memory refl)
+pub from_start : (known : Option (List ℕ)) (start last : LineState) (exit : Exit) (old new : Option (List ℕ)) → (exit ≡ NoMemory → ⊥) → IsFresh start → Writes known start exit old new last → WritesFromStart known exit old new last.ledger last.script
+from_start known start last Done old new memory fresh wrote = (start, last, fresh, wrote, refl, refl)
+from_start known start last BadLine old new memory fresh wrote = (start, last, fresh, wrote, refl, refl)
+from_start known start last ReadFault old new memory fresh wrote = (start, last, fresh, wrote, refl, refl)
+from_start known start last WriteFault old new memory fresh wrote = (start, last, fresh, wrote, refl, refl)
+from_start known start last NoMemory old new memory fresh wrote = absurd (memory refl)

@@ -66,16 +66,16 @@ end_of number old WriteFault text ends = absurd ends
 end_of number old NoMemory text ends = absurd ends
 
 -- a run whose reads and writes were good
-pub ends_from : (lines : List (List ℕ)) (start : LineState) (exit : Exit) (text : List ℕ) → (exit ≡ Done) ⊎ (exit ≡ BadLine) → Wrote lines start exit text → Ends 1 lines start exit text
-ends_from lines start Done text well wrote = (wrote.number, wrote.program, wrote.reaches)
-ends_from lines start BadLine text well wrote =
-    (wrote.at.reached.number, wrote.at.line, wrote.at.left, wrote.at.reached.program, wrote.at.answers, wrote.last, wrote.at.reached.reaches, wrote.refused, wrote.said)
-ends_from lines start ReadFault text (inl well) wrote = cc
-ends_from lines start ReadFault text (inr well) wrote = cc
-ends_from lines start WriteFault text (inl well) wrote = cc
-ends_from lines start WriteFault text (inr well) wrote = cc
-ends_from lines start NoMemory text (inl well) wrote = cc
-ends_from lines start NoMemory text (inr well) wrote = cc
+pub ends_from : (lines : List (List ℕ)) (start last : LineState) (exit : Exit) (text : List ℕ) → (exit ≡ Done) ⊎ (exit ≡ BadLine) → Wrote lines start exit text last → Ends 1 lines start exit text
+ends_from lines start last Done text well wrote = (wrote.number, last, wrote.reaches)
+ends_from lines start last BadLine text well wrote =
+    (wrote.at.reached.number, wrote.at.line, wrote.at.left, wrote.at.program, wrote.at.answers, wrote.fault, wrote.at.reached.reaches, wrote.refused, wrote.said)
+ends_from lines start last ReadFault text (inl well) wrote = cc
+ends_from lines start last ReadFault text (inr well) wrote = cc
+ends_from lines start last WriteFault text (inl well) wrote = cc
+ends_from lines start last WriteFault text (inr well) wrote = cc
+ends_from lines start last NoMemory text (inl well) wrote = cc
+ends_from lines start last NoMemory text (inr well) wrote = cc
 
 -- ---- words
 

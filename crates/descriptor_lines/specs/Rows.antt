@@ -23,4 +23,4 @@ HadMemory text = (before after : List ℕ) → text ≢ before ++ no_memory ++ a
 -- every run over these bytes from the start whose reads and writes were good, and which had memory, ended so and wrote this text
 abbrev pub IsRow : List ℕ → Exit → List ℕ → Type 0
 IsRow bytes exit said =
-    (start : LineState) (end : Exit) (text : List ℕ) → IsFresh start → (end ≡ Done) ⊎ (end ≡ BadLine) → HadMemory text → Wrote (lines_of bytes) start end text → (end ≡ exit) × (text ≡ said)
+    (start last : LineState) (end : Exit) (text : List ℕ) → IsFresh start → (end ≡ Done) ⊎ (end ≡ BadLine) → HadMemory text → Wrote (lines_of bytes) start end text last → (end ≡ exit) × (text ≡ said)

@@ -2,6 +2,9 @@
 use Rattle.std.specs.Prelude.{◌≡◌, ◌⊎◌, ◌≤◌, ◌<◌, ◌+◌, ◌++◌, ◌∷◌, [], ⊤, ℕ, List, Option, None, Some, IsTrue, IsFalse, codes, length}
 use Rattle.std.specs.Io.BufRead.{strip_last}
 use Rattle.std.specs.Io.KnownBytes.{Appends, IsAtEnd, Keeps}
+use Rattle.gpu_descriptor_types.specs.Ledger.{Ledger}
+use Rattle.descriptor_script.specs.Scripted.Device.{empty_ledger}
+use Rattle.descriptor_script.specs.declared.answer.Answer.{Answer}
 use Rattle.descriptor_words.specs.Fault.{faulty}
 use Rattle.descriptor_words.specs.Words.{is_silent, words}
 use Rattle.descriptor_words.specs.declared.fault.Fault.{Fault}
@@ -12,7 +15,7 @@ use Rattle.descriptor_lines.specs.Arguments.{IsRefusalOf}
 use Rattle.descriptor_lines.specs.LineStates.{LineState}
 use Rattle.descriptor_lines.specs.Lines.{lines_of, longest_line}
 use Rattle.descriptor_lines.specs.Outcomes.{EndsInFault}
-use Rattle.descriptor_lines.specs.Programs.{CanRun, DoesLine, IsFresh, IsReasonFor, IsUnchanged}
+use Rattle.descriptor_lines.specs.Programs.{CanRun, DoesLine, IsFresh, IsReasonFor, IsUnchanged, KeepsDevice}
 use Rattle.descriptor_lines.specs.declared.exit.Exit.{Exit}
 use Rattle.descriptor_lines.specs.declared.exit.Exit.TheVariants.{Done, BadLine, ReadFault, WriteFault, NoMemory}
 
@@ -47,9 +50,9 @@ pub record IsRefused (number : ℕ) (line text : List ℕ) (p : LineState) : Typ
   pub wrong : IsFaultOfLine p line fault
   pub said : text ≡ fault_line number fault
 
--- what there is to say of a line: its answer, or its fault
-abbrev pub IsSaid : ℕ → List ℕ → List ℕ → LineState → Type 0
-IsSaid number line text old = ((new : LineState) × IsAnswered line text old new) ⊎ IsRefused number line text old
+-- what there is to say of a line: its answer, or its fault, which leaves the device alone
+abbrev pub IsSaid : ℕ → List ℕ → List ℕ → LineState → LineState → Type 0
+IsSaid number line text old new = IsAnswered line text old new ⊎ (IsRefused number line text old × KeepsDevice old new)
 
 -- no line was answered yet
 pub record IsHere (first : ℕ) (lines : List (List ℕ)) (old : LineState) (text : List ℕ) (next : ℕ) (left : List (List ℕ)) (new : LineState) : Type 0 where
@@ -66,9 +69,8 @@ Reaches number (line ∷ lines) old text next left new =
     ⊎ ((answer : List ℕ) × (answers : List ℕ) × (p : LineState) × IsAnswered line answer old p × (text ≡ answer ++ answers) × Reaches (number + 1) lines p answers next left new)
 
 -- where a run of lines from 1 on has come to: the lines before the next were answered by this text
-pub record Reached (lines : List (List ℕ)) (start : LineState) (text : List ℕ) (left : List (List ℕ)) : Type 0 where
+pub record Reached (lines : List (List ℕ)) (start : LineState) (text : List ℕ) (left : List (List ℕ)) (program : LineState) : Type 0 where
   pub number : ℕ
-  pub program : LineState
   pub reaches : Reaches 1 lines start text number left program
 
 -- a run has come to a line: those before it were answered
@@ -76,46 +78,48 @@ pub record IsAtLine (lines : List (List ℕ)) (start : LineState) : Type 0 where
   pub line : List ℕ
   pub left : List (List ℕ)
   pub answers : List ℕ
-  pub reached : Reached lines start answers (line ∷ left)
+  pub program : LineState
+  pub reached : Reached lines start answers (line ∷ left) program
 
 -- it came to a faulty line, and then the fault was said
-pub record StopsAtFault (lines : List (List ℕ)) (start : LineState) (text : List ℕ) : Type 0 where
+pub record StopsAtFault (lines : List (List ℕ)) (start : LineState) (text : List ℕ) (last : LineState) : Type 0 where
   pub at : IsAtLine lines start
-  pub last : List ℕ
-  pub refused : IsRefused at.reached.number at.line last at.reached.program
-  pub said : text ≡ at.answers ++ last
+  pub fault : List ℕ
+  pub refused : IsRefused at.reached.number at.line fault at.program
+  pub said : text ≡ at.answers ++ fault
+  pub device : KeepsDevice at.program last
 
 -- it came to a line, and then a front was written of what there is to say of that
-pub record BreaksOff (lines : List (List ℕ)) (start : LineState) (text : List ℕ) : Type 0 where
+pub record BreaksOff (lines : List (List ℕ)) (start : LineState) (text : List ℕ) (last : LineState) : Type 0 where
   pub at : IsAtLine lines start
   pub front : List ℕ
   pub unwritten : List ℕ
-  pub last : IsSaid at.reached.number at.line (front ++ unwritten) at.reached.program
+  pub answer : IsSaid at.reached.number at.line (front ++ unwritten) at.program last
   pub said : text ≡ at.answers ++ front
 
--- what a run of these lines wrote, by how it ended
-abbrev pub Wrote : List (List ℕ) → LineState → Exit → List ℕ → Type 0
-Wrote lines start Done text = Reached lines start text []
-Wrote lines start BadLine text = StopsAtFault lines start text
-Wrote lines start ReadFault text = (left : List (List ℕ)) × Reached lines start text left
-Wrote lines start WriteFault text = BreaksOff lines start text
-Wrote lines start NoMemory text = text ≡ []
+-- what a run of these lines wrote, by how it ended, and the state that it left
+abbrev pub Wrote : List (List ℕ) → LineState → Exit → List ℕ → LineState → Type 0
+Wrote lines start Done text last = Reached lines start text [] last
+Wrote lines start BadLine text last = StopsAtFault lines start text last
+Wrote lines start ReadFault text last = (left : List (List ℕ)) × Reached lines start text left last
+Wrote lines start WriteFault text last = BreaksOff lines start text last
+Wrote lines start NoMemory text last = text ≡ []
 
 -- known bytes grow by what a run of the lines of known bytes wrote
-abbrev pub Writes : Option (List ℕ) → LineState → Exit → Option (List ℕ) → Option (List ℕ) → Type 0
-Writes None start exit old new = ⊤
-Writes (Some bytes) start exit old new =
-    (text : List ℕ) × Wrote (lines_of bytes) start exit text × Appends old new text
+abbrev pub Writes : Option (List ℕ) → LineState → Exit → Option (List ℕ) → Option (List ℕ) → LineState → Type 0
+Writes None start exit old new last = ⊤
+Writes (Some bytes) start exit old new last =
+    (text : List ℕ) × Wrote (lines_of bytes) start exit text last × Appends old new text
 
--- so it is from a program on that no line was run on before; one for whose buffers there is no memory writes nothing
-abbrev pub WritesFromStart : Option (List ℕ) → Exit → Option (List ℕ) → Option (List ℕ) → Type 0
-WritesFromStart known NoMemory old new = Keeps old new
-WritesFromStart known exit old new =
-    (start : LineState) × IsFresh start × Writes known start exit old new
+-- so it is from a program on that no line was run on before, and its device is left with this ledger and this script; a run for whose buffers there is no memory writes nothing, and its device is as it was
+abbrev pub WritesFromStart : Option (List ℕ) → Exit → Option (List ℕ) → Option (List ℕ) → Ledger → List Answer → Type 0
+WritesFromStart known NoMemory old new ledger script = Keeps old new × (ledger ≡ empty_ledger) × (script ≡ [])
+WritesFromStart known exit old new ledger script =
+    (start : LineState) × (last : LineState) × IsFresh start × Writes known start exit old new last × (last.ledger ≡ ledger) × (last.script ≡ script)
 
--- a run of the lines that a reader gives: what the reader had left and has left, how the run ended, and what the writer held and holds
-pub record RunsLines (unread rest : Option (List ℕ)) (exit : Exit) (old new : Option (List ℕ)) : Type 0 where
-  pub writes : WritesFromStart unread exit old new
+-- a run of the lines that a reader gives: what the reader had left and has left, how the run ended, what the writer held and holds, and the ledger and the script of the device then
+pub record RunsLines (unread rest : Option (List ℕ)) (exit : Exit) (old new : Option (List ℕ)) (ledger : Ledger) (script : List Answer) : Type 0 where
+  pub writes : WritesFromStart unread exit old new ledger script
   -- it is done only at the end of the input
   pub done : exit ≡ Done → IsAtEnd rest
   -- whatever the reader, a bad line is named last, and for want of memory nothing is written

@@ -1,5 +1,7 @@
 //! The program: lines in, answers out.
-ghost use Rattle.std.specs.Prelude.{◌≡◌, ◌≢◌, ◌||◌, [], not, IsTrue, IsFalse, IfErr, OnOk, OnErr};
+ghost use Rattle.gpu_descriptor_types.specs.Ledger.{Ledger};
+ghost use Rattle.descriptor_script.specs.declared.answer.Answer.{Answer};
+ghost use Rattle.std.specs.Prelude.{◌≡◌, ◌≢◌, ◌||◌, List, [], not, IsTrue, IsFalse, IfErr, OnOk, OnErr};
 ghost use Rattle.std.specs.Prelude.{string_bytes};
 ghost use Rattle.std.specs.Io.KnownBytes.{IsAtEnd};
 ghost use Rattle.descriptor_script.specs.Scripted.Device.{empty_ledger};
@@ -111,7 +113,7 @@ fn run_to_end<D: LineDevice, R: Read, W: Write>(
     requires reads { lines.old.reads_left ≡ most_reads }
     ensures writes { Writes (unread lines.old (R.remaining input.old))
         (line_state D.ledger D.script program.old) result (W.contents output.old)
-        (W.contents output.new) }
+        (W.contents output.new) (line_state D.ledger D.script program.new) }
     ensures done { result ≡ Exit.Done → IsAtEnd (R.remaining input.new) }
     ensures bad_line { result ≡ Exit.BadLine → EndsInFault (W.contents output.old)
         (W.contents output.new) }
@@ -140,8 +142,9 @@ fn run_to_end<D: LineDevice, R: Read, W: Write>(
 /// is run. It ends early at a faulty line, at a read or a write that fails, of whatever kind, and
 /// after 100000000 read calls.
 pub fn run_lines<R: Read, W: Write>(alloc: Global, input: &mut R, output: &mut W) -> Exit
-    ensures runs { RunsLines (R.remaining input.old) (R.remaining input.new) result
-        (W.contents output.old) (W.contents output.new) }
+    ensures runs { (ledger : Ledger) × (script : List Answer)
+        × RunsLines (R.remaining input.old) (R.remaining input.new) result
+        (W.contents output.old) (W.contents output.new) ledger script }
 {
     let device = ScriptedDevice::new(alloc, Vec::new(alloc));
     let (exit, _) = run_lines_on(alloc, device, input, output);
@@ -159,7 +162,7 @@ pub fn run_lines_on<D: LineDevice + Drop, R: Read, W: Write>(
     requires ledger { D.ledger device ≡ empty_ledger }
     requires script { D.script device ≡ [] }
     ensures runs { RunsLines (R.remaining input.old) (R.remaining input.new) result.0
-        (W.contents output.old) (W.contents output.new) }
+        (W.contents output.old) (W.contents output.new) (D.ledger result.1) (D.script result.1) }
     ensures whole { result.0 ≢ Exit.WriteFault → IsFalse (D.lost device)
         → IsFalse (D.lost result.1) }
 {

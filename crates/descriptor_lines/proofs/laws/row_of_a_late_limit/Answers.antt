@@ -8,8 +8,8 @@ use Rattle.descriptor_lines.proofs.laws.row_of_a_late_limit.Goals as goal
 
 pub returns : goal.returns
 unfolding lines_of digits
-returns c = λ start end text fresh well had wrote.
-    (let ends = ends_from (codes "layout s plain sampler=1" ∷ codes "limit 5" ∷ []) start end text well wrote in
+returns c = λ start last end text fresh well had wrote.
+    (let ends = ends_from (codes "layout s plain sampler=1" ∷ codes "limit 5" ∷ []) start last end text well wrote in
     let name_s = name_of_letter 115 (omega arith) (omega arith) in
     let first = layout_line 1 (codes "layout s plain sampler=1") (codes "limit 5" ∷ []) start end text (codes "s") false (codes "sampler=1" ∷ []) (omega arith) refl (good_at_start start (codes "s") (codes "sampler=1" ∷ []) fresh name_s one_sampler) had ends in
     let adds = first.3 in

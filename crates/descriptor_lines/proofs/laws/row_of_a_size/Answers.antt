@@ -12,8 +12,8 @@ use Rattle.descriptor_lines.proofs.laws.row_of_a_size.Goals as goal
 
 pub returns : goal.returns
 unfolding lines_of digits kinds_answer
-returns c = λ start end text fresh well had wrote.
-    (let ends = ends_from (codes "layout e plain" ∷ codes "size e 0 1" ∷ []) start end text well wrote in
+returns c = λ start last end text fresh well had wrote.
+    (let ends = ends_from (codes "layout e plain" ∷ codes "size e 0 1" ∷ []) start last end text well wrote in
     let name_e = name_of_letter 101 (omega arith) (omega arith) in
     let first = layout_line 1 (codes "layout e plain") (codes "size e 0 1" ∷ []) start end text (codes "e") false [] (omega arith) refl (good_at_start start (codes "e") [] fresh name_e no_kinds) had ends in
     let adds = first.3 in
