@@ -1,6 +1,5 @@
 -- What the code's own contracts say, and what the public definitions are made of.
 pub mod Counters
-pub mod Finite
 pub mod Live
 pub mod Marks
 pub mod Pools

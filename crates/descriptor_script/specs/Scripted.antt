@@ -1,4 +1,5 @@
 -- The scripted device: its raw values, its words, and what it owes.
 pub mod Device
+pub mod Finite
 pub mod Raw
 pub mod Script

@@ -1,7 +1,6 @@
 //! How often a device did each thing.
 ghost use Rattle.std.specs.Prelude.{◌≡◌, ◌+◌};
-ghost use Rattle.gpu_descriptor_types.specs.Ledger.{alloc_refused, create_refused};
-ghost use Rattle.gpu_descriptor.specs.Model.Outcomes.{no_rise};
+ghost use Rattle.gpu_descriptor_types.specs.Ledger.{alloc_refused, create_refused, no_rise};
 ghost use Rattle.descriptor_script.specs.Inner.Counters.{counters_of};
 
 use gpu_descriptor_types::{Counter, CreatePoolError, DeviceAllocationError};

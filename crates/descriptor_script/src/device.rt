@@ -98,7 +98,7 @@ impl ScriptedDevice {
 
 impl DescriptorDevice<ScriptLayout, RawPool, RawSet> for ScriptedDevice {
     ghost use Rattle.descriptor_script.specs.Scripted.Device.{ledger_of, names_given, script_of};
-    ghost use Rattle.descriptor_script.specs.Inner.Finite.{scripted_finite};
+    ghost use Rattle.descriptor_script.specs.Scripted.Finite.{scripted_finite};
 
     ghost pool_name = { pool_id };
 

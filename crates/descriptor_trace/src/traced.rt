@@ -82,7 +82,7 @@ impl<W: Write> Traced<W> {
 }
 
 impl<W: Write> DescriptorDevice<ScriptLayout, RawPool, RawSet> for Traced<W> {
-    ghost use Rattle.descriptor_script.specs.Inner.Finite.{scripted_finite};
+    ghost use Rattle.descriptor_script.specs.Scripted.Finite.{scripted_finite};
     ghost use Rattle.descriptor_trace.specs.Traced.{traced_ledger, traced_names, traced_script};
 
     ghost pool_name = { pool_id };

@@ -35,7 +35,7 @@ impl FewPools {
 }
 
 impl DescriptorDevice<ScriptLayout, RawPool, RawSet> for FewPools {
-    ghost use Rattle.descriptor_script.specs.Inner.Finite.{scripted_finite};
+    ghost use Rattle.descriptor_script.specs.Scripted.Finite.{scripted_finite};
     ghost use Rattle.descriptor_uses.specs.FewPools.{few_ledger};
 
     ghost pool_name = { pool_id };

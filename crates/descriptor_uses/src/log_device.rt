@@ -102,7 +102,7 @@ impl LogDevice {
 }
 
 impl DescriptorDevice<ScriptLayout, RawPool, RawSet> for LogDevice {
-    ghost use Rattle.descriptor_script.specs.Inner.Finite.{scripted_finite};
+    ghost use Rattle.descriptor_script.specs.Scripted.Finite.{scripted_finite};
     ghost use Rattle.descriptor_uses.specs.Logged.{IsErrorOfCall, calls_of, ledger_logged};
     ghost use Rattle.descriptor_uses.specs.Logged.{next_pool, script_logged};
 

@@ -2,7 +2,7 @@
 use Rattle.std.proofs.Common.{◌≡◌, ◌≢◌, ℕ, ◌+◌, ◌-◌, ◌<◌, true, false, Some, List, [], ◌∷◌, length, map, slice_get, arith, Result, Ok, Err, refl, sym, ap, ◌∙◌, subst}
 use Rattle.std.proofs.lemmas.List.{length-map}
 use Rattle.std.specs.Prelude.{OnOk, IfErr}
-use Rattle.gpu_descriptor_types.specs.Ledger.{Ledger, Counters, alloc_refused, create_refused}
+use Rattle.gpu_descriptor_types.specs.Ledger.{Ledger, Counters, alloc_refused, create_refused, no_rise}
 use Rattle.gpu_descriptor.specs.declared.errors.AllocationError.{AllocationError}
 use Rattle.gpu_descriptor.specs.declared.set.DescriptorSet.{DescriptorSet}
 use Rattle.gpu_descriptor.specs.declared.bucket.take.Refusal.{Refusal}
@@ -18,7 +18,7 @@ use Rattle.gpu_descriptor.specs.Caller.Frees.{GivesBack}
 use Rattle.gpu_descriptor.specs.Model.Grants.{Grant, entries_with, items_in, granted}
 use Rattle.gpu_descriptor.specs.Inner.Grow.{IsTakenAll, IsTakenUpTo, IsGrowStopped, refusal_answer, stop_rise}
 use Rattle.gpu_descriptor.specs.Model.Load.{marked_load}
-use Rattle.gpu_descriptor.specs.Model.Outcomes.{Allocates, Call, Proceeds, IsBack, back_of, rolled_back, no_rise, risen, grant_rise, rollback_rise}
+use Rattle.gpu_descriptor.specs.Model.Outcomes.{Allocates, Call, Proceeds, IsBack, back_of, rolled_back, risen, grant_rise, rollback_rise}
 use Rattle.gpu_descriptor.specs.Model.Outcomes.Allocates.{done, stopped_at_pool, stopped_without_room, stopped_at_create, stopped_for_memory, stopped_at_fresh}
 use Rattle.gpu_descriptor.specs.Model.Promises.{IsUntouched, KeepsOtherKeys, AreOfKey, AreOutBesides, KeepsOutstanding}
 use Rattle.gpu_descriptor.specs.Model.Release.{released, given_back, pools_gone}

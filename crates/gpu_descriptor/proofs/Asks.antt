@@ -4,9 +4,9 @@ use Rattle.std.proofs.Math.Path.{fun_ext}
 use Rattle.std.proofs.lemmas.Bool.{and_from}
 use Rattle.gpu_descriptor.specs.Model.Books.{Key, Entry}
 use Rattle.gpu_descriptor.specs.Model.Grants.{pool_with}
-use Rattle.gpu_descriptor.specs.Model.Outcomes.{no_rise, risen}
+use Rattle.gpu_descriptor.specs.Model.Outcomes.{risen}
 use Rattle.gpu_descriptor.specs.Inner.Walk.{IsAsked, IsNoMemory}
-use Rattle.gpu_descriptor_types.specs.Ledger.{Pool, Ledger, Counters, live_sets, changed, on_pool, after_alloc, after_no_alloc, alloc_refused, pool_refusals}
+use Rattle.gpu_descriptor_types.specs.Ledger.{Pool, Ledger, Counters, live_sets, changed, on_pool, after_alloc, after_no_alloc, alloc_refused, pool_refusals, no_rise}
 use Rattle.gpu_descriptor_types.specs.Multiset.{LiveSet}
 use Rattle.gpu_descriptor_types.specs.declared.errors.DeviceAllocationError.{DeviceAllocationError}
 use Rattle.gpu_descriptor_types.specs.declared.errors.DeviceAllocationError.TheVariants as alloc_error

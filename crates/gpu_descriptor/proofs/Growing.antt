@@ -16,11 +16,11 @@ use Rattle.gpu_descriptor.specs.Model.FreshPools.{Fresh, fresh_portions, fresh_e
 use Rattle.gpu_descriptor.specs.Model.Grants.{Grant, Part, items_at, items_in, portion_of, came, pool_with, ledger_with, entries_with, fresh_or}
 use Rattle.gpu_descriptor.specs.Inner.Grow.{IsGrown, IsNotGrown, TellsOfRoom, IsTakenAll, IsGrowStopped}
 use Rattle.gpu_descriptor.specs.Model.Load.{allocated_in, pool_load, pools_load}
-use Rattle.gpu_descriptor.specs.Model.Outcomes.{no_rise, risen, grant_rise}
+use Rattle.gpu_descriptor.specs.Model.Outcomes.{risen, grant_rise}
 use Rattle.gpu_descriptor.specs.Model.Shares.{offer, rest, share, shared, all_shared, Portion, portions_of}
 use Rattle.gpu_descriptor.specs.Inner.Buckets.{AreBookedIn}
 use Rattle.gpu_descriptor.specs.Inner.Walk.{HasTaken, KeepsKey, IsWalked}
-use Rattle.gpu_descriptor_types.specs.Ledger.{Pool, Ledger, Counters, live_sets, changed, on_pool}
+use Rattle.gpu_descriptor_types.specs.Ledger.{Pool, Ledger, Counters, live_sets, changed, on_pool, no_rise}
 use Rattle.gpu_descriptor_types.specs.PoolSize.{pool_counts}
 use Rattle.gpu_descriptor_types.specs.Ledger as ledgers
 use Rattle.gpu_descriptor.specs.Model.FreshPools as grants

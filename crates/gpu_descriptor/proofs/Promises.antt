@@ -5,7 +5,7 @@ use Rattle.std.proofs.lemmas.List.Sums.{sum_by-cons, sum_by-append}
 use Rattle.gpu_descriptor_types.proofs.Sizes.{pool_size_some}
 use Rattle.gpu_descriptor_types.specs.PoolSize.{pool_size_floor}
 use Rattle.std.specs.Prelude.{min, if◌then◌else◌, OnOk, IfErr}
-use Rattle.gpu_descriptor_types.specs.Ledger.{Pool, Counters, live_sets, create_refused, alloc_refused, pool_refusals}
+use Rattle.gpu_descriptor_types.specs.Ledger.{Pool, Counters, live_sets, create_refused, alloc_refused, pool_refusals, no_rise}
 use Rattle.gpu_descriptor_types.specs.declared.errors.CreatePoolError.{CreatePoolError}
 use Rattle.gpu_descriptor_types.specs.declared.errors.CreatePoolError.TheVariants as create_error
 use Rattle.gpu_descriptor_types.specs.declared.errors.DeviceAllocationError.{DeviceAllocationError}
@@ -14,7 +14,7 @@ use Rattle.gpu_descriptor.specs.declared.errors.AllocationError.{AllocationError
 use Rattle.gpu_descriptor.specs.declared.errors.AllocationError.TheVariants.{OutOfHostMemory, Fragmentation}
 use Rattle.gpu_descriptor.specs.Model.Agreement.{State, Item}
 use Rattle.gpu_descriptor.specs.Model.Books.{Key, Entry, Bucket, next_number}
-use Rattle.gpu_descriptor.specs.Model.Outcomes.{error_of_create, error_of_alloc, Allocates, Call, IsBack, IsDone, IsStoppedAtPool, IsStoppedAtCreate, IsStoppedAtFresh, IsFront, HasRoomLeft, IsGrant, out_then, wanting, no_rise}
+use Rattle.gpu_descriptor.specs.Model.Outcomes.{error_of_create, error_of_alloc, Allocates, Call, IsBack, IsDone, IsStoppedAtPool, IsStoppedAtCreate, IsStoppedAtFresh, IsFront, HasRoomLeft, IsGrant, out_then, wanting}
 use Rattle.gpu_descriptor.specs.Model.FreshPools.{Fresh, AreNew, IsNextSize, room_after, AreSized, AreFull, IsFreshList, given_by, fresh_portions}
 use Rattle.gpu_descriptor.specs.Model.Grants.{Grant, Part, portion_of, items_at, items_in, came, granted, fresh_or, pool_with}
 use Rattle.gpu_descriptor.specs.Model.Outcomes.Allocates.{none, limit, bound, start, done, stopped_at_pool, stopped_without_room, stopped_at_create, stopped_for_memory, stopped_at_fresh}

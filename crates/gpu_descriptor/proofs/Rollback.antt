@@ -6,7 +6,7 @@ use Rattle.std.proofs.lemmas.List.Sums.{sum_by-cons}
 use Rattle.std.specs.List.{list_any}
 use Rattle.std.specs.Prelude.{if◌then◌else◌}
 use Rattle.gpu_descriptor_types.proofs.Counting.{any_found, count_by_yes, count_by_no}
-use Rattle.gpu_descriptor_types.specs.Ledger.{Counters, alloc_refused}
+use Rattle.gpu_descriptor_types.specs.Ledger.{Counters, alloc_refused, no_rise}
 use Rattle.gpu_descriptor_types.specs.declared.errors.DeviceAllocationError.{DeviceAllocationError}
 use Rattle.gpu_descriptor_types.specs.declared.errors.DeviceAllocationError.TheVariants as alloc_error
 use Rattle.gpu_descriptor.specs.Model.Load.{marked_load}
@@ -14,7 +14,7 @@ use Rattle.gpu_descriptor.specs.Model.Agreement.{State, Item, item_eq, count_of,
 use Rattle.gpu_descriptor.specs.Model.Books.{Key, key_eq, Bucket, books_of, no_pools, HasDistinctKeys}
 use Rattle.gpu_descriptor.specs.Model.Release.{more_released, more_destroyed, given_back, released, pools_gone, spent_front, bucket_less}
 use Rattle.gpu_descriptor.specs.Caller.Frees.{marked_descriptors}
-use Rattle.gpu_descriptor.specs.Model.Outcomes.{no_rise, risen}
+use Rattle.gpu_descriptor.specs.Model.Outcomes.{risen}
 use Rattle.gpu_descriptor.specs.Caller.States.{named_row}
 use Rattle.gpu_descriptor.specs.Caller.Values.{Row}
 use Rattle.gpu_descriptor.proofs.Asks.{same_counters}

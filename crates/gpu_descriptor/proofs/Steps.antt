@@ -10,10 +10,10 @@ use Rattle.std.specs.Prelude.{if◌then◌else◌, option_map}
 use Rattle.gpu_descriptor_types.proofs.Counting.{times-append}
 use Rattle.gpu_descriptor.specs.Model.Books.{Key, Entry}
 use Rattle.gpu_descriptor.specs.Model.Grants.{Grant, Part, portion_of, came, pool_with, ledger_with}
-use Rattle.gpu_descriptor.specs.Model.Outcomes.{no_rise, risen, grant_rise}
+use Rattle.gpu_descriptor.specs.Model.Outcomes.{risen, grant_rise}
 use Rattle.gpu_descriptor.specs.Model.Shares.{offer, rest, is_asked, share, shared, all_shared, asked_count, refused_count, OnlyAskedRefuse, portions_of}
 use Rattle.gpu_descriptor.specs.Inner.Walk.{IsAsked, HasTaken}
-use Rattle.gpu_descriptor_types.specs.Ledger.{Pool, Ledger, Counters, live_sets, changed, on_pool}
+use Rattle.gpu_descriptor_types.specs.Ledger.{Pool, Ledger, Counters, live_sets, changed, on_pool, no_rise}
 use Rattle.gpu_descriptor_types.specs.Multiset.{LiveSet, times}
 use Rattle.gpu_descriptor.proofs.Asks.{same_counters, same_entry}
 use Rattle.gpu_descriptor.proofs.Shares.{IsApart, or_at, or_at_apart, or_at_here, sum_same, rest_same, all_same, is_asked_same, count_same, refused_same, rows_same, asks_same}

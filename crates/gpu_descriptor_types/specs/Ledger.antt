@@ -29,6 +29,10 @@ pub record Counters : Type 0 where
   pub fragmentation : ℕ
   pub pool_refused : ℕ
 
+-- eight zeros: no counter rises, or none has risen yet
+abbrev pub no_rise : Counters
+no_rise = record { created = 0; destroyed = 0; asked = 0; released = 0; device_memory = 0; host_memory = 0; fragmentation = 0; pool_refused = 0 }
+
 -- the live pools by name, and the counters
 pub record Ledger : Type 0 where
   pub pools : ℕ → Option Pool

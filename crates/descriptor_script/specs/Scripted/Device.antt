@@ -1,7 +1,6 @@
 -- What a scripted device owes, and what it is to answer.
 use Rattle.std.specs.Prelude.{List, None}
-use Rattle.gpu_descriptor_types.specs.Ledger.{Ledger}
-use Rattle.gpu_descriptor.specs.Model.Outcomes.{no_rise}
+use Rattle.gpu_descriptor_types.specs.Ledger.{Ledger, no_rise}
 use Rattle.descriptor_script.specs.Inner.Counters.{counters_of}
 use Rattle.descriptor_script.specs.Inner.Pools.{pools_of, next_names}
 use Rattle.descriptor_script.specs.Scripted.Raw.{Names}

@@ -1,13 +1,13 @@
 -- What one new pool adds, and why a request stops.
 use Rattle.std.specs.Prelude.{◌≡◌, ℕ, ◌+◌, ◌<◌, ◌≤◌, false, nat_eq, min, List, [], ◌∷◌, ◌++◌, length, Some, None}
 use Rattle.std.specs.Map.{update}
-use Rattle.gpu_descriptor_types.specs.Ledger.{Ledger, Counters, live_sets, on_pool, fresh, create_refused, alloc_refused}
+use Rattle.gpu_descriptor_types.specs.Ledger.{Ledger, Counters, live_sets, on_pool, fresh, create_refused, alloc_refused, no_rise}
 use Rattle.gpu_descriptor_types.specs.PoolSize.{pool_counts}
 use Rattle.gpu_descriptor.specs.declared.bucket.take.Stop.{Stop}
 use Rattle.gpu_descriptor.specs.declared.bucket.take.Refusal.{Refusal}
 use Rattle.gpu_descriptor.specs.declared.errors.AllocationError.{AllocationError}
 use Rattle.gpu_descriptor.specs.declared.errors.AllocationError.TheVariants.{OutOfHostMemory, Fragmentation}
-use Rattle.gpu_descriptor.specs.Model.Outcomes.{error_of_create, error_of_alloc, no_rise, risen}
+use Rattle.gpu_descriptor.specs.Model.Outcomes.{error_of_create, error_of_alloc, risen}
 use Rattle.gpu_descriptor.specs.Model.Books.{Key, Entry}
 use Rattle.gpu_descriptor.specs.Model.Agreement.{Item, flags_of}
 use Rattle.gpu_descriptor.specs.Model.Load.{allocated_in, pool_load}

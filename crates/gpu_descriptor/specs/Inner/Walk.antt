@@ -2,7 +2,7 @@
 use Rattle.std.specs.Prelude.{◌≡◌, ℕ, ◌+◌, ◌-◌, ◌<◌, ◌≤◌, ◌==◌, ◌&&◌, ◌⊎◌, Bool, true, false, nat_lt, if◌then◌else◌, min, List, [], ◌∷◌, ◌++◌, map, length, drop, Option, Some, None, slice_get}
 use Rattle.std.specs.List.{list_any}
 use Rattle.std.specs.Option.{option_map_or}
-use Rattle.gpu_descriptor_types.specs.Ledger.{Pool, Ledger, live_sets, on_pool, alloc_refused, pool_refusals}
+use Rattle.gpu_descriptor_types.specs.Ledger.{Pool, Ledger, live_sets, on_pool, alloc_refused, pool_refusals, no_rise}
 use Rattle.gpu_descriptor_types.specs.declared.errors.DeviceAllocationError.{DeviceAllocationError}
 use Rattle.gpu_descriptor.specs.declared.bucket.DescriptorPool.{DescriptorPool}
 use Rattle.gpu_descriptor.specs.Inner.SetAt.{set_at}
@@ -15,7 +15,7 @@ use Rattle.gpu_descriptor.specs.Inner.Stored.{entry_of}
 use Rattle.gpu_descriptor.specs.Model.Shares.{is_asked, OnlyAskedRefuse, portions_of}
 use Rattle.gpu_descriptor.specs.Model.FreshPools.{AreNew, fresh_portions}
 use Rattle.gpu_descriptor.specs.Model.Grants.{Grant, portion_of, items_in, entries_with, ledger_with, pool_with}
-use Rattle.gpu_descriptor.specs.Model.Outcomes.{no_rise, risen, grant_rise}
+use Rattle.gpu_descriptor.specs.Model.Outcomes.{risen, grant_rise}
 
 abbrev pub entries_of : {P : Type 0} → (P → ℕ) → List (DescriptorPool P) → List Entry
 entries_of name pools = map (entry_of name) pools

@@ -5,7 +5,7 @@ use Rattle.gpu_descriptor_types.specs.declared.errors.CreatePoolError.{CreatePoo
 use Rattle.gpu_descriptor_types.specs.declared.errors.DeviceAllocationError.{DeviceAllocationError}
 use Rattle.gpu_descriptor.specs.declared.errors.AllocationError.{AllocationError}
 use Rattle.gpu_descriptor.specs.declared.errors.AllocationError.TheVariants.{OutOfDeviceMemory, OutOfHostMemory, Fragmentation}
-use Rattle.gpu_descriptor_types.specs.Ledger.{Counters, create_refused, alloc_refused, pool_refusals}
+use Rattle.gpu_descriptor_types.specs.Ledger.{Counters, no_rise, create_refused, alloc_refused, pool_refusals}
 use Rattle.gpu_descriptor.specs.Model.Books.{Key, Entry, next_number}
 use Rattle.gpu_descriptor.specs.Model.Agreement.{State, Item}
 use Rattle.gpu_descriptor.specs.Model.Release.{given_back, released, pools_gone}
@@ -37,10 +37,6 @@ pub record Request : Type 0 where
   pub limit : ℕ
 
 -- ---- counters
-
--- eight zeros: no counter rises, or none has risen yet
-abbrev pub no_rise : Counters
-no_rise = record { created = 0; destroyed = 0; asked = 0; released = 0; device_memory = 0; host_memory = 0; fragmentation = 0; pool_refused = 0 }
 
 abbrev pub risen : Counters → Counters → Counters
 risen by n = record {
