@@ -95,7 +95,8 @@ impl Pools {
 
     /// How many sets are live in the pool; 0 where the pool isn't live.
     pub fn live_sets(&self, pool: u64) -> usize
-        ensures { IfSome (pools_of self.now pool) (λ p. HasSize p.live result) }
+        ensures live { IfSome (pools_of self.now pool) (λ p. HasSize p.live result) }
+        ensures not_live { pools_of self.now pool ≡ None → result ≡ 0 }
     {
         match self.live.get(&pool) {
             Some(live) => live.sets.len(),

@@ -1,5 +1,5 @@
 //! What a device needs that wraps a scripted one: to see what is live, and to refuse by itself.
-ghost use Rattle.std.specs.Prelude.{◌≡◌, IfSome};
+ghost use Rattle.std.specs.Prelude.{◌≡◌, None, IfSome};
 ghost use Rattle.gpu_descriptor_types.specs.Ledger.{after_no_alloc, after_no_create};
 ghost use Rattle.gpu_descriptor.specs.Model.Agreement.{HasSize};
 ghost use Rattle.descriptor_script.specs.Scripted.Raw.{pool_id};
@@ -13,8 +13,9 @@ impl ScriptedDevice {
 
     /// How many sets are live in the pool; 0 where the pool isn't live.
     pub fn live_sets(&self, pool: &RawPool) -> usize
-        ensures { IfSome ((ledger_of self.now).pools (pool_id pool.now))
+        ensures live { IfSome ((ledger_of self.now).pools (pool_id pool.now))
             (λ p. HasSize p.live result) }
+        ensures not_live { (ledger_of self.now).pools (pool_id pool.now) ≡ None → result ≡ 0 }
     {
         self.pools.live_sets(pool.id)
     }
