@@ -1,7 +1,9 @@
 pub mod FewPools
+pub mod FrameRenderers
 pub mod Layouts
 pub mod Log
 pub mod Logged
 pub mod Owed
 pub mod OwnDevice
 pub mod Released
+pub mod Scenes

@@ -12,14 +12,14 @@ use std::alloc::Global;
 
 /// What a drawing leaves.
 #[derive(Drop)]
-pub struct Drawn {
-    pub device: FewPools,
+pub struct Drawn<const MOST: u32> {
+    pub device: FewPools<MOST>,
     pub answer: Result<(), AllocationError>,
 }
 
 /// Makes a device and an allocator, takes sets of one layout, and gives all back. The device has
 /// the pools that a new one has.
-pub fn render_one(alloc: Global) -> Drawn
+pub fn render_one(alloc: Global) -> Drawn<1>
     ensures pools { (few_ledger result.device).pools ≡ empty_ledger.pools }
 {
     let counts = DescriptorTotalCount {
@@ -31,13 +31,13 @@ pub fn render_one(alloc: Global) -> Drawn
         mark: false,
     };
     let flags = DescriptorSetLayoutCreateFlags::empty();
-    let mut device = FewPools::new(alloc, 1);
+    let mut device = FewPools::new(alloc);
     let answer = one_layout::draw_once(alloc, &mut device, &layout, flags, &counts);
     Drawn { device, answer }
 }
 
 /// The same with sets of two layouts.
-pub fn render(alloc: Global) -> Drawn
+pub fn render(alloc: Global) -> Drawn<5>
     ensures pools { (few_ledger result.device).pools ≡ empty_ledger.pools }
 {
     let textures = DescriptorTotalCount {
@@ -64,7 +64,7 @@ pub fn render(alloc: Global) -> Drawn
         counts: buffers,
         flags: DescriptorSetLayoutCreateFlags::UPDATE_AFTER_BIND,
     };
-    let mut device = FewPools::new(alloc, 5);
+    let mut device = FewPools::new(alloc);
     let answer = two_layouts::draw_once(alloc, &mut device, &first, &second);
     Drawn { device, answer }
 }

@@ -1,9 +1,11 @@
 //! A device around the scripted one: it also refuses on its own.
-ghost use Rattle.std.specs.Prelude.{◌≡◌, ◌≤◌, OnOk, IfErr};
+ghost use Rattle.std.specs.Prelude.{◌≡◌, ◌+◌, ◌<◌, ◌≤◌, [], None, OnOk, IfErr, IfOk};
 ghost use Rattle.gpu_descriptor_types.specs.Counts.{kinds};
+ghost use Rattle.gpu_descriptor_types.specs.Flags.{bits};
 ghost use Rattle.gpu_descriptor_types.specs.Layouts.{layout, left};
-ghost use Rattle.gpu_descriptor_types.specs.Ledger.{HasRoom, Puts, PutsNone};
-ghost use Rattle.descriptor_script.specs.Scripted.Device.{empty_ledger, ledger_of};
+ghost use Rattle.gpu_descriptor_types.specs.Ledger.{HasRoom, Puts, PutsNone, after_create};
+ghost use Rattle.gpu_descriptor_types.specs.Ledger.{after_no_create};
+ghost use Rattle.descriptor_script.specs.Scripted.Device.{empty_ledger, ledger_of, script_of};
 ghost use Rattle.descriptor_script.specs.Scripted.Raw.{pool_id, set_id};
 
 use descriptor_script::{RawPool, RawSet, ScriptLayout, ScriptedDevice};
@@ -13,28 +15,30 @@ use gpu_descriptor::{
 };
 use std::alloc::Global;
 
-/// A device that creates only so many pools.
+/// A device that creates at most `MOST` pools.
 #[derive(Drop)]
-pub struct FewPools {
+pub struct FewPools<const MOST: u32> {
     device: ScriptedDevice,
     pools_left: u32,
+    ghost few: { (ledger_of device).counters.created + pools_left ≡ MOST },
+    ghost unscripted: { script_of device ≡ [] },
 }
 
-impl FewPools {
+impl<const MOST: u32> FewPools<MOST> {
     ghost use Rattle.descriptor_uses.specs.FewPools.{few_ledger};
 
-    /// A device without pools, which creates at most so many.
-    pub fn new(alloc: Global, pools_left: u32) -> Self
+    /// A device without pools.
+    pub fn new(alloc: Global) -> Self
         ensures ledger { few_ledger result ≡ empty_ledger }
     {
         FewPools {
             device: ScriptedDevice::new(alloc, Vec::new(alloc)),
-            pools_left,
+            pools_left: MOST,
         }
     }
 }
 
-impl DescriptorDevice<ScriptLayout, RawPool, RawSet> for FewPools {
+impl<const MOST: u32> DescriptorDevice<ScriptLayout, RawPool, RawSet> for FewPools<MOST> {
     ghost use Rattle.descriptor_script.specs.Scripted.Finite.{scripted_finite};
     ghost use Rattle.descriptor_uses.specs.FewPools.{few_ledger};
 
@@ -55,7 +59,20 @@ impl DescriptorDevice<ScriptLayout, RawPool, RawSet> for FewPools {
         counts: &DescriptorTotalCount,
         max_sets: u32,
         flags: DescriptorPoolCreateFlags,
-    ) -> Result<RawPool, CreatePoolError> {
+    ) -> Result<RawPool, CreatePoolError>
+        ensures new_name { IfOk result (λ pool. (few_ledger self.old).pools (pool_id pool)
+            ≡ None) }
+        ensures ok { IfOk result (λ pool. few_ledger self.new ≡ after_create (kinds counts.now)
+            max_sets (bits flags) (pool_id pool) (few_ledger self.old)) }
+        ensures err { IfErr result (λ e. few_ledger self.new
+            ≡ after_no_create e (few_ledger self.old)) }
+
+        ensures few { OnOk result ((few_ledger self.old).counters.created < MOST) }
+
+        // Before it has created so many, only memory or names can be wanting.
+        ensures refused { (few_ledger self.old).counters.created < MOST
+            → IfErr result (λ e. e ≡ CreatePoolError.OutOfHostMemory) }
+    {
         if self.pools_left == 0 {
             let error = CreatePoolError::OutOfDeviceMemory;
             self.device.refuse_create(error);

@@ -1,10 +1,12 @@
 //! A struct over a frame manager: a set is in use for a frame, and goes back when that is done.
-ghost use Rattle.std.specs.Prelude.{◌≡◌};
+ghost use Rattle.std.specs.Prelude.{◌≡◌, ◌++◌, ◌↔◌, [], drop, length, map, take, true, Ok};
+ghost use Rattle.std.specs.Prelude.{IfOk, IsFalse, IsTrue};
 ghost use Rattle.descriptor_frames.specs.Errors.{set_back};
 ghost use Rattle.gpu_descriptor.specs.Caller.Sets.{items_of};
 ghost use Rattle.gpu_descriptor.specs.Caller.States.{Agrees, state_of};
 ghost use Rattle.gpu_descriptor.proofs.OneAgreement.{Agree-prop};
 ghost use Rattle.descriptor_frames.specs.Frames.{AreInUse, AreRetiredOut, allocator_of};
+ghost use Rattle.descriptor_frames.specs.Retired.{at_frame, later};
 ghost use Rattle.descriptor_uses.specs.Layouts.{IsMeant};
 
 use crate::layout::SetLayout;
@@ -31,8 +33,13 @@ pub struct FrameRenderer<L, P, S, D: DescriptorDevice<L, P, S>> {
 }
 
 impl<L, P: Drop, S: Drop, D: DescriptorDevice<L, P, S>> FrameRenderer<L, P, S, D> {
+    ghost use Rattle.descriptor_uses.specs.FrameRenderers.{retired_in, used_of};
+
     /// A renderer without sets.
-    pub fn new(alloc: Global, device: D) -> Self {
+    pub fn new(alloc: Global, device: D) -> Self
+        ensures in_use { used_of result ≡ [] }
+        ensures retired { retired_in result ≡ [] }
+    {
         laws::books_alone();
         FrameRenderer {
             device,
@@ -46,6 +53,10 @@ impl<L, P: Drop, S: Drop, D: DescriptorDevice<L, P, S>> FrameRenderer<L, P, S, D
     /// first.
     pub fn begin(&mut self, layout: &SetLayout<L>, count: u32) -> Result<bool, AllocationError>
         requires { IsMeant D.layout_counts D.layout_mark layout.now }
+        ensures begins { result ≡ Ok true → length (used_of self.new) ≡ count }
+        ensures waits { IfOk result (λ began. IsTrue began ↔ (used_of self.old ≡ [])) }
+        ensures stay { ¬ (result ≡ Ok true) → used_of self.new ≡ used_of self.old }
+        ensures retired { retired_in self.new ≡ retired_in self.old }
     {
         if !self.in_use.is_empty() {
             return Ok(false);
@@ -63,7 +74,13 @@ impl<L, P: Drop, S: Drop, D: DescriptorDevice<L, P, S>> FrameRenderer<L, P, S, D
 
     /// Retires the oldest set in use at this frame, if there is one. A set that can't be retired is
     /// in use still.
-    pub fn retire(&mut self, frame: u64) -> bool {
+    pub fn retire(&mut self, frame: u64) -> bool
+        ensures in_use { IsTrue result → used_of self.new ≡ drop 1 (used_of self.old) }
+        ensures retired { IsTrue result → retired_in self.new
+            ≡ retired_in self.old ++ map (at_frame frame) (take 1 (used_of self.old)) }
+        ensures stay { IsFalse result → used_of self.new ≡ used_of self.old }
+        ensures stay_retired { IsFalse result → retired_in self.new ≡ retired_in self.old }
+    {
         let Some(set) = self.in_use.pop_front() else {
             return true;
         };
@@ -77,7 +94,10 @@ impl<L, P: Drop, S: Drop, D: DescriptorDevice<L, P, S>> FrameRenderer<L, P, S, D
     }
 
     /// The device is done with this frame and those before it: their sets go back.
-    pub fn finish(&mut self, frame: u64) {
+    pub fn finish(&mut self, frame: u64)
+        ensures in_use { used_of self.new ≡ used_of self.old }
+        ensures retired { retired_in self.new ≡ later frame (retired_in self.old) }
+    {
         self.manager.finish(&mut self.device, frame);
         self.manager.cleanup(&mut self.device);
     }

@@ -1,8 +1,10 @@
 //! A device of one's own, as small as can be.
-ghost use Rattle.std.specs.Prelude.{◌≡◌, ◌≤◌, false, OnOk, IfErr};
+ghost use Rattle.std.specs.Prelude.{◌≡◌, ◌≤◌, false, None, IsSome, OnErr, OnOk, IfErr, IfOk};
 ghost use Rattle.gpu_descriptor_types.specs.Counts.{kinds};
+ghost use Rattle.gpu_descriptor_types.specs.Flags.{bits};
 ghost use Rattle.gpu_descriptor_types.specs.Layouts.{layout, left};
-ghost use Rattle.gpu_descriptor_types.specs.Ledger.{HasRoom, Puts, PutsNone};
+ghost use Rattle.gpu_descriptor_types.specs.Ledger.{HasRoom, Puts, PutsNone, after_create};
+ghost use Rattle.gpu_descriptor_types.specs.Ledger.{after_no_create};
 ghost use Rattle.descriptor_script.specs.Scripted.Device.{empty_ledger};
 
 use gpu_descriptor::{
@@ -67,7 +69,15 @@ impl DescriptorDevice<DescriptorTotalCount, u64, u64> for OnePool {
         counts: &DescriptorTotalCount,
         max_sets: u32,
         flags: DescriptorPoolCreateFlags,
-    ) -> Result<u64, CreatePoolError> {
+    ) -> Result<u64, CreatePoolError>
+        ensures new_name { IfOk result (λ pool. (owed_of self.old).pools pool ≡ None) }
+        ensures ok { IfOk result (λ pool. owed_of self.new
+            ≡ after_create (kinds counts.now) max_sets (bits flags) pool (owed_of self.old)) }
+        ensures err { IfErr result (λ e. owed_of self.new ≡ after_no_create e (owed_of self.old)) }
+
+        // It refuses only where its pool is live.
+        ensures refused { OnErr result (IsSome ((owed_of self.old).pools 0)) }
+    {
         if self.pool.is_some() {
             self.refused = Tally::next(&self.refused);
             return Err(CreatePoolError::OutOfDeviceMemory);

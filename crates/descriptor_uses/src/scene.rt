@@ -1,7 +1,8 @@
 //! A struct that holds sets between calls.
+ghost use Rattle.std.specs.Prelude.{◌≡◌, [], length, OnErr, OnOk};
 ghost use Rattle.gpu_descriptor.specs.Model.Agreement.{AreOutstanding};
 ghost use Rattle.gpu_descriptor.specs.Caller.Sets.{items_of};
-ghost use Rattle.gpu_descriptor.specs.Caller.States.{Agrees, state_of};
+ghost use Rattle.gpu_descriptor.specs.Caller.States.{Agrees, outstanding_of, state_of};
 ghost use Rattle.gpu_descriptor.proofs.OneAgreement.{Agree-prop};
 ghost use Rattle.descriptor_uses.specs.Layouts.{IsMeant};
 
@@ -13,7 +14,7 @@ use std::mem;
 
 /// A device with its allocator, and the sets of what is drawn.
 ///
-/// That they are out is a ghost field, so they can go back at any time.
+/// Ghost fields say that these are out, and no others, so they can go back at any time.
 pub struct Scene<L, P, S, D: DescriptorDevice<L, P, S>> {
     alloc: Global,
     device: D,
@@ -24,11 +25,16 @@ pub struct Scene<L, P, S, D: DescriptorDevice<L, P, S>> {
         (state_of D.pool_name allocator (D.ledger device)) },
     ghost held: { AreOutstanding (items_of D.set_name sets.items) (state_of D.pool_name allocator
         (D.ledger device)) },
+    ghost all: { outstanding_of allocator ≡ length sets.items },
 }
 
 impl<L, P: Drop, S: Drop, D: DescriptorDevice<L, P, S>> Scene<L, P, S, D> {
+    ghost use Rattle.descriptor_uses.specs.Scenes.{Adds, held_of, others_in, pools_of};
+
     /// A scene without sets.
-    pub fn new(alloc: Global, device: D) -> Self {
+    pub fn new(alloc: Global, device: D) -> Self
+        ensures { held_of result ≡ [] }
+    {
         laws::books_alone();
         Scene {
             alloc,
@@ -42,6 +48,8 @@ impl<L, P: Drop, S: Drop, D: DescriptorDevice<L, P, S>> Scene<L, P, S, D> {
     /// Adds sets of a layout, all or none.
     pub fn add(&mut self, layout: &SetLayout<L>, count: u32) -> Result<(), AllocationError>
         requires { IsMeant D.layout_counts D.layout_mark layout.now }
+        ensures added { OnOk result (Adds count (held_of self.old) (held_of self.new)) }
+        ensures held { OnErr result (held_of self.new ≡ held_of self.old) }
     {
         let mut sets = self.allocator.allocate(
             &mut self.device,
@@ -58,7 +66,10 @@ impl<L, P: Drop, S: Drop, D: DescriptorDevice<L, P, S>> Scene<L, P, S, D> {
     }
 
     /// Gives all sets back, and destroys the pools without sets.
-    pub fn clear(&mut self) {
+    pub fn clear(&mut self)
+        ensures held { held_of self.new ≡ [] }
+        ensures pools { pools_of self.new ≡ others_in self.old }
+    {
         let sets = mem::replace(&mut self.sets, Vec::new(self.alloc));
         self.allocator.free_all(&mut self.device, sets);
         self.allocator.cleanup(&mut self.device);
