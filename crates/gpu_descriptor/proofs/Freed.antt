@@ -17,7 +17,7 @@ use Rattle.gpu_descriptor.specs.Caller.Frees.{GivesBack, Frees}
 use Rattle.gpu_descriptor.specs.Inner.Releases.{FreesRun}
 use Rattle.gpu_descriptor.specs.Model.Runs.{runs, breaks}
 use Rattle.gpu_descriptor.specs.Caller.Sets.{item_of, items_of}
-use Rattle.gpu_descriptor.specs.Inner.RunSteps.{lies_at, LieAt}
+use Rattle.gpu_descriptor.specs.Inner.RunSteps.{lies_at, AllPass}
 use Rattle.gpu_descriptor.specs.Caller.States.{state_of, keys_of}
 use Rattle.gpu_descriptor.specs.Caller.Values.{Allocations}
 use Rattle.gpu_descriptor.proofs.Comparisons.{run_digits_more}
@@ -72,7 +72,7 @@ module _ {S : Type 0} (set_name : S → ℕ) where
   abbrev pub items : List (DescriptorSet S) → List Item
   items xs = items_of set_name xs
 
-  pub run_then : (k : Key) (n : ℕ) (x : DescriptorSet S) (xs zs : List (DescriptorSet S)) → lies_at k n x ≡ true → LieAt k n xs → BeginsApart k n zs → runs (items ((x ∷ xs) ++ zs)) ≡ 1 + runs (items zs)
+  pub run_then : (k : Key) (n : ℕ) (x : DescriptorSet S) (xs zs : List (DescriptorSet S)) → lies_at k n x ≡ true → AllPass (lies_at k n) xs → BeginsApart k n zs → runs (items ((x ∷ xs) ++ zs)) ≡ 1 + runs (items zs)
   run_then k n x [] [] own have apart = refl
   run_then k n x [] (z ∷ zs) own have apart =
       let other = same_spot k n x z own ∙ apart in

@@ -1,5 +1,5 @@
 -- The new pools of a request, as far as it has come.
-use Rattle.std.proofs.Common.{◌≡◌, ◌≢◌, ℕ, zero, suc, take, drop, ◌+◌, ◌-◌, ◌<◌, inl, inr, List, [], ◌∷◌, ◌++◌, length, map, Bool, true, false, cond, ◌||◌, ◌==◌, nat_eq, Option, Some, None, refl, sym, ap, ◌∙◌, subst, arith, eqb-true, eq-eqb, append_assoc, length-append}
+use Rattle.std.proofs.Common.{◌≡◌, ◌≢◌, ℕ, zero, suc, take, drop, ◌+◌, ◌-◌, ◌<◌, inl, inr, List, [], ◌∷◌, ◌++◌, length, map, Bool, true, false, cond, ◌||◌, ◌==◌, nat_eq, Option, Some, None, Ok, Err, refl, sym, ap, ◌∙◌, subst, arith, eqb-true, eq-eqb, append_assoc, length-append}
 use Rattle.std.proofs.Math.Path.{fun_ext}
 use Rattle.std.proofs.lemmas.Bool.{cases_Bool, eqb-false}
 use Rattle.std.proofs.lemmas.List.{map-append, append-nil, length-map}
@@ -14,7 +14,8 @@ use Rattle.gpu_descriptor.specs.Model.Agreement.{Item, flags_of}
 use Rattle.gpu_descriptor.specs.Model.Books.{Key, Entry}
 use Rattle.gpu_descriptor.specs.Model.FreshPools.{Fresh, fresh_portions, fresh_entry, given_by, IsNextSize, room_after, AreSized, AreFull, AreNew, IsFreshFront, IsFreshList}
 use Rattle.gpu_descriptor.specs.Model.Grants.{Grant, Part, items_at, items_in, portion_of, came, pool_with, ledger_with, entries_with, fresh_or}
-use Rattle.gpu_descriptor.specs.Inner.Grow.{IsGrown, IsNotGrown, TellsOfRoom, IsTakenAll, IsGrowStopped}
+use Rattle.gpu_descriptor.specs.Inner.Grow.{IsGrown, IsRefused, IsTaken, NoneIsNew, StopsAt}
+use Rattle.gpu_descriptor.specs.declared.bucket.take.Stop.TheVariants as stop
 use Rattle.gpu_descriptor.specs.Model.Load.{allocated_in, pool_load, pools_load}
 use Rattle.gpu_descriptor.specs.Model.Outcomes.{risen, grant_rise}
 use Rattle.gpu_descriptor.specs.Model.Shares.{offer, rest, share, shared, all_shared, Portion, portions_of}
@@ -38,15 +39,13 @@ pub record Growing (k : Key) (start n id first room total wanting : ℕ) (items 
   pub refused : ℕ → Bool
   pub parts : List Part
   pub fresh : List Fresh
-  pub came : items_in k id parts ≡ items
   pub totals : total ≡ allocated_in (all_shared refused n old) + given_by fresh
   pub wants : wanting + given_by fresh ≡ rest refused n old
   pub sized : AreSized k start (allocated_in (all_shared refused n old)) (rest refused n old) fresh
   pub room_now : room ≡ room_after k start fresh
   pub full : 0 < wanting → AreFull fresh
   pub list : wanting ≡ 0 → IsFreshList k start (allocated_in (all_shared refused n old)) (rest refused n old) fresh
-  pub keeps : KeepsKey k id first items old new l.pools m.pools
-  pub taken : HasTaken k n first (all_so_far id refused fresh parts) old new l m
+  pub taken : HasTaken k n id first (all_so_far id refused fresh parts) items old new l m
 
 pub length-all_shared : (refused : ℕ → Bool) (n : ℕ) (es : List Entry) → length (all_shared refused n es) ≡ length es
 length-all_shared refused n [] = refl
@@ -241,15 +240,16 @@ module _ (k : Key) (start n id first room left total wanting : ℕ) (items : Lis
         refused = s.refused;
         parts = parts_now;
         fresh = fresh_now;
-        came = flat_map-append (λ (p : Part). items_at k id p.number p.names) s.parts (part_now ∷ []) ∙ ap (λ x. items_in k id s.parts ++ x) (append-nil (items_at k id (first + length old + length s.fresh) more)) ∙ ap (λ x. x ++ items_at k id (first + length old + length s.fresh) more) s.came;
         totals = (let t = s.totals in let y = many in omega arith);
         wants = (let w = s.wants in let y = many in omega arith);
         sized = sized_now;
         room_now = (let r = s.room_now in let more = room_more k start s.fresh f in let less = a.less in omega arith);
         full = λ still. full_more s.fresh f (s.full some) (let y = many in omega arith);
-        keeps = subst (λ (n : ℕ). KeepsKey k id first (items ++ items_at k id n more) old new' l.pools m'.pools) number (keeps_grown k id first room left total wanting items old new new' l.pools more m m' s.keeps a);
         list = λ none. grants.some s.fresh f refl (record { sized = s.sized; full = s.full some; short = (let w = s.wants in omega arith) }) sized_now (omega arith) (let w = s.wants in let y = many in omega arith);
         taken = record {
+          named = refl;
+          came = flat_map-append (λ (p : Part). items_at k id p.number p.names) s.parts (part_now ∷ []) ∙ ap (λ x. items_in k id s.parts ++ x) (append-nil (items_at k id (first + length old + length s.fresh) more)) ∙ ap (λ x. x ++ items_at k id (first + length old + length s.fresh) more) s.taken.came;
+          keeps = subst (λ (n : ℕ). KeepsKey k id first (items ++ items_at k id n more) old new' l.pools m'.pools) number (keeps_grown k id first room left total wanting items old new new' l.pools more m m' s.taken.keeps a);
           refusing = s.taken.refusing;
           parts = rows_now;
           is_new = new_more l.pools s.fresh f s.taken.is_new none_before.0 none_before.1;
@@ -259,48 +259,53 @@ module _ (k : Key) (start n id first room left total wanting : ℕ) (items : Lis
         };
       }
 
-pub grow_start : (k : Key) (start n id first total wanting : ℕ) (items : List Item) (old new : List Entry) (l m : Ledger) → (w : IsWalked k n id first 0 items old new l m) → wanting ≡ rest w.grant.refused n old → total ≡ allocated_in old + (n - wanting) → Growing k start n id first start total wanting items old new l m
-grow_start k start n id first total wanting items old new l m w wants totals =
-    let grant : w.grant ≡ all_so_far id w.grant.refused [] w.grant.parts = (λ i. record { id = w.named i; left = w.from i; refused = w.grant.refused; fresh = w.no_fresh i; parts = w.grant.parts }) in
+pub grow_start : (k : Key) (start n id first total wanting : ℕ) (items : List Item) (old new : List Entry) (l m : Ledger) → IsWalked k n id first wanting items old new l m → total + wanting ≡ allocated_in old + n → Growing k start n id first start total wanting items old new l m
+grow_start k start n id first total wanting items old new l m w totals =
+    let g = w.grant in
+    let wants = w.wants in
+    let grant : g ≡ all_so_far id g.refused [] g.parts = (λ i. record { id = w.taken.named i; left = w.all i; refused = g.refused; fresh = w.no_fresh i; parts = g.parts }) in
     record {
-      refused = w.grant.refused;
-      parts = w.grant.parts;
+      refused = g.refused;
+      parts = g.parts;
       fresh = [];
-      came = w.came;
-      totals = (let h = allocated_shared w.grant.refused n old in let none : given_by [] ≡ 0 = omega arith in omega arith);
+      totals = (let h = allocated_shared g.refused n old in let none : given_by [] ≡ 0 = omega arith in omega arith);
       wants = (let none : given_by [] ≡ 0 = omega arith in omega arith);
       sized = tt;
       room_now = refl;
       full = λ some. tt;
-      keeps = w.keeps;
       list = λ none. grants.none (omega arith) refl;
-      taken = subst (λ (g : Grant). HasTaken k n first g old new l m) grant w.taken;
+      taken = subst (λ (g : Grant). HasTaken k n id first g items old new l m) grant w.taken;
     }
 
-pub grow_end : (k : Key) (start n id first room total : ℕ) (items : List Item) (old new : List Entry) (l m : Ledger) → Growing k start n id first room total 0 items old new l m → IsTakenAll k start n id first items old new l m
-grow_end k start n id first room total items old new l m s = record {
-  grant = all_so_far id s.refused s.fresh s.parts;
-  named = refl;
-  all = refl;
-  came = s.came;
-  keeps = s.keeps;
-  fresh = s.list refl;
-  taken = s.taken;
-}
+pub grow_end : (k : Key) (start n id first room total : ℕ) (items : List Item) (old new : List Entry) (l m : Ledger) → Growing k start n id first room total 0 items old new l m → (done : Unit {0}) → IsTaken (Ok done) k start n id first items old new l m
+grow_end k start n id first room total items old new l m s done = (all_so_far id s.refused s.fresh s.parts, s.taken, refl, s.list refl)
 
-pub grow_stop : (why : Stop) (k : Key) (start n id first room total wanting : ℕ) (items : List Item) (old new : List Entry) (l m m' : Ledger) → 0 < wanting → Growing k start n id first room total wanting items old new l m → IsNotGrown why m m' → TellsOfRoom why k room → IsGrowStopped why k start n id first items old new l m'
-grow_stop why k start n id first room total wanting items old new l m m' some s none in_room = record {
-  grant = all_so_far id s.refused s.fresh s.parts;
-  named = refl;
-  all = refl;
-  came = s.came;
-  front = record { sized = s.sized; full = s.full some; short = (let w = s.wants in omega arith) };
-  between = m;
-  keeps = s.keeps;
-  taken = s.taken;
-  stopped = none;
-  in_room = subst (TellsOfRoom why k) s.room_now in_room;
-}
+pub grow_stop : (why : Stop) (k : Key) (start n id first room total wanting : ℕ) (items : List Item) (old new : List Entry) (l m m' : Ledger) → 0 < wanting → Growing k start n id first room total wanting items old new l m → IsRefused why m m' → NoneIsNew why k room → IsTaken (Err why) k start n id first items old new l m'
+grow_stop why k start n id first room total wanting items old new l m m' some s refused in_room = (
+  all_so_far id s.refused s.fresh s.parts,
+  m,
+  s.taken,
+  stops_at why (record { sized = s.sized; full = s.full some; short = (let w = s.wants in omega arith) }) (subst (NoneIsNew why k) s.room_now in_room),
+  refused,
+)
+  where
+    stops_at : (why : Stop) → IsFreshFront k start (allocated_in (all_shared s.refused n old)) (rest s.refused n old) s.fresh → NoneIsNew why k (room_after k start s.fresh) → StopsAt why k start n (all_so_far id s.refused s.fresh s.parts) old
+    stops_at (stop.Existing e) front none = absurd none
+    stops_at stop.Room front none = (refl, front, none)
+    stops_at stop.Books front none = (refl, front, none)
+    stops_at (stop.Create e) front none = (refl, front, none)
+    stops_at (stop.New e) front none = (refl, front, none)
+
+-- a walk leaves as many pools
+pub walked_long : (k : Key) (n id first wanting : ℕ) (items : List Item) (old new : List Entry) (l m : Ledger) → IsWalked k n id first wanting items old new l m → length new ≡ length old
+walked_long k n id first wanting items old new l m w =
+    let g = w.grant in
+    let shares : List Entry = all_shared g.refused n old in
+    ap length w.taken.entries
+    ∙ ap (λ i. length (take i old ++ all_shared g.refused n (drop i old) ++ map fresh_entry g.fresh)) w.all
+    ∙ ap (λ fs. length (shares ++ map fresh_entry fs)) w.no_fresh
+    ∙ ap length (append-nil shares)
+    ∙ length-all_shared g.refused n old
 
 -- ---- the descriptors of a key's pools, as a request goes on
 
@@ -325,8 +330,8 @@ load_split k refused n (suc i) (e ∷ es) =
     omega arith
 
 -- a walk leaves it
-pub load_walked : (k : Key) (n id first : ℕ) (g : Grant) (old new : List Entry) (l m : Ledger) → HasTaken k n first g old new l m → g.fresh ≡ [] → pools_load k new ≡ pools_load k old
-load_walked k n id first g old new l m taken none =
+pub load_walked : (k : Key) (n id first : ℕ) (g : Grant) (old new : List Entry) (l m : Ledger) (items : List Item) → HasTaken k n id first g items old new l m → g.fresh ≡ [] → pools_load k new ≡ pools_load k old
+load_walked k n id first g old new l m items taken none =
     let shares : List Entry = take g.left old ++ all_shared g.refused n (drop g.left old) in
     let all : new ≡ shares ++ [] = taken.entries ∙ ap (λ fs. shares ++ map fresh_entry fs) none in
     ap (pools_load k) (all ∙ append-nil shares) ∙ load_split k g.refused n g.left old

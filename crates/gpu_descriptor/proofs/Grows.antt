@@ -1,5 +1,6 @@
 -- What a new pool does to the ledger.
-use Rattle.std.proofs.Common.{◌≡◌, ℕ, ◌+◌, ◌-◌, ◌≤◌, min, List, [], ◌∷◌, ◌++◌, length, Bool, true, false, cond, nat_eq, Some, None, slice_index, refl, sym, ap, ◌∙◌, arith, eqb-true}
+use Rattle.std.specs.Prelude.{◌↔◌}
+use Rattle.std.proofs.Common.{◌≡◌, ◌≢◌, ◌<◌, ℕ, ◌+◌, ◌-◌, ◌≤◌, min, List, [], ◌∷◌, ◌++◌, length, Bool, true, false, cond, nat_eq, Some, None, slice_index, refl, sym, ap, ◌∙◌, arith, eqb-true}
 use Rattle.std.proofs.Math.Nat.{mul-le-mul_right}
 use Rattle.std.proofs.Math.Path.{fun_ext}
 use Rattle.std.proofs.lemmas.Map.{update_here}
@@ -8,14 +9,15 @@ use Rattle.gpu_descriptor.specs.Model.Agreement.{flags_of}
 use Rattle.gpu_descriptor.specs.Model.Books.{Key, Entry}
 use Rattle.gpu_descriptor.specs.Model.FreshPools.{IsNextSize}
 use Rattle.gpu_descriptor.specs.Model.Load.{pool_load}
-use Rattle.gpu_descriptor.specs.Inner.Grow.{IsGrown, IsNotGrown, stop_rise}
+use Rattle.gpu_descriptor.specs.Inner.Grow.{IsGrown, IsRefused, stop_rise}
 use Rattle.gpu_descriptor.specs.Model.Outcomes.{risen}
-use Rattle.gpu_descriptor_types.specs.Ledger.{Pool, Ledger, Counters, HasRoom, HasNoSets, live_sets, changed, fresh, after_create, after_no_create, after_alloc, after_no_alloc, after_destroy, create_refused, alloc_refused, pool_refusals}
+use Rattle.gpu_descriptor_types.specs.Ledger.{Pool, Ledger, Counters, HasRoom, HasNoSets, live_sets, changed, fresh, after_create, after_no_create, after_alloc, after_no_alloc, after_destroy, create_refused, alloc_refused, pool_refusals, no_rise}
 use Rattle.gpu_descriptor_types.specs.declared.errors.CreatePoolError.{CreatePoolError}
 use Rattle.gpu_descriptor_types.specs.declared.errors.CreatePoolError.TheVariants as create_error
 use Rattle.gpu_descriptor_types.specs.PoolSize.{pool_counts}
 use Rattle.gpu_descriptor_types.specs.declared.errors.DeviceAllocationError.{DeviceAllocationError}
 use Rattle.gpu_descriptor_types.specs.declared.errors.DeviceAllocationError.TheVariants as alloc_error
+use Rattle.gpu_descriptor.specs.declared.bucket.take.Stop.{Stop}
 use Rattle.gpu_descriptor.specs.declared.bucket.take.Stop.TheVariants as stop
 use Rattle.gpu_descriptor.proofs.Asks.{same_counters}
 use Rattle.gpu_descriptor.proofs.Room.{key_with, wide, marked_flags}
@@ -60,14 +62,14 @@ grown k room left total wanted size name names old new l m m' sized less many no
   counters = ap (λ (x : Ledger). x.counters) (is ∙ ap (after_alloc name (live_sets k.counts names)) made) ∙ same_counters _ _ (omega arith) (omega arith) (omega arith) (omega arith) (omega arith) (omega arith) (omega arith) (omega arith);
 }
 
-fresh_counters : (error : DeviceAllocationError) (n : Counters) → (let made : Counters = record n { created = n.created + 1 } in let asked = alloc_refused error made in record asked { destroyed = asked.destroyed + 1 }) ≡ risen (stop_rise (stop.Fresh error)) n
+fresh_counters : (error : DeviceAllocationError) (n : Counters) → (let made : Counters = record n { created = n.created + 1 } in let asked = alloc_refused error made in record asked { destroyed = asked.destroyed + 1 }) ≡ risen (stop_rise (stop.New error)) n
 fresh_counters alloc_error.OutOfDeviceMemory n = same_counters _ _ (omega arith) (omega arith) (omega arith) (omega arith) (omega arith) (omega arith) (omega arith) (omega arith)
 fresh_counters alloc_error.OutOfHostMemory n = same_counters _ _ (omega arith) (omega arith) (omega arith) (omega arith) (omega arith) (omega arith) (omega arith) (omega arith)
 fresh_counters alloc_error.FragmentedPool n = same_counters _ _ (omega arith) (omega arith) (omega arith) (omega arith) (omega arith) (omega arith) (omega arith) (omega arith)
 fresh_counters alloc_error.OutOfPoolMemory n = same_counters _ _ (omega arith) (omega arith) (omega arith) (omega arith) (omega arith) (omega arith) (omega arith) (omega arith)
 
 -- a pool that was created, refused and was destroyed has left the ledger's pools as they were
-pub not_grown : (k : Key) (size name : ℕ) (error : DeviceAllocationError) (l m m' m'' : Ledger) → l.pools name ≡ None → m ≡ after_create (pool_counts k.counts size) size (flags_of k) name l → m' ≡ after_no_alloc name error m → m'' ≡ after_destroy name m' → IsNotGrown (stop.Fresh error) l m''
+pub not_grown : (k : Key) (size name : ℕ) (error : DeviceAllocationError) (l m m' m'' : Ledger) → l.pools name ≡ None → m ≡ after_create (pool_counts k.counts size) size (flags_of k) name l → m' ≡ after_no_alloc name error m → m'' ≡ after_destroy name m' → IsRefused (stop.New error) l m''
 not_grown k size name error l m m' m'' none made refused gone = record {
   pools = ap (λ (x : Ledger). x.pools) all ∙ fun_ext (λ q. at (nat_eq name q) q refl);
   counters = ap (λ (x : Ledger). x.counters) all ∙ fresh_counters error l.counters;
@@ -86,15 +88,19 @@ create_counters create_error.OutOfDeviceMemory n = same_counters _ _ (omega arit
 create_counters create_error.OutOfHostMemory n = same_counters _ _ (omega arith) (omega arith) (omega arith) (omega arith) (omega arith) (omega arith) (omega arith) (omega arith)
 create_counters create_error.Fragmentation n = same_counters _ _ (omega arith) (omega arith) (omega arith) (omega arith) (omega arith) (omega arith) (omega arith) (omega arith)
 
-pub not_created : (error : CreatePoolError) (l m : Ledger) → m ≡ after_no_create error l → IsNotGrown (stop.Create error) l m
+pub not_created : (error : CreatePoolError) (l m : Ledger) → m ≡ after_no_create error l → IsRefused (stop.Create error) l m
 not_created error l m is = record {
   pools = ap (λ (x : Ledger). x.pools) is;
   counters = ap (λ (x : Ledger). x.counters) is ∙ create_counters error l.counters;
 }
 
 -- nothing was asked of the device
-pub not_begun : (l : Ledger) → IsNotGrown stop.Books l l
-not_begun l = record { pools = refl; counters = same_counters _ _ (omega arith) (omega arith) (omega arith) (omega arith) (omega arith) (omega arith) (omega arith) (omega arith) }
+pub none_asked : (l : Ledger) (why : Stop) → stop_rise why ≡ no_rise → IsRefused why l l
+none_asked l why none = record { pools = refl; counters = sym (ap (λ (by : Counters). risen by l.counters) none ∙ same_counters _ _ (omega arith) (omega arith) (omega arith) (omega arith) (omega arith) (omega arith) (omega arith) (omega arith)) }
+
+-- a request stopped for another reason than want of room
+pub had_room : {why : Stop} {one room : ℕ} → why ≢ stop.Room → one ≤ room → (why ≡ stop.Room) ↔ (room < one)
+had_room other fits = (λ is. absurd (other is), λ none. absurd (omega arith))
 
 -- how often pools were asked
 pub create_asked : (error : CreatePoolError) (n : Counters) → (create_refused error n).asked ≡ n.asked

@@ -4,7 +4,7 @@ use Rattle.std.specs.Global.{Vec}
 use Rattle.gpu_descriptor_types.specs.Ledger.{Ledger, Counters}
 use Rattle.gpu_descriptor.specs.declared.errors.AllocationError.{AllocationError}
 use Rattle.gpu_descriptor.specs.declared.set.DescriptorSet.{DescriptorSet}
-use Rattle.gpu_descriptor.specs.declared.bucket.take.Refusal.{Refusal}
+use Rattle.gpu_descriptor.specs.declared.bucket.take.Stop.{Stop}
 use Rattle.gpu_descriptor.specs.Model.Agreement.{Item, State, outstanding}
 use Rattle.gpu_descriptor.specs.Model.Books.{HasDistinctKeys, Key}
 use Rattle.gpu_descriptor.specs.Model.Outcomes.{Allocates, rolled_back}
@@ -16,8 +16,8 @@ use Rattle.gpu_descriptor.specs.Caller.Keys.{StayOrGainLast}
 use Rattle.gpu_descriptor.specs.Caller.Sets.{items_of}
 use Rattle.gpu_descriptor.specs.Caller.States.{Agrees, keys_of, marked_load_of, outstanding_of, pool_load_of, state_of, table_of}
 use Rattle.gpu_descriptor.specs.Caller.Values.{Allocations}
-use Rattle.gpu_descriptor.specs.Inner.Grow.{refusal_answer}
-use Rattle.gpu_descriptor.specs.Inner.Takes.{Takes}
+use Rattle.gpu_descriptor.specs.Inner.Grow.{stop_answer}
+use Rattle.gpu_descriptor.specs.Inner.Serves.{Takes}
 use Rattle.gpu_descriptor.proofs.Allocating.{taken_agree, taken_out, taken_own, taken_others, taken_leaves, taken_loses_none, taken_others_of, went_back, back_out, back_leaves, back_loses_none, back_others, back_others_of, back_totals, kept, kept_many, kept_totals}
 use Rattle.gpu_descriptor.proofs.Promises.{has_cause, short}
 
@@ -29,8 +29,8 @@ either (Some x) none some = some x
 pub gained_as : {k l : Key} {old new : List Key} → k ≡ l → StayOrGainLast k old new → StayOrGainLast l old new
 gained_as same gained = rw (sym same) gained
 
-module _ {P S : Type 0} {name : P → ℕ} {set_name : S → ℕ} {k : Key} {count : ℕ} {sets : List (DescriptorSet S)} {taken : Result (Unit {0}) Refusal} {old new : Allocations P} {before after : Ledger}
-    (t : Takes name set_name k count sets taken old new before after) (agree : Agrees name old before) where
+module _ {P S : Type 0} {name : P → ℕ} {set_name : S → ℕ} {k : Key} {count : ℕ} {sets : List (DescriptorSet S)} {ended : Result (Unit {0}) Stop} {old new : Allocations P} {before after : Ledger}
+    (t : Takes name set_name k count sets ended old new before after) (agree : Agrees name old before) where
   pub keeps_all : new.limit ≡ old.limit → marked_load_of new ≤ new.limit → pool_load_of new ≤ new.limit → HasDistinctKeys (table_of name new) → Keeps name old new before after
   keeps_all limit load pool_load rows =
       record {
@@ -57,10 +57,10 @@ module _ {P S : Type 0} {name : P → ℕ} {set_name : S → ℕ} {k : Key} {cou
         others = back_others_of t agree r.back;
       }
 
-module _ {P S : Type 0} {name : P → ℕ} {set_name : S → ℕ} {k : Key} {count : ℕ} (sets : Vec (DescriptorSet S)) {taken : Result (Unit {0}) Refusal} {old new : Allocations P} {before after : Ledger}
-    (t : Takes name set_name k count sets.items taken old new before after) (agree : Agrees name old before) (keys : StayOrGainLast k (keys_of old) (keys_of new))
+module _ {P S : Type 0} {name : P → ℕ} {set_name : S → ℕ} {k : Key} {count : ℕ} (sets : Vec (DescriptorSet S)) {ended : Result (Unit {0}) Stop} {old new : Allocations P} {before after : Ledger}
+    (t : Takes name set_name k count sets.items ended old new before after) (agree : Agrees name old before) (keys : StayOrGainLast k (keys_of old) (keys_of new))
     (looks : new.looks + before.counters.asked ≡ old.looks + after.counters.asked) (comparisons : new.comparisons ≡ old.comparisons) (some : 0 < count) where
-  pub hands_all : {x : Unit {0}} → taken ≡ Ok x → HandsOut name set_name k count (Ok sets) old new before after
+  pub hands_all : {x : Unit {0}} → ended ≡ Ok x → HandsOut name set_name k count (Ok sets) old new before after
   hands_all is =
       let outcome = kept t agree some is in
       record {
@@ -84,7 +84,7 @@ module _ {P S : Type 0} {name : P → ℕ} {set_name : S → ℕ} {k : Key} {cou
       }
 
   -- the sets went back
-  pub hands_back : {last : Allocations P} {final : Ledger} → Returns name set_name sets.items new last after final → {why : Refusal} → taken ≡ Err why → HandsOut name set_name k count (Err (refusal_answer why)) old last before final
+  pub hands_back : {last : Allocations P} {final : Ledger} → Returns name set_name sets.items new last after final → {why : Stop} → ended ≡ Err why → HandsOut name set_name k count (Err (stop_answer why)) old last before final
   hands_back r is =
       let went = went_back t agree some r.back is in
       let outcome = went.0 in

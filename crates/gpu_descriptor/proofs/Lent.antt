@@ -16,7 +16,7 @@ use Rattle.gpu_descriptor.specs.Caller.Comparisons.{open_pools}
 use Rattle.gpu_descriptor.specs.Caller.KeyOf.{key_of}
 use Rattle.gpu_descriptor.specs.Caller.Sets.{items_of}
 use Rattle.gpu_descriptor.specs.Caller.States.{named_row, state_of, keys_of}
-use Rattle.gpu_descriptor.specs.Inner.RunSteps.{LieAt}
+use Rattle.gpu_descriptor.specs.Inner.RunSteps.{AllPass, lies_at}
 use Rattle.gpu_descriptor.specs.Inner.Stored.{books_in, row_of, bucket_of}
 use Rattle.gpu_descriptor.specs.Caller.Values.{Allocations}
 use Rattle.gpu_descriptor.proofs.LedgerPools.{taken_from, release_pools}
@@ -47,10 +47,10 @@ module _ {P S : Type 0} (name : P → ℕ) (set_name : S → ℕ) (a : Allocatio
     pub row_open : open_pools ((state_of name a l).books x.key.is) ≡ open_pools (bucket_of name bucket)
     row_open = ap open_pools (at_key (Some bucket) found)
 
-    pub row_taken : (xs : List (DescriptorSet S)) → LieAt x.key.is x.number xs → AreOutstanding (items_of set_name (x ∷ xs)) (state_of name a l) → IsTakenAt x.key.is x.number (names_of set_name (x ∷ xs)) (bucket_of name bucket) l.pools
+    pub row_taken : (xs : List (DescriptorSet S)) → AllPass (lies_at x.key.is x.number) xs → AreOutstanding (items_of set_name (x ∷ xs)) (state_of name a l) → IsTakenAt x.key.is x.number (names_of set_name (x ∷ xs)) (bucket_of name bucket) l.pools
     row_taken xs have out = subst (λ b. IsTakenAt x.key.is x.number (names_of set_name (x ∷ xs)) b l.pools) (at_key (Some bucket) found) (taken_of set_name (state_of name a l) agree x xs have out)
 
-    module _ (xs : List (DescriptorSet S)) (have : LieAt x.key.is x.number xs) (w : DescriptorBucket P) (after : Ledger) (into : RunsInto x.key.is x.number (names_of set_name (x ∷ xs)) (bucket_of name bucket) l (bucket_of name w) after) where
+    module _ (xs : List (DescriptorSet S)) (have : AllPass (lies_at x.key.is x.number) xs) (w : DescriptorBucket P) (after : Ledger) (into : RunsInto x.key.is x.number (names_of set_name (x ∷ xs)) (bucket_of name bucket) l (bucket_of name w) after) where
       here : RunsInto x.key.is x.number (names_of set_name (x ∷ xs)) ((state_of name a l).books x.key.is) l (bucket_of name w) after
       here = subst (λ b. RunsInto x.key.is x.number (names_of set_name (x ∷ xs)) b l (bucket_of name w) after) (sym (at_key (Some bucket) found)) into
 

@@ -56,6 +56,7 @@ pub mod Searching
 pub mod Shares
 pub mod Sized
 pub mod Steps
+pub mod StoredPools
 pub mod TableBooks
 pub mod TableSums
 pub mod Tables

@@ -15,7 +15,7 @@ use Rattle.gpu_descriptor.specs.Caller.Frees.{marked_descriptors}
 use Rattle.gpu_descriptor.specs.Caller.KeyOf.{key_of}
 use Rattle.gpu_descriptor.specs.Caller.Sets.{item_of, items_of}
 use Rattle.gpu_descriptor.specs.Caller.States.{sets_in, descriptors_in, pool_load_in, outstanding_of, marked_load_of}
-use Rattle.gpu_descriptor.specs.Inner.RunSteps.{LieAt}
+use Rattle.gpu_descriptor.specs.Inner.RunSteps.{AllPass, lies_at}
 use Rattle.gpu_descriptor.specs.Inner.Stored.{kept_of, row_of, load_in, stored_keys, stored_load_in, stored_load, IsConsistent}
 use Rattle.gpu_descriptor.specs.Caller.Values.{Allocations, Kept}
 use Rattle.gpu_descriptor.proofs.Exact.{key_exact}
@@ -107,7 +107,7 @@ module _ {P : Type 0} where
       go k (p ∷ ps) = sum_by-cons (λ (q : Kept P). pool_load k q.capacity) (kept_of p) (map kept_of ps) ∙ ap (λ n. pool_load k p.capacity + n) (go k ps) ∙ sym (sum_by-cons (λ (q : DescriptorPool P). pool_load k q.capacity) p ps)
 
 -- the descriptors of a run
-pub run_load : {S : Type 0} (name : S → ℕ) (k : Key) (n : ℕ) (xs : List (DescriptorSet S)) → LieAt k n xs → marked_descriptors (items_of name xs) ≡ marked_load k (length xs)
+pub run_load : {S : Type 0} (name : S → ℕ) (k : Key) (n : ℕ) (xs : List (DescriptorSet S)) → AllPass (lies_at k n) xs → marked_descriptors (items_of name xs) ≡ marked_load k (length xs)
 run_load name k n [] have = sym (marked_load-none k)
 run_load name k n (x ∷ xs) have =
     let key : x.key.is ≡ k = (at_parts k n x have.0).0 in

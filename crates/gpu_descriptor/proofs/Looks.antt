@@ -5,7 +5,7 @@ use Rattle.std.specs.Iterator.{Count, IsFinite, size}
 use Rattle.std.specs.Option.{option_len}
 use Rattle.gpu_descriptor.specs.declared.set.DescriptorSet.{DescriptorSet}
 use Rattle.gpu_descriptor.specs.declared.bucket.run.Run.{Run}
-use Rattle.gpu_descriptor.specs.Inner.RunSteps.{at_place, CountsFrom, HaveKey, Looks, RunStep}
+use Rattle.gpu_descriptor.specs.Inner.RunSteps.{at_place, CountsFrom, AllPass, Looks, RunStep}
 
 module _ {T S : Type 0} (steps : T → Option (DescriptorSet S) → T → Type 0) (k i : ℕ) (s : T) (n : ℕ) where
   pub count_now : CountsFrom steps k i s n → n < 2 ^ 32
@@ -16,7 +16,7 @@ module _ {T S : Type 0} (steps : T → Option (DescriptorSet S) → T → Type 0
 
 pub count_as : {T S : Type 0} (steps : T → Option (DescriptorSet S) → T → Type 0) (k l i j : ℕ) (s : T) (m n : ℕ) → k ≡ l → i ≡ j → m ≡ n → CountsFrom steps k i s m → CountsFrom steps l j s n
 count_as steps k l i j s m n p q e h = λ xs t y have.
-    let own : HaveKey k i xs = subst (λ a. HaveKey a i xs) (sym p) (subst (λ b. HaveKey l b xs) (sym q) have) in
+    let own : AllPass (at_place k i) xs = subst (λ a. AllPass (at_place a i) xs) (sym p) (subst (λ b. AllPass (at_place l b) xs) (sym q) have) in
     let r : m + length xs < 2 ^ 32 = h xs t y own in omega arith
 
 module _ {T S : Type 0} (steps : T → Option (DescriptorSet S) → T → Type 0) (can : T → Type 0) (left : T → Count) where

@@ -1,5 +1,5 @@
 -- The walk over the open pools: the pools between them have nothing to give.
-use Rattle.std.proofs.Common.{◌≡◌, ℕ, zero, suc, ◌+◌, ◌-◌, ◌<◌, ◌≤◌, List, [], ◌∷◌, ◌++◌, length, get_or, min, slice_set, nat_lt, true, Bool, ◌&&◌, if◌then◌else◌, Option, Some, None, refl, sym, ap, ◌∙◌, subst, arith, inl, inr}
+use Rattle.std.proofs.Common.{◌≡◌, ℕ, zero, suc, ◌+◌, ◌-◌, ◌<◌, ◌≤◌, List, [], ◌∷◌, ◌++◌, length, get_or, min, slice_set, nat_lt, true, Bool, ◌&&◌, if◌then◌else◌, Option, Some, None, Err, refl, sym, ap, ◌∙◌, subst, arith, inl, inr}
 use Rattle.std.proofs.lemmas.List.{length-map, map-set, length-set}
 use Rattle.std.proofs.lemmas.Option.{slice_get-map, slice_get_read, slice_get_within}
 use Rattle.std.proofs.lemmas.Bool.{lt-ltb, cases_lt}
@@ -12,7 +12,9 @@ use Rattle.gpu_descriptor.specs.Model.Books.{Key, Entry}
 use Rattle.gpu_descriptor.specs.Inner.Buckets.{AreBookedIn, IsBookedIn}
 use Rattle.gpu_descriptor.specs.Inner.OpenNumbers.{free_in, open_numbers}
 use Rattle.gpu_descriptor.specs.Inner.Stored.{entry_of}
-use Rattle.gpu_descriptor.specs.Inner.Walk.{entries_of, IsAsked, IsNoMemory, IsWalkStopped}
+use Rattle.gpu_descriptor.specs.Inner.Walk.{entries_of, IsAsked, IsNoMemory}
+use Rattle.gpu_descriptor.specs.Inner.Grow.{IsTaken}
+use Rattle.gpu_descriptor.specs.declared.bucket.take.Stop.TheVariants.{Existing}
 use Rattle.gpu_descriptor.specs.Model.Grants.{items_at}
 use Rattle.gpu_descriptor_types.specs.declared.errors.DeviceAllocationError.{DeviceAllocationError}
 use Rattle.gpu_descriptor.proofs.Listed.{listed_closes, listed_stays}
@@ -155,11 +157,11 @@ module _ {P : Type 0} {name : P → ℕ} {k : Key} {n id first wanting : ℕ} {o
               walking = subst (λ (x : List Entry). Walking k n id first i wanting' (out ++ items_at k id number names) old x l m') (sym (map-set (entry_of name) items i q)) (subst (λ (x : List Item). Walking k n id first i wanting' x old (slice_set (entries_of name items) i (entry_of name q)) l m') out' next);
             }
 
-        pub open_walk_stop : (error : DeviceAllocationError) (m' : Ledger) → entry_of name q ≡ entry_of name p → IsNoMemory wanting (entry_of name p) error m m' → IsWalkStopped k n id first error out old (entries_of name (slice_set items (number - first) q)) l m'
-        open_walk_stop error m' same none =
+        pub open_walk_stop : (room : ℕ) (error : DeviceAllocationError) (m' : Ledger) → entry_of name q ≡ entry_of name p → IsNoMemory wanting (entry_of name p) error m m' → IsTaken (Err (Existing error)) k room n id first out old (entries_of name (slice_set items (number - first) q)) l m'
+        open_walk_stop room error m' same none =
             let i : ℕ = number - first in
             let was : slice_get old i ≡ Some (entry_of name p) = sym (next_was k n id first i wanting out old (entries_of name items) l m booked walk_reaches (let a = inside in let b = s.long in omega arith)) ∙ entry_at_place in
-            subst (λ (x : List Entry). IsWalkStopped k n id first error out old x l m') (sym (map-set (entry_of name) items i q)) (walk_stop k n id first i wanting out old (entries_of name items) l m m' (entry_of name p) (entry_of name q) error walk_reaches was entry_at_place same none)
+            subst (λ (x : List Entry). IsTaken (Err (Existing error)) k room n id first out old x l m') (sym (map-set (entry_of name) items i q)) (walk_stop k room n id first i wanting out old (entries_of name items) l m m' (entry_of name p) (entry_of name q) error walk_reaches was entry_at_place same none)
 
         pub listed_now_same : entry_of name q ≡ entry_of name p → numbers ≡ open_numbers first (free_in (slice_set items (number - first) q))
         listed_now_same same = listed_now_open (let a : q.available ≡ p.available = ap (λ (d : Entry). d.free) same in let b = has_free in omega arith)

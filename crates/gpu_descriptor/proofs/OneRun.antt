@@ -12,7 +12,7 @@ use Rattle.gpu_descriptor.specs.Model.Agreement.{live_in}
 use Rattle.gpu_descriptor.specs.Model.Books.{Key, Entry, Bucket}
 use Rattle.gpu_descriptor.specs.Inner.Buckets.{AreBookedIn}
 use Rattle.gpu_descriptor.specs.Inner.Releases.{IsTakenAt, names_of}
-use Rattle.gpu_descriptor.specs.Inner.RunSteps.{at_place, RunStep, CountsFrom, EndsRun, HaveKey}
+use Rattle.gpu_descriptor.specs.Inner.RunSteps.{at_place, RunStep, CountsFrom, EndsRun, AllPass}
 use Rattle.gpu_descriptor.proofs.BucketRun.{AreTaken, can_free, can_take, took_these, length_names}
 use Rattle.gpu_descriptor.proofs.Taken.{Stopped, Whole, whole, front}
 
@@ -27,7 +27,7 @@ names name (x ∷ xs) = ap (λ ns. name x.raw ∷ ns) (names name xs)
 module _ {T S : Type 0} (steps : T → Option (DescriptorSet S) → T → Type 0) (can : T → Type 0) (left : T → Count) (name : S → ℕ) where
   -- whatever run comes, its sets are in the place
   abbrev pub Takes : T → DescriptorSet S → Bucket → (ℕ → Option Pool) → Type 0
-  Takes rest x b pools = HoldsAlong steps rest (λ xs. HaveKey x.id x.number xs → IsTakenAt x.key.is x.number (names_of name (x ∷ xs)) b pools)
+  Takes rest x b pools = HoldsAlong steps rest (λ xs. AllPass (at_place x.id x.number) xs → IsTakenAt x.key.is x.number (names_of name (x ∷ xs)) b pools)
 
   pub run_counts : (rest : T) (x : DescriptorSet S) (b : Bucket) (pools : ℕ → Option Pool) (e : Entry) → slice_get b.pools (x.number - b.first) ≡ Some e → e.allocated ≤ 2147483648 → Takes rest x b pools → CountsFrom steps x.id x.number rest (0 + 1)
   run_counts rest x b pools e at small h = λ zs t z have.
@@ -61,7 +61,7 @@ module _ {T S : Type 0} (steps : T → Option (DescriptorSet S) → T → Type 0
       live_names (v ∷ vs) t z =
           let f = front steps can left s x v vs t a z in
           let m : names_of name (x ∷ f.xs) ≡ map name (v ∷ vs) = sym (names name (x ∷ f.xs)) ∙ ap (λ ws. map name ws) f.raws in
-          let have : HaveKey x.id x.number f.xs = subst (λ l. HaveKey l x.number f.xs) (sym k) (subst (λ j. HaveKey s.id j f.xs) (sym i) f.keys) in
+          let have : AllPass (at_place x.id x.number) f.xs = subst (λ l. AllPass (at_place l x.number) f.xs) (sym k) (subst (λ j. AllPass (at_place s.id j) f.xs) (sym i) f.keys) in
           let take = can_take x.key.is x.number (names_of name (x ∷ f.xs)) b l.pools e (h f.xs f.source f.came have) at in
           subst (λ ns. (ls : List LiveSet) × AreTaken ns (live_in l.pools e.pool) ls) m (live_sets x.key.is.counts (names_of name (x ∷ f.xs)), record { are = of_names x.key.is (names_of name (x ∷ f.xs)); within = take.live })
 
@@ -74,10 +74,10 @@ module _ {T S : Type 0} (steps : T → Option (DescriptorSet S) → T → Type 0
       let long = length-map w.xs (λ (y : DescriptorSet S). name y.raw) in
       omega arith
 
-  pub run_ends : (x : DescriptorSet S) (s u : Run T S) (ys : List S) (w : Whole steps can left s x ys u) (a : Option (DescriptorSet S)) (v : T) → a ≡ u.ahead.now → v ≡ u.source.now → EndsRun steps s.id s.number s.source.now w.xs a v
+  pub run_ends : (x : DescriptorSet S) (s u : Run T S) (ys : List S) (w : Whole steps can left s x ys u) (a : Option (DescriptorSet S)) (v : T) → a ≡ u.ahead.now → v ≡ u.source.now → EndsRun steps (at_place s.id s.number) s.source.now w.xs a v
   run_ends x s u ys w a v ea ev = rw (ea, ev) (go u.ahead.now w.stop)
     where
-      go : (a : Option (DescriptorSet S)) → Stopped steps can left s.id s.number w.source a u.source.now → EndsRun steps s.id s.number s.source.now w.xs a u.source.now
+      go : (a : Option (DescriptorSet S)) → Stopped steps can left s.id s.number w.source a u.source.now → EndsRun steps (at_place s.id s.number) s.source.now w.xs a u.source.now
       go None h = (w.keys, (w.source, w.came, h), tt)
       go (Some y) h = (w.keys, (w.source, w.came, h.1), h.0)
 
@@ -91,7 +91,7 @@ module _ {T S : Type 0} (steps : T → Option (DescriptorSet S) → T → Type 0
   -- what the device took of a run that began with x ahead
   pub record Done (s : Run T S) (x : DescriptorSet S) (b : Bucket) (pools : ℕ → Option Pool) (e : Entry) (u : Run T S) (ys : List S) (ls : List LiveSet) : Type 0 where
     pub run : Whole steps can left s x ys u
-    pub have : HaveKey x.id x.number run.xs
+    pub have : AllPass (at_place x.id x.number) run.xs
     pub fits : length (names_of name (x ∷ run.xs)) ≤ e.allocated
     pub count : u.count ≡ length (names_of name (x ∷ run.xs))
     pub sets : ls ≡ live_sets x.key.is.counts (names_of name (x ∷ run.xs))
@@ -103,7 +103,7 @@ module _ {T S : Type 0} (steps : T → Option (DescriptorSet S) → T → Type 0
   done s x b pools e u ys ls ahead k i zero_count stored at h gives are =
       let own : at_place s.id s.number x ≡ true = rw (k, i) (at_own x) in
       let w = whole steps can left s x ys u ahead own gives in
-      let have : HaveKey x.id x.number w.xs = subst (λ l. HaveKey l x.number w.xs) k (subst (λ j. HaveKey s.id j w.xs) i w.keys) in
+      let have : AllPass (at_place x.id x.number) w.xs = subst (λ l. AllPass (at_place l x.number) w.xs) k (subst (λ j. AllPass (at_place s.id j) w.xs) i w.keys) in
       let take = can_take x.key.is x.number (names_of name (x ∷ w.xs)) b pools e (h w.xs w.source w.came have) at in
       let sets : ls ≡ live_sets x.key.is.counts (names_of name (x ∷ w.xs)) = took_these x.key.is b pools (x.number - b.first) e (names_of name (x ∷ w.xs)) ls stored at (subst (λ ns. AreTaken ns (live_in pools e.pool) ls) (run_names x s u ys w) are) in
       record { run = w; have = have; fits = take.fits; count = run_long x s u ys w zero_count; sets = sets; long = ap (λ (l : List LiveSet). length l) sets ∙ length_names x.key.is (names_of name (x ∷ w.xs)) }

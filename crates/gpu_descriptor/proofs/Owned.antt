@@ -17,7 +17,7 @@ use Rattle.gpu_descriptor.specs.Caller.Sets.{item_of, items_of}
 use Rattle.gpu_descriptor.specs.Caller.States.{state_of}
 use Rattle.gpu_descriptor.specs.Caller.Values.{Allocations}
 use Rattle.gpu_descriptor.specs.Inner.Ids.{is_of, rise_below, stored_ids}
-use Rattle.gpu_descriptor.specs.Inner.RunSteps.{EndsAt, EndsRun, HaveKey, LieAt, at_place, lies_at}
+use Rattle.gpu_descriptor.specs.Inner.RunSteps.{EndsRun, AllPass, at_place, lies_at}
 use Rattle.gpu_descriptor.specs.Inner.Stored.{bucket_of, row_of}
 use Rattle.gpu_descriptor.proofs.Exact.{item_exact, key_exact}
 use Rattle.gpu_descriptor.proofs.Holding.{out_back}
@@ -99,7 +99,7 @@ module _ {P S : Type 0} (name : P → ℕ) (set_name : S → ℕ) (a : Allocatio
 
   module _ (next : ℕ) (rise : rise_below next (stored_ids es) ≡ true) (k : Key) (id n : ℕ) (own : Owns k id es) where
     -- sets with the key's id are of the key
-    pub lie_at : (xs : List (DescriptorSet S)) → AreOutstanding (items_of set_name xs) s → HaveKey id n xs → LieAt k n xs
+    pub lie_at : (xs : List (DescriptorSet S)) → AreOutstanding (items_of set_name xs) s → AllPass (at_place id n) xs → AllPass (lies_at k n) xs
     lie_at [] out have = tt
     lie_at (x ∷ xs) out have =
         let p = place_parts id n x have.0 in
@@ -119,7 +119,7 @@ module _ {P S : Type 0} (name : P → ℕ) (set_name : S → ℕ) (a : Allocatio
         cc)
 
     -- so a run by the id is one by the key
-    pub ends_at : {T : Type 0} (steps : T → Option (DescriptorSet S) → T → Type 0) (x : DescriptorSet S) (given left : T) (xs : List (DescriptorSet S)) (ahead : Option (DescriptorSet S)) → HoldsAlong steps given (λ zs. AreOutstanding (items_of set_name (x ∷ zs)) s) → EndsRun steps id n given xs ahead left → EndsAt steps k n given xs ahead left
+    pub ends_at : {T : Type 0} (steps : T → Option (DescriptorSet S) → T → Type 0) (x : DescriptorSet S) (given left : T) (xs : List (DescriptorSet S)) (ahead : Option (DescriptorSet S)) → HoldsAlong steps given (λ zs. AreOutstanding (items_of set_name (x ∷ zs)) s) → EndsRun steps (at_place id n) given xs ahead left → EndsRun steps (lies_at k n) given xs ahead left
     ends_at steps x given left xs ahead out came = (
       lie_at xs (out_back set_name (x ∷ []) xs (x ∷ xs) s refl (out xs came.1.0 came.1.1)) came.0,
       came.1,

@@ -1,8 +1,8 @@
 -- What a request takes of one key, in the table of keys.
-use Rattle.std.proofs.Common.{◌≡◌, ℕ, ◌+◌, ◌≤◌, Bool, true, false, List, [], ◌∷◌, ◌++◌, length, map, Option, Some, None, is_some, Result, inl, inr, refl, sym, ap, ◌∙◌, subst, arith, ◌-◌, ◌&&◌, lt-ltb, le-ltb}
+use Rattle.std.proofs.Common.{◌≡◌, ℕ, ◌+◌, ◌<◌, ◌≤◌, Bool, true, false, List, [], ◌∷◌, ◌++◌, length, map, Option, Some, None, is_some, Result, inl, inr, refl, sym, ap, ◌∙◌, subst, arith, ◌-◌, ◌&&◌, lt-ltb, le-ltb}
 use Rattle.std.specs.Map.{lookup, set_value}
 use Rattle.std.specs.Option.{option_map_or}
-use Rattle.std.specs.Prelude.{nat_lt, sum_by, if◌then◌else◌, OnOk, IfErr}
+use Rattle.std.specs.Prelude.{nat_lt, sum_by, if◌then◌else◌}
 use Rattle.std.proofs.lemmas.Bool.{cases_Bool, cases_lt}
 use Rattle.std.proofs.lemmas.List.Sums.{sum_by-append}
 use Rattle.gpu_descriptor_types.specs.Ledger.{Ledger}
@@ -10,13 +10,13 @@ use Rattle.gpu_descriptor.specs.Model.Load.{marked_load}
 use Rattle.gpu_descriptor.specs.declared.set.BucketKey.{BucketKey}
 use Rattle.gpu_descriptor.specs.declared.set.DescriptorSet.{DescriptorSet}
 use Rattle.gpu_descriptor.specs.declared.bucket.DescriptorBucket.{DescriptorBucket}
-use Rattle.gpu_descriptor.specs.declared.bucket.take.Refusal.{Refusal}
+use Rattle.gpu_descriptor.specs.declared.bucket.take.Stop.{Stop}
 use Rattle.gpu_descriptor.specs.Model.Books.{Key, key_eq, Bucket, no_pools, next_number}
 use Rattle.gpu_descriptor.specs.Caller.KeyOf.{key_of}
 use Rattle.gpu_descriptor.specs.Caller.Sets.{items_of}
 use Rattle.gpu_descriptor.specs.Inner.Stored.{books_in, entry_of, bucket_of, load_in}
-use Rattle.gpu_descriptor.specs.Inner.Grow.{IsTakenAll, IsTakenUpTo}
-use Rattle.gpu_descriptor.specs.Inner.Serves.{Serves, ServesKey}
+use Rattle.gpu_descriptor.specs.Inner.Grow.{IsTaken}
+use Rattle.gpu_descriptor.specs.Inner.Serves.{IsServed, Serves, ServesKey}
 use Rattle.gpu_descriptor.proofs.Exact.{key_exact}
 use Rattle.gpu_descriptor.proofs.Loads.{IsRow, IsWritten, sum_set, marked_load-add}
 use Rattle.gpu_descriptor.proofs.TableBooks.{put_books, written, looked_up, row_bucket}
@@ -51,26 +51,32 @@ load_grows k l v w n is more =
     ap (λ (x : Key). marked_load x w.total) is ∙ ap (marked_load (key_of k)) more ∙ marked_load-add (key_of k) v.total n ∙ ap (λ (x : Key). marked_load x v.total + marked_load (key_of k) n) (sym is)
 
 -- what one key gave, in the table
-module _ {P S : Type 0} {name : P → ℕ} {set_name : S → ℕ} (k : BucketKey) {v w : DescriptorBucket P} {room count : ℕ} {sets : List (DescriptorSet S)} {taken : Result (Unit {0}) Refusal} {before after : Ledger}
-    (s : Serves name set_name (key_of k) room count sets taken v w before after) where
+module _ {P S : Type 0} {name : P → ℕ} {set_name : S → ℕ} (k : BucketKey) {v w : DescriptorBucket P} {room count : ℕ} {sets : List (DescriptorSet S)} {ended : Result (Unit {0}) Stop} {before after : Ledger}
+    (s : Serves name set_name (key_of k) room count sets ended v w before after) where
   -- with the id that the key has from then on
   abbrev own_id : Bucket → Bucket
   own_id b = record b { id = v.id }
 
-  bucket_kept : bucket_of name w ≡ record (bucket_of name v) { pools = (bucket_of name w).pools }
-  bucket_kept = λ i. record { id = s.id i; first = s.offset i; pools = (bucket_of name w).pools }
+  put_there : (es : List (BucketKey × DescriptorBucket P)) (l : Key) → own_id (books_in name es (key_of k)) ≡ bucket_of name v → put_books (books_in name es) (key_of k) (bucket_of name w) l ≡ (let b = books_in name es l in if key_eq (key_of k) l then record b { id = v.id; pools = s.served.pools } else b)
+  put_there es l is = by_test (key_eq (key_of k) l) refl
+    where
+      by_test : (here : Bool) → key_eq (key_of k) l ≡ here → (if here then bucket_of name w else books_in name es l) ≡ (let b = books_in name es l in if here then record b { id = v.id; pools = s.served.pools } else b)
+      by_test true here = s.bucket ∙ ap (λ (b : Bucket). let r : Bucket = record b { pools = s.served.pools } in r) (sym is) ∙ ap (λ (x : Key). let r : Bucket = record (books_in name es x) { id = v.id; pools = s.served.pools } in r) (key_exact.same (key_of k) l here)
+      by_test false other = refl
 
-  put_there : (es : List (BucketKey × DescriptorBucket P)) (l : Key) → own_id (books_in name es (key_of k)) ≡ bucket_of name v → put_books (books_in name es) (key_of k) (bucket_of name w) l ≡ put_books (books_in name es) (key_of k) (record (books_in name es (key_of k)) { id = v.id; pools = (bucket_of name w).pools }) l
-  put_there es l is = ap (λ (b : Bucket). put_books (books_in name es) (key_of k) b l) (bucket_kept ∙ ap (λ (b : Bucket). let r : Bucket = record b { pools = (bucket_of name w).pools } in r) (sym is))
-
-  done_there : (b : Bucket) → own_id b ≡ bucket_of name v → OnOk taken (IsTakenAll (key_of k) room count v.id b.first (items_of set_name sets) b.pools (bucket_of name w).pools before after)
-  done_there b is = subst (λ (b : Bucket). OnOk taken (IsTakenAll (key_of k) room count b.id b.first (items_of set_name sets) b.pools (bucket_of name w).pools before after)) (sym is) s.done
-
-  stopped_there : (b : Bucket) → own_id b ≡ bucket_of name v → IfErr taken (λ why. IsTakenUpTo why (key_of k) room count v.id b.first (items_of set_name sets) b.pools (bucket_of name w).pools before after)
-  stopped_there b is = subst (λ (b : Bucket). IfErr taken (λ why. IsTakenUpTo why (key_of k) room count b.id b.first (items_of set_name sets) b.pools (bucket_of name w).pools before after)) (sym is) s.stopped
+  -- of the key's books
+  abbrev served_there : (b : Bucket) → own_id b ≡ bucket_of name v → (0 < length b.pools → v.id ≡ b.id) → IsServed name set_name (key_of k) room count sets ended b before after
+  served_there b is kept = record {
+    numbers = (let n = s.served.numbers in let e = ap next_number is in omega arith);
+    few = s.served.few;
+    id = v.id;
+    kept = kept;
+    pools = s.served.pools;
+    taken = subst (λ (b : Bucket). IsTaken ended (key_of k) room count b.id b.first (items_of set_name sets) b.pools s.served.pools before after) (sym is) (subst (λ (i : ℕ). IsTaken ended (key_of k) room count i v.offset (items_of set_name sets) (bucket_of name v).pools s.served.pools before after) s.id s.served.taken);
+  }
 
   module _ {es fs : List (BucketKey × DescriptorBucket P)} where
-    pub serves_present : IsWritten (key_of k) es fs v w → ServesKey name set_name k room count sets taken es fs before after
+    pub serves_present : IsWritten (key_of k) es fs v w → ServesKey name set_name k room count sets ended es fs before after
     serves_present r =
         let here : books_in name es (key_of k) ≡ bucket_of name v = present name r.row in
         let is : own_id (books_in name es (key_of k)) ≡ bucket_of name v = ap own_id here in
@@ -80,34 +86,22 @@ module _ {P S : Type 0} {name : P → ℕ} {set_name : S → ℕ} (k : BucketKey
         let key : key_of load.0 ≡ key_of k = sym (key_exact.same (key_of k) (key_of load.0) (sym (r.row.same load.0) ∙ load.1)) in
         let grows = load_grows k load.0 v w (length sets) key total in
         rw r.wrote (record {
-          numbers = (let n = s.numbers in let e = ap next_number is in omega arith);
-          few = s.few;
-          id = v.id;
-          kept = λ some. ap (λ (b : Bucket). b.id) (sym here);
-          pools = (bucket_of name w).pools;
+          served = served_there (books_in name es (key_of k)) is (λ some. ap (λ (b : Bucket). b.id) (sym here));
           books = λ l. written name r.row.test (key_of k) r.row.same es w (ap is_some r.row.at) l ∙ put_there es l is;
           out = (let a = out.2 in let b = out.3 in omega arith);
           load = (let a = load.2 in let b = load.3 in omega arith);
-          done = done_there (books_in name es (key_of k)) is;
-          stopped = stopped_there (books_in name es (key_of k)) is;
         })
 
-    pub serves_new : (test : BucketKey → Bool) → ((l : BucketKey) → test l ≡ key_eq (key_of k) (key_of l)) → lookup test es ≡ None → fs ≡ es ++ (k, w) ∷ [] → v.offset ≡ 0 → v.pools.items ≡ [] → v.total ≡ 0 → ServesKey name set_name k room count sets taken es fs before after
+    pub serves_new : (test : BucketKey → Bool) → ((l : BucketKey) → test l ≡ key_eq (key_of k) (key_of l)) → lookup test es ≡ None → fs ≡ es ++ (k, w) ∷ [] → v.offset ≡ 0 → v.pools.items ≡ [] → v.total ≡ 0 → ServesKey name set_name k room count sets ended es fs before after
     serves_new test same at put offset pools none =
         let gone = missing name (key_of k) es test same at in
         let is : own_id (books_in name es (key_of k)) ≡ bucket_of name v = ap own_id gone ∙ (λ i. record { id = v.id; first = sym offset i; pools = map (entry_of name) (sym pools i) }) in
         let total = s.total in
         rw put (record {
-          numbers = (let n = s.numbers in let e = ap next_number is in omega arith);
-          few = s.few;
-          id = v.id;
-          kept = λ some. absurd (let none = ap (λ (b : Bucket). length b.pools) gone in omega arith);
-          pools = (bucket_of name w).pools;
+          served = served_there (books_in name es (key_of k)) is (λ some. absurd (let none = ap (λ (b : Bucket). length b.pools) gone in omega arith));
           books = λ l. books_end name k w test same es at l ∙ put_there es l is;
           out = (let a = sum_by-append (λ (r : BucketKey × DescriptorBucket P). r.1.total) es ((k, w) ∷ []) in let one : sum_by (λ (r : BucketKey × DescriptorBucket P). r.1.total) ((k, w) ∷ []) ≡ w.total = omega arith in omega arith);
           load = (let a = sum_by-append load_in es ((k, w) ∷ []) in let one : sum_by load_in ((k, w) ∷ []) ≡ marked_load (key_of k) w.total = omega arith in let n : w.total ≡ length sets = omega arith in let e = ap (marked_load (key_of k)) n in omega arith);
-          done = done_there (books_in name es (key_of k)) is;
-          stopped = stopped_there (books_in name es (key_of k)) is;
         })
 
 -- a write of what is there

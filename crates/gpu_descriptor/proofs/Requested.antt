@@ -13,19 +13,17 @@ use Rattle.gpu_descriptor.specs.declared.errors.AllocationError.TheVariants.{Fra
 use Rattle.gpu_descriptor.specs.declared.set.BucketKey.{BucketKey}
 use Rattle.gpu_descriptor.specs.declared.set.DescriptorSet.{DescriptorSet}
 use Rattle.gpu_descriptor.specs.declared.bucket.DescriptorBucket.{DescriptorBucket}
-use Rattle.gpu_descriptor.specs.declared.bucket.take.Refusal.{Refusal}
+use Rattle.gpu_descriptor.specs.declared.bucket.take.Stop.{Stop}
 use Rattle.gpu_descriptor.specs.Model.Books.{Key, key_eq, Bucket, HasDistinctKeys, books_of, next_number}
 use Rattle.gpu_descriptor.specs.Model.Load.{marked_load, IsOut, IsMarkedLoad, IsPoolLoad}
 use Rattle.gpu_descriptor.specs.Model.Outcomes.{Allocates, IsWithinLimit, Stays}
 use Rattle.gpu_descriptor.specs.Model.Outcomes.Allocates.{limit, bound, start}
 use Rattle.gpu_descriptor.specs.Caller.Call.{call_of}
-use Rattle.gpu_descriptor.specs.Inner.Takes.{Takes}
-use Rattle.gpu_descriptor.specs.Inner.Serves.{ServesKey, IsUnserved}
+use Rattle.gpu_descriptor.specs.Inner.Serves.{IsServed, IsUnserved, ServesKey, Takes}
 use Rattle.gpu_descriptor.specs.Caller.KeyOf.{key_of}
 use Rattle.gpu_descriptor.specs.Caller.Sets.{items_of}
 use Rattle.gpu_descriptor.specs.Caller.States.{named_row, sets_in, descriptors_in, pool_load_in, state_of, table_of, outstanding_of, marked_load_of, pool_load_of}
 use Rattle.gpu_descriptor.specs.Inner.Stored.{IsConsistent, row_of, load_in, stored_keys, stored_load_in, books_in}
-use Rattle.gpu_descriptor.specs.Inner.Grow.{IsTakenAll, IsTakenUpTo}
 use Rattle.gpu_descriptor.specs.Caller.Values.{Allocations, Row}
 use Rattle.gpu_descriptor.proofs.Exact.{key_exact}
 use Rattle.gpu_descriptor.proofs.Loads.{rows_out, rows_load, rows_pool_load}
@@ -92,12 +90,12 @@ module _ {P : Type 0} {a : Allocations P} {most looks compared : ℕ} (es : List
   pool_load_within counted = subst (λ (x : Allocations P). pool_load_of x ≤ x.limit) is (pools_within counted)
 
 -- how the totals of the table grow, by so many sets of a key
-module _ {P S : Type 0} (name : P → ℕ) (set_name : S → ℕ) (key : BucketKey) (room count : ℕ) (sets : List (DescriptorSet S)) (taken : Result (Unit {0}) Refusal) (es fs : List (BucketKey × DescriptorBucket P)) (before after : Ledger)
-    (s : ServesKey name set_name key room count sets taken es fs before after) where
+module _ {P S : Type 0} (name : P → ℕ) (set_name : S → ℕ) (key : BucketKey) (room count : ℕ) (sets : List (DescriptorSet S)) (ended : Result (Unit {0}) Stop) (es fs : List (BucketKey × DescriptorBucket P)) (before after : Ledger)
+    (s : ServesKey name set_name key room count sets ended es fs before after) where
   pub load_below : (most marked left out : ℕ) → IsConsistent most marked left out es → (key.update_after_bind ≡ true → count * sum (kinds key.size) + marked ≤ most) → marked_load (key_of key) (length sets) + marked ≤ most
   load_below most marked left out counted within = elim (cases_Bool key.update_after_bind) [
     | inl on ↦ (
-        let few = s.few in
+        let few = s.served.few in
         let all = within on in
         let is : marked_load (key_of key) (length sets) ≡ length sets * sum (kinds key.size) = rw on refl in
         let le = mul-le-mul_right (sum (kinds key.size)) few in
@@ -151,30 +149,24 @@ module _ {P S : Type 0} (name : P → ℕ) (set_name : S → ℕ) (most looks_be
   abbrev new : Allocations P
   new = record { limit = most; table = map row_of fs; looks = looks_after; comparisons = compared }
 
-  pub takes : (key : BucketKey) (room count : ℕ) (sets : List (DescriptorSet S)) (taken : Result (Unit {0}) Refusal) (before after : Ledger) → HasDistinctKeys (table_of name old) → HasDistinctKeys (table_of name new) → ServesKey name set_name key room count sets taken es fs before after → room + sum_by stored_load_in es ≡ most
-      → ((key_of key).marked ≡ true → count * sum (key_of key).counts + marked_load_of old ≤ most) → outstanding_of old + count ≤ greatest_u64 → Takes name set_name (key_of key) count sets taken old new before after
-  takes key room count sets taken before after distinct still s all within fits = record {
+  pub takes : (key : BucketKey) (room count : ℕ) (sets : List (DescriptorSet S)) (ended : Result (Unit {0}) Stop) (before after : Ledger) → HasDistinctKeys (table_of name old) → HasDistinctKeys (table_of name new) → ServesKey name set_name key room count sets ended es fs before after → room + sum_by stored_load_in es ≡ most
+      → ((key_of key).marked ≡ true → count * sum (key_of key).counts + marked_load_of old ≤ most) → outstanding_of old + count ≤ greatest_u64 → Takes name set_name (key_of key) count sets ended old new before after
+  takes key room count sets ended before after distinct still served all within fits = record {
+    served = s.served;
     distinct = distinct;
     still = still;
     within = within;
-    numbers = s.numbers;
     fits = fits;
     total = (let a = rows_out es in let b = rows_out fs in let c = s.out in omega arith);
     marked = (let a = rows_load es in let b = rows_load fs in let c = s.load in omega arith);
-    id = s.id;
-    kept = s.kept;
-    pools = s.pools;
-    state = λ i. record { books = fun_ext (λ l. s.books l ∙ at l (key_eq (key_of key) l) refl) i; ledger = after.pools };
-    done = subst (λ r. OnOk taken (let b = books_in name es (key_of key) in IsTakenAll (key_of key) r count s.id b.first (items_of set_name sets) b.pools s.pools before after)) room_is s.done;
-    stopped = subst (λ r. IfErr taken (λ why. let b = books_in name es (key_of key) in IsTakenUpTo why (key_of key) r count s.id b.first (items_of set_name sets) b.pools s.pools before after)) room_is s.stopped;
+    state = λ i. record { books = fun_ext s.books i; ledger = after.pools };
   }
     where
       room_is : room ≡ most - pool_load_of old
       room_is = (let rows = rows_pool_load es in omega arith)
 
-      at : (l : Key) (b : Bool) → key_eq (key_of key) l ≡ b → (if b then record (books_in name es (key_of key)) { id = s.id; pools = s.pools } else books_in name es l) ≡ (if b then record (books_in name es l) { id = s.id; pools = s.pools } else books_in name es l)
-      at l true h = ap (λ (x : Key). let r : Bucket = record (books_in name es x) { id = s.id; pools = s.pools } in r) (key_exact.same (key_of key) l h)
-      at l false h = refl
+      s : ServesKey name set_name key (most - pool_load_of old) count sets ended es fs before after
+      s = subst (λ (r : ℕ). ServesKey name set_name key r count sets ended es fs before after) room_is served
 
 -- ---- the tests of a request, over the fields of an allocator
 
@@ -204,8 +196,8 @@ module _ {P : Type 0} (name : P → ℕ) {a : Allocations P} {most looks compare
         unserved name a before apart (key_of key) count some b after same kept inside (omega arith) e (subst (λ (x : Bucket). IsUnserved count e x) (sym (books_at a es (table_is es is) name before (key_of key))) why)
 
 -- a request that passed them, and took what its key has
-module _ {P S : Type 0} {name : P → ℕ} {set_name : S → ℕ} {key : BucketKey} {room count : ℕ} {sets : List (DescriptorSet S)} {taken : Result (Unit {0}) Refusal} {es fs : List (BucketKey × DescriptorBucket P)} {before after : Ledger}
-    (s : ServesKey name set_name key room count sets taken es fs before after) {a : Allocations P} {most looks compared marked out : ℕ} (is : seen most looks compared es ≡ a) (counted : IsConsistent most marked room out es)
+module _ {P S : Type 0} {name : P → ℕ} {set_name : S → ℕ} {key : BucketKey} {room count : ℕ} {sets : List (DescriptorSet S)} {ended : Result (Unit {0}) Stop} {es fs : List (BucketKey × DescriptorBucket P)} {before after : Ledger}
+    (s : ServesKey name set_name key room count sets ended es fs before after) {a : Allocations P} {most looks compared marked out : ℕ} (is : seen most looks compared es ≡ a) (counted : IsConsistent most marked room out es)
     {above : Bool} (test : above ≡ (key.update_after_bind && nat_lt a.limit (count * sum (kinds key.size) + marked_load_of a))) (below : above ≡ false) where
   sets_within : key.update_after_bind ≡ true → count * sum (kinds key.size) + marked_load_of a ≤ a.limit
   sets_within = within_of key.update_after_bind a.limit (count * sum (kinds key.size) + marked_load_of a) (sym test ∙ below)
@@ -216,19 +208,19 @@ module _ {P S : Type 0} {name : P → ℕ} {set_name : S → ℕ} {key : BucketK
       let load = load_of_rows a es (table_is es is) in
       let limit = ap (λ (x : Allocations P). x.limit) is in
       let is_load = counted.is_load in
-      let fits = load_below name set_name key room count sets taken es fs before after s most marked room out counted (λ on. (let all = sets_within on in omega arith)) in
+      let fits = load_below name set_name key room count sets ended es fs before after s most marked room out counted (λ on. (let all = sets_within on in omega arith)) in
       let same = ap (marked_load (key_of key)) long in
       omega arith
 
   pub counted_now : {given more left : ℕ} → given ≡ length sets → more ≡ marked_load (key_of key) given → left + sum_by stored_load_in fs ≡ room + sum_by stored_load_in es → IsDistinct key_eq (stored_keys fs) → IsConsistent most (marked + more) left (out + given) fs
   counted_now {given} {more} {left} long load moved distinct =
       let fits = given_fits long in
-      counted_more name set_name key room count sets taken es fs before after s most marked room left out more given counted (load ∙ ap (marked_load (key_of key)) long) long (omega arith) moved distinct
+      counted_more name set_name key room count sets ended es fs before after s most marked room left out more given counted (load ∙ ap (marked_load (key_of key)) long) long (omega arith) moved distinct
 
-  pub takes_of : {past : Bool} → past ≡ nat_lt greatest_u64 (out + count) → past ≡ false → HasDistinctKeys (table_of name a) → {looked : ℕ} → HasDistinctKeys (map (named_row name) (map row_of fs)) → Takes name set_name (key_of key) count sets taken a (seen most looked compared fs) before after
+  pub takes_of : {past : Bool} → past ≡ nat_lt greatest_u64 (out + count) → past ≡ false → HasDistinctKeys (table_of name a) → {looked : ℕ} → HasDistinctKeys (map (named_row name) (map row_of fs)) → Takes name set_name (key_of key) count sets ended a (seen most looked compared fs) before after
   takes_of bounded kept_in distinct {looked} still =
       let fits = ltb-false greatest_u64 (out + count) (sym bounded ∙ kept_in) in
       let all = out_of a es (table_is es is) in
       let is_out = counted.is_out in
-      subst (λ (x : Allocations P). HasDistinctKeys (table_of name x) → (key.update_after_bind ≡ true → count * sum (kinds key.size) + marked_load_of x ≤ x.limit) → outstanding_of x + count ≤ greatest_u64 → Takes name set_name (key_of key) count sets taken x (seen most looked compared fs) before after) is
-      (λ d w f. takes name set_name most looks looked compared es fs key room count sets taken before after d still s counted.is_room w f) distinct sets_within (omega arith)
+      subst (λ (x : Allocations P). HasDistinctKeys (table_of name x) → (key.update_after_bind ≡ true → count * sum (kinds key.size) + marked_load_of x ≤ x.limit) → outstanding_of x + count ≤ greatest_u64 → Takes name set_name (key_of key) count sets ended x (seen most looked compared fs) before after) is
+      (λ d w f. takes name set_name most looks looked compared es fs key room count sets ended before after d still s counted.is_room w f) distinct sets_within (omega arith)

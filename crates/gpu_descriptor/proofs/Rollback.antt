@@ -6,9 +6,7 @@ use Rattle.std.proofs.lemmas.List.Sums.{sum_by-cons}
 use Rattle.std.specs.List.{list_any}
 use Rattle.std.specs.Prelude.{if◌then◌else◌}
 use Rattle.gpu_descriptor_types.proofs.Counting.{any_found, count_by_yes, count_by_no}
-use Rattle.gpu_descriptor_types.specs.Ledger.{Counters, alloc_refused, no_rise}
-use Rattle.gpu_descriptor_types.specs.declared.errors.DeviceAllocationError.{DeviceAllocationError}
-use Rattle.gpu_descriptor_types.specs.declared.errors.DeviceAllocationError.TheVariants as alloc_error
+use Rattle.gpu_descriptor_types.specs.Ledger.{Counters, no_rise}
 use Rattle.gpu_descriptor.specs.Model.Load.{marked_load}
 use Rattle.gpu_descriptor.specs.Model.Agreement.{State, Item, item_eq, count_of, Agree}
 use Rattle.gpu_descriptor.specs.Model.Books.{Key, key_eq, Bucket, books_of, no_pools, HasDistinctKeys}
@@ -29,12 +27,6 @@ use Rattle.gpu_descriptor.proofs.Tables.{key_eq_symm}
 
 pub give_back_rise : (gone calls : ℕ) (c : Counters) → more_destroyed gone (more_released calls c) ≡ risen (record no_rise { released = calls; destroyed = gone }) c
 give_back_rise gone calls c = same_counters _ _ (omega arith) (omega arith) (omega arith) (omega arith) (omega arith) (omega arith) (omega arith) (omega arith)
-
-pub alloc_rise : (error : DeviceAllocationError) (c : Counters) → alloc_refused error c ≡ risen (alloc_refused error no_rise) c
-alloc_rise alloc_error.OutOfDeviceMemory c = same_counters _ _ (omega arith) (omega arith) (omega arith) (omega arith) (omega arith) (omega arith) (omega arith) (omega arith)
-alloc_rise alloc_error.OutOfHostMemory c = same_counters _ _ (omega arith) (omega arith) (omega arith) (omega arith) (omega arith) (omega arith) (omega arith) (omega arith)
-alloc_rise alloc_error.FragmentedPool c = same_counters _ _ (omega arith) (omega arith) (omega arith) (omega arith) (omega arith) (omega arith) (omega arith) (omega arith)
-alloc_rise alloc_error.OutOfPoolMemory c = same_counters _ _ (omega arith) (omega arith) (omega arith) (omega arith) (omega arith) (omega arith) (omega arith) (omega arith)
 
 -- ---- the pools that go are the key's
 

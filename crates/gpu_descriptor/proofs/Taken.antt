@@ -3,7 +3,7 @@ use Rattle.std.proofs.Common.{ap, ◌≡◌, ℕ, ◌+◌, ◌≤◌, List, [], 
 use Rattle.std.specs.Iterator.{Count, IsFinite, size, MakesProgress, Yields, YieldsThen}
 use Rattle.gpu_descriptor.specs.declared.set.DescriptorSet.{DescriptorSet}
 use Rattle.gpu_descriptor.specs.declared.bucket.run.Run.{Run}
-use Rattle.gpu_descriptor.specs.Inner.RunSteps.{at_place, HaveKey, Looks, Hands, RunStep}
+use Rattle.gpu_descriptor.specs.Inner.RunSteps.{at_place, AllPass, Looks, Hands, RunStep}
 
 module _ {T S : Type 0} (steps : T → Option (DescriptorSet S) → T → Type 0) (can : T → Type 0) (left : T → Count) where
   -- a step that gave y
@@ -59,7 +59,7 @@ module _ {T S : Type 0} (steps : T → Option (DescriptorSet S) → T → Type 0
   pub record Took (s : Run T S) (ys : List S) (t : Run T S) : Type 0 where
     pub xs : List (DescriptorSet S)
     pub raws : map (λ x. x.raw) xs ≡ ys
-    pub keys : HaveKey s.id s.number xs
+    pub keys : AllPass (at_place s.id s.number) xs
     pub came : Yields steps s.source.now xs t.source.now
     pub ahead : t.ahead.now ≡ None
     pub key : t.id ≡ s.id
@@ -80,7 +80,7 @@ module _ {T S : Type 0} (steps : T → Option (DescriptorSet S) → T → Type 0
       let v = gave s z j y.1 in
       let l = asks s.source.now s.ahead.now (Some v.item) j.source.now n v.looks in
       let w = took zs j t v.ahead y.2 in
-      let ks : HaveKey s.id s.number w.xs = subst (λ a. HaveKey a s.number w.xs) y.1.0 (subst (λ b. HaveKey j.id b w.xs) y.1.1 w.keys) in
+      let ks : AllPass (at_place s.id s.number) w.xs = subst (λ a. AllPass (at_place a s.number) w.xs) y.1.0 (subst (λ b. AllPass (at_place j.id b) w.xs) y.1.1 w.keys) in
       let e = v.count in
       record {
         xs = v.item ∷ w.xs;
@@ -112,7 +112,7 @@ module _ {T S : Type 0} (steps : T → Option (DescriptorSet S) → T → Type 0
   pub record Whole (s : Run T S) (x : DescriptorSet S) (ys : List S) (u : Run T S) : Type 0 where
     pub xs : List (DescriptorSet S)
     pub raws : map (λ y. y.raw) (x ∷ xs) ≡ ys
-    pub keys : HaveKey s.id s.number xs
+    pub keys : AllPass (at_place s.id s.number) xs
     pub name : u.source.ghost_name ≡ s.source.ghost_name
     pub aname : u.ahead.ghost_name ≡ s.ahead.ghost_name
     pub source : T
@@ -131,7 +131,7 @@ module _ {T S : Type 0} (steps : T → Option (DescriptorSet S) → T → Type 0
       let w = took zs j y.0 v.ahead y.1.2 in
       let e = y.1.1.0 in
       let f = y.1.1.1 in
-      let ks : HaveKey s.id s.number w.xs = subst (λ a. HaveKey a s.number w.xs) e (subst (λ b. HaveKey j.id b w.xs) f w.keys) in
+      let ks : AllPass (at_place s.id s.number) w.xs = subst (λ a. AllPass (at_place a s.number) w.xs) e (subst (λ b. AllPass (at_place j.id b) w.xs) f w.keys) in
       let st = stopped y.0 u w.ahead y.2 in
       let vx : v.item ≡ x = (cc) in
       record {
@@ -152,7 +152,7 @@ module _ {T S : Type 0} (steps : T → Option (DescriptorSet S) → T → Type 0
   pub record Front (s : Run T S) (x : DescriptorSet S) (ys : List S) : Type 0 where
     pub xs : List (DescriptorSet S)
     pub raws : map (λ y. y.raw) (x ∷ xs) ≡ ys
-    pub keys : HaveKey s.id s.number xs
+    pub keys : AllPass (at_place s.id s.number) xs
     pub source : T
     pub came : Yields steps s.source.now xs source
 
@@ -166,7 +166,7 @@ module _ {T S : Type 0} (steps : T → Option (DescriptorSet S) → T → Type 0
       record {
         xs = w.xs;
         raws = rw (← vx, v.raw, w.raws) refl;
-        keys = subst (λ a. HaveKey a s.number w.xs) y.1.0 (subst (λ b. HaveKey j.id b w.xs) y.1.1 w.keys);
+        keys = subst (λ a. AllPass (at_place a s.number) w.xs) y.1.0 (subst (λ b. AllPass (at_place j.id b) w.xs) y.1.1 w.keys);
         source = t.source.now;
         came = subst (λ a. Yields steps a w.xs t.source.now) l.1 w.came;
       }

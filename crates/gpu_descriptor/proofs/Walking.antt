@@ -1,5 +1,5 @@
 -- The walk over a key's pools, as far as it has come.
-use Rattle.std.proofs.Common.{◌≡◌, ◌≢◌, ℕ, zero, suc, ◌+◌, ◌<◌, ◌≤◌, List, [], ◌∷◌, ◌++◌, length, map, min, take, drop, slice_set, Bool, false, nat_lt, ◌&&◌, Option, Some, None, refl, sym, ap, ◌∙◌, subst, arith}
+use Rattle.std.proofs.Common.{◌≡◌, ◌≢◌, ℕ, zero, suc, ◌+◌, ◌<◌, ◌≤◌, List, [], ◌∷◌, ◌++◌, length, map, min, take, drop, slice_set, Bool, false, nat_lt, ◌&&◌, Option, Some, None, Err, refl, sym, ap, ◌∙◌, subst, arith}
 use Rattle.std.proofs.lemmas.List.{append-nil}
 use Rattle.std.proofs.Math.Path.{fun_ext}
 use Rattle.std.proofs.lemmas.Grind.{flat_map-append}
@@ -12,22 +12,22 @@ use Rattle.gpu_descriptor.specs.Model.Agreement.{Item}
 use Rattle.gpu_descriptor.specs.Model.Grants.{Part, items_at, items_in, pool_with, ledger_with}
 use Rattle.gpu_descriptor.specs.Model.Shares.{rest, all_shared, portions_of, asked_count, refused_count}
 use Rattle.gpu_descriptor.specs.Inner.Buckets.{IsBookedIn, AreBookedIn}
-use Rattle.gpu_descriptor.specs.Inner.Walk.{sets_at, KeepsKey, IsAsked, IsNoMemory, HasTaken, IsWalked, IsWalkStopped}
+use Rattle.gpu_descriptor.specs.Inner.Walk.{sets_at, IsAsked, IsNoMemory, HasTaken, IsWalked}
+use Rattle.gpu_descriptor.specs.Inner.Grow.{IsTaken}
+use Rattle.gpu_descriptor.specs.declared.bucket.take.Stop.TheVariants.{Existing}
 use Rattle.gpu_descriptor_types.specs.Ledger.{Pool, Ledger, live_sets, changed}
 use Rattle.gpu_descriptor_types.specs.declared.errors.DeviceAllocationError.{DeviceAllocationError}
 use Rattle.std.proofs.lemmas.Option.{slice_get_within}
 use Rattle.gpu_descriptor.proofs.KeepSteps.{keeps_start, keeps_asked}
-use Rattle.gpu_descriptor.proofs.Asks.{pool_same, same_counters, skipped}
+use Rattle.gpu_descriptor.proofs.Asks.{alloc_rise, pool_same, same_counters, skipped}
 use Rattle.gpu_descriptor.proofs.Shares.{IsApart, apart_from, not_refused, drop_at, get_drop, or_at}
 use Rattle.gpu_descriptor.proofs.Steps.{part, so_far, taken_more, rest_now}
 
 pub record Walking (k : Key) (n id first left wanting : ℕ) (items : List Item) (old new : List Entry) (l m : Ledger) : Type 0 where
   pub refused : ℕ → Bool
   pub parts : List Part
-  pub came : items_in k id parts ≡ items
   pub wants : wanting ≡ rest refused n (drop left old)
-  pub taken : HasTaken k n first (so_far id left refused parts) old new l m
-  pub keeps : KeepsKey k id first items old new l.pools m.pools
+  pub taken : HasTaken k n id first (so_far id left refused parts) items old new l m
   pub untouched : (j : ℕ) (e : Entry) → j < left → slice_get old j ≡ Some e → m.pools e.pool ≡ l.pools e.pool
 
 take_get : {A : Type 0} (xs : List A) (i : ℕ) (x : A) → slice_get xs i ≡ Some x → take (suc i) xs ≡ take i xs ++ x ∷ []
@@ -68,10 +68,10 @@ module _ (k : Key) (n id first i wanting : ℕ) (items : List Item) (old new : L
       record {
         refused = or_at a.refused e.pool s.refused;
         parts = s.parts ++ part (first + i) e.pool more ∷ [];
-        came = flat_map-append (λ (p : Part). items_at k id p.number p.names) s.parts (part (first + i) e.pool more ∷ []) ∙ ap (λ x. items_in k id s.parts ++ x) (append-nil (items_at k id (first + i) more)) ∙ ap (λ x. x ++ items_at k id (first + i) more) s.came;
         wants = (let r = rest_now id n first i s.refused s.parts old e f more k m m' (apart e at) tail not_yet a in let w = s.wants in omega arith);
-        taken = taken_more id n first i s.refused s.parts old e f more k m m' (apart e at) tail not_yet a l new (long_take old i e at) (take_get old i e at) s.taken;
-        keeps = keeps_asked k id first i wanting items old new l.pools more e f m m' s.keeps (next_was (slice_get_within old i e at) ∙ at) asked;
+        taken = taken_more id n first i s.refused s.parts old e f more k m m' (apart e at) tail not_yet a l new items (items ++ items_at k id (first + i) more) (long_take old i e at) (take_get old i e at) s.taken
+        (flat_map-append (λ (p : Part). items_at k id p.number p.names) s.parts (part (first + i) e.pool more ∷ []) ∙ ap (λ x. items_in k id s.parts ++ x) (append-nil (items_at k id (first + i) more)) ∙ ap (λ x. x ++ items_at k id (first + i) more) s.taken.came)
+        (keeps_asked k id first i wanting items old new l.pools more e f m m' s.taken.keeps (next_was (slice_get_within old i e at) ∙ at) asked);
         untouched = λ j d lt there.
             let ne : d.pool ≢ e.pool = λ same. (let place = booked.distinct j i d e there at same in absurd (omega arith)) in
             ap (λ (f : ℕ → Option Pool). f d.pool) asked.pools
@@ -101,9 +101,11 @@ walk_start k n id first old l booked =
     record {
       refused = none_refuse;
       parts = [];
-      came = refl;
       wants = (let e : n ≡ rest none_refuse n [] = omega arith in e ∙ ap (rest none_refuse n) (sym none));
       taken = record {
+        named = refl;
+        came = refl;
+        keeps = keeps_start k id first old l.pools booked;
         refusing = λ name h. absurd (cc);
         parts = ap (λ es. portions_of none_refuse n (first + length old) es ++ []) (sym none);
         is_new = tt;
@@ -114,12 +116,11 @@ walk_start k n id first old l booked =
             let refuse : refused_count none_refuse (drop (length old) old) ≡ 0 = ap (refused_count none_refuse) none in
             same_counters _ _ (omega arith) (omega arith) (omega arith) (omega arith) (omega arith) (omega arith) (omega arith) (omega arith);
       };
-      keeps = keeps_start k id first old l.pools booked;
       untouched = λ j e lt at. refl;
     }
 
-pub walk_end : (k : Key) (n id first wanting : ℕ) (items : List Item) (old new : List Entry) (l m : Ledger) → Walking k n id first 0 wanting items old new l m → (w : IsWalked k n id first 0 items old new l m) × (wanting ≡ rest w.grant.refused n old)
-walk_end k n id first wanting items old new l m s = (record { grant = so_far id 0 s.refused s.parts; named = refl; from = refl; no_fresh = refl; came = s.came; keeps = s.keeps; taken = s.taken }, s.wants)
+pub walk_end : (k : Key) (n id first wanting : ℕ) (items : List Item) (old new : List Entry) (l m : Ledger) → Walking k n id first 0 wanting items old new l m → IsWalked k n id first wanting items old new l m
+walk_end k n id first wanting items old new l m s = record { grant = so_far id 0 s.refused s.parts; all = refl; no_fresh = refl; wants = s.wants; taken = s.taken }
 
 split_at : {A : Type 0} (xs : List A) (i : ℕ) (x : A) → slice_get xs i ≡ Some x → xs ≡ take i xs ++ x ∷ drop (suc i) xs
 split_at [] i x h = absurd (cc)
@@ -131,27 +132,23 @@ set_same [] i x h = absurd (cc)
 set_same (y ∷ xs) zero x h = (let e : y ≡ x = cc in ap (λ z. z ∷ xs) (sym e))
 set_same (y ∷ xs) (suc i) x h = ap (λ z. y ∷ z) (set_same xs i x h)
 
-pub walk_stop : (k : Key) (n id first i wanting : ℕ) (items : List Item) (old new : List Entry) (l m m' : Ledger) (e f : Entry) (error : DeviceAllocationError) → Walking k n id first (suc i) wanting items old new l m → slice_get old i ≡ Some e → slice_get new i ≡ Some e → f ≡ e → IsNoMemory wanting e error m m' → IsWalkStopped k n id first error items old (slice_set new i f) l m'
-walk_stop k n id first i wanting items old new l m m' e f error s was is same none = record {
-  older = take i old;
-  pool = e;
-  newer = drop (suc i) old;
-  here = split_at old i e was;
-  between = m;
-  walked = record {
-    grant = so_far id (suc i) s.refused s.parts;
-    named = refl;
-    from = (let long = long_take old i e was in omega arith);
+pub walk_stop : (k : Key) (room n id first i wanting : ℕ) (items : List Item) (old new : List Entry) (l m m' : Ledger) (e f : Entry) (error : DeviceAllocationError) → Walking k n id first (suc i) wanting items old new l m → slice_get old i ≡ Some e → slice_get new i ≡ Some e → f ≡ e → IsNoMemory wanting e error m m' → IsTaken (Err (Existing error)) k room n id first items old (slice_set new i f) l m'
+walk_stop k room n id first i wanting items old new l m m' e f error s was is same none = (
+  so_far id (suc i) s.refused s.parts,
+  m,
+  subst (λ (es : List Entry). HasTaken k n id first (so_far id (suc i) s.refused s.parts) items old es l m) (sym (ap (slice_set new i) same ∙ set_same new i e is)) s.taken,
+  record {
+    older = take i old;
+    pool = e;
+    newer = drop (suc i) old;
+    here = split_at old i e was;
+    left = (let long = long_take old i e was in omega arith);
     no_fresh = refl;
-    came = s.came;
-    keeps = subst (λ (es : List Entry). KeepsKey k id first items old es l.pools m.pools) (sym (ap (slice_set new i) same ∙ set_same new i e is)) s.keeps;
-    taken = subst (λ (es : List Entry). HasTaken k n first (so_far id (suc i) s.refused s.parts) old es l m) (sym (ap (slice_set new i) same ∙ set_same new i e is)) s.taken;
-  };
-  asked = ap (λ w. nat_lt 0 e.free && nat_lt 0 w) (sym s.wants) ∙ none.asked;
-  memory = none.memory;
-  pools = none.pools;
-  counters = none.counters;
-}
+    asked = ap (λ w. nat_lt 0 e.free && nat_lt 0 w) (sym s.wants) ∙ none.asked;
+    memory = none.memory;
+  },
+  record { pools = none.pools; counters = none.counters ∙ alloc_rise error m.counters },
+)
 
 get_at : {A : Type 0} (xs : List A) (i : ℕ) → i < length xs → (x : A) × (slice_get xs i ≡ Some x)
 get_at [] i h = absurd (omega arith)

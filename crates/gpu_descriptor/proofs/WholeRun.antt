@@ -16,7 +16,7 @@ use Rattle.gpu_descriptor.specs.Inner.Releases.{IsTakenAt, names_of, bucket_back
 use Rattle.gpu_descriptor.specs.Inner.Buckets.{trimmed_bucket, pools_without}
 use Rattle.gpu_descriptor.specs.Model.Release.{entry_less, pool_less, given_back, fronts_gone, released, spent_front, pools_gone}
 use Rattle.gpu_descriptor.specs.Caller.Sets.{item_of, items_of}
-use Rattle.gpu_descriptor.specs.Inner.RunSteps.{lies_at, LieAt}
+use Rattle.gpu_descriptor.specs.Inner.RunSteps.{lies_at, AllPass}
 use Rattle.gpu_descriptor.proofs.Exact.{key_exact, item_exact}
 use Rattle.gpu_descriptor.proofs.Fronts.{entry_at-found, entry_at-from}
 use Rattle.gpu_descriptor.proofs.Kept.{has_place}
@@ -45,7 +45,7 @@ at_parts k n x h =
     (key_exact.same x.key.is k both.0, eqb-true x.number n both.1)
 
 module _ {S : Type 0} (name : S → ℕ) where
-  in_run : (k : Key) (n : ℕ) (xs : List (DescriptorSet S)) → LieAt k n xs → (t : Item) → 0 < count_of t (items_of name xs) → (t.key ≡ k) × (t.number ≡ n)
+  in_run : (k : Key) (n : ℕ) (xs : List (DescriptorSet S)) → AllPass (lies_at k n) xs → (t : Item) → 0 < count_of t (items_of name xs) → (t.key ≡ k) × (t.number ≡ n)
   in_run k n [] have t h = absurd (omega arith)
   in_run k n (x ∷ xs) have t h =
       let one : Item = item_of name x in
@@ -57,11 +57,11 @@ module _ {S : Type 0} (name : S → ℕ) where
         | inr other ↦ (let skip : count_of t (one ∷ items_of name xs) ≡ count_of t (items_of name xs) = count_by_no (λ u. item_eq u t) one (items_of name xs) other in in_run k n xs have.1 t (omega arith))
       ]
 
-  pub is_run : (k : Key) (n : ℕ) (xs : List (DescriptorSet S)) → LieAt k n xs → IsRun k n (items_of name xs)
+  pub is_run : (k : Key) (n : ℕ) (xs : List (DescriptorSet S)) → AllPass (lies_at k n) xs → IsRun k n (items_of name xs)
   is_run k n xs have t h = in_run k n xs have t h
 
   -- the sets of a run, counted
-  pub named_times : (k : Key) (n : ℕ) (xs : List (DescriptorSet S)) → LieAt k n xs → (x : LiveSet) → count_by (λ t. set_eq (set_of t) x) (items_of name xs) ≡ times (live_sets k.counts (names_of name xs)) x
+  pub named_times : (k : Key) (n : ℕ) (xs : List (DescriptorSet S)) → AllPass (lies_at k n) xs → (x : LiveSet) → count_by (λ t. set_eq (set_of t) x) (items_of name xs) ≡ times (live_sets k.counts (names_of name xs)) x
   named_times k n [] have x = refl
   named_times k n (y ∷ ys) have x =
       let one : Item = item_of name y in
@@ -79,11 +79,11 @@ module _ {S : Type 0} (name : S → ℕ) where
   same_length : (xs : List (DescriptorSet S)) → length (items_of name xs) ≡ length (names_of name xs)
   same_length xs = length-map xs (λ (x : DescriptorSet S). item_of name x) ∙ sym (length-map xs (λ (x : DescriptorSet S). name x.raw))
 
-  all_have : (x : DescriptorSet S) (xs : List (DescriptorSet S)) → LieAt x.key.is x.number xs → LieAt x.key.is x.number (x ∷ xs)
+  all_have : (x : DescriptorSet S) (xs : List (DescriptorSet S)) → AllPass (lies_at x.key.is x.number) xs → AllPass (lies_at x.key.is x.number) (x ∷ xs)
   all_have x xs have = (lies_own x, have)
 
   -- where a run lies
-  pub taken_of : (s : State) → Agree s → (x : DescriptorSet S) (xs : List (DescriptorSet S)) → LieAt x.key.is x.number xs → AreOutstanding (items_of name (x ∷ xs)) s → IsTakenAt x.key.is x.number (names_of name (x ∷ xs)) (s.books x.key.is) s.ledger
+  pub taken_of : (s : State) → Agree s → (x : DescriptorSet S) (xs : List (DescriptorSet S)) → AllPass (lies_at x.key.is x.number) xs → AreOutstanding (items_of name (x ∷ xs)) s → IsTakenAt x.key.is x.number (names_of name (x ∷ xs)) (s.books x.key.is) s.ledger
   taken_of s agree x xs have out =
       let k = x.key.is in
       let n = x.number in
@@ -117,7 +117,7 @@ module _ {S : Type 0} (name : S → ℕ) where
       λ i. Some (record p { live = live i })
 
   -- THE STATE AFTER ONE RUN, before the front goes
-  pub given_run : (s : State) → Agree s → (x : DescriptorSet S) (xs : List (DescriptorSet S)) → LieAt x.key.is x.number xs → (e : Entry) → (s.books x.key.is).first ≤ x.number → slice_get (s.books x.key.is).pools (x.number - (s.books x.key.is).first) ≡ Some e
+  pub given_run : (s : State) → Agree s → (x : DescriptorSet S) (xs : List (DescriptorSet S)) → AllPass (lies_at x.key.is x.number) xs → (e : Entry) → (s.books x.key.is).first ≤ x.number → slice_get (s.books x.key.is).pools (x.number - (s.books x.key.is).first) ≡ Some e
       → given_back (items_of name (x ∷ xs)) s ≡ record {
         books = put_books s.books x.key.is (bucket_back (s.books x.key.is) x.number (length (names_of name (x ∷ xs))) e);
         ledger = taken_from s.ledger e.pool (live_sets x.key.is.counts (names_of name (x ∷ xs)));
@@ -159,7 +159,7 @@ module _ {S : Type 0} (name : S → ℕ) where
       λ i. record { books = books i; ledger = ledger i }
 
   -- THE FRONT OF THE RUN'S KEY
-  pub front_run : (x : DescriptorSet S) (xs : List (DescriptorSet S)) → LieAt x.key.is x.number xs → (books : Key → Bucket) (b : Bucket) (pools : ℕ → Option Pool)
+  pub front_run : (x : DescriptorSet S) (xs : List (DescriptorSet S)) → AllPass (lies_at x.key.is x.number) xs → (books : Key → Bucket) (b : Bucket) (pools : ℕ → Option Pool)
       → fronts_gone (items_of name (x ∷ xs)) (record { books = put_books books x.key.is b; ledger = pools }) ≡ record { books = put_books books x.key.is (trimmed_bucket 1 b); ledger = trimmed_pools b pools }
   front_run x xs have books b pools =
       let k = x.key.is in
@@ -192,7 +192,7 @@ module _ {S : Type 0} (name : S → ℕ) where
       λ i. record { books = books_are i; ledger = ledger i }
 
   -- THE STATE AFTER ONE RUN
-  pub whole_run : (s : State) → Agree s → (x : DescriptorSet S) (xs : List (DescriptorSet S)) → LieAt x.key.is x.number xs → (e : Entry) → (s.books x.key.is).first ≤ x.number → slice_get (s.books x.key.is).pools (x.number - (s.books x.key.is).first) ≡ Some e
+  pub whole_run : (s : State) → Agree s → (x : DescriptorSet S) (xs : List (DescriptorSet S)) → AllPass (lies_at x.key.is x.number) xs → (e : Entry) → (s.books x.key.is).first ≤ x.number → slice_get (s.books x.key.is).pools (x.number - (s.books x.key.is).first) ≡ Some e
       → (c : Bucket) (pools : ℕ → Option Pool) → c ≡ trimmed_bucket 1 (bucket_back (s.books x.key.is) x.number (length (names_of name (x ∷ xs))) e) → pools ≡ trimmed_pools (bucket_back (s.books x.key.is) x.number (length (names_of name (x ∷ xs))) e) (taken_from s.ledger e.pool (live_sets x.key.is.counts (names_of name (x ∷ xs))))
       → ◌≡◌ {A = State} (record { books = put_books s.books x.key.is c; ledger = pools }) (released (items_of name (x ∷ xs)) s)
   whole_run s agree x xs have e above place c pools is are =
@@ -218,7 +218,7 @@ module _ {S : Type 0} (name : S → ℕ) where
   ]
 
   -- THE POOLS THAT GO are those of the run's key
-  pub gone_run : (s : State) → Agree s → (x : DescriptorSet S) (xs : List (DescriptorSet S)) → LieAt x.key.is x.number xs → (e : Entry) → (s.books x.key.is).first ≤ x.number → slice_get (s.books x.key.is).pools (x.number - (s.books x.key.is).first) ≡ Some e
+  pub gone_run : (s : State) → Agree s → (x : DescriptorSet S) (xs : List (DescriptorSet S)) → AllPass (lies_at x.key.is x.number) xs → (e : Entry) → (s.books x.key.is).first ≤ x.number → slice_get (s.books x.key.is).pools (x.number - (s.books x.key.is).first) ≡ Some e
       → (keys : List Key) → count_by (key_eq x.key.is) keys ≡ 1 → pools_gone keys (items_of name (x ∷ xs)) (given_back (items_of name (x ∷ xs)) s) ≡ spent_front (bucket_back (s.books x.key.is) x.number (length (names_of name (x ∷ xs))) e)
   gone_run s agree x xs have e above place keys there =
       let k = x.key.is in

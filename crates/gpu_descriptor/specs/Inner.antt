@@ -9,5 +9,4 @@ pub mod RunSteps
 pub mod Serves
 pub mod SetAt
 pub mod Stored
-pub mod Takes
 pub mod Walk

@@ -2,9 +2,7 @@
 ghost use Rattle.std.specs.Prelude.{◌≡◌, ◌+◌, ◌<◌, ◌≤◌, ◌^◌, length, nat_lt, sum_by};
 ghost use Rattle.std.specs.VecDeque.{deque_capacity};
 ghost use Rattle.gpu_descriptor_types.specs.Bounds.{greatest_u64};
-ghost use Rattle.gpu_descriptor.specs.Model.Load.{pool_load};
 ghost use Rattle.gpu_descriptor.specs.Inner.OpenNumbers.{free_in, open_numbers};
-ghost use Rattle.gpu_descriptor.specs.Caller.KeyOf.{key_of};
 
 pub(crate) mod allocation;
 mod front;
@@ -14,7 +12,6 @@ mod run;
 mod search;
 pub(crate) mod take;
 
-use crate::set::BucketKey;
 use std::collections::VecDeque;
 
 /// A pool, and what the books say of it.
@@ -53,19 +50,6 @@ pub(crate) struct DescriptorBucket<P> {
     ghost counted: { total ≡ sum_by (λ p. p.allocated) pools.items },
     ghost open: { listed.items ≡ open_numbers offset (free_in pools.items) },
     ghost room: { length pools.items ≤ deque_capacity listed },
-}
-
-/// How many descriptors a pool of so many sets has, if its key is marked, and else 0. A pool for
-/// sets without descriptors has one.
-pub(crate) fn descriptors_of_pool(key: &BucketKey, sets: u32) -> u32
-    requires { pool_load (key_of key.now) sets < 2 ^ 32 }
-    ensures { result ≡ pool_load (key_of key.now) sets }
-{
-    if key.update_after_bind {
-        (u64::from(sets) * key.size.total()).max(1) as u32
-    } else {
-        0
-    }
 }
 
 /// Whether so many more would pass the greatest number of 64 bits.

@@ -118,17 +118,21 @@ fn set_count(kinds: &[u32; 14], start: u32) -> u32
 {
     let mut sets = start;
     for kind in kinds {
-        sets = sets.min(sets_of(*kind));
+        sets = cut_to(sets, *kind);
     }
     sets
 }
 
-/// How many sets a kind allows. Most kinds of a layout have none, and need no division.
+/// The smaller of `sets` and what a kind allows. It divides only where so many would pass 32 bits.
 #[inline]
-fn sets_of(kind: u32) -> u32
-    ensures { result ≡ sets_of_kind kind }
+fn cut_to(sets: u32, kind: u32) -> u32
+    ensures { result ≡ min sets (sets_of_kind kind) }
 {
-    if kind == 0 { u32::MAX } else { u32::MAX / kind }
+    if sets.checked_mul(kind).is_some() {
+        sets
+    } else {
+        u32::MAX / kind
+    }
 }
 
 /// The counts of a pool of so many sets.

@@ -1,7 +1,7 @@
--- A key's pools, as a request sees them.
-use Rattle.std.specs.Prelude.{◌≡◌, ℕ, ◌+◌, ◌≤◌, [], length}
-use Rattle.std.specs.VecDeque.{deque_capacity, deque_with_item}
-use Rattle.std.specs.Borrow.{Lends, MutBor, Fml, RattleType}
+-- A key's pools, as the walk of a request sees them.
+use Rattle.std.specs.Prelude.{◌≡◌, ℕ, ◌+◌, [], Option}
+use Rattle.std.specs.VecDeque.{deque_with_item}
+use Rattle.std.specs.Borrow.{LendsIf, MutBor, Fml, RattleType}
 use mir.Syntax.{named}
 use Rattle.gpu_descriptor_types.specs.Ledger.{Ledger}
 use Rattle.gpu_descriptor.specs.Inner.OpenNumbers.{open_numbers, free_in}
@@ -10,10 +10,14 @@ use Rattle.gpu_descriptor.specs.declared.bucket.reads.OpenPools.{OpenPools}
 use Rattle.gpu_descriptor.specs.contracts.bucket.DescriptorPool as pool
 use Rattle.gpu_descriptor.specs.contracts.bucket.reads.OpenPools as open_pools
 
+-- looks rose as often as pools were asked
+abbrev pub CountsLooks : ℕ → ℕ → Ledger → Ledger → Type 0
+CountsLooks old new before after = new + before.counters.asked ≡ old + after.counters.asked
+
 module _ {P : Type 0} where
-  -- the list has exactly the open pools, and room for all
+  -- the list has exactly the open pools
   abbrev pub IsListed : OpenPools P → Type 0
-  IsListed v = (v.listed.now.items ≡ open_numbers v.offset (free_in v.pools.now.items)) × (length v.pools.now.items ≤ deque_capacity v.listed.now)
+  IsListed v = v.listed.now.items ≡ open_numbers v.offset (free_in v.pools.now.items)
 
   -- the numbers start where they did, and the view is over the same values
   abbrev pub KeepsView : OpenPools P → OpenPools P → Type 0
@@ -23,9 +27,5 @@ module _ {P : Type 0} where
   abbrev pub looked_at : OpenPools P → ℕ → DescriptorPool P → OpenPools P
   looked_at v place p = record v { pools = record v.pools { now = deque_with_item v.pools.now place p }; looks = record v.looks { now = record { count = v.looks.now.count + 1 } } }
 
-  -- looks rose as often as pools were asked
-  abbrev pub CountsLooks : OpenPools P → OpenPools P → Ledger → Ledger → Type 0
-  CountsLooks old new before after = new.looks.now.count + before.counters.asked ≡ old.looks.now.count + after.counters.asked
-
-abbrev pub LendsPool : (P : RattleType) → MutBor (OpenPools P.Denot) → ℕ → MutBor (DescriptorPool P.Denot) → Fml
-LendsPool P v place r = Lends (open_pools.the_row (record { mir = named 1; lft = [] }) (record { mir = named 2; lft = [] }) (record { mir = named 3; lft = [] }) P) (pool.the_row P) v r (looked_at v.now place)
+abbrev pub LendsNewest : (P : RattleType) → MutBor (OpenPools P.Denot) → ℕ → Option (MutBor (DescriptorPool P.Denot)) → Fml
+LendsNewest P v place r = LendsIf (open_pools.the_row (record { mir = named 1; lft = [] }) (record { mir = named 2; lft = [] }) (record { mir = named 3; lft = [] }) P) (pool.the_row P) v r (looked_at v.now place) v.now

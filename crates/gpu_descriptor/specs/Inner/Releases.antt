@@ -4,7 +4,7 @@ use Rattle.gpu_descriptor_types.specs.Ledger.{Ledger, Pool, after_release, live_
 use Rattle.gpu_descriptor.specs.declared.set.DescriptorSet.{DescriptorSet}
 use Rattle.gpu_descriptor.specs.Model.Agreement.{live_in}
 use Rattle.gpu_descriptor.specs.Model.Release.{entry_less}
-use Rattle.gpu_descriptor.specs.Inner.RunSteps.{EndsAt, EndsRun}
+use Rattle.gpu_descriptor.specs.Inner.RunSteps.{EndsRun, at_place, lies_at}
 use Rattle.gpu_descriptor.specs.Caller.Values.{Allocations}
 use Rattle.gpu_descriptor.specs.Caller.Frees.{GivesBack}
 use Rattle.gpu_descriptor_types.specs.Multiset.{LiveSet, times}
@@ -17,7 +17,7 @@ use Rattle.gpu_descriptor.specs.Inner.Buckets.{trimmed_bucket, trimmed_ledger}
 pub record FreesRun {P S T : Type 0} (steps : T → Option (DescriptorSet S) → T → Type 0) (pool_name : P → ℕ) (set_name : S → ℕ) (first : DescriptorSet S) (given : T) (ahead : Option (DescriptorSet S)) (left : T) (old new : Allocations P) (before after : Ledger) : Type 0 where
   -- the sets behind first
   pub sets : List (DescriptorSet S)
-  pub came : EndsAt steps first.key.is first.number given sets ahead left
+  pub came : EndsRun steps (lies_at first.key.is first.number) given sets ahead left
   pub back : GivesBack pool_name set_name (first ∷ sets) 1 old new before after
 
 -- the sets of these names are live in the key's pool with the number
@@ -48,6 +48,6 @@ names_of name xs = map (λ x. name x.raw) xs
 pub record ReleasesRun {P S T : Type 0} (steps : T → Option (DescriptorSet S) → T → Type 0) (pool_name : P → ℕ) (set_name : S → ℕ) (first : DescriptorSet S) (given : T) (ahead : Option (DescriptorSet S)) (left : T) (old new : DescriptorBucket P) (before after : Ledger) : Type 0 where
   -- the sets behind first
   pub sets : List (DescriptorSet S)
-  pub came : EndsRun steps first.id first.number given sets ahead left
+  pub came : EndsRun steps (at_place first.id first.number) given sets ahead left
   pub went : RunsInto first.key.is first.number (names_of set_name (first ∷ sets)) (bucket_of pool_name old) before (bucket_of pool_name new) after
   pub total : new.total + length (first ∷ sets) ≡ old.total

@@ -8,34 +8,24 @@ use Rattle.gpu_descriptor.specs.declared.bucket.run.Run.{Run}
 
 -- the set lies under the key with the id in the pool with the number
 unfoldable pub at_place : {S : Type 0} → ℕ → ℕ → DescriptorSet S → Bool
-at_place i n x = nat_eq x.id i && nat_eq x.number n
+at_place id n x = nat_eq x.id id && nat_eq x.number n
 
--- each set lies in this place
-abbrev pub HaveKey : {S : Type 0} → ℕ → ℕ → List (DescriptorSet S) → Type 0
-HaveKey k n [] = Unit {0}
-HaveKey k n (x ∷ xs) = (at_place k n x ≡ true) × HaveKey k n xs
-
--- n, and one for each set of the place that calls from s may give, stays below 2 ^ 32
-abbrev pub CountsFrom : {T S : Type 0} → (T → Option (DescriptorSet S) → T → Type 0) → ℕ → ℕ → T → ℕ → Type 0
-CountsFrom steps k i s n = HoldsAlong steps s (λ xs. HaveKey k i xs → n + length xs < 2 ^ 32)
-
--- calls from s gave xs, which lie in the place, and then nothing, or a set of another place
-abbrev pub EndsRun : {T S : Type 0} → (T → Option (DescriptorSet S) → T → Type 0) → ℕ → ℕ → T → List (DescriptorSet S) → Option (DescriptorSet S) → T → Type 0
-EndsRun steps k n s xs r t = HaveKey k n xs × YieldsThen steps s xs r t × IfSome r (λ y. at_place k n y ≡ false)
-
--- ---- the same by the key, which the code does not see
-
--- the set lies under the key in the pool with the number
+-- the same by the key, which the code does not see
 unfoldable pub lies_at : {S : Type 0} → Key → ℕ → DescriptorSet S → Bool
 lies_at k n x = key_eq x.key.is k && nat_eq x.number n
 
-abbrev pub LieAt : {S : Type 0} → Key → ℕ → List (DescriptorSet S) → Type 0
-LieAt k n [] = Unit {0}
-LieAt k n (x ∷ xs) = (lies_at k n x ≡ true) × LieAt k n xs
+-- each set passes
+abbrev pub AllPass : {S : Type 0} → (DescriptorSet S → Bool) → List (DescriptorSet S) → Type 0
+AllPass test [] = Unit {0}
+AllPass test (x ∷ xs) = (test x ≡ true) × AllPass test xs
 
--- calls from s gave xs, which lie there, and then nothing, or a set that lies elsewhere
-abbrev pub EndsAt : {T S : Type 0} → (T → Option (DescriptorSet S) → T → Type 0) → Key → ℕ → T → List (DescriptorSet S) → Option (DescriptorSet S) → T → Type 0
-EndsAt steps k n s xs r t = LieAt k n xs × YieldsThen steps s xs r t × IfSome r (λ y. lies_at k n y ≡ false)
+-- n, and one for each set of the place that calls from s may give, stays below 2 ^ 32
+abbrev pub CountsFrom : {T S : Type 0} → (T → Option (DescriptorSet S) → T → Type 0) → ℕ → ℕ → T → ℕ → Type 0
+CountsFrom steps id number s n = HoldsAlong steps s (λ xs. AllPass (at_place id number) xs → n + length xs < 2 ^ 32)
+
+-- calls from s gave xs, which pass, and then nothing, or a set that doesn't
+abbrev pub EndsRun : {T S : Type 0} → (T → Option (DescriptorSet S) → T → Type 0) → (DescriptorSet S → Bool) → T → List (DescriptorSet S) → Option (DescriptorSet S) → T → Type 0
+EndsRun steps test s xs r t = AllPass test xs × YieldsThen steps s xs r t × IfSome r (λ y. test y ≡ false)
 
 module _ {T S : Type 0} (steps : T → Option (DescriptorSet S) → T → Type 0) (can : T → Type 0) (left : T → Count) where
   -- o is the set ahead, and where there is none the answer of the source

@@ -1,6 +1,6 @@
--- What a request took of one key, before any of it goes back: in the bucket, and in the table.
+-- What a request took of one key, before any of it goes back: in the bucket, in the table, and of an allocator.
 use Rattle.gpu_descriptor_types.specs.Bounds.{greatest_u64}
-use Rattle.std.specs.Prelude.{◌≡◌, ℕ, ◌+◌, ◌<◌, ◌≤◌, ◌⊎◌, if◌then◌else◌, List, length, sum_by, OnOk, IfErr, Result}
+use Rattle.std.specs.Prelude.{◌≡◌, ℕ, ◌+◌, ◌-◌, ◌*◌, ◌<◌, ◌≤◌, ◌⊎◌, true, if◌then◌else◌, List, length, sum, sum_by, Result}
 use Rattle.gpu_descriptor_types.specs.Ledger.{Ledger}
 use Rattle.gpu_descriptor.specs.Model.Load.{marked_load}
 use Rattle.gpu_descriptor.specs.declared.errors.AllocationError.{AllocationError}
@@ -8,34 +8,49 @@ use Rattle.gpu_descriptor.specs.declared.errors.AllocationError.TheVariants.{Out
 use Rattle.gpu_descriptor.specs.declared.set.BucketKey.{BucketKey}
 use Rattle.gpu_descriptor.specs.declared.set.DescriptorSet.{DescriptorSet}
 use Rattle.gpu_descriptor.specs.declared.bucket.DescriptorBucket.{DescriptorBucket}
-use Rattle.gpu_descriptor.specs.declared.bucket.take.Refusal.{Refusal}
-use Rattle.gpu_descriptor.specs.Model.Books.{Key, key_eq, Entry, Bucket, next_number}
+use Rattle.gpu_descriptor.specs.declared.bucket.take.Stop.{Stop}
+use Rattle.gpu_descriptor.specs.Model.Books.{Key, key_eq, Entry, Bucket, HasDistinctKeys, next_number}
 use Rattle.gpu_descriptor.specs.Caller.KeyOf.{key_of}
 use Rattle.gpu_descriptor.specs.Caller.Sets.{items_of}
+use Rattle.gpu_descriptor.specs.Caller.States.{state_of, table_of, outstanding_of, marked_load_of, pool_load_of}
+use Rattle.gpu_descriptor.specs.Caller.Values.{Allocations}
 use Rattle.gpu_descriptor.specs.Inner.Stored.{bucket_of, books_in, load_in}
-use Rattle.gpu_descriptor.specs.Inner.Grow.{IsTakenAll, IsTakenUpTo}
+use Rattle.gpu_descriptor.specs.Inner.Walk.{with_pools}
+use Rattle.gpu_descriptor.specs.Inner.Grow.{IsTaken}
 
 module _ {P S : Type 0} (pool_name : P → ℕ) (set_name : S → ℕ) where
-  pub record Serves (k : Key) (room count : ℕ) (sets : List (DescriptorSet S)) (taken : Result (Unit {0}) Refusal) (old new : DescriptorBucket P) (before after : Ledger) : Type 0 where
-    pub numbers : next_number (bucket_of pool_name old) + count ≤ greatest_u64
-    pub id : new.id ≡ old.id
-    pub offset : new.offset ≡ old.offset
-    pub total : new.total ≡ old.total + length sets
+  -- a request had these sets of a bucket, which has these pools then
+  pub record IsServed (k : Key) (room count : ℕ) (sets : List (DescriptorSet S)) (ended : Result (Unit {0}) Stop) (old : Bucket) (before after : Ledger) : Type 0 where
+    pub numbers : next_number old + count ≤ greatest_u64
     pub few : length sets ≤ count
-    pub done : OnOk taken (IsTakenAll k room count old.id old.offset (items_of set_name sets) (bucket_of pool_name old).pools (bucket_of pool_name new).pools before after)
-    pub stopped : IfErr taken (λ why. IsTakenUpTo why k room count old.id old.offset (items_of set_name sets) (bucket_of pool_name old).pools (bucket_of pool_name new).pools before after)
-
-  pub record ServesKey (key : BucketKey) (room count : ℕ) (sets : List (DescriptorSet S)) (taken : Result (Unit {0}) Refusal) (old new : List (BucketKey × DescriptorBucket P)) (before after : Ledger) : Type 0 where
-    pub numbers : next_number (books_in pool_name old (key_of key)) + count ≤ greatest_u64
-    pub few : length sets ≤ count
+    -- the id of the key from then on: a key that has pools keeps its own
     pub id : ℕ
-    pub kept : let b = books_in pool_name old (key_of key) in 0 < length b.pools → id ≡ b.id
+    pub kept : 0 < length old.pools → id ≡ old.id
     pub pools : List Entry
-    pub books : (l : Key) → books_in pool_name new l ≡ (if key_eq (key_of key) l then record (books_in pool_name old (key_of key)) { id = id; pools = pools } else books_in pool_name old l)
+    pub taken : IsTaken ended k room count id old.first (items_of set_name sets) old.pools pools before after
+
+  pub record Serves (k : Key) (room count : ℕ) (sets : List (DescriptorSet S)) (ended : Result (Unit {0}) Stop) (old new : DescriptorBucket P) (before after : Ledger) : Type 0 where
+    pub served : IsServed k room count sets ended (bucket_of pool_name old) before after
+    pub id : served.id ≡ old.id
+    pub bucket : bucket_of pool_name new ≡ record (bucket_of pool_name old) { pools = served.pools }
+    pub total : new.total ≡ old.total + length sets
+
+  pub record ServesKey (key : BucketKey) (room count : ℕ) (sets : List (DescriptorSet S)) (ended : Result (Unit {0}) Stop) (old new : List (BucketKey × DescriptorBucket P)) (before after : Ledger) : Type 0 where
+    pub served : IsServed (key_of key) room count sets ended (books_in pool_name old (key_of key)) before after
+    pub books : (l : Key) → books_in pool_name new l ≡ (let b = books_in pool_name old l in if key_eq (key_of key) l then record b { id = served.id; pools = served.pools } else b)
     pub out : sum_by (λ r. r.1.total) new ≡ sum_by (λ r. r.1.total) old + length sets
     pub load : sum_by load_in new ≡ sum_by load_in old + marked_load (key_of key) (length sets)
-    pub done : OnOk taken (let b = books_in pool_name old (key_of key) in IsTakenAll (key_of key) room count id b.first (items_of set_name sets) b.pools pools before after)
-    pub stopped : IfErr taken (λ why. let b = books_in pool_name old (key_of key) in IsTakenUpTo why (key_of key) room count id b.first (items_of set_name sets) b.pools pools before after)
+
+  pub record Takes (k : Key) (count : ℕ) (sets : List (DescriptorSet S)) (ended : Result (Unit {0}) Stop) (old new : Allocations P) (before after : Ledger) : Type 0 where
+    pub served : IsServed k (old.limit - pool_load_of old) count sets ended ((state_of pool_name old before).books k) before after
+    -- no key has two rows, before and after
+    pub distinct : HasDistinctKeys (table_of pool_name old)
+    pub still : HasDistinctKeys (table_of pool_name new)
+    pub within : k.marked ≡ true → count * sum k.counts + marked_load_of old ≤ old.limit
+    pub fits : outstanding_of old + count ≤ greatest_u64
+    pub total : outstanding_of new ≡ outstanding_of old + length sets
+    pub marked : marked_load_of new ≡ marked_load_of old + marked_load k (length sets)
+    pub state : state_of pool_name new after ≡ with_pools k served.id served.pools after.pools (state_of pool_name old before)
 
 -- nothing was taken: memory was wanting, or the numbers of the key's pools would pass 64 bits
 abbrev pub IsUnserved : ℕ → AllocationError → Bucket → Type 0

@@ -12,7 +12,7 @@ use Rattle.gpu_descriptor.specs.Model.Books.{Key, key_eq, Entry, Bucket, entry_a
 use Rattle.gpu_descriptor.specs.Model.Agreement.{State, Item, count_of, set_of, live_in}
 use Rattle.gpu_descriptor.specs.Model.Load.{allocated_in}
 use Rattle.gpu_descriptor.specs.Inner.Stored.{entry_of}
-use Rattle.gpu_descriptor.specs.Model.Shares.{is_asked, OnlyAskedRefuse, portions_of}
+use Rattle.gpu_descriptor.specs.Model.Shares.{rest, is_asked, OnlyAskedRefuse, portions_of}
 use Rattle.gpu_descriptor.specs.Model.FreshPools.{AreNew, fresh_portions}
 use Rattle.gpu_descriptor.specs.Model.Grants.{Grant, portion_of, items_in, entries_with, ledger_with, pool_with}
 use Rattle.gpu_descriptor.specs.Model.Outcomes.{risen, grant_rise}
@@ -59,8 +59,11 @@ pub record IsNoMemory (wanted : ℕ) (e : Entry) (error : DeviceAllocationError)
   pub pools : after.pools ≡ before.pools
   pub counters : after.counters ≡ alloc_refused error before.counters
 
--- a request of n sets took so much of a key's pools, the oldest of which has the number first
-pub record HasTaken (k : Key) (n first : ℕ) (g : Grant) (old new : List Entry) (before after : Ledger) : Type 0 where
+-- a request of n sets took so much of a key's pools, the oldest of which has the number first, and these sets came
+pub record HasTaken (k : Key) (n id first : ℕ) (g : Grant) (items : List Item) (old new : List Entry) (before after : Ledger) : Type 0 where
+  pub named : g.id ≡ id
+  pub came : items_in k id g.parts ≡ items
+  pub keeps : KeepsKey k id first items old new before.pools after.pools
   pub refusing : OnlyAskedRefuse g.refused n (drop g.left old)
   pub parts : map portion_of g.parts ≡ portions_of g.refused n (first + g.left) (drop g.left old) ++ fresh_portions (first + length old) g.fresh
   pub is_new : AreNew before.pools g.fresh
@@ -69,24 +72,20 @@ pub record HasTaken (k : Key) (n first : ℕ) (g : Grant) (old new : List Entry)
   pub counters : after.counters ≡ risen (grant_rise n g old) before.counters
 
 -- all existing pools were asked, and so many sets are still wanting
-pub record IsWalked (k : Key) (n id first left : ℕ) (items : List Item) (old new : List Entry) (before after : Ledger) : Type 0 where
+pub record IsWalked (k : Key) (n id first wanting : ℕ) (items : List Item) (old new : List Entry) (before after : Ledger) : Type 0 where
   pub grant : Grant
-  pub named : grant.id ≡ id
-  pub from : grant.left ≡ left
+  pub all : grant.left ≡ 0
   pub no_fresh : grant.fresh ≡ []
-  pub came : items_in k id grant.parts ≡ items
-  pub keeps : KeepsKey k id first items old new before.pools after.pools
-  pub taken : HasTaken k n first grant old new before after
+  pub wants : wanting ≡ rest grant.refused n old
+  pub taken : HasTaken k n id first grant items old new before after
 
--- the walk stopped at a pool that answered want of memory
-pub record IsWalkStopped (k : Key) (n id first : ℕ) (error : DeviceAllocationError) (items : List Item) (old new : List Entry) (before after : Ledger) : Type 0 where
+-- what was taken when the next pool, which is asked, answered want of memory
+pub record StopsAtPool (error : DeviceAllocationError) (n : ℕ) (g : Grant) (old : List Entry) : Type 0 where
   pub older : List Entry
   pub pool : Entry
   pub newer : List Entry
   pub here : old ≡ older ++ pool ∷ newer
-  pub between : Ledger
-  pub walked : IsWalked k n id first (length older + 1) items old new before between
-  pub asked : is_asked walked.grant.refused n newer pool ≡ true
+  pub left : g.left ≡ length older + 1
+  pub no_fresh : g.fresh ≡ []
+  pub asked : is_asked g.refused n newer pool ≡ true
   pub memory : pool_refusals error ≡ 0
-  pub pools : after.pools ≡ between.pools
-  pub counters : after.counters ≡ alloc_refused error between.counters

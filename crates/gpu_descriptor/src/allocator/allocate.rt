@@ -14,15 +14,14 @@ ghost use Rattle.gpu_descriptor.specs.Caller.States.{Agrees, keys_of, marked_loa
 ghost use Rattle.gpu_descriptor.specs.Caller.States.{table_of};
 ghost use Rattle.gpu_descriptor.specs.Model.Outcomes.{Allocates, error_of_alloc as alloc_answer};
 ghost use Rattle.gpu_descriptor.specs.Caller.Call.{call_of, layout_key};
-ghost use Rattle.gpu_descriptor.specs.Inner.Takes.{Takes};
 ghost use Rattle.gpu_descriptor.specs.Inner.Buckets.{AreBookedIn};
-ghost use Rattle.gpu_descriptor.specs.Inner.Grow.{refusal_answer};
+ghost use Rattle.gpu_descriptor.specs.Inner.Grow.{stop_answer};
+ghost use Rattle.gpu_descriptor.specs.Inner.OpenPools.{CountsLooks};
 ghost use Rattle.gpu_descriptor.specs.Inner.Stored.{books_in, stored_keys, stored_load_in};
-ghost use Rattle.gpu_descriptor.specs.Inner.Serves.{ServesKey, IsUnserved};
+ghost use Rattle.gpu_descriptor.specs.Inner.Serves.{IsUnserved, ServesKey, Takes};
 
 use super::DescriptorAllocator;
-use super::free::descriptors_of_sets;
-use crate::bucket::take::{Refusal, Served, SetRequest, Stop};
+use crate::bucket::take::{Served, SetRequest, Stop};
 use crate::bucket::{DescriptorBucket, is_past_bound};
 use crate::errors::AllocationError;
 use crate::flags::DescriptorSetLayoutCreateFlags;
@@ -87,9 +86,9 @@ impl<P: Drop, S: Drop> DescriptorAllocator<P, S> {
         };
         match taken {
             Ok(()) => Ok(sets),
-            Err(refusal) => {
+            Err(why) => {
                 self.free_all(device, sets);
-                Err(error_of_refusal(refusal))
+                Err(error_of_stop(why))
             }
         }
     }
@@ -109,8 +108,8 @@ impl<P: Drop, S: Drop> DescriptorAllocator<P, S> {
             r.sets.items r.taken self.old self.new (D.ledger device.old) (D.ledger device.new)) }
         ensures declined { IfErr result (λ e. Allocates (call_of D.pool_name (key_of key) count
             self.old self.new (D.ledger device.old) (D.ledger device.new) (Err e))) }
-        ensures looks { self.new.looks + (D.ledger device.old).counters.asked
-            ≡ self.old.looks + (D.ledger device.new).counters.asked }
+        ensures looks { CountsLooks self.old.looks self.new.looks
+            (D.ledger device.old) (D.ledger device.new) }
         ensures comparisons_stay { self.new.comparisons ≡ self.old.comparisons }
         ensures keys { OnOk result (StayOrGainLast (key_of key) (keys_of self.old)
             (keys_of self.new)) }
@@ -144,9 +143,8 @@ impl<P: Drop, S: Drop> DescriptorAllocator<P, S> {
         };
         let given = sets.len() as u64;
         self.outstanding += given;
-        self.current_update_after_bind_descriptors_in_all_pools += descriptors_of_sets(
-            &key, given,
-        ) as u32;
+        let descriptors = key.descriptors_of_sets(given) as u32;
+        self.current_update_after_bind_descriptors_in_all_pools += descriptors;
         Ok(Served { sets, taken })
     }
 
@@ -183,8 +181,8 @@ fn serve_key<L, P: Drop, S: Drop, D: DescriptorDevice<L, P, S>>(
         (D.ledger device.old) (D.ledger device.new)) }
     ensures refused { IfErr result (λ e. IsUnserved request.now.count e
         (books_in D.pool_name buckets.old.entries (key_of request.now.key))) }
-    ensures looks { looks.new.count + (D.ledger device.old).counters.asked
-        ≡ looks.old.count + (D.ledger device.new).counters.asked }
+    ensures looks { CountsLooks looks.old.count looks.new.count
+        (D.ledger device.old) (D.ledger device.new) }
     ensures looks_stay { OnErr result (looks.new ≡ looks.old) }
     ensures room { room.new + sum_by stored_load_in buckets.new.entries
         ≡ room.old + sum_by stored_load_in buckets.old.entries }
@@ -226,14 +224,14 @@ fn serve_key<L, P: Drop, S: Drop, D: DescriptorDevice<L, P, S>>(
 }
 
 /// The error of a request that stopped.
-fn error_of_refusal(refusal: Refusal) -> AllocationError
-    ensures { result ≡ refusal_answer refusal }
+fn error_of_stop(why: Stop) -> AllocationError
+    ensures { result ≡ stop_answer why }
 {
-    match refusal {
-        Refusal::Existing(error) | Refusal::New(Stop::Fresh(error)) => error_of_alloc(error),
-        Refusal::New(Stop::Room) => AllocationError::Fragmentation,
-        Refusal::New(Stop::Books) => AllocationError::OutOfHostMemory,
-        Refusal::New(Stop::Create(error)) => AllocationError::from(error),
+    match why {
+        Stop::Room => AllocationError::Fragmentation,
+        Stop::Books => AllocationError::OutOfHostMemory,
+        Stop::Create(error) => AllocationError::from(error),
+        Stop::Existing(error) | Stop::New(error) => error_of_alloc(error),
     }
 }
 

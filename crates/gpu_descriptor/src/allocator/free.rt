@@ -1,18 +1,16 @@
 //! Giving sets back.
 ghost use Rattle.std.specs.Prelude.{◌≡◌, ◌+◌, ◌<◌, ◌≤◌, ◌^◌, ◌∷◌, OnSome};
 ghost use Rattle.std.specs.Iterator.{HoldsAlong, IsFinite, IsNearerEnd};
-ghost use Rattle.gpu_descriptor.specs.Model.Load.{marked_load};
 ghost use Rattle.gpu_descriptor.specs.Model.Agreement.{AreOutstanding};
 ghost use Rattle.gpu_descriptor.specs.Caller.Comparisons.{open_pools, binary_digits};
 ghost use Rattle.gpu_descriptor.specs.Caller.Keeps.{Keeps};
 ghost use Rattle.gpu_descriptor.specs.Caller.Frees.{Frees, Returns};
 ghost use Rattle.gpu_descriptor.specs.Inner.Releases.{FreesRun};
-ghost use Rattle.gpu_descriptor.specs.Caller.KeyOf.{key_of};
 ghost use Rattle.gpu_descriptor.specs.Caller.Sets.{items_of};
 ghost use Rattle.gpu_descriptor.specs.Caller.States.{Agrees, keys_of, state_of};
 
 use super::DescriptorAllocator;
-use crate::set::{BucketKey, DescriptorSet};
+use crate::set::DescriptorSet;
 use gpu_descriptor_types::DescriptorDevice;
 
 impl<P, S> DescriptorAllocator<P, S> {
@@ -115,7 +113,7 @@ impl<P, S> DescriptorAllocator<P, S> {
         );
         let released = before - bucket.total;
         self.outstanding -= released;
-        let descriptors = descriptors_of_sets(&key, released) as u32;
+        let descriptors = key.descriptors_of_sets(released) as u32;
         self.current_update_after_bind_descriptors_in_all_pools -= descriptors;
         ahead
     }
@@ -139,17 +137,5 @@ impl<P, S: Drop> DescriptorAllocator<P, S> {
     {
         let mut back = sets.into_iter();
         self.free_from(device, &mut back);
-    }
-}
-
-/// How many descriptors so many sets of a key have, if the key is marked, and else 0.
-pub(super) fn descriptors_of_sets(key: &BucketKey, sets: u64) -> u64
-    requires { marked_load (key_of key.now) sets < 2 ^ 64 }
-    ensures { result ≡ marked_load (key_of key.now) sets }
-{
-    if key.update_after_bind {
-        sets * key.size.total()
-    } else {
-        0
     }
 }

@@ -9,20 +9,20 @@ use std::alloc::{AllocError, Global};
 /// The sets of a request, over room that was taken before the first device call. Each set that is
 /// put gets the key with its id, and the number of the pool that is asked.
 #[derive(Drop)]
-pub(crate) struct Allocation<S> {
+pub(crate) struct Allocation<'k, S> {
     pub(crate) sets: Vec<DescriptorSet<S>>,
     pub(crate) left: usize,
-    pub(crate) key: BucketKey,
+    pub(crate) key: &'k BucketKey,
     pub(crate) id: u64,
     pub(crate) number: u64,
     ghost fits: { vec_len sets + left ≤ vec_capacity sets },
 }
 
-impl<S> Allocation<S> {
+impl<'k, S> Allocation<'k, S> {
     /// Room for so many sets of a key.
     pub(crate) fn with_room(
         alloc: Global,
-        key: BucketKey,
+        key: &'k BucketKey,
         id: u64,
         count: u32,
     ) -> Result<Self, AllocError>
@@ -40,7 +40,7 @@ impl<S> Allocation<S> {
 
     /// The sets that were put.
     pub(crate) fn into_sets(self) -> Vec<DescriptorSet<S>>
-        ensures { result.items ≡ self.sets.items }
+        ensures { result.items ≡ self.entry.sets.items }
     {
         let Allocation {
             sets,
@@ -53,10 +53,10 @@ impl<S> Allocation<S> {
     }
 
     /// The next sets come from the pool of this key that has this number.
-    pub(crate) fn aim(&mut self, key: BucketKey, id: u64, number: u64)
+    pub(crate) fn aim(&mut self, key: &'k BucketKey, id: u64, number: u64)
         ensures sets { self.new.sets.items ≡ self.old.sets.items }
         ensures left { self.new.left ≡ self.old.left }
-        ensures key { self.new.key ≡ key }
+        ensures key { self.new.key.now ≡ key.now }
         ensures id { self.new.id ≡ id }
         ensures number { self.new.number ≡ number }
     {
@@ -66,7 +66,7 @@ impl<S> Allocation<S> {
     }
 }
 
-impl<S> SetSink<S> for Allocation<S> {
+impl<S> SetSink<S> for Allocation<'_, S> {
     ghost use Rattle.gpu_descriptor.specs.Caller.KeyOf.{key_of};
     ghost use Rattle.gpu_descriptor.specs.Inner.SetAt.{set_at};
 
@@ -74,7 +74,7 @@ impl<S> SetSink<S> for Allocation<S> {
 
     ghost kept = { λ sink. sink.sets.items };
 
-    ghost kept_as = { λ sink raw. set_at (key_of sink.key) sink.id
+    ghost kept_as = { λ sink raw. set_at (key_of sink.key.now) sink.id
         sink.number raw };
 
     ghost room_left = { λ sink. sink.left };
@@ -88,7 +88,7 @@ impl<S> SetSink<S> for Allocation<S> {
             raw: set,
             number: self.number,
             id: self.id,
-            key: SetKey::of(&self.key),
+            key: SetKey::of(self.key),
         });
         self.left -= 1;
     }

@@ -5,7 +5,7 @@ ghost use Rattle.gpu_descriptor.specs.Inner.Buckets.{AreBookedIn, trimmed_bucket
 ghost use Rattle.gpu_descriptor.specs.Caller.KeyOf.{key_of};
 ghost use Rattle.gpu_descriptor.specs.Inner.Stored.{bucket_of, stored_load};
 
-use super::{DescriptorBucket, descriptors_of_pool};
+use super::DescriptorBucket;
 use crate::set::BucketKey;
 use gpu_descriptor_types::DescriptorDevice;
 
@@ -34,7 +34,7 @@ impl<P> DescriptorBucket<P> {
             if front.available > 0 {
                 let _number = self.listed.pop_front();
             }
-            *room += descriptors_of_pool(key, front.capacity);
+            *room += key.descriptors_of_pool(front.capacity);
             device.destroy_descriptor_pool(front.raw);
             self.offset += 1;
         }

@@ -1,10 +1,12 @@
 //! Views of a key's pools and of its list of open ones, through which each read is counted.
-ghost use Rattle.std.specs.Prelude.{◌≡◌, ◌+◌, ◌-◌, ◌<◌, ◌≤◌, ◌^◌, ◌++◌, ◌∷◌, [], length, take};
-ghost use Rattle.std.specs.Prelude.{nat_lt, slice_index, slice_index_or, IfSome, IfNone, true};
+ghost use Rattle.std.specs.Prelude.{◌≡◌, ◌+◌, ◌-◌, ◌<◌, ◌++◌, ◌∷◌, [], length, take, slice_get};
+ghost use Rattle.std.specs.Prelude.{nat_lt, slice_index, IfSome, IfNone, OnSome, Some};
 ghost use Rattle.std.specs.VecDeque.{deque_capacity};
 ghost use Rattle.std.specs.Borrow.{sem};
 
 use crate::bucket::DescriptorPool;
+use crate::bucket::allocation::Allocation;
+use crate::set::BucketKey;
 use gpu_descriptor_types::Tally;
 use std::collections::VecDeque;
 
@@ -22,7 +24,7 @@ pub(crate) struct OpenPools<'a, 'b, 'c, P> {
 }
 
 impl<'a, 'b, 'c, P> OpenPools<'a, 'b, 'c, P> {
-    ghost use Rattle.gpu_descriptor.specs.Inner.OpenPools.{IsListed, KeepsView, LendsPool};
+    ghost use Rattle.gpu_descriptor.specs.Inner.OpenPools.{IsListed, KeepsView, LendsNewest};
 
     pub(crate) fn new(
         id: u64,
@@ -49,33 +51,34 @@ impl<'a, 'b, 'c, P> OpenPools<'a, 'b, 'c, P> {
         }
     }
 
-    /// The number of the newest pool with known free places.
-    pub(crate) fn newest(&self) -> Option<u64>
-        ensures none { IfNone result (self.now.listed.now.items ≡ []) }
-        ensures last { IfSome result (λ n. self.now.listed.now.items
-            ≡ take (length self.now.listed.now.items - 1) self.now.listed.now.items ++ n ∷ []) }
+    /// Reads the books of the newest pool with known free places, and aims a sink at that pool.
+    /// This is a look, where there is such a pool.
+    pub(crate) fn newest<'k, S>(
+        &mut self,
+        key: &'k BucketKey,
+        sink: &mut Allocation<'k, S>,
+    ) -> Option<&mut DescriptorPool<P>>
+        requires listed { IsListed self.old }
+        ensures* lends { sem 𝓛 (LendsNewest P.row self.entry (sink.new.number - self.old.offset)
+            result) }
+        ensures none { IfNone result (self.old.listed.now.items ≡ []) }
+        ensures last { OnSome result (self.old.listed.now.items
+            ≡ take (length self.old.listed.now.items - 1) self.old.listed.now.items
+            ++ sink.new.number ∷ []) }
+        ensures value { IfSome result (λ pool. slice_get self.old.pools.now.items
+            (sink.new.number - self.old.offset) ≡ Some pool.now) }
+        ensures key { OnSome result (sink.new.key.now ≡ key.now) }
+        ensures id { OnSome result (sink.new.id ≡ self.old.id) }
+        ensures sets { sink.new.sets.items ≡ sink.old.sets.items }
+        ensures left { sink.new.left ≡ sink.old.left }
     {
-        self.listed.back().copied()
-    }
-
-    /// The id of the key.
-    pub(crate) fn id(&self) -> u64
-        ensures { result ≡ self.now.id }
-    {
-        self.id
-    }
-
-    /// Reads the books of the pool with this number. This is a look.
-    pub(crate) fn look(&mut self, number: u64) -> &mut DescriptorPool<P>
-        requires above { self.old.offset ≤ number }
-        requires within { number < self.old.offset + length self.old.pools.now.items }
-        ensures* lends { sem 𝓛 (LendsPool P.row self.entry (number - self.old.offset) result) }
-        ensures value { result.now ≡ slice_index_or self.old.pools.now.items
-            (number - self.old.offset) result.now }
-    {
+        let Some(number) = last_of(self.listed) else {
+            return None;
+        };
         *self.looks = Tally::next(self.looks);
+        sink.aim(key, self.id, number);
         let place = (number - self.offset) as usize;
-        &mut self.pools[place]
+        Some(&mut self.pools[place])
     }
 
     /// Takes the newest pool with known free places out of the list.
@@ -89,63 +92,15 @@ impl<'a, 'b, 'c, P> OpenPools<'a, 'b, 'c, P> {
     {
         let _closed = self.listed.pop_back();
     }
+}
 
-    /// The number of the key's next pool.
-    pub(crate) fn next_number(&self) -> u64
-        requires { self.now.offset + length self.now.pools.now.items < 2 ^ 64 }
-        ensures { result ≡ self.now.offset + length self.now.pools.now.items }
-    {
-        self.offset + self.pools.len() as u64
-    }
-
-    /// Takes room for the books of one more pool, and for its number. It answers whether there is
-    /// room; where that is refused, nothing changes but room.
-    pub(crate) fn make_room(&mut self) -> bool
-        requires listed { IsListed self.old }
-        ensures pools { self.new.pools.now.items ≡ self.old.pools.now.items }
-        ensures listed { IsListed self.new }
-        ensures looks { self.new.looks ≡ self.old.looks }
-        ensures kept { KeepsView self.old self.new }
-        ensures room { result ≡ true →
-            (length self.new.pools.now.items < deque_capacity self.new.pools.now)
-            × (length self.new.pools.now.items < deque_capacity self.new.listed.now) }
-    {
-        if self.pools.reserve(1).is_err() {
-            return false;
-        }
-        // The list is to have room for all pools, listed or not.
-        let wanting = self.pools.len() + 1 - self.listed.len();
-        self.listed.reserve(wanting).is_ok()
-    }
-
-    /// A new pool is asked. This is a look.
-    pub(crate) fn count_fresh(&mut self)
-        ensures pools { self.new.pools ≡ self.old.pools }
-        ensures listed { self.new.listed ≡ self.old.listed }
-        ensures looks { self.new.looks.now.count ≡ self.old.looks.now.count + 1 }
-        ensures kept { KeepsView self.old self.new }
-    {
-        *self.looks = Tally::next(self.looks);
-    }
-
-    /// Puts a new pool behind the others.
-    pub(crate) fn push(&mut self, pool: DescriptorPool<P>)
-        requires listed { IsListed self.old }
-        requires numbers { self.old.offset + length self.old.pools.now.items < 2 ^ 64 }
-        requires room { length self.old.pools.now.items < deque_capacity self.old.pools.now }
-        requires room_listed { length self.old.pools.now.items
-            < deque_capacity self.old.listed.now }
-        ensures pools { self.new.pools.now.items ≡ self.old.pools.now.items ++ pool ∷ [] }
-        ensures listed { IsListed self.new }
-        ensures looks { self.new.looks ≡ self.old.looks }
-        ensures kept { KeepsView self.old self.new }
-    {
-        if pool.available > 0 {
-            let number = self.next_number();
-            self.listed.push_back_reserved(number);
-        }
-        self.pools.push_back_reserved(pool);
-    }
+/// The last of these numbers.
+fn last_of(numbers: &VecDeque<u64>) -> Option<u64>
+    ensures none { IfNone result (numbers.now.items ≡ []) }
+    ensures last { IfSome result (λ n. numbers.now.items
+        ≡ take (length numbers.now.items - 1) numbers.now.items ++ n ∷ []) }
+{
+    numbers.back().copied()
 }
 
 /// Numbers that are read one at a time, and each read counts as a comparison.

@@ -1,30 +1,30 @@
 //! How a request takes sets from the pools of its key.
 ghost use Rattle.std.specs.Prelude.{◌≡◌, ◌+◌, ◌<◌, ◌≤◌, ◌++◌, ◌^◌, List, [], length, map};
-ghost use Rattle.std.specs.Prelude.{if◌then◌else◌, IfOk, IfErr, IfSome, IfNone, OnOk, OnErr};
+ghost use Rattle.std.specs.Prelude.{if◌then◌else◌, IfOk, IfErr, IfSome, IfNone, OnErr, Err, true, false, ◌∷◌};
+ghost use Rattle.std.specs.VecDeque.{deque_capacity};
 ghost use Rattle.gpu_descriptor_types.specs.Counts.{kinds};
 ghost use Rattle.gpu_descriptor_types.specs.Flags.{bits};
 ghost use Rattle.gpu_descriptor_types.specs.Ledger.{pool_refusals};
 ghost use Rattle.gpu_descriptor_types.specs.PoolSize.{pool_counts as pool_counts_of};
 ghost use Rattle.gpu_descriptor.specs.declared.set.DescriptorSet.{DescriptorSet};
-ghost use Rattle.gpu_descriptor.specs.Model.Load.{pools_load, allocated_in, pool_load};
+ghost use Rattle.gpu_descriptor.specs.Model.Load.{pool_load};
 ghost use Rattle.gpu_descriptor.specs.Caller.KeyOf.{key_of};
 ghost use Rattle.gpu_descriptor.specs.Caller.Sets.{items_of};
 ghost use Rattle.gpu_descriptor.specs.Inner.Stored.{bucket_of, entry_of, stored_load};
 ghost use Rattle.gpu_descriptor.specs.Model.Books.{next_number};
 ghost use Rattle.gpu_descriptor.specs.Inner.OpenPools.{CountsLooks, IsListed, KeepsView};
-ghost use Rattle.gpu_descriptor.specs.Model.Shares.{rest};
 ghost use Rattle.gpu_descriptor.specs.Model.FreshPools.{IsNextSize};
 ghost use Rattle.gpu_descriptor.specs.Inner.Buckets.{IsBookedIn, AreBookedIn};
 ghost use Rattle.gpu_descriptor.specs.Inner.Walk.{entries_of, sets_at, IsAsked, IsNoMemory};
-ghost use Rattle.gpu_descriptor.specs.Inner.Walk.{IsWalked, IsWalkStopped};
+ghost use Rattle.gpu_descriptor.specs.Inner.Walk.{IsWalked};
 ghost use Rattle.gpu_descriptor.specs.Caller.Call.{layout_key};
-ghost use Rattle.gpu_descriptor.specs.Inner.Serves.{IsUnserved, Serves};
-ghost use Rattle.gpu_descriptor.specs.Inner.Grow.{IsGrown, IsNotGrown, TellsOfRoom, IsTakenAll};
-ghost use Rattle.gpu_descriptor.specs.Inner.Grow.{IsTakenUpTo};
+ghost use Rattle.gpu_descriptor.specs.declared.bucket.take.Stop.TheVariants.{Existing};
+ghost use Rattle.gpu_descriptor.specs.Inner.Grow.{IsGrown, IsRefused, IsTaken, NoneIsNew};
+ghost use Rattle.gpu_descriptor.specs.Inner.Serves.{Serves, IsUnserved};
 
 use crate::bucket::allocation::Allocation;
 use crate::bucket::reads::OpenPools;
-use crate::bucket::{DescriptorBucket, DescriptorPool, descriptors_of_pool, is_past_bound};
+use crate::bucket::{DescriptorBucket, DescriptorPool, is_past_bound};
 use crate::errors::AllocationError;
 use crate::set::{BucketKey, DescriptorSet};
 use bitflags::Flags;
@@ -33,31 +33,25 @@ use gpu_descriptor_types::{
     DeviceAllocationError, Layouts, Tally, cut_pool_size, new_pool_size,
 };
 use std::alloc::Global;
+use std::collections::VecDeque;
 
-/// Why no new pool came.
+/// Why a request stops.
 #[derive(Clone, Copy)]
 pub(crate) enum Stop {
+    /// An existing pool answered want of memory.
+    Existing(DeviceAllocationError),
+
     /// The limit leaves no room for a new pool.
     Room,
 
     /// No memory for the books of a new pool.
     Books,
 
-    /// The pool wasn't created.
+    /// The new pool wasn't created.
     Create(CreatePoolError),
 
     /// The new pool refused, and was destroyed.
-    Fresh(DeviceAllocationError),
-}
-
-/// Why a request stops.
-#[derive(Clone, Copy)]
-pub(crate) enum Refusal {
-    /// An existing pool answered want of memory.
-    Existing(DeviceAllocationError),
-
-    /// No new pool came.
-    New(Stop),
+    New(DeviceAllocationError),
 }
 
 /// What a request asks for: so many sets of a layout, whose pools have this key.
@@ -74,7 +68,7 @@ pub(crate) struct Served<S> {
     pub(crate) sets: Vec<DescriptorSet<S>>,
 
     /// Whether they are all, or why the request stopped.
-    pub(crate) taken: Result<(), Refusal>,
+    pub(crate) taken: Result<(), Stop>,
 }
 
 /// Whether a refusal speaks of the pool alone, and not of want of memory.
@@ -96,7 +90,7 @@ fn ask<L, P, S, D: DescriptorDevice<L, P, S>>(
     layout: &L,
     key: &BucketKey,
     wanted: u32,
-    sink: &mut Allocation<S>,
+    sink: &mut Allocation<'_, S>,
 ) -> Result<u32, DeviceAllocationError>
     requires same { key_of key.now ≡ layout_key D.layout_counts D.layout_mark layout.now }
     requires booked { IsBookedIn (key_of key.now) (D.ledger device.old).pools
@@ -104,7 +98,7 @@ fn ask<L, P, S, D: DescriptorDevice<L, P, S>>(
     requires room { wanted ≤ sink.old.left }
     ensures asked { IfOk result (λ given. (put : List S)
         × (length put ≡ given)
-        × (sink.new.sets.items ≡ sink.old.sets.items ++ sets_at (key_of sink.old.key) sink.old.id
+        × (sink.new.sets.items ≡ sink.old.sets.items ++ sets_at (key_of sink.old.key.now) sink.old.id
         sink.old.number put)
         × (sink.new.left + given ≡ sink.old.left)
         × IsAsked (key_of key.now) wanted (map D.set_name put)
@@ -139,50 +133,48 @@ fn ask<L, P, S, D: DescriptorDevice<L, P, S>>(
 
 /// Asks the pools for sets that have known free places, the newest first, until none are wanting.
 /// It answers how many are wanting then.
-fn walk<L, P, S, D: DescriptorDevice<L, P, S>>(
+fn walk<'k, L, P, S, D: DescriptorDevice<L, P, S>>(
     device: &mut D,
     view: &mut OpenPools<'_, '_, '_, P>,
-    layout: &L,
-    key: &BucketKey,
-    count: u32,
-    sink: &mut Allocation<S>,
+    request: &'k SetRequest<'_, L>,
+    sink: &mut Allocation<'k, S>,
 ) -> Result<u32, DeviceAllocationError>
-    requires same { key_of key.now ≡ layout_key D.layout_counts D.layout_mark layout.now }
-    requires booked { AreBookedIn (key_of key.now) (D.ledger device.old).pools
+    requires same { key_of request.now.key ≡ layout_key D.layout_counts D.layout_mark
+        request.now.layout.now }
+    requires booked { AreBookedIn (key_of request.now.key) (D.ledger device.old).pools
         (entries_of D.pool_name view.old.pools.now.items) }
-    requires numbers { view.old.offset + length view.old.pools.now.items < 2 ^ 64 }
     requires listed { IsListed view.old }
-    requires room { count ≤ sink.old.left }
+    requires room { request.now.count ≤ sink.old.left }
     ensures walked { IfOk result (λ wanting. (put : List (DescriptorSet S))
         × (sink.new.sets.items ≡ sink.old.sets.items ++ put)
-        × (sink.new.left + count ≡ sink.old.left + wanting)
-        × (walked : IsWalked (key_of key.now) count view.old.id view.old.offset 0 (items_of D.set_name put)
+        × (sink.new.left + request.now.count ≡ sink.old.left + wanting)
+        × (length put + wanting ≡ request.now.count)
+        × IsWalked (key_of request.now.key) request.now.count view.old.id view.old.offset wanting
+        (items_of D.set_name put)
         (entries_of D.pool_name view.old.pools.now.items)
         (entries_of D.pool_name view.new.pools.now.items)
-        (D.ledger device.old) (D.ledger device.new))
-        × (wanting ≡ rest walked.grant.refused count
-        (entries_of D.pool_name view.old.pools.now.items))
-        × (length put + wanting ≡ count)) }
+        (D.ledger device.old) (D.ledger device.new)) }
     ensures stopped { IfErr result (λ e. (put : List (DescriptorSet S))
         × (sink.new.sets.items ≡ sink.old.sets.items ++ put)
-        × IsWalkStopped (key_of key.now) count view.old.id view.old.offset e (items_of D.set_name put)
+        × IsTaken (Err (Existing e)) (key_of request.now.key) 0 request.now.count view.old.id
+        view.old.offset (items_of D.set_name put)
         (entries_of D.pool_name view.old.pools.now.items)
         (entries_of D.pool_name view.new.pools.now.items)
         (D.ledger device.old) (D.ledger device.new)) }
     ensures pools { length view.new.pools.now.items ≡ length view.old.pools.now.items }
-    ensures given { length sink.new.sets.items ≤ length sink.old.sets.items + count }
+    ensures capacity { deque_capacity view.new.listed.now ≡ deque_capacity view.old.listed.now }
+    ensures given { length sink.new.sets.items ≤ length sink.old.sets.items + request.now.count }
     ensures listed { IsListed view.new }
     ensures kept { KeepsView view.old view.new }
-    ensures looks { CountsLooks view.old view.new (D.ledger device.old) (D.ledger device.new) }
+    ensures looks { CountsLooks view.old.looks.now.count view.new.looks.now.count
+        (D.ledger device.old) (D.ledger device.new) }
 {
-    let mut wanting = count;
+    let mut wanting = request.count;
     while wanting > 0 {
-        let Some(number) = view.newest() else {
+        let Some(pool) = view.newest(&request.key, sink) else {
             return Ok(wanting);
         };
-        sink.aim(*key, view.id(), number);
-        let pool = view.look(number);
-        match ask(device, pool, layout, key, wanting, sink) {
+        match ask(device, pool, request.layout, &request.key, wanting, sink) {
             Ok(given) => {
                 wanting -= given;
                 if pool.available == 0 {
@@ -230,149 +222,8 @@ fn next_size(
     }
 }
 
-impl<'a, 'b, 'c, P: Drop> OpenPools<'a, 'b, 'c, P> {
-    /// Creates a pool, and asks it for what it has of so many sets. It answers how many came.
-    ///
-    /// `total` sets of the key are out already. A pool of a marked key takes of the room what
-    /// descriptors it has.
-    #[inline(never)]
-    fn grow_one<L, S, D: DescriptorDevice<L, P, S>>(
-        &mut self,
-        device: &mut D,
-        request: &SetRequest<'_, L>,
-        total: u64,
-        wanted: u32,
-        room: &mut u32,
-        sink: &mut Allocation<S>,
-    ) -> Result<u32, Stop>
-        requires same { key_of request.now.key ≡ layout_key D.layout_counts D.layout_mark
-            request.now.layout.now }
-        requires numbers { self.old.offset + length self.old.pools.now.items < 2 ^ 64 }
-        requires listed { IsListed self.old }
-        requires room { wanted ≤ sink.old.left }
-        ensures grown { IfOk result (λ given. (put : List S)
-            × (length put ≡ given)
-            × (sink.new.sets.items ≡ sink.old.sets.items
-            ++ sets_at (key_of request.now.key) self.old.id (self.old.offset + length self.old.pools.now.items) put)
-            × (sink.new.left + given ≡ sink.old.left)
-            × IsGrown (key_of request.now.key) room.old room.new total wanted (map D.set_name put)
-            (entries_of D.pool_name self.old.pools.now.items)
-            (entries_of D.pool_name self.new.pools.now.items)
-            (D.ledger device.old) (D.ledger device.new)) }
-        ensures err { IfErr result (λ why.
-            (sink.new.sets.items ≡ sink.old.sets.items)
-            × (self.new.pools.now.items ≡ self.old.pools.now.items)
-            × IsNotGrown why (D.ledger device.old) (D.ledger device.new)
-            × TellsOfRoom why (key_of request.now.key) room.old
-            × (room.new ≡ room.old)) }
-        ensures listed { IsListed self.new }
-        ensures kept { KeepsView self.old self.new }
-        ensures looks { CountsLooks self.old self.new (D.ledger device.old) (D.ledger device.new) }
-    {
-        let (layout, key) = (request.layout, &request.key);
-        let Some((pool_counts, size)) = next_size(key, total, wanted, *room) else {
-            return Err(Stop::Room);
-        };
-        if !self.make_room() {
-            return Err(Stop::Books);
-        }
-        let flags = pool_flags(key.update_after_bind);
-        let mut raw = match device.create_descriptor_pool(&pool_counts, size, flags) {
-            Ok(raw) => raw,
-            Err(error) => return Err(Stop::Create(error)),
-        };
-        let given = size.min(wanted);
-        sink.aim(*key, self.id(), self.next_number());
-        self.count_fresh();
-        match device.alloc_descriptor_sets(&mut raw, Layouts::new(layout, given), sink) {
-            Ok(()) => {
-                self.push(DescriptorPool {
-                    raw,
-                    capacity: size,
-                    allocated: given,
-                    available: size - given,
-                });
-                *room -= descriptors_of_pool(key, size);
-                Ok(given)
-            }
-            Err(error) => {
-                device.destroy_descriptor_pool(raw);
-                Err(Stop::Fresh(error))
-            }
-        }
-    }
-
-    /// Takes sets from a key's pools: from the existing ones, the newest first, and then from new
-    /// ones.
-    ///
-    /// `total` sets of the key are out already.
-    fn take<L, S, D: DescriptorDevice<L, P, S>>(
-        &mut self,
-        device: &mut D,
-        request: &SetRequest<'_, L>,
-        total: u64,
-        room: &mut u32,
-        sink: &mut Allocation<S>,
-    ) -> Result<(), Refusal>
-        requires same { key_of request.now.key ≡ layout_key D.layout_counts D.layout_mark
-            request.now.layout.now }
-        requires booked { AreBookedIn (key_of request.now.key) (D.ledger device.old).pools
-            (entries_of D.pool_name self.old.pools.now.items) }
-        requires total { total ≡ allocated_in (entries_of D.pool_name self.old.pools.now.items) }
-        requires bound { total + request.now.count < 2 ^ 64 }
-        requires numbers { self.old.offset + length self.old.pools.now.items + request.now.count
-            < 2 ^ 64 }
-        requires listed { IsListed self.old }
-        requires room { request.now.count ≤ sink.old.left }
-        ensures done { OnOk result ((put : List (DescriptorSet S))
-            × (sink.new.sets.items ≡ sink.old.sets.items ++ put)
-            × IsTakenAll (key_of request.now.key) room.old request.now.count self.old.id self.old.offset
-            (items_of D.set_name put)
-            (entries_of D.pool_name self.old.pools.now.items)
-            (entries_of D.pool_name self.new.pools.now.items)
-            (D.ledger device.old) (D.ledger device.new)) }
-        ensures stopped { IfErr result (λ why. (put : List (DescriptorSet S))
-            × (sink.new.sets.items ≡ sink.old.sets.items ++ put)
-            × IsTakenUpTo why (key_of request.now.key) room.old request.now.count self.old.id self.old.offset
-            (items_of D.set_name put)
-            (entries_of D.pool_name self.old.pools.now.items)
-            (entries_of D.pool_name self.new.pools.now.items)
-            (D.ledger device.old) (D.ledger device.new)) }
-        ensures pools { length self.new.pools.now.items
-            ≤ length self.old.pools.now.items + request.now.count }
-        ensures given { length sink.new.sets.items
-            ≤ length sink.old.sets.items + request.now.count }
-        ensures listed { IsListed self.new }
-        ensures kept { KeepsView self.old self.new }
-        ensures looks { CountsLooks self.old self.new (D.ledger device.old) (D.ledger device.new) }
-        ensures room { room.new
-            + pools_load (key_of request.now.key)
-            (entries_of D.pool_name self.new.pools.now.items)
-            ≡ room.old
-            + pools_load (key_of request.now.key)
-            (entries_of D.pool_name self.old.pools.now.items) }
-    {
-        let count = request.count;
-        let mut wanting = match walk(device, self, request.layout, &request.key, count, sink) {
-            Ok(wanting) => wanting,
-            Err(error) => return Err(Refusal::Existing(error)),
-        };
-        let mut out = total + u64::from(count - wanting);
-        while wanting > 0 {
-            match self.grow_one(device, request, out, wanting, room, sink) {
-                Ok(given) => {
-                    wanting -= given;
-                    out += u64::from(given);
-                }
-                Err(why) => return Err(Refusal::New(why)),
-            }
-        }
-        Ok(())
-    }
-}
-
 impl<P: Drop> DescriptorBucket<P> {
-    /// Takes sets from the pools, and from new ones, over room that is taken first.
+    /// Takes sets for a request, over room that is taken first.
     pub(crate) fn serve<L, S: Drop, D: DescriptorDevice<L, P, S>>(
         &mut self,
         device: &mut D,
@@ -391,8 +242,8 @@ impl<P: Drop> DescriptorBucket<P> {
             (D.ledger device.old) (D.ledger device.new)) }
         ensures refused { IfErr result (λ e. IsUnserved request.now.count e
             (bucket_of D.pool_name self.old)) }
-        ensures looks { looks.new.count + (D.ledger device.old).counters.asked
-            ≡ looks.old.count + (D.ledger device.new).counters.asked }
+        ensures looks { CountsLooks looks.old.count looks.new.count
+            (D.ledger device.old) (D.ledger device.new) }
         ensures looks_stay { OnErr result (looks.new ≡ looks.old) }
         ensures room { room.new + stored_load (key_of request.now.key) self.new.pools.items
             ≡ room.old + stored_load (key_of request.now.key) self.old.pools.items }
@@ -400,10 +251,10 @@ impl<P: Drop> DescriptorBucket<P> {
         ensures bucket { OnErr result (self.new ≡ self.old) }
         ensures ledger { OnErr result (D.ledger device.new ≡ D.ledger device.old) }
     {
-        if is_past_bound(self.offset + self.pools.len() as u64, request.count) {
+        if is_past_bound(self.next_number(), request.count) {
             return Err(AllocationError::Fragmentation);
         }
-        let Ok(mut sink) = Allocation::with_room(alloc, request.key, self.id, request.count) else {
+        let Ok(mut sink) = Allocation::with_room(alloc, &request.key, self.id, request.count) else {
             return Err(AllocationError::OutOfHostMemory);
         };
         let taken = self.take(device, request, room, &mut sink, looks);
@@ -411,15 +262,15 @@ impl<P: Drop> DescriptorBucket<P> {
         Ok(Served { sets, taken })
     }
 
-    /// Takes sets from the pools, and from new ones.
-    fn take<L, S, D: DescriptorDevice<L, P, S>>(
+    /// Takes sets from the existing pools, the newest first, and then from new ones.
+    fn take<'k, L, S, D: DescriptorDevice<L, P, S>>(
         &mut self,
         device: &mut D,
-        request: &SetRequest<'_, L>,
+        request: &'k SetRequest<'_, L>,
         room: &mut u32,
-        sink: &mut Allocation<S>,
+        sink: &mut Allocation<'k, S>,
         looks: &mut Tally,
-    ) -> Result<(), Refusal>
+    ) -> Result<(), Stop>
         requires same { key_of request.now.key ≡ layout_key D.layout_counts D.layout_mark
             request.now.layout.now }
         requires booked { AreBookedIn (key_of request.now.key) (D.ledger device.old).pools
@@ -429,22 +280,64 @@ impl<P: Drop> DescriptorBucket<P> {
             < 2 ^ 64 }
         requires empty { sink.old.sets.items ≡ [] }
         requires room { request.now.count ≤ sink.old.left }
+        ensures taken { IsTaken result (key_of request.now.key) room.old request.now.count
+            self.old.id self.old.offset (items_of D.set_name sink.new.sets.items)
+            (bucket_of D.pool_name self.old).pools (bucket_of D.pool_name self.new).pools
+            (D.ledger device.old) (D.ledger device.new) }
         ensures id { self.new.id ≡ self.old.id }
         ensures offset { self.new.offset ≡ self.old.offset }
         ensures total { self.new.total ≡ self.old.total + length sink.new.sets.items }
         ensures few { length sink.new.sets.items ≤ request.now.count }
-        ensures done { OnOk result (IsTakenAll (key_of request.now.key) room.old request.now.count
-            self.old.id self.old.offset (items_of D.set_name sink.new.sets.items)
+        ensures room { room.new + stored_load (key_of request.now.key) self.new.pools.items
+            ≡ room.old + stored_load (key_of request.now.key) self.old.pools.items }
+        ensures looks { CountsLooks looks.old.count looks.new.count
+            (D.ledger device.old) (D.ledger device.new) }
+    {
+        let mut wanting = match self.take_known(device, request, sink, looks) {
+            Ok(wanting) => wanting,
+            Err(error) => return Err(Stop::Existing(error)),
+        };
+        while wanting > 0 {
+            match self.grow_one(device, request, wanting, room, sink, looks) {
+                Ok(given) => wanting -= given,
+                Err(why) => return Err(why),
+            }
+        }
+        Ok(())
+    }
+
+    /// Takes what the existing pools are known to have. It answers how many sets are wanting then.
+    fn take_known<'k, L, S, D: DescriptorDevice<L, P, S>>(
+        &mut self,
+        device: &mut D,
+        request: &'k SetRequest<'_, L>,
+        sink: &mut Allocation<'k, S>,
+        looks: &mut Tally,
+    ) -> Result<u32, DeviceAllocationError>
+        requires same { key_of request.now.key ≡ layout_key D.layout_counts D.layout_mark
+            request.now.layout.now }
+        requires booked { AreBookedIn (key_of request.now.key) (D.ledger device.old).pools
+            (bucket_of D.pool_name self.old).pools }
+        requires bound { self.old.total + request.now.count < 2 ^ 64 }
+        requires empty { sink.old.sets.items ≡ [] }
+        requires room { request.now.count ≤ sink.old.left }
+        ensures walked { IfOk result (λ wanting.
+            (length sink.new.sets.items + wanting ≡ request.now.count)
+            × (wanting ≤ sink.new.left)
+            × IsWalked (key_of request.now.key) request.now.count self.old.id self.old.offset wanting
+            (items_of D.set_name sink.new.sets.items)
             (bucket_of D.pool_name self.old).pools (bucket_of D.pool_name self.new).pools
             (D.ledger device.old) (D.ledger device.new)) }
-        ensures stopped { IfErr result (λ why. IsTakenUpTo why (key_of request.now.key) room.old
+        ensures stopped { IfErr result (λ e. IsTaken (Err (Existing e)) (key_of request.now.key) 0
             request.now.count self.old.id self.old.offset (items_of D.set_name sink.new.sets.items)
             (bucket_of D.pool_name self.old).pools (bucket_of D.pool_name self.new).pools
             (D.ledger device.old) (D.ledger device.new)) }
-        ensures room { room.new + stored_load (key_of request.now.key) self.new.pools.items
-            ≡ room.old + stored_load (key_of request.now.key) self.old.pools.items }
-        ensures looks { looks.new.count + (D.ledger device.old).counters.asked
-            ≡ looks.old.count + (D.ledger device.new).counters.asked }
+        ensures id { self.new.id ≡ self.old.id }
+        ensures offset { self.new.offset ≡ self.old.offset }
+        ensures total { self.new.total ≡ self.old.total + length sink.new.sets.items }
+        ensures few { length sink.new.sets.items ≤ request.now.count }
+        ensures looks { CountsLooks looks.old.count looks.new.count
+            (D.ledger device.old) (D.ledger device.new) }
     {
         let mut view = OpenPools::new(
             self.id,
@@ -453,8 +346,138 @@ impl<P: Drop> DescriptorBucket<P> {
             &mut self.listed,
             looks,
         );
-        let taken = view.take(device, request, self.total, room, sink);
+        let walked = walk(device, &mut view, request, sink);
         self.total += sink.sets.len() as u64;
-        taken
+        walked
+    }
+
+    /// Creates a pool, and asks it for what it has of so many sets. It answers how many came.
+    ///
+    /// A pool of a marked key takes of the room what descriptors it has.
+    #[inline(never)]
+    fn grow_one<'k, L, S, D: DescriptorDevice<L, P, S>>(
+        &mut self,
+        device: &mut D,
+        request: &'k SetRequest<'_, L>,
+        wanted: u32,
+        room: &mut u32,
+        sink: &mut Allocation<'k, S>,
+        looks: &mut Tally,
+    ) -> Result<u32, Stop>
+        requires same { key_of request.now.key ≡ layout_key D.layout_counts D.layout_mark
+            request.now.layout.now }
+        requires some { 0 < wanted }
+        requires numbers { self.old.offset + length self.old.pools.items + wanted < 2 ^ 64 }
+        requires bound { self.old.total + wanted < 2 ^ 64 }
+        requires room { wanted ≤ sink.old.left }
+        ensures grown { IfOk result (λ given. (put : List S)
+            × (length put ≡ given)
+            × (sink.new.sets.items ≡ sink.old.sets.items ++ sets_at (key_of request.now.key)
+            self.old.id (self.old.offset + length self.old.pools.items) put)
+            × (sink.new.left + given ≡ sink.old.left)
+            × (self.new.total ≡ self.old.total + given)
+            × IsGrown (key_of request.now.key) room.old room.new self.old.total wanted
+            (map D.set_name put)
+            (bucket_of D.pool_name self.old).pools (bucket_of D.pool_name self.new).pools
+            (D.ledger device.old) (D.ledger device.new)) }
+        ensures err { IfErr result (λ why.
+            (sink.new.sets.items ≡ sink.old.sets.items)
+            × (self.new.pools.items ≡ self.old.pools.items)
+            × (self.new.total ≡ self.old.total)
+            × (room.new ≡ room.old)
+            × IsRefused why (D.ledger device.old) (D.ledger device.new)
+            × NoneIsNew why (key_of request.now.key) room.old) }
+        ensures id { self.new.id ≡ self.old.id }
+        ensures offset { self.new.offset ≡ self.old.offset }
+        ensures looks { CountsLooks looks.old.count looks.new.count
+            (D.ledger device.old) (D.ledger device.new) }
+    {
+        let (layout, key) = (request.layout, &request.key);
+        let Some((counts, size)) = next_size(key, self.total, wanted, *room) else {
+            return Err(Stop::Room);
+        };
+        if !self.make_room() {
+            return Err(Stop::Books);
+        }
+        let flags = pool_flags(key.update_after_bind);
+        let mut raw = match device.create_descriptor_pool(&counts, size, flags) {
+            Ok(raw) => raw,
+            Err(error) => return Err(Stop::Create(error)),
+        };
+        let given = size.min(wanted);
+        sink.aim(key, self.id, self.next_number());
+        *looks = Tally::next(looks);
+        match device.alloc_descriptor_sets(&mut raw, Layouts::new(layout, given), sink) {
+            Ok(()) => {
+                self.push(DescriptorPool {
+                    raw,
+                    capacity: size,
+                    allocated: given,
+                    available: size - given,
+                });
+                *room -= key.descriptors_of_pool(size);
+                Ok(given)
+            }
+            Err(error) => {
+                device.destroy_descriptor_pool(raw);
+                Err(Stop::New(error))
+            }
+        }
+    }
+
+    /// The number of the next pool.
+    fn next_number(&self) -> u64
+        ensures { result ≡ self.now.offset + length self.now.pools.items }
+    {
+        self.offset + self.pools.len() as u64
+    }
+
+    /// Takes room for the books of one more pool, and for its number. It answers whether there is
+    /// room; where that is refused, nothing changes but room.
+    fn make_room(&mut self) -> bool
+        ensures pools { self.new.pools.items ≡ self.old.pools.items }
+        ensures id { self.new.id ≡ self.old.id }
+        ensures offset { self.new.offset ≡ self.old.offset }
+        ensures total { self.new.total ≡ self.old.total }
+        ensures room { result ≡ true →
+            (length self.new.pools.items < deque_capacity self.new.pools)
+            × (length self.new.pools.items < deque_capacity self.new.listed) }
+    {
+        if self.pools.reserve(1).is_err() {
+            return false;
+        }
+        // The list is to have room for all pools, listed or not.
+        let wanting = self.pools.len() + 1 - self.listed.len();
+        self.listed.reserve(wanting).is_ok()
+    }
+
+    /// Puts a new pool behind the others.
+    fn push(&mut self, pool: DescriptorPool<P>)
+        requires numbers { self.old.offset + length self.old.pools.items + 1 < 2 ^ 64 }
+        requires bound { self.old.total + pool.allocated < 2 ^ 64 }
+        requires room { length self.old.pools.items < deque_capacity self.old.pools }
+        requires room_listed { length self.old.pools.items < deque_capacity self.old.listed }
+        ensures pools { self.new.pools.items ≡ self.old.pools.items ++ pool ∷ [] }
+        ensures id { self.new.id ≡ self.old.id }
+        ensures offset { self.new.offset ≡ self.old.offset }
+        ensures total { self.new.total ≡ self.old.total + pool.allocated }
+    {
+        let number = self.next_number();
+        list_last(&mut self.listed, pool.available > 0, number);
+        self.total += u64::from(pool.allocated);
+        self.pools.push_back_reserved(pool);
+    }
+}
+
+/// Puts a number last in a list where its pool is open. The test is an argument, so that the caller
+/// has one state of its list afterwards.
+fn list_last(listed: &mut VecDeque<u64>, is_open: bool, number: u64)
+    requires room { length listed.old.items < deque_capacity listed.old }
+    ensures listed { is_open ≡ true → listed.new.items ≡ listed.old.items ++ number ∷ [] }
+    ensures stays { is_open ≡ false → listed.new.items ≡ listed.old.items }
+    ensures capacity { deque_capacity listed.new ≡ deque_capacity listed.old }
+{
+    if is_open {
+        listed.push_back_reserved(number);
     }
 }

@@ -5,7 +5,7 @@ use Rattle.gpu_descriptor.specs.Caller.Call.{call_of, layout_key}
 use Rattle.gpu_descriptor.specs.Caller.Keys.{StayOrGainLast}
 use Rattle.gpu_descriptor.specs.Caller.KeyOf.{key_of}
 use Rattle.gpu_descriptor.specs.Caller.States.{keys_of}
-use Rattle.gpu_descriptor.specs.Inner.Takes.{Takes}
+use Rattle.gpu_descriptor.specs.Inner.Serves.{Takes}
 use Rattle.gpu_descriptor.proofs.Allocating.{taken_agree, taken_as, taken_given}
 use Rattle.gpu_descriptor.proofs.HandedOut.{gained_as, hands_all, hands_back, hands_none, keeps_all, keeps_back}
 use Rattle.gpu_descriptor.proofs.Keeping.{keeps_still}
@@ -61,7 +61,7 @@ returns-in-Ok-taken-clause-keeps g c =
 pub returns-in-Err-taken-clause-hands_out : goal.returns-in-Err-taken-clause-hands_out
 returns-in-Err-taken-clause-hands_out g c =
     let r = (goal.at.returns-in-Err-taken-clause-hands_out g c).In-Ok in
-    rw c.error_of_refusal.ensures (hands_back c.in-Ok.served.sets (taken g r) c.requires.agree (gained g r) c.in-Ok.ensures.looks c.in-Ok.ensures.comparisons_stay (some g r) c.free_all.ensures.returns c.in-Err-taken.is)
+    rw c.error_of_stop.ensures (hands_back c.in-Ok.served.sets (taken g r) c.requires.agree (gained g r) c.in-Ok.ensures.looks c.in-Ok.ensures.comparisons_stay (some g r) c.free_all.ensures.returns c.in-Err-taken.is)
 
 pub returns-in-Err-taken-clause-keeps : goal.returns-in-Err-taken-clause-keeps
 returns-in-Err-taken-clause-keeps g c =

@@ -11,7 +11,7 @@ use Rattle.gpu_descriptor.specs.Inner.Buckets.{AreBookedIn}
 use Rattle.gpu_descriptor.proofs.KeepState.{booked_of}
 use Rattle.gpu_descriptor.proofs.KeysKept.{keys_seen}
 use Rattle.gpu_descriptor.proofs.Requested.{seen, seen_again, table_is, books_at, rows_apart, rows_distinct, rows_within, pools_within, pool_load_within, declined_by_limit, declined_by_bound, declined_unserved, given_fits, counted_now, takes_of}
-use Rattle.gpu_descriptor.proofs.allocator.DescriptorAllocator.request.Goals.{After-len-given, After-descriptors_of_sets}
+use Rattle.gpu_descriptor.proofs.allocator.DescriptorAllocator.request.Goals.{After-len-given, After-descriptors_of_sets-descriptors}
 use Rattle.gpu_descriptor.proofs.allocator.DescriptorAllocator.request.Goals as goal
 
 pub returns-then-is_above_limit-clause-declined : goal.returns-then-is_above_limit-clause-declined
@@ -44,45 +44,45 @@ returns-in-Err-clause-declined g c =
 fits : (g : _) (c : After-len-given g) → marked_load (key_of c.args.key) c.len-given.result + c.self.inside.current_update_after_bind_descriptors_in_all_pools ≤ c.self.inside.max_update_after_bind_descriptors_in_all_pools
 fits g c = given_fits c.in-Ok.ensures.served c.self.view_is c.self.invariant c.is_above_limit.ensures c.if-is_above_limit.false (c.len-given.ensures ∙ c.in-Ok.served.sets.ok.0)
 
-pub descriptors_of_sets-requires : goal.descriptors_of_sets-requires
-descriptors_of_sets-requires g c =
-    let all = fits g (goal.at.descriptors_of_sets-requires g c).After-len-given in
+pub descriptors_of_sets-descriptors-requires : goal.descriptors_of_sets-descriptors-requires
+descriptors_of_sets-descriptors-requires g c =
+    let all = fits g (goal.at.descriptors_of_sets-descriptors-requires g c).After-len-given in
     let ranges = c.self.ranges in
     omega arith
 
-pub overflow_cast-self : goal.overflow_cast-self
-overflow_cast-self g c =
-    let all = fits g (goal.at.overflow_cast-self g c).After-len-given in
-    let is = c.descriptors_of_sets.ensures in
+pub overflow_cast-descriptors : goal.overflow_cast-descriptors
+overflow_cast-descriptors g c =
+    let all = fits g (goal.at.overflow_cast-descriptors g c).After-len-given in
+    let is = c.descriptors_of_sets-descriptors.ensures in
     let ranges = c.self.ranges in
     omega arith
 
 pub overflow_add-self : goal.overflow_add-self
 overflow_add-self g c =
     let given = c.len-given.ensures ∙ c.in-Ok.served.sets.ok.0 in
-    let few = c.in-Ok.ensures.served.few in
+    let few = c.in-Ok.ensures.served.served.few in
     let below = ltb-false greatest_u64 (c.self.inside.outstanding + c.args.count) (sym c.is_past_bound.ensures ∙ c.if-is_past_bound.false) in
     omega arith
 
 pub overflow_add-self-2 : goal.overflow_add-self-2
 overflow_add-self-2 g c =
     let all = fits g (goal.at.overflow_add-self-2 g c).After-len-given in
-    let is = c.descriptors_of_sets.ensures in
+    let is = c.descriptors_of_sets-descriptors.ensures in
     let ranges = c.self.ranges in
     omega arith
 
 -- the totals count what came
-counted : (g : _) (c : After-descriptors_of_sets g) → IsConsistent c.self.inside.max_update_after_bind_descriptors_in_all_pools (c.self.inside.current_update_after_bind_descriptors_in_all_pools + c.descriptors_of_sets.result) c.serve_key-served.new.room (c.self.inside.outstanding + c.len-given.result) c.serve_key-served.new.buckets.entries
-counted g c = counted_now c.in-Ok.ensures.served c.self.view_is c.self.invariant c.is_above_limit.ensures c.if-is_above_limit.false (c.len-given.ensures ∙ c.in-Ok.served.sets.ok.0) c.descriptors_of_sets.ensures c.serve_key-served.ensures.room c.in-Ok.ensures.distinct
+counted : (g : _) (c : After-descriptors_of_sets-descriptors g) → IsConsistent c.self.inside.max_update_after_bind_descriptors_in_all_pools (c.self.inside.current_update_after_bind_descriptors_in_all_pools + c.descriptors_of_sets-descriptors.result) c.serve_key-served.new.room (c.self.inside.outstanding + c.len-given.result) c.serve_key-served.new.buckets.entries
+counted g c = counted_now c.in-Ok.ensures.served c.self.view_is c.self.invariant c.is_above_limit.ensures c.if-is_above_limit.false (c.len-given.ensures ∙ c.in-Ok.served.sets.ok.0) c.descriptors_of_sets-descriptors.ensures c.serve_key-served.ensures.room c.in-Ok.ensures.distinct
 
 pub invariant_of-self-2 : goal.invariant_of-self-2
-invariant_of-self-2 g c = counted g (goal.at.invariant_of-self-2 g c).After-descriptors_of_sets
+invariant_of-self-2 g c = counted g (goal.at.invariant_of-self-2 g c).After-descriptors_of_sets-descriptors
 
 pub returns-clause-load : goal.returns-clause-load
-returns-clause-load g c = rows_within (counted g (goal.at.returns-clause-load g c).After-descriptors_of_sets)
+returns-clause-load g c = rows_within (counted g (goal.at.returns-clause-load g c).After-descriptors_of_sets-descriptors)
 
 pub returns-clause-pool_load : goal.returns-clause-pool_load
-returns-clause-pool_load g c = pools_within (counted g (goal.at.returns-clause-pool_load g c).After-descriptors_of_sets)
+returns-clause-pool_load g c = pools_within (counted g (goal.at.returns-clause-pool_load g c).After-descriptors_of_sets-descriptors)
 
 pub returns-clause-rows : goal.returns-clause-rows
 returns-clause-rows g c = rows_distinct g.D.DescriptorDevice.pool_name _ c.in-Ok.ensures.distinct

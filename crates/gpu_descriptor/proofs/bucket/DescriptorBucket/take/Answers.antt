@@ -1,103 +1,143 @@
-use Rattle.std.proofs.Common.{◌≡◌, ℕ, Global, ◌+◌, [], ◌∷◌, refl, ◌++◌, arith, length, sum_by, List, Result, Ok, Err, sym, ap, ◌∙◌, subst}
-use Rattle.std.specs.Prelude.{OnOk, IfErr}
+use Rattle.gpu_descriptor.specs.Inner.SetAt.{set_at}
+use Rattle.std.proofs.Common.{◌≡◌, ℕ, ◌+◌, ◌-◌, ◌<◌, ◌≤◌, ◌++◌, List, length, map, sym, ap, ◌∙◌, subst, arith, length-append, [], ◌∷◌, Err, Ok}
+use Rattle.std.proofs.lemmas.List.{length-map, map-append}
 use Rattle.gpu_descriptor_types.specs.Ledger.{Ledger}
-use Rattle.gpu_descriptor.specs.declared.set.DescriptorSet.{DescriptorSet}
-use Rattle.std.specs.declared.collections.VecDeque.{VecDeque}
+use Rattle.gpu_descriptor_types.specs.declared.errors.DeviceAllocationError.{DeviceAllocationError}
 use Rattle.gpu_descriptor.specs.declared.bucket.DescriptorPool.{DescriptorPool}
-use Rattle.gpu_descriptor.specs.Model.Books.{Entry, Key}
-use Rattle.gpu_descriptor.specs.Inner.Buckets.{AreBookedIn}
-use Rattle.gpu_descriptor.specs.Inner.OpenNumbers.{free_in, open_numbers}
-use Rattle.gpu_descriptor.specs.Caller.KeyOf.{key_of}
-use Rattle.gpu_descriptor.specs.Caller.Sets.{items_of, item_of}
-use Rattle.gpu_descriptor.specs.Inner.Walk.{entries_of}
-use Rattle.gpu_descriptor.specs.Inner.Grow.{IsTakenAll, IsTakenUpTo}
-use Rattle.std.proofs.lemmas.List.{length-map}
-use Rattle.std.proofs.lemmas.List.Sums.{sum_by-cons}
-use Rattle.gpu_descriptor.specs.declared.bucket.take.Refusal.{Refusal}
-use Rattle.gpu_descriptor.specs.declared.bucket.take.Refusal.TheVariants as refusal
+use Rattle.gpu_descriptor.specs.declared.bucket.take.Stop.TheVariants.{Existing}
+use Rattle.gpu_descriptor.specs.declared.set.DescriptorSet.{DescriptorSet}
 use Rattle.gpu_descriptor.specs.Model.Agreement.{Item}
-use Rattle.gpu_descriptor.specs.Model.Load.{allocated_in, pool_load, pools_load}
+use Rattle.gpu_descriptor.specs.Model.Books.{Entry, Key}
+use Rattle.gpu_descriptor.specs.Model.FreshPools.{fresh_entry}
+use Rattle.gpu_descriptor.specs.Model.Grants.{items_at}
+use Rattle.gpu_descriptor.specs.Model.Load.{allocated_in, pools_load}
+use Rattle.gpu_descriptor.specs.Caller.KeyOf.{key_of}
+use Rattle.gpu_descriptor.specs.Caller.Sets.{items_of}
+use Rattle.gpu_descriptor.specs.Inner.Grow.{IsTaken}
 use Rattle.gpu_descriptor.specs.Inner.Stored.{entry_of, stored_load}
+use Rattle.gpu_descriptor.specs.Inner.Walk.{entries_of, sets_at, IsWalked}
+use Rattle.gpu_descriptor.proofs.Growing.{Growing, grow_start, grow_more, grow_end, grow_stop, grown_long, walked_long, load_more, load_walked}
+use Rattle.gpu_descriptor.proofs.StoredPools.{allocated_entries, load_entries}
+use Rattle.gpu_descriptor.proofs.Walking.{items_of-sets_at}
 use Rattle.gpu_descriptor.proofs.bucket.DescriptorBucket.take.Goals as goal
 
-allocated_entries : {P : Type 0} (name : P → ℕ) (ps : List (DescriptorPool P)) → allocated_in (entries_of name ps) ≡ sum_by (λ (p : DescriptorPool P). p.allocated) ps
-allocated_entries name [] = refl
-allocated_entries name (p ∷ ps) = (let a = sum_by-cons (λ (e : Entry). e.allocated) (entry_of name p) (entries_of name ps) in let b = sum_by-cons (λ p. p.allocated) p ps in let c = allocated_entries name ps in omega arith)
+-- a walk leaves the load of the key's pools, and how many there are
+module _ {P : Type 0} (name : P → ℕ) {k : Key} {n id first : ℕ} {items : List Item} (old new : List (DescriptorPool P)) {l m : Ledger} where
+  walked_load : {wanting : ℕ} → IsWalked k n id first wanting items (entries_of name old) (entries_of name new) l m → stored_load k new ≡ stored_load k old
+  walked_load w = (let a = load_entries name k old in let b = load_entries name k new in let same = load_walked k n id first w.grant (entries_of name old) (entries_of name new) l m items w.taken w.no_fresh in omega arith)
 
-load_in : {P : Type 0} (name : P → ℕ) (k : Key) (ps : List (DescriptorPool P)) → pools_load k (entries_of name ps) ≡ stored_load k ps
-load_in name k [] = refl
-load_in name k (p ∷ ps) = (let a = sum_by-cons (λ (e : Entry). pool_load k e.capacity) (entry_of name p) (entries_of name ps) in let b = sum_by-cons (λ p. pool_load k p.capacity) p ps in let c = load_in name k ps in omega arith)
+  stopped_load : {error : DeviceAllocationError} → IsTaken (Err (Existing error)) k 0 n id first items (entries_of name old) (entries_of name new) l m → stored_load k new ≡ stored_load k old
+  stopped_load t = (let a = load_entries name k old in let b = load_entries name k new in let same = load_walked k n id first t.0 (entries_of name old) (entries_of name new) l t.1 items t.2 t.3.no_fresh in omega arith)
 
-on_ok : {T E A B : Type 0} (r : Result T E) → (A → B) → OnOk r A → OnOk r B
-on_ok (Ok x) f a = f a
-on_ok (Err e) f a = tt
+pub loop-wanting-init : goal.loop-wanting-init
+loop-wanting-init g c =
+    let name = g.D.DescriptorDevice.pool_name in
+    let known = c.in-Ok.ensures.walked in
+    let walked = known.2 in
+    let key : Key = key_of c.args.request.now.key in
+    let old : List Entry = entries_of name c.args.self.now.pools.items in
+    let new : List Entry = entries_of name c.take_known.new.self.pools.items in
+    let start = grow_start key c.args.room.now c.args.request.now.count c.args.self.now.id c.args.self.now.offset c.take_known.new.self.total c.in-Ok.wanting (items_of g.D.DescriptorDevice.set_name c.take_known.new.sink.sets.items) old new (g.D.DescriptorDevice.ledger c.args.device.now) (g.D.DescriptorDevice.ledger c.take_known.new.device) walked (let out = allocated_entries name c.args.self.now.pools.items in let total = c.args.self.now.counted in let all = known.0 in let more = c.take_known.ensures.total in omega arith) in
+    let long = walked_long key _ _ _ _ _ old new _ _ walked in
+    record {
+      room = known.1;
+      given = known.0;
+      total = c.take_known.ensures.total;
+      id = c.take_known.ensures.id;
+      offset = c.take_known.ensures.offset;
+      pools = (let was = length-map c.args.self.now.pools.items (entry_of name) in let is = length-map c.take_known.new.self.pools.items (entry_of name) in let all = known.0 in omega arith);
+      growing = start;
+      load = ap (λ n. c.args.room.now + n) (walked_load name c.args.self.now.pools.items c.take_known.new.self.pools.items walked);
+      looks = c.take_known.ensures.looks;
+    }
 
-if_err : {T E : Type 0} (A B : E → Type 0) (r : Result T E) → ((e : E) → A e → B e) → IfErr r A → IfErr r B
-if_err A B (Ok x) f a = tt
-if_err A B (Err e) f a = f e a
-
-pub returns-clause-done : goal.returns-clause-done
-returns-clause-done g c =
+pub returns-clause-taken : goal.returns-clause-taken
+returns-clause-taken g c =
+    let inv = c.loop-wanting.invariant in
     let key : Key = key_of c.args.request.now.key in
     let old : List Entry = entries_of g.D.DescriptorDevice.pool_name c.args.self.now.pools.items in
-    let new : List Entry = entries_of g.D.DescriptorDevice.pool_name c.take-taken.new.self.pools.now.items in
+    let new : List Entry = entries_of g.D.DescriptorDevice.pool_name c.loop-wanting.self.pools.items in
     let l : Ledger = g.D.DescriptorDevice.ledger c.args.device.now in
-    let m : Ledger = g.D.DescriptorDevice.ledger c.take-taken.new.device in
-    on_ok c.take-taken.result (λ p. subst (λ (x : List (DescriptorSet g.row.S.Denot)). IsTakenAll key c.args.room.now c.args.request.now.count c.args.self.now.id c.args.self.now.offset (items_of g.D.DescriptorDevice.set_name x) old new l m) (sym (p.1 ∙ ap (λ x. x ++ p.0) c.requires.empty))
-    (subst (λ (f : ℕ). IsTakenAll key c.args.room.now c.args.request.now.count c.args.self.now.id f (items_of g.D.DescriptorDevice.set_name p.0) old new l m) c.new-view.ensures.offset (subst (λ (j : ℕ). IsTakenAll key c.args.room.now c.args.request.now.count j c.new-view.result.offset (items_of g.D.DescriptorDevice.set_name p.0) old new l m) c.new-view.ensures.id (subst (λ (q : VecDeque (DescriptorPool g.row.P.Denot) Global). IsTakenAll key c.args.room.now c.args.request.now.count c.new-view.result.id c.new-view.result.offset (items_of g.D.DescriptorDevice.set_name p.0) (entries_of g.D.DescriptorDevice.pool_name q.items) new l m) c.new-view.ensures.pools p.2)))) c.take-taken.ensures.done
+    let m : Ledger = g.D.DescriptorDevice.ledger c.loop-wanting.device in
+    let out : List Item = items_of g.D.DescriptorDevice.set_name c.loop-wanting.sink.sets.items in
+    let end : c.loop-wanting.wanting ≡ 0 = omega arith in
+    grow_end key c.args.room.now c.args.request.now.count c.args.self.now.id c.args.self.now.offset c.loop-wanting.room c.loop-wanting.self.total out old new l m (subst (λ (w : ℕ). Growing key c.args.room.now c.args.request.now.count c.args.self.now.id c.args.self.now.offset c.loop-wanting.room c.loop-wanting.self.total w out old new l m) end inv.growing) tt
 
-pub returns-clause-stopped : goal.returns-clause-stopped
-returns-clause-stopped g c =
+pub returns-in-Err-grow_one-clause-taken : goal.returns-in-Err-grow_one-clause-taken
+returns-in-Err-grow_one-clause-taken g c =
+    let inv = c.loop-wanting.invariant in
+    let err = c.in-Err-grow_one.ensures.err in
     let key : Key = key_of c.args.request.now.key in
     let old : List Entry = entries_of g.D.DescriptorDevice.pool_name c.args.self.now.pools.items in
-    let new : List Entry = entries_of g.D.DescriptorDevice.pool_name c.take-taken.new.self.pools.now.items in
     let l : Ledger = g.D.DescriptorDevice.ledger c.args.device.now in
-    let m : Ledger = g.D.DescriptorDevice.ledger c.take-taken.new.device in
-    if_err _ _ c.take-taken.result (λ why p. subst (λ (x : List (DescriptorSet g.row.S.Denot)). IsTakenUpTo why key c.args.room.now c.args.request.now.count c.args.self.now.id c.args.self.now.offset (items_of g.D.DescriptorDevice.set_name x) old new l m) (sym (p.1 ∙ ap (λ x. x ++ p.0) c.requires.empty))
-    (subst (λ (f : ℕ). IsTakenUpTo why key c.args.room.now c.args.request.now.count c.args.self.now.id f (items_of g.D.DescriptorDevice.set_name p.0) old new l m) c.new-view.ensures.offset (subst (λ (j : ℕ). IsTakenUpTo why key c.args.room.now c.args.request.now.count j c.new-view.result.offset (items_of g.D.DescriptorDevice.set_name p.0) old new l m) c.new-view.ensures.id (subst (λ (q : VecDeque (DescriptorPool g.row.P.Denot) Global). IsTakenUpTo why key c.args.room.now c.args.request.now.count c.new-view.result.id c.new-view.result.offset (items_of g.D.DescriptorDevice.set_name p.0) (entries_of g.D.DescriptorDevice.pool_name q.items) new l m) c.new-view.ensures.pools p.2)))) c.take-taken.ensures.stopped
+    let m : Ledger = g.D.DescriptorDevice.ledger c.loop-wanting.device in
+    let m' : Ledger = g.D.DescriptorDevice.ledger c.grow_one.new.device in
+    let new' : List Entry = entries_of g.D.DescriptorDevice.pool_name c.grow_one.new.self.pools.items in
+    let put : List Item = items_of g.D.DescriptorDevice.set_name c.grow_one.new.sink.sets.items in
+    let stays : Growing key c.args.room.now c.args.request.now.count c.args.self.now.id c.args.self.now.offset c.loop-wanting.room c.loop-wanting.self.total c.loop-wanting.wanting put old new' l m = rw (err.0, err.1) inv.growing in
+    grow_stop c.in-Err-grow_one.why key c.args.room.now c.args.request.now.count c.args.self.now.id c.args.self.now.offset c.loop-wanting.room c.loop-wanting.self.total c.loop-wanting.wanting put old new' l m m' c.loop-wanting-test.true stays err.4 err.5
 
-pub returns-clause-few : goal.returns-clause-few
-returns-clause-few g c = (let few = c.take-taken.ensures.given in let none = ap length c.requires.empty in omega arith)
-
-pub take-taken-requires-clause-booked : goal.take-taken-requires-clause-booked
-take-taken-requires-clause-booked g c = subst (λ (q : VecDeque (DescriptorPool g.row.P.Denot) Global). AreBookedIn (key_of c.args.request.now.key) (g.D.DescriptorDevice.ledger c.args.device.now).pools (entries_of g.D.DescriptorDevice.pool_name q.items)) (sym c.new-view.ensures.pools) c.requires.booked
-
-pub invariant_of-self-clause-open : goal.invariant_of-self-clause-open
-invariant_of-self-clause-open g c = c.take-taken.ensures.listed.0 ∙ ap (λ f. open_numbers f (free_in c.take-taken.new.self.pools.now.items)) (c.take-taken.ensures.kept.0 ∙ c.new-view.ensures.offset)
-
-up_to : (why : Refusal) (k : Key) (room n id first : ℕ) (items : List Item) (old new : List Entry) (l m : Ledger) → IsTakenUpTo why k room n id first items old new l m → allocated_in new ≡ allocated_in old + length items
-up_to (refusal.Existing error) k room n id first items old new l m s = s.walked.keeps.more
-up_to (refusal.New why) k room n id first items old new l m s = s.keeps.more
-
-module _ {S : Type 0} (name : S → ℕ) (was now : List (DescriptorSet S)) (empty : was ≡ []) (k : Key) (room n id first : ℕ) (old new : List Entry) (l m : Ledger) where
-  long : (put : List (DescriptorSet S)) → now ≡ was ++ put → length (items_of name put) ≡ length now
-  long put is = length-map put (item_of name) ∙ ap length (sym (is ∙ ap (λ x. x ++ put) empty))
-
-  more : (r : Result (Unit {0}) Refusal)
-      → OnOk r ((put : List (DescriptorSet S)) × (now ≡ was ++ put) × IsTakenAll k room n id first (items_of name put) old new l m)
-      → IfErr r (λ why. (put : List (DescriptorSet S)) × (now ≡ was ++ put) × IsTakenUpTo why k room n id first (items_of name put) old new l m)
-      → allocated_in new ≡ allocated_in old + length now
-  more (Ok x) done stopped = done.2.keeps.more ∙ ap (λ j. allocated_in old + j) (long done.0 done.1)
-  more (Err why) done stopped = up_to why k room n id first (items_of name stopped.0) old new l m stopped.2 ∙ ap (λ j. allocated_in old + j) (long stopped.0 stopped.1)
-
-pub invariant_of-self-clause-counted : goal.invariant_of-self-clause-counted
-invariant_of-self-clause-counted g c =
-    let name = g.D.DescriptorDevice.pool_name in
-    let old : List Entry = entries_of name c.new-view.result.pools.now.items in
-    let new : List Entry = entries_of name c.take-taken.new.self.pools.now.items in
-    let all : allocated_in new ≡ allocated_in old + length c.take-taken.new.sink.sets.items = more g.D.DescriptorDevice.set_name c.args.sink.now.sets.items c.take-taken.new.sink.sets.items c.requires.empty (key_of c.args.request.now.key) c.args.room.now c.args.request.now.count c.new-view.result.id c.new-view.result.offset old new (g.D.DescriptorDevice.ledger c.args.device.now) (g.D.DescriptorDevice.ledger c.take-taken.new.device) c.take-taken.result c.take-taken.ensures.done c.take-taken.ensures.stopped in
-    let was : allocated_in old ≡ sum_by (λ (p : DescriptorPool g.row.P.Denot). p.allocated) c.args.self.now.pools.items = allocated_entries name c.new-view.result.pools.now.items ∙ ap (λ (q : VecDeque (DescriptorPool g.row.P.Denot) Global). sum_by (λ (p : DescriptorPool g.row.P.Denot). p.allocated) q.items) c.new-view.ensures.pools in
-    let is : allocated_in new ≡ sum_by (λ (p : DescriptorPool g.row.P.Denot). p.allocated) c.take-taken.new.self.pools.now.items = allocated_entries name c.take-taken.new.self.pools.now.items in
-    let total = c.args.self.now.counted in
-    let len = c.len.ensures in
-    let fit = c.take-taken.new.sink.sets.ok.0 in
-    omega arith
-
-pub returns-clause-room : goal.returns-clause-room
-returns-clause-room g c =
-    let name = g.D.DescriptorDevice.pool_name in
+pub loop-wanting-preserved : goal.loop-wanting-preserved
+loop-wanting-preserved g c =
+    let inv = c.loop-wanting.invariant in
+    let got = c.in-Ok-grow_one.ensures.grown in
     let key : Key = key_of c.args.request.now.key in
-    let was : pools_load key (entries_of name c.new-view.result.pools.now.items) ≡ stored_load key c.args.self.now.pools.items = load_in name key c.new-view.result.pools.now.items ∙ ap (λ (q : VecDeque (DescriptorPool g.row.P.Denot) Global). stored_load key q.items) c.new-view.ensures.pools in
-    let is = load_in name key c.take-taken.new.self.pools.now.items in
-    let room = c.take-taken.ensures.room in
+    let items : List (DescriptorPool g.row.P.Denot) = c.loop-wanting.self.pools.items in
+    let old : List Entry = entries_of g.D.DescriptorDevice.pool_name c.args.self.now.pools.items in
+    let new : List Entry = entries_of g.D.DescriptorDevice.pool_name items in
+    let new' : List Entry = entries_of g.D.DescriptorDevice.pool_name c.grow_one.new.self.pools.items in
+    let l : Ledger = g.D.DescriptorDevice.ledger c.args.device.now in
+    let m : Ledger = g.D.DescriptorDevice.ledger c.loop-wanting.device in
+    let m' : Ledger = g.D.DescriptorDevice.ledger c.grow_one.new.device in
+    let sets : List (DescriptorSet g.row.S.Denot) = c.loop-wanting.sink.sets.items in
+    let put : List Item = items_of g.D.DescriptorDevice.set_name sets in
+    let more : List ℕ = map g.D.DescriptorDevice.set_name got.0 in
+    let grown = got.5 in
+    let given : c.in-Ok-grow_one.given ≡ length more = sym (length-map got.0 g.D.DescriptorDevice.set_name ∙ got.1) in
+    let left : ℕ = c.loop-wanting.wanting - c.in-Ok-grow_one.given in
+    let some : 0 < c.loop-wanting.wanting = c.loop-wanting-test.true in
+    let few : length more ≤ c.loop-wanting.wanting = (let a = grown.many in let b = grown.given in omega arith) in
+    let next : Growing key c.args.room.now c.args.request.now.count c.args.self.now.id c.args.self.now.offset c.grow_one.new.room c.grow_one.new.self.total left (put ++ items_at key c.args.self.now.id (c.args.self.now.offset + length old + length inv.growing.fresh) more) old new' l m' = grow_more key c.args.room.now c.args.request.now.count c.args.self.now.id c.args.self.now.offset c.loop-wanting.room c.grow_one.new.room c.loop-wanting.self.total c.loop-wanting.wanting put old new new' l m m' more c.requires.booked inv.growing grown c.grow_one.new.self.total left some (got.4 ∙ ap (λ n. c.loop-wanting.self.total + n) given) (omega arith) in
+    let number : c.loop-wanting.self.offset + length items ≡ c.args.self.now.offset + length old + length inv.growing.fresh = (let a = length-map items (entry_of g.D.DescriptorDevice.pool_name) in let first = inv.offset in let b = grown_long key c.args.room.now c.args.request.now.count c.args.self.now.id c.args.self.now.offset c.loop-wanting.room c.loop-wanting.self.total c.loop-wanting.wanting put old new l m inv.growing in omega arith) in
+    let fresh : List (DescriptorSet g.row.S.Denot) = sets_at key c.loop-wanting.self.id (c.loop-wanting.self.offset + length items) got.0 in
+    let seen : items_of g.D.DescriptorDevice.set_name c.grow_one.new.sink.sets.items ≡ put ++ items_at key c.args.self.now.id (c.args.self.now.offset + length old + length inv.growing.fresh) more =
+    ap (items_of g.D.DescriptorDevice.set_name) got.2 ∙ map-append _ sets fresh
+    ∙ ap (λ x. put ++ x) (items_of-sets_at g.D.DescriptorDevice.set_name key c.loop-wanting.self.id (c.loop-wanting.self.offset + length items) got.0 ∙ ap (λ i. items_at key i (c.loop-wanting.self.offset + length items) more) inv.id ∙ ap (λ n. items_at key c.args.self.now.id n more) number) in
+    let long = ap length got.2 ∙ length-append sets fresh in
+    let raws = length-map got.0 (λ raw. set_at key c.loop-wanting.self.id (c.loop-wanting.self.offset + length items) raw) in
+    record {
+      room = (let a = inv.room in let b = got.3 in omega arith);
+      given = (let a = inv.given in omega arith);
+      total = (let a = inv.total in let b = got.4 in omega arith);
+      id = c.in-Ok-grow_one.ensures.id ∙ inv.id;
+      offset = c.in-Ok-grow_one.ensures.offset ∙ inv.offset;
+      pools = (
+          let a = inv.pools in
+          let b = length-map items (entry_of g.D.DescriptorDevice.pool_name) in
+          let d = length-map c.grow_one.new.self.pools.items (entry_of g.D.DescriptorDevice.pool_name) in
+          let one : length new' ≡ length new + 1 = ap length grown.entries ∙ length-append new (fresh_entry grown.pool ∷ []) in
+          let gave = grown.given in
+          let size = grown.size.some in
+          let all = grown.many in
+          omega arith);
+      growing = subst (λ (x : List Item). Growing key c.args.room.now c.args.request.now.count c.args.self.now.id c.args.self.now.offset c.grow_one.new.room c.grow_one.new.self.total left x old new' l m') (sym seen) next;
+      load = (
+          let a = inv.load in
+          let b = ap (pools_load key) grown.entries ∙ load_more key new grown.pool in
+          let was = load_entries g.D.DescriptorDevice.pool_name key items in
+          let is = load_entries g.D.DescriptorDevice.pool_name key c.grow_one.new.self.pools.items in
+          let less = grown.less in
+          omega arith);
+      looks = (let a = inv.looks in let b = c.in-Ok-grow_one.ensures.looks in omega arith);
+    }
+
+pub returns-in-Err-clause-room : goal.returns-in-Err-clause-room
+returns-in-Err-clause-room g c = ap (λ n. c.args.room.now + n) (stopped_load g.D.DescriptorDevice.pool_name c.args.self.now.pools.items c.take_known.new.self.pools.items c.in-Err.ensures.stopped)
+
+pub returns-in-Err-grow_one-clause-room : goal.returns-in-Err-grow_one-clause-room
+returns-in-Err-grow_one-clause-room g c =
+    let err = c.in-Err-grow_one.ensures.err in
+    let same = ap (stored_load (key_of c.args.request.now.key)) err.1 in
+    let load = c.loop-wanting.invariant.load in
+    let room = err.3 in
     omega arith

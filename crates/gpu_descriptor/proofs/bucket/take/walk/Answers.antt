@@ -1,5 +1,5 @@
 use Rattle.gpu_descriptor.specs.Inner.SetAt.{set_at}
-use Rattle.std.proofs.Common.{◌≡◌, ℕ, ◌+◌, ◌-◌, ◌++◌, List, [], length, map, slice_get, slice_set, Some, refl, sym, ap, ◌∙◌, subst, arith, append_assoc, length-append}
+use Rattle.std.proofs.Common.{◌≡◌, ℕ, ◌+◌, ◌-◌, ◌++◌, List, [], length, map, slice_get, slice_set, Some, Err, refl, sym, ap, ◌∙◌, subst, arith, append_assoc, length-append}
 use Rattle.std.proofs.lemmas.List.{length-map, append-nil, map-append, length-set}
 use Rattle.gpu_descriptor_types.specs.Ledger.{Ledger}
 use Rattle.gpu_descriptor.specs.declared.bucket.DescriptorPool.{DescriptorPool}
@@ -12,15 +12,17 @@ use Rattle.gpu_descriptor.specs.Model.Grants.{items_at}
 use Rattle.gpu_descriptor.specs.Caller.KeyOf.{key_of}
 use Rattle.gpu_descriptor.specs.Caller.Sets.{items_of}
 use Rattle.gpu_descriptor.specs.Model.Shares.{rest}
-use Rattle.gpu_descriptor.specs.Inner.Walk.{sets_at, IsWalked, IsWalkStopped}
-use Rattle.gpu_descriptor.proofs.Newest.{OpenWalk, open_walk_start, open_walk_more, open_walk_stop, walk_sated, walk_empty, above, inside, next_is_booked, listed_now_closed, listed_now_open, listed_now_same, one_asked, looked_at}
+use Rattle.gpu_descriptor.specs.Inner.Walk.{sets_at, IsWalked}
+use Rattle.gpu_descriptor.specs.Inner.Grow.{IsTaken}
+use Rattle.gpu_descriptor.specs.declared.bucket.take.Stop.TheVariants.{Existing}
+use Rattle.gpu_descriptor.proofs.Newest.{OpenWalk, open_walk_start, open_walk_more, open_walk_stop, walk_sated, walk_empty, next_is_booked, listed_now_closed, listed_now_open, listed_now_same, one_asked}
 use Rattle.gpu_descriptor.proofs.Walking.{Walking, walk_end, items_of-sets_at}
 use Rattle.gpu_descriptor.proofs.bucket.take.walk.Goals.{In-Ok}
 use Rattle.gpu_descriptor.proofs.bucket.take.walk.Goals as goal
 
 -- sets of one key and number are those of another that are the same
-aimed_at : {S : Type 0} {k l : BucketKey} {i j m n : ℕ} (raws : List S) → k ≡ l → i ≡ j → m ≡ n → sets_at (key_of k) i m raws ≡ sets_at (key_of l) j n raws
-aimed_at {l = l} {i = i} {j = j} {m = m} raws keys ids numbers = ap (λ (k : BucketKey). sets_at (key_of k) i m raws) keys ∙ ap (λ i. sets_at (key_of l) i m raws) ids ∙ ap (λ n. sets_at (key_of l) j n raws) numbers
+aimed_at : {S : Type 0} {k l : BucketKey} {i j : ℕ} (n : ℕ) (raws : List S) → k ≡ l → i ≡ j → sets_at (key_of k) i n raws ≡ sets_at (key_of l) j n raws
+aimed_at {l = l} {i = i} n raws keys ids = ap (λ (k : BucketKey). sets_at (key_of k) i n raws) keys ∙ ap (λ i. sets_at (key_of l) i n raws) ids
 
 -- what one pool gave stands behind what the others gave
 gave_more : {S : Type 0} (name : S → ℕ) (k : Key) (id number : ℕ) (put : List (DescriptorSet S)) (raws : List S) → items_of name put ++ items_at k id number (map name raws) ≡ items_of name (put ++ sets_at k id number raws)
@@ -39,8 +41,8 @@ closed_walk : {P : Type 0} {name : P → ℕ} {k : Key} {n id own first start wa
 closed_walk gave pools shorter place ids walk = rw (pools, shorter, place, ids, sym gave) walk
 
 -- the walk stopped
-stopped_at : {k : Key} {n id own first start : ℕ} {error : DeviceAllocationError} {out : List Item} {old new : List Entry} {l m : Ledger} → id ≡ own → first ≡ start → IsWalkStopped k n id first error out old new l m → IsWalkStopped k n own start error out old new l m
-stopped_at {k} {n} {id} {own} {first} {start} {error} {out} {old} {new} {l} {m} ids same stopped = subst (λ (i : ℕ). IsWalkStopped k n i start error out old new l m) ids (subst (λ (f : ℕ). IsWalkStopped k n id f error out old new l m) same stopped)
+stopped_at : {k : Key} {n id own first start : ℕ} {error : DeviceAllocationError} {out : List Item} {old new : List Entry} {l m : Ledger} → id ≡ own → first ≡ start → IsTaken (Err (Existing error)) k 0 n id first out old new l m → IsTaken (Err (Existing error)) k 0 n own start out old new l m
+stopped_at ids same stopped = rw (sym ids, sym same) stopped
 
 pub loop-wanting-init : goal.loop-wanting-init
 loop-wanting-init g c = record {
@@ -49,62 +51,44 @@ loop-wanting-init g c = record {
   room = refl;
   given = omega arith;
   long = refl;
-  walk = open_walk_start g.D.DescriptorDevice.pool_name (key_of c.args.key.now) c.args.count c.args.view.now.id c.args.view.now.offset c.args.view.now.pools.now.items c.args.view.now.listed.now.items (g.D.DescriptorDevice.ledger c.args.device.now) c.requires.booked c.requires.listed.0;
-  space = c.requires.listed.1;
+  walk = open_walk_start g.D.DescriptorDevice.pool_name (key_of c.args.request.now.key) c.args.request.now.count c.args.view.now.id c.args.view.now.offset c.args.view.now.pools.now.items c.args.view.now.listed.now.items (g.D.DescriptorDevice.ledger c.args.device.now) c.requires.booked c.requires.listed;
+  space = refl;
   kept = (refl, refl, refl, refl, refl);
   looks = refl;
 }
 
 -- the walk is over
-whole : {k : Key} {n id own first start wanting : ℕ} {out : List Item} {old new : List Entry} {l m : Ledger} → id ≡ own → first ≡ start → Walking k n id first 0 wanting out old new l m → (w : IsWalked k n own start 0 out old new l m) × (wanting ≡ rest w.grant.refused n old)
+whole : {k : Key} {n id own first start wanting : ℕ} {out : List Item} {old new : List Entry} {l m : Ledger} → id ≡ own → first ≡ start → Walking k n id first 0 wanting out old new l m → IsWalked k n own start wanting out old new l m
 whole {k} {n} {id} {own} {first} {start} {wanting} {out} {old} {new} {l} {m} ids same walked = walk_end k n own start wanting out old new l m (subst (λ (i : ℕ). Walking k n i start 0 wanting out old new l m) ids (subst (λ (f : ℕ). Walking k n id f 0 wanting out old new l m) same walked))
 
 pub returns-in_default-clause-walked : goal.returns-in_default-clause-walked
 returns-in_default-clause-walked g c =
     let inv = c.loop-wanting.invariant in
-    let done = whole inv.kept.4 inv.kept.0 (walk_empty c.requires.booked inv.walk c.in_default.ensures.none) in
-    (inv.put, inv.sets, inv.room, done.0, done.1, inv.given)
+    (inv.put, c.newest.ensures.sets ∙ inv.sets, (let room = inv.room in let left = c.newest.ensures.left in omega arith), inv.given, whole inv.kept.4 inv.kept.0 (walk_empty c.requires.booked inv.walk c.in_default.ensures.none))
 
 pub returns-clause-walked : goal.returns-clause-walked
 returns-clause-walked g c =
     let inv = c.loop-wanting.invariant in
-    let done = whole inv.kept.4 inv.kept.0 (walk_sated c.requires.booked inv.walk (let none = c.loop-wanting-test.false in omega arith)) in
-    (inv.put, inv.sets, inv.room, done.0, done.1, inv.given)
+    let over = whole inv.kept.4 inv.kept.0 (walk_sated c.requires.booked inv.walk (let none = c.loop-wanting-test.false in omega arith)) in
+    (inv.put, inv.sets, inv.room, inv.given, over)
 
-pub look-pool-requires-clause-above : goal.look-pool-requires-clause-above
-look-pool-requires-clause-above g c =
-    above c.requires.booked c.loop-wanting.invariant.walk c.loop-wanting-test.true _ _ c.in-Some.ensures.last
-
-pub look-pool-requires-clause-within : goal.look-pool-requires-clause-within
-look-pool-requires-clause-within g c =
-    let walk = c.loop-wanting.invariant.walk in
-    let low = above c.requires.booked walk c.loop-wanting-test.true _ _ c.in-Some.ensures.last in
-    let high = inside c.requires.booked walk c.loop-wanting-test.true _ _ c.in-Some.ensures.last in
-    omega arith
+pub newest-requires : goal.newest-requires
+newest-requires g c = record { listed = c.loop-wanting.invariant.walk.listed }
 
 pub ask-requires-clause-booked : goal.ask-requires-clause-booked
 ask-requires-clause-booked g c =
-    let walk = c.loop-wanting.invariant.walk in
-    let last = c.in-Some.ensures.last in
-    next_is_booked c.requires.booked walk c.loop-wanting-test.true _ _ last _ (looked_at c.requires.booked walk c.loop-wanting-test.true _ _ last _ c.look-pool.ensures.value)
+    next_is_booked c.requires.booked c.loop-wanting.invariant.walk c.loop-wanting-test.true _ _ c.in-Some.ensures.last _ c.in-Some.ensures.value
 
 pub returns-in-Err-clause-stopped : goal.returns-in-Err-clause-stopped
 returns-in-Err-clause-stopped g c =
     let inv = c.loop-wanting.invariant in
-    let last = c.in-Some.ensures.last in
-    let at = looked_at c.requires.booked inv.walk c.loop-wanting-test.true _ _ last _ c.look-pool.ensures.value in
     let err = c.in-Err.ensures.err in
-    let stopped = open_walk_stop c.requires.booked inv.walk c.loop-wanting-test.true _ _ last _ at c.ask.new.pool c.in-Err.error _ err.1 err.2 in
-    (inv.put, err.0 ∙ c.aim.ensures.sets ∙ inv.sets, stopped_at inv.kept.4 inv.kept.0 stopped)
+    let stopped = open_walk_stop c.requires.booked inv.walk c.loop-wanting-test.true _ _ c.in-Some.ensures.last _ c.in-Some.ensures.value c.ask.new.pool 0 c.in-Err.error _ err.1 err.2 in
+    (inv.put, err.0 ∙ c.newest.ensures.sets ∙ inv.sets, stopped_at inv.kept.4 inv.kept.0 stopped)
 
 pub returns-in-Err-clause-listed : goal.returns-in-Err-clause-listed
 returns-in-Err-clause-listed g c =
-    let inv = c.loop-wanting.invariant in
-    let last = c.in-Some.ensures.last in
-    let at = looked_at c.requires.booked inv.walk c.loop-wanting-test.true _ _ last _ c.look-pool.ensures.value in (
-      listed_now_same c.requires.booked inv.walk c.loop-wanting-test.true _ _ last _ at c.ask.new.pool c.in-Err.ensures.err.1,
-      (let a = inv.space in let b = length-set c.loop-wanting.view.pools.now.items (c.in-Some.number - c.loop-wanting.view.offset) c.ask.new.pool in omega arith),
-    )
+    listed_now_same c.requires.booked c.loop-wanting.invariant.walk c.loop-wanting-test.true _ _ c.in-Some.ensures.last _ c.in-Some.ensures.value c.ask.new.pool c.in-Err.ensures.err.1
 
 -- what came of the pool that was asked
 module _ (g : _) (c : In-Ok g) where
@@ -112,13 +96,13 @@ module _ (g : _) (c : In-Ok g) where
   raws = c.in-Ok.ensures.asked.0
 
   abbrev put : List (DescriptorSet g.row.S.Denot)
-  put = c.loop-wanting.invariant.put ++ sets_at (key_of c.args.key.now) c.loop-wanting.view.id c.in-Some.number raws
+  put = c.loop-wanting.invariant.put ++ sets_at (key_of c.args.request.now.key) c.loop-wanting.view.id c.newest.new.sink.number raws
 
   abbrev names : List ℕ
   names = map g.D.DescriptorDevice.set_name raws
 
-  at : slice_get c.loop-wanting.view.pools.now.items (c.in-Some.number - c.loop-wanting.view.offset) ≡ Some c.look-pool.result.now
-  at = looked_at c.requires.booked c.loop-wanting.invariant.walk c.loop-wanting-test.true _ _ c.in-Some.ensures.last _ c.look-pool.ensures.value
+  at : slice_get c.loop-wanting.view.pools.now.items (c.newest.new.sink.number - c.loop-wanting.view.offset) ≡ Some c.in-Some.pool.now
+  at = c.in-Some.ensures.value
 
   many : length names ≡ c.in-Ok.given
   many = length-map raws g.D.DescriptorDevice.set_name ∙ c.in-Ok.ensures.asked.1
@@ -128,13 +112,13 @@ module _ (g : _) (c : In-Ok g) where
 
   sets : c.ask.new.sink.sets.items ≡ c.args.sink.now.sets.items ++ put
   sets =
-      c.in-Ok.ensures.asked.2 ∙ ap (λ x. c.aim.new.self.sets.items ++ x) (aimed_at raws c.aim.ensures.key (c.aim.ensures.id ∙ c.id.ensures) c.aim.ensures.number) ∙ ap (λ x. x ++ sets_at (key_of c.args.key.now) c.loop-wanting.view.id c.in-Some.number raws) (c.aim.ensures.sets ∙ c.loop-wanting.invariant.sets) ∙ append_assoc c.args.sink.now.sets.items c.loop-wanting.invariant.put _
+      c.in-Ok.ensures.asked.2 ∙ ap (λ x. c.newest.new.sink.sets.items ++ x) (aimed_at c.newest.new.sink.number raws c.in-Some.ensures.key c.in-Some.ensures.id) ∙ ap (λ x. x ++ sets_at (key_of c.args.request.now.key) c.loop-wanting.view.id c.newest.new.sink.number raws) (c.newest.ensures.sets ∙ c.loop-wanting.invariant.sets) ∙ append_assoc c.args.sink.now.sets.items c.loop-wanting.invariant.put _
 
-  room : c.ask.new.sink.left + c.args.count ≡ c.args.sink.now.left + (c.loop-wanting.wanting - c.in-Ok.given)
-  room = (let a = c.loop-wanting.invariant.room in let b = c.in-Ok.ensures.asked.3 in let d = many in let q = c.aim.ensures.left in let few = less in omega arith)
+  room : c.ask.new.sink.left + c.args.request.now.count ≡ c.args.sink.now.left + (c.loop-wanting.wanting - c.in-Ok.given)
+  room = (let a = c.loop-wanting.invariant.room in let b = c.in-Ok.ensures.asked.3 in let d = many in let q = c.newest.ensures.left in let few = less in omega arith)
 
-  given : length put + (c.loop-wanting.wanting - c.in-Ok.given) ≡ c.args.count
-  given = (let a = c.loop-wanting.invariant.given in let b = counted (key_of c.args.key.now) c.loop-wanting.view.id c.in-Some.number _ c.loop-wanting.invariant.put raws c.in-Ok.ensures.asked.1 in let d = many in let few = less in omega arith)
+  given : length put + (c.loop-wanting.wanting - c.in-Ok.given) ≡ c.args.request.now.count
+  given = (let a = c.loop-wanting.invariant.given in let b = counted (key_of c.args.request.now.key) c.loop-wanting.view.id c.newest.new.sink.number _ c.loop-wanting.invariant.put raws c.in-Ok.ensures.asked.1 in let d = many in let few = less in omega arith)
 
 pub loop-wanting-preserved : goal.loop-wanting-preserved
 loop-wanting-preserved g c =
@@ -145,15 +129,15 @@ loop-wanting-preserved g c =
     let open_still = listed_now_open c.requires.booked inv.walk c.loop-wanting-test.true _ _ last _ (at g r) q (let a = c.if-pool-eq0.false in omega arith) in
     let walked = open_walk_more c.requires.booked inv.walk c.loop-wanting-test.true _ _ last _ (at g r) q _ _ _ _ open_still c.in-Ok.ensures.asked.4 (less g r) in
     let asked_one = one_asked c.requires.booked inv.walk c.loop-wanting-test.true _ _ last _ (at g r) q _ _ c.in-Ok.ensures.asked.4 in
-    let many = length-set c.loop-wanting.view.pools.now.items (c.in-Some.number - c.loop-wanting.view.offset) q in
+    let many = length-set c.loop-wanting.view.pools.now.items (c.newest.new.sink.number - c.loop-wanting.view.offset) q in
     record {
       put = put g r;
       sets = sets g r;
       room = room g r;
       given = given g r;
       long = many ∙ inv.long;
-      walk = closed_walk (gave_more g.D.DescriptorDevice.set_name (key_of c.args.key.now) c.loop-wanting.view.id c.in-Some.number inv.put (raws g r)) refl refl refl refl walked;
-      space = (let a = inv.space in omega arith);
+      walk = closed_walk (gave_more g.D.DescriptorDevice.set_name (key_of c.args.request.now.key) c.loop-wanting.view.id c.newest.new.sink.number inv.put (raws g r)) refl refl refl refl walked;
+      space = inv.space;
       kept = inv.kept;
       looks = (let a = inv.looks in omega arith);
     }
@@ -168,8 +152,8 @@ loop-wanting-preserved-then-pool-eq0 g c =
     let walked = open_walk_more c.requires.booked inv.walk c.loop-wanting-test.true _ _ last _ (at g r) q _ _ _ _ closed c.in-Ok.ensures.asked.4 (less g r) in
     let asked_one = one_asked c.requires.booked inv.walk c.loop-wanting-test.true _ _ last _ (at g r) q _ _ c.in-Ok.ensures.asked.4 in
     let now = c.close_newest.ensures in
-    let pools : c.close_newest.new.self.pools.now.items ≡ slice_set c.loop-wanting.view.pools.now.items (c.in-Some.number - c.loop-wanting.view.offset) q = ap (λ x. x.now.items) now.pools in
-    let many : length c.close_newest.new.self.pools.now.items ≡ length c.loop-wanting.view.pools.now.items = ap length pools ∙ length-set c.loop-wanting.view.pools.now.items (c.in-Some.number - c.loop-wanting.view.offset) q in
+    let pools : c.close_newest.new.self.pools.now.items ≡ slice_set c.loop-wanting.view.pools.now.items (c.newest.new.sink.number - c.loop-wanting.view.offset) q = ap (λ x. x.now.items) now.pools in
+    let many : length c.close_newest.new.self.pools.now.items ≡ length c.loop-wanting.view.pools.now.items = ap length pools ∙ length-set c.loop-wanting.view.pools.now.items (c.newest.new.sink.number - c.loop-wanting.view.offset) q in
     let looked : c.close_newest.new.self.looks.now.count ≡ c.loop-wanting.view.looks.now.count + 1 = ap (λ x. x.now.count) now.looks in
     record {
       put = put g r;
@@ -177,8 +161,8 @@ loop-wanting-preserved-then-pool-eq0 g c =
       room = room g r;
       given = given g r;
       long = many ∙ inv.long;
-      walk = closed_walk (gave_more g.D.DescriptorDevice.set_name (key_of c.args.key.now) c.loop-wanting.view.id c.in-Some.number inv.put (raws g r)) pools now.listed now.kept.0 now.kept.4 walked;
-      space = (let a = inv.space in let b = now.capacity in omega arith);
+      walk = closed_walk (gave_more g.D.DescriptorDevice.set_name (key_of c.args.request.now.key) c.loop-wanting.view.id c.newest.new.sink.number inv.put (raws g r)) pools now.listed now.kept.0 now.kept.4 walked;
+      space = now.capacity ∙ inv.space;
       kept = (now.kept.0 ∙ inv.kept.0, now.kept.1 ∙ inv.kept.1, now.kept.2 ∙ inv.kept.2, now.kept.3 ∙ inv.kept.3, now.kept.4 ∙ inv.kept.4);
       looks = (let a = inv.looks in omega arith);
     }

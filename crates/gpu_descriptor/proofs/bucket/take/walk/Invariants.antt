@@ -1,5 +1,5 @@
 -- What came stands behind what was there, and each pool that was asked was looked at once.
-use Rattle.std.proofs.Common.{◌≡◌, ◌+◌, ◌≤◌, ◌++◌, List, length}
+use Rattle.std.proofs.Common.{◌≡◌, ◌+◌, ◌++◌, List, length}
 use Rattle.std.specs.VecDeque.{deque_capacity}
 use Rattle.gpu_descriptor.specs.declared.set.DescriptorSet.{DescriptorSet}
 use Rattle.gpu_descriptor.specs.Inner.OpenPools.{CountsLooks, KeepsView}
@@ -13,13 +13,13 @@ abbrev pub invariant-loop-wanting : goal.invariant-loop-wanting
 invariant-loop-wanting g l = record {
   put : List (DescriptorSet g.row.S.Denot);
   sets : l.sink.sets.items ≡ l.initial.sink.sets.items ++ put;
-  room : l.sink.left + l.count ≡ l.initial.sink.left + l.wanting;
-  given : length put + l.wanting ≡ l.count;
+  room : l.sink.left + l.request.count ≡ l.initial.sink.left + l.wanting;
+  given : length put + l.wanting ≡ l.request.count;
   long : length l.view.pools.now.items ≡ length l.initial.view.pools.now.items;
-  walk : OpenWalk g.D.DescriptorDevice.pool_name (key_of l.key) l.count l.view.id l.view.offset l.wanting (items_of g.D.DescriptorDevice.set_name put) (entries_of g.D.DescriptorDevice.pool_name l.initial.view.pools.now.items) l.view.pools.now.items l.view.listed.now.items (g.D.DescriptorDevice.ledger l.initial.device) (g.D.DescriptorDevice.ledger l.device);
-  space : length l.view.pools.now.items ≤ deque_capacity l.view.listed.now;
+  walk : OpenWalk g.D.DescriptorDevice.pool_name (key_of l.request.key) l.request.count l.view.id l.view.offset l.wanting (items_of g.D.DescriptorDevice.set_name put) (entries_of g.D.DescriptorDevice.pool_name l.initial.view.pools.now.items) l.view.pools.now.items l.view.listed.now.items (g.D.DescriptorDevice.ledger l.initial.device) (g.D.DescriptorDevice.ledger l.device);
+  space : deque_capacity l.view.listed.now ≡ deque_capacity l.initial.view.listed.now;
   kept : KeepsView l.initial.view l.view;
-  looks : CountsLooks l.initial.view l.view (g.D.DescriptorDevice.ledger l.initial.device) (g.D.DescriptorDevice.ledger l.device);
+  looks : CountsLooks l.initial.view.looks.now.count l.view.looks.now.count (g.D.DescriptorDevice.ledger l.initial.device) (g.D.DescriptorDevice.ledger l.device);
 }
 
 abbrev pub decreases-loop-wanting : goal.decreases-loop-wanting

@@ -8,14 +8,16 @@ use Rattle.gpu_descriptor.specs.declared.set.BucketKey.{BucketKey}
 use Rattle.gpu_descriptor.specs.declared.set.DescriptorSet.{DescriptorSet}
 use Rattle.gpu_descriptor.specs.Model.Books.{Entry, Key}
 use Rattle.gpu_descriptor.specs.Model.Agreement.{flags_of}
+use Rattle.gpu_descriptor.specs.Model.Load.{pool_load}
+use Rattle.gpu_descriptor.specs.declared.bucket.take.Stop.TheVariants as stop
 use Rattle.gpu_descriptor.specs.Caller.KeyOf.{key_of}
 use Rattle.gpu_descriptor.specs.Inner.Stored.{entry_of}
 use Rattle.gpu_descriptor.specs.Inner.Walk.{entries_of, sets_at}
 use Rattle.gpu_descriptor.proofs.NextSize.{one_fits}
 use Rattle.gpu_descriptor.proofs.Asks.{same_entry}
-use Rattle.gpu_descriptor.proofs.Grows.{created_for, created_at, fresh_room, no_sets, grown, not_grown, not_created, not_begun, create_asked, alloc_asked}
-use Rattle.gpu_descriptor.proofs.bucket.reads.OpenPools.grow_one.Goals.{In-Ok}
-use Rattle.gpu_descriptor.proofs.bucket.reads.OpenPools.grow_one.Goals as goal
+use Rattle.gpu_descriptor.proofs.Grows.{created_for, created_at, fresh_room, no_sets, grown, not_grown, not_created, none_asked, had_room, create_asked, alloc_asked}
+use Rattle.gpu_descriptor.proofs.bucket.DescriptorBucket.grow_one.Goals.{In-Ok, In-Ok-alloc_descriptor_sets}
+use Rattle.gpu_descriptor.proofs.bucket.DescriptorBucket.grow_one.Goals as goal
 
 -- the pool that was created
 module _ (g : _) (c : In-Ok g) where
@@ -40,6 +42,21 @@ module _ (g : _) (c : In-Ok g) where
   at : created.pools name ≡ Some (fresh (pool_counts key.counts size) size (flags_of key))
   at = created_at key size name before created made
 
+  -- a pool of one set fits
+  fits : pool_load key 1 ≤ c.args.room.now
+  fits = one_fits key c.args.room.now c.args.self.now.total c.args.wanted size c.in-Some.ensures.sets
+
+-- what came stands behind what was there
+kept : (g : _) (c : In-Ok-alloc_descriptor_sets g) → c.alloc_descriptor_sets.new.sets.sets.items ≡ c.args.sink.now.sets.items ++ sets_at (key_of c.args.request.now.key) c.args.self.now.id (c.args.self.now.offset + length c.args.self.now.pools.items) c.in-Ok-alloc_descriptor_sets.ensures.ok.sets
+kept g c =
+    let put = c.in-Ok-alloc_descriptor_sets.ensures.ok in
+    let number = c.aim.ensures.number ∙ c.next_number.ensures ∙ (let k = c.make_room.ensures.offset in let same = ap length c.make_room.ensures.pools in let e : c.make_room.new.self.offset + length c.make_room.new.self.pools.items ≡ c.args.self.now.offset + length c.args.self.now.pools.items = omega arith in e) in
+    put.kept
+    ∙ ap (λ l. l ++ sets_at (key_of c.aim.new.self.key.now) c.aim.new.self.id c.aim.new.self.number put.sets) c.aim.ensures.sets
+    ∙ ap (λ k. c.args.sink.now.sets.items ++ sets_at (key_of k) c.aim.new.self.id c.aim.new.self.number put.sets) c.aim.ensures.key
+    ∙ ap (λ j. c.args.sink.now.sets.items ++ sets_at (key_of c.args.request.now.key) j c.aim.new.self.number put.sets) (c.aim.ensures.id ∙ c.make_room.ensures.id)
+    ∙ ap (λ n. c.args.sink.now.sets.items ++ sets_at (key_of c.args.request.now.key) c.args.self.now.id n put.sets) number
+
 pub alloc_descriptor_sets-requires-clause-fits : goal.alloc_descriptor_sets-requires-clause-fits
 alloc_descriptor_sets-requires-clause-fits g c =
     let d = (goal.at.alloc_descriptor_sets-requires-clause-fits g c).In-Ok in
@@ -53,6 +70,14 @@ destroy_descriptor_pool-requires g c =
     let m' : Ledger = g.D.DescriptorDevice.ledger c.alloc_descriptor_sets.new.self in
     subst (λ (q : ℕ). HasNoSets q m') (sym c.in-Err-alloc_descriptor_sets.ensures.name) (no_sets (key g d) (size g d) (name g d) c.in-Err-alloc_descriptor_sets.error (created g d) m' (at g d) c.in-Err-alloc_descriptor_sets.ensures.err.ledger)
 
+pub push-requires-clause-numbers : goal.push-requires-clause-numbers
+push-requires-clause-numbers g c =
+    let fits = c.requires.numbers in
+    let some = c.requires.some in
+    let first = c.make_room.ensures.offset in
+    let same = ap length c.make_room.ensures.pools in
+    omega arith
+
 pub returns-in-Err-alloc_descriptor_sets-clause-err : goal.returns-in-Err-alloc_descriptor_sets-clause-err
 returns-in-Err-alloc_descriptor_sets-clause-err g c =
     let d = (goal.at.returns-in-Err-alloc_descriptor_sets-clause-err g c).In-Ok in
@@ -60,7 +85,7 @@ returns-in-Err-alloc_descriptor_sets-clause-err g c =
     let m'' : Ledger = g.D.DescriptorDevice.ledger c.destroy_descriptor_pool.new.self in
     let gone : m'' ≡ after_destroy (name g d) m' = c.destroy_descriptor_pool.ensures ∙ ap (λ q. after_destroy q m') c.in-Err-alloc_descriptor_sets.ensures.name in
     let err = c.in-Err-alloc_descriptor_sets.ensures.err in
-    (err.kept ∙ c.aim.ensures.sets, ap (λ x. x.now.items) c.count_fresh.ensures.pools ∙ c.make_room.ensures.pools, not_grown (key g d) (size g d) (name g d) c.in-Err-alloc_descriptor_sets.error (before g d) (created g d) m' m'' c.in-Ok.ensures.new_name (made g d) err.ledger gone, one_fits (key g d) c.args.room.now c.args.total c.args.wanted (size g d) c.in-Some.ensures.sets, refl)
+    (err.kept ∙ c.aim.ensures.sets, c.make_room.ensures.pools, c.make_room.ensures.total, refl, not_grown (key g d) (size g d) (name g d) c.in-Err-alloc_descriptor_sets.error (before g d) (created g d) m' m'' c.in-Ok.ensures.new_name (made g d) err.ledger gone, had_room (λ is. absurd (cc)) (fits g d))
 
 pub returns-in-Ok-alloc_descriptor_sets-clause-grown : goal.returns-in-Ok-alloc_descriptor_sets-clause-grown
 returns-in-Ok-alloc_descriptor_sets-clause-grown g c =
@@ -72,32 +97,33 @@ returns-in-Ok-alloc_descriptor_sets-clause-grown g c =
     let many : length put.sets ≡ c.min-given.result = put.many ∙ c.new.ensures.left in
     let long : length names ≡ min c.in-Some.size c.args.wanted = length-map put.sets g.D.DescriptorDevice.set_name ∙ many ∙ count in
     let is : m' ≡ after_alloc (name g d) (live_sets (key g d).counts names) (created g d) = put.ledger ∙ ap (λ cs. after_alloc (name g d) (live_sets cs names) (created g d)) (ap g.D.DescriptorDevice.layout_counts c.new.ensures.layout ∙ sym (ap (λ (k : Key). k.counts) c.requires.same)) in
-    let old : List Entry = entries_of g.D.DescriptorDevice.pool_name c.args.self.now.pools.now.items in
-    let new : List Entry = entries_of g.D.DescriptorDevice.pool_name c.push.new.self.pools.now.items in
+    let old : List Entry = entries_of g.D.DescriptorDevice.pool_name c.args.self.now.pools.items in
+    let new : List Entry = entries_of g.D.DescriptorDevice.pool_name c.push.new.self.pools.items in
     let value : DescriptorPool g.row.P.Denot = record { raw = c.alloc_descriptor_sets.new.pool; capacity = c.in-Some.size; allocated = c.min-given.result; available = c.in-Some.size - c.min-given.result } in
-    let items : c.push.new.self.pools.now.items ≡ c.make_room.new.self.pools.now.items ++ value ∷ [] = c.push.ensures.pools ∙ ap (λ x. x.now.items ++ value ∷ []) c.count_fresh.ensures.pools in
     let now : new ≡ old ++ record { pool = name g d; capacity = size g d; allocated = min (size g d) c.args.wanted; free = size g d - min (size g d) c.args.wanted } ∷ [] =
-    ap (map (entry_of g.D.DescriptorDevice.pool_name)) (items ∙ ap (λ x. x ++ value ∷ []) c.make_room.ensures.pools)
-    ∙ map-append (entry_of g.D.DescriptorDevice.pool_name) c.args.self.now.pools.now.items (value ∷ [])
+    ap (map (entry_of g.D.DescriptorDevice.pool_name)) (c.push.ensures.pools ∙ ap (λ x. x ++ value ∷ []) c.make_room.ensures.pools)
+    ∙ map-append (entry_of g.D.DescriptorDevice.pool_name) c.args.self.now.pools.items (value ∷ [])
     ∙ ap (λ (e : Entry). old ++ e ∷ []) (same_entry (entry_of g.D.DescriptorDevice.pool_name value) _ c.in-Ok-alloc_descriptor_sets.ensures.name refl count (ap (λ n. c.in-Some.size - n) count)) in
-    let number : c.aim.new.self.number ≡ c.args.self.now.offset + length c.args.self.now.pools.now.items = c.aim.ensures.number ∙ c.next_number.ensures ∙ (let k = c.make_room.ensures.kept.0 in let same = ap length c.make_room.ensures.pools in omega arith) in
-    let kept : c.alloc_descriptor_sets.new.sets.sets.items ≡ c.args.sink.now.sets.items ++ sets_at (key_of c.args.request.now.key) c.args.self.now.id (c.args.self.now.offset + length c.args.self.now.pools.now.items) put.sets = put.kept ∙ ap (λ (l : List (DescriptorSet g.row.S.Denot)). l ++ sets_at (key_of c.aim.new.self.key) c.aim.new.self.id c.aim.new.self.number put.sets) c.aim.ensures.sets ∙ ap (λ (k : BucketKey). c.args.sink.now.sets.items ++ sets_at (key_of k) c.aim.new.self.id c.aim.new.self.number put.sets) c.aim.ensures.key ∙ ap (λ (j : ℕ). c.args.sink.now.sets.items ++ sets_at (key_of c.args.request.now.key) j c.aim.new.self.number put.sets) (c.aim.ensures.id ∙ c.id.ensures ∙ c.make_room.ensures.kept.4) ∙ ap (λ (n : ℕ). c.args.sink.now.sets.items ++ sets_at (key_of c.args.request.now.key) c.args.self.now.id n put.sets) number in
     let room : c.alloc_descriptor_sets.new.sets.left + c.min-given.result ≡ c.args.sink.now.left = (let r = put.room in let n = c.new.ensures.left in let a = c.aim.ensures.left in omega arith) in
-    (put.sets, many, kept, room, grown (key g d) c.args.room.now _ c.args.total c.args.wanted (size g d) (name g d) names old new (before g d) (created g d) m' c.in-Some.ensures.sets (let fits = c.in-Some.ensures.room.0 in let load = c.descriptors_of_pool.ensures in omega arith) long c.in-Ok.ensures.new_name (made g d) is now)
+    let total : c.push.new.self.total ≡ c.args.self.now.total + c.min-given.result = c.push.ensures.total ∙ ap (λ n. n + c.min-given.result) c.make_room.ensures.total in
+    (put.sets, many, kept g (goal.at.returns-in-Ok-alloc_descriptor_sets-clause-grown g c).In-Ok-alloc_descriptor_sets, room, total, grown (key g d) c.args.room.now _ c.args.self.now.total c.args.wanted (size g d) (name g d) names old new (before g d) (created g d) m' c.in-Some.ensures.sets (let fits = c.in-Some.ensures.room.0 in let load = c.descriptors_of_pool.ensures in omega arith) long c.in-Ok.ensures.new_name (made g d) is now)
+
+pub returns-in_default-clause-err : goal.returns-in_default-clause-err
+returns-in_default-clause-err g c =
+    (refl, refl, refl, refl, none_asked (g.D.DescriptorDevice.ledger c.args.device.now) stop.Room refl, (λ is. c.in_default.ensures.none, λ none. refl))
 
 pub returns-then-not-make_room-clause-err : goal.returns-then-not-make_room-clause-err
 returns-then-not-make_room-clause-err g c =
-    (refl, c.make_room.ensures.pools, not_begun (g.D.DescriptorDevice.ledger c.args.device.now), one_fits (key_of c.args.request.now.key) c.args.room.now c.args.total c.args.wanted c.in-Some.size c.in-Some.ensures.sets, refl)
+    (refl, c.make_room.ensures.pools, c.make_room.ensures.total, refl, none_asked (g.D.DescriptorDevice.ledger c.args.device.now) stop.Books refl, had_room (λ is. absurd (cc)) (one_fits (key_of c.args.request.now.key) c.args.room.now c.args.self.now.total c.args.wanted c.in-Some.size c.in-Some.ensures.sets))
 
 pub returns-in-Err-clause-err : goal.returns-in-Err-clause-err
 returns-in-Err-clause-err g c =
     let l : Ledger = g.D.DescriptorDevice.ledger c.args.device.now in
     let m : Ledger = g.D.DescriptorDevice.ledger c.create_descriptor_pool.new.self in
-    (refl, c.make_room.ensures.pools, not_created c.in-Err.error l m c.in-Err.ensures.err, one_fits (key_of c.args.request.now.key) c.args.room.now c.args.total c.args.wanted c.in-Some.size c.in-Some.ensures.sets, refl)
+    (refl, c.make_room.ensures.pools, c.make_room.ensures.total, refl, not_created c.in-Err.error l m c.in-Err.ensures.err, had_room (λ is. absurd (cc)) (one_fits (key_of c.args.request.now.key) c.args.room.now c.args.self.now.total c.args.wanted c.in-Some.size c.in-Some.ensures.sets))
 
 pub returns-in-Err-clause-looks : goal.returns-in-Err-clause-looks
 returns-in-Err-clause-looks g c =
-    let looks = ap (λ x. x.now.count) c.make_room.ensures.looks in
     let asked = ap (λ (x : Ledger). x.counters.asked) c.in-Err.ensures.err in
     let same = create_asked c.in-Err.error (g.D.DescriptorDevice.ledger c.args.device.now).counters in
     omega arith
@@ -110,8 +136,7 @@ overflow_sub-room g c = (let fits = c.in-Some.ensures.room.0 in let load = c.des
 
 pub returns-in-Err-alloc_descriptor_sets-clause-looks : goal.returns-in-Err-alloc_descriptor_sets-clause-looks
 returns-in-Err-alloc_descriptor_sets-clause-looks g c =
-    let looks = ap (λ x. x.now.count) c.make_room.ensures.looks in
-    let one = c.count_fresh.ensures.looks in
+    let one = c.next.ensures in
     let made = ap (λ (x : Ledger). x.counters.asked) c.in-Ok.ensures.ok in
     let refused = ap (λ (x : Ledger). x.counters.asked) c.in-Err-alloc_descriptor_sets.ensures.err.ledger in
     let rise = alloc_asked c.in-Err-alloc_descriptor_sets.error (g.D.DescriptorDevice.ledger c.create_descriptor_pool.new.self).counters in

@@ -1,0 +1,84 @@
+use Rattle.std.proofs.Common.{◌≡◌, ◌≤◌, ℕ, Global, ◌+◌, [], ◌++◌, arith, length, sum_by, List, Result, Ok, Err, sym, ap, ◌∙◌, subst}
+use Rattle.std.specs.Prelude.{IfOk, IfErr}
+use Rattle.std.specs.declared.collections.VecDeque.{VecDeque}
+use Rattle.std.proofs.lemmas.List.{length-map}
+use Rattle.gpu_descriptor_types.specs.Ledger.{Ledger}
+use Rattle.gpu_descriptor_types.specs.declared.errors.DeviceAllocationError.{DeviceAllocationError}
+use Rattle.gpu_descriptor.specs.declared.set.DescriptorSet.{DescriptorSet}
+use Rattle.gpu_descriptor.specs.declared.bucket.DescriptorPool.{DescriptorPool}
+use Rattle.gpu_descriptor.specs.declared.bucket.take.Stop.TheVariants.{Existing}
+use Rattle.gpu_descriptor.specs.Model.Agreement.{Item}
+use Rattle.gpu_descriptor.specs.Model.Books.{Entry, Key}
+use Rattle.gpu_descriptor.specs.Model.Load.{allocated_in}
+use Rattle.gpu_descriptor.specs.Caller.KeyOf.{key_of}
+use Rattle.gpu_descriptor.specs.Caller.Sets.{items_of, item_of}
+use Rattle.gpu_descriptor.specs.Inner.Buckets.{AreBookedIn}
+use Rattle.gpu_descriptor.specs.Inner.Grow.{IsTaken}
+use Rattle.gpu_descriptor.specs.Inner.OpenNumbers.{free_in, open_numbers}
+use Rattle.gpu_descriptor.specs.Inner.Walk.{entries_of, IsWalked}
+use Rattle.gpu_descriptor.proofs.StoredPools.{allocated_entries}
+use Rattle.gpu_descriptor.proofs.bucket.DescriptorBucket.take_known.Goals as goal
+
+if_ok : {T E : Type 0} (A B : T → Type 0) (r : Result T E) → ((x : T) → A x → B x) → IfOk r A → IfOk r B
+if_ok A B (Ok x) f a = f x a
+if_ok A B (Err e) f a = tt
+
+if_err : {T E : Type 0} (A B : E → Type 0) (r : Result T E) → ((e : E) → A e → B e) → IfErr r A → IfErr r B
+if_err A B (Ok x) f a = tt
+if_err A B (Err e) f a = f e a
+
+module _ {S : Type 0} (name : S → ℕ) {was now : List (DescriptorSet S)} (put : List (DescriptorSet S)) (empty : was ≡ []) (is : now ≡ was ++ put) where
+  all : put ≡ now
+  all = sym (is ∙ ap (λ x. x ++ put) empty)
+
+  module _ {k : Key} {n id own first start : ℕ} {old older new : List Entry} {l m : Ledger} (same : id ≡ own) (from : first ≡ start) (pools : old ≡ older) where
+    walked_as : {wanting : ℕ} → IsWalked k n id first wanting (items_of name put) old new l m → IsWalked k n own start wanting (items_of name now) older new l m
+    walked_as w = rw (sym same, sym from, sym pools, sym all) w
+
+    stopped_as : {error : DeviceAllocationError} → IsTaken (Err (Existing error)) k 0 n id first (items_of name put) old new l m → IsTaken (Err (Existing error)) k 0 n own start (items_of name now) older new l m
+    stopped_as t = rw (sym same, sym from, sym pools, sym all) t
+
+pub walk-walked-requires-clause-booked : goal.walk-walked-requires-clause-booked
+walk-walked-requires-clause-booked g c = subst (λ (q : VecDeque (DescriptorPool g.row.P.Denot) Global). AreBookedIn (key_of c.args.request.now.key) (g.D.DescriptorDevice.ledger c.args.device.now).pools (entries_of g.D.DescriptorDevice.pool_name q.items)) (sym c.new-view.ensures.pools) c.requires.booked
+
+pub returns-clause-walked : goal.returns-clause-walked
+returns-clause-walked g c =
+    let pools = ap (λ (q : VecDeque (DescriptorPool g.row.P.Denot) Global). entries_of g.D.DescriptorDevice.pool_name q.items) c.new-view.ensures.pools in
+    if_ok _ _ c.walk-walked.result (λ wanting p. (
+      let long = ap length (all g.D.DescriptorDevice.set_name p.0 c.requires.empty p.1) in
+      (let given = p.3 in omega arith, (let left = p.2 in let room = c.requires.room in omega arith), walked_as g.D.DescriptorDevice.set_name p.0 c.requires.empty p.1 c.new-view.ensures.id c.new-view.ensures.offset pools p.4))) c.walk-walked.ensures.walked
+
+pub returns-clause-stopped : goal.returns-clause-stopped
+returns-clause-stopped g c =
+    let pools = ap (λ (q : VecDeque (DescriptorPool g.row.P.Denot) Global). entries_of g.D.DescriptorDevice.pool_name q.items) c.new-view.ensures.pools in
+    if_err _ _ c.walk-walked.result (λ error p. stopped_as g.D.DescriptorDevice.set_name p.0 c.requires.empty p.1 c.new-view.ensures.id c.new-view.ensures.offset pools p.2) c.walk-walked.ensures.stopped
+
+pub returns-clause-few : goal.returns-clause-few
+returns-clause-few g c = (let few = c.walk-walked.ensures.given in let none = ap length c.requires.empty in omega arith)
+
+pub invariant_of-self-clause-open : goal.invariant_of-self-clause-open
+invariant_of-self-clause-open g c = c.walk-walked.ensures.listed ∙ ap (λ f. open_numbers f (free_in c.walk-walked.new.view.pools.now.items)) (c.walk-walked.ensures.kept.0 ∙ c.new-view.ensures.offset)
+
+-- as many more are allocated as came
+module _ {S : Type 0} (name : S → ℕ) (was now : List (DescriptorSet S)) (empty : was ≡ []) where
+  long : (put : List (DescriptorSet S)) → now ≡ was ++ put → length (items_of name put) ≡ length now
+  long put is = length-map put (item_of name) ∙ ap length (all name put empty is)
+
+  module _ (k : Key) (n id first had has : ℕ) (old new : List Entry) (l m : Ledger) where
+    more : (r : Result ℕ DeviceAllocationError)
+        → IfOk r (λ w. (put : List (DescriptorSet S)) × (now ≡ was ++ put) × (has + n ≡ had + w) × (length put + w ≡ n) × IsWalked k n id first w (items_of name put) old new l m)
+        → IfErr r (λ e. (put : List (DescriptorSet S)) × (now ≡ was ++ put) × IsTaken (Err (Existing e)) k 0 n id first (items_of name put) old new l m)
+        → allocated_in new ≡ allocated_in old + length now
+    more (Ok w) walked stopped = walked.4.taken.keeps.more ∙ ap (λ j. allocated_in old + j) (long walked.0 walked.1)
+    more (Err e) walked stopped = stopped.2.2.keeps.more ∙ ap (λ j. allocated_in old + j) (long stopped.0 stopped.1)
+
+pub invariant_of-self-clause-counted : goal.invariant_of-self-clause-counted
+invariant_of-self-clause-counted g c =
+    let name = g.D.DescriptorDevice.pool_name in
+    let given = more g.D.DescriptorDevice.set_name c.args.sink.now.sets.items c.walk-walked.new.sink.sets.items c.requires.empty (key_of c.args.request.now.key) c.args.request.now.count c.new-view.result.id c.new-view.result.offset c.args.sink.now.left c.walk-walked.new.sink.left (entries_of name c.new-view.result.pools.now.items) (entries_of name c.walk-walked.new.view.pools.now.items) (g.D.DescriptorDevice.ledger c.args.device.now) (g.D.DescriptorDevice.ledger c.walk-walked.new.device) c.walk-walked.result c.walk-walked.ensures.walked c.walk-walked.ensures.stopped in
+    let was = allocated_entries name c.new-view.result.pools.now.items ∙ ap (λ (q : VecDeque (DescriptorPool g.row.P.Denot) Global). sum_by (λ (p : DescriptorPool g.row.P.Denot). p.allocated) q.items) c.new-view.ensures.pools in
+    let is = allocated_entries name c.walk-walked.new.view.pools.now.items in
+    let total = c.args.self.now.counted in
+    let len = c.len.ensures in
+    let fit = c.walk-walked.new.sink.sets.ok.0 in
+    omega arith
