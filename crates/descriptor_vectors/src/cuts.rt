@@ -1,5 +1,5 @@
 //! Input that is cut, reads and writes that fail, and few bytes a call: no contract sees a reader or
-//! a writer fail, so no clause says when a run ends so.
+//! a writer fail, so no clause says when a run ends so. It ends at once, and asks neither again.
 use crate::dialogues::{DIALOGUES, Exchange, answers_of, answers_within, lines_of};
 use crate::ends::{empty_writer, expect, reader_of};
 use descriptor_lines::{Exit, run_lines};
@@ -8,7 +8,8 @@ use std::io::ErrorKind;
 use std::process::Abort;
 use std::test::Fail;
 
-/// The complete lines are answered. What is left is a line too, which may be faulty.
+/// A read gives nothing there. The complete lines are answered. What is left is a line too, which
+/// may be faulty.
 fn expect_answers_to_cut(
     rt: &impl Abort,
     alloc: Global,
@@ -17,9 +18,12 @@ fn expect_answers_to_cut(
     let lines = lines_of(alloc, dialogue)?;
     let bytes = lines.as_bytes();
     for cut in 0..bytes.len() {
+        let mut input = reader_of(bytes);
+        input.until_stop = cut;
         let mut output = empty_writer(alloc);
-        let ended = run_lines(alloc, &mut reader_of(&bytes[..cut]), &mut output);
+        let ended = run_lines(alloc, &mut input, &mut output);
         assert!(rt; ended == Exit::Done || ended == Exit::BadLine, "at {cut}");
+        assert_eq!(rt; input.rest.len(), bytes.len() - cut);
         let answers = answers_within(alloc, dialogue, cut)?;
         assert!(rt; output.text.starts_with(answers.as_bytes()), "at {cut}");
     }
@@ -44,11 +48,13 @@ fn expect_answers_before(
     let lines = lines_of(alloc, dialogue)?;
     let bytes = lines.as_bytes();
     for cut in 0..=bytes.len() {
-        let mut input = reader_of(&bytes[..cut]);
+        let mut input = reader_of(bytes);
+        input.until_stop = cut;
         input.failure = Some(failure);
         let mut output = empty_writer(alloc);
         let ended = run_lines(alloc, &mut input, &mut output);
         assert_eq!(rt; ended, Exit::ReadFault, "at {cut}");
+        assert_eq!(rt; input.rest.len(), bytes.len() - cut);
         let answers = answers_within(alloc, dialogue, cut)?;
         assert_eq!(rt; output.text.as_slice(), answers.as_bytes(), "at {cut}");
     }
@@ -76,6 +82,7 @@ fn last_line_without_an_end(rt: HostRuntime) {
     let output = "layout s total 1\nline 2: bad word count\n";
     expect(&rt, rt.alloc(), bytes, output, Exit::BadLine);
     let mut input = reader_of(bytes);
+    input.until_stop = bytes.len();
     input.failure = Some(ErrorKind::Other);
     let mut output = empty_writer(rt.alloc());
     let ended = run_lines(rt.alloc(), &mut input, &mut output);
@@ -116,9 +123,9 @@ fn few_bytes_a_call(rt: HostRuntime) -> Result<(), Fail> {
 fn with_a_fault(alloc: Global, dialogue: &[Exchange]) -> Result<(String, String), Fail> {
     let mut lines = lines_of(alloc, dialogue)?;
     let mut answers = answers_of(alloc, dialogue)?;
-    lines.push_str("shows")?;
+    lines.push_str("alloc x 1")?;
     let number = dialogue.len().saturating_add(1);
-    writeln!(answers, "line {number}: unknown command")?;
+    writeln!(answers, "line {number}: no such layout")?;
     Ok((lines, answers))
 }
 
@@ -132,7 +139,7 @@ fn expect_write_fault(
     let (lines, answers) = with_a_fault(alloc, dialogue)?;
     for room in 0..answers.len() {
         let mut output = empty_writer(alloc);
-        output.room = room;
+        output.until_stop = room;
         output.failure = failure;
         let ended = run_lines(alloc, &mut reader_of(lines.as_bytes()), &mut output);
         assert_eq!(rt; ended, Exit::WriteFault, "at {room}");

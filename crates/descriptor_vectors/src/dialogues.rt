@@ -51,7 +51,7 @@ const REFUSAL: [Exchange; 7] = [
 ];
 
 /// Pools that are cleaned up, and pool numbers that begin again.
-const CLEANUP: [Exchange; 10] = [
+const CLEANUP: [Exchange; 11] = [
     ("layout s plain sampler=1\n", "layout s total 1\n"),
     ("alloc s 64\n", "sets 0-63: 0*64\n"),
     ("alloc s 64\n", "sets 64-127: 1*64\n"),
@@ -66,6 +66,10 @@ const CLEANUP: [Exchange; 10] = [
     ("free 0-63 128\n", "freed 65\n"),
     ("cleanup\n", "clean\n"),
     ("alloc s 1\n", "sets 129-129: 2*1\n"),
+    (
+        "show\n",
+        "pool s 0 1/63\ndevice created 3 destroyed 2 asked 4 released 3\nheld 1 marked 0\n",
+    ),
 ];
 
 /// A request that is rolled back where the limit leaves no room.

@@ -14,4 +14,6 @@ mod rows;
 #[cfg(test)]
 mod runs;
 #[cfg(test)]
+mod stops;
+#[cfg(test)]
 mod turns;

@@ -15,7 +15,7 @@ mod refusals;
 mod requests;
 mod sizes;
 
-use crate::ends::{expect, expect_of};
+use crate::ends::{NO_STOP, expect_of, expect_unread_behind};
 use descriptor_lines::Exit;
 use std::alloc::{AllocError, Global};
 use std::process::Abort;
@@ -50,10 +50,17 @@ fn expect_rows(rt: &impl Abort, alloc: Global, rows: &[Row]) -> Result<(), Fail>
     Ok(())
 }
 
-/// Runs the lines up to the faulty one, and compares all of the output.
+/// Runs the lines up to the faulty one, and compares all of the output. No line behind that is read.
 fn expect_bad_line(rt: &impl Abort, alloc: Global, lines: &str, answers: &str) -> Result<(), Fail> {
     let input = lines_of(alloc, lines)?;
     let output = lines_of(alloc, answers)?;
-    expect(rt, alloc, input.as_bytes(), output.as_str(), Exit::BadLine);
+    expect_unread_behind(
+        rt,
+        alloc,
+        input.as_str(),
+        NO_STOP,
+        output.as_str(),
+        Exit::BadLine,
+    )?;
     Ok(())
 }

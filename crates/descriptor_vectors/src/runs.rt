@@ -132,9 +132,8 @@ fn rest_of_a_long_line_is_not_read(rt: HostRuntime) -> Result<(), Fail> {
     let bytes = padded(rt.alloc(), "# note", 4097)?;
     for (count, exit) in [(4096, Exit::ReadFault), (4097, Exit::BadLine)] {
         let mut input = reader_of(bytes.as_slice());
-        assert!(rt; count <= input.rest.len());
-        input.rest = &input.rest[..count];
         input.step = 1;
+        input.until_stop = count;
         input.failure = Some(ErrorKind::Other);
         let ended = run_lines(rt.alloc(), &mut input, &mut empty_writer(rt.alloc()));
         assert_eq!(rt; ended, exit);

@@ -1,5 +1,5 @@
-//! Lines that are faulty, worked out beside their proof: the words of each fault and their order,
-//! and that the run reads no further.
+//! Lines that are faulty: the words of each fault and their order, worked out beside their proof, and
+//! that the run reads no further, of which no clause speaks.
 use super::expect_bad_line;
 use crate::ends::expect;
 use descriptor_lines::Exit;
@@ -54,9 +54,9 @@ fn no_input(rt: HostRuntime) {
     expect(&rt, rt.alloc(), b"", "", Exit::Done);
 }
 
-/// Runs a line between the one that makes the layout `s` of one sampler and one that is not run.
+/// Runs a line behind the one that makes the layout `s` of one sampler.
 fn expect_fault(rt: &impl Abort, alloc: Global, line: &str, words: &str) -> Result<(), Fail> {
-    let lines = format!(in alloc; "layout s plain sampler=1; {line}; size s 0 1")?;
+    let lines = format!(in alloc; "layout s plain sampler=1; {line}")?;
     let answers = format!(in alloc; "layout s total 1; line 2: {words}")?;
     expect_bad_line(rt, alloc, lines.as_str(), answers.as_str())
 }
