@@ -2,6 +2,8 @@
 #![tactic(auto)]
 
 #[cfg(test)]
+mod names;
+#[cfg(test)]
 mod trip;
 #[cfg(test)]
 mod words;

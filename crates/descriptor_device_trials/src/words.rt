@@ -1,21 +1,18 @@
-//! The scripted device alone: that calls succeed where memory is there, which no clause says, each
-//! word at each call, and rising names.
+//! The scripted device alone: that calls succeed where memory is there, which no clause says, and
+//! each word at each call.
 ghost use Rattle.std.specs.Prelude.{◌≡◌, ◌+◌, ◌∷◌, replicate, IfOk, OnOk};
 ghost use Rattle.gpu_descriptor_types.specs.Counts.{kinds};
 ghost use Rattle.descriptor_script.specs.Scripted.Device.{ledger_of};
 
-use crate::trip::{Room, TripError, round_trip};
-use descriptor_script::{Answer, RawPool, RawSet, ScriptLayout, ScriptedDevice};
-use gpu_descriptor_types::{
-    CreatePoolError, DescriptorDevice, DescriptorPoolCreateFlags, DescriptorTotalCount,
-    DeviceAllocationError, Layouts,
-};
+use crate::trip::{TripError, round_trip};
+use descriptor_script::{Answer, ScriptLayout, ScriptedDevice};
+use gpu_descriptor_types::{CreatePoolError, DescriptorTotalCount, DeviceAllocationError};
 use std::alloc::{AllocError, Global};
 use std::process::Abort;
 use std::test::Fail;
 
 /// So many samplers, and no other descriptors.
-fn samplers(count: u32) -> DescriptorTotalCount
+pub fn samplers(count: u32) -> DescriptorTotalCount
     ensures { kinds result ≡ count ∷ replicate 13 0 }
 {
     let mut counts = DescriptorTotalCount::default();
@@ -24,7 +21,7 @@ fn samplers(count: u32) -> DescriptorTotalCount
 }
 
 /// A trip with sets of one sampler.
-fn trip(
+pub fn trip(
     alloc: Global,
     device: &mut ScriptedDevice,
     count: u32,
@@ -113,43 +110,5 @@ fn a_million_sets(rt: HostRuntime) -> Result<(), Fail> {
         trip(rt.alloc(), &mut device, 1_000_000, last_first)?;
     }
     assert_eq!(rt; device.released(), 2);
-    Ok(())
-}
-
-/// A new pool with sets of one sampler.
-fn filled(
-    alloc: Global,
-    device: &mut ScriptedDevice,
-    count: u32,
-) -> Result<(RawPool, Vec<RawSet>), Fail> {
-    let layout = ScriptLayout {
-        counts: samplers(1),
-        mark: false,
-    };
-    let flags = DescriptorPoolCreateFlags::FREE_DESCRIPTOR_SET;
-    let mut sink = Room::new(alloc, count)?;
-    let mut pool = device.create_descriptor_pool(&samplers(count), count, flags)?;
-    let layouts = Layouts::new(&layout, count);
-    device.alloc_descriptor_sets(&mut pool, layouts, &mut sink)?;
-    let Room { sets, left: _ } = sink;
-    Ok((pool, sets))
-}
-
-/// Compares the name of a pool, and those of its sets, which rise.
-fn expect_names(rt: &impl Abort, pool: &RawPool, id: u64, sets: &[RawSet], from: u64) {
-    assert_eq!(rt; pool.id(), id);
-    assert_eq!(rt; sets.len(), 4);
-    for (set, name) in sets.iter().zip(from..u64::MAX) {
-        assert_eq!(rt; (set.id(), set.pool()), (name, id));
-    }
-}
-
-#[test]
-fn names_rise(rt: HostRuntime) -> Result<(), Fail> {
-    let mut device = ScriptedDevice::new(rt.alloc(), Vec::new(rt.alloc()));
-    for (id, from) in [(0, 0), (1, 4), (2, 8)] {
-        let (pool, sets) = filled(rt.alloc(), &mut device, 4)?;
-        expect_names(&rt, &pool, id, &sets, from);
-    }
     Ok(())
 }

@@ -58,6 +58,19 @@ impl ScriptedDevice {
         }
     }
 
+    /// The same with these names of a pool and of a set to come next, for tests of where names end.
+    pub fn with_names(alloc: Global, script: Vec<Answer>, next_pool: u64, next_set: u64) -> Self
+        ensures ledger { ledger_of result ≡ empty_ledger }
+        ensures script { script_of result ≡ script.items }
+        ensures names { names_given result ≡ record { pools = next_pool; sets = next_set } }
+    {
+        ScriptedDevice {
+            script: Script::new(script),
+            pools: Pools::with_names(alloc, next_pool, next_set),
+            counters: Counters::zero(),
+        }
+    }
+
     /// Gives up the words that are still to come, and begins with this script.
     pub fn load(&mut self, script: Vec<Answer>)
         ensures script { script_of self.new ≡ script.items }

@@ -41,11 +41,19 @@ impl Pools {
     pub fn new(alloc: Global) -> Self
         ensures { HasNoPools result }
     {
+        Pools::with_names(alloc, 0, 0)
+    }
+
+    /// No pool is live, and these names of a pool and of a set come next.
+    pub fn with_names(alloc: Global, next_pool: u64, next_set: u64) -> Self
+        ensures pools { pools_of result ≡ (λ _. None) }
+        ensures names { next_names result ≡ record { pools = next_pool; sets = next_set } }
+    {
         Pools {
             alloc,
             live: IndexMap::new(alloc),
-            next_pool: 0,
-            next_set: 0,
+            next_pool,
+            next_set,
         }
     }
 

@@ -2,7 +2,7 @@ use Rattle.std.proofs.Common.{false, refl, arith}
 use Rattle.gpu_descriptor_types.specs.Counts.{kinds}
 use Rattle.descriptor_script.specs.Scripted.Device.{ledger_of}
 use Rattle.descriptor_device_trials.proofs.Trips.{enough_samplers, has_room, made}
-use Rattle.descriptor_device_trials.proofs.words.filled.Goals as goal
+use Rattle.descriptor_device_trials.proofs.names.filled.Goals as goal
 
 pub alloc_descriptor_sets-requires-clause-fits : goal.alloc_descriptor_sets-requires-clause-fits
 alloc_descriptor_sets-requires-clause-fits c =
