@@ -37,3 +37,20 @@ fn sets_go_back_with_their_frames(rt: HostRuntime) -> Result<(), Fail> {
     let mut trial = Trial::new(rt.alloc(), 3)?;
     play(&rt, &mut trial, &acts)
 }
+
+#[test]
+fn memory_is_found_for_a_thousand(rt: HostRuntime) -> Result<(), Fail> {
+    let mut trial = Trial::new(rt.alloc(), 1000)?;
+    for frame in 1..=1000 {
+        play(&rt, &mut trial, &[Retire(frame, Outcome::Retired)])?;
+    }
+    let acts = [
+        Sets(1000, 1000),
+        Finish(600),
+        Sets(400, 400),
+        Finish(1000),
+        Sets(0, 0),
+        Device(0, 2),
+    ];
+    play(&rt, &mut trial, &acts)
+}

@@ -6,9 +6,13 @@ mod acts;
 #[cfg(test)]
 mod bench;
 #[cfg(test)]
+mod callers;
+#[cfg(test)]
 mod capacity;
 #[cfg(test)]
 mod commands;
+#[cfg(test)]
+mod large;
 #[cfg(test)]
 mod memory;
 #[cfg(test)]
@@ -25,3 +29,5 @@ mod refused;
 mod sets;
 #[cfg(test)]
 mod traces;
+#[cfg(test)]
+mod visits;

@@ -21,7 +21,7 @@ pub struct Pair {
 }
 
 /// A session with a plain layout of one sampler.
-fn one_layout(alloc: Global) -> Result<Session<ScriptLayout, RawPool, RawSet>, Fail>
+pub fn one_layout(alloc: Global) -> Result<Session<ScriptLayout, RawPool, RawSet>, Fail>
     ensures { IfOk result IsNewSession }
 {
     let layout = layout_of(1, false);

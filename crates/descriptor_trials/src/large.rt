@@ -1,0 +1,80 @@
+//! That memory is found in a large run of a session, and for the list of its device's calls: beside
+//! hundreds of keys, pools and calls, for hundreds of tickets of a list and of commands of a run. No
+//! clause says that memory is there.
+use crate::acts::Act::{Allocate, Cleanup, Free, Held, Run};
+use crate::acts::{Act, play_new};
+use crate::bench::{layout_of, sets};
+use descriptor_script::{Command, Reply, ScriptLayout};
+use std::alloc::{AllocError, Global};
+use std::test::Fail;
+
+/// So many keys, and one behind them whose pools have one set.
+fn many_layouts(alloc: Global, count: u32) -> Result<Vec<ScriptLayout>, AllocError> {
+    let mut layouts = Vec::new(alloc);
+    for samplers in 1..=count {
+        layouts.push(layout_of(samplers, false))?;
+    }
+    layouts.push(layout_of(u32::MAX, false))?;
+    Ok(layouts)
+}
+
+/// A set of each of so many keys, with the tickets from 0 up.
+fn a_set_of_each(alloc: Global, count: u32) -> Result<Vec<Act<'static>>, AllocError> {
+    let mut acts = Vec::new(alloc);
+    for place in 0..count as usize {
+        acts.push(Allocate(place, 1, sets(place, 1)))?;
+    }
+    Ok(acts)
+}
+
+fn first_tickets(alloc: Global, count: usize) -> Result<Vec<usize>, AllocError> {
+    let mut tickets = Vec::new(alloc);
+    for ticket in 0..count {
+        tickets.push(ticket)?;
+    }
+    Ok(tickets)
+}
+
+/// Commands that ask for a set of the first key each.
+fn single_sets(alloc: Global, count: usize) -> Result<Vec<Command>, AllocError> {
+    let mut commands = Vec::new(alloc);
+    for _ in 0..count {
+        let allocate = Command::Allocate {
+            layout: 0,
+            count: 1,
+        };
+        commands.push(allocate)?;
+    }
+    Ok(commands)
+}
+
+/// Replies with a set each, from this ticket on.
+fn single_replies(alloc: Global, first: usize, end: usize) -> Result<Vec<Reply>, AllocError> {
+    let mut replies = Vec::new(alloc);
+    for ticket in first..end {
+        replies.push(sets(ticket, 1))?;
+    }
+    Ok(replies)
+}
+
+#[test]
+fn memory_is_found_beside_hundreds(rt: HostRuntime) -> Result<(), Fail> {
+    let layouts = many_layouts(rt.alloc(), 300)?;
+    let tickets = first_tickets(rt.alloc(), 1500)?;
+    let commands = single_sets(rt.alloc(), 300)?;
+    let replies = single_replies(rt.alloc(), 1500, 1800)?;
+    let mut acts = a_set_of_each(rt.alloc(), 300)?;
+    for act in [
+        Allocate(300, 600, sets(300, 600)),
+        Allocate(300, 600, sets(900, 600)),
+        Held(1500),
+        Free(&tickets, Reply::Freed(1500)),
+        Held(0),
+        Run(&commands, &replies),
+        Held(300),
+        Cleanup,
+    ] {
+        acts.push(act)?;
+    }
+    play_new(&rt, rt.alloc(), 0, &layouts, &[], &acts)
+}

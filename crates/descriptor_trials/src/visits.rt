@@ -1,0 +1,96 @@
+//! Visits of a session to a device, with ample memory: that each succeeds and leaves nothing, so that
+//! the session may come again. No clause says that memory is there.
+ghost use Rattle.std.specs.Prelude.{OnOk};
+ghost use Rattle.gpu_descriptor.specs.Caller.States.{state_of};
+ghost use Rattle.descriptor_script.specs.Scripted.Raw.{pool_id};
+ghost use Rattle.descriptor_script.specs.Sessions.Ready.{IsScriptReady};
+ghost use Rattle.descriptor_script.specs.Sessions.Session.{HasNoPools, allocator_of};
+ghost use Rattle.descriptor_uses.specs.Logged.{ledger_logged};
+
+use crate::acts::expect_calls;
+use crate::bench::sets;
+use crate::pair::one_layout;
+use descriptor_script::visit::visit;
+use descriptor_script::{Command, RawPool, RawSet, Reply, ScriptLayout, Session};
+use descriptor_uses::{Call, LogDevice};
+use std::alloc::{AllocError, Global};
+use std::process::Abort;
+use std::test::Fail;
+
+/// Three sets come, and those of these tickets go back.
+fn three_sets(alloc: Global, tickets: &[usize]) -> Result<Vec<Command>, AllocError> {
+    let tickets = tickets.to_vec(alloc)?;
+    let allocate = Command::Allocate {
+        layout: 0,
+        count: 3,
+    };
+    let mut commands = Vec::new(alloc);
+    commands.push(allocate)?;
+    commands.push(Command::Free { tickets })?;
+    Ok(commands)
+}
+
+/// Visits the device, compares the replies, and sees that no set is held.
+fn expect_visit(
+    rt: &impl Abort,
+    session: &mut Session<ScriptLayout, RawPool, RawSet>,
+    device: &mut LogDevice,
+    commands: &[Command],
+    replies: &[Reply],
+) -> Result<(), Fail>
+    requires ready { IsScriptReady session.old (ledger_logged device.old) }
+    requires began { HasNoPools (state_of pool_id (allocator_of session.old)
+        (ledger_logged device.old)) }
+    ensures ready { IsScriptReady session.new (ledger_logged device.new) }
+    ensures ended { OnOk result (HasNoPools (state_of pool_id (allocator_of session.new)
+        (ledger_logged device.new))) }
+{
+    let seen = visit(session, device, commands)?;
+    assert_eq!(rt; seen.as_slice(), replies);
+    if session.held() != 0 {
+        return Err(Fail::new("a set is held"));
+    }
+    Ok(())
+}
+
+/// Two visits, each with three sets that go back.
+fn expect_visits(
+    rt: &impl Abort,
+    alloc: Global,
+    session: &mut Session<ScriptLayout, RawPool, RawSet>,
+    device: &mut LogDevice,
+) -> Result<(), Fail>
+    requires ready { IsScriptReady session.old (ledger_logged device.old) }
+    requires began { HasNoPools (state_of pool_id (allocator_of session.old)
+        (ledger_logged device.old)) }
+{
+    let first = three_sets(alloc, &[0, 1, 2])?;
+    let second = three_sets(alloc, &[3, 4, 5])?;
+    let freed = Reply::Freed(3);
+    expect_visit(rt, session, device, &first, &[sets(0, 3), freed])?;
+    expect_visit(rt, session, device, &second, &[sets(3, 3), freed])
+}
+
+fn expect_seen(rt: &impl Abort, device: &LogDevice) {
+    let calls = [
+        Call::Create { pool: 0 },
+        Call::Alloc { pool: 0, sets: 3 },
+        Call::Release { pool: 0, sets: 3 },
+        Call::Destroy { pool: 0 },
+        Call::Create { pool: 1 },
+        Call::Alloc { pool: 1, sets: 3 },
+        Call::Release { pool: 1, sets: 3 },
+        Call::Destroy { pool: 1 },
+    ];
+    expect_calls(rt, device, &calls);
+}
+
+#[test]
+fn session_visits_twice(rt: HostRuntime) -> Result<(), Fail> {
+    let mut device = LogDevice::new(rt.alloc());
+    let mut session = one_layout(rt.alloc())?;
+    gpu_descriptor::laws::books_alone();
+    expect_visits(&rt, rt.alloc(), &mut session, &mut device)?;
+    expect_seen(&rt, &device);
+    Ok(())
+}
