@@ -26,6 +26,8 @@ mod refusals;
 #[cfg(test)]
 mod refused;
 #[cfg(test)]
+mod scenes;
+#[cfg(test)]
 mod sets;
 #[cfg(test)]
 mod traces;

@@ -20,6 +20,7 @@ use std::marker::PhantomData;
 ///
 /// Its ghost fields are what the manager's calls ask, so only `begin` asks something: of the
 /// layout.
+#[derive(Drop)]
 pub struct FrameRenderer<L, P, S, D: DescriptorDevice<L, P, S>> {
     device: D,
     manager: FrameManager<P, S>,

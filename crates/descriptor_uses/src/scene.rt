@@ -12,6 +12,7 @@ use std::alloc::Global;
 use std::marker::PhantomData;
 use std::mem;
 
+#[derive(Drop)]
 /// A device with its allocator, and the sets of what is drawn.
 ///
 /// Ghost fields say that these are out, and no others, so they can go back at any time.
