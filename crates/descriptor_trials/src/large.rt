@@ -1,6 +1,6 @@
 //! That memory is found in a large run of a session, and for the list of its device's calls: beside
-//! hundreds of keys, pools and calls, for hundreds of tickets of a list and of commands of a run. No
-//! clause says that memory is there.
+//! hundreds of keys, pools and calls, for hundreds of tickets of a list and of commands of a run.
+//! No clause says that memory is there.
 use crate::acts::Act::{Allocate, Cleanup, Free, Held, Run};
 use crate::acts::{Act, play_new};
 use crate::bench::{layout_of, sets};

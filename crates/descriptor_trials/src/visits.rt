@@ -1,5 +1,5 @@
-//! Visits of a session to a device, with ample memory: that each succeeds and leaves nothing, so that
-//! the session may come again. No clause says that memory is there.
+//! Visits of a session to a device, with ample memory: that each succeeds and leaves nothing, so
+//! that the session may come again. No clause says that memory is there.
 ghost use Rattle.std.specs.Prelude.{OnOk};
 ghost use Rattle.gpu_descriptor.specs.Caller.States.{state_of};
 ghost use Rattle.descriptor_script.specs.Scripted.Raw.{pool_id};

@@ -1,5 +1,5 @@
-//! Input that is cut, reads and writes that fail, and few bytes a call: no contract sees a reader or
-//! a writer fail, so no clause says when a run ends so. It ends at once, and asks neither again.
+//! Input that is cut, reads and writes that fail, and few bytes a call: no contract sees a reader
+//! or a writer fail, so no clause says when a run ends so. It ends at once, and asks neither again.
 use crate::dialogues::{DIALOGUES, Exchange, answers_of, answers_within, lines_of};
 use crate::ends::{empty_writer, expect, reader_of};
 use descriptor_lines::{Exit, run_lines};

@@ -50,7 +50,8 @@ fn expect_rows(rt: &impl Abort, alloc: Global, rows: &[Row]) -> Result<(), Fail>
     Ok(())
 }
 
-/// Runs the lines up to the faulty one, and compares all of the output. No line behind that is read.
+/// Runs the lines up to the faulty one, and compares all of the output. No line behind that is
+/// read.
 fn expect_bad_line(rt: &impl Abort, alloc: Global, lines: &str, answers: &str) -> Result<(), Fail> {
     let input = lines_of(alloc, lines)?;
     let output = lines_of(alloc, answers)?;

@@ -1,5 +1,5 @@
-//! Lines that are faulty: the words of each fault and their order, worked out beside their proof, and
-//! that the run reads no further, of which no clause speaks.
+//! Lines that are faulty: the words of each fault and their order, worked out beside their proof,
+//! and that the run reads no further, of which no clause speaks.
 use super::expect_bad_line;
 use crate::ends::expect;
 use descriptor_lines::Exit;
