@@ -51,11 +51,7 @@ impl ScriptedDevice {
         ensures script { script_of result ≡ script.items }
         ensures names { names_given result ≡ record { pools = 0; sets = 0 } }
     {
-        ScriptedDevice {
-            script: Script::new(script),
-            pools: Pools::new(alloc),
-            counters: Counters::zero(),
-        }
+        ScriptedDevice::with_names(alloc, script, 0, 0)
     }
 
     /// The same with these names of a pool and of a set to come next, for tests of where names end.

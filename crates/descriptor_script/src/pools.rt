@@ -35,14 +35,8 @@ pub struct Pools {
 }
 
 impl Pools {
-    ghost use Rattle.descriptor_script.specs.Inner.Pools.{Grants, TakesBack, HasNoPools, IsSame};
+    ghost use Rattle.descriptor_script.specs.Inner.Pools.{Grants, TakesBack, IsSame};
     ghost use Rattle.descriptor_script.specs.Inner.Pools.{IsSameSink, next_names, pools_of};
-
-    pub fn new(alloc: Global) -> Self
-        ensures { HasNoPools result }
-    {
-        Pools::with_names(alloc, 0, 0)
-    }
 
     /// No pool is live, and these names of a pool and of a set come next.
     pub fn with_names(alloc: Global, next_pool: u64, next_set: u64) -> Self

@@ -12,10 +12,10 @@ use std::alloc::Global;
 use std::marker::PhantomData;
 use std::mem;
 
-#[derive(Drop)]
 /// A device with its allocator, and the sets of what is drawn.
 ///
 /// Ghost fields say that these are out, and no others, so they can go back at any time.
+#[derive(Drop)]
 pub struct Scene<L, P, S, D: DescriptorDevice<L, P, S>> {
     alloc: Global,
     device: D,

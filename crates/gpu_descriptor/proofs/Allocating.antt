@@ -3,7 +3,7 @@ use Rattle.std.specs.Prelude.{◌↔◌}
 use Rattle.std.proofs.lemmas.Bool.{cases_lt}
 use Rattle.std.proofs.Common.{◌≡◌, ◌≢◌, ℕ, ◌+◌, ◌-◌, ◌<◌, ◌≤◌, inl, inr, true, false, Some, List, [], ◌∷◌, length, map, slice_get, arith, Result, Ok, Err, refl, sym, ap, ◌∙◌, subst}
 use Rattle.std.proofs.lemmas.List.{length-map}
-use Rattle.gpu_descriptor_types.specs.Ledger.{Ledger, Counters, no_rise}
+use Rattle.gpu_descriptor_types.specs.Ledger.{Ledger, no_rise}
 use Rattle.gpu_descriptor.specs.declared.errors.AllocationError.{AllocationError}
 use Rattle.gpu_descriptor.specs.declared.set.DescriptorSet.{DescriptorSet}
 use Rattle.gpu_descriptor.specs.declared.bucket.take.Stop.{Stop}
@@ -15,7 +15,8 @@ use Rattle.gpu_descriptor.specs.Caller.Others.{others_of}
 use Rattle.gpu_descriptor.specs.Model.FreshPools.{fresh_entry, IsFreshFront}
 use Rattle.gpu_descriptor.specs.Caller.Frees.{GivesBack}
 use Rattle.gpu_descriptor.specs.Model.Grants.{Grant, entries_with, items_in, granted}
-use Rattle.gpu_descriptor.specs.Inner.Grow.{IsRefused, IsTaken, StopsAt, stop_answer, stop_rise}
+use Rattle.gpu_descriptor.specs.Inner.Grow.{IsTaken, StopsAt, stop_answer}
+use Rattle.gpu_descriptor.specs.Inner.Walk.{IsRefused, stop_rise}
 use Rattle.gpu_descriptor.specs.Model.Load.{allocated_in, marked_load}
 use Rattle.gpu_descriptor.specs.Model.Shares.{all_shared, rest}
 use Rattle.gpu_descriptor.specs.Model.Outcomes.{Allocates, Call, Proceeds, IsBack, IsFront, back_of, rolled_back, risen, grant_rise, rollback_rise}
@@ -71,20 +72,20 @@ module _ {P S : Type 0} {name : P → ℕ} {set_name : S → ℕ} {k : Key} {cou
   abbrev room : ℕ
   room = old.limit - pool_load_of old
 
-  keeps : KeepsKey k t.served.id (s.books k).first items (s.books k).pools t.served.pools s.ledger after.pools
-  keeps = keeps_taken ended k room count t.served.id (s.books k).first items (s.books k).pools t.served.pools before after t.served.taken
+  keeps : KeepsKey k t.id (s.books k).first items (s.books k).pools t.pools s.ledger after.pools
+  keeps = keeps_taken ended k room count t.id (s.books k).first items (s.books k).pools t.pools before after t.served.taken
 
   -- books and ledger agree after it
   pub taken_agree : Agrees name new after
-  taken_agree = subst Agree (sym t.state) (keeps_agree k t.served.id items t.served.pools s after.pools agree t.served.kept keeps)
+  taken_agree = subst Agree (sym t.state) (keeps_agree k t.id items t.pools s after.pools agree t.served.kept keeps)
 
   -- and the sets may be given back
   pub taken_given : AreOutstanding items (state_of name new after)
-  taken_given = subst (AreOutstanding items) (sym t.state) (keeps_given k t.served.id items t.served.pools s after.pools agree t.served.kept keeps)
+  taken_given = subst (AreOutstanding items) (sym t.state) (keeps_given k t.id items t.pools s after.pools agree t.served.kept keeps)
 
   -- exactly these sets are outstanding besides
   pub taken_out : AreOutBesides items s (state_of name new after)
-  taken_out u = ap (λ (w : State). outstanding w u) t.state ∙ keeps_outstanding k t.served.id items t.served.pools s after.pools agree t.served.kept keeps u
+  taken_out u = ap (λ (w : State). outstanding w u) t.state ∙ keeps_outstanding k t.id items t.pools s after.pools agree t.served.kept keeps u
 
   pub taken_own : AreOfKey k items
   taken_own = λ u some. (keeps.of_key u some).0
@@ -97,17 +98,17 @@ module _ {P S : Type 0} {name : P → ℕ} {set_name : S → ℕ} {k : Key} {cou
         let apart : (m : ℕ) (d : Entry) → entry_at (s.books k) m ≡ Some d → d.pool ≢ e.pool = λ m d there same.
         let bad : true ≡ false = sym (ap (key_eq k) (sym (agree.distinct k l m n d e there at same).0) ∙ key_exact.self k) ∙ other in
         absurd (cc) in
-        ap (λ (w : State). w.ledger e.pool) t.state ∙ taken_apart k t.served.id items t.served.pools s after.pools keeps e.pool booked.0 apart booked.1);
+        ap (λ (w : State). w.ledger e.pool) t.state ∙ taken_apart k t.id items t.pools s after.pools keeps e.pool booked.0 apart booked.1);
   }
 
   pub taken_leaves : KeepsForeign s (state_of name new after)
-  taken_leaves = subst (KeepsForeign s) (sym t.state) (taken_foreign k t.served.id items t.served.pools s after.pools keeps)
+  taken_leaves = subst (KeepsForeign s) (sym t.state) (taken_foreign k t.id items t.pools s after.pools keeps)
 
   pub taken_loses_none : LosesNone s (state_of name new after)
   taken_loses_none =
-      let left = entries_taken ended k room count t.served.id (s.books k).first items (s.books k).pools t.served.pools before after t.served.taken in
+      let left = entries_taken ended k room count t.id (s.books k).first items (s.books k).pools t.pools before after t.served.taken in
       let g = left.0 in
-      subst (LosesNone s) (sym t.state) (taken_loses k t.served.id items t.served.pools s after.pools keeps (λ i e at.
+      subst (LosesNone s) (sym t.state) (taken_loses k t.id items t.pools s after.pools keeps (λ i e at.
       let kept = entries_named g.left count g.refused (s.books k).pools (map fresh_entry g.fresh) i e at in
       (kept.0, ap (λ (es : List Entry). slice_get es i) left.1 ∙ kept.1, kept.2)))
 
@@ -138,9 +139,9 @@ module _ {P S : Type 0} {name : P → ℕ} {set_name : S → ℕ} {k : Key} {cou
     abbrev Rolls : Stop → Type 0
     Rolls why = (o : Allocates (call (stop_answer why))) × (rolled_back o ≡ Some (items, state_of name new after))
 
-    module _ (why : Stop) (g : Grant) (between : Ledger) (taken : HasTaken k count t.served.id (s.books k).first g items (s.books k).pools t.served.pools before between) (refused : IsRefused why between after) where
-      now : (with_pools k t.served.id t.served.pools after.pools s ≡ granted k count g s) × (after.counters ≡ risen (stop_rise why) (risen (grant_rise count g (s.books k).pools) before.counters))
-      now = stopped_state k count why s t.served.id t.served.pools items before between after refl g taken refused
+    module _ (why : Stop) (g : Grant) (between : Ledger) (taken : HasTaken k count t.id (s.books k).first g items (s.books k).pools t.pools before between) (refused : IsRefused why between after) where
+      now : (with_pools k t.id t.pools after.pools s ≡ granted k count g s) × (after.counters ≡ risen (stop_rise why) (risen (grant_rise count g (s.books k).pools) before.counters))
+      now = stopped_state k count why s t.id t.pools items before between after refl g taken refused
 
       came : items_in k g.id g.parts ≡ items
       came = ap (λ (i : ℕ). items_in k i g.parts) taken.named ∙ taken.came
@@ -163,10 +164,10 @@ module _ {P S : Type 0} {name : P → ℕ} {set_name : S → ℕ} {k : Key} {cou
     abbrev front_of : {g : Grant} → g.left ≡ 0 → IsFreshFront k room (allocated_in (all_shared g.refused count (s.books k).pools)) (rest g.refused count (s.books k).pools) g.fresh → IsFront (record { key = k; count = count; limit = old.limit }) s g
     front_of all front = record { all = all; pooled = pool_load_of old; is_pooled = pool_load_is name old before t.distinct; front = front }
 
-    rolls : (why : Stop) (g : Grant) (between : Ledger) → HasTaken k count t.served.id (s.books k).first g items (s.books k).pools t.served.pools before between → StopsAt why k room count g (s.books k).pools → IsRefused why between after → Rolls why
+    rolls : (why : Stop) (g : Grant) (between : Ledger) → HasTaken k count t.id (s.books k).first g items (s.books k).pools t.pools before between → StopsAt why k room count g (s.books k).pools → IsRefused why between after → Rolls why
     rolls (stop.Existing error) g between taken at refused =
         let b = is_back (stop.Existing error) g between taken refused in
-        (stopped_at_pool (goes (stop.Existing error) g between taken refused) (record { older = at.older; pool = at.pool; newer = at.newer; here = at.here; grant = g; left = at.left; no_fresh = at.no_fresh; asked = at.asked; error = error; memory = at.memory; back = b.0 }), b.1)
+        (stopped_at_pool (goes (stop.Existing error) g between taken refused) (record { grant = g; error = error; at = at; back = b.0 }), b.1)
     rolls stop.Room g between taken at refused =
         let b = is_back stop.Room g between taken refused in
         (stopped_without_room (goes stop.Room g between taken refused) (record { grant = g; front = front_of at.0 at.1; no_room = at.2.0 refl; back = b.0 }), b.1)
@@ -182,7 +183,7 @@ module _ {P S : Type 0} {name : P → ℕ} {set_name : S → ℕ} {k : Key} {cou
 
     pub went_back : {why : Stop} → ended ≡ Err why → Rolls why
     went_back {why} is =
-        let taken = subst (λ (r : Result (Unit {0}) Stop). IsTaken r k room count t.served.id (s.books k).first items (s.books k).pools t.served.pools before after) is t.served.taken in
+        let taken = subst (λ (r : Result (Unit {0}) Stop). IsTaken r k room count t.id (s.books k).first items (s.books k).pools t.pools before after) is t.served.taken in
         rolls why taken.0 taken.1 taken.2 taken.3 taken.4
 
   module _ {last : Allocations P} {final : Ledger} {calls : ℕ} (back : GivesBack name set_name sets calls new last after final) where
@@ -221,8 +222,8 @@ module _ {P S : Type 0} {name : P → ℕ} {set_name : S → ℕ} {k : Key} {cou
 
   -- ---- the sets are kept
 
-  all_of : {x : Unit {0}} → ended ≡ Ok x → IsTaken (Ok x) k room count t.served.id (s.books k).first items (s.books k).pools t.served.pools before after
-  all_of is = subst (λ (r : Result (Unit {0}) Stop). IsTaken r k room count t.served.id (s.books k).first items (s.books k).pools t.served.pools before after) is t.served.taken
+  all_of : {x : Unit {0}} → ended ≡ Ok x → IsTaken (Ok x) k room count t.id (s.books k).first items (s.books k).pools t.pools before after
+  all_of is = subst (λ (r : Result (Unit {0}) Stop). IsTaken r k room count t.id (s.books k).first items (s.books k).pools t.pools before after) is t.served.taken
 
   pub kept_many : {x : Unit {0}} → ended ≡ Ok x → length sets ≡ count
   kept_many is =
@@ -238,4 +239,4 @@ module _ {P S : Type 0} {name : P → ℕ} {set_name : S → ℕ} {k : Key} {cou
       (t.total ∙ ap (λ n. outstanding_of old + n) many, t.marked ∙ ap (λ n. marked_load_of old + marked_load k n) many)
 
   pub kept : 0 < count → {x : Unit {0}} → ended ≡ Ok x → Allocates (call_of name k count old new before after (Ok items))
-  kept some is = done (proceeds some new after _) (is_done _ t.served.id t.served.pools items before after refl refl t.state refl (pool_load_of old) (pool_load_is name old before t.distinct) (all_of is) t.served.kept refl)
+  kept some is = done (proceeds some new after _) (is_done _ t.id t.pools items before after refl refl t.state refl (pool_load_of old) (pool_load_is name old before t.distinct) (all_of is) t.served.kept refl)

@@ -101,6 +101,5 @@ pub no_memory : (wanted : ℕ) (error : DeviceAllocationError) (e : Entry) (l m 
 no_memory wanted error e l m some memory is = record {
   asked = asks_some e.free wanted some;
   memory = memory;
-  pools = ap (λ (x : Ledger). x.pools) is ∙ no_refusal e.pool error l memory;
-  counters = ap (λ (x : Ledger). x.counters) is;
+  refused = record { pools = ap (λ (x : Ledger). x.pools) is ∙ no_refusal e.pool error l memory; counters = ap (λ (x : Ledger). x.counters) is ∙ alloc_rise error l.counters };
 }

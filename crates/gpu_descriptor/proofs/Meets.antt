@@ -7,7 +7,8 @@ use Rattle.gpu_descriptor.specs.Model.Agreement.{State, Item}
 use Rattle.gpu_descriptor.specs.Model.Books.{Key, key_eq, Entry, Bucket}
 use Rattle.gpu_descriptor.specs.Model.FreshPools.{AreNew}
 use Rattle.gpu_descriptor.specs.Model.Grants.{Grant, items_in, granted, entries_with, ledger_with}
-use Rattle.gpu_descriptor.specs.Inner.Grow.{IsRefused, IsTaken, stop_rise}
+use Rattle.gpu_descriptor.specs.Inner.Grow.{IsTaken}
+use Rattle.gpu_descriptor.specs.Inner.Walk.{IsRefused, stop_rise}
 use Rattle.gpu_descriptor.specs.Model.Load.{IsPoolLoad}
 use Rattle.gpu_descriptor.specs.Model.Outcomes.{Call, IsDone, risen, grant_rise}
 use Rattle.gpu_descriptor.specs.Inner.Walk.{with_pools, HasTaken}

@@ -110,7 +110,7 @@ refusals_counted alloc_error.FragmentedPool = refl
 refusals_counted alloc_error.OutOfPoolMemory = refl
 
 pool_cause : (c : Call) (s : IsStoppedAtPool c) → HasCause (error_of_alloc s.error) c
-pool_cause c s = memory_cause c s.grant _ _ s.back s.error s.memory refl refl
+pool_cause c s = memory_cause c s.grant _ _ s.back s.error s.at.memory refl refl
 
 fresh_cause : (c : Call) (s : IsStoppedAtFresh c) → HasCause (error_of_alloc s.error) c
 fresh_cause c s = by_error s.error refl
@@ -328,7 +328,7 @@ module _ (c : Call) where
   short (stopped_at_pool p s) more =
       let n = ap (λ (k : Counters). k.created) s.back.counters in
       let e = alloc_creates s.error in
-      let f = ap length s.no_fresh in
+      let f = ap length s.at.no_fresh in
       absurd (omega arith)
   short (stopped_without_room p s) more =
       let n = ap (λ (k : Counters). k.created) s.back.counters in

@@ -5,7 +5,7 @@ use Rattle.std.proofs.Math.Path.{fun_ext}
 use Rattle.std.proofs.Math.Nat.{mul-le-mul_right}
 use Rattle.std.proofs.lemmas.Bool.{cases_Bool, and_parts, ltb-true, ltb-false}
 use Rattle.std.specs.List.{IsDistinct}
-use Rattle.std.specs.Prelude.{if◌then◌else◌, nat_lt, ◌⊎◌, OnOk, IfErr}
+use Rattle.std.specs.Prelude.{nat_lt, ◌⊎◌}
 use Rattle.gpu_descriptor_types.specs.Counts.{kinds}
 use Rattle.gpu_descriptor_types.specs.Ledger.{Ledger}
 use Rattle.gpu_descriptor.specs.declared.errors.AllocationError.{AllocationError}
@@ -19,13 +19,11 @@ use Rattle.gpu_descriptor.specs.Model.Load.{marked_load, IsOut, IsMarkedLoad, Is
 use Rattle.gpu_descriptor.specs.Model.Outcomes.{Allocates, IsWithinLimit, Stays}
 use Rattle.gpu_descriptor.specs.Model.Outcomes.Allocates.{limit, bound, start}
 use Rattle.gpu_descriptor.specs.Caller.Call.{call_of}
-use Rattle.gpu_descriptor.specs.Inner.Serves.{IsServed, IsUnserved, ServesKey, Takes}
+use Rattle.gpu_descriptor.specs.Inner.Serves.{IsUnserved, ServesKey, Takes}
 use Rattle.gpu_descriptor.specs.Caller.KeyOf.{key_of}
-use Rattle.gpu_descriptor.specs.Caller.Sets.{items_of}
 use Rattle.gpu_descriptor.specs.Caller.States.{named_row, sets_in, descriptors_in, pool_load_in, state_of, table_of, outstanding_of, marked_load_of, pool_load_of}
 use Rattle.gpu_descriptor.specs.Inner.Stored.{IsConsistent, row_of, load_in, stored_keys, stored_load_in, books_in}
 use Rattle.gpu_descriptor.specs.Caller.Values.{Allocations, Row}
-use Rattle.gpu_descriptor.proofs.Exact.{key_exact}
 use Rattle.gpu_descriptor.proofs.Loads.{rows_out, rows_load, rows_pool_load}
 use Rattle.gpu_descriptor.proofs.TableBooks.{rows_are, distinct_rows}
 use Rattle.gpu_descriptor.proofs.TableSums.{outstanding_of-table, marked_load_of-table, pool_load_of-table}
@@ -152,6 +150,8 @@ module _ {P S : Type 0} (name : P → ℕ) (set_name : S → ℕ) (most looks_be
   pub takes : (key : BucketKey) (room count : ℕ) (sets : List (DescriptorSet S)) (ended : Result (Unit {0}) Stop) (before after : Ledger) → HasDistinctKeys (table_of name old) → HasDistinctKeys (table_of name new) → ServesKey name set_name key room count sets ended es fs before after → room + sum_by stored_load_in es ≡ most
       → ((key_of key).marked ≡ true → count * sum (key_of key).counts + marked_load_of old ≤ most) → outstanding_of old + count ≤ greatest_u64 → Takes name set_name (key_of key) count sets ended old new before after
   takes key room count sets ended before after distinct still served all within fits = record {
+    id = s.id;
+    pools = s.pools;
     served = s.served;
     distinct = distinct;
     still = still;

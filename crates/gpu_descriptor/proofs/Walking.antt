@@ -19,7 +19,7 @@ use Rattle.gpu_descriptor_types.specs.Ledger.{Pool, Ledger, live_sets, changed}
 use Rattle.gpu_descriptor_types.specs.declared.errors.DeviceAllocationError.{DeviceAllocationError}
 use Rattle.std.proofs.lemmas.Option.{slice_get_within}
 use Rattle.gpu_descriptor.proofs.KeepSteps.{keeps_start, keeps_asked}
-use Rattle.gpu_descriptor.proofs.Asks.{alloc_rise, pool_same, same_counters, skipped}
+use Rattle.gpu_descriptor.proofs.Asks.{pool_same, same_counters, skipped}
 use Rattle.gpu_descriptor.proofs.Shares.{IsApart, apart_from, not_refused, drop_at, get_drop, or_at}
 use Rattle.gpu_descriptor.proofs.Steps.{part, so_far, taken_more, rest_now}
 
@@ -70,8 +70,8 @@ module _ (k : Key) (n id first i wanting : ℕ) (items : List Item) (old new : L
         parts = s.parts ++ part (first + i) e.pool more ∷ [];
         wants = (let r = rest_now id n first i s.refused s.parts old e f more k m m' (apart e at) tail not_yet a in let w = s.wants in omega arith);
         taken = taken_more id n first i s.refused s.parts old e f more k m m' (apart e at) tail not_yet a l new items (items ++ items_at k id (first + i) more) (long_take old i e at) (take_get old i e at) s.taken
-        (flat_map-append (λ (p : Part). items_at k id p.number p.names) s.parts (part (first + i) e.pool more ∷ []) ∙ ap (λ x. items_in k id s.parts ++ x) (append-nil (items_at k id (first + i) more)) ∙ ap (λ x. x ++ items_at k id (first + i) more) s.taken.came)
-        (keeps_asked k id first i wanting items old new l.pools more e f m m' s.taken.keeps (next_was (slice_get_within old i e at) ∙ at) asked);
+            (flat_map-append (λ (p : Part). items_at k id p.number p.names) s.parts (part (first + i) e.pool more ∷ []) ∙ ap (λ x. items_in k id s.parts ++ x) (append-nil (items_at k id (first + i) more)) ∙ ap (λ x. x ++ items_at k id (first + i) more) s.taken.came)
+            (keeps_asked k id first i wanting items old new l.pools more e f m m' s.taken.keeps (next_was (slice_get_within old i e at) ∙ at) asked);
         untouched = λ j d lt there.
             let ne : d.pool ≢ e.pool = λ same. (let place = booked.distinct j i d e there at same in absurd (omega arith)) in
             ap (λ (f : ℕ → Option Pool). f d.pool) asked.pools
@@ -147,7 +147,7 @@ walk_stop k room n id first i wanting items old new l m m' e f error s was is sa
     asked = ap (λ w. nat_lt 0 e.free && nat_lt 0 w) (sym s.wants) ∙ none.asked;
     memory = none.memory;
   },
-  record { pools = none.pools; counters = none.counters ∙ alloc_rise error m.counters },
+  none.refused,
 )
 
 get_at : {A : Type 0} (xs : List A) (i : ℕ) → i < length xs → (x : A) × (slice_get xs i ≡ Some x)

@@ -14,11 +14,6 @@ pools_of p = pools_in p.live
 abbrev pub next_names : Pools → Names
 next_names p = record { pools = p.next_pool; sets = p.next_set }
 
--- no pool is live, and no name was given
-pub record HasNoPools (new : Pools) : Type 0 where
-  pub pools : pools_of new ≡ (λ _. None)
-  pub names : next_names new ≡ record { pools = 0; sets = 0 }
-
 -- the live pools and the names stay
 pub record IsSame (old new : Pools) : Type 0 where
   pub pools : pools_of new ≡ pools_of old

@@ -1,19 +1,19 @@
 -- What one new pool adds, why a request stops, and what it has taken then.
 use Rattle.std.specs.Prelude.{◌≡◌, ℕ, ◌+◌, ◌<◌, ◌↔◌, false, nat_eq, min, List, [], ◌∷◌, ◌++◌, length, Some, None, Result, Ok, Err}
 use Rattle.std.specs.Map.{update}
-use Rattle.gpu_descriptor_types.specs.Ledger.{Ledger, Counters, live_sets, on_pool, fresh, create_refused, alloc_refused, no_rise}
+use Rattle.gpu_descriptor_types.specs.Ledger.{Ledger, live_sets, on_pool, fresh, no_rise}
 use Rattle.gpu_descriptor_types.specs.PoolSize.{pool_counts}
 use Rattle.gpu_descriptor.specs.declared.bucket.take.Stop.{Stop}
 use Rattle.gpu_descriptor.specs.declared.errors.AllocationError.{AllocationError}
 use Rattle.gpu_descriptor.specs.declared.errors.AllocationError.TheVariants.{OutOfHostMemory, Fragmentation}
-use Rattle.gpu_descriptor.specs.Model.Outcomes.{error_of_create, error_of_alloc, risen}
+use Rattle.gpu_descriptor.specs.Model.Outcomes.{EndsAtPool, error_of_create, error_of_alloc, risen}
 use Rattle.gpu_descriptor.specs.Model.Books.{Key, Entry}
 use Rattle.gpu_descriptor.specs.Model.Agreement.{Item, flags_of}
 use Rattle.gpu_descriptor.specs.Model.Load.{allocated_in, pool_load}
 use Rattle.gpu_descriptor.specs.Model.Shares.{rest, all_shared}
 use Rattle.gpu_descriptor.specs.Model.FreshPools.{Fresh, fresh_entry, IsNextSize, IsFreshFront, IsFreshList, room_after}
 use Rattle.gpu_descriptor.specs.Model.Grants.{Grant, pool_with}
-use Rattle.gpu_descriptor.specs.Inner.Walk.{HasTaken, StopsAtPool}
+use Rattle.gpu_descriptor.specs.Inner.Walk.{HasTaken, IsRefused}
 use Rattle.gpu_descriptor.specs.declared.bucket.take.Stop.TheVariants.{Existing, Room, Books, Create, New}
 
 -- what the request answers then
@@ -23,14 +23,6 @@ stop_answer Room = Fragmentation
 stop_answer Books = OutOfHostMemory
 stop_answer (Create error) = error_of_create error
 stop_answer (New error) = error_of_alloc error
-
--- what it adds to the counters. A new pool that refused was created and destroyed
-abbrev pub stop_rise : Stop → Counters
-stop_rise (Existing e) = alloc_refused e no_rise
-stop_rise Room = no_rise
-stop_rise Books = no_rise
-stop_rise (Create e) = create_refused e no_rise
-stop_rise (New e) = let asked = alloc_refused e no_rise in record asked { created = 1; destroyed = 1 }
 
 -- a new pool was created and gave what it has of so many sets. It took of the room what it has
 pub record IsGrown (k : Key) (room left total wanted : ℕ) (names : List ℕ) (old new : List Entry) (before after : Ledger) : Type 0 where
@@ -44,11 +36,6 @@ pub record IsGrown (k : Key) (room left total wanted : ℕ) (names : List ℕ) (
   pub pools : after.pools ≡ on_pool pool.pool (pool_with (live_sets k.counts names) false) (update nat_eq before.pools pool.pool (Some (fresh (pool_counts k.counts pool.size) pool.size (flags_of k))))
   pub counters : after.counters ≡ risen (record no_rise { created = 1; asked = 1 }) before.counters
 
--- no pool came, for this reason, and the ledger's pools are as before
-pub record IsRefused (why : Stop) (before after : Ledger) : Type 0 where
-  pub pools : after.pools ≡ before.pools
-  pub counters : after.counters ≡ risen (stop_rise why) before.counters
-
 -- no new pool came: for want of room exactly where not even one of one set fits
 abbrev pub NoneIsNew : Stop → Key → ℕ → Type 0
 NoneIsNew (Existing e) k room = ⊥
@@ -56,7 +43,7 @@ NoneIsNew why k room = (why ≡ Room) ↔ (room < pool_load k 1)
 
 -- what had been taken when the request stopped: of the existing pools, or a front of new ones
 abbrev pub StopsAt : Stop → Key → (room n : ℕ) → Grant → List Entry → Type 0
-StopsAt (Existing e) k room n g old = StopsAtPool e n g old
+StopsAt (Existing e) k room n g old = EndsAtPool n old e g
 StopsAt why k room n g old = (g.left ≡ 0) × IsFreshFront k room (allocated_in (all_shared g.refused n old)) (rest g.refused n old) g.fresh × NoneIsNew why k (room_after k room g.fresh)
 
 -- what was taken of a key's pools: all that was asked for, or what had come when the request stopped

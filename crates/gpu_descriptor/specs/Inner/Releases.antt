@@ -13,13 +13,6 @@ use Rattle.gpu_descriptor.specs.Model.Books.{Key, Entry, Bucket}
 use Rattle.gpu_descriptor.specs.Inner.Stored.{bucket_of}
 use Rattle.gpu_descriptor.specs.Inner.Buckets.{trimmed_bucket, trimmed_ledger}
 
--- one run came, from first to before the set ahead, and has gone back
-pub record FreesRun {P S T : Type 0} (steps : T → Option (DescriptorSet S) → T → Type 0) (pool_name : P → ℕ) (set_name : S → ℕ) (first : DescriptorSet S) (given : T) (ahead : Option (DescriptorSet S)) (left : T) (old new : Allocations P) (before after : Ledger) : Type 0 where
-  -- the sets behind first
-  pub sets : List (DescriptorSet S)
-  pub came : EndsRun steps (lies_at first.key.is first.number) given sets ahead left
-  pub back : GivesBack pool_name set_name (first ∷ sets) 1 old new before after
-
 -- the sets of these names are live in the key's pool with the number
 pub record IsTakenAt (k : Key) (number : ℕ) (names : List ℕ) (b : Bucket) (pools : ℕ → Option Pool) : Type 0 where
   pub entry : Entry
@@ -44,10 +37,16 @@ pub record RunsInto (k : Key) (number : ℕ) (names : List ℕ) (old : Bucket) (
 abbrev pub names_of : {S : Type 0} → (S → ℕ) → List (DescriptorSet S) → List ℕ
 names_of name xs = map (λ x. name x.raw) xs
 
--- one run came, from first to before the set ahead, and went back
-pub record ReleasesRun {P S T : Type 0} (steps : T → Option (DescriptorSet S) → T → Type 0) (pool_name : P → ℕ) (set_name : S → ℕ) (first : DescriptorSet S) (given : T) (ahead : Option (DescriptorSet S)) (left : T) (old new : DescriptorBucket P) (before after : Ledger) : Type 0 where
-  -- the sets behind first
-  pub sets : List (DescriptorSet S)
-  pub came : EndsRun steps (at_place first.id first.number) given sets ahead left
-  pub went : RunsInto first.key.is first.number (names_of set_name (first ∷ sets)) (bucket_of pool_name old) before (bucket_of pool_name new) after
-  pub total : new.total + length (first ∷ sets) ≡ old.total
+-- one run came, from first to before the set ahead, and went back: to the allocator, and to its key's pools
+module _ {P S T : Type 0} (steps : T → Option (DescriptorSet S) → T → Type 0) (pool_name : P → ℕ) (set_name : S → ℕ) (first : DescriptorSet S) (given : T) (ahead : Option (DescriptorSet S)) (left : T) where
+  pub record FreesRun (old new : Allocations P) (before after : Ledger) : Type 0 where
+    -- the sets behind first
+    pub sets : List (DescriptorSet S)
+    pub came : EndsRun steps (lies_at first.key.is first.number) given sets ahead left
+    pub back : GivesBack pool_name set_name (first ∷ sets) 1 old new before after
+
+  pub record ReleasesRun (old new : DescriptorBucket P) (before after : Ledger) : Type 0 where
+    pub sets : List (DescriptorSet S)
+    pub came : EndsRun steps (at_place first.id first.number) given sets ahead left
+    pub went : RunsInto first.key.is first.number (names_of set_name (first ∷ sets)) (bucket_of pool_name old) before (bucket_of pool_name new) after
+    pub total : new.total + length (first ∷ sets) ≡ old.total

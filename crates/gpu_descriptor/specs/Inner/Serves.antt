@@ -14,35 +14,31 @@ use Rattle.gpu_descriptor.specs.Caller.KeyOf.{key_of}
 use Rattle.gpu_descriptor.specs.Caller.Sets.{items_of}
 use Rattle.gpu_descriptor.specs.Caller.States.{state_of, table_of, outstanding_of, marked_load_of, pool_load_of}
 use Rattle.gpu_descriptor.specs.Caller.Values.{Allocations}
-use Rattle.gpu_descriptor.specs.Inner.Stored.{bucket_of, books_in, load_in}
+use Rattle.gpu_descriptor.specs.Inner.Stored.{books_in, load_in}
 use Rattle.gpu_descriptor.specs.Inner.Walk.{with_pools}
 use Rattle.gpu_descriptor.specs.Inner.Grow.{IsTaken}
 
 module _ {P S : Type 0} (pool_name : P → ℕ) (set_name : S → ℕ) where
-  -- a request had these sets of a bucket, which has these pools then
-  pub record IsServed (k : Key) (room count : ℕ) (sets : List (DescriptorSet S)) (ended : Result (Unit {0}) Stop) (old : Bucket) (before after : Ledger) : Type 0 where
+  -- a request had these sets of a bucket, which has the id and the pools then
+  pub record IsServed (k : Key) (room count : ℕ) (sets : List (DescriptorSet S)) (ended : Result (Unit {0}) Stop) (old : Bucket) (id : ℕ) (pools : List Entry) (before after : Ledger) : Type 0 where
     pub numbers : next_number old + count ≤ greatest_u64
     pub few : length sets ≤ count
-    -- the id of the key from then on: a key that has pools keeps its own
-    pub id : ℕ
+    -- a key that has pools keeps its id
     pub kept : 0 < length old.pools → id ≡ old.id
-    pub pools : List Entry
     pub taken : IsTaken ended k room count id old.first (items_of set_name sets) old.pools pools before after
 
-  pub record Serves (k : Key) (room count : ℕ) (sets : List (DescriptorSet S)) (ended : Result (Unit {0}) Stop) (old new : DescriptorBucket P) (before after : Ledger) : Type 0 where
-    pub served : IsServed k room count sets ended (bucket_of pool_name old) before after
-    pub id : served.id ≡ old.id
-    pub bucket : bucket_of pool_name new ≡ record (bucket_of pool_name old) { pools = served.pools }
-    pub total : new.total ≡ old.total + length sets
-
   pub record ServesKey (key : BucketKey) (room count : ℕ) (sets : List (DescriptorSet S)) (ended : Result (Unit {0}) Stop) (old new : List (BucketKey × DescriptorBucket P)) (before after : Ledger) : Type 0 where
-    pub served : IsServed (key_of key) room count sets ended (books_in pool_name old (key_of key)) before after
-    pub books : (l : Key) → books_in pool_name new l ≡ (let b = books_in pool_name old l in if key_eq (key_of key) l then record b { id = served.id; pools = served.pools } else b)
+    pub id : ℕ
+    pub pools : List Entry
+    pub served : IsServed (key_of key) room count sets ended (books_in pool_name old (key_of key)) id pools before after
+    pub books : (l : Key) → books_in pool_name new l ≡ (let b = books_in pool_name old l in if key_eq (key_of key) l then record b { id = id; pools = pools } else b)
     pub out : sum_by (λ r. r.1.total) new ≡ sum_by (λ r. r.1.total) old + length sets
     pub load : sum_by load_in new ≡ sum_by load_in old + marked_load (key_of key) (length sets)
 
   pub record Takes (k : Key) (count : ℕ) (sets : List (DescriptorSet S)) (ended : Result (Unit {0}) Stop) (old new : Allocations P) (before after : Ledger) : Type 0 where
-    pub served : IsServed k (old.limit - pool_load_of old) count sets ended ((state_of pool_name old before).books k) before after
+    pub id : ℕ
+    pub pools : List Entry
+    pub served : IsServed k (old.limit - pool_load_of old) count sets ended ((state_of pool_name old before).books k) id pools before after
     -- no key has two rows, before and after
     pub distinct : HasDistinctKeys (table_of pool_name old)
     pub still : HasDistinctKeys (table_of pool_name new)
@@ -50,7 +46,7 @@ module _ {P S : Type 0} (pool_name : P → ℕ) (set_name : S → ℕ) where
     pub fits : outstanding_of old + count ≤ greatest_u64
     pub total : outstanding_of new ≡ outstanding_of old + length sets
     pub marked : marked_load_of new ≡ marked_load_of old + marked_load k (length sets)
-    pub state : state_of pool_name new after ≡ with_pools k served.id served.pools after.pools (state_of pool_name old before)
+    pub state : state_of pool_name new after ≡ with_pools k id pools after.pools (state_of pool_name old before)
 
 -- nothing was taken: memory was wanting, or the numbers of the key's pools would pass 64 bits
 abbrev pub IsUnserved : ℕ → AllocationError → Bucket → Type 0

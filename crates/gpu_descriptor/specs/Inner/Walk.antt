@@ -1,8 +1,10 @@
 -- How a request walks over a key's pools, in the words of the books.
-use Rattle.std.specs.Prelude.{◌≡◌, ℕ, ◌+◌, ◌-◌, ◌<◌, ◌≤◌, ◌==◌, ◌&&◌, ◌⊎◌, Bool, true, false, nat_lt, if◌then◌else◌, min, List, [], ◌∷◌, ◌++◌, map, length, drop, Option, Some, None, slice_get}
+use Rattle.std.specs.Prelude.{◌≡◌, ℕ, ◌+◌, ◌-◌, ◌<◌, ◌≤◌, ◌==◌, ◌&&◌, ◌⊎◌, Bool, true, false, nat_lt, if◌then◌else◌, min, List, [], ◌++◌, map, length, drop, Option, Some, None, slice_get}
 use Rattle.std.specs.List.{list_any}
 use Rattle.std.specs.Option.{option_map_or}
-use Rattle.gpu_descriptor_types.specs.Ledger.{Pool, Ledger, live_sets, on_pool, alloc_refused, pool_refusals, no_rise}
+use Rattle.gpu_descriptor_types.specs.Ledger.{Pool, Ledger, Counters, live_sets, on_pool, alloc_refused, create_refused, pool_refusals, no_rise}
+use Rattle.gpu_descriptor.specs.declared.bucket.take.Stop.{Stop}
+use Rattle.gpu_descriptor.specs.declared.bucket.take.Stop.TheVariants.{Existing, Room, Books, Create, New}
 use Rattle.gpu_descriptor_types.specs.declared.errors.DeviceAllocationError.{DeviceAllocationError}
 use Rattle.gpu_descriptor.specs.declared.bucket.DescriptorPool.{DescriptorPool}
 use Rattle.gpu_descriptor.specs.Inner.SetAt.{set_at}
@@ -12,7 +14,7 @@ use Rattle.gpu_descriptor.specs.Model.Books.{Key, key_eq, Entry, Bucket, entry_a
 use Rattle.gpu_descriptor.specs.Model.Agreement.{State, Item, count_of, set_of, live_in}
 use Rattle.gpu_descriptor.specs.Model.Load.{allocated_in}
 use Rattle.gpu_descriptor.specs.Inner.Stored.{entry_of}
-use Rattle.gpu_descriptor.specs.Model.Shares.{rest, is_asked, OnlyAskedRefuse, portions_of}
+use Rattle.gpu_descriptor.specs.Model.Shares.{rest, OnlyAskedRefuse, portions_of}
 use Rattle.gpu_descriptor.specs.Model.FreshPools.{AreNew, fresh_portions}
 use Rattle.gpu_descriptor.specs.Model.Grants.{Grant, portion_of, items_in, entries_with, ledger_with, pool_with}
 use Rattle.gpu_descriptor.specs.Model.Outcomes.{risen, grant_rise}
@@ -52,12 +54,24 @@ pub record IsAsked (k : Key) (wanted : ℕ) (names : List ℕ) (old new : Entry)
   pub pools : after.pools ≡ on_pool old.pool (pool_with (live_sets k.counts names) refused) before.pools
   pub counters : after.counters ≡ risen (record no_rise { asked = if nat_lt 0 old.free && nat_lt 0 wanted then 1 else 0; pool_refused = if refused then 1 else 0 }) before.counters
 
+-- why a request stopped raises the counters so. A new pool that refused was created and destroyed
+abbrev pub stop_rise : Stop → Counters
+stop_rise (Existing e) = alloc_refused e no_rise
+stop_rise Room = no_rise
+stop_rise Books = no_rise
+stop_rise (Create e) = create_refused e no_rise
+stop_rise (New e) = let asked = alloc_refused e no_rise in record asked { created = 1; destroyed = 1 }
+
+-- no set came, for this reason, and the ledger's pools are as before
+pub record IsRefused (why : Stop) (before after : Ledger) : Type 0 where
+  pub pools : after.pools ≡ before.pools
+  pub counters : after.counters ≡ risen (stop_rise why) before.counters
+
 -- a pool that was asked answered want of memory
 pub record IsNoMemory (wanted : ℕ) (e : Entry) (error : DeviceAllocationError) (before after : Ledger) : Type 0 where
   pub asked : nat_lt 0 e.free && nat_lt 0 wanted ≡ true
   pub memory : pool_refusals error ≡ 0
-  pub pools : after.pools ≡ before.pools
-  pub counters : after.counters ≡ alloc_refused error before.counters
+  pub refused : IsRefused (Existing error) before after
 
 -- a request of n sets took so much of a key's pools, the oldest of which has the number first, and these sets came
 pub record HasTaken (k : Key) (n id first : ℕ) (g : Grant) (items : List Item) (old new : List Entry) (before after : Ledger) : Type 0 where
@@ -78,14 +92,3 @@ pub record IsWalked (k : Key) (n id first wanting : ℕ) (items : List Item) (ol
   pub no_fresh : grant.fresh ≡ []
   pub wants : wanting ≡ rest grant.refused n old
   pub taken : HasTaken k n id first grant items old new before after
-
--- what was taken when the next pool, which is asked, answered want of memory
-pub record StopsAtPool (error : DeviceAllocationError) (n : ℕ) (g : Grant) (old : List Entry) : Type 0 where
-  pub older : List Entry
-  pub pool : Entry
-  pub newer : List Entry
-  pub here : old ≡ older ++ pool ∷ newer
-  pub left : g.left ≡ length older + 1
-  pub no_fresh : g.fresh ≡ []
-  pub asked : is_asked g.refused n newer pool ≡ true
-  pub memory : pool_refusals error ≡ 0

@@ -162,18 +162,22 @@ pub record IsBack (c : Call) (grant : Grant) (rise : Counters) (error : Allocati
   pub state : c.new ≡ released (items_in c.request.key grant.id grant.parts) (granted c.request.key c.request.count grant c.old)
   pub counters : c.after ≡ risen (rollback_rise (items_in c.request.key grant.id grant.parts) c.request.key (granted c.request.key c.request.count grant c.old)) (risen rise (risen (grant_rise c.request.count grant (c.old.books c.request.key).pools) c.before))
 
--- at an existing pool, which answered a memory error. The newer pools were asked before it, where they had places
-pub record IsStoppedAtPool (c : Call) : Type 0 where
+-- what a request of n sets took of these pools ends at one that was asked and answered a memory error. The newer ones were asked before it, where they had places
+pub record EndsAtPool (n : ℕ) (pools : List Entry) (error : DeviceAllocationError) (g : Grant) : Type 0 where
   pub older : List Entry
   pub pool : Entry
   pub newer : List Entry
-  pub here : (c.old.books c.request.key).pools ≡ older ++ pool ∷ newer
-  pub grant : Grant
-  pub left : grant.left ≡ length older + 1
-  pub no_fresh : grant.fresh ≡ []
-  pub asked : is_asked grant.refused c.request.count newer pool ≡ true
-  pub error : DeviceAllocationError
+  pub here : pools ≡ older ++ pool ∷ newer
+  pub left : g.left ≡ length older + 1
+  pub no_fresh : g.fresh ≡ []
+  pub asked : is_asked g.refused n newer pool ≡ true
   pub memory : pool_refusals error ≡ 0
+
+-- at an existing pool
+pub record IsStoppedAtPool (c : Call) : Type 0 where
+  pub grant : Grant
+  pub error : DeviceAllocationError
+  pub at : EndsAtPool c.request.count (c.old.books c.request.key).pools error grant
   pub back : IsBack c grant (alloc_refused error no_rise) (error_of_alloc error)
 
 -- for want of room for a new pool of a marked key

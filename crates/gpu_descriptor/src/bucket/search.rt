@@ -36,7 +36,7 @@ pub(crate) fn place_of(view: &mut Numbers<'_, '_>, number: u64) -> usize
 
 /// Puts a number in at its place. There is room for it.
 #[inline(never)]
-pub(crate) fn enter(listed: &mut VecDeque<u64>, number: u64, comparisons: &mut Tally)
+fn enter(listed: &mut VecDeque<u64>, number: u64, comparisons: &mut Tally)
     requires rising { IsNonDecreasing listed.old.items }
     requires room { length listed.old.items < deque_capacity listed.old }
     ensures entered { IsEntered number listed.old.items listed.new.items }
@@ -53,8 +53,8 @@ pub(crate) fn enter(listed: &mut VecDeque<u64>, number: u64, comparisons: &mut T
     }
 }
 
-/// Puts a number in at its place where it isn't there yet. The test is an argument, so that the
-/// caller has one state of its list afterwards.
+/// Puts a number in at its place where it isn't there yet, into an empty list without a search. The
+/// test is an argument, so that the caller has one state of its list afterwards.
 #[inline]
 pub(crate) fn enter_new(
     listed: &mut VecDeque<u64>,
@@ -71,7 +71,12 @@ pub(crate) fn enter_new(
     ensures few { comparisons.new.count ≤ comparisons.old.count + binary_digits
         (length listed.old.items) }
 {
-    if is_new {
-        enter(listed, number, comparisons);
+    if !is_new {
+        return;
     }
+    if listed.is_empty() {
+        listed.push_back_reserved(number);
+        return;
+    }
+    enter(listed, number, comparisons);
 }

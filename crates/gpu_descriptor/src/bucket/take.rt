@@ -16,11 +16,11 @@ ghost use Rattle.gpu_descriptor.specs.Inner.OpenPools.{CountsLooks, IsListed, Ke
 ghost use Rattle.gpu_descriptor.specs.Model.FreshPools.{IsNextSize};
 ghost use Rattle.gpu_descriptor.specs.Inner.Buckets.{IsBookedIn, AreBookedIn};
 ghost use Rattle.gpu_descriptor.specs.Inner.Walk.{entries_of, sets_at, IsAsked, IsNoMemory};
-ghost use Rattle.gpu_descriptor.specs.Inner.Walk.{IsWalked};
+ghost use Rattle.gpu_descriptor.specs.Inner.Walk.{IsRefused, IsWalked};
 ghost use Rattle.gpu_descriptor.specs.Caller.Call.{layout_key};
 ghost use Rattle.gpu_descriptor.specs.declared.bucket.take.Stop.TheVariants.{Existing};
-ghost use Rattle.gpu_descriptor.specs.Inner.Grow.{IsGrown, IsRefused, IsTaken, NoneIsNew};
-ghost use Rattle.gpu_descriptor.specs.Inner.Serves.{Serves, IsUnserved};
+ghost use Rattle.gpu_descriptor.specs.Inner.Grow.{IsGrown, IsTaken, NoneIsNew};
+ghost use Rattle.gpu_descriptor.specs.Inner.Serves.{IsServed, IsUnserved};
 
 use crate::bucket::allocation::Allocation;
 use crate::bucket::reads::OpenPools;
@@ -237,9 +237,12 @@ impl<P: Drop> DescriptorBucket<P> {
         requires booked { AreBookedIn (key_of request.now.key) (D.ledger device.old).pools
             (bucket_of D.pool_name self.old).pools }
         requires bound { self.old.total + request.now.count < 2 ^ 64 }
-        ensures served { IfOk result (λ r. Serves D.pool_name D.set_name (key_of request.now.key)
-            room.old request.now.count r.sets.items r.taken self.old self.new
-            (D.ledger device.old) (D.ledger device.new)) }
+        ensures served { IfOk result (λ r. IsServed D.pool_name D.set_name (key_of request.now.key)
+            room.old request.now.count r.sets.items r.taken (bucket_of D.pool_name self.old)
+            self.old.id (bucket_of D.pool_name self.new).pools
+            (D.ledger device.old) (D.ledger device.new)
+            × (self.new.total ≡ self.old.total + length r.sets.items)) }
+        ensures offset { self.new.offset ≡ self.old.offset }
         ensures refused { IfErr result (λ e. IsUnserved request.now.count e
             (bucket_of D.pool_name self.old)) }
         ensures looks { CountsLooks looks.old.count looks.new.count

@@ -4,8 +4,6 @@ use Rattle.std.specs.Prelude.{Some}
 use Rattle.gpu_descriptor_types.specs.Ledger.{Ledger, after_alloc, after_create, after_destroy, live_sets, HasNoSets, fresh}
 use Rattle.gpu_descriptor_types.specs.PoolSize.{pool_counts}
 use Rattle.gpu_descriptor.specs.declared.bucket.DescriptorPool.{DescriptorPool}
-use Rattle.gpu_descriptor.specs.declared.set.BucketKey.{BucketKey}
-use Rattle.gpu_descriptor.specs.declared.set.DescriptorSet.{DescriptorSet}
 use Rattle.gpu_descriptor.specs.Model.Books.{Entry, Key}
 use Rattle.gpu_descriptor.specs.Model.Agreement.{flags_of}
 use Rattle.gpu_descriptor.specs.Model.Load.{pool_load}

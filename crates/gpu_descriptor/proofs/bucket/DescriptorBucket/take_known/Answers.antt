@@ -1,4 +1,4 @@
-use Rattle.std.proofs.Common.{◌≡◌, ◌≤◌, ℕ, Global, ◌+◌, [], ◌++◌, arith, length, sum_by, List, Result, Ok, Err, sym, ap, ◌∙◌, subst}
+use Rattle.std.proofs.Common.{◌≡◌, ℕ, Global, ◌+◌, [], ◌++◌, arith, length, sum_by, List, Result, Ok, Err, sym, ap, ◌∙◌, subst}
 use Rattle.std.specs.Prelude.{IfOk, IfErr}
 use Rattle.std.specs.declared.collections.VecDeque.{VecDeque}
 use Rattle.std.proofs.lemmas.List.{length-map}
@@ -7,7 +7,6 @@ use Rattle.gpu_descriptor_types.specs.declared.errors.DeviceAllocationError.{Dev
 use Rattle.gpu_descriptor.specs.declared.set.DescriptorSet.{DescriptorSet}
 use Rattle.gpu_descriptor.specs.declared.bucket.DescriptorPool.{DescriptorPool}
 use Rattle.gpu_descriptor.specs.declared.bucket.take.Stop.TheVariants.{Existing}
-use Rattle.gpu_descriptor.specs.Model.Agreement.{Item}
 use Rattle.gpu_descriptor.specs.Model.Books.{Entry, Key}
 use Rattle.gpu_descriptor.specs.Model.Load.{allocated_in}
 use Rattle.gpu_descriptor.specs.Caller.KeyOf.{key_of}
@@ -45,8 +44,8 @@ pub returns-clause-walked : goal.returns-clause-walked
 returns-clause-walked g c =
     let pools = ap (λ (q : VecDeque (DescriptorPool g.row.P.Denot) Global). entries_of g.D.DescriptorDevice.pool_name q.items) c.new-view.ensures.pools in
     if_ok _ _ c.walk-walked.result (λ wanting p. (
-      let long = ap length (all g.D.DescriptorDevice.set_name p.0 c.requires.empty p.1) in
-      (let given = p.3 in omega arith, (let left = p.2 in let room = c.requires.room in omega arith), walked_as g.D.DescriptorDevice.set_name p.0 c.requires.empty p.1 c.new-view.ensures.id c.new-view.ensures.offset pools p.4))) c.walk-walked.ensures.walked
+    let long = ap length (all g.D.DescriptorDevice.set_name p.0 c.requires.empty p.1) in
+    (let given = p.3 in omega arith, (let left = p.2 in let room = c.requires.room in omega arith), walked_as g.D.DescriptorDevice.set_name p.0 c.requires.empty p.1 c.new-view.ensures.id c.new-view.ensures.offset pools p.4))) c.walk-walked.ensures.walked
 
 pub returns-clause-stopped : goal.returns-clause-stopped
 returns-clause-stopped g c =

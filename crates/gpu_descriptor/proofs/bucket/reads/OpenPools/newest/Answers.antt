@@ -1,9 +1,9 @@
-use Rattle.std.proofs.Common.{◌≡◌, ◌+◌, ◌-◌, ◌<◌, ◌++◌, ◌∷◌, [], inl, refl, List, ℕ, length, take, slice_get, Some, arith, ap, sym, ◌∙◌, subst, rules}
+use Rattle.std.proofs.Common.{◌≡◌, ◌+◌, ◌-◌, ◌<◌, ◌++◌, ◌∷◌, [], inl, refl, ℕ, length, take, slice_get, arith, ap, sym, ◌∙◌}
 use Rattle.std.proofs.lemmas.List.{length-map}
 use Rattle.std.proofs.lemmas.Option.{slice_get_read, slice_get_within}
 use Rattle.gpu_descriptor_types.specs.declared.counter.Tally.{Tally}
 use Rattle.gpu_descriptor.specs.declared.bucket.reads.OpenPools.{OpenPools}
-use Rattle.gpu_descriptor.specs.Inner.OpenNumbers.{free_in, open_numbers}
+use Rattle.gpu_descriptor.specs.Inner.OpenNumbers.{free_in}
 use Rattle.gpu_descriptor.specs.Inner.OpenPools.{looked_at}
 use Rattle.gpu_descriptor.proofs.Open.{IsNewestOpen, newest_open}
 use Rattle.gpu_descriptor.proofs.bucket.reads.OpenPools.newest.Goals.{In-Some}
