@@ -4,9 +4,7 @@ pub mod FirstLayoutLemmas
 pub mod LayoutLemmas
 pub mod LineLemmas
 pub mod ReplyLemmas
-pub mod RowLayouts
 pub mod RowLemmas
-pub mod RowSizes
 pub mod SessionLemmas
 pub mod ShownLemmas
 pub mod TranscriptLemmas

@@ -162,10 +162,6 @@ silent_line number line lines old exit text short silent ends = passed (step_of 
 pub has_memory : (answer rest text : List ℕ) → text ≡ answer ++ rest → HadMemory text → answer ≡ no_memory → ⊥
 has_memory answer rest text said had none = had [] rest (rw none at said)
 
-pub had_before : (answer rest text : List ℕ) → text ≡ answer ++ rest → HadMemory text → HadMemory rest
-had_before answer rest text said had before after is =
-    had (answer ++ before) after (said ∙ ap (λ more. answer ++ more) is ∙ (simp append_assoc))
-
 -- what is wrong with a name that no layout has
 no_layout : (layouts : Layouts) (name : List ℕ) (Numbers : Type 0) (fault : Fault) → IsName name → layout_named layouts name ≡ None → IsFaultOfUse layouts name Numbers fault → fault ≡ NoSuchLayout
 no_layout layouts name Numbers LineTooLong is none wrong = absurd wrong

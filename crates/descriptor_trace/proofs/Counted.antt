@@ -7,17 +7,7 @@ use Rattle.gpu_descriptor_types.specs.Ledger.{Ledger, Pool, AreLive, Releases, c
 use Rattle.gpu_descriptor_types.specs.Multiset.{LiveSet, times, AreIn}
 use Rattle.gpu_descriptor.specs.Model.Agreement.{HasSize}
 use Rattle.gpu_descriptor.proofs.LedgerPools.{size_minus}
-
--- as many sets are live, however they are counted
-size_one : (live : LiveSet → ℕ) (a b : ℕ) → HasSize live a → HasSize live b → a ≡ b
-size_one live a b one other =
-    let few : AreIn one.0 live = λ x. (let h = one.2 x in omega arith) in
-    let many : AreIn other.0 live = λ x. (let h = other.2 x in omega arith) in
-    let le = (size_minus live b one.0 other few).0 in
-    let ge = (size_minus live a other.0 one many).0 in
-    let la = one.1 in
-    let lb = other.1 in
-    omega arith
+use Rattle.gpu_descriptor.proofs.Sized.{size_one}
 
 -- what the pool has fewer is what the iterator gave
 pub release_counted : {I S : Type 0} (steps : I → Option S → I → Type 0) (set_name : S → ℕ) (name other before after : ℕ) (old new : I) (l m : Ledger) (r : Releases steps set_name name old new l m) → AreLive name [] l → other ≡ name → IfSome (l.pools name) (λ p. HasSize p.live before)

@@ -10,6 +10,7 @@ use Rattle.gpu_descriptor_types.specs.Multiset.{LiveSet, times, AreIn}
 use Rattle.gpu_descriptor_types.proofs.Counting.{times-append}
 use Rattle.gpu_descriptor.specs.Model.Agreement.{HasSize}
 use Rattle.gpu_descriptor.proofs.LedgerPools.{size_minus}
+use Rattle.gpu_descriptor.proofs.Sized.{size_one}
 use Rattle.descriptor_uses.specs.Owed.{IsOwed, ReleasesMany, owed_by}
 use Rattle.descriptor_uses.specs.Released.{release_of}
 use Rattle.descriptor_uses.specs.declared.log.Call.TheVariants.{Release}
@@ -50,17 +51,6 @@ without_other name q apart (row ∷ rows) = elim (cases_Bool (nat_eq name row.0)
       rw (own, no) (without_other name q apart rows))
   | inr other ↦ rw other (ap (λ o. cond (nat_eq q row.0) (Some row.1) o) (without_other name q apart rows))
 ]
-
--- as many sets are live, however they are counted
-size_one : (live : LiveSet → ℕ) (a b : ℕ) → HasSize live a → HasSize live b → a ≡ b
-size_one live a b one other =
-    let few : AreIn one.0 live = λ x. (let h = one.2 x in omega arith) in
-    let many : AreIn other.0 live = λ x. (let h = other.2 x in omega arith) in
-    let le = (size_minus live b one.0 other few).0 in
-    let ge = (size_minus live a other.0 one many).0 in
-    let la = one.1 in
-    let lb = other.1 in
-    omega arith
 
 -- the pool of a name is another now, and the other pools stay
 put : (l m : Ledger) (n k name size : ℕ) (pool : Pool) (o : IsOwed l n) → m.pools ≡ update nat_eq l.pools name (Some pool) → HasSize pool.live size → owed_by (without name o.rows) + size + 1 ≤ k → IsOwed m k

@@ -8,13 +8,13 @@ use Rattle.gpu_descriptor.specs.declared.errors.AllocationError.{AllocationError
 use Rattle.gpu_descriptor.specs.declared.set.DescriptorSet.{DescriptorSet}
 use Rattle.gpu_descriptor.specs.declared.bucket.take.Stop.{Stop}
 use Rattle.gpu_descriptor.specs.declared.bucket.take.Stop.TheVariants as stop
-use Rattle.gpu_descriptor.specs.Model.Agreement.{State, Item, Agree, AreOutstanding, outstanding}
-use Rattle.gpu_descriptor.specs.Model.Books.{Key, key_eq, Entry, entry_at}
+use Rattle.gpu_descriptor.specs.Model.Agreement.{State, Item, Agree, AreOutstanding, outstanding, with_bucket}
+use Rattle.gpu_descriptor.specs.Model.Books.{Key, key_eq, Entry, Bucket, HasDistinctKeys, entry_at}
 use Rattle.gpu_descriptor.specs.Model.Foreign.{KeepsForeign, LosesNone}
 use Rattle.gpu_descriptor.specs.Caller.Others.{others_of}
 use Rattle.gpu_descriptor.specs.Model.FreshPools.{fresh_entry, IsFreshFront}
 use Rattle.gpu_descriptor.specs.Caller.Frees.{GivesBack}
-use Rattle.gpu_descriptor.specs.Model.Grants.{Grant, entries_with, items_in, granted}
+use Rattle.gpu_descriptor.specs.Model.Grants.{Grant, IsGrantOf, bucket_with, items_in, granted}
 use Rattle.gpu_descriptor.specs.Inner.Grow.{IsTaken, StopsAt, stop_answer}
 use Rattle.gpu_descriptor.specs.Inner.Walk.{IsRefused, stop_rise}
 use Rattle.gpu_descriptor.specs.Model.Load.{allocated_in, marked_load}
@@ -29,7 +29,7 @@ use Rattle.gpu_descriptor.specs.Model.Runs.{runs}
 use Rattle.gpu_descriptor.specs.Caller.Sets.{item_of, items_of}
 use Rattle.gpu_descriptor.specs.Caller.States.{Agrees, state_of, table_of, keys_of, outstanding_of, marked_load_of, pool_load_of}
 use Rattle.gpu_descriptor.specs.Caller.Values.{Allocations}
-use Rattle.gpu_descriptor.specs.Inner.Walk.{KeepsKey, HasTaken, with_pools}
+use Rattle.gpu_descriptor.specs.Inner.Walk.{KeepsKey, HasTaken}
 use Rattle.gpu_descriptor.proofs.KeepState.{keeps_agree, keeps_given, keeps_outstanding}
 use Rattle.gpu_descriptor.proofs.Foreign.{entries_named, taken_apart, taken_foreign, taken_loses, freed_foreign, freed_loses, foreign_through, loses_through}
 use Rattle.gpu_descriptor.proofs.Exact.{key_exact}
@@ -42,14 +42,14 @@ use Rattle.gpu_descriptor.proofs.Requested.{load_is, pool_load_is, out_is}
 use Rattle.gpu_descriptor.proofs.Rollback.{give_back_rise, only_key, keys_table, unnamed_key, load_of_items}
 
 -- what a request took keeps the key's part of the agreement, wherever it stopped
-keeps_taken : (ended : Result (Unit {0}) Stop) (k : Key) (room n id first : ℕ) (items : List Item) (old new : List Entry) (l m : Ledger) → IsTaken ended k room n id first items old new l m → KeepsKey k id first items old new l.pools m.pools
-keeps_taken (Ok x) k room n id first items old new l m t = t.1.keeps
-keeps_taken (Err why) k room n id first items old new l m t = subst (KeepsKey k id first items old new l.pools) (sym t.4.pools) t.2.keeps
+keeps_taken : (ended : Result (Unit {0}) Stop) (k : Key) (room n : ℕ) (items : List Item) (old new : Bucket) (l m : Ledger) → IsTaken ended k room n items old new l m → KeepsKey k items old new l.pools m.pools
+keeps_taken (Ok x) k room n items old new l m t = t.1.keeps
+keeps_taken (Err why) k room n items old new l m t = subst (KeepsKey k items old new l.pools) (sym t.4.pools) t.2.keeps
 
 -- what it left of the key's pools
-entries_taken : (ended : Result (Unit {0}) Stop) (k : Key) (room n id first : ℕ) (items : List Item) (old new : List Entry) (l m : Ledger) → IsTaken ended k room n id first items old new l m → (g : Grant) × (new ≡ entries_with n g old)
-entries_taken (Ok x) k room n id first items old new l m t = (t.0, t.1.entries)
-entries_taken (Err why) k room n id first items old new l m t = (t.0, t.2.entries)
+bucket_taken : (ended : Result (Unit {0}) Stop) (k : Key) (room n : ℕ) (items : List Item) (old new : Bucket) (l m : Ledger) → IsTaken ended k room n items old new l m → (g : Grant) × (new ≡ bucket_with n g old) × IsGrantOf n old l.pools g
+bucket_taken (Ok x) k room n items old new l m t = (t.0, t.1.bucket, t.1.grant)
+bucket_taken (Err why) k room n items old new l m t = (t.0, t.2.bucket, t.2.grant)
 
 -- there was room where it stopped for another reason
 fits : {why : Stop} {one room : ℕ} → (why ≡ stop.Room) ↔ (room < one) → why ≢ stop.Room → one ≤ room
@@ -72,20 +72,29 @@ module _ {P S : Type 0} {name : P → ℕ} {set_name : S → ℕ} {k : Key} {cou
   abbrev room : ℕ
   room = old.limit - pool_load_of old
 
-  keeps : KeepsKey k t.id (s.books k).first items (s.books k).pools t.pools s.ledger after.pools
-  keeps = keeps_taken ended k room count t.id (s.books k).first items (s.books k).pools t.pools before after t.served.taken
+  keeps : KeepsKey k items (s.books k) t.bucket s.ledger after.pools
+  keeps = keeps_taken ended k room count items (s.books k) t.bucket before after t.served.taken
+
+  left : (g : Grant) × (t.bucket ≡ bucket_with count g (s.books k)) × IsGrantOf count (s.books k) s.ledger g
+  left = bucket_taken ended k room count items (s.books k) t.bucket before after t.served.taken
+
+  same_id : 0 < length (s.books k).pools → t.bucket.id ≡ (s.books k).id
+  same_id some = ap (λ (b : Bucket). b.id) left.1 ∙ left.2.id some
+
+  same_first : t.bucket.first ≡ (s.books k).first
+  same_first = ap (λ (b : Bucket). b.first) left.1
 
   -- books and ledger agree after it
   pub taken_agree : Agrees name new after
-  taken_agree = subst Agree (sym t.state) (keeps_agree k t.id items t.pools s after.pools agree t.served.kept keeps)
+  taken_agree = subst Agree (sym t.state) (keeps_agree k items t.bucket s after.pools agree same_id same_first keeps)
 
   -- and the sets may be given back
   pub taken_given : AreOutstanding items (state_of name new after)
-  taken_given = subst (AreOutstanding items) (sym t.state) (keeps_given k t.id items t.pools s after.pools agree t.served.kept keeps)
+  taken_given = subst (AreOutstanding items) (sym t.state) (keeps_given k items t.bucket s after.pools agree same_id same_first keeps)
 
   -- exactly these sets are outstanding besides
   pub taken_out : AreOutBesides items s (state_of name new after)
-  taken_out u = ap (λ (w : State). outstanding w u) t.state ∙ keeps_outstanding k t.id items t.pools s after.pools agree t.served.kept keeps u
+  taken_out u = ap (λ (w : State). outstanding w u) t.state ∙ keeps_outstanding k items t.bucket s after.pools agree same_id same_first keeps u
 
   pub taken_own : AreOfKey k items
   taken_own = λ u some. (keeps.of_key u some).0
@@ -98,36 +107,35 @@ module _ {P S : Type 0} {name : P → ℕ} {set_name : S → ℕ} {k : Key} {cou
         let apart : (m : ℕ) (d : Entry) → entry_at (s.books k) m ≡ Some d → d.pool ≢ e.pool = λ m d there same.
         let bad : true ≡ false = sym (ap (key_eq k) (sym (agree.distinct k l m n d e there at same).0) ∙ key_exact.self k) ∙ other in
         absurd (cc) in
-        ap (λ (w : State). w.ledger e.pool) t.state ∙ taken_apart k t.id items t.pools s after.pools keeps e.pool booked.0 apart booked.1);
+        ap (λ (w : State). w.ledger e.pool) t.state ∙ taken_apart k items t.bucket s after.pools same_first keeps e.pool booked.0 apart booked.1);
   }
 
   pub taken_leaves : KeepsForeign s (state_of name new after)
-  taken_leaves = subst (KeepsForeign s) (sym t.state) (taken_foreign k t.id items t.pools s after.pools keeps)
+  taken_leaves = subst (KeepsForeign s) (sym t.state) (taken_foreign k items t.bucket s after.pools same_first keeps)
 
   pub taken_loses_none : LosesNone s (state_of name new after)
   taken_loses_none =
-      let left = entries_taken ended k room count t.id (s.books k).first items (s.books k).pools t.pools before after t.served.taken in
       let g = left.0 in
-      subst (LosesNone s) (sym t.state) (taken_loses k t.id items t.pools s after.pools keeps (λ i e at.
+      subst (LosesNone s) (sym t.state) (taken_loses k items t.bucket s after.pools same_first keeps (λ i e at.
       let kept = entries_named g.left count g.refused (s.books k).pools (map fresh_entry g.fresh) i e at in
-      (kept.0, ap (λ (es : List Entry). slice_get es i) left.1 ∙ kept.1, kept.2)))
+      (kept.0, ap (λ (b : Bucket). slice_get b.pools i) left.1 ∙ kept.1, kept.2)))
 
   pub taken_others_of : others_of name new after ≡ others_of name old before
   taken_others_of = others_stay name old new before after taken_leaves taken_loses_none
 
-  pub proceeds : 0 < count → (last : Allocations P) (final : Ledger) (answer : Result (List Item) AllocationError) → Proceeds (call_of name k count old last before final answer)
-  proceeds some last final answer = record {
+  pub proceeds : HasDistinctKeys (table_of name old) → 0 < count → (last : Allocations P) (final : Ledger) (answer : Result (List Item) AllocationError) → Proceeds (call_of name k count old last before final answer)
+  proceeds distinct some last final answer = record {
     some = some;
-    limit = record { load = marked_load_of old; is_load = load_is name old before t.distinct; within = t.within };
-    bound = record { out = outstanding_of old; is_out = out_is name old before t.distinct; numbers = t.served.numbers; sets = t.fits };
+    limit = record { load = marked_load_of old; is_load = load_is name old before distinct; within = t.within };
+    bound = record { out = outstanding_of old; is_out = out_is name old before distinct; numbers = t.served.numbers; sets = t.fits };
   }
 
   -- ---- the sets went back
 
-  module _ (some : 0 < count) {last : Allocations P} {final : Ledger} (back : GivesBack name set_name sets (runs items) new last after final) where
+  module _ (distinct : HasDistinctKeys (table_of name old)) (still : HasDistinctKeys (table_of name new)) (some : 0 < count) {last : Allocations P} {final : Ledger} (back : GivesBack name set_name sets (runs items) new last after final) where
     -- which of the new allocator's pools go
     gone : pools_gone (keys_of new) items (given_back items (state_of name new after)) ≡ pools_gone (k ∷ []) items (given_back items (state_of name new after))
-    gone = ap (λ (keys : List Key). pools_gone keys items (given_back items (state_of name new after))) (keys_table name new.table) ∙ only_key k items (state_of name new after) (table_of name new) t.still (λ l. refl) taken_own
+    gone = ap (λ (keys : List Key). pools_gone keys items (given_back items (state_of name new after))) (keys_table name new.table) ∙ only_key k items (state_of name new after) (table_of name new) still (λ l. refl) taken_own
 
     went : (m : List Item) (u : State) → m ≡ items → u ≡ state_of name new after → final.counters ≡ risen (rollback_rise m k u) after.counters
     went m u is same = back.counters ∙ give_back_rise _ (runs items) after.counters ∙ (λ i. risen (record no_rise { released = runs (sym is i); destroyed = (gone ∙ (λ j. pools_gone (k ∷ []) (sym is j) (given_back (sym is j) (sym same j)))) i }) after.counters)
@@ -139,32 +147,29 @@ module _ {P S : Type 0} {name : P → ℕ} {set_name : S → ℕ} {k : Key} {cou
     abbrev Rolls : Stop → Type 0
     Rolls why = (o : Allocates (call (stop_answer why))) × (rolled_back o ≡ Some (items, state_of name new after))
 
-    module _ (why : Stop) (g : Grant) (between : Ledger) (taken : HasTaken k count t.id (s.books k).first g items (s.books k).pools t.pools before between) (refused : IsRefused why between after) where
-      now : (with_pools k t.id t.pools after.pools s ≡ granted k count g s) × (after.counters ≡ risen (stop_rise why) (risen (grant_rise count g (s.books k).pools) before.counters))
-      now = stopped_state k count why s t.id t.pools items before between after refl g taken refused
-
-      came : items_in k g.id g.parts ≡ items
-      came = ap (λ (i : ℕ). items_in k i g.parts) taken.named ∙ taken.came
+    module _ (why : Stop) (g : Grant) (between : Ledger) (taken : HasTaken k count g items (s.books k) t.bucket before between) (refused : IsRefused why between after) where
+      now : (with_bucket k t.bucket after.pools s ≡ granted k count g s) × (after.counters ≡ risen (stop_rise why) (risen (grant_rise count g (s.books k).pools) before.counters))
+      now = stopped_state k count why s t.bucket items before between after refl g taken refused
 
       is_back : (b : IsBack (call (stop_answer why)) g (stop_rise why) (stop_answer why)) × (Some (back_of b) ≡ Some (items, state_of name new after))
       is_back = (
         record {
-          taken = record { id = λ has. taken.named ∙ t.served.kept has; refusing = taken.refusing; parts = taken.parts; new = taken.is_new };
+          taken = taken.grant;
           answer = refl;
-          state = back.state ∙ (λ i. released (sym came i) ((t.state ∙ now.0) i));
-          counters = went (items_in k g.id g.parts) (granted k count g s) came (sym (t.state ∙ now.0)) ∙ ap (risen (rollback_rise (items_in k g.id g.parts) k (granted k count g s))) now.1;
+          state = back.state ∙ (λ i. released (sym taken.came i) ((t.state ∙ now.0) i));
+          counters = went (items_in k g.id g.parts) (granted k count g s) taken.came (sym (t.state ∙ now.0)) ∙ ap (risen (rollback_rise (items_in k g.id g.parts) k (granted k count g s))) now.1;
         },
-        λ i. Some (came i, sym (t.state ∙ now.0) i),
+        λ i. Some (taken.came i, sym (t.state ∙ now.0) i),
       )
 
       goes : Proceeds (call (stop_answer why))
-      goes = proceeds some last final _
+      goes = proceeds distinct some last final _
 
     -- a front of new pools came before it
     abbrev front_of : {g : Grant} → g.left ≡ 0 → IsFreshFront k room (allocated_in (all_shared g.refused count (s.books k).pools)) (rest g.refused count (s.books k).pools) g.fresh → IsFront (record { key = k; count = count; limit = old.limit }) s g
-    front_of all front = record { all = all; pooled = pool_load_of old; is_pooled = pool_load_is name old before t.distinct; front = front }
+    front_of all front = record { all = all; pooled = pool_load_of old; is_pooled = pool_load_is name old before distinct; front = front }
 
-    rolls : (why : Stop) (g : Grant) (between : Ledger) → HasTaken k count t.id (s.books k).first g items (s.books k).pools t.pools before between → StopsAt why k room count g (s.books k).pools → IsRefused why between after → Rolls why
+    rolls : (why : Stop) (g : Grant) (between : Ledger) → HasTaken k count g items (s.books k) t.bucket before between → StopsAt why k room count g (s.books k).pools → IsRefused why between after → Rolls why
     rolls (stop.Existing error) g between taken at refused =
         let b = is_back (stop.Existing error) g between taken refused in
         (stopped_at_pool (goes (stop.Existing error) g between taken refused) (record { grant = g; error = error; at = at; back = b.0 }), b.1)
@@ -183,7 +188,7 @@ module _ {P S : Type 0} {name : P → ℕ} {set_name : S → ℕ} {k : Key} {cou
 
     pub went_back : {why : Stop} → ended ≡ Err why → Rolls why
     went_back {why} is =
-        let taken = subst (λ (r : Result (Unit {0}) Stop). IsTaken r k room count t.id (s.books k).first items (s.books k).pools t.pools before after) is t.served.taken in
+        let taken = subst (λ (r : Result (Unit {0}) Stop). IsTaken r k room count items (s.books k) t.bucket before after) is t.served.taken in
         rolls why taken.0 taken.1 taken.2 taken.3 taken.4
 
   module _ {last : Allocations P} {final : Ledger} {calls : ℕ} (back : GivesBack name set_name sets calls new last after final) where
@@ -222,14 +227,14 @@ module _ {P S : Type 0} {name : P → ℕ} {set_name : S → ℕ} {k : Key} {cou
 
   -- ---- the sets are kept
 
-  all_of : {x : Unit {0}} → ended ≡ Ok x → IsTaken (Ok x) k room count t.id (s.books k).first items (s.books k).pools t.pools before after
-  all_of is = subst (λ (r : Result (Unit {0}) Stop). IsTaken r k room count t.id (s.books k).first items (s.books k).pools t.pools before after) is t.served.taken
+  all_of : {x : Unit {0}} → ended ≡ Ok x → IsTaken (Ok x) k room count items (s.books k) t.bucket before after
+  all_of is = subst (λ (r : Result (Unit {0}) Stop). IsTaken r k room count items (s.books k) t.bucket before after) is t.served.taken
 
   pub kept_many : {x : Unit {0}} → ended ≡ Ok x → length sets ≡ count
   kept_many is =
       let all = all_of is in
-      let many = grant_many k count _ _ (s.books k) all.0 all.1.parts all.2 all.3 in
-      let same = ap length (ap (λ (i : ℕ). items_in k i all.0.parts) all.1.named ∙ all.1.came) in
+      let many = grant_many k count _ _ (s.books k) all.0 all.1.grant.parts all.2 all.3 in
+      let same = ap length all.1.came in
       let long = length-map sets (λ (x : DescriptorSet S). item_of set_name x) in
       omega arith
 
@@ -238,5 +243,5 @@ module _ {P S : Type 0} {name : P → ℕ} {set_name : S → ℕ} {k : Key} {cou
       let many = kept_many is in
       (t.total ∙ ap (λ n. outstanding_of old + n) many, t.marked ∙ ap (λ n. marked_load_of old + marked_load k n) many)
 
-  pub kept : 0 < count → {x : Unit {0}} → ended ≡ Ok x → Allocates (call_of name k count old new before after (Ok items))
-  kept some is = done (proceeds some new after _) (is_done _ t.id t.pools items before after refl refl t.state refl (pool_load_of old) (pool_load_is name old before t.distinct) (all_of is) t.served.kept refl)
+  pub kept : HasDistinctKeys (table_of name old) → 0 < count → {x : Unit {0}} → ended ≡ Ok x → Allocates (call_of name k count old new before after (Ok items))
+  kept distinct some is = done (proceeds distinct some new after _) (is_done _ t.bucket items before after refl refl t.state refl (pool_load_of old) (pool_load_is name old before distinct) (all_of is) refl)

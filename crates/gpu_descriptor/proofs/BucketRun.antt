@@ -16,8 +16,10 @@ use Rattle.gpu_descriptor.specs.Inner.Releases.{IsTakenAt}
 use Rattle.gpu_descriptor.specs.Model.Release.{entry_less, pool_less}
 use Rattle.gpu_descriptor.specs.Inner.Stored.{entry_of}
 use Rattle.gpu_descriptor.proofs.LedgerPools.{taken_from, with_pool_same, with_pool_other, size_minus, only_these}
-use Rattle.gpu_descriptor.proofs.Turns.{bucket}
-use Rattle.gpu_descriptor.proofs.Sized.{size_of}
+use Rattle.gpu_descriptor.proofs.Exact.{bucket}
+use Rattle.gpu_descriptor.proofs.Fronts.{entry_at-found}
+use Rattle.std.proofs.Math.Logic.{∥∥₁_elim, ∥∥₁_map}
+use Rattle.std.proofs.Props.{props}
 
 -- what stands in a list with one place changed
 pub set_cases : {A : Type 0} (es : List A) (i : ℕ) (y : A) (j : ℕ) (d : A) → slice_get (set es i y) j ≡ Some d → ((j ≡ i) × (d ≡ y)) ⊎ ((j ≢ i) × (slice_get es j ≡ Some d))
@@ -50,11 +52,11 @@ pub record CanTake (k : Key) (names : List ℕ) (pools : ℕ → Option Pool) (e
 
 pub can_take : (k : Key) (number : ℕ) (names : List ℕ) (b : Bucket) (pools : ℕ → Option Pool) (e : Entry) → IsTakenAt k number names b pools → slice_get b.pools (number - b.first) ≡ Some e → CanTake k names pools e
 can_take k number names b pools e t at =
-    let same : t.entry ≡ e = (let p = t.at in let q : Some t.entry ≡ Some e = sym p ∙ at in cc) in
+    let same : t.entry ≡ e = (let p = (entry_at-found b number t.entry t.at).1 in let q : Some t.entry ≡ Some e = sym p ∙ at in cc) in
     rw (← same) (record { fits = t.fits; live = t.live })
 
 pub is_within : (k : Key) (number : ℕ) (names : List ℕ) (b : Bucket) (pools : ℕ → Option Pool) → IsTakenAt k number names b pools → number - b.first < length b.pools
-is_within k number names b pools t = slice_get_within b.pools (number - b.first) t.entry t.at
+is_within k number names b pools t = slice_get_within b.pools (number - b.first) t.entry (entry_at-found b number t.entry t.at).1
 
 -- ls are sets of these names, each live as often as it stands there
 pub record AreTaken (names : List ℕ) (live : LiveSet → ℕ) (ls : List LiveSet) : Type 0 where
@@ -101,9 +103,8 @@ stored_after k first es pools i e ls stored at within =
             let booked = stored.each i e at in
             let pool = booked.pool in
             let live : (x : LiveSet) → times ls x ≤ pool.live x = λ x. (let is : live_in pools e.pool x ≡ pool.live x = rw booked.is_live refl in let less = within x in omega arith) in
-            let size = size_minus pool.live e.allocated ls (size_of booked.booked) live in
             let room = booked.booked.room in
-            let fits = size.0 in
+            let fits : length ls ≤ e.allocated = ∥∥₁_elim booked.booked.allocated (search props) (λ size. (size_minus pool.live e.allocated ls size live).0) in
             let after : Pool = pool_less (times ls) pool in
             let is : IsAsBooked k after y = record {
               flags = booked.booked.flags;
@@ -112,7 +113,7 @@ stored_after k first es pools i e ls stored at within =
               capacity = booked.booked.capacity;
               counts = booked.booked.counts;
               sets = λ x some. booked.booked.sets x (omega arith);
-              allocated = ∣ size.1 ∣₁;
+              allocated = ∥∥₁_map booked.booked.allocated (λ size. (size_minus pool.live e.allocated ls size live).1);
               room = omega arith;
               full = λ none. (let whole = booked.booked.full none in omega arith);
             } in

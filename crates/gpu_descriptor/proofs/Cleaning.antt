@@ -1,7 +1,9 @@
 use Rattle.std.specs.Prelude.{if◌then◌else◌}
 -- Cleaning up: the whole empty front of each key goes.
 use Rattle.std.proofs.Common.{◌≡◌, ℕ, zero, suc, ◌==◌, ◌+◌, ◌-◌, ◌<◌, ◌≤◌, Bool, true, false, List, [], ◌∷◌, length, take, drop, count_by, slice_get, Option, Some, None, ◌⊎◌, inl, inr, refl, sym, ap, ◌∙◌, arith, eq-eqb, ne_eqb, length-drop}
+use Rattle.std.proofs.Math.Logic.{∥∥₁_elim}
 use Rattle.std.proofs.Math.Path.{fun_ext}
+use Rattle.std.proofs.Props.{props}
 use Rattle.std.specs.List.{list_any, prefix_len}
 use Rattle.std.proofs.lemmas.Bool.{cases_Bool, cases_eq, false_from_ne_true, or_left, or_right}
 use Rattle.std.proofs.lemmas.List.Sums.{prefix_len-le-length, sum_by-cons}
@@ -16,7 +18,6 @@ use Rattle.gpu_descriptor_types.proofs.Counting.{set_exact, count_by_yes, any_fo
 use Rattle.gpu_descriptor.proofs.Exact.{key_exact}
 use Rattle.gpu_descriptor.proofs.Places.{live_there_at, outstanding_at, outstanding_found, size_pos}
 use Rattle.gpu_descriptor.proofs.Kept.{if_none, front_found, cases_option}
-use Rattle.gpu_descriptor.proofs.Sized.{size_of}
 
 front_yes : (x : Entry) (es : List Entry) → is_empty x ≡ true → prefix_len is_empty (x ∷ es) ≡ suc (prefix_len is_empty es)
 front_yes x es h = rw h (omega arith)
@@ -74,15 +75,15 @@ again_none (k ∷ keys) s t clean =
     sum_by-cons (λ (l : Key). empty_front (t.books l)) k keys ∙ (λ i. here i + again_none keys s t clean i)
 
 -- a pool without live sets has none allocated
-none_live : (live : LiveSet → ℕ) (a : ℕ) → HasSize live a → ((name : LiveSet) → live name ≡ 0) → a ≡ 0
-none_live live a size none = elim size.0 as (λ xs. length xs ≡ a → ((name : LiveSet) → count_by (λ x. set_eq x name) xs ≡ live name) → a ≡ 0) [
+none_live : (live : LiveSet → ℕ) (a : ℕ) → ∥ HasSize live a ∥₁ → ((name : LiveSet) → live name ≡ 0) → a ≡ 0
+none_live live a some none = ∥∥₁_elim some (search props) (λ size. elim size.0 as (λ xs. length xs ≡ a → ((name : LiveSet) → count_by (λ x. set_eq x name) xs ≡ live name) → a ≡ 0) [
   | [] ↦ λ long counts. sym long
   | x ∷ xs ↦ λ long counts. (
       let own : count_by (λ y. set_eq y x) (x ∷ xs) ≡ suc (count_by (λ y. set_eq y x) xs) = count_by_yes (λ y. set_eq y x) x xs (set_exact.self x) in
       let is = counts x in
       let zero_live = none x in
       absurd (omega arith))
-] size.1 size.2
+] size.1 size.2)
 
 -- where each pool is empty, the front is the whole
 all_front : (es : List Entry) → ((i : ℕ) (e : Entry) → slice_get es i ≡ Some e → is_empty e ≡ true) → prefix_len is_empty es ≡ length es
@@ -105,7 +106,7 @@ whole_front s agree nothing k =
           let one : set_of t ≡ x = λ j. record { name = x.name; counts = sym counts j } in
           ap booked.0.live (sym one) ∙ sym (outstanding_at s t e booked.0 refl here booked.1) ∙ nothing t)
     ] in
-    eq-eqb e.allocated 0 (none_live booked.0.live e.allocated (size_of booked.2) zero_live))
+    eq-eqb e.allocated 0 (none_live booked.0.live e.allocated booked.2.allocated zero_live))
 
 pub nothing_left : CleanAll
 nothing_left s t agree nothing clean k = elim (cleaned_cases (s.books k)) [
@@ -217,7 +218,7 @@ takes_none s t agree clean x = elim (cases_option (entry_at (t.books x.key) x.nu
             let booked = agree.booked x.key x.number e here.1 in
             let live : live_in s.ledger e.pool (set_of x) ≡ booked.0.live (set_of x) = rw booked.1 refl in
             let above = here.2 in
-            let some : 0 < e.allocated = size_pos booked.0.live e.allocated (set_of x) (size_of booked.2) (omega arith) in
+            let some : 0 < e.allocated = size_pos booked.0.live e.allocated (set_of x) booked.2.allocated (omega arith) in
             let there = still_there (s.books x.key) x.number e here.1 (ne_eqb e.allocated 0 (λ bad. omega arith)) in
             absurd (let bad : ◌≡◌ {A = Option Entry} None (Some e) = sym missing ∙ ap (λ (b : Bucket). entry_at b x.number) (clean.books x.key) ∙ there in cc))
       ])

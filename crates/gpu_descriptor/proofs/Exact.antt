@@ -1,11 +1,11 @@
 -- Keys and items are equal exactly where their tests say so.
-use Rattle.std.proofs.Common.{◌≡◌, true, ◌&&◌, ◌==◌, refl, eqb-true, eq-eqb, nat_eq}
+use Rattle.std.proofs.Common.{◌≡◌, ℕ, List, true, ◌&&◌, ◌==◌, refl, eqb-true, eq-eqb, nat_eq}
 use Rattle.std.proofs.lemmas.Bool.{and_parts, and_from}
 use Rattle.std.proofs.lemmas.Bool.Decides.{Decides-eqb}
 use Rattle.std.specs.Cmp.{booleans_Decides}
 use lib.Pointwise.{pointwise, pointwise_decides}
 use mathlib.Core.Bool.{beq}
-use Rattle.gpu_descriptor.specs.Model.Books.{key_eq}
+use Rattle.gpu_descriptor.specs.Model.Books.{key_eq, Entry, Bucket}
 use Rattle.gpu_descriptor.specs.Model.Agreement.{Item, item_eq}
 use Rattle.gpu_descriptor_types.proofs.Counting.{IsExact}
 
@@ -36,3 +36,7 @@ item_exact = record {
   same = λ s t h. let p = item_parts s t h in λ i. record { key = p.0 i; id = p.3 i; number = p.1 i; name = p.2 i };
   self = λ s. item_from s s refl refl refl refl;
 }
+
+-- the pools of a key, with its id and the number of the first
+abbrev pub bucket : ℕ → ℕ → List Entry → Bucket
+bucket id first es = record { id = id; first = first; pools = es }

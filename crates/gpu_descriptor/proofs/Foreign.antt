@@ -7,7 +7,7 @@ use Rattle.std.specs.List.{list_any}
 use Rattle.std.specs.Prelude.{if◌then◌else◌}
 use Rattle.gpu_descriptor_types.specs.Ledger.{Pool, Ledger}
 use Rattle.gpu_descriptor_types.specs.Multiset.{LiveSet, set_eq}
-use Rattle.gpu_descriptor.specs.Model.Agreement.{State, Item, set_of}
+use Rattle.gpu_descriptor.specs.Model.Agreement.{State, Item, set_of, with_bucket}
 use Rattle.gpu_descriptor.specs.Model.Books.{Key, key_eq, Entry, Bucket, entry_at}
 use Rattle.gpu_descriptor.specs.Model.Foreign.{IsForeign, KeepsForeign, LosesNone}
 use Rattle.gpu_descriptor.specs.Model.Cleanup.{IsCleaned}
@@ -18,7 +18,7 @@ use Rattle.gpu_descriptor.specs.Model.Shares.{all_shared, shared}
 use Rattle.gpu_descriptor.specs.Caller.Sets.{items_of}
 use Rattle.gpu_descriptor.specs.Caller.States.{state_of}
 use Rattle.gpu_descriptor.specs.Caller.Values.{Allocations}
-use Rattle.gpu_descriptor.specs.Inner.Walk.{KeepsKey, with_pools}
+use Rattle.gpu_descriptor.specs.Inner.Walk.{KeepsKey}
 use Rattle.gpu_descriptor.proofs.Exact.{key_exact}
 use Rattle.gpu_descriptor.proofs.Fronts.{entry_at-found, entry_at-from, slice_get-drop}
 use Rattle.gpu_descriptor.proofs.Kept.{front_found, none_back}
@@ -155,15 +155,15 @@ none_named : {name : ℕ} (es : List Entry) → ((i : ℕ) (e : Entry) → slice
 none_named [] apart = refl
 none_named {name} (e ∷ es) apart = or_from (e.pool == name) (list_any (λ e. e.pool == name) es) (ne_eqb e.pool name (apart 0 e refl)) (none_named es (λ i c there. apart (suc i) c there))
 
-module _ (k : Key) (id : ℕ) (items : List Item) (new : List Entry) (s : State) (after : ℕ → Option Pool) (h : KeepsKey k id (s.books k).first items (s.books k).pools new s.ledger after) where
+module _ (k : Key) (items : List Item) (new : Bucket) (s : State) (after : ℕ → Option Pool) (same_first : new.first ≡ (s.books k).first) (h : KeepsKey k items (s.books k) new s.ledger after) where
   abbrev t : State
-  t = with_pools k id new after s
+  t = with_bucket k new after s
 
   -- the key's own pools don't have the name
   abbrev IsApart : ℕ → Type 0
   IsApart name = (n : ℕ) (e : Entry) → entry_at (s.books k) n ≡ Some e → e.pool ≢ name
 
-  own_apart : (name : ℕ) (pool : Pool) → IsApart name → s.ledger name ≡ Some pool → (i : ℕ) (e : Entry) → slice_get new i ≡ Some e → e.pool ≢ name
+  own_apart : (name : ℕ) (pool : Pool) → IsApart name → s.ledger name ≡ Some pool → (i : ℕ) (e : Entry) → slice_get new.pools i ≡ Some e → e.pool ≢ name
   own_apart name pool apart live i e at same = elim (h.named i e at) [
     | inl old ↦ (
         let found = pool_found e.pool (s.books k).pools old in
@@ -174,15 +174,14 @@ module _ (k : Key) (id : ℕ) (items : List Item) (new : List Entry) (s : State)
 
   -- a live pool that is none of the key's stays
   pub taken_apart : (name : ℕ) (pool : Pool) → IsApart name → s.ledger name ≡ Some pool → after name ≡ s.ledger name
-  taken_apart name pool apart live = h.others name (none_named new (own_apart name pool apart live))
+  taken_apart name pool apart live = h.others name (none_named new.pools (own_apart name pool apart live))
 
   still_foreign : (name : ℕ) (pool : Pool) → IsForeign s name → s.ledger name ≡ Some pool → IsForeign t name
   still_foreign name pool foreign live l n e at same = elim (cases_Bool (key_eq k l)) [
     | inl own ↦ (
-        let b : Bucket = record (s.books l) { id = id; pools = new } in
-        let here : t.books l ≡ b = rw own refl in
-        let f = entry_at-found b n e (ap (λ (x : Bucket). entry_at x n) (sym here) ∙ at) in
-        own_apart name pool (foreign k) live (n - b.first) e f.1 same)
+        let here : t.books l ≡ new = rw own refl in
+        let f = entry_at-found new n e (ap (λ (x : Bucket). entry_at x n) (sym here) ∙ at) in
+        own_apart name pool (foreign k) live (n - new.first) e f.1 same)
     | inr other ↦ (
         let here : t.books l ≡ s.books l = rw other refl in
         foreign l n e (ap (λ (x : Bucket). entry_at x n) (sym here) ∙ at) same)
@@ -193,33 +192,32 @@ module _ (k : Key) (id : ℕ) (items : List Item) (new : List Entry) (s : State)
 
   -- a pool of the key keeps its name
   abbrev pub KeepsNames : Type 0
-  KeepsNames = (i : ℕ) (e : Entry) → slice_get (s.books k).pools i ≡ Some e → (d : Entry) × (slice_get new i ≡ Some d) × (d.pool ≡ e.pool)
+  KeepsNames = (i : ℕ) (e : Entry) → slice_get (s.books k).pools i ≡ Some e → (d : Entry) × (slice_get new.pools i ≡ Some d) × (d.pool ≡ e.pool)
 
   -- the key's books
-  own_books : (l : Key) → key_eq k l ≡ true → t.books l ≡ record (s.books l) { id = id; pools = new }
+  own_books : (l : Key) → key_eq k l ≡ true → t.books l ≡ new
   own_books l own = rw own refl
 
   pub taken_loses : KeepsNames → LosesNone s t
   taken_loses names name pool foreign live = (
-    sym (h.others name (none_named new (λ i e at same. foreign k ((s.books k).first + i) e (ap (λ (b : Bucket). entry_at b ((s.books k).first + i)) (own_books k (key_exact.self k)) ∙ place i e at) same))) ∙ live,
+    sym (h.others name (none_named new.pools (λ i e at same. foreign k (new.first + i) e (ap (λ (b : Bucket). entry_at b (new.first + i)) (own_books k (key_exact.self k)) ∙ place i e at) same))) ∙ live,
     (λ l n e at same. elim (cases_Bool (key_eq k l)) [
       | inl own ↦ (
           let b : Bucket = s.books l in
           let is : k ≡ l = key_exact.same k l own in
           let found = entry_at-found b n e at in
           let kept = names (n - b.first) e (ap (λ (x : Key). slice_get (s.books x).pools (n - b.first)) is ∙ found.1) in
-          let c : Bucket = record b { pools = new } in
-          foreign l n kept.0 (ap (λ (x : Bucket). entry_at x n) (own_books l own) ∙ entry_at-from c n kept.0 found.0 kept.1) (kept.2 ∙ same))
+          let first : new.first ≡ b.first = same_first ∙ ap (λ (x : Key). (s.books x).first) is in
+          let above = found.0 in
+          foreign l n kept.0 (ap (λ (x : Bucket). entry_at x n) (own_books l own) ∙ entry_at-from new n kept.0 (omega arith) (ap (λ f. slice_get new.pools (n - f)) first ∙ kept.1)) (kept.2 ∙ same))
       | inr other ↦ (
           let here : t.books l ≡ s.books l = rw other refl in
           foreign l n e (ap (λ (x : Bucket). entry_at x n) here ∙ at) same)
     ]),
   )
     where
-      place : (i : ℕ) (e : Entry) → slice_get new i ≡ Some e → entry_at (record (s.books k) { id = id; pools = new }) ((s.books k).first + i) ≡ Some e
-      place i e at =
-          let b : Bucket = record (s.books k) { id = id; pools = new } in
-          entry_at-from b (b.first + i) e (omega arith) (ap (slice_get new) (let n : b.first + i - b.first ≡ i = omega arith in n) ∙ at)
+      place : (i : ℕ) (e : Entry) → slice_get new.pools i ≡ Some e → entry_at new (new.first + i) ≡ Some e
+      place i e at = entry_at-from new (new.first + i) e (omega arith) (ap (slice_get new.pools) (let n : new.first + i - new.first ≡ i = omega arith in n) ∙ at)
 
 -- pools that a request takes from keep their places and names
 shared_named : (refused : ℕ → Bool) (n : ℕ) (es rest : List Entry) (i : ℕ) (e : Entry) → slice_get es i ≡ Some e → (d : Entry) × (slice_get (all_shared refused n es ++ rest) i ≡ Some d) × (d.pool ≡ e.pool)

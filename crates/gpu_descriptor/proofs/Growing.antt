@@ -11,7 +11,7 @@ use Rattle.std.specs.List.{list_any}
 use Rattle.std.specs.Map.{update}
 use Rattle.std.specs.Prelude.{if◌then◌else◌, option_map}
 use Rattle.gpu_descriptor.specs.Model.Agreement.{Item, flags_of}
-use Rattle.gpu_descriptor.specs.Model.Books.{Key, Entry}
+use Rattle.gpu_descriptor.specs.Model.Books.{Key, Entry, Bucket}
 use Rattle.gpu_descriptor.specs.Model.FreshPools.{Fresh, fresh_portions, fresh_entry, given_by, IsNextSize, room_after, AreSized, AreFull, AreNew, IsFreshFront, IsFreshList}
 use Rattle.gpu_descriptor.specs.Model.Grants.{Grant, Part, items_at, items_in, portion_of, came, pool_with, ledger_with, entries_with, fresh_or}
 use Rattle.gpu_descriptor.specs.Inner.Grow.{IsGrown, IsTaken, NoneIsNew, StopsAt}
@@ -22,12 +22,13 @@ use Rattle.gpu_descriptor.specs.Model.Outcomes.{risen, grant_rise}
 use Rattle.gpu_descriptor.specs.Model.Shares.{offer, rest, share, shared, all_shared, Portion, portions_of}
 use Rattle.gpu_descriptor.specs.Inner.Buckets.{AreBookedIn}
 use Rattle.gpu_descriptor.specs.Inner.Walk.{HasTaken, KeepsKey, IsWalked}
-use Rattle.gpu_descriptor_types.specs.Ledger.{Pool, Ledger, Counters, live_sets, changed, on_pool, no_rise}
+use Rattle.gpu_descriptor_types.specs.Ledger.{Pool, Ledger, live_sets, changed, no_rise}
 use Rattle.gpu_descriptor_types.specs.PoolSize.{pool_counts}
 use Rattle.gpu_descriptor_types.specs.Ledger as ledgers
 use Rattle.gpu_descriptor.specs.Model.FreshPools as grants
 use Rattle.gpu_descriptor.specs.declared.bucket.take.Stop.{Stop}
 use Rattle.gpu_descriptor.proofs.NextSize.{room_more}
+use Rattle.gpu_descriptor.proofs.Exact.{bucket}
 use Rattle.gpu_descriptor.proofs.KeepSteps.{keeps_grown}
 use Rattle.gpu_descriptor.proofs.Asks.{same_counters}
 use Rattle.gpu_descriptor.proofs.Shares.{IsApart, apart_from, not_refused}
@@ -46,7 +47,7 @@ pub record Growing (k : Key) (start n id first room total wanting : ℕ) (items 
   pub room_now : room ≡ room_after k start fresh
   pub full : 0 < wanting → AreFull fresh
   pub list : wanting ≡ 0 → IsFreshList k start (allocated_in (all_shared refused n old)) (rest refused n old) fresh
-  pub taken : HasTaken k n id first (all_so_far id refused fresh parts) items old new l m
+  pub taken : HasTaken k n (all_so_far id refused fresh parts) items (bucket id first old) (bucket id first new) l m
 
 pub length-all_shared : (refused : ℕ → Bool) (n : ℕ) (es : List Entry) → length (all_shared refused n es) ≡ length es
 length-all_shared refused n [] = refl
@@ -55,7 +56,7 @@ length-all_shared refused n (e ∷ es) = ap suc (length-all_shared refused n es)
 -- there is one pool more for each new one
 pub grown_long : (k : Key) (start n id first room total wanting : ℕ) (items : List Item) (old new : List Entry) (l m : Ledger) → (s : Growing k start n id first room total wanting items old new l m) → length new ≡ length old + length s.fresh
 grown_long k start n id first room total wanting items old new l m s =
-    ap length s.taken.entries
+    ap (λ (b : Bucket). length b.pools) s.taken.bucket
     ∙ length-append (all_shared s.refused n old) (map fresh_entry s.fresh)
     ∙ (let a = length-all_shared s.refused n old in let b = length-map s.fresh fresh_entry in omega arith)
 
@@ -172,11 +173,11 @@ module _ (k : Key) (start n id first room left total wanting : ℕ) (items : Lis
   apart = apart_from q old (λ j e at same. (let b = booked.each j e at in let none = none_before.1 in let is : l.pools q ≡ Some b.pool = ap l.pools (sym same) ∙ b.is_live in let bad : ◌≡◌ {A = Option Pool} None (Some b.pool) = sym none ∙ is in absurd (cc)))
 
   not_yet : s.refused q ≡ false
-  not_yet = not_refused s.refused n q old apart s.taken.refusing
+  not_yet = not_refused s.refused n q old apart s.taken.grant.refusing
 
   none_came : came s.parts q ≡ []
   none_came = came_none q s.parts
-      (ap (list_any (λ (r : Portion). r.pool == q)) s.taken.parts
+      (ap (list_any (λ (r : Portion). r.pool == q)) s.taken.grant.parts
       ∙ list_any-append (λ (r : Portion). r.pool == q) (portions_of s.refused n (first + 0) old) (fresh_portions (first + length old) s.fresh)
       ∙ ap (λ x. x || list_any (λ (r : Portion). r.pool == q) (fresh_portions (first + length old) s.fresh)) (rows_apart s.refused n q (first + 0) old apart)
       ∙ fresh_rows_apart q (first + length old) s.fresh none_before.0)
@@ -210,14 +211,14 @@ module _ (k : Key) (start n id first room left total wanting : ℕ) (items : Lis
   rows_now : map portion_of parts_now ≡ portions_of s.refused n (first + 0) old ++ fresh_portions (first + length old) fresh_now
   rows_now =
       map-append portion_of s.parts (part_now ∷ [])
-      ∙ ap (λ x. x ++ portion_of part_now ∷ []) s.taken.parts
+      ∙ ap (λ x. x ++ portion_of part_now ∷ []) s.taken.grant.parts
       ∙ append_assoc (portions_of s.refused n (first + 0) old) (fresh_portions (first + length old) s.fresh) (portion_of part_now ∷ [])
       ∙ ap (λ x. portions_of s.refused n (first + 0) old ++ x) (ap (λ g. fresh_portions (first + length old) s.fresh ++ record { number = first + length old + length s.fresh; pool = q; given = g } ∷ []) many ∙ sym (fresh_rows_more (first + length old) s.fresh f))
 
   entries_now : new' ≡ entries_with n (all_so_far id s.refused fresh_now parts_now) old
   entries_now =
       a.entries
-      ∙ ap (λ x. x ++ fresh_entry f ∷ []) s.taken.entries
+      ∙ ap (λ (b : Bucket). b.pools ++ fresh_entry f ∷ []) s.taken.bucket
       ∙ append_assoc (all_shared s.refused n old) (map fresh_entry s.fresh) (fresh_entry f ∷ [])
       ∙ ap (λ x. all_shared s.refused n old ++ x) (sym (map-append fresh_entry s.fresh (f ∷ [])))
 
@@ -248,23 +249,21 @@ module _ (k : Key) (start n id first room left total wanting : ℕ) (items : Lis
         full = λ still. full_more s.fresh f (s.full some) (let y = many in omega arith);
         list = λ none. grants.some s.fresh f refl (record { sized = s.sized; full = s.full some; short = (let w = s.wants in omega arith) }) sized_now (omega arith) (let w = s.wants in let y = many in omega arith);
         taken = record {
-          named = refl;
+          grant = record { id = λ some. refl; refusing = s.taken.grant.refusing; parts = rows_now; new = new_more l.pools s.fresh f s.taken.grant.new none_before.0 none_before.1 };
           came = flat_map-append (λ (p : Part). items_at k id p.number p.names) s.parts (part_now ∷ []) ∙ ap (λ x. items_in k id s.parts ++ x) (append-nil (items_at k id (first + length old + length s.fresh) more)) ∙ ap (λ x. x ++ items_at k id (first + length old + length s.fresh) more) s.taken.came;
-          keeps = subst (λ (n : ℕ). KeepsKey k id first (items ++ items_at k id n more) old new' l.pools m'.pools) number (keeps_grown k id first room left total wanting items old new new' l.pools more m m' s.taken.keeps a);
-          refusing = s.taken.refusing;
-          parts = rows_now;
-          is_new = new_more l.pools s.fresh f s.taken.is_new none_before.0 none_before.1;
-          entries = entries_now;
+          keeps = subst (λ (n : ℕ). KeepsKey k (items ++ items_at k id n more) (bucket id first old) (bucket id first new') l.pools m'.pools) number (keeps_grown k id first room left total wanting items old new new' l.pools more m m' s.taken.keeps a);
+          bucket = ap (bucket id first) entries_now;
           pools = pools_now;
           counters = counters_now;
         };
       }
 
-pub grow_start : (k : Key) (start n id first total wanting : ℕ) (items : List Item) (old new : List Entry) (l m : Ledger) → IsWalked k n id first wanting items old new l m → total + wanting ≡ allocated_in old + n → Growing k start n id first start total wanting items old new l m
+pub grow_start : (k : Key) (start n id first total wanting : ℕ) (items : List Item) (old new : List Entry) (l m : Ledger) → IsWalked k n wanting items (bucket id first old) (bucket id first new) l m → total + wanting ≡ allocated_in old + n → Growing k start n id first start total wanting items old new l m
 grow_start k start n id first total wanting items old new l m w totals =
     let g = w.grant in
     let wants = w.wants in
-    let grant : g ≡ all_so_far id g.refused [] g.parts = (λ i. record { id = w.taken.named i; left = w.all i; refused = g.refused; fresh = w.no_fresh i; parts = g.parts }) in
+    let named : id ≡ g.id = ap (λ (b : Bucket). b.id) w.taken.bucket in
+    let grant : g ≡ all_so_far id g.refused [] g.parts = (λ i. record { id = sym named i; left = w.all i; refused = g.refused; fresh = w.no_fresh i; parts = g.parts }) in
     record {
       refused = g.refused;
       parts = g.parts;
@@ -275,13 +274,13 @@ grow_start k start n id first total wanting items old new l m w totals =
       room_now = refl;
       full = λ some. tt;
       list = λ none. grants.none (omega arith) refl;
-      taken = subst (λ (g : Grant). HasTaken k n id first g items old new l m) grant w.taken;
+      taken = subst (λ (g : Grant). HasTaken k n g items (bucket id first old) (bucket id first new) l m) grant w.taken;
     }
 
-pub grow_end : (k : Key) (start n id first room total : ℕ) (items : List Item) (old new : List Entry) (l m : Ledger) → Growing k start n id first room total 0 items old new l m → (done : Unit {0}) → IsTaken (Ok done) k start n id first items old new l m
+pub grow_end : (k : Key) (start n id first room total : ℕ) (items : List Item) (old new : List Entry) (l m : Ledger) → Growing k start n id first room total 0 items old new l m → (done : Unit {0}) → IsTaken (Ok done) k start n items (bucket id first old) (bucket id first new) l m
 grow_end k start n id first room total items old new l m s done = (all_so_far id s.refused s.fresh s.parts, s.taken, refl, s.list refl)
 
-pub grow_stop : (why : Stop) (k : Key) (start n id first room total wanting : ℕ) (items : List Item) (old new : List Entry) (l m m' : Ledger) → 0 < wanting → Growing k start n id first room total wanting items old new l m → IsRefused why m m' → NoneIsNew why k room → IsTaken (Err why) k start n id first items old new l m'
+pub grow_stop : (why : Stop) (k : Key) (start n id first room total wanting : ℕ) (items : List Item) (old new : List Entry) (l m m' : Ledger) → 0 < wanting → Growing k start n id first room total wanting items old new l m → IsRefused why m m' → NoneIsNew why k room → IsTaken (Err why) k start n items (bucket id first old) (bucket id first new) l m'
 grow_stop why k start n id first room total wanting items old new l m m' some s refused in_room = (
   all_so_far id s.refused s.fresh s.parts,
   m,
@@ -298,15 +297,15 @@ grow_stop why k start n id first room total wanting items old new l m m' some s 
     stops_at (stop.New e) front none = (refl, front, none)
 
 -- a walk leaves as many pools
-pub walked_long : (k : Key) (n id first wanting : ℕ) (items : List Item) (old new : List Entry) (l m : Ledger) → IsWalked k n id first wanting items old new l m → length new ≡ length old
-walked_long k n id first wanting items old new l m w =
+pub walked_long : (k : Key) (n wanting : ℕ) (items : List Item) (old new : Bucket) (l m : Ledger) → IsWalked k n wanting items old new l m → length new.pools ≡ length old.pools
+walked_long k n wanting items old new l m w =
     let g = w.grant in
-    let shares : List Entry = all_shared g.refused n old in
-    ap length w.taken.entries
-    ∙ ap (λ i. length (take i old ++ all_shared g.refused n (drop i old) ++ map fresh_entry g.fresh)) w.all
+    let shares : List Entry = all_shared g.refused n old.pools in
+    ap (λ (b : Bucket). length b.pools) w.taken.bucket
+    ∙ ap (λ i. length (take i old.pools ++ all_shared g.refused n (drop i old.pools) ++ map fresh_entry g.fresh)) w.all
     ∙ ap (λ fs. length (shares ++ map fresh_entry fs)) w.no_fresh
     ∙ ap length (append-nil shares)
-    ∙ length-all_shared g.refused n old
+    ∙ length-all_shared g.refused n old.pools
 
 -- ---- the descriptors of a key's pools, as a request goes on
 
@@ -331,8 +330,8 @@ load_split k refused n (suc i) (e ∷ es) =
     omega arith
 
 -- a walk leaves it
-pub load_walked : (k : Key) (n id first : ℕ) (g : Grant) (old new : List Entry) (l m : Ledger) (items : List Item) → HasTaken k n id first g items old new l m → g.fresh ≡ [] → pools_load k new ≡ pools_load k old
-load_walked k n id first g old new l m items taken none =
-    let shares : List Entry = take g.left old ++ all_shared g.refused n (drop g.left old) in
-    let all : new ≡ shares ++ [] = taken.entries ∙ ap (λ fs. shares ++ map fresh_entry fs) none in
-    ap (pools_load k) (all ∙ append-nil shares) ∙ load_split k g.refused n g.left old
+pub load_walked : (k : Key) (n : ℕ) (g : Grant) (old new : Bucket) (l m : Ledger) (items : List Item) → HasTaken k n g items old new l m → g.fresh ≡ [] → pools_load k new.pools ≡ pools_load k old.pools
+load_walked k n g old new l m items taken none =
+    let shares : List Entry = take g.left old.pools ++ all_shared g.refused n (drop g.left old.pools) in
+    let all : new.pools ≡ shares ++ [] = ap (λ (b : Bucket). b.pools) taken.bucket ∙ ap (λ fs. shares ++ map fresh_entry fs) none in
+    ap (pools_load k) (all ∙ append-nil shares) ∙ load_split k g.refused n g.left old.pools

@@ -58,11 +58,11 @@ module _ {P S : Type 0} {name : P → ℕ} {set_name : S → ℕ} {k : Key} {cou
       }
 
 module _ {P S : Type 0} {name : P → ℕ} {set_name : S → ℕ} {k : Key} {count : ℕ} (sets : Vec (DescriptorSet S)) {ended : Result (Unit {0}) Stop} {old new : Allocations P} {before after : Ledger}
-    (t : Takes name set_name k count sets.items ended old new before after) (agree : Agrees name old before) (keys : StayOrGainLast k (keys_of old) (keys_of new))
+    (t : Takes name set_name k count sets.items ended old new before after) (agree : Agrees name old before) (distinct : HasDistinctKeys (table_of name old)) (keys : StayOrGainLast k (keys_of old) (keys_of new))
     (looks : new.looks + before.counters.asked ≡ old.looks + after.counters.asked) (comparisons : new.comparisons ≡ old.comparisons) (some : 0 < count) where
   pub hands_all : {x : Unit {0}} → ended ≡ Ok x → HandsOut name set_name k count (Ok sets) old new before after
   hands_all is =
-      let outcome = kept t agree some is in
+      let outcome = kept t agree distinct some is in
       record {
         outcome = outcome;
         nothing = λ zero. absurd (omega arith);
@@ -84,9 +84,9 @@ module _ {P S : Type 0} {name : P → ℕ} {set_name : S → ℕ} {k : Key} {cou
       }
 
   -- the sets went back
-  pub hands_back : {last : Allocations P} {final : Ledger} → Returns name set_name sets.items new last after final → {why : Stop} → ended ≡ Err why → HandsOut name set_name k count (Err (stop_answer why)) old last before final
-  hands_back r is =
-      let went = went_back t agree some r.back is in
+  pub hands_back : {last : Allocations P} {final : Ledger} → HasDistinctKeys (table_of name new) → Returns name set_name sets.items new last after final → {why : Stop} → ended ≡ Err why → HandsOut name set_name k count (Err (stop_answer why)) old last before final
+  hands_back still r is =
+      let went = went_back t agree distinct still some r.back is in
       let outcome = went.0 in
       let asked = ap (λ (c : Counters). c.asked) r.back.counters in
       record {

@@ -1,11 +1,11 @@
 -- What a request takes of a key's pools leaves books and ledger of the key in agreement.
-use Rattle.std.proofs.Common.{◌≡◌, ◌≢◌, ℕ, zero, suc, ◌+◌, ◌-◌, ◌<◌, ◌≤◌, min, ◌==◌, ◌&&◌, ◌||◌, inl, inr, List, [], ◌∷◌, ◌++◌, length, slice_set, Bool, true, false, Option, Some, None, refl, sym, ap, ◌∙◌, arith, eqb-true, eq-eqb, length-append}
-use Rattle.std.proofs.lemmas.Bool.{cases_Bool, cases_lt, or_left, or_right}
+use Rattle.std.proofs.Common.{◌≡◌, ◌≢◌, ℕ, zero, suc, ◌+◌, ◌-◌, ◌<◌, ◌≤◌, min, ◌==◌, ◌&&◌, ◌||◌, inl, inr, List, [], ◌∷◌, ◌++◌, length, slice_set, Bool, true, false, Option, Some, refl, sym, ap, ◌∙◌, arith, eqb-true, eq-eqb, length-append}
+use Rattle.std.proofs.lemmas.Bool.{cases_Bool, cases_lt}
 use Rattle.std.proofs.lemmas.List.{length-map}
 use Rattle.std.proofs.lemmas.List.Sums.{sum_by-cons}
 use Rattle.std.proofs.lemmas.Map.{update_here}
 use Rattle.std.specs.List.{slice_get, list_any}
-use Rattle.std.specs.Prelude.{if◌then◌else◌, ◌⊎◌}
+use Rattle.std.specs.Prelude.{if◌then◌else◌}
 use Rattle.gpu_descriptor_types.specs.Ledger.{Pool, Ledger, live_sets, changed, on_pool}
 use Rattle.gpu_descriptor_types.specs.Multiset.{LiveSet, set_eq, times}
 use Rattle.gpu_descriptor_types.proofs.Counting.{count_by_yes, count_by_no, set_exact, times-append}
@@ -15,8 +15,9 @@ use Rattle.gpu_descriptor.specs.Model.Grants.{items_at, pool_with}
 use Rattle.gpu_descriptor.specs.Model.Load.{allocated_in}
 use Rattle.gpu_descriptor.specs.Inner.Buckets.{IsBookedIn}
 use Rattle.gpu_descriptor.specs.Inner.Walk.{IsAsked}
+use Rattle.gpu_descriptor.proofs.AtPlaces.{none_at}
 use Rattle.gpu_descriptor.proofs.Exact.{item_exact, item_from}
-use Rattle.gpu_descriptor.proofs.Sized.{size_of}
+use Rattle.std.proofs.Math.Logic.{∥∥₁_map}
 
 -- a set that stands among sets of these counts has them
 pub counts_of_live : (counts names : List ℕ) (x : LiveSet) → 0 < times (live_sets counts names) x → x.counts ≡ counts
@@ -30,7 +31,7 @@ counts_of_live counts (n ∷ names) x some =
 
 -- the pool once sets of the key came out of it, and it may have refused
 pub pool_booked : (k : Key) (pool : Pool) (e f : Entry) (names : List ℕ) (refused : Bool) → IsAsBooked k pool e → f.capacity ≡ e.capacity → f.allocated ≡ e.allocated + length names → f.allocated + f.free ≤ e.allocated + e.free → (refused ≡ false → f.allocated + f.free ≡ e.allocated + e.free) → IsAsBooked k (pool_with (live_sets k.counts names) refused pool) f
-pool_booked k pool e f names refused b same more room whole = let size = size_of b in record {
+pool_booked k pool e f names refused b same more room whole = record {
   flags = b.flags;
   at_least = b.at_least;
   small = b.small;
@@ -40,11 +41,11 @@ pool_booked k pool e f names refused b same more room whole = let size = size_of
     | inl was ↦ b.sets x was
     | inr none ↦ counts_of_live k.counts names x (omega arith)
   ];
-  allocated = ∣ (
+  allocated = ∥∥₁_map b.allocated (λ size. (
     size.0 ++ live_sets k.counts names,
     (let a = length-append size.0 (live_sets k.counts names) in let n = length-map names (λ (n : ℕ). let s : LiveSet = record { name = n; counts = k.counts } in s) in let was = size.1 in omega arith),
     (λ x. times-append size.0 (live_sets k.counts names) x ∙ ap (λ n. n + times (live_sets k.counts names) x) (size.2 x)),
-  ) ∣₁;
+  ));
   room = (let r = b.room in omega arith);
   full = by_test refused whole;
 }
@@ -82,36 +83,8 @@ asked_booked k wanted names e f l m b a =
 
 -- ---- lists
 
-pub any_at : (es : List Entry) (i : ℕ) (e : Entry) → slice_get es i ≡ Some e → list_any (λ d. d.pool == e.pool) es ≡ true
-any_at [] i e at = absurd (cc)
-any_at (x ∷ es) zero e at = (let same : x ≡ e = cc in or_left _ _ (eq-eqb x.pool e.pool (ap (λ (y : Entry). y.pool) same)))
-any_at (x ∷ es) (suc i) e at = or_right _ _ (any_at es i e at)
-
 pub not_any : (q : ℕ) (es : List Entry) (i : ℕ) (e : Entry) → list_any (λ d. d.pool == q) es ≡ false → slice_get es i ≡ Some e → e.pool ≢ q
-not_any q es i e none at same = (let some : list_any (λ d. d.pool == q) es ≡ true = ap (λ n. list_any (λ (d : Entry). d.pool == n) es) (sym same) ∙ any_at es i e at in let bad : false ≡ true = sym none ∙ some in absurd (cc))
-
--- what stands at a place after a write
-pub set_got : {A : Type 0} (xs : List A) (i : ℕ) (x : A) (j : ℕ) (y : A) → slice_get (slice_set xs i x) j ≡ Some y → ((j ≡ i) × (y ≡ x)) ⊎ ((j ≢ i) × (slice_get xs j ≡ Some y))
-set_got [] i x j y at = absurd (cc)
-set_got (z ∷ xs) zero x zero y at = inl (refl, (let e : x ≡ y = cc in sym e))
-set_got (z ∷ xs) zero x (suc j) y at = inr ((λ e. omega arith), at)
-set_got (z ∷ xs) (suc i) x zero y at = inr ((λ e. omega arith), at)
-set_got (z ∷ xs) (suc i) x (suc j) y at = elim (set_got xs i x j y at) [
-  | inl here ↦ inl (ap suc here.0, here.1)
-  | inr other ↦ inr ((λ e. other.0 (omega arith)), other.1)
-]
-
-pub set_here : {A : Type 0} (xs : List A) (i : ℕ) (x y : A) → slice_get xs i ≡ Some y → slice_get (slice_set xs i x) i ≡ Some x
-set_here [] i x y at = absurd (cc)
-set_here (z ∷ xs) zero x y at = refl
-set_here (z ∷ xs) (suc i) x y at = set_here xs i x y at
-
-pub set_there : {A : Type 0} (xs : List A) (i : ℕ) (x : A) (j : ℕ) → j ≢ i → slice_get (slice_set xs i x) j ≡ slice_get xs j
-set_there [] i x j ne = refl
-set_there (z ∷ xs) zero x zero ne = absurd (ne refl)
-set_there (z ∷ xs) zero x (suc j) ne = refl
-set_there (z ∷ xs) (suc i) x zero ne = refl
-set_there (z ∷ xs) (suc i) x (suc j) ne = set_there xs i x j (λ e. ne (ap suc e))
+not_any q es i e none at same = (let bad : true ≡ false = sym (eq-eqb e.pool q same) ∙ none_at (λ d. d.pool == q) es i e none at in cc)
 
 pub any_written : (q : ℕ) (es : List Entry) (i : ℕ) (e f : Entry) → slice_get es i ≡ Some e → f.pool ≡ e.pool → list_any (λ d. d.pool == q) (slice_set es i f) ≡ list_any (λ d. d.pool == q) es
 any_written q [] i e f at same = absurd (cc)
@@ -131,28 +104,6 @@ allocated_written (x ∷ es) (suc i) e f n at more =
     let b = sum_by-cons (λ (y : Entry). y.allocated) x es in
     let rest = allocated_written es i e f n at more in
     omega arith
-
--- what stands in a list with one more at its end
-pub end_got : {A : Type 0} (xs : List A) (x : A) (j : ℕ) (y : A) → slice_get (xs ++ x ∷ []) j ≡ Some y → ((j < length xs) × (slice_get xs j ≡ Some y)) ⊎ ((j ≡ length xs) × (y ≡ x))
-end_got [] x zero y at = inr (refl, (let e : x ≡ y = cc in sym e))
-end_got [] x (suc j) y at = absurd (cc)
-end_got (z ∷ xs) x zero y at = inl (omega arith, at)
-end_got (z ∷ xs) x (suc j) y at = elim (end_got xs x j y at) [ inl here ↦ inl (omega (arith, here.0), here.1) | inr last ↦ inr (ap suc last.0, last.1) ]
-
-pub end_before : {A : Type 0} (xs : List A) (x : A) (j : ℕ) → j < length xs → slice_get (xs ++ x ∷ []) j ≡ slice_get xs j
-end_before [] x j lt = absurd (omega arith)
-end_before (z ∷ xs) x zero lt = refl
-end_before (z ∷ xs) x (suc j) lt = end_before xs x j (omega arith)
-
-pub end_here : {A : Type 0} (xs : List A) (x : A) → slice_get (xs ++ x ∷ []) (length xs) ≡ Some x
-end_here [] x = refl
-end_here (z ∷ xs) x = end_here xs x
-
-pub end_past : {A : Type 0} (xs : List A) (x : A) (j : ℕ) → length xs < j → slice_get (xs ++ x ∷ []) j ≡ None
-end_past [] x zero lt = absurd (omega arith)
-end_past [] x (suc j) lt = refl
-end_past (z ∷ xs) x zero lt = absurd (omega arith)
-end_past (z ∷ xs) x (suc j) lt = end_past xs x j (omega arith)
 
 -- ---- the sets of one pool
 

@@ -6,9 +6,9 @@ use Rattle.std.specs.Option.{option_map_or}
 use Rattle.std.specs.Prelude.{if◌then◌else◌}
 use Rattle.gpu_descriptor_types.specs.Ledger.{Pool}
 use Rattle.gpu_descriptor.specs.Model.Books.{Key, key_eq, Entry, Bucket, entry_at}
-use Rattle.gpu_descriptor.specs.Model.Agreement.{State, Item, set_of, count_of, live_in, outstanding, AreOutstanding, IsAsBooked, Agree}
+use Rattle.gpu_descriptor.specs.Model.Agreement.{State, Item, set_of, count_of, live_in, live_at, with_bucket, outstanding, AreOutstanding, IsAsBooked, Agree}
 use Rattle.gpu_descriptor.specs.Inner.Buckets.{AreBookedIn}
-use Rattle.gpu_descriptor.specs.Inner.Walk.{with_pools, KeepsKey, live_at}
+use Rattle.gpu_descriptor.specs.Inner.Walk.{KeepsKey}
 use Rattle.gpu_descriptor.proofs.Exact.{key_exact}
 use Rattle.gpu_descriptor.proofs.Fronts.{entry_at-found, entry_at-from}
 
@@ -34,23 +34,23 @@ booked_of s k agree = record {
     at : (b : Bucket) (i : ℕ) (e : Entry) → slice_get b.pools i ≡ Some e → entry_at b (b.first + i) ≡ Some e
     at b i e there = entry_at-from b (b.first + i) e (omega arith) (ap (slice_get b.pools) (let n : b.first + i - b.first ≡ i = omega arith in n) ∙ there)
 
-module _ (k : Key) (id : ℕ) (items : List Item) (new : List Entry) (s : State) (after : ℕ → Option Pool) (agree : Agree s) (same_id : 0 < length (s.books k).pools → id ≡ (s.books k).id)
-    (h : KeepsKey k id (s.books k).first items (s.books k).pools new s.ledger after) where
+module _ (k : Key) (items : List Item) (new : Bucket) (s : State) (after : ℕ → Option Pool) (agree : Agree s) (same_id : 0 < length (s.books k).pools → new.id ≡ (s.books k).id) (same_first : new.first ≡ (s.books k).first)
+    (h : KeepsKey k items (s.books k) new s.ledger after) where
   abbrev t : State
-  t = with_pools k id new after s
+  t = with_bucket k new after s
 
-  own : t.books k ≡ record (s.books k) { id = id; pools = new }
-  own = ap (λ (b : Bool). if b then record (s.books k) { id = id; pools = new } else s.books k) (key_exact.self k)
+  own : t.books k ≡ new
+  own = ap (λ (b : Bool). if b then new else s.books k) (key_exact.self k)
 
   other : (l : Key) → key_eq k l ≡ false → t.books l ≡ s.books l
-  other l ne = ap (λ (b : Bool). if b then record (s.books l) { id = id; pools = new } else s.books l) ne
+  other l ne = ap (λ (b : Bool). if b then new else s.books l) ne
 
   -- a place of the key
-  in_new : (n : ℕ) (e : Entry) → entry_at (t.books k) n ≡ Some e → ((s.books k).first ≤ n) × (slice_get new (n - (s.books k).first) ≡ Some e)
-  in_new n e at = entry_at-found (record (s.books k) { id = id; pools = new }) n e (ap (λ (b : Bucket). entry_at b n) (sym own) ∙ at)
+  in_new : (n : ℕ) (e : Entry) → entry_at (t.books k) n ≡ Some e → (new.first ≤ n) × (slice_get new.pools (n - new.first) ≡ Some e)
+  in_new n e at = entry_at-found new n e (ap (λ (b : Bucket). entry_at b n) (sym own) ∙ at)
 
   -- another key's pool isn't among the key's
-  foreign : (l : Key) (m : ℕ) (d : Entry) → key_eq k l ≡ false → entry_at (s.books l) m ≡ Some d → (i : ℕ) (e : Entry) → slice_get new i ≡ Some e → d.pool ≢ e.pool
+  foreign : (l : Key) (m : ℕ) (d : Entry) → key_eq k l ≡ false → entry_at (s.books l) m ≡ Some d → (i : ℕ) (e : Entry) → slice_get new.pools i ≡ Some e → d.pool ≢ e.pool
   foreign l m d ne at i e there same = elim (h.named i e there) [
     | inl old ↦ (
         let found = pool_found e.pool (s.books k).pools old in
@@ -66,7 +66,7 @@ module _ (k : Key) (id : ℕ) (items : List Item) (new : List Entry) (s : State)
 
   -- so it stays in the ledger
   foreign_stays : (l : Key) (m : ℕ) (d : Entry) → key_eq k l ≡ false → entry_at (s.books l) m ≡ Some d → after d.pool ≡ s.ledger d.pool
-  foreign_stays l m d ne at = h.others d.pool (none new (λ i e there. foreign l m d ne at i e there))
+  foreign_stays l m d ne at = h.others d.pool (none new.pools (λ i e there. foreign l m d ne at i e there))
     where
       none : (es : List Entry) → ((i : ℕ) (e : Entry) → slice_get es i ≡ Some e → d.pool ≢ e.pool) → list_any (λ e. e.pool == d.pool) es ≡ false
       none [] apart = refl
@@ -82,11 +82,11 @@ module _ (k : Key) (id : ℕ) (items : List Item) (new : List Entry) (s : State)
             | inl own_b ↦ (
                 let is_b : k ≡ b = key_exact.same k b own_b in
                 let here_b = in_new n e (ap (λ (x : Key). entry_at (t.books x) n) is_b ∙ at_b) in
-                let place = h.booked.distinct (m - (s.books k).first) (n - (s.books k).first) d e here_a.1 here_b.1 same in
+                let place = h.booked.distinct (m - new.first) (n - new.first) d e here_a.1 here_b.1 same in
                 let above_a = here_a.0 in
                 let above_b = here_b.0 in
                 (sym is_a ∙ is_b, (let e : m ≡ n = omega arith in e)))
-            | inr other_b ↦ absurd (foreign b n e other_b (ap (λ (x : Bucket). entry_at x n) (sym (other b other_b)) ∙ at_b) (m - (s.books k).first) d here_a.1 (sym same))
+            | inr other_b ↦ absurd (foreign b n e other_b (ap (λ (x : Bucket). entry_at x n) (sym (other b other_b)) ∙ at_b) (m - new.first) d here_a.1 (sym same))
           ])
       | inr other_a ↦ (
           let there_a = ap (λ (x : Bucket). entry_at x m) (sym (other a other_a)) ∙ at_a in
@@ -94,7 +94,7 @@ module _ (k : Key) (id : ℕ) (items : List Item) (new : List Entry) (s : State)
             | inl own_b ↦ (
                 let is_b : k ≡ b = key_exact.same k b own_b in
                 let here_b = in_new n e (ap (λ (x : Key). entry_at (t.books x) n) is_b ∙ at_b) in
-                absurd (foreign a m d other_a there_a (n - (s.books k).first) e here_b.1 same))
+                absurd (foreign a m d other_a there_a (n - new.first) e here_b.1 same))
             | inr other_b ↦ agree.distinct a b m n d e there_a (ap (λ (x : Bucket). entry_at x n) (sym (other b other_b)) ∙ at_b) same
           ])
     ];
@@ -102,7 +102,7 @@ module _ (k : Key) (id : ℕ) (items : List Item) (new : List Entry) (s : State)
       | inl own_a ↦ (
           let is_a : k ≡ a = key_exact.same k a own_a in
           let here = in_new n e (ap (λ (x : Key). entry_at (t.books x) n) is_a ∙ at) in
-          let b = h.booked.each (n - (s.books k).first) e here.1 in
+          let b = h.booked.each (n - new.first) e here.1 in
           (b.pool, b.is_live, subst (λ (x : Key). IsAsBooked x b.pool e) is_a b.booked))
       | inr other_a ↦ (
           let there = ap (λ (x : Bucket). entry_at x n) (sym (other a other_a)) ∙ at in
@@ -112,11 +112,11 @@ module _ (k : Key) (id : ℕ) (items : List Item) (new : List Entry) (s : State)
     absent = λ a none. elim (cases_Bool (key_eq k a)) [
       | inl own_a ↦ (
           let is_a : k ≡ a = key_exact.same k a own_a in
-          let empty : new ≡ [] = ap (λ (b : Bucket). b.pools) (sym own) ∙ ap (λ (x : Key). (t.books x).pools) is_a ∙ none in
+          let empty : new.pools ≡ [] = ap (λ (b : Bucket). b.pools) (sym own) ∙ ap (λ (x : Key). (t.books x).pools) is_a ∙ none in
           let longer = h.longer in
           let short = ap length empty in
           let was : (s.books k).pools ≡ [] = no_length (s.books k).pools (omega arith) in
-          ap (λ (x : Key). (t.books x).first) (sym is_a) ∙ ap (λ (b : Bucket). b.first) own ∙ agree.absent k was)
+          ap (λ (x : Key). (t.books x).first) (sym is_a) ∙ ap (λ (b : Bucket). b.first) own ∙ same_first ∙ agree.absent k was)
       | inr other_a ↦ ap (λ (b : Bucket). b.first) (other a other_a) ∙ agree.absent a (ap (λ (b : Bucket). b.pools) (sym (other a other_a)) ∙ none)
     ];
   }
@@ -133,11 +133,11 @@ module _ (k : Key) (id : ℕ) (items : List Item) (new : List Entry) (s : State)
       none_of (Some e) at = (let found = entry_at-found (s.books k) u.number e at in let bad : slice_get [] (u.number - (s.books k).first) ≡ Some e = ap (λ (es : List Entry). slice_get es (u.number - (s.books k).first)) (sym is) ∙ found.1 in let worse : ◌≡◌ {A = Option Entry} None (Some e) = bad in absurd (cc))
 
   -- without pools nothing is live
-  with_id : (u : Item) (es : List Entry) → (s.books k).pools ≡ es → id ≡ u.id → (if (s.books k).id == u.id then live_at s.ledger (s.books k) u else 0) ≡ live_at s.ledger (s.books k) u
+  with_id : (u : Item) (es : List Entry) → (s.books k).pools ≡ es → new.id ≡ u.id → (if (s.books k).id == u.id then live_at s.ledger (s.books k) u else 0) ≡ live_at s.ledger (s.books k) u
   with_id u [] is named = (let none = none_live u is in elim (cases_Bool ((s.books k).id == u.id)) [ inl h ↦ rw h refl | inr h ↦ rw h (sym none) ])
   with_id u (e ∷ es) is named = (let long : 0 < length (s.books k).pools = (let n = ap length is in omega arith) in rw (eq-eqb (s.books k).id u.id (sym (same_id long) ∙ named)) refl)
 
-  without_id : (u : Item) (es : List Entry) → (s.books k).pools ≡ es → (id == u.id) ≡ false → ◌≡◌ {A = ℕ} (if (s.books k).id == u.id then live_at s.ledger (s.books k) u else 0) 0
+  without_id : (u : Item) (es : List Entry) → (s.books k).pools ≡ es → (new.id == u.id) ≡ false → ◌≡◌ {A = ℕ} (if (s.books k).id == u.id then live_at s.ledger (s.books k) u else 0) 0
   without_id u [] is other = (let none = none_live u is in elim (cases_Bool ((s.books k).id == u.id)) [ inl h ↦ rw h none | inr h ↦ rw h refl ])
   without_id u (e ∷ es) is other = (let long : 0 < length (s.books k).pools = (let n = ap length is in omega arith) in rw (ap (λ (i : ℕ). i == u.id) (sym (same_id long)) ∙ other) refl)
 
@@ -146,17 +146,17 @@ module _ (k : Key) (id : ℕ) (items : List Item) (new : List Entry) (s : State)
   keeps_outstanding u = elim (cases_Bool (key_eq k u.key)) [
     | inl own_u ↦ (
         let is_u : k ≡ u.key = key_exact.same k u.key own_u in
-        let now : outstanding t u ≡ (if id == u.id then live_at after (record { id = id; first = (s.books k).first; pools = new }) u else 0) = ap (λ (b : Bucket). if b.id == u.id then live_at after b u else 0) (ap t.books (sym is_u) ∙ own) in
+        let now : outstanding t u ≡ (if new.id == u.id then live_at after new u else 0) = ap (λ (b : Bucket). if b.id == u.id then live_at after b u else 0) (ap t.books (sym is_u) ∙ own) in
         let was : outstanding s u ≡ (if (s.books k).id == u.id then live_at s.ledger (s.books k) u else 0) = ap (λ (x : Key). if (s.books x).id == u.id then live_at s.ledger (s.books x) u else 0) (sym is_u) in
-        elim (cases_Bool (id == u.id)) [
+        elim (cases_Bool (new.id == u.id)) [
           | inl same ↦ (
-              let named : id ≡ u.id = eqb-true id u.id same in
-              let left : outstanding t u ≡ live_at after (record { id = id; first = (s.books k).first; pools = new }) u = now ∙ ap (λ (b : Bool). if b then live_at after (record { id = id; first = (s.books k).first; pools = new }) u else 0) same in
+              let named : new.id ≡ u.id = eqb-true new.id u.id same in
+              let left : outstanding t u ≡ live_at after new u = now ∙ ap (λ (b : Bool). if b then live_at after new u else 0) same in
               let right : outstanding s u ≡ live_at s.ledger (s.books k) u = was ∙ with_id u (s.books k).pools refl named in
               let more = h.out u (sym is_u) (sym named) in
               omega arith)
           | inr other ↦ (
-              let left : outstanding t u ≡ 0 = now ∙ ap (λ (b : Bool). if b then live_at after (record { id = id; first = (s.books k).first; pools = new }) u else 0) other in
+              let left : outstanding t u ≡ 0 = now ∙ ap (λ (b : Bool). if b then live_at after new u else 0) other in
               let right : outstanding s u ≡ 0 = was ∙ without_id u (s.books k).pools refl other in
               let none = unnamed other in
               omega arith)
@@ -168,9 +168,9 @@ module _ (k : Key) (id : ℕ) (items : List Item) (new : List Entry) (s : State)
         omega arith)
   ]
     where
-      unnamed : (id == u.id) ≡ false → count_of u items ≡ 0
+      unnamed : (new.id == u.id) ≡ false → count_of u items ≡ 0
       unnamed ne = elim (cases_lt 0 (count_of u items)) [
-        | inl some ↦ (let bad : true ≡ false = sym (eq-eqb id u.id (sym (h.of_key u some).1)) ∙ ne in absurd (cc))
+        | inl some ↦ (let bad : true ≡ false = sym (eq-eqb new.id u.id (sym (h.of_key u some).1)) ∙ ne in absurd (cc))
         | inr none ↦ (omega arith)
       ]
 

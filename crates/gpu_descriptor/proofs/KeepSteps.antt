@@ -1,5 +1,5 @@
 -- Step by step, what a request takes keeps books and ledger of its key in agreement.
-use Rattle.std.proofs.Common.{◌≡◌, ◌≢◌, ℕ, suc, ◌+◌, ◌-◌, ◌<◌, ◌≤◌, ◌==◌, inl, inr, List, [], ◌∷◌, ◌++◌, length, slice_set, true, false, Option, Some, None, refl, sym, ap, ◌∙◌, subst, arith, ne_eqb, nat_eq, length-append, lt-ltb, le-ltb}
+use Rattle.std.proofs.Common.{◌≡◌, ◌≢◌, ℕ, suc, ◌+◌, ◌-◌, ◌<◌, ◌≤◌, ◌==◌, inl, inr, List, [], ◌∷◌, ◌++◌, length, slice_set, true, false, Option, Some, None, refl, sym, ap, ◌∙◌, subst, arith, eq-eqb, ne_eqb, nat_eq, length-append, lt-ltb, le-ltb}
 use Rattle.std.proofs.lemmas.Option.{slice_get_past}
 use Rattle.std.proofs.lemmas.Bool.{cases_eq, cases_lt, or_parts, or_from}
 use Rattle.std.proofs.lemmas.List.{length-map, length-set}
@@ -15,23 +15,25 @@ use Rattle.gpu_descriptor_types.specs.PoolSize.{pool_counts}
 use Rattle.gpu_descriptor_types.proofs.Counting.{count_by-append}
 use Rattle.gpu_descriptor.proofs.NextSize.{next_small}
 use Rattle.gpu_descriptor.specs.Model.Books.{Key, Entry}
-use Rattle.gpu_descriptor.specs.Model.Agreement.{Item, item_eq, set_of, count_of, live_in, flags_of, IsAsBooked}
+use Rattle.gpu_descriptor.specs.Model.Agreement.{Item, item_eq, set_of, count_of, live_in, live_at, flags_of, IsAsBooked}
 use Rattle.gpu_descriptor.specs.Model.FreshPools.{fresh_entry}
 use Rattle.gpu_descriptor.specs.Model.Grants.{items_at, pool_with}
 use Rattle.gpu_descriptor.specs.Model.Load.{allocated_in}
 use Rattle.gpu_descriptor.specs.Inner.Buckets.{IsBookedIn, AreBookedIn}
-use Rattle.gpu_descriptor.specs.Inner.Walk.{IsAsked, KeepsKey, live_at}
+use Rattle.gpu_descriptor.specs.Inner.Walk.{IsAsked, KeepsKey}
 use Rattle.gpu_descriptor.specs.Inner.Grow.{IsGrown}
-use Rattle.gpu_descriptor.proofs.KeepKey.{pool_booked, on_pool_here, asked_booked, any_at, not_any, set_got, set_here, set_there, any_written, allocated_written, end_got, end_before, end_here, end_past, place_of_items, count_of_items, count_elsewhere}
+use Rattle.gpu_descriptor.proofs.AtPlaces.{any_here, set_got, set_here, set_there, end_got, end_before, end_here, end_past}
+use Rattle.gpu_descriptor.proofs.Exact.{bucket}
+use Rattle.gpu_descriptor.proofs.KeepKey.{pool_booked, on_pool_here, asked_booked, not_any, any_written, allocated_written, place_of_items, count_of_items, count_elsewhere}
 
-pub keeps_start : (k : Key) (id first : ℕ) (old : List Entry) (pools : ℕ → Option Pool) → AreBookedIn k pools old → KeepsKey k id first [] old old pools pools
+pub keeps_start : (k : Key) (id first : ℕ) (old : List Entry) (pools : ℕ → Option Pool) → AreBookedIn k pools old → KeepsKey k [] (bucket id first old) (bucket id first old) pools pools
 keeps_start k id first old pools booked = record {
   booked = booked;
   longer = omega arith;
-  named = λ i e at. inl (any_at old i e at);
+  named = λ i e at. inl (any_here (λ d. d.pool == e.pool) old i e at (eq-eqb e.pool e.pool refl));
   others = λ q none. refl;
   of_key = λ t some. absurd (omega arith);
-  out = λ t key own. (let e : live_at pools (record { id = id; first = first; pools = old }) t ≡ live_at pools (record { id = id; first = first; pools = old }) t + 0 = omega arith in e);
+  out = λ t key own. (let e : live_at pools (bucket id first old) t ≡ live_at pools (bucket id first old) t + 0 = omega arith in e);
   more = (let e : allocated_in old ≡ allocated_in old + 0 = omega arith in e);
 }
 
@@ -40,10 +42,10 @@ abbrev pub live_of : (ℕ → Option Pool) → Option Entry → LiveSet → ℕ
 live_of pools o x = option_map_or (λ e. live_in pools e.pool x) o 0
 
 -- what is live in the pool with a number
-pub live_below : (pools : ℕ → Option Pool) (id first : ℕ) (es : List Entry) (t : Item) → t.number < first → live_at pools (record { id = id; first = first; pools = es }) t ≡ 0
+pub live_below : (pools : ℕ → Option Pool) (id first : ℕ) (es : List Entry) (t : Item) → t.number < first → live_at pools (bucket id first es) t ≡ 0
 live_below pools id first es t lt = rw (lt-ltb t.number first lt) refl
 
-pub live_from : (pools : ℕ → Option Pool) (id first : ℕ) (es : List Entry) (t : Item) → first ≤ t.number → live_at pools (record { id = id; first = first; pools = es }) t ≡ live_of pools (slice_get es (t.number - first)) (set_of t)
+pub live_from : (pools : ℕ → Option Pool) (id first : ℕ) (es : List Entry) (t : Item) → first ≤ t.number → live_at pools (bucket id first es) t ≡ live_of pools (slice_get es (t.number - first)) (set_of t)
 live_from pools id first es t le = rw (le-ltb t.number first le) refl
 
 same_name : (a b : ℕ → Option Pool) (e : Entry) (x : LiveSet) → a e.pool ≡ b e.pool → live_in a e.pool x ≡ live_in b e.pool x
@@ -53,7 +55,7 @@ pub count_append : (t : Item) (a b : List Item) → count_of t (a ++ b) ≡ coun
 count_append t a b = count_by-append (λ u. item_eq u t) a b
 
 module _ (k : Key) (id first i wanted : ℕ) (items : List Item) (old new : List Entry) (before : ℕ → Option Pool) (names : List ℕ) (e f : Entry) (l m : Ledger)
-    (s : KeepsKey k id first items old new before l.pools) (at : slice_get new i ≡ Some e) (a : IsAsked k wanted names e f l m) where
+    (s : KeepsKey k items (bucket id first old) (bucket id first new) before l.pools) (at : slice_get new i ≡ Some e) (a : IsAsked k wanted names e f l m) where
   f_name : f.pool ≡ e.pool
   f_name = ap (λ (x : Entry). x.pool) a.entry
 
@@ -87,7 +89,7 @@ module _ (k : Key) (id first i wanted : ℕ) (items : List Item) (old new : List
       let right : live_in l.pools e.pool x ≡ b.pool.live x = ap (λ (o : Option Pool). option_map_or (λ (p : Pool). p.live x) o 0) b.is_live in
       omega arith
 
-  out_now : (t : Item) → t.key ≡ k → t.id ≡ id → live_at m.pools (record { id = id; first = first; pools = slice_set new i f }) t ≡ live_at l.pools (record { id = id; first = first; pools = new }) t + count_of t (items_at k id (first + i) names)
+  out_now : (t : Item) → t.key ≡ k → t.id ≡ id → live_at m.pools (bucket id first (slice_set new i f)) t ≡ live_at l.pools (bucket id first new) t + count_of t (items_at k id (first + i) names)
   out_now t key own = elim (cases_lt t.number first) [
     | inl below ↦ (
         let none = count_elsewhere k id (first + i) names t (λ same. omega arith) in
@@ -98,14 +100,14 @@ module _ (k : Key) (id first i wanted : ℕ) (items : List Item) (old new : List
       | inl here ↦ (
           let number : t.number ≡ first + i = omega arith in
           let counts = count_of_items k id (first + i) names t key number own in
-          let left : live_at m.pools (record { id = id; first = first; pools = slice_set new i f }) t ≡ live_in m.pools f.pool (set_of t) = live_from m.pools id first (slice_set new i f) t above ∙ ap (λ (o : Option Entry). live_of m.pools o (set_of t)) (ap (slice_get (slice_set new i f)) here ∙ set_here new i f e at) in
-          let right : live_at l.pools (record { id = id; first = first; pools = new }) t ≡ live_in l.pools e.pool (set_of t) = live_from l.pools id first new t above ∙ ap (λ (o : Option Entry). live_of l.pools o (set_of t)) (ap (slice_get new) here ∙ at) in
+          let left : live_at m.pools (bucket id first (slice_set new i f)) t ≡ live_in m.pools f.pool (set_of t) = live_from m.pools id first (slice_set new i f) t above ∙ ap (λ (o : Option Entry). live_of m.pools o (set_of t)) (ap (slice_get (slice_set new i f)) here ∙ set_here new i f e at) in
+          let right : live_at l.pools (bucket id first new) t ≡ live_in l.pools e.pool (set_of t) = live_from l.pools id first new t above ∙ ap (λ (o : Option Entry). live_of l.pools o (set_of t)) (ap (slice_get new) here ∙ at) in
           let live = live_now (set_of t) in
           omega arith)
       | inr there ↦ (
           let none = count_elsewhere k id (first + i) names t (λ same. there (omega arith)) in
-          let left : live_at m.pools (record { id = id; first = first; pools = slice_set new i f }) t ≡ live_of m.pools (slice_get new (t.number - first)) (set_of t) = live_from m.pools id first (slice_set new i f) t above ∙ ap (λ (o : Option Entry). live_of m.pools o (set_of t)) (set_there new i f (t.number - first) there) in
-          let right : live_at l.pools (record { id = id; first = first; pools = new }) t ≡ live_of l.pools (slice_get new (t.number - first)) (set_of t) = live_from l.pools id first new t above in
+          let left : live_at m.pools (bucket id first (slice_set new i f)) t ≡ live_of m.pools (slice_get new (t.number - first)) (set_of t) = live_from m.pools id first (slice_set new i f) t above ∙ ap (λ (o : Option Entry). live_of m.pools o (set_of t)) (set_there new i f (t.number - first) there) in
+          let right : live_at l.pools (bucket id first new) t ≡ live_of l.pools (slice_get new (t.number - first)) (set_of t) = live_from l.pools id first new t above in
           let same = by_entry (slice_get new (t.number - first)) refl there in
           omega arith)
     ])
@@ -115,7 +117,7 @@ module _ (k : Key) (id first i wanted : ℕ) (items : List Item) (old new : List
       by_entry None is ne = refl
       by_entry (Some d) is ne = same_name m.pools l.pools d (set_of t) (stays (t.number - first) d ne is)
 
-  pub keeps_asked : KeepsKey k id first (items ++ items_at k id (first + i) names) old (slice_set new i f) before m.pools
+  pub keeps_asked : KeepsKey k (items ++ items_at k id (first + i) names) (bucket id first old) (bucket id first (slice_set new i f)) before m.pools
   keeps_asked = record {
     booked = booked_now;
     longer = (let a = length-set new i f in let b = s.longer in omega arith);
@@ -146,7 +148,7 @@ any_end q es x none = (before es none, λ same. not_any q (es ++ x ∷ []) (leng
     before (e ∷ es) h = (let both = or_parts (e.pool == q) (list_any (λ d. d.pool == q) (es ++ x ∷ [])) h in or_from (e.pool == q) (list_any (λ d. d.pool == q) es) both.0 (before es both.1))
 
 module _ (k : Key) (id first room left total wanted : ℕ) (items : List Item) (old new new' : List Entry) (before : ℕ → Option Pool) (names : List ℕ) (l m : Ledger)
-    (s : KeepsKey k id first items old new before l.pools) (g : IsGrown k room left total wanted names new new' l m) where
+    (s : KeepsKey k items (bucket id first old) (bucket id first new) before l.pools) (g : IsGrown k room left total wanted names new new' l m) where
   abbrev x : Entry
   x = fresh_entry g.pool
 
@@ -214,7 +216,7 @@ module _ (k : Key) (id first room left total wanted : ℕ) (items : List Item) (
   live_x : (y : LiveSet) → live_in m.pools x.pool y ≡ times (live_sets k.counts names) y
   live_x y = ap (λ (o : Option Pool). option_map_or (λ (p : Pool). p.live y) o 0) now_there ∙ (let e : 0 + times (live_sets k.counts names) y ≡ times (live_sets k.counts names) y = omega arith in e)
 
-  out_grown : (t : Item) → t.key ≡ k → t.id ≡ id → live_at m.pools (record { id = id; first = first; pools = new ++ x ∷ [] }) t ≡ live_at l.pools (record { id = id; first = first; pools = new }) t + count_of t (items_at k id (first + length new) names)
+  out_grown : (t : Item) → t.key ≡ k → t.id ≡ id → live_at m.pools (bucket id first (new ++ x ∷ [])) t ≡ live_at l.pools (bucket id first new) t + count_of t (items_at k id (first + length new) names)
   out_grown t key own = elim (cases_lt t.number first) [
     | inl below ↦ (
         let none = count_elsewhere k id (first + length new) names t (λ same. omega arith) in
@@ -251,8 +253,8 @@ module _ (k : Key) (id first room left total wanted : ℕ) (items : List Item) (
       by_entry None is = refl
       by_entry (Some d) is = same_name m.pools l.pools d (set_of t) (stays' d.pool (apart' (t.number - first) d is))
 
-  pub keeps_grown : KeepsKey k id first (items ++ items_at k id (first + length new) names) old new' before m.pools
-  keeps_grown = subst (λ (es : List Entry). KeepsKey k id first (items ++ items_at k id (first + length new) names) old es before m.pools) (sym g.entries) (record {
+  pub keeps_grown : KeepsKey k (items ++ items_at k id (first + length new) names) (bucket id first old) (bucket id first new') before m.pools
+  keeps_grown = subst (λ (es : List Entry). KeepsKey k (items ++ items_at k id (first + length new) names) (bucket id first old) (bucket id first es) before m.pools) (sym g.entries) (record {
     booked = booked_grown;
     longer = (let a = length-append new (x ∷ []) in let b = s.longer in omega arith);
     named = λ j d got. elim (end_got new x j d got) [

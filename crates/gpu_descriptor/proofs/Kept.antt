@@ -1,9 +1,9 @@
 -- What giving back keeps: agreement, and what is outstanding but for the sets given.
-use Rattle.std.proofs.Common.{◌≡◌, ℕ, zero, suc, ◌+◌, ◌-◌, ◌<◌, ◌≤◌, Bool, true, false, ltb, ◌&&◌, ◌==◌, List, [], ◌∷◌, ◌++◌, flat_map, map, length, take, drop, count_by, slice_get, Option, Some, None, option_map, ◌⊎◌, inl, inr, refl, sym, ap, ◌∙◌, subst, arith, eqb-true, length-drop}
+use Rattle.std.proofs.Common.{◌≡◌, ℕ, ◌+◌, ◌-◌, ◌<◌, ◌≤◌, Bool, true, false, ltb, ◌&&◌, ◌==◌, List, [], ◌∷◌, ◌++◌, flat_map, map, length, take, drop, count_by, slice_get, Option, Some, None, option_map, ◌⊎◌, inl, inr, refl, sym, ap, ◌∙◌, subst, arith, eqb-true, length-drop}
 use Rattle.std.specs.Prelude.{if◌then◌else◌}
 use Rattle.std.proofs.Math.Path.{fun_ext}
 use Rattle.std.specs.List.{list_any}
-use Rattle.std.proofs.lemmas.Bool.{cases_Bool, cases_lt, and_parts, or_cases, false_from_ne_true}
+use Rattle.std.proofs.lemmas.Bool.{cases_Bool, cases_lt, and_parts, false_from_ne_true}
 use Rattle.std.proofs.lemmas.List.{length-map}
 use Rattle.gpu_descriptor.specs.Model.Agreement.{set_of, State, Item, item_eq, count_of, live_there, outstanding, AreOutstanding, IsAsBooked, Agree}
 use Rattle.gpu_descriptor.specs.Model.Books.{Key, key_eq, Entry, Bucket, entry_at}
@@ -13,19 +13,14 @@ use Rattle.gpu_descriptor_types.specs.Ledger.{Pool}
 use Rattle.gpu_descriptor_types.specs.Multiset.{LiveSet, set_eq}
 use Rattle.gpu_descriptor.proofs.Fronts.{entry_at-from}
 use Rattle.gpu_descriptor_types.proofs.Counting.{counts_alike, count_by-append, list_any-count_by}
+use Rattle.gpu_descriptor.proofs.AtPlaces.{found_before}
 use Rattle.gpu_descriptor.proofs.Exact.{item_exact}
 use Rattle.gpu_descriptor.proofs.Places.{outstanding_found, back, back_named, back_named-is, part_fits, size_less, outstanding_at, entry_at-less, some_before, front_of, released_books, was_there, kept}
 use Rattle.gpu_descriptor.proofs.Parts.{goes, names_key, any_key, parts}
-use Rattle.gpu_descriptor.proofs.Sized.{size_of}
 
 -- a pool in the front stands at a place before its end
 pub front_found : (es : List Entry) (n pool : ℕ) → list_any (λ e. e.pool == pool) (take n es) ≡ true → (j : ℕ) × (e : Entry) × (j < n) × (slice_get es j ≡ Some e) × (e.pool ≡ pool)
-front_found es zero pool h = absurd (let bad : true ≡ false = sym h in cc)
-front_found [] (suc n) pool h = absurd (let bad : true ≡ false = sym h in cc)
-front_found (x ∷ es) (suc n) pool h = elim (or_cases (x.pool == pool) (list_any (λ e. e.pool == pool) (take n es)) h) [
-  | inl here ↦ (0, x, (let lt : 0 < suc n = omega arith in lt), refl, eqb-true x.pool pool here)
-  | inr later ↦ (let found = front_found es n pool later in let below = found.2 in (suc found.0, found.1, (let lt : suc found.0 < suc n = omega arith in lt), found.3, found.4))
-]
+front_found es n pool h = (let found = found_before (λ e. e.pool == pool) es n h in (found.0, found.1, found.2, found.3, eqb-true found.1.pool pool found.4))
 
 -- a pool that the books still have has not gone from the ledger
 pub stays : (m : List Item) (s : State) → Agree s → (k : Key) (i : ℕ) (e : Entry) → entry_at ((released m s).books k) i ≡ Some e → list_any (λ t. goes (bucket_less (back m s) (s.books t.key)) e.pool) m ≡ false
@@ -72,11 +67,11 @@ front_of-last m s k =
 -- a pool and its books still match once its sets went back
 less_booked : (m : List Item) (s : State) → Agree s → AreOutstanding m s → (k : Key) (i : ℕ) (d : Entry) (pool : Pool) → entry_at (s.books k) i ≡ Some d → s.ledger d.pool ≡ Some pool → IsAsBooked k pool d → IsAsBooked k (pool_less (back_named m s d.pool) pool) (entry_less (back m s d.pool) d)
 less_booked m s agree out k i d pool at live is =
-    let left = size_less pool.live d.allocated (lies_in s.books d.pool) m (size_of is) (part_fits m s agree out k i d pool at live) in
+    let left = size_less pool.live d.allocated (lies_in s.books d.pool) m is.allocated (part_fits m s agree out k i d pool at live) in
     let fits = left.0 in
     let room = is.room in
     record {
-      allocated = ∣ left.1 ∣₁;
+      allocated = left.1;
       room = (let e : d.allocated - back m s d.pool + (d.free + back m s d.pool) ≤ pool.capacity = omega arith in e);
       flags = is.flags;
       at_least = is.at_least;
@@ -262,5 +257,5 @@ has_place m s agree out t in_m =
     let found = outstanding_found s t 0 (omega arith) in
     let e = found.0 in
     let booked = agree.booked t.key t.number e found.1 in
-    let left = size_less booked.0.live e.allocated (lies_in s.books e.pool) m (size_of booked.2) (part_fits m s agree out t.key t.number e booked.0 found.1 booked.1) in
+    let left = size_less booked.0.live e.allocated (lies_in s.books e.pool) m booked.2.allocated (part_fits m s agree out t.key t.number e booked.0 found.1 booked.1) in
     (e, found.1, booked.0, booked.1, booked.2, left.0)

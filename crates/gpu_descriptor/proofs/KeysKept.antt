@@ -1,8 +1,8 @@
 -- In which order keys stay in the table.
-use Rattle.std.proofs.Common.{◌≡◌, ℕ, zero, suc, ◌≤◌, ◌==◌, not, Bool, true, false, List, [], ◌∷◌, ◌++◌, length, map, filter, slice_get, Some, inl, inr, refl, sym, ap, subst, ◌∙◌, arith, length-drop}
+use Rattle.std.proofs.Common.{◌≡◌, ℕ, suc, ◌==◌, not, Bool, List, [], ◌∷◌, ◌++◌, length, map, filter, slice_get, Some, inl, inr, refl, sym, ap, subst, ◌∙◌, arith, length-drop}
 use Rattle.std.specs.Map.{set_value}
 use Rattle.std.proofs.lemmas.Bool.{cases_Bool}
-use Rattle.std.proofs.lemmas.List.{length-map, map-append}
+use Rattle.std.proofs.lemmas.List.{map-append}
 use Rattle.gpu_descriptor_types.specs.Ledger.{Ledger}
 use Rattle.gpu_descriptor.specs.declared.set.BucketKey.{BucketKey}
 use Rattle.gpu_descriptor.specs.declared.bucket.DescriptorBucket.{DescriptorBucket}
@@ -12,11 +12,11 @@ use Rattle.gpu_descriptor.specs.Model.Cleanup.{IsCleaned, cleaned_bucket}
 use Rattle.gpu_descriptor.specs.Caller.Keys.{StayOrGainLast, keys_with_pools}
 use Rattle.gpu_descriptor.specs.Caller.KeyOf.{key_of}
 use Rattle.gpu_descriptor.specs.Caller.States.{keys_of, named_row, state_of}
-use Rattle.gpu_descriptor.specs.Inner.Stored.{bucket_of, row_of, stored_keys}
+use Rattle.gpu_descriptor.specs.Inner.Stored.{row_of, stored_keys}
 use Rattle.gpu_descriptor.specs.Caller.Values.{Allocations}
 use Rattle.gpu_descriptor.proofs.Cleaning.{cleaned_cases}
 use Rattle.gpu_descriptor.proofs.Fronts.{whole_front, whole_trimmed}
-use Rattle.gpu_descriptor.proofs.RowsCleaned.{Rows, cleared, first_keys, row_books, row_left}
+use Rattle.gpu_descriptor.proofs.RowsCleaned.{Rows, cleared_row, first_keys, has_row, row_books, rows_left}
 use Rattle.gpu_descriptor.proofs.TableBooks.{keys_are, keys_set, rows_are, rows_in}
 
 -- ---- a request
@@ -48,31 +48,23 @@ left_exactly b = elim (cleaned_cases b) [
   | inr some ↦ ap (λ (c : Bucket). length c.pools == 0) (some.1 ∙ sym (whole_trimmed b))
 ]
 
-module _ {P : Type 0} (name : P → ℕ) (stays : Key → Bool) where
-  keys_left : (n : ℕ) (es : List (BucketKey × DescriptorBucket P)) (rows : Rows) → ((i : ℕ) (r : Key × Bucket) → slice_get rows i ≡ Some r → stays r.0 ≡ not (length (trimmed_bucket 0 r.1).pools == 0)) → length rows ≤ n → rows_in name es ≡ cleared n rows → stored_keys (filter (λ e. has_pools e.1) es) ≡ filter stays (map (λ r. r.0) rows)
-  keys_left n [] [] says le h = refl
-  keys_left zero [] (r ∷ rows) says le h = absurd (omega arith)
-  keys_left (suc n) [] (r ∷ rows) says le h = absurd (let bad : ◌≡◌ {A = Rows} [] ((r.0, trimmed_bucket 0 r.1) ∷ cleared n rows) = h in cc)
-  keys_left zero (e ∷ es) [] says le h = absurd (let bad : ◌≡◌ {A = Rows} ((key_of e.0, bucket_of name e.1) ∷ rows_in name es) [] = h in cc)
-  keys_left (suc n) (e ∷ es) [] says le h = absurd (let bad : ◌≡◌ {A = Rows} ((key_of e.0, bucket_of name e.1) ∷ rows_in name es) [] = h in cc)
-  keys_left zero (e ∷ es) (r ∷ rows) says le h = absurd (omega arith)
-  keys_left (suc n) (e ∷ es) (r ∷ rows) says le h =
-      let row = row_left name n e es r rows h in
-      let key = row.key in
-      let own : stays r.0 ≡ not (length e.1.pools.items == 0) = says 0 r refl ∙ ap (λ (m : ℕ). not (m == 0)) (sym row.size) in
-      let rest = keys_left n es rows (λ i. says (suc i)) (omega arith) row.tail in
-      elim (cases_Bool (length e.1.pools.items == 0)) [
-        | inl none ↦ (let gone : stays r.0 ≡ false = own ∙ ap not none in rw (none, gone) rest)
-        | inr some ↦ (let still : stays r.0 ≡ true = own ∙ ap not some in rw (some, still) (λ j. key j ∷ rest j))
-      ]
+keys_left : (stays : Key → Bool) (rows : Rows) → ((i : ℕ) (r : Key × Bucket) → slice_get rows i ≡ Some r → stays r.0 ≡ has_row (cleared_row r)) → map (λ r. r.0) (filter has_row (map cleared_row rows)) ≡ filter stays (map (λ r. r.0) rows)
+keys_left stays [] says = refl
+keys_left stays (r ∷ rows) says =
+    let rest = keys_left stays rows (λ i. says (suc i)) in
+    let own = says 0 r refl in
+    elim (cases_Bool (length (trimmed_bucket 0 r.1).pools == 0)) [
+      | inl none ↦ rw (none, own ∙ ap not none) rest
+      | inr some ↦ rw (some, own ∙ ap not some) (ap (λ (l : List Key). r.0 ∷ l) rest)
+    ]
 
 -- the keys that still have pools are left, in their order
-pub keys_cleaned : {P : Type 0} (name : P → ℕ) (a b : Allocations P) (l m : Ledger) (es now fs : List (BucketKey × DescriptorBucket P)) (n : ℕ) → a.table ≡ map row_of es → b.table ≡ map row_of fs → HasDistinctKeys (rows_in name es) → length es ≤ n → rows_in name now ≡ cleared n (rows_in name es) → fs ≡ filter (λ e. has_pools e.1) now
+pub keys_cleaned : {P : Type 0} (name : P → ℕ) (a b : Allocations P) (l m : Ledger) (es now fs : List (BucketKey × DescriptorBucket P)) → a.table ≡ map row_of es → b.table ≡ map row_of fs → HasDistinctKeys (rows_in name es) → rows_in name now ≡ map cleared_row (rows_in name es) → fs ≡ filter (λ e. has_pools e.1) now
     → IsCleaned (state_of name a l) (state_of name b m) → keys_of b ≡ keys_with_pools (state_of name b m) (keys_of a)
-keys_cleaned {P} name a b l m es now fs n was is distinct le rows kept clean =
+keys_cleaned {P} name a b l m es now fs was is distinct rows kept clean =
     let t = state_of name b m in
     let stays : Key → Bool = λ k. not (length (t.books k).pools == 0) in
-    let long : length (rows_in name es) ≡ length es = length-map es (λ (e : BucketKey × DescriptorBucket P). (key_of e.0, bucket_of name e.1)) in
-    let says : (i : ℕ) (r : Key × Bucket) → slice_get (rows_in name es) i ≡ Some r → stays r.0 ≡ not (length (trimmed_bucket 0 r.1).pools == 0) = λ i r at.
+    let says : (i : ℕ) (r : Key × Bucket) → slice_get (rows_in name es) i ≡ Some r → stays r.0 ≡ has_row (cleared_row r) = λ i r at.
     ap (λ (c : Bucket). not (length c.pools == 0)) (clean.books r.0 ∙ ap cleaned_bucket (ap (λ (x : Rows). books_of x r.0) (ap (map (named_row name)) was ∙ rows_are name es) ∙ row_books (rows_in name es) i r distinct at)) ∙ ap not (left_exactly r.1) in
-    keys_are b fs is ∙ ap stored_keys kept ∙ keys_left name stays n now (rows_in name es) says (omega arith) rows ∙ ap (filter stays) (first_keys name es ∙ sym (keys_are a es was))
+    keys_are b fs is ∙ ap stored_keys kept ∙ sym (first_keys name (filter (λ e. has_pools e.1) now))
+    ∙ ap (map (λ (r : Key × Bucket). r.0)) (rows_left name now ∙ ap (filter has_row) rows) ∙ keys_left stays (rows_in name es) says ∙ ap (filter stays) (first_keys name es ∙ sym (keys_are a es was))

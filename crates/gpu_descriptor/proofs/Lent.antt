@@ -19,6 +19,7 @@ use Rattle.gpu_descriptor.specs.Caller.States.{named_row, state_of, keys_of}
 use Rattle.gpu_descriptor.specs.Inner.RunSteps.{AllPass, lies_at}
 use Rattle.gpu_descriptor.specs.Inner.Stored.{books_in, row_of, bucket_of}
 use Rattle.gpu_descriptor.specs.Caller.Values.{Allocations}
+use Rattle.gpu_descriptor.proofs.Fronts.{entry_at-found}
 use Rattle.gpu_descriptor.proofs.LedgerPools.{taken_from, release_pools}
 use Rattle.gpu_descriptor.proofs.TableBooks.{put_books, rows_in, looked_up, written, key_once, keys_are}
 use Rattle.gpu_descriptor.proofs.KeepState.{booked_of}
@@ -37,8 +38,8 @@ module _ {P S : Type 0} (name : P → ℕ) (set_name : S → ℕ) (a : Allocatio
   no_row out none =
       let t = taken_of set_name (state_of name a l) agree x [] tt out in
       let e : ((state_of name a l).books x.key.is).pools ≡ [] = ap (λ (b : Bucket). b.pools) (at_key None none) in
-      let bad : slice_get [] (x.number - ((state_of name a l).books x.key.is).first) ≡ Some t.entry = ap (λ (ps : List Entry). slice_get ps (x.number - ((state_of name a l).books x.key.is).first)) (sym e) ∙ t.at in
-      let worse : ◌≡◌ {A = Option Entry} None (Some t.entry) = bad in cc
+      let found = (entry_at-found ((state_of name a l).books x.key.is) x.number t.entry t.at).1 in
+      let bad : ◌≡◌ {A = Option Entry} None (Some t.entry) = ap (λ (ps : List Entry). slice_get ps (x.number - ((state_of name a l).books x.key.is).first)) (sym e) ∙ found in cc
 
   module _ (bucket : DescriptorBucket P) (found : lookup test es ≡ Some bucket) where
     pub row_stored : AreBookedIn x.key.is l.pools (bucket_of name bucket).pools
@@ -65,11 +66,11 @@ module _ {P S : Type 0} (name : P → ℕ) (set_name : S → ℕ) (a : Allocatio
           let b = bucket_back (s.books k) x.number (length (names_of set_name (x ∷ xs))) into.entry in
           let pools : after.pools ≡ trimmed_pools b (taken_from l.pools into.entry.pool (live_sets k.counts (names_of set_name (x ∷ xs)))) = ap (λ (m : Ledger). m.pools) into.ledger ∙ ap (trimmed_pools b) (release_pools into.entry.pool (live_sets k.counts (names_of set_name (x ∷ xs))) l) in
           let left : state_of name new after ≡ record { books = put_books s.books k (bucket_of name w); ledger = after.pools } = λ i. record { books = books i; ledger = after.pools } in
-          left ∙ whole_run set_name s agree x xs have into.entry into.above into.at (bucket_of name w) after.pools into.books pools
+          left ∙ whole_run set_name s agree x xs have into.entry into.at (bucket_of name w) after.pools into.books pools
 
       pub row_counted : HasDistinctKeys (rows_in name es) → after.counters ≡ more_destroyed (pools_gone (keys_of a) (items_of set_name (x ∷ xs)) (given_back (items_of set_name (x ∷ xs)) (state_of name a l))) (more_released 1 l.counters)
       row_counted distinct =
           let into = here in
           let there : count_by (key_eq x.key.is) (keys_of a) ≡ 1 = ap (count_by (key_eq x.key.is)) (keys_are a es is) ∙ key_once name test x.key.is same es bucket distinct found in
-          let gone = gone_run set_name (state_of name a l) agree x xs have into.entry into.above into.at (keys_of a) there in
+          let gone = gone_run set_name (state_of name a l) agree x xs have into.entry into.at (keys_of a) there in
           ap (λ (m : Ledger). m.counters) into.ledger ∙ ap (λ (n : ℕ). more_destroyed n (more_released 1 l.counters)) (sym gone)

@@ -1,5 +1,6 @@
 pub mod Allocating
 pub mod Asks
+pub mod AtPlaces
 pub mod BucketRun
 pub mod Cleaning
 pub mod Comparisons

@@ -17,6 +17,7 @@ use Rattle.gpu_descriptor.specs.Inner.Grow.{IsTaken}
 use Rattle.gpu_descriptor.specs.declared.bucket.take.Stop.TheVariants.{Existing}
 use Rattle.gpu_descriptor.specs.Model.Grants.{items_at}
 use Rattle.gpu_descriptor_types.specs.declared.errors.DeviceAllocationError.{DeviceAllocationError}
+use Rattle.gpu_descriptor.proofs.Exact.{bucket}
 use Rattle.gpu_descriptor.proofs.Listed.{listed_closes, listed_stays}
 use Rattle.gpu_descriptor.proofs.Open.{IsNewestOpen, newest_open, open_all_none}
 use Rattle.gpu_descriptor.proofs.Walking.{Walking, walk_gap, walk_start, walk_more, walk_stop, next_was, next_booked}
@@ -157,11 +158,11 @@ module _ {P : Type 0} {name : P → ℕ} {k : Key} {n id first wanting : ℕ} {o
               walking = subst (λ (x : List Entry). Walking k n id first i wanting' (out ++ items_at k id number names) old x l m') (sym (map-set (entry_of name) items i q)) (subst (λ (x : List Item). Walking k n id first i wanting' x old (slice_set (entries_of name items) i (entry_of name q)) l m') out' next);
             }
 
-        pub open_walk_stop : (room : ℕ) (error : DeviceAllocationError) (m' : Ledger) → entry_of name q ≡ entry_of name p → IsNoMemory wanting (entry_of name p) error m m' → IsTaken (Err (Existing error)) k room n id first out old (entries_of name (slice_set items (number - first) q)) l m'
+        pub open_walk_stop : (room : ℕ) (error : DeviceAllocationError) (m' : Ledger) → entry_of name q ≡ entry_of name p → IsNoMemory wanting (entry_of name p) error m m' → IsTaken (Err (Existing error)) k room n out (bucket id first old) (bucket id first (entries_of name (slice_set items (number - first) q))) l m'
         open_walk_stop room error m' same none =
             let i : ℕ = number - first in
             let was : slice_get old i ≡ Some (entry_of name p) = sym (next_was k n id first i wanting out old (entries_of name items) l m booked walk_reaches (let a = inside in let b = s.long in omega arith)) ∙ entry_at_place in
-            subst (λ (x : List Entry). IsTaken (Err (Existing error)) k room n id first out old x l m') (sym (map-set (entry_of name) items i q)) (walk_stop k room n id first i wanting out old (entries_of name items) l m m' (entry_of name p) (entry_of name q) error walk_reaches was entry_at_place same none)
+            subst (λ (x : List Entry). IsTaken (Err (Existing error)) k room n out (bucket id first old) (bucket id first x) l m') (sym (map-set (entry_of name) items i q)) (walk_stop k room n id first i wanting out old (entries_of name items) l m m' (entry_of name p) (entry_of name q) error walk_reaches was entry_at_place same none)
 
         pub listed_now_same : entry_of name q ≡ entry_of name p → numbers ≡ open_numbers first (free_in (slice_set items (number - first) q))
         listed_now_same same = listed_now_open (let a : q.available ≡ p.available = ap (λ (d : Entry). d.free) same in let b = has_free in omega arith)

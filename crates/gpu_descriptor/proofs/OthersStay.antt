@@ -4,6 +4,8 @@ use Rattle.std.proofs.Math.Path.{fun_ext}
 use Rattle.std.specs.List.{list_any}
 use Rattle.std.proofs.lemmas.Bool.{cases_Bool, or_cases, or_left, or_right}
 use Rattle.std.proofs.lemmas.List.{nil_from_length}
+use Rattle.std.proofs.Math.Logic.{∥∥₁_elim}
+use Rattle.std.proofs.Props.{props}
 use Rattle.gpu_descriptor_types.specs.Ledger.{Pool, Ledger}
 use Rattle.gpu_descriptor.specs.Model.Agreement.{State, Item, Agree, count_of, outstanding}
 use Rattle.gpu_descriptor.specs.Model.Books.{Key, key_eq, Bucket, HasDistinctKeys, books_of, entry_at, no_pools}
@@ -97,6 +99,5 @@ module _ {P : Type 0} (name : P → ℕ) where
       let s : State = state_of name a l in
       let t : State = state_of name b m in
       let sets = out_is_size s (outstanding_of a) agree (record { table = table_of name a; distinct = distinct; keeps = λ k. refl; total = sym (outstanding_of-table name a) }) in
-      let nil : sets.0 ≡ [] = nil_from_length sets.0 (sets.1 ∙ back) in
-      let nothing : (i : Item) → outstanding s i ≡ 0 = λ i. sym (sets.2 i) ∙ ap (count_of i) nil in
+      let nothing : (i : Item) → outstanding s i ≡ 0 = λ i. ∥∥₁_elim sets (search props) (λ all. sym (all.2 i) ∙ ap (count_of i) (nil_from_length all.0 (all.1 ∙ back))) in
       sym (all_others b m (nothing_left s t agree nothing clean)) ∙ others_stay a b l m (cleaned_foreign s t clean) (cleaned_loses s t clean)

@@ -8,22 +8,22 @@ use Rattle.std.proofs.lemmas.List.Sums.{sum_by-append, sum_by-cons}
 use Rattle.gpu_descriptor_types.specs.Ledger.{Pool, live_sets}
 use Rattle.gpu_descriptor_types.specs.Multiset.{LiveSet, set_eq, times}
 use Rattle.gpu_descriptor_types.proofs.Counting.{count_by_yes, count_by_no, counts_alike, set_exact}
-use Rattle.gpu_descriptor.specs.Model.Agreement.{Item, item_eq, set_of, count_of}
-use Rattle.gpu_descriptor.specs.Model.Books.{Key, key_eq, Entry, Bucket, no_pools, books_of, HasDistinctKeys, sum_over}
+use Rattle.gpu_descriptor.specs.Model.Agreement.{State, Agree, Item, item_eq, set_of, count_of, live_at}
+use Rattle.gpu_descriptor.specs.Model.Books.{Key, key_eq, Entry, Bucket, no_pools, books_of, HasDistinctKeys, sum_over, AddsUp}
 use Rattle.gpu_descriptor.specs.Model.Grants.{items_at}
 use Rattle.gpu_descriptor.specs.Caller.Frees.{marked_descriptors}
 use Rattle.gpu_descriptor.specs.Laws.Load.{LoadIsDescriptors, OutIsLength, OutIsSize}
 use Rattle.gpu_descriptor.specs.Model.Load.{marked_load, descriptors_out, allocated_in, sets_out}
 use Rattle.gpu_descriptor.specs.Inner.Buckets.{IsBookedIn}
-use Rattle.gpu_descriptor.specs.Inner.Walk.{live_at}
-use Rattle.gpu_descriptor.proofs.Exact.{item_exact, key_exact}
+use Rattle.gpu_descriptor.proofs.Exact.{bucket, item_exact, key_exact}
 use Rattle.gpu_descriptor.proofs.Holding.{count_of-append}
 use Rattle.gpu_descriptor.proofs.KeepKey.{place_of_items, count_of_items, count_elsewhere}
 use Rattle.gpu_descriptor.proofs.KeepState.{booked_of}
 use Rattle.gpu_descriptor.proofs.KeepSteps.{live_of, live_below, live_from, count_append}
 use Rattle.gpu_descriptor.proofs.Rollback.{load_of_items}
 use Rattle.gpu_descriptor.proofs.Tables.{first_books, none_behind}
-use Rattle.gpu_descriptor.proofs.Sized.{size_of}
+use Rattle.std.proofs.Math.Logic.{∥∥₁_elim, ∥∥₁_map, ∥∥₁_prop}
+use Rattle.std.proofs.Props.{props}
 
 names_in : List LiveSet → List ℕ
 names_in sets = map (λ (x : LiveSet). x.name) sets
@@ -51,24 +51,20 @@ record OutOf (k : Key) (b : Bucket) (ledger : ℕ → Option Pool) : Type 0 wher
   of_key : (t : Item) → 0 < count_of t items → (t.key ≡ k) × (t.id ≡ b.id)
   each : (t : Item) → t.key ≡ k → t.id ≡ b.id → count_of t items ≡ live_at ledger b t
 
-abbrev bucket : ℕ → ℕ → List Entry → Bucket
-bucket id first es = record { id = id; first = first; pools = es }
-
 none_out : (ledger : ℕ → Option Pool) (id first : ℕ) (t : Item) → live_at ledger (bucket id first []) t ≡ 0
 none_out ledger id first t = elim (cases_lt t.number first) [
   | inl below ↦ live_below ledger id first [] t below
   | inr above ↦ live_from ledger id first [] t above
 ]
 
-key_out : (k : Key) (id first : ℕ) (es : List Entry) (ledger : ℕ → Option Pool) → ((i : ℕ) (e : Entry) → slice_get es i ≡ Some e → IsBookedIn k ledger e) → OutOf k (bucket id first es) ledger
+key_out : (k : Key) (id first : ℕ) (es : List Entry) (ledger : ℕ → Option Pool) → ((i : ℕ) (e : Entry) → slice_get es i ≡ Some e → IsBookedIn k ledger e) → ∥ OutOf k (bucket id first es) ledger ∥₁
 unfolding names_in
-key_out k id first [] ledger booked = record { items = []; many = refl; of_key = λ t some. absurd (omega arith); each = λ t key own_id. sym (none_out ledger id first t) }
+key_out k id first [] ledger booked = ∣ record { items = []; many = refl; of_key = λ t some. absurd (omega arith); each = λ t key own_id. sym (none_out ledger id first t) } ∣₁
 key_out k id first (e ∷ es) ledger booked =
     let own = booked 0 e refl in
-    let size = size_of own.booked in
+    ∥∥₁_elim own.booked.allocated ∥∥₁_prop (λ size. ∥∥₁_map (key_out k id (first + 1) es ledger (λ i. booked (suc i))) (λ rest.
     let names = names_in size.0 in
     let same = by_name k.counts size.0 (λ x some. own.booked.sets x (let is = size.2 x in omega arith)) in
-    let rest = key_out k id (first + 1) es ledger (λ i. booked (suc i)) in
     record {
       items = items_at k id first names ++ rest.items;
       many = (
@@ -108,7 +104,7 @@ key_out k id first (e ∷ es) ledger booked =
                   omega arith)
             ])
           ];
-    }
+    }))
 
 -- how often a set is out of a bucket: as often as it is live there, if its id is the bucket's
 abbrev out_at : (ℕ → Option Pool) → Bucket → Item → ℕ
@@ -127,11 +123,14 @@ each_out k b ledger out t key = elim (cases_Bool (b.id == t.id)) [
 ]
 
 -- the sets that are out of all keys of a table
-table_out : (ledger : ℕ → Option Pool) (table : List (Key × Bucket)) → HasDistinctKeys table → ((k : Key) (i : ℕ) (e : Entry) → slice_get (books_of table k).pools i ≡ Some e → IsBookedIn k ledger e) → (items : List Item) × (length items ≡ sum_over sets_out table) × ((t : Item) → count_of t items ≡ out_at ledger (books_of table t.key) t) × (marked_descriptors items ≡ sum_over descriptors_out table)
-table_out ledger [] distinct booked = ([], refl, (λ t. sym (out_of_none ledger t)), refl)
+abbrev OutOfAll : (ℕ → Option Pool) → List (Key × Bucket) → Type 0
+OutOfAll ledger table = (items : List Item) × (length items ≡ sum_over sets_out table) × ((t : Item) → count_of t items ≡ out_at ledger (books_of table t.key) t) × (marked_descriptors items ≡ sum_over descriptors_out table)
+
+table_out : (ledger : ℕ → Option Pool) (table : List (Key × Bucket)) → HasDistinctKeys table → ((k : Key) (i : ℕ) (e : Entry) → slice_get (books_of table k).pools i ≡ Some e → IsBookedIn k ledger e) → ∥ OutOfAll ledger table ∥₁
+table_out ledger [] distinct booked = ∣ ([], refl, (λ t. sym (out_of_none ledger t)), refl) ∣₁
 table_out ledger (row ∷ table) distinct booked =
-    let here = key_out row.0 row.1.id row.1.first row.1.pools ledger (λ i e at. booked row.0 i e (ap (λ (b : Bucket). slice_get b.pools i) (first_books row table) ∙ at)) in
-    let rest = table_out ledger table distinct.1 (λ k i e at. booked k i e (behind k i e at)) in (
+    ∥∥₁_elim (key_out row.0 row.1.id row.1.first row.1.pools ledger (λ i e at. booked row.0 i e (ap (λ (b : Bucket). slice_get b.pools i) (first_books row table) ∙ at))) ∥∥₁_prop (λ here.
+    ∥∥₁_map (table_out ledger table distinct.1 (λ k i e at. booked k i e (behind k i e at))) (λ rest. (
       here.items ++ rest.0,
       (let both = length-append here.items rest.0 in let first = here.many in let later = rest.1 in let whole = sum_by-cons (λ (r : Key × Bucket). sets_out r.0 r.1) row table in omega arith),
       (λ t.
@@ -155,7 +154,7 @@ table_out ledger (row ∷ table) distinct booked =
           let later = rest.3 in
           let whole = sum_by-cons (λ (r : Key × Bucket). descriptors_out r.0 r.1) row table in
           omega arith),
-    )
+    )))
   where
     behind : (k : Key) (i : ℕ) (e : Entry) → slice_get (books_of table k).pools i ≡ Some e → slice_get (books_of (row ∷ table) k).pools i ≡ Some e
     behind k i e at = elim (cases_Bool (key_eq row.0 k)) [
@@ -163,19 +162,20 @@ table_out ledger (row ∷ table) distinct booked =
       | inr other ↦ rw other at
     ]
 
+-- the sets that are out of a table which keeps the books
+all_out : (s : State) (f : Key → Bucket → ℕ) (n : ℕ) → Agree s → (out : AddsUp f s.books n) → ∥ OutOfAll s.ledger out.table ∥₁
+all_out s f n agree out = table_out s.ledger out.table out.distinct (λ k i e at. (booked_of s k agree).each i e (ap (λ (b : Bucket). slice_get b.pools i) (sym (out.keeps k)) ∙ at))
+
 pub out_is_size : OutIsSize
-out_is_size s n agree out =
-    let all = table_out s.ledger out.table out.distinct (λ k i e at. (booked_of s k agree).each i e (ap (λ (b : Bucket). slice_get b.pools i) (sym (out.keeps k)) ∙ at)) in
-    (all.0, all.1 ∙ out.total, λ t. all.2 t ∙ ap (λ (b : Bucket). out_at s.ledger b t) (out.keeps t.key))
+out_is_size s n agree out = ∥∥₁_map (all_out s sets_out n agree out) (λ all. (all.0, all.1 ∙ out.total, λ t. all.2 t ∙ ap (λ (b : Bucket). out_at s.ledger b t) (out.keeps t.key)))
 
 every : (items : List Item) → count_by (λ t. true) items ≡ length items
 every [] = refl
 every (t ∷ items) = count_by_yes (λ u. true) t items refl ∙ ap suc (every items)
 
 pub out_is_length : OutIsLength
-out_is_length s n agree out items alike =
-    let all = out_is_size s n agree out in
-    sym (every items) ∙ counts_alike item_exact items all.0 (λ t. alike t ∙ sym (all.2 t)) (λ u. true) ∙ every all.0 ∙ all.1
+out_is_length s n agree out items alike = ∥∥₁_elim (out_is_size s n agree out) (search props) (λ all.
+    sym (every items) ∙ counts_alike item_exact items all.0 (λ t. alike t ∙ sym (all.2 t)) (λ u. true) ∙ every all.0 ∙ all.1)
 
 -- ---- sums over a list hang only on how often each item stands in it
 
@@ -220,6 +220,5 @@ sums_alike f (t ∷ m) n alike =
     omega arith
 
 pub load_is_descriptors : LoadIsDescriptors
-load_is_descriptors s n agree load items alike =
-    let all = table_out s.ledger load.table load.distinct (λ k i e at. (booked_of s k agree).each i e (ap (λ (b : Bucket). slice_get b.pools i) (sym (load.keeps k)) ∙ at)) in
-    sums_alike (λ (t : Item). marked_load t.key 1) items all.0 (λ t. alike t ∙ sym (all.2 t ∙ ap (λ (b : Bucket). out_at s.ledger b t) (load.keeps t.key))) ∙ all.3 ∙ load.total
+load_is_descriptors s n agree load items alike = ∥∥₁_elim (all_out s descriptors_out n agree load) (search props) (λ all.
+    sums_alike (λ (t : Item). marked_load t.key 1) items all.0 (λ t. alike t ∙ sym (all.2 t ∙ ap (λ (b : Bucket). out_at s.ledger b t) (load.keeps t.key))) ∙ all.3 ∙ load.total)

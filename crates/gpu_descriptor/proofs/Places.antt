@@ -15,7 +15,8 @@ use Rattle.gpu_descriptor_types.specs.Multiset.{LiveSet, set_eq}
 use Rattle.gpu_descriptor.proofs.Fronts.{entry_at-found, entry_at-without, entry_at-kept}
 use Rattle.gpu_descriptor_types.proofs.Counting.{bool_iff, count_by_alike, count_by_none, set_exact, count_by_yes, count_by_no, all_taken_out}
 use Rattle.gpu_descriptor.proofs.Exact.{item_exact, item_parts, item_from}
-use Rattle.gpu_descriptor.proofs.Sized.{size_of}
+use Rattle.std.proofs.Math.Logic.{∥∥₁_elim, ∥∥₁_map}
+use Rattle.std.proofs.Props.{props}
 
 -- how many sets go back to a pool, and how many of a name
 abbrev pub back : List Item → State → ℕ → ℕ
@@ -44,8 +45,8 @@ names_of lies (t ∷ m) name =
     ]
 
 -- a part that the pool has leaves the rest, as many fewer
-pub size_less : (live : LiveSet → ℕ) (a : ℕ) (lies : Item → Bool) (m : List Item) → HasSize live a → ((name : LiveSet) → count_by (λ t. lies t && (set_eq (set_of t) name)) m ≤ live name) → (count_by lies m ≤ a) × HasSize (λ name. live name - count_by (λ t. lies t && (set_eq (set_of t) name)) m) (a - count_by lies m)
-size_less live a lies m size fits =
+rest_less : (live : LiveSet → ℕ) (a : ℕ) (lies : Item → Bool) (m : List Item) → HasSize live a → ((name : LiveSet) → count_by (λ t. lies t && (set_eq (set_of t) name)) m ≤ live name) → (count_by lies m ≤ a) × HasSize (λ name. live name - count_by (λ t. lies t && (set_eq (set_of t) name)) m) (a - count_by lies m)
+rest_less live a lies m size fits =
     let part : List LiveSet = map (λ (t : Item). set_of t) (filter lies m) in
     let long : length part ≡ count_by lies m = length-map (filter lies m) (λ (t : Item). set_of t) ∙ length-filter lies m in
     let out = all_taken_out set_exact part size.0 (λ name. rw (names_of lies m name, size.2 name) (fits name)) in
@@ -63,13 +64,16 @@ size_less live a lies m size fits =
       ),
     )
 
+pub size_less : (live : LiveSet → ℕ) (a : ℕ) (lies : Item → Bool) (m : List Item) → ∥ HasSize live a ∥₁ → ((name : LiveSet) → count_by (λ t. lies t && (set_eq (set_of t) name)) m ≤ live name) → (count_by lies m ≤ a) × ∥ HasSize (λ name. live name - count_by (λ t. lies t && (set_eq (set_of t) name)) m) (a - count_by lies m) ∥₁
+size_less live a lies m some fits = (∥∥₁_elim some (search props) (λ size. (rest_less live a lies m size fits).0), ∥∥₁_map some (λ size. (rest_less live a lies m size fits).1))
+
 -- where a name is left, a set is left
-pub size_pos : (live : LiveSet → ℕ) (a : ℕ) (name : LiveSet) → HasSize live a → 0 < live name → 0 < a
-size_pos live a name size lt =
+pub size_pos : (live : LiveSet → ℕ) (a : ℕ) (name : LiveSet) → ∥ HasSize live a ∥₁ → 0 < live name → 0 < a
+size_pos live a name listed lt = ∥∥₁_elim listed (search props) (λ size.
     let some = count_by-le-length (λ x. set_eq x name) size.0 in
     let is = size.2 name in
     let long = size.1 in
-    omega arith
+    omega arith)
 
 some_of : (o : Option Entry) (pool : ℕ) → option_map_or (λ e. e.pool == pool) o false ≡ true → (e : Entry) × (o ≡ Some e) × (e.pool ≡ pool)
 some_of None pool h = absurd (let bad : true ≡ false = sym h in cc)
@@ -211,7 +215,7 @@ kept m s agree out t more =
     let booked = agree.booked t.key t.number e here.1 in
     let pool = booked.0 in
     let live : live_in s.ledger e.pool (set_of t) ≡ pool.live (set_of t) = rw booked.1 refl in
-    let left = size_less pool.live e.allocated (lies_in s.books e.pool) m (size_of booked.2) (part_fits m s agree out t.key t.number e pool here.1 booked.1) in
+    let left = size_less pool.live e.allocated (lies_in s.books e.pool) m booked.2.allocated (part_fits m s agree out t.key t.number e pool here.1 booked.1) in
     let named : back_named m s e.pool (set_of t) ≡ count_of t m = back_named-is m s agree out t.key t.number e here.1 t.name ∙ ap (λ (i : ℕ). let u : Item = record t { id = i } in count_of u m) here.3 in
     let above = here.2 in
     let some : 0 < e.allocated - back m s e.pool = size_pos (λ name. pool.live name - back_named m s e.pool name) (e.allocated - back m s e.pool) (set_of t) left.1 (omega arith) in

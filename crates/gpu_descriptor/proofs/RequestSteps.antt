@@ -1,21 +1,22 @@
 -- What a request takes of one key, in the table of keys.
-use Rattle.std.proofs.Common.{◌≡◌, ℕ, ◌+◌, ◌<◌, ◌≤◌, Bool, true, false, List, [], ◌∷◌, ◌++◌, length, Option, Some, None, is_some, Result, inl, inr, refl, sym, ap, ◌∙◌, subst, arith, ◌-◌, ◌&&◌, lt-ltb, le-ltb}
+use Rattle.std.proofs.Common.{◌≡◌, ℕ, ◌+◌, ◌≤◌, Bool, true, false, List, [], ◌∷◌, ◌++◌, length, Option, Some, None, is_some, Result, Ok, Err, inl, inr, refl, sym, ap, ◌∙◌, subst, arith, ◌-◌, ◌&&◌, lt-ltb, le-ltb}
 use Rattle.std.specs.Map.{lookup, set_value}
 use Rattle.std.specs.Option.{option_map_or}
 use Rattle.std.specs.Prelude.{nat_lt, sum_by, if◌then◌else◌}
 use Rattle.std.proofs.lemmas.Bool.{cases_Bool, cases_lt}
 use Rattle.std.proofs.lemmas.List.Sums.{sum_by-append}
-use Rattle.gpu_descriptor_types.specs.Ledger.{Ledger}
+use Rattle.gpu_descriptor_types.specs.Ledger.{Ledger, Pool}
 use Rattle.gpu_descriptor.specs.Model.Load.{marked_load}
 use Rattle.gpu_descriptor.specs.declared.set.BucketKey.{BucketKey}
 use Rattle.gpu_descriptor.specs.declared.set.DescriptorSet.{DescriptorSet}
 use Rattle.gpu_descriptor.specs.declared.bucket.DescriptorBucket.{DescriptorBucket}
 use Rattle.gpu_descriptor.specs.declared.bucket.take.Stop.{Stop}
-use Rattle.gpu_descriptor.specs.Model.Books.{Key, key_eq, Bucket, no_pools, next_number}
+use Rattle.gpu_descriptor.specs.Model.Books.{Key, key_eq, Bucket, no_pools}
 use Rattle.gpu_descriptor.specs.Caller.KeyOf.{key_of}
-use Rattle.gpu_descriptor.specs.Caller.Sets.{items_of}
 use Rattle.gpu_descriptor.specs.Inner.Stored.{books_in, bucket_of, load_in}
-use Rattle.gpu_descriptor.specs.Inner.Grow.{IsTaken}
+use Rattle.gpu_descriptor.specs.Inner.Walk.{HasTaken}
+use Rattle.gpu_descriptor.specs.Model.Grants.{Grant, IsGrantOf}
+use Rattle.gpu_descriptor.specs.Model.Agreement.{Item}
 use Rattle.gpu_descriptor.specs.Inner.Serves.{IsServed, ServesKey}
 use Rattle.gpu_descriptor.proofs.Exact.{key_exact}
 use Rattle.gpu_descriptor.proofs.Loads.{IsRow, IsWritten, sum_set, marked_load-add}
@@ -50,43 +51,32 @@ load_grows : {P : Type 0} (k l : BucketKey) (v w : DescriptorBucket P) (n : ℕ)
 load_grows k l v w n is more =
     ap (λ (x : Key). marked_load x w.total) is ∙ ap (marked_load (key_of k)) more ∙ marked_load-add (key_of k) v.total n ∙ ap (λ (x : Key). marked_load x v.total + marked_load (key_of k) n) (sym is)
 
--- a bucket with another id
-abbrev with_id : ℕ → Bucket → Bucket
-with_id id b = record b { id = id }
+-- a key without pools may get any id
+grant_new : {n id : ℕ} {ledger : ℕ → Option Pool} {g : Grant} → IsGrantOf n (record no_pools { id = id }) ledger g → IsGrantOf n no_pools ledger g
+grant_new h = record { id = λ some. absurd (omega arith); refusing = h.refusing; parts = h.parts; new = h.new }
+
+taken_new : {k : Key} {n id : ℕ} {g : Grant} {items : List Item} {b : Bucket} {l m : Ledger} → HasTaken k n g items (record no_pools { id = id }) b l m → HasTaken k n g items no_pools b l m
+taken_new t = record { grant = grant_new t.grant; came = t.came; keeps = record { booked = t.keeps.booked; longer = t.keeps.longer; named = t.keeps.named; others = t.keeps.others; of_key = t.keeps.of_key; out = t.keeps.out; more = t.keeps.more }; bucket = t.bucket; pools = t.pools; counters = t.counters }
+
+served_new : {P S : Type 0} {name : P → ℕ} {set_name : S → ℕ} {k : Key} {room count id : ℕ} {sets : List (DescriptorSet S)} {ended : Result (Unit {0}) Stop} {b : Bucket} {before after : Ledger} → IsServed name set_name k room count sets ended (record no_pools { id = id }) b before after → IsServed name set_name k room count sets ended no_pools b before after
+served_new {ended = Ok done} s = record { numbers = s.numbers; few = s.few; taken = (s.taken.0, taken_new s.taken.1, s.taken.2, s.taken.3) }
+served_new {ended = Err why} s = record { numbers = s.numbers; few = s.few; taken = (s.taken.0, s.taken.1, taken_new s.taken.2, s.taken.3, s.taken.4) }
 
 -- what one key gave, in the table
 module _ {P S : Type 0} {name : P → ℕ} {set_name : S → ℕ} (k : BucketKey) (w : DescriptorBucket P) {old : Bucket} {room count : ℕ} {sets : List (DescriptorSet S)} {ended : Result (Unit {0}) Stop} {before after : Ledger}
-    (s : IsServed name set_name (key_of k) room count sets ended old old.id (bucket_of name w).pools before after) (id : w.id ≡ old.id) (first : w.offset ≡ old.first) where
-  put_there : (es : List (BucketKey × DescriptorBucket P)) (l : Key) → with_id old.id (books_in name es (key_of k)) ≡ old → put_books (books_in name es) (key_of k) (bucket_of name w) l ≡ (let b = books_in name es l in if key_eq (key_of k) l then record b { id = old.id; pools = (bucket_of name w).pools } else b)
-  put_there es l is = by_test (key_eq (key_of k) l) refl
-    where
-      by_test : (here : Bool) → key_eq (key_of k) l ≡ here → (if here then bucket_of name w else books_in name es l) ≡ (let b = books_in name es l in if here then record b { id = old.id; pools = (bucket_of name w).pools } else b)
-      by_test true here = (λ i. record { id = id i; first = (first ∙ ap (λ (b : Bucket). b.first) (sym is) ∙ ap (λ (x : Key). (books_in name es x).first) (key_exact.same (key_of k) l here)) i; pools = (bucket_of name w).pools })
-      by_test false other = refl
-
-  -- of the key's books
-  served_there : (b : Bucket) → with_id old.id b ≡ old → (0 < length b.pools → old.id ≡ b.id) → IsServed name set_name (key_of k) room count sets ended b old.id (bucket_of name w).pools before after
-  served_there b is kept = record {
-    numbers = (let n = s.numbers in let e = ap next_number is in omega arith);
-    few = s.few;
-    kept = kept;
-    taken = subst (λ (b : Bucket). IsTaken ended (key_of k) room count b.id b.first (items_of set_name sets) b.pools (bucket_of name w).pools before after) (sym is) s.taken;
-  }
-
+    (s : IsServed name set_name (key_of k) room count sets ended old (bucket_of name w) before after) where
   module _ {had : ℕ} (total : w.total ≡ had + length sets) {es fs : List (BucketKey × DescriptorBucket P)} where
     pub serves_present : {v : DescriptorBucket P} → bucket_of name v ≡ old → v.total ≡ had → IsWritten (key_of k) es fs v w → ServesKey name set_name k room count sets ended es fs before after
     serves_present {v} was many r =
         let here : books_in name es (key_of k) ≡ old = present name r.row ∙ was in
-        let is : with_id old.id (books_in name es (key_of k)) ≡ old = ap (with_id old.id) here in
         let out = sum_set (λ b. b.1.total) r.row.test es v w r.row.at in
         let load = sum_set load_in r.row.test es v w r.row.at in
         let key : key_of load.0 ≡ key_of k = sym (key_exact.same (key_of k) (key_of load.0) (sym (r.row.same load.0) ∙ load.1)) in
         let grows = load_grows k load.0 v w (length sets) key (total ∙ ap (λ n. n + length sets) (sym many)) in
         rw r.wrote (record {
-          id = old.id;
-          pools = (bucket_of name w).pools;
-          served = served_there (books_in name es (key_of k)) is (λ some. ap (λ (b : Bucket). b.id) (sym here));
-          books = λ l. written name r.row.test (key_of k) r.row.same es w (ap is_some r.row.at) l ∙ put_there es l is;
+          bucket = bucket_of name w;
+          served = subst (λ (b : Bucket). IsServed name set_name (key_of k) room count sets ended b (bucket_of name w) before after) (sym here) s;
+          books = written name r.row.test (key_of k) r.row.same es w (ap is_some r.row.at);
           out = (let a = out.2 in let b = out.3 in omega arith);
           load = (let a = load.2 in let b = load.3 in omega arith);
         })
@@ -94,12 +84,10 @@ module _ {P S : Type 0} {name : P → ℕ} {set_name : S → ℕ} (k : BucketKey
     pub serves_new : (test : BucketKey → Bool) → ((l : BucketKey) → test l ≡ key_eq (key_of k) (key_of l)) → lookup test es ≡ None → fs ≡ es ++ (k, w) ∷ [] → old ≡ record no_pools { id = old.id } → had ≡ 0 → ServesKey name set_name k room count sets ended es fs before after
     serves_new test same at put empty none =
         let gone = missing name (key_of k) es test same at in
-        let is : with_id old.id (books_in name es (key_of k)) ≡ old = ap (with_id old.id) gone ∙ sym empty in
         rw put (record {
-          id = old.id;
-          pools = (bucket_of name w).pools;
-          served = served_there (books_in name es (key_of k)) is (λ some. absurd (let none = ap (λ (b : Bucket). length b.pools) gone in omega arith));
-          books = λ l. books_end name k w test same es at l ∙ put_there es l is;
+          bucket = bucket_of name w;
+          served = subst (λ (b : Bucket). IsServed name set_name (key_of k) room count sets ended b (bucket_of name w) before after) (sym gone) (served_new (subst (λ (b : Bucket). IsServed name set_name (key_of k) room count sets ended b (bucket_of name w) before after) empty s));
+          books = books_end name k w test same es at;
           out = (let a = sum_by-append (λ (r : BucketKey × DescriptorBucket P). r.1.total) es ((k, w) ∷ []) in let one : sum_by (λ (r : BucketKey × DescriptorBucket P). r.1.total) ((k, w) ∷ []) ≡ w.total = omega arith in omega arith);
           load = (let a = sum_by-append load_in es ((k, w) ∷ []) in let one : sum_by load_in ((k, w) ∷ []) ≡ marked_load (key_of k) w.total = omega arith in let n : w.total ≡ length sets = omega arith in let e = ap (marked_load (key_of k)) n in omega arith);
         })

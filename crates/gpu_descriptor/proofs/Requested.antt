@@ -147,14 +147,11 @@ module _ {P S : Type 0} (name : P → ℕ) (set_name : S → ℕ) (most looks_be
   abbrev new : Allocations P
   new = record { limit = most; table = map row_of fs; looks = looks_after; comparisons = compared }
 
-  pub takes : (key : BucketKey) (room count : ℕ) (sets : List (DescriptorSet S)) (ended : Result (Unit {0}) Stop) (before after : Ledger) → HasDistinctKeys (table_of name old) → HasDistinctKeys (table_of name new) → ServesKey name set_name key room count sets ended es fs before after → room + sum_by stored_load_in es ≡ most
+  pub takes : (key : BucketKey) (room count : ℕ) (sets : List (DescriptorSet S)) (ended : Result (Unit {0}) Stop) (before after : Ledger) → ServesKey name set_name key room count sets ended es fs before after → room + sum_by stored_load_in es ≡ most
       → ((key_of key).marked ≡ true → count * sum (key_of key).counts + marked_load_of old ≤ most) → outstanding_of old + count ≤ greatest_u64 → Takes name set_name (key_of key) count sets ended old new before after
-  takes key room count sets ended before after distinct still served all within fits = record {
-    id = s.id;
-    pools = s.pools;
+  takes key room count sets ended before after served all within fits = record {
+    bucket = s.bucket;
     served = s.served;
-    distinct = distinct;
-    still = still;
     within = within;
     fits = fits;
     total = (let a = rows_out es in let b = rows_out fs in let c = s.out in omega arith);
@@ -217,10 +214,10 @@ module _ {P S : Type 0} {name : P → ℕ} {set_name : S → ℕ} {key : BucketK
       let fits = given_fits long in
       counted_more name set_name key room count sets ended es fs before after s most marked room left out more given counted (load ∙ ap (marked_load (key_of key)) long) long (omega arith) moved distinct
 
-  pub takes_of : {past : Bool} → past ≡ nat_lt greatest_u64 (out + count) → past ≡ false → HasDistinctKeys (table_of name a) → {looked : ℕ} → HasDistinctKeys (map (named_row name) (map row_of fs)) → Takes name set_name (key_of key) count sets ended a (seen most looked compared fs) before after
-  takes_of bounded kept_in distinct {looked} still =
+  pub takes_of : {past : Bool} → past ≡ nat_lt greatest_u64 (out + count) → past ≡ false → {looked : ℕ} → Takes name set_name (key_of key) count sets ended a (seen most looked compared fs) before after
+  takes_of bounded kept_in {looked} =
       let fits = ltb-false greatest_u64 (out + count) (sym bounded ∙ kept_in) in
       let all = out_of a es (table_is es is) in
       let is_out = counted.is_out in
-      subst (λ (x : Allocations P). HasDistinctKeys (table_of name x) → (key.update_after_bind ≡ true → count * sum (kinds key.size) + marked_load_of x ≤ x.limit) → outstanding_of x + count ≤ greatest_u64 → Takes name set_name (key_of key) count sets ended x (seen most looked compared fs) before after) is
-      (λ d w f. takes name set_name most looks looked compared es fs key room count sets ended before after d still s counted.is_room w f) distinct sets_within (omega arith)
+      subst (λ (x : Allocations P). (key.update_after_bind ≡ true → count * sum (kinds key.size) + marked_load_of x ≤ x.limit) → outstanding_of x + count ≤ greatest_u64 → Takes name set_name (key_of key) count sets ended x (seen most looked compared fs) before after) is
+      (λ w f. takes name set_name most looks looked compared es fs key room count sets ended before after s counted.is_room w f) sets_within (omega arith)

@@ -3,16 +3,16 @@ use Rattle.std.proofs.Common.{◌≡◌, ℕ, zero, suc, ◌+◌, ◌*◌, ◌<�
 use Rattle.std.proofs.Math.Nat.{mul-le-mul_right}
 use Rattle.std.proofs.lemmas.Bool.{cases_Bool}
 use Rattle.std.proofs.lemmas.List.Sums.{sum_by-cons}
-use Rattle.std.specs.Prelude.{IsTrue, sum, sum_by, ◌==◌, if◌then◌else◌}
+use Rattle.std.specs.Prelude.{IfSome, IsTrue, sum, sum_by, ◌==◌, if◌then◌else◌}
 use Rattle.gpu_descriptor.specs.Model.Agreement.{flags_of}
 use Rattle.gpu_descriptor.specs.Model.Books.{Key, Entry}
 use Rattle.gpu_descriptor.specs.Inner.Buckets.{IsBookedIn}
 use Rattle.gpu_descriptor_types.proofs.Counting.{count_by_yes, count_by_no, set_exact}
 use Rattle.gpu_descriptor_types.specs.Flags.{IsUpdateAfterBind}
-use Rattle.gpu_descriptor_types.specs.Ledger.{Ledger, HasRoom}
-use Rattle.gpu_descriptor_types.specs.Multiset.{LiveSet, set_eq, times}
+use Rattle.gpu_descriptor_types.specs.Ledger.{Pool, Ledger, HasRoom, IsFiniteLedger}
+use Rattle.gpu_descriptor_types.specs.Multiset.{LiveSet, Spells, set_eq, times}
 use Rattle.gpu_descriptor_types.specs.PoolSize.{pool_counts}
-use Rattle.gpu_descriptor.proofs.Sized.{size_of}
+use Rattle.gpu_descriptor.proofs.Sized.{listed}
 
 abbrev pub key_with : List ℕ → Bool → Key
 key_with counts mark = record { counts = counts; marked = mark }
@@ -60,12 +60,12 @@ pub marked_flags : (counts : List ℕ) (mark : Bool) → IsTrue mark → IsUpdat
 marked_flags counts true h = refl
 marked_flags counts false h = absurd (cc)
 
-pub has_room : (counts : List ℕ) (mark : Bool) (e : Entry) (n : ℕ) (l : Ledger) → IsBookedIn (key_with counts mark) l.pools e → n ≤ e.free → HasRoom e.pool n counts mark l
-has_room counts mark e n l b few =
-    let size = size_of b.booked in
-    let sets : List LiveSet = size.0 in
-    let long = size.1 in
-    let spelled = size.2 in
+pub has_room : (counts : List ℕ) (mark : Bool) (e : Entry) (n : ℕ) (l : Ledger) → IsFiniteLedger l → IsBookedIn (key_with counts mark) l.pools e → n ≤ e.free → HasRoom e.pool n counts mark l
+has_room counts mark e n l finite b few =
+    let spelling = subst (λ o. IfSome o (λ (p : Pool). (sets : List LiveSet) × Spells sets p.live)) b.is_live (finite.spelled e.pool) in
+    let sets : List LiveSet = spelling.0 in
+    let spelled = spelling.1 in
+    let long = listed (key_with counts mark) b.pool e b.booked sets spelled in
     record {
       pool = b.pool;
       is_live = b.is_live;

@@ -2,22 +2,18 @@
 use Rattle.std.proofs.Common.{◌≡◌, ◌≢◌, ℕ, suc, ◌+◌, ◌<◌, ◌≤◌, Bool, true, false, ◌||◌, ◌==◌, List, [], ◌∷◌, length, map, drop, get_or, Option, None, inl, inr, refl, sym, ap, ◌∙◌, arith, eq-eqb, ne_eqb}
 use Rattle.std.specs.Prelude.{if◌then◌else◌}
 use Rattle.std.proofs.Math.Path.{fun_ext}
-use Rattle.std.proofs.lemmas.Bool.{cases_Bool}
+use Rattle.std.proofs.lemmas.Bool.{cases_Bool, cases_eq}
 use Rattle.std.proofs.lemmas.List.{length-map}
-use Rattle.std.proofs.lemmas.List.Sums.{count_by-le-length}
 use Rattle.gpu_descriptor_types.specs.Ledger.{Pool, Ledger, HasNoSets, after_destroy}
-use Rattle.gpu_descriptor_types.specs.Multiset.{set_eq}
 use Rattle.gpu_descriptor.specs.declared.bucket.DescriptorPool.{DescriptorPool}
 use Rattle.gpu_descriptor.specs.Model.Books.{Key, Entry, Bucket}
 use Rattle.gpu_descriptor.specs.Inner.Buckets.{AreBookedIn, front_but, trimmed_bucket, trimmed_ledger, ledger_without, pools_without}
 use Rattle.gpu_descriptor.specs.Model.Release.{more_destroyed, is_empty, without_front, in_front}
 use Rattle.gpu_descriptor.specs.Inner.Stored.{entry_of}
+use Rattle.gpu_descriptor.proofs.Exact.{bucket}
 use Rattle.gpu_descriptor.proofs.Fronts.{trim, trim_yes, trim_no, trim_short}
+use Rattle.gpu_descriptor.proofs.Places.{size_pos}
 use Rattle.gpu_descriptor.proofs.LedgerPools.{with_pool, with_pool_other, destroyed_none, destroyed_both}
-use Rattle.gpu_descriptor.proofs.Sized.{size_of}
-
-abbrev pub bucket : ℕ → ℕ → List Entry → Bucket
-bucket id first es = record { id = id; first = first; pools = es }
 
 pub step_books : (keep id first : ℕ) (x : Entry) (es : List Entry) → keep ≤ length es → is_empty x ≡ true → trimmed_bucket keep (bucket id (first + 1) es) ≡ trimmed_bucket keep (bucket id first (x ∷ es))
 step_books keep id first x es le empty =
@@ -46,15 +42,13 @@ step_ledger keep id first x es l le empty =
 pub front_unused : (k : Key) (first : ℕ) (x : Entry) (es : List Entry) (l : Ledger) → AreBookedIn k l.pools (x ∷ es) → x.allocated ≡ 0 → HasNoSets x.pool l
 front_unused k first x es l stored none =
     let found = stored.each 0 x refl in
-    let size = size_of found.booked in
     record {
       pool = found.pool;
       is_live = found.is_live;
-      empty = λ name.
-          let count = count_by-le-length (λ n. set_eq n name) size.0 in
-          let long = size.1 in
-          let is = size.2 name in
-          omega arith;
+      empty = λ name. elim (cases_eq 0 (found.pool.live name)) [
+        | inl same ↦ sym same
+        | inr some ↦ absurd (let bad = size_pos found.pool.live x.allocated name found.booked.allocated (omega arith) in omega arith)
+      ];
     }
 
 pub step_stored : (k : Key) (first : ℕ) (x : Entry) (es : List Entry) (pools : ℕ → Option Pool) → AreBookedIn k pools (x ∷ es) → AreBookedIn k (with_pool pools x.pool None) es

@@ -6,7 +6,7 @@ use Rattle.std.proofs.lemmas.Grind.{flat_map-append}
 use Rattle.std.proofs.lemmas.Map.{update_apart}
 use Rattle.std.specs.List.{slice_get}
 use Rattle.std.specs.Prelude.{option_map}
-use Rattle.gpu_descriptor.specs.Model.Books.{Key, Entry}
+use Rattle.gpu_descriptor.specs.Model.Books.{Key, Entry, Bucket}
 use Rattle.gpu_descriptor.specs.Caller.Sets.{items_of}
 use Rattle.gpu_descriptor.specs.Model.Agreement.{Item}
 use Rattle.gpu_descriptor.specs.Model.Grants.{Part, items_at, items_in, pool_with, ledger_with}
@@ -18,6 +18,7 @@ use Rattle.gpu_descriptor.specs.declared.bucket.take.Stop.TheVariants.{Existing}
 use Rattle.gpu_descriptor_types.specs.Ledger.{Pool, Ledger, live_sets, changed}
 use Rattle.gpu_descriptor_types.specs.declared.errors.DeviceAllocationError.{DeviceAllocationError}
 use Rattle.std.proofs.lemmas.Option.{slice_get_within}
+use Rattle.gpu_descriptor.proofs.Exact.{bucket}
 use Rattle.gpu_descriptor.proofs.KeepSteps.{keeps_start, keeps_asked}
 use Rattle.gpu_descriptor.proofs.Asks.{pool_same, same_counters, skipped}
 use Rattle.gpu_descriptor.proofs.Shares.{IsApart, apart_from, not_refused, drop_at, get_drop, or_at}
@@ -27,7 +28,7 @@ pub record Walking (k : Key) (n id first left wanting : ℕ) (items : List Item)
   pub refused : ℕ → Bool
   pub parts : List Part
   pub wants : wanting ≡ rest refused n (drop left old)
-  pub taken : HasTaken k n id first (so_far id left refused parts) items old new l m
+  pub taken : HasTaken k n (so_far id left refused parts) items (bucket id first old) (bucket id first new) l m
   pub untouched : (j : ℕ) (e : Entry) → j < left → slice_get old j ≡ Some e → m.pools e.pool ≡ l.pools e.pool
 
 take_get : {A : Type 0} (xs : List A) (i : ℕ) (x : A) → slice_get xs i ≡ Some x → take (suc i) xs ≡ take i xs ++ x ∷ []
@@ -49,7 +50,7 @@ module _ (k : Key) (n id first i wanting : ℕ) (items : List Item) (old new : L
   -- the next pool is as it was
   pub next_was : i < length old → slice_get new i ≡ slice_get old i
   next_was here =
-      ap (λ x. slice_get x i) (s.taken.entries ∙ append-nil (take (suc i) old ++ all_shared s.refused n (drop (suc i) old)))
+      ap (λ x. slice_get x i) (ap (λ (b : Bucket). b.pools) s.taken.bucket ∙ append-nil (take (suc i) old ++ all_shared s.refused n (drop (suc i) old)))
       ∙ get_take old (all_shared s.refused n (drop (suc i) old)) i here
 
   pub next_booked : (e : Entry) → slice_get old i ≡ Some e → IsBookedIn k m.pools e
@@ -63,7 +64,7 @@ module _ (k : Key) (n id first i wanting : ℕ) (items : List Item) (old new : L
   pub walk_more : (e f : Entry) (more : List ℕ) (m' : Ledger) (wanting' : ℕ) → slice_get old i ≡ Some e → IsAsked k wanting more e f m m' → wanting' + length more ≡ wanting → Walking k n id first i wanting' (items ++ items_at k id (first + i) more) old (slice_set new i f) l m'
   walk_more e f more m' wanting' at asked less =
       let a : IsAsked k (rest s.refused n (drop (suc i) old)) more e f m m' = subst (λ (w : ℕ). IsAsked k w more e f m m') s.wants asked in
-      let not_yet = not_refused s.refused n e.pool (drop (suc i) old) (apart e at) s.taken.refusing in
+      let not_yet = not_refused s.refused n e.pool (drop (suc i) old) (apart e at) s.taken.grant.refusing in
       let tail = drop_at old i e at in
       record {
         refused = or_at a.refused e.pool s.refused;
@@ -103,13 +104,10 @@ walk_start k n id first old l booked =
       parts = [];
       wants = (let e : n ≡ rest none_refuse n [] = omega arith in e ∙ ap (rest none_refuse n) (sym none));
       taken = record {
-        named = refl;
+        grant = record { id = λ some. refl; refusing = λ name h. absurd (cc); parts = ap (λ es. portions_of none_refuse n (first + length old) es ++ []) (sym none); new = tt };
         came = refl;
         keeps = keeps_start k id first old l.pools booked;
-        refusing = λ name h. absurd (cc);
-        parts = ap (λ es. portions_of none_refuse n (first + length old) es ++ []) (sym none);
-        is_new = tt;
-        entries = sym (ap (λ es. take (length old) old ++ all_shared none_refuse n es ++ []) none ∙ append-nil (take (length old) old ++ []) ∙ append-nil (take (length old) old) ∙ take_all old);
+        bucket = ap (bucket id first) (sym (ap (λ es. take (length old) old ++ all_shared none_refuse n es ++ []) none ∙ append-nil (take (length old) old ++ []) ∙ append-nil (take (length old) old) ∙ take_all old));
         pools = ledger_none k id (length old) l.pools;
         counters =
             let asked : asked_count none_refuse n (drop (length old) old) ≡ 0 = ap (asked_count none_refuse n) none in
@@ -119,7 +117,7 @@ walk_start k n id first old l booked =
       untouched = λ j e lt at. refl;
     }
 
-pub walk_end : (k : Key) (n id first wanting : ℕ) (items : List Item) (old new : List Entry) (l m : Ledger) → Walking k n id first 0 wanting items old new l m → IsWalked k n id first wanting items old new l m
+pub walk_end : (k : Key) (n id first wanting : ℕ) (items : List Item) (old new : List Entry) (l m : Ledger) → Walking k n id first 0 wanting items old new l m → IsWalked k n wanting items (bucket id first old) (bucket id first new) l m
 walk_end k n id first wanting items old new l m s = record { grant = so_far id 0 s.refused s.parts; all = refl; no_fresh = refl; wants = s.wants; taken = s.taken }
 
 split_at : {A : Type 0} (xs : List A) (i : ℕ) (x : A) → slice_get xs i ≡ Some x → xs ≡ take i xs ++ x ∷ drop (suc i) xs
@@ -132,11 +130,11 @@ set_same [] i x h = absurd (cc)
 set_same (y ∷ xs) zero x h = (let e : y ≡ x = cc in ap (λ z. z ∷ xs) (sym e))
 set_same (y ∷ xs) (suc i) x h = ap (λ z. y ∷ z) (set_same xs i x h)
 
-pub walk_stop : (k : Key) (room n id first i wanting : ℕ) (items : List Item) (old new : List Entry) (l m m' : Ledger) (e f : Entry) (error : DeviceAllocationError) → Walking k n id first (suc i) wanting items old new l m → slice_get old i ≡ Some e → slice_get new i ≡ Some e → f ≡ e → IsNoMemory wanting e error m m' → IsTaken (Err (Existing error)) k room n id first items old (slice_set new i f) l m'
+pub walk_stop : (k : Key) (room n id first i wanting : ℕ) (items : List Item) (old new : List Entry) (l m m' : Ledger) (e f : Entry) (error : DeviceAllocationError) → Walking k n id first (suc i) wanting items old new l m → slice_get old i ≡ Some e → slice_get new i ≡ Some e → f ≡ e → IsNoMemory wanting e error m m' → IsTaken (Err (Existing error)) k room n items (bucket id first old) (bucket id first (slice_set new i f)) l m'
 walk_stop k room n id first i wanting items old new l m m' e f error s was is same none = (
   so_far id (suc i) s.refused s.parts,
   m,
-  subst (λ (es : List Entry). HasTaken k n id first (so_far id (suc i) s.refused s.parts) items old es l m) (sym (ap (slice_set new i) same ∙ set_same new i e is)) s.taken,
+  subst (λ (es : List Entry). HasTaken k n (so_far id (suc i) s.refused s.parts) items (bucket id first old) (bucket id first es) l m) (sym (ap (slice_set new i) same ∙ set_same new i e is)) s.taken,
   record {
     older = take i old;
     pool = e;

@@ -1,5 +1,5 @@
 -- Giving one run back, over the books of all keys.
-use Rattle.std.proofs.Common.{◌≡◌, ℕ, suc, ◌+◌, ◌-◌, ◌<◌, ◌≤◌, Bool, true, false, ◌==◌, List, [], ◌∷◌, length, map, count_by, sum_by, slice_get, Option, Some, None, option_map, inl, inr, refl, sym, ap, ◌∙◌, arith, eq-eqb, ne_eqb, eqb-true}
+use Rattle.std.proofs.Common.{◌≡◌, ℕ, suc, ◌+◌, ◌-◌, ◌<◌, ◌≤◌, Bool, true, false, ◌==◌, List, [], ◌∷◌, length, map, count_by, sum_by, Option, Some, None, option_map, inl, inr, refl, sym, ap, ◌∙◌, arith, eq-eqb, ne_eqb, eqb-true}
 use Rattle.std.specs.Prelude.{if◌then◌else◌}
 use Rattle.std.proofs.Math.Path.{fun_ext}
 use Rattle.std.specs.List.{list_any}
@@ -92,15 +92,13 @@ module _ {S : Type 0} (name : S → ℕ) where
       let has = has_place m s agree out (item_of name x) (first_of x xs) in
       let e = has.0 in
       let at : entry_at (s.books k) n ≡ Some e = has.1 in
-      let found = entry_at-found (s.books k) n e at in
       let own : (e.pool == e.pool) ≡ true = eq-eqb e.pool e.pool refl in
       let all : back m s e.pool ≡ length m = run_back k n m s e run at e.pool ∙ (rw own refl) in
       let long = same_length (x ∷ xs) in
       let fits = has.5 in
       record {
         entry = e;
-        above = found.0;
-        at = found.1;
+        at = at;
         fits = (let less : length (names_of name (x ∷ xs)) ≤ e.allocated = omega arith in less);
         live = λ y.
             let part = part_fits m s agree out k n e has.2 at has.3 y in
@@ -117,19 +115,19 @@ module _ {S : Type 0} (name : S → ℕ) where
       λ i. Some (record p { live = live i })
 
   -- THE STATE AFTER ONE RUN, before the front goes
-  pub given_run : (s : State) → Agree s → (x : DescriptorSet S) (xs : List (DescriptorSet S)) → AllPass (lies_at x.key.is x.number) xs → (e : Entry) → (s.books x.key.is).first ≤ x.number → slice_get (s.books x.key.is).pools (x.number - (s.books x.key.is).first) ≡ Some e
+  pub given_run : (s : State) → Agree s → (x : DescriptorSet S) (xs : List (DescriptorSet S)) → AllPass (lies_at x.key.is x.number) xs → (e : Entry) → entry_at (s.books x.key.is) x.number ≡ Some e
       → given_back (items_of name (x ∷ xs)) s ≡ record {
         books = put_books s.books x.key.is (bucket_back (s.books x.key.is) x.number (length (names_of name (x ∷ xs))) e);
         ledger = taken_from s.ledger e.pool (live_sets x.key.is.counts (names_of name (x ∷ xs)));
       }
-  given_run s agree x xs have e above place =
+  given_run s agree x xs have e at =
       let k = x.key.is in
       let n = x.number in
       let m = items_of name (x ∷ xs) in
       let b = s.books k in
       let ls = live_sets k.counts (names_of name (x ∷ xs)) in
       let run = is_run x.key.is n (x ∷ xs) (all_have x xs have) in
-      let at : entry_at b n ≡ Some e = entry_at-from b n e above place in
+      let place = (entry_at-found b n e at).1 in
       let long : length m ≡ length (names_of name (x ∷ xs)) = same_length (x ∷ xs) in
       let c = bucket_back b n (length (names_of name (x ∷ xs))) e in
       let one : (given_back m s).books k ≡ c = run_books k n m s e agree run at place ∙ ap (λ (l : ℕ). bucket_back b n l e) long in
@@ -192,15 +190,15 @@ module _ {S : Type 0} (name : S → ℕ) where
       λ i. record { books = books_are i; ledger = ledger i }
 
   -- THE STATE AFTER ONE RUN
-  pub whole_run : (s : State) → Agree s → (x : DescriptorSet S) (xs : List (DescriptorSet S)) → AllPass (lies_at x.key.is x.number) xs → (e : Entry) → (s.books x.key.is).first ≤ x.number → slice_get (s.books x.key.is).pools (x.number - (s.books x.key.is).first) ≡ Some e
+  pub whole_run : (s : State) → Agree s → (x : DescriptorSet S) (xs : List (DescriptorSet S)) → AllPass (lies_at x.key.is x.number) xs → (e : Entry) → entry_at (s.books x.key.is) x.number ≡ Some e
       → (c : Bucket) (pools : ℕ → Option Pool) → c ≡ trimmed_bucket 1 (bucket_back (s.books x.key.is) x.number (length (names_of name (x ∷ xs))) e) → pools ≡ trimmed_pools (bucket_back (s.books x.key.is) x.number (length (names_of name (x ∷ xs))) e) (taken_from s.ledger e.pool (live_sets x.key.is.counts (names_of name (x ∷ xs))))
       → ◌≡◌ {A = State} (record { books = put_books s.books x.key.is c; ledger = pools }) (released (items_of name (x ∷ xs)) s)
-  whole_run s agree x xs have e above place c pools is are =
+  whole_run s agree x xs have e at c pools is are =
       let k = x.key.is in
       let b = bucket_back (s.books k) x.number (length (names_of name (x ∷ xs))) e in
       let after = taken_from s.ledger e.pool (live_sets k.counts (names_of name (x ∷ xs))) in
       let left : ◌≡◌ {A = State} (record { books = put_books s.books k c; ledger = pools }) (record { books = put_books s.books k (trimmed_bucket 1 b); ledger = trimmed_pools b after }) = λ i. record { books = put_books s.books k (is i); ledger = are i } in
-      left ∙ sym (front_run x xs have s.books b after) ∙ ap (fronts_gone (items_of name (x ∷ xs))) (sym (given_run s agree x xs have e above place))
+      left ∙ sym (front_run x xs have s.books b after) ∙ ap (fronts_gone (items_of name (x ∷ xs))) (sym (given_run s agree x xs have e at))
 
   -- what is 0 at all other keys adds up to what it is at one that is there once
   sum_none : (k : Key) (f : Key → ℕ) → ((l : Key) → key_eq k l ≡ false → f l ≡ 0) → (keys : List Key) → count_by (key_eq k) keys ≡ 0 → sum_by f keys ≡ 0
@@ -218,9 +216,9 @@ module _ {S : Type 0} (name : S → ℕ) where
   ]
 
   -- THE POOLS THAT GO are those of the run's key
-  pub gone_run : (s : State) → Agree s → (x : DescriptorSet S) (xs : List (DescriptorSet S)) → AllPass (lies_at x.key.is x.number) xs → (e : Entry) → (s.books x.key.is).first ≤ x.number → slice_get (s.books x.key.is).pools (x.number - (s.books x.key.is).first) ≡ Some e
+  pub gone_run : (s : State) → Agree s → (x : DescriptorSet S) (xs : List (DescriptorSet S)) → AllPass (lies_at x.key.is x.number) xs → (e : Entry) → entry_at (s.books x.key.is) x.number ≡ Some e
       → (keys : List Key) → count_by (key_eq x.key.is) keys ≡ 1 → pools_gone keys (items_of name (x ∷ xs)) (given_back (items_of name (x ∷ xs)) s) ≡ spent_front (bucket_back (s.books x.key.is) x.number (length (names_of name (x ∷ xs))) e)
-  gone_run s agree x xs have e above place keys there =
+  gone_run s agree x xs have e at keys there =
       let k = x.key.is in
       let m = items_of name (x ∷ xs) in
       let b = bucket_back (s.books k) x.number (length (names_of name (x ∷ xs))) e in
@@ -233,6 +231,6 @@ module _ {S : Type 0} (name : S → ℕ) where
       let same : k ≡ l = sym (run who.0 who.1).0 ∙ key_exact.same who.0.key l who.2 in
       let bad : true ≡ false = sym (ap (key_eq k) (sym same) ∙ key_exact.self k) ∙ other in cc) in
       rw unnamed refl in
-      let given : (given_back m s).books k ≡ b = ap (λ (t : State). t.books k) (given_run s agree x xs have e above place) ∙ (let own : put_books s.books k b k ≡ b = rw (key_exact.self k) refl in own) in
+      let given : (given_back m s).books k ≡ b = ap (λ (t : State). t.books k) (given_run s agree x xs have e at) ∙ (let own : put_books s.books k b k ≡ b = rw (key_exact.self k) refl in own) in
       let here : f k ≡ spent_front ((given_back m s).books k) = rw named refl in
       sum_once k f only keys there ∙ here ∙ ap spent_front given

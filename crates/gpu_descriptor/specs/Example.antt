@@ -1,20 +1,17 @@
--- The definitions at one state, worked out. A plain key has six pools: two empty ones at the front, one
+-- The definitions at one state, worked out by the check. A plain key has six pools: two empty ones at the front, one
 -- with a set, an empty one behind it, one with a set, and an empty one at the end. A marked key has two
 -- pools, both empty. One pool of the ledger is somebody else's.
-use Rattle.std.proofs.Common.{◌≡◌, ℕ, ◌-◌, ◌==◌, Bool, true, false, ◌&&◌, ◌||◌, List, [], ◌∷◌, Option, Some, None, refl, sym, ap, ◌∙◌}
-use Rattle.std.proofs.Math.Nat.{sub-zero}
-use Rattle.std.proofs.lemmas.Bool.{eqb-true, true≢false}
+use Rattle.std.specs.Prelude.{◌≡◌, ℕ, ◌==◌, Bool, true, false, List, [], ◌∷◌, Option, Some, None, is_some, if◌then◌else◌, filter, map, replicate, refl}
 use Rattle.std.specs.List.{list_any}
-use Rattle.std.specs.Prelude.{if◌then◌else◌, count_by, map, option_map, replicate}
 use Rattle.gpu_descriptor_types.specs.Ledger.{Pool}
 use Rattle.gpu_descriptor_types.specs.Multiset.{LiveSet, set_eq}
-use Rattle.gpu_descriptor.specs.Model.Agreement.{State, Item, set_of}
-use Rattle.gpu_descriptor.specs.Model.Books.{Key, key_eq, Entry, Bucket, no_pools}
-use Rattle.gpu_descriptor.specs.Model.Cleanup.{IsCleaned, cleaned_bucket}
-use Rattle.gpu_descriptor.specs.Caller.Comparisons.{binary_digits}
 use Rattle.gpu_descriptor_types.specs.PoolSize.{sets_in_room}
+use Rattle.gpu_descriptor.specs.Model.Agreement.{State, Item, set_of, live_in}
+use Rattle.gpu_descriptor.specs.Model.Books.{Key, key_eq, Entry, Bucket, no_pools}
+use Rattle.gpu_descriptor.specs.Model.Cleanup.{cleaned_bucket}
 use Rattle.gpu_descriptor.specs.Model.Load.{pool_load, bucket_load}
-use Rattle.gpu_descriptor.specs.Model.Release.{bucket_less, pool_less, lies_in, spent_front, empty_front, without_front, in_front, released}
+use Rattle.gpu_descriptor.specs.Model.Release.{released}
+use Rattle.gpu_descriptor.specs.Caller.Comparisons.{binary_digits}
 
 -- ---- the state
 
@@ -84,10 +81,6 @@ state = record {
       else None;
 }
 
--- the ledger without the pools of these names
-abbrev without : List ℕ → (ℕ → Option Pool) → ℕ → Option Pool
-without names ledger pool = if is_of names pool then None else ledger pool
-
 -- the sets that are out
 abbrev set_102 : Item
 set_102 = record { key = plain; id = 0; number = 9; name = 102 }
@@ -119,144 +112,33 @@ digits_shown = refl
 
 -- ---- sets go back
 
--- a key's pools after the sets of the list went back, which are the plain key's
-abbrev after : List Item → Bool → Bool → Bucket
-after items p m =
-    let b = bucket_less (λ pool. count_by (lies_in state.books pool) items) (either plain_pools marked_pools p m) in
-    if list_any (λ _. p) items then without_front (spent_front b) b else b
-
-unchanged : (o : Option Pool) → option_map (pool_less none) o ≡ o
-unchanged None = refl
-unchanged (Some p) = λ i. Some (record p { live = λ x. sub-zero (p.live x) i })
+-- which of the pools are live
+abbrev live : State → List ℕ
+live s = filter (λ pool. is_some (s.ledger pool)) (10 ∷ 11 ∷ 12 ∷ 13 ∷ 14 ∷ 15 ∷ 20 ∷ 21 ∷ 30 ∷ [])
 
 -- nothing goes back: nothing changes, also where the front is empty
-none_back : released [] state ≡ state
-none_back = λ i. record { books = λ k. books (key_eq plain k) (key_eq marked k) i; ledger = λ pool. unchanged (state.ledger pool) i }
-  where
-    books : (p m : Bool) → after [] p m ≡ either plain_pools marked_pools p m
-    books true m = refl
-    books false true = refl
-    books false false = refl
+none_back : ((released [] state).books plain ≡ plain_pools) × (live (released [] state) ≡ live state)
+none_back = (refl, refl)
 
 -- set 102 goes back: its pool is empty then, so the front goes up to the pool that has a set, and numbers
 -- rise. The marked key keeps its empty front, and the last pool of the plain key stays
-first_back : released (set_102 ∷ []) state ≡ record {
-  books = books_with (from 11 (used 14 ∷ unused 15 ∷ [])) marked_pools;
-  ledger = without (10 ∷ 11 ∷ 12 ∷ 13 ∷ []) state.ledger;
-}
-first_back = λ i. record { books = λ k. books (key_eq plain k) (key_eq marked k) i; ledger = λ p. ledger (10 == p) (11 == p) (12 == p) (13 == p) (state.ledger p) i }
-  where
-    books : (p m : Bool) → after (set_102 ∷ []) p m ≡ either (from 11 (used 14 ∷ unused 15 ∷ [])) marked_pools p m
-    books true m = refl
-    books false true = refl
-    books false false = refl
-
-    ledger : (a b c d : Bool) (o : Option Pool) →
-        (if (a || (b || (c || (d || false)))) || false then None else option_map (pool_less (λ x. count_by (λ t. c && set_eq (set_of t) x) (set_102 ∷ []))) o)
-        ≡ (if a || (b || (c || (d || false))) then None else o)
-    ledger true b c d o = refl
-    ledger false true c d o = refl
-    ledger false false true d o = refl
-    ledger false false false true o = refl
-    ledger false false false false o = unchanged o
+first_back : (let s = released (set_102 ∷ []) state in (s.books plain ≡ from 11 (used 14 ∷ unused 15 ∷ [])) × (s.books marked ≡ marked_pools) × (live s ≡ 14 ∷ 15 ∷ 20 ∷ 21 ∷ 30 ∷ []))
+first_back = (refl, refl, refl)
 
 -- set 104 goes back: the front goes that was empty before, and pool 14 stands empty behind a pool with a set
-second_back : released (set_104 ∷ []) state ≡ record {
-  books = books_with (from 9 (used 12 ∷ unused 13 ∷ unused 14 ∷ unused 15 ∷ [])) marked_pools;
-  ledger = λ pool. if is_of (10 ∷ 11 ∷ []) pool then None else if 14 == pool then Some (plain_pool none) else state.ledger pool;
-}
-second_back = λ i. record { books = λ k. books (key_eq plain k) (key_eq marked k) i; ledger = λ p. ledger (10 == p) (11 == p) (14 == p) (state.ledger p) (at_14 p) i }
-  where
-    books : (p m : Bool) → after (set_104 ∷ []) p m ≡ either (from 9 (used 12 ∷ unused 13 ∷ unused 14 ∷ unused 15 ∷ [])) marked_pools p m
-    books true m = refl
-    books false true = refl
-    books false false = refl
+second_back : (let s = released (set_104 ∷ []) state in (s.books plain ≡ from 9 (used 12 ∷ unused 13 ∷ unused 14 ∷ unused 15 ∷ [])) × (live s ≡ 12 ∷ 13 ∷ 14 ∷ 15 ∷ 20 ∷ 21 ∷ 30 ∷ []) × (live_in s.ledger 14 (set_of set_104) ≡ 0))
+second_back = (refl, refl, refl)
 
-    at_14 : (p : ℕ) → (14 == p) ≡ true → state.ledger p ≡ Some (plain_pool (one 104))
-    at_14 p h = ap state.ledger (sym (eqb-true 14 p h))
+-- both go back, also one after the other: all pools are empty then, and the last one stays
+both_back : (let s = released (set_104 ∷ set_102 ∷ []) state in (s.books plain ≡ from 12 (unused 15 ∷ [])) × (live s ≡ 15 ∷ 20 ∷ 21 ∷ 30 ∷ []))
+both_back = (refl, refl)
 
-    emptied : (b : Bool) → (if b then 1 else 0) - count_by (λ t. b) (set_104 ∷ []) ≡ 0
-    emptied true = refl
-    emptied false = refl
-
-    ledger : (a b e : Bool) (o : Option Pool) → (e ≡ true → o ≡ Some (plain_pool (one 104))) →
-        (if (a || (b || false)) || false then None else option_map (pool_less (λ x. count_by (λ t. e && set_eq (set_of t) x) (set_104 ∷ []))) o)
-        ≡ (if a || (b || false) then None else if e then Some (plain_pool none) else o)
-    ledger true b e o h = refl
-    ledger false true e o h = refl
-    ledger false false true o h =
-        ap (option_map (pool_less (λ x. count_by (λ t. set_eq (set_of t) x) (set_104 ∷ [])))) (h refl)
-        ∙ (λ i. Some (plain_pool (λ x. emptied (set_eq (set_of set_104) x) i)))
-    ledger false false false o h = unchanged o
-
--- both go back: all pools are empty then, and the last one stays
-both_back : released (set_104 ∷ set_102 ∷ []) state ≡ record {
-  books = books_with (from 12 (unused 15 ∷ [])) marked_pools;
-  ledger = without (10 ∷ 11 ∷ 12 ∷ 13 ∷ 14 ∷ []) state.ledger;
-}
-both_back = λ i. record { books = λ k. books (key_eq plain k) (key_eq marked k) i; ledger = λ p. ledger (10 == p) (11 == p) (12 == p) (13 == p) (14 == p) (state.ledger p) i }
-  where
-    books : (p m : Bool) → after (set_104 ∷ set_102 ∷ []) p m ≡ either (from 12 (unused 15 ∷ [])) marked_pools p m
-    books true m = refl
-    books false true = refl
-    books false false = refl
-
-    ledger : (a b c d e : Bool) (o : Option Pool) →
-        (let gone = a || (b || (c || (d || (e || false)))) in if gone || (gone || false) then None else option_map (pool_less (λ x. count_by (λ t. (if t.number == 11 then e else c) && set_eq (set_of t) x) (set_104 ∷ set_102 ∷ []))) o)
-        ≡ (if a || (b || (c || (d || (e || false)))) then None else o)
-    ledger true b c d e o = refl
-    ledger false true c d e o = refl
-    ledger false false true d e o = refl
-    ledger false false false true e o = refl
-    ledger false false false false true o = refl
-    ledger false false false false false o = unchanged o
-
--- one after the other leaves the same
-one_by_one : (released (set_104 ∷ []) (released (set_102 ∷ []) state)).books plain ≡ from 12 (unused 15 ∷ [])
-one_by_one = refl
+one_by_one : (let s = released (set_104 ∷ []) (released (set_102 ∷ []) state) in (s.books plain ≡ from 12 (unused 15 ∷ [])) × (live s ≡ 15 ∷ 20 ∷ 21 ∷ 30 ∷ []))
+one_by_one = (refl, refl)
 
 -- ---- cleaning up
 
 -- the front of the plain key goes, and the pools behind it keep their numbers. The marked key loses all its
 -- pools, the last one too, and is as one that never came
-abbrev cleaned : State
-cleaned = record {
-  books = books_with (from 9 (used 12 ∷ unused 13 ∷ used 14 ∷ unused 15 ∷ [])) no_pools;
-  ledger = without (10 ∷ 11 ∷ 20 ∷ 21 ∷ []) state.ledger;
-}
-
-clean : IsCleaned state cleaned
-clean = record {
-  books = λ k. books (key_eq plain k) (key_eq marked k);
-  gone = λ k pool. gone (key_eq plain k) (key_eq marked k) pool;
-  kept = λ pool h. kept (10 == pool) (11 == pool) (20 == pool) (21 == pool) (state.ledger pool) (h plain) (h marked);
-}
-  where
-    books : (p m : Bool) → either (from 9 (used 12 ∷ unused 13 ∷ used 14 ∷ unused 15 ∷ [])) no_pools p m ≡ cleaned_bucket (either plain_pools marked_pools p m)
-    books true m = refl
-    books false true = refl
-    books false false = refl
-
-    gone_plain : (a b c d : Bool) (o : Option Pool) → (a || (b || false)) ≡ true → (if a || (b || (c || (d || false))) then None else o) ≡ None
-    gone_plain true b c d o h = refl
-    gone_plain false true c d o h = refl
-    gone_plain false false c d o h = absurd (true≢false (sym h))
-
-    gone_marked : (a b c d : Bool) (o : Option Pool) → (c || (d || false)) ≡ true → (if a || (b || (c || (d || false))) then None else o) ≡ None
-    gone_marked true b c d o h = refl
-    gone_marked false true c d o h = refl
-    gone_marked false false true d o h = refl
-    gone_marked false false false true o h = refl
-    gone_marked false false false false o h = absurd (true≢false (sym h))
-
-    gone : (p m : Bool) (pool : ℕ) → (let b = either plain_pools marked_pools p m in in_front (empty_front b) b pool) ≡ true → cleaned.ledger pool ≡ None
-    gone true m pool h = gone_plain (10 == pool) (11 == pool) (20 == pool) (21 == pool) (state.ledger pool) h
-    gone false true pool h = gone_marked (10 == pool) (11 == pool) (20 == pool) (21 == pool) (state.ledger pool) h
-    gone false false pool h = absurd (true≢false (sym h))
-
-    kept : (a b c d : Bool) (o : Option Pool) → (a || (b || false)) ≡ false → (c || (d || false)) ≡ false → (if a || (b || (c || (d || false))) then None else o) ≡ o
-    kept true b c d o h l = absurd (true≢false h)
-    kept false true c d o h l = absurd (true≢false h)
-    kept false false true d o h l = absurd (true≢false l)
-    kept false false false true o h l = absurd (true≢false l)
-    kept false false false false o h l = refl
+clean : (cleaned_bucket plain_pools ≡ from 9 (used 12 ∷ unused 13 ∷ used 14 ∷ unused 15 ∷ [])) × (cleaned_bucket marked_pools ≡ no_pools)
+clean = (refl, refl)

@@ -7,7 +7,7 @@ use Rattle.gpu_descriptor.specs.declared.bucket.take.Stop.{Stop}
 use Rattle.gpu_descriptor.specs.declared.errors.AllocationError.{AllocationError}
 use Rattle.gpu_descriptor.specs.declared.errors.AllocationError.TheVariants.{OutOfHostMemory, Fragmentation}
 use Rattle.gpu_descriptor.specs.Model.Outcomes.{EndsAtPool, error_of_create, error_of_alloc, risen}
-use Rattle.gpu_descriptor.specs.Model.Books.{Key, Entry}
+use Rattle.gpu_descriptor.specs.Model.Books.{Key, Entry, Bucket}
 use Rattle.gpu_descriptor.specs.Model.Agreement.{Item, flags_of}
 use Rattle.gpu_descriptor.specs.Model.Load.{allocated_in, pool_load}
 use Rattle.gpu_descriptor.specs.Model.Shares.{rest, all_shared}
@@ -47,6 +47,6 @@ StopsAt (Existing e) k room n g old = EndsAtPool n old e g
 StopsAt why k room n g old = (g.left ≡ 0) × IsFreshFront k room (allocated_in (all_shared g.refused n old)) (rest g.refused n old) g.fresh × NoneIsNew why k (room_after k room g.fresh)
 
 -- what was taken of a key's pools: all that was asked for, or what had come when the request stopped
-abbrev pub IsTaken : Result (Unit {0}) Stop → Key → (room n id first : ℕ) → List Item → (old new : List Entry) → (before after : Ledger) → Type 0
-IsTaken (Ok done) k room n id first items old new before after = (g : Grant) × HasTaken k n id first g items old new before after × (g.left ≡ 0) × IsFreshList k room (allocated_in (all_shared g.refused n old)) (rest g.refused n old) g.fresh
-IsTaken (Err why) k room n id first items old new before after = (g : Grant) × (between : Ledger) × HasTaken k n id first g items old new before between × StopsAt why k room n g old × IsRefused why between after
+abbrev pub IsTaken : Result (Unit {0}) Stop → Key → (room n : ℕ) → List Item → (old new : Bucket) → (before after : Ledger) → Type 0
+IsTaken (Ok done) k room n items old new before after = (g : Grant) × HasTaken k n g items old new before after × (g.left ≡ 0) × IsFreshList k room (allocated_in (all_shared g.refused n old.pools)) (rest g.refused n old.pools) g.fresh
+IsTaken (Err why) k room n items old new before after = (g : Grant) × (between : Ledger) × HasTaken k n g items old new before between × StopsAt why k room n g old.pools × IsRefused why between after

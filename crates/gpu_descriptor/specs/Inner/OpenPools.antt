@@ -5,6 +5,8 @@ use Rattle.std.specs.Borrow.{LendsIf, MutBor, Fml, RattleType}
 use mir.Syntax.{named}
 use Rattle.gpu_descriptor_types.specs.Ledger.{Ledger}
 use Rattle.gpu_descriptor.specs.Inner.OpenNumbers.{open_numbers, free_in}
+use Rattle.gpu_descriptor.specs.Inner.Walk.{entries_of}
+use Rattle.gpu_descriptor.specs.Model.Books.{Bucket}
 use Rattle.gpu_descriptor.specs.declared.bucket.DescriptorPool.{DescriptorPool}
 use Rattle.gpu_descriptor.specs.declared.bucket.reads.OpenPools.{OpenPools}
 use Rattle.gpu_descriptor.specs.contracts.bucket.DescriptorPool as pool
@@ -18,6 +20,10 @@ module _ {P : Type 0} where
   -- the list has exactly the open pools
   abbrev pub IsListed : OpenPools P → Type 0
   IsListed v = v.listed.now.items ≡ open_numbers v.offset (free_in v.pools.now.items)
+
+  -- the key's pools, as the view has them
+  abbrev pub bucket_in : (P → ℕ) → OpenPools P → Bucket
+  bucket_in name v = record { id = v.id; first = v.offset; pools = entries_of name v.pools.now.items }
 
   -- the numbers start where they did, and the view is over the same values
   abbrev pub KeepsView : OpenPools P → OpenPools P → Type 0

@@ -1,5 +1,5 @@
 -- How one run goes back: at its key's pools, and at the allocator.
-use Rattle.std.specs.Prelude.{◌≡◌, ℕ, ◌+◌, List, ◌∷◌, length, Option, ◌-◌, ◌≤◌, map, set, slice_get, Some}
+use Rattle.std.specs.Prelude.{◌≡◌, ℕ, ◌+◌, List, ◌∷◌, length, Option, ◌-◌, ◌≤◌, map, set, Some}
 use Rattle.gpu_descriptor_types.specs.Ledger.{Ledger, Pool, after_release, live_sets}
 use Rattle.gpu_descriptor.specs.declared.set.DescriptorSet.{DescriptorSet}
 use Rattle.gpu_descriptor.specs.Model.Agreement.{live_in}
@@ -9,15 +9,14 @@ use Rattle.gpu_descriptor.specs.Caller.Values.{Allocations}
 use Rattle.gpu_descriptor.specs.Caller.Frees.{GivesBack}
 use Rattle.gpu_descriptor_types.specs.Multiset.{LiveSet, times}
 use Rattle.gpu_descriptor.specs.declared.bucket.DescriptorBucket.{DescriptorBucket}
-use Rattle.gpu_descriptor.specs.Model.Books.{Key, Entry, Bucket}
+use Rattle.gpu_descriptor.specs.Model.Books.{Key, Entry, Bucket, entry_at}
 use Rattle.gpu_descriptor.specs.Inner.Stored.{bucket_of}
 use Rattle.gpu_descriptor.specs.Inner.Buckets.{trimmed_bucket, trimmed_ledger}
 
 -- the sets of these names are live in the key's pool with the number
 pub record IsTakenAt (k : Key) (number : ℕ) (names : List ℕ) (b : Bucket) (pools : ℕ → Option Pool) : Type 0 where
   pub entry : Entry
-  pub above : b.first ≤ number
-  pub at : slice_get b.pools (number - b.first) ≡ Some entry
+  pub at : entry_at b number ≡ Some entry
   pub fits : length names ≤ entry.allocated
   pub live : (x : LiveSet) → times (live_sets k.counts names) x ≤ live_in pools entry.pool x
 
@@ -28,8 +27,7 @@ bucket_back b number n e = record b { pools = set b.pools (number - b.first) (en
 -- giving back sets of these names takes a bucket and the ledger to these
 pub record RunsInto (k : Key) (number : ℕ) (names : List ℕ) (old : Bucket) (before : Ledger) (new : Bucket) (after : Ledger) : Type 0 where
   pub entry : Entry
-  pub above : old.first ≤ number
-  pub at : slice_get old.pools (number - old.first) ≡ Some entry
+  pub at : entry_at old number ≡ Some entry
   pub books : new ≡ trimmed_bucket 1 (bucket_back old number (length names) entry)
   pub ledger : after ≡ trimmed_ledger 1 (bucket_back old number (length names) entry) (after_release entry.pool (live_sets k.counts names) before)
 

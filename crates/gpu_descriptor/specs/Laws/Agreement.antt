@@ -1,12 +1,13 @@
 -- Laws of agreement between books and ledger.
-use Rattle.std.specs.Prelude.{◌≡◌, ℕ, ◌<◌, Option, Some}
+use Rattle.std.specs.Prelude.{◌≡◌, ℕ, ◌<◌, List, length, Option, Some}
 use Rattle.gpu_descriptor_types.specs.Ledger.{Pool}
+use Rattle.gpu_descriptor_types.specs.Multiset.{LiveSet, Spells}
 use Rattle.gpu_descriptor.specs.Model.Books.{Key, Entry, entry_at, no_pools}
-use Rattle.gpu_descriptor.specs.Model.Agreement.{State, Item, outstanding, HasSize, IsAsBooked, Agree}
+use Rattle.gpu_descriptor.specs.Model.Agreement.{State, Item, outstanding, IsAsBooked, Agree}
 
--- the list of a pool's live sets can be read off: nothing is lost by saying only that there is one
+-- so many sets are live as the books say, whichever list spells them
 abbrev pub BookedIsListed : Type 0
-BookedIsListed = (k : Key) (pool : Pool) (e : Entry) → IsAsBooked k pool e → HasSize pool.live e.allocated
+BookedIsListed = (k : Key) (pool : Pool) (e : Entry) → IsAsBooked k pool e → (sets : List LiveSet) → Spells sets pool.live → length sets ≡ e.allocated
 
 -- that they agree has one proof at most
 abbrev pub AgreesOnce : Type 0

@@ -31,9 +31,9 @@ PoolLoadIsCreated = (s : State) (n : ℕ) → Agree s → ((k : Key) → 0 < len
 abbrev pub MarkedWithinPools : Type 0
 MarkedWithinPools = (s : State) (marked pools : ℕ) → Agree s → IsMarkedLoad s marked → IsPoolLoad s pools → marked ≤ pools
 
--- where books and ledger agree, as many sets are out as are outstanding: those of a list of this length
+-- where books and ledger agree, as many sets are out as are outstanding: there is a list of these, of this length
 abbrev pub OutIsSize : Type 0
-OutIsSize = (s : State) (n : ℕ) → Agree s → IsOut s n → (items : List Item) × (length items ≡ n) × ((t : Item) → count_of t items ≡ outstanding s t)
+OutIsSize = (s : State) (n : ℕ) → Agree s → IsOut s n → ∥ ((items : List Item) × (length items ≡ n) × ((t : Item) → count_of t items ≡ outstanding s t)) ∥₁
 
 -- and every list that has each as often has this length
 abbrev pub OutIsLength : Type 0

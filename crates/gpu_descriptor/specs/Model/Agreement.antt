@@ -11,6 +11,10 @@ pub record State : Type 0 where
   pub books : Key → Bucket
   pub ledger : ℕ → Option Pool
 
+-- the state with another bucket of a key, and another ledger
+abbrev pub with_bucket : Key → Bucket → (ℕ → Option Pool) → State → State
+with_bucket k b ledger s = record { books = λ l. if key_eq k l then b else s.books l; ledger = ledger }
+
 -- ---- sets that were handed out
 
 -- a set that was handed out: its key and the id of that, the number of its pool, and its name
@@ -35,9 +39,13 @@ count_of s m = count_by (λ t. item_eq t s) m
 abbrev pub live_in : (ℕ → Option Pool) → ℕ → LiveSet → ℕ
 live_in ledger pool x = option_map_or (λ p. p.live x) (ledger pool) 0
 
--- how often a set is live in the pool that its key and its number name
+-- how often a set is live in the pool of the bucket that its number names
+abbrev pub live_at : (ℕ → Option Pool) → Bucket → Item → ℕ
+live_at ledger b t = option_map_or (λ e. live_in ledger e.pool (set_of t)) (entry_at b t.number) 0
+
+-- and in the one that its key and its number name
 abbrev pub live_there : State → Item → ℕ
-live_there s t = option_map_or (λ e. live_in s.ledger e.pool (set_of t)) (entry_at (s.books t.key) t.number) 0
+live_there s t = live_at s.ledger (s.books t.key) t
 
 -- how often a set is outstanding: as often as it is live there, if its id is that of its key
 abbrev pub outstanding : State → Item → ℕ

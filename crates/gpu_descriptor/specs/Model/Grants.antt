@@ -1,12 +1,12 @@
 -- What a request takes of a key's pools, and what books and ledger are then.
-use Rattle.std.specs.Prelude.{ℕ, ◌+◌, Bool, ◌==◌, if◌then◌else◌, List, [], ◌∷◌, ◌++◌, map, length, take, drop, flat_map, Option, Some, option_map}
+use Rattle.std.specs.Prelude.{◌≡◌, ℕ, ◌+◌, ◌<◌, Bool, ◌==◌, if◌then◌else◌, List, [], ◌∷◌, ◌++◌, map, length, take, drop, flat_map, Option, Some, option_map}
 use Rattle.gpu_descriptor_types.specs.Ledger.{Pool, live_sets, fresh}
 use Rattle.gpu_descriptor_types.specs.Multiset.{LiveSet, times}
 use Rattle.gpu_descriptor_types.specs.PoolSize.{pool_counts}
-use Rattle.gpu_descriptor.specs.Model.Books.{Key, key_eq, Entry}
-use Rattle.gpu_descriptor.specs.Model.Agreement.{State, Item, flags_of}
-use Rattle.gpu_descriptor.specs.Model.Shares.{all_shared, Portion}
-use Rattle.gpu_descriptor.specs.Model.FreshPools.{Fresh, fresh_entry}
+use Rattle.gpu_descriptor.specs.Model.Books.{Key, Entry, Bucket, next_number}
+use Rattle.gpu_descriptor.specs.Model.Agreement.{State, Item, flags_of, with_bucket}
+use Rattle.gpu_descriptor.specs.Model.Shares.{all_shared, Portion, OnlyAskedRefuse, portions_of}
+use Rattle.gpu_descriptor.specs.Model.FreshPools.{Fresh, fresh_entry, AreNew, fresh_portions}
 
 -- sets that came from one pool
 pub record Part : Type 0 where
@@ -26,6 +26,14 @@ pub record Grant : Type 0 where
   pub fresh : List Fresh
   pub parts : List Part
 
+-- n sets could be taken so of a key's pools: only asked pools refuse, the sets come in order, and the new pools' names are new
+pub record IsGrantOf (n : ℕ) (b : Bucket) (ledger : ℕ → Option Pool) (g : Grant) : Type 0 where
+  -- a key that has pools keeps its id
+  pub id : 0 < length b.pools → g.id ≡ b.id
+  pub refusing : OnlyAskedRefuse g.refused n (drop g.left b.pools)
+  pub parts : map portion_of g.parts ≡ portions_of g.refused n (b.first + g.left) (drop g.left b.pools) ++ fresh_portions (next_number b) g.fresh
+  pub new : AreNew ledger g.fresh
+
 -- sets of a key's pool under these names
 abbrev pub items_at : Key → ℕ → ℕ → List ℕ → List Item
 items_at k id number names = map (λ name. record { key = k; id = id; number = number; name = name }) names
@@ -42,6 +50,9 @@ came parts pool = flat_map (λ p. if p.pool == pool then p.names else []) parts
 abbrev pub entries_with : ℕ → Grant → List Entry → List Entry
 entries_with n g pools = take g.left pools ++ all_shared g.refused n (drop g.left pools) ++ map fresh_entry g.fresh
 
+abbrev pub bucket_with : ℕ → Grant → Bucket → Bucket
+bucket_with n g b = record b { id = g.id; pools = entries_with n g b.pools }
+
 -- the ledger's pool of this name, with the new ones
 abbrev pub fresh_or : Key → List Fresh → ℕ → Option Pool → Option Pool
 fresh_or k [] name old = old
@@ -56,7 +67,4 @@ ledger_with k g ledger name = option_map (pool_with (live_sets k.counts (came g.
 
 -- books and ledger with what a request of n sets took
 abbrev pub granted : Key → ℕ → Grant → State → State
-granted k n g s = record {
-  books = λ l. let b = s.books l in if key_eq k l then record b { id = g.id; pools = entries_with n g b.pools } else b;
-  ledger = ledger_with k g s.ledger;
-}
+granted k n g s = with_bucket k (bucket_with n g (s.books k)) (ledger_with k g s.ledger) s

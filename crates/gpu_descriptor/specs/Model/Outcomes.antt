@@ -1,6 +1,6 @@
 -- What a request for sets may do: its outcomes.
 use Rattle.gpu_descriptor_types.specs.Bounds.{greatest_u64}
-use Rattle.std.specs.Prelude.{ℕ, List, ◌≡◌, ◌+◌, ◌-◌, ◌*◌, ◌≤◌, ◌<◌, true, ◌⊎◌, [], ◌∷◌, ◌++◌, map, length, sum, drop, Option, Some, None, Result, Ok, Err}
+use Rattle.std.specs.Prelude.{ℕ, List, ◌≡◌, ◌+◌, ◌-◌, ◌*◌, ◌≤◌, ◌<◌, true, ◌⊎◌, [], ◌∷◌, ◌++◌, length, sum, drop, Option, Some, None, Result, Ok, Err}
 use Rattle.gpu_descriptor_types.specs.declared.errors.CreatePoolError.{CreatePoolError}
 use Rattle.gpu_descriptor_types.specs.declared.errors.DeviceAllocationError.{DeviceAllocationError}
 use Rattle.gpu_descriptor.specs.declared.errors.AllocationError.{AllocationError}
@@ -11,9 +11,9 @@ use Rattle.gpu_descriptor.specs.Model.Agreement.{State, Item}
 use Rattle.gpu_descriptor.specs.Model.Release.{given_back, released, pools_gone}
 use Rattle.gpu_descriptor.specs.Model.Load.{allocated_in, pool_load, IsOut, IsMarkedLoad, IsPoolLoad}
 use Rattle.gpu_descriptor.specs.Model.Runs.{runs}
-use Rattle.gpu_descriptor.specs.Model.Shares.{rest, is_asked, all_shared, asked_count, refused_count, OnlyAskedRefuse, portions_of}
-use Rattle.gpu_descriptor.specs.Model.FreshPools.{AreNew, IsFreshFront, IsFreshList, fresh_portions, room_after}
-use Rattle.gpu_descriptor.specs.Model.Grants.{Grant, portion_of, items_in, granted}
+use Rattle.gpu_descriptor.specs.Model.Shares.{rest, is_asked, all_shared, asked_count, refused_count}
+use Rattle.gpu_descriptor.specs.Model.FreshPools.{IsFreshFront, IsFreshList, room_after}
+use Rattle.gpu_descriptor.specs.Model.Grants.{Grant, IsGrantOf, items_in, granted}
 use Rattle.gpu_descriptor_types.specs.declared.errors.CreatePoolError.TheVariants as create_error
 use Rattle.gpu_descriptor_types.specs.declared.errors.DeviceAllocationError.TheVariants as alloc_error
 
@@ -64,13 +64,9 @@ rollback_rise items k t = record no_rise { released = runs items; destroyed = po
 
 -- ---- what is taken
 
--- what the request could take so: only asked pools refuse, the sets come in order, and the new pools' names are new
-pub record IsGrant (r : Request) (s : State) (g : Grant) : Type 0 where
-  -- a key that has pools keeps its id
-  pub id : let b = s.books r.key in 0 < length b.pools → g.id ≡ b.id
-  pub refusing : let asked = drop g.left (s.books r.key).pools in OnlyAskedRefuse g.refused r.count asked
-  pub parts : let b = s.books r.key in map portion_of g.parts ≡ portions_of g.refused r.count (b.first + g.left) (drop g.left b.pools) ++ fresh_portions (next_number b) g.fresh
-  pub new : AreNew s.ledger g.fresh
+-- what the request could take so
+abbrev pub IsGrant : Request → State → Grant → Type 0
+IsGrant r s g = IsGrantOf r.count (s.books r.key) s.ledger g
 
 -- what is wanting after the existing pools, and what is out of the key's pools then
 abbrev pub wanting : Request → State → Grant → ℕ

@@ -12,7 +12,7 @@ ghost use Rattle.gpu_descriptor.specs.Caller.KeyOf.{key_of};
 ghost use Rattle.gpu_descriptor.specs.Caller.Sets.{items_of};
 ghost use Rattle.gpu_descriptor.specs.Inner.Stored.{bucket_of, entry_of, stored_load};
 ghost use Rattle.gpu_descriptor.specs.Model.Books.{next_number};
-ghost use Rattle.gpu_descriptor.specs.Inner.OpenPools.{CountsLooks, IsListed, KeepsView};
+ghost use Rattle.gpu_descriptor.specs.Inner.OpenPools.{CountsLooks, IsListed, KeepsView, bucket_in};
 ghost use Rattle.gpu_descriptor.specs.Model.FreshPools.{IsNextSize};
 ghost use Rattle.gpu_descriptor.specs.Inner.Buckets.{IsBookedIn, AreBookedIn};
 ghost use Rattle.gpu_descriptor.specs.Inner.Walk.{entries_of, sets_at, IsAsked, IsNoMemory};
@@ -149,17 +149,14 @@ fn walk<'k, L, P, S, D: DescriptorDevice<L, P, S>>(
         × (sink.new.sets.items ≡ sink.old.sets.items ++ put)
         × (sink.new.left + request.now.count ≡ sink.old.left + wanting)
         × (length put + wanting ≡ request.now.count)
-        × IsWalked (key_of request.now.key) request.now.count view.old.id view.old.offset wanting
-        (items_of D.set_name put)
-        (entries_of D.pool_name view.old.pools.now.items)
-        (entries_of D.pool_name view.new.pools.now.items)
+        × IsWalked (key_of request.now.key) request.now.count wanting (items_of D.set_name put)
+        (bucket_in D.pool_name view.old) (bucket_in D.pool_name view.new)
         (D.ledger device.old) (D.ledger device.new)) }
     ensures stopped { IfErr result (λ e. (put : List (DescriptorSet S))
         × (sink.new.sets.items ≡ sink.old.sets.items ++ put)
-        × IsTaken (Err (Existing e)) (key_of request.now.key) 0 request.now.count view.old.id
-        view.old.offset (items_of D.set_name put)
-        (entries_of D.pool_name view.old.pools.now.items)
-        (entries_of D.pool_name view.new.pools.now.items)
+        × IsTaken (Err (Existing e)) (key_of request.now.key) 0 request.now.count
+        (items_of D.set_name put)
+        (bucket_in D.pool_name view.old) (bucket_in D.pool_name view.new)
         (D.ledger device.old) (D.ledger device.new)) }
     ensures pools { length view.new.pools.now.items ≡ length view.old.pools.now.items }
     ensures capacity { deque_capacity view.new.listed.now ≡ deque_capacity view.old.listed.now }
@@ -238,8 +235,8 @@ impl<P: Drop> DescriptorBucket<P> {
             (bucket_of D.pool_name self.old).pools }
         requires bound { self.old.total + request.now.count < 2 ^ 64 }
         ensures served { IfOk result (λ r. IsServed D.pool_name D.set_name (key_of request.now.key)
-            room.old request.now.count r.sets.items r.taken (bucket_of D.pool_name self.old)
-            self.old.id (bucket_of D.pool_name self.new).pools
+            room.old request.now.count r.sets.items r.taken
+            (bucket_of D.pool_name self.old) (bucket_of D.pool_name self.new)
             (D.ledger device.old) (D.ledger device.new)
             × (self.new.total ≡ self.old.total + length r.sets.items)) }
         ensures offset { self.new.offset ≡ self.old.offset }
@@ -284,8 +281,8 @@ impl<P: Drop> DescriptorBucket<P> {
         requires empty { sink.old.sets.items ≡ [] }
         requires room { request.now.count ≤ sink.old.left }
         ensures taken { IsTaken result (key_of request.now.key) room.old request.now.count
-            self.old.id self.old.offset (items_of D.set_name sink.new.sets.items)
-            (bucket_of D.pool_name self.old).pools (bucket_of D.pool_name self.new).pools
+            (items_of D.set_name sink.new.sets.items)
+            (bucket_of D.pool_name self.old) (bucket_of D.pool_name self.new)
             (D.ledger device.old) (D.ledger device.new) }
         ensures id { self.new.id ≡ self.old.id }
         ensures offset { self.new.offset ≡ self.old.offset }
@@ -327,13 +324,13 @@ impl<P: Drop> DescriptorBucket<P> {
         ensures walked { IfOk result (λ wanting.
             (length sink.new.sets.items + wanting ≡ request.now.count)
             × (wanting ≤ sink.new.left)
-            × IsWalked (key_of request.now.key) request.now.count self.old.id self.old.offset wanting
+            × IsWalked (key_of request.now.key) request.now.count wanting
             (items_of D.set_name sink.new.sets.items)
-            (bucket_of D.pool_name self.old).pools (bucket_of D.pool_name self.new).pools
+            (bucket_of D.pool_name self.old) (bucket_of D.pool_name self.new)
             (D.ledger device.old) (D.ledger device.new)) }
         ensures stopped { IfErr result (λ e. IsTaken (Err (Existing e)) (key_of request.now.key) 0
-            request.now.count self.old.id self.old.offset (items_of D.set_name sink.new.sets.items)
-            (bucket_of D.pool_name self.old).pools (bucket_of D.pool_name self.new).pools
+            request.now.count (items_of D.set_name sink.new.sets.items)
+            (bucket_of D.pool_name self.old) (bucket_of D.pool_name self.new)
             (D.ledger device.old) (D.ledger device.new)) }
         ensures id { self.new.id ≡ self.old.id }
         ensures offset { self.new.offset ≡ self.old.offset }

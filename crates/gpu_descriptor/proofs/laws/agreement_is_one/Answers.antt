@@ -1,9 +1,6 @@
 use Rattle.gpu_descriptor.proofs.OneAgreement.{Agree-prop}
-use Rattle.gpu_descriptor.proofs.Sized.{one_size}
+use Rattle.gpu_descriptor.proofs.Sized.{listed}
 use Rattle.gpu_descriptor.proofs.laws.agreement_is_one.Goals as goal
 
 pub returns : goal.returns
-returns c = record {
-  one = λ s. Agree-prop s;
-  listed = λ k pool e b. one_size k.counts pool.live e.allocated b.sets b.allocated;
-}
+returns c = record { one = λ s. Agree-prop s; listed = listed }

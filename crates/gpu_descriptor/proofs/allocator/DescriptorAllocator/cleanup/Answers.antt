@@ -1,24 +1,31 @@
-use Rattle.std.proofs.Common.{◌≡◌, ◌≤◌, ◌+◌, ℕ, List, suc, slice_get, option_map, rules, refl, sym, ap, subst, ◌∙◌, arith, length, map}
+use Rattle.std.proofs.Common.{◌≡◌, ◌≤◌, ◌+◌, ℕ, List, Some, suc, slice_get, option_map, rules, refl, sym, ap, subst, ◌∙◌, arith, length, map}
+use Rattle.std.proofs.lemmas.List.{length-map, take_all}
 use Rattle.indexmap.proofs.CallerLemmas.{filter-RetainsPairs}
 use Rattle.indexmap.specs.Layout.{length-set_value_at}
 use Rattle.std.specs.Map.Iter.{deref_pair}
 use Rattle.gpu_descriptor_types.specs.Ledger.{Ledger}
 use Rattle.gpu_descriptor.specs.Model.Books.{Bucket, HasDistinctKeys}
+use Rattle.gpu_descriptor.specs.Caller.KeyOf.{key_of}
 use Rattle.gpu_descriptor.specs.Inner.Buckets.{AreBookedIn, has_pools}
 use Rattle.gpu_descriptor.specs.Inner.Ids.{rise_below, stored_ids}
 use Rattle.gpu_descriptor.proofs.Rising.{ids_put, rise_left}
 use Rattle.gpu_descriptor.specs.Caller.States.{outstanding_of, marked_load_of, named_row}
-use Rattle.gpu_descriptor.specs.Inner.Stored.{row_of}
+use Rattle.gpu_descriptor.specs.Inner.Stored.{bucket_of, row_of, stored_load_in}
 use Rattle.gpu_descriptor.specs.Caller.Values.{Allocations}
 use Rattle.gpu_descriptor.proofs.Cleaning.{clean_agrees, takes_none}
 use Rattle.gpu_descriptor.proofs.Foreign.{cleaned_foreign, cleaned_loses}
 use Rattle.gpu_descriptor.proofs.Loads.{rows_out, rows_load, rows_pool_load}
 use Rattle.gpu_descriptor.proofs.KeysKept.{keys_cleaned}
 use Rattle.gpu_descriptor.proofs.Requested.{keys_apart}
-use Rattle.gpu_descriptor.proofs.RowsCleaned.{next, next_stored, step_rows, step_less, agree_is, ledger_less, cleared, whole_clean, whole_count, pools_put, counted_put, counted_filter}
+use Rattle.gpu_descriptor.proofs.RowsCleaned.{all_cleared, agree_is, cleared, counted_filter, counted_put, entry_there, ledger_less, next, next_stored, step_less, step_rows, sum_put, whole_clean, whole_count}
 use Rattle.gpu_descriptor.proofs.OthersStay.{emptied, others_stay}
 use Rattle.gpu_descriptor.proofs.TableBooks.{rows_are, rows_in, distinct_rows, distinct_stored}
+use Rattle.gpu_descriptor.proofs.allocator.DescriptorAllocator.cleanup.Goals.{After-index_mut-bucket}
 use Rattle.gpu_descriptor.proofs.allocator.DescriptorAllocator.cleanup.Goals as goal
+
+-- the entry at the place, and what is known of it
+at_place : (g : _) (c : After-index_mut-bucket g) → slice_get c.loop-place.self-inside.buckets.entries c.loop-place.place ≡ Some ((deref_pair c.unwrap.result).0, c.index_mut-bucket.result.now)
+at_place g c = entry_there c.loop-place.self-inside.buckets.entries c.loop-place.place (deref_pair c.unwrap.result) c.index_mut-bucket.result.now (ap (λ es. slice_get es c.loop-place.place) (sym c.as_slice.ensures.entries) ∙ sym c.get_index.ensures.entry ∙ ap (option_map deref_pair) c.unwrap.ensures) c.index_mut-bucket.ensures.value
 
 pub drop_front-requires-clause-stored : goal.drop_front-requires-clause-stored
 drop_front-requires-clause-stored g c =
@@ -26,16 +33,15 @@ drop_front-requires-clause-stored g c =
     let ledger = g.D.DescriptorDevice.ledger in
     let h = c.loop-place.invariant in
     let es = c.self.inside.buckets.entries in
-    let n = next name c.loop-place.place c.loop-place.self-inside.buckets.entries (rows_in name es) c.index_mut-bucket.result.now h.rows c.index_mut-bucket.ensures.value in
-    let distinct = distinct_rows name es c.self.invariant.distinct in
+    let k = (deref_pair c.unwrap.result).0 in
+    let at = next name c.loop-place.place c.loop-place.self-inside.buckets.entries (rows_in name es) k c.index_mut-bucket.result.now h.rows (at_place g (goal.at.drop_front-requires-clause-stored g c).After-index_mut-bucket) in
     let agree = agree_is name c.args.self.now (ledger c.args.device.now) es (ap (λ (a : Allocations _). a.table) (sym c.self.view_is)) c.requires.agree in
-    let there = next_stored (rows_in name es) (ledger c.args.device.now).pools c.loop-place.place n.row distinct agree n.at in
-    (n.row.0, subst (λ (b : Bucket). AreBookedIn n.row.0 (ledger c.loop-place.device).pools b.pools) (sym n.is) (subst (λ (l : Ledger). AreBookedIn n.row.0 l.pools n.row.1.pools) (sym h.ledger) there))
+    let there = next_stored (rows_in name es) (ledger c.args.device.now).pools c.loop-place.place (key_of k, bucket_of name c.index_mut-bucket.result.now) (distinct_rows name es c.self.invariant.distinct) agree at in
+    (key_of k, subst (λ (l : Ledger). AreBookedIn (key_of k) l.pools (bucket_of name c.index_mut-bucket.result.now).pools) (sym h.ledger) there)
 
 pub drop_front-requires-clause-room : goal.drop_front-requires-clause-room
 drop_front-requires-clause-room g c =
-    let now = c.loop-place.self-inside.buckets.entries in
-    let below = (pools_put now c.loop-place.place (deref_pair c.unwrap.result) c.index_mut-bucket.result.now c.index_mut-bucket.result.now (ap (λ es. slice_get es c.loop-place.place) (sym c.as_slice.ensures.entries) ∙ sym c.get_index.ensures.entry ∙ ap (option_map deref_pair) c.unwrap.ensures) c.index_mut-bucket.ensures.value).0 in
+    let below = (sum_put stored_load_in c.loop-place.self-inside.buckets.entries c.loop-place.place (deref_pair c.unwrap.result).0 c.index_mut-bucket.result.now c.index_mut-bucket.result.now (at_place g (goal.at.drop_front-requires-clause-room g c).After-index_mut-bucket)).0 in
     let all = c.loop-place.invariant.counted.is_room in
     let limit = c.loop-place.invariant.limit in
     let ranges = c.self.ranges in
@@ -54,12 +60,14 @@ loop-place-preserved g c =
     let es = c.self.inside.buckets.entries in
     let now = c.loop-place.self-inside.buckets.entries in
     let i = c.loop-place.place in
-    let n = next name i now (rows_in name es) c.index_mut-bucket.result.now h.rows c.index_mut-bucket.ensures.value in
+    let k = (deref_pair c.unwrap.result).0 in
+    let v = c.index_mut-bucket.result.now in
+    let at = at_place g (goal.at.loop-place-preserved g c).After-index_mut-bucket in
     let more : suc i ≡ i + 1 = omega arith in
     record {
-      rows = step_rows name i now (rows_in name es) c.index_mut-bucket.result.now c.drop_front.new.self h.rows c.index_mut-bucket.ensures.value c.drop_front.ensures.books ∙ ap (λ m. cleared m (rows_in name es)) more;
-      ledger = step_less i (rows_in name es) n.row (ledger c.args.device.now) (ledger c.loop-place.device) (ledger c.drop_front.new.device) _ n.at n.is h.ledger c.drop_front.ensures.ledger ∙ ap (λ m. ledger_less m (rows_in name es) (ledger c.args.device.now)) more;
-      counted = counted_put _ _ _ _ _ now i c.index_mut-bucket.result.now c.drop_front.new.self c.index_mut-bucket.ensures.value c.drop_front.ensures.total ((pools_put now i (deref_pair c.unwrap.result) c.index_mut-bucket.result.now c.drop_front.new.self (ap (λ es. slice_get es c.loop-place.place) (sym c.as_slice.ensures.entries) ∙ sym c.get_index.ensures.entry ∙ ap (option_map deref_pair) c.unwrap.ensures) c.index_mut-bucket.ensures.value).1 _ _ c.drop_front.ensures.room) h.counted;
+      rows = step_rows name i now (rows_in name es) k v c.drop_front.new.self h.rows at c.drop_front.ensures.books ∙ ap (λ m. cleared m (rows_in name es)) more;
+      ledger = step_less i (rows_in name es) (key_of k, bucket_of name v) (ledger c.args.device.now) (ledger c.loop-place.device) (ledger c.drop_front.new.device) (next name i now (rows_in name es) k v h.rows at) h.ledger c.drop_front.ensures.ledger;
+      counted = counted_put _ _ _ _ _ now i k v c.drop_front.new.self at c.drop_front.ensures.total c.drop_front.ensures.room h.counted;
       long = length-set_value_at now i c.drop_front.new.self ∙ h.long;
       out = h.out;
       marked = h.marked;
@@ -88,19 +96,21 @@ returns g c =
     let was = ap (λ (a : Allocations _). a.table) (sym c.self.view_is) in
     let distinct = distinct_rows name es c.self.invariant.distinct in
     let kept = filter-RetainsPairs _ (λ e. has_pools e.1) _ (λ k v b w f call. search rules) _ _ c.retain.ensures.filtered in
-    let le : length es ≤ c.loop-place.place = omega arith in
+    let le : length (rows_in name es) ≤ c.loop-place.place = (let rows : length (rows_in name es) ≡ length es = length-map es (λ e. (key_of e.0, bucket_of name e.1)) in let all = h.long in omega arith) in
+    let rows = h.rows ∙ all_cleared c.loop-place.place (rows_in name es) le in
+    let less = h.ledger ∙ ap (λ l. ledger_less l (ledger c.args.device.now)) (take_all c.loop-place.place (rows_in name es) le) in
     let counted = counted_filter _ _ _ _ _ _ kept (distinct_stored _ (λ k l. search rules) _ c.retain.ensures.unique) h.counted in
     let now : Allocations _ = record { limit = c.loop-place.self-inside.max_update_after_bind_descriptors_in_all_pools; table = map row_of c.retain.new.self.entries; looks = c.loop-place.self-inside.looks.count; comparisons = c.loop-place.self-inside.comparisons.count } in
-    let clean = whole_clean name c.args.self.now (ledger c.args.device.now) (ledger c.loop-place.device) es c.loop-place.self-inside.buckets.entries _ c.loop-place.place c.loop-place.self-inside.max_update_after_bind_descriptors_in_all_pools was distinct le h.rows h.ledger kept in
+    let clean = whole_clean name c.args.self.now (ledger c.args.device.now) (ledger c.loop-place.device) es c.loop-place.self-inside.buckets.entries _ c.loop-place.self-inside.max_update_after_bind_descriptors_in_all_pools was distinct rows less kept in
     let rows_before = subst HasDistinctKeys (sym (ap (map (named_row name)) was ∙ rows_are name es)) distinct in
     let foreign = cleaned_foreign _ _ clean in
     let accounted = cleaned_loses _ _ clean in
     record {
       cleans_up = record {
         cleaned = clean;
-        destroyed = whole_count name c.args.self.now (ledger c.args.device.now) (ledger c.loop-place.device) es c.loop-place.place was distinct le h.ledger;
+        destroyed = whole_count name c.args.self.now (ledger c.args.device.now) (ledger c.loop-place.device) es was distinct less;
         rows_before = rows_before;
-        keys = keys_cleaned name c.args.self.now now (ledger c.args.device.now) (ledger c.loop-place.device) es c.loop-place.self-inside.buckets.entries c.retain.new.self.entries c.loop-place.place was refl distinct le h.rows kept clean;
+        keys = keys_cleaned name c.args.self.now now (ledger c.args.device.now) (ledger c.loop-place.device) es c.loop-place.self-inside.buckets.entries c.retain.new.self.entries was refl distinct rows kept clean;
         outstanding_stay = takes_none _ _ c.requires.agree clean;
         totals_stay = (
           rows_out c.retain.new.self.entries ∙ sym counted.is_out ∙ h.out ∙ c.self.invariant.is_out ∙ sym (rows_out es) ∙ ap outstanding_of c.self.view_is,

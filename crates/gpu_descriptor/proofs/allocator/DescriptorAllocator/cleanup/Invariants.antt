@@ -1,4 +1,4 @@
-use Rattle.std.proofs.Common.{◌≡◌, length}
+use Rattle.std.proofs.Common.{◌≡◌, length, take}
 use Rattle.gpu_descriptor.specs.Inner.Stored.{IsConsistent}
 use Rattle.gpu_descriptor.proofs.RowsCleaned.{cleared, ledger_less}
 use Rattle.gpu_descriptor.proofs.TableBooks.{rows_in}
@@ -12,7 +12,7 @@ invariant-loop-place g l =
     let start = rows_in name l.initial.self-inside.buckets.entries in
     record {
       rows : rows_in name l.self-inside.buckets.entries ≡ cleared l.place start;
-      ledger : ledger l.device ≡ ledger_less l.place start (ledger l.fn.device);
+      ledger : ledger l.device ≡ ledger_less (take l.place start) (ledger l.fn.device);
       counted : IsConsistent l.self-inside.max_update_after_bind_descriptors_in_all_pools l.self-inside.current_update_after_bind_descriptors_in_all_pools l.self-inside.update_after_bind_room l.self-inside.outstanding l.self-inside.buckets.entries;
       long : length l.self-inside.buckets.entries ≡ length l.initial.self-inside.buckets.entries;
       out : l.self-inside.outstanding ≡ l.initial.self-inside.outstanding;

@@ -89,7 +89,7 @@ returns-clause-rows g c = rows_distinct g.D.DescriptorDevice.pool_name _ c.in-Ok
 
 pub returns-clause-taken : goal.returns-clause-taken
 returns-clause-taken g c =
-    takes_of c.in-Ok.ensures.served c.self.view_is c.self.invariant c.is_above_limit.ensures c.if-is_above_limit.false c.is_past_bound.ensures c.if-is_past_bound.false (rows_apart _ c.self.view_is g.D.DescriptorDevice.pool_name c.self.invariant) (returns-clause-rows g c)
+    takes_of c.in-Ok.ensures.served c.self.view_is c.self.invariant c.is_above_limit.ensures c.if-is_above_limit.false c.is_past_bound.ensures c.if-is_past_bound.false
 
 pub returns-then-is_above_limit-clause-rows : goal.returns-then-is_above_limit-clause-rows
 returns-then-is_above_limit-clause-rows g c = rows_apart _ c.self.view_is g.D.DescriptorDevice.pool_name c.self.invariant

@@ -70,7 +70,7 @@ left g c = written_at (key_of c.args.request.now.key) c.requires.distinct (there
 pub returns-in-Some-clause-served : goal.returns-in-Some-clause-served
 returns-in-Some-clause-served g c =
     let r = left g (goal.at.returns-in-Some-clause-served g c).After-serve in
-    if_ok _ _ c.serve.result (λ taken s. serves_present c.args.request.now.key c.serve.new.self s.0 c.serve.ensures.id c.serve.ensures.offset s.1 refl refl r) c.serve.ensures.served
+    if_ok _ _ c.serve.result (λ taken s. serves_present c.args.request.now.key c.serve.new.self s.0 s.1 refl refl r) c.serve.ensures.served
 
 pub returns-in-Some-clause-refused : goal.returns-in-Some-clause-refused
 returns-in-Some-clause-refused g c =
@@ -115,7 +115,7 @@ put g c =
 
 pub returns-clause-served : goal.returns-clause-served
 returns-clause-served g c =
-    serves_new c.args.request.now.key c.serve-2.new.self c.in-Ok.ensures.served.0 c.serve-2.ensures.id c.serve-2.ensures.offset c.in-Ok.ensures.served.1 (is_of (key_of c.args.request.now.key)) (λ k. search rules) (c.in-None.ensures.place) (put g (goal.at.returns-clause-served g c).In-Ok-insert) (λ i. record { id = c.place_of_key.new.self.next; first = 0; pools = map (entry_of g.D.DescriptorDevice.pool_name) (c.new.ensures.items i) }) refl
+    serves_new c.args.request.now.key c.serve-2.new.self c.in-Ok.ensures.served.0 c.in-Ok.ensures.served.1 (is_of (key_of c.args.request.now.key)) (λ k. search rules) (c.in-None.ensures.place) (put g (goal.at.returns-clause-served g c).In-Ok-insert) (λ i. record { id = c.place_of_key.new.self.next; first = 0; pools = map (entry_of g.D.DescriptorDevice.pool_name) (c.new.ensures.items i) }) refl
 
 pub returns-clause-room : goal.returns-clause-room
 returns-clause-room g c =

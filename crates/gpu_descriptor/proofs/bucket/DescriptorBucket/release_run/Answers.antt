@@ -22,7 +22,8 @@ use Rattle.gpu_descriptor.proofs.Comparisons.{listed_count}
 use Rattle.gpu_descriptor.proofs.BucketRun.{AreTaken, are_taken, is_within, read_first, changed_at, stored_after, total_less, place_room}
 use Rattle.gpu_descriptor.proofs.LedgerPools.{taken_from, release_pools}
 use Rattle.gpu_descriptor.proofs.OneRun.{run_counts, run_live, run_ends, run_goes, done}
-use Rattle.gpu_descriptor.proofs.Turns.{bucket}
+use Rattle.gpu_descriptor.proofs.Exact.{bucket}
+use Rattle.gpu_descriptor.proofs.Fronts.{entry_at-found, entry_at-from}
 use Rattle.gpu_descriptor.proofs.bucket.DescriptorBucket.release_run.Goals.{Start, After-index_mut-pool, After-finish-count}
 use Rattle.gpu_descriptor.proofs.bucket.DescriptorBucket.release_run.Goals as goal
 
@@ -38,7 +39,7 @@ within g c =
     omega arith
 
 pub overflow_sub-place : goal.overflow_sub-place
-overflow_sub-place g c = (first_taken g (goal.at.overflow_sub-place g c).Start).above
+overflow_sub-place g c = (let t = first_taken g (goal.at.overflow_sub-place g c).Start in (entry_at-found (bucket_of g.D.DescriptorDevice.pool_name c.args.self.now) c.args.first.number t.entry t.at).0)
 
 pub index_mut-pool-requires : goal.index_mut-pool-requires
 index_mut-pool-requires g c = let lt = within g (goal.at.index_mut-pool-requires g c).Start in omega (arith, c.args.self.now.pools.ok.0)
@@ -150,7 +151,8 @@ invariant_of-self g c =
     let from = c.from.ensures in
     let numbered = c.args.self.now.numbered in
     let some : 0 < c.index_mut-pool.result.now.available + c.finish-count.result = (let some = (counted g f (at g r)).2 in omega arith) in
-    let above = (c.requires.taken [] c.args.sets.now refl tt).above in
+    let first = c.requires.taken [] c.args.sets.now refl tt in
+    let above = (entry_at-found (bucket_of g.D.DescriptorDevice.pool_name c.args.self.now) c.args.first.number first.entry first.at).0 in
     let named : c.args.first.number ≡ c.args.self.now.offset + (c.args.first.number - c.args.self.now.offset) = omega (arith, above) in
     let new : DescriptorPool g.row.P.Denot = record { raw = c.dealloc_descriptor_sets.new.pool; capacity = c.index_mut-pool.result.now.capacity; allocated = c.index_mut-pool.result.now.allocated - c.finish-count.result; available = c.index_mut-pool.result.now.available + c.finish-count.result } in
     record {
@@ -191,8 +193,7 @@ returns-clause-ran g c =
       came = run_ends g.I.Iterator.next_gives g.I.Iterator.can_next g.I.Iterator.remaining g.D.DescriptorDevice.set_name c.args.first _ c.dealloc_descriptor_sets.new.sets t.items d.run _ _ (search (rules, m, h)) (search (rules, v, w));
       went = record {
         entry = e;
-        above = (c.requires.taken [] c.args.sets.now refl tt).above;
-        at = at g r;
+        at = (let first = c.requires.taken [] c.args.sets.now refl tt in entry_at-from (bucket_of g.D.DescriptorDevice.pool_name c.args.self.now) c.args.first.number e (entry_at-found (bucket_of g.D.DescriptorDevice.pool_name c.args.self.now) c.args.first.number first.entry first.at).0 (at g r));
         books = c.drop_front.ensures.books ∙ ap (λ (x : List Entry). trimmed_bucket 1 (bucket c.args.self.now.id c.args.self.now.offset x)) entries;
         ledger = c.drop_front.ensures.ledger ∙ ap (λ (x : List Entry). trimmed_ledger 1 (bucket c.args.self.now.id c.args.self.now.offset x) (g.D.DescriptorDevice.ledger c.dealloc_descriptor_sets.new.self)) entries
             ∙ ap (λ (l : Ledger). trimmed_ledger 1 (bucket c.args.self.now.id c.args.self.now.offset (set es (place g f) (entry_less (length (names_of g.D.DescriptorDevice.set_name (c.args.first ∷ d.run.xs))) e))) l) (t.ledger ∙ ap (λ (ls : List LiveSet). after_release e.pool ls (g.D.DescriptorDevice.ledger c.args.device.now)) d.sets);

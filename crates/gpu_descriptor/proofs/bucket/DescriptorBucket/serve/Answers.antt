@@ -1,5 +1,5 @@
 use Rattle.gpu_descriptor_types.specs.Bounds.{greatest_u64}
-use Rattle.std.proofs.Common.{◌≡◌, ◌≤◌, ◌+◌, List, length, refl, arith, sym, ◌∙◌, subst}
+use Rattle.std.proofs.Common.{◌≡◌, ◌≤◌, ◌+◌, List, length, arith, sym, ◌∙◌, subst}
 use Rattle.std.proofs.lemmas.Bool.{ltb-false}
 use Rattle.std.proofs.lemmas.List.{length-map}
 use Rattle.gpu_descriptor_types.specs.Ledger.{Ledger}
@@ -16,7 +16,7 @@ returns-clause-served g c =
     let l : Ledger = g.D.DescriptorDevice.ledger c.args.device.now in
     let m : Ledger = g.D.DescriptorDevice.ledger c.take-taken.new.device in
     let name = g.D.DescriptorDevice.pool_name in
-    subst (λ (x : List (DescriptorSet g.row.S.Denot)). IsServed name g.D.DescriptorDevice.set_name key c.args.room.now c.args.request.now.count x c.take-taken.result (bucket_of name c.args.self.now) c.args.self.now.id (bucket_of name c.take-taken.new.self).pools l m × (c.take-taken.new.self.total ≡ c.args.self.now.total + length x)) (sym c.into_sets-sets.ensures) (
+    subst (λ (x : List (DescriptorSet g.row.S.Denot)). IsServed name g.D.DescriptorDevice.set_name key c.args.room.now c.args.request.now.count x c.take-taken.result (bucket_of name c.args.self.now) (bucket_of name c.take-taken.new.self) l m × (c.take-taken.new.self.total ≡ c.args.self.now.total + length x)) (sym c.into_sets-sets.ensures) (
       record {
         numbers = (
             let below : c.next_number.result + c.args.request.now.count ≤ greatest_u64 = ltb-false greatest_u64 (c.next_number.result + c.args.request.now.count) (sym c.is_past_bound.ensures ∙ c.if-is_past_bound.false) in
@@ -24,7 +24,6 @@ returns-clause-served g c =
             let n = c.next_number.ensures in
             omega arith);
         few = c.take-taken.ensures.few;
-        kept = λ some. refl;
         taken = c.take-taken.ensures.taken;
       },
       c.take-taken.ensures.total,

@@ -1,5 +1,5 @@
 use Rattle.gpu_descriptor.specs.Inner.SetAt.{set_at}
-use Rattle.std.proofs.Common.{◌≡◌, ℕ, ◌+◌, ◌-◌, ◌<◌, ◌≤◌, ◌++◌, List, length, map, sym, ap, ◌∙◌, subst, arith, length-append, [], ◌∷◌, Err}
+use Rattle.std.proofs.Common.{◌≡◌, ℕ, ◌+◌, ◌-◌, ◌<◌, ◌≤◌, ◌++◌, List, length, map, sym, ap, ◌∙◌, subst, arith, length-append, [], ◌∷◌, Ok, Err}
 use Rattle.std.proofs.lemmas.List.{length-map, map-append}
 use Rattle.gpu_descriptor_types.specs.Ledger.{Ledger}
 use Rattle.gpu_descriptor_types.specs.declared.errors.DeviceAllocationError.{DeviceAllocationError}
@@ -7,38 +7,39 @@ use Rattle.gpu_descriptor.specs.declared.bucket.DescriptorPool.{DescriptorPool}
 use Rattle.gpu_descriptor.specs.declared.bucket.take.Stop.TheVariants.{Existing}
 use Rattle.gpu_descriptor.specs.declared.set.DescriptorSet.{DescriptorSet}
 use Rattle.gpu_descriptor.specs.Model.Agreement.{Item}
-use Rattle.gpu_descriptor.specs.Model.Books.{Entry, Key}
+use Rattle.gpu_descriptor.specs.Model.Books.{Bucket, Entry, Key}
 use Rattle.gpu_descriptor.specs.Model.FreshPools.{fresh_entry}
 use Rattle.gpu_descriptor.specs.Model.Grants.{items_at}
 use Rattle.gpu_descriptor.specs.Model.Load.{pools_load}
 use Rattle.gpu_descriptor.specs.Caller.KeyOf.{key_of}
 use Rattle.gpu_descriptor.specs.Caller.Sets.{items_of}
 use Rattle.gpu_descriptor.specs.Inner.Grow.{IsTaken}
-use Rattle.gpu_descriptor.specs.Inner.Stored.{entry_of, stored_load}
+use Rattle.gpu_descriptor.specs.Inner.Stored.{bucket_of, entry_of, stored_load}
 use Rattle.gpu_descriptor.specs.Inner.Walk.{entries_of, sets_at, IsWalked}
+use Rattle.gpu_descriptor.proofs.Exact.{bucket}
 use Rattle.gpu_descriptor.proofs.Growing.{Growing, grow_start, grow_more, grow_end, grow_stop, grown_long, walked_long, load_more, load_walked}
 use Rattle.gpu_descriptor.proofs.StoredPools.{allocated_entries, load_entries}
 use Rattle.gpu_descriptor.proofs.Walking.{items_of-sets_at}
 use Rattle.gpu_descriptor.proofs.bucket.DescriptorBucket.take.Goals as goal
 
 -- a walk leaves the load of the key's pools, and how many there are
-module _ {P : Type 0} (name : P → ℕ) {k : Key} {n id first : ℕ} {items : List Item} (old new : List (DescriptorPool P)) {l m : Ledger} where
-  walked_load : {wanting : ℕ} → IsWalked k n id first wanting items (entries_of name old) (entries_of name new) l m → stored_load k new ≡ stored_load k old
-  walked_load w = (let a = load_entries name k old in let b = load_entries name k new in let same = load_walked k n id first w.grant (entries_of name old) (entries_of name new) l m items w.taken w.no_fresh in omega arith)
+module _ {P : Type 0} (name : P → ℕ) {k : Key} {n id first own start : ℕ} {items : List Item} (old new : List (DescriptorPool P)) {l m : Ledger} where
+  walked_load : {wanting : ℕ} → IsWalked k n wanting items (bucket id first (entries_of name old)) (bucket own start (entries_of name new)) l m → stored_load k new ≡ stored_load k old
+  walked_load w = (let a = load_entries name k old in let b = load_entries name k new in let same = load_walked k n w.grant (bucket id first (entries_of name old)) (bucket own start (entries_of name new)) l m items w.taken w.no_fresh in omega arith)
 
-  stopped_load : {error : DeviceAllocationError} → IsTaken (Err (Existing error)) k 0 n id first items (entries_of name old) (entries_of name new) l m → stored_load k new ≡ stored_load k old
-  stopped_load t = (let a = load_entries name k old in let b = load_entries name k new in let same = load_walked k n id first t.0 (entries_of name old) (entries_of name new) l t.1 items t.2 t.3.no_fresh in omega arith)
+  stopped_load : {error : DeviceAllocationError} → IsTaken (Err (Existing error)) k 0 n items (bucket id first (entries_of name old)) (bucket own start (entries_of name new)) l m → stored_load k new ≡ stored_load k old
+  stopped_load t = (let a = load_entries name k old in let b = load_entries name k new in let same = load_walked k n t.0 (bucket id first (entries_of name old)) (bucket own start (entries_of name new)) l t.1 items t.2 t.3.no_fresh in omega arith)
 
 pub loop-wanting-init : goal.loop-wanting-init
 loop-wanting-init g c =
     let name = g.D.DescriptorDevice.pool_name in
     let known = c.in-Ok.ensures.walked in
-    let walked = known.2 in
+    let walked = subst (λ (b : Bucket). IsWalked (key_of c.args.request.now.key) c.args.request.now.count c.in-Ok.wanting (items_of g.D.DescriptorDevice.set_name c.take_known.new.sink.sets.items) (bucket_of name c.args.self.now) b (g.D.DescriptorDevice.ledger c.args.device.now) (g.D.DescriptorDevice.ledger c.take_known.new.device)) (λ i. bucket (c.take_known.ensures.id i) (c.take_known.ensures.offset i) (entries_of name c.take_known.new.self.pools.items)) known.2 in
     let key : Key = key_of c.args.request.now.key in
     let old : List Entry = entries_of name c.args.self.now.pools.items in
     let new : List Entry = entries_of name c.take_known.new.self.pools.items in
     let start = grow_start key c.args.room.now c.args.request.now.count c.args.self.now.id c.args.self.now.offset c.take_known.new.self.total c.in-Ok.wanting (items_of g.D.DescriptorDevice.set_name c.take_known.new.sink.sets.items) old new (g.D.DescriptorDevice.ledger c.args.device.now) (g.D.DescriptorDevice.ledger c.take_known.new.device) walked (let out = allocated_entries name c.args.self.now.pools.items in let total = c.args.self.now.counted in let all = known.0 in let more = c.take_known.ensures.total in omega arith) in
-    let long = walked_long key _ _ _ _ _ old new _ _ walked in
+    let long = walked_long key _ _ _ _ _ _ _ walked in
     record {
       room = known.1;
       given = known.0;
@@ -61,7 +62,8 @@ returns-clause-taken g c =
     let m : Ledger = g.D.DescriptorDevice.ledger c.loop-wanting.device in
     let out : List Item = items_of g.D.DescriptorDevice.set_name c.loop-wanting.sink.sets.items in
     let end : c.loop-wanting.wanting ≡ 0 = omega arith in
-    grow_end key c.args.room.now c.args.request.now.count c.args.self.now.id c.args.self.now.offset c.loop-wanting.room c.loop-wanting.self.total out old new l m (subst (λ (w : ℕ). Growing key c.args.room.now c.args.request.now.count c.args.self.now.id c.args.self.now.offset c.loop-wanting.room c.loop-wanting.self.total w out old new l m) end inv.growing) tt
+    subst (λ (b : Bucket). IsTaken (Ok tt) key c.args.room.now c.args.request.now.count out (bucket_of g.D.DescriptorDevice.pool_name c.args.self.now) b l m) (λ i. bucket (sym inv.id i) (sym inv.offset i) new)
+    (grow_end key c.args.room.now c.args.request.now.count c.args.self.now.id c.args.self.now.offset c.loop-wanting.room c.loop-wanting.self.total out old new l m (subst (λ (w : ℕ). Growing key c.args.room.now c.args.request.now.count c.args.self.now.id c.args.self.now.offset c.loop-wanting.room c.loop-wanting.self.total w out old new l m) end inv.growing) tt)
 
 pub returns-in-Err-grow_one-clause-taken : goal.returns-in-Err-grow_one-clause-taken
 returns-in-Err-grow_one-clause-taken g c =
@@ -75,7 +77,8 @@ returns-in-Err-grow_one-clause-taken g c =
     let new' : List Entry = entries_of g.D.DescriptorDevice.pool_name c.grow_one.new.self.pools.items in
     let put : List Item = items_of g.D.DescriptorDevice.set_name c.grow_one.new.sink.sets.items in
     let stays : Growing key c.args.room.now c.args.request.now.count c.args.self.now.id c.args.self.now.offset c.loop-wanting.room c.loop-wanting.self.total c.loop-wanting.wanting put old new' l m = rw (err.0, err.1) inv.growing in
-    grow_stop c.in-Err-grow_one.why key c.args.room.now c.args.request.now.count c.args.self.now.id c.args.self.now.offset c.loop-wanting.room c.loop-wanting.self.total c.loop-wanting.wanting put old new' l m m' c.loop-wanting-test.true stays err.4 err.5
+    subst (λ (b : Bucket). IsTaken (Err c.in-Err-grow_one.why) key c.args.room.now c.args.request.now.count put (bucket_of g.D.DescriptorDevice.pool_name c.args.self.now) b l m') (λ i. bucket (sym (c.in-Err-grow_one.ensures.id ∙ inv.id) i) (sym (c.in-Err-grow_one.ensures.offset ∙ inv.offset) i) new')
+    (grow_stop c.in-Err-grow_one.why key c.args.room.now c.args.request.now.count c.args.self.now.id c.args.self.now.offset c.loop-wanting.room c.loop-wanting.self.total c.loop-wanting.wanting put old new' l m m' c.loop-wanting-test.true stays err.4 err.5)
 
 pub loop-wanting-preserved : goal.loop-wanting-preserved
 loop-wanting-preserved g c =

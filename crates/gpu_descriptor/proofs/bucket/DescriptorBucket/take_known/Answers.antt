@@ -7,15 +7,19 @@ use Rattle.gpu_descriptor_types.specs.declared.errors.DeviceAllocationError.{Dev
 use Rattle.gpu_descriptor.specs.declared.set.DescriptorSet.{DescriptorSet}
 use Rattle.gpu_descriptor.specs.declared.bucket.DescriptorPool.{DescriptorPool}
 use Rattle.gpu_descriptor.specs.declared.bucket.take.Stop.TheVariants.{Existing}
-use Rattle.gpu_descriptor.specs.Model.Books.{Entry, Key}
+use Rattle.gpu_descriptor.specs.Model.Books.{Bucket, Key}
 use Rattle.gpu_descriptor.specs.Model.Load.{allocated_in}
 use Rattle.gpu_descriptor.specs.Caller.KeyOf.{key_of}
 use Rattle.gpu_descriptor.specs.Caller.Sets.{items_of, item_of}
 use Rattle.gpu_descriptor.specs.Inner.Buckets.{AreBookedIn}
 use Rattle.gpu_descriptor.specs.Inner.Grow.{IsTaken}
 use Rattle.gpu_descriptor.specs.Inner.OpenNumbers.{free_in, open_numbers}
+use Rattle.gpu_descriptor.specs.Inner.OpenPools.{bucket_in}
+use Rattle.gpu_descriptor.specs.Inner.Stored.{bucket_of}
 use Rattle.gpu_descriptor.specs.Inner.Walk.{entries_of, IsWalked}
+use Rattle.gpu_descriptor.proofs.Exact.{bucket}
 use Rattle.gpu_descriptor.proofs.StoredPools.{allocated_entries}
+use Rattle.gpu_descriptor.proofs.bucket.DescriptorBucket.take_known.Goals.{After-walk-walked}
 use Rattle.gpu_descriptor.proofs.bucket.DescriptorBucket.take_known.Goals as goal
 
 if_ok : {T E : Type 0} (A B : T → Type 0) (r : Result T E) → ((x : T) → A x → B x) → IfOk r A → IfOk r B
@@ -30,27 +34,34 @@ module _ {S : Type 0} (name : S → ℕ) {was now : List (DescriptorSet S)} (put
   all : put ≡ now
   all = sym (is ∙ ap (λ x. x ++ put) empty)
 
-  module _ {k : Key} {n id own first start : ℕ} {old older new : List Entry} {l m : Ledger} (same : id ≡ own) (from : first ≡ start) (pools : old ≡ older) where
-    walked_as : {wanting : ℕ} → IsWalked k n id first wanting (items_of name put) old new l m → IsWalked k n own start wanting (items_of name now) older new l m
-    walked_as w = rw (sym same, sym from, sym pools, sym all) w
+  module _ {k : Key} {n : ℕ} {old older new newer : Bucket} {l m : Ledger} (first : old ≡ older) (last : new ≡ newer) where
+    walked_as : {wanting : ℕ} → IsWalked k n wanting (items_of name put) old new l m → IsWalked k n wanting (items_of name now) older newer l m
+    walked_as w = rw (sym first, sym last, sym all) w
 
-    stopped_as : {error : DeviceAllocationError} → IsTaken (Err (Existing error)) k 0 n id first (items_of name put) old new l m → IsTaken (Err (Existing error)) k 0 n own start (items_of name now) older new l m
-    stopped_as t = rw (sym same, sym from, sym pools, sym all) t
+    stopped_as : {error : DeviceAllocationError} → IsTaken (Err (Existing error)) k 0 n (items_of name put) old new l m → IsTaken (Err (Existing error)) k 0 n (items_of name now) older newer l m
+    stopped_as t = rw (sym first, sym last, sym all) t
+
+-- the bucket before and after, as the view has it
+was_bucket : (g : _) (c : After-walk-walked g) → bucket_in g.D.DescriptorDevice.pool_name c.new-view.result ≡ bucket_of g.D.DescriptorDevice.pool_name c.args.self.now
+was_bucket g c = λ i. bucket (c.new-view.ensures.id i) (c.new-view.ensures.offset i) (entries_of g.D.DescriptorDevice.pool_name (c.new-view.ensures.pools i).items)
+
+is_bucket : (g : _) (c : After-walk-walked g) → bucket_in g.D.DescriptorDevice.pool_name c.walk-walked.new.view ≡ bucket c.args.self.now.id c.args.self.now.offset (entries_of g.D.DescriptorDevice.pool_name c.walk-walked.new.view.pools.now.items)
+is_bucket g c = λ i. bucket ((c.walk-walked.ensures.kept.4 ∙ c.new-view.ensures.id) i) ((c.walk-walked.ensures.kept.0 ∙ c.new-view.ensures.offset) i) (entries_of g.D.DescriptorDevice.pool_name c.walk-walked.new.view.pools.now.items)
 
 pub walk-walked-requires-clause-booked : goal.walk-walked-requires-clause-booked
 walk-walked-requires-clause-booked g c = subst (λ (q : VecDeque (DescriptorPool g.row.P.Denot) Global). AreBookedIn (key_of c.args.request.now.key) (g.D.DescriptorDevice.ledger c.args.device.now).pools (entries_of g.D.DescriptorDevice.pool_name q.items)) (sym c.new-view.ensures.pools) c.requires.booked
 
 pub returns-clause-walked : goal.returns-clause-walked
 returns-clause-walked g c =
-    let pools = ap (λ (q : VecDeque (DescriptorPool g.row.P.Denot) Global). entries_of g.D.DescriptorDevice.pool_name q.items) c.new-view.ensures.pools in
+    let at = (goal.at.returns-clause-walked g c).After-walk-walked in
     if_ok _ _ c.walk-walked.result (λ wanting p. (
     let long = ap length (all g.D.DescriptorDevice.set_name p.0 c.requires.empty p.1) in
-    (let given = p.3 in omega arith, (let left = p.2 in let room = c.requires.room in omega arith), walked_as g.D.DescriptorDevice.set_name p.0 c.requires.empty p.1 c.new-view.ensures.id c.new-view.ensures.offset pools p.4))) c.walk-walked.ensures.walked
+    (let given = p.3 in omega arith, (let left = p.2 in let room = c.requires.room in omega arith), walked_as g.D.DescriptorDevice.set_name p.0 c.requires.empty p.1 (was_bucket g at) (is_bucket g at) p.4))) c.walk-walked.ensures.walked
 
 pub returns-clause-stopped : goal.returns-clause-stopped
 returns-clause-stopped g c =
-    let pools = ap (λ (q : VecDeque (DescriptorPool g.row.P.Denot) Global). entries_of g.D.DescriptorDevice.pool_name q.items) c.new-view.ensures.pools in
-    if_err _ _ c.walk-walked.result (λ error p. stopped_as g.D.DescriptorDevice.set_name p.0 c.requires.empty p.1 c.new-view.ensures.id c.new-view.ensures.offset pools p.2) c.walk-walked.ensures.stopped
+    let at = (goal.at.returns-clause-stopped g c).After-walk-walked in
+    if_err _ _ c.walk-walked.result (λ error p. stopped_as g.D.DescriptorDevice.set_name p.0 c.requires.empty p.1 (was_bucket g at) (is_bucket g at) p.2) c.walk-walked.ensures.stopped
 
 pub returns-clause-few : goal.returns-clause-few
 returns-clause-few g c = (let few = c.walk-walked.ensures.given in let none = ap length c.requires.empty in omega arith)
@@ -63,18 +74,18 @@ module _ {S : Type 0} (name : S → ℕ) (was now : List (DescriptorSet S)) (emp
   long : (put : List (DescriptorSet S)) → now ≡ was ++ put → length (items_of name put) ≡ length now
   long put is = length-map put (item_of name) ∙ ap length (all name put empty is)
 
-  module _ (k : Key) (n id first had has : ℕ) (old new : List Entry) (l m : Ledger) where
+  module _ (k : Key) (n had has : ℕ) (old new : Bucket) (l m : Ledger) where
     more : (r : Result ℕ DeviceAllocationError)
-        → IfOk r (λ w. (put : List (DescriptorSet S)) × (now ≡ was ++ put) × (has + n ≡ had + w) × (length put + w ≡ n) × IsWalked k n id first w (items_of name put) old new l m)
-        → IfErr r (λ e. (put : List (DescriptorSet S)) × (now ≡ was ++ put) × IsTaken (Err (Existing e)) k 0 n id first (items_of name put) old new l m)
-        → allocated_in new ≡ allocated_in old + length now
-    more (Ok w) walked stopped = walked.4.taken.keeps.more ∙ ap (λ j. allocated_in old + j) (long walked.0 walked.1)
-    more (Err e) walked stopped = stopped.2.2.keeps.more ∙ ap (λ j. allocated_in old + j) (long stopped.0 stopped.1)
+        → IfOk r (λ w. (put : List (DescriptorSet S)) × (now ≡ was ++ put) × (has + n ≡ had + w) × (length put + w ≡ n) × IsWalked k n w (items_of name put) old new l m)
+        → IfErr r (λ e. (put : List (DescriptorSet S)) × (now ≡ was ++ put) × IsTaken (Err (Existing e)) k 0 n (items_of name put) old new l m)
+        → allocated_in new.pools ≡ allocated_in old.pools + length now
+    more (Ok w) walked stopped = walked.4.taken.keeps.more ∙ ap (λ j. allocated_in old.pools + j) (long walked.0 walked.1)
+    more (Err e) walked stopped = stopped.2.2.keeps.more ∙ ap (λ j. allocated_in old.pools + j) (long stopped.0 stopped.1)
 
 pub invariant_of-self-clause-counted : goal.invariant_of-self-clause-counted
 invariant_of-self-clause-counted g c =
     let name = g.D.DescriptorDevice.pool_name in
-    let given = more g.D.DescriptorDevice.set_name c.args.sink.now.sets.items c.walk-walked.new.sink.sets.items c.requires.empty (key_of c.args.request.now.key) c.args.request.now.count c.new-view.result.id c.new-view.result.offset c.args.sink.now.left c.walk-walked.new.sink.left (entries_of name c.new-view.result.pools.now.items) (entries_of name c.walk-walked.new.view.pools.now.items) (g.D.DescriptorDevice.ledger c.args.device.now) (g.D.DescriptorDevice.ledger c.walk-walked.new.device) c.walk-walked.result c.walk-walked.ensures.walked c.walk-walked.ensures.stopped in
+    let given = more g.D.DescriptorDevice.set_name c.args.sink.now.sets.items c.walk-walked.new.sink.sets.items c.requires.empty (key_of c.args.request.now.key) c.args.request.now.count c.args.sink.now.left c.walk-walked.new.sink.left (bucket_in name c.new-view.result) (bucket_in name c.walk-walked.new.view) (g.D.DescriptorDevice.ledger c.args.device.now) (g.D.DescriptorDevice.ledger c.walk-walked.new.device) c.walk-walked.result c.walk-walked.ensures.walked c.walk-walked.ensures.stopped in
     let was = allocated_entries name c.new-view.result.pools.now.items ∙ ap (λ (q : VecDeque (DescriptorPool g.row.P.Denot) Global). sum_by (λ (p : DescriptorPool g.row.P.Denot). p.allocated) q.items) c.new-view.ensures.pools in
     let is = allocated_entries name c.walk-walked.new.view.pools.now.items in
     let total = c.args.self.now.counted in

@@ -22,7 +22,7 @@ alloc_descriptor_sets-requires-clause-fits g c =
     let e : Entry = entry_of g.D.DescriptorDevice.pool_name c.args.pool.now in
     let l : Ledger = g.D.DescriptorDevice.ledger c.args.device.now in
     let booked = subst (λ (k : Key). IsBookedIn k l.pools e) c.requires.same c.requires.booked in
-    rw (c.new.ensures.left, c.new.ensures.layout) (has_room (g.D.DescriptorDevice.layout_counts c.args.layout.now) (g.D.DescriptorDevice.layout_mark c.args.layout.now) e c.min-count.result l booked few)
+    rw (c.new.ensures.left, c.new.ensures.layout) (has_room (g.D.DescriptorDevice.layout_counts c.args.layout.now) (g.D.DescriptorDevice.layout_mark c.args.layout.now) e c.min-count.result l (g.met.D.DescriptorDevice.finite c.args.device.now) booked few)
 
 pub returns-in-Ok-clause-asked : goal.returns-in-Ok-clause-asked
 returns-in-Ok-clause-asked g c =

@@ -1,5 +1,5 @@
 use Rattle.gpu_descriptor.specs.Inner.SetAt.{set_at}
-use Rattle.std.proofs.Common.{◌≡◌, ℕ, ◌+◌, ◌-◌, ◌++◌, List, [], length, map, slice_get, slice_set, Some, Err, refl, sym, ap, ◌∙◌, subst, arith, append_assoc, length-append}
+use Rattle.std.proofs.Common.{◌≡◌, ℕ, ◌+◌, ◌-◌, ◌++◌, List, [], length, map, slice_get, slice_set, Some, Err, refl, sym, ap, ◌∙◌, arith, append_assoc, length-append}
 use Rattle.std.proofs.lemmas.List.{length-map, append-nil, map-append, length-set}
 use Rattle.gpu_descriptor_types.specs.Ledger.{Ledger}
 use Rattle.gpu_descriptor.specs.declared.bucket.DescriptorPool.{DescriptorPool}
@@ -7,13 +7,14 @@ use Rattle.gpu_descriptor_types.specs.declared.errors.DeviceAllocationError.{Dev
 use Rattle.gpu_descriptor.specs.declared.set.BucketKey.{BucketKey}
 use Rattle.gpu_descriptor.specs.declared.set.DescriptorSet.{DescriptorSet}
 use Rattle.gpu_descriptor.specs.Model.Agreement.{Item}
-use Rattle.gpu_descriptor.specs.Model.Books.{Entry, Key}
+use Rattle.gpu_descriptor.specs.Model.Books.{Bucket, Entry, Key}
 use Rattle.gpu_descriptor.specs.Model.Grants.{items_at}
 use Rattle.gpu_descriptor.specs.Caller.KeyOf.{key_of}
 use Rattle.gpu_descriptor.specs.Caller.Sets.{items_of}
 use Rattle.gpu_descriptor.specs.Inner.Walk.{sets_at, IsWalked}
 use Rattle.gpu_descriptor.specs.Inner.Grow.{IsTaken}
 use Rattle.gpu_descriptor.specs.declared.bucket.take.Stop.TheVariants.{Existing}
+use Rattle.gpu_descriptor.proofs.Exact.{bucket}
 use Rattle.gpu_descriptor.proofs.Newest.{OpenWalk, open_walk_start, open_walk_more, open_walk_stop, walk_sated, walk_empty, next_is_booked, listed_now_closed, listed_now_open, listed_now_same, one_asked}
 use Rattle.gpu_descriptor.proofs.Walking.{Walking, walk_end, items_of-sets_at}
 use Rattle.gpu_descriptor.proofs.bucket.take.walk.Goals.{In-Ok}
@@ -40,7 +41,7 @@ closed_walk : {P : Type 0} {name : P → ℕ} {k : Key} {n id own first start wa
 closed_walk gave pools shorter place ids walk = rw (pools, shorter, place, ids, sym gave) walk
 
 -- the walk stopped
-stopped_at : {k : Key} {n id own first start : ℕ} {error : DeviceAllocationError} {out : List Item} {old new : List Entry} {l m : Ledger} → id ≡ own → first ≡ start → IsTaken (Err (Existing error)) k 0 n id first out old new l m → IsTaken (Err (Existing error)) k 0 n own start out old new l m
+stopped_at : {k : Key} {n id own first start : ℕ} {error : DeviceAllocationError} {out : List Item} {old : List Entry} {new : Bucket} {l m : Ledger} → id ≡ own → first ≡ start → IsTaken (Err (Existing error)) k 0 n out (bucket id first old) new l m → IsTaken (Err (Existing error)) k 0 n out (bucket own start old) new l m
 stopped_at ids same stopped = rw (sym ids, sym same) stopped
 
 pub loop-wanting-init : goal.loop-wanting-init
@@ -57,8 +58,8 @@ loop-wanting-init g c = record {
 }
 
 -- the walk is over
-whole : {k : Key} {n id own first start wanting : ℕ} {out : List Item} {old new : List Entry} {l m : Ledger} → id ≡ own → first ≡ start → Walking k n id first 0 wanting out old new l m → IsWalked k n own start wanting out old new l m
-whole {k} {n} {id} {own} {first} {start} {wanting} {out} {old} {new} {l} {m} ids same walked = walk_end k n own start wanting out old new l m (subst (λ (i : ℕ). Walking k n i start 0 wanting out old new l m) ids (subst (λ (f : ℕ). Walking k n id f 0 wanting out old new l m) same walked))
+whole : {k : Key} {n id own first start wanting : ℕ} {out : List Item} {old new : List Entry} {l m : Ledger} → id ≡ own → first ≡ start → Walking k n id first 0 wanting out old new l m → IsWalked k n wanting out (bucket own start old) (bucket id first new) l m
+whole {k} {n} {id} {own} {first} {start} {wanting} {out} {old} {new} {l} {m} ids same walked = rw (sym ids, sym same) (walk_end k n id first wanting out old new l m walked)
 
 pub returns-in_default-clause-walked : goal.returns-in_default-clause-walked
 returns-in_default-clause-walked g c =

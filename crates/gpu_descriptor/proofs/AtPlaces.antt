@@ -1,0 +1,74 @@
+-- What stands at the places of a list.
+use Rattle.std.proofs.Common.{◌≡◌, ◌≢◌, ℕ, zero, suc, ◌<◌, inl, inr, List, [], ◌∷◌, ◌++◌, length, take, slice_set, Bool, true, false, Some, None, refl, sym, ap, ◌∙◌, arith}
+use Rattle.std.proofs.lemmas.Bool.{cases_Bool, or_cases, or_left, or_right}
+use Rattle.std.specs.List.{slice_get, list_any}
+use Rattle.std.specs.Prelude.{◌⊎◌}
+
+-- ---- tests
+
+-- one that passes stands among the first n
+pub found_before : {A : Type 0} (p : A → Bool) (xs : List A) (n : ℕ) → list_any p (take n xs) ≡ true → (j : ℕ) × (x : A) × (j < n) × (slice_get xs j ≡ Some x) × (p x ≡ true)
+found_before p xs zero h = absurd (let bad : true ≡ false = sym h in cc)
+found_before p [] (suc n) h = absurd (let bad : true ≡ false = sym h in cc)
+found_before p (x ∷ xs) (suc n) h = elim (or_cases (p x) (list_any p (take n xs)) h) [
+  | inl here ↦ (0, x, (let lt : 0 < suc n = omega arith in lt), refl, here)
+  | inr later ↦ (let found = found_before p xs n later in let below = found.2 in (suc found.0, found.1, (let lt : suc found.0 < suc n = omega arith in lt), found.3, found.4))
+]
+
+pub any_here : {A : Type 0} (p : A → Bool) (xs : List A) (i : ℕ) (x : A) → slice_get xs i ≡ Some x → p x ≡ true → list_any p xs ≡ true
+any_here p [] i x at hit = absurd (cc)
+any_here p (y ∷ xs) zero x at hit = (let same : y ≡ x = cc in or_left (p y) (list_any p xs) (ap p same ∙ hit))
+any_here p (y ∷ xs) (suc i) x at hit = or_right (p y) (list_any p xs) (any_here p xs i x at hit)
+
+pub none_at : {A : Type 0} (p : A → Bool) (xs : List A) (i : ℕ) (x : A) → list_any p xs ≡ false → slice_get xs i ≡ Some x → p x ≡ false
+none_at p xs i x none at = elim (cases_Bool (p x)) [
+  | inr off ↦ off
+  | inl hit ↦ absurd (let bad : true ≡ false = sym (any_here p xs i x at hit) ∙ none in cc)
+]
+
+-- ---- a write, and one more at the end
+
+-- what stands at a place after a write
+pub set_got : {A : Type 0} (xs : List A) (i : ℕ) (x : A) (j : ℕ) (y : A) → slice_get (slice_set xs i x) j ≡ Some y → ((j ≡ i) × (y ≡ x)) ⊎ ((j ≢ i) × (slice_get xs j ≡ Some y))
+set_got [] i x j y at = absurd (cc)
+set_got (z ∷ xs) zero x zero y at = inl (refl, (let e : x ≡ y = cc in sym e))
+set_got (z ∷ xs) zero x (suc j) y at = inr ((λ e. omega arith), at)
+set_got (z ∷ xs) (suc i) x zero y at = inr ((λ e. omega arith), at)
+set_got (z ∷ xs) (suc i) x (suc j) y at = elim (set_got xs i x j y at) [
+  | inl here ↦ inl (ap suc here.0, here.1)
+  | inr other ↦ inr ((λ e. other.0 (omega arith)), other.1)
+]
+
+pub set_here : {A : Type 0} (xs : List A) (i : ℕ) (x y : A) → slice_get xs i ≡ Some y → slice_get (slice_set xs i x) i ≡ Some x
+set_here [] i x y at = absurd (cc)
+set_here (z ∷ xs) zero x y at = refl
+set_here (z ∷ xs) (suc i) x y at = set_here xs i x y at
+
+pub set_there : {A : Type 0} (xs : List A) (i : ℕ) (x : A) (j : ℕ) → j ≢ i → slice_get (slice_set xs i x) j ≡ slice_get xs j
+set_there [] i x j ne = refl
+set_there (z ∷ xs) zero x zero ne = absurd (ne refl)
+set_there (z ∷ xs) zero x (suc j) ne = refl
+set_there (z ∷ xs) (suc i) x zero ne = refl
+set_there (z ∷ xs) (suc i) x (suc j) ne = set_there xs i x j (λ e. ne (ap suc e))
+
+-- what stands in a list with one more at its end
+pub end_got : {A : Type 0} (xs : List A) (x : A) (j : ℕ) (y : A) → slice_get (xs ++ x ∷ []) j ≡ Some y → ((j < length xs) × (slice_get xs j ≡ Some y)) ⊎ ((j ≡ length xs) × (y ≡ x))
+end_got [] x zero y at = inr (refl, (let e : x ≡ y = cc in sym e))
+end_got [] x (suc j) y at = absurd (cc)
+end_got (z ∷ xs) x zero y at = inl (omega arith, at)
+end_got (z ∷ xs) x (suc j) y at = elim (end_got xs x j y at) [ inl here ↦ inl (omega (arith, here.0), here.1) | inr last ↦ inr (ap suc last.0, last.1) ]
+
+pub end_before : {A : Type 0} (xs : List A) (x : A) (j : ℕ) → j < length xs → slice_get (xs ++ x ∷ []) j ≡ slice_get xs j
+end_before [] x j lt = absurd (omega arith)
+end_before (z ∷ xs) x zero lt = refl
+end_before (z ∷ xs) x (suc j) lt = end_before xs x j (omega arith)
+
+pub end_here : {A : Type 0} (xs : List A) (x : A) → slice_get (xs ++ x ∷ []) (length xs) ≡ Some x
+end_here [] x = refl
+end_here (z ∷ xs) x = end_here xs x
+
+pub end_past : {A : Type 0} (xs : List A) (x : A) (j : ℕ) → length xs < j → slice_get (xs ++ x ∷ []) j ≡ None
+end_past [] x zero lt = absurd (omega arith)
+end_past [] x (suc j) lt = refl
+end_past (z ∷ xs) x zero lt = absurd (omega arith)
+end_past (z ∷ xs) x (suc j) lt = end_past xs x j (omega arith)
