@@ -5,9 +5,8 @@ use Rattle.std.proofs.lemmas.List.{flat_map_more, length-map, take_all, take_mor
 use Rattle.std.proofs.lemmas.List.FromFn.{length-enumerate_from}
 use Rattle.std.proofs.lemmas.Option.{get_or_from_slice_get, slice_get-get_or, slice_get-map, slice_get_within}
 use Rattle.gpu_descriptor.specs.Caller.States.{marked_load_of}
-use Rattle.gpu_descriptor.specs.Caller.Values.{Kept, Row}
-use Rattle.gpu_descriptor.specs.Caller.Views.{first_at, pools_at, view_at}
-use Rattle.gpu_descriptor.specs.Model.Books.{Key}
+use Rattle.gpu_descriptor.specs.Caller.Views.{view_in}
+use Rattle.gpu_descriptor.specs.Model.Books.{BucketOf, EntryOf, Key, books_of}
 use Rattle.gpu_descriptor.specs.declared.view.PoolView.{PoolView}
 use Rattle.descriptor_script.specs.Sessions.Session.{allocator_of, sets_of}
 use Rattle.descriptor_script.specs.Sessions.Tickets.{held_sets}
@@ -25,61 +24,61 @@ slice_get-enumerate_from n (x ∷ xs) zero = ap (λ k. Some (k, x)) (omega arith
 slice_get-enumerate_from n (x ∷ xs) (suc i) =
     slice_get-enumerate_from (n + 1) xs i ∙ ap (λ k. option_map (λ y. (k, y)) (slice_get xs i)) (omega arith)
 
-seen_at : (first i : ℕ) (pool : Option (Kept RawPool)) → option_map view_of (option_map (λ p. (first + i, p)) pool) ≡ option_map (λ p. record { number = first + i; allocated = p.allocated; available = p.free }) pool
+seen_at : (first i : ℕ) (pool : Option (EntryOf RawPool)) → option_map view_of (option_map (λ p. (first + i, p)) pool) ≡ option_map (λ p. record { number = first + i; allocated = p.allocated; available = p.free }) pool
 seen_at first i None = refl
 seen_at first i (Some pool) = refl
 
 -- the pools are as the readers see them
-views_are_seen : (rows : List (Row RawPool)) (key : Key) (i : ℕ) → slice_get (views_of rows key) i ≡ view_at rows key i
+views_are_seen : (rows : List (Key × BucketOf RawPool)) (key : Key) (i : ℕ) → slice_get (views_of rows key) i ≡ view_in (books_of rows key) i
 views_are_seen rows key i =
-    slice_get-map view_of (enumerate_from (first_at rows key) (pools_at rows key)) i ∙ ap (option_map view_of) (slice_get-enumerate_from (first_at rows key) (pools_at rows key) i) ∙ seen_at (first_at rows key) i (slice_get (pools_at rows key) i)
+    slice_get-map view_of (enumerate_from (books_of rows key).first (books_of rows key).pools) i ∙ ap (option_map view_of) (slice_get-enumerate_from (books_of rows key).first (books_of rows key).pools i) ∙ seen_at (books_of rows key).first i (slice_get (books_of rows key).pools i)
 
-length_of_views : (rows : List (Row RawPool)) (key : Key) → length (views_of rows key) ≡ length (pools_at rows key)
+length_of_views : (rows : List (Key × BucketOf RawPool)) (key : Key) → length (views_of rows key) ≡ length (books_of rows key).pools
 length_of_views rows key =
-    length-map (enumerate_from (first_at rows key) (pools_at rows key)) view_of ∙ length-enumerate_from (first_at rows key) (pools_at rows key)
+    length-map (enumerate_from (books_of rows key).first (books_of rows key).pools) view_of ∙ length-enumerate_from (books_of rows key).first (books_of rows key).pools
 
 -- the lines of the first n pools for a layout's sets
-unfoldable pub pools_so_far : ℕ → List (Row RawPool) → List ℕ × Layout → List ℕ
+unfoldable pub pools_so_far : ℕ → List (Key × BucketOf RawPool) → List ℕ × Layout → List ℕ
 pools_so_far n rows (name, layout) = flat_map (pool_answer name) (take n (views_of rows (key_of layout)))
 
-pub none_so_far : (rows : List (Row RawPool)) (l : List ℕ × Layout) → pools_so_far 0 rows l ≡ []
+pub none_so_far : (rows : List (Key × BucketOf RawPool)) (l : List ℕ × Layout) → pools_so_far 0 rows l ≡ []
 unfolding pools_so_far
 none_so_far rows l = refl
 
-pub one_more : (rows : List (Row RawPool)) (name : List ℕ) (layout : Layout) (n : ℕ) (pool : PoolView) → view_at rows (key_of layout) n ≡ Some pool → pools_so_far (n + 1) rows (name, layout) ≡ pools_so_far n rows (name, layout) ++ pool_answer name pool
+pub one_more : (rows : List (Key × BucketOf RawPool)) (name : List ℕ) (layout : Layout) (n : ℕ) (pool : PoolView) → view_in (books_of rows (key_of layout)) n ≡ Some pool → pools_so_far (n + 1) rows (name, layout) ≡ pools_so_far n rows (name, layout) ++ pool_answer name pool
 unfolding pools_so_far
 one_more rows name layout n pool seen =
     let views = views_of rows (key_of layout) in
     let there = views_are_seen rows (key_of layout) n ∙ seen in
     ap (flat_map (pool_answer name)) (take_more views n pool (slice_get_within views n pool there)) ∙ ap (λ p. flat_map (pool_answer name) (take n views ++ p ∷ [])) (get_or_from_slice_get views n pool pool there) ∙ sym (flat_map_more (pool_answer name) [] (take n views) pool)
 
-pub all_so_far : (rows : List (Row RawPool)) (l : List ℕ × Layout) (n : ℕ) → length (pools_at rows (key_of l.1)) ≤ n → pools_so_far n rows l ≡ pools_answer rows l
+pub all_so_far : (rows : List (Key × BucketOf RawPool)) (l : List ℕ × Layout) (n : ℕ) → length (books_of rows (key_of l.1)).pools ≤ n → pools_so_far n rows l ≡ pools_answer rows l
 unfolding pools_so_far pools_answer
 all_so_far rows l n all =
     let few = length_of_views rows (key_of l.1) in
     ap (flat_map (pool_answer l.0)) (take_all n (views_of rows (key_of l.1)) (omega (arith, few)))
 
 -- a pool that is there is seen
-pub seen_within : (rows : List (Row RawPool)) (key : Key) (n : ℕ) → n < length (pools_at rows key) → view_at rows key n ≡ None → ⊥
+pub seen_within : (rows : List (Key × BucketOf RawPool)) (key : Key) (n : ℕ) → n < length (books_of rows key).pools → view_in (books_of rows key) n ≡ None → ⊥
 seen_within rows key n inside none =
     let pool = get_or (views_of rows key) n (record { number = 0; allocated = 0; available = 0 }) in
     let long = length_of_views rows key in
-    let there : view_at rows key n ≡ Some pool = sym (views_are_seen rows key n) ∙ slice_get-get_or (views_of rows key) n _ (omega (arith, long)) in
+    let there : view_in (books_of rows key) n ≡ Some pool = sym (views_are_seen rows key n) ∙ slice_get-get_or (views_of rows key) n _ (omega (arith, long)) in
     cc
 
 -- the lines of the pools for those of these entries that are told to be first
-unfoldable pub said_of_told : List (Row RawPool) → List (String Global × Entry) → List ℕ
+unfoldable pub said_of_told : List (Key × BucketOf RawPool) → List (String Global × Entry) → List ℕ
 said_of_told rows entries = flat_map (pools_answer rows) (map listed (filter (λ e. e.1.is_first) entries))
 
-pub said_of_none : (rows : List (Row RawPool)) → said_of_told rows [] ≡ []
+pub said_of_none : (rows : List (Key × BucketOf RawPool)) → said_of_told rows [] ≡ []
 unfolding said_of_told
 said_of_none rows = refl
 
-pub said_of_first : (rows : List (Row RawPool)) (e : String Global × Entry) (es : List (String Global × Entry)) → e.1.is_first ≡ true → said_of_told rows (e ∷ es) ≡ pools_answer rows (listed e) ++ said_of_told rows es
+pub said_of_first : (rows : List (Key × BucketOf RawPool)) (e : String Global × Entry) (es : List (String Global × Entry)) → e.1.is_first ≡ true → said_of_told rows (e ∷ es) ≡ pools_answer rows (listed e) ++ said_of_told rows es
 unfolding said_of_told
 said_of_first rows e es first = rw first refl
 
-pub said_of_later : (rows : List (Row RawPool)) (e : String Global × Entry) (es : List (String Global × Entry)) → e.1.is_first ≡ false → said_of_told rows (e ∷ es) ≡ said_of_told rows es
+pub said_of_later : (rows : List (Key × BucketOf RawPool)) (e : String Global × Entry) (es : List (String Global × Entry)) → e.1.is_first ≡ false → said_of_told rows (e ∷ es) ≡ said_of_told rows es
 unfolding said_of_told
 said_of_later rows e es later = rw later refl
 

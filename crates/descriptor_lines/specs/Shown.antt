@@ -3,9 +3,7 @@ use Rattle.std.specs.Prelude.{ℕ, ◌-◌, ◌^◌, List, ◌++◌, length, map
 use Rattle.std.specs.List.{enumerate_from, flat_map}
 use Rattle.gpu_descriptor_types.specs.Ledger.{Counters}
 use Rattle.gpu_descriptor.specs.Caller.States.{marked_load_of}
-use Rattle.gpu_descriptor.specs.Caller.Values.{Kept, Row}
-use Rattle.gpu_descriptor.specs.Caller.Views.{first_at, pools_at}
-use Rattle.gpu_descriptor.specs.Model.Books.{Key}
+use Rattle.gpu_descriptor.specs.Model.Books.{BucketOf, EntryOf, Key, books_of}
 use Rattle.gpu_descriptor.specs.declared.view.PoolView.{PoolView}
 use Rattle.descriptor_script.specs.Sessions.Session.{allocator_of, sets_of}
 use Rattle.descriptor_script.specs.Sessions.Tickets.{held_sets}
@@ -17,15 +15,15 @@ use Rattle.descriptor_lines.specs.LineStates.{LineState}
 use Rattle.descriptor_lines.specs.declared.layouts.Layout.{Layout}
 
 -- a pool with its number, as readers see it
-abbrev pub view_of : ℕ × Kept RawPool → PoolView
+abbrev pub view_of : ℕ × EntryOf RawPool → PoolView
 view_of (number, pool) = record { number = number; allocated = pool.allocated; available = pool.free }
 
 -- the pools of a key, oldest first
-abbrev pub views_of : List (Row RawPool) → Key → List PoolView
-views_of rows key = map view_of (enumerate_from (first_at rows key) (pools_at rows key))
+abbrev pub views_of : List (Key × BucketOf RawPool) → Key → List PoolView
+views_of rows key = map view_of (enumerate_from (books_of rows key).first (books_of rows key).pools)
 
 -- the lines of the pools for a layout's sets, under the layout's name
-unfoldable pub pools_answer : List (Row RawPool) → List ℕ × Layout → List ℕ
+unfoldable pub pools_answer : List (Key × BucketOf RawPool) → List ℕ × Layout → List ℕ
 pools_answer rows (name, layout) = flat_map (pool_answer name) (views_of rows (key_of layout))
 
 -- a counter as readers see it, up to the greatest `u64`

@@ -1,8 +1,11 @@
 -- What stands at the places of a list.
-use Rattle.std.proofs.Common.{◌≡◌, ◌≢◌, ℕ, zero, suc, ◌<◌, inl, inr, List, [], ◌∷◌, ◌++◌, length, take, slice_set, Bool, true, false, Some, None, refl, sym, ap, ◌∙◌, arith}
+use Rattle.std.proofs.Common.{◌≡◌, ◌≢◌, ℕ, zero, suc, ◌<◌, inl, inr, List, [], ◌∷◌, ◌++◌, length, take, slice_set, Bool, true, false, Some, None, refl, sym, ap, ◌∙◌, arith, drop, ◌+◌}
 use Rattle.std.proofs.lemmas.Bool.{cases_Bool, or_cases, or_left, or_right}
 use Rattle.std.specs.List.{slice_get, list_any}
 use Rattle.std.specs.Prelude.{◌⊎◌}
+use Rattle.std.proofs.lemmas.Option.{get_or_from_slice_get, slice_get_within}
+use Rattle.std.proofs.lemmas.List.{length-take-le, set-get_or}
+use Rattle.std.proofs.Math.Seq.{take-suc}
 
 -- ---- tests
 
@@ -72,3 +75,30 @@ end_past [] x zero lt = absurd (omega arith)
 end_past [] x (suc j) lt = refl
 end_past (z ∷ xs) x zero lt = absurd (omega arith)
 end_past (z ∷ xs) x (suc j) lt = end_past xs x j (omega arith)
+
+-- ---- the list around a place
+
+pub split_at : {A : Type 0} (xs : List A) (i : ℕ) (x : A) → slice_get xs i ≡ Some x → xs ≡ take i xs ++ x ∷ drop (suc i) xs
+split_at [] i x h = absurd (cc)
+split_at (y ∷ xs) zero x h = (let e : y ≡ x = cc in ap (λ z. z ∷ xs) e)
+split_at (y ∷ xs) (suc i) x h = ap (λ z. y ∷ z) (split_at xs i x h)
+
+pub drop_at : {A : Type 0} (xs : List A) (i : ℕ) (x : A) → slice_get xs i ≡ Some x → drop i xs ≡ x ∷ drop (suc i) xs
+drop_at [] i x h = absurd (cc)
+drop_at (y ∷ xs) zero x h = (let e : y ≡ x = cc in ap (λ z. z ∷ xs) e)
+drop_at (y ∷ xs) (suc i) x h = drop_at xs i x h
+
+pub get_drop : {A : Type 0} (xs : List A) (i j : ℕ) → slice_get (drop i xs) j ≡ slice_get xs (i + j)
+get_drop xs zero j = ap (slice_get xs) (let e : j ≡ 0 + j = omega arith in e)
+get_drop [] (suc i) j = refl
+get_drop (y ∷ xs) (suc i) j = get_drop xs i j ∙ ap (slice_get (y ∷ xs)) (let e : suc (i + j) ≡ suc i + j = omega arith in e)
+
+pub long_take : {A : Type 0} (xs : List A) (i : ℕ) (x : A) → slice_get xs i ≡ Some x → length (take i xs) ≡ i
+long_take xs i x h = length-take-le i xs (let lt = slice_get_within xs i x h in omega arith)
+
+pub take_get : {A : Type 0} (xs : List A) (i : ℕ) (x : A) → slice_get xs i ≡ Some x → take (suc i) xs ≡ take i xs ++ x ∷ []
+take_get xs i x h = take-suc xs i x (slice_get_within xs i x h) ∙ ap (λ y. take i xs ++ y ∷ []) (get_or_from_slice_get xs i x x h)
+
+-- what stands there, written again
+pub set_same : {A : Type 0} (xs : List A) (i : ℕ) (x : A) → slice_get xs i ≡ Some x → slice_set xs i x ≡ xs
+set_same xs i x h = ap (slice_set xs i) (sym (get_or_from_slice_get xs i x x h)) ∙ set-get_or xs i x

@@ -1,8 +1,8 @@
 -- Giving one run back to a stored bucket.
-use Rattle.std.proofs.Common.{◌≡◌, ◌≢◌, ◌⊎◌, ℕ, zero, suc, ◌+◌, ◌-◌, ◌<◌, ◌≤◌, List, [], ◌∷◌, length, map, sum_by, set, get_or, slice_get, Option, Some, None, option_map, inl, inr, refl, sym, ap, ◌∙◌, arith}
+use Rattle.std.proofs.Common.{◌≡◌, ◌≢◌, ◌⊎◌, ℕ, zero, suc, ◌+◌, ◌-◌, ◌<◌, ◌≤◌, List, [], ◌∷◌, length, map, sum_by, set, get_or, slice_get, Option, Some, option_map, inl, inr, refl, sym, ap, ◌∙◌, arith}
 use Rattle.std.specs.Prelude.{IfSome}
 use Rattle.std.proofs.lemmas.Bool.{cases_Bool}
-use Rattle.std.proofs.lemmas.Option.{slice_get_within}
+use Rattle.std.proofs.lemmas.Option.{slice_get_within, slice_get-map, slice_get_read}
 use Rattle.std.proofs.lemmas.List.{length-map}
 use Rattle.std.proofs.lemmas.List.Sums.{sum_by-cons}
 use Rattle.gpu_descriptor_types.specs.Flags.{CanFree}
@@ -18,25 +18,13 @@ use Rattle.gpu_descriptor.specs.Inner.Stored.{entry_of}
 use Rattle.gpu_descriptor.proofs.LedgerPools.{taken_from, with_pool_same, with_pool_other, size_minus, only_these}
 use Rattle.gpu_descriptor.proofs.Exact.{bucket}
 use Rattle.gpu_descriptor.proofs.Fronts.{entry_at-found}
+use Rattle.gpu_descriptor.proofs.AtPlaces.{set_got}
 use Rattle.std.proofs.Math.Logic.{∥∥₁_elim, ∥∥₁_map}
 use Rattle.std.proofs.Props.{props}
 
--- what stands in a list with one place changed
-pub set_cases : {A : Type 0} (es : List A) (i : ℕ) (y : A) (j : ℕ) (d : A) → slice_get (set es i y) j ≡ Some d → ((j ≡ i) × (d ≡ y)) ⊎ ((j ≢ i) × (slice_get es j ≡ Some d))
-set_cases [] i y j d h = absurd (let bad : ◌≡◌ {A = Option _} None (Some d) = h in cc)
-set_cases (x ∷ es) zero y zero d h = inl (refl, (let is : Some y ≡ Some d = h in cc))
-set_cases (x ∷ es) zero y (suc j) d h = inr ((λ bad. omega arith), h)
-set_cases (x ∷ es) (suc i) y zero d h = inr ((λ bad. omega arith), h)
-set_cases (x ∷ es) (suc i) y (suc j) d h = elim (set_cases es i y j d h) [
-  | inl same ↦ (let e = same.0 in inl ((omega arith), same.1))
-  | inr other ↦ inr ((λ bad. other.0 (omega arith)), other.1)
-]
-
 -- a place that was read
 pub read_at : {P : Type 0} (name : P → ℕ) (items : List (DescriptorPool P)) (i : ℕ) (q : DescriptorPool P) → i < length items → q ≡ get_or items i q → slice_get (map (entry_of name) items) i ≡ Some (entry_of name q)
-read_at name [] i q lt is = absurd (omega arith)
-read_at {P = P} name (x ∷ items) zero q lt is = ap (λ (p : DescriptorPool P). Some (entry_of name p)) (sym is)
-read_at name (x ∷ items) (suc i) q lt is = read_at name items i q (omega arith) is
+read_at name items i q lt is = slice_get-map (entry_of name) items i ∙ ap (option_map (entry_of name)) (slice_get_read items (length items) i q refl lt is)
 
 -- the place after the counts moved
 pub changed_at : {P : Type 0} (name : P → ℕ) (items : List (DescriptorPool P)) (i : ℕ) (q : DescriptorPool P) (raw : P) (m n : ℕ) → name raw ≡ name q.raw → m ≡ n
@@ -89,7 +77,7 @@ took_these k b pools i e names ls stored at are = only_these k names ls are.are 
 pub stored_after : (k : Key) (first : ℕ) (es : List Entry) (pools : ℕ → Option Pool) (i : ℕ) (e : Entry) (ls : List LiveSet) → AreBookedIn k pools es → slice_get es i ≡ Some e → ((x : LiveSet) → times ls x ≤ live_in pools e.pool x) → AreBookedIn k (taken_from pools e.pool ls) (set es i (entry_less (length ls) e))
 stored_after k first es pools i e ls stored at within =
     let y = entry_less (length ls) e in
-    let was : (j : ℕ) (d : Entry) → slice_get (set es i y) j ≡ Some d → (c : Entry) × (slice_get es j ≡ Some c) × (c.pool ≡ d.pool) = λ j d h. elim (set_cases es i y j d h) [
+    let was : (j : ℕ) (d : Entry) → slice_get (set es i y) j ≡ Some d → (c : Entry) × (slice_get es j ≡ Some c) × (c.pool ≡ d.pool) = λ j d h. elim (set_got es i y j d h) [
       | inl same ↦ (e, (ap (slice_get es) same.0 ∙ at), ap (λ (x : Entry). x.pool) (sym same.1))
       | inr other ↦ (d, other.1, refl)
     ] in
@@ -98,7 +86,7 @@ stored_after k first es pools i e ls stored at within =
           let p = was a c h in
           let q = was b d h' in
           stored.distinct a b p.0 q.0 p.1 q.1 (p.2 ∙ same ∙ sym q.2);
-      each = λ j d h. elim (set_cases es i y j d h) [
+      each = λ j d h. elim (set_got es i y j d h) [
         | inl same ↦ (
             let booked = stored.each i e at in
             let pool = booked.pool in

@@ -20,12 +20,13 @@ use Rattle.gpu_descriptor.specs.Caller.States.{state_of}
 use Rattle.gpu_descriptor.specs.Caller.Values.{Allocations}
 use Rattle.gpu_descriptor.specs.Inner.Walk.{KeepsKey}
 use Rattle.gpu_descriptor.proofs.Exact.{key_exact}
-use Rattle.gpu_descriptor.proofs.Fronts.{entry_at-found, entry_at-from, slice_get-drop}
+use Rattle.gpu_descriptor.proofs.Fronts.{entry_at-found, entry_at-from}
 use Rattle.gpu_descriptor.proofs.Kept.{front_found, none_back}
 use Rattle.gpu_descriptor.proofs.KeepState.{pool_found}
 use Rattle.gpu_descriptor.proofs.Cleaning.{cleaned_cases, was_kept}
 use Rattle.gpu_descriptor.proofs.Parts.{names_key, key_any}
 use Rattle.gpu_descriptor.proofs.Places.{back, front_of, lies_in-found, entry_at-less, released_books, some_before, was_there}
+use Rattle.gpu_descriptor.proofs.AtPlaces.{get_drop}
 
 none_of : {A : Type 0} (m : List A) → count_by (λ t. false) m ≡ 0
 none_of [] = refl
@@ -85,7 +86,7 @@ released_named m s name pool foreign live k n e at same =
       | inr ge ↦ (
           let f = front_of m s k in
           let place : f + (n - (c.first + f)) ≡ n - c.first = omega (arith, found.0, ge) in
-          let kept : entry_at (without_front f c) n ≡ Some less = entry_at-from (without_front f c) n less (omega (arith, found.0, ge)) (slice_get-drop c.pools f (n - (c.first + f)) ∙ rw place found.1) in
+          let kept : entry_at (without_front f c) n ≡ Some less = entry_at-from (without_front f c) n less (omega (arith, found.0, ge)) (get_drop c.pools f (n - (c.first + f)) ∙ rw place found.1) in
           foreign k n less (ap (λ (b : Bucket). entry_at b n) (released_books m s k) ∙ kept) same)
     ]
   where
@@ -127,7 +128,7 @@ cleaned_named s t clean name pool foreign live k n e at same =
         | inl all ↦ (let within = slice_get_within b.pools (n - b.first) e found.1 in let whole = all.0 in is_gone (omega arith))
         | inr some ↦ (
             let place : f + (n - (b.first + f)) ≡ n - b.first = omega (arith, found.0, ge) in
-            let kept : entry_at (without_front f b) n ≡ Some e = entry_at-from (without_front f b) n e (omega (arith, found.0, ge)) (slice_get-drop b.pools f (n - (b.first + f)) ∙ rw place found.1) in
+            let kept : entry_at (without_front f b) n ≡ Some e = entry_at-from (without_front f b) n e (omega (arith, found.0, ge)) (get_drop b.pools f (n - (b.first + f)) ∙ rw place found.1) in
             foreign k n e (ap (λ (x : Bucket). entry_at x n) (clean.books k ∙ some.1) ∙ kept) same)
       ]
     ]

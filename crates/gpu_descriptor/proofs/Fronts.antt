@@ -7,6 +7,7 @@ use Rattle.std.proofs.lemmas.List.Sums.{prefix_len-le-length}
 use Rattle.gpu_descriptor.specs.Model.Books.{Entry, Bucket, entry_at}
 use Rattle.gpu_descriptor.specs.Inner.Buckets.{front_but, trimmed_bucket}
 use Rattle.gpu_descriptor.specs.Model.Release.{entry_less, bucket_less, is_empty, empty_front, spent_front, without_front}
+use Rattle.gpu_descriptor.proofs.AtPlaces.{get_drop}
 
 -- how many pools go from the front of a list, if so many are to stay
 abbrev pub trim : ℕ → List Entry → ℕ
@@ -53,11 +54,6 @@ front_empty (x ∷ es) (suc i) e at lt = elim (cases_Bool (is_empty x)) [
   | inr h ↦ (let none : prefix_len is_empty (x ∷ es) ≡ 0 = rw h refl in absurd (omega arith))
 ]
 
-pub slice_get-drop : {A : Type 0} (xs : List A) (n i : ℕ) → slice_get (drop n xs) i ≡ slice_get xs (n + i)
-slice_get-drop xs zero i = rw (let e : 0 + i ≡ i = omega arith in e) refl
-slice_get-drop [] (suc n) i = refl
-slice_get-drop (x ∷ xs) (suc n) i = slice_get-drop xs n i ∙ rw (let e : suc n + i ≡ suc (n + i) = omega arith in e) refl
-
 -- a place of the books, by its number
 pub entry_at-found : (b : Bucket) (n : ℕ) (e : Entry) → entry_at b n ≡ Some e → (b.first ≤ n) × (slice_get b.pools (n - b.first) ≡ Some e)
 entry_at-found b n e h = elim (cases_lt n b.first) [
@@ -73,7 +69,7 @@ pub entry_at-without : (f : ℕ) (b : Bucket) (n : ℕ) (e : Entry) → entry_at
 entry_at-without f b n e h =
     let found = entry_at-found (without_front f b) n e h in
     let place : f + (n - (b.first + f)) ≡ n - b.first = omega (arith, found.0) in
-    (found.0, entry_at-from b n e (omega (arith, found.0)) (rw (← place) (sym (slice_get-drop b.pools f (n - (b.first + f))) ∙ found.1)))
+    (found.0, entry_at-from b n e (omega (arith, found.0)) (rw (← place) (sym (get_drop b.pools f (n - (b.first + f))) ∙ found.1)))
 
 -- a pool with sets keeps its number when the front goes
 pub entry_at-kept : (b : Bucket) (f n : ℕ) (e : Entry) → f ≤ empty_front b → entry_at b n ≡ Some e → is_empty e ≡ false → entry_at (without_front f b) n ≡ Some e
@@ -83,7 +79,7 @@ entry_at-kept b f n e le h full =
       | inl lt ↦ (let empty : is_empty e ≡ true = front_empty b.pools (n - b.first) e found.1 (omega arith) in absurd (let bad : true ≡ false = sym empty ∙ full in cc))
       | inr ge ↦ (
           let place : f + (n - (b.first + f)) ≡ n - b.first = omega (arith, found.0) in
-          entry_at-from (without_front f b) n e (omega (arith, found.0)) (slice_get-drop b.pools f (n - (b.first + f)) ∙ rw place found.1))
+          entry_at-from (without_front f b) n e (omega (arith, found.0)) (get_drop b.pools f (n - (b.first + f)) ∙ rw place found.1))
     ]
 
 pub entry_less-less : (a c : ℕ) (e : Entry) → entry_less c (entry_less a e) ≡ entry_less (a + c) e

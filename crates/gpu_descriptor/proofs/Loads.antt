@@ -6,19 +6,19 @@ use Rattle.std.proofs.lemmas.Bool.{cases_Bool}
 use Rattle.std.proofs.lemmas.List.Sums.{sum_by-cons, sum_by-append}
 use Rattle.gpu_descriptor.specs.declared.set.BucketKey.{BucketKey}
 use Rattle.gpu_descriptor.specs.declared.set.DescriptorSet.{DescriptorSet}
-use Rattle.gpu_descriptor.specs.declared.bucket.DescriptorPool.{DescriptorPool}
 use Rattle.gpu_descriptor.specs.declared.bucket.DescriptorBucket.{DescriptorBucket}
-use Rattle.gpu_descriptor.specs.Model.Books.{Key, key_eq}
+use Rattle.gpu_descriptor.specs.Model.Books.{Key, key_eq, sum_over}
 use Rattle.gpu_descriptor.specs.Model.Agreement.{Item}
-use Rattle.gpu_descriptor.specs.Model.Load.{marked_load, pool_load}
+use Rattle.gpu_descriptor.specs.Model.Load.{bucket_load, descriptors_out, marked_load, sets_out}
 use Rattle.gpu_descriptor.specs.Caller.Frees.{marked_descriptors}
 use Rattle.gpu_descriptor.specs.Caller.KeyOf.{key_of}
 use Rattle.gpu_descriptor.specs.Caller.Sets.{item_of, items_of}
-use Rattle.gpu_descriptor.specs.Caller.States.{sets_in, descriptors_in, pool_load_in, outstanding_of, marked_load_of}
+use Rattle.gpu_descriptor.specs.Caller.States.{outstanding_of, marked_load_of}
 use Rattle.gpu_descriptor.specs.Inner.RunSteps.{AllPass, lies_at}
-use Rattle.gpu_descriptor.specs.Inner.Stored.{kept_of, row_of, load_in, stored_keys, stored_load_in, stored_load, IsConsistent}
-use Rattle.gpu_descriptor.specs.Caller.Values.{Allocations, Kept}
+use Rattle.gpu_descriptor.specs.Inner.Stored.{kept_in, kept_of, row_of, load_in, stored_keys, stored_load_in, stored_load, IsConsistent}
+use Rattle.gpu_descriptor.specs.Caller.Values.{Allocations}
 use Rattle.gpu_descriptor.proofs.Exact.{key_exact}
+use Rattle.gpu_descriptor.proofs.TableSums.{sum_map}
 use Rattle.gpu_descriptor.proofs.WholeRun.{at_parts}
 
 pub marked_load-none : (k : Key) → marked_load k 0 ≡ 0
@@ -68,43 +68,17 @@ module _ {P : Type 0} where
 
   -- ---- the totals that the code keeps are those that callers see
 
-  pub pools_out : (b : DescriptorBucket P) → sum_by (λ (p : Kept P). p.allocated) (map kept_of b.pools.items) ≡ b.total
-  pools_out b = go b.pools.items ∙ sym b.counted
-    where
-      go : (ps : List (DescriptorPool P)) → sum_by (λ (p : Kept P). p.allocated) (map kept_of ps) ≡ sum_by (λ (p : DescriptorPool P). p.allocated) ps
-      go [] = refl
-      go (p ∷ ps) = sum_by-cons (λ (q : Kept P). q.allocated) (kept_of p) (map kept_of ps) ∙ ap (λ n. p.allocated + n) (go ps) ∙ sym (sum_by-cons (λ (q : DescriptorPool P). q.allocated) p ps)
+  pools_out : (r : BucketKey × DescriptorBucket P) → sets_out (key_of r.0) (kept_in r.1) ≡ r.1.total
+  pools_out r = sum_map _ kept_of _ (λ p. refl) r.1.pools.items ∙ sym r.1.counted
 
-  pub rows_out : (es : List (BucketKey × DescriptorBucket P)) → sum_by sets_in (map row_of es) ≡ sum_by (λ r. r.1.total) es
-  rows_out [] = refl
-  rows_out (e ∷ es) =
-      let own = pools_out e.1 in
-      let rest = rows_out es in
-      let a = sum_by-cons sets_in (row_of e) (map row_of es) in
-      let b = sum_by-cons (λ (r : BucketKey × DescriptorBucket P). r.1.total) e es in
-      omega arith
+  pub rows_out : (es : List (BucketKey × DescriptorBucket P)) → sum_over sets_out (map row_of es) ≡ sum_by (λ r. r.1.total) es
+  rows_out = sum_map _ row_of _ pools_out
 
-  pub rows_load : (es : List (BucketKey × DescriptorBucket P)) → sum_by descriptors_in (map row_of es) ≡ sum_by load_in es
-  rows_load [] = refl
-  rows_load (e ∷ es) =
-      let own : marked_load (key_of e.0) (sets_in (row_of e)) ≡ marked_load (key_of e.0) e.1.total = ap (marked_load (key_of e.0)) (pools_out e.1) in
-      let rest = rows_load es in
-      let a = sum_by-cons descriptors_in (row_of e) (map row_of es) in
-      let b = sum_by-cons (load_in {P = P}) e es in
-      omega arith
+  pub rows_load : (es : List (BucketKey × DescriptorBucket P)) → sum_over descriptors_out (map row_of es) ≡ sum_by load_in es
+  rows_load = sum_map _ row_of _ (λ r. ap (marked_load (key_of r.0)) (pools_out r))
 
-  pub rows_pool_load : (es : List (BucketKey × DescriptorBucket P)) → sum_by pool_load_in (map row_of es) ≡ sum_by stored_load_in es
-  rows_pool_load [] = refl
-  rows_pool_load (e ∷ es) =
-      let own = go (key_of e.0) e.1.pools.items in
-      let rest = rows_pool_load es in
-      let a = sum_by-cons pool_load_in (row_of e) (map row_of es) in
-      let b = sum_by-cons (stored_load_in {P = P}) e es in
-      omega arith
-    where
-      go : (k : Key) (ps : List (DescriptorPool P)) → sum_by (λ p. pool_load k p.capacity) (map kept_of ps) ≡ stored_load k ps
-      go k [] = refl
-      go k (p ∷ ps) = sum_by-cons (λ (q : Kept P). pool_load k q.capacity) (kept_of p) (map kept_of ps) ∙ ap (λ n. pool_load k p.capacity + n) (go k ps) ∙ sym (sum_by-cons (λ (q : DescriptorPool P). pool_load k q.capacity) p ps)
+  pub rows_pool_load : (es : List (BucketKey × DescriptorBucket P)) → sum_over bucket_load (map row_of es) ≡ sum_by stored_load_in es
+  rows_pool_load = sum_map _ row_of _ (λ r. sum_map _ kept_of _ (λ p. refl) r.1.pools.items)
 
 -- the descriptors of a run
 pub run_load : {S : Type 0} (name : S → ℕ) (k : Key) (n : ℕ) (xs : List (DescriptorSet S)) → AllPass (lies_at k n) xs → marked_descriptors (items_of name xs) ≡ marked_load k (length xs)
@@ -185,16 +159,16 @@ module _ {P : Type 0} {k : Key} {n : ℕ} {es fs : List (BucketKey × Descriptor
   }
 
   module _ (old : Allocations P) (is : old.table ≡ map row_of es) where
-    pub out_after : sum_by sets_in (map row_of fs) + n ≡ outstanding_of old
+    pub out_after : sum_over sets_out (map row_of fs) + n ≡ outstanding_of old
     out_after =
-        let a = ap (sum_by sets_in) is ∙ rows_out es in
+        let a = ap (sum_over sets_out) is ∙ rows_out es in
         let b = rows_out fs in
         let out = t.out in
         omega arith
 
-    pub load_after : (m : ℕ) → m ≡ marked_load k n → sum_by descriptors_in (map row_of fs) + m ≡ marked_load_of old
+    pub load_after : (m : ℕ) → m ≡ marked_load k n → sum_over descriptors_out (map row_of fs) + m ≡ marked_load_of old
     load_after m same =
-        let a = ap (sum_by descriptors_in) is ∙ rows_load es in
+        let a = ap (sum_over descriptors_out) is ∙ rows_load es in
         let b = rows_load fs in
         let load = t.load in
         omega arith

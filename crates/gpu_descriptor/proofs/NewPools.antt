@@ -22,10 +22,11 @@ use Rattle.gpu_descriptor.specs.Model.Promises.{AreBelowTwice, HasNewPools}
 use Rattle.gpu_descriptor.specs.Model.Release.{released, given_back, pool_less, lies_in, in_front, spent_front, bucket_less}
 use Rattle.gpu_descriptor.specs.Model.Shares.{offer, rest, shared, all_shared}
 use Rattle.gpu_descriptor.proofs.Exact.{key_exact}
-use Rattle.gpu_descriptor.proofs.Fronts.{entry_at-found, slice_get-drop}
+use Rattle.gpu_descriptor.proofs.Fronts.{entry_at-found}
 use Rattle.gpu_descriptor.proofs.Growing.{allocated_shared, length-all_shared}
 use Rattle.gpu_descriptor.proofs.NextSize.{next_below}
 use Rattle.gpu_descriptor.proofs.Places.{back, front_of, released_books, was_there}
+use Rattle.gpu_descriptor.proofs.AtPlaces.{get_drop}
 
 abbrev pub sizes_of : List Fresh → List ℕ
 sizes_of pools = map (λ (f : Fresh). f.size) pools
@@ -110,7 +111,7 @@ fresh_found k ledger (h ∷ fs) (suc i) f o new at = elim (cases_Bool (h.pool ==
 
 -- a place behind the entries of a list
 behind : (es ds : List Entry) (i : ℕ) → slice_get (es ++ ds) (length es + i) ≡ slice_get ds i
-behind es ds i = sym (slice_get-drop (es ++ ds) (length es) i) ∙ ap (λ (xs : List Entry). slice_get xs i) (drop_at es ds (length es) refl)
+behind es ds i = sym (get_drop (es ++ ds) (length es) i) ∙ ap (λ (xs : List Entry). slice_get xs i) (drop_at es ds (length es) refl)
 
 fresh_before : (o : Option Fresh) (e : Entry) → option_map fresh_entry o ≡ Some e → (f : Fresh) × (o ≡ Some f) × (fresh_entry f ≡ e)
 fresh_before None e h = absurd (let bad : ◌≡◌ {A = Option Entry} None (Some e) = h in cc)

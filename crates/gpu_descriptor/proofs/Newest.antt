@@ -1,7 +1,7 @@
 -- The walk over the open pools: the pools between them have nothing to give.
-use Rattle.std.proofs.Common.{◌≡◌, ℕ, zero, suc, ◌+◌, ◌-◌, ◌<◌, ◌≤◌, List, [], ◌∷◌, ◌++◌, length, get_or, min, slice_set, nat_lt, true, Bool, ◌&&◌, if◌then◌else◌, Option, Some, None, Err, refl, sym, ap, ◌∙◌, subst, arith, inl, inr}
+use Rattle.std.proofs.Common.{◌≡◌, ℕ, suc, ◌+◌, ◌-◌, ◌<◌, ◌≤◌, List, [], ◌∷◌, ◌++◌, length, get_or, min, slice_set, nat_lt, true, Bool, ◌&&◌, if◌then◌else◌, Option, Some, None, Err, refl, sym, ap, ◌∙◌, subst, arith, inl, inr}
 use Rattle.std.proofs.lemmas.List.{length-map, map-set, length-set}
-use Rattle.std.proofs.lemmas.Option.{slice_get-map, slice_get_read, slice_get_within}
+use Rattle.std.proofs.lemmas.Option.{slice_get-map, slice_get_read, slice_get_within, slice_get-get_or}
 use Rattle.std.proofs.lemmas.Bool.{lt-ltb, cases_lt}
 use Rattle.std.specs.List.{slice_get}
 use Rattle.std.specs.Prelude.{option_map}
@@ -21,18 +21,7 @@ use Rattle.gpu_descriptor.proofs.Exact.{bucket}
 use Rattle.gpu_descriptor.proofs.Listed.{listed_closes, listed_stays}
 use Rattle.gpu_descriptor.proofs.Open.{IsNewestOpen, newest_open, open_all_none}
 use Rattle.gpu_descriptor.proofs.Walking.{Walking, walk_gap, walk_start, walk_more, walk_stop, next_was, next_booked}
-
-get_set_other : {A : Type 0} (xs : List A) (i j : ℕ) (x : A) → i < j → slice_get (slice_set xs i x) j ≡ slice_get xs j
-get_set_other [] i j x lt = refl
-get_set_other (y ∷ xs) zero zero x lt = absurd (omega arith)
-get_set_other (y ∷ xs) zero (suc j) x lt = refl
-get_set_other (y ∷ xs) (suc i) zero x lt = absurd (omega arith)
-get_set_other (y ∷ xs) (suc i) (suc j) x lt = get_set_other xs i j x (omega arith)
-
-get_set_same : {A : Type 0} (xs : List A) (i : ℕ) (x : A) → i < length xs → slice_get (slice_set xs i x) i ≡ Some x
-get_set_same [] i x lt = absurd (omega arith)
-get_set_same (y ∷ xs) zero x lt = refl
-get_set_same (y ∷ xs) (suc i) x lt = get_set_same xs i x (omega arith)
+use Rattle.gpu_descriptor.proofs.AtPlaces.{set_here, set_there}
 
 -- so far the pools from a place on were asked as far as they had something, and the list has the open pools
 pub record OpenWalk {P : Type 0} (name : P → ℕ) (k : Key) (n id first wanting : ℕ) (out : List Item) (old : List Entry) (items : List (DescriptorPool P)) (numbers : List ℕ) (l m : Ledger) : Type 0 where
@@ -120,12 +109,12 @@ module _ {P : Type 0} {name : P → ℕ} {k : Key} {n id first wanting : ℕ} {o
             → (j : ℕ) (e : Entry) → number - first ≤ j → slice_get (entries_of name (slice_set items (number - first) q)) j ≡ Some e → min wanting' e.free ≡ 0
         closed_now names m' wanting' asked less j e le there = elim (cases_lt (number - first) j) [
           | inl lt ↦ (
-              let is : slice_get (entries_of name items) j ≡ Some e = sym (ap (λ (x : List Entry). slice_get x j) (map-set (entry_of name) items (number - first) q) ∙ get_set_other (entries_of name items) (number - first) j (entry_of name q) lt) ∙ there in
+              let is : slice_get (entries_of name items) j ≡ Some e = sym (ap (λ (x : List Entry). slice_get x j) (map-set (entry_of name) items (number - first) q) ∙ set_there (entries_of name items) (number - first) (entry_of name q) j (λ same. omega arith)) ∙ there in
               let z = newer j e.free lt (free_get j e is) in
               omega arith)
           | inr ge ↦ (
               let same : j ≡ number - first = omega arith in
-              let here : slice_get (entries_of name (slice_set items (number - first) q)) j ≡ Some (entry_of name q) = ap (λ (x : List Entry). slice_get x j) (map-set (entry_of name) items (number - first) q) ∙ ap (slice_get (slice_set (entries_of name items) (number - first) (entry_of name q))) same ∙ get_set_same (entries_of name items) (number - first) (entry_of name q) (let a = length-map items (entry_of name) in let b = inside in omega arith) in
+              let here : slice_get (entries_of name (slice_set items (number - first) q)) j ≡ Some (entry_of name q) = ap (λ (x : List Entry). slice_get x j) (map-set (entry_of name) items (number - first) q) ∙ ap (slice_get (slice_set (entries_of name items) (number - first) (entry_of name q))) same ∙ set_here (entries_of name items) (number - first) (entry_of name q) _ (slice_get-get_or (entries_of name items) (number - first) e (let a = length-map items (entry_of name) in let b = inside in omega arith)) in
               let is : Some (entry_of name q) ≡ Some e = sym here ∙ there in
               let entry : entry_of name q ≡ e = cc in
               let free : q.available ≡ e.free = ap (λ (d : Entry). d.free) entry in

@@ -1,8 +1,10 @@
 -- How the list of open pools changes with the pools.
 use Rattle.std.proofs.Common.{ℕ, zero, suc, ◌+◌, ◌<◌, ◌≤◌, ◌≡◌, List, [], ◌∷◌, ◌++◌, length, take, drop, get_or, slice_set, insert, arith, refl, sym, ap, ◌∙◌, subst, slice_get, Some}
-use Rattle.std.proofs.lemmas.List.{append-nil}
+use Rattle.std.proofs.lemmas.List.{append-nil, set_split}
 use Rattle.std.specs.List.Sorted.{IsNonDecreasing, IsPartitionPoint}
+use Rattle.std.proofs.lemmas.Option.{slice_get_within}
 use Rattle.gpu_descriptor.specs.Inner.OpenNumbers.{open_numbers}
+use Rattle.gpu_descriptor.proofs.AtPlaces.{get_drop, long_take, split_at}
 
 -- pools in two parts
 pub open_append : (first : ℕ) (xs ys : List ℕ) → open_numbers first (xs ++ ys) ≡ open_numbers first xs ++ open_numbers (first + length xs) ys
@@ -65,21 +67,6 @@ open_push_some first xs (suc n) h = open_append first xs (suc n ∷ [])
 
 -- ---- the pool at a place
 
-split_at : (xs : List ℕ) (i n : ℕ) → slice_get xs i ≡ Some n → xs ≡ take i xs ++ n ∷ drop (suc i) xs
-split_at [] i n h = absurd (cc)
-split_at (x ∷ xs) zero n h = (let e : x ≡ n = cc in ap (λ y. y ∷ xs) e)
-split_at (x ∷ xs) (suc i) n h = ap (λ l. x ∷ l) (split_at xs i n h)
-
-set_at : (xs : List ℕ) (i n m : ℕ) → slice_get xs i ≡ Some n → slice_set xs i m ≡ take i xs ++ m ∷ drop (suc i) xs
-set_at [] i n m h = absurd (cc)
-set_at (x ∷ xs) zero n m h = refl
-set_at (x ∷ xs) (suc i) n m h = ap (λ l. x ∷ l) (set_at xs i n m h)
-
-long_take : (xs : List ℕ) (i n : ℕ) → slice_get xs i ≡ Some n → length (take i xs) ≡ i
-long_take [] i n h = absurd (cc)
-long_take (x ∷ xs) zero n h = refl
-long_take (x ∷ xs) (suc i) n h = ap suc (long_take xs i n h)
-
 -- the numbers before a place, and those from behind it
 abbrev pub before : ℕ → List ℕ → ℕ → List ℕ
 before first xs i = open_numbers first (take i xs)
@@ -94,7 +81,7 @@ open_around first xs i n at =
 
 pub open_set : (first : ℕ) (xs : List ℕ) (i n m : ℕ) → slice_get xs i ≡ Some n → open_numbers first (slice_set xs i m) ≡ before first xs i ++ open_numbers (first + i) (m ∷ drop (suc i) xs)
 open_set first xs i n m at =
-    ap (open_numbers first) (set_at xs i n m at) ∙ open_append first (take i xs) (m ∷ drop (suc i) xs)
+    ap (open_numbers first) (set_split xs i m (slice_get_within xs i n at)) ∙ open_append first (take i xs) (m ∷ drop (suc i) xs)
     ∙ ap (λ k. before first xs i ++ open_numbers (first + k) (m ∷ drop (suc i) xs)) (long_take xs i n at)
 
 one_up : (first i : ℕ) (ys : List ℕ) → open_numbers (suc (first + i)) ys ≡ open_numbers (first + suc i) ys
@@ -184,11 +171,6 @@ newest_open first (suc x ∷ xs) (y ∷ front) number h =
         later f (suc i) n lt at = f i n (omega arith) at
 
 -- ---- a pool at a place loses its last known free place: where it was the newest open one, its number goes from the end
-get_drop : (xs : List ℕ) (i j : ℕ) → slice_get (drop i xs) j ≡ slice_get xs (i + j)
-get_drop xs zero j = ap (slice_get xs) (let e : j ≡ 0 + j = omega arith in e)
-get_drop [] (suc i) j = refl
-get_drop (x ∷ xs) (suc i) j = get_drop xs i j ∙ ap (slice_get (x ∷ xs)) (let e : suc (i + j) ≡ suc i + j = omega arith in e)
-
 pub open_closes : (first : ℕ) (xs front : List ℕ) (number : ℕ) (o : IsNewestOpen first xs front number) → open_numbers first (slice_set xs o.place 0) ≡ front
 open_closes first xs front number o =
     open_set first xs o.place o.free 0 o.at

@@ -14,16 +14,16 @@ use Rattle.gpu_descriptor.specs.declared.set.BucketKey.{BucketKey}
 use Rattle.gpu_descriptor.specs.declared.set.DescriptorSet.{DescriptorSet}
 use Rattle.gpu_descriptor.specs.declared.bucket.DescriptorBucket.{DescriptorBucket}
 use Rattle.gpu_descriptor.specs.declared.bucket.take.Stop.{Stop}
-use Rattle.gpu_descriptor.specs.Model.Books.{Key, key_eq, Bucket, HasDistinctKeys, books_of, next_number}
-use Rattle.gpu_descriptor.specs.Model.Load.{marked_load, IsOut, IsMarkedLoad, IsPoolLoad}
+use Rattle.gpu_descriptor.specs.Model.Books.{Key, key_eq, Bucket, BucketOf, HasDistinctKeys, books_of, next_number, sum_over}
+use Rattle.gpu_descriptor.specs.Model.Load.{IsMarkedLoad, IsOut, IsPoolLoad, bucket_load, descriptors_out, marked_load, sets_out}
 use Rattle.gpu_descriptor.specs.Model.Outcomes.{Allocates, IsWithinLimit, Stays}
 use Rattle.gpu_descriptor.specs.Model.Outcomes.Allocates.{limit, bound, start}
 use Rattle.gpu_descriptor.specs.Caller.Call.{call_of}
 use Rattle.gpu_descriptor.specs.Inner.Serves.{IsUnserved, ServesKey, Takes}
 use Rattle.gpu_descriptor.specs.Caller.KeyOf.{key_of}
-use Rattle.gpu_descriptor.specs.Caller.States.{named_row, sets_in, descriptors_in, pool_load_in, state_of, table_of, outstanding_of, marked_load_of, pool_load_of}
+use Rattle.gpu_descriptor.specs.Caller.States.{named_row, state_of, table_of, outstanding_of, marked_load_of, pool_load_of}
 use Rattle.gpu_descriptor.specs.Inner.Stored.{IsConsistent, row_of, load_in, stored_keys, stored_load_in, books_in}
-use Rattle.gpu_descriptor.specs.Caller.Values.{Allocations, Row}
+use Rattle.gpu_descriptor.specs.Caller.Values.{Allocations}
 use Rattle.gpu_descriptor.proofs.Loads.{rows_out, rows_load, rows_pool_load}
 use Rattle.gpu_descriptor.proofs.TableBooks.{rows_are, distinct_rows}
 use Rattle.gpu_descriptor.proofs.TableSums.{outstanding_of-table, marked_load_of-table, pool_load_of-table}
@@ -35,16 +35,16 @@ within_of marked most count off on = ltb-false most count (let seen : (marked &&
 -- what a table of the map says of an allocator that has it
 module _ {P : Type 0} (a : Allocations P) (es : List (BucketKey × DescriptorBucket P)) (is : a.table ≡ map row_of es) where
   pub out_of : outstanding_of a ≡ sum_by (λ r. r.1.total) es
-  out_of = ap (sum_by sets_in) is ∙ rows_out es
+  out_of = ap (sum_over sets_out) is ∙ rows_out es
 
   pub load_of_rows : marked_load_of a ≡ sum_by load_in es
-  load_of_rows = ap (sum_by descriptors_in) is ∙ rows_load es
+  load_of_rows = ap (sum_over descriptors_out) is ∙ rows_load es
 
   pub pool_load_of_rows : pool_load_of a ≡ sum_by stored_load_in es
-  pool_load_of_rows = ap (sum_by pool_load_in) is ∙ rows_pool_load es
+  pool_load_of_rows = ap (sum_over bucket_load) is ∙ rows_pool_load es
 
   pub books_at : (name : P → ℕ) (before : Ledger) (k : Key) → (state_of name a before).books k ≡ books_in name es k
-  books_at name before k = ap (λ (t : List (Row P)). books_of (map (named_row name) t) k) is
+  books_at name before k = ap (λ (t : List (Key × BucketOf P)). books_of (map (named_row name) t) k) is
 
   pub keys_apart : (name : P → ℕ) → IsDistinct key_eq (stored_keys es) → HasDistinctKeys (table_of name a)
   keys_apart name distinct = subst HasDistinctKeys (sym (rows_are name es) ∙ ap (map (named_row name)) (sym is)) (distinct_rows name es distinct)
@@ -64,10 +64,10 @@ counted_none most = record { distinct = tt; is_load = refl; within = omega arith
 
 -- the totals keep the limit
 module _ {P : Type 0} {most marked room out : ℕ} {es : List (BucketKey × DescriptorBucket P)} (counted : IsConsistent most marked room out es) where
-  pub rows_within : sum_by descriptors_in (map row_of es) ≤ most
+  pub rows_within : sum_over descriptors_out (map row_of es) ≤ most
   rows_within = (let rows = rows_load es in let load = counted.is_load in let within = counted.within in omega arith)
 
-  pub pools_within : sum_by pool_load_in (map row_of es) ≤ most
+  pub pools_within : sum_over bucket_load (map row_of es) ≤ most
   pools_within = (let rows = rows_pool_load es in let room = counted.is_room in omega arith)
 
 module _ {P : Type 0} {a : Allocations P} {most looks compared : ℕ} (es : List (BucketKey × DescriptorBucket P)) (is : seen most looks compared es ≡ a) where

@@ -9,12 +9,11 @@ use Rattle.gpu_descriptor_types.proofs.Counting.{any_found, count_by_yes, count_
 use Rattle.gpu_descriptor_types.specs.Ledger.{Counters, no_rise}
 use Rattle.gpu_descriptor.specs.Model.Load.{marked_load}
 use Rattle.gpu_descriptor.specs.Model.Agreement.{State, Item, item_eq, count_of, Agree}
-use Rattle.gpu_descriptor.specs.Model.Books.{Key, key_eq, Bucket, books_of, no_pools, HasDistinctKeys}
+use Rattle.gpu_descriptor.specs.Model.Books.{Key, key_eq, Bucket, BucketOf, books_of, no_pools, HasDistinctKeys}
 use Rattle.gpu_descriptor.specs.Model.Release.{more_released, more_destroyed, given_back, released, pools_gone, spent_front, bucket_less}
 use Rattle.gpu_descriptor.specs.Caller.Frees.{marked_descriptors}
 use Rattle.gpu_descriptor.specs.Model.Outcomes.{risen}
 use Rattle.gpu_descriptor.specs.Caller.States.{named_row}
-use Rattle.gpu_descriptor.specs.Caller.Values.{Row}
 use Rattle.gpu_descriptor.proofs.Asks.{same_counters}
 use Rattle.gpu_descriptor.proofs.Exact.{key_exact, item_exact}
 use Rattle.gpu_descriptor.proofs.Kept.{none_back}
@@ -84,9 +83,9 @@ only_key k m s t distinct keeps of_key =
     one_row k f only t distinct empty ∙ (omega arith)
 
 -- the keys that callers see are those of the books' table
-pub keys_table : {P : Type 0} (name : P → ℕ) (rows : List (Row P)) → map (λ (r : Row P). r.key) rows ≡ map (λ row. row.0) (map (named_row name) rows)
+pub keys_table : {P : Type 0} (name : P → ℕ) (rows : List (Key × BucketOf P)) → map (λ r. r.0) rows ≡ map (λ row. row.0) (map (named_row name) rows)
 keys_table name [] = refl
-keys_table name (r ∷ rows) = ap (λ (l : List Key). r.key ∷ l) (keys_table name rows)
+keys_table name (r ∷ rows) = ap (λ (l : List Key). r.0 ∷ l) (keys_table name rows)
 
 -- ---- totals
 

@@ -23,7 +23,7 @@ use Rattle.gpu_descriptor.specs.Model.Cleanup.{cleaned_bucket, IsCleaned, pools_
 use Rattle.gpu_descriptor.specs.Caller.KeyOf.{key_of}
 use Rattle.gpu_descriptor.specs.Caller.States.{named_row, state_of, keys_of}
 use Rattle.gpu_descriptor.specs.Inner.Stored.{row_of, entry_of, bucket_of, stored_keys, load_in, stored_load, stored_load_in, IsConsistent}
-use Rattle.gpu_descriptor.specs.Caller.Values.{Allocations, Row}
+use Rattle.gpu_descriptor.specs.Caller.Values.{Allocations}
 use Rattle.gpu_descriptor.proofs.AtPlaces.{found_before, none_at}
 use Rattle.gpu_descriptor.proofs.Cleaning.{cleaned_cases}
 use Rattle.gpu_descriptor.proofs.Exact.{key_exact}
@@ -270,7 +270,7 @@ by_keys (r ∷ rows) d =
 
 module _ {P : Type 0} (name : P → ℕ) where
   state_is : (a : Allocations P) (l : Ledger) (es : List (BucketKey × DescriptorBucket P)) → a.table ≡ map row_of es → state_of name a l ≡ record { books = books_of (rows_in name es); ledger = l.pools }
-  state_is a l es is = (let rows = ap (λ (t : List (Row P)). map (named_row name) t) is ∙ rows_are name es in λ i. record { books = books_of (rows i); ledger = l.pools })
+  state_is a l es is = (let rows = ap (map (named_row name)) is ∙ rows_are name es in λ i. record { books = books_of (rows i); ledger = l.pools })
 
   pub agree_is : (a : Allocations P) (l : Ledger) (es : List (BucketKey × DescriptorBucket P)) → a.table ≡ map row_of es → Agree (state_of name a l) → Agree (record { books = books_of (rows_in name es); ledger = l.pools })
   agree_is a l es is agree = subst Agree (state_is a l es is) agree

@@ -1,5 +1,5 @@
 -- The shares of the newer pools stay when an older pool is asked.
-use Rattle.std.proofs.Common.{◌≡◌, ◌≢◌, ℕ, zero, suc, ◌+◌, ◌-◌, inl, inr, List, [], ◌∷◌, drop, Bool, true, false, ◌&&◌, ◌||◌, ◌==◌, Some, refl, ap, ◌∙◌, arith, eqb-true, eq-eqb}
+use Rattle.std.proofs.Common.{◌≡◌, ◌≢◌, ℕ, zero, suc, ◌+◌, ◌-◌, inl, inr, List, [], ◌∷◌, Bool, true, false, ◌&&◌, ◌||◌, ◌==◌, Some, refl, ap, ◌∙◌, arith, eqb-true, eq-eqb}
 use Rattle.std.proofs.lemmas.Bool.{cases_Bool}
 use Rattle.std.proofs.lemmas.List.Sums.{sum_by-cons}
 use Rattle.std.specs.List.{slice_get}
@@ -104,14 +104,3 @@ not_refused refused n name es h only = elim (cases_Bool (refused name)) [
 pub apart_from : (name : ℕ) (es : List Entry) → ((j : ℕ) (e : Entry) → slice_get es j ≡ Some e → e.pool ≢ name) → IsApart name es
 apart_from name [] h = tt
 apart_from name (e ∷ es) h = (h zero e refl, apart_from name es (λ j f at. h (suc j) f at))
-
--- a list from a place on
-pub drop_at : {A : Type 0} (xs : List A) (i : ℕ) (x : A) → slice_get xs i ≡ Some x → drop i xs ≡ x ∷ drop (suc i) xs
-drop_at [] i x h = absurd (cc)
-drop_at (y ∷ xs) zero x h = (let e : y ≡ x = cc in ap (λ z. z ∷ xs) e)
-drop_at (y ∷ xs) (suc i) x h = drop_at xs i x h
-
-pub get_drop : {A : Type 0} (xs : List A) (i j : ℕ) → slice_get (drop i xs) j ≡ slice_get xs (i + j)
-get_drop xs zero j = ap (slice_get xs) (let e : j ≡ 0 + j = omega arith in e)
-get_drop [] (suc i) j = refl
-get_drop (y ∷ xs) (suc i) j = get_drop xs i j ∙ ap (slice_get (y ∷ xs)) (let e : suc (i + j) ≡ suc i + j = omega arith in e)

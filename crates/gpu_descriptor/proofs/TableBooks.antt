@@ -13,7 +13,7 @@ use Rattle.gpu_descriptor.specs.Model.Books.{Key, key_eq, Entry, Bucket, no_pool
 use Rattle.gpu_descriptor.specs.Caller.KeyOf.{key_of}
 use Rattle.gpu_descriptor.specs.Caller.States.{named, named_row, keys_of}
 use Rattle.gpu_descriptor.specs.Inner.Stored.{books_in, kept_of, row_of, entry_of, bucket_of, stored_keys}
-use Rattle.gpu_descriptor.specs.Caller.Values.{Allocations, Row}
+use Rattle.gpu_descriptor.specs.Caller.Values.{Allocations}
 use Rattle.gpu_descriptor.proofs.Exact.{key_exact}
 use Rattle.gpu_descriptor.proofs.Tables.{key_eq_symm}
 
@@ -118,13 +118,13 @@ module _ {P : Type 0} (name : P → ℕ) where
           count_by_no (key_eq k) (key_of e.0) (map (λ e. key_of e.0) es) (key_eq_symm k (key_of e.0) ∙ both.0) ∙ no_key k es both.1
 
 module _ {P : Type 0} where
-  pub row_keys : (es : List (BucketKey × DescriptorBucket P)) → map (λ (r : Row P). r.key) (map row_of es) ≡ map (λ e. key_of e.0) es
+  pub row_keys : (es : List (BucketKey × DescriptorBucket P)) → map (λ r. r.0) (map row_of es) ≡ map (λ e. key_of e.0) es
   row_keys [] = refl
   row_keys (e ∷ es) = ap (λ (l : List Key). key_of e.0 ∷ l) (row_keys es)
 
   -- the keys that callers see are those of the map
   pub keys_are : (a : Allocations P) (es : List (BucketKey × DescriptorBucket P)) → a.table ≡ map row_of es → keys_of a ≡ map (λ e. key_of e.0) es
-  keys_are a es is = ap (λ (t : List (Row P)). map (λ (r : Row P). r.key) t) is ∙ row_keys es
+  keys_are a es is = ap (map (λ r. r.0)) is ∙ row_keys es
 
   -- a write through the map keeps its keys
   pub keys_set : (test : BucketKey → Bool) (es : List (BucketKey × DescriptorBucket P)) (w : DescriptorBucket P) → map (λ (e : BucketKey × DescriptorBucket P). key_of e.0) (set_value test es w) ≡ map (λ (e : BucketKey × DescriptorBucket P). key_of e.0) es

@@ -1,6 +1,6 @@
 -- The walk over a key's pools, as far as it has come.
 use Rattle.std.proofs.Common.{◌≡◌, ◌≢◌, ℕ, zero, suc, ◌+◌, ◌<◌, ◌≤◌, List, [], ◌∷◌, ◌++◌, length, map, min, take, drop, slice_set, Bool, false, nat_lt, ◌&&◌, Option, Some, None, Err, refl, sym, ap, ◌∙◌, subst, arith}
-use Rattle.std.proofs.lemmas.List.{append-nil}
+use Rattle.std.proofs.lemmas.List.{append-nil, drop_all}
 use Rattle.std.proofs.Math.Path.{fun_ext}
 use Rattle.std.proofs.lemmas.Grind.{flat_map-append}
 use Rattle.std.proofs.lemmas.Map.{update_apart}
@@ -18,11 +18,13 @@ use Rattle.gpu_descriptor.specs.declared.bucket.take.Stop.TheVariants.{Existing}
 use Rattle.gpu_descriptor_types.specs.Ledger.{Pool, Ledger, live_sets, changed}
 use Rattle.gpu_descriptor_types.specs.declared.errors.DeviceAllocationError.{DeviceAllocationError}
 use Rattle.std.proofs.lemmas.Option.{slice_get_within}
+use Rattle.std.proofs.Math.Seq.{take-length}
 use Rattle.gpu_descriptor.proofs.Exact.{bucket}
 use Rattle.gpu_descriptor.proofs.KeepSteps.{keeps_start, keeps_asked}
 use Rattle.gpu_descriptor.proofs.Asks.{pool_same, same_counters, skipped}
-use Rattle.gpu_descriptor.proofs.Shares.{IsApart, apart_from, not_refused, drop_at, get_drop, or_at}
+use Rattle.gpu_descriptor.proofs.Shares.{IsApart, apart_from, not_refused, or_at}
 use Rattle.gpu_descriptor.proofs.Steps.{part, so_far, taken_more, rest_now}
+use Rattle.gpu_descriptor.proofs.AtPlaces.{drop_at, get_drop, long_take, set_same, split_at, take_get}
 
 pub record Walking (k : Key) (n id first left wanting : ℕ) (items : List Item) (old new : List Entry) (l m : Ledger) : Type 0 where
   pub refused : ℕ → Bool
@@ -30,16 +32,6 @@ pub record Walking (k : Key) (n id first left wanting : ℕ) (items : List Item)
   pub wants : wanting ≡ rest refused n (drop left old)
   pub taken : HasTaken k n (so_far id left refused parts) items (bucket id first old) (bucket id first new) l m
   pub untouched : (j : ℕ) (e : Entry) → j < left → slice_get old j ≡ Some e → m.pools e.pool ≡ l.pools e.pool
-
-take_get : {A : Type 0} (xs : List A) (i : ℕ) (x : A) → slice_get xs i ≡ Some x → take (suc i) xs ≡ take i xs ++ x ∷ []
-take_get [] i x h = absurd (cc)
-take_get (y ∷ xs) zero x h = (let e : y ≡ x = cc in ap (λ z. z ∷ []) e)
-take_get (y ∷ xs) (suc i) x h = ap (λ z. y ∷ z) (take_get xs i x h)
-
-long_take : {A : Type 0} (xs : List A) (i : ℕ) (x : A) → slice_get xs i ≡ Some x → length (take i xs) ≡ i
-long_take [] i x h = absurd (cc)
-long_take (y ∷ xs) zero x h = refl
-long_take (y ∷ xs) (suc i) x h = ap suc (long_take xs i x h)
 
 get_take : {A : Type 0} (xs ys : List A) (i : ℕ) → i < length xs → slice_get (take (suc i) xs ++ ys) i ≡ slice_get xs i
 get_take [] ys i h = absurd (omega arith)
@@ -80,14 +72,6 @@ module _ (k : Key) (n id first i wanting : ℕ) (items : List Item) (old new : L
             ∙ s.untouched j d (omega arith) there;
       }
 
-drop_all : {A : Type 0} (xs : List A) → drop (length xs) xs ≡ []
-drop_all [] = refl
-drop_all (x ∷ xs) = drop_all xs
-
-take_all : {A : Type 0} (xs : List A) → take (length xs) xs ≡ xs
-take_all [] = refl
-take_all (x ∷ xs) = ap (λ z. x ∷ z) (take_all xs)
-
 ledger_none : (k : Key) (id left : ℕ) (pools : ℕ → Option Pool) → pools ≡ ledger_with k (so_far id left (λ _. false) []) pools
 ledger_none k id left pools = fun_ext (λ q. each (pools q))
   where
@@ -97,7 +81,7 @@ ledger_none k id left pools = fun_ext (λ q. each (pools q))
 
 pub walk_start : (k : Key) (n id first : ℕ) (old : List Entry) (l : Ledger) → AreBookedIn k l.pools old → Walking k n id first (length old) n [] old old l l
 walk_start k n id first old l booked =
-    let none : drop (length old) old ≡ [] = drop_all old in
+    let none : drop (length old) old ≡ [] = drop_all (length old) old (omega arith) in
     let none_refuse : ℕ → Bool = λ _. false in
     record {
       refused = none_refuse;
@@ -107,7 +91,7 @@ walk_start k n id first old l booked =
         grant = record { id = λ some. refl; refusing = λ name h. absurd (cc); parts = ap (λ es. portions_of none_refuse n (first + length old) es ++ []) (sym none); new = tt };
         came = refl;
         keeps = keeps_start k id first old l.pools booked;
-        bucket = ap (bucket id first) (sym (ap (λ es. take (length old) old ++ all_shared none_refuse n es ++ []) none ∙ append-nil (take (length old) old ++ []) ∙ append-nil (take (length old) old) ∙ take_all old));
+        bucket = ap (bucket id first) (sym (ap (λ es. take (length old) old ++ all_shared none_refuse n es ++ []) none ∙ append-nil (take (length old) old ++ []) ∙ append-nil (take (length old) old) ∙ take-length old));
         pools = ledger_none k id (length old) l.pools;
         counters =
             let asked : asked_count none_refuse n (drop (length old) old) ≡ 0 = ap (asked_count none_refuse n) none in
@@ -119,16 +103,6 @@ walk_start k n id first old l booked =
 
 pub walk_end : (k : Key) (n id first wanting : ℕ) (items : List Item) (old new : List Entry) (l m : Ledger) → Walking k n id first 0 wanting items old new l m → IsWalked k n wanting items (bucket id first old) (bucket id first new) l m
 walk_end k n id first wanting items old new l m s = record { grant = so_far id 0 s.refused s.parts; all = refl; no_fresh = refl; wants = s.wants; taken = s.taken }
-
-split_at : {A : Type 0} (xs : List A) (i : ℕ) (x : A) → slice_get xs i ≡ Some x → xs ≡ take i xs ++ x ∷ drop (suc i) xs
-split_at [] i x h = absurd (cc)
-split_at (y ∷ xs) zero x h = (let e : y ≡ x = cc in ap (λ z. z ∷ xs) e)
-split_at (y ∷ xs) (suc i) x h = ap (λ z. y ∷ z) (split_at xs i x h)
-
-set_same : {A : Type 0} (xs : List A) (i : ℕ) (x : A) → slice_get xs i ≡ Some x → slice_set xs i x ≡ xs
-set_same [] i x h = absurd (cc)
-set_same (y ∷ xs) zero x h = (let e : y ≡ x = cc in ap (λ z. z ∷ xs) (sym e))
-set_same (y ∷ xs) (suc i) x h = ap (λ z. y ∷ z) (set_same xs i x h)
 
 pub walk_stop : (k : Key) (room n id first i wanting : ℕ) (items : List Item) (old new : List Entry) (l m m' : Ledger) (e f : Entry) (error : DeviceAllocationError) → Walking k n id first (suc i) wanting items old new l m → slice_get old i ≡ Some e → slice_get new i ≡ Some e → f ≡ e → IsNoMemory wanting e error m m' → IsTaken (Err (Existing error)) k room n items (bucket id first old) (bucket id first (slice_set new i f)) l m'
 walk_stop k room n id first i wanting items old new l m m' e f error s was is same none = (

@@ -4,18 +4,20 @@ use Rattle.std.specs.List.{IsDistinct}
 use Rattle.gpu_descriptor.specs.declared.set.BucketKey.{BucketKey}
 use Rattle.gpu_descriptor.specs.declared.bucket.DescriptorPool.{DescriptorPool}
 use Rattle.gpu_descriptor.specs.declared.bucket.DescriptorBucket.{DescriptorBucket}
-use Rattle.gpu_descriptor.specs.Model.Books.{Key, key_eq, Entry, Bucket, books_of}
+use Rattle.gpu_descriptor.specs.Model.Books.{Key, key_eq, EntryOf, BucketOf, Entry, Bucket, books_of}
 use Rattle.gpu_descriptor.specs.Model.Load.{marked_load, pool_load}
-use Rattle.gpu_descriptor.specs.Caller.States.{named_row}
+use Rattle.gpu_descriptor.specs.Caller.States.{named, named_row}
 use Rattle.gpu_descriptor.specs.Caller.KeyOf.{key_of}
-use Rattle.gpu_descriptor.specs.Caller.Values.{Kept, Row}
 
 module _ {P : Type 0} where
-  abbrev pub kept_of : DescriptorPool P → Kept P
-  kept_of p = record { raw = p.raw; capacity = p.capacity; allocated = p.allocated; free = p.available }
+  abbrev pub kept_of : DescriptorPool P → EntryOf P
+  kept_of p = record { pool = p.raw; capacity = p.capacity; allocated = p.allocated; free = p.available }
 
-  abbrev pub row_of : BucketKey × DescriptorBucket P → Row P
-  row_of r = record { key = key_of r.0; id = r.1.id; first = r.1.offset; pools = map kept_of r.1.pools.items }
+  abbrev pub kept_in : DescriptorBucket P → BucketOf P
+  kept_in b = record { id = b.id; first = b.offset; pools = map kept_of b.pools.items }
+
+  abbrev pub row_of : BucketKey × DescriptorBucket P → Key × BucketOf P
+  row_of r = (key_of r.0, kept_in r.1)
 
   -- the keys of a table, in its order
   abbrev pub stored_keys : List (BucketKey × DescriptorBucket P) → List Key
@@ -44,7 +46,7 @@ module _ {P : Type 0} where
 
   module _ (name : P → ℕ) where
     abbrev pub entry_of : DescriptorPool P → Entry
-    entry_of p = record { pool = name p.raw; capacity = p.capacity; allocated = p.allocated; free = p.available }
+    entry_of p = named name (kept_of p)
 
     abbrev pub bucket_of : DescriptorBucket P → Bucket
     bucket_of b = record { id = b.id; first = b.offset; pools = map entry_of b.pools.items }

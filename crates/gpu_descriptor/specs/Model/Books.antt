@@ -12,18 +12,25 @@ pub record Key : Type 0 where
 abbrev pub key_eq : Key → Key → Bool
 key_eq k l = pointwise nat_eq k.counts l.counts && beq k.marked l.marked
 
--- a pool in the books: its name, how many sets it holds, how many of these are allocated, how many free places are known
-pub record Entry : Type 0 where
-  pub pool : ℕ
+-- a pool in the books, how many sets it holds, how many of these are allocated, how many free places are known
+pub record EntryOf (X : Type 0) : Type 0 where
+  pub pool : X
   pub capacity : ℕ
   pub allocated : ℕ
   pub free : ℕ
 
--- the pools of a key, oldest first. The one at place i has the number first + i. The id is the key's
-pub record Bucket : Type 0 where
+-- the pools of a key, oldest first. The one at place i has the number first + i. The id is the key's, which no other has
+pub record BucketOf (X : Type 0) : Type 0 where
   pub id : ℕ
   pub first : ℕ
-  pub pools : List Entry
+  pub pools : List (EntryOf X)
+
+-- as the device names the pools
+abbrev pub Entry : Type 0
+Entry = EntryOf ℕ
+
+abbrev pub Bucket : Type 0
+Bucket = BucketOf ℕ
 
 -- the pool that has the number
 abbrev pub entry_at : Bucket → ℕ → Option Entry
@@ -34,23 +41,23 @@ abbrev pub next_number : Bucket → ℕ
 next_number b = b.first + length b.pools
 
 -- what a key has that never came
-abbrev pub no_pools : Bucket
+abbrev pub no_pools : {X : Type 0} → BucketOf X
 no_pools = record { id = 0; first = 0; pools = [] }
 
 -- ---- the books of all keys, and a table that keeps them in some order
 
 -- the books that a table keeps, whatever its order
-abbrev pub books_of : List (Key × Bucket) → Key → Bucket
+abbrev pub books_of : {X : Type 0} → List (Key × BucketOf X) → Key → BucketOf X
 books_of [] k = no_pools
 books_of (row ∷ table) k = if key_eq row.0 k then row.1 else books_of table k
 
 -- no key has two rows
-abbrev pub HasDistinctKeys : List (Key × Bucket) → Type 0
+abbrev pub HasDistinctKeys : {X : Type 0} → List (Key × BucketOf X) → Type 0
 HasDistinctKeys [] = Unit {0}
 HasDistinctKeys (row ∷ table) = (list_any (λ other. key_eq other.0 row.0) table ≡ false) × HasDistinctKeys table
 
 -- the sum of what is counted in each bucket
-abbrev pub sum_over : (Key → Bucket → ℕ) → List (Key × Bucket) → ℕ
+abbrev pub sum_over : {X : Type 0} → (Key → BucketOf X → ℕ) → List (Key × BucketOf X) → ℕ
 sum_over f table = sum_by (λ row. f row.0 row.1) table
 
 -- f of each key's bucket adds up to n over all keys. A table has each key that has pools

@@ -1,10 +1,10 @@
 -- What is out in all keys: sets, and descriptors of marked sets. What the pools of marked keys have.
 use Rattle.std.specs.Prelude.{ℕ, ◌*◌, max, if◌then◌else◌, List, sum, sum_by}
-use Rattle.gpu_descriptor.specs.Model.Books.{Key, Entry, Bucket, AddsUp}
+use Rattle.gpu_descriptor.specs.Model.Books.{Key, EntryOf, BucketOf, AddsUp}
 use Rattle.gpu_descriptor.specs.Model.Agreement.{State}
 
 -- how many sets are out of these pools
-abbrev pub allocated_in : List Entry → ℕ
+abbrev pub allocated_in : {X : Type 0} → List (EntryOf X) → ℕ
 allocated_in pools = sum_by (λ e. e.allocated) pools
 
 -- how many descriptors so many sets of a key have, if it is marked
@@ -16,18 +16,18 @@ abbrev pub pool_load : Key → ℕ → ℕ
 pool_load k sets = if k.marked then max 1 (sets * sum k.counts) else 0
 
 -- the descriptors of these pools of a key, if it is marked
-abbrev pub pools_load : Key → List Entry → ℕ
+abbrev pub pools_load : {X : Type 0} → Key → List (EntryOf X) → ℕ
 pools_load k pools = sum_by (λ e. pool_load k e.capacity) pools
 
 -- ---- over all keys: what a key with its bucket adds to each of the three sums
 
-abbrev pub sets_out : Key → Bucket → ℕ
+abbrev pub sets_out : {X : Type 0} → Key → BucketOf X → ℕ
 sets_out k b = allocated_in b.pools
 
-abbrev pub descriptors_out : Key → Bucket → ℕ
+abbrev pub descriptors_out : {X : Type 0} → Key → BucketOf X → ℕ
 descriptors_out k b = marked_load k (allocated_in b.pools)
 
-abbrev pub bucket_load : Key → Bucket → ℕ
+abbrev pub bucket_load : {X : Type 0} → Key → BucketOf X → ℕ
 bucket_load k b = pools_load k b.pools
 
 -- so many sets are out

@@ -5,7 +5,7 @@ ghost use Rattle.gpu_descriptor.specs.Model.Books.{AddsUp, HasDistinctKeys, book
 ghost use Rattle.gpu_descriptor.specs.Model.Load.{descriptors_out, bucket_load, sets_out};
 ghost use Rattle.gpu_descriptor.specs.Caller.States.{marked_load_of, outstanding_of, pool_load_of};
 ghost use Rattle.gpu_descriptor.specs.Caller.States.{table_of};
-ghost use Rattle.gpu_descriptor.specs.Caller.Views.{pools_at, view_at, view_in};
+ghost use Rattle.gpu_descriptor.specs.Caller.Views.{view_in};
 
 use super::DescriptorAllocator;
 use crate::set::BucketKey;
@@ -48,9 +48,8 @@ impl<P, S> DescriptorAllocator<P, S> {
 
     /// How many pools there are for sets of layouts with these counts and this mark.
     pub fn pool_count(&self, size: &DescriptorTotalCount, update_after_bind: bool) -> usize
-        ensures count { result ≡ length
-            (pools_at self.now.table
-            (record { counts = kinds size.now; marked = update_after_bind })) }
+        ensures count { result ≡ length (books_of self.now.table
+            (record { counts = kinds size.now; marked = update_after_bind })).pools }
         ensures books { (name : P → ℕ) → result ≡ length (books_of (table_of name self.now)
             (record { counts = kinds size.now; marked = update_after_bind })).pools }
     {
@@ -72,8 +71,8 @@ impl<P, S> DescriptorAllocator<P, S> {
         update_after_bind: bool,
         index: usize,
     ) -> Option<PoolView>
-        ensures view { result ≡ view_at self.now.table
-            (record { counts = kinds size.now; marked = update_after_bind }) index }
+        ensures view { result ≡ view_in (books_of self.now.table
+            (record { counts = kinds size.now; marked = update_after_bind })) index }
         ensures books { (name : P → ℕ) → result ≡ view_in (books_of (table_of name self.now)
             (record { counts = kinds size.now; marked = update_after_bind })) index }
     {

@@ -1,5 +1,6 @@
 use Rattle.std.proofs.Common.{◌≡◌, ◌++◌, string_bytes, append-nil, append_assoc, length, ap, sym, ◌∙◌, arith}
-use Rattle.gpu_descriptor.specs.Caller.Views.{pools_at, view_at}
+use Rattle.gpu_descriptor.specs.Caller.Views.{view_in}
+use Rattle.gpu_descriptor.specs.Model.Books.{books_of}
 use Rattle.descriptor_script.specs.Sessions.Session.{allocator_of}
 use Rattle.descriptor_lines.specs.Answers.{pool_answer}
 use Rattle.descriptor_lines.specs.FirstLayouts.{key_of}
@@ -18,8 +19,8 @@ loop-index-preserved g c =
     let layout = c.args.layout.now in
     let index = c.loop-index.index in
     let table = (allocator_of c.args.self.now.session).table in
-    let seen : c.pool.result ≡ view_at table (key_of layout) index = c.pool.ensures.view ∙ ap (λ a. view_at a.table (key_of layout) index) c.allocator-allocator.ensures in
-    let count = c.pool_count-index-end.ensures.count ∙ ap (λ a. length (pools_at a.table (key_of layout))) c.allocator-allocator.ensures in
+    let seen : c.pool.result ≡ view_in (books_of table (key_of layout)) index = c.pool.ensures.view ∙ ap (λ a. view_in (books_of a.table (key_of layout)) index) c.allocator-allocator.ensures in
+    let count = c.pool_count-index-end.ensures.count ∙ ap (λ a. length (books_of a.table (key_of layout)).pools) c.allocator-allocator.ensures in
     elim c.match-pool.branch [
       | in-Some+in_ok-pool_answer w ↦ ap string_bytes w.answer-is ∙ w.in_ok-pool_answer.ensures ∙ ap (λ said. said ++ pool_answer name w.in-Some.pool) c.loop-index.invariant ∙ append_assoc (string_bytes c.args.answer.now) _ _ ∙ ap (λ said. string_bytes c.args.answer.now ++ said) (sym (one_more table name layout index w.in-Some.pool (sym seen ∙ w.in-Some.is)))
       | in_default w ↦ absurd (seen_within table (key_of layout) index (omega (arith, count, c.loop-index-test.true)) (sym seen ∙ w.in_default.is))
@@ -28,5 +29,5 @@ loop-index-preserved g c =
 pub returns : goal.returns
 returns g c =
     let table = (allocator_of c.args.self.now.session).table in
-    let count : c.pool_count-index-end.result ≡ length (pools_at table (key_of c.args.layout.now)) = c.pool_count-index-end.ensures.count ∙ ap (λ a. length (pools_at a.table (key_of c.args.layout.now))) c.allocator-allocator.ensures in
+    let count : c.pool_count-index-end.result ≡ length (books_of table (key_of c.args.layout.now)).pools = c.pool_count-index-end.ensures.count ∙ ap (λ a. length (books_of a.table (key_of c.args.layout.now)).pools) c.allocator-allocator.ensures in
     c.loop-index.invariant ∙ ap (λ said. string_bytes c.args.answer.now ++ said) (all_so_far table (c.args.name.now, c.args.layout.now) c.loop-index.index (omega (arith, count, c.loop-index-test.false)))

@@ -1,17 +1,22 @@
-use Rattle.std.proofs.Common.{◌<◌, ◌≤◌, arith, rules, ap, sym, ◌∙◌, length, refl, inl, inr, true, false, ◌≡◌}
+use Rattle.std.proofs.Common.{◌+◌, map, option_map, ◌<◌, ◌≤◌, arith, rules, ap, sym, ◌∙◌, length, refl, inl, inr, true, false, ◌≡◌}
 use Rattle.std.proofs.lemmas.Bool.{cases_lt}
+use Rattle.std.proofs.lemmas.List.{length-map}
+use Rattle.std.proofs.lemmas.Option.{slice_get-map, slice_get_past, slice_get_read}
 use Rattle.std.specs.Option.{option_copied}
 use Rattle.gpu_descriptor.specs.Caller.Values.{Allocations}
-use Rattle.gpu_descriptor.specs.Model.Books.{Key}
+use Rattle.gpu_descriptor.specs.Model.Books.{Key, BucketOf, EntryOf}
 use Rattle.gpu_descriptor.specs.Caller.KeyOf.{key_of}
-use Rattle.gpu_descriptor.proofs.Readings.{view_none, view_past, view_here}
+use Rattle.gpu_descriptor.specs.Caller.Views.{view_in}
+use Rattle.gpu_descriptor.specs.Inner.Stored.{kept_of}
+use Rattle.gpu_descriptor.proofs.Readings.{seen_at}
 use Rattle.gpu_descriptor.proofs.TableSums.{view_of-table}
 use Rattle.gpu_descriptor.proofs.allocator.DescriptorAllocator.pool.Goals as goal
 
 pub returns-in_err-bucket : goal.returns-in_err-bucket
 returns-in_err-bucket g c =
     let k : Key = key_of (record { size = c.args.size.now; update_after_bind = c.args.update_after_bind }) in
-    let view = c.from_residual.ensures ∙ sym (view_none _ k (λ l. search rules) c.args.self.now c.self.inside.buckets.entries (ap (λ (a : Allocations _). a.table) c.self.view_is) c.args.index (sym c.get.ensures.value ∙ ap option_copied c.in_err-bucket.was)) in
+    let here = seen_at _ k (λ l. search rules) c.args.self.now c.self.inside.buckets.entries (ap (λ (a : Allocations _). a.table) c.self.view_is) (sym c.get.ensures.value ∙ ap option_copied c.in_err-bucket.was) in
+    let view = c.from_residual.ensures ∙ ap (λ (b : BucketOf _). view_in b c.args.index) (sym here) in
     record { view = view; books = λ name. view ∙ view_of-table name c.args.self.now k c.args.index }
 
 pub returns-in_err-pool : goal.returns-in_err-pool
@@ -23,7 +28,9 @@ returns-in_err-pool g c =
       | inl lt ↦ absurd (let bad : false ≡ true = c.in_err-pool.ensures.variant.1 lt in cc)
       | inr le ↦ omega arith
     ] in
-    let view = c.from_residual-in_err-pool.ensures ∙ sym (view_past _ k (λ l. search rules) c.args.self.now c.self.inside.buckets.entries (ap (λ (a : Allocations _). a.table) c.self.view_is) c.args.index c.in_ok-bucket.bucket.now (sym c.get.ensures.value ∙ ap option_copied c.in_ok-bucket.was) short) in
+    let here = seen_at _ k (λ l. search rules) c.args.self.now c.self.inside.buckets.entries (ap (λ (a : Allocations _). a.table) c.self.view_is) (sym c.get.ensures.value ∙ ap option_copied c.in_ok-bucket.was) in
+    let past = slice_get_past (map kept_of q.items) c.args.index (let e = length-map q.items kept_of in omega arith) in
+    let view = c.from_residual-in_err-pool.ensures ∙ sym (ap (λ (b : BucketOf _). view_in b c.args.index) here ∙ ap (option_map (λ (e : EntryOf _). record { number = c.in_ok-bucket.bucket.now.offset + c.args.index; allocated = e.allocated; available = e.free })) past) in
     record { view = view; books = λ name. view ∙ view_of-table name c.args.self.now k c.args.index }
 
 pub overflow_add-result : goal.overflow_add-result
@@ -36,5 +43,8 @@ pub returns : goal.returns
 returns g c =
     let k : Key = key_of (record { size = c.args.size.now; update_after_bind = c.args.update_after_bind }) in
     let lt : c.args.index < length c.in_ok-bucket.bucket.now.pools.items = (let lt = c.in_ok-pool.ensures.variant.0 refl in omega (arith, c.in_ok-bucket.bucket.now.pools.ok.0)) in
-    let view = sym (view_here _ k (λ l. search rules) c.args.self.now c.self.inside.buckets.entries (ap (λ (a : Allocations _). a.table) c.self.view_is) c.args.index c.in_ok-bucket.bucket.now (sym c.get.ensures.value ∙ ap option_copied c.in_ok-bucket.was) c.in_ok-pool.pool.now lt c.in_ok-pool.ensures.lookup) in
+    let b = c.in_ok-bucket.bucket.now in
+    let here = seen_at _ k (λ l. search rules) c.args.self.now c.self.inside.buckets.entries (ap (λ (a : Allocations _). a.table) c.self.view_is) (sym c.get.ensures.value ∙ ap option_copied c.in_ok-bucket.was) in
+    let there = slice_get-map kept_of b.pools.items c.args.index ∙ ap (option_map kept_of) (slice_get_read b.pools.items (length b.pools.items) c.args.index c.in_ok-pool.pool.now refl lt c.in_ok-pool.ensures.lookup) in
+    let view = sym (ap (λ (r : BucketOf _). view_in r c.args.index) here ∙ ap (option_map (λ (e : EntryOf _). record { number = b.offset + c.args.index; allocated = e.allocated; available = e.free })) there) in
     record { view = view; books = λ name. view ∙ view_of-table name c.args.self.now k c.args.index }

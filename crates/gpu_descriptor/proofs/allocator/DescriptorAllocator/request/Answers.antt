@@ -109,5 +109,8 @@ returns-then-is_above_limit-clause-pool_load g c = pool_load_within _ c.self.vie
 pub returns-clause-keys : goal.returns-clause-keys
 returns-clause-keys g c = keys_seen (key_of c.args.key) c.args.self.now (seen 0 0 0 c.serve_key-served.new.buckets.entries) c.self.inside.buckets.entries c.serve_key-served.new.buckets.entries (table_is _ c.self.view_is) refl c.in-Ok.ensures.keys
 
+pub returns-in-Err-clause-load : goal.returns-in-Err-clause-load
+returns-in-Err-clause-load g c = rw c.in-Err.ensures.entries (rows_within c.self.invariant)
+
 pub returns-in-Err-clause-pool_load : goal.returns-in-Err-clause-pool_load
 returns-in-Err-clause-pool_load g c = rw c.in-Err.ensures.entries (pools_within c.self.invariant)

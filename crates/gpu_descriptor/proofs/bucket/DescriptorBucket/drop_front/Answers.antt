@@ -1,4 +1,4 @@
-use Rattle.std.proofs.Common.{◌≡◌, ℕ, ◌+◌, drop, ◌<◌, ◌≤◌, ◌∙◌, sym, ap, arith, length, get_or, Some}
+use Rattle.std.proofs.Common.{◌≡◌, ◌+◌, drop, ◌<◌, ◌≤◌, ◌∙◌, sym, ap, arith, length, get_or, Some}
 use Rattle.gpu_descriptor.specs.Inner.Buckets.{front_but}
 use Rattle.gpu_descriptor.specs.Model.Load.{pool_load}
 use Rattle.gpu_descriptor.specs.Caller.KeyOf.{key_of}
