@@ -15,12 +15,12 @@ use Rattle.gpu_descriptor.specs.Caller.Others.{others_of}
 use Rattle.gpu_descriptor.specs.Model.FreshPools.{fresh_entry, IsFreshFront}
 use Rattle.gpu_descriptor.specs.Caller.Frees.{GivesBack}
 use Rattle.gpu_descriptor.specs.Model.Grants.{Grant, IsGrantOf, bucket_with, items_in, granted}
-use Rattle.gpu_descriptor.specs.Inner.Grow.{IsTaken, StopsAt, stop_answer}
-use Rattle.gpu_descriptor.specs.Inner.Walk.{IsRefused, stop_rise}
+use Rattle.gpu_descriptor.specs.Inner.Grow.{IsTaken}
+use Rattle.gpu_descriptor.specs.Inner.Walk.{IsRefused}
 use Rattle.gpu_descriptor.specs.Model.Load.{allocated_in, marked_load}
 use Rattle.gpu_descriptor.specs.Model.Shares.{all_shared, rest}
-use Rattle.gpu_descriptor.specs.Model.Outcomes.{Allocates, Call, Proceeds, IsBack, IsFront, back_of, rolled_back, risen, grant_rise, rollback_rise}
-use Rattle.gpu_descriptor.specs.Model.Outcomes.Allocates.{done, stopped_at_pool, stopped_without_room, stopped_at_create, stopped_for_memory, stopped_at_fresh}
+use Rattle.gpu_descriptor.specs.Model.Outcomes.{Allocates, Call, Proceeds, IsBack, back_of, rolled_back, risen, grant_rise, rollback_rise, StopsAt, stop_answer, stop_rise}
+use Rattle.gpu_descriptor.specs.Model.Outcomes.Allocates.{done, stopped}
 use Rattle.gpu_descriptor.specs.Model.Promises.{IsUntouched, KeepsOtherKeys, AreOfKey, AreOutBesides, KeepsOutstanding}
 use Rattle.gpu_descriptor.specs.Model.Release.{released, given_back, pools_gone}
 use Rattle.gpu_descriptor.specs.Caller.Call.{call_of}
@@ -50,10 +50,6 @@ keeps_taken (Err why) k room n items old new l m t = subst (KeepsKey k items old
 bucket_taken : (ended : Result (Unit {0}) Stop) (k : Key) (room n : ℕ) (items : List Item) (old new : Bucket) (l m : Ledger) → IsTaken ended k room n items old new l m → (g : Grant) × (new ≡ bucket_with n g old) × IsGrantOf n old l.pools g
 bucket_taken (Ok x) k room n items old new l m t = (t.0, t.1.bucket, t.1.grant)
 bucket_taken (Err why) k room n items old new l m t = (t.0, t.2.bucket, t.2.grant)
-
--- there was room where it stopped for another reason
-fits : {why : Stop} {one room : ℕ} → (why ≡ stop.Room) ↔ (room < one) → why ≢ stop.Room → one ≤ room
-fits {one = one} {room = room} told other = elim (cases_lt room one) [ inl none ↦ absurd (other (told.1 none)) | inr some ↦ some ]
 
 -- a request of a key is one of another that is the same
 pub taken_as : {P S : Type 0} {name : P → ℕ} {set_name : S → ℕ} {k l : Key} {count : ℕ} {sets : List (DescriptorSet S)} {ended : Result (Unit {0}) Stop} {old new : Allocations P} {before after : Ledger}
@@ -151,7 +147,7 @@ module _ {P S : Type 0} {name : P → ℕ} {set_name : S → ℕ} {k : Key} {cou
       now : (with_bucket k t.bucket after.pools s ≡ granted k count g s) × (after.counters ≡ risen (stop_rise why) (risen (grant_rise count g (s.books k).pools) before.counters))
       now = stopped_state k count why s t.bucket items before between after refl g taken refused
 
-      is_back : (b : IsBack (call (stop_answer why)) g (stop_rise why) (stop_answer why)) × (Some (back_of b) ≡ Some (items, state_of name new after))
+      is_back : (b : IsBack (call (stop_answer why)) g why) × (Some (back_of b) ≡ Some (items, state_of name new after))
       is_back = (
         record {
           taken = taken.grant;
@@ -165,26 +161,10 @@ module _ {P S : Type 0} {name : P → ℕ} {set_name : S → ℕ} {k : Key} {cou
       goes : Proceeds (call (stop_answer why))
       goes = proceeds distinct some last final _
 
-    -- a front of new pools came before it
-    abbrev front_of : {g : Grant} → g.left ≡ 0 → IsFreshFront k room (allocated_in (all_shared g.refused count (s.books k).pools)) (rest g.refused count (s.books k).pools) g.fresh → IsFront (record { key = k; count = count; limit = old.limit }) s g
-    front_of all front = record { all = all; pooled = pool_load_of old; is_pooled = pool_load_is name old before distinct; front = front }
-
     rolls : (why : Stop) (g : Grant) (between : Ledger) → HasTaken k count g items (s.books k) t.bucket before between → StopsAt why k room count g (s.books k).pools → IsRefused why between after → Rolls why
-    rolls (stop.Existing error) g between taken at refused =
-        let b = is_back (stop.Existing error) g between taken refused in
-        (stopped_at_pool (goes (stop.Existing error) g between taken refused) (record { grant = g; error = error; at = at; back = b.0 }), b.1)
-    rolls stop.Room g between taken at refused =
-        let b = is_back stop.Room g between taken refused in
-        (stopped_without_room (goes stop.Room g between taken refused) (record { grant = g; front = front_of at.0 at.1; no_room = at.2.0 refl; back = b.0 }), b.1)
-    rolls stop.Books g between taken at refused =
-        let b = is_back stop.Books g between taken refused in
-        (stopped_for_memory (goes stop.Books g between taken refused) (record { at = record { grant = g; front = front_of at.0 at.1; room = fits at.2 (λ is. absurd (cc)) }; back = b.0 }), b.1)
-    rolls (stop.Create error) g between taken at refused =
-        let b = is_back (stop.Create error) g between taken refused in
-        (stopped_at_create (goes (stop.Create error) g between taken refused) (record { at = record { grant = g; front = front_of at.0 at.1; room = fits at.2 (λ is. absurd (cc)) }; error = error; back = b.0 }), b.1)
-    rolls (stop.New error) g between taken at refused =
-        let b = is_back (stop.New error) g between taken refused in
-        (stopped_at_fresh (goes (stop.New error) g between taken refused) (record { at = record { grant = g; front = front_of at.0 at.1; room = fits at.2 (λ is. absurd (cc)) }; error = error; back = b.0 }), b.1)
+    rolls why g between taken at refused =
+        let b = is_back why g between taken refused in
+        (stopped (goes why g between taken refused) (record { why = why; grant = g; pooled = pool_load_of old; is_pooled = pool_load_is name old before distinct; at = at; back = b.0 }), b.1)
 
     pub went_back : {why : Stop} → ended ≡ Err why → Rolls why
     went_back {why} is =

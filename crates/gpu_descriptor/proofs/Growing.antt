@@ -14,11 +14,11 @@ use Rattle.gpu_descriptor.specs.Model.Agreement.{Item, flags_of}
 use Rattle.gpu_descriptor.specs.Model.Books.{Key, Entry, Bucket}
 use Rattle.gpu_descriptor.specs.Model.FreshPools.{Fresh, fresh_portions, fresh_entry, given_by, IsNextSize, room_after, AreSized, AreFull, AreNew, IsFreshFront, IsFreshList}
 use Rattle.gpu_descriptor.specs.Model.Grants.{Grant, Part, items_at, items_in, portion_of, came, pool_with, ledger_with, entries_with, fresh_or}
-use Rattle.gpu_descriptor.specs.Inner.Grow.{IsGrown, IsTaken, NoneIsNew, StopsAt}
+use Rattle.gpu_descriptor.specs.Inner.Grow.{IsGrown, IsTaken}
 use Rattle.gpu_descriptor.specs.Inner.Walk.{IsRefused}
 use Rattle.gpu_descriptor.specs.declared.bucket.take.Stop.TheVariants as stop
 use Rattle.gpu_descriptor.specs.Model.Load.{allocated_in, pool_load, pools_load}
-use Rattle.gpu_descriptor.specs.Model.Outcomes.{risen, grant_rise}
+use Rattle.gpu_descriptor.specs.Model.Outcomes.{risen, grant_rise, NoneIsNew, StopsAt}
 use Rattle.gpu_descriptor.specs.Model.Shares.{offer, rest, share, shared, all_shared, Portion, portions_of}
 use Rattle.gpu_descriptor.specs.Inner.Buckets.{AreBookedIn}
 use Rattle.gpu_descriptor.specs.Inner.Walk.{HasTaken, KeepsKey, IsWalked}

@@ -10,8 +10,8 @@ use Rattle.gpu_descriptor.specs.Model.Books.{Key, Entry}
 use Rattle.gpu_descriptor.specs.Model.FreshPools.{IsNextSize}
 use Rattle.gpu_descriptor.specs.Model.Load.{pool_load}
 use Rattle.gpu_descriptor.specs.Inner.Grow.{IsGrown}
-use Rattle.gpu_descriptor.specs.Inner.Walk.{IsRefused, stop_rise}
-use Rattle.gpu_descriptor.specs.Model.Outcomes.{risen}
+use Rattle.gpu_descriptor.specs.Inner.Walk.{IsRefused}
+use Rattle.gpu_descriptor.specs.Model.Outcomes.{risen, stop_rise}
 use Rattle.gpu_descriptor_types.specs.Ledger.{Pool, Ledger, Counters, HasRoom, HasNoSets, live_sets, changed, fresh, after_create, after_no_create, after_alloc, after_no_alloc, after_destroy, create_refused, alloc_refused, pool_refusals, no_rise}
 use Rattle.gpu_descriptor_types.specs.declared.errors.CreatePoolError.{CreatePoolError}
 use Rattle.gpu_descriptor_types.specs.declared.errors.CreatePoolError.TheVariants as create_error

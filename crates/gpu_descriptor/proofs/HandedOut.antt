@@ -7,7 +7,7 @@ use Rattle.gpu_descriptor.specs.declared.set.DescriptorSet.{DescriptorSet}
 use Rattle.gpu_descriptor.specs.declared.bucket.take.Stop.{Stop}
 use Rattle.gpu_descriptor.specs.Model.Agreement.{Item, State, outstanding}
 use Rattle.gpu_descriptor.specs.Model.Books.{HasDistinctKeys, Key}
-use Rattle.gpu_descriptor.specs.Model.Outcomes.{Allocates, rolled_back}
+use Rattle.gpu_descriptor.specs.Model.Outcomes.{Allocates, rolled_back, stop_answer}
 use Rattle.gpu_descriptor.specs.Caller.Call.{call_of}
 use Rattle.gpu_descriptor.specs.Caller.Frees.{Returns}
 use Rattle.gpu_descriptor.specs.Caller.HandsOut.{HandsOut}
@@ -16,7 +16,6 @@ use Rattle.gpu_descriptor.specs.Caller.Keys.{StayOrGainLast}
 use Rattle.gpu_descriptor.specs.Caller.Sets.{items_of}
 use Rattle.gpu_descriptor.specs.Caller.States.{Agrees, keys_of, marked_load_of, outstanding_of, pool_load_of, state_of, table_of}
 use Rattle.gpu_descriptor.specs.Caller.Values.{Allocations}
-use Rattle.gpu_descriptor.specs.Inner.Grow.{stop_answer}
 use Rattle.gpu_descriptor.specs.Inner.Serves.{Takes}
 use Rattle.gpu_descriptor.proofs.Allocating.{taken_agree, taken_out, taken_own, taken_others, taken_leaves, taken_loses_none, taken_others_of, went_back, back_out, back_leaves, back_loses_none, back_others, back_others_of, back_totals, kept, kept_many, kept_totals}
 use Rattle.gpu_descriptor.proofs.Promises.{has_cause, short}

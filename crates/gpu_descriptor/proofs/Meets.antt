@@ -4,9 +4,9 @@ use Rattle.gpu_descriptor.specs.Model.Agreement.{State, Item, with_bucket}
 use Rattle.gpu_descriptor.specs.Model.Books.{Key, Bucket}
 use Rattle.gpu_descriptor.specs.Model.Grants.{Grant, IsGrantOf, granted, ledger_with}
 use Rattle.gpu_descriptor.specs.Inner.Grow.{IsTaken}
-use Rattle.gpu_descriptor.specs.Inner.Walk.{IsRefused, stop_rise}
+use Rattle.gpu_descriptor.specs.Inner.Walk.{IsRefused}
 use Rattle.gpu_descriptor.specs.Model.Load.{IsPoolLoad}
-use Rattle.gpu_descriptor.specs.Model.Outcomes.{Call, IsDone, risen, grant_rise}
+use Rattle.gpu_descriptor.specs.Model.Outcomes.{Call, IsDone, risen, grant_rise, stop_rise}
 use Rattle.gpu_descriptor.specs.Inner.Walk.{HasTaken}
 use Rattle.gpu_descriptor_types.specs.Ledger.{Pool, Ledger}
 use Rattle.gpu_descriptor.specs.declared.bucket.take.Stop.{Stop}

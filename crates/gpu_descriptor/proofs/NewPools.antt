@@ -12,12 +12,13 @@ use Rattle.gpu_descriptor_types.specs.Multiset.{set_eq}
 use Rattle.gpu_descriptor_types.specs.PoolSize.{pool_counts}
 use Rattle.gpu_descriptor.specs.declared.errors.AllocationError.{AllocationError}
 use Rattle.gpu_descriptor.specs.Model.Agreement.{State, Item, flags_of, set_of}
+use Rattle.gpu_descriptor.specs.declared.bucket.take.Stop.{Stop}
 use Rattle.gpu_descriptor.specs.Model.Books.{Key, key_eq, Entry, Bucket, entry_at, next_number}
-use Rattle.gpu_descriptor.specs.Model.FreshPools.{Fresh, AreNew, AreSized, AreFull, IsFreshList, given_by, fresh_entry}
+use Rattle.gpu_descriptor.specs.Model.FreshPools.{Fresh, AreNew, AreSized, AreFull, IsFreshList, given_by, fresh_entry, IsFreshFront}
 use Rattle.gpu_descriptor.specs.Model.FreshPools.IsFreshList.{none as no_fresh, some as some_fresh}
 use Rattle.gpu_descriptor.specs.Model.Grants.{Grant, items_in, came, granted, entries_with, fresh_or, pool_with}
 use Rattle.gpu_descriptor.specs.Model.Load.{allocated_in, pool_load}
-use Rattle.gpu_descriptor.specs.Model.Outcomes.{Call, IsBack, IsDone, IsFront, out_then, wanting}
+use Rattle.gpu_descriptor.specs.Model.Outcomes.{Call, IsBack, IsDone, out_then, wanting}
 use Rattle.gpu_descriptor.specs.Model.Promises.{AreBelowTwice, HasNewPools}
 use Rattle.gpu_descriptor.specs.Model.Release.{released, given_back, pool_less, lies_in, in_front, spent_front, bucket_less}
 use Rattle.gpu_descriptor.specs.Model.Shares.{offer, rest, shared, all_shared}
@@ -234,22 +235,22 @@ released_pool m t name q after = elim (cases_Bool (list_any (λ u. let b = (give
         (p, is, sym (ap (λ (x : Pool). x.refusals) one), sym (ap (λ (x : Pool). x.capacity) one))
 
 -- after the new pools one more may have been created and destroyed
-pub back_new_pools : (c : Call) (g : Grant) (rise : Counters) (error : AllocationError) → IsBack c g rise error → IsFront c.request c.old g → (more : ℕ) → more ≤ 1 → c.after.created ≡ c.before.created + (length g.fresh + more) → HasNewPools c (wanting c.request c.old g) more
-back_new_pools c g rise error b front more one created =
+pub back_new_pools : (c : Call) (g : Grant) (why : Stop) (room : ℕ) → IsBack c g why → g.left ≡ 0 → IsFreshFront c.request.key room (out_then c.request c.old g) (wanting c.request c.old g) g.fresh → (more : ℕ) → more ≤ 1 → c.after.created ≡ c.before.created + (length g.fresh + more) → HasNewPools c (wanting c.request c.old g) more
+back_new_pools c g why room b all front more one created =
     let k : Key = c.request.key in
     let t : State = granted k c.request.count g c.old in
     let m : List Item = items_in k g.id g.parts in
     let long = length-map g.fresh (λ (f : Fresh). f.size) in
     record {
       sizes = sizes_of g.fresh;
-      below_twice = from_shared g.refused c.request.count (c.old.books k).pools (sizes_of g.fresh) (front_below k (c.request.limit - front.pooled) _ _ g.fresh front.front.sized front.front.full front.front.short);
-      numbers = ap (λ (w : State). next_number (w.books k)) b.state ∙ numbers_stay m t k ∙ granted_numbers k c.request.count g c.old front.all;
+      below_twice = from_shared g.refused c.request.count (c.old.books k).pools (sizes_of g.fresh) (front_below k room _ _ g.fresh front.sized front.full front.short);
+      numbers = ap (λ (w : State). next_number (w.books k)) b.state ∙ numbers_stay m t k ∙ granted_numbers k c.request.count g c.old all;
       capacity = λ i e p at live. (
           let number : ℕ = next_number (c.old.books k) + i in
           let was = was_there m t k number e (ap (λ (w : State). entry_at (w.books k) number) (sym b.state) ∙ at) in
           let name : was.0.pool ≡ e.pool = ap (λ (x : Entry). x.pool) was.2 in
           let had = released_pool m t e.pool p (ap (λ (w : State). w.ledger e.pool) (sym b.state) ∙ live) in
-          granted_capacity k c.request.count g c.old front.all b.taken.new i was.0 had.0 was.1 (ap t.ledger name ∙ had.1) ∙ ap (λ n. Some n) (sym had.3));
+          granted_capacity k c.request.count g c.old all b.taken.new i was.0 had.0 was.1 (ap t.ledger name ∙ had.1) ∙ ap (λ n. Some n) (sym had.3));
       created = omega arith;
       stay = unmet _ c.answer _ b.answer;
       met = unmet _ c.answer _ b.answer;

@@ -1,10 +1,10 @@
 -- What every outcome of a request promises.
-use Rattle.std.proofs.Common.{◌≡◌, ℕ, suc, ◌+◌, ◌-◌, ◌*◌, ◌<◌, ◌≤◌, Bool, true, List, [], ◌∷◌, ◌++◌, map, length, drop, sum_by, Option, Some, None, option_map, inl, inr, eqb-true, ◌==◌, Result, Ok, Err, refl, sym, ap, ◌∙◌, subst, arith}
+use Rattle.std.proofs.Common.{◌≡◌, ◌≢◌, ℕ, suc, ◌+◌, ◌-◌, ◌*◌, ◌<◌, ◌≤◌, Bool, true, List, [], ◌∷◌, ◌++◌, map, length, drop, sum_by, Option, Some, None, option_map, inl, inr, eqb-true, ◌==◌, Result, Ok, Err, refl, sym, ap, ◌∙◌, subst, arith}
 use Rattle.std.proofs.lemmas.List.{length-map, length-append}
 use Rattle.std.proofs.lemmas.List.Sums.{sum_by-cons, sum_by-append}
 use Rattle.gpu_descriptor_types.proofs.Sizes.{pool_size_some}
 use Rattle.gpu_descriptor_types.specs.PoolSize.{pool_size_floor}
-use Rattle.std.specs.Prelude.{min, if◌then◌else◌, OnOk, IfErr}
+use Rattle.std.specs.Prelude.{◌↔◌, min, if◌then◌else◌, OnOk, IfErr}
 use Rattle.gpu_descriptor_types.specs.Ledger.{Pool, Counters, live_sets, create_refused, alloc_refused, pool_refusals, no_rise}
 use Rattle.gpu_descriptor_types.specs.declared.errors.CreatePoolError.{CreatePoolError}
 use Rattle.gpu_descriptor_types.specs.declared.errors.CreatePoolError.TheVariants as create_error
@@ -12,16 +12,18 @@ use Rattle.gpu_descriptor_types.specs.declared.errors.DeviceAllocationError.{Dev
 use Rattle.gpu_descriptor_types.specs.declared.errors.DeviceAllocationError.TheVariants as alloc_error
 use Rattle.gpu_descriptor.specs.declared.errors.AllocationError.{AllocationError}
 use Rattle.gpu_descriptor.specs.declared.errors.AllocationError.TheVariants.{OutOfHostMemory, Fragmentation}
+use Rattle.gpu_descriptor.specs.declared.bucket.take.Stop.{Stop}
+use Rattle.gpu_descriptor.specs.declared.bucket.take.Stop.TheVariants.{Existing, Room, Books, Create, New}
 use Rattle.gpu_descriptor.specs.Model.Agreement.{State, Item}
 use Rattle.gpu_descriptor.specs.Model.Books.{Key, Entry, Bucket, next_number}
-use Rattle.gpu_descriptor.specs.Model.Outcomes.{error_of_create, error_of_alloc, Allocates, Call, IsBack, IsDone, IsStoppedAtPool, IsStoppedAtCreate, IsStoppedAtFresh, IsFront, HasRoomLeft, IsGrant, out_then, wanting}
-use Rattle.gpu_descriptor.specs.Model.FreshPools.{Fresh, AreNew, IsNextSize, room_after, AreSized, AreFull, IsFreshList, given_by, fresh_portions}
+use Rattle.gpu_descriptor.specs.Model.Outcomes.{error_of_alloc, Allocates, Call, IsBack, IsDone, IsGrant, IsStopped, StopsAt, out_then, stop_answer, stop_rise, wanting}
+use Rattle.gpu_descriptor.specs.Model.FreshPools.{Fresh, AreNew, IsFreshFront, IsNextSize, room_after, AreSized, AreFull, IsFreshList, given_by, fresh_portions}
 use Rattle.gpu_descriptor.specs.Model.Grants.{Grant, Part, portion_of, items_at, items_in, came, granted, fresh_or, pool_with}
-use Rattle.gpu_descriptor.specs.Model.Outcomes.Allocates.{none, limit, bound, start, done, stopped_at_pool, stopped_without_room, stopped_at_create, stopped_for_memory, stopped_at_fresh}
+use Rattle.gpu_descriptor.specs.Model.Outcomes.Allocates.{none, limit, bound, start, done, stopped}
 use Rattle.gpu_descriptor.specs.Model.FreshPools.IsFreshList.{none as no_fresh, some as some_fresh}
-use Rattle.std.proofs.lemmas.Bool.{cases_Bool}
-use Rattle.gpu_descriptor.specs.Model.Promises.{HasCause, IsFragmentation, HasNewPools, EndsWith, IsShort, CreatesOnlyWhereShort, last_refusal}
-use Rattle.gpu_descriptor.specs.Model.Promises.EndsWith.{met as met_all, without_room, for_memory, at_create, at_fresh}
+use Rattle.std.proofs.lemmas.Bool.{cases_Bool, cases_lt}
+use Rattle.gpu_descriptor.specs.Model.Promises.{HasCause, IsFragmentation, HasNewPools, EndsWith, IsShort, CreatesOnlyWhereShort}
+use Rattle.gpu_descriptor.specs.Model.Promises.EndsWith.{met as met_all, stopped as stopped_with}
 use Rattle.gpu_descriptor.specs.Model.Promises.IsFragmentation.{above_limit, past_bound, no_room_left, no_pool_created, new_pool_refused}
 use Rattle.gpu_descriptor.specs.Model.Promises.IsHostMemory.{device_refused, no_memory_at_start, no_memory_for_a_pool}
 use Rattle.gpu_descriptor.specs.Model.Load.{pool_load}
@@ -78,58 +80,27 @@ grant_many k n room total b g parts none_left fresh =
 
 -- ---- the causes
 
-create_cause : (c : Call) (s : IsStoppedAtCreate c) → HasCause (error_of_create s.error) c
-create_cause c s = by_error s.error refl
-  where
-    by_error : (e : CreatePoolError) → s.error ≡ e → HasCause (error_of_create e) c
-    by_error create_error.OutOfDeviceMemory is =
-        let n = ap (λ (k : Counters). k.device_memory) s.back.counters in
-        let one = ap (λ (e : CreatePoolError). (create_refused e no_rise).device_memory) is in
-        omega arith
-    by_error create_error.OutOfHostMemory is =
-        let n = ap (λ (k : Counters). k.host_memory) s.back.counters in
-        let one = ap (λ (e : CreatePoolError). (create_refused e no_rise).host_memory) is in
-        device_refused (omega arith)
-    by_error create_error.Fragmentation is =
-        let n = ap (λ (k : Counters). k.fragmentation) s.back.counters in
-        let one = ap (λ (e : CreatePoolError). (create_refused e no_rise).fragmentation) is in
-        no_pool_created s is (omega arith)
-
 -- a memory error of a pool, which the device counted
-memory_cause : (c : Call) (g : Grant) (rise : Counters) (error : AllocationError) → IsBack c g rise error → (e : DeviceAllocationError) → pool_refusals e ≡ 0 → rise.device_memory ≡ (alloc_refused e no_rise).device_memory → rise.host_memory ≡ (alloc_refused e no_rise).host_memory → HasCause (error_of_alloc e) c
-memory_cause c g rise error back alloc_error.OutOfDeviceMemory memory device host = (let n = ap (λ (k : Counters). k.device_memory) back.counters in omega arith)
-memory_cause c g rise error back alloc_error.OutOfHostMemory memory device host = (let n = ap (λ (k : Counters). k.host_memory) back.counters in device_refused (omega arith))
-memory_cause c g rise error back alloc_error.FragmentedPool memory device host = absurd (omega arith)
-memory_cause c g rise error back alloc_error.OutOfPoolMemory memory device host = absurd (omega arith)
+memory_cause : (c : Call) (g : Grant) (why : Stop) → IsBack c g why → (e : DeviceAllocationError) → pool_refusals e ≡ 0 → (stop_rise why).device_memory ≡ (alloc_refused e no_rise).device_memory → (stop_rise why).host_memory ≡ (alloc_refused e no_rise).host_memory → HasCause (error_of_alloc e) c
+memory_cause c g why back alloc_error.OutOfDeviceMemory memory device host = (let n = ap (λ (k : Counters). k.device_memory) back.counters in omega arith)
+memory_cause c g why back alloc_error.OutOfHostMemory memory device host = (let n = ap (λ (k : Counters). k.host_memory) back.counters in device_refused (omega arith))
+memory_cause c g why back alloc_error.FragmentedPool memory device host = absurd (omega arith)
+memory_cause c g why back alloc_error.OutOfPoolMemory memory device host = absurd (omega arith)
 
--- a pool's refusals are those that the device counts
-refusals_counted : (e : DeviceAllocationError) → (alloc_refused e no_rise).pool_refused ≡ pool_refusals e
-refusals_counted alloc_error.OutOfDeviceMemory = refl
-refusals_counted alloc_error.OutOfHostMemory = refl
-refusals_counted alloc_error.FragmentedPool = refl
-refusals_counted alloc_error.OutOfPoolMemory = refl
+abbrev Stops : Call → Stop → Grant → ℕ → Type 0
+Stops c why g pooled = StopsAt why c.request.key (c.request.limit - pooled) c.request.count g (c.old.books c.request.key).pools
 
-pool_cause : (c : Call) (s : IsStoppedAtPool c) → HasCause (error_of_alloc s.error) c
-pool_cause c s = memory_cause c s.grant _ _ s.back s.error s.at.memory refl refl
-
-fresh_cause : (c : Call) (s : IsStoppedAtFresh c) → HasCause (error_of_alloc s.error) c
-fresh_cause c s = by_error s.error refl
-  where
-    counted : {e : DeviceAllocationError} → pool_refusals e ≡ 0 → s.error ≡ e → HasCause (error_of_alloc e) c
-    counted {e} memory is =
-        memory_cause c s.at.grant _ _ s.back e memory (ap (λ (f : DeviceAllocationError). (alloc_refused f no_rise).device_memory) is) (ap (λ (f : DeviceAllocationError). (alloc_refused f no_rise).host_memory) is)
-
-    refused : {e : DeviceAllocationError} → s.error ≡ e → (alloc_refused e no_rise).pool_refused ≡ 1 → IsFragmentation c
-    refused {e} is once =
-        let n = ap (λ (k : Counters). k.pool_refused) s.back.counters in
-        let one = ap (λ (f : DeviceAllocationError). (alloc_refused f no_rise).pool_refused) is in
-        new_pool_refused s (ap pool_refusals is ∙ sym (refusals_counted e) ∙ once) (omega arith)
-
-    by_error : (e : DeviceAllocationError) → s.error ≡ e → HasCause (error_of_alloc e) c
-    by_error alloc_error.OutOfDeviceMemory is = counted refl is
-    by_error alloc_error.OutOfHostMemory is = counted refl is
-    by_error alloc_error.FragmentedPool is = refused is refl
-    by_error alloc_error.OutOfPoolMemory is = refused is refl
+stop_cause : (c : Call) (s : IsStopped c) (why : Stop) → s.why ≡ why → IsBack c s.grant why → Stops c why s.grant s.pooled → HasCause (stop_answer why) c
+stop_cause c s (Existing e) is back at = memory_cause c s.grant (Existing e) back e at.memory refl refl
+stop_cause c s Room is back at = no_room_left s is
+stop_cause c s Books is back at = no_memory_for_a_pool s is
+stop_cause c s (Create create_error.OutOfDeviceMemory) is back at = (let n = ap (λ (k : Counters). k.device_memory) back.counters in omega arith)
+stop_cause c s (Create create_error.OutOfHostMemory) is back at = (let n = ap (λ (k : Counters). k.host_memory) back.counters in device_refused (omega arith))
+stop_cause c s (Create create_error.Fragmentation) is back at = (let n = ap (λ (k : Counters). k.fragmentation) back.counters in no_pool_created s is (omega arith))
+stop_cause c s (New alloc_error.OutOfDeviceMemory) is back at = memory_cause c s.grant _ back alloc_error.OutOfDeviceMemory refl refl refl
+stop_cause c s (New alloc_error.OutOfHostMemory) is back at = memory_cause c s.grant _ back alloc_error.OutOfHostMemory refl refl refl
+stop_cause c s (New alloc_error.FragmentedPool) is back at = (let n = ap (λ (k : Counters). k.pool_refused) back.counters in new_pool_refused s alloc_error.FragmentedPool is refl (omega arith))
+stop_cause c s (New alloc_error.OutOfPoolMemory) is back at = (let n = ap (λ (k : Counters). k.pool_refused) back.counters in new_pool_refused s alloc_error.OutOfPoolMemory is refl (omega arith))
 
 -- ---- which pools refused
 
@@ -150,8 +121,8 @@ granted_raises k n g s name p q new refused live after =
     sym (ap (λ (x : Pool). x.refusals) one) ∙ ap (λ (b : Bool). if b then p.refusals + 1 else p.refusals) refused
 
 -- what a request that stopped raised
-back_raises : (c : Call) (g : Grant) (rise : Counters) (error : AllocationError) → IsBack c g rise error → (name : ℕ) (p q : Pool) → g.refused name ≡ true → c.old.ledger name ≡ Some p → c.new.ledger name ≡ Some q → q.refusals ≡ p.refusals + 1
-back_raises c g rise error b name p q refused live after =
+back_raises : (c : Call) (g : Grant) (why : Stop) → IsBack c g why → (name : ℕ) (p q : Pool) → g.refused name ≡ true → c.old.ledger name ≡ Some p → c.new.ledger name ≡ Some q → q.refusals ≡ p.refusals + 1
+back_raises c g why b name p q refused live after =
     let r = released_pool (items_in c.request.key g.id g.parts) (granted c.request.key c.request.count g c.old) name q (sym (ap (λ (w : State). w.ledger name) b.state) ∙ after) in
     r.2 ∙ granted_raises c.request.key c.request.count g c.old name p r.0 b.taken.new refused live r.1
 
@@ -228,33 +199,39 @@ pools_short c g is all some gone new filled raises last ends counted n rise few 
       subst (λ i. i * m < wanting c.request c.old g + m) (sym same) few);
 }
 
--- after a front, with one more or without
-front_short : (c : Call) (g : Grant) (rise : Counters) (error : AllocationError) → IsBack c g rise error → IsFront c.request c.old g → (last n : ℕ) → EndsWith c n last → IsCounted c g last g.left → n ≤ 1 → c.after.created ≡ c.before.created + (length g.fresh + n)
-    → (length g.fresh + n) * pool_size_floor c.request.key.counts < wanting c.request c.old g + pool_size_floor c.request.key.counts → IsShort c
-front_short c g rise error back front last n ends counted one created few =
-    let short = front.front.short in
-    let new = back_new_pools c g rise error back front n one created in
-    let filled : OnOk c.answer (AreFilled c) = unmet (AreFilled c) c.answer _ back.answer in
-    pools_short c g back.taken front.all (omega arith) n new filled (back_raises c g rise error back) last ends counted (length g.fresh + n) created few
-
--- how few new pools came before
-few_any : (c : Call) (g : Grant) (front : IsFront c.request c.old g) → (length g.fresh + 0) * pool_size_floor c.request.key.counts < wanting c.request c.old g + pool_size_floor c.request.key.counts
-few_any c g front =
+-- how few new pools came before it stopped, with one more or without
+few_any : (c : Call) (g : Grant) (room : ℕ) → IsFreshFront c.request.key room (out_then c.request c.old g) (wanting c.request c.old g) g.fresh → (length g.fresh + 0) * pool_size_floor c.request.key.counts < wanting c.request c.old g + pool_size_floor c.request.key.counts
+few_any c g room front =
     let m : ℕ = pool_size_floor c.request.key.counts in
-    let short = front.front.short in
-    let few = any_few c.request.key (c.request.limit - front.pooled) (out_then c.request c.old g) (wanting c.request c.old g) g.fresh front.front.sized front.front.full short in
+    let short = front.short in
+    let few = any_few c.request.key room (out_then c.request c.old g) (wanting c.request c.old g) g.fresh front.sized front.full short in
     let same : length g.fresh + 0 ≡ length g.fresh = omega arith in
     let product : (length g.fresh + 0) * m ≡ length g.fresh * m = ap (λ i. i * m) same in
     omega arith
 
-few_with_room : (c : Call) (g : Grant) (front : IsFront c.request c.old g) → HasRoomLeft front → (length g.fresh + 1) * pool_size_floor c.request.key.counts < wanting c.request c.old g + pool_size_floor c.request.key.counts
-few_with_room c g front room =
+few_with_room : (c : Call) (g : Grant) (room : ℕ) → IsFreshFront c.request.key room (out_then c.request c.old g) (wanting c.request c.old g) g.fresh → pool_load c.request.key 1 ≤ room_after c.request.key room g.fresh → (length g.fresh + 1) * pool_size_floor c.request.key.counts < wanting c.request c.old g + pool_size_floor c.request.key.counts
+few_with_room c g room front fits =
     let m : ℕ = pool_size_floor c.request.key.counts in
-    let short = front.front.short in
-    let few = front_few c.request.key (c.request.limit - front.pooled) (out_then c.request c.old g) (wanting c.request c.old g) g.fresh front.front.sized front.front.full short room in
+    let short = front.short in
+    let few = front_few c.request.key room (out_then c.request c.old g) (wanting c.request c.old g) g.fresh front.sized front.full short fits in
     let same : length g.fresh + 1 ≡ suc (length g.fresh) = omega arith in
     let product : (length g.fresh + 1) * m ≡ length g.fresh * m + m = ap (λ i. i * m) same ∙ times_more (length g.fresh) m in
     omega arith
+
+-- after a front
+front_short : (c : Call) (s : IsStopped c) (why : Stop) (room : ℕ) → s.why ≡ why → IsBack c s.grant why → s.grant.left ≡ 0 → IsFreshFront c.request.key room (out_then c.request c.old s.grant) (wanting c.request c.old s.grant) s.grant.fresh → (stop_rise why).created ≡ (stop_rise why).destroyed → (stop_rise why).destroyed ≤ 1
+    → (length s.grant.fresh + (stop_rise why).destroyed) * pool_size_floor c.request.key.counts < wanting c.request c.old s.grant + pool_size_floor c.request.key.counts → IsShort c
+front_short c s why room is back all front same one few =
+    let g : Grant = s.grant in
+    let rise : Counters = stop_rise why in
+    let short = front.short in
+    let n = ap (λ (k : Counters). k.created) back.counters in
+    let refused = ap (λ (k : Counters). k.pool_refused) back.counters in
+    let fragmented = ap (λ (k : Counters). k.fragmentation) back.counters in
+    let created : c.after.created ≡ c.before.created + (length g.fresh + rise.destroyed) = omega arith in
+    let new = back_new_pools c g why room back all front rise.destroyed one created in
+    let ends = stopped_with s all (ap (λ (w : Stop). (stop_rise w).destroyed) (sym is)) (ap (λ (w : Stop). (stop_rise w).pool_refused + (stop_rise w).fragmentation) (sym is)) in
+    pools_short c g back.taken all (omega arith) rise.destroyed new (unmet (AreFilled c) c.answer _ back.answer) (back_raises c g why back) (rise.pool_refused + rise.fragmentation) ends (omega arith) (length g.fresh + rise.destroyed) created few
 
 -- a list that gave all
 done_short : (c : Call) (d : IsDone c) → IsFreshList c.request.key (c.request.limit - d.pooled) (out_then c.request c.old d.grant) (wanting c.request c.old d.grant) d.grant.fresh → 0 < length d.grant.fresh → IsShort c
@@ -287,16 +264,14 @@ create_creates create_error.OutOfDeviceMemory = refl
 create_creates create_error.OutOfHostMemory = refl
 create_creates create_error.Fragmentation = refl
 
-create_last : (e : CreatePoolError) → (create_refused e no_rise).pool_refused + (create_refused e no_rise).fragmentation ≡ last_refusal (Err (error_of_create e))
-create_last create_error.OutOfDeviceMemory = refl
-create_last create_error.OutOfHostMemory = refl
-create_last create_error.Fragmentation = refl
+create_destroys : (e : CreatePoolError) → (create_refused e no_rise).destroyed ≡ 0
+create_destroys create_error.OutOfDeviceMemory = refl
+create_destroys create_error.OutOfHostMemory = refl
+create_destroys create_error.Fragmentation = refl
 
-alloc_last : (e : DeviceAllocationError) → (alloc_refused e no_rise).pool_refused + (alloc_refused e no_rise).fragmentation ≡ last_refusal (Err (error_of_alloc e))
-alloc_last alloc_error.OutOfDeviceMemory = refl
-alloc_last alloc_error.OutOfHostMemory = refl
-alloc_last alloc_error.FragmentedPool = refl
-alloc_last alloc_error.OutOfPoolMemory = refl
+-- there was room where it stopped for another reason
+fits : {why : Stop} {one room : ℕ} → (why ≡ Room) ↔ (room < one) → why ≢ Room → one ≤ room
+fits {one = one} {room = room} told other = elim (cases_lt room one) [ inl lt ↦ absurd (other (told.1 lt)) | inr le ↦ le ]
 
 module _ (c : Call) where
   answered : (e : AllocationError) → c.answer ≡ Err e → HasCause e c → IfErr c.answer (λ f. HasCause f c)
@@ -312,11 +287,18 @@ module _ (c : Call) where
   has_cause (bound some within past answer stays) = answered Fragmentation answer (past_bound past)
   has_cause (start p answer stays) = answered OutOfHostMemory answer (no_memory_at_start p stays)
   has_cause (done p d) = given _ d.answer
-  has_cause (stopped_at_pool p s) = answered _ s.back.answer (pool_cause c s)
-  has_cause (stopped_without_room p s) = answered Fragmentation s.back.answer (no_room_left s)
-  has_cause (stopped_at_create p s) = answered _ s.back.answer (create_cause c s)
-  has_cause (stopped_for_memory p s) = answered OutOfHostMemory s.back.answer (no_memory_for_a_pool s)
-  has_cause (stopped_at_fresh p s) = answered _ s.back.answer (fresh_cause c s)
+  has_cause (stopped p s) = answered _ s.back.answer (stop_cause c s s.why refl s.back s.at)
+
+  stop_short : (s : IsStopped c) (why : Stop) → s.why ≡ why → IsBack c s.grant why → Stops c why s.grant s.pooled → c.before.created < c.after.created → IsShort c
+  stop_short s (Existing e) is back at more =
+      let n = ap (λ (k : Counters). k.created) back.counters in
+      let none = alloc_creates e in
+      let f = ap length at.no_fresh in
+      absurd (omega arith)
+  stop_short s Room is back at more = front_short c s Room _ is back at.0 at.1 refl (omega arith) (few_any c s.grant _ at.1)
+  stop_short s Books is back at more = front_short c s Books _ is back at.0 at.1 refl (omega arith) (few_any c s.grant _ at.1)
+  stop_short s (Create e) is back at more = front_short c s (Create e) _ is back at.0 at.1 (create_creates e ∙ sym (create_destroys e)) (let none = create_destroys e in omega arith) (let none = create_destroys e in let few = few_any c s.grant _ at.1 in rw none few)
+  stop_short s (New e) is back at more = front_short c s (New e) _ is back at.0 at.1 refl (omega arith) (few_with_room c s.grant _ at.1 (fits at.2 (λ same. absurd (cc))))
 
   -- a pool is created only where the existing ones don't do
   pub short : Allocates c → CreatesOnlyWhereShort c
@@ -325,34 +307,4 @@ module _ (c : Call) where
   short (bound some within past answer stays) more = (let n = ap (λ (k : Counters). k.created) stays.counters in absurd (omega arith))
   short (start p answer stays) more = (let n = ap (λ (k : Counters). k.created) stays.counters in absurd (omega arith))
   short (done p d) more = (let n = ap (λ (k : Counters). k.created) d.counters in done_short c d d.fresh (omega arith))
-  short (stopped_at_pool p s) more =
-      let n = ap (λ (k : Counters). k.created) s.back.counters in
-      let e = alloc_creates s.error in
-      let f = ap length s.at.no_fresh in
-      absurd (omega arith)
-  short (stopped_without_room p s) more =
-      let n = ap (λ (k : Counters). k.created) s.back.counters in
-      let refused = ap (λ (k : Counters). k.pool_refused) s.back.counters in
-      let fragmented = ap (λ (k : Counters). k.fragmentation) s.back.counters in
-      front_short c s.grant _ _ s.back s.front 0 0 (without_room s refl refl) (omega arith) (omega arith) (omega arith) (few_any c s.grant s.front)
-  short (stopped_at_create p s) more =
-      let n = ap (λ (k : Counters). k.created) s.back.counters in
-      let e = create_creates s.error in
-      let refused = ap (λ (k : Counters). k.pool_refused) s.back.counters in
-      let fragmented = ap (λ (k : Counters). k.fragmentation) s.back.counters in
-      let last = ap last_refusal s.back.answer in
-      let rise = create_last s.error in
-      front_short c s.at.grant _ _ s.back s.at.front (last_refusal c.answer) 0 (at_create s refl refl) (omega arith) (omega arith) (omega arith) (few_any c s.at.grant s.at.front)
-  short (stopped_for_memory p s) more =
-      let n = ap (λ (k : Counters). k.created) s.back.counters in
-      let refused = ap (λ (k : Counters). k.pool_refused) s.back.counters in
-      let fragmented = ap (λ (k : Counters). k.fragmentation) s.back.counters in
-      let last = ap last_refusal s.back.answer in
-      front_short c s.at.grant _ _ s.back s.at.front 0 0 (for_memory s refl refl) (omega arith) (omega arith) (omega arith) (few_any c s.at.grant s.at.front)
-  short (stopped_at_fresh p s) more =
-      let n = ap (λ (k : Counters). k.created) s.back.counters in
-      let refused = ap (λ (k : Counters). k.pool_refused) s.back.counters in
-      let fragmented = ap (λ (k : Counters). k.fragmentation) s.back.counters in
-      let last = ap last_refusal s.back.answer in
-      let rise = alloc_last s.error in
-      front_short c s.at.grant _ _ s.back s.at.front (last_refusal c.answer) 1 (at_fresh s refl refl) (omega arith) (omega arith) (omega arith) (few_with_room c s.at.grant s.at.front s.at.room)
+  short (stopped p s) more = stop_short s s.why refl s.back s.at more

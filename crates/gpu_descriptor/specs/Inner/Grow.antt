@@ -1,28 +1,17 @@
 -- What one new pool adds, why a request stops, and what it has taken then.
-use Rattle.std.specs.Prelude.{◌≡◌, ℕ, ◌+◌, ◌<◌, ◌↔◌, false, nat_eq, min, List, [], ◌∷◌, ◌++◌, length, Some, None, Result, Ok, Err}
+use Rattle.std.specs.Prelude.{◌≡◌, ℕ, ◌+◌, false, nat_eq, min, List, [], ◌∷◌, ◌++◌, length, Some, None, Result, Ok, Err}
 use Rattle.std.specs.Map.{update}
 use Rattle.gpu_descriptor_types.specs.Ledger.{Ledger, live_sets, on_pool, fresh, no_rise}
 use Rattle.gpu_descriptor_types.specs.PoolSize.{pool_counts}
 use Rattle.gpu_descriptor.specs.declared.bucket.take.Stop.{Stop}
-use Rattle.gpu_descriptor.specs.declared.errors.AllocationError.{AllocationError}
-use Rattle.gpu_descriptor.specs.declared.errors.AllocationError.TheVariants.{OutOfHostMemory, Fragmentation}
-use Rattle.gpu_descriptor.specs.Model.Outcomes.{EndsAtPool, error_of_create, error_of_alloc, risen}
+use Rattle.gpu_descriptor.specs.Model.Outcomes.{risen, StopsAt}
 use Rattle.gpu_descriptor.specs.Model.Books.{Key, Entry, Bucket}
 use Rattle.gpu_descriptor.specs.Model.Agreement.{Item, flags_of}
 use Rattle.gpu_descriptor.specs.Model.Load.{allocated_in, pool_load}
 use Rattle.gpu_descriptor.specs.Model.Shares.{rest, all_shared}
-use Rattle.gpu_descriptor.specs.Model.FreshPools.{Fresh, fresh_entry, IsNextSize, IsFreshFront, IsFreshList, room_after}
+use Rattle.gpu_descriptor.specs.Model.FreshPools.{Fresh, fresh_entry, IsNextSize, IsFreshList}
 use Rattle.gpu_descriptor.specs.Model.Grants.{Grant, pool_with}
 use Rattle.gpu_descriptor.specs.Inner.Walk.{HasTaken, IsRefused}
-use Rattle.gpu_descriptor.specs.declared.bucket.take.Stop.TheVariants.{Existing, Room, Books, Create, New}
-
--- what the request answers then
-abbrev pub stop_answer : Stop → AllocationError
-stop_answer (Existing error) = error_of_alloc error
-stop_answer Room = Fragmentation
-stop_answer Books = OutOfHostMemory
-stop_answer (Create error) = error_of_create error
-stop_answer (New error) = error_of_alloc error
 
 -- a new pool was created and gave what it has of so many sets. It took of the room what it has
 pub record IsGrown (k : Key) (room left total wanted : ℕ) (names : List ℕ) (old new : List Entry) (before after : Ledger) : Type 0 where
@@ -35,16 +24,6 @@ pub record IsGrown (k : Key) (room left total wanted : ℕ) (names : List ℕ) (
   pub entries : new ≡ old ++ fresh_entry pool ∷ []
   pub pools : after.pools ≡ on_pool pool.pool (pool_with (live_sets k.counts names) false) (update nat_eq before.pools pool.pool (Some (fresh (pool_counts k.counts pool.size) pool.size (flags_of k))))
   pub counters : after.counters ≡ risen (record no_rise { created = 1; asked = 1 }) before.counters
-
--- no new pool came: for want of room exactly where not even one of one set fits
-abbrev pub NoneIsNew : Stop → Key → ℕ → Type 0
-NoneIsNew (Existing e) k room = ⊥
-NoneIsNew why k room = (why ≡ Room) ↔ (room < pool_load k 1)
-
--- what had been taken when the request stopped: of the existing pools, or a front of new ones
-abbrev pub StopsAt : Stop → Key → (room n : ℕ) → Grant → List Entry → Type 0
-StopsAt (Existing e) k room n g old = EndsAtPool n old e g
-StopsAt why k room n g old = (g.left ≡ 0) × IsFreshFront k room (allocated_in (all_shared g.refused n old)) (rest g.refused n old) g.fresh × NoneIsNew why k (room_after k room g.fresh)
 
 -- what was taken of a key's pools: all that was asked for, or what had come when the request stopped
 abbrev pub IsTaken : Result (Unit {0}) Stop → Key → (room n : ℕ) → List Item → (old new : Bucket) → (before after : Ledger) → Type 0

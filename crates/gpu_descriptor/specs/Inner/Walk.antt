@@ -1,9 +1,9 @@
 -- How a request walks over a key's pools, in the words of the books.
-use Rattle.std.specs.Prelude.{◌≡◌, ℕ, ◌+◌, ◌-◌, ◌<◌, ◌≤◌, ◌==◌, ◌&&◌, ◌⊎◌, Bool, true, false, nat_lt, if◌then◌else◌, min, List, [], map, length, Option, Some, None, slice_get}
+use Rattle.std.specs.Prelude.{if◌then◌else◌, ◌≡◌, ℕ, ◌+◌, ◌-◌, ◌<◌, ◌≤◌, ◌==◌, ◌&&◌, ◌⊎◌, Bool, true, false, nat_lt, min, List, [], map, length, Option, Some, None, slice_get}
 use Rattle.std.specs.List.{list_any}
-use Rattle.gpu_descriptor_types.specs.Ledger.{Pool, Ledger, Counters, live_sets, on_pool, alloc_refused, create_refused, pool_refusals, no_rise}
+use Rattle.gpu_descriptor_types.specs.Ledger.{Pool, Ledger, live_sets, on_pool, pool_refusals, no_rise}
 use Rattle.gpu_descriptor.specs.declared.bucket.take.Stop.{Stop}
-use Rattle.gpu_descriptor.specs.declared.bucket.take.Stop.TheVariants.{Existing, Room, Books, Create, New}
+use Rattle.gpu_descriptor.specs.declared.bucket.take.Stop.TheVariants.{Existing}
 use Rattle.gpu_descriptor_types.specs.declared.errors.DeviceAllocationError.{DeviceAllocationError}
 use Rattle.gpu_descriptor.specs.declared.bucket.DescriptorPool.{DescriptorPool}
 use Rattle.gpu_descriptor.specs.Inner.SetAt.{set_at}
@@ -15,7 +15,7 @@ use Rattle.gpu_descriptor.specs.Model.Load.{allocated_in}
 use Rattle.gpu_descriptor.specs.Inner.Stored.{entry_of}
 use Rattle.gpu_descriptor.specs.Model.Shares.{rest}
 use Rattle.gpu_descriptor.specs.Model.Grants.{Grant, IsGrantOf, items_in, bucket_with, ledger_with, pool_with}
-use Rattle.gpu_descriptor.specs.Model.Outcomes.{risen, grant_rise}
+use Rattle.gpu_descriptor.specs.Model.Outcomes.{risen, grant_rise, stop_rise}
 
 abbrev pub entries_of : {P : Type 0} → (P → ℕ) → List (DescriptorPool P) → List Entry
 entries_of name pools = map (entry_of name) pools
@@ -43,14 +43,6 @@ pub record IsAsked (k : Key) (wanted : ℕ) (names : List ℕ) (old new : Entry)
   pub entry : new ≡ record old { allocated = old.allocated + length names; free = (if refused then 0 else old.free) - length names }
   pub pools : after.pools ≡ on_pool old.pool (pool_with (live_sets k.counts names) refused) before.pools
   pub counters : after.counters ≡ risen (record no_rise { asked = if nat_lt 0 old.free && nat_lt 0 wanted then 1 else 0; pool_refused = if refused then 1 else 0 }) before.counters
-
--- why a request stopped raises the counters so. A new pool that refused was created and destroyed
-abbrev pub stop_rise : Stop → Counters
-stop_rise (Existing e) = alloc_refused e no_rise
-stop_rise Room = no_rise
-stop_rise Books = no_rise
-stop_rise (Create e) = create_refused e no_rise
-stop_rise (New e) = let asked = alloc_refused e no_rise in record asked { created = 1; destroyed = 1 }
 
 -- no set came, for this reason, and the ledger's pools are as before
 pub record IsRefused (why : Stop) (before after : Ledger) : Type 0 where

@@ -1,11 +1,13 @@
 -- What a request for sets may do: its outcomes.
 use Rattle.gpu_descriptor_types.specs.Bounds.{greatest_u64}
-use Rattle.std.specs.Prelude.{ℕ, List, ◌≡◌, ◌+◌, ◌-◌, ◌*◌, ◌≤◌, ◌<◌, true, ◌⊎◌, [], ◌∷◌, ◌++◌, length, sum, drop, Option, Some, None, Result, Ok, Err}
+use Rattle.std.specs.Prelude.{ℕ, ◌↔◌, List, ◌≡◌, ◌+◌, ◌-◌, ◌*◌, ◌≤◌, ◌<◌, true, ◌⊎◌, [], ◌∷◌, ◌++◌, length, sum, drop, Option, Some, None, Result, Ok, Err}
 use Rattle.gpu_descriptor_types.specs.declared.errors.CreatePoolError.{CreatePoolError}
 use Rattle.gpu_descriptor_types.specs.declared.errors.DeviceAllocationError.{DeviceAllocationError}
 use Rattle.gpu_descriptor.specs.declared.errors.AllocationError.{AllocationError}
 use Rattle.gpu_descriptor.specs.declared.errors.AllocationError.TheVariants.{OutOfDeviceMemory, OutOfHostMemory, Fragmentation}
 use Rattle.gpu_descriptor_types.specs.Ledger.{Counters, no_rise, create_refused, alloc_refused, pool_refusals}
+use Rattle.gpu_descriptor.specs.declared.bucket.take.Stop.{Stop}
+use Rattle.gpu_descriptor.specs.declared.bucket.take.Stop.TheVariants.{Existing, Room, Books, Create, New}
 use Rattle.gpu_descriptor.specs.Model.Books.{Key, Entry, next_number}
 use Rattle.gpu_descriptor.specs.Model.Agreement.{State, Item}
 use Rattle.gpu_descriptor.specs.Model.Release.{given_back, released, pools_gone}
@@ -75,25 +77,6 @@ wanting r s g = rest g.refused r.count (s.books r.key).pools
 abbrev pub out_then : Request → State → Grant → ℕ
 out_then r s g = allocated_in (all_shared g.refused r.count (s.books r.key).pools)
 
--- after a front of new pools one more is wanting
-pub record IsFront (r : Request) (s : State) (g : Grant) : Type 0 where
-  pub all : g.left ≡ 0
-  -- the pool load before
-  pub pooled : ℕ
-  pub is_pooled : IsPoolLoad s pooled
-  pub front : IsFreshFront r.key (r.limit - pooled) (out_then r s g) (wanting r s g) g.fresh
-
--- what the limit leaves for one more
-abbrev pub room_left : {r : Request} → {s : State} → {g : Grant} → IsFront r s g → ℕ
-room_left {r} {s} {g} front = room_after r.key (r.limit - front.pooled) g.fresh
-
--- a pool of one set has room, or not even that
-abbrev pub HasRoomLeft : {r : Request} → {s : State} → {g : Grant} → IsFront r s g → Type 0
-HasRoomLeft {r} front = pool_load r.key 1 ≤ room_left front
-
-abbrev pub HasNoRoomLeft : {r : Request} → {s : State} → {g : Grant} → IsFront r s g → Type 0
-HasNoRoomLeft {r} front = room_left front < pool_load r.key 1
-
 -- ---- the outcomes
 
 -- what holds before and after a call
@@ -151,12 +134,30 @@ pub record IsDone (c : Call) : Type 0 where
   pub state : c.new ≡ granted c.request.key c.request.count grant c.old
   pub counters : c.after ≡ risen (grant_rise c.request.count grant (c.old.books c.request.key).pools) c.before
 
--- a request stopped with an error, when it had taken so much: the sets went back. What stopped it raised the counters by rise
-pub record IsBack (c : Call) (grant : Grant) (rise : Counters) (error : AllocationError) : Type 0 where
+-- ---- why a request stops
+
+-- what the request answers then
+abbrev pub stop_answer : Stop → AllocationError
+stop_answer (Existing error) = error_of_alloc error
+stop_answer Room = Fragmentation
+stop_answer Books = OutOfHostMemory
+stop_answer (Create error) = error_of_create error
+stop_answer (New error) = error_of_alloc error
+
+-- by how much it raises the counters. A new pool that refused was created and destroyed
+abbrev pub stop_rise : Stop → Counters
+stop_rise (Existing e) = alloc_refused e no_rise
+stop_rise Room = no_rise
+stop_rise Books = no_rise
+stop_rise (Create e) = create_refused e no_rise
+stop_rise (New e) = let asked = alloc_refused e no_rise in record asked { created = 1; destroyed = 1 }
+
+-- a request stopped when it had taken so much: the sets went back
+pub record IsBack (c : Call) (grant : Grant) (why : Stop) : Type 0 where
   pub taken : IsGrant c.request c.old grant
-  pub answer : c.answer ≡ Err error
+  pub answer : c.answer ≡ Err (stop_answer why)
   pub state : c.new ≡ released (items_in c.request.key grant.id grant.parts) (granted c.request.key c.request.count grant c.old)
-  pub counters : c.after ≡ risen (rollback_rise (items_in c.request.key grant.id grant.parts) c.request.key (granted c.request.key c.request.count grant c.old)) (risen rise (risen (grant_rise c.request.count grant (c.old.books c.request.key).pools) c.before))
+  pub counters : c.after ≡ risen (rollback_rise (items_in c.request.key grant.id grant.parts) c.request.key (granted c.request.key c.request.count grant c.old)) (risen (stop_rise why) (risen (grant_rise c.request.count grant (c.old.books c.request.key).pools) c.before))
 
 -- what a request of n sets took of these pools ends at one that was asked and answered a memory error. The newer ones were asked before it, where they had places
 pub record EndsAtPool (n : ℕ) (pools : List Entry) (error : DeviceAllocationError) (g : Grant) : Type 0 where
@@ -169,43 +170,25 @@ pub record EndsAtPool (n : ℕ) (pools : List Entry) (error : DeviceAllocationEr
   pub asked : is_asked g.refused n newer pool ≡ true
   pub memory : pool_refusals error ≡ 0
 
--- at an existing pool
-pub record IsStoppedAtPool (c : Call) : Type 0 where
+-- no new pool came: for want of room exactly where not even one of one set fits
+abbrev pub NoneIsNew : Stop → Key → ℕ → Type 0
+NoneIsNew (Existing e) k room = ⊥
+NoneIsNew why k room = (why ≡ Room) ↔ (room < pool_load k 1)
+
+-- what had been taken then: of the existing pools, or of all these and a front of new ones
+abbrev pub StopsAt : Stop → Key → (room n : ℕ) → Grant → List Entry → Type 0
+StopsAt (Existing e) k room n g old = EndsAtPool n old e g
+StopsAt why k room n g old = (g.left ≡ 0) × IsFreshFront k room (allocated_in (all_shared g.refused n old)) (rest g.refused n old) g.fresh × NoneIsNew why k (room_after k room g.fresh)
+
+-- it stopped, for this reason
+pub record IsStopped (c : Call) : Type 0 where
+  pub why : Stop
   pub grant : Grant
-  pub error : DeviceAllocationError
-  pub at : EndsAtPool c.request.count (c.old.books c.request.key).pools error grant
-  pub back : IsBack c grant (alloc_refused error no_rise) (error_of_alloc error)
-
--- for want of room for a new pool of a marked key
-pub record IsStoppedWithoutRoom (c : Call) : Type 0 where
-  pub grant : Grant
-  pub front : IsFront c.request c.old grant
-  pub no_room : HasNoRoomLeft front
-  pub back : IsBack c grant no_rise Fragmentation
-
--- a request came to one more new pool, for which there was room
-pub record IsAtNewPool (c : Call) : Type 0 where
-  -- what it had taken before
-  pub grant : Grant
-  pub front : IsFront c.request c.old grant
-  pub room : HasRoomLeft front
-
--- at the create of a new pool
-pub record IsStoppedAtCreate (c : Call) : Type 0 where
-  pub at : IsAtNewPool c
-  pub error : CreatePoolError
-  pub back : IsBack c at.grant (create_refused error no_rise) (error_of_create error)
-
--- for want of memory for a new pool's books
-pub record IsStoppedForMemory (c : Call) : Type 0 where
-  pub at : IsAtNewPool c
-  pub back : IsBack c at.grant no_rise OutOfHostMemory
-
--- at a new pool, which was created, refused, and was destroyed
-pub record IsStoppedAtFresh (c : Call) : Type 0 where
-  pub at : IsAtNewPool c
-  pub error : DeviceAllocationError
-  pub back : IsBack c at.grant (let asked = alloc_refused error no_rise in record asked { created = 1; destroyed = 1 }) (error_of_alloc error)
+  -- the pool load before
+  pub pooled : ℕ
+  pub is_pooled : IsPoolLoad c.old pooled
+  pub at : StopsAt why c.request.key (c.request.limit - pooled) c.request.count grant (c.old.books c.request.key).pools
+  pub back : IsBack c grant why
 
 pub data Allocates (c : Call) : Type 0 where
   none : c.request.count ≡ 0 → c.answer ≡ Ok [] → Stays c → Allocates c
@@ -213,14 +196,10 @@ pub data Allocates (c : Call) : Type 0 where
   bound : 0 < c.request.count → IsWithinLimit c → IsPastBound c → c.answer ≡ Err Fragmentation → Stays c → Allocates c
   start : Proceeds c → c.answer ≡ Err OutOfHostMemory → Stays c → Allocates c
   done : Proceeds c → IsDone c → Allocates c
-  stopped_at_pool : Proceeds c → IsStoppedAtPool c → Allocates c
-  stopped_without_room : Proceeds c → IsStoppedWithoutRoom c → Allocates c
-  stopped_at_create : Proceeds c → IsStoppedAtCreate c → Allocates c
-  stopped_for_memory : Proceeds c → IsStoppedForMemory c → Allocates c
-  stopped_at_fresh : Proceeds c → IsStoppedAtFresh c → Allocates c
+  stopped : Proceeds c → IsStopped c → Allocates c
 
 -- the sets that went back when a request stopped, and the state from which they went
-abbrev pub back_of : {c : Call} {grant : Grant} {rise : Counters} {error : AllocationError} → IsBack c grant rise error → List Item × State
+abbrev pub back_of : {c : Call} {grant : Grant} {why : Stop} → IsBack c grant why → List Item × State
 back_of {c} {grant} back = (items_in c.request.key grant.id grant.parts, granted c.request.key c.request.count grant c.old)
 
 -- the rollback of a request: there is none where it was met, and where it was refused before it took anything
@@ -230,8 +209,4 @@ rolled_back (limit some above answer stays) = None
 rolled_back (bound some within past answer stays) = None
 rolled_back (start goes answer stays) = None
 rolled_back (done goes is) = None
-rolled_back (stopped_at_pool goes is) = Some (back_of is.back)
-rolled_back (stopped_without_room goes is) = Some (back_of is.back)
-rolled_back (stopped_at_create goes is) = Some (back_of is.back)
-rolled_back (stopped_for_memory goes is) = Some (back_of is.back)
-rolled_back (stopped_at_fresh goes is) = Some (back_of is.back)
+rolled_back (stopped goes is) = Some (back_of is.back)

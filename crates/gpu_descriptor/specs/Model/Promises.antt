@@ -1,12 +1,14 @@
 -- What a caller may read off a request without its outcomes.
-use Rattle.std.specs.Prelude.{◌≡◌, ℕ, ◌+◌, ◌-◌, ◌*◌, ◌<◌, Bool, true, min, List, [], ◌∷◌, length, take, sum_by, All, Some, slice_get, OnOk, Result, Err, false}
+use Rattle.std.specs.Prelude.{◌≡◌, ℕ, ◌+◌, ◌-◌, ◌*◌, ◌<◌, Bool, true, min, List, [], ◌∷◌, length, take, sum_by, All, Some, slice_get, OnOk, false}
 use Rattle.gpu_descriptor_types.specs.Ledger.{Pool, pool_refusals}
 use Rattle.gpu_descriptor_types.specs.PoolSize.{pool_size_floor, start_size}
 use Rattle.gpu_descriptor.specs.declared.errors.AllocationError.{AllocationError}
 use Rattle.gpu_descriptor.specs.declared.errors.AllocationError.TheVariants.{OutOfDeviceMemory, OutOfHostMemory, Fragmentation}
+use Rattle.gpu_descriptor_types.specs.declared.errors.DeviceAllocationError.{DeviceAllocationError}
+use Rattle.gpu_descriptor.specs.declared.bucket.take.Stop.TheVariants.{Room, Books, Create, New}
 use Rattle.gpu_descriptor.specs.Model.Books.{Key, Entry, entry_at, next_number, key_eq}
 use Rattle.gpu_descriptor.specs.Model.Agreement.{State, Item, count_of, outstanding}
-use Rattle.gpu_descriptor.specs.Model.Outcomes.{Call, IsAboveLimit, IsPastBound, IsDone, IsStoppedWithoutRoom, IsStoppedAtCreate, IsStoppedForMemory, IsStoppedAtFresh, Proceeds, Stays}
+use Rattle.gpu_descriptor.specs.Model.Outcomes.{Call, IsAboveLimit, IsPastBound, IsDone, IsStopped, Proceeds, Stays, stop_rise}
 use Rattle.gpu_descriptor.specs.Model.Load.{allocated_in}
 use Rattle.gpu_descriptor.specs.Model.Shares.{offer, rest, all_shared, refused_count, OnlyAskedRefuse}
 use Rattle.gpu_descriptor_types.specs.declared.errors.CreatePoolError.TheVariants as create_error
@@ -27,9 +29,9 @@ AreOfKey k items = (t : Item) → 0 < count_of t items → t.key ≡ k
 pub data IsFragmentation (c : Call) : Type 0 where
   above_limit : IsAboveLimit c → IsFragmentation c
   past_bound : IsPastBound c → IsFragmentation c
-  no_room_left : IsStoppedWithoutRoom c → IsFragmentation c
-  no_pool_created : (s : IsStoppedAtCreate c) → s.error ≡ create_error.Fragmentation → c.before.fragmentation < c.after.fragmentation → IsFragmentation c
-  new_pool_refused : (s : IsStoppedAtFresh c) → pool_refusals s.error ≡ 1 → c.before.pool_refused < c.after.pool_refused → IsFragmentation c
+  no_room_left : (s : IsStopped c) → s.why ≡ Room → IsFragmentation c
+  no_pool_created : (s : IsStopped c) → s.why ≡ Create create_error.Fragmentation → c.before.fragmentation < c.after.fragmentation → IsFragmentation c
+  new_pool_refused : (s : IsStopped c) (e : DeviceAllocationError) → s.why ≡ New e → pool_refusals e ≡ 1 → c.before.pool_refused < c.after.pool_refused → IsFragmentation c
 
 -- the three causes of OutOfHostMemory: the device said so, or a growth was refused, which no counter shows
 pub data IsHostMemory (c : Call) : Type 0 where
@@ -37,7 +39,7 @@ pub data IsHostMemory (c : Call) : Type 0 where
   -- for the answer, or for the key: nothing changed
   no_memory_at_start : Proceeds c → Stays c → IsHostMemory c
   -- for the books of a new pool
-  no_memory_for_a_pool : IsStoppedForMemory c → IsHostMemory c
+  no_memory_for_a_pool : (s : IsStopped c) → s.why ≡ Books → IsHostMemory c
 
 -- what each error says of the call
 abbrev pub HasCause : AllocationError → Call → Type 0
@@ -64,18 +66,10 @@ pub record HasNewPools (c : Call) (wanted gone : ℕ) : Type 0 where
   pub stay : OnOk c.answer ((c.new.books c.request.key).first ≡ (c.old.books c.request.key).first)
   pub met : OnOk c.answer (c.after.created ≡ c.before.created + length sizes)
 
--- 1 for a request that failed as Fragmentation
-abbrev pub last_refusal : Result (List Item) AllocationError → ℕ
-last_refusal (Err Fragmentation) = 1
-last_refusal _ = 0
-
 -- how a request ended that created pools: gone of them refused and were destroyed at once, and so many refusals came last, of a create as fragmentation or of a new pool for its own sake
 pub data EndsWith (c : Call) (gone last : ℕ) : Type 0 where
   met : IsDone c → gone ≡ 0 → last ≡ 0 → EndsWith c gone last
-  without_room : IsStoppedWithoutRoom c → gone ≡ 0 → last ≡ 0 → EndsWith c gone last
-  for_memory : IsStoppedForMemory c → gone ≡ 0 → last ≡ 0 → EndsWith c gone last
-  at_create : IsStoppedAtCreate c → gone ≡ 0 → last ≡ last_refusal c.answer → EndsWith c gone last
-  at_fresh : IsStoppedAtFresh c → gone ≡ 1 → last ≡ last_refusal c.answer → EndsWith c gone last
+  stopped : (s : IsStopped c) → s.grant.left ≡ 0 → gone ≡ (stop_rise s.why).destroyed → last ≡ (stop_rise s.why).pool_refused + (stop_rise s.why).fragmentation → EndsWith c gone last
 
 -- the existing pools don't do: those that refused in this call aside, they have fewer free places than are wanted
 pub record IsShort (c : Call) : Type 0 where

@@ -19,7 +19,8 @@ ghost use Rattle.gpu_descriptor.specs.Inner.Walk.{entries_of, sets_at, IsAsked, 
 ghost use Rattle.gpu_descriptor.specs.Inner.Walk.{IsRefused, IsWalked};
 ghost use Rattle.gpu_descriptor.specs.Caller.Call.{layout_key};
 ghost use Rattle.gpu_descriptor.specs.declared.bucket.take.Stop.TheVariants.{Existing};
-ghost use Rattle.gpu_descriptor.specs.Inner.Grow.{IsGrown, IsTaken, NoneIsNew};
+ghost use Rattle.gpu_descriptor.specs.Inner.Grow.{IsGrown, IsTaken};
+ghost use Rattle.gpu_descriptor.specs.Model.Outcomes.{NoneIsNew};
 ghost use Rattle.gpu_descriptor.specs.Inner.Serves.{IsServed, IsUnserved};
 
 use crate::bucket::allocation::Allocation;
