@@ -1,7 +1,7 @@
 //! A manager over a scripted device that grants all, and the sets that are in use.
 ghost use Rattle.gpu_descriptor.specs.Caller.Sets.{items_of};
 ghost use Rattle.gpu_descriptor.specs.Caller.States.{Agrees, state_of};
-ghost use Rattle.gpu_descriptor.proofs.OneAgreement.{Agree-prop};
+ghost use Rattle.gpu_descriptor.proofs.callers.OneAgreement.{Agree-prop};
 ghost use Rattle.descriptor_script.specs.Scripted.Device.{ledger_of};
 ghost use Rattle.descriptor_script.specs.Scripted.Raw.{pool_id, set_id};
 ghost use Rattle.descriptor_frames.specs.Frames.{AreInUse, AreRetiredOut, allocator_of};

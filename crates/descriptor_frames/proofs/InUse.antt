@@ -5,7 +5,7 @@ use Rattle.gpu_descriptor.specs.Model.Agreement.{AreOutstanding, Item, State, co
 use Rattle.gpu_descriptor.specs.Model.Promises.{AreOutBesides, KeepsOutstanding}
 use Rattle.gpu_descriptor.specs.Caller.Sets.{items_of}
 use Rattle.gpu_descriptor.specs.declared.set.DescriptorSet.{DescriptorSet}
-use Rattle.gpu_descriptor.proofs.Holding.{count_parts}
+use Rattle.gpu_descriptor.proofs.callers.HeldSets.{count_parts}
 
 -- ---- a list in two parts
 

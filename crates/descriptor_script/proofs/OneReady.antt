@@ -2,7 +2,7 @@
 use Rattle.std.proofs.Common.{ℕ, Bool, List}
 use Rattle.std.proofs.Props.{props}
 use Rattle.gpu_descriptor_types.specs.Ledger.{Ledger}
-use Rattle.gpu_descriptor.proofs.OneAgreement.{Agree-prop}
+use Rattle.gpu_descriptor.proofs.callers.OneAgreement.{Agree-prop}
 use Rattle.descriptor_script.specs.Sessions.Session.{IsReady}
 use Rattle.descriptor_script.specs.declared.session.Session.{Session}
 

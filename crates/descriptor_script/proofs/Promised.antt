@@ -5,7 +5,7 @@ use Rattle.std.specs.Prelude.{IfOk, Result, Ok, Err}
 use Rattle.gpu_descriptor_types.specs.Ledger.{Ledger, Counters}
 use Rattle.gpu_descriptor.specs.Caller.Sets.{items_of}
 use Rattle.gpu_descriptor.specs.Caller.States.{state_of}
-use Rattle.gpu_descriptor.proofs.Kept.{one_by_one}
+use Rattle.gpu_descriptor.proofs.release.ReleaseAgrees.{one_by_one}
 use Rattle.descriptor_script.specs.Sessions.Headline.{CallsOnceARun, FailsForCause, FreesOneByOne, HoldsExactly, HoldsWhatIsOut, KeepsAll, KeepsLimit, TurnsDownBad}
 use Rattle.descriptor_script.specs.Sessions.Session.{IsReady, allocator_of, sets_of}
 use Rattle.descriptor_script.specs.Sessions.SessionRun.{IsStep, RunsKeeping, RunsTo, Step}

@@ -1,7 +1,7 @@
 -- A run grows by one command.
 use Rattle.std.proofs.Common.{ℕ, Bool, List, [], ◌∷◌, ◌++◌, refl, subst, ◌∙◌}
 use Rattle.gpu_descriptor_types.specs.Ledger.{Ledger}
-use Rattle.gpu_descriptor.proofs.Keeping.{keeps_through}
+use Rattle.gpu_descriptor.proofs.callers.Unchanged.{keeps_through}
 use Rattle.descriptor_script.specs.Sessions.Session.{KeepsSession}
 use Rattle.descriptor_script.specs.Sessions.SessionRun.{IsStep, RunsTo}
 use Rattle.descriptor_script.specs.declared.command.Command.{Command}

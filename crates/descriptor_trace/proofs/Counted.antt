@@ -6,8 +6,8 @@ use Rattle.std.proofs.lemmas.Map.{update_here}
 use Rattle.gpu_descriptor_types.specs.Ledger.{Ledger, Pool, AreLive, Releases, changed}
 use Rattle.gpu_descriptor_types.specs.Multiset.{LiveSet, times, AreIn}
 use Rattle.gpu_descriptor.specs.Model.Agreement.{HasSize}
-use Rattle.gpu_descriptor.proofs.LedgerPools.{size_minus}
-use Rattle.gpu_descriptor.proofs.Sized.{size_one}
+use Rattle.gpu_descriptor.proofs.foreign.LedgerPools.{size_minus}
+use Rattle.gpu_descriptor.proofs.sums.Sized.{size_one}
 
 -- what the pool has fewer is what the iterator gave
 pub release_counted : {I S : Type 0} (steps : I → Option S → I → Type 0) (set_name : S → ℕ) (name other before after : ℕ) (old new : I) (l m : Ledger) (r : Releases steps set_name name old new l m) → AreLive name [] l → other ≡ name → IfSome (l.pools name) (λ p. HasSize p.live before)

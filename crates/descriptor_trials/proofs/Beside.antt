@@ -9,9 +9,9 @@ use Rattle.gpu_descriptor.specs.Caller.Sets.{items_of}
 use Rattle.gpu_descriptor.specs.Caller.States.{Agrees, state_of}
 use Rattle.gpu_descriptor.specs.Caller.Values.{Allocations}
 use Rattle.gpu_descriptor.specs.declared.set.DescriptorSet.{DescriptorSet}
-use Rattle.gpu_descriptor.proofs.Lost.{none_at}
-use Rattle.gpu_descriptor.proofs.Others.{own_agrees, own_outstanding}
-use Rattle.gpu_descriptor.proofs.Places.{empty_agrees, none_out}
+use Rattle.gpu_descriptor.proofs.foreign.NoneLost.{none_at}
+use Rattle.gpu_descriptor.proofs.foreign.Others.{own_agrees, own_outstanding}
+use Rattle.gpu_descriptor.proofs.release.Places.{empty_agrees, none_out}
 use Rattle.descriptor_script.specs.Scripted.Raw.{pool_id, set_id}
 use Rattle.descriptor_script.specs.Sessions.Session.{allocator_of}
 use Rattle.descriptor_script.specs.Sessions.Tickets.{held_sets}

@@ -1,7 +1,7 @@
 -- Sessions that can make a step on a device, alone and two on one device.
 use Rattle.std.specs.Prelude.{◌≡◌, ◌≢◌, ℕ, [], Some}
 use Rattle.std.proofs.Props.{props}
-use Rattle.gpu_descriptor.proofs.OneAgreement.{Agree-prop}
+use Rattle.gpu_descriptor.proofs.callers.OneAgreement.{Agree-prop}
 use Rattle.gpu_descriptor_types.specs.Counts.{kinds}
 use Rattle.gpu_descriptor_types.specs.Ledger.{Ledger}
 use Rattle.gpu_descriptor.specs.Model.Agreement.{State}

@@ -9,8 +9,8 @@ use Rattle.gpu_descriptor_types.specs.Ledger.{Ledger, Pool, HasNoSets, changed, 
 use Rattle.gpu_descriptor_types.specs.Multiset.{LiveSet, times, AreIn}
 use Rattle.gpu_descriptor_types.proofs.Counting.{times-append}
 use Rattle.gpu_descriptor.specs.Model.Agreement.{HasSize}
-use Rattle.gpu_descriptor.proofs.LedgerPools.{size_minus}
-use Rattle.gpu_descriptor.proofs.Sized.{size_one}
+use Rattle.gpu_descriptor.proofs.foreign.LedgerPools.{size_minus}
+use Rattle.gpu_descriptor.proofs.sums.Sized.{size_one}
 use Rattle.descriptor_uses.specs.Owed.{IsOwed, ReleasesMany, owed_by}
 use Rattle.descriptor_uses.specs.Released.{release_of}
 use Rattle.descriptor_uses.specs.declared.log.Call.TheVariants.{Release}

@@ -4,7 +4,7 @@ ghost use Rattle.std.specs.Prelude.{IfOk, IsFalse, IsTrue};
 ghost use Rattle.descriptor_frames.specs.Errors.{set_back};
 ghost use Rattle.gpu_descriptor.specs.Caller.Sets.{items_of};
 ghost use Rattle.gpu_descriptor.specs.Caller.States.{Agrees, state_of};
-ghost use Rattle.gpu_descriptor.proofs.OneAgreement.{Agree-prop};
+ghost use Rattle.gpu_descriptor.proofs.callers.OneAgreement.{Agree-prop};
 ghost use Rattle.descriptor_frames.specs.Frames.{AreInUse, AreRetiredOut, allocator_of};
 ghost use Rattle.descriptor_frames.specs.Retired.{at_frame, later};
 ghost use Rattle.descriptor_uses.specs.Layouts.{IsMeant};

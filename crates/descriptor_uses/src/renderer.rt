@@ -4,7 +4,7 @@ ghost use Rattle.gpu_descriptor.specs.Model.Agreement.{AreOutstanding};
 ghost use Rattle.gpu_descriptor.specs.Model.Promises.{AreOutBesides, KeepsOutstanding};
 ghost use Rattle.gpu_descriptor.specs.Caller.Sets.{items_of};
 ghost use Rattle.gpu_descriptor.specs.Caller.States.{Agrees, state_of};
-ghost use Rattle.gpu_descriptor.proofs.OneAgreement.{Agree-prop};
+ghost use Rattle.gpu_descriptor.proofs.callers.OneAgreement.{Agree-prop};
 ghost use Rattle.descriptor_uses.specs.Layouts.{IsMeant};
 
 use crate::layout::SetLayout;

@@ -1,6 +1,6 @@
 use Rattle.std.proofs.Common.{sym, ap, ◌∙◌}
 use Rattle.gpu_descriptor.specs.Model.Books.{Key}
-use Rattle.gpu_descriptor.proofs.Places.{outstanding_found}
+use Rattle.gpu_descriptor.proofs.release.Places.{outstanding_found}
 use Rattle.gpu_descriptor.proofs.laws.a_key_has_one_id.Goals as goal
 
 pub returns : goal.returns

@@ -1,5 +1,5 @@
-use Rattle.gpu_descriptor.proofs.Places.{empty_agrees}
-use Rattle.gpu_descriptor.proofs.Tables.{sum_by_books}
+use Rattle.gpu_descriptor.proofs.release.Places.{empty_agrees}
+use Rattle.gpu_descriptor.proofs.table.Tables.{sum_by_books}
 use Rattle.gpu_descriptor.proofs.laws.books_alone.Goals as goal
 
 pub returns : goal.returns

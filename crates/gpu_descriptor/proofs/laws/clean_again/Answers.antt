@@ -1,4 +1,4 @@
-use Rattle.gpu_descriptor.proofs.Cleaning.{again, again_none, nothing_left, all_gone, clean_agrees, takes_none, once}
+use Rattle.gpu_descriptor.proofs.cleanup.Cleaning.{again, again_none, nothing_left, all_gone, clean_agrees, takes_none, once}
 use Rattle.gpu_descriptor.proofs.laws.clean_again.Goals as goal
 
 pub returns : goal.returns

@@ -1,9 +1,9 @@
-use Rattle.gpu_descriptor.proofs.Foreign.{loses_through}
+use Rattle.gpu_descriptor.proofs.foreign.ForeignPools.{loses_through}
 use Rattle.std.proofs.Common.{map, ap}
 use Rattle.gpu_descriptor.specs.Model.Books.{books_of}
 use Rattle.gpu_descriptor.specs.Caller.States.{named_row}
-use Rattle.gpu_descriptor.proofs.OthersStay.{all_others}
-use Rattle.gpu_descriptor.proofs.Lost.{named_or_foreign, restores}
+use Rattle.gpu_descriptor.proofs.foreign.OthersStay.{all_others}
+use Rattle.gpu_descriptor.proofs.foreign.NoneLost.{named_or_foreign, restores}
 use Rattle.gpu_descriptor.proofs.laws.no_pool_is_lost.Goals as goal
 
 pub returns : goal.returns

@@ -1,4 +1,4 @@
-use Rattle.gpu_descriptor.proofs.Others.{own_agrees, own_outstanding}
+use Rattle.gpu_descriptor.proofs.foreign.Others.{own_agrees, own_outstanding}
 use Rattle.gpu_descriptor.proofs.laws.others_are_free.Goals as goal
 
 pub returns : goal.returns

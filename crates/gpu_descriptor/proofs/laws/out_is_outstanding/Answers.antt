@@ -1,4 +1,4 @@
-use Rattle.gpu_descriptor.proofs.OutSets.{load_is_descriptors, out_is_length, out_is_size}
+use Rattle.gpu_descriptor.proofs.sums.OutSets.{load_is_descriptors, out_is_length, out_is_size}
 use Rattle.gpu_descriptor.proofs.laws.out_is_outstanding.Goals as goal
 
 pub returns : goal.returns

@@ -1,5 +1,5 @@
-use Rattle.gpu_descriptor.proofs.PoolCounts.{pool_load_is}
-use Rattle.gpu_descriptor.proofs.PoolSums.{pool_load_is_created, marked_within_pools}
+use Rattle.gpu_descriptor.proofs.sums.PoolCounts.{pool_load_is}
+use Rattle.gpu_descriptor.proofs.sums.PoolSums.{pool_load_is_created, marked_within_pools}
 use Rattle.gpu_descriptor.proofs.laws.pools_have_their_load.Goals as goal
 
 pub returns : goal.returns

@@ -1,7 +1,7 @@
-use Rattle.gpu_descriptor.proofs.Parts.{parts}
-use Rattle.gpu_descriptor.proofs.Counted.{gone}
-use Rattle.gpu_descriptor.proofs.Kept.{none_back, each, one_by_one, agrees, takes, order}
-use Rattle.gpu_descriptor.proofs.OtherKeys.{release_others}
+use Rattle.gpu_descriptor.proofs.release.Parts.{parts}
+use Rattle.gpu_descriptor.proofs.cleanup.Counted.{gone}
+use Rattle.gpu_descriptor.proofs.release.ReleaseAgrees.{none_back, each, one_by_one, agrees, takes, order}
+use Rattle.gpu_descriptor.proofs.release.OtherKeys.{release_others}
 use Rattle.gpu_descriptor.proofs.laws.release_parts.Goals as goal
 
 pub returns : goal.returns

@@ -3,7 +3,7 @@ use Rattle.gpu_descriptor.specs.Model.Agreement.{State}
 use Rattle.gpu_descriptor.specs.Caller.Sets.{items_of}
 use Rattle.descriptor_bench.specs.Bench.{bench_state}
 use Rattle.descriptor_bench.specs.Device.{name_of}
-use Rattle.gpu_descriptor.proofs.Holding.{all_back, came_out, out_mixed}
+use Rattle.gpu_descriptor.proofs.callers.HeldSets.{all_back, came_out, out_mixed}
 use Rattle.descriptor_bench.proofs.bench.Bench.shuffled.Goals as goal
 
 pub give_back-requires : goal.give_back-requires

@@ -5,7 +5,7 @@ use Rattle.gpu_descriptor.specs.Caller.Values.{Allocations}
 use Rattle.gpu_descriptor_types.specs.Ledger.{Ledger}
 use Rattle.descriptor_frames.specs.Frames.{retired_of, state_in}
 use Rattle.descriptor_frames.specs.Retired.{AreInOrder, retired_sets}
-use Rattle.gpu_descriptor.proofs.Holding.{out_front}
+use Rattle.gpu_descriptor.proofs.callers.HeldSets.{out_front}
 use Rattle.descriptor_frames.proofs.InUse.{later_out, same_besides}
 use Rattle.descriptor_frames.proofs.Taken.{both_parts, none_taken, same_list_then, still_in_order, stood_before, took_due}
 use Rattle.descriptor_frames.proofs.manager.FrameManager.finish.Goals.{After-end}

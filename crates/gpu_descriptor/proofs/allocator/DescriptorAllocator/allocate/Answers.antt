@@ -6,10 +6,10 @@ use Rattle.gpu_descriptor.specs.Caller.Keys.{StayOrGainLast}
 use Rattle.gpu_descriptor.specs.Caller.KeyOf.{key_of}
 use Rattle.gpu_descriptor.specs.Caller.States.{keys_of}
 use Rattle.gpu_descriptor.specs.Inner.Serves.{Takes}
-use Rattle.gpu_descriptor.proofs.Allocating.{taken_agree, taken_as, taken_given}
-use Rattle.gpu_descriptor.proofs.HandedOut.{gained_as, hands_all, hands_back, hands_none, keeps_all, keeps_back}
-use Rattle.gpu_descriptor.proofs.Keeping.{keeps_still}
-use Rattle.gpu_descriptor.proofs.Requested.{rows_apart, load_within, pool_load_within}
+use Rattle.gpu_descriptor.proofs.request.Outcomes.{taken_agree, taken_as, taken_given}
+use Rattle.gpu_descriptor.proofs.request.HandedOut.{gained_as, hands_all, hands_back, hands_none, keeps_all, keeps_back}
+use Rattle.gpu_descriptor.proofs.callers.Unchanged.{keeps_still}
+use Rattle.gpu_descriptor.proofs.request.Requested.{rows_apart, load_within, pool_load_within}
 use Rattle.gpu_descriptor.proofs.allocator.DescriptorAllocator.allocate.Goals.{After-contains, In-Ok}
 use Rattle.gpu_descriptor.proofs.allocator.DescriptorAllocator.allocate.Goals as goal
 

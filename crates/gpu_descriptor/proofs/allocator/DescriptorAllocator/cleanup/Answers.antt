@@ -8,18 +8,18 @@ use Rattle.gpu_descriptor.specs.Model.Books.{Bucket, HasDistinctKeys}
 use Rattle.gpu_descriptor.specs.Caller.KeyOf.{key_of}
 use Rattle.gpu_descriptor.specs.Inner.Buckets.{AreBookedIn, has_pools}
 use Rattle.gpu_descriptor.specs.Inner.Ids.{rise_below, stored_ids}
-use Rattle.gpu_descriptor.proofs.Rising.{ids_put, rise_left}
+use Rattle.gpu_descriptor.proofs.table.Rising.{ids_put, rise_left}
 use Rattle.gpu_descriptor.specs.Caller.States.{outstanding_of, marked_load_of, named_row}
 use Rattle.gpu_descriptor.specs.Inner.Stored.{bucket_of, row_of, stored_load_in}
 use Rattle.gpu_descriptor.specs.Caller.Values.{Allocations}
-use Rattle.gpu_descriptor.proofs.Cleaning.{clean_agrees, takes_none}
-use Rattle.gpu_descriptor.proofs.Foreign.{cleaned_foreign, cleaned_loses}
-use Rattle.gpu_descriptor.proofs.Loads.{rows_out, rows_load, rows_pool_load}
-use Rattle.gpu_descriptor.proofs.KeysKept.{keys_cleaned}
-use Rattle.gpu_descriptor.proofs.Requested.{keys_apart}
-use Rattle.gpu_descriptor.proofs.RowsCleaned.{all_cleared, agree_is, cleared, counted_filter, counted_put, entry_there, ledger_less, next, next_stored, step_less, step_rows, sum_put, whole_clean, whole_count}
-use Rattle.gpu_descriptor.proofs.OthersStay.{emptied, others_stay}
-use Rattle.gpu_descriptor.proofs.TableBooks.{rows_are, rows_in, distinct_rows, distinct_stored}
+use Rattle.gpu_descriptor.proofs.cleanup.Cleaning.{clean_agrees, takes_none}
+use Rattle.gpu_descriptor.proofs.foreign.ForeignPools.{cleaned_foreign, cleaned_loses}
+use Rattle.gpu_descriptor.proofs.sums.Loads.{rows_out, rows_load, rows_pool_load}
+use Rattle.gpu_descriptor.proofs.cleanup.KeyOrder.{keys_cleaned}
+use Rattle.gpu_descriptor.proofs.request.Requested.{keys_apart}
+use Rattle.gpu_descriptor.proofs.cleanup.RowsCleaned.{all_cleared, agree_is, cleared, counted_filter, counted_put, entry_there, ledger_less, next, next_stored, step_less, step_rows, sum_put, whole_clean, whole_count}
+use Rattle.gpu_descriptor.proofs.foreign.OthersStay.{emptied, others_stay}
+use Rattle.gpu_descriptor.proofs.table.TableBooks.{rows_are, rows_in, distinct_rows, distinct_stored}
 use Rattle.gpu_descriptor.proofs.allocator.DescriptorAllocator.cleanup.Goals.{After-index_mut-bucket}
 use Rattle.gpu_descriptor.proofs.allocator.DescriptorAllocator.cleanup.Goals as goal
 

@@ -1,7 +1,7 @@
 use Rattle.std.proofs.Common.{◌≡◌, length, take}
 use Rattle.gpu_descriptor.specs.Inner.Stored.{IsConsistent}
-use Rattle.gpu_descriptor.proofs.RowsCleaned.{cleared, ledger_less}
-use Rattle.gpu_descriptor.proofs.TableBooks.{rows_in}
+use Rattle.gpu_descriptor.proofs.cleanup.RowsCleaned.{cleared, ledger_less}
+use Rattle.gpu_descriptor.proofs.table.TableBooks.{rows_in}
 use Rattle.gpu_descriptor.proofs.allocator.DescriptorAllocator.cleanup.Given as goal
 
 -- the first rows are cleared, and their empty fronts are gone

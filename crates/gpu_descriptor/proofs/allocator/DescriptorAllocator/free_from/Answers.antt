@@ -1,8 +1,8 @@
 use Rattle.std.proofs.Common.{◌∙◌, Some}
-use Rattle.gpu_descriptor.proofs.OthersStay.{others_stay}
-use Rattle.gpu_descriptor.proofs.Foreign.{freed_foreign, freed_loses}
-use Rattle.gpu_descriptor.proofs.Requested.{rows_apart, load_within, pool_load_within}
-use Rattle.gpu_descriptor.proofs.Freed.{Freed, freed_none, call_out, freed_more, freed_all, less}
+use Rattle.gpu_descriptor.proofs.foreign.OthersStay.{others_stay}
+use Rattle.gpu_descriptor.proofs.foreign.ForeignPools.{freed_foreign, freed_loses}
+use Rattle.gpu_descriptor.proofs.request.Requested.{rows_apart, load_within, pool_load_within}
+use Rattle.gpu_descriptor.proofs.release.Freed.{Freed, freed_none, call_out, freed_more, freed_all, less}
 use Rattle.gpu_descriptor.proofs.allocator.DescriptorAllocator.free_from.Goals.{In-Some}
 use Rattle.gpu_descriptor.proofs.allocator.DescriptorAllocator.free_from.Goals as goal
 

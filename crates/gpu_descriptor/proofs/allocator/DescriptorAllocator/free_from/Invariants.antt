@@ -1,6 +1,6 @@
 use Rattle.std.proofs.Common.{◌≡◌}
 use Rattle.std.specs.Iterator.{size}
-use Rattle.gpu_descriptor.proofs.Freed.{Freed, weight}
+use Rattle.gpu_descriptor.proofs.release.Freed.{Freed, weight}
 use Rattle.gpu_descriptor.proofs.allocator.DescriptorAllocator.free_from.Given as goal
 
 abbrev pub invariant-loop-ahead : goal.invariant-loop-ahead

@@ -3,8 +3,8 @@ use Rattle.std.specs.Prelude.{sum}
 use Rattle.gpu_descriptor_types.specs.Counts.{kinds}
 use Rattle.gpu_descriptor.specs.Caller.States.{marked_load_of}
 use Rattle.gpu_descriptor.specs.Caller.Values.{Allocations}
-use Rattle.gpu_descriptor.proofs.Loads.{rows_load}
-use Rattle.gpu_descriptor.proofs.RequestSteps.{above-limit}
+use Rattle.gpu_descriptor.proofs.sums.Loads.{rows_load}
+use Rattle.gpu_descriptor.proofs.request.InTable.{above-limit}
 use Rattle.gpu_descriptor.proofs.allocator.DescriptorAllocator.is_above_limit.Goals as goal
 
 pub returns-then-key : goal.returns-then-key

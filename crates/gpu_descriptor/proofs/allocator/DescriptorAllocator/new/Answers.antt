@@ -1,7 +1,7 @@
 use Rattle.std.proofs.Common.{sym, subst, ap}
 use Rattle.gpu_descriptor.specs.Inner.Ids.{rise_below, stored_ids}
 use Rattle.gpu_descriptor.specs.Inner.Stored.{IsConsistent}
-use Rattle.gpu_descriptor.proofs.Requested.{counted_none}
+use Rattle.gpu_descriptor.proofs.request.Requested.{counted_none}
 use Rattle.gpu_descriptor.proofs.allocator.DescriptorAllocator.new.Goals as goal
 
 pub invariant_of-result : goal.invariant_of-result

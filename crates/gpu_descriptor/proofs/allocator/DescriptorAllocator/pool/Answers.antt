@@ -8,8 +8,8 @@ use Rattle.gpu_descriptor.specs.Model.Books.{Key, BucketOf, EntryOf}
 use Rattle.gpu_descriptor.specs.Caller.KeyOf.{key_of}
 use Rattle.gpu_descriptor.specs.Caller.Views.{view_in}
 use Rattle.gpu_descriptor.specs.Inner.Stored.{kept_of}
-use Rattle.gpu_descriptor.proofs.Readings.{seen_at}
-use Rattle.gpu_descriptor.proofs.TableSums.{view_of-table}
+use Rattle.gpu_descriptor.proofs.table.Readings.{seen_at}
+use Rattle.gpu_descriptor.proofs.sums.TableSums.{view_of-table}
 use Rattle.gpu_descriptor.proofs.allocator.DescriptorAllocator.pool.Goals as goal
 
 pub returns-in_err-bucket : goal.returns-in_err-bucket

@@ -4,8 +4,8 @@ use Rattle.gpu_descriptor.specs.Model.Books.{Key, BucketOf}
 use Rattle.gpu_descriptor.specs.Caller.KeyOf.{key_of}
 use Rattle.gpu_descriptor.specs.Caller.Values.{Allocations}
 use Rattle.gpu_descriptor.specs.Inner.Stored.{kept_of}
-use Rattle.gpu_descriptor.proofs.Readings.{seen_at}
-use Rattle.gpu_descriptor.proofs.TableSums.{pools_of-table}
+use Rattle.gpu_descriptor.proofs.table.Readings.{seen_at}
+use Rattle.gpu_descriptor.proofs.sums.TableSums.{pools_of-table}
 use Rattle.gpu_descriptor.proofs.allocator.DescriptorAllocator.pool_count.Goals as goal
 
 pub returns-in-Some : goal.returns-in-Some

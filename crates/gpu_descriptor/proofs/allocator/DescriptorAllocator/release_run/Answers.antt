@@ -11,15 +11,15 @@ use Rattle.gpu_descriptor.specs.Caller.Comparisons.{binary_digits}
 use Rattle.gpu_descriptor.specs.Inner.Ids.{rise_below, stored_ids}
 use Rattle.gpu_descriptor.specs.Inner.Stored.{stored_load}
 use Rattle.gpu_descriptor.specs.Model.Load.{marked_load}
-use Rattle.gpu_descriptor.proofs.Holding.{out_back, out_less}
-use Rattle.gpu_descriptor.proofs.Lent.{row_open, row_stored, row_taken, row_ran, row_counted}
-use Rattle.gpu_descriptor.proofs.Loads.{IsRow, IsWritten, Taken, taken, load_fits, counted_after, out_after, load_after, run_load, pools_present, pools_set}
-use Rattle.gpu_descriptor.proofs.Owned.{Owns, ends_at, first_owns, lie_at, stands}
-use Rattle.gpu_descriptor.proofs.Requested.{table_is}
-use Rattle.gpu_descriptor.proofs.Rising.{id_of, ids_put, inside, own_key}
-use Rattle.gpu_descriptor.proofs.RowAt.{IsAt, is_at, key_at, keys_at, row_at, written_at}
-use Rattle.gpu_descriptor.proofs.TableBooks.{distinct_rows, row_keys, keys_are}
-use Rattle.gpu_descriptor.proofs.WholeRun.{lies_own}
+use Rattle.gpu_descriptor.proofs.callers.HeldSets.{out_back, out_less}
+use Rattle.gpu_descriptor.proofs.release.LentRow.{row_open, row_stored, row_taken, row_ran, row_counted}
+use Rattle.gpu_descriptor.proofs.sums.Loads.{IsRow, IsWritten, Taken, taken, load_fits, counted_after, out_after, load_after, run_load, pools_present, pools_set}
+use Rattle.gpu_descriptor.proofs.release.Owned.{Owns, ends_at, first_owns, lie_at, stands}
+use Rattle.gpu_descriptor.proofs.request.Requested.{table_is}
+use Rattle.gpu_descriptor.proofs.table.Rising.{id_of, ids_put, inside, own_key}
+use Rattle.gpu_descriptor.proofs.table.RowAt.{IsAt, is_at, key_at, keys_at, row_at, written_at}
+use Rattle.gpu_descriptor.proofs.table.TableBooks.{distinct_rows, row_keys, keys_are}
+use Rattle.gpu_descriptor.proofs.release.WholeRun.{lies_own}
 use Rattle.gpu_descriptor.proofs.allocator.DescriptorAllocator.release_run.Goals.{After-index_mut-bucket, After-release_run-ahead, After-unwrap}
 use Rattle.gpu_descriptor.proofs.allocator.DescriptorAllocator.release_run.Goals as goal
 

@@ -8,9 +8,9 @@ use Rattle.gpu_descriptor.specs.Caller.KeyOf.{key_of}
 use Rattle.gpu_descriptor.specs.Caller.States.{state_of}
 use Rattle.gpu_descriptor.specs.Inner.Stored.{IsConsistent}
 use Rattle.gpu_descriptor.specs.Inner.Buckets.{AreBookedIn}
-use Rattle.gpu_descriptor.proofs.KeepState.{booked_of}
-use Rattle.gpu_descriptor.proofs.KeysKept.{keys_seen}
-use Rattle.gpu_descriptor.proofs.Requested.{seen, seen_again, table_is, books_at, rows_apart, rows_distinct, rows_within, pools_within, pool_load_within, declined_by_limit, declined_by_bound, declined_unserved, given_fits, counted_now, takes_of}
+use Rattle.gpu_descriptor.proofs.request.StateAgrees.{booked_of}
+use Rattle.gpu_descriptor.proofs.cleanup.KeyOrder.{keys_seen}
+use Rattle.gpu_descriptor.proofs.request.Requested.{seen, seen_again, table_is, books_at, rows_apart, rows_distinct, rows_within, pools_within, pool_load_within, declined_by_limit, declined_by_bound, declined_unserved, given_fits, counted_now, takes_of}
 use Rattle.gpu_descriptor.proofs.allocator.DescriptorAllocator.request.Goals.{After-len-given, After-descriptors_of_sets-descriptors}
 use Rattle.gpu_descriptor.proofs.allocator.DescriptorAllocator.request.Goals as goal
 

@@ -4,8 +4,8 @@ use Rattle.std.specs.Map.{lookup}
 use Rattle.gpu_descriptor.specs.declared.set.BucketKey.{BucketKey}
 use Rattle.gpu_descriptor.specs.declared.bucket.DescriptorBucket.{DescriptorBucket}
 use Rattle.gpu_descriptor.specs.Inner.Ids.{is_of, rise_below, stored_ids}
-use Rattle.gpu_descriptor.proofs.Rising.{ids_put, one_more}
-use Rattle.gpu_descriptor.proofs.RowAt.{IsAt, is_at, keys_at, lookup_same, row_at, written_at}
+use Rattle.gpu_descriptor.proofs.table.Rising.{ids_put, one_more}
+use Rattle.gpu_descriptor.proofs.table.RowAt.{IsAt, is_at, keys_at, lookup_same, row_at, written_at}
 use Rattle.indexmap.specs.Layout.{set_value_at}
 use Rattle.std.proofs.lemmas.List.{map-append}
 use Rattle.gpu_descriptor_types.specs.Bounds.{greatest_u64}
@@ -19,10 +19,10 @@ use Rattle.gpu_descriptor.specs.Caller.KeyOf.{key_of}
 use Rattle.gpu_descriptor.specs.Inner.Buckets.{AreBookedIn}
 use Rattle.gpu_descriptor.specs.Inner.Stored.{books_in, entry_of, stored_keys, stored_load}
 use Rattle.gpu_descriptor.specs.Inner.Serves.{IsUnserved}
-use Rattle.gpu_descriptor.proofs.KeysKept.{keys_put, keys_written}
-use Rattle.gpu_descriptor.proofs.Loads.{IsRow, IsWritten, total_present, pools_set, pools_end}
-use Rattle.gpu_descriptor.proofs.RequestSteps.{present, missing, serves_present, serves_new, written-same}
-use Rattle.gpu_descriptor.proofs.TableBooks.{distinct_stored}
+use Rattle.gpu_descriptor.proofs.cleanup.KeyOrder.{keys_put, keys_written}
+use Rattle.gpu_descriptor.proofs.sums.Loads.{IsRow, IsWritten, total_present, pools_set, pools_end}
+use Rattle.gpu_descriptor.proofs.request.InTable.{present, missing, serves_present, serves_new, written-same}
+use Rattle.gpu_descriptor.proofs.table.TableBooks.{distinct_stored}
 use Rattle.gpu_descriptor.proofs.allocator.allocate.serve_key.Goals.{After-index_mut, In-None, In-Ok-insert, After-serve}
 use Rattle.gpu_descriptor.proofs.allocator.allocate.serve_key.Goals as goal
 

@@ -3,8 +3,8 @@ use Rattle.gpu_descriptor.specs.Inner.Buckets.{front_but}
 use Rattle.gpu_descriptor.specs.Model.Load.{pool_load}
 use Rattle.gpu_descriptor.specs.Caller.KeyOf.{key_of}
 use Rattle.gpu_descriptor.specs.Inner.Stored.{bucket_of, stored_load}
-use Rattle.gpu_descriptor.proofs.PoolLoads.{stored_first}
-use Rattle.gpu_descriptor.proofs.Turns.{IsFront, is_front, turn_unused, turn, stop_full, stop_short, still}
+use Rattle.gpu_descriptor.proofs.sums.PoolLoads.{stored_first}
+use Rattle.gpu_descriptor.proofs.release.FrontPool.{IsFront, is_front, turn_unused, turn, stop_full, stop_short, still}
 use Rattle.gpu_descriptor.proofs.bucket.DescriptorBucket.drop_front.Goals.{After-unwrap-front}
 use Rattle.gpu_descriptor.proofs.bucket.DescriptorBucket.drop_front.Goals as goal
 

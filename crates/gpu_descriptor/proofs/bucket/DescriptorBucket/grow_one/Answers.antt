@@ -11,9 +11,9 @@ use Rattle.gpu_descriptor.specs.declared.bucket.take.Stop.TheVariants as stop
 use Rattle.gpu_descriptor.specs.Caller.KeyOf.{key_of}
 use Rattle.gpu_descriptor.specs.Inner.Stored.{entry_of}
 use Rattle.gpu_descriptor.specs.Inner.Walk.{entries_of, sets_at}
-use Rattle.gpu_descriptor.proofs.NextSize.{one_fits}
-use Rattle.gpu_descriptor.proofs.Asks.{same_entry}
-use Rattle.gpu_descriptor.proofs.Grows.{created_for, created_at, fresh_room, no_sets, grown, not_grown, not_created, none_asked, had_room, create_asked, alloc_asked}
+use Rattle.gpu_descriptor.proofs.request.NextSize.{one_fits}
+use Rattle.gpu_descriptor.proofs.request.Asks.{same_entry}
+use Rattle.gpu_descriptor.proofs.request.PoolCreated.{created_for, created_at, fresh_room, no_sets, grown, not_grown, not_created, none_asked, had_room, create_asked, alloc_asked}
 use Rattle.gpu_descriptor.proofs.bucket.DescriptorBucket.grow_one.Goals.{In-Ok, In-Ok-alloc_descriptor_sets}
 use Rattle.gpu_descriptor.proofs.bucket.DescriptorBucket.grow_one.Goals as goal
 

@@ -1,5 +1,5 @@
 use Rattle.std.proofs.Common.{length, arith, ap}
-use Rattle.gpu_descriptor.proofs.Listed.{few_listed}
+use Rattle.gpu_descriptor.proofs.lists.OpenList.{few_listed}
 use Rattle.gpu_descriptor.proofs.bucket.DescriptorBucket.make_room.Goals as goal
 
 pub overflow_sub-wanting : goal.overflow_sub-wanting

@@ -12,18 +12,18 @@ use Rattle.gpu_descriptor.specs.Inner.Buckets.{AreBookedIn, trimmed_bucket, trim
 use Rattle.gpu_descriptor.specs.Inner.Releases.{IsTakenAt, names_of}
 use Rattle.std.specs.List.Sorted.{IsNonDecreasing}
 use Rattle.gpu_descriptor.specs.Inner.OpenNumbers.{free_in}
-use Rattle.gpu_descriptor.proofs.PoolLoads.{stored_put}
-use Rattle.gpu_descriptor.proofs.Open.{open_rises}
-use Rattle.gpu_descriptor.proofs.Listed.{listed_again, fewer_listed}
+use Rattle.gpu_descriptor.proofs.sums.PoolLoads.{stored_put}
+use Rattle.gpu_descriptor.proofs.lists.OpenNumbers.{open_rises}
+use Rattle.gpu_descriptor.proofs.lists.OpenList.{listed_again, fewer_listed}
 use Rattle.gpu_descriptor.specs.Model.Release.{entry_less}
 use Rattle.gpu_descriptor.specs.Inner.Stored.{bucket_of, entry_of}
 use Rattle.gpu_descriptor.specs.Caller.Comparisons.{binary_digits}
-use Rattle.gpu_descriptor.proofs.Comparisons.{listed_count}
-use Rattle.gpu_descriptor.proofs.BucketRun.{AreTaken, are_taken, is_within, read_first, changed_at, stored_after, total_less, place_room}
-use Rattle.gpu_descriptor.proofs.LedgerPools.{taken_from, release_pools}
-use Rattle.gpu_descriptor.proofs.OneRun.{run_counts, run_live, run_ends, run_goes, done}
-use Rattle.gpu_descriptor.proofs.Exact.{bucket}
-use Rattle.gpu_descriptor.proofs.Fronts.{entry_at-found, entry_at-from}
+use Rattle.gpu_descriptor.proofs.release.Comparisons.{listed_count}
+use Rattle.gpu_descriptor.proofs.release.BucketRun.{AreTaken, are_taken, is_within, read_first, changed_at, stored_after, total_less, place_room}
+use Rattle.gpu_descriptor.proofs.foreign.LedgerPools.{taken_from, release_pools}
+use Rattle.gpu_descriptor.proofs.release.OneRun.{run_counts, run_live, run_ends, run_goes, done}
+use Rattle.gpu_descriptor.proofs.table.Exact.{bucket}
+use Rattle.gpu_descriptor.proofs.release.Fronts.{entry_at-found, entry_at-from}
 use Rattle.gpu_descriptor.proofs.bucket.DescriptorBucket.release_run.Goals.{Start, After-index_mut-pool, After-finish-count}
 use Rattle.gpu_descriptor.proofs.bucket.DescriptorBucket.release_run.Goals as goal
 

@@ -16,10 +16,10 @@ use Rattle.gpu_descriptor.specs.Caller.Sets.{items_of}
 use Rattle.gpu_descriptor.specs.Inner.Grow.{IsTaken}
 use Rattle.gpu_descriptor.specs.Inner.Stored.{bucket_of, entry_of, stored_load}
 use Rattle.gpu_descriptor.specs.Inner.Walk.{entries_of, sets_at, IsWalked}
-use Rattle.gpu_descriptor.proofs.Exact.{bucket}
-use Rattle.gpu_descriptor.proofs.Growing.{Growing, grow_start, grow_more, grow_end, grow_stop, grown_long, walked_long, load_more, load_walked}
-use Rattle.gpu_descriptor.proofs.StoredPools.{allocated_entries, load_entries}
-use Rattle.gpu_descriptor.proofs.Walking.{items_of-sets_at}
+use Rattle.gpu_descriptor.proofs.table.Exact.{bucket}
+use Rattle.gpu_descriptor.proofs.request.Growing.{Growing, grow_start, grow_more, grow_end, grow_stop, grown_long, walked_long, load_more, load_walked}
+use Rattle.gpu_descriptor.proofs.sums.StoredPools.{allocated_entries, load_entries}
+use Rattle.gpu_descriptor.proofs.request.Walking.{items_of-sets_at}
 use Rattle.gpu_descriptor.proofs.bucket.DescriptorBucket.take.Goals as goal
 
 -- a walk leaves the load of the key's pools, and how many there are

@@ -5,7 +5,7 @@ use Rattle.gpu_descriptor.specs.Caller.Sets.{items_of}
 use Rattle.gpu_descriptor.specs.Inner.OpenPools.{CountsLooks}
 use Rattle.gpu_descriptor.specs.Inner.Stored.{stored_load}
 use Rattle.gpu_descriptor.specs.Inner.Walk.{entries_of}
-use Rattle.gpu_descriptor.proofs.Growing.{Growing}
+use Rattle.gpu_descriptor.proofs.request.Growing.{Growing}
 use Rattle.gpu_descriptor.proofs.bucket.DescriptorBucket.take.Given as goal
 
 abbrev pub invariant-loop-wanting : goal.invariant-loop-wanting

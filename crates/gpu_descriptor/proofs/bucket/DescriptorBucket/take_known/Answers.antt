@@ -17,8 +17,8 @@ use Rattle.gpu_descriptor.specs.Inner.OpenNumbers.{free_in, open_numbers}
 use Rattle.gpu_descriptor.specs.Inner.OpenPools.{bucket_in}
 use Rattle.gpu_descriptor.specs.Inner.Stored.{bucket_of}
 use Rattle.gpu_descriptor.specs.Inner.Walk.{entries_of, IsWalked}
-use Rattle.gpu_descriptor.proofs.Exact.{bucket}
-use Rattle.gpu_descriptor.proofs.StoredPools.{allocated_entries}
+use Rattle.gpu_descriptor.proofs.table.Exact.{bucket}
+use Rattle.gpu_descriptor.proofs.sums.StoredPools.{allocated_entries}
 use Rattle.gpu_descriptor.proofs.bucket.DescriptorBucket.take_known.Goals.{After-walk-walked}
 use Rattle.gpu_descriptor.proofs.bucket.DescriptorBucket.take_known.Goals as goal
 

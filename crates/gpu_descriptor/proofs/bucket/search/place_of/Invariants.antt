@@ -1,5 +1,5 @@
 use Rattle.std.proofs.Common.{◌≡◌}
-use Rattle.gpu_descriptor.proofs.Searching.{Searching}
+use Rattle.gpu_descriptor.proofs.lists.Searching.{Searching}
 use Rattle.gpu_descriptor.proofs.bucket.search.place_of.Given as goal
 
 abbrev pub invariant-loop-size : goal.invariant-loop-size

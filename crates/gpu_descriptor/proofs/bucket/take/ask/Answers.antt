@@ -7,8 +7,8 @@ use Rattle.gpu_descriptor.specs.Caller.KeyOf.{key_of}
 use Rattle.gpu_descriptor.specs.Inner.Stored.{entry_of}
 use Rattle.gpu_descriptor.specs.Inner.Buckets.{IsBookedIn}
 use Rattle.gpu_descriptor.specs.Inner.Walk.{IsAsked}
-use Rattle.gpu_descriptor.proofs.Room.{has_room}
-use Rattle.gpu_descriptor.proofs.Asks.{same_entry, skipped, given, refuses}
+use Rattle.gpu_descriptor.proofs.request.PlacesFree.{has_room}
+use Rattle.gpu_descriptor.proofs.request.Asks.{same_entry, skipped, given, refuses}
 use Rattle.gpu_descriptor.proofs.bucket.take.ask.Goals as goal
 
 pub returns-then-count-eq0-clause-asked : goal.returns-then-count-eq0-clause-asked

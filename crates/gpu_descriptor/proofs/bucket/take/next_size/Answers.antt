@@ -1,6 +1,6 @@
 use Rattle.std.proofs.Common.{arith, refl, IfSome, Option, Some, None}
 use Rattle.gpu_descriptor.specs.Caller.KeyOf.{key_of}
-use Rattle.gpu_descriptor.proofs.NextSize.{next_fits}
+use Rattle.gpu_descriptor.proofs.request.NextSize.{next_fits}
 use Rattle.gpu_descriptor.proofs.bucket.take.next_size.Goals as goal
 
 if_some : {T : Type 0} (A B : T → Type 0) (o : Option T) → ((x : T) → A x → B x) → IfSome o A → IfSome o B

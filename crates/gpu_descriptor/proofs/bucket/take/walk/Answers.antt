@@ -14,9 +14,9 @@ use Rattle.gpu_descriptor.specs.Caller.Sets.{items_of}
 use Rattle.gpu_descriptor.specs.Inner.Walk.{sets_at, IsWalked}
 use Rattle.gpu_descriptor.specs.Inner.Grow.{IsTaken}
 use Rattle.gpu_descriptor.specs.declared.bucket.take.Stop.TheVariants.{Existing}
-use Rattle.gpu_descriptor.proofs.Exact.{bucket}
-use Rattle.gpu_descriptor.proofs.Newest.{OpenWalk, open_walk_start, open_walk_more, open_walk_stop, walk_sated, walk_empty, next_is_booked, listed_now_closed, listed_now_open, listed_now_same, one_asked}
-use Rattle.gpu_descriptor.proofs.Walking.{Walking, walk_end, items_of-sets_at}
+use Rattle.gpu_descriptor.proofs.table.Exact.{bucket}
+use Rattle.gpu_descriptor.proofs.request.OpenWalk.{OpenWalk, open_walk_start, open_walk_more, open_walk_stop, walk_sated, walk_empty, next_is_booked, listed_now_closed, listed_now_open, listed_now_same, one_asked}
+use Rattle.gpu_descriptor.proofs.request.Walking.{Walking, walk_end, items_of-sets_at}
 use Rattle.gpu_descriptor.proofs.bucket.take.walk.Goals.{In-Ok}
 use Rattle.gpu_descriptor.proofs.bucket.take.walk.Goals as goal
 

@@ -6,7 +6,7 @@ use Rattle.gpu_descriptor.specs.Inner.OpenPools.{CountsLooks, KeepsView}
 use Rattle.gpu_descriptor.specs.Caller.KeyOf.{key_of}
 use Rattle.gpu_descriptor.specs.Caller.Sets.{items_of}
 use Rattle.gpu_descriptor.specs.Inner.Walk.{entries_of}
-use Rattle.gpu_descriptor.proofs.Newest.{OpenWalk}
+use Rattle.gpu_descriptor.proofs.request.OpenWalk.{OpenWalk}
 use Rattle.gpu_descriptor.proofs.bucket.take.walk.Given as goal
 
 abbrev pub invariant-loop-wanting : goal.invariant-loop-wanting

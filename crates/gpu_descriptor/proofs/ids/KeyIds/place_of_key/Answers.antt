@@ -9,8 +9,8 @@ use Rattle.gpu_descriptor.specs.declared.bucket.DescriptorBucket.{DescriptorBuck
 use Rattle.gpu_descriptor.specs.Model.Books.{Key, key_eq}
 use Rattle.gpu_descriptor.specs.Caller.KeyOf.{key_of}
 use Rattle.gpu_descriptor.specs.Inner.Stored.{stored_keys}
-use Rattle.gpu_descriptor.proofs.Exact.{key_exact}
-use Rattle.gpu_descriptor.proofs.RowAt.{lookup_same}
+use Rattle.gpu_descriptor.proofs.table.Exact.{key_exact}
+use Rattle.gpu_descriptor.proofs.table.RowAt.{lookup_same}
 use Rattle.gpu_descriptor.proofs.ids.KeyIds.place_of_key.Goals as goal
 
 tested_at : {P : Type 0} (test : BucketKey → Bool) (key : BucketKey) → ((l : BucketKey) → test l ≡ key_eq (key_of key) (key_of l)) → (es : List (BucketKey × DescriptorBucket P)) (i : ℕ) → i < length es → test (get_or (keys_of es) i key) ≡ true → slice_get (stored_keys es) i ≡ Some (key_of key)

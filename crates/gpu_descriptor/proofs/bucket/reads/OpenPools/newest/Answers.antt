@@ -5,7 +5,7 @@ use Rattle.gpu_descriptor_types.specs.declared.counter.Tally.{Tally}
 use Rattle.gpu_descriptor.specs.declared.bucket.reads.OpenPools.{OpenPools}
 use Rattle.gpu_descriptor.specs.Inner.OpenNumbers.{free_in}
 use Rattle.gpu_descriptor.specs.Inner.OpenPools.{looked_at}
-use Rattle.gpu_descriptor.proofs.Open.{IsNewestOpen, newest_open}
+use Rattle.gpu_descriptor.proofs.lists.OpenNumbers.{IsNewestOpen, newest_open}
 use Rattle.gpu_descriptor.proofs.bucket.reads.OpenPools.newest.Goals.{In-Some}
 use Rattle.gpu_descriptor.proofs.bucket.reads.OpenPools.newest.Goals as goal
 

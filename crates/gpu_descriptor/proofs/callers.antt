@@ -1,0 +1,3 @@
+pub mod HeldSets
+pub mod OneAgreement
+pub mod Unchanged

@@ -1,0 +1,75 @@
+-- Which sets of a list are outstanding after a call: for callers that hold sets.
+use Rattle.std.proofs.Common.{◌≡◌, ℕ, ◌+◌, List, ◌++◌, sym, ap, ◌∙◌, arith}
+use Rattle.std.specs.List.Sorted.{IsPermutation}
+use Rattle.std.proofs.lemmas.List.{map-append}
+use Rattle.std.proofs.lemmas.List.Sorted.{sum_by-IsPermutation, IsPermutation-map}
+use Rattle.gpu_descriptor_types.proofs.Counting.{count_by-append}
+use Rattle.gpu_descriptor.specs.declared.set.DescriptorSet.{DescriptorSet}
+use Rattle.gpu_descriptor.specs.Model.Agreement.{State, Item, item_eq, Agree, AreOutstanding, count_of, outstanding}
+use Rattle.gpu_descriptor.specs.Model.Promises.{AreOutBesides, KeepsOutstanding}
+use Rattle.gpu_descriptor.specs.Model.Release.{released}
+use Rattle.gpu_descriptor.specs.Caller.Sets.{item_of, items_of}
+use Rattle.gpu_descriptor.proofs.release.ReleaseAgrees.{takes}
+
+-- ---- lists of items
+
+-- an item of two lists together
+pub count_of-append : (u : Item) (a b : List Item) → count_of u (a ++ b) ≡ count_of u a + count_of u b
+count_of-append u a b = count_by-append (λ t. item_eq t u) a b
+
+-- what came besides is outstanding
+pub came_out : (items : List Item) (s t : State) → AreOutBesides items s t → AreOutstanding items t
+came_out items s t besides u = (let h = besides u in omega arith)
+
+-- what came has gone back
+pub all_back : (items : List Item) (s t v : State) → AreOutBesides items s t → AreOutBesides items v t → KeepsOutstanding s v
+all_back items s t v came went u = (let a = came u in let b = went u in omega arith)
+
+-- what went back is outstanding no longer, and all else still is
+pub out_less : (items : List Item) (s t : State) → Agree s → AreOutstanding items s → t ≡ released items s → AreOutBesides items t s
+out_less items s t agree out is u = sym (takes items s agree out u) ∙ ap (λ (w : State). outstanding w u + count_of u items) (sym is)
+
+-- ---- lists of sets
+
+module _ {S : Type 0} (name : S → ℕ) where
+  -- a set of two lists together
+  pub count_parts : (xs ys : List (DescriptorSet S)) (u : Item) → count_of u (items_of name (xs ++ ys)) ≡ count_of u (items_of name xs) + count_of u (items_of name ys)
+  count_parts xs ys u = ap (count_of u) (map-append (λ (x : DescriptorSet S). item_of name x) xs ys) ∙ count_of-append u (items_of name xs) (items_of name ys)
+
+  pub out_more : (xs ys : List (DescriptorSet S)) (s t : State) → AreOutstanding (items_of name xs) s → AreOutBesides (items_of name ys) s t → AreOutstanding (items_of name (xs ++ ys)) t
+  out_more xs ys s t out added u = (let a = count_parts xs ys u in let b = out u in let c = added u in omega arith)
+
+  pub out_still : (xs : List (DescriptorSet S)) (s t : State) → AreOutstanding (items_of name xs) s → KeepsOutstanding s t → AreOutstanding (items_of name xs) t
+  out_still xs s t out same u = (let b = out u in let c = same u in omega arith)
+
+  pub out_front : (xs ys all : List (DescriptorSet S)) (s : State) → all ≡ xs ++ ys → AreOutstanding (items_of name all) s → AreOutstanding (items_of name xs) s
+  out_front xs ys all s is out u = (let a = ap (λ (l : List (DescriptorSet S)). count_of u (items_of name l)) is ∙ count_parts xs ys u in let b = out u in omega arith)
+
+  pub out_back : (xs ys all : List (DescriptorSet S)) (s : State) → all ≡ xs ++ ys → AreOutstanding (items_of name all) s → AreOutstanding (items_of name ys) s
+  out_back xs ys all s is out u = (let a = ap (λ (l : List (DescriptorSet S)). count_of u (items_of name l)) is ∙ count_parts xs ys u in let b = out u in omega arith)
+
+  -- in another order
+  pub out_moved : (xs ys : List (DescriptorSet S)) (s : State) → IsPermutation xs ys → AreOutstanding (items_of name xs) s → AreOutstanding (items_of name ys) s
+  out_moved xs ys s moved out u =
+      let a : count_of u (items_of name ys) ≡ count_of u (items_of name xs) = sum_by-IsPermutation _ _ _ (IsPermutation-map (λ (x : DescriptorSet S). item_of name x) xs ys moved) in
+      let b = out u in
+      omega arith
+
+  pub out_turned : (xs ys all : List (DescriptorSet S)) (s : State) → all ≡ xs ++ ys → AreOutstanding (items_of name all) s → AreOutstanding (items_of name (ys ++ xs)) s
+  out_turned xs ys all s is out u = (let a = ap (λ (l : List (DescriptorSet S)). count_of u (items_of name l)) is ∙ count_parts xs ys u in let c = count_parts ys xs u in let b = out u in omega arith)
+
+  -- sets that came, in another order
+  pub out_mixed : (came xs ys : List (DescriptorSet S)) (s t : State) → AreOutBesides (items_of name came) s t → xs ≡ came → IsPermutation xs ys → AreOutBesides (items_of name ys) s t
+  out_mixed came xs ys s t out is mixed u =
+      let a : count_of u (items_of name ys) ≡ count_of u (items_of name xs) = sum_by-IsPermutation _ _ _ (IsPermutation-map (λ (x : DescriptorSet S). item_of name x) xs ys mixed) in
+      let b = ap (λ (l : List (DescriptorSet S)). count_of u (items_of name l)) is in
+      let c = out u in
+      omega arith
+
+  -- where the later ones went back
+  pub out_rest : (xs ys all : List (DescriptorSet S)) (s t : State) → all ≡ xs ++ ys → AreOutstanding (items_of name all) s → AreOutBesides (items_of name ys) t s → AreOutstanding (items_of name xs) t
+  out_rest xs ys all s t is out less u =
+      let a = ap (λ (l : List (DescriptorSet S)). count_of u (items_of name l)) is ∙ count_parts xs ys u in
+      let b = out u in
+      let c = less u in
+      omega arith

@@ -1,0 +1,4 @@
+pub mod Cleaning
+pub mod Counted
+pub mod KeyOrder
+pub mod RowsCleaned

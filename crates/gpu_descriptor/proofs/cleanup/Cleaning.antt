@@ -1,0 +1,245 @@
+use Rattle.std.specs.Prelude.{if◌then◌else◌}
+-- Cleaning up: the whole empty front of each key goes.
+use Rattle.std.proofs.Common.{◌≡◌, ℕ, zero, suc, ◌==◌, ◌+◌, ◌-◌, ◌<◌, ◌≤◌, Bool, true, false, List, [], ◌∷◌, length, take, drop, count_by, slice_get, Option, Some, None, ◌⊎◌, inl, inr, refl, sym, ap, ◌∙◌, arith, eq-eqb, ne_eqb, length-drop}
+use Rattle.std.proofs.Math.Logic.{∥∥₁_elim}
+use Rattle.std.proofs.Math.Path.{fun_ext}
+use Rattle.std.proofs.Props.{props}
+use Rattle.std.specs.List.{list_any, prefix_len}
+use Rattle.std.proofs.lemmas.Bool.{cases_Bool, cases_eq, false_from_ne_true, or_left, or_right}
+use Rattle.std.proofs.lemmas.List.Sums.{prefix_len-le-length, sum_by-cons}
+use Rattle.gpu_descriptor.specs.Model.Agreement.{live_there, set_of, Item, State, live_in, outstanding, HasSize, Agree}
+use Rattle.gpu_descriptor.specs.Model.Books.{Key, key_eq, Entry, Bucket, entry_at}
+use Rattle.gpu_descriptor.specs.Model.Cleanup.{IsCleaned, cleaned_bucket}
+use Rattle.gpu_descriptor.specs.Laws.Cleanup.{CleanAgain, CleanAgainNone, CleanAll, CleanAllGone, CleanAgrees, CleanTakesNone, CleanOnce}
+use Rattle.gpu_descriptor.specs.Model.Release.{is_empty, empty_front, without_front, in_front}
+use Rattle.gpu_descriptor_types.specs.Multiset.{LiveSet, set_eq}
+use Rattle.gpu_descriptor.proofs.release.Fronts.{entry_at-found, entry_at-from, entry_at-without, entry_at-kept}
+use Rattle.gpu_descriptor_types.proofs.Counting.{set_exact, count_by_yes, any_found, any_from}
+use Rattle.gpu_descriptor.proofs.table.Exact.{key_exact}
+use Rattle.gpu_descriptor.proofs.release.Places.{live_there_at, outstanding_at, outstanding_found, size_pos}
+use Rattle.gpu_descriptor.proofs.release.ReleaseAgrees.{if_none, front_found, cases_option}
+
+front_yes : (x : Entry) (es : List Entry) → is_empty x ≡ true → prefix_len is_empty (x ∷ es) ≡ suc (prefix_len is_empty es)
+front_yes x es h = rw h (omega arith)
+
+front_no : (x : Entry) (es : List Entry) → is_empty x ≡ false → prefix_len is_empty (x ∷ es) ≡ 0
+front_no x es h = rw h refl
+
+-- behind the empty front stands no empty pool
+behind_front : (es : List Entry) → prefix_len is_empty (drop (prefix_len is_empty es) es) ≡ 0
+behind_front [] = refl
+behind_front (x ∷ es) = elim (cases_Bool (is_empty x)) [
+  | inl h ↦ ap (λ (n : ℕ). prefix_len is_empty (drop n (x ∷ es))) (front_yes x es h) ∙ behind_front es
+  | inr h ↦ ap (λ (n : ℕ). prefix_len is_empty (drop n (x ∷ es))) (front_no x es h) ∙ front_no x es h
+]
+
+-- what is cleaned is the bucket without pools, or the one without its front
+pub cleaned_cases : (b : Bucket) → ((empty_front b ≡ length b.pools) × (cleaned_bucket b ≡ record { id = 0; first = 0; pools = [] })) ⊎ ((empty_front b < length b.pools) × (cleaned_bucket b ≡ without_front (empty_front b) b))
+cleaned_cases b = elim (cases_eq (empty_front b) (length b.pools)) [
+  | inl all ↦ inl (all, rw (eq-eqb (empty_front b) (length b.pools) all) refl)
+  | inr some ↦ inr ((let le = prefix_len-le-length is_empty b.pools in omega arith), rw (ne_eqb (empty_front b) (length b.pools) some) refl)
+]
+
+front_cleaned : (b : Bucket) → empty_front (cleaned_bucket b) ≡ 0
+front_cleaned b = elim (cleaned_cases b) [
+  | inl all ↦ ap empty_front all.1
+  | inr some ↦ ap empty_front some.1 ∙ behind_front b.pools
+]
+
+cleaned_twice : (b : Bucket) → cleaned_bucket (cleaned_bucket b) ≡ cleaned_bucket b
+cleaned_twice b = elim (cleaned_cases b) [
+  | inl all ↦ ap cleaned_bucket all.1 ∙ sym all.1
+  | inr some ↦ (
+      let c = without_front (empty_front b) b in
+      let still : empty_front c ≡ 0 = behind_front b.pools in
+      let long : length c.pools ≡ length b.pools - empty_front b = length-drop (empty_front b) b.pools in
+      let more = some.0 in
+      let same : cleaned_bucket c ≡ c = elim (cleaned_cases c) [
+        | inl all ↦ (let bad = all.0 in absurd (omega arith))
+        | inr rest ↦ rest.1 ∙ ap (λ (n : ℕ). without_front n c) still ∙ (let first : c.first + 0 ≡ c.first = omega arith in λ i. record c { first = first i; pools = c.pools })
+      ] in
+      ap cleaned_bucket some.1 ∙ same ∙ sym some.1)
+]
+
+pub again : CleanAgain
+again s t u first second =
+    let books : u.books ≡ t.books = fun_ext (λ k. second.books k ∙ ap cleaned_bucket (first.books k) ∙ cleaned_twice (s.books k) ∙ sym (first.books k)) in
+    let still : (k : Key) → empty_front (t.books k) ≡ 0 = λ k. ap empty_front (first.books k) ∙ front_cleaned (s.books k) in
+    let ledger : u.ledger ≡ t.ledger = fun_ext (λ pool. second.kept pool (λ k. ap (λ (n : ℕ). in_front n (t.books k) pool) (still k))) in
+    λ i. record { books = books i; ledger = ledger i }
+
+pub again_none : CleanAgainNone
+again_none [] s t clean = refl
+again_none (k ∷ keys) s t clean =
+    let here : empty_front (t.books k) ≡ 0 = ap empty_front (clean.books k) ∙ front_cleaned (s.books k) in
+    sum_by-cons (λ (l : Key). empty_front (t.books l)) k keys ∙ (λ i. here i + again_none keys s t clean i)
+
+-- a pool without live sets has none allocated
+none_live : (live : LiveSet → ℕ) (a : ℕ) → ∥ HasSize live a ∥₁ → ((name : LiveSet) → live name ≡ 0) → a ≡ 0
+none_live live a some none = ∥∥₁_elim some (search props) (λ size. elim size.0 as (λ xs. length xs ≡ a → ((name : LiveSet) → count_by (λ x. set_eq x name) xs ≡ live name) → a ≡ 0) [
+  | [] ↦ λ long counts. sym long
+  | x ∷ xs ↦ λ long counts. (
+      let own : count_by (λ y. set_eq y x) (x ∷ xs) ≡ suc (count_by (λ y. set_eq y x) xs) = count_by_yes (λ y. set_eq y x) x xs (set_exact.self x) in
+      let is = counts x in
+      let zero_live = none x in
+      absurd (omega arith))
+] size.1 size.2)
+
+-- where each pool is empty, the front is the whole
+all_front : (es : List Entry) → ((i : ℕ) (e : Entry) → slice_get es i ≡ Some e → is_empty e ≡ true) → prefix_len is_empty es ≡ length es
+all_front [] h = refl
+all_front (x ∷ es) h = front_yes x es (h 0 x refl) ∙ ap suc (all_front es (λ i. h (suc i)))
+
+-- with nothing outstanding each front is the whole
+whole_front : (s : State) → Agree s → ((i : Item) → outstanding s i ≡ 0) → (k : Key) → empty_front (s.books k) ≡ length (s.books k).pools
+whole_front s agree nothing k =
+    let b = s.books k in
+    all_front b.pools (λ i e at.
+    let place : b.first + i - b.first ≡ i = omega arith in
+    let here : entry_at b (b.first + i) ≡ Some e = entry_at-from b (b.first + i) e (omega arith) (rw place at) in
+    let booked = agree.booked k (b.first + i) e here in
+    let zero_live : (x : LiveSet) → booked.0.live x ≡ 0 = λ x. elim (cases_eq 0 (booked.0.live x)) [
+      | inl none ↦ sym none
+      | inr some ↦ (
+          let counts = booked.2.sets x (omega arith) in
+          let t : Item = record { key = k; id = b.id; number = b.first + i; name = x.name } in
+          let one : set_of t ≡ x = λ j. record { name = x.name; counts = sym counts j } in
+          ap booked.0.live (sym one) ∙ sym (outstanding_at s t e booked.0 refl here booked.1) ∙ nothing t)
+    ] in
+    eq-eqb e.allocated 0 (none_live booked.0.live e.allocated booked.2.allocated zero_live))
+
+pub nothing_left : CleanAll
+nothing_left s t agree nothing clean k = elim (cleaned_cases (s.books k)) [
+  | inl all ↦ clean.books k ∙ all.1
+  | inr some ↦ (let whole = whole_front s agree nothing k in let bad = some.0 in absurd (omega arith))
+]
+
+-- a pool of the list is among them all
+among_all : (es : List Entry) (i : ℕ) (e : Entry) → slice_get es i ≡ Some e → list_any (λ d. d.pool == e.pool) (take (length es) es) ≡ true
+among_all [] i e at = absurd (let bad : ◌≡◌ {A = Option Entry} None (Some e) = at in cc)
+among_all (x ∷ es) zero e at =
+    let is : x ≡ e = cc in
+    or_left (x.pool == e.pool) (list_any (λ d. d.pool == e.pool) (take (length es) es)) (eq-eqb x.pool e.pool (ap (λ (d : Entry). d.pool) is))
+among_all (x ∷ es) (suc i) e at = or_right (x.pool == e.pool) (list_any (λ d. d.pool == e.pool) (take (length es) es)) (among_all es i e at)
+
+pub all_gone : CleanAllGone
+all_gone s t agree nothing clean k n e at =
+    let b = s.books k in
+    let found = entry_at-found b n e at in
+    clean.gone k e.pool (ap (λ (m : ℕ). in_front m b e.pool) (whole_front s agree nothing k) ∙ among_all b.pools (n - b.first) e found.1)
+
+-- what has a number afterwards had it before
+pub was_kept : (b : Bucket) (i : ℕ) (e : Entry) → entry_at (cleaned_bucket b) i ≡ Some e → (b.first + empty_front b ≤ i) × (entry_at b i ≡ Some e)
+was_kept b i e h = elim (cleaned_cases b) [
+  | inl all ↦ (
+      let found = entry_at-found (record { id = 0; first = 0; pools = [] }) i e (ap (λ (x : Bucket). entry_at x i) (sym all.1) ∙ h) in
+      absurd (let bad : ◌≡◌ {A = Option Entry} None (Some e) = found.1 in cc))
+  | inr some ↦ entry_at-without (empty_front b) b i e (ap (λ (x : Bucket). entry_at x i) (sym some.1) ∙ h)
+]
+
+-- a pool with sets keeps its number
+pub still_there : (b : Bucket) (i : ℕ) (e : Entry) → entry_at b i ≡ Some e → is_empty e ≡ false → entry_at (cleaned_bucket b) i ≡ Some e
+still_there b i e h full =
+    let kept = entry_at-kept b (empty_front b) i e (let le : empty_front b ≤ empty_front b = omega arith in le) h full in
+    elim (cleaned_cases b) [
+      | inl all ↦ (
+          let gone : drop (empty_front b) b.pools ≡ [] = ap (λ (n : ℕ). drop n b.pools) all.0 ∙ drop_whole b.pools in
+          let found = entry_at-found (without_front (empty_front b) b) i e kept in
+          let at : slice_get [] (i - (b.first + empty_front b)) ≡ Some e = ap (λ (es : List Entry). slice_get es (i - (b.first + empty_front b))) (sym gone) ∙ found.1 in
+          absurd (let bad : ◌≡◌ {A = Option Entry} None (Some e) = at in cc))
+      | inr some ↦ ap (λ (x : Bucket). entry_at x i) some.1 ∙ kept
+    ]
+  where
+    drop_whole : (es : List Entry) → drop (length es) es ≡ []
+    drop_whole [] = refl
+    drop_whole (e ∷ es) = drop_whole es
+
+-- the ledger keeps a pool that the books keep
+pub clean_stays : (s t : State) → Agree s → IsCleaned s t → (k : Key) (i : ℕ) (e : Entry) → entry_at (t.books k) i ≡ Some e → t.ledger e.pool ≡ s.ledger e.pool
+clean_stays s t agree clean k i e h = clean.kept e.pool (λ l. false_from_ne_true (in_front (empty_front (s.books l)) (s.books l) e.pool) (λ gone.
+    let b = s.books l in
+    let found = front_found b.pools (empty_front b) e.pool gone in
+    let j = found.0 in
+    let place : b.first + j - b.first ≡ j = omega arith in
+    let there : entry_at b (b.first + j) ≡ Some found.1 = entry_at-from b (b.first + j) found.1 (omega arith) (rw place found.3) in
+    let was = was_kept (s.books k) i e (ap (λ (x : Bucket). entry_at x i) (sym (clean.books k)) ∙ h) in
+    let same = agree.distinct l k (b.first + j) i found.1 e there was.1 found.4 in
+    let fronts : empty_front (s.books l) ≡ empty_front (s.books k) = ap (λ (x : Key). empty_front (s.books x)) same.0 in
+    let firsts : (s.books l).first ≡ (s.books k).first = ap (λ (x : Key). (s.books x).first) same.0 in
+    let past = was.0 in
+    let below = found.2 in
+    let number = same.1 in
+    omega arith))
+
+pub clean_agrees : CleanAgrees
+clean_agrees s t agree clean =
+    let was : (k : Key) (i : ℕ) (e : Entry) → entry_at (t.books k) i ≡ Some e → entry_at (s.books k) i ≡ Some e = λ k i e h.
+    (was_kept (s.books k) i e (ap (λ (x : Bucket). entry_at x i) (sym (clean.books k)) ∙ h)).1 in
+    record {
+      distinct = λ k l i j d e at at' same. agree.distinct k l i j d e (was k i d at) (was l j e at') same;
+      booked = λ k i e at.
+          let booked = agree.booked k i e (was k i e at) in
+          (booked.0, clean_stays s t agree clean k i e at ∙ booked.1, booked.2);
+      absent = λ k no_pools. elim (cleaned_cases (s.books k)) [
+        | inl whole ↦ ap (λ (b : Bucket). b.first) (clean.books k ∙ whole.1)
+        | inr some ↦ (
+            let b = s.books k in
+            let dropped : drop (empty_front b) b.pools ≡ [] = ap (λ (x : Bucket). x.pools) (sym (clean.books k ∙ some.1)) ∙ no_pools in
+            let long : 0 ≡ length b.pools - empty_front b = sym (ap length dropped) ∙ length-drop (empty_front b) b.pools in
+            let more = some.0 in
+            absurd (omega arith))
+      ];
+    }
+
+pub takes_none : CleanTakesNone
+takes_none s t agree clean x = elim (cases_option (entry_at (t.books x.key) x.number)) [
+  | inr some ↦ (
+      let e = some.0 in
+      let was = was_kept (s.books x.key) x.number e (ap (λ (b : Bucket). entry_at b x.number) (sym (clean.books x.key)) ∙ some.1) in
+      let booked = agree.booked x.key x.number e was.1 in
+      let found : t.ledger e.pool ≡ Some booked.0 = clean_stays s t agree clean x.key x.number e some.1 ∙ booked.1 in
+      let id : (t.books x.key).id ≡ (s.books x.key).id = elim (cleaned_cases (s.books x.key)) [
+        | inl whole ↦ absurd (
+            let gone = entry_at-found (record { id = 0; first = 0; pools = [] }) x.number e (ap (λ (b : Bucket). entry_at b x.number) (sym (clean.books x.key ∙ whole.1)) ∙ some.1) in
+            let bad : ◌≡◌ {A = Option Entry} None (Some e) = gone.1 in
+            cc)
+        | inr rest ↦ ap (λ (b : Bucket). b.id) (clean.books x.key ∙ rest.1)
+      ] in
+      ap (λ (i : ℕ). if i == x.id then live_there t x else 0) id
+      ∙ ap (λ (n : ℕ). if (s.books x.key).id == x.id then n else 0) (live_there_at t x e booked.0 some.1 found ∙ sym (live_there_at s x e booked.0 was.1 booked.1)))
+  | inl missing ↦ (
+      let empty : live_there t x ≡ 0 = rw missing refl in
+      let nothing : outstanding t x ≡ 0 = ap (λ (n : ℕ). if (t.books x.key).id == x.id then n else 0) empty ∙ if_none ((t.books x.key).id == x.id) in
+      nothing ∙ elim (cases_eq 0 (outstanding s x)) [
+        | inl same ↦ same
+        | inr other ↦ (
+            let here = outstanding_found s x 0 (omega arith) in
+            let e = here.0 in
+            let booked = agree.booked x.key x.number e here.1 in
+            let live : live_in s.ledger e.pool (set_of x) ≡ booked.0.live (set_of x) = rw booked.1 refl in
+            let above = here.2 in
+            let some : 0 < e.allocated = size_pos booked.0.live e.allocated (set_of x) booked.2.allocated (omega arith) in
+            let there = still_there (s.books x.key) x.number e here.1 (ne_eqb e.allocated 0 (λ bad. omega arith)) in
+            absurd (let bad : ◌≡◌ {A = Option Entry} None (Some e) = sym missing ∙ ap (λ (b : Bucket). entry_at b x.number) (clean.books x.key) ∙ there in cc))
+      ])
+]
+
+-- where finitely many keys have pools, it is known which pools go
+pub once : CleanOnce
+once keys s t u covers first second =
+    let books : t.books ≡ u.books = fun_ext (λ k. first.books k ∙ sym (second.books k)) in
+    let ledger : t.ledger ≡ u.ledger = fun_ext (λ pool.
+    let test : Key → Bool = λ k. in_front (empty_front (s.books k)) (s.books k) pool in
+    elim (cases_Bool (list_any test keys)) [
+      | inl some ↦ (let found = any_found key_exact test keys some in first.gone found.0 pool found.2 ∙ sym (second.gone found.0 pool found.2))
+      | inr no_key ↦ (
+          let kept : (k : Key) → test k ≡ false = λ k. elim (cases_Bool (list_any (λ l. key_eq l k) keys)) [
+            | inl named ↦ false_from_ne_true (test k) (λ gone.
+                let found = any_found key_exact (λ l. key_eq l k) keys named in
+                let here = any_from key_exact test keys found.0 found.1 (ap test (key_exact.same found.0 k found.2) ∙ gone) in
+                let bad : true ≡ false = sym here ∙ no_key in cc)
+            | inr other ↦ rw (covers k other) refl
+          ] in
+          first.kept pool kept ∙ sym (second.kept pool kept))
+    ]) in
+    λ i. record { books = books i; ledger = ledger i }

@@ -1,0 +1,50 @@
+-- How many pools go, in two parts and at once.
+use Rattle.std.proofs.Common.{◌≡◌, ℕ, ◌+◌, Bool, true, false, ◌||◌, List, [], ◌∷◌, ◌++◌, sum_by, refl, sym, ap, ◌∙◌, arith}
+use Rattle.std.specs.Prelude.{if◌then◌else◌}
+use Rattle.std.proofs.Math.Path.{fun_ext}
+use Rattle.std.proofs.lemmas.List.Sums.{sum_by-append}
+use Rattle.std.proofs.lemmas.List.Folds.{list_any-append}
+use Rattle.gpu_descriptor.specs.Model.Books.{Key, key_eq, Bucket}
+use Rattle.gpu_descriptor.specs.Model.Release.{lies_in, bucket_less, spent_front, released}
+use Rattle.gpu_descriptor.specs.Laws.Release.{ReleaseGone}
+use Rattle.gpu_descriptor.proofs.release.Fronts.{less-less, spent_front-less}
+use Rattle.gpu_descriptor_types.proofs.Counting.{count_by-append}
+use Rattle.gpu_descriptor.proofs.release.Places.{back}
+use Rattle.gpu_descriptor.proofs.release.Parts.{trimmed_if, names_key, quiet_key, back_still}
+
+count_law : (first second : Bool) (f g : ℕ → ℕ) (b : Bucket) → (second ≡ false → bucket_less (λ p. f p + g p) b ≡ bucket_less f b)
+    → (if first then spent_front (bucket_less f b) else 0) + (if second then spent_front (bucket_less g (trimmed_if first (bucket_less f b))) else 0) ≡ (if first || second then spent_front (bucket_less (λ p. f p + g p) b) else 0)
+count_law true true f g b quiet = sym (ap spent_front (sym (less-less f g b)) ∙ spent_front-less g (bucket_less f b))
+count_law true false f g b quiet = (let same = ap spent_front (quiet refl) in omega arith)
+count_law false true f g b quiet = (let same = ap spent_front (less-less f g b) in omega arith)
+count_law false false f g b quiet = omega arith
+
+sum_both : (f g h : Key → ℕ) → ((k : Key) → f k + g k ≡ h k) → (keys : List Key) → sum_by f keys + sum_by g keys ≡ sum_by h keys
+sum_both f g h each [] = omega arith
+sum_both f g h each (k ∷ keys) =
+    let a : sum_by f (k ∷ keys) ≡ f k + sum_by f keys = more f k keys in
+    let b : sum_by g (k ∷ keys) ≡ g k + sum_by g keys = more g k keys in
+    let c : sum_by h (k ∷ keys) ≡ h k + sum_by h keys = more h k keys in
+    let here = each k in
+    let rest = sum_both f g h each keys in
+    omega arith
+  where
+    more : (f : Key → ℕ) (k : Key) (keys : List Key) → sum_by f (k ∷ keys) ≡ f k + sum_by f keys
+    more f k keys = sum_by-append f (k ∷ []) keys ∙ (let one : sum_by f (k ∷ []) ≡ f k = omega arith in omega arith)
+
+pub gone : ReleaseGone
+gone keys m n s agree out =
+    let u = released m s in
+    let counts : back n u ≡ back n s = back_still m n s agree out in
+    let sums : back (m ++ n) s ≡ (λ pool. back m s pool + back n s pool) = fun_ext (λ pool. count_by-append (lies_in s.books pool) m n) in
+    sum_both
+    (λ k. if names_key m k then spent_front (bucket_less (back m s) (s.books k)) else 0)
+    (λ k. if names_key n k then spent_front (bucket_less (back n u) (u.books k)) else 0)
+    (λ k. if names_key (m ++ n) k then spent_front (bucket_less (back (m ++ n) s) (s.books k)) else 0)
+    (λ k.
+    let first : ℕ = if names_key m k then spent_front (bucket_less (back m s) (s.books k)) else 0 in
+    ap (λ (f : ℕ → ℕ). first + (if names_key n k then spent_front (bucket_less f (u.books k)) else 0)) counts
+    ∙ count_law (names_key m k) (names_key n k) (back m s) (back n s) (s.books k) (quiet_key m n s agree k)
+    ∙ ap (λ (f : ℕ → ℕ). if names_key m k || names_key n k then spent_front (bucket_less f (s.books k)) else 0) (sym sums)
+    ∙ ap (λ (x : Bool). if x then spent_front (bucket_less (back (m ++ n) s) (s.books k)) else 0) (sym (list_any-append (λ t. key_eq t.key k) m n)))
+    keys

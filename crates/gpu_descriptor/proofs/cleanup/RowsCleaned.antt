@@ -1,0 +1,358 @@
+-- Cleaning up, row by row.
+use Rattle.std.proofs.Common.{◌≡◌, ℕ, zero, suc, ◌+◌, ◌-◌, ◌<◌, ◌≤◌, Bool, true, false, not, ◌||◌, ◌==◌, List, [], ◌∷◌, ◌++◌, length, map, filter, set, take, drop, sum_by, slice_get, Option, Some, None, option_map, inl, inr, refl, sym, ap, subst, ◌∙◌, arith, eq-eqb, eqb-true, length-drop}
+use Rattle.std.specs.Prelude.{if◌then◌else◌}
+use Rattle.std.proofs.Math.Path.{fun_ext}
+use Rattle.std.specs.List.{list_any, IsDistinct}
+use Rattle.std.specs.Map.{values_of}
+use Rattle.std.proofs.lemmas.Bool.{cases_Bool, or_left, or_right, or_parts, false_from_ne_true}
+use Rattle.std.proofs.lemmas.List.{append-nil, drop_all, length-map, take_all}
+use Rattle.std.proofs.lemmas.List.Folds.{list_any_more}
+use Rattle.std.proofs.lemmas.List.Sums.{sum_by-cons, sum_by_more}
+use Rattle.std.proofs.lemmas.Option.{get_or_from_slice_get, slice_get-map, slice_get_within}
+use Rattle.indexmap.specs.Layout.{set_value_at}
+use Rattle.gpu_descriptor_types.specs.Ledger.{Pool, Ledger}
+use Rattle.gpu_descriptor.specs.Model.Load.{marked_load}
+use Rattle.gpu_descriptor.specs.declared.set.BucketKey.{BucketKey}
+use Rattle.gpu_descriptor.specs.declared.bucket.DescriptorPool.{DescriptorPool}
+use Rattle.gpu_descriptor.specs.declared.bucket.DescriptorBucket.{DescriptorBucket}
+use Rattle.gpu_descriptor.specs.Model.Agreement.{State, Agree}
+use Rattle.gpu_descriptor.specs.Model.Books.{Key, key_eq, Bucket, entry_at, no_pools, books_of, HasDistinctKeys}
+use Rattle.gpu_descriptor.specs.Inner.Buckets.{AreBookedIn, has_pools, front_but, trimmed_bucket, trimmed_ledger, ledger_without, pools_without}
+use Rattle.gpu_descriptor.specs.Model.Release.{more_destroyed, empty_front, in_front}
+use Rattle.gpu_descriptor.specs.Model.Cleanup.{cleaned_bucket, IsCleaned, pools_cleaned}
+use Rattle.gpu_descriptor.specs.Caller.KeyOf.{key_of}
+use Rattle.gpu_descriptor.specs.Caller.States.{named_row, state_of, keys_of}
+use Rattle.gpu_descriptor.specs.Inner.Stored.{row_of, entry_of, bucket_of, stored_keys, load_in, stored_load, stored_load_in, IsConsistent}
+use Rattle.gpu_descriptor.specs.Caller.Values.{Allocations}
+use Rattle.gpu_descriptor.proofs.lists.AtPlaces.{found_before, none_at}
+use Rattle.gpu_descriptor.proofs.cleanup.Cleaning.{cleaned_cases}
+use Rattle.gpu_descriptor.proofs.table.Exact.{key_exact}
+use Rattle.gpu_descriptor.proofs.release.Fronts.{whole_front, whole_trimmed, entry_at-from}
+use Rattle.gpu_descriptor.proofs.release.ReleaseAgrees.{front_found}
+use Rattle.gpu_descriptor.proofs.foreign.LedgerPools.{destroyed_both, destroyed_none}
+use Rattle.gpu_descriptor.proofs.sums.Loads.{marked_load-none}
+use Rattle.gpu_descriptor.proofs.table.RowAt.{keys_at}
+use Rattle.gpu_descriptor.proofs.table.TableBooks.{rows_in, rows_are, keys_are}
+use Rattle.gpu_descriptor.proofs.table.Tables.{key_eq_symm, absent}
+use Rattle.gpu_descriptor.proofs.request.StateAgrees.{booked_of}
+
+abbrev pub Rows : Type 0
+Rows = List (Key × Bucket)
+
+-- whether a pool is in the empty front
+abbrev pub front : Bucket → ℕ → Bool
+front b p = in_front (empty_front b) b p
+
+abbrev pub cleared_row : Key × Bucket → Key × Bucket
+cleared_row r = (r.0, trimmed_bucket 0 r.1)
+
+-- the first n rows are cleared
+abbrev pub cleared : ℕ → Rows → Rows
+cleared n rows = map cleared_row (take n rows) ++ drop n rows
+
+-- whether a pool goes with these rows
+abbrev pub gone : Rows → ℕ → Bool
+gone rows p = list_any (λ r. front r.1 p) rows
+
+abbrev pub pools_less : Rows → (ℕ → Option Pool) → ℕ → Option Pool
+pools_less rows pools p = if gone rows p then None else pools p
+
+-- the ledger after the empty fronts of these rows were destroyed
+abbrev pub ledger_less : Rows → Ledger → Ledger
+ledger_less rows l = record { pools = pools_less rows l.pools; counters = more_destroyed (sum_by (λ r. empty_front r.1) rows) l.counters }
+
+-- ---- one row more
+
+cleared_at : (rows : Rows) (i : ℕ) → slice_get (cleared i rows) i ≡ slice_get rows i
+cleared_at [] zero = refl
+cleared_at [] (suc i) = refl
+cleared_at (x ∷ rows) zero = refl
+cleared_at (x ∷ rows) (suc i) = cleared_at rows i
+
+cleared_set : (rows : Rows) (i : ℕ) (r : Key × Bucket) → slice_get rows i ≡ Some r → set (cleared i rows) i (cleared_row r) ≡ cleared (suc i) rows
+cleared_set [] i r at = absurd (let bad : ◌≡◌ {A = Option (Key × Bucket)} None (Some r) = at in cc)
+cleared_set (x ∷ rows) zero r at = (let same : Some x ≡ Some r = at in let eq : x ≡ r = cc in ap (λ (y : Key × Bucket). cleared_row y ∷ rows) (sym eq))
+cleared_set (x ∷ rows) (suc i) r at = ap (λ (l : Rows). cleared_row x ∷ l) (cleared_set rows i r at)
+
+-- the entry at a place, seen by its value
+pub entry_there : {P : Type 0} (es : List (BucketKey × DescriptorBucket P)) (i : ℕ) (e : BucketKey × DescriptorBucket P) (v : DescriptorBucket P) → slice_get es i ≡ Some e → slice_get (values_of es) i ≡ Some v → slice_get es i ≡ Some (e.0, v)
+entry_there {P} es i e v at found =
+    let same : Some e.1 ≡ Some v = ap (option_map (λ (x : BucketKey × DescriptorBucket P). x.1)) (sym at) ∙ sym (slice_get-map (λ (x : BucketKey × DescriptorBucket P). x.1) es i) ∙ found in
+    let eq : e.1 ≡ v = cc in
+    at ∙ ap (λ (w : DescriptorBucket P). Some (e.0, w)) eq
+
+module _ {P : Type 0} (name : P → ℕ) where
+  rows_set : (es : List (BucketKey × DescriptorBucket P)) (i : ℕ) (k : BucketKey) (v w : DescriptorBucket P) → slice_get es i ≡ Some (k, v) → rows_in name (set_value_at es i w) ≡ set (rows_in name es) i (key_of k, bucket_of name w)
+  rows_set [] i k v w at = absurd (let bad : ◌≡◌ {A = Option (BucketKey × DescriptorBucket P)} None (Some (k, v)) = at in cc)
+  rows_set (e ∷ es) zero k v w at = (let same : Some e ≡ Some (k, v) = at in let eq : e ≡ (k, v) = cc in ap (λ (x : BucketKey × DescriptorBucket P). (key_of x.0, bucket_of name w) ∷ rows_in name es) eq)
+  rows_set (e ∷ es) (suc i) k v w at = ap (λ (l : Rows). (key_of e.0, bucket_of name e.1) ∷ l) (rows_set es i k v w at)
+
+  -- the row that is next stands there as it did
+  pub next : (i : ℕ) (es : List (BucketKey × DescriptorBucket P)) (rows : Rows) (k : BucketKey) (v : DescriptorBucket P) → rows_in name es ≡ cleared i rows → slice_get es i ≡ Some (k, v) → slice_get rows i ≡ Some (key_of k, bucket_of name v)
+  next i es rows k v h at = sym (cleared_at rows i) ∙ ap (λ (l : Rows). slice_get l i) (sym h) ∙ slice_get-map (λ (e : BucketKey × DescriptorBucket P). (key_of e.0, bucket_of name e.1)) es i ∙ ap (option_map (λ (e : BucketKey × DescriptorBucket P). (key_of e.0, bucket_of name e.1))) at
+
+  pub step_rows : (i : ℕ) (es : List (BucketKey × DescriptorBucket P)) (rows : Rows) (k : BucketKey) (v w : DescriptorBucket P) → rows_in name es ≡ cleared i rows → slice_get es i ≡ Some (k, v) → bucket_of name w ≡ trimmed_bucket 0 (bucket_of name v) → rows_in name (set_value_at es i w) ≡ cleared (suc i) rows
+  step_rows i es rows k v w h at new =
+      rows_set es i k v w at ∙ ap (λ (b : Bucket). set (rows_in name es) i (key_of k, b)) new
+      ∙ ap (λ (l : Rows). set l i (cleared_row (key_of k, bucket_of name v))) h ∙ cleared_set rows i (key_of k, bucket_of name v) (next i es rows k v h at)
+
+pub step_less : (i : ℕ) (rows : Rows) (r : Key × Bucket) (l now after : Ledger) → slice_get rows i ≡ Some r → now ≡ ledger_less (take i rows) l → after ≡ trimmed_ledger 0 r.1 now → after ≡ ledger_less (take (i + 1) rows) l
+step_less i rows r l now after at was done =
+    let within = slice_get_within rows i r at in
+    let read = get_or_from_slice_get rows i r r at in
+    let front_of : Key × Bucket → ℕ = λ x. empty_front x.1 in
+    let pools : pools_without (empty_front r.1) r.1 (pools_less (take i rows) l.pools) ≡ pools_less (take (i + 1) rows) l.pools = fun_ext (λ p.
+    twice (front r.1 p) (gone (take i rows) p) (l.pools p)
+    ∙ ap (λ (g : Bool). if g then None else l.pools p) (sym (list_any_more (λ (x : Key × Bucket). front x.1 p) rows i r within ∙ ap (λ (x : Key × Bucket). gone (take i rows) p || front x.1 p) read))) in
+    let more : sum_by front_of (take i rows) + empty_front r.1 ≡ sum_by front_of (take (i + 1) rows) = sym (sum_by_more front_of rows i r within ∙ ap (λ (x : Key × Bucket). sum_by front_of (take i rows) + front_of x) read) in
+    let counters = destroyed_both (sum_by front_of (take i rows)) (empty_front r.1) l.counters ∙ ap (λ (n : ℕ). more_destroyed n l.counters) more in
+    let last : ledger_without (empty_front r.1) r.1 (ledger_less (take i rows) l) ≡ ledger_less (take (i + 1) rows) l = λ j. record { pools = pools j; counters = counters j } in
+    done ∙ ap (λ (m : Ledger). trimmed_ledger 0 r.1 m) was ∙ ap (λ (n : ℕ). ledger_without n r.1 (ledger_less (take i rows) l)) (whole_front r.1) ∙ last
+  where
+    twice : (a b : Bool) (o : Option Pool) → (if a then None else (if b then None else o)) ≡ (if b || a then None else o)
+    twice true true o = refl
+    twice true false o = refl
+    twice false true o = refl
+    twice false false o = refl
+
+pub none_less : (l : Ledger) → l ≡ ledger_less [] l
+none_less l = (let counters = sym (destroyed_none l.counters) in λ i. record { pools = l.pools; counters = counters i })
+
+-- ---- rows with distinct keys
+
+apart : (rows : Rows) (j i : ℕ) (r s : Key × Bucket) → HasDistinctKeys rows → j < i → slice_get rows j ≡ Some r → slice_get rows i ≡ Some s → r.0 ≡ s.0 → ⊥
+apart [] j i r s h lt at at' same = (let bad : ◌≡◌ {A = Option (Key × Bucket)} None (Some r) = at in cc)
+apart (x ∷ rows) j zero r s h lt at at' same = omega arith
+apart (x ∷ rows) zero (suc i) r s h lt at at' same =
+    let is : Some x ≡ Some r = at in
+    let eq : x ≡ r = cc in
+    let other = none_at (λ (o : Key × Bucket). key_eq o.0 x.0) rows i s h.0 at' in
+    let own : key_eq s.0 x.0 ≡ true = ap (λ (k : Key). key_eq k x.0) (sym same ∙ ap (λ (y : Key × Bucket). y.0) (sym eq)) ∙ key_exact.self x.0 in
+    (let bad : true ≡ false = sym own ∙ other in cc)
+apart (x ∷ rows) (suc j) (suc i) r s h lt at at' same = apart rows j i r s h.1 (omega arith) at at' same
+
+pub row_books : (rows : Rows) (i : ℕ) (r : Key × Bucket) → HasDistinctKeys rows → slice_get rows i ≡ Some r → books_of rows r.0 ≡ r.1
+row_books [] i r h at = absurd (let bad : ◌≡◌ {A = Option (Key × Bucket)} None (Some r) = at in cc)
+row_books (x ∷ rows) zero r h at = (let is : Some x ≡ Some r = at in let eq : x ≡ r = cc in subst (λ (y : Key × Bucket). books_of (x ∷ rows) y.0 ≡ y.1) eq (rw (key_exact.self x.0) refl))
+row_books (x ∷ rows) (suc i) r h at =
+    let other : key_eq x.0 r.0 ≡ false = key_eq_symm x.0 r.0 ∙ none_at (λ (o : Key × Bucket). key_eq o.0 x.0) rows i r h.0 at in
+    rw other (row_books rows i r h.1 at)
+
+-- the next row stands in the ledger still
+pub next_stored : (rows : Rows) (pools : ℕ → Option Pool) (i : ℕ) (r : Key × Bucket) → HasDistinctKeys rows → Agree (record { books = books_of rows; ledger = pools }) → slice_get rows i ≡ Some r → AreBookedIn r.0 (pools_less (take i rows) pools) r.1.pools
+next_stored rows pools i r distinct agree at =
+    let s : State = record { books = books_of rows; ledger = pools } in
+    let own : books_of rows r.0 ≡ r.1 = row_books rows i r distinct at in
+    let was : AreBookedIn r.0 pools r.1.pools = subst (λ (b : Bucket). AreBookedIn r.0 pools b.pools) own (booked_of s r.0 agree) in
+    record {
+      distinct = was.distinct;
+      each = λ j e here.
+          let booked = was.each j e here in
+          let stays : gone (take i rows) e.pool ≡ false = false_from_ne_true (gone (take i rows) e.pool) (λ h.
+          let found = found_before (λ (x : Key × Bucket). front x.1 e.pool) rows i h in
+          let q = found.1 in
+          let other : books_of rows q.0 ≡ q.1 = row_books rows found.0 q distinct found.3 in
+          let inside = front_found q.1.pools (empty_front q.1) e.pool found.4 in
+          let a : q.1.first + inside.0 - q.1.first ≡ inside.0 = omega arith in
+          let b : r.1.first + j - r.1.first ≡ j = omega arith in
+          let there : entry_at q.1 (q.1.first + inside.0) ≡ Some inside.1 = entry_at-from q.1 (q.1.first + inside.0) inside.1 (omega arith) (rw a inside.3) in
+          let mine : entry_at r.1 (r.1.first + j) ≡ Some e = entry_at-from r.1 (r.1.first + j) e (omega arith) (rw b here) in
+          let same = (agree.distinct q.0 r.0 (q.1.first + inside.0) (r.1.first + j) inside.1 e (ap (λ (x : Bucket). entry_at x (q.1.first + inside.0)) other ∙ there) (ap (λ (x : Bucket). entry_at x (r.1.first + j)) own ∙ mine) inside.4).0 in
+          apart rows found.0 i q r distinct found.2 found.3 at same) in
+          record {
+            pool = booked.pool;
+            is_live = (let kept : pools_less (take i rows) pools e.pool ≡ pools e.pool = rw stays refl in kept ∙ booked.is_live);
+            booked = booked.booked;
+          };
+    }
+
+any_gone : (rows : Rows) (k : Key) (p : ℕ) → front (books_of rows k) p ≡ true → gone rows p ≡ true
+any_gone [] k p h = absurd (let bad : true ≡ false = sym h in cc)
+any_gone (r ∷ rows) k p h = elim (cases_Bool (key_eq r.0 k)) [
+  | inl at ↦ or_left (front r.1 p) (gone rows p) (rw at at h)
+  | inr other ↦ or_right (front r.1 p) (gone rows p) (any_gone rows k p (rw other at h))
+]
+
+-- what is left of a bucket that is cleared
+left_some : (b : Bucket) → (length (trimmed_bucket 0 b).pools == 0) ≡ false → trimmed_bucket 0 b ≡ cleaned_bucket b
+left_some b more = elim (cleaned_cases b) [
+  | inl all ↦ (
+      let front = whole_front b in
+      let long = length-drop (front_but 0 b) b.pools in
+      let whole = all.0 in
+      let none : length (trimmed_bucket 0 b).pools ≡ 0 = omega arith in
+      absurd (let bad : true ≡ false = sym (eq-eqb (length (trimmed_bucket 0 b).pools) 0 none) ∙ more in cc))
+  | inr some ↦ whole_trimmed b ∙ sym some.1
+]
+
+left_none : (b : Bucket) → (length (trimmed_bucket 0 b).pools == 0) ≡ true → cleaned_bucket b ≡ no_pools
+left_none b none = elim (cleaned_cases b) [
+  | inl all ↦ all.1
+  | inr some ↦ (
+      let front = whole_front b in
+      let long = length-drop (front_but 0 b) b.pools in
+      let more = some.0 in
+      let zero_left = eqb-true (length (trimmed_bucket 0 b).pools) 0 none in
+      absurd (omega arith))
+]
+
+-- ---- all rows
+
+-- the row has pools
+abbrev pub has_row : Key × Bucket → Bool
+has_row r = not (length r.1.pools == 0)
+
+pub all_cleared : (n : ℕ) (rows : Rows) → length rows ≤ n → cleared n rows ≡ map cleared_row rows
+all_cleared n rows le = ap (λ (l : Rows). map cleared_row (take n rows) ++ l) (drop_all n rows le) ∙ append-nil (map cleared_row (take n rows)) ∙ ap (map cleared_row) (take_all n rows le)
+
+-- the rows that are left
+left_books : (rows : Rows) (k : Key) → HasDistinctKeys rows → books_of (filter has_row (map cleared_row rows)) k ≡ cleaned_bucket (books_of rows k)
+left_books [] k d = refl
+left_books (r ∷ rows) k d = elim (cases_Bool (length (trimmed_bucket 0 r.1).pools == 0)) [
+  | inl none ↦ rw none (left_books rows k d.1 ∙ elim (cases_Bool (key_eq r.0 k)) [
+    | inl at ↦ (
+        let gone_row : books_of rows k ≡ no_pools = absent k rows (ap (λ (x : Key). list_any (λ o. key_eq o.0 x) rows) (sym (key_exact.same r.0 k at)) ∙ d.0) in
+        rw at (ap cleaned_bucket gone_row ∙ sym (left_none r.1 none)))
+    | inr other ↦ rw other refl
+  ])
+  | inr some ↦ rw some (elim (cases_Bool (key_eq r.0 k)) [
+    | inl at ↦ rw at (left_some r.1 some)
+    | inr other ↦ rw other (left_books rows k d.1)
+  ])
+]
+
+module _ {P : Type 0} (name : P → ℕ) where
+  pub rows_left : (es : List (BucketKey × DescriptorBucket P)) → rows_in name (filter (λ e. has_pools e.1) es) ≡ filter has_row (rows_in name es)
+  rows_left [] = refl
+  rows_left (e ∷ es) =
+      let long = ap (λ n. n == 0) (length-map e.1.pools.items (entry_of name)) in
+      elim (cases_Bool (length e.1.pools.items == 0)) [
+        | inl none ↦ rw (none, long ∙ none) (rows_left es)
+        | inr some ↦ rw (some, long ∙ some) (ap (λ (l : Rows). (key_of e.0, bucket_of name e.1) ∷ l) (rows_left es))
+      ]
+
+  pub is_cleaned : (es : List (BucketKey × DescriptorBucket P)) (rows : Rows) (pools : ℕ → Option Pool) → HasDistinctKeys rows → rows_in name es ≡ map cleared_row rows
+      → IsCleaned (record { books = books_of rows; ledger = pools }) (record { books = books_of (rows_in name (filter (λ e. has_pools e.1) es)); ledger = pools_less rows pools })
+  is_cleaned es rows pools d h = record {
+    books = λ k. ap (λ (l : Rows). books_of l k) (rows_left es ∙ ap (filter has_row) h) ∙ left_books rows k d;
+    gone = λ k p here. rw (any_gone rows k p here) refl;
+    kept = λ p no_key. (
+        let stays : gone rows p ≡ false = false_from_ne_true (gone rows p) (λ hit.
+        let found = found_before (λ (x : Key × Bucket). front x.1 p) rows (length rows) (ap (λ (l : Rows). gone l p) (take_all (length rows) rows (omega arith)) ∙ hit) in
+        let own = row_books rows found.0 found.1 d found.3 in
+        let bad : true ≡ false = sym (ap (λ (b : Bucket). front b p) own ∙ found.4) ∙ no_key found.1.0 in cc) in
+        rw stays refl);
+  }
+
+-- ---- how many pools go
+
+-- a row that comes before is of another key
+skip_row : (r : Key × Bucket) (rows qs : Rows) → list_any (λ other. key_eq other.0 r.0) qs ≡ false → sum_by (λ k. empty_front (books_of (r ∷ rows) k)) (map (λ q. q.0) qs) ≡ sum_by (λ k. empty_front (books_of rows k)) (map (λ q. q.0) qs)
+skip_row r rows [] none = refl
+skip_row r rows (q ∷ qs) none =
+    let both = or_parts (key_eq q.0 r.0) (list_any (λ other. key_eq other.0 r.0) qs) none in
+    let other : key_eq r.0 q.0 ≡ false = key_eq_symm r.0 q.0 ∙ both.0 in
+    let here : empty_front (books_of (r ∷ rows) q.0) ≡ empty_front (books_of rows q.0) = rw other refl in
+    let rest = skip_row r rows qs both.1 in
+    let a = sum_by-cons (λ k. empty_front (books_of (r ∷ rows) k)) q.0 (map (λ (x : Key × Bucket). x.0) qs) in
+    let b = sum_by-cons (λ k. empty_front (books_of rows k)) q.0 (map (λ (x : Key × Bucket). x.0) qs) in
+    omega arith
+
+by_keys : (rows : Rows) → HasDistinctKeys rows → sum_by (λ k. empty_front (books_of rows k)) (map (λ r. r.0) rows) ≡ sum_by (λ r. empty_front r.1) rows
+by_keys [] d = refl
+by_keys (r ∷ rows) d =
+    let own : empty_front (books_of (r ∷ rows) r.0) ≡ empty_front r.1 = rw (key_exact.self r.0) refl in
+    let skip = skip_row r rows rows d.0 in
+    let rest = by_keys rows d.1 in
+    let a = sum_by-cons (λ k. empty_front (books_of (r ∷ rows) k)) r.0 (map (λ (x : Key × Bucket). x.0) rows) in
+    let b = sum_by-cons (λ (x : Key × Bucket). empty_front x.1) r rows in
+    omega arith
+
+module _ {P : Type 0} (name : P → ℕ) where
+  state_is : (a : Allocations P) (l : Ledger) (es : List (BucketKey × DescriptorBucket P)) → a.table ≡ map row_of es → state_of name a l ≡ record { books = books_of (rows_in name es); ledger = l.pools }
+  state_is a l es is = (let rows = ap (map (named_row name)) is ∙ rows_are name es in λ i. record { books = books_of (rows i); ledger = l.pools })
+
+  pub agree_is : (a : Allocations P) (l : Ledger) (es : List (BucketKey × DescriptorBucket P)) → a.table ≡ map row_of es → Agree (state_of name a l) → Agree (record { books = books_of (rows_in name es); ledger = l.pools })
+  agree_is a l es is agree = subst Agree (state_is a l es is) agree
+
+  pub whole_clean : (a : Allocations P) (l k : Ledger) (es now fs : List (BucketKey × DescriptorBucket P)) (limit : ℕ) → a.table ≡ map row_of es → HasDistinctKeys (rows_in name es) → rows_in name now ≡ map cleared_row (rows_in name es) → k ≡ ledger_less (rows_in name es) l → fs ≡ filter (λ e. has_pools e.1) now
+      → IsCleaned (state_of name a l) (state_of name (record { limit = limit; table = map row_of fs; looks = 0; comparisons = 0 }) k)
+  whole_clean a l k es now fs limit is distinct rows pools kept =
+      let new : Allocations P = record { limit = limit; table = map row_of fs; looks = 0; comparisons = 0 } in
+      let new_is : state_of name new k ≡ record { books = books_of (rows_in name (filter (λ e. has_pools e.1) now)); ledger = pools_less (rows_in name es) l.pools } =
+      state_is new k fs refl ∙ (λ i. record { books = books_of (rows_in name (kept i)); ledger = (pools i).pools }) in
+      subst (λ t. IsCleaned (state_of name a l) t) (sym new_is) (subst (λ s. IsCleaned s (record { books = books_of (rows_in name (filter (λ e. has_pools e.1) now)); ledger = pools_less (rows_in name es) l.pools })) (sym (state_is a l es is)) (is_cleaned name now (rows_in name es) l.pools distinct rows))
+
+  pub first_keys : (es : List (BucketKey × DescriptorBucket P)) → map (λ (r : Key × Bucket). r.0) (rows_in name es) ≡ map (λ e. key_of e.0) es
+  first_keys [] = refl
+  first_keys (e ∷ es) = ap (λ (l : List Key). key_of e.0 ∷ l) (first_keys es)
+
+  pub whole_count : (a : Allocations P) (l k : Ledger) (es : List (BucketKey × DescriptorBucket P)) → a.table ≡ map row_of es → HasDistinctKeys (rows_in name es) → k ≡ ledger_less (rows_in name es) l
+      → k.counters ≡ more_destroyed (pools_cleaned (keys_of a) (state_of name a l)) l.counters
+  whole_count a l k es is distinct all =
+      let keys : keys_of a ≡ map (λ (r : Key × Bucket). r.0) (rows_in name es) = keys_are a es is ∙ sym (first_keys es) in
+      let sum = (λ i. pools_cleaned (keys i) (state_is a l es is i)) ∙ by_keys (rows_in name es) distinct in
+      ap (λ (m : Ledger). m.counters) all ∙ ap (λ (m : ℕ). more_destroyed m l.counters) (sym sum)
+
+-- ---- the running totals stay
+
+-- a sum over all rows, once the value at a place is another
+pub sum_put : {A B : Type 0} (f : A × B → ℕ) (es : List (A × B)) (i : ℕ) (k : A) (v w : B) → slice_get es i ≡ Some (k, v) → (f (k, v) ≤ sum_by f es) × (sum_by f (set_value_at es i w) + f (k, v) ≡ sum_by f es + f (k, w))
+sum_put {A} {B} f [] i k v w at = absurd (let bad : ◌≡◌ {A = Option (A × B)} None (Some (k, v)) = at in cc)
+sum_put {A} {B} f (e ∷ es) zero k v w at =
+    let same : Some e ≡ Some (k, v) = at in
+    let eq : e ≡ (k, v) = cc in
+    let old = sum_by-cons f e es ∙ ap (λ x. f x + sum_by f es) eq in
+    let new = sum_by-cons f (e.0, w) es ∙ ap (λ (x : A × B). f (x.0, w) + sum_by f es) eq in
+    (omega arith, omega arith)
+sum_put {A} {B} f (e ∷ es) (suc i) k v w at =
+    let rest = sum_put f es i k v w at in
+    let less = rest.0 in
+    let more = rest.1 in
+    let old = sum_by-cons f e es in
+    let new = sum_by-cons f e (set_value_at es i w) in
+    (omega arith, omega arith)
+
+-- a sum over those that count
+sum_filter : {A : Type 0} (f : A → ℕ) (p : A → Bool) → ((x : A) → p x ≡ false → f x ≡ 0) → (xs : List A) → sum_by f (filter p xs) ≡ sum_by f xs
+sum_filter f p nothing [] = refl
+sum_filter f p nothing (x ∷ xs) =
+    let rest = sum_filter f p nothing xs in
+    let all = sum_by-cons f x xs in
+    elim (cases_Bool (p x)) [
+      | inl on ↦ rw on (let more = sum_by-cons f x (filter p xs) in omega arith)
+      | inr off ↦ rw off (let none = nothing x off in omega arith)
+    ]
+
+module _ {P : Type 0} where
+  -- a key without pools has no sets out, and takes no room
+  empty_bucket : (b : DescriptorBucket P) → has_pools b ≡ false → b.pools.items ≡ []
+  empty_bucket b h = go b.pools.items h
+    where
+      go : (ps : List (DescriptorPool P)) → not (length ps == 0) ≡ false → ps ≡ []
+      go [] h = refl
+      go (p ∷ ps) h = elim (cases_Bool (length (p ∷ ps) == 0)) [
+        | inl none ↦ absurd (let bad : length (p ∷ ps) ≡ 0 = eqb-true (length (p ∷ ps)) 0 none in omega arith)
+        | inr some ↦ absurd (let bad : true ≡ false = sym (ap not some) ∙ h in cc)
+      ]
+
+  none_out : (b : DescriptorBucket P) → has_pools b ≡ false → b.total ≡ 0
+  none_out b h = b.counted ∙ ap (sum_by (λ (p : DescriptorPool P). p.allocated)) (empty_bucket b h)
+
+  pub counted_put : (limit marked room left out : ℕ) (es : List (BucketKey × DescriptorBucket P)) (i : ℕ) (k : BucketKey) (v w : DescriptorBucket P) → slice_get es i ≡ Some (k, v) → w.total ≡ v.total → left + stored_load_in (k, w) ≡ room + stored_load_in (k, v) → IsConsistent limit marked room out es → IsConsistent limit marked left out (set_value_at es i w)
+  counted_put limit marked room left out es i k v w at same moved counted = record {
+    distinct = subst (IsDistinct key_eq) (sym (keys_at es i w)) counted.distinct;
+    is_room = (let put = (sum_put (stored_load_in {P = P}) es i k v w at).1 in let was = counted.is_room in omega arith);
+    is_load = (let put = (sum_put (load_in {P = P}) es i k v w at).1 in let alike = ap (marked_load (key_of k)) same in let was = counted.is_load in omega arith);
+    within = counted.within;
+    is_out = (let put = (sum_put (λ (r : BucketKey × DescriptorBucket P). r.1.total) es i k v w at).1 in let was = counted.is_out in omega arith);
+  }
+
+  pub counted_filter : (limit marked room out : ℕ) (es fs : List (BucketKey × DescriptorBucket P)) → fs ≡ filter (λ e. has_pools e.1) es → IsDistinct key_eq (stored_keys fs) → IsConsistent limit marked room out es → IsConsistent limit marked room out fs
+  counted_filter limit marked room out es fs kept distinct counted = rw kept (record {
+    distinct = subst (λ (l : List (BucketKey × DescriptorBucket P)). IsDistinct key_eq (stored_keys l)) kept distinct;
+    is_room = ap (λ n. room + n) (sum_filter stored_load_in (λ e. has_pools e.1) (λ e none. ap (λ ps. stored_load (key_of e.0) ps) (empty_bucket e.1 none)) es) ∙ counted.is_room;
+    is_load = counted.is_load ∙ sym (sum_filter load_in (λ e. has_pools e.1) (λ e none. ap (marked_load (key_of e.0)) (none_out e.1 none) ∙ marked_load-none (key_of e.0)) es);
+    within = counted.within;
+    is_out = counted.is_out ∙ sym (sum_filter (λ (r : BucketKey × DescriptorBucket P). r.1.total) (λ e. has_pools e.1) (λ e none. none_out e.1 none) es);
+  })

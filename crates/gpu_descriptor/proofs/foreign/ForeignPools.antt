@@ -1,0 +1,241 @@
+-- What requests, frees and cleaning up leave of pools that aren't the allocator's.
+use Rattle.std.proofs.Common.{◌≡◌, ◌≢◌, ℕ, zero, suc, ◌+◌, ◌-◌, ◌<◌, ◌==◌, ◌&&◌, Bool, true, false, List, [], ◌∷◌, ◌++◌, take, drop, count_by, Option, Some, None, option_map, slice_get, inl, inr, refl, sym, ap, ◌∙◌, subst, arith, eq-eqb, ne_eqb}
+use Rattle.std.proofs.Math.Path.{fun_ext}
+use Rattle.std.proofs.lemmas.Bool.{cases_Bool, cases_lt, or_from, or_left, or_right, false_from_ne_true}
+use Rattle.std.proofs.lemmas.Option.{slice_get_within}
+use Rattle.std.specs.List.{list_any}
+use Rattle.std.specs.Prelude.{if◌then◌else◌}
+use Rattle.gpu_descriptor_types.specs.Ledger.{Pool, Ledger}
+use Rattle.gpu_descriptor_types.specs.Multiset.{LiveSet, set_eq}
+use Rattle.gpu_descriptor.specs.Model.Agreement.{State, Item, set_of, with_bucket}
+use Rattle.gpu_descriptor.specs.Model.Books.{Key, key_eq, Entry, Bucket, entry_at}
+use Rattle.gpu_descriptor.specs.Model.Foreign.{IsForeign, KeepsForeign, LosesNone}
+use Rattle.gpu_descriptor.specs.Model.Cleanup.{IsCleaned}
+use Rattle.gpu_descriptor.specs.Model.Release.{given_back, released, bucket_less, entry_less, empty_front, spent_front, in_front, without_front, lies_in, pool_less}
+use Rattle.gpu_descriptor.specs.declared.set.DescriptorSet.{DescriptorSet}
+use Rattle.gpu_descriptor.specs.Caller.Frees.{GivesBack}
+use Rattle.gpu_descriptor.specs.Model.Shares.{all_shared, shared}
+use Rattle.gpu_descriptor.specs.Caller.Sets.{items_of}
+use Rattle.gpu_descriptor.specs.Caller.States.{state_of}
+use Rattle.gpu_descriptor.specs.Caller.Values.{Allocations}
+use Rattle.gpu_descriptor.specs.Inner.Walk.{KeepsKey}
+use Rattle.gpu_descriptor.proofs.table.Exact.{key_exact}
+use Rattle.gpu_descriptor.proofs.release.Fronts.{entry_at-found, entry_at-from}
+use Rattle.gpu_descriptor.proofs.release.ReleaseAgrees.{front_found, none_back}
+use Rattle.gpu_descriptor.proofs.request.StateAgrees.{pool_found}
+use Rattle.gpu_descriptor.proofs.cleanup.Cleaning.{cleaned_cases, was_kept}
+use Rattle.gpu_descriptor.proofs.release.Parts.{names_key, key_any}
+use Rattle.gpu_descriptor.proofs.release.Places.{back, front_of, lies_in-found, entry_at-less, released_books, some_before, was_there}
+use Rattle.gpu_descriptor.proofs.lists.AtPlaces.{get_drop}
+
+none_of : {A : Type 0} (m : List A) → count_by (λ t. false) m ≡ 0
+none_of [] = refl
+none_of (t ∷ m) = none_of m
+
+any_none : {A : Type 0} (f : A → Bool) → ((t : A) → f t ≡ false) → (m : List A) → list_any f m ≡ false
+any_none f none [] = refl
+any_none f none (t ∷ m) = or_from (f t) (list_any f m) (none t) (any_none f none m)
+
+among_front : (es : List Entry) (f i : ℕ) (e : Entry) → slice_get es i ≡ Some e → i < f → list_any (λ d. d.pool == e.pool) (take f es) ≡ true
+among_front es zero i e at lt = absurd (omega arith)
+among_front [] (suc f) i e at lt = absurd (let bad : ◌≡◌ {A = Option Entry} None (Some e) = at in cc)
+among_front (x ∷ es) (suc f) zero e at lt =
+    let is : x ≡ e = cc in
+    or_left (x.pool == e.pool) (list_any (λ d. d.pool == e.pool) (take f es)) (eq-eqb x.pool e.pool (ap (λ (d : Entry). d.pool) is))
+among_front (x ∷ es) (suc f) (suc i) e at lt = or_right (x.pool == e.pool) (list_any (λ d. d.pool == e.pool) (take f es)) (among_front es f i e at (omega arith))
+
+-- giving sets back leaves them as they are
+released_same : (m : List Item) (s : State) (name : ℕ) → IsForeign s name → (released m s).ledger name ≡ s.ledger name
+released_same m s name foreign =
+    let elsewhere : (t : Item) → lies_in s.books name t ≡ false = λ t. false_from_ne_true (lies_in s.books name t) (λ lies. (let f = lies_in-found s.books name t lies in foreign t.key t.number f.0 f.1 f.2)) in
+    let kept : (λ (x : LiveSet). count_by (λ t. lies_in s.books name t && set_eq (set_of t) x) m) ≡ (λ x. 0) = fun_ext (λ x.
+    ap (λ (f : Item → Bool). count_by f m) (fun_ext (λ t. ap (λ (b : Bool). b && set_eq (set_of t) x) (elsewhere t))) ∙ none_of m) in
+    let behind : (t : Item) → (let b = (given_back m s).books t.key in in_front (spent_front b) b name) ≡ false = λ t. false_from_ne_true _ (λ front.
+    let b = (given_back m s).books t.key in
+    let f = front_found b.pools (spent_front b) name front in
+    let at : entry_at b (b.first + f.0) ≡ Some f.1 = entry_at-from b (b.first + f.0) f.1 (omega arith) (ap (slice_get b.pools) (let n : b.first + f.0 - b.first ≡ f.0 = omega arith in n) ∙ f.3) in
+    let d = some_before _ (entry_at (s.books t.key) (b.first + f.0)) f.1 (sym (entry_at-less (back m s) (s.books t.key) (b.first + f.0)) ∙ at) in
+    foreign t.key (b.first + f.0) d.0 d.1 (ap (λ (e : Entry). e.pool) d.2 ∙ f.4)) in
+    ap (λ (b : Bool). if b then None else (given_back m s).ledger name) (any_none _ behind m)
+    ∙ ap (λ (f : LiveSet → ℕ). option_map (pool_less f) (s.ledger name)) kept
+    ∙ ap (λ (w : State). w.ledger name) (none_back s)
+
+-- and out of the books
+pub released_foreign : (m : List Item) (s : State) → KeepsForeign s (released m s)
+released_foreign m s name pool foreign live = (
+  released_same m s name foreign ∙ live,
+  (λ k n e at same. (let was = was_there m s k n e at in foreign k n was.0 was.1 (ap (λ (x : Entry). x.pool) was.2 ∙ same))),
+)
+
+-- a pool that the books name is named still, or has gone
+released_named : (m : List Item) (s : State) (name : ℕ) (pool : Pool) → IsForeign (released m s) name → (released m s).ledger name ≡ Some pool → IsForeign s name
+released_named m s name pool foreign live k n e at same =
+    let c = bucket_less (back m s) (s.books k) in
+    let less : Entry = entry_less (back m s e.pool) e in
+    let there : entry_at c n ≡ Some less = entry_at-less (back m s) (s.books k) n ∙ ap (option_map (λ (d : Entry). entry_less (back m s d.pool) d)) at in
+    let found = entry_at-found c n less there in
+    elim (cases_lt (n - c.first) (front_of m s k)) [
+      | inl lt ↦ (
+          let f = front_named m s k (n - c.first) lt in
+          let front : in_front (spent_front c) c less.pool ≡ true = among_front c.pools (spent_front c) (n - c.first) less found.1 f.1 in
+          let named : in_front (spent_front c) c name ≡ true = ap (in_front (spent_front c) c) (sym same) ∙ front in
+          let any : list_any (λ t. let b = (given_back m s).books t.key in in_front (spent_front b) b name) m ≡ true =
+          key_any (λ l. let b = (given_back m s).books l in in_front (spent_front b) b name) m k (rw (f.0, named) refl) in
+          let gone : (released m s).ledger name ≡ None = rw any refl in
+          let bad : ◌≡◌ {A = Option Pool} None (Some pool) = sym gone ∙ live in cc)
+      | inr ge ↦ (
+          let f = front_of m s k in
+          let place : f + (n - (c.first + f)) ≡ n - c.first = omega (arith, found.0, ge) in
+          let kept : entry_at (without_front f c) n ≡ Some less = entry_at-from (without_front f c) n less (omega (arith, found.0, ge)) (get_drop c.pools f (n - (c.first + f)) ∙ rw place found.1) in
+          foreign k n less (ap (λ (b : Bucket). entry_at b n) (released_books m s k) ∙ kept) same)
+    ]
+  where
+    -- the front of an unnamed key stays
+    front_named : (m : List Item) (s : State) (k : Key) (i : ℕ) → i < front_of m s k → (names_key m k ≡ true) × (i < spent_front (bucket_less (back m s) (s.books k)))
+    front_named m s k i lt = elim (cases_Bool (names_key m k)) [
+      | inl h ↦ (h, (let is : front_of m s k ≡ spent_front (bucket_less (back m s) (s.books k)) = rw h refl in omega arith))
+      | inr h ↦ (let is : front_of m s k ≡ 0 = rw h refl in absurd (omega arith))
+    ]
+
+pub released_loses : (m : List Item) (s : State) → LosesNone s (released m s)
+released_loses m s name pool foreign live = (let was = released_named m s name pool foreign live in (sym (released_same m s name was) ∙ live, was))
+
+-- no front has a foreign pool
+outside_front : (s : State) (name : ℕ) → IsForeign s name → (k : Key) → in_front (empty_front (s.books k)) (s.books k) name ≡ false
+outside_front s name foreign k = false_from_ne_true _ (λ front.
+    let b = s.books k in
+    let f = front_found b.pools (empty_front b) name front in
+    foreign k (b.first + f.0) f.1 (entry_at-from b (b.first + f.0) f.1 (omega arith) (ap (slice_get b.pools) (let n : b.first + f.0 - b.first ≡ f.0 = omega arith in n) ∙ f.3)) f.4)
+
+-- cleaning up leaves them
+pub cleaned_foreign : (s t : State) → IsCleaned s t → KeepsForeign s t
+cleaned_foreign s t clean name pool foreign live = (
+  clean.kept name (outside_front s name foreign) ∙ live,
+  (λ k n e at. foreign k n e (was_kept (s.books k) n e (ap (λ (b : Bucket). entry_at b n) (sym (clean.books k)) ∙ at)).1),
+)
+
+cleaned_named : (s t : State) → IsCleaned s t → (name : ℕ) (pool : Pool) → IsForeign t name → t.ledger name ≡ Some pool → IsForeign s name
+cleaned_named s t clean name pool foreign live k n e at same =
+    let b = s.books k in
+    let f = empty_front b in
+    let found = entry_at-found b n e at in
+    let is_gone : n - b.first < f → ⊥ = λ lt.
+    let gone = clean.gone k name (ap (in_front f b) (sym same) ∙ among_front b.pools f (n - b.first) e found.1 lt) in
+    let bad : ◌≡◌ {A = Option Pool} None (Some pool) = sym gone ∙ live in cc in
+    elim (cases_lt (n - b.first) f) [
+      | inl lt ↦ is_gone lt
+      | inr ge ↦ elim (cleaned_cases b) [
+        | inl all ↦ (let within = slice_get_within b.pools (n - b.first) e found.1 in let whole = all.0 in is_gone (omega arith))
+        | inr some ↦ (
+            let place : f + (n - (b.first + f)) ≡ n - b.first = omega (arith, found.0, ge) in
+            let kept : entry_at (without_front f b) n ≡ Some e = entry_at-from (without_front f b) n e (omega (arith, found.0, ge)) (get_drop b.pools f (n - (b.first + f)) ∙ rw place found.1) in
+            foreign k n e (ap (λ (x : Bucket). entry_at x n) (clean.books k ∙ some.1) ∙ kept) same)
+      ]
+    ]
+
+pub cleaned_loses : (s t : State) → IsCleaned s t → LosesNone s t
+cleaned_loses s t clean name pool foreign live = (let was = cleaned_named s t clean name pool foreign live in (sym (clean.kept name (outside_front s name was)) ∙ live, was))
+
+-- and so does what changes nothing
+pub foreign_same : (s t : State) → t ≡ s → KeepsForeign s t
+foreign_same s t same = subst (KeepsForeign s) (sym same) (λ name pool foreign live. (live, foreign))
+
+pub loses_same : (s t : State) → t ≡ s → LosesNone s t
+loses_same s t same = foreign_same t s (sym same)
+
+-- one change after another
+pub foreign_through : (s t u : State) → KeepsForeign s t → KeepsForeign t u → KeepsForeign s u
+foreign_through s t u first second name pool foreign live = (let kept = first name pool foreign live in second name pool kept.1 kept.0)
+
+pub loses_through : (s t u : State) → LosesNone s t → LosesNone t u → LosesNone s u
+loses_through s t u first second = foreign_through u t s second first
+
+-- ---- what a request takes
+
+none_named : {name : ℕ} (es : List Entry) → ((i : ℕ) (e : Entry) → slice_get es i ≡ Some e → e.pool ≢ name) → list_any (λ e. e.pool == name) es ≡ false
+none_named [] apart = refl
+none_named {name} (e ∷ es) apart = or_from (e.pool == name) (list_any (λ e. e.pool == name) es) (ne_eqb e.pool name (apart 0 e refl)) (none_named es (λ i c there. apart (suc i) c there))
+
+module _ (k : Key) (items : List Item) (new : Bucket) (s : State) (after : ℕ → Option Pool) (same_first : new.first ≡ (s.books k).first) (h : KeepsKey k items (s.books k) new s.ledger after) where
+  abbrev t : State
+  t = with_bucket k new after s
+
+  -- the key's own pools don't have the name
+  abbrev IsApart : ℕ → Type 0
+  IsApart name = (n : ℕ) (e : Entry) → entry_at (s.books k) n ≡ Some e → e.pool ≢ name
+
+  own_apart : (name : ℕ) (pool : Pool) → IsApart name → s.ledger name ≡ Some pool → (i : ℕ) (e : Entry) → slice_get new.pools i ≡ Some e → e.pool ≢ name
+  own_apart name pool apart live i e at same = elim (h.named i e at) [
+    | inl old ↦ (
+        let found = pool_found e.pool (s.books k).pools old in
+        let b = s.books k in
+        apart (b.first + found.0) found.1 (entry_at-from b (b.first + found.0) found.1 (omega arith) (ap (slice_get b.pools) (let n : b.first + found.0 - b.first ≡ found.0 = omega arith in n) ∙ found.2)) (found.3 ∙ same))
+    | inr none ↦ (let bad : ◌≡◌ {A = Option Pool} None (Some pool) = sym none ∙ ap s.ledger same ∙ live in absurd (cc))
+  ]
+
+  -- a live pool that is none of the key's stays
+  pub taken_apart : (name : ℕ) (pool : Pool) → IsApart name → s.ledger name ≡ Some pool → after name ≡ s.ledger name
+  taken_apart name pool apart live = h.others name (none_named new.pools (own_apart name pool apart live))
+
+  still_foreign : (name : ℕ) (pool : Pool) → IsForeign s name → s.ledger name ≡ Some pool → IsForeign t name
+  still_foreign name pool foreign live l n e at same = elim (cases_Bool (key_eq k l)) [
+    | inl own ↦ (
+        let here : t.books l ≡ new = rw own refl in
+        let f = entry_at-found new n e (ap (λ (x : Bucket). entry_at x n) (sym here) ∙ at) in
+        own_apart name pool (foreign k) live (n - new.first) e f.1 same)
+    | inr other ↦ (
+        let here : t.books l ≡ s.books l = rw other refl in
+        foreign l n e (ap (λ (x : Bucket). entry_at x n) (sym here) ∙ at) same)
+  ]
+
+  pub taken_foreign : KeepsForeign s t
+  taken_foreign name pool foreign live = (taken_apart name pool (foreign k) live ∙ live, still_foreign name pool foreign live)
+
+  -- a pool of the key keeps its name
+  abbrev pub KeepsNames : Type 0
+  KeepsNames = (i : ℕ) (e : Entry) → slice_get (s.books k).pools i ≡ Some e → (d : Entry) × (slice_get new.pools i ≡ Some d) × (d.pool ≡ e.pool)
+
+  -- the key's books
+  own_books : (l : Key) → key_eq k l ≡ true → t.books l ≡ new
+  own_books l own = rw own refl
+
+  pub taken_loses : KeepsNames → LosesNone s t
+  taken_loses names name pool foreign live = (
+    sym (h.others name (none_named new.pools (λ i e at same. foreign k (new.first + i) e (ap (λ (b : Bucket). entry_at b (new.first + i)) (own_books k (key_exact.self k)) ∙ place i e at) same))) ∙ live,
+    (λ l n e at same. elim (cases_Bool (key_eq k l)) [
+      | inl own ↦ (
+          let b : Bucket = s.books l in
+          let is : k ≡ l = key_exact.same k l own in
+          let found = entry_at-found b n e at in
+          let kept = names (n - b.first) e (ap (λ (x : Key). slice_get (s.books x).pools (n - b.first)) is ∙ found.1) in
+          let first : new.first ≡ b.first = same_first ∙ ap (λ (x : Key). (s.books x).first) is in
+          let above = found.0 in
+          foreign l n kept.0 (ap (λ (x : Bucket). entry_at x n) (own_books l own) ∙ entry_at-from new n kept.0 (omega arith) (ap (λ f. slice_get new.pools (n - f)) first ∙ kept.1)) (kept.2 ∙ same))
+      | inr other ↦ (
+          let here : t.books l ≡ s.books l = rw other refl in
+          foreign l n e (ap (λ (x : Bucket). entry_at x n) here ∙ at) same)
+    ]),
+  )
+    where
+      place : (i : ℕ) (e : Entry) → slice_get new.pools i ≡ Some e → entry_at new (new.first + i) ≡ Some e
+      place i e at = entry_at-from new (new.first + i) e (omega arith) (ap (slice_get new.pools) (let n : new.first + i - new.first ≡ i = omega arith in n) ∙ at)
+
+-- pools that a request takes from keep their places and names
+shared_named : (refused : ℕ → Bool) (n : ℕ) (es rest : List Entry) (i : ℕ) (e : Entry) → slice_get es i ≡ Some e → (d : Entry) × (slice_get (all_shared refused n es ++ rest) i ≡ Some d) × (d.pool ≡ e.pool)
+shared_named refused n [] rest i e at = absurd (let bad : ◌≡◌ {A = Option Entry} None (Some e) = at in cc)
+shared_named refused n (x ∷ es) rest zero e at = (let is : x ≡ e = cc in (shared refused n es x, refl, ap (λ (d : Entry). d.pool) is))
+shared_named refused n (x ∷ es) rest (suc i) e at = shared_named refused n es rest i e at
+
+pub entries_named : (left n : ℕ) (refused : ℕ → Bool) (es rest : List Entry) (i : ℕ) (e : Entry) → slice_get es i ≡ Some e → (d : Entry) × (slice_get (take left es ++ all_shared refused n (drop left es) ++ rest) i ≡ Some d) × (d.pool ≡ e.pool)
+entries_named zero n refused es rest i e at = shared_named refused n es rest i e at
+entries_named (suc left) n refused [] rest i e at = absurd (let bad : ◌≡◌ {A = Option Entry} None (Some e) = at in cc)
+entries_named (suc left) n refused (x ∷ es) rest zero e at = (e, at, refl)
+entries_named (suc left) n refused (x ∷ es) rest (suc i) e at = entries_named left n refused es rest i e at
+
+-- ---- as callers see it
+
+pub freed_foreign : {P S : Type 0} (name : P → ℕ) (set_name : S → ℕ) (sets : List (DescriptorSet S)) (calls : ℕ) (old new : Allocations P) (before after : Ledger) → GivesBack name set_name sets calls old new before after → KeepsForeign (state_of name old before) (state_of name new after)
+freed_foreign name set_name sets calls old new before after back = subst (KeepsForeign (state_of name old before)) (sym back.state) (released_foreign (items_of set_name sets) (state_of name old before))
+
+pub freed_loses : {P S : Type 0} (name : P → ℕ) (set_name : S → ℕ) (sets : List (DescriptorSet S)) (calls : ℕ) (old new : Allocations P) (before after : Ledger) → GivesBack name set_name sets calls old new before after → LosesNone (state_of name old before) (state_of name new after)
+freed_loses name set_name sets calls old new before after back = subst (LosesNone (state_of name old before)) (sym back.state) (released_loses (items_of set_name sets) (state_of name old before))

@@ -1,0 +1,84 @@
+-- What an allocator leaves of the ledger when it is done: nothing of its own.
+use Rattle.std.proofs.Common.{◌≡◌, ◌≢◌, ◌⊎◌, ℕ, zero, suc, ◌+◌, ◌-◌, ◌==◌, true, false, List, [], ◌∷◌, slice_get, Option, Some, None, inl, inr, refl, sym, ap, ◌∙◌, arith, eqb-true, eq-eqb}
+use Rattle.std.proofs.Math.Path.{fun_ext}
+use Rattle.std.specs.List.{list_any}
+use Rattle.std.proofs.lemmas.Bool.{cases_Bool, or_cases, or_left, or_right}
+use Rattle.gpu_descriptor_types.specs.Ledger.{Pool}
+use Rattle.gpu_descriptor.specs.Model.Agreement.{State}
+use Rattle.gpu_descriptor.specs.Model.Books.{Key, key_eq, Entry, Bucket, HasDistinctKeys, books_of, entry_at, no_pools}
+use Rattle.gpu_descriptor.specs.Laws.Cleanup.{CleanRestores}
+use Rattle.gpu_descriptor.specs.Model.Foreign.{IsForeign, IsNamed}
+use Rattle.gpu_descriptor.specs.Laws.Foreign.{NamedOrForeign}
+use Rattle.gpu_descriptor.specs.Caller.States.{table_of}
+use Rattle.gpu_descriptor.proofs.cleanup.Cleaning.{nothing_left}
+use Rattle.gpu_descriptor.proofs.foreign.ForeignPools.{cleaned_foreign, cleaned_loses, foreign_through, loses_through}
+use Rattle.gpu_descriptor.proofs.release.Fronts.{entry_at-found, entry_at-from}
+use Rattle.gpu_descriptor.proofs.table.Tables.{first_books, none_behind}
+
+-- ---- nothing is left
+
+pub none_at : (n : ℕ) (e : Entry) → entry_at no_pools n ≡ Some e → ⊥
+none_at n e at = (let found = entry_at-found no_pools n e at in let bad : ◌≡◌ {A = Option Entry} None (Some e) = found.1 in cc)
+
+pub no_keys : (s : State) → ((k : Key) → s.books k ≡ no_pools) → (name : ℕ) → IsForeign s name
+no_keys s empty name k n e at same = none_at n e (ap (λ (b : Bucket). entry_at b n) (sym (empty k)) ∙ at)
+
+pub restores : CleanRestores
+restores s t u began keeps loses agree nothing clean =
+    let kept = foreign_through s t u keeps (cleaned_foreign t u clean) in
+    let lost_none = loses_through s t u loses (cleaned_loses t u clean) in
+    fun_ext (λ name. same name (s.ledger name) (u.ledger name) refl refl (λ pool live. (kept name pool (no_keys s began name) live).0) (λ pool live. (lost_none name pool (no_keys u (nothing_left t u agree nothing clean) name) live).0))
+  where
+    same : (name : ℕ) (before after : Option Pool) → s.ledger name ≡ before → u.ledger name ≡ after → ((pool : Pool) → s.ledger name ≡ Some pool → u.ledger name ≡ Some pool) → ((pool : Pool) → u.ledger name ≡ Some pool → s.ledger name ≡ Some pool) → u.ledger name ≡ s.ledger name
+    same name (Some pool) after was is to from = to pool was ∙ sym was
+    same name None (Some pool) was is to from = is ∙ sym (from pool is)
+    same name None None was is to from = is ∙ sym was
+
+-- ---- a pool is in the books, or not
+
+pub found_in : (es : List Entry) (name : ℕ) → list_any (λ e. e.pool == name) es ≡ true → (i : ℕ) × (e : Entry) × (slice_get es i ≡ Some e) × (e.pool ≡ name)
+found_in [] name any = absurd (let bad : true ≡ false = sym any in cc)
+found_in (x ∷ es) name any = elim (or_cases (x.pool == name) (list_any (λ e. e.pool == name) es) any) [
+  | inl here ↦ (0, x, refl, eqb-true x.pool name here)
+  | inr later ↦ (let f = found_in es name later in (suc f.0, f.1, f.2, f.3))
+]
+
+pub none_in : (es : List Entry) (name : ℕ) → list_any (λ e. e.pool == name) es ≡ false → (i : ℕ) (e : Entry) → slice_get es i ≡ Some e → e.pool ≢ name
+none_in [] name none i e at same = (let bad : ◌≡◌ {A = Option Entry} None (Some e) = at in cc)
+none_in (x ∷ es) name none zero e at same =
+    let is : x ≡ e = cc in
+    let bad : true ≡ false = sym (or_left (x.pool == name) (list_any (λ d. d.pool == name) es) (eq-eqb x.pool name (ap (λ (d : Entry). d.pool) is ∙ same))) ∙ none in
+    cc
+none_in (x ∷ es) name none (suc i) e at same = elim (cases_Bool (list_any (λ d. d.pool == name) es)) [
+  | inl some ↦ (let bad : true ≡ false = sym (or_right (x.pool == name) (list_any (λ d. d.pool == name) es) some) ∙ none in cc)
+  | inr still ↦ none_in es name still i e at same
+]
+
+in_table : (l : ℕ → Option Pool) (rows : List (Key × Bucket)) → HasDistinctKeys rows → (name : ℕ) → IsNamed (record { books = books_of rows; ledger = l }) name ⊎ IsForeign (record { books = books_of rows; ledger = l }) name
+in_table l [] distinct name = inr (λ k n e at same. none_at n e at)
+in_table l (row ∷ rows) distinct name = elim (cases_Bool (list_any (λ e. e.pool == name) row.1.pools)) [
+  | inl own ↦ (
+      let f = found_in row.1.pools name own in
+      let b = row.1 in
+      inl (row.0, b.first + f.0, f.1, ap (λ (x : Bucket). entry_at x (b.first + f.0)) (first_books row rows) ∙ entry_at-from b (b.first + f.0) f.1 (omega arith) (ap (slice_get b.pools) (let n : b.first + f.0 - b.first ≡ f.0 = omega arith in n) ∙ f.2), f.3))
+  | inr none ↦ elim (in_table l rows distinct.1 name) [
+    | inl later ↦ elim (cases_Bool (key_eq row.0 later.0)) [
+      | inl at ↦ absurd (none_at later.1 later.2 (ap (λ (x : Bucket). entry_at x later.1) (sym (none_behind row rows distinct later.0 at)) ∙ later.3))
+      | inr other ↦ (
+          let is : books_of (row ∷ rows) later.0 ≡ books_of rows later.0 = rw other refl in
+          inl (later.0, later.1, later.2, ap (λ (x : Bucket). entry_at x later.1) is ∙ later.3, later.4))
+    ]
+    | inr foreign ↦ inr (λ k n e at. elim (cases_Bool (key_eq row.0 k)) [
+      | inl own ↦ (
+          let is : books_of (row ∷ rows) k ≡ row.1 = rw own refl in
+          let found = entry_at-found row.1 n e (ap (λ (x : Bucket). entry_at x n) (sym is) ∙ at) in
+          none_in row.1.pools name none (n - row.1.first) e found.1)
+      | inr other ↦ (
+          let is : books_of (row ∷ rows) k ≡ books_of rows k = rw other refl in
+          foreign k n e (ap (λ (x : Bucket). entry_at x n) (sym is) ∙ at))
+    ])
+  ]
+]
+
+pub named_or_foreign : (P : Type 0) → NamedOrForeign P
+named_or_foreign P name a l distinct pool = in_table l.pools (table_of name a) distinct pool

@@ -1,0 +1,103 @@
+-- The pools that are none of the allocator's are a function of books and ledger, and each call leaves it.
+use Rattle.std.proofs.Common.{◌≡◌, ℕ, ◌+◌, ◌-◌, ◌==◌, Bool, true, false, List, [], ◌∷◌, slice_get, Option, Some, None, inl, inr, refl, sym, ap, ◌∙◌, arith}
+use Rattle.std.proofs.Math.Path.{fun_ext}
+use Rattle.std.specs.List.{list_any}
+use Rattle.std.proofs.lemmas.Bool.{cases_Bool, or_cases, or_left, or_right}
+use Rattle.std.proofs.lemmas.List.{nil_from_length}
+use Rattle.std.proofs.Math.Logic.{∥∥₁_elim}
+use Rattle.std.proofs.Props.{props}
+use Rattle.gpu_descriptor_types.specs.Ledger.{Pool, Ledger}
+use Rattle.gpu_descriptor.specs.Model.Agreement.{State, Item, Agree, count_of, outstanding}
+use Rattle.gpu_descriptor.specs.Model.Books.{Key, key_eq, Bucket, HasDistinctKeys, books_of, entry_at, no_pools}
+use Rattle.gpu_descriptor.specs.Model.Cleanup.{IsCleaned}
+use Rattle.gpu_descriptor.specs.Model.Foreign.{IsForeign, IsNamed, KeepsForeign, LosesNone}
+use Rattle.gpu_descriptor.specs.Caller.Others.{is_named, others_of}
+use Rattle.gpu_descriptor.specs.Caller.States.{outstanding_of, state_of, table_of}
+use Rattle.gpu_descriptor.specs.Caller.Values.{Allocations}
+use Rattle.gpu_descriptor.proofs.cleanup.Cleaning.{nothing_left}
+use Rattle.gpu_descriptor.proofs.table.Exact.{key_exact}
+use Rattle.gpu_descriptor.proofs.foreign.ForeignPools.{cleaned_foreign, cleaned_loses}
+use Rattle.gpu_descriptor.proofs.release.Fronts.{entry_at-found, entry_at-from}
+use Rattle.gpu_descriptor.proofs.foreign.NoneLost.{found_in, no_keys, none_at, none_in}
+use Rattle.gpu_descriptor.proofs.sums.OutSets.{out_is_size}
+use Rattle.gpu_descriptor.proofs.table.Tables.{absent}
+use Rattle.gpu_descriptor.proofs.sums.TableSums.{outstanding_of-table}
+
+found_row : {R : Type 0} (g : R → Bool) (rows : List R) → list_any g rows ≡ true → (row : R) × (g row ≡ true) × ((f : R → Bool) → f row ≡ true → list_any f rows ≡ true)
+found_row g [] any = absurd (let bad : true ≡ false = sym any in cc)
+found_row g (x ∷ rows) any = elim (or_cases (g x) (list_any g rows) any) [
+  | inl here ↦ (x, here, λ f is. or_left (f x) (list_any f rows) is)
+  | inr later ↦ (let r = found_row g rows later in (r.0, r.1, λ f is. or_right (f x) (list_any f rows) (r.2 f is)))
+]
+
+module _ (table : List (Key × Bucket)) (l : ℕ → Option Pool) (pool : ℕ) where
+  in_row : Key × Bucket → Bool
+  in_row row = list_any (λ e. e.pool == pool) (books_of table row.0).pools
+
+  pub named : is_named table pool ≡ true → IsNamed (record { books = books_of table; ledger = l }) pool
+  named any =
+      let row = found_row (λ row. list_any (λ e. e.pool == pool) (books_of table row.0).pools) table any in
+      let b : Bucket = books_of table row.0.0 in
+      let f = found_in b.pools pool row.1 in
+      let at : slice_get b.pools (b.first + f.0 - b.first) ≡ Some f.1 = ap (slice_get b.pools) (let n : b.first + f.0 - b.first ≡ f.0 = omega arith in n) ∙ f.2 in
+      (row.0.0, b.first + f.0, f.1, entry_at-from b (b.first + f.0) f.1 (omega arith) at, f.3)
+
+  pub unnamed : is_named table pool ≡ false → IsForeign (record { books = books_of table; ledger = l }) pool
+  unnamed none k n e at same = elim (cases_Bool (list_any (λ row. key_eq row.0 k) table)) [
+    | inr out ↦ none_at n e (ap (λ (b : Bucket). entry_at b n) (sym (absent k table out)) ∙ at)
+    | inl there ↦ (
+        let row = found_row (λ row. key_eq row.0 k) table there in
+        let is : row.0.0 ≡ k = key_exact.same row.0.0 k row.1 in
+        let found = entry_at-found (books_of table k) n e at in
+        elim (cases_Bool (list_any (λ d. d.pool == pool) (books_of table k).pools)) [
+          | inl own ↦ (
+              let here : list_any (λ d. d.pool == pool) (books_of table row.0.0).pools ≡ true = ap (λ key. list_any (λ d. d.pool == pool) (books_of table key).pools) is ∙ own in
+              let bad : true ≡ false = sym (row.2 (λ r. list_any (λ d. d.pool == pool) (books_of table r.0).pools) here) ∙ none in
+              cc)
+          | inr not ↦ none_in (books_of table k).pools pool not (n - (books_of table k).first) e found.1 same
+        ])
+  ]
+
+-- two that each say what the other has are one
+one : (was is : Option Pool) → ((p : Pool) → was ≡ Some p → is ≡ Some p) → ((p : Pool) → is ≡ Some p → was ≡ Some p) → is ≡ was
+one (Some p) is to from = to p refl
+one None (Some p) to from = sym (from p refl)
+one None None to from = refl
+
+module _ {P : Type 0} (name : P → ℕ) where
+  pub others_stay : (a b : Allocations P) (l m : Ledger) → KeepsForeign (state_of name a l) (state_of name b m) → LosesNone (state_of name a l) (state_of name b m) → others_of name b m ≡ others_of name a l
+  unfolding others_of
+  others_stay a b l m keeps loses = fun_ext (λ q. elim (cases_Bool (is_named (table_of name a) q)) [
+    | inl was ↦ elim (cases_Bool (is_named (table_of name b) q)) [
+      | inl is ↦ rw was (rw is refl)
+      | inr is ↦ rw was (rw is (none_of (m.pools q) (λ p live. apart a l q was (loses q p (unnamed (table_of name b) m.pools q is) live).1)))
+    ]
+    | inr was ↦ elim (cases_Bool (is_named (table_of name b) q)) [
+      | inl is ↦ rw was (rw is (sym (none_of (l.pools q) (λ p live. apart b m q is (keeps q p (unnamed (table_of name a) l.pools q was) live).1))))
+      | inr is ↦ rw was (rw is (one (l.pools q) (m.pools q) (λ p live. (keeps q p (unnamed (table_of name a) l.pools q was) live).0) (λ p live. (loses q p (unnamed (table_of name b) m.pools q is) live).0)))
+    ]
+  ])
+    where
+      none_of : (o : Option Pool) → ((p : Pool) → o ≡ Some p → ⊥) → o ≡ None
+      none_of None h = refl
+      none_of (Some p) h = absurd (h p refl)
+
+      apart : (c : Allocations P) (n : Ledger) (q : ℕ) → is_named (table_of name c) q ≡ true → IsForeign (state_of name c n) q → ⊥
+      apart c n q is foreign = (let x = named (table_of name c) n.pools q is in foreign x.0 x.1 x.2 x.3 x.4)
+
+  -- without pools in the books all are others
+  pub all_others : (a : Allocations P) (l : Ledger) → ((k : Key) → (state_of name a l).books k ≡ no_pools) → others_of name a l ≡ l.pools
+  unfolding others_of
+  all_others a l empty = fun_ext (λ q. elim (cases_Bool (is_named (table_of name a) q)) [
+    | inl is ↦ absurd (let x = named (table_of name a) l.pools q is in no_keys (state_of name a l) empty q x.0 x.1 x.2 x.3 x.4)
+    | inr is ↦ rw is refl
+  ])
+
+  -- an allocator whose sets are all back, cleaned up, leaves only the pools of others
+  pub emptied : (a b : Allocations P) (l m : Ledger) → HasDistinctKeys (table_of name a) → Agree (state_of name a l) → IsCleaned (state_of name a l) (state_of name b m) → outstanding_of a ≡ 0 → m.pools ≡ others_of name a l
+  emptied a b l m distinct agree clean back =
+      let s : State = state_of name a l in
+      let t : State = state_of name b m in
+      let sets = out_is_size s (outstanding_of a) agree (record { table = table_of name a; distinct = distinct; keeps = λ k. refl; total = sym (outstanding_of-table name a) }) in
+      let nothing : (i : Item) → outstanding s i ≡ 0 = λ i. ∥∥₁_elim sets (search props) (λ all. sym (all.2 i) ∙ ap (count_of i) (nil_from_length all.0 (all.1 ∙ back))) in
+      sym (all_others b m (nothing_left s t agree nothing clean)) ∙ others_stay a b l m (cleaned_foreign s t clean) (cleaned_loses s t clean)

@@ -1,0 +1,4 @@
+pub mod AtPlaces
+pub mod OpenList
+pub mod OpenNumbers
+pub mod Searching

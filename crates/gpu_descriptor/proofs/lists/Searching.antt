@@ -1,0 +1,68 @@
+-- How far a binary search has come.
+use Rattle.std.proofs.Common.{ℕ, zero, suc, ◌+◌, ◌-◌, ◌/◌, ◌^◌, ◌<◌, ◌≤◌, ◌≡◌, List, length, get_or, nat_lt, true, false, arith, ltb-true, ltb-false}
+use Rattle.std.proofs.lemmas.List.{get_or_default}
+use Rattle.std.specs.List.{AllWithin}
+use Rattle.std.specs.List.Sorted.{IsNonDecreasing}
+use Rattle.gpu_descriptor.specs.Caller.Comparisons.{binary_digits}
+use Rattle.gpu_descriptor.proofs.release.Digits.{digits_enough, twice}
+
+-- the numbers before low are below the number, and those from low + size on are not
+pub record Searching (items : List ℕ) (number low size before count : ℕ) : Type 0 where
+  pub inside : low + size ≤ length items
+  pub below : AllWithin (λ x. x < number) items 0 low
+  pub above : AllWithin (λ x. number ≤ x) items (low + size) (length items)
+  pub rises : before ≤ count
+  -- so many comparisons may come yet
+  pub left : ℕ
+  pub small : size < 2 ^ left
+  pub few : count + left ≤ before + binary_digits (length items)
+
+pub search_start : (items : List ℕ) (number count : ℕ) → Searching items number 0 (length items) count count
+search_start items number count = record {
+  inside = omega arith;
+  below = λ k d h lt. absurd (omega arith);
+  above = λ k d h lt. absurd (omega arith);
+  rises = omega arith;
+  left = binary_digits (length items);
+  small = digits_enough (length items);
+  few = omega arith;
+}
+
+module _ (items : List ℕ) (number low size before count : ℕ) (rising : IsNonDecreasing items) (s : Searching items number low size before count) (some : 0 < size) (count' : ℕ) (one_more : count' ≡ count + 1) where
+  pub search_right : nat_lt (get_or items (low + size / 2) 0) number ≡ true → Searching items number (low + (size / 2 + 1)) (size - (size / 2 + 1)) before count'
+  search_right is = by_left s.left s.small s.few
+    where
+      by_left : (left : ℕ) → size < 2 ^ left → count + left ≤ before + binary_digits (length items) → Searching items number (low + (size / 2 + 1)) (size - (size / 2 + 1)) before count'
+      by_left zero small few = absurd (omega arith)
+      by_left (suc left) small few = record {
+        inside = (let h = s.inside in omega arith);
+        below = λ k d h lt.
+            let last = rising k (low + size / 2) 0 (omega arith) (let i = s.inside in omega arith) in
+            let less = ltb-true _ _ is in
+            let same = get_or_default items k d 0 (let i = s.inside in omega arith) in
+            omega arith;
+        above = λ k d h lt. s.above k d (omega arith) lt;
+        rises = (let r = s.rises in omega arith);
+        left = left;
+        small = (let t = twice left in omega arith);
+        few = omega arith;
+      }
+
+  pub search_left : nat_lt (get_or items (low + size / 2) 0) number ≡ false → Searching items number low (size / 2) before count'
+  search_left is = by_left s.left s.small s.few
+    where
+      by_left : (left : ℕ) → size < 2 ^ left → count + left ≤ before + binary_digits (length items) → Searching items number low (size / 2) before count'
+      by_left zero small few = absurd (omega arith)
+      by_left (suc left) small few = record {
+        inside = (let h = s.inside in omega arith);
+        below = s.below;
+        above = λ k d h lt.
+            let next = rising (low + size / 2) k 0 h lt in
+            let more = ltb-false _ _ is in
+            let same = get_or_default items k d 0 lt in
+            omega arith;
+        rises = (let r = s.rises in omega arith);
+        left = left;
+        small = (let t = twice left in omega arith);
+        few = omega arith;
+      }

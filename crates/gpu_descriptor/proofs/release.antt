@@ -1,0 +1,17 @@
+pub mod BucketRun
+pub mod Comparisons
+pub mod Digits
+pub mod Freed
+pub mod FrontPool
+pub mod Fronts
+pub mod LentRow
+pub mod OneLook
+pub mod OneRun
+pub mod OtherKeys
+pub mod Owned
+pub mod Parts
+pub mod Places
+pub mod ReleaseAgrees
+pub mod RunTaken
+pub mod RunsOfOne
+pub mod WholeRun

@@ -1,0 +1,159 @@
+-- Giving one run back to a stored bucket.
+use Rattle.std.proofs.Common.{◌≡◌, ◌≢◌, ◌⊎◌, ℕ, zero, suc, ◌+◌, ◌-◌, ◌<◌, ◌≤◌, List, [], ◌∷◌, length, map, sum_by, set, get_or, slice_get, Option, Some, option_map, inl, inr, refl, sym, ap, ◌∙◌, arith}
+use Rattle.std.specs.Prelude.{IfSome}
+use Rattle.std.proofs.lemmas.Bool.{cases_Bool}
+use Rattle.std.proofs.lemmas.Option.{slice_get_within, slice_get-map, slice_get_read}
+use Rattle.std.proofs.lemmas.List.{length-map}
+use Rattle.std.proofs.lemmas.List.Sums.{sum_by-cons}
+use Rattle.gpu_descriptor_types.specs.Flags.{CanFree}
+use Rattle.gpu_descriptor_types.specs.Ledger.{Pool, live_sets}
+use Rattle.gpu_descriptor_types.specs.Multiset.{LiveSet, times, AreIn}
+use Rattle.gpu_descriptor.specs.declared.bucket.DescriptorPool.{DescriptorPool}
+use Rattle.gpu_descriptor.specs.Model.Agreement.{live_in, flags_of, IsAsBooked}
+use Rattle.gpu_descriptor.specs.Model.Books.{Key, Entry, Bucket}
+use Rattle.gpu_descriptor.specs.Inner.Buckets.{AreBookedIn}
+use Rattle.gpu_descriptor.specs.Inner.Releases.{IsTakenAt}
+use Rattle.gpu_descriptor.specs.Model.Release.{entry_less, pool_less}
+use Rattle.gpu_descriptor.specs.Inner.Stored.{entry_of}
+use Rattle.gpu_descriptor.proofs.foreign.LedgerPools.{taken_from, with_pool_same, with_pool_other, size_minus, only_these}
+use Rattle.gpu_descriptor.proofs.table.Exact.{bucket}
+use Rattle.gpu_descriptor.proofs.release.Fronts.{entry_at-found}
+use Rattle.gpu_descriptor.proofs.lists.AtPlaces.{set_got}
+use Rattle.std.proofs.Math.Logic.{∥∥₁_elim, ∥∥₁_map}
+use Rattle.std.proofs.Props.{props}
+
+-- a place that was read
+pub read_at : {P : Type 0} (name : P → ℕ) (items : List (DescriptorPool P)) (i : ℕ) (q : DescriptorPool P) → i < length items → q ≡ get_or items i q → slice_get (map (entry_of name) items) i ≡ Some (entry_of name q)
+read_at name items i q lt is = slice_get-map (entry_of name) items i ∙ ap (option_map (entry_of name)) (slice_get_read items (length items) i q refl lt is)
+
+-- the place after the counts moved
+pub changed_at : {P : Type 0} (name : P → ℕ) (items : List (DescriptorPool P)) (i : ℕ) (q : DescriptorPool P) (raw : P) (m n : ℕ) → name raw ≡ name q.raw → m ≡ n
+    → map (entry_of name) (set items i (record { raw = raw; capacity = q.capacity; allocated = q.allocated - m; available = q.available + m })) ≡ set (map (entry_of name) items) i (entry_less n (entry_of name q))
+changed_at name [] i q raw m n same e = refl
+changed_at name (x ∷ items) zero q raw m n same e = λ j. record { pool = same j; capacity = q.capacity; allocated = q.allocated - e j; free = q.available + e j } ∷ map (entry_of name) items
+changed_at name (x ∷ items) (suc i) q raw m n same e = ap (λ (l : List Entry). entry_of name x ∷ l) (changed_at name items i q raw m n same e)
+
+-- what a run may take of the place
+pub record CanTake (k : Key) (names : List ℕ) (pools : ℕ → Option Pool) (e : Entry) : Type 0 where
+  pub fits : length names ≤ e.allocated
+  pub live : (x : LiveSet) → times (live_sets k.counts names) x ≤ live_in pools e.pool x
+
+pub can_take : (k : Key) (number : ℕ) (names : List ℕ) (b : Bucket) (pools : ℕ → Option Pool) (e : Entry) → IsTakenAt k number names b pools → slice_get b.pools (number - b.first) ≡ Some e → CanTake k names pools e
+can_take k number names b pools e t at =
+    let same : t.entry ≡ e = (let p = (entry_at-found b number t.entry t.at).1 in let q : Some t.entry ≡ Some e = sym p ∙ at in cc) in
+    rw (← same) (record { fits = t.fits; live = t.live })
+
+pub is_within : (k : Key) (number : ℕ) (names : List ℕ) (b : Bucket) (pools : ℕ → Option Pool) → IsTakenAt k number names b pools → number - b.first < length b.pools
+is_within k number names b pools t = slice_get_within b.pools (number - b.first) t.entry (entry_at-found b number t.entry t.at).1
+
+-- ls are sets of these names, each live as often as it stands there
+pub record AreTaken (names : List ℕ) (live : LiveSet → ℕ) (ls : List LiveSet) : Type 0 where
+  pub are : map (λ x. x.name) ls ≡ names
+  pub within : (x : LiveSet) → times ls x ≤ live x
+
+-- the sets of which a release speaks, in a pool that is live
+pub are_taken : (k : Key) (b : Bucket) (pools : ℕ → Option Pool) (i : ℕ) (e : Entry) (names : List ℕ) (ls : List LiveSet) → AreBookedIn k pools b.pools → slice_get b.pools i ≡ Some e → map (λ x. x.name) ls ≡ names → IfSome (pools e.pool) (λ pool. AreIn ls pool.live) → AreTaken names (live_in pools e.pool) ls
+are_taken k b pools i e names ls stored at are live =
+    let booked = stored.each i e at in
+    let within : AreIn ls booked.pool.live = rw booked.is_live at live in
+    record { are = are; within = λ x. let is : live_in pools e.pool x ≡ booked.pool.live x = rw booked.is_live refl in rw is (within x) }
+
+-- sets of a marked key's pools and of others may go back singly
+pub can_free : (k : Key) → CanFree (flags_of k)
+can_free k = elim (cases_Bool k.marked) [
+  | inl on ↦ rw on refl
+  | inr off ↦ rw off refl
+]
+
+-- the sets that a call took of the place are the key's sets of their names
+pub took_these : (k : Key) (b : Bucket) (pools : ℕ → Option Pool) (i : ℕ) (e : Entry) (names : List ℕ) (ls : List LiveSet) → AreBookedIn k pools b.pools → slice_get b.pools i ≡ Some e → AreTaken names (live_in pools e.pool) ls → ls ≡ live_sets k.counts names
+took_these k b pools i e names ls stored at are = only_these k names ls are.are (λ x some.
+    let booked = stored.each i e at in
+    let live : live_in pools e.pool x ≡ booked.pool.live x = rw booked.is_live refl in
+    let within = are.within x in
+    booked.booked.sets x (omega arith))
+
+-- the bucket and the ledger after one run keep agreement
+pub stored_after : (k : Key) (first : ℕ) (es : List Entry) (pools : ℕ → Option Pool) (i : ℕ) (e : Entry) (ls : List LiveSet) → AreBookedIn k pools es → slice_get es i ≡ Some e → ((x : LiveSet) → times ls x ≤ live_in pools e.pool x) → AreBookedIn k (taken_from pools e.pool ls) (set es i (entry_less (length ls) e))
+stored_after k first es pools i e ls stored at within =
+    let y = entry_less (length ls) e in
+    let was : (j : ℕ) (d : Entry) → slice_get (set es i y) j ≡ Some d → (c : Entry) × (slice_get es j ≡ Some c) × (c.pool ≡ d.pool) = λ j d h. elim (set_got es i y j d h) [
+      | inl same ↦ (e, (ap (slice_get es) same.0 ∙ at), ap (λ (x : Entry). x.pool) (sym same.1))
+      | inr other ↦ (d, other.1, refl)
+    ] in
+    record {
+      distinct = λ a b c d h h' same.
+          let p = was a c h in
+          let q = was b d h' in
+          stored.distinct a b p.0 q.0 p.1 q.1 (p.2 ∙ same ∙ sym q.2);
+      each = λ j d h. elim (set_got es i y j d h) [
+        | inl same ↦ (
+            let booked = stored.each i e at in
+            let pool = booked.pool in
+            let live : (x : LiveSet) → times ls x ≤ pool.live x = λ x. (let is : live_in pools e.pool x ≡ pool.live x = rw booked.is_live refl in let less = within x in omega arith) in
+            let room = booked.booked.room in
+            let fits : length ls ≤ e.allocated = ∥∥₁_elim booked.booked.allocated (search props) (λ size. (size_minus pool.live e.allocated ls size live).0) in
+            let after : Pool = pool_less (times ls) pool in
+            let is : IsAsBooked k after y = record {
+              flags = booked.booked.flags;
+              at_least = booked.booked.at_least;
+              small = booked.booked.small;
+              capacity = booked.booked.capacity;
+              counts = booked.booked.counts;
+              sets = λ x some. booked.booked.sets x (omega arith);
+              allocated = ∥∥₁_map booked.booked.allocated (λ size. (size_minus pool.live e.allocated ls size live).1);
+              room = omega arith;
+              full = λ none. (let whole = booked.booked.full none in omega arith);
+            } in
+            record {
+              pool = after;
+              is_live = ap (λ (x : Entry). taken_from pools e.pool ls x.pool) same.1 ∙ with_pool_same pools e.pool (option_map (pool_less (times ls)) (pools e.pool)) ∙ ap (option_map (pool_less (times ls))) booked.is_live;
+              booked = rw same.1 is;
+            })
+        | inr other ↦ (
+            let booked = stored.each j d other.1 in
+            record {
+              pool = booked.pool;
+              is_live = with_pool_other pools e.pool d.pool (option_map (pool_less (times ls)) (pools e.pool)) (λ same. other.0 (stored.distinct j i d e other.1 at same)) ∙ booked.is_live;
+              booked = booked.booked;
+            })
+      ];
+    }
+
+pub read_first : {P : Type 0} (name : P → ℕ) (k : Key) (number : ℕ) (names : List ℕ) (id first : ℕ) (items : List (DescriptorPool P)) (pools : ℕ → Option Pool) (q : DescriptorPool P) → IsTakenAt k number names (bucket id first (map (entry_of name) items)) pools → q ≡ get_or items (number - first) q → slice_get (map (entry_of name) items) (number - first) ≡ Some (entry_of name q)
+read_first name k number names id first items pools q t is =
+    let lt = is_within k number names (bucket id first (map (entry_of name) items)) pools t in
+    let long = length-map items (entry_of name) in
+    read_at name items (number - first) q (omega arith) is
+
+pub place_room : (k : Key) (b : Bucket) (pools : ℕ → Option Pool) (i : ℕ) (e : Entry) → AreBookedIn k pools b.pools → slice_get b.pools i ≡ Some e → e.allocated + e.free ≤ 2147483648
+place_room k b pools i e stored at =
+    let booked = (stored.each i e at).booked in
+    let room = booked.room in
+    let small = booked.small in
+    omega arith
+
+pub length_names : (k : Key) (names : List ℕ) → length (live_sets k.counts names) ≡ length names
+length_names k names = length-map names (λ (name : ℕ). record { name = name; counts = k.counts })
+
+abbrev allocated_from : {P : Type 0} → List (DescriptorPool P) → ℕ
+allocated_from pools = sum_by (λ p. p.allocated) pools
+
+-- the sets that go back are no longer counted
+pub total_less : {P : Type 0} (items : List (DescriptorPool P)) (i : ℕ) (q : DescriptorPool P) (raw : P) (m : ℕ) → i < length items → q ≡ get_or items i q → m ≤ q.allocated
+    → (m ≤ allocated_from items) × (allocated_from (set items i (record { raw = raw; capacity = q.capacity; allocated = q.allocated - m; available = q.available + m })) + m ≡ allocated_from items)
+total_less [] i q raw m lt is fits = absurd (omega arith)
+total_less {P = P} (x ∷ items) zero q raw m lt is fits =
+    let e : q.allocated ≡ x.allocated = ap (λ (p : DescriptorPool P). p.allocated) is in
+    let old : allocated_from (x ∷ items) ≡ x.allocated + allocated_from items = sum_by-cons (λ (p : DescriptorPool P). p.allocated) x items in
+    let y : DescriptorPool P = record { raw = raw; capacity = q.capacity; allocated = q.allocated - m; available = q.available + m } in
+    let new : allocated_from (y ∷ items) ≡ y.allocated + allocated_from items = sum_by-cons (λ (p : DescriptorPool P). p.allocated) y items in
+    (omega arith, omega arith)
+total_less {P = P} (x ∷ items) (suc i) q raw m lt is fits =
+    let rest = total_less items i q raw m (omega arith) is fits in
+    let a = rest.0 in
+    let b = rest.1 in
+    let y : DescriptorPool P = record { raw = raw; capacity = q.capacity; allocated = q.allocated - m; available = q.available + m } in
+    let old : allocated_from (x ∷ items) ≡ x.allocated + allocated_from items = sum_by-cons (λ (p : DescriptorPool P). p.allocated) x items in
+    let new : allocated_from (x ∷ set items i y) ≡ x.allocated + allocated_from (set items i y) = sum_by-cons (λ (p : DescriptorPool P). p.allocated) x (set items i y) in
+    (omega arith, omega arith)

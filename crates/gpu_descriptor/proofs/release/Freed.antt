@@ -1,0 +1,244 @@
+-- What the loop over the runs keeps.
+use Rattle.std.proofs.Common.{◌≡◌, ◌≤◌, ℕ, ◌+◌, ◌<◌, true, false, ◌&&◌, ◌==◌, List, [], ◌∷◌, ◌++◌, sum_by, refl, sym, ap, subst, ◌∙◌, arith, append_assoc, append-nil, length-append, eq-eqb, Option, Some, None, MatchOption, OnSome, IfSome, eqb-true}
+use Rattle.std.specs.Iterator.{Count, HoldsAlong, IsFinite, IsNearerEnd, MakesProgress, size, Yields, YieldsThen}
+use Rattle.std.proofs.iter.Next.{Yields-more}
+use Rattle.std.proofs.lemmas.Bool.{and_parts, and_from}
+use Rattle.std.proofs.lemmas.List.{map-append}
+use Rattle.std.proofs.lemmas.List.Sums.{sum_by-append}
+use Rattle.gpu_descriptor_types.specs.Ledger.{Counters, Ledger}
+use Rattle.gpu_descriptor_types.proofs.Counting.{bool_iff}
+use Rattle.gpu_descriptor.specs.Model.Load.{marked_load}
+use Rattle.gpu_descriptor.specs.declared.set.DescriptorSet.{DescriptorSet}
+use Rattle.gpu_descriptor.specs.Model.Agreement.{State, Item, AreOutstanding, Agree, count_of}
+use Rattle.gpu_descriptor.specs.Model.Books.{Key, key_eq}
+use Rattle.gpu_descriptor.specs.Model.Release.{more_released, more_destroyed, released, given_back, pools_gone}
+use Rattle.gpu_descriptor.specs.Caller.Comparisons.{open_pools, run_digits, binary_digits}
+use Rattle.gpu_descriptor.specs.Caller.Frees.{GivesBack, Frees}
+use Rattle.gpu_descriptor.specs.Inner.Releases.{FreesRun}
+use Rattle.gpu_descriptor.specs.Model.Runs.{runs, breaks}
+use Rattle.gpu_descriptor.specs.Caller.Sets.{item_of, items_of}
+use Rattle.gpu_descriptor.specs.Inner.RunSteps.{lies_at, AllPass}
+use Rattle.gpu_descriptor.specs.Caller.States.{state_of, keys_of}
+use Rattle.gpu_descriptor.specs.Caller.Values.{Allocations}
+use Rattle.gpu_descriptor.proofs.release.Comparisons.{run_digits_more}
+use Rattle.gpu_descriptor.proofs.cleanup.Counted.{gone}
+use Rattle.gpu_descriptor.proofs.table.Exact.{key_exact}
+use Rattle.gpu_descriptor.proofs.callers.HeldSets.{count_of-append}
+use Rattle.gpu_descriptor.proofs.release.ReleaseAgrees.{agrees, takes, none_back}
+use Rattle.gpu_descriptor.proofs.release.WholeRun.{at_from, at_parts, lies_own}
+use Rattle.gpu_descriptor.proofs.release.Parts.{parts}
+
+-- with x in hand one set more is to come
+abbrev pub weight : {A : Type 0} → Option A → ℕ → ℕ
+weight None n = 0
+weight (Some x) n = n + 1
+
+-- the list is empty or begins in another place
+abbrev pub BeginsApart : {S : Type 0} → Key → ℕ → List (DescriptorSet S) → Type 0
+BeginsApart k n [] = Unit {0}
+BeginsApart k n (y ∷ ys) = lies_at k n y ≡ false
+
+-- whether a neighbour lies in the same place
+same_spot : {S : Type 0} (k : Key) (n : ℕ) (x y : DescriptorSet S) → lies_at k n x ≡ true → (key_eq x.key.is y.key.is && (x.number == y.number)) ≡ lies_at k n y
+same_spot k n x y own =
+    let here = at_parts k n x own in
+    bool_iff (key_eq x.key.is y.key.is && (x.number == y.number)) (lies_at k n y)
+    (λ h. let both = and_parts (key_eq x.key.is y.key.is) (x.number == y.number) h in
+    at_from k n y (sym (key_exact.same x.key.is y.key.is both.0) ∙ here.0) (sym (eqb-true x.number y.number both.1) ∙ here.1))
+    (λ h. let there = at_parts k n y h in
+    and_from _ _ (ap (λ (l : Key). key_eq l y.key.is) (here.0 ∙ sym there.0) ∙ key_exact.self y.key.is) (eq-eqb x.number y.number (here.1 ∙ sym there.1)))
+
+-- the counters after both
+counters_both : (a b m n : ℕ) (c : Counters) → more_destroyed m (more_released n (more_destroyed a (more_released b c))) ≡ more_destroyed (a + m) (more_released (b + n) c)
+counters_both a b m n c =
+    let destroyed : c.destroyed + a + m ≡ c.destroyed + (a + m) = omega arith in
+    let released : c.released + b + n ≡ c.released + (b + n) = omega arith in
+    λ i. record c { destroyed = destroyed i; released = released i }
+
+counters_none : (c : Counters) → c ≡ more_destroyed 0 (more_released 0 c)
+counters_none c =
+    let destroyed : c.destroyed ≡ c.destroyed + 0 = omega arith in
+    let released : c.released ≡ c.released + 0 = omega arith in
+    λ i. record c { destroyed = destroyed i; released = released i }
+
+none_gone : (keys : List Key) (s : State) → 0 ≡ pools_gone keys [] s
+none_gone keys s = go keys
+  where
+    go : (keys : List Key) → 0 ≡ sum_by (λ k. 0) keys
+    go [] = refl
+    go (k ∷ keys) = go keys ∙ sym (sum_by-append (λ (l : Key). 0) (k ∷ []) keys ∙ (omega arith))
+
+module _ {S : Type 0} (set_name : S → ℕ) where
+  abbrev pub items : List (DescriptorSet S) → List Item
+  items xs = items_of set_name xs
+
+  pub run_then : (k : Key) (n : ℕ) (x : DescriptorSet S) (xs zs : List (DescriptorSet S)) → lies_at k n x ≡ true → AllPass (lies_at k n) xs → BeginsApart k n zs → runs (items ((x ∷ xs) ++ zs)) ≡ 1 + runs (items zs)
+  run_then k n x [] [] own have apart = refl
+  run_then k n x [] (z ∷ zs) own have apart =
+      let other = same_spot k n x z own ∙ apart in
+      let e : breaks (item_of set_name x) (items (z ∷ zs)) ≡ 1 + breaks (item_of set_name z) (items zs) = rw other refl in
+      omega arith
+  run_then k n x (y ∷ ys) zs own have apart =
+      let same = same_spot k n x y own ∙ have.0 in
+      let e : breaks (item_of set_name x) (items (y ∷ (ys ++ zs))) ≡ 0 + breaks (item_of set_name y) (items (ys ++ zs)) = rw same refl in
+      let rest : runs (items (y ∷ (ys ++ zs))) ≡ 1 + runs (items zs) = run_then k n y ys zs have.0 have.1 apart in
+      omega arith
+
+  items-append : (xs ys : List (DescriptorSet S)) → items (xs ++ ys) ≡ items xs ++ items ys
+  items-append xs ys = map-append (λ (x : DescriptorSet S). item_of set_name x) xs ys
+
+  both : {T : Type 0} (steps : T → Option (DescriptorSet S) → T → Type 0) (xs ys : List (DescriptorSet S)) (s t u : T) → Yields steps s xs t → Yields steps t ys u → Yields steps s (xs ++ ys) u
+  both steps [] ys s t u a b = subst (λ k. Yields steps k ys u) (sym a) b
+  both steps (x ∷ xs) ys s t u a b = (a.0, a.1, both steps xs ys a.0 t u a.2 b)
+
+  none_both : (xs ys : List (DescriptorSet S)) → xs ++ ys ≡ [] → (xs ≡ []) × (ys ≡ [])
+  none_both [] ys none = (refl, none)
+  none_both (x ∷ xs) ys none = absurd (let bad : ◌≡◌ {A = List (DescriptorSet S)} (x ∷ (xs ++ ys)) [] = none in cc)
+
+  -- two lists that go back one after the other go back as one
+  pub gives_both : {P : Type 0} (name : P → ℕ) (xs ys : List (DescriptorSet S)) (m n : ℕ) (old now new : Allocations P) (before mid after : Ledger) → Agree (state_of name old before) → AreOutstanding (items xs ++ items ys) (state_of name old before) → keys_of now ≡ keys_of old
+      → GivesBack name set_name xs m old now before mid → GivesBack name set_name ys n now new mid after → GivesBack name set_name (xs ++ ys) (m + n) old new before after
+  gives_both name xs ys m n old now new before mid after agree out keys one two =
+      let s = state_of name old before in
+      let whole = items-append xs ys in
+      let first = one.counters in
+      let second : after.counters ≡ more_destroyed (pools_gone (keys_of old) (items ys) (given_back (items ys) (released (items xs) s))) (more_released n mid.counters) =
+      two.counters ∙ ap (λ (ks : List Key). more_destroyed (pools_gone ks (items ys) (given_back (items ys) (state_of name now mid))) (more_released n mid.counters)) keys
+      ∙ ap (λ (t : State). more_destroyed (pools_gone (keys_of old) (items ys) (given_back (items ys) t)) (more_released n mid.counters)) one.state in
+      let sum : pools_gone (keys_of old) (items xs) (given_back (items xs) s) + pools_gone (keys_of old) (items ys) (given_back (items ys) (released (items xs) s)) ≡ pools_gone (keys_of old) (items (xs ++ ys)) (given_back (items (xs ++ ys)) s) =
+      gone (keys_of old) (items xs) (items ys) s agree out ∙ ap (λ (l : List Item). pools_gone (keys_of old) l (given_back l s)) (sym whole) in
+      let long = length-append xs ys in
+      let load = ap (sum_by (λ (t : Item). marked_load t.key 1)) whole ∙ sum_by-append (λ (t : Item). marked_load t.key 1) (items xs) (items ys) in
+      let a = one.outstanding in
+      let b = two.outstanding in
+      let c = one.marked in
+      let d = two.marked in
+      record {
+        state = two.state ∙ ap (released (items ys)) one.state ∙ parts (items xs) (items ys) s agree out ∙ ap (λ (l : List Item). released l s) (sym whole);
+        counters = second
+            ∙ ap (λ (k : Counters). more_destroyed (pools_gone (keys_of old) (items ys) (given_back (items ys) (released (items xs) s))) (more_released n k)) first
+            ∙ counters_both (pools_gone (keys_of old) (items xs) (given_back (items xs) s)) m (pools_gone (keys_of old) (items ys) (given_back (items ys) (released (items xs) s))) n before.counters
+            ∙ ap (λ (g : ℕ). more_destroyed g (more_released (m + n) before.counters)) sum;
+        outstanding = omega arith;
+        marked = omega arith;
+        returned = λ u. let e = one.returned u in let f = two.returned u in let g = ap (count_of u) whole ∙ count_of-append u (items xs) (items ys) in omega arith;
+        none = λ is. let each = none_both xs ys is in let first = one.none each.0 in let second = two.none each.1 in (second.0 ∙ first.0, second.1 ∙ first.1);
+      }
+
+  pub gives_none : {P : Type 0} (name : P → ℕ) (old : Allocations P) (before : Ledger) → GivesBack name set_name [] 0 old old before before
+  gives_none name old before = record {
+    state = sym (none_back (state_of name old before));
+    counters = counters_none before.counters ∙ ap (λ (n : ℕ). more_destroyed n (more_released 0 before.counters)) (none_gone (keys_of old) (given_back [] (state_of name old before)));
+    outstanding = omega arith;
+    marked = omega arith;
+    returned = λ u. omega arith;
+    none = λ is. (refl, refl);
+  }
+
+  module _ {P T : Type 0} (name : P → ℕ) (steps : T → Option (DescriptorSet S) → T → Type 0) (can : T → Type 0) (left : T → Count) where
+    -- y begins a run behind xs
+    abbrev pub Splits : List (DescriptorSet S) → DescriptorSet S → Type 0
+    Splits xs y = (zs : List (DescriptorSet S)) → runs (items (xs ++ y ∷ zs)) ≡ runs (items xs) + runs (items (y ∷ zs))
+
+    -- what comes behind the sets so far
+    abbrev pub Comes : T → List (DescriptorSet S) → Option (DescriptorSet S) → T → Type 0
+    Comes first xs ahead rest = MatchOption ahead (YieldsThen steps first xs None rest)
+        (λ y. Yields steps first (xs ++ y ∷ []) rest × Splits xs y × can rest × IsFinite (left rest))
+
+    -- from `first` on sets went back, and then `ahead` came and left `rest`
+    pub record Freed (first : T) (old : Allocations P) (before : Ledger) (now : Allocations P) (after : Ledger) (ahead : Option (DescriptorSet S)) (rest : T) : Type 0 where
+      pub sets : List (DescriptorSet S)
+      pub back : GivesBack name set_name sets (runs (items sets)) old now before after
+      pub agree : Agree (state_of name now after)
+      pub keys : keys_of now ≡ keys_of old
+      pub rises : old.comparisons ≤ now.comparisons
+      pub few : now.comparisons ≤ old.comparisons + run_digits (state_of name old before) (items sets)
+      pub comes : Comes first sets ahead rest
+
+    behind : (first : T) (xs : List (DescriptorSet S)) (y : DescriptorSet S) (zs : List (DescriptorSet S)) (rest t : T) → Yields steps first (xs ++ y ∷ []) rest → Yields steps rest zs t → Yields steps first (xs ++ y ∷ zs) t
+    behind first xs y zs rest t a b = subst (λ vs. Yields steps first vs t) (append_assoc xs (y ∷ []) zs) (both steps (xs ++ y ∷ []) zs first rest t a b)
+
+    module _ (first : T) (old : Allocations P) (before : Ledger) (now : Allocations P) (mid : Ledger) (x : DescriptorSet S) (rest : T) (agree : Agree (state_of name old before)) (out : HoldsAlong steps first (λ xs. AreOutstanding (items xs) (state_of name old before))) (r : Freed first old before now mid (Some x) rest) where
+      -- what is to come is outstanding together with what came
+      all_out : (zs : List (DescriptorSet S)) (t : T) → Yields steps rest zs t → AreOutstanding (items r.sets ++ items (x ∷ zs)) (state_of name old before)
+      all_out zs t z = subst (λ m. AreOutstanding m (state_of name old before)) (items-append r.sets (x ∷ zs)) (out (r.sets ++ x ∷ zs) t (behind first r.sets x zs rest t r.comes.0 z))
+
+      came_out : (zs : List (DescriptorSet S)) (t : T) → Yields steps rest zs t → AreOutstanding (items r.sets) (state_of name old before)
+      came_out zs t z u =
+          let fits = all_out zs t z u in
+          let sum = count_of-append u (items r.sets) (items (x ∷ zs)) in
+          omega arith
+
+      pub call_out : HoldsAlong steps rest (λ zs. AreOutstanding (items (x ∷ zs)) (state_of name now mid))
+      call_out zs t z = subst (λ s. AreOutstanding (items (x ∷ zs)) s) (sym r.back.state) (λ u.
+          let fits = all_out zs t z u in
+          let sum = count_of-append u (items r.sets) (items (x ∷ zs)) in
+          let less = takes (items r.sets) (state_of name old before) agree (came_out zs t z) u in
+          omega arith)
+
+      pub freed_more : (new : Allocations P) (after : Ledger) (a : Option (DescriptorSet S)) (t : T) → FreesRun steps name set_name x rest a t now new mid after → keys_of new ≡ keys_of now → OnSome a (IsNearerEnd can left rest t)
+          → now.comparisons ≤ new.comparisons → new.comparisons ≤ now.comparisons + binary_digits (open_pools ((state_of name now mid).books x.key.is)) → Freed first old before new after a t
+      freed_more new after a t run same n more few = record {
+        sets = r.sets ++ x ∷ xs;
+        back = subst (λ (m : ℕ). GivesBack name set_name (r.sets ++ x ∷ xs) m old new before after) (sym count) (gives_both name r.sets (x ∷ xs) (runs (items r.sets)) 1 old now new before mid after agree (all_out xs run.came.1.0 run.came.1.1) r.keys r.back run.back);
+        agree = rw run.back.state (agrees (items (x ∷ xs)) (state_of name now mid) r.agree (call_out xs run.came.1.0 run.came.1.1));
+        keys = same ∙ r.keys;
+        rises = (let was = r.rises in omega arith);
+        few = (let was = r.few in let digits = cost in omega arith);
+        comes = stop a run.came.1.2 run.came.2 n;
+      }
+        where
+          xs : List (DescriptorSet S)
+          xs = run.sets
+
+          -- the run, and what follows in another place
+          behind_it : (zs : List (DescriptorSet S)) → BeginsApart x.key.is x.number zs → runs (items (x ∷ (xs ++ zs))) ≡ 1 + runs (items zs)
+          behind_it zs b = run_then x.key.is x.number x xs zs (lies_own x) run.came.0 b
+
+          alone : runs (items (x ∷ xs)) ≡ 1
+          alone = ap (λ zs. runs (items (x ∷ zs))) (sym (append-nil xs)) ∙ behind_it [] tt ∙ refl
+
+          count : runs (items (r.sets ++ x ∷ xs)) ≡ runs (items r.sets) + 1
+          count = r.comes.1 xs ∙ ap (λ n. runs (items r.sets) + n) alone
+
+          -- the digits that this run adds
+          cost : run_digits (state_of name old before) (items (r.sets ++ x ∷ xs)) ≡ run_digits (state_of name old before) (items r.sets) + binary_digits (open_pools ((state_of name now mid).books x.key.is))
+          cost =
+              let s = state_of name old before in
+              let whole = items-append r.sets (x ∷ xs) in
+              ap (run_digits s) whole ∙ run_digits_more s (items r.sets) (item_of set_name x) (items xs) (ap runs (sym whole) ∙ count) alone
+              ∙ ap (λ (t : State). run_digits s (items r.sets) + binary_digits (open_pools (t.books x.key.is))) (sym r.back.state)
+
+          came : Yields steps first (r.sets ++ x ∷ xs) run.came.1.0
+          came = behind first r.sets x xs rest run.came.1.0 r.comes.0 run.came.1.1
+
+          parted : (y : DescriptorSet S) → lies_at x.key.is x.number y ≡ false → Splits (r.sets ++ x ∷ xs) y
+          parted y b zs =
+              let whole : runs (items ((r.sets ++ x ∷ xs) ++ y ∷ zs)) ≡ runs (items (r.sets ++ x ∷ (xs ++ y ∷ zs))) = ap (λ vs. runs (items vs)) (append_assoc r.sets (x ∷ xs) (y ∷ zs)) in
+              let split = r.comes.1 (xs ++ y ∷ zs) in
+              let next = behind_it (y ∷ zs) b in
+              let so = count in
+              omega arith
+
+          stop : (a : Option (DescriptorSet S)) → steps run.came.1.0 a t → IfSome a (λ y. lies_at x.key.is x.number y ≡ false) → OnSome a (IsNearerEnd can left rest t) → Comes first (r.sets ++ x ∷ xs) a t
+          stop None s b n = (run.came.1.0, came, s)
+          stop (Some y) s b n = (Yields-more steps first (r.sets ++ x ∷ xs) run.came.1.0 y t came s, parted y b, n.0, n.1)
+
+    pub less : (rest : T) (a : Option (DescriptorSet S)) (t : T) → OnSome a (IsNearerEnd can left rest t) → weight a (size (left t)) < size (left rest) + 1
+    less rest None t n = omega arith
+    less rest (Some y) t n = omega (arith, n.2)
+
+    pub freed_none : (first : T) (old : Allocations P) (before : Ledger) (a : Option (DescriptorSet S)) (rest : T) → Agree (state_of name old before) → IsFinite (left first) → steps first a rest → MakesProgress can left first a rest → Freed first old before old before a rest
+    freed_none first old before a rest agree finite step goes = record { sets = []; back = gives_none name old before; agree = agree; keys = refl; rises = omega arith; few = omega arith; comes = begin a step goes }
+      where
+        begin : (a : Option (DescriptorSet S)) → steps first a rest → MakesProgress can left first a rest → Comes first [] a rest
+        begin None step goes = (first, refl, step)
+        begin (Some y) step goes = ((rest, step, refl), (λ zs. let e : runs (items (y ∷ zs)) ≡ 0 + runs (items (y ∷ zs)) = omega arith in e), goes.keeps, (goes.on finite).1)
+
+    -- at the end all sets of the iterator have gone back
+    pub freed_all : (first : T) (old : Allocations P) (before : Ledger) (new : Allocations P) (after : Ledger) (end : T) → new.looks ≡ old.looks → Freed first old before new after None end → Frees steps name set_name first end old new before after
+    freed_all first old before new after end looks r = record {
+      sets = r.sets;
+      drained = r.comes;
+      returns = record { back = r.back; keys = r.keys; looks_stay = looks; comparisons = r.few; compared = r.rises };
+    }

@@ -1,0 +1,120 @@
+-- One pool leaves the front.
+use Rattle.std.proofs.Common.{◌≡◌, ◌≢◌, ℕ, suc, ◌+◌, ◌<◌, ◌≤◌, Bool, true, false, ◌||◌, ◌==◌, List, [], ◌∷◌, length, map, drop, get_or, Option, None, inl, inr, refl, sym, ap, ◌∙◌, arith, eq-eqb, ne_eqb}
+use Rattle.std.specs.Prelude.{if◌then◌else◌}
+use Rattle.std.proofs.Math.Path.{fun_ext}
+use Rattle.std.proofs.lemmas.Bool.{cases_Bool, cases_eq}
+use Rattle.std.proofs.lemmas.List.{length-map}
+use Rattle.gpu_descriptor_types.specs.Ledger.{Pool, Ledger, HasNoSets, after_destroy}
+use Rattle.gpu_descriptor.specs.declared.bucket.DescriptorPool.{DescriptorPool}
+use Rattle.gpu_descriptor.specs.Model.Books.{Key, Entry, Bucket}
+use Rattle.gpu_descriptor.specs.Inner.Buckets.{AreBookedIn, front_but, trimmed_bucket, trimmed_ledger, ledger_without, pools_without}
+use Rattle.gpu_descriptor.specs.Model.Release.{more_destroyed, is_empty, without_front, in_front}
+use Rattle.gpu_descriptor.specs.Inner.Stored.{entry_of}
+use Rattle.gpu_descriptor.proofs.table.Exact.{bucket}
+use Rattle.gpu_descriptor.proofs.release.Fronts.{trim, trim_yes, trim_no, trim_short}
+use Rattle.gpu_descriptor.proofs.release.Places.{size_pos}
+use Rattle.gpu_descriptor.proofs.foreign.LedgerPools.{with_pool, with_pool_other, destroyed_none, destroyed_both}
+
+pub step_books : (keep id first : ℕ) (x : Entry) (es : List Entry) → keep ≤ length es → is_empty x ≡ true → trimmed_bucket keep (bucket id (first + 1) es) ≡ trimmed_bucket keep (bucket id first (x ∷ es))
+step_books keep id first x es le empty =
+    let n : ℕ = trim keep es in
+    let number : first + 1 + n ≡ first + suc n = omega arith in
+    let same : trimmed_bucket keep (bucket id (first + 1) es) ≡ without_front (suc n) (bucket id first (x ∷ es)) = λ i. record { id = id; first = number i; pools = drop n es } in
+    same ∙ ap (λ (m : ℕ). without_front m (bucket id first (x ∷ es))) (sym (trim_yes keep x es le empty))
+
+-- a pool that is taken out of the ledger, seen at one name
+pub taken_at : (pools : ℕ → Option Pool) (pool p : ℕ) (rest : Bool) → (if rest then None else with_pool pools pool None p) ≡ (if (pool == p) || rest then None else pools p)
+taken_at pools pool p true = elim (cases_Bool (pool == p)) [ inl h ↦ rw h refl | inr h ↦ rw h refl ]
+taken_at pools pool p false = elim (cases_Bool (pool == p)) [ inl h ↦ rw h refl | inr h ↦ rw h refl ]
+
+-- a front that goes pool by pool goes at once
+pub step_without : (n : ℕ) (id first : ℕ) (x : Entry) (es : List Entry) (l : Ledger) → ledger_without n (bucket id (first + 1) es) (after_destroy x.pool l) ≡ ledger_without (suc n) (bucket id first (x ∷ es)) l
+step_without n id first x es l =
+    let pools : pools_without n (bucket id (first + 1) es) (after_destroy x.pool l).pools ≡ pools_without (suc n) (bucket id first (x ∷ es)) l.pools = fun_ext (λ p. taken_at l.pools x.pool p (in_front n (bucket id (first + 1) es) p)) in
+    let more : 1 + n ≡ suc n = omega arith in
+    let counters : more_destroyed n (more_destroyed 1 l.counters) ≡ more_destroyed (suc n) l.counters = destroyed_both 1 n l.counters ∙ ap (λ (m : ℕ). more_destroyed m l.counters) more in
+    λ i. record { pools = pools i; counters = counters i }
+
+pub step_ledger : (keep id first : ℕ) (x : Entry) (es : List Entry) (l : Ledger) → keep ≤ length es → is_empty x ≡ true → trimmed_ledger keep (bucket id (first + 1) es) (after_destroy x.pool l) ≡ trimmed_ledger keep (bucket id first (x ∷ es)) l
+step_ledger keep id first x es l le empty =
+    step_without (trim keep es) id first x es l ∙ ap (λ (m : ℕ). ledger_without m (bucket id first (x ∷ es)) l) (sym (trim_yes keep x es le empty))
+
+pub front_unused : (k : Key) (first : ℕ) (x : Entry) (es : List Entry) (l : Ledger) → AreBookedIn k l.pools (x ∷ es) → x.allocated ≡ 0 → HasNoSets x.pool l
+front_unused k first x es l stored none =
+    let found = stored.each 0 x refl in
+    record {
+      pool = found.pool;
+      is_live = found.is_live;
+      empty = λ name. elim (cases_eq 0 (found.pool.live name)) [
+        | inl same ↦ sym same
+        | inr some ↦ absurd (let bad = size_pos found.pool.live x.allocated name found.booked.allocated (omega arith) in omega arith)
+      ];
+    }
+
+pub step_stored : (k : Key) (first : ℕ) (x : Entry) (es : List Entry) (pools : ℕ → Option Pool) → AreBookedIn k pools (x ∷ es) → AreBookedIn k (with_pool pools x.pool None) es
+step_stored k first x es pools stored = record {
+  distinct = λ i j d e at at' same. let both : suc i ≡ suc j = stored.distinct (suc i) (suc j) d e at at' same in let one : i ≡ j = omega arith in one;
+  each = λ i e at.
+      let had = stored.each (suc i) e at in
+      let other : e.pool ≢ x.pool = λ same. let both : suc i ≡ 0 = stored.distinct (suc i) 0 e x at refl same in omega arith in
+      record { pool = had.pool; is_live = with_pool_other pools x.pool e.pool None other ∙ had.is_live; booked = had.booked };
+}
+
+-- a front that stays
+pub still : (n : ℕ) → n ≡ 0 → (b : Bucket) (l : Ledger) → ledger_without n b l ≡ l
+still n none b l =
+    let counters = destroyed_none l.counters in
+    let kept : ledger_without 0 b l ≡ l = λ i. record { pools = l.pools; counters = counters i } in
+    ap (λ (m : ℕ). ledger_without m b l) none ∙ kept
+
+module _ {P : Type 0} (name : P → ℕ) (keep : ℕ) where
+  -- the first of more stored pools than are to stay
+  pub record IsFront (items : List (DescriptorPool P)) (p : DescriptorPool P) : Type 0 where
+    pub long : keep < length items
+    pub is : p ≡ get_or items 0 p
+    pub empty : p.allocated ≡ 0
+
+  pub is_front : (items : List (DescriptorPool P)) (p q : DescriptorPool P) → keep < length items → p ≡ get_or items 0 p → q ≡ get_or items 0 q → q.allocated ≡ 0 → IsFront items p
+  is_front [] p q long is other empty = absurd (omega arith)
+  is_front (x ∷ items) p q long is other empty = record { long = long; is = is; empty = ap (λ (y : DescriptorPool P). y.allocated) (is ∙ sym other) ∙ empty }
+
+  abbrev pub stored : Key → ℕ → List (DescriptorPool P) → (ℕ → Option Pool) → Type 0
+  stored k first items pools = AreBookedIn k pools (map (entry_of name) items)
+
+  pub turn_unused : (k : Key) (first : ℕ) (items : List (DescriptorPool P)) (p : DescriptorPool P) (l : Ledger) → IsFront items p → stored k first items l.pools → HasNoSets (name p.raw) l
+  turn_unused k first [] p l front agree = (let bad = front.long in absurd (omega arith))
+  turn_unused k first (x ∷ items) p l front agree = (
+      let is : p ≡ x = front.is in
+      let empty : x.allocated ≡ 0 = ap (λ (y : DescriptorPool P). y.allocated) (sym is) ∙ front.empty in
+      rw is (front_unused k first (entry_of name x) (map (entry_of name) items) l agree empty))
+
+  -- what the turn leaves
+  pub record Turned (k : Key) (id first : ℕ) (items news : List (DescriptorPool P)) (before after : Ledger) : Type 0 where
+    pub agree : stored k (first + 1) news after.pools
+    pub books : trimmed_bucket keep (bucket id (first + 1) (map (entry_of name) news)) ≡ trimmed_bucket keep (bucket id first (map (entry_of name) items))
+    pub ledger : trimmed_ledger keep (bucket id (first + 1) (map (entry_of name) news)) after ≡ trimmed_ledger keep (bucket id first (map (entry_of name) items)) before
+
+  pub turn : (k : Key) (id first : ℕ) (items news : List (DescriptorPool P)) (p : DescriptorPool P) (l after : Ledger) → IsFront items p → news ≡ drop 1 items → after ≡ after_destroy (name p.raw) l → stored k first items l.pools → Turned k id first items news l after
+  turn k id first [] news p l after front new taken agree = (let bad = front.long in absurd (omega arith))
+  turn k id first (x ∷ items) news p l after front new taken agree =
+      let is : p ≡ x = front.is in
+      let long : keep < suc (length items) = front.long in
+      let same = length-map items (entry_of name) in
+      let le : keep ≤ length (map (entry_of name) items) = omega arith in
+      let gone : after ≡ after_destroy (name x.raw) l = taken ∙ ap (λ (z : DescriptorPool P). after_destroy (name z.raw) l) is in
+      let empty : is_empty (entry_of name x) ≡ true = eq-eqb x.allocated 0 (ap (λ (z : DescriptorPool P). z.allocated) (sym is) ∙ front.empty) in
+      rw (new, gone) (record {
+        agree = step_stored k first (entry_of name x) (map (entry_of name) items) l.pools agree;
+        books = step_books keep id first (entry_of name x) (map (entry_of name) items) le empty;
+        ledger = step_ledger keep id first (entry_of name x) (map (entry_of name) items) l le empty;
+      })
+
+  -- a front with sets stays, and so do the last pools that are kept
+  pub stop_full : (id first : ℕ) (items : List (DescriptorPool P)) (q : DescriptorPool P) → keep < length items → q ≡ get_or items 0 q → (q.allocated ≡ 0 → ⊥) → front_but keep (bucket id first (map (entry_of name) items)) ≡ 0
+  stop_full id first [] q long is full = absurd (omega arith)
+  stop_full id first (x ∷ items) q long is full = (
+      let same : q ≡ x = is in
+      trim_no keep (entry_of name x) (map (entry_of name) items) (ne_eqb x.allocated 0 (λ none. full (ap (λ (z : DescriptorPool P). z.allocated) same ∙ none))))
+
+  pub stop_short : (id first : ℕ) (items : List (DescriptorPool P)) → length items ≤ keep → front_but keep (bucket id first (map (entry_of name) items)) ≡ 0
+  stop_short id first items short = trim_short keep (map (entry_of name) items) (let same = length-map items (entry_of name) in omega arith)

@@ -1,0 +1,126 @@
+-- The front of a bucket: what giving back does to it, and which places keep their pools when it goes.
+use Rattle.std.proofs.Common.{◌≡◌, ℕ, zero, suc, ◌+◌, ◌-◌, ◌<◌, ◌≤◌, true, false, min, List, [], ◌∷◌, length, map, drop, slice_get, Option, Some, None, inl, inr, refl, sym, ap, ◌∙◌, subst, arith, eqb-true, eq-eqb, lt-ltb, le-ltb, drop-drop}
+use Rattle.std.specs.List.{prefix_len}
+use Rattle.std.proofs.lemmas.Bool.{cases_Bool, cases_lt}
+use Rattle.std.proofs.lemmas.List.{drop-map}
+use Rattle.std.proofs.lemmas.List.Sums.{prefix_len-le-length}
+use Rattle.gpu_descriptor.specs.Model.Books.{Entry, Bucket, entry_at}
+use Rattle.gpu_descriptor.specs.Inner.Buckets.{front_but, trimmed_bucket}
+use Rattle.gpu_descriptor.specs.Model.Release.{entry_less, bucket_less, is_empty, empty_front, spent_front, without_front}
+use Rattle.gpu_descriptor.proofs.lists.AtPlaces.{get_drop}
+
+-- how many pools go from the front of a list, if so many are to stay
+abbrev pub trim : ℕ → List Entry → ℕ
+trim keep es = min (prefix_len is_empty es) (length es - keep)
+
+pub trim_yes : (keep : ℕ) (x : Entry) (es : List Entry) → keep ≤ length es → is_empty x ≡ true → trim keep (x ∷ es) ≡ suc (trim keep es)
+trim_yes keep x es le h = rw h (omega arith)
+
+pub trim_no : (keep : ℕ) (x : Entry) (es : List Entry) → is_empty x ≡ false → trim keep (x ∷ es) ≡ 0
+trim_no keep x es h = rw h (omega arith)
+
+pub trim_short : (keep : ℕ) (es : List Entry) → length es ≤ keep → trim keep es ≡ 0
+trim_short keep es le = omega arith
+
+-- with no pool to stay the whole empty front goes
+pub whole_front : (b : Bucket) → front_but 0 b ≡ empty_front b
+whole_front b = (let le = prefix_len-le-length is_empty b.pools in omega arith)
+
+pub whole_trimmed : (b : Bucket) → trimmed_bucket 0 b ≡ without_front (empty_front b) b
+whole_trimmed b = ap (λ (n : ℕ). without_front n b) (whole_front b)
+
+-- a change that leaves empty pools empty
+abbrev pub KeepsEmpty : (Entry → Entry) → Type 0
+KeepsEmpty g = (e : Entry) → is_empty e ≡ true → is_empty (g e) ≡ true
+
+-- The front after a change is the front before it, and then the front of what that leaves
+pub trim-map : (g : Entry → Entry) → KeepsEmpty g → (es : List Entry) → trim 1 (map g es) ≡ trim 1 es + trim 1 (drop (trim 1 es) (map g es))
+trim-map g keeps [] = refl
+trim-map g keeps (x ∷ []) = (let one : trim 1 (x ∷ []) ≡ 0 = omega arith in rw one (omega arith))
+trim-map g keeps (x ∷ y ∷ es) = elim (cases_Bool (is_empty x)) [
+  | inl h ↦ rw (trim_yes 1 (g x) (map g (y ∷ es)) (let more : 1 ≤ length (map g (y ∷ es)) = omega arith in more) (keeps x h), trim_yes 1 x (y ∷ es) (let more : 1 ≤ length (y ∷ es) = omega arith in more) h) (omega (arith, trim-map g keeps (y ∷ es)))
+  | inr h ↦ rw (trim_no 1 x (y ∷ es) h) (omega arith)
+]
+
+-- a pool in the front is empty
+pub front_empty : (es : List Entry) (i : ℕ) (e : Entry) → slice_get es i ≡ Some e → i < prefix_len is_empty es → is_empty e ≡ true
+front_empty [] i e at lt = absurd (omega arith)
+front_empty (x ∷ es) zero e at lt = elim (cases_Bool (is_empty x)) [
+  | inl h ↦ (let same : x ≡ e = cc in subst (λ (z : Entry). is_empty z ≡ true) same h)
+  | inr h ↦ (let none : prefix_len is_empty (x ∷ es) ≡ 0 = rw h refl in absurd (omega arith))
+]
+front_empty (x ∷ es) (suc i) e at lt = elim (cases_Bool (is_empty x)) [
+  | inl h ↦ (let more : prefix_len is_empty (x ∷ es) ≡ 1 + prefix_len is_empty es = rw h refl in front_empty es i e at (omega arith))
+  | inr h ↦ (let none : prefix_len is_empty (x ∷ es) ≡ 0 = rw h refl in absurd (omega arith))
+]
+
+-- a place of the books, by its number
+pub entry_at-found : (b : Bucket) (n : ℕ) (e : Entry) → entry_at b n ≡ Some e → (b.first ≤ n) × (slice_get b.pools (n - b.first) ≡ Some e)
+entry_at-found b n e h = elim (cases_lt n b.first) [
+  | inl lt ↦ (let none : entry_at b n ≡ None = rw (lt-ltb n b.first lt) refl in absurd (let bad : ◌≡◌ {A = Option Entry} None (Some e) = sym none ∙ h in cc))
+  | inr le ↦ (le, (let here : entry_at b n ≡ slice_get b.pools (n - b.first) = rw (le-ltb n b.first le) refl in sym here ∙ h))
+]
+
+pub entry_at-from : (b : Bucket) (n : ℕ) (e : Entry) → b.first ≤ n → slice_get b.pools (n - b.first) ≡ Some e → entry_at b n ≡ Some e
+entry_at-from b n e le h = rw (le-ltb n b.first le) h
+
+-- what has a number after the front is gone had it before
+pub entry_at-without : (f : ℕ) (b : Bucket) (n : ℕ) (e : Entry) → entry_at (without_front f b) n ≡ Some e → (b.first + f ≤ n) × (entry_at b n ≡ Some e)
+entry_at-without f b n e h =
+    let found = entry_at-found (without_front f b) n e h in
+    let place : f + (n - (b.first + f)) ≡ n - b.first = omega (arith, found.0) in
+    (found.0, entry_at-from b n e (omega (arith, found.0)) (rw (← place) (sym (get_drop b.pools f (n - (b.first + f))) ∙ found.1)))
+
+-- a pool with sets keeps its number when the front goes
+pub entry_at-kept : (b : Bucket) (f n : ℕ) (e : Entry) → f ≤ empty_front b → entry_at b n ≡ Some e → is_empty e ≡ false → entry_at (without_front f b) n ≡ Some e
+entry_at-kept b f n e le h full =
+    let found = entry_at-found b n e h in
+    elim (cases_lt (n - b.first) f) [
+      | inl lt ↦ (let empty : is_empty e ≡ true = front_empty b.pools (n - b.first) e found.1 (omega arith) in absurd (let bad : true ≡ false = sym empty ∙ full in cc))
+      | inr ge ↦ (
+          let place : f + (n - (b.first + f)) ≡ n - b.first = omega (arith, found.0) in
+          entry_at-from (without_front f b) n e (omega (arith, found.0)) (get_drop b.pools f (n - (b.first + f)) ∙ rw place found.1))
+    ]
+
+pub entry_less-less : (a c : ℕ) (e : Entry) → entry_less c (entry_less a e) ≡ entry_less (a + c) e
+entry_less-less a c e =
+    let allocated : e.allocated - a - c ≡ e.allocated - (a + c) = omega arith in
+    let free : e.free + a + c ≡ e.free + (a + c) = omega arith in
+    λ i. record { pool = e.pool; capacity = e.capacity; allocated = allocated i; free = free i }
+
+pub less-less : (f g : ℕ → ℕ) (b : Bucket) → bucket_less g (bucket_less f b) ≡ bucket_less (λ p. f p + g p) b
+less-less f g b = λ i. record b { pools = each b.pools i }
+  where
+    each : (es : List Entry) → map (λ e. entry_less (g e.pool) e) (map (λ e. entry_less (f e.pool) e) es) ≡ map (λ e. entry_less (f e.pool + g e.pool) e) es
+    each [] = refl
+    each (e ∷ es) = λ i. entry_less-less (f e.pool) (g e.pool) e i ∷ each es i
+
+pub less-without : (g : ℕ → ℕ) (n : ℕ) (b : Bucket) → bucket_less g (without_front n b) ≡ without_front n (bucket_less g b)
+less-without g n b = λ i. record b { first = b.first + n; pools = sym (drop-map (λ (e : Entry). entry_less (g e.pool) e) n b.pools) i }
+
+pub without-without : (m n : ℕ) (b : Bucket) → without_front n (without_front m b) ≡ without_front (m + n) b
+without-without m n b =
+    let first : b.first + m + n ≡ b.first + (m + n) = omega arith in
+    λ i. record b { first = first i; pools = drop-drop n m b.pools i }
+
+less-keeps_empty : (g : ℕ → ℕ) → KeepsEmpty (λ e. entry_less (g e.pool) e)
+less-keeps_empty g e h =
+    let none : e.allocated ≡ 0 = eqb-true e.allocated 0 h in
+    eq-eqb (e.allocated - g e.pool) 0 (omega arith)
+
+-- The front after a second subtraction is the front after the first, and then the front of what that leaves
+pub spent_front-less : (g : ℕ → ℕ) (b : Bucket) → spent_front (bucket_less g b) ≡ spent_front b + spent_front (bucket_less g (trimmed_bucket 1 b))
+spent_front-less g b =
+    trim-map (λ e. entry_less (g e.pool) e) (less-keeps_empty g) b.pools
+    ∙ ap (λ (es : List Entry). trim 1 b.pools + trim 1 es) (drop-map (λ (e : Entry). entry_less (g e.pool) e) (trim 1 b.pools) b.pools)
+
+-- THE LAW FOR ONE KEY: two parts, the front gone after each, leave what both at once leave
+pub one_key : (f g : ℕ → ℕ) (b : Bucket) → trimmed_bucket 1 (bucket_less g (trimmed_bucket 1 (bucket_less f b))) ≡ trimmed_bucket 1 (bucket_less (λ p. f p + g p) b)
+one_key f g b =
+    let c = bucket_less f b in
+    let d = bucket_less (λ p. f p + g p) b in
+    let twice : bucket_less g c ≡ d = less-less f g b in
+    let part : bucket_less g (trimmed_bucket 1 c) ≡ without_front (spent_front c) d = less-without g (spent_front c) c ∙ ap (without_front (spent_front c)) twice in
+    let sizes : spent_front d ≡ spent_front c + spent_front (bucket_less g (trimmed_bucket 1 c)) = ap spent_front (sym twice) ∙ spent_front-less g c in
+    ap (trimmed_bucket 1) part ∙ without-without (spent_front c) (spent_front (without_front (spent_front c) d)) d
+    ∙ ap (λ (n : ℕ). without_front n d) (ap (λ (x : Bucket). spent_front c + spent_front x) (sym part) ∙ sym sizes)

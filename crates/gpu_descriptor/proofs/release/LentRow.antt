@@ -1,0 +1,76 @@
+-- One run through a row that the table lends.
+use Rattle.std.proofs.Common.{◌≡◌, ℕ, ◌-◌, Bool, List, [], ◌∷◌, map, count_by, slice_get, Option, Some, None, IsSome, length, refl, sym, ap, subst, ◌∙◌}
+use Rattle.std.proofs.Math.Path.{fun_ext}
+use Rattle.std.specs.Map.{lookup, set_value}
+use Rattle.std.specs.Option.{option_map_or}
+use Rattle.gpu_descriptor_types.specs.Ledger.{Ledger, live_sets}
+use Rattle.gpu_descriptor.specs.declared.set.BucketKey.{BucketKey}
+use Rattle.gpu_descriptor.specs.declared.set.DescriptorSet.{DescriptorSet}
+use Rattle.gpu_descriptor.specs.declared.bucket.DescriptorBucket.{DescriptorBucket}
+use Rattle.gpu_descriptor.specs.Model.Agreement.{Agree, AreOutstanding}
+use Rattle.gpu_descriptor.specs.Model.Books.{Key, key_eq, Entry, Bucket, no_pools, books_of, HasDistinctKeys}
+use Rattle.gpu_descriptor.specs.Inner.Buckets.{AreBookedIn}
+use Rattle.gpu_descriptor.specs.Inner.Releases.{IsTakenAt, RunsInto, names_of, bucket_back}
+use Rattle.gpu_descriptor.specs.Model.Release.{more_destroyed, more_released, given_back, released, pools_gone}
+use Rattle.gpu_descriptor.specs.Caller.Comparisons.{open_pools}
+use Rattle.gpu_descriptor.specs.Caller.KeyOf.{key_of}
+use Rattle.gpu_descriptor.specs.Caller.Sets.{items_of}
+use Rattle.gpu_descriptor.specs.Caller.States.{named_row, state_of, keys_of}
+use Rattle.gpu_descriptor.specs.Inner.RunSteps.{AllPass, lies_at}
+use Rattle.gpu_descriptor.specs.Inner.Stored.{books_in, row_of, bucket_of}
+use Rattle.gpu_descriptor.specs.Caller.Values.{Allocations}
+use Rattle.gpu_descriptor.proofs.release.Fronts.{entry_at-found}
+use Rattle.gpu_descriptor.proofs.foreign.LedgerPools.{taken_from, release_pools}
+use Rattle.gpu_descriptor.proofs.table.TableBooks.{put_books, rows_in, looked_up, written, key_once, keys_are}
+use Rattle.gpu_descriptor.proofs.request.StateAgrees.{booked_of}
+use Rattle.gpu_descriptor.proofs.release.WholeRun.{trimmed_pools, taken_of, whole_run, gone_run}
+
+module _ {P S : Type 0} (name : P → ℕ) (set_name : S → ℕ) (a : Allocations P) (l : Ledger) (es : List (BucketKey × DescriptorBucket P)) (is : a.table ≡ map row_of es) (agree : Agree (state_of name a l)) (x : DescriptorSet S)
+    (test : BucketKey → Bool) (same : (k : BucketKey) → test k ≡ key_eq x.key.is (key_of k)) where
+  books_are : (state_of name a l).books ≡ books_in name es
+  books_are = ap (λ (t : List _). books_of (map (named_row name) t)) is
+
+  at_key : (o : Option (DescriptorBucket P)) → lookup test es ≡ o → (state_of name a l).books x.key.is ≡ option_map_or (bucket_of name) o no_pools
+  at_key o found = ap (λ (f : Key → Bucket). f x.key.is) books_are ∙ looked_up name test x.key.is same es ∙ ap (λ (o : Option (DescriptorBucket P)). option_map_or (bucket_of name) o no_pools) found
+
+  -- the row is there
+  pub no_row : AreOutstanding (items_of set_name (x ∷ [])) (state_of name a l) → lookup test es ≡ None → ⊥
+  no_row out none =
+      let t = taken_of set_name (state_of name a l) agree x [] tt out in
+      let e : ((state_of name a l).books x.key.is).pools ≡ [] = ap (λ (b : Bucket). b.pools) (at_key None none) in
+      let found = (entry_at-found ((state_of name a l).books x.key.is) x.number t.entry t.at).1 in
+      let bad : ◌≡◌ {A = Option Entry} None (Some t.entry) = ap (λ (ps : List Entry). slice_get ps (x.number - ((state_of name a l).books x.key.is).first)) (sym e) ∙ found in cc
+
+  module _ (bucket : DescriptorBucket P) (found : lookup test es ≡ Some bucket) where
+    pub row_stored : AreBookedIn x.key.is l.pools (bucket_of name bucket).pools
+    row_stored = subst (λ (b : Bucket). AreBookedIn x.key.is l.pools b.pools) (at_key (Some bucket) found) (booked_of (state_of name a l) x.key.is agree)
+
+    pub row_open : open_pools ((state_of name a l).books x.key.is) ≡ open_pools (bucket_of name bucket)
+    row_open = ap open_pools (at_key (Some bucket) found)
+
+    pub row_taken : (xs : List (DescriptorSet S)) → AllPass (lies_at x.key.is x.number) xs → AreOutstanding (items_of set_name (x ∷ xs)) (state_of name a l) → IsTakenAt x.key.is x.number (names_of set_name (x ∷ xs)) (bucket_of name bucket) l.pools
+    row_taken xs have out = subst (λ b. IsTakenAt x.key.is x.number (names_of set_name (x ∷ xs)) b l.pools) (at_key (Some bucket) found) (taken_of set_name (state_of name a l) agree x xs have out)
+
+    module _ (xs : List (DescriptorSet S)) (have : AllPass (lies_at x.key.is x.number) xs) (w : DescriptorBucket P) (after : Ledger) (into : RunsInto x.key.is x.number (names_of set_name (x ∷ xs)) (bucket_of name bucket) l (bucket_of name w) after) where
+      here : RunsInto x.key.is x.number (names_of set_name (x ∷ xs)) ((state_of name a l).books x.key.is) l (bucket_of name w) after
+      here = subst (λ b. RunsInto x.key.is x.number (names_of set_name (x ∷ xs)) b l (bucket_of name w) after) (sym (at_key (Some bucket) found)) into
+
+      pub row_ran : (limit : ℕ) (fs : List (BucketKey × DescriptorBucket P)) → fs ≡ set_value test es w → state_of name (record { limit = limit; table = map row_of fs; looks = 0; comparisons = 0 }) after ≡ released (items_of set_name (x ∷ xs)) (state_of name a l)
+      row_ran limit fs wrote =
+          let new : Allocations P = record { limit = limit; table = map row_of fs; looks = 0; comparisons = 0 } in
+          let s = state_of name a l in
+          let k = x.key.is in
+          let into = here in
+          let some : IsSome (lookup test es) = rw found refl in
+          let books : (state_of name new after).books ≡ put_books s.books k (bucket_of name w) = ap (books_in name) wrote ∙ fun_ext (written name test k same es w some) ∙ ap (λ (f : Key → Bucket). put_books f k (bucket_of name w)) (sym books_are) in
+          let b = bucket_back (s.books k) x.number (length (names_of set_name (x ∷ xs))) into.entry in
+          let pools : after.pools ≡ trimmed_pools b (taken_from l.pools into.entry.pool (live_sets k.counts (names_of set_name (x ∷ xs)))) = ap (λ (m : Ledger). m.pools) into.ledger ∙ ap (trimmed_pools b) (release_pools into.entry.pool (live_sets k.counts (names_of set_name (x ∷ xs))) l) in
+          let left : state_of name new after ≡ record { books = put_books s.books k (bucket_of name w); ledger = after.pools } = λ i. record { books = books i; ledger = after.pools } in
+          left ∙ whole_run set_name s agree x xs have into.entry into.at (bucket_of name w) after.pools into.books pools
+
+      pub row_counted : HasDistinctKeys (rows_in name es) → after.counters ≡ more_destroyed (pools_gone (keys_of a) (items_of set_name (x ∷ xs)) (given_back (items_of set_name (x ∷ xs)) (state_of name a l))) (more_released 1 l.counters)
+      row_counted distinct =
+          let into = here in
+          let there : count_by (key_eq x.key.is) (keys_of a) ≡ 1 = ap (count_by (key_eq x.key.is)) (keys_are a es is) ∙ key_once name test x.key.is same es bucket distinct found in
+          let gone = gone_run set_name (state_of name a l) agree x xs have into.entry into.at (keys_of a) there in
+          ap (λ (m : Ledger). m.counters) into.ledger ∙ ap (λ (n : ℕ). more_destroyed n (more_released 1 l.counters)) (sym gone)

@@ -1,0 +1,109 @@
+-- One run: what the device may take of the caller's iterator, and what it took.
+use Rattle.std.proofs.Common.{◌≡◌, ℕ, ◌+◌, ◌-◌, ◌≤◌, true, List, [], ◌∷◌, length, map, slice_get, refl, sym, ap, subst, ◌∙◌, arith, eq-eqb, Option, Some, None, OnSome}
+use Rattle.std.specs.Iterator.{Count, HoldsAlong, IsFinite, IsNearerEnd, Yields, YieldsThen}
+use Rattle.std.proofs.lemmas.Bool.{and_from}
+use Rattle.std.proofs.lemmas.List.{length-map}
+use Rattle.gpu_descriptor_types.specs.Ledger.{Pool, Ledger, AreLive, live_sets}
+use Rattle.gpu_descriptor_types.specs.Flags.{CanFree}
+use Rattle.gpu_descriptor_types.specs.Multiset.{LiveSet}
+use Rattle.gpu_descriptor.specs.declared.set.DescriptorSet.{DescriptorSet}
+use Rattle.gpu_descriptor.specs.declared.bucket.run.Run.{Run}
+use Rattle.gpu_descriptor.specs.Model.Agreement.{live_in}
+use Rattle.gpu_descriptor.specs.Model.Books.{Key, Entry, Bucket}
+use Rattle.gpu_descriptor.specs.Inner.Buckets.{AreBookedIn}
+use Rattle.gpu_descriptor.specs.Inner.Releases.{IsTakenAt, names_of}
+use Rattle.gpu_descriptor.specs.Inner.RunSteps.{at_place, RunStep, CountsFrom, EndsRun, AllPass}
+use Rattle.gpu_descriptor.proofs.release.BucketRun.{AreTaken, can_free, can_take, took_these, length_names}
+use Rattle.gpu_descriptor.proofs.release.RunTaken.{Stopped, Whole, whole, front}
+
+pub at_own : {S : Type 0} (x : DescriptorSet S) → at_place x.id x.number x ≡ true
+unfolding at_place
+at_own x = and_from _ _ (eq-eqb x.id x.id refl) (eq-eqb x.number x.number refl)
+
+pub names : {S : Type 0} (name : S → ℕ) (xs : List (DescriptorSet S)) → map name (map (λ x. x.raw) xs) ≡ names_of name xs
+names name [] = refl
+names name (x ∷ xs) = ap (λ ns. name x.raw ∷ ns) (names name xs)
+
+module _ {T S : Type 0} (steps : T → Option (DescriptorSet S) → T → Type 0) (can : T → Type 0) (left : T → Count) (name : S → ℕ) where
+  -- whatever run comes, its sets are in the place
+  abbrev pub Takes : T → DescriptorSet S → Bucket → (ℕ → Option Pool) → Type 0
+  Takes rest x b pools = HoldsAlong steps rest (λ xs. AllPass (at_place x.id x.number) xs → IsTakenAt x.key.is x.number (names_of name (x ∷ xs)) b pools)
+
+  pub run_counts : (rest : T) (x : DescriptorSet S) (b : Bucket) (pools : ℕ → Option Pool) (e : Entry) → slice_get b.pools (x.number - b.first) ≡ Some e → e.allocated ≤ 2147483648 → Takes rest x b pools → CountsFrom steps x.id x.number rest (0 + 1)
+  run_counts rest x b pools e at small h = λ zs t z have.
+      let take = can_take x.key.is x.number (names_of name (x ∷ zs)) b pools e (h zs t z have) at in
+      let fits = take.fits in
+      let long = length-map zs (λ (y : DescriptorSet S). name y.raw) in
+      omega arith
+
+  -- all that a run gives is live in the place
+  pub run_live : (b : Bucket) (l : Ledger) (x : DescriptorSet S) (e : Entry) (s : Run T S) → s.ahead.now ≡ Some x → x.id ≡ s.id → x.number ≡ s.number → AreBookedIn x.key.is l.pools b.pools → slice_get b.pools (x.number - b.first) ≡ Some e → Takes s.source.now x b l.pools
+      → HoldsAlong (RunStep steps can left) s (λ ys. AreLive e.pool (map name ys) l)
+  run_live b l x e s a k i stored at h ys t z =
+      let booked = stored.each (x.number - b.first) e at in
+      let free = subst CanFree (sym booked.booked.flags) (can_free x.key.is) in
+      let gone = live_names ys t z in
+      record {
+        pool = booked.pool;
+        is_live = booked.is_live;
+        can_free = free;
+        gone = gone.0;
+        named = gone.1.are;
+        live = λ y. (let is : live_in l.pools e.pool y ≡ booked.pool.live y = rw booked.is_live refl in let within = gone.1.within y in omega arith);
+      }
+    where
+      of_names : (k : Key) (ns : List ℕ) → map (λ (l : LiveSet). l.name) (live_sets k.counts ns) ≡ ns
+      of_names k [] = refl
+      of_names k (n ∷ ns) = ap (λ l. n ∷ l) (of_names k ns)
+
+      live_names : (ys : List S) (t : Run T S) → Yields (RunStep steps can left) s ys t → (ls : List LiveSet) × AreTaken (map name ys) (live_in l.pools e.pool) ls
+      live_names [] t z = ([], record { are = refl; within = λ y. omega arith })
+      live_names (v ∷ vs) t z =
+          let f = front steps can left s x v vs t a z in
+          let m : names_of name (x ∷ f.xs) ≡ map name (v ∷ vs) = sym (names name (x ∷ f.xs)) ∙ ap (λ ws. map name ws) f.raws in
+          let have : AllPass (at_place x.id x.number) f.xs = subst (λ l. AllPass (at_place l x.number) f.xs) (sym k) (subst (λ j. AllPass (at_place s.id j) f.xs) (sym i) f.keys) in
+          let take = can_take x.key.is x.number (names_of name (x ∷ f.xs)) b l.pools e (h f.xs f.source f.came have) at in
+          subst (λ ns. (ls : List LiveSet) × AreTaken ns (live_in l.pools e.pool) ls) m (live_sets x.key.is.counts (names_of name (x ∷ f.xs)), record { are = of_names x.key.is (names_of name (x ∷ f.xs)); within = take.live })
+
+  pub run_names : (x : DescriptorSet S) (s u : Run T S) (ys : List S) (w : Whole steps can left s x ys u) → map name ys ≡ names_of name (x ∷ w.xs)
+  run_names x s u ys w = ap (λ zs. map name zs) (sym w.raws) ∙ names name (x ∷ w.xs)
+
+  pub run_long : (x : DescriptorSet S) (s u : Run T S) (ys : List S) (w : Whole steps can left s x ys u) → s.count ≡ 0 → u.count ≡ length (names_of name (x ∷ w.xs))
+  run_long x s u ys w z =
+      let c = w.count in
+      let long = length-map w.xs (λ (y : DescriptorSet S). name y.raw) in
+      omega arith
+
+  pub run_ends : (x : DescriptorSet S) (s u : Run T S) (ys : List S) (w : Whole steps can left s x ys u) (a : Option (DescriptorSet S)) (v : T) → a ≡ u.ahead.now → v ≡ u.source.now → EndsRun steps (at_place s.id s.number) s.source.now w.xs a v
+  run_ends x s u ys w a v ea ev = rw (ea, ev) (go u.ahead.now w.stop)
+    where
+      go : (a : Option (DescriptorSet S)) → Stopped steps can left s.id s.number w.source a u.source.now → EndsRun steps (at_place s.id s.number) s.source.now w.xs a u.source.now
+      go None h = (w.keys, (w.source, w.came, h), tt)
+      go (Some y) h = (w.keys, (w.source, w.came, h.1), h.0)
+
+  pub run_goes : (x : DescriptorSet S) (s u : Run T S) (ys : List S) (w : Whole steps can left s x ys u) (a : Option (DescriptorSet S)) (v : T) → a ≡ u.ahead.now → v ≡ u.source.now → IsFinite (left s.source.now) → OnSome a (IsNearerEnd can left s.source.now v)
+  run_goes x s u ys w a v ea ev f = rw (ea, ev) (go u.ahead.now w.stop)
+    where
+      go : (a : Option (DescriptorSet S)) → Stopped steps can left s.id s.number w.source a u.source.now → OnSome a (IsNearerEnd can left s.source.now u.source.now)
+      go None h = tt
+      go (Some y) h = let p = w.ends f in let q = h.2.on p.0 in (h.2.keeps, q.1, omega (arith, p.1, q.2))
+
+  -- what the device took of a run that began with x ahead
+  pub record Done (s : Run T S) (x : DescriptorSet S) (b : Bucket) (pools : ℕ → Option Pool) (e : Entry) (u : Run T S) (ys : List S) (ls : List LiveSet) : Type 0 where
+    pub run : Whole steps can left s x ys u
+    pub have : AllPass (at_place x.id x.number) run.xs
+    pub fits : length (names_of name (x ∷ run.xs)) ≤ e.allocated
+    pub count : u.count ≡ length (names_of name (x ∷ run.xs))
+    pub sets : ls ≡ live_sets x.key.is.counts (names_of name (x ∷ run.xs))
+    pub long : length ls ≡ length (names_of name (x ∷ run.xs))
+
+  pub done : (s : Run T S) (x : DescriptorSet S) (b : Bucket) (pools : ℕ → Option Pool) (e : Entry) (u : Run T S) (ys : List S) (ls : List LiveSet) → s.ahead.now ≡ Some x → s.id ≡ x.id → s.number ≡ x.number → s.count ≡ 0
+      → AreBookedIn x.key.is pools b.pools → slice_get b.pools (x.number - b.first) ≡ Some e → Takes s.source.now x b pools
+      → YieldsThen (RunStep steps can left) s ys None u → AreTaken (map name ys) (live_in pools e.pool) ls → Done s x b pools e u ys ls
+  done s x b pools e u ys ls ahead k i zero_count stored at h gives are =
+      let own : at_place s.id s.number x ≡ true = rw (k, i) (at_own x) in
+      let w = whole steps can left s x ys u ahead own gives in
+      let have : AllPass (at_place x.id x.number) w.xs = subst (λ l. AllPass (at_place l x.number) w.xs) k (subst (λ j. AllPass (at_place s.id j) w.xs) i w.keys) in
+      let take = can_take x.key.is x.number (names_of name (x ∷ w.xs)) b pools e (h w.xs w.source w.came have) at in
+      let sets : ls ≡ live_sets x.key.is.counts (names_of name (x ∷ w.xs)) = took_these x.key.is b pools (x.number - b.first) e (names_of name (x ∷ w.xs)) ls stored at (subst (λ ns. AreTaken ns (live_in pools e.pool) ls) (run_names x s u ys w) are) in
+      record { run = w; have = have; fits = take.fits; count = run_long x s u ys w zero_count; sets = sets; long = ap (λ (l : List LiveSet). length l) sets ∙ length_names x.key.is (names_of name (x ∷ w.xs)) }

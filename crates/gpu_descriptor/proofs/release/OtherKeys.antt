@@ -1,0 +1,64 @@
+-- Giving sets back leaves the keys of which none of them is.
+use Rattle.std.proofs.Common.{◌≡◌, ℕ, ◌+◌, ◌-◌, ◌&&◌, Bool, true, false, List, [], ◌∷◌, count_by, Some, None, option_map, slice_get, refl, sym, ap, ◌∙◌, arith}
+use Rattle.std.proofs.Math.Path.{fun_ext}
+use Rattle.std.proofs.lemmas.Bool.{and_parts, or_parts, or_from, false_from_ne_true}
+use Rattle.std.specs.List.{list_any}
+use Rattle.std.specs.Prelude.{if◌then◌else◌}
+use Rattle.gpu_descriptor_types.proofs.Counting.{count_by_no}
+use Rattle.gpu_descriptor_types.specs.Multiset.{LiveSet, set_eq}
+use Rattle.gpu_descriptor.specs.Model.Agreement.{State, Item, Agree, set_of}
+use Rattle.gpu_descriptor.specs.Model.Books.{Key, key_eq, Bucket, Entry, entry_at}
+use Rattle.gpu_descriptor.specs.Model.Promises.{IsUntouched}
+use Rattle.gpu_descriptor.specs.Laws.Release.{ReleaseOthers}
+use Rattle.gpu_descriptor.specs.Model.Release.{given_back, released, spent_front, in_front, lies_in, pool_less}
+use Rattle.gpu_descriptor.proofs.table.Exact.{key_exact}
+use Rattle.gpu_descriptor.proofs.release.Fronts.{entry_at-from}
+use Rattle.gpu_descriptor.proofs.release.ReleaseAgrees.{front_found, none_back}
+use Rattle.gpu_descriptor.proofs.release.Places.{back, lies_in-found, entry_at-less, some_before}
+use Rattle.gpu_descriptor.proofs.request.Rollback.{other_key}
+
+module _ {A : Type 0} (f g : A → Bool) (le : (t : A) → f t ≡ true → g t ≡ true) where
+  off : (t : A) → g t ≡ false → f t ≡ false
+  off t none = false_from_ne_true (f t) (λ on. (let bad : true ≡ false = sym (le t on) ∙ none in cc))
+
+  any_off : (m : List A) → list_any g m ≡ false → list_any f m ≡ false
+  any_off [] none = refl
+  any_off (t ∷ m) none =
+      let both = or_parts (g t) (list_any g m) none in
+      or_from (f t) (list_any f m) (off t both.0) (any_off m both.1)
+
+  count_off : (m : List A) → list_any g m ≡ false → count_by f m ≡ 0
+  count_off [] none = refl
+  count_off (t ∷ m) none =
+      let both = or_parts (g t) (list_any g m) none in
+      count_by_no f t m (off t both.0) ∙ count_off m both.1
+
+-- a pool in the books of a key that the sets don't name stays on the device
+other_pool : (m : List Item) (s : State) → Agree s → (k : Key) → list_any (λ t. key_eq t.key k) m ≡ false → (n : ℕ) (e : Entry) → entry_at (s.books k) n ≡ Some e → (released m s).ledger e.pool ≡ s.ledger e.pool
+other_pool m s agree k none n e at =
+    let own : (l : Key) (i : ℕ) (d : Entry) → entry_at (s.books l) i ≡ Some d → d.pool ≡ e.pool → key_eq l k ≡ true = λ l i d there same. ap (λ (j : Key). key_eq j k) (agree.distinct l k i n d e there at same).0 ∙ key_exact.self k in
+    let lies : (x : LiveSet) (t : Item) → (lies_in s.books e.pool t && set_eq (set_of t) x) ≡ true → key_eq t.key k ≡ true = λ x t on.
+    (let f = lies_in-found s.books e.pool t (and_parts (lies_in s.books e.pool t) (set_eq (set_of t) x) on).0 in own t.key t.number f.0 f.1 f.2) in
+    let front : (t : Item) → (let b = (given_back m s).books t.key in in_front (spent_front b) b e.pool) ≡ true → key_eq t.key k ≡ true = λ t on.
+    let b : Bucket = (given_back m s).books t.key in
+    let f = front_found b.pools (spent_front b) e.pool on in
+    let here : entry_at b (b.first + f.0) ≡ Some f.1 = entry_at-from b (b.first + f.0) f.1 (omega arith) (ap (slice_get b.pools) (let i : b.first + f.0 - b.first ≡ f.0 = omega arith in i) ∙ f.3) in
+    let d = some_before _ (entry_at (s.books t.key) (b.first + f.0)) f.1 (sym (entry_at-less (back m s) (s.books t.key) (b.first + f.0)) ∙ here) in
+    own t.key (b.first + f.0) d.0 d.1 (ap (λ (x : Entry). x.pool) d.2 ∙ f.4) in
+    let kept : (λ (x : LiveSet). count_by (λ t. lies_in s.books e.pool t && set_eq (set_of t) x) m) ≡ (λ x. 0) = fun_ext (λ x. count_off (λ t. lies_in s.books e.pool t && set_eq (set_of t) x) (λ t. key_eq t.key k) (lies x) m none) in
+    ap (λ (b : Bool). if b then None else (given_back m s).ledger e.pool) (any_off (λ t. let b = (given_back m s).books t.key in in_front (spent_front b) b e.pool) (λ t. key_eq t.key k) front m none)
+    ∙ ap (λ (f : LiveSet → ℕ). option_map (pool_less f) (s.ledger e.pool)) kept
+    ∙ ap (λ (w : State). w.ledger e.pool) (none_back s)
+
+pub release_others : ReleaseOthers
+release_others m s agree k none = record {
+  books = other_key m s agree k none;
+  pools = other_pool m s agree k none;
+}
+
+-- untouched by one call and by the next
+pub untouched_twice : (k : Key) (s t u : State) → IsUntouched k s t → IsUntouched k t u → IsUntouched k s u
+untouched_twice k s t u first second = record {
+  books = second.books ∙ first.books;
+  pools = λ n e at. second.pools n e (ap (λ (b : Bucket). entry_at b n) first.books ∙ at) ∙ first.pools n e at;
+}

@@ -1,0 +1,182 @@
+-- Giving back in two parts is giving back at once.
+use Rattle.std.proofs.Common.{◌≡◌, ℕ, suc, ◌+◌, ◌-◌, ◌<◌, Bool, true, false, ◌&&◌, ◌||◌, ◌==◌, List, [], ◌∷◌, ◌++◌, map, take, drop, slice_get, Option, Some, None, option_map, inl, inr, refl, sym, ap, ◌∙◌, arith, take-add}
+use Rattle.std.specs.Prelude.{if◌then◌else◌}
+use Rattle.std.proofs.Math.Path.{fun_ext}
+use Rattle.std.specs.List.{list_any}
+use Rattle.std.proofs.lemmas.Bool.{and_parts, and_from, or_left, or_right, or_cases, false_from_ne_true}
+use Rattle.std.proofs.lemmas.List.{take-map}
+use Rattle.std.proofs.lemmas.List.Folds.{list_any-append}
+use Rattle.gpu_descriptor.specs.Model.Agreement.{set_of, State, Item, item_eq, count_of, AreOutstanding, Agree}
+use Rattle.gpu_descriptor.specs.Model.Books.{Key, key_eq, Entry, Bucket, entry_at}
+use Rattle.gpu_descriptor.specs.Inner.Buckets.{trimmed_bucket}
+use Rattle.gpu_descriptor.specs.Model.Release.{lies_in, entry_less, bucket_less, pool_less, spent_front, without_front, in_front, released}
+use Rattle.gpu_descriptor.specs.Laws.Release.{ReleaseParts}
+use Rattle.gpu_descriptor_types.specs.Ledger.{Pool}
+use Rattle.gpu_descriptor_types.specs.Multiset.{LiveSet, set_eq}
+use Rattle.gpu_descriptor.proofs.release.Fronts.{less-less, less-without, one_key, spent_front-less, entry_at-from}
+use Rattle.gpu_descriptor_types.proofs.Counting.{bool_iff, count_by-append, count_by_alike, count_by_none, any_from, any_found}
+use Rattle.gpu_descriptor.proofs.table.Exact.{key_exact, item_exact}
+use Rattle.gpu_descriptor.proofs.release.Places.{back, back_named, lies_in-at, lies_in-found, kept}
+
+-- the key's spent front goes if the key is named
+abbrev pub trimmed_if : Bool → Bucket → Bucket
+trimmed_if named b = if named then without_front (spent_front b) b else b
+
+abbrev pub names_key : List Item → Key → Bool
+names_key m k = list_any (λ t. key_eq t.key k) m
+
+-- ONE KEY, named by either part or by both. A part that doesn't name it takes nothing from its pools
+books_law : (first second : Bool) (f g : ℕ → ℕ) (b : Bucket) → (second ≡ false → bucket_less (λ p. f p + g p) b ≡ bucket_less f b) → trimmed_if second (bucket_less g (trimmed_if first (bucket_less f b))) ≡ trimmed_if (first || second) (bucket_less (λ p. f p + g p) b)
+books_law true true f g b quiet = one_key f g b
+books_law true false f g b quiet =
+    let c = bucket_less f b in
+    let d = bucket_less (λ p. f p + g p) b in
+    less-without g (spent_front c) c ∙ ap (without_front (spent_front c)) (less-less f g b) ∙ ap (λ (x : Bucket). without_front (spent_front x) d) (sym (quiet refl))
+books_law false true f g b quiet = ap (trimmed_bucket 1) (less-less f g b)
+books_law false false f g b quiet = less-less f g b
+
+-- a pool of a name
+same_names : (g : ℕ → ℕ) (pool : ℕ) (es : List Entry) → list_any (λ e. e.pool == pool) (map (λ e. entry_less (g e.pool) e) es) ≡ list_any (λ e. e.pool == pool) es
+same_names g pool [] = refl
+same_names g pool (e ∷ es) = ap (λ (b : Bool). (e.pool == pool) || b) (same_names g pool es)
+
+in_front-less : (g : ℕ → ℕ) (n : ℕ) (b : Bucket) (pool : ℕ) → in_front n (bucket_less g b) pool ≡ in_front n b pool
+in_front-less g n b pool = ap (list_any (λ e. e.pool == pool)) (take-map (λ (e : Entry). entry_less (g e.pool) e) n b.pools) ∙ same_names g pool (take n b.pools)
+
+in_front-add : (m n : ℕ) (b : Bucket) (pool : ℕ) → in_front (m + n) b pool ≡ (in_front m b pool || in_front n (without_front m b) pool)
+in_front-add m n b pool = ap (list_any (λ e. e.pool == pool)) (take-add m n b.pools) ∙ list_any-append (λ e. e.pool == pool) (take m b.pools) (take n (drop m b.pools))
+
+or-false : (a : Bool) → a ≡ (a || false)
+or-false true = refl
+or-false false = refl
+
+-- whether a pool is in the front that goes
+abbrev pub goes : Bucket → ℕ → Bool
+goes b pool = in_front (spent_front b) b pool
+
+-- what goes at once goes with the first part or with the second
+goes_law : (first second : Bool) (f g : ℕ → ℕ) (b : Bucket) (pool : ℕ) → (second ≡ false → bucket_less (λ p. f p + g p) b ≡ bucket_less f b)
+    → ((first || second) && goes (bucket_less (λ p. f p + g p) b) pool) ≡ ((first && goes (bucket_less f b) pool) || (second && goes (bucket_less g (trimmed_if first (bucket_less f b))) pool))
+goes_law true true f g b pool quiet =
+    let c = bucket_less f b in
+    let d = bucket_less (λ p. f p + g p) b in
+    let twice : bucket_less g c ≡ d = less-less f g b in
+    let sizes : spent_front d ≡ spent_front c + spent_front (bucket_less g (trimmed_bucket 1 c)) = ap spent_front (sym twice) ∙ spent_front-less g c in
+    let rest : without_front (spent_front c) d ≡ bucket_less g (trimmed_bucket 1 c) = ap (without_front (spent_front c)) (sym twice) ∙ sym (less-without g (spent_front c) c) in
+    ap (λ (n : ℕ). in_front n d pool) sizes
+    ∙ in_front-add (spent_front c) (spent_front (bucket_less g (trimmed_bucket 1 c))) d pool
+    ∙ ap (λ (x : Bool). x || in_front (spent_front (bucket_less g (trimmed_bucket 1 c))) (without_front (spent_front c) d) pool)
+    (ap (λ (x : Bucket). in_front (spent_front c) x pool) (sym twice) ∙ in_front-less g (spent_front c) c pool)
+    ∙ ap (λ (x : Bucket). goes c pool || in_front (spent_front (bucket_less g (trimmed_bucket 1 c))) x pool) rest
+goes_law true false f g b pool quiet = ap (λ (x : Bucket). goes x pool) (quiet refl) ∙ or-false (goes (bucket_less f b) pool)
+goes_law false true f g b pool quiet = ap (λ (x : Bucket). goes x pool) (sym (less-less f g b))
+goes_law false false f g b pool quiet = refl
+
+-- a fact of some key that the list names
+pub any_key : (test : Key → Bool) (m : List Item) → list_any (λ t. test t.key) m ≡ true → (k : Key) × ((names_key m k && test k) ≡ true)
+any_key test m h =
+    let found = any_found item_exact (λ t. test t.key) m h in
+    let t = found.0 in
+    (t.key, and_from (names_key m t.key) (test t.key) (any_from item_exact (λ u. key_eq u.key t.key) m t found.1 (key_exact.self t.key)) found.2)
+
+pub key_any : (test : Key → Bool) (m : List Item) (k : Key) → (names_key m k && test k) ≡ true → list_any (λ t. test t.key) m ≡ true
+key_any test m k h =
+    let both = and_parts (names_key m k) (test k) h in
+    let found = any_found item_exact (λ t. key_eq t.key k) m both.0 in
+    let t = found.0 in
+    any_from item_exact (λ u. test u.key) m t found.1 (ap test (key_exact.same t.key k found.2) ∙ both.1)
+
+any_law : (a b c : Key → Bool) (m n : List Item) → ((k : Key) → ((names_key m k || names_key n k) && a k) ≡ ((names_key m k && b k) || (names_key n k && c k))) → list_any (λ t. a t.key) (m ++ n) ≡ (list_any (λ t. b t.key) m || list_any (λ t. c t.key) n)
+any_law a b c m n h = bool_iff (list_any (λ t. a t.key) (m ++ n)) (list_any (λ t. b t.key) m || list_any (λ t. c t.key) n)
+    (λ all.
+    let at = any_key a (m ++ n) all in
+    let k = at.0 in
+    let both : ((names_key m k || names_key n k) && a k) ≡ true = ap (λ (x : Bool). x && a k) (sym (list_any-append (λ t. key_eq t.key k) m n)) ∙ at.1 in
+    elim (or_cases (names_key m k && b k) (names_key n k && c k) (sym (h k) ∙ both)) [
+      | inl first ↦ or_left (list_any (λ t. b t.key) m) (list_any (λ t. c t.key) n) (key_any b m k first)
+      | inr second ↦ or_right (list_any (λ t. b t.key) m) (list_any (λ t. c t.key) n) (key_any c n k second)
+    ])
+    (λ some.
+    let back_at : (k : Key) → ((names_key m k && b k) || (names_key n k && c k)) ≡ true → list_any (λ t. a t.key) (m ++ n) ≡ true = λ k is.
+    key_any a (m ++ n) k (ap (λ (x : Bool). x && a k) (list_any-append (λ t. key_eq t.key k) m n) ∙ h k ∙ is) in
+    elim (or_cases (list_any (λ t. b t.key) m) (list_any (λ t. c t.key) n) some) [
+      | inl first ↦ (let at = any_key b m first in back_at at.0 (or_left (names_key m at.0 && b at.0) (names_key n at.0 && c at.0) at.1))
+      | inr second ↦ (let at = any_key c n second in back_at at.0 (or_right (names_key m at.0 && b at.0) (names_key n at.0 && c at.0) at.1))
+    ])
+
+-- THE LEDGER AT ONE POOL
+ledger_law : (first second : Bool) (f g : LiveSet → ℕ) (o : Option Pool) → (if second then None else option_map (pool_less g) (if first then None else option_map (pool_less f) o)) ≡ (if first || second then None else option_map (pool_less (λ name. f name + g name)) o)
+ledger_law true true f g o = refl
+ledger_law true false f g o = refl
+ledger_law false true f g o = refl
+ledger_law false false f g None = refl
+ledger_law false false f g (Some p) =
+    let live : ◌≡◌ {A = LiveSet → ℕ} (λ name. p.live name - f name - g name) (λ name. p.live name - (f name + g name)) = fun_ext (λ name. let e : p.live name - f name - g name ≡ p.live name - (f name + g name) = omega arith in e) in
+    λ i. Some (record { counts = p.counts; capacity = p.capacity; flags = p.flags; refusals = p.refusals; live = live i })
+
+each_alike : (f g : Entry → Entry) (es : List Entry) → ((i : ℕ) (e : Entry) → slice_get es i ≡ Some e → f e ≡ g e) → map f es ≡ map g es
+each_alike f g [] h = refl
+each_alike f g (e ∷ es) h = λ i. h 0 e refl i ∷ each_alike f g es (λ j. h (suc j)) i
+
+-- a list that doesn't name a key takes nothing from the key's pools
+pub untouched : (n : List Item) (s : State) → Agree s → (k : Key) → names_key n k ≡ false → (i : ℕ) (e : Entry) → entry_at (s.books k) i ≡ Some e → back n s e.pool ≡ 0
+untouched n s agree k none i e at = count_by_none item_exact (lies_in s.books e.pool) n (λ t in_n. false_from_ne_true (lies_in s.books e.pool t) (λ lies.
+    let found = lies_in-found s.books e.pool t lies in
+    let same = agree.distinct t.key k t.number i found.0 e found.1 at found.2 in
+    let named : names_key n k ≡ true = any_from item_exact (λ u. key_eq u.key k) n t in_n (rw same.0 (key_exact.self k)) in
+    let bad : true ≡ false = sym named ∙ none in cc))
+
+pub quiet_key : (m n : List Item) (s : State) → Agree s → (k : Key) → names_key n k ≡ false → bucket_less (λ p. back m s p + back n s p) (s.books k) ≡ bucket_less (back m s) (s.books k)
+quiet_key m n s agree k none =
+    let b = s.books k in
+    let pools : map (λ e. entry_less (back m s e.pool + back n s e.pool) e) b.pools ≡ map (λ e. entry_less (back m s e.pool) e) b.pools =
+    each_alike (λ e. entry_less (back m s e.pool + back n s e.pool) e) (λ e. entry_less (back m s e.pool) e) b.pools (λ i e at.
+    let place : b.first + i - b.first ≡ i = omega arith in
+    let here : entry_at b (b.first + i) ≡ Some e = entry_at-from b (b.first + i) e (omega arith) (rw place at) in
+    let zero_more : back n s e.pool ≡ 0 = untouched n s agree k none (b.first + i) e here in
+    let same : back m s e.pool + back n s e.pool ≡ back m s e.pool = omega arith in
+    ap (λ (x : ℕ). entry_less x e) same) in
+    λ i. record b { pools = pools i }
+
+-- a set of the second part lies in the pool in which it lay
+still_lies : (m n : List Item) (s : State) → Agree s → AreOutstanding (m ++ n) s → (pool : ℕ) (t : Item) → 0 < count_of t n → lies_in (released m s).books pool t ≡ lies_in s.books pool t
+still_lies m n s agree out pool t in_n =
+    let split : (t : Item) → count_of t (m ++ n) ≡ count_of t m + count_of t n = λ t. count_by-append (λ x. item_eq x t) m n in
+    let out_m : AreOutstanding m s = λ t. let a = split t in let b = out t in omega arith in
+    let a = split t in
+    let b = out t in
+    let keeps = kept m s agree out_m t (omega arith) in
+    lies_in-at (released m s).books pool t (entry_less (back m s keeps.0.pool) keeps.0) keeps.2 ∙ sym (lies_in-at s.books pool t keeps.0 keeps.1)
+
+-- so as many of its sets go back to each pool
+pub back_still : (m n : List Item) (s : State) → Agree s → AreOutstanding (m ++ n) s → back n (released m s) ≡ back n s
+back_still m n s agree out = fun_ext (λ pool. count_by_alike item_exact (lies_in (released m s).books pool) (lies_in s.books pool) n (still_lies m n s agree out pool))
+
+pub parts : ReleaseParts
+parts m n s agree out =
+    let u = released m s in
+    let lies : (pool : ℕ) (t : Item) → 0 < count_of t n → lies_in u.books pool t ≡ lies_in s.books pool t = λ pool t in_n. still_lies m n s agree out pool t in_n in
+    let counts : back n u ≡ back n s = back_still m n s agree out in
+    let named : (pool : ℕ) → back_named n u pool ≡ back_named n s pool = λ pool. fun_ext (λ name.
+    count_by_alike item_exact (λ t. lies_in u.books pool t && (set_eq (set_of t) name)) (λ t. lies_in s.books pool t && (set_eq (set_of t) name)) n (λ t in_n. ap (λ (x : Bool). x && (set_eq (set_of t) name)) (lies pool t in_n))) in
+    let sums : back (m ++ n) s ≡ (λ pool. back m s pool + back n s pool) = fun_ext (λ pool. count_by-append (lies_in s.books pool) m n) in
+    let named_sums : (pool : ℕ) → back_named (m ++ n) s pool ≡ (λ name. back_named m s pool name + back_named n s pool name) = λ pool. fun_ext (λ name. count_by-append (λ t. lies_in s.books pool t && (set_eq (set_of t) name)) m n) in
+    let keys : (k : Key) → names_key (m ++ n) k ≡ (names_key m k || names_key n k) = λ k. list_any-append (λ t. key_eq t.key k) m n in
+    let books : (released n u).books ≡ (released (m ++ n) s).books = fun_ext (λ k.
+    ap (λ (f : ℕ → ℕ). trimmed_if (names_key n k) (bucket_less f (u.books k))) counts
+    ∙ books_law (names_key m k) (names_key n k) (back m s) (back n s) (s.books k) (quiet_key m n s agree k)
+    ∙ ap (λ (f : ℕ → ℕ). trimmed_if (names_key m k || names_key n k) (bucket_less f (s.books k))) (sym sums)
+    ∙ ap (λ (x : Bool). trimmed_if x (bucket_less (back (m ++ n) s) (s.books k))) (sym (keys k))) in
+    let ledger : (released n u).ledger ≡ (released (m ++ n) s).ledger = fun_ext (λ pool.
+    let gone_m : Bool = list_any (λ t. goes (bucket_less (back m s) (s.books t.key)) pool) m in
+    let gone_n : Bool = list_any (λ t. goes (bucket_less (back n u) (u.books t.key)) pool) n in
+    let gone : list_any (λ t. goes (bucket_less (back (m ++ n) s) (s.books t.key)) pool) (m ++ n) ≡ (gone_m || gone_n) =
+    ap (λ (f : ℕ → ℕ). list_any (λ (t : Item). goes (bucket_less f (s.books t.key)) pool) (m ++ n)) sums
+    ∙ any_law (λ k. goes (bucket_less (λ p. back m s p + back n s p) (s.books k)) pool) (λ k. goes (bucket_less (back m s) (s.books k)) pool) (λ k. goes (bucket_less (back n s) (u.books k)) pool) m n
+    (λ k. goes_law (names_key m k) (names_key n k) (back m s) (back n s) (s.books k) pool (quiet_key m n s agree k))
+    ∙ ap (λ (f : ℕ → ℕ). gone_m || list_any (λ (t : Item). goes (bucket_less f (u.books t.key)) pool) n) (sym counts) in
+    ap (λ (f : LiveSet → ℕ). (if gone_n then None else option_map (pool_less f) (if gone_m then None else option_map (pool_less (back_named m s pool)) (s.ledger pool)))) (named pool)
+    ∙ ledger_law gone_m gone_n (back_named m s pool) (back_named n s pool) (s.ledger pool)
+    ∙ ap (λ (f : LiveSet → ℕ). if gone_m || gone_n then None else option_map (pool_less f) (s.ledger pool)) (sym (named_sums pool))
+    ∙ ap (λ (x : Bool). if x then None else option_map (pool_less (back_named (m ++ n) s pool)) (s.ledger pool)) (sym gone)) in
+    λ i. record { books = books i; ledger = ledger i }

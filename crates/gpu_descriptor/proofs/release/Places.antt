@@ -1,0 +1,236 @@
+-- Which places of the books keep their pools when sets go back: those that still have a set out.
+use Rattle.std.proofs.Common.{◌≡◌, ℕ, suc, ◌+◌, ◌-◌, ◌<◌, ◌≤◌, Bool, true, false, cond, ltb, ◌&&◌, ◌==◌, List, [], ◌∷◌, length, map, filter, count_by, Option, Some, None, option_map, inl, inr, refl, sym, ap, ◌∙◌, arith, eqb-true, eq-eqb, ne_eqb}
+use Rattle.std.specs.Option.{option_map_or}
+use Rattle.std.specs.List.{list_any}
+use Rattle.std.proofs.lemmas.Bool.{cases_Bool, cases_lt, false_from_ne_true, and_parts, and_from}
+use Rattle.std.proofs.lemmas.List.{length-map}
+use Rattle.std.proofs.lemmas.List.Sums.{length-filter, count_by-le-length}
+use Rattle.std.proofs.lemmas.Option.{slice_get-map}
+use Rattle.gpu_descriptor.specs.Model.Agreement.{set_of, State, Item, item_eq, count_of, live_in, outstanding, AreOutstanding, HasSize, Agree, live_there}
+use Rattle.gpu_descriptor.specs.Laws.Agreement.{EmptyAgrees}
+use Rattle.gpu_descriptor.specs.Model.Books.{Key, key_eq, Entry, Bucket, entry_at, no_pools}
+use Rattle.gpu_descriptor.specs.Model.Release.{lies_in, entry_less, bucket_less, is_empty, empty_front, spent_front, without_front, released}
+use Rattle.gpu_descriptor_types.specs.Ledger.{Pool}
+use Rattle.gpu_descriptor_types.specs.Multiset.{LiveSet, set_eq}
+use Rattle.gpu_descriptor.proofs.release.Fronts.{entry_at-found, entry_at-without, entry_at-kept}
+use Rattle.gpu_descriptor_types.proofs.Counting.{bool_iff, count_by_alike, count_by_none, set_exact, count_by_yes, count_by_no, all_taken_out}
+use Rattle.gpu_descriptor.proofs.table.Exact.{item_exact, item_parts, item_from}
+use Rattle.std.proofs.Math.Logic.{∥∥₁_elim, ∥∥₁_map}
+use Rattle.std.proofs.Props.{props}
+
+-- how many sets go back to a pool, and how many of a name
+abbrev pub back : List Item → State → ℕ → ℕ
+back m s pool = count_by (lies_in s.books pool) m
+
+abbrev pub back_named : List Item → State → ℕ → LiveSet → ℕ
+back_named m s pool name = count_by (λ t. lies_in s.books pool t && (set_eq (set_of t) name)) m
+
+filter_yes : (lies : Item → Bool) (t : Item) (m : List Item) → lies t ≡ true → filter lies (t ∷ m) ≡ t ∷ filter lies m
+filter_yes lies t m h = rw h refl
+
+filter_no : (lies : Item → Bool) (t : Item) (m : List Item) → lies t ≡ false → filter lies (t ∷ m) ≡ filter lies m
+filter_no lies t m h = rw h refl
+
+-- the names of the sets that lie in the pool
+names_of : (lies : Item → Bool) (m : List Item) (name : LiveSet) → count_by (λ x. set_eq x name) (map (λ (t : Item). set_of t) (filter lies m)) ≡ count_by (λ t. lies t && (set_eq (set_of t) name)) m
+names_of lies [] name = refl
+names_of lies (t ∷ m) name =
+    let counted : List Item → ℕ = λ ts. count_by (λ x. set_eq x name) (map (λ (t : Item). set_of t) ts) in
+    elim (cases_Bool (lies t)) [
+      | inl h ↦ ap counted (filter_yes lies t m h) ∙ elim (cases_Bool (set_eq (set_of t) name)) [
+        | inl same ↦ count_by_yes (λ x. set_eq x name) (set_of t) (map (λ (u : Item). set_of u) (filter lies m)) same ∙ ap suc (names_of lies m name) ∙ sym (count_by_yes (λ t. lies t && (set_eq (set_of t) name)) t m (and_from _ _ h same))
+        | inr other ↦ count_by_no (λ x. set_eq x name) (set_of t) (map (λ (u : Item). set_of u) (filter lies m)) other ∙ names_of lies m name ∙ sym (count_by_no (λ t. lies t && (set_eq (set_of t) name)) t m (rw (h, other) refl))
+      ]
+      | inr h ↦ ap counted (filter_no lies t m h) ∙ names_of lies m name ∙ sym (count_by_no (λ t. lies t && (set_eq (set_of t) name)) t m (rw h refl))
+    ]
+
+-- a part that the pool has leaves the rest, as many fewer
+rest_less : (live : LiveSet → ℕ) (a : ℕ) (lies : Item → Bool) (m : List Item) → HasSize live a → ((name : LiveSet) → count_by (λ t. lies t && (set_eq (set_of t) name)) m ≤ live name) → (count_by lies m ≤ a) × HasSize (λ name. live name - count_by (λ t. lies t && (set_eq (set_of t) name)) m) (a - count_by lies m)
+rest_less live a lies m size fits =
+    let part : List LiveSet = map (λ (t : Item). set_of t) (filter lies m) in
+    let long : length part ≡ count_by lies m = length-map (filter lies m) (λ (t : Item). set_of t) ∙ length-filter lies m in
+    let out = all_taken_out set_exact part size.0 (λ name. rw (names_of lies m name, size.2 name) (fits name)) in
+    let lengths = out.1 in
+    let sizes = size.1 in (
+      omega arith,
+      (
+        out.0,
+        (let e : length out.0 ≡ a - count_by lies m = omega arith in e),
+        (λ name.
+            let got = out.2 (λ x. set_eq x name) in
+            let had = size.2 name in
+            let named = names_of lies m name in
+            let e : count_by (λ x. set_eq x name) out.0 ≡ live name - count_by (λ t. lies t && (set_eq (set_of t) name)) m = omega arith in e),
+      ),
+    )
+
+pub size_less : (live : LiveSet → ℕ) (a : ℕ) (lies : Item → Bool) (m : List Item) → ∥ HasSize live a ∥₁ → ((name : LiveSet) → count_by (λ t. lies t && (set_eq (set_of t) name)) m ≤ live name) → (count_by lies m ≤ a) × ∥ HasSize (λ name. live name - count_by (λ t. lies t && (set_eq (set_of t) name)) m) (a - count_by lies m) ∥₁
+size_less live a lies m some fits = (∥∥₁_elim some (search props) (λ size. (rest_less live a lies m size fits).0), ∥∥₁_map some (λ size. (rest_less live a lies m size fits).1))
+
+-- where a name is left, a set is left
+pub size_pos : (live : LiveSet → ℕ) (a : ℕ) (name : LiveSet) → ∥ HasSize live a ∥₁ → 0 < live name → 0 < a
+size_pos live a name listed lt = ∥∥₁_elim listed (search props) (λ size.
+    let some = count_by-le-length (λ x. set_eq x name) size.0 in
+    let is = size.2 name in
+    let long = size.1 in
+    omega arith)
+
+some_of : (o : Option Entry) (pool : ℕ) → option_map_or (λ e. e.pool == pool) o false ≡ true → (e : Entry) × (o ≡ Some e) × (e.pool ≡ pool)
+some_of None pool h = absurd (let bad : true ≡ false = sym h in cc)
+some_of (Some e) pool h = (e, refl, eqb-true e.pool pool h)
+
+pub lies_in-found : (books : Key → Bucket) (pool : ℕ) (t : Item) → lies_in books pool t ≡ true → (e : Entry) × (entry_at (books t.key) t.number ≡ Some e) × (e.pool ≡ pool)
+lies_in-found books pool t h = some_of (entry_at (books t.key) t.number) pool h
+
+pub lies_in-at : (books : Key → Bucket) (pool : ℕ) (t : Item) (e : Entry) → entry_at (books t.key) t.number ≡ Some e → lies_in books pool t ≡ (e.pool == pool)
+lies_in-at books pool t e h = ap (λ (o : Option Entry). option_map_or (λ e. e.pool == pool) o false) h
+
+-- a set of an outstanding list has the id of its key
+pub own_id : (m : List Item) (s : State) → AreOutstanding m s → (t : Item) → 0 < count_of t m → (s.books t.key).id ≡ t.id
+own_id m s out t some = elim (cases_Bool ((s.books t.key).id == t.id)) [
+  | inl same ↦ eqb-true (s.books t.key).id t.id same
+  | inr other ↦ (let none : outstanding s t ≡ 0 = rw other refl in let fits = out t in absurd (omega arith))
+]
+
+-- the sets that lie in a pool are those of its key and number
+pub back_named-is : (m : List Item) (s : State) → Agree s → AreOutstanding m s → (k : Key) (i : ℕ) (e : Entry) → entry_at (s.books k) i ≡ Some e → (name : ℕ) → back_named m s e.pool (record { name = name; counts = k.counts }) ≡ count_of (record { key = k; id = (s.books k).id; number = i; name = name }) m
+back_named-is m s agree out k i e at name =
+    let x : LiveSet = record { name = name; counts = k.counts } in
+    let u : Item = record { key = k; id = (s.books k).id; number = i; name = name } in
+    count_by_alike item_exact (λ t. lies_in s.books e.pool t && set_eq (set_of t) x) (λ t. item_eq t u) m (λ t in_m. bool_iff (lies_in s.books e.pool t && set_eq (set_of t) x) (item_eq t u)
+    (λ h.
+    let both = and_parts (lies_in s.books e.pool t) (set_eq (set_of t) x) h in
+    let found = lies_in-found s.books e.pool t both.0 in
+    let same = agree.distinct t.key k t.number i found.0 e found.1 at found.2 in
+    item_from t u same.0 same.1 (ap (λ (y : LiveSet). y.name) (set_exact.same (set_of t) x both.1)) (sym (own_id m s out t in_m) ∙ ap (λ (l : Key). (s.books l).id) same.0))
+    (λ h.
+    let same = item_parts t u h in
+    let here : entry_at (s.books t.key) t.number ≡ Some e = rw (same.0, same.1) at in
+    let one : set_of t ≡ x = λ j. record { name = same.2 j; counts = (same.0 j).counts } in
+    and_from _ _ (lies_in-at s.books e.pool t e here ∙ eq-eqb e.pool e.pool refl) (ap (λ (y : LiveSet). set_eq y x) one ∙ set_exact.self x)))
+
+-- no set of other counts goes back to the pool
+back_other : (m : List Item) (s : State) → Agree s → (k : Key) (i : ℕ) (e : Entry) → entry_at (s.books k) i ≡ Some e → (x : LiveSet) → set_eq x (record { name = x.name; counts = k.counts }) ≡ false → back_named m s e.pool x ≡ 0
+back_other m s agree k i e at x other = count_by_none item_exact (λ t. lies_in s.books e.pool t && set_eq (set_of t) x) m (λ t in_m. false_from_ne_true (lies_in s.books e.pool t && set_eq (set_of t) x) (λ h.
+    let both = and_parts (lies_in s.books e.pool t) (set_eq (set_of t) x) h in
+    let found = lies_in-found s.books e.pool t both.0 in
+    let same = agree.distinct t.key k t.number i found.0 e found.1 at found.2 in
+    let one : set_of t ≡ x = set_exact.same (set_of t) x both.1 in
+    let counts : x.counts ≡ k.counts = ap (λ (y : LiveSet). y.counts) (sym one) ∙ ap (λ (l : Key). l.counts) same.0 in
+    let y : LiveSet = record { name = x.name; counts = k.counts } in
+    let is : x ≡ y = λ j. record { name = x.name; counts = counts j } in
+    let bad : true ≡ false = sym (ap (λ (z : LiveSet). set_eq z y) is ∙ set_exact.self y) ∙ other in cc))
+
+pub live_there_at : (s : State) (t : Item) (e : Entry) (pool : Pool) → entry_at (s.books t.key) t.number ≡ Some e → s.ledger e.pool ≡ Some pool → live_there s t ≡ pool.live (set_of t)
+live_there_at s t e pool at found = rw at (rw found refl)
+
+-- how often a set is outstanding, read from the pool of its place
+pub outstanding_at : (s : State) (t : Item) (e : Entry) (pool : Pool) → (s.books t.key).id ≡ t.id → entry_at (s.books t.key) t.number ≡ Some e → s.ledger e.pool ≡ Some pool → outstanding s t ≡ pool.live (set_of t)
+outstanding_at s t e pool own at found = rw (eq-eqb (s.books t.key).id t.id own) (rw at (rw found refl))
+
+-- a pool has the part that goes back to it
+pub part_fits : (m : List Item) (s : State) → Agree s → AreOutstanding m s → (k : Key) (i : ℕ) (e : Entry) (pool : Pool) → entry_at (s.books k) i ≡ Some e → s.ledger e.pool ≡ Some pool → (x : LiveSet) → back_named m s e.pool x ≤ pool.live x
+part_fits m s agree out k i e pool at found x =
+    let y : LiveSet = record { name = x.name; counts = k.counts } in
+    elim (cases_Bool (set_eq x y)) [
+      | inl same ↦ (
+          let t : Item = record { key = k; id = (s.books k).id; number = i; name = x.name } in
+          let one : x ≡ y = set_exact.same x y same in
+          let is : back_named m s e.pool y ≡ count_of t m = back_named-is m s agree out k i e at x.name in
+          let had : outstanding s t ≡ pool.live y = outstanding_at s t e pool refl at found in
+          let fits = out t in
+          let a : back_named m s e.pool x ≡ back_named m s e.pool y = ap (back_named m s e.pool) one in
+          let b : pool.live x ≡ pool.live y = ap pool.live one in
+          omega arith)
+      | inr other ↦ (let none = back_other m s agree k i e at x other in omega arith)
+    ]
+
+some_above : (o : Option Entry) (f : Entry → ℕ) (a : ℕ) → a < option_map_or f o 0 → (e : Entry) × (o ≡ Some e) × (a < f e)
+some_above None f a h = absurd (omega arith)
+some_above (Some e) f a h = (e, refl, h)
+
+pub outstanding_found : (s : State) (t : Item) (a : ℕ) → a < outstanding s t → (e : Entry) × (entry_at (s.books t.key) t.number ≡ Some e) × (a < live_in s.ledger e.pool (set_of t)) × ((s.books t.key).id ≡ t.id)
+outstanding_found s t a h = elim (cases_Bool ((s.books t.key).id == t.id)) [
+  | inl same ↦ (
+      let there : outstanding s t ≡ live_there s t = rw same refl in
+      let found = some_above (entry_at (s.books t.key) t.number) (λ e. live_in s.ledger e.pool (set_of t)) a (omega (arith, there, h)) in
+      (found.0, found.1, found.2, eqb-true (s.books t.key).id t.id same))
+  | inr other ↦ (let none : outstanding s t ≡ 0 = rw other refl in absurd (omega arith))
+]
+
+-- a key without pools has no set out
+pub none_out : (s : State) (t : Item) → s.books t.key ≡ no_pools → outstanding s t ≡ 0
+none_out s t none = elim (cases_lt 0 (outstanding s t)) [
+  | inl some ↦ absurd (
+      let out = outstanding_found s t 0 some in
+      let at = entry_at-found no_pools t.number out.0 (ap (λ (b : Bucket). entry_at b t.number) (sym none) ∙ out.1) in
+      let bad : ◌≡◌ {A = Option Entry} None (Some out.0) = at.1 in
+      cc)
+  | inr zero_out ↦ omega arith
+]
+
+pub entry_at-less : (g : ℕ → ℕ) (b : Bucket) (n : ℕ) → entry_at (bucket_less g b) n ≡ option_map (λ e. entry_less (g e.pool) e) (entry_at b n)
+entry_at-less g b n = elim (cases_Bool (ltb n b.first)) [
+  | inl h ↦ rw h refl
+  | inr h ↦ rw h (slice_get-map (λ e. entry_less (g e.pool) e) b.pools (n - b.first))
+]
+
+pub some_before : (f : Entry → Entry) (o : Option Entry) (e : Entry) → option_map f o ≡ Some e → (d : Entry) × (o ≡ Some d) × (f d ≡ e)
+some_before f None e h = absurd (let bad : ◌≡◌ {A = Option Entry} None (Some e) = h in cc)
+some_before f (Some d) e h = (d, refl, (let is : ◌≡◌ {A = Option Entry} (Some (f d)) (Some e) = h in cc))
+
+-- how many pools leave a key
+abbrev pub front_of : List Item → State → Key → ℕ
+front_of m s k = cond (list_any (λ t. key_eq t.key k) m) (spent_front (bucket_less (back m s) (s.books k))) 0
+
+without_none : (b : Bucket) → b ≡ without_front 0 b
+without_none b = let first : b.first ≡ b.first + 0 = omega arith in λ i. record b { first = first i }
+
+pub released_books : (m : List Item) (s : State) (k : Key) → (released m s).books k ≡ without_front (front_of m s k) (bucket_less (back m s) (s.books k))
+released_books m s k = elim (cases_Bool (list_any (λ t. key_eq t.key k) m)) [
+  | inl h ↦ rw h refl
+  | inr h ↦ rw h (without_none (bucket_less (back m s) (s.books k)))
+]
+
+pub front_of-le : (m : List Item) (s : State) (k : Key) → front_of m s k ≤ empty_front (bucket_less (back m s) (s.books k))
+front_of-le m s k = elim (cases_Bool (list_any (λ t. key_eq t.key k) m)) [
+  | inl h ↦ rw h (omega arith)
+  | inr h ↦ rw h (omega arith)
+]
+
+-- what has a number afterwards had it before, in the same pool
+pub was_there : (m : List Item) (s : State) (k : Key) (i : ℕ) (e : Entry) → entry_at ((released m s).books k) i ≡ Some e → (d : Entry) × (entry_at (s.books k) i ≡ Some d) × (entry_less (back m s d.pool) d ≡ e) × ((s.books k).first + front_of m s k ≤ i)
+was_there m s k i e h =
+    let same = released_books m s k in
+    let here : entry_at (without_front (front_of m s k) (bucket_less (back m s) (s.books k))) i ≡ Some e = ap (λ (b : Bucket). entry_at b i) (sym same) ∙ h in
+    let whole = entry_at-without (front_of m s k) (bucket_less (back m s) (s.books k)) i e here in
+    let had = some_before (λ e. entry_less (back m s e.pool) e) (entry_at (s.books k) i) e (sym (entry_at-less (back m s) (s.books k) i) ∙ whole.1) in
+    (had.0, had.1, had.2, whole.0)
+
+-- THE CRUX: the place of a set that is still out keeps its pool and its number
+pub kept : (m : List Item) (s : State) → Agree s → AreOutstanding m s → (t : Item) → count_of t m < outstanding s t → (e : Entry) × (entry_at (s.books t.key) t.number ≡ Some e) × (entry_at ((released m s).books t.key) t.number ≡ Some (entry_less (back m s e.pool) e))
+kept m s agree out t more =
+    let here = outstanding_found s t (count_of t m) more in
+    let e = here.0 in
+    let booked = agree.booked t.key t.number e here.1 in
+    let pool = booked.0 in
+    let live : live_in s.ledger e.pool (set_of t) ≡ pool.live (set_of t) = rw booked.1 refl in
+    let left = size_less pool.live e.allocated (lies_in s.books e.pool) m booked.2.allocated (part_fits m s agree out t.key t.number e pool here.1 booked.1) in
+    let named : back_named m s e.pool (set_of t) ≡ count_of t m = back_named-is m s agree out t.key t.number e here.1 t.name ∙ ap (λ (i : ℕ). let u : Item = record t { id = i } in count_of u m) here.3 in
+    let above = here.2 in
+    let some : 0 < e.allocated - back m s e.pool = size_pos (λ name. pool.live name - back_named m s e.pool name) (e.allocated - back m s e.pool) (set_of t) left.1 (omega arith) in
+    let full : is_empty (entry_less (back m s e.pool) e) ≡ false = ne_eqb (e.allocated - back m s e.pool) 0 (λ none. omega arith) in
+    let there : entry_at (bucket_less (back m s) (s.books t.key)) t.number ≡ Some (entry_less (back m s e.pool) e) = entry_at-less (back m s) (s.books t.key) t.number ∙ ap (option_map (λ e. entry_less (back m s e.pool) e)) here.1 in (
+      e,
+      here.1,
+      ap (λ (b : Bucket). entry_at b t.number) (released_books m s t.key)
+          ∙ entry_at-kept (bucket_less (back m s) (s.books t.key)) (front_of m s t.key) t.number (entry_less (back m s e.pool) e) (front_of-le m s t.key) there full,
+    )
+
+-- an allocator without keys agrees with every ledger
+pub empty_agrees : EmptyAgrees
+empty_agrees ledger = record {
+  distinct = λ k l m n d e at at' same. (let found = entry_at-found no_pools m d at in absurd (let bad : ◌≡◌ {A = Option Entry} None (Some d) = found.1 in cc));
+  booked = λ k n e at. (let found = entry_at-found no_pools n e at in absurd (let bad : ◌≡◌ {A = Option Entry} None (Some e) = found.1 in cc));
+  absent = λ k none. refl;
+}

@@ -1,0 +1,261 @@
+-- What giving back keeps: agreement, and what is outstanding but for the sets given.
+use Rattle.std.proofs.Common.{◌≡◌, ℕ, ◌+◌, ◌-◌, ◌<◌, ◌≤◌, Bool, true, false, ltb, ◌&&◌, ◌==◌, List, [], ◌∷◌, ◌++◌, flat_map, map, length, take, drop, count_by, slice_get, Option, Some, None, option_map, ◌⊎◌, inl, inr, refl, sym, ap, ◌∙◌, subst, arith, eqb-true, length-drop}
+use Rattle.std.specs.Prelude.{if◌then◌else◌}
+use Rattle.std.proofs.Math.Path.{fun_ext}
+use Rattle.std.specs.List.{list_any}
+use Rattle.std.proofs.lemmas.Bool.{cases_Bool, cases_lt, and_parts, false_from_ne_true}
+use Rattle.std.proofs.lemmas.List.{length-map}
+use Rattle.gpu_descriptor.specs.Model.Agreement.{set_of, State, Item, item_eq, count_of, live_there, outstanding, AreOutstanding, IsAsBooked, Agree}
+use Rattle.gpu_descriptor.specs.Model.Books.{Key, key_eq, Entry, Bucket, entry_at}
+use Rattle.gpu_descriptor.specs.Model.Release.{lies_in, entry_less, bucket_less, pool_less, given_back, spent_front, without_front, in_front, fronts_gone, released, singly}
+use Rattle.gpu_descriptor.specs.Laws.Release.{ReleaseAgrees, ReleaseTakes, ReleaseOrder, ReleaseNone, ReleaseEach, ReleaseSingly}
+use Rattle.gpu_descriptor_types.specs.Ledger.{Pool}
+use Rattle.gpu_descriptor_types.specs.Multiset.{LiveSet, set_eq}
+use Rattle.gpu_descriptor.proofs.release.Fronts.{entry_at-from}
+use Rattle.gpu_descriptor_types.proofs.Counting.{counts_alike, count_by-append, list_any-count_by}
+use Rattle.gpu_descriptor.proofs.lists.AtPlaces.{found_before}
+use Rattle.gpu_descriptor.proofs.table.Exact.{item_exact}
+use Rattle.gpu_descriptor.proofs.release.Places.{outstanding_found, back, back_named, back_named-is, part_fits, size_less, outstanding_at, entry_at-less, some_before, front_of, released_books, was_there, kept}
+use Rattle.gpu_descriptor.proofs.release.Parts.{goes, names_key, any_key, parts}
+
+-- a pool in the front stands at a place before its end
+pub front_found : (es : List Entry) (n pool : ℕ) → list_any (λ e. e.pool == pool) (take n es) ≡ true → (j : ℕ) × (e : Entry) × (j < n) × (slice_get es j ≡ Some e) × (e.pool ≡ pool)
+front_found es n pool h = (let found = found_before (λ e. e.pool == pool) es n h in (found.0, found.1, found.2, found.3, eqb-true found.1.pool pool found.4))
+
+-- a pool that the books still have has not gone from the ledger
+pub stays : (m : List Item) (s : State) → Agree s → (k : Key) (i : ℕ) (e : Entry) → entry_at ((released m s).books k) i ≡ Some e → list_any (λ t. goes (bucket_less (back m s) (s.books t.key)) e.pool) m ≡ false
+stays m s agree k i e h = false_from_ne_true (list_any (λ t. goes (bucket_less (back m s) (s.books t.key)) e.pool) m) (λ gone.
+    let at = any_key (λ l. goes (bucket_less (back m s) (s.books l)) e.pool) m gone in
+    let l = at.0 in
+    let both = and_parts (names_key m l) (goes (bucket_less (back m s) (s.books l)) e.pool) at.1 in
+    let c = bucket_less (back m s) (s.books l) in
+    let found = front_found c.pools (spent_front c) e.pool both.1 in
+    let j = found.0 in
+    let place : c.first + j - c.first ≡ j = omega arith in
+    let there : entry_at c (c.first + j) ≡ Some found.1 = entry_at-from c (c.first + j) found.1 (omega arith) (rw place found.3) in
+    let before = some_before (λ e. entry_less (back m s e.pool) e) (entry_at (s.books l) (c.first + j)) found.1 (sym (entry_at-less (back m s) (s.books l) (c.first + j)) ∙ there) in
+    let was = was_there m s k i e h in
+    let name : before.0.pool ≡ was.0.pool = ap (λ (x : Entry). x.pool) before.2 ∙ found.4 ∙ sym (ap (λ (x : Entry). x.pool) was.2) in
+    let same = agree.distinct l k (c.first + j) i before.0 was.0 before.1 was.1 name in
+    let named : names_key m k ≡ true = ap (names_key m) (sym same.0) ∙ both.0 in
+    let front : front_of m s k ≡ spent_front (bucket_less (back m s) (s.books k)) = rw named refl in
+    let fronts : spent_front c ≡ spent_front (bucket_less (back m s) (s.books k)) = ap (λ (x : Key). spent_front (bucket_less (back m s) (s.books x))) same.0 in
+    let firsts : (s.books l).first ≡ (s.books k).first = ap (λ (x : Key). (s.books x).first) same.0 in
+    let past = was.3 in
+    let below = found.2 in
+    let number = same.1 in
+    omega arith)
+
+-- the ledger's record of a pool that the books still have
+pub ledger_after : (m : List Item) (s : State) → Agree s → (k : Key) (i : ℕ) (e : Entry) (pool : Pool) → entry_at ((released m s).books k) i ≡ Some e → s.ledger e.pool ≡ Some pool → (released m s).ledger e.pool ≡ Some (pool_less (back_named m s e.pool) pool)
+ledger_after m s agree k i e pool h found =
+    ap (λ (x : Bool). if x then None else option_map (pool_less (back_named m s e.pool)) (s.ledger e.pool)) (stays m s agree k i e h)
+    ∙ ap (option_map (pool_less (back_named m s e.pool))) found
+
+no_length : (es : List Entry) → length es ≡ 0 → es ≡ []
+no_length [] h = refl
+no_length (e ∷ es) h = absurd (omega arith)
+
+front_of-last : (m : List Item) (s : State) (k : Key) → front_of m s k ≤ length (s.books k).pools - 1
+front_of-last m s k =
+    let long : length (bucket_less (back m s) (s.books k)).pools ≡ length (s.books k).pools = length-map (s.books k).pools (λ (e : Entry). entry_less (back m s e.pool) e) in
+    elim (cases_Bool (names_key m k)) [
+      | inl h ↦ rw h (omega arith)
+      | inr h ↦ rw h (omega arith)
+    ]
+
+-- a pool and its books still match once its sets went back
+less_booked : (m : List Item) (s : State) → Agree s → AreOutstanding m s → (k : Key) (i : ℕ) (d : Entry) (pool : Pool) → entry_at (s.books k) i ≡ Some d → s.ledger d.pool ≡ Some pool → IsAsBooked k pool d → IsAsBooked k (pool_less (back_named m s d.pool) pool) (entry_less (back m s d.pool) d)
+less_booked m s agree out k i d pool at live is =
+    let left = size_less pool.live d.allocated (lies_in s.books d.pool) m is.allocated (part_fits m s agree out k i d pool at live) in
+    let fits = left.0 in
+    let room = is.room in
+    record {
+      allocated = left.1;
+      room = (let e : d.allocated - back m s d.pool + (d.free + back m s d.pool) ≤ pool.capacity = omega arith in e);
+      flags = is.flags;
+      at_least = is.at_least;
+      small = is.small;
+      capacity = is.capacity;
+      counts = is.counts;
+      sets = λ x lt. is.sets x (omega arith);
+      full = λ none. (let whole = is.full none in let e : d.allocated - back m s d.pool + (d.free + back m s d.pool) ≡ pool.capacity = omega arith in e);
+    }
+
+pub agrees : ReleaseAgrees
+agrees m s agree out = record {
+  distinct = λ k l i j d e at at' same.
+      let was = was_there m s k i d at in
+      let was' = was_there m s l j e at' in
+      agree.distinct k l i j was.0 was'.0 was.1 was'.1 (ap (λ (x : Entry). x.pool) was.2 ∙ same ∙ sym (ap (λ (x : Entry). x.pool) was'.2));
+  booked = λ k i e at.
+      let was = was_there m s k i e at in
+      let d = was.0 in
+      let booked = agree.booked k i d was.1 in
+      let pool = booked.0 in
+      let here : entry_at ((released m s).books k) i ≡ Some (entry_less (back m s d.pool) d) = at ∙ ap Some (sym was.2) in
+      let P : Entry → Type 0 = λ x. (p : Pool) × ((released m s).ledger x.pool ≡ Some p) × IsAsBooked k p x in
+      subst P was.2 (
+        pool_less (back_named m s d.pool) pool,
+        ledger_after m s agree k i (entry_less (back m s d.pool) d) pool here booked.1,
+        less_booked m s agree out k i d pool was.1 booked.1 booked.2,
+      );
+  absent = λ k none.
+      let b = s.books k in
+      let same = released_books m s k in
+      let f = front_of m s k in
+      let dropped : drop f (bucket_less (back m s) b).pools ≡ [] = ap (λ (x : Bucket). x.pools) (sym same) ∙ none in
+      let long : length (bucket_less (back m s) b).pools ≡ length b.pools = length-map b.pools (λ (e : Entry). entry_less (back m s e.pool) e) in
+      let size : 0 ≡ length b.pools - f = sym (ap length dropped) ∙ length-drop f (bucket_less (back m s) b).pools ∙ ap (λ (n : ℕ). n - f) long in
+      let last = front_of-last m s k in
+      let first : b.first ≡ 0 = agree.absent k (no_length b.pools (omega arith)) in
+      let zero_front : f ≡ 0 = omega arith in
+      ap (λ (x : Bucket). x.first) same ∙ (let e : b.first + f ≡ 0 = omega arith in e);
+}
+
+pub cases_option : (o : Option Entry) → (o ≡ None) ⊎ ((e : Entry) × (o ≡ Some e))
+cases_option None = inl refl
+cases_option (Some e) = inr (e, refl)
+
+pub if_none : (b : Bool) → ◌≡◌ {A = ℕ} (if b then 0 else 0) 0
+if_none true = refl
+if_none false = refl
+
+-- giving back changes no id
+pub same_id : (m : List Item) (s : State) (k : Key) → ((released m s).books k).id ≡ (s.books k).id
+same_id m s k = ap (λ (b : Bucket). b.id) (released_books m s k)
+
+takes_own : (m : List Item) (s : State) → Agree s → AreOutstanding m s → (t : Item) → (s.books t.key).id ≡ t.id → outstanding (released m s) t + count_of t m ≡ outstanding s t
+takes_own m s agree out t own = elim (cases_option (entry_at ((released m s).books t.key) t.number)) [
+  | inl none ↦ elim (cases_lt (count_of t m) (outstanding s t)) [
+    | inl more ↦ (
+        let keeps = kept m s agree out t more in
+        absurd (let bad : ◌≡◌ {A = Option Entry} None (Some (entry_less (back m s keeps.0.pool) keeps.0)) = sym none ∙ keeps.2 in cc))
+    | inr all ↦ (
+        let nothing : outstanding (released m s) t ≡ 0 = ap (λ (n : ℕ). if ((released m s).books t.key).id == t.id then n else 0) (rw none refl) ∙ if_none (((released m s).books t.key).id == t.id) in
+        let fits = out t in
+        omega arith)
+  ]
+  | inr some ↦ (
+      let e = some.0 in
+      let was = was_there m s t.key t.number e some.1 in
+      let d = was.0 in
+      let name : d.pool ≡ e.pool = ap (λ (x : Entry). x.pool) was.2 in
+      let booked = agree.booked t.key t.number d was.1 in
+      let pool = booked.0 in
+      let found : s.ledger e.pool ≡ Some pool = ap s.ledger (sym name) ∙ booked.1 in
+      let before : outstanding s t ≡ pool.live (set_of t) = outstanding_at s t d pool own was.1 booked.1 in
+      let after : outstanding (released m s) t ≡ pool.live (set_of t) - back_named m s e.pool (set_of t) = outstanding_at (released m s) t e (pool_less (back_named m s e.pool) pool) (same_id m s t.key ∙ own) some.1 (ledger_after m s agree t.key t.number e pool some.1 found) in
+      let named : back_named m s d.pool (set_of t) ≡ count_of t m = back_named-is m s agree out t.key t.number d was.1 t.name ∙ ap (λ (i : ℕ). let u : Item = record t { id = i } in count_of u m) own in
+      let same : back_named m s d.pool (set_of t) ≡ back_named m s e.pool (set_of t) = ap (λ (p : ℕ). back_named m s p (set_of t)) name in
+      let fits = out t in
+      omega arith)
+]
+
+pub takes : ReleaseTakes
+takes m s agree out t = elim (cases_Bool ((s.books t.key).id == t.id)) [
+  | inl same ↦ takes_own m s agree out t (eqb-true (s.books t.key).id t.id same)
+  | inr other ↦ (
+      let fits = out t in
+      let before : outstanding s t ≡ 0 = rw other refl in
+      let after : outstanding (released m s) t ≡ 0 = ap (λ (i : ℕ). if i == t.id then live_there (released m s) t else 0) (same_id m s t.key) ∙ rw other refl in
+      omega arith)
+]
+
+pub order : ReleaseOrder
+order m n s alike =
+    let counts : (p : Item → Bool) → count_by p m ≡ count_by p n = counts_alike item_exact m n alike in
+    let any : (p : Item → Bool) → list_any p m ≡ list_any p n = λ p. list_any-count_by p m ∙ ap (ltb 0) (counts p) ∙ sym (list_any-count_by p n) in
+    let backs : back m s ≡ back n s = fun_ext (λ pool. counts (lies_in s.books pool)) in
+    let named : (pool : ℕ) → back_named m s pool ≡ back_named n s pool = λ pool. fun_ext (λ name. counts (λ t. lies_in s.books pool t && (set_eq (set_of t) name))) in
+    let given : given_back m s ≡ given_back n s = λ i. record {
+      books = λ k. bucket_less (backs i) (s.books k);
+      ledger = λ pool. option_map (pool_less (named pool i)) (s.ledger pool);
+    } in
+    let fronts : (w : State) → fronts_gone m w ≡ fronts_gone n w = λ w i. record {
+      books = λ k. let b = w.books k in if any (λ t. key_eq t.key k) i then without_front (spent_front b) b else b;
+      ledger = λ pool. if any (λ t. let b = w.books t.key in in_front (spent_front b) b pool) i then None else w.ledger pool;
+    } in
+    ap (fronts_gone m) given ∙ fronts (given_back n s)
+
+pub none_back : ReleaseNone
+none_back s =
+    let same : (e : Entry) → entry_less 0 e ≡ e = λ e.
+    let allocated : e.allocated - 0 ≡ e.allocated = omega arith in
+    let free : e.free + 0 ≡ e.free = omega arith in
+    λ i. record { pool = e.pool; capacity = e.capacity; allocated = allocated i; free = free i } in
+    let books : (released [] s).books ≡ s.books = fun_ext (λ k. λ i. record (s.books k) { pools = map_same (λ e. entry_less 0 e) same (s.books k).pools i }) in
+    let ledger : (released [] s).ledger ≡ s.ledger = fun_ext (λ pool. pool_same (s.ledger pool)) in
+    λ i. record { books = books i; ledger = ledger i }
+  where
+    map_same : (f : Entry → Entry) → ((e : Entry) → f e ≡ e) → (es : List Entry) → map f es ≡ es
+    map_same f h [] = refl
+    map_same f h (e ∷ es) = λ i. h e i ∷ map_same f h es i
+
+    pool_same : (o : Option Pool) → option_map (pool_less (λ name. 0)) o ≡ o
+    pool_same None = refl
+    pool_same (Some p) =
+        let live : ◌≡◌ {A = LiveSet → ℕ} (λ name. p.live name - 0) p.live = fun_ext (λ name. let e : p.live name - 0 ≡ p.live name = omega arith in e) in
+        λ i. Some (record { counts = p.counts; capacity = p.capacity; flags = p.flags; refusals = p.refusals; live = live i })
+
+-- what a later part needs still lies where it lay
+pub rest_outstanding : (m n : List Item) (s : State) → Agree s → AreOutstanding (m ++ n) s → AreOutstanding m s × AreOutstanding n (released m s)
+rest_outstanding m n s agree out =
+    let split : (t : Item) → count_of t (m ++ n) ≡ count_of t m + count_of t n = λ t. count_by-append (λ x. item_eq x t) m n in
+    let out_m : AreOutstanding m s = λ t. let a = split t in let b = out t in omega arith in
+    (out_m, λ t. let a = split t in let b = out t in let c = takes m s agree out_m t in omega arith)
+
+pub each : ReleaseEach
+each [] s agree out = sym (none_back s)
+each (m ∷ ms) s agree out =
+    let rest = flat_map (λ (n : List Item). n) ms in
+    let parted = rest_outstanding m rest s agree out in
+    each ms (released m s) (agrees m s agree parted.0) parted.1 ∙ parts m rest s agree out
+
+singly_whole : (m : List Item) → flat_map (λ (n : List Item). n) (singly m) ≡ m
+singly_whole [] = refl
+singly_whole (t ∷ m) = ap (λ (n : List Item). t ∷ n) (singly_whole m)
+
+pub one_by_one : ReleaseSingly
+one_by_one m turned s agree out alike =
+    let whole = singly_whole turned in
+    let turned_out : AreOutstanding turned s = λ t. let a = alike t in let b = out t in omega arith in
+    each (singly turned) s agree (subst (λ (n : List Item). AreOutstanding n s) (sym whole) turned_out)
+    ∙ ap (λ (n : List Item). released n s) whole
+    ∙ order turned m s alike
+
+-- before any front goes, books and ledger agree too
+pub given_agrees : (m : List Item) (s : State) → Agree s → AreOutstanding m s → Agree (given_back m s)
+given_agrees m s agree out =
+    let was : (k : Key) (i : ℕ) (e : Entry) → entry_at ((given_back m s).books k) i ≡ Some e → (d : Entry) × (entry_at (s.books k) i ≡ Some d) × (entry_less (back m s d.pool) d ≡ e) = λ k i e h.
+    some_before (λ e. entry_less (back m s e.pool) e) (entry_at (s.books k) i) e (sym (entry_at-less (back m s) (s.books k) i) ∙ h) in
+    record {
+      distinct = λ k l i j d e at at' same.
+          let one = was k i d at in
+          let other = was l j e at' in
+          agree.distinct k l i j one.0 other.0 one.1 other.1 (ap (λ (x : Entry). x.pool) one.2 ∙ same ∙ sym (ap (λ (x : Entry). x.pool) other.2));
+      booked = λ k i e at.
+          let had = was k i e at in
+          let d = had.0 in
+          let booked = agree.booked k i d had.1 in
+          let pool = booked.0 in
+          let P : Entry → Type 0 = λ x. (p : Pool) × ((given_back m s).ledger x.pool ≡ Some p) × IsAsBooked k p x in
+          subst P had.2 (
+            pool_less (back_named m s d.pool) pool,
+            ap (option_map (pool_less (back_named m s d.pool))) booked.1,
+            less_booked m s agree out k i d pool had.1 booked.1 booked.2,
+          );
+      absent = λ k none.
+          let long : length (bucket_less (back m s) (s.books k)).pools ≡ length (s.books k).pools = length-map (s.books k).pools (λ (e : Entry). entry_less (back m s e.pool) e) in
+          agree.absent k (no_length (s.books k).pools (sym long ∙ ap length none));
+    }
+
+-- a set that goes back has a place, and its pool has as many sets as go back to it
+pub has_place : (m : List Item) (s : State) → Agree s → AreOutstanding m s → (t : Item) → 0 < count_of t m → (e : Entry) × (entry_at (s.books t.key) t.number ≡ Some e) × (pool : Pool) × (s.ledger e.pool ≡ Some pool) × IsAsBooked t.key pool e × (back m s e.pool ≤ e.allocated)
+has_place m s agree out t in_m =
+    let fits = out t in
+    let found = outstanding_found s t 0 (omega arith) in
+    let e = found.0 in
+    let booked = agree.booked t.key t.number e found.1 in
+    let left = size_less booked.0.live e.allocated (lies_in s.books e.pool) m booked.2.allocated (part_fits m s agree out t.key t.number e booked.0 found.1 booked.1) in
+    (e, found.1, booked.0, booked.1, booked.2, left.0)

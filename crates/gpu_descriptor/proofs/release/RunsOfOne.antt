@@ -1,0 +1,81 @@
+-- One run: sets of one key and one number. What giving it back changes, and how its front goes pool by pool.
+use Rattle.std.proofs.Common.{◌≡◌, ◌≢◌, ℕ, zero, suc, ◌+◌, ◌-◌, ◌<◌, Bool, true, ◌&&◌, ◌==◌, List, [], ◌∷◌, length, map, set, count_by, slice_get, Option, Some, None, inl, inr, refl, sym, ap, ◌∙◌, arith, eq-eqb, ne_eqb}
+use Rattle.std.specs.Prelude.{if◌then◌else◌}
+use Rattle.std.proofs.Math.Path.{fun_ext}
+use Rattle.std.proofs.lemmas.Bool.{cases_Bool}
+use Rattle.gpu_descriptor.specs.Model.Agreement.{set_of, State, Item, count_of, Agree}
+use Rattle.gpu_descriptor.specs.Model.Books.{Key, Entry, entry_at}
+use Rattle.gpu_descriptor.specs.Inner.Buckets.{HasDistinctNames}
+use Rattle.gpu_descriptor.specs.Model.Release.{lies_in, entry_less, given_back}
+use Rattle.gpu_descriptor_types.specs.Multiset.{LiveSet, set_eq}
+use Rattle.gpu_descriptor.proofs.release.Fronts.{entry_at-from}
+use Rattle.gpu_descriptor_types.proofs.Counting.{count_by_yes, count_by_alike, count_by_none}
+use Rattle.gpu_descriptor.proofs.table.Exact.{item_exact}
+use Rattle.gpu_descriptor.proofs.release.Places.{back, back_named, lies_in-at}
+
+-- all sets of the list have this key and number
+abbrev pub IsRun : Key → ℕ → List Item → Type 0
+IsRun k i m = (t : Item) → 0 < count_of t m → (t.key ≡ k) × (t.number ≡ i)
+
+count_all : {A : Type 0} (xs : List A) → count_by (λ _. true) xs ≡ length xs
+count_all [] = refl
+count_all (x ∷ xs) = count_by_yes (λ _. true) x xs refl ∙ ap suc (count_all xs)
+
+-- a run goes back to one pool
+pub run_lies : (k : Key) (i : ℕ) (m : List Item) (s : State) (e : Entry) → IsRun k i m → entry_at (s.books k) i ≡ Some e → (pool : ℕ) (t : Item) → 0 < count_of t m → lies_in s.books pool t ≡ (e.pool == pool)
+run_lies k i m s e run at pool t in_m =
+    let place = run t in_m in
+    let here : entry_at (s.books t.key) t.number ≡ Some e = rw (place.0, place.1) at in
+    lies_in-at s.books pool t e here
+
+pub run_back : (k : Key) (i : ℕ) (m : List Item) (s : State) (e : Entry) → IsRun k i m → entry_at (s.books k) i ≡ Some e → (pool : ℕ) → back m s pool ≡ (if e.pool == pool then length m else 0)
+run_back k i m s e run at pool = elim (cases_Bool (e.pool == pool)) [
+  | inl same ↦ rw same (count_by_alike item_exact (lies_in s.books pool) (λ _. true) m (λ t in_m. run_lies k i m s e run at pool t in_m ∙ same) ∙ count_all m)
+  | inr other ↦ rw other (count_by_none item_exact (lies_in s.books pool) m (λ t in_m. run_lies k i m s e run at pool t in_m ∙ other))
+]
+
+pub run_named : (k : Key) (i : ℕ) (m : List Item) (s : State) (e : Entry) → IsRun k i m → entry_at (s.books k) i ≡ Some e → (pool : ℕ) (name : LiveSet) → back_named m s pool name ≡ (if e.pool == pool then count_by (λ t. set_eq (set_of t) name) m else 0)
+run_named k i m s e run at pool name = elim (cases_Bool (e.pool == pool)) [
+  | inl same ↦ rw same (count_by_alike item_exact (λ t. lies_in s.books pool t && (set_eq (set_of t) name)) (λ t. set_eq (set_of t) name) m (λ t in_m. ap (λ (b : Bool). b && (set_eq (set_of t) name)) (run_lies k i m s e run at pool t in_m ∙ same)))
+  | inr other ↦ rw other (count_by_none item_exact (λ t. lies_in s.books pool t && (set_eq (set_of t) name)) m (λ t in_m. ap (λ (b : Bool). b && (set_eq (set_of t) name)) (run_lies k i m s e run at pool t in_m ∙ other)))
+]
+
+less_none : (e : Entry) → entry_less 0 e ≡ e
+less_none e =
+    let allocated : e.allocated - 0 ≡ e.allocated = omega arith in
+    let free : e.free + 0 ≡ e.free = omega arith in
+    λ i. record { pool = e.pool; capacity = e.capacity; allocated = allocated i; free = free i }
+
+pub untouched_rest : (n : ℕ) (pool : ℕ) (es : List Entry) → ((i : ℕ) (d : Entry) → slice_get es i ≡ Some d → pool ≢ d.pool) → map (λ d. entry_less (if pool == d.pool then n else 0) d) es ≡ es
+untouched_rest n pool [] h = refl
+untouched_rest n pool (x ∷ es) h =
+    let head : entry_less (if pool == x.pool then n else 0) x ≡ x = rw (ne_eqb pool x.pool (h 0 x refl)) (less_none x) in
+    λ i. head i ∷ untouched_rest n pool es (λ j. h (suc j)) i
+
+-- the one entry that changes
+pub less_at : (n : ℕ) (es : List Entry) (j : ℕ) (e : Entry) → HasDistinctNames es → slice_get es j ≡ Some e → map (λ d. entry_less (if e.pool == d.pool then n else 0) d) es ≡ set es j (entry_less n e)
+less_at n [] j e distinct at = absurd (let bad : ◌≡◌ {A = Option Entry} None (Some e) = at in cc)
+less_at n (x ∷ es) zero e distinct at =
+    let same : x ≡ e = cc in
+    let head : entry_less (if e.pool == x.pool then n else 0) x ≡ entry_less n e = rw (eq-eqb e.pool x.pool (ap (λ (y : Entry). y.pool) (sym same))) (ap (entry_less n) same) in
+    λ i. head i ∷ untouched_rest n e.pool es (λ j d there alike. absurd (let bad : 0 ≡ suc j = distinct 0 (suc j) e d at there alike in omega arith)) i
+less_at n (x ∷ es) (suc j) e distinct at =
+    let head : entry_less (if e.pool == x.pool then n else 0) x ≡ x = rw (ne_eqb e.pool x.pool (λ alike. absurd (let bad : suc j ≡ 0 = distinct (suc j) 0 e x at refl alike in omega arith))) (less_none x) in
+    λ i. head i ∷ less_at n es j e (λ a b d f p q r. let both : suc a ≡ suc b = distinct (suc a) (suc b) d f p q r in let one : a ≡ b = omega arith in one) at i
+
+pub distinct_names : (s : State) → Agree s → (k : Key) → HasDistinctNames (s.books k).pools
+distinct_names s agree k i j d e at at' same =
+    let b = s.books k in
+    let p : b.first + i - b.first ≡ i = omega arith in
+    let q : b.first + j - b.first ≡ j = omega arith in
+    let both = agree.distinct k k (b.first + i) (b.first + j) d e (entry_at-from b (b.first + i) d (omega arith) (rw p at)) (entry_at-from b (b.first + j) e (omega arith) (rw q at')) same in
+    let number = both.1 in
+    let one : i ≡ j = omega arith in one
+
+-- THE BOOKS AFTER A RUN: one entry of one key
+pub run_books : (k : Key) (i : ℕ) (m : List Item) (s : State) (e : Entry) → Agree s → IsRun k i m → entry_at (s.books k) i ≡ Some e → slice_get (s.books k).pools (i - (s.books k).first) ≡ Some e → (given_back m s).books k ≡ record (s.books k) { pools = set (s.books k).pools (i - (s.books k).first) (entry_less (length m) e) }
+run_books k i m s e agree run at place =
+    let pools : map (λ d. entry_less (back m s d.pool) d) (s.books k).pools ≡ set (s.books k).pools (i - (s.books k).first) (entry_less (length m) e) =
+    ap (λ (f : ℕ → ℕ). map (λ (d : Entry). entry_less (f d.pool) d) (s.books k).pools) (fun_ext (run_back k i m s e run at))
+    ∙ less_at (length m) (s.books k).pools (i - (s.books k).first) e (distinct_names s agree k) place in
+    λ x. record (s.books k) { pools = pools x }

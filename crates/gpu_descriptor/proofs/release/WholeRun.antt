@@ -1,0 +1,236 @@
+-- Giving one run back, over the books of all keys.
+use Rattle.std.proofs.Common.{◌≡◌, ℕ, suc, ◌+◌, ◌-◌, ◌<◌, ◌≤◌, Bool, true, false, ◌==◌, List, [], ◌∷◌, length, map, count_by, sum_by, Option, Some, None, option_map, inl, inr, refl, sym, ap, ◌∙◌, arith, eq-eqb, ne_eqb, eqb-true}
+use Rattle.std.specs.Prelude.{if◌then◌else◌}
+use Rattle.std.proofs.Math.Path.{fun_ext}
+use Rattle.std.specs.List.{list_any}
+use Rattle.std.proofs.lemmas.Bool.{cases_Bool, cases_eq, and_parts, and_from, false_from_ne_true}
+use Rattle.std.proofs.lemmas.List.{length-map}
+use Rattle.std.proofs.lemmas.List.Sums.{sum_by-cons}
+use Rattle.gpu_descriptor_types.specs.Ledger.{Pool, live_sets}
+use Rattle.gpu_descriptor_types.specs.Multiset.{LiveSet, set_eq, times}
+use Rattle.gpu_descriptor_types.proofs.Counting.{bool_iff, any_found, any_from, count_by_yes, count_by_no}
+use Rattle.gpu_descriptor.specs.declared.set.DescriptorSet.{DescriptorSet}
+use Rattle.gpu_descriptor.specs.Model.Agreement.{set_of, State, Item, item_eq, count_of, live_in, AreOutstanding, Agree}
+use Rattle.gpu_descriptor.specs.Model.Books.{Key, key_eq, Entry, Bucket, entry_at}
+use Rattle.gpu_descriptor.specs.Inner.Releases.{IsTakenAt, names_of, bucket_back}
+use Rattle.gpu_descriptor.specs.Inner.Buckets.{trimmed_bucket, pools_without}
+use Rattle.gpu_descriptor.specs.Model.Release.{entry_less, pool_less, given_back, fronts_gone, released, spent_front, pools_gone}
+use Rattle.gpu_descriptor.specs.Caller.Sets.{item_of, items_of}
+use Rattle.gpu_descriptor.specs.Inner.RunSteps.{lies_at, AllPass}
+use Rattle.gpu_descriptor.proofs.table.Exact.{key_exact, item_exact}
+use Rattle.gpu_descriptor.proofs.release.Fronts.{entry_at-found, entry_at-from}
+use Rattle.gpu_descriptor.proofs.release.ReleaseAgrees.{has_place}
+use Rattle.gpu_descriptor.proofs.foreign.LedgerPools.{taken_from, with_pool_same, with_pool_other}
+use Rattle.gpu_descriptor.proofs.release.Parts.{names_key, any_key, key_any, goes}
+use Rattle.gpu_descriptor.proofs.release.Places.{back, back_named, part_fits}
+use Rattle.gpu_descriptor.proofs.release.RunsOfOne.{IsRun, run_back, run_named, run_books, untouched_rest}
+use Rattle.gpu_descriptor.proofs.table.TableBooks.{put_books}
+
+-- the pools without those of a bucket's spent front
+abbrev pub trimmed_pools : Bucket → (ℕ → Option Pool) → ℕ → Option Pool
+trimmed_pools b pools = pools_without (spent_front b) b pools
+
+pub at_from : {S : Type 0} (k : Key) (n : ℕ) (x : DescriptorSet S) → x.key.is ≡ k → x.number ≡ n → lies_at k n x ≡ true
+unfolding lies_at
+at_from k n x e f = and_from _ _ (ap (λ (l : Key). key_eq l k) e ∙ key_exact.self k) (eq-eqb x.number n f)
+
+pub lies_own : {S : Type 0} (x : DescriptorSet S) → lies_at x.key.is x.number x ≡ true
+unfolding lies_at
+lies_own x = and_from _ _ (key_exact.self x.key.is) (eq-eqb x.number x.number refl)
+
+pub at_parts : {S : Type 0} (k : Key) (n : ℕ) (x : DescriptorSet S) → lies_at k n x ≡ true → (x.key.is ≡ k) × (x.number ≡ n)
+unfolding lies_at
+at_parts k n x h =
+    let both = and_parts (key_eq x.key.is k) (x.number == n) h in
+    (key_exact.same x.key.is k both.0, eqb-true x.number n both.1)
+
+module _ {S : Type 0} (name : S → ℕ) where
+  in_run : (k : Key) (n : ℕ) (xs : List (DescriptorSet S)) → AllPass (lies_at k n) xs → (t : Item) → 0 < count_of t (items_of name xs) → (t.key ≡ k) × (t.number ≡ n)
+  in_run k n [] have t h = absurd (omega arith)
+  in_run k n (x ∷ xs) have t h =
+      let one : Item = item_of name x in
+      elim (cases_Bool (item_eq one t)) [
+        | inl same ↦ (
+            let is = item_exact.same one t same in
+            let parts = at_parts k n x have.0 in
+            (ap (λ (u : Item). u.key) (sym is) ∙ parts.0, ap (λ (u : Item). u.number) (sym is) ∙ parts.1))
+        | inr other ↦ (let skip : count_of t (one ∷ items_of name xs) ≡ count_of t (items_of name xs) = count_by_no (λ u. item_eq u t) one (items_of name xs) other in in_run k n xs have.1 t (omega arith))
+      ]
+
+  pub is_run : (k : Key) (n : ℕ) (xs : List (DescriptorSet S)) → AllPass (lies_at k n) xs → IsRun k n (items_of name xs)
+  is_run k n xs have t h = in_run k n xs have t h
+
+  -- the sets of a run, counted
+  pub named_times : (k : Key) (n : ℕ) (xs : List (DescriptorSet S)) → AllPass (lies_at k n) xs → (x : LiveSet) → count_by (λ t. set_eq (set_of t) x) (items_of name xs) ≡ times (live_sets k.counts (names_of name xs)) x
+  named_times k n [] have x = refl
+  named_times k n (y ∷ ys) have x =
+      let one : Item = item_of name y in
+      let it : LiveSet = record { name = name y.raw; counts = k.counts } in
+      let parts = at_parts k n y have.0 in
+      let same : set_of one ≡ it = λ i. record { name = name y.raw; counts = (parts.0 i).counts } in
+      elim (cases_Bool (set_eq (set_of one) x)) [
+        | inl h ↦ count_by_yes (λ t. set_eq (set_of t) x) one (items_of name ys) h ∙ ap suc (named_times k n ys have.1 x) ∙ sym (count_by_yes (λ z. set_eq z x) it (live_sets k.counts (names_of name ys)) (ap (λ (z : LiveSet). set_eq z x) (sym same) ∙ h))
+        | inr h ↦ count_by_no (λ t. set_eq (set_of t) x) one (items_of name ys) h ∙ named_times k n ys have.1 x ∙ sym (count_by_no (λ z. set_eq z x) it (live_sets k.counts (names_of name ys)) (ap (λ (z : LiveSet). set_eq z x) (sym same) ∙ h))
+      ]
+
+  first_of : (x : DescriptorSet S) (xs : List (DescriptorSet S)) → 0 < count_of (item_of name x) (items_of name (x ∷ xs))
+  first_of x xs = (let own : count_of (item_of name x) (items_of name (x ∷ xs)) ≡ suc (count_of (item_of name x) (items_of name xs)) = count_by_yes (λ u. item_eq u (item_of name x)) (item_of name x) (items_of name xs) (item_exact.self (item_of name x)) in omega arith)
+
+  same_length : (xs : List (DescriptorSet S)) → length (items_of name xs) ≡ length (names_of name xs)
+  same_length xs = length-map xs (λ (x : DescriptorSet S). item_of name x) ∙ sym (length-map xs (λ (x : DescriptorSet S). name x.raw))
+
+  all_have : (x : DescriptorSet S) (xs : List (DescriptorSet S)) → AllPass (lies_at x.key.is x.number) xs → AllPass (lies_at x.key.is x.number) (x ∷ xs)
+  all_have x xs have = (lies_own x, have)
+
+  -- where a run lies
+  pub taken_of : (s : State) → Agree s → (x : DescriptorSet S) (xs : List (DescriptorSet S)) → AllPass (lies_at x.key.is x.number) xs → AreOutstanding (items_of name (x ∷ xs)) s → IsTakenAt x.key.is x.number (names_of name (x ∷ xs)) (s.books x.key.is) s.ledger
+  taken_of s agree x xs have out =
+      let k = x.key.is in
+      let n = x.number in
+      let m = items_of name (x ∷ xs) in
+      let run = is_run x.key.is n (x ∷ xs) (all_have x xs have) in
+      let has = has_place m s agree out (item_of name x) (first_of x xs) in
+      let e = has.0 in
+      let at : entry_at (s.books k) n ≡ Some e = has.1 in
+      let own : (e.pool == e.pool) ≡ true = eq-eqb e.pool e.pool refl in
+      let all : back m s e.pool ≡ length m = run_back k n m s e run at e.pool ∙ (rw own refl) in
+      let long = same_length (x ∷ xs) in
+      let fits = has.5 in
+      record {
+        entry = e;
+        at = at;
+        fits = (let less : length (names_of name (x ∷ xs)) ≤ e.allocated = omega arith in less);
+        live = λ y.
+            let part = part_fits m s agree out k n e has.2 at has.3 y in
+            let named : back_named m s e.pool y ≡ count_by (λ t. set_eq (set_of t) y) m = run_named k n m s e run at e.pool y ∙ (rw own refl) in
+            let counted = named_times x.key.is n (x ∷ xs) (all_have x xs have) y in
+            let live : live_in s.ledger e.pool y ≡ has.2.live y = rw has.3 refl in
+            omega arith;
+      }
+
+  pool_none : (o : Option Pool) → option_map (pool_less (λ x. 0)) o ≡ o
+  pool_none None = refl
+  pool_none (Some p) =
+      let live : ◌≡◌ {A = LiveSet → ℕ} (λ x. p.live x - 0) p.live = fun_ext (λ x. let e : p.live x - 0 ≡ p.live x = omega arith in e) in
+      λ i. Some (record p { live = live i })
+
+  -- THE STATE AFTER ONE RUN, before the front goes
+  pub given_run : (s : State) → Agree s → (x : DescriptorSet S) (xs : List (DescriptorSet S)) → AllPass (lies_at x.key.is x.number) xs → (e : Entry) → entry_at (s.books x.key.is) x.number ≡ Some e
+      → given_back (items_of name (x ∷ xs)) s ≡ record {
+        books = put_books s.books x.key.is (bucket_back (s.books x.key.is) x.number (length (names_of name (x ∷ xs))) e);
+        ledger = taken_from s.ledger e.pool (live_sets x.key.is.counts (names_of name (x ∷ xs)));
+      }
+  given_run s agree x xs have e at =
+      let k = x.key.is in
+      let n = x.number in
+      let m = items_of name (x ∷ xs) in
+      let b = s.books k in
+      let ls = live_sets k.counts (names_of name (x ∷ xs)) in
+      let run = is_run x.key.is n (x ∷ xs) (all_have x xs have) in
+      let place = (entry_at-found b n e at).1 in
+      let long : length m ≡ length (names_of name (x ∷ xs)) = same_length (x ∷ xs) in
+      let c = bucket_back b n (length (names_of name (x ∷ xs))) e in
+      let one : (given_back m s).books k ≡ c = run_books k n m s e agree run at place ∙ ap (λ (l : ℕ). bucket_back b n l e) long in
+      let books : (given_back m s).books ≡ put_books s.books k c = fun_ext (λ l. elim (cases_Bool (key_eq k l)) [
+        | inl is ↦ (let here : put_books s.books k c l ≡ c = rw is refl in ap (given_back m s).books (sym (key_exact.same k l is)) ∙ one ∙ sym here)
+        | inr other ↦ (
+            let here : put_books s.books k c l ≡ s.books l = rw other refl in
+            let pools : map (λ d. entry_less (back m s d.pool) d) (s.books l).pools ≡ (s.books l).pools =
+            ap (λ (f : ℕ → ℕ). map (λ (d : Entry). entry_less (f d.pool) d) (s.books l).pools) (fun_ext (run_back k n m s e run at))
+            ∙ untouched_rest (length m) e.pool (s.books l).pools (λ i d got same.
+            let bl = s.books l in
+            let spot : bl.first + i - bl.first ≡ i = omega arith in
+            let keys = (agree.distinct k l n (bl.first + i) e d at (entry_at-from bl (bl.first + i) d (omega arith) (rw spot got)) same).0 in
+            let bad : true ≡ false = sym (ap (key_eq k) (sym keys) ∙ key_exact.self k) ∙ other in cc) in
+            let whole : (given_back m s).books l ≡ s.books l = λ i. record (s.books l) { pools = pools i } in
+            whole ∙ sym here)
+      ]) in
+      let ledger : (given_back m s).ledger ≡ taken_from s.ledger e.pool ls = fun_ext (λ p. elim (cases_eq p e.pool) [
+        | inl same ↦ rw same (
+            let own : (e.pool == e.pool) ≡ true = eq-eqb e.pool e.pool refl in
+            let named : back_named m s e.pool ≡ times ls = fun_ext (λ y. run_named k n m s e run at e.pool y ∙ (rw own (named_times x.key.is n (x ∷ xs) (all_have x xs have) y))) in
+            ap (λ (f : LiveSet → ℕ). option_map (pool_less f) (s.ledger e.pool)) named ∙ sym (with_pool_same s.ledger e.pool (option_map (pool_less (times ls)) (s.ledger e.pool))))
+        | inr other ↦ (
+            let named : back_named m s p ≡ (λ y. 0) = fun_ext (λ y. run_named k n m s e run at p y ∙ (let apart : (e.pool == p) ≡ false = ne_eqb e.pool p (λ h. other (sym h)) in rw apart refl)) in
+            ap (λ (f : LiveSet → ℕ). option_map (pool_less f) (s.ledger p)) named ∙ pool_none (s.ledger p) ∙ sym (with_pool_other s.ledger e.pool p (option_map (pool_less (times ls)) (s.ledger e.pool)) other))
+      ]) in
+      λ i. record { books = books i; ledger = ledger i }
+
+  -- THE FRONT OF THE RUN'S KEY
+  pub front_run : (x : DescriptorSet S) (xs : List (DescriptorSet S)) → AllPass (lies_at x.key.is x.number) xs → (books : Key → Bucket) (b : Bucket) (pools : ℕ → Option Pool)
+      → fronts_gone (items_of name (x ∷ xs)) (record { books = put_books books x.key.is b; ledger = pools }) ≡ record { books = put_books books x.key.is (trimmed_bucket 1 b); ledger = trimmed_pools b pools }
+  front_run x xs have books b pools =
+      let k = x.key.is in
+      let m = items_of name (x ∷ xs) in
+      let run = is_run x.key.is x.number (x ∷ xs) (all_have x xs have) in
+      let s : State = record { books = put_books books k b; ledger = pools } in
+      let own : put_books books k b k ≡ b = rw (key_exact.self k) refl in
+      let named : names_key m k ≡ true = any_from item_exact (λ u. key_eq u.key k) m (item_of name x) (first_of x xs) (key_exact.self k) in
+      let only : (l : Key) → names_key m l ≡ true → k ≡ l = λ l h.
+      let who = any_found item_exact (λ u. key_eq u.key l) m h in
+      sym (run who.0 who.1).0 ∙ key_exact.same who.0.key l who.2 in
+      let books_are : (fronts_gone m s).books ≡ put_books books k (trimmed_bucket 1 b) = fun_ext (λ l. elim (cases_Bool (key_eq k l)) [
+        | inl is ↦ (
+            let same = key_exact.same k l is in
+            let here : put_books books k (trimmed_bucket 1 b) l ≡ trimmed_bucket 1 b = rw is refl in
+            let there : (fronts_gone m s).books k ≡ trimmed_bucket 1 b = rw named (ap (trimmed_bucket 1) own) in
+            ap (fronts_gone m s).books (sym same) ∙ there ∙ sym here)
+        | inr other ↦ (
+            let unnamed : names_key m l ≡ false = false_from_ne_true (names_key m l) (λ h. let bad : true ≡ false = sym (ap (key_eq k) (sym (only l h)) ∙ key_exact.self k) ∙ other in cc) in
+            rw (unnamed, other) refl)
+      ]) in
+      let ledger : (fronts_gone m s).ledger ≡ trimmed_pools b pools = fun_ext (λ p.
+      let gone : list_any (λ t. goes (s.books t.key) p) m ≡ goes b p = bool_iff (list_any (λ t. goes (s.books t.key) p) m) (goes b p)
+      (λ h.
+      let at = any_key (λ l. goes (s.books l) p) m h in
+      let both = and_parts (names_key m at.0) (goes (s.books at.0) p) at.1 in
+      ap (λ (c : Bucket). goes c p) (sym own) ∙ ap (λ (l : Key). goes (s.books l) p) (only at.0 both.0) ∙ both.1)
+      (λ h. key_any (λ l. goes (s.books l) p) m k (and_from (names_key m k) (goes (s.books k) p) named (ap (λ (c : Bucket). goes c p) own ∙ h))) in
+      ap (λ (y : Bool). if y then None else pools p) gone) in
+      λ i. record { books = books_are i; ledger = ledger i }
+
+  -- THE STATE AFTER ONE RUN
+  pub whole_run : (s : State) → Agree s → (x : DescriptorSet S) (xs : List (DescriptorSet S)) → AllPass (lies_at x.key.is x.number) xs → (e : Entry) → entry_at (s.books x.key.is) x.number ≡ Some e
+      → (c : Bucket) (pools : ℕ → Option Pool) → c ≡ trimmed_bucket 1 (bucket_back (s.books x.key.is) x.number (length (names_of name (x ∷ xs))) e) → pools ≡ trimmed_pools (bucket_back (s.books x.key.is) x.number (length (names_of name (x ∷ xs))) e) (taken_from s.ledger e.pool (live_sets x.key.is.counts (names_of name (x ∷ xs))))
+      → ◌≡◌ {A = State} (record { books = put_books s.books x.key.is c; ledger = pools }) (released (items_of name (x ∷ xs)) s)
+  whole_run s agree x xs have e at c pools is are =
+      let k = x.key.is in
+      let b = bucket_back (s.books k) x.number (length (names_of name (x ∷ xs))) e in
+      let after = taken_from s.ledger e.pool (live_sets k.counts (names_of name (x ∷ xs))) in
+      let left : ◌≡◌ {A = State} (record { books = put_books s.books k c; ledger = pools }) (record { books = put_books s.books k (trimmed_bucket 1 b); ledger = trimmed_pools b after }) = λ i. record { books = put_books s.books k (is i); ledger = are i } in
+      left ∙ sym (front_run x xs have s.books b after) ∙ ap (fronts_gone (items_of name (x ∷ xs))) (sym (given_run s agree x xs have e at))
+
+  -- what is 0 at all other keys adds up to what it is at one that is there once
+  sum_none : (k : Key) (f : Key → ℕ) → ((l : Key) → key_eq k l ≡ false → f l ≡ 0) → (keys : List Key) → count_by (key_eq k) keys ≡ 0 → sum_by f keys ≡ 0
+  sum_none k f none [] h = refl
+  sum_none k f none (l ∷ keys) h = elim (cases_Bool (key_eq k l)) [
+    | inl at ↦ (let more = count_by_yes (key_eq k) l keys at in absurd (omega arith))
+    | inr at ↦ (let skip = count_by_no (key_eq k) l keys at in let here = none l at in let rest = sum_none k f none keys (omega arith) in let sum = sum_by-cons f l keys in omega arith)
+  ]
+
+  sum_once : (k : Key) (f : Key → ℕ) → ((l : Key) → key_eq k l ≡ false → f l ≡ 0) → (keys : List Key) → count_by (key_eq k) keys ≡ 1 → sum_by f keys ≡ f k
+  sum_once k f none [] h = absurd (omega arith)
+  sum_once k f none (l ∷ keys) h = elim (cases_Bool (key_eq k l)) [
+    | inl at ↦ (let more = count_by_yes (key_eq k) l keys at in let here : f l ≡ f k = ap f (sym (key_exact.same k l at)) in let rest = sum_none k f none keys (omega arith) in let sum = sum_by-cons f l keys in omega arith)
+    | inr at ↦ (let skip = count_by_no (key_eq k) l keys at in let here = none l at in let rest = sum_once k f none keys (omega arith) in let sum = sum_by-cons f l keys in omega arith)
+  ]
+
+  -- THE POOLS THAT GO are those of the run's key
+  pub gone_run : (s : State) → Agree s → (x : DescriptorSet S) (xs : List (DescriptorSet S)) → AllPass (lies_at x.key.is x.number) xs → (e : Entry) → entry_at (s.books x.key.is) x.number ≡ Some e
+      → (keys : List Key) → count_by (key_eq x.key.is) keys ≡ 1 → pools_gone keys (items_of name (x ∷ xs)) (given_back (items_of name (x ∷ xs)) s) ≡ spent_front (bucket_back (s.books x.key.is) x.number (length (names_of name (x ∷ xs))) e)
+  gone_run s agree x xs have e at keys there =
+      let k = x.key.is in
+      let m = items_of name (x ∷ xs) in
+      let b = bucket_back (s.books k) x.number (length (names_of name (x ∷ xs))) e in
+      let run = is_run x.key.is x.number (x ∷ xs) (all_have x xs have) in
+      let f : Key → ℕ = λ l. if names_key m l then spent_front ((given_back m s).books l) else 0 in
+      let named : names_key m k ≡ true = any_from item_exact (λ u. key_eq u.key k) m (item_of name x) (first_of x xs) (key_exact.self k) in
+      let only : (l : Key) → key_eq k l ≡ false → f l ≡ 0 = λ l other.
+      let unnamed : names_key m l ≡ false = false_from_ne_true (names_key m l) (λ h.
+      let who = any_found item_exact (λ u. key_eq u.key l) m h in
+      let same : k ≡ l = sym (run who.0 who.1).0 ∙ key_exact.same who.0.key l who.2 in
+      let bad : true ≡ false = sym (ap (key_eq k) (sym same) ∙ key_exact.self k) ∙ other in cc) in
+      rw unnamed refl in
+      let given : (given_back m s).books k ≡ b = ap (λ (t : State). t.books k) (given_run s agree x xs have e at) ∙ (let own : put_books s.books k b k ≡ b = rw (key_exact.self k) refl in own) in
+      let here : f k ≡ spent_front ((given_back m s).books k) = rw named refl in
+      sum_once k f only keys there ∙ here ∙ ap spent_front given

@@ -1,0 +1,132 @@
+-- All that is promised of a request, from what it took: kept, given back, declined, or for no sets.
+use Rattle.std.proofs.Common.{◌≡◌, ◌≤◌, ℕ, ◌+◌, ◌<◌, List, Option, None, Some, MatchOption, Result, Ok, Err, inl, sym, ap, ◌∙◌, subst, arith}
+use Rattle.std.specs.Global.{Vec}
+use Rattle.gpu_descriptor_types.specs.Ledger.{Ledger, Counters}
+use Rattle.gpu_descriptor.specs.declared.errors.AllocationError.{AllocationError}
+use Rattle.gpu_descriptor.specs.declared.set.DescriptorSet.{DescriptorSet}
+use Rattle.gpu_descriptor.specs.declared.bucket.take.Stop.{Stop}
+use Rattle.gpu_descriptor.specs.Model.Agreement.{Item, State, outstanding}
+use Rattle.gpu_descriptor.specs.Model.Books.{HasDistinctKeys, Key}
+use Rattle.gpu_descriptor.specs.Model.Outcomes.{Allocates, rolled_back, stop_answer}
+use Rattle.gpu_descriptor.specs.Caller.Call.{call_of}
+use Rattle.gpu_descriptor.specs.Caller.Frees.{Returns}
+use Rattle.gpu_descriptor.specs.Caller.HandsOut.{HandsOut}
+use Rattle.gpu_descriptor.specs.Caller.Keeps.{Keeps}
+use Rattle.gpu_descriptor.specs.Caller.Keys.{StayOrGainLast}
+use Rattle.gpu_descriptor.specs.Caller.Sets.{items_of}
+use Rattle.gpu_descriptor.specs.Caller.States.{Agrees, keys_of, marked_load_of, outstanding_of, pool_load_of, state_of, table_of}
+use Rattle.gpu_descriptor.specs.Caller.Values.{Allocations}
+use Rattle.gpu_descriptor.specs.Inner.Serves.{Takes}
+use Rattle.gpu_descriptor.proofs.request.Outcomes.{taken_agree, taken_out, taken_own, taken_others, taken_leaves, taken_loses_none, taken_others_of, went_back, back_out, back_leaves, back_loses_none, back_others, back_others_of, back_totals, kept, kept_many, kept_totals}
+use Rattle.gpu_descriptor.proofs.request.Promises.{has_cause, short}
+
+either : {A : Type 0} {B : Type 0} {C : A → Type 0} (o : Option A) → B → ((x : A) → C x) → MatchOption o B C
+either None none some = none
+either (Some x) none some = some x
+
+-- the keys of a request of one key are those of another that is the same
+pub gained_as : {k l : Key} {old new : List Key} → k ≡ l → StayOrGainLast k old new → StayOrGainLast l old new
+gained_as same gained = rw (sym same) gained
+
+module _ {P S : Type 0} {name : P → ℕ} {set_name : S → ℕ} {k : Key} {count : ℕ} {sets : List (DescriptorSet S)} {ended : Result (Unit {0}) Stop} {old new : Allocations P} {before after : Ledger}
+    (t : Takes name set_name k count sets ended old new before after) (agree : Agrees name old before) where
+  pub keeps_all : new.limit ≡ old.limit → marked_load_of new ≤ new.limit → pool_load_of new ≤ new.limit → HasDistinctKeys (table_of name new) → Keeps name old new before after
+  keeps_all limit load pool_load rows =
+      record {
+        agree = taken_agree t agree;
+        limit = limit;
+        load = load;
+        pool_load = pool_load;
+        rows = rows;
+        foreign = taken_leaves t agree;
+        accounted = taken_loses_none t agree;
+        others = taken_others_of t agree;
+      }
+
+  pub keeps_back : {last : Allocations P} {final : Ledger} → Returns name set_name sets new last after final → new.limit ≡ old.limit → Keeps name new last after final → Keeps name old last before final
+  keeps_back r limit then =
+      record {
+        agree = then.agree;
+        limit = then.limit ∙ limit;
+        load = then.load;
+        pool_load = then.pool_load;
+        rows = then.rows;
+        foreign = back_leaves t agree r.back;
+        accounted = back_loses_none t agree r.back;
+        others = back_others_of t agree r.back;
+      }
+
+module _ {P S : Type 0} {name : P → ℕ} {set_name : S → ℕ} {k : Key} {count : ℕ} (sets : Vec (DescriptorSet S)) {ended : Result (Unit {0}) Stop} {old new : Allocations P} {before after : Ledger}
+    (t : Takes name set_name k count sets.items ended old new before after) (agree : Agrees name old before) (distinct : HasDistinctKeys (table_of name old)) (keys : StayOrGainLast k (keys_of old) (keys_of new))
+    (looks : new.looks + before.counters.asked ≡ old.looks + after.counters.asked) (comparisons : new.comparisons ≡ old.comparisons) (some : 0 < count) where
+  pub hands_all : {x : Unit {0}} → ended ≡ Ok x → HandsOut name set_name k count (Ok sets) old new before after
+  hands_all is =
+      let outcome = kept t agree distinct some is in
+      record {
+        outcome = outcome;
+        nothing = λ zero. absurd (omega arith);
+        many = kept_many t agree is;
+        given = taken_out t agree;
+        own = taken_own t agree;
+        totals = kept_totals t agree is;
+        totals_stay = tt;
+        back = tt;
+        cause = tt;
+        creates = short _ outcome;
+        other_keys = taken_others t agree;
+        keys = keys;
+        looks = looks;
+        declined = tt;
+        searches = tt;
+        comparisons_stay = comparisons;
+        compared = omega arith;
+      }
+
+  -- the sets went back
+  pub hands_back : {last : Allocations P} {final : Ledger} → HasDistinctKeys (table_of name new) → Returns name set_name sets.items new last after final → {why : Stop} → ended ≡ Err why → HandsOut name set_name k count (Err (stop_answer why)) old last before final
+  hands_back still r is =
+      let went = went_back t agree distinct still some r.back is in
+      let outcome = went.0 in
+      let asked = ap (λ (c : Counters). c.asked) r.back.counters in
+      record {
+        outcome = outcome;
+        nothing = λ zero. absurd (omega arith);
+        many = tt;
+        given = tt;
+        own = tt;
+        totals = tt;
+        totals_stay = back_totals t agree r.back;
+        back = back_out t agree r.back;
+        cause = has_cause _ outcome;
+        creates = short _ outcome;
+        other_keys = back_others t agree r.back;
+        keys = subst (StayOrGainLast k (keys_of old)) (sym r.keys) keys;
+        looks = (let stay = r.looks_stay in omega arith);
+        declined = λ none. absurd (let bad : ◌≡◌ {A = Option (List Item × State)} None (Some (items_of set_name sets.items, state_of name new after)) = sym none ∙ went.1 in cc);
+        searches = rw went.1 (let few = r.comparisons in omega arith);
+        comparisons_stay = tt;
+        compared = (let more = r.compared in omega arith);
+      }
+
+-- the request was declined, and nothing changed
+module _ {P S : Type 0} {name : P → ℕ} {set_name : S → ℕ} {k : Key} {count : ℕ} {old new : Allocations P} {before after : Ledger} (same : new ≡ old) (ledger : after ≡ before) where
+  pub hands_none : (error : AllocationError) → 0 < count → Allocates (call_of name k count old new before after (Err error)) → HandsOut name set_name k count (Err error) old new before after
+  hands_none error some outcome = record {
+    outcome = outcome;
+    nothing = λ zero. absurd (omega arith);
+    many = tt;
+    given = tt;
+    own = tt;
+    totals = tt;
+    totals_stay = (λ i. outstanding_of (same i), λ i. marked_load_of (same i));
+    back = λ u i. outstanding (state_of name (same i) (ledger i)) u;
+    cause = has_cause _ outcome;
+    creates = short _ outcome;
+    other_keys = λ l other. record { books = λ i. (state_of name (same i) (ledger i)).books l; pools = λ n e at i. (state_of name (same i) (ledger i)).ledger e.pool };
+    keys = inl (ap keys_of same);
+    looks = (let a = ap (λ (a : Allocations P). a.looks) same in let l = ap (λ (l : Ledger). l.counters.asked) ledger in omega arith);
+    declined = λ none. (same, ledger);
+    searches = either (rolled_back outcome) (let a = ap (λ (a : Allocations P). a.comparisons) same in omega arith) (λ r. (let a = ap (λ (a : Allocations P). a.comparisons) same in omega arith));
+    comparisons_stay = tt;
+    compared = (let a = ap (λ (a : Allocations P). a.comparisons) same in omega arith);
+  }

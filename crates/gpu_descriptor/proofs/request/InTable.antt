@@ -1,0 +1,114 @@
+-- What a request takes of one key, in the table of keys.
+use Rattle.std.proofs.Common.{◌≡◌, ℕ, ◌+◌, ◌≤◌, Bool, true, false, List, [], ◌∷◌, ◌++◌, length, Option, Some, None, is_some, Result, Ok, Err, inl, inr, refl, sym, ap, ◌∙◌, subst, arith, ◌-◌, ◌&&◌, lt-ltb, le-ltb}
+use Rattle.std.specs.Map.{lookup, set_value}
+use Rattle.std.specs.Option.{option_map_or}
+use Rattle.std.specs.Prelude.{nat_lt, sum_by, if◌then◌else◌}
+use Rattle.std.proofs.lemmas.Bool.{cases_Bool, cases_lt}
+use Rattle.std.proofs.lemmas.List.Sums.{sum_by-append}
+use Rattle.gpu_descriptor_types.specs.Ledger.{Ledger, Pool}
+use Rattle.gpu_descriptor.specs.Model.Load.{marked_load}
+use Rattle.gpu_descriptor.specs.declared.set.BucketKey.{BucketKey}
+use Rattle.gpu_descriptor.specs.declared.set.DescriptorSet.{DescriptorSet}
+use Rattle.gpu_descriptor.specs.declared.bucket.DescriptorBucket.{DescriptorBucket}
+use Rattle.gpu_descriptor.specs.declared.bucket.take.Stop.{Stop}
+use Rattle.gpu_descriptor.specs.Model.Books.{Key, key_eq, Bucket, no_pools}
+use Rattle.gpu_descriptor.specs.Caller.KeyOf.{key_of}
+use Rattle.gpu_descriptor.specs.Inner.Stored.{books_in, bucket_of, load_in}
+use Rattle.gpu_descriptor.specs.Inner.Walk.{HasTaken}
+use Rattle.gpu_descriptor.specs.Model.Grants.{Grant, IsGrantOf}
+use Rattle.gpu_descriptor.specs.Model.Agreement.{Item}
+use Rattle.gpu_descriptor.specs.Inner.Serves.{IsServed, ServesKey}
+use Rattle.gpu_descriptor.proofs.table.Exact.{key_exact}
+use Rattle.gpu_descriptor.proofs.sums.Loads.{IsRow, IsWritten, sum_set, marked_load-add}
+use Rattle.gpu_descriptor.proofs.table.TableBooks.{put_books, written, looked_up, row_bucket}
+
+-- a new key goes last
+books_end : {P : Type 0} (name : P → ℕ) (k : BucketKey) (w : DescriptorBucket P) (test : BucketKey → Bool) → ((l : BucketKey) → test l ≡ key_eq (key_of k) (key_of l)) → (es : List (BucketKey × DescriptorBucket P)) → lookup test es ≡ None → (l : Key)
+    → books_in name (es ++ (k, w) ∷ []) l ≡ put_books (books_in name es) (key_of k) (bucket_of name w) l
+books_end name k w test same [] none l = ap (λ (b : Bucket). if key_eq (key_of k) l then b else no_pools) (row_bucket name (k, w))
+books_end {P} name k w test same (e ∷ es) none l = elim (cases_Bool (test e.0)) [
+  | inl at ↦ (let found : Some e.1 ≡ None = rw at at none in absurd (cc))
+  | inr at ↦ (
+      let rest : lookup test es ≡ None = rw at at none in
+      let ih = books_end name k w test same es rest l in
+      elim (cases_Bool (key_eq (key_of e.0) l)) [
+        | inl here ↦ (
+            let other : key_eq (key_of k) l ≡ false = ap (key_eq (key_of k)) (sym (key_exact.same (key_of e.0) l here)) ∙ sym (same e.0) ∙ at in
+            rw (here, other) refl)
+        | inr there ↦ rw there ih
+      ])
+]
+
+-- a key that is there
+pub present : {P : Type 0} (name : P → ℕ) {k : Key} {es : List (BucketKey × DescriptorBucket P)} {v : DescriptorBucket P} → IsRow k es v → books_in name es k ≡ bucket_of name v
+present {P} name {k} {es} row = looked_up name row.test k row.same es ∙ ap (λ (o : Option (DescriptorBucket P)). option_map_or (bucket_of name) o no_pools) row.at
+
+-- a key that isn't
+pub missing : {P : Type 0} (name : P → ℕ) (k : Key) (es : List (BucketKey × DescriptorBucket P)) (test : BucketKey → Bool) → ((l : BucketKey) → test l ≡ key_eq k (key_of l)) → lookup test es ≡ None → books_in name es k ≡ no_pools
+missing {P} name k es test same at = looked_up name test k same es ∙ ap (λ (o : Option (DescriptorBucket P)). option_map_or (bucket_of name) o no_pools) at
+
+load_grows : {P : Type 0} (k l : BucketKey) (v w : DescriptorBucket P) (n : ℕ) → key_of l ≡ key_of k → w.total ≡ v.total + n → load_in (l, w) ≡ load_in (l, v) + marked_load (key_of k) n
+load_grows k l v w n is more =
+    ap (λ (x : Key). marked_load x w.total) is ∙ ap (marked_load (key_of k)) more ∙ marked_load-add (key_of k) v.total n ∙ ap (λ (x : Key). marked_load x v.total + marked_load (key_of k) n) (sym is)
+
+-- a key without pools may get any id
+grant_new : {n id : ℕ} {ledger : ℕ → Option Pool} {g : Grant} → IsGrantOf n (record no_pools { id = id }) ledger g → IsGrantOf n no_pools ledger g
+grant_new h = record { id = λ some. absurd (omega arith); refusing = h.refusing; parts = h.parts; new = h.new }
+
+taken_new : {k : Key} {n id : ℕ} {g : Grant} {items : List Item} {b : Bucket} {l m : Ledger} → HasTaken k n g items (record no_pools { id = id }) b l m → HasTaken k n g items no_pools b l m
+taken_new t = record { grant = grant_new t.grant; came = t.came; keeps = record { booked = t.keeps.booked; longer = t.keeps.longer; named = t.keeps.named; others = t.keeps.others; of_key = t.keeps.of_key; out = t.keeps.out; more = t.keeps.more }; bucket = t.bucket; pools = t.pools; counters = t.counters }
+
+served_new : {P S : Type 0} {name : P → ℕ} {set_name : S → ℕ} {k : Key} {room count id : ℕ} {sets : List (DescriptorSet S)} {ended : Result (Unit {0}) Stop} {b : Bucket} {before after : Ledger} → IsServed name set_name k room count sets ended (record no_pools { id = id }) b before after → IsServed name set_name k room count sets ended no_pools b before after
+served_new {ended = Ok done} s = record { numbers = s.numbers; few = s.few; taken = (s.taken.0, taken_new s.taken.1, s.taken.2, s.taken.3) }
+served_new {ended = Err why} s = record { numbers = s.numbers; few = s.few; taken = (s.taken.0, s.taken.1, taken_new s.taken.2, s.taken.3, s.taken.4) }
+
+-- what one key gave, in the table
+module _ {P S : Type 0} {name : P → ℕ} {set_name : S → ℕ} (k : BucketKey) (w : DescriptorBucket P) {old : Bucket} {room count : ℕ} {sets : List (DescriptorSet S)} {ended : Result (Unit {0}) Stop} {before after : Ledger}
+    (s : IsServed name set_name (key_of k) room count sets ended old (bucket_of name w) before after) where
+  module _ {had : ℕ} (total : w.total ≡ had + length sets) {es fs : List (BucketKey × DescriptorBucket P)} where
+    pub serves_present : {v : DescriptorBucket P} → bucket_of name v ≡ old → v.total ≡ had → IsWritten (key_of k) es fs v w → ServesKey name set_name k room count sets ended es fs before after
+    serves_present {v} was many r =
+        let here : books_in name es (key_of k) ≡ old = present name r.row ∙ was in
+        let out = sum_set (λ b. b.1.total) r.row.test es v w r.row.at in
+        let load = sum_set load_in r.row.test es v w r.row.at in
+        let key : key_of load.0 ≡ key_of k = sym (key_exact.same (key_of k) (key_of load.0) (sym (r.row.same load.0) ∙ load.1)) in
+        let grows = load_grows k load.0 v w (length sets) key (total ∙ ap (λ n. n + length sets) (sym many)) in
+        rw r.wrote (record {
+          bucket = bucket_of name w;
+          served = subst (λ (b : Bucket). IsServed name set_name (key_of k) room count sets ended b (bucket_of name w) before after) (sym here) s;
+          books = written name r.row.test (key_of k) r.row.same es w (ap is_some r.row.at);
+          out = (let a = out.2 in let b = out.3 in omega arith);
+          load = (let a = load.2 in let b = load.3 in omega arith);
+        })
+
+    pub serves_new : (test : BucketKey → Bool) → ((l : BucketKey) → test l ≡ key_eq (key_of k) (key_of l)) → lookup test es ≡ None → fs ≡ es ++ (k, w) ∷ [] → old ≡ record no_pools { id = old.id } → had ≡ 0 → ServesKey name set_name k room count sets ended es fs before after
+    serves_new test same at put empty none =
+        let gone = missing name (key_of k) es test same at in
+        rw put (record {
+          bucket = bucket_of name w;
+          served = subst (λ (b : Bucket). IsServed name set_name (key_of k) room count sets ended b (bucket_of name w) before after) (sym gone) (served_new (subst (λ (b : Bucket). IsServed name set_name (key_of k) room count sets ended b (bucket_of name w) before after) empty s));
+          books = books_end name k w test same es at;
+          out = (let a = sum_by-append (λ (r : BucketKey × DescriptorBucket P). r.1.total) es ((k, w) ∷ []) in let one : sum_by (λ (r : BucketKey × DescriptorBucket P). r.1.total) ((k, w) ∷ []) ≡ w.total = omega arith in omega arith);
+          load = (let a = sum_by-append load_in es ((k, w) ∷ []) in let one : sum_by load_in ((k, w) ∷ []) ≡ marked_load (key_of k) w.total = omega arith in let n : w.total ≡ length sets = omega arith in let e = ap (marked_load (key_of k)) n in omega arith);
+        })
+
+-- a write of what is there
+set_value-same : {P : Type 0} (test : BucketKey → Bool) (es : List (BucketKey × DescriptorBucket P)) (v : DescriptorBucket P) → lookup test es ≡ Some v → set_value test es v ≡ es
+set_value-same test [] v at = refl
+set_value-same {P} test (e ∷ es) v at = elim (cases_Bool (test e.0)) [
+  | inl here ↦ (
+      let found : Some e.1 ≡ Some v = rw here at at in
+      let is : e.1 ≡ v = cc in
+      rw here (ap (λ (b : DescriptorBucket P). (e.0, b) ∷ es) (sym is)))
+  | inr there ↦ (let rest : lookup test es ≡ Some v = rw there at at in rw there (ap (λ (x : List (BucketKey × DescriptorBucket P)). e ∷ x) (set_value-same test es v rest)))
+]
+
+pub written-same : {P : Type 0} {k : Key} {es fs : List (BucketKey × DescriptorBucket P)} {v w : DescriptorBucket P} → IsWritten k es fs v w → w ≡ v → fs ≡ es
+written-same {es = es} {v = v} r same = r.wrote ∙ ap (set_value r.row.test es) same ∙ set_value-same r.row.test es v r.row.at
+
+-- a test against what is left of the limit
+pub above-limit : (key : Bool) (left product limit current load count : ℕ) → key ≡ true → left ≡ limit - current → current ≡ load → current ≤ limit → product ≡ count → nat_lt left product ≡ key && nat_lt limit (count + load)
+above-limit key left product limit current load count on is same within alike = elim (cases_lt left product) [
+  | inl more ↦ lt-ltb left product more ∙ sym (ap (λ (b : Bool). b && nat_lt limit (count + load)) on ∙ lt-ltb limit (count + load) (omega arith))
+  | inr less ↦ le-ltb left product less ∙ sym (ap (λ (b : Bool). b && nat_lt limit (count + load)) on ∙ le-ltb limit (count + load) (omega arith))
+]

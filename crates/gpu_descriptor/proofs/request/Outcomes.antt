@@ -1,0 +1,227 @@
+-- A request that took sets is as the definitions say: kept whole, or given back.
+use Rattle.std.specs.Prelude.{◌↔◌}
+use Rattle.std.proofs.lemmas.Bool.{cases_lt}
+use Rattle.std.proofs.Common.{◌≡◌, ◌≢◌, ℕ, ◌+◌, ◌-◌, ◌<◌, ◌≤◌, inl, inr, true, false, Some, List, [], ◌∷◌, length, map, slice_get, arith, Result, Ok, Err, refl, sym, ap, ◌∙◌, subst}
+use Rattle.std.proofs.lemmas.List.{length-map}
+use Rattle.gpu_descriptor_types.specs.Ledger.{Ledger, no_rise}
+use Rattle.gpu_descriptor.specs.declared.errors.AllocationError.{AllocationError}
+use Rattle.gpu_descriptor.specs.declared.set.DescriptorSet.{DescriptorSet}
+use Rattle.gpu_descriptor.specs.declared.bucket.take.Stop.{Stop}
+use Rattle.gpu_descriptor.specs.declared.bucket.take.Stop.TheVariants as stop
+use Rattle.gpu_descriptor.specs.Model.Agreement.{State, Item, Agree, AreOutstanding, outstanding, with_bucket}
+use Rattle.gpu_descriptor.specs.Model.Books.{Key, key_eq, Entry, Bucket, HasDistinctKeys, entry_at}
+use Rattle.gpu_descriptor.specs.Model.Foreign.{KeepsForeign, LosesNone}
+use Rattle.gpu_descriptor.specs.Caller.Others.{others_of}
+use Rattle.gpu_descriptor.specs.Model.FreshPools.{fresh_entry, IsFreshFront}
+use Rattle.gpu_descriptor.specs.Caller.Frees.{GivesBack}
+use Rattle.gpu_descriptor.specs.Model.Grants.{Grant, IsGrantOf, bucket_with, items_in, granted}
+use Rattle.gpu_descriptor.specs.Inner.Grow.{IsTaken}
+use Rattle.gpu_descriptor.specs.Inner.Walk.{IsRefused}
+use Rattle.gpu_descriptor.specs.Model.Load.{allocated_in, marked_load}
+use Rattle.gpu_descriptor.specs.Model.Shares.{all_shared, rest}
+use Rattle.gpu_descriptor.specs.Model.Outcomes.{Allocates, Call, Proceeds, IsBack, back_of, rolled_back, risen, grant_rise, rollback_rise, StopsAt, stop_answer, stop_rise}
+use Rattle.gpu_descriptor.specs.Model.Outcomes.Allocates.{done, stopped}
+use Rattle.gpu_descriptor.specs.Model.Promises.{IsUntouched, KeepsOtherKeys, AreOfKey, AreOutBesides, KeepsOutstanding}
+use Rattle.gpu_descriptor.specs.Model.Release.{released, given_back, pools_gone}
+use Rattle.gpu_descriptor.specs.Caller.Call.{call_of}
+use Rattle.gpu_descriptor.specs.Inner.Serves.{Takes}
+use Rattle.gpu_descriptor.specs.Model.Runs.{runs}
+use Rattle.gpu_descriptor.specs.Caller.Sets.{item_of, items_of}
+use Rattle.gpu_descriptor.specs.Caller.States.{Agrees, state_of, table_of, keys_of, outstanding_of, marked_load_of, pool_load_of}
+use Rattle.gpu_descriptor.specs.Caller.Values.{Allocations}
+use Rattle.gpu_descriptor.specs.Inner.Walk.{KeepsKey, HasTaken}
+use Rattle.gpu_descriptor.proofs.request.StateAgrees.{keeps_agree, keeps_given, keeps_outstanding}
+use Rattle.gpu_descriptor.proofs.foreign.ForeignPools.{entries_named, taken_apart, taken_foreign, taken_loses, freed_foreign, freed_loses, foreign_through, loses_through}
+use Rattle.gpu_descriptor.proofs.table.Exact.{key_exact}
+use Rattle.gpu_descriptor.proofs.release.ReleaseAgrees.{takes}
+use Rattle.gpu_descriptor.proofs.foreign.OthersStay.{others_stay}
+use Rattle.gpu_descriptor.proofs.release.OtherKeys.{release_others, untouched_twice}
+use Rattle.gpu_descriptor.proofs.request.Promises.{grant_many}
+use Rattle.gpu_descriptor.proofs.request.Granted.{is_done, stopped_state}
+use Rattle.gpu_descriptor.proofs.request.Requested.{load_is, pool_load_is, out_is}
+use Rattle.gpu_descriptor.proofs.request.Rollback.{give_back_rise, only_key, keys_table, unnamed_key, load_of_items}
+
+-- what a request took keeps the key's part of the agreement, wherever it stopped
+keeps_taken : (ended : Result (Unit {0}) Stop) (k : Key) (room n : ℕ) (items : List Item) (old new : Bucket) (l m : Ledger) → IsTaken ended k room n items old new l m → KeepsKey k items old new l.pools m.pools
+keeps_taken (Ok x) k room n items old new l m t = t.1.keeps
+keeps_taken (Err why) k room n items old new l m t = subst (KeepsKey k items old new l.pools) (sym t.4.pools) t.2.keeps
+
+-- what it left of the key's pools
+bucket_taken : (ended : Result (Unit {0}) Stop) (k : Key) (room n : ℕ) (items : List Item) (old new : Bucket) (l m : Ledger) → IsTaken ended k room n items old new l m → (g : Grant) × (new ≡ bucket_with n g old) × IsGrantOf n old l.pools g
+bucket_taken (Ok x) k room n items old new l m t = (t.0, t.1.bucket, t.1.grant)
+bucket_taken (Err why) k room n items old new l m t = (t.0, t.2.bucket, t.2.grant)
+
+-- a request of a key is one of another that is the same
+pub taken_as : {P S : Type 0} {name : P → ℕ} {set_name : S → ℕ} {k l : Key} {count : ℕ} {sets : List (DescriptorSet S)} {ended : Result (Unit {0}) Stop} {old new : Allocations P} {before after : Ledger}
+    → k ≡ l → Takes name set_name k count sets ended old new before after → Takes name set_name l count sets ended old new before after
+taken_as same t = rw (sym same) t
+
+module _ {P S : Type 0} {name : P → ℕ} {set_name : S → ℕ} {k : Key} {count : ℕ} {sets : List (DescriptorSet S)} {ended : Result (Unit {0}) Stop} {old new : Allocations P} {before after : Ledger}
+    (t : Takes name set_name k count sets ended old new before after) (agree : Agrees name old before) where
+  abbrev s : State
+  s = state_of name old before
+
+  abbrev items : List Item
+  items = items_of set_name sets
+
+  -- what the limit leaves
+  abbrev room : ℕ
+  room = old.limit - pool_load_of old
+
+  keeps : KeepsKey k items (s.books k) t.bucket s.ledger after.pools
+  keeps = keeps_taken ended k room count items (s.books k) t.bucket before after t.served.taken
+
+  left : (g : Grant) × (t.bucket ≡ bucket_with count g (s.books k)) × IsGrantOf count (s.books k) s.ledger g
+  left = bucket_taken ended k room count items (s.books k) t.bucket before after t.served.taken
+
+  same_id : 0 < length (s.books k).pools → t.bucket.id ≡ (s.books k).id
+  same_id some = ap (λ (b : Bucket). b.id) left.1 ∙ left.2.id some
+
+  same_first : t.bucket.first ≡ (s.books k).first
+  same_first = ap (λ (b : Bucket). b.first) left.1
+
+  -- books and ledger agree after it
+  pub taken_agree : Agrees name new after
+  taken_agree = subst Agree (sym t.state) (keeps_agree k items t.bucket s after.pools agree same_id same_first keeps)
+
+  -- and the sets may be given back
+  pub taken_given : AreOutstanding items (state_of name new after)
+  taken_given = subst (AreOutstanding items) (sym t.state) (keeps_given k items t.bucket s after.pools agree same_id same_first keeps)
+
+  -- exactly these sets are outstanding besides
+  pub taken_out : AreOutBesides items s (state_of name new after)
+  taken_out u = ap (λ (w : State). outstanding w u) t.state ∙ keeps_outstanding k items t.bucket s after.pools agree same_id same_first keeps u
+
+  pub taken_own : AreOfKey k items
+  taken_own = λ u some. (keeps.of_key u some).0
+
+  pub taken_others : KeepsOtherKeys k s (state_of name new after)
+  taken_others l other = record {
+    books = ap (λ (w : State). w.books l) t.state ∙ rw other refl;
+    pools = λ n e at. (
+        let booked = agree.booked l n e at in
+        let apart : (m : ℕ) (d : Entry) → entry_at (s.books k) m ≡ Some d → d.pool ≢ e.pool = λ m d there same.
+        let bad : true ≡ false = sym (ap (key_eq k) (sym (agree.distinct k l m n d e there at same).0) ∙ key_exact.self k) ∙ other in
+        absurd (cc) in
+        ap (λ (w : State). w.ledger e.pool) t.state ∙ taken_apart k items t.bucket s after.pools same_first keeps e.pool booked.0 apart booked.1);
+  }
+
+  pub taken_leaves : KeepsForeign s (state_of name new after)
+  taken_leaves = subst (KeepsForeign s) (sym t.state) (taken_foreign k items t.bucket s after.pools same_first keeps)
+
+  pub taken_loses_none : LosesNone s (state_of name new after)
+  taken_loses_none =
+      let g = left.0 in
+      subst (LosesNone s) (sym t.state) (taken_loses k items t.bucket s after.pools same_first keeps (λ i e at.
+      let kept = entries_named g.left count g.refused (s.books k).pools (map fresh_entry g.fresh) i e at in
+      (kept.0, ap (λ (b : Bucket). slice_get b.pools i) left.1 ∙ kept.1, kept.2)))
+
+  pub taken_others_of : others_of name new after ≡ others_of name old before
+  taken_others_of = others_stay name old new before after taken_leaves taken_loses_none
+
+  pub proceeds : HasDistinctKeys (table_of name old) → 0 < count → (last : Allocations P) (final : Ledger) (answer : Result (List Item) AllocationError) → Proceeds (call_of name k count old last before final answer)
+  proceeds distinct some last final answer = record {
+    some = some;
+    limit = record { load = marked_load_of old; is_load = load_is name old before distinct; within = t.within };
+    bound = record { out = outstanding_of old; is_out = out_is name old before distinct; numbers = t.served.numbers; sets = t.fits };
+  }
+
+  -- ---- the sets went back
+
+  module _ (distinct : HasDistinctKeys (table_of name old)) (still : HasDistinctKeys (table_of name new)) (some : 0 < count) {last : Allocations P} {final : Ledger} (back : GivesBack name set_name sets (runs items) new last after final) where
+    -- which of the new allocator's pools go
+    gone : pools_gone (keys_of new) items (given_back items (state_of name new after)) ≡ pools_gone (k ∷ []) items (given_back items (state_of name new after))
+    gone = ap (λ (keys : List Key). pools_gone keys items (given_back items (state_of name new after))) (keys_table name new.table) ∙ only_key k items (state_of name new after) (table_of name new) still (λ l. refl) taken_own
+
+    went : (m : List Item) (u : State) → m ≡ items → u ≡ state_of name new after → final.counters ≡ risen (rollback_rise m k u) after.counters
+    went m u is same = back.counters ∙ give_back_rise _ (runs items) after.counters ∙ (λ i. risen (record no_rise { released = runs (sym is i); destroyed = (gone ∙ (λ j. pools_gone (k ∷ []) (sym is j) (given_back (sym is j) (sym same j)))) i }) after.counters)
+
+    abbrev call : AllocationError → Call
+    call error = call_of name k count old last before final (Err error)
+
+    -- the outcome, and what it says went back
+    abbrev Rolls : Stop → Type 0
+    Rolls why = (o : Allocates (call (stop_answer why))) × (rolled_back o ≡ Some (items, state_of name new after))
+
+    module _ (why : Stop) (g : Grant) (between : Ledger) (taken : HasTaken k count g items (s.books k) t.bucket before between) (refused : IsRefused why between after) where
+      now : (with_bucket k t.bucket after.pools s ≡ granted k count g s) × (after.counters ≡ risen (stop_rise why) (risen (grant_rise count g (s.books k).pools) before.counters))
+      now = stopped_state k count why s t.bucket items before between after refl g taken refused
+
+      is_back : (b : IsBack (call (stop_answer why)) g why) × (Some (back_of b) ≡ Some (items, state_of name new after))
+      is_back = (
+        record {
+          taken = taken.grant;
+          answer = refl;
+          state = back.state ∙ (λ i. released (sym taken.came i) ((t.state ∙ now.0) i));
+          counters = went (items_in k g.id g.parts) (granted k count g s) taken.came (sym (t.state ∙ now.0)) ∙ ap (risen (rollback_rise (items_in k g.id g.parts) k (granted k count g s))) now.1;
+        },
+        λ i. Some (taken.came i, sym (t.state ∙ now.0) i),
+      )
+
+      goes : Proceeds (call (stop_answer why))
+      goes = proceeds distinct some last final _
+
+    rolls : (why : Stop) (g : Grant) (between : Ledger) → HasTaken k count g items (s.books k) t.bucket before between → StopsAt why k room count g (s.books k).pools → IsRefused why between after → Rolls why
+    rolls why g between taken at refused =
+        let b = is_back why g between taken refused in
+        (stopped (goes why g between taken refused) (record { why = why; grant = g; pooled = pool_load_of old; is_pooled = pool_load_is name old before distinct; at = at; back = b.0 }), b.1)
+
+    pub went_back : {why : Stop} → ended ≡ Err why → Rolls why
+    went_back {why} is =
+        let taken = subst (λ (r : Result (Unit {0}) Stop). IsTaken r k room count items (s.books k) t.bucket before after) is t.served.taken in
+        rolls why taken.0 taken.1 taken.2 taken.3 taken.4
+
+  module _ {last : Allocations P} {final : Ledger} {calls : ℕ} (back : GivesBack name set_name sets calls new last after final) where
+    -- the sets that went back are no longer outstanding
+    pub back_out : KeepsOutstanding s (state_of name last final)
+    back_out u =
+        let now = ap (λ (w : State). outstanding w u) back.state in
+        let less = takes items (state_of name new after) taken_agree taken_given u in
+        let more = taken_out u in
+        omega arith
+
+    pub back_others : KeepsOtherKeys k s (state_of name last final)
+    back_others l other =
+        let left = release_others items (state_of name new after) taken_agree l (unnamed_key k items taken_own l other) in
+        subst (IsUntouched l s) (sym back.state) (untouched_twice l s (state_of name new after) (released items (state_of name new after)) (taken_others l other) left)
+
+    -- the totals are as before
+    pub back_totals : (outstanding_of last ≡ outstanding_of old) × (marked_load_of last ≡ marked_load_of old)
+    back_totals =
+        let out = back.outstanding in
+        let marked = back.marked in
+        let total = t.total in
+        let more = t.marked in
+        let load = load_of_items k items taken_own in
+        let long = ap (marked_load k) (length-map sets (λ (x : DescriptorSet S). item_of set_name x)) in
+        ((let e : outstanding_of last ≡ outstanding_of old = omega arith in e), (let e : marked_load_of last ≡ marked_load_of old = omega arith in e))
+
+    pub back_leaves : KeepsForeign s (state_of name last final)
+    back_leaves = foreign_through s (state_of name new after) (state_of name last final) taken_leaves (freed_foreign name set_name sets calls new last after final back)
+
+    pub back_loses_none : LosesNone s (state_of name last final)
+    back_loses_none = loses_through s (state_of name new after) (state_of name last final) taken_loses_none (freed_loses name set_name sets calls new last after final back)
+
+    pub back_others_of : others_of name last final ≡ others_of name old before
+    back_others_of = others_stay name old last before final back_leaves back_loses_none
+
+  -- ---- the sets are kept
+
+  all_of : {x : Unit {0}} → ended ≡ Ok x → IsTaken (Ok x) k room count items (s.books k) t.bucket before after
+  all_of is = subst (λ (r : Result (Unit {0}) Stop). IsTaken r k room count items (s.books k) t.bucket before after) is t.served.taken
+
+  pub kept_many : {x : Unit {0}} → ended ≡ Ok x → length sets ≡ count
+  kept_many is =
+      let all = all_of is in
+      let many = grant_many k count _ _ (s.books k) all.0 all.1.grant.parts all.2 all.3 in
+      let same = ap length all.1.came in
+      let long = length-map sets (λ (x : DescriptorSet S). item_of set_name x) in
+      omega arith
+
+  pub kept_totals : {x : Unit {0}} → ended ≡ Ok x → (outstanding_of new ≡ outstanding_of old + count) × (marked_load_of new ≡ marked_load_of old + marked_load k count)
+  kept_totals is =
+      let many = kept_many is in
+      (t.total ∙ ap (λ n. outstanding_of old + n) many, t.marked ∙ ap (λ n. marked_load_of old + marked_load k n) many)
+
+  pub kept : HasDistinctKeys (table_of name old) → 0 < count → {x : Unit {0}} → ended ≡ Ok x → Allocates (call_of name k count old new before after (Ok items))
+  kept distinct some is = done (proceeds distinct some new after _) (is_done _ t.bucket items before after refl refl t.state refl (pool_load_of old) (pool_load_is name old before distinct) (all_of is) refl)

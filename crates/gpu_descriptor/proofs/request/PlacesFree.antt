@@ -1,0 +1,82 @@
+-- Known free places are room on the device.
+use Rattle.std.proofs.Common.{◌≡◌, ℕ, zero, suc, ◌+◌, ◌*◌, ◌<◌, ◌≤◌, inl, inr, List, [], ◌∷◌, length, map, Bool, true, false, slice_set, slice_index, refl, sym, ap, subst, arith, eqb-true}
+use Rattle.std.proofs.Math.Nat.{mul-le-mul_right}
+use Rattle.std.proofs.lemmas.Bool.{cases_Bool}
+use Rattle.std.proofs.lemmas.List.Sums.{sum_by-cons}
+use Rattle.std.specs.Prelude.{IfSome, IsTrue, sum, sum_by, ◌==◌, if◌then◌else◌}
+use Rattle.gpu_descriptor.specs.Model.Agreement.{flags_of}
+use Rattle.gpu_descriptor.specs.Model.Books.{Key, Entry}
+use Rattle.gpu_descriptor.specs.Inner.Buckets.{IsBookedIn}
+use Rattle.gpu_descriptor_types.proofs.Counting.{count_by_yes, count_by_no, set_exact}
+use Rattle.gpu_descriptor_types.specs.Flags.{IsUpdateAfterBind}
+use Rattle.gpu_descriptor_types.specs.Ledger.{Pool, Ledger, HasRoom, IsFiniteLedger}
+use Rattle.gpu_descriptor_types.specs.Multiset.{LiveSet, Spells, set_eq, times}
+use Rattle.gpu_descriptor_types.specs.PoolSize.{pool_counts}
+use Rattle.gpu_descriptor.proofs.sums.Sized.{listed}
+
+abbrev pub key_with : List ℕ → Bool → Key
+key_with counts mark = record { counts = counts; marked = mark }
+
+-- sets of one list of counts add up to a product
+sum_alike : (counts : List ℕ) (j : ℕ) (sets : List LiveSet) → ((x : LiveSet) → 0 < times sets x → x.counts ≡ counts) → sum_by (λ s. slice_index s.counts j) sets ≡ length sets * slice_index counts j
+sum_alike counts j [] h = omega arith
+sum_alike counts j (s ∷ sets) h =
+    let own : times (s ∷ sets) s ≡ suc (times sets s) = count_by_yes (λ y. set_eq y s) s sets (set_exact.self s) in
+    let here : s.counts ≡ counts = h s (omega arith) in
+    let one : slice_index s.counts j ≡ slice_index counts j = ap (λ (c : List ℕ). slice_index c j) here in
+    let more : sum_by (λ s. slice_index s.counts j) (s ∷ sets) ≡ slice_index s.counts j + sum_by (λ s. slice_index s.counts j) sets = sum_by-cons (λ (s : LiveSet). slice_index s.counts j) s sets in
+    let rest : sum_by (λ s. slice_index s.counts j) sets ≡ length sets * slice_index counts j = sum_alike counts j sets (λ x lt. h x (up x lt)) in
+    omega arith
+  where
+    up : (x : LiveSet) → 0 < times sets x → 0 < times (s ∷ sets) x
+    up x lt = elim (cases_Bool (set_eq s x)) [
+      | inl on ↦ (let e = count_by_yes (λ y. set_eq y x) s sets on in omega arith)
+      | inr off ↦ (let e = count_by_no (λ y. set_eq y x) s sets off in omega arith)
+    ]
+
+index_le_sum : (j : ℕ) (xs : List ℕ) → slice_index xs j ≤ sum xs
+index_le_sum j [] = omega arith
+index_le_sum zero (x ∷ xs) = (let e = sum_by-cons (λ (n : ℕ). n) x xs in omega arith)
+index_le_sum (suc j) (x ∷ xs) = (let e = sum_by-cons (λ (n : ℕ). n) x xs in let rest = index_le_sum j xs in omega arith)
+
+scaled : (c j : ℕ) (xs : List ℕ) → slice_index (map (λ n. n * c) xs) j ≡ slice_index xs j * c
+scaled c j [] = omega arith
+scaled c zero (x ∷ xs) = refl
+scaled c (suc j) (x ∷ xs) = scaled c j xs
+
+-- a pool of c sets has the counts of c sets
+pub wide : (k : Key) (c j : ℕ) → slice_index k.counts j * c ≤ slice_index (pool_counts k.counts c) j
+wide k c j = by_test (sum (map (λ n. n * c) k.counts) == 0) refl
+  where
+    by_test : (b : Bool) → (sum (map (λ n. n * c) k.counts) == 0) ≡ b → slice_index k.counts j * c ≤ slice_index (if b then slice_set (map (λ n. n * c) k.counts) 0 1 else map (λ n. n * c) k.counts) j
+    by_test true e =
+        let none : sum (map (λ n. n * c) k.counts) ≡ 0 = eqb-true (sum (map (λ n. n * c) k.counts)) 0 e in
+        let below = index_le_sum j (map (λ n. n * c) k.counts) in
+        let is = scaled c j k.counts in
+        omega arith
+    by_test false e = (let is = scaled c j k.counts in omega arith)
+
+pub marked_flags : (counts : List ℕ) (mark : Bool) → IsTrue mark → IsUpdateAfterBind (flags_of (key_with counts mark))
+marked_flags counts true h = refl
+marked_flags counts false h = absurd (cc)
+
+pub has_room : (counts : List ℕ) (mark : Bool) (e : Entry) (n : ℕ) (l : Ledger) → IsFiniteLedger l → IsBookedIn (key_with counts mark) l.pools e → n ≤ e.free → HasRoom e.pool n counts mark l
+has_room counts mark e n l finite b few =
+    let spelling = subst (λ o. IfSome o (λ (p : Pool). (sets : List LiveSet) × Spells sets p.live)) b.is_live (finite.spelled e.pool) in
+    let sets : List LiveSet = spelling.0 in
+    let spelled = spelling.1 in
+    let long = listed (key_with counts mark) b.pool e b.booked sets spelled in
+    record {
+      pool = b.pool;
+      is_live = b.is_live;
+      marked = λ h. subst (λ (f : ℕ). IsUpdateAfterBind f) (sym b.booked.flags) (marked_flags counts mark h);
+      sets = sets;
+      spelled = spelled;
+      places = let room = b.booked.room in omega arith;
+      each_kind = λ j.
+          let all : sum_by (λ s. slice_index s.counts j) sets ≡ length sets * slice_index counts j = sum_alike counts j sets (λ x lt. b.booked.sets x (let is = spelled x in omega arith)) in
+          let product : (length sets + n) * slice_index counts j ≤ b.pool.capacity * slice_index counts j = mul-le-mul_right (slice_index counts j) (let room = b.booked.room in omega arith) in
+          let has = wide (key_with counts mark) b.pool.capacity j in
+          let same : slice_index b.pool.counts j ≡ slice_index (pool_counts counts b.pool.capacity) j = ap (λ (c : List ℕ). slice_index c j) b.booked.counts in
+          omega arith;
+    }

@@ -1,0 +1,116 @@
+-- What a new pool does to the ledger.
+use Rattle.std.specs.Prelude.{◌↔◌}
+use Rattle.std.proofs.Common.{◌≡◌, ◌≢◌, ◌<◌, ℕ, ◌+◌, ◌-◌, ◌≤◌, min, List, [], ◌∷◌, ◌++◌, length, Bool, true, false, cond, nat_eq, Some, None, slice_index, refl, sym, ap, ◌∙◌, arith, eqb-true}
+use Rattle.std.proofs.Math.Nat.{mul-le-mul_right}
+use Rattle.std.proofs.Math.Path.{fun_ext}
+use Rattle.std.proofs.lemmas.Map.{update_here}
+use Rattle.std.specs.Map.{update}
+use Rattle.gpu_descriptor.specs.Model.Agreement.{flags_of}
+use Rattle.gpu_descriptor.specs.Model.Books.{Key, Entry}
+use Rattle.gpu_descriptor.specs.Model.FreshPools.{IsNextSize}
+use Rattle.gpu_descriptor.specs.Model.Load.{pool_load}
+use Rattle.gpu_descriptor.specs.Inner.Grow.{IsGrown}
+use Rattle.gpu_descriptor.specs.Inner.Walk.{IsRefused}
+use Rattle.gpu_descriptor.specs.Model.Outcomes.{risen, stop_rise}
+use Rattle.gpu_descriptor_types.specs.Ledger.{Pool, Ledger, Counters, HasRoom, HasNoSets, live_sets, changed, fresh, after_create, after_no_create, after_alloc, after_no_alloc, after_destroy, create_refused, alloc_refused, pool_refusals, no_rise}
+use Rattle.gpu_descriptor_types.specs.declared.errors.CreatePoolError.{CreatePoolError}
+use Rattle.gpu_descriptor_types.specs.declared.errors.CreatePoolError.TheVariants as create_error
+use Rattle.gpu_descriptor_types.specs.PoolSize.{pool_counts}
+use Rattle.gpu_descriptor_types.specs.declared.errors.DeviceAllocationError.{DeviceAllocationError}
+use Rattle.gpu_descriptor_types.specs.declared.errors.DeviceAllocationError.TheVariants as alloc_error
+use Rattle.gpu_descriptor.specs.declared.bucket.take.Stop.{Stop}
+use Rattle.gpu_descriptor.specs.declared.bucket.take.Stop.TheVariants as stop
+use Rattle.gpu_descriptor.proofs.request.Asks.{same_counters}
+use Rattle.gpu_descriptor.proofs.request.PlacesFree.{key_with, wide, marked_flags}
+
+-- a pool for a key was created
+pub created_for : (k : Key) (size name : ℕ) (counts : List ℕ) (flags : ℕ) (l m : Ledger) → counts ≡ pool_counts k.counts size → flags ≡ flags_of k → m ≡ after_create counts size flags name l → m ≡ after_create (pool_counts k.counts size) size (flags_of k) name l
+created_for k size name counts flags l m sized marked is = is ∙ ap (λ cs. after_create cs size flags name l) sized ∙ ap (λ b. after_create (pool_counts k.counts size) size b name l) marked
+
+pub created_at : (k : Key) (size name : ℕ) (l m : Ledger) → m ≡ after_create (pool_counts k.counts size) size (flags_of k) name l → m.pools name ≡ Some (fresh (pool_counts k.counts size) size (flags_of k))
+created_at k size name l m is = ap (λ (x : Ledger). x.pools name) is ∙ update_here l.pools name (Some (fresh (pool_counts k.counts size) size (flags_of k)))
+
+pub fresh_room : (counts : List ℕ) (mark : Bool) (size name n : ℕ) (m : Ledger) → m.pools name ≡ Some (fresh (pool_counts counts size) size (flags_of (key_with counts mark))) → n ≤ size → HasRoom name n counts mark m
+fresh_room counts mark size name n m is few = record {
+  pool = fresh (pool_counts counts size) size (flags_of (key_with counts mark));
+  is_live = is;
+  marked = marked_flags counts mark;
+  sets = [];
+  spelled = λ x. refl;
+  places = omega arith;
+  each_kind = λ j. (let has = wide (key_with counts mark) size j in let some = mul-le-mul_right (slice_index counts j) few in omega arith);
+}
+
+pub no_sets : (k : Key) (size name : ℕ) (error : DeviceAllocationError) (m m' : Ledger) → m.pools name ≡ Some (fresh (pool_counts k.counts size) size (flags_of k)) → m' ≡ after_no_alloc name error m → HasNoSets name m'
+no_sets k size name error m m' at is =
+    let pool : Pool = fresh (pool_counts k.counts size) size (flags_of k) in
+    record {
+      pool = record pool { refusals = pool.refusals + pool_refusals error };
+      is_live = ap (λ (x : Ledger). x.pools name) is ∙ update_here m.pools name (changed (λ (pool : Pool). record pool { refusals = pool.refusals + pool_refusals error }) (m.pools name)) ∙ ap (changed (λ (pool : Pool). record pool { refusals = pool.refusals + pool_refusals error })) at;
+      empty = λ x. refl;
+    }
+
+pub grown : (k : Key) (room left total wanted size name : ℕ) (names : List ℕ) (old new : List Entry) (l m m' : Ledger) → IsNextSize k room total wanted size → left + pool_load k size ≡ room → length names ≡ min size wanted → l.pools name ≡ None → m ≡ after_create (pool_counts k.counts size) size (flags_of k) name l → m' ≡ after_alloc name (live_sets k.counts names) m → new ≡ old ++ record { pool = name; capacity = size; allocated = min size wanted; free = size - min size wanted } ∷ [] → IsGrown k room left total wanted names old new l m'
+grown k room left total wanted size name names old new l m m' sized less many none made is now = record {
+  pool = record { pool = name; size = size; given = min size wanted };
+  size = sized;
+  less = less;
+  given = refl;
+  many = many;
+  is_new = none;
+  entries = now;
+  pools = ap (λ (x : Ledger). x.pools) (is ∙ ap (after_alloc name (live_sets k.counts names)) made);
+  counters = ap (λ (x : Ledger). x.counters) (is ∙ ap (after_alloc name (live_sets k.counts names)) made) ∙ same_counters _ _ (omega arith) (omega arith) (omega arith) (omega arith) (omega arith) (omega arith) (omega arith) (omega arith);
+}
+
+fresh_counters : (error : DeviceAllocationError) (n : Counters) → (let made : Counters = record n { created = n.created + 1 } in let asked = alloc_refused error made in record asked { destroyed = asked.destroyed + 1 }) ≡ risen (stop_rise (stop.New error)) n
+fresh_counters alloc_error.OutOfDeviceMemory n = same_counters _ _ (omega arith) (omega arith) (omega arith) (omega arith) (omega arith) (omega arith) (omega arith) (omega arith)
+fresh_counters alloc_error.OutOfHostMemory n = same_counters _ _ (omega arith) (omega arith) (omega arith) (omega arith) (omega arith) (omega arith) (omega arith) (omega arith)
+fresh_counters alloc_error.FragmentedPool n = same_counters _ _ (omega arith) (omega arith) (omega arith) (omega arith) (omega arith) (omega arith) (omega arith) (omega arith)
+fresh_counters alloc_error.OutOfPoolMemory n = same_counters _ _ (omega arith) (omega arith) (omega arith) (omega arith) (omega arith) (omega arith) (omega arith) (omega arith)
+
+-- a pool that was created, refused and was destroyed has left the ledger's pools as they were
+pub not_grown : (k : Key) (size name : ℕ) (error : DeviceAllocationError) (l m m' m'' : Ledger) → l.pools name ≡ None → m ≡ after_create (pool_counts k.counts size) size (flags_of k) name l → m' ≡ after_no_alloc name error m → m'' ≡ after_destroy name m' → IsRefused (stop.New error) l m''
+not_grown k size name error l m m' m'' none made refused gone = record {
+  pools = ap (λ (x : Ledger). x.pools) all ∙ fun_ext (λ q. at (nat_eq name q) q refl);
+  counters = ap (λ (x : Ledger). x.counters) all ∙ fresh_counters error l.counters;
+}
+  where
+    all : m'' ≡ after_destroy name (after_no_alloc name error (after_create (pool_counts k.counts size) size (flags_of k) name l))
+    all = gone ∙ ap (after_destroy name) (refused ∙ ap (after_no_alloc name error) made)
+
+    at : (b : Bool) (q : ℕ) → nat_eq name q ≡ b → cond b None (cond b (changed (λ (pool : Pool). record pool { refusals = pool.refusals + pool_refusals error }) (update nat_eq l.pools name (Some (fresh (pool_counts k.counts size) size (flags_of k))) name)) (cond b (Some (fresh (pool_counts k.counts size) size (flags_of k))) (l.pools q))) ≡ l.pools q
+    at true q h = sym none ∙ ap l.pools (eqb-true name q h)
+    at false q h = refl
+
+-- no pool was created
+create_counters : (error : CreatePoolError) (n : Counters) → create_refused error n ≡ risen (stop_rise (stop.Create error)) n
+create_counters create_error.OutOfDeviceMemory n = same_counters _ _ (omega arith) (omega arith) (omega arith) (omega arith) (omega arith) (omega arith) (omega arith) (omega arith)
+create_counters create_error.OutOfHostMemory n = same_counters _ _ (omega arith) (omega arith) (omega arith) (omega arith) (omega arith) (omega arith) (omega arith) (omega arith)
+create_counters create_error.Fragmentation n = same_counters _ _ (omega arith) (omega arith) (omega arith) (omega arith) (omega arith) (omega arith) (omega arith) (omega arith)
+
+pub not_created : (error : CreatePoolError) (l m : Ledger) → m ≡ after_no_create error l → IsRefused (stop.Create error) l m
+not_created error l m is = record {
+  pools = ap (λ (x : Ledger). x.pools) is;
+  counters = ap (λ (x : Ledger). x.counters) is ∙ create_counters error l.counters;
+}
+
+-- nothing was asked of the device
+pub none_asked : (l : Ledger) (why : Stop) → stop_rise why ≡ no_rise → IsRefused why l l
+none_asked l why none = record { pools = refl; counters = sym (ap (λ (by : Counters). risen by l.counters) none ∙ same_counters _ _ (omega arith) (omega arith) (omega arith) (omega arith) (omega arith) (omega arith) (omega arith) (omega arith)) }
+
+-- a request stopped for another reason than want of room
+pub had_room : {why : Stop} {one room : ℕ} → why ≢ stop.Room → one ≤ room → (why ≡ stop.Room) ↔ (room < one)
+had_room other fits = (λ is. absurd (other is), λ none. absurd (omega arith))
+
+-- how often pools were asked
+pub create_asked : (error : CreatePoolError) (n : Counters) → (create_refused error n).asked ≡ n.asked
+create_asked create_error.OutOfDeviceMemory n = refl
+create_asked create_error.OutOfHostMemory n = refl
+create_asked create_error.Fragmentation n = refl
+
+pub alloc_asked : (error : DeviceAllocationError) (n : Counters) → (alloc_refused error n).asked ≡ n.asked + 1
+alloc_asked alloc_error.OutOfDeviceMemory n = refl
+alloc_asked alloc_error.OutOfHostMemory n = refl
+alloc_asked alloc_error.FragmentedPool n = refl
+alloc_asked alloc_error.OutOfPoolMemory n = refl

@@ -1,0 +1,310 @@
+-- What every outcome of a request promises.
+use Rattle.std.proofs.Common.{◌≡◌, ◌≢◌, ℕ, suc, ◌+◌, ◌-◌, ◌*◌, ◌<◌, ◌≤◌, Bool, true, List, [], ◌∷◌, ◌++◌, map, length, drop, sum_by, Option, Some, None, option_map, inl, inr, eqb-true, ◌==◌, Result, Ok, Err, refl, sym, ap, ◌∙◌, subst, arith}
+use Rattle.std.proofs.lemmas.List.{length-map, length-append}
+use Rattle.std.proofs.lemmas.List.Sums.{sum_by-cons, sum_by-append}
+use Rattle.gpu_descriptor_types.proofs.Sizes.{pool_size_some}
+use Rattle.gpu_descriptor_types.specs.PoolSize.{pool_size_floor}
+use Rattle.std.specs.Prelude.{◌↔◌, min, if◌then◌else◌, OnOk, IfErr}
+use Rattle.gpu_descriptor_types.specs.Ledger.{Pool, Counters, live_sets, create_refused, alloc_refused, pool_refusals, no_rise}
+use Rattle.gpu_descriptor_types.specs.declared.errors.CreatePoolError.{CreatePoolError}
+use Rattle.gpu_descriptor_types.specs.declared.errors.CreatePoolError.TheVariants as create_error
+use Rattle.gpu_descriptor_types.specs.declared.errors.DeviceAllocationError.{DeviceAllocationError}
+use Rattle.gpu_descriptor_types.specs.declared.errors.DeviceAllocationError.TheVariants as alloc_error
+use Rattle.gpu_descriptor.specs.declared.errors.AllocationError.{AllocationError}
+use Rattle.gpu_descriptor.specs.declared.errors.AllocationError.TheVariants.{OutOfHostMemory, Fragmentation}
+use Rattle.gpu_descriptor.specs.declared.bucket.take.Stop.{Stop}
+use Rattle.gpu_descriptor.specs.declared.bucket.take.Stop.TheVariants.{Existing, Room, Books, Create, New}
+use Rattle.gpu_descriptor.specs.Model.Agreement.{State, Item}
+use Rattle.gpu_descriptor.specs.Model.Books.{Key, Entry, Bucket, next_number}
+use Rattle.gpu_descriptor.specs.Model.Outcomes.{error_of_alloc, Allocates, Call, IsBack, IsDone, IsGrant, IsStopped, StopsAt, out_then, stop_answer, stop_rise, wanting}
+use Rattle.gpu_descriptor.specs.Model.FreshPools.{Fresh, AreNew, IsFreshFront, IsNextSize, room_after, AreSized, AreFull, IsFreshList, given_by, fresh_portions}
+use Rattle.gpu_descriptor.specs.Model.Grants.{Grant, Part, portion_of, items_at, items_in, came, granted, fresh_or, pool_with}
+use Rattle.gpu_descriptor.specs.Model.Outcomes.Allocates.{none, limit, bound, start, done, stopped}
+use Rattle.gpu_descriptor.specs.Model.FreshPools.IsFreshList.{none as no_fresh, some as some_fresh}
+use Rattle.std.proofs.lemmas.Bool.{cases_Bool, cases_lt}
+use Rattle.gpu_descriptor.specs.Model.Promises.{HasCause, IsFragmentation, HasNewPools, EndsWith, IsShort, CreatesOnlyWhereShort}
+use Rattle.gpu_descriptor.specs.Model.Promises.EndsWith.{met as met_all, stopped as stopped_with}
+use Rattle.gpu_descriptor.specs.Model.Promises.IsFragmentation.{above_limit, past_bound, no_room_left, no_pool_created, new_pool_refused}
+use Rattle.gpu_descriptor.specs.Model.Promises.IsHostMemory.{device_refused, no_memory_at_start, no_memory_for_a_pool}
+use Rattle.gpu_descriptor.specs.Model.Load.{pool_load}
+use Rattle.gpu_descriptor.proofs.request.NextSize.{next_whole, one_fits, some_fit, room_falls}
+use Rattle.gpu_descriptor.proofs.request.NewPools.{AreFilled, met, unmet, shares_used, done_new_pools, done_filled, released_pool, back_new_pools}
+use Rattle.gpu_descriptor.specs.Model.Shares.{Portion, offer, rest, portions_of, refused_count, OnlyAskedRefuse}
+
+-- ---- how many sets
+
+abbrev sum_given : List Portion → ℕ
+sum_given ps = sum_by (λ p. p.given) ps
+
+length_items : (k : Key) (id : ℕ) (parts : List Part) → length (items_in k id parts) ≡ sum_given (map portion_of parts)
+length_items k id [] = refl
+length_items k id (p ∷ parts) =
+    let a = length-append (items_at k id p.number p.names) (items_in k id parts) in
+    let b = length-map p.names (λ (name : ℕ). let t : Item = record { key = k; id = id; number = p.number; name = name } in t) in
+    let c = sum_by-cons (λ (q : Portion). q.given) (portion_of p) (map portion_of parts) in
+    let more = length_items k id parts in
+    omega arith
+
+shares_sum : (refused : ℕ → Bool) (n number : ℕ) (pools : List Entry) → sum_given (portions_of refused n number pools) + rest refused n pools ≡ n
+shares_sum refused n number [] = omega arith
+shares_sum refused n number (e ∷ newer) =
+    let last : Portion = record { number = number; pool = e.pool; given = min (offer refused e) (rest refused n newer) } in
+    let a = sum_by-append (λ (q : Portion). q.given) (portions_of refused n (number + 1) newer) (last ∷ []) in
+    let one : sum_given (last ∷ []) ≡ last.given = omega arith in
+    let b = sum_by-cons (offer refused) e newer in
+    let more = shares_sum refused n (number + 1) newer in
+    omega arith
+
+fresh_sum : (number : ℕ) (pools : List Fresh) → sum_given (fresh_portions number pools) ≡ given_by pools
+fresh_sum number [] = refl
+fresh_sum number (f ∷ pools) =
+    let p : Portion = record { number = number; pool = f.pool; given = f.given } in
+    let a = sum_by-cons (λ (q : Portion). q.given) p (fresh_portions (number + 1) pools) in
+    let b = sum_by-cons (λ (g : Fresh). g.given) f pools in
+    let more = fresh_sum (number + 1) pools in
+    omega arith
+
+all_given : (k : Key) (room total wanted : ℕ) (pools : List Fresh) → IsFreshList k room total wanted pools → given_by pools ≡ wanted
+all_given k room total wanted pools (no_fresh zero_wanted empty) = ap given_by empty ∙ sym zero_wanted
+all_given k room total wanted pools (some_fresh front last is short sized le given) = given
+
+-- what was had in all is what was asked for
+pub grant_many : (k : Key) (n room total : ℕ) (b : Bucket) (g : Grant) → map portion_of g.parts ≡ portions_of g.refused n (b.first + g.left) (drop g.left b.pools) ++ fresh_portions (next_number b) g.fresh → g.left ≡ 0 → IsFreshList k room total (rest g.refused n b.pools) g.fresh → length (items_in k g.id g.parts) ≡ n
+grant_many k n room total b g parts none_left fresh =
+    let long = length_items k g.id g.parts ∙ ap sum_given parts in
+    let two = sum_by-append (λ (q : Portion). q.given) (portions_of g.refused n (b.first + g.left) (drop g.left b.pools)) (fresh_portions (next_number b) g.fresh) in
+    let new = fresh_sum (next_number b) g.fresh ∙ all_given _ _ _ _ _ fresh in
+    let all : rest g.refused n (drop g.left b.pools) ≡ rest g.refused n b.pools = ap (λ i. rest g.refused n (drop i b.pools)) none_left in
+    let old = shares_sum g.refused n (b.first + g.left) (drop g.left b.pools) in
+    omega arith
+
+-- ---- the causes
+
+-- a memory error of a pool, which the device counted
+memory_cause : (c : Call) (g : Grant) (why : Stop) → IsBack c g why → (e : DeviceAllocationError) → pool_refusals e ≡ 0 → (stop_rise why).device_memory ≡ (alloc_refused e no_rise).device_memory → (stop_rise why).host_memory ≡ (alloc_refused e no_rise).host_memory → HasCause (error_of_alloc e) c
+memory_cause c g why back alloc_error.OutOfDeviceMemory memory device host = (let n = ap (λ (k : Counters). k.device_memory) back.counters in omega arith)
+memory_cause c g why back alloc_error.OutOfHostMemory memory device host = (let n = ap (λ (k : Counters). k.host_memory) back.counters in device_refused (omega arith))
+memory_cause c g why back alloc_error.FragmentedPool memory device host = absurd (omega arith)
+memory_cause c g why back alloc_error.OutOfPoolMemory memory device host = absurd (omega arith)
+
+abbrev Stops : Call → Stop → Grant → ℕ → Type 0
+Stops c why g pooled = StopsAt why c.request.key (c.request.limit - pooled) c.request.count g (c.old.books c.request.key).pools
+
+stop_cause : (c : Call) (s : IsStopped c) (why : Stop) → s.why ≡ why → IsBack c s.grant why → Stops c why s.grant s.pooled → HasCause (stop_answer why) c
+stop_cause c s (Existing e) is back at = memory_cause c s.grant (Existing e) back e at.memory refl refl
+stop_cause c s Room is back at = no_room_left s is
+stop_cause c s Books is back at = no_memory_for_a_pool s is
+stop_cause c s (Create create_error.OutOfDeviceMemory) is back at = (let n = ap (λ (k : Counters). k.device_memory) back.counters in omega arith)
+stop_cause c s (Create create_error.OutOfHostMemory) is back at = (let n = ap (λ (k : Counters). k.host_memory) back.counters in device_refused (omega arith))
+stop_cause c s (Create create_error.Fragmentation) is back at = (let n = ap (λ (k : Counters). k.fragmentation) back.counters in no_pool_created s is (omega arith))
+stop_cause c s (New alloc_error.OutOfDeviceMemory) is back at = memory_cause c s.grant _ back alloc_error.OutOfDeviceMemory refl refl refl
+stop_cause c s (New alloc_error.OutOfHostMemory) is back at = memory_cause c s.grant _ back alloc_error.OutOfHostMemory refl refl refl
+stop_cause c s (New alloc_error.FragmentedPool) is back at = (let n = ap (λ (k : Counters). k.pool_refused) back.counters in new_pool_refused s alloc_error.FragmentedPool is refl (omega arith))
+stop_cause c s (New alloc_error.OutOfPoolMemory) is back at = (let n = ap (λ (k : Counters). k.pool_refused) back.counters in new_pool_refused s alloc_error.OutOfPoolMemory is refl (omega arith))
+
+-- ---- which pools refused
+
+-- a pool that was live is none of the new ones
+old_pool : (k : Key) (fresh : List Fresh) (ledger : ℕ → Option Pool) (name : ℕ) (p : Pool) → AreNew ledger fresh → ledger name ≡ Some p → fresh_or k fresh name (Some p) ≡ Some p
+old_pool k [] ledger name p new live = refl
+old_pool k (f ∷ fresh) ledger name p new live = elim (cases_Bool (f.pool == name)) [
+  | inl same ↦ (let bad : ◌≡◌ {A = Option Pool} None (Some p) = sym new.0 ∙ ap ledger (eqb-true f.pool name same) ∙ live in absurd (cc))
+  | inr other ↦ rw other (old_pool k fresh ledger name p new.2 live)
+]
+
+granted_raises : (k : Key) (n : ℕ) (g : Grant) (s : State) (name : ℕ) (p q : Pool) → AreNew s.ledger g.fresh → g.refused name ≡ true → s.ledger name ≡ Some p → (granted k n g s).ledger name ≡ Some q → q.refusals ≡ p.refusals + 1
+granted_raises k n g s name p q new refused live after =
+    let f : Pool → Pool = pool_with (live_sets k.counts (came g.parts name)) (g.refused name) in
+    let is : (granted k n g s).ledger name ≡ Some (f p) = ap (λ (o : Option Pool). option_map f (fresh_or k g.fresh name o)) live ∙ ap (option_map f) (old_pool k g.fresh s.ledger name p new live) in
+    let same : Some (f p) ≡ Some q = sym is ∙ after in
+    let one : f p ≡ q = cc in
+    sym (ap (λ (x : Pool). x.refusals) one) ∙ ap (λ (b : Bool). if b then p.refusals + 1 else p.refusals) refused
+
+-- what a request that stopped raised
+back_raises : (c : Call) (g : Grant) (why : Stop) → IsBack c g why → (name : ℕ) (p q : Pool) → g.refused name ≡ true → c.old.ledger name ≡ Some p → c.new.ledger name ≡ Some q → q.refusals ≡ p.refusals + 1
+back_raises c g why b name p q refused live after =
+    let r = released_pool (items_in c.request.key g.id g.parts) (granted c.request.key c.request.count g c.old) name q (sym (ap (λ (w : State). w.ledger name) b.state) ∙ after) in
+    r.2 ∙ granted_raises c.request.key c.request.count g c.old name p r.0 b.taken.new refused live r.1
+
+-- ---- pools are created only where the existing ones don't do
+
+times_more : (n m : ℕ) → suc n * m ≡ n * m + m
+times_more n m = grind arith
+
+-- a pool that was not cut, gave all it has, and didn't do
+one_more : (k : Key) (room total wanted : ℕ) (f : Fresh) (pools : List Fresh) → IsNextSize k room total wanted f.size → pool_load k 1 ≤ room - pool_load k f.size → f.given ≡ f.size → f.given < wanted → (more : ℕ) → length pools * pool_size_floor k.counts ≤ more → length (f ∷ pools) * pool_size_floor k.counts ≤ f.given + more
+one_more k room total wanted f pools next left full short more rest =
+    let some = pool_size_some k.counts total wanted f.size (next_whole k room total wanted f.size next left) in
+    let product : length (f ∷ pools) * pool_size_floor k.counts ≡ length pools * pool_size_floor k.counts + pool_size_floor k.counts = times_more (length pools) (pool_size_floor k.counts) in
+    omega arith
+
+-- new pools that gave all they have and didn't do, with room left for one more
+front_few : (k : Key) (room total wanted : ℕ) (pools : List Fresh) → AreSized k room total wanted pools → AreFull pools → given_by pools < wanted → pool_load k 1 ≤ room_after k room pools → length pools * pool_size_floor k.counts ≤ given_by pools
+front_few k room total wanted [] sized full short left = omega arith
+front_few k room total wanted (f ∷ pools) sized full short left =
+    let sum = sum_by-cons (λ (g : Fresh). g.given) f pools in
+    let is = full.0 in
+    let falls = room_falls k (room - pool_load k f.size) pools in
+    let more = front_few k (room - pool_load k f.size) (total + f.given) (wanted - f.given) pools sized.1 full.1 (omega arith) left in
+    let all = one_more k room total wanted f pools sized.0 (omega arith) is (omega arith) (given_by pools) more in
+    omega arith
+
+-- before a last one
+list_few : (k : Key) (room total wanted : ℕ) (front : List Fresh) (last : Fresh) → AreSized k room total wanted (front ++ last ∷ []) → AreFull front → given_by front < wanted → length front * pool_size_floor k.counts ≤ given_by front
+list_few k room total wanted [] last sized full short = omega arith
+list_few k room total wanted (f ∷ front) last sized full short =
+    let sum = sum_by-cons (λ (g : Fresh). g.given) f front in
+    let is = full.0 in
+    let left = some_fit k (room - pool_load k f.size) (total + f.given) (wanted - f.given) front last sized.1 in
+    let more = list_few k (room - pool_load k f.size) (total + f.given) (wanted - f.given) front last sized.1 full.1 (omega arith) in
+    let all = one_more k room total wanted f front sized.0 left is (omega arith) (given_by front) more in
+    omega arith
+
+-- whatever room is left: the last may have been cut
+any_few : (k : Key) (room total wanted : ℕ) (pools : List Fresh) → AreSized k room total wanted pools → AreFull pools → given_by pools < wanted → length pools * pool_size_floor k.counts ≤ given_by pools + pool_size_floor k.counts
+any_few k room total wanted [] sized full short = omega arith
+any_few k room total wanted (f ∷ []) sized full short = (let one = times_more 0 (pool_size_floor k.counts) in omega arith)
+any_few k room total wanted (f ∷ h ∷ pools) sized full short =
+    let sum = sum_by-cons (λ (g : Fresh). g.given) f (h ∷ pools) in
+    let is = full.0 in
+    let left = one_fits k (room - pool_load k f.size) (total + f.given) (wanted - f.given) h.size sized.1.0 in
+    let more = any_few k (room - pool_load k f.size) (total + f.given) (wanted - f.given) (h ∷ pools) sized.1 full.1 (omega arith) in
+    let all = one_more k room total wanted f (h ∷ pools) sized.0 left is (omega arith) (given_by (h ∷ pools) + pool_size_floor k.counts) more in
+    omega arith
+
+-- each pool that refused has one refusal more
+abbrev Raises : Call → Grant → Type 0
+Raises c g = (name : ℕ) (p q : Pool) → g.refused name ≡ true → c.old.ledger name ≡ Some p → c.new.ledger name ≡ Some q → q.refusals ≡ p.refusals + 1
+
+-- the refusals of pools and creates in the call
+abbrev IsCounted : Call → Grant → ℕ → ℕ → Type 0
+IsCounted c g last i = c.after.pool_refused + c.after.fragmentation ≡ c.before.pool_refused + c.before.fragmentation + refused_count g.refused (drop i (c.old.books c.request.key).pools) + last
+
+pools_short : (c : Call) (g : Grant) → IsGrant c.request c.old g → g.left ≡ 0 → 0 < wanting c.request c.old g → (gone : ℕ) → HasNewPools c (wanting c.request c.old g) gone → OnOk c.answer (AreFilled c) → Raises c g → (last : ℕ) → EndsWith c gone last → IsCounted c g last g.left → (n : ℕ) → c.after.created ≡ c.before.created + n → n * pool_size_floor c.request.key.counts < wanting c.request c.old g + pool_size_floor c.request.key.counts → IsShort c
+pools_short c g is all some gone new filled raises last ends counted n rise few = record {
+  gone = gone;
+  last = last;
+  ends = ends;
+  refused = g.refused;
+  raised = raises;
+  counted = subst (IsCounted c g last) all counted;
+  only_asked = subst (λ i. OnlyAskedRefuse g.refused c.request.count (drop i (c.old.books c.request.key).pools)) all is.refusing;
+  short = omega arith;
+  used_up = shares_used g.refused c.request.count (c.old.books c.request.key).pools some;
+  filled = filled;
+  new_pools = new;
+  few = (
+      let m = pool_size_floor c.request.key.counts in
+      let same : c.after.created - c.before.created ≡ n = omega arith in
+      subst (λ i. i * m < wanting c.request c.old g + m) (sym same) few);
+}
+
+-- how few new pools came before it stopped, with one more or without
+few_any : (c : Call) (g : Grant) (room : ℕ) → IsFreshFront c.request.key room (out_then c.request c.old g) (wanting c.request c.old g) g.fresh → (length g.fresh + 0) * pool_size_floor c.request.key.counts < wanting c.request c.old g + pool_size_floor c.request.key.counts
+few_any c g room front =
+    let m : ℕ = pool_size_floor c.request.key.counts in
+    let short = front.short in
+    let few = any_few c.request.key room (out_then c.request c.old g) (wanting c.request c.old g) g.fresh front.sized front.full short in
+    let same : length g.fresh + 0 ≡ length g.fresh = omega arith in
+    let product : (length g.fresh + 0) * m ≡ length g.fresh * m = ap (λ i. i * m) same in
+    omega arith
+
+few_with_room : (c : Call) (g : Grant) (room : ℕ) → IsFreshFront c.request.key room (out_then c.request c.old g) (wanting c.request c.old g) g.fresh → pool_load c.request.key 1 ≤ room_after c.request.key room g.fresh → (length g.fresh + 1) * pool_size_floor c.request.key.counts < wanting c.request c.old g + pool_size_floor c.request.key.counts
+few_with_room c g room front fits =
+    let m : ℕ = pool_size_floor c.request.key.counts in
+    let short = front.short in
+    let few = front_few c.request.key room (out_then c.request c.old g) (wanting c.request c.old g) g.fresh front.sized front.full short fits in
+    let same : length g.fresh + 1 ≡ suc (length g.fresh) = omega arith in
+    let product : (length g.fresh + 1) * m ≡ length g.fresh * m + m = ap (λ i. i * m) same ∙ times_more (length g.fresh) m in
+    omega arith
+
+-- after a front
+front_short : (c : Call) (s : IsStopped c) (why : Stop) (room : ℕ) → s.why ≡ why → IsBack c s.grant why → s.grant.left ≡ 0 → IsFreshFront c.request.key room (out_then c.request c.old s.grant) (wanting c.request c.old s.grant) s.grant.fresh → (stop_rise why).created ≡ (stop_rise why).destroyed → (stop_rise why).destroyed ≤ 1
+    → (length s.grant.fresh + (stop_rise why).destroyed) * pool_size_floor c.request.key.counts < wanting c.request c.old s.grant + pool_size_floor c.request.key.counts → IsShort c
+front_short c s why room is back all front same one few =
+    let g : Grant = s.grant in
+    let rise : Counters = stop_rise why in
+    let short = front.short in
+    let n = ap (λ (k : Counters). k.created) back.counters in
+    let refused = ap (λ (k : Counters). k.pool_refused) back.counters in
+    let fragmented = ap (λ (k : Counters). k.fragmentation) back.counters in
+    let created : c.after.created ≡ c.before.created + (length g.fresh + rise.destroyed) = omega arith in
+    let new = back_new_pools c g why room back all front rise.destroyed one created in
+    let ends = stopped_with s all (ap (λ (w : Stop). (stop_rise w).destroyed) (sym is)) (ap (λ (w : Stop). (stop_rise w).pool_refused + (stop_rise w).fragmentation) (sym is)) in
+    pools_short c g back.taken all (omega arith) rise.destroyed new (unmet (AreFilled c) c.answer _ back.answer) (back_raises c g why back) (rise.pool_refused + rise.fragmentation) ends (omega arith) (length g.fresh + rise.destroyed) created few
+
+-- a list that gave all
+done_short : (c : Call) (d : IsDone c) → IsFreshList c.request.key (c.request.limit - d.pooled) (out_then c.request c.old d.grant) (wanting c.request c.old d.grant) d.grant.fresh → 0 < length d.grant.fresh → IsShort c
+done_short c d (no_fresh zero_wanted empty) some = (let e = ap length empty in absurd (omega arith))
+done_short c d (some_fresh front last parts short sized le given) some =
+    let g : Grant = d.grant in
+    let m : ℕ = pool_size_floor c.request.key.counts in
+    let few = list_few c.request.key (c.request.limit - d.pooled) (out_then c.request c.old g) (wanting c.request c.old g) front last (subst (AreSized c.request.key (c.request.limit - d.pooled) (out_then c.request c.old g) (wanting c.request c.old g)) parts sized) short.full short.short in
+    let below = short.short in
+    let long = ap length parts ∙ length-append front (last ∷ []) in
+    let product = times_more (length front) m in
+    let same : length g.fresh ≡ suc (length front) = omega arith in
+    let whole : length g.fresh * m ≡ suc (length front) * m = ap (λ n. n * m) same in
+    let created = ap (λ (k : Counters). k.created) d.counters in
+    let refused = ap (λ (k : Counters). k.pool_refused) d.counters in
+    let fragmented = ap (λ (k : Counters). k.fragmentation) d.counters in
+    let raises : Raises c g = λ name p q refused live after. granted_raises c.request.key c.request.count g c.old name p q d.taken.new refused live (sym (ap (λ (w : State). w.ledger name) d.state) ∙ after) in
+    let filled : OnOk c.answer (AreFilled c) = met (AreFilled c) c.answer _ d.answer (done_filled c d some) in
+    pools_short c g d.taken d.all (omega arith) 0 (done_new_pools c d) filled raises 0 (met_all d refl refl) (omega arith) (length g.fresh) (omega arith) (omega arith)
+
+-- what an error adds to some of the counters
+alloc_creates : (e : DeviceAllocationError) → (alloc_refused e no_rise).created ≡ 0
+alloc_creates alloc_error.OutOfDeviceMemory = refl
+alloc_creates alloc_error.OutOfHostMemory = refl
+alloc_creates alloc_error.FragmentedPool = refl
+alloc_creates alloc_error.OutOfPoolMemory = refl
+
+create_creates : (e : CreatePoolError) → (create_refused e no_rise).created ≡ 0
+create_creates create_error.OutOfDeviceMemory = refl
+create_creates create_error.OutOfHostMemory = refl
+create_creates create_error.Fragmentation = refl
+
+create_destroys : (e : CreatePoolError) → (create_refused e no_rise).destroyed ≡ 0
+create_destroys create_error.OutOfDeviceMemory = refl
+create_destroys create_error.OutOfHostMemory = refl
+create_destroys create_error.Fragmentation = refl
+
+-- there was room where it stopped for another reason
+fits : {why : Stop} {one room : ℕ} → (why ≡ Room) ↔ (room < one) → why ≢ Room → one ≤ room
+fits {one = one} {room = room} told other = elim (cases_lt room one) [ inl lt ↦ absurd (other (told.1 lt)) | inr le ↦ le ]
+
+module _ (c : Call) where
+  answered : (e : AllocationError) → c.answer ≡ Err e → HasCause e c → IfErr c.answer (λ f. HasCause f c)
+  answered e is cause = subst (λ (r : Result (List Item) AllocationError). IfErr r (λ f. HasCause f c)) (sym is) cause
+
+  given : (items : List Item) → c.answer ≡ Ok items → IfErr c.answer (λ f. HasCause f c)
+  given items is = subst (λ (r : Result (List Item) AllocationError). IfErr r (λ f. HasCause f c)) (sym is) tt
+
+  -- each error has its cause
+  pub has_cause : Allocates c → IfErr c.answer (λ e. HasCause e c)
+  has_cause (none zero_count answer stays) = given [] answer
+  has_cause (limit some above answer stays) = answered Fragmentation answer (above_limit above)
+  has_cause (bound some within past answer stays) = answered Fragmentation answer (past_bound past)
+  has_cause (start p answer stays) = answered OutOfHostMemory answer (no_memory_at_start p stays)
+  has_cause (done p d) = given _ d.answer
+  has_cause (stopped p s) = answered _ s.back.answer (stop_cause c s s.why refl s.back s.at)
+
+  stop_short : (s : IsStopped c) (why : Stop) → s.why ≡ why → IsBack c s.grant why → Stops c why s.grant s.pooled → c.before.created < c.after.created → IsShort c
+  stop_short s (Existing e) is back at more =
+      let n = ap (λ (k : Counters). k.created) back.counters in
+      let none = alloc_creates e in
+      let f = ap length at.no_fresh in
+      absurd (omega arith)
+  stop_short s Room is back at more = front_short c s Room _ is back at.0 at.1 refl (omega arith) (few_any c s.grant _ at.1)
+  stop_short s Books is back at more = front_short c s Books _ is back at.0 at.1 refl (omega arith) (few_any c s.grant _ at.1)
+  stop_short s (Create e) is back at more = front_short c s (Create e) _ is back at.0 at.1 (create_creates e ∙ sym (create_destroys e)) (let none = create_destroys e in omega arith) (let none = create_destroys e in let few = few_any c s.grant _ at.1 in rw none few)
+  stop_short s (New e) is back at more = front_short c s (New e) _ is back at.0 at.1 refl (omega arith) (few_with_room c s.grant _ at.1 (fits at.2 (λ same. absurd (cc))))
+
+  -- a pool is created only where the existing ones don't do
+  pub short : Allocates c → CreatesOnlyWhereShort c
+  short (none zero_count answer stays) more = (let n = ap (λ (k : Counters). k.created) stays.counters in absurd (omega arith))
+  short (limit some above answer stays) more = (let n = ap (λ (k : Counters). k.created) stays.counters in absurd (omega arith))
+  short (bound some within past answer stays) more = (let n = ap (λ (k : Counters). k.created) stays.counters in absurd (omega arith))
+  short (start p answer stays) more = (let n = ap (λ (k : Counters). k.created) stays.counters in absurd (omega arith))
+  short (done p d) more = (let n = ap (λ (k : Counters). k.created) d.counters in done_short c d d.fresh (omega arith))
+  short (stopped p s) more = stop_short s s.why refl s.back s.at more

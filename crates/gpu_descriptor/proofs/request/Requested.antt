@@ -1,0 +1,223 @@
+-- What a request leaves of an allocator: why it is declined before the walk, and what it took.
+use Rattle.gpu_descriptor_types.specs.Bounds.{greatest_u64}
+use Rattle.std.proofs.Common.{[], ◌≡◌, ℕ, ◌+◌, ◌-◌, ◌*◌, ◌<◌, ◌≤◌, ◌&&◌, Bool, true, false, List, map, length, sum, sum_by, Result, Err, inl, inr, refl, sym, ap, subst, ◌∙◌, arith}
+use Rattle.std.proofs.Math.Path.{fun_ext}
+use Rattle.std.proofs.Math.Nat.{mul-le-mul_right}
+use Rattle.std.proofs.lemmas.Bool.{cases_Bool, and_parts, ltb-true, ltb-false}
+use Rattle.std.specs.List.{IsDistinct}
+use Rattle.std.specs.Prelude.{nat_lt, ◌⊎◌}
+use Rattle.gpu_descriptor_types.specs.Counts.{kinds}
+use Rattle.gpu_descriptor_types.specs.Ledger.{Ledger}
+use Rattle.gpu_descriptor.specs.declared.errors.AllocationError.{AllocationError}
+use Rattle.gpu_descriptor.specs.declared.errors.AllocationError.TheVariants.{Fragmentation}
+use Rattle.gpu_descriptor.specs.declared.set.BucketKey.{BucketKey}
+use Rattle.gpu_descriptor.specs.declared.set.DescriptorSet.{DescriptorSet}
+use Rattle.gpu_descriptor.specs.declared.bucket.DescriptorBucket.{DescriptorBucket}
+use Rattle.gpu_descriptor.specs.declared.bucket.take.Stop.{Stop}
+use Rattle.gpu_descriptor.specs.Model.Books.{Key, key_eq, Bucket, BucketOf, HasDistinctKeys, books_of, next_number, sum_over}
+use Rattle.gpu_descriptor.specs.Model.Load.{IsMarkedLoad, IsOut, IsPoolLoad, bucket_load, descriptors_out, marked_load, sets_out}
+use Rattle.gpu_descriptor.specs.Model.Outcomes.{Allocates, IsWithinLimit, Stays}
+use Rattle.gpu_descriptor.specs.Model.Outcomes.Allocates.{limit, bound, start}
+use Rattle.gpu_descriptor.specs.Caller.Call.{call_of}
+use Rattle.gpu_descriptor.specs.Inner.Serves.{IsUnserved, ServesKey, Takes}
+use Rattle.gpu_descriptor.specs.Caller.KeyOf.{key_of}
+use Rattle.gpu_descriptor.specs.Caller.States.{named_row, state_of, table_of, outstanding_of, marked_load_of, pool_load_of}
+use Rattle.gpu_descriptor.specs.Inner.Stored.{IsConsistent, row_of, load_in, stored_keys, stored_load_in, books_in}
+use Rattle.gpu_descriptor.specs.Caller.Values.{Allocations}
+use Rattle.gpu_descriptor.proofs.sums.Loads.{rows_out, rows_load, rows_pool_load}
+use Rattle.gpu_descriptor.proofs.table.TableBooks.{rows_are, distinct_rows}
+use Rattle.gpu_descriptor.proofs.sums.TableSums.{outstanding_of-table, marked_load_of-table, pool_load_of-table}
+
+-- what a test that failed says
+pub within_of : (marked : Bool) (most count : ℕ) → (marked && nat_lt most count) ≡ false → marked ≡ true → count ≤ most
+within_of marked most count off on = ltb-false most count (let seen : (marked && nat_lt most count) ≡ nat_lt most count = ap (λ (b : Bool). b && nat_lt most count) on in sym seen ∙ off)
+
+-- what a table of the map says of an allocator that has it
+module _ {P : Type 0} (a : Allocations P) (es : List (BucketKey × DescriptorBucket P)) (is : a.table ≡ map row_of es) where
+  pub out_of : outstanding_of a ≡ sum_by (λ r. r.1.total) es
+  out_of = ap (sum_over sets_out) is ∙ rows_out es
+
+  pub load_of_rows : marked_load_of a ≡ sum_by load_in es
+  load_of_rows = ap (sum_over descriptors_out) is ∙ rows_load es
+
+  pub pool_load_of_rows : pool_load_of a ≡ sum_by stored_load_in es
+  pool_load_of_rows = ap (sum_over bucket_load) is ∙ rows_pool_load es
+
+  pub books_at : (name : P → ℕ) (before : Ledger) (k : Key) → (state_of name a before).books k ≡ books_in name es k
+  books_at name before k = ap (λ (t : List (Key × BucketOf P)). books_of (map (named_row name) t) k) is
+
+  pub keys_apart : (name : P → ℕ) → IsDistinct key_eq (stored_keys es) → HasDistinctKeys (table_of name a)
+  keys_apart name distinct = subst HasDistinctKeys (sym (rows_are name es) ∙ ap (map (named_row name)) (sym is)) (distinct_rows name es distinct)
+
+-- the fields of an allocator, as callers see them
+abbrev pub seen : {P : Type 0} → ℕ → ℕ → ℕ → List (BucketKey × DescriptorBucket P) → Allocations P
+seen most looks compared es = record { limit = most; table = map row_of es; looks = looks; comparisons = compared }
+
+-- no key has two rows, where the table has none twice
+pub rows_distinct : {P : Type 0} (name : P → ℕ) (es : List (BucketKey × DescriptorBucket P)) → IsDistinct key_eq (stored_keys es) → HasDistinctKeys (map (named_row name) (map row_of es))
+rows_distinct name es distinct = subst HasDistinctKeys (sym (rows_are name es)) (distinct_rows name es distinct)
+
+-- a table without keys
+pub counted_none : {P : Type 0} (most : ℕ) → IsConsistent {P = P} most 0 most 0 []
+unfolding IsDistinct
+counted_none most = record { distinct = tt; is_load = refl; within = omega arith; is_room = omega arith; is_out = refl }
+
+-- the totals keep the limit
+module _ {P : Type 0} {most marked room out : ℕ} {es : List (BucketKey × DescriptorBucket P)} (counted : IsConsistent most marked room out es) where
+  pub rows_within : sum_over descriptors_out (map row_of es) ≤ most
+  rows_within = (let rows = rows_load es in let load = counted.is_load in let within = counted.within in omega arith)
+
+  pub pools_within : sum_over bucket_load (map row_of es) ≤ most
+  pools_within = (let rows = rows_pool_load es in let room = counted.is_room in omega arith)
+
+module _ {P : Type 0} {a : Allocations P} {most looks compared : ℕ} (es : List (BucketKey × DescriptorBucket P)) (is : seen most looks compared es ≡ a) where
+  pub table_is : a.table ≡ map row_of es
+  table_is = ap (λ (x : Allocations P). x.table) (sym is)
+
+  -- where nothing was written, callers see the same
+  pub seen_again : {looked : ℕ} (fs : List (BucketKey × DescriptorBucket P)) → fs ≡ es → looked ≡ looks → seen most looked compared fs ≡ a
+  seen_again fs rows count = (λ i. seen most (count i) compared (rows i)) ∙ is
+
+  pub rows_apart : (name : P → ℕ) → {marked room out : ℕ} → IsConsistent most marked room out es → HasDistinctKeys (table_of name a)
+  rows_apart name counted = keys_apart a es table_is name counted.distinct
+
+  pub load_within : {marked room out : ℕ} → IsConsistent most marked room out es → marked_load_of a ≤ a.limit
+  load_within counted = subst (λ (x : Allocations P). marked_load_of x ≤ x.limit) is (rows_within counted)
+
+  pub pool_load_within : {marked room out : ℕ} → IsConsistent most marked room out es → pool_load_of a ≤ a.limit
+  pool_load_within counted = subst (λ (x : Allocations P). pool_load_of x ≤ x.limit) is (pools_within counted)
+
+-- how the totals of the table grow, by so many sets of a key
+module _ {P S : Type 0} (name : P → ℕ) (set_name : S → ℕ) (key : BucketKey) (room count : ℕ) (sets : List (DescriptorSet S)) (ended : Result (Unit {0}) Stop) (es fs : List (BucketKey × DescriptorBucket P)) (before after : Ledger)
+    (s : ServesKey name set_name key room count sets ended es fs before after) where
+  pub load_below : (most marked left out : ℕ) → IsConsistent most marked left out es → (key.update_after_bind ≡ true → count * sum (kinds key.size) + marked ≤ most) → marked_load (key_of key) (length sets) + marked ≤ most
+  load_below most marked left out counted within = elim (cases_Bool key.update_after_bind) [
+    | inl on ↦ (
+        let few = s.served.few in
+        let all = within on in
+        let is : marked_load (key_of key) (length sets) ≡ length sets * sum (kinds key.size) = rw on refl in
+        let le = mul-le-mul_right (sum (kinds key.size)) few in
+        omega arith)
+    | inr off ↦ (let is : marked_load (key_of key) (length sets) ≡ 0 = rw off refl in let all = counted.within in omega arith)
+  ]
+
+  pub counted_more : (most marked old left out more many : ℕ) → IsConsistent most marked old out es → more ≡ marked_load (key_of key) (length sets) → many ≡ length sets → more + marked ≤ most → left + sum_by stored_load_in fs ≡ old + sum_by stored_load_in es → IsDistinct key_eq (stored_keys fs) → IsConsistent most (marked + more) left (out + many) fs
+  counted_more most marked old left out more many counted load given fits pools distinct =
+      let is_room = counted.is_room in
+      let a = counted.is_load in
+      let b = counted.is_out in
+      let c = s.load in
+      let d = s.out in
+      record { distinct = distinct; is_load = omega arith; within = omega arith; is_room = omega arith; is_out = omega arith }
+
+module _ {P : Type 0} (name : P → ℕ) (a : Allocations P) (before : Ledger) (distinct : HasDistinctKeys (table_of name a)) where
+  pub load_is : IsMarkedLoad (state_of name a before) (marked_load_of a)
+  load_is = record { table = table_of name a; distinct = distinct; keeps = λ k. refl; total = sym (marked_load_of-table name a) }
+
+  pub pool_load_is : IsPoolLoad (state_of name a before) (pool_load_of a)
+  pool_load_is = record { table = table_of name a; distinct = distinct; keeps = λ k. refl; total = sym (pool_load_of-table name a) }
+
+  pub out_is : IsOut (state_of name a before) (outstanding_of a)
+  out_is = record { table = table_of name a; distinct = distinct; keeps = λ k. refl; total = sym (outstanding_of-table name a) }
+
+  module _ (k : Key) (count : ℕ) (some : 0 < count) (b : Allocations P) (after : Ledger) (same : b ≡ a) (kept : after ≡ before) where
+    stays : (answer : Result _ AllocationError) → Stays (call_of name k count a b before after answer)
+    stays answer = record { state = λ i. state_of name (same i) (kept i); counters = λ i. (kept i).counters }
+
+    pub above_limit : k.marked ≡ true → a.limit < count * sum k.counts + marked_load_of a → Allocates (call_of name k count a b before after (Err Fragmentation))
+    above_limit marked above = limit some (record { marked = marked; load = marked_load_of a; is_load = load_is; above = above }) refl (stays _)
+
+    module _ (within : k.marked ≡ true → count * sum k.counts + marked_load_of a ≤ a.limit) where
+      in_limit : (answer : Result _ AllocationError) → IsWithinLimit (call_of name k count a b before after answer)
+      in_limit answer = record { load = marked_load_of a; is_load = load_is; within = within }
+
+      pub past_bound : (greatest_u64 < next_number ((state_of name a before).books k) + count) ⊎ (greatest_u64 < outstanding_of a + count) → Allocates (call_of name k count a b before after (Err Fragmentation))
+      past_bound past = bound some (in_limit _) (record { out = outstanding_of a; is_out = out_is; past = past }) refl (stays _)
+
+      pub unserved : outstanding_of a + count ≤ greatest_u64 → (e : AllocationError) → IsUnserved count e ((state_of name a before).books k) → Allocates (call_of name k count a b before after (Err e))
+      unserved sets e why = elim why [
+        | inl memory ↦ (rw memory.0 (start (record { some = some; limit = in_limit _; bound = record { out = outstanding_of a; is_out = out_is; numbers = memory.1; sets = sets } }) refl (stays _)))
+        | inr past ↦ (rw past.0 (past_bound (inl past.1)))
+      ]
+
+module _ {P S : Type 0} (name : P → ℕ) (set_name : S → ℕ) (most looks_before looks_after compared : ℕ) (es fs : List (BucketKey × DescriptorBucket P)) where
+  abbrev old : Allocations P
+  old = record { limit = most; table = map row_of es; looks = looks_before; comparisons = compared }
+
+  abbrev new : Allocations P
+  new = record { limit = most; table = map row_of fs; looks = looks_after; comparisons = compared }
+
+  pub takes : (key : BucketKey) (room count : ℕ) (sets : List (DescriptorSet S)) (ended : Result (Unit {0}) Stop) (before after : Ledger) → ServesKey name set_name key room count sets ended es fs before after → room + sum_by stored_load_in es ≡ most
+      → ((key_of key).marked ≡ true → count * sum (key_of key).counts + marked_load_of old ≤ most) → outstanding_of old + count ≤ greatest_u64 → Takes name set_name (key_of key) count sets ended old new before after
+  takes key room count sets ended before after served all within fits = record {
+    bucket = s.bucket;
+    served = s.served;
+    within = within;
+    fits = fits;
+    total = (let a = rows_out es in let b = rows_out fs in let c = s.out in omega arith);
+    marked = (let a = rows_load es in let b = rows_load fs in let c = s.load in omega arith);
+    state = λ i. record { books = fun_ext s.books i; ledger = after.pools };
+  }
+    where
+      room_is : room ≡ most - pool_load_of old
+      room_is = (let rows = rows_pool_load es in omega arith)
+
+      s : ServesKey name set_name key (most - pool_load_of old) count sets ended es fs before after
+      s = subst (λ (r : ℕ). ServesKey name set_name key r count sets ended es fs before after) room_is served
+
+-- ---- the tests of a request, over the fields of an allocator
+
+module _ {P : Type 0} (name : P → ℕ) {a : Allocations P} {most looks compared marked room out : ℕ} {es : List (BucketKey × DescriptorBucket P)} (is : seen most looks compared es ≡ a) (counted : IsConsistent most marked room out es) (apart : HasDistinctKeys (table_of name a)) (before : Ledger)
+    (key : BucketKey) {count : ℕ} (some : 0 < count) {above : Bool} (test : above ≡ (key.update_after_bind && nat_lt a.limit (count * sum (kinds key.size) + marked_load_of a))) where
+  pub declined_by_limit : above ≡ true → Allocates (call_of name (key_of key) count a a before before (Err Fragmentation))
+  declined_by_limit passed =
+      let both = and_parts key.update_after_bind (nat_lt a.limit (count * sum (kinds key.size) + marked_load_of a)) (sym test ∙ passed) in
+      above_limit name a before apart (key_of key) count some a before refl refl both.0 (ltb-true a.limit (count * sum (kinds key.size) + marked_load_of a) both.1)
+
+  module _ (below : above ≡ false) {past : Bool} (bounded : past ≡ nat_lt greatest_u64 (out + count)) where
+    inside : key.update_after_bind ≡ true → count * sum (kinds key.size) + marked_load_of a ≤ a.limit
+    inside = within_of key.update_after_bind a.limit (count * sum (kinds key.size) + marked_load_of a) (sym test ∙ below)
+
+    pub declined_by_bound : past ≡ true → Allocates (call_of name (key_of key) count a a before before (Err Fragmentation))
+    declined_by_bound passed =
+        let more = ltb-true greatest_u64 (out + count) (sym bounded ∙ passed) in
+        let all = out_of a es (table_is es is) in
+        let is_out = counted.is_out in
+        past_bound name a before apart (key_of key) count some a before refl refl inside (inr (omega arith))
+
+    pub declined_unserved : past ≡ false → {b : Allocations P} {after : Ledger} → b ≡ a → after ≡ before → (e : AllocationError) → IsUnserved count e (books_in name es (key_of key)) → Allocates (call_of name (key_of key) count a b before after (Err e))
+    declined_unserved kept_in {b} {after} same kept e why =
+        let fits = ltb-false greatest_u64 (out + count) (sym bounded ∙ kept_in) in
+        let all = out_of a es (table_is es is) in
+        let is_out = counted.is_out in
+        unserved name a before apart (key_of key) count some b after same kept inside (omega arith) e (subst (λ (x : Bucket). IsUnserved count e x) (sym (books_at a es (table_is es is) name before (key_of key))) why)
+
+-- a request that passed them, and took what its key has
+module _ {P S : Type 0} {name : P → ℕ} {set_name : S → ℕ} {key : BucketKey} {room count : ℕ} {sets : List (DescriptorSet S)} {ended : Result (Unit {0}) Stop} {es fs : List (BucketKey × DescriptorBucket P)} {before after : Ledger}
+    (s : ServesKey name set_name key room count sets ended es fs before after) {a : Allocations P} {most looks compared marked out : ℕ} (is : seen most looks compared es ≡ a) (counted : IsConsistent most marked room out es)
+    {above : Bool} (test : above ≡ (key.update_after_bind && nat_lt a.limit (count * sum (kinds key.size) + marked_load_of a))) (below : above ≡ false) where
+  sets_within : key.update_after_bind ≡ true → count * sum (kinds key.size) + marked_load_of a ≤ a.limit
+  sets_within = within_of key.update_after_bind a.limit (count * sum (kinds key.size) + marked_load_of a) (sym test ∙ below)
+
+  -- their descriptors keep the limit
+  pub given_fits : {given : ℕ} → given ≡ length sets → marked_load (key_of key) given + marked ≤ most
+  given_fits long =
+      let load = load_of_rows a es (table_is es is) in
+      let limit = ap (λ (x : Allocations P). x.limit) is in
+      let is_load = counted.is_load in
+      let fits = load_below name set_name key room count sets ended es fs before after s most marked room out counted (λ on. (let all = sets_within on in omega arith)) in
+      let same = ap (marked_load (key_of key)) long in
+      omega arith
+
+  pub counted_now : {given more left : ℕ} → given ≡ length sets → more ≡ marked_load (key_of key) given → left + sum_by stored_load_in fs ≡ room + sum_by stored_load_in es → IsDistinct key_eq (stored_keys fs) → IsConsistent most (marked + more) left (out + given) fs
+  counted_now {given} {more} {left} long load moved distinct =
+      let fits = given_fits long in
+      counted_more name set_name key room count sets ended es fs before after s most marked room left out more given counted (load ∙ ap (marked_load (key_of key)) long) long (omega arith) moved distinct
+
+  pub takes_of : {past : Bool} → past ≡ nat_lt greatest_u64 (out + count) → past ≡ false → {looked : ℕ} → Takes name set_name (key_of key) count sets ended a (seen most looked compared fs) before after
+  takes_of bounded kept_in {looked} =
+      let fits = ltb-false greatest_u64 (out + count) (sym bounded ∙ kept_in) in
+      let all = out_of a es (table_is es is) in
+      let is_out = counted.is_out in
+      subst (λ (x : Allocations P). (key.update_after_bind ≡ true → count * sum (kinds key.size) + marked_load_of x ≤ x.limit) → outstanding_of x + count ≤ greatest_u64 → Takes name set_name (key_of key) count sets ended x (seen most looked compared fs) before after) is
+      (λ w f. takes name set_name most looks looked compared es fs key room count sets ended before after s counted.is_room w f) sets_within (omega arith)

@@ -1,0 +1,174 @@
+-- The running totals of a table, and what a run takes from them.
+use Rattle.std.proofs.Common.{◌≡◌, ℕ, ◌+◌, ◌-◌, ◌≤◌, Bool, true, List, [], ◌∷◌, ◌++◌, length, map, sum_by, Option, Some, None, inl, inr, refl, sym, ap, subst, ◌∙◌, arith}
+use Rattle.std.specs.List.{IsDistinct}
+use Rattle.std.specs.Map.{lookup, set_value}
+use Rattle.std.proofs.lemmas.Bool.{cases_Bool}
+use Rattle.std.proofs.lemmas.List.Sums.{sum_by-cons, sum_by-append}
+use Rattle.gpu_descriptor.specs.declared.set.BucketKey.{BucketKey}
+use Rattle.gpu_descriptor.specs.declared.set.DescriptorSet.{DescriptorSet}
+use Rattle.gpu_descriptor.specs.declared.bucket.DescriptorBucket.{DescriptorBucket}
+use Rattle.gpu_descriptor.specs.Model.Books.{Key, key_eq, sum_over}
+use Rattle.gpu_descriptor.specs.Model.Agreement.{Item}
+use Rattle.gpu_descriptor.specs.Model.Load.{bucket_load, descriptors_out, marked_load, sets_out}
+use Rattle.gpu_descriptor.specs.Caller.Frees.{marked_descriptors}
+use Rattle.gpu_descriptor.specs.Caller.KeyOf.{key_of}
+use Rattle.gpu_descriptor.specs.Caller.Sets.{item_of, items_of}
+use Rattle.gpu_descriptor.specs.Caller.States.{outstanding_of, marked_load_of}
+use Rattle.gpu_descriptor.specs.Inner.RunSteps.{AllPass, lies_at}
+use Rattle.gpu_descriptor.specs.Inner.Stored.{kept_in, kept_of, row_of, load_in, stored_keys, stored_load_in, stored_load, IsConsistent}
+use Rattle.gpu_descriptor.specs.Caller.Values.{Allocations}
+use Rattle.gpu_descriptor.proofs.table.Exact.{key_exact}
+use Rattle.gpu_descriptor.proofs.sums.TableSums.{sum_map}
+use Rattle.gpu_descriptor.proofs.release.WholeRun.{at_parts}
+
+pub marked_load-none : (k : Key) → marked_load k 0 ≡ 0
+marked_load-none k = elim (cases_Bool k.marked) [ inl on ↦ rw on (omega arith) | inr off ↦ rw off refl ]
+
+pub marked_load-add : (k : Key) (m n : ℕ) → marked_load k (m + n) ≡ marked_load k m + marked_load k n
+marked_load-add k m n = elim (cases_Bool k.marked) [ inl on ↦ rw on (grind arith) | inr off ↦ rw off refl ]
+
+pub marked_load-le : (k : Key) (m n : ℕ) → m ≤ n → marked_load k m ≤ marked_load k n
+marked_load-le k m n le =
+    let rest : m + (n - m) ≡ n = omega arith in
+    let parts = marked_load-add k m (n - m) in
+    let whole : marked_load k (m + (n - m)) ≡ marked_load k n = ap (marked_load k) rest in
+    omega arith
+
+-- the row of a key, which a test of the map finds
+pub record IsRow {P : Type 0} (k : Key) (es : List (BucketKey × DescriptorBucket P)) (v : DescriptorBucket P) : Type 0 where
+  pub test : BucketKey → Bool
+  pub same : (l : BucketKey) → test l ≡ key_eq k (key_of l)
+  pub at : lookup test es ≡ Some v
+
+-- the row is written through the map
+pub record IsWritten {P : Type 0} (k : Key) (es fs : List (BucketKey × DescriptorBucket P)) (v w : DescriptorBucket P) : Type 0 where
+  pub row : IsRow k es v
+  pub wrote : fs ≡ set_value row.test es w
+
+module _ {P : Type 0} where
+  -- a write through the map, in a sum over its entries
+  pub sum_set : (f : BucketKey × DescriptorBucket P → ℕ) (test : BucketKey → Bool) (es : List (BucketKey × DescriptorBucket P)) (v w : DescriptorBucket P) → lookup test es ≡ Some v → (k : BucketKey) × (test k ≡ true) × (f (k, v) ≤ sum_by f es) × (sum_by f (set_value test es w) + f (k, v) ≡ sum_by f es + f (k, w))
+  sum_set f test [] v w found = absurd (let bad : ◌≡◌ {A = Option (DescriptorBucket P)} None (Some v) = found in cc)
+  sum_set f test (e ∷ es) v w found = elim (cases_Bool (test e.0)) [
+    | inl at ↦ (
+        let is : Some e.1 ≡ Some v = rw at at found in
+        let same : e.1 ≡ v = cc in
+        let own : f e ≡ f (e.0, v) = ap (λ (b : DescriptorBucket P). f (e.0, b)) same in
+        let old = sum_by-cons f e es in
+        let new = sum_by-cons f (e.0, w) es in
+        (e.0, at, (let le : f (e.0, v) ≤ sum_by f (e ∷ es) = omega arith in le), rw at (omega arith)))
+    | inr at ↦ (
+        let rest = sum_set f test es v w (rw at at found) in
+        let below = rest.2 in
+        let moved = rest.3 in
+        let old = sum_by-cons f e es in
+        let new = sum_by-cons f e (set_value test es w) in
+        (rest.0, rest.1, (let le : f (rest.0, v) ≤ sum_by f (e ∷ es) = omega arith in le), rw at (omega arith)))
+  ]
+
+  -- ---- the totals that the code keeps are those that callers see
+
+  pools_out : (r : BucketKey × DescriptorBucket P) → sets_out (key_of r.0) (kept_in r.1) ≡ r.1.total
+  pools_out r = sum_map _ kept_of _ (λ p. refl) r.1.pools.items ∙ sym r.1.counted
+
+  pub rows_out : (es : List (BucketKey × DescriptorBucket P)) → sum_over sets_out (map row_of es) ≡ sum_by (λ r. r.1.total) es
+  rows_out = sum_map _ row_of _ pools_out
+
+  pub rows_load : (es : List (BucketKey × DescriptorBucket P)) → sum_over descriptors_out (map row_of es) ≡ sum_by load_in es
+  rows_load = sum_map _ row_of _ (λ r. ap (marked_load (key_of r.0)) (pools_out r))
+
+  pub rows_pool_load : (es : List (BucketKey × DescriptorBucket P)) → sum_over bucket_load (map row_of es) ≡ sum_by stored_load_in es
+  rows_pool_load = sum_map _ row_of _ (λ r. sum_map _ kept_of _ (λ p. refl) r.1.pools.items)
+
+-- the descriptors of a run
+pub run_load : {S : Type 0} (name : S → ℕ) (k : Key) (n : ℕ) (xs : List (DescriptorSet S)) → AllPass (lies_at k n) xs → marked_descriptors (items_of name xs) ≡ marked_load k (length xs)
+run_load name k n [] have = sym (marked_load-none k)
+run_load name k n (x ∷ xs) have =
+    let key : x.key.is ≡ k = (at_parts k n x have.0).0 in
+    let one : marked_load k 1 ≡ marked_load x.key.is 1 = ap (λ (l : Key). marked_load l 1) (sym key) in
+    let rest = run_load name k n xs have.1 in
+    let a = sum_by-cons (λ (t : Item). marked_load t.key 1) (item_of name x) (items_of name xs) in
+    let b = marked_load-add k 1 (length xs) in
+    let long : 1 + length xs ≡ length (x ∷ xs) = omega arith in
+    let c = ap (marked_load k) long in
+    omega arith
+
+pub pools_end : {P : Type 0} (k : BucketKey) (es : List (BucketKey × DescriptorBucket P)) (w : DescriptorBucket P) (left room : ℕ) → left + stored_load (key_of k) w.pools.items ≡ room → left + sum_by stored_load_in (es ++ (k, w) ∷ []) ≡ room + sum_by stored_load_in es
+pools_end {P} k es w left room moved =
+    let a = sum_by-append (stored_load_in {P = P}) es ((k, w) ∷ []) in
+    let one : sum_by (stored_load_in {P = P}) ((k, w) ∷ []) ≡ stored_load (key_of k) w.pools.items = omega arith in
+    omega arith
+
+-- what a run takes from the totals
+pub record Taken {P : Type 0} (k : Key) (n : ℕ) (es fs : List (BucketKey × DescriptorBucket P)) : Type 0 where
+  pub out : sum_by (λ r. r.1.total) fs + n ≡ sum_by (λ r. r.1.total) es
+  pub load : sum_by load_in fs + marked_load k n ≡ sum_by load_in es
+
+module _ {P : Type 0} {k : Key} {es : List (BucketKey × DescriptorBucket P)} {v : DescriptorBucket P} (row : IsRow k es v) where
+  -- its sets are of the table's
+  pub total_present : v.total ≤ sum_by (λ r. r.1.total) es
+  total_present = (sum_set (λ (r : BucketKey × DescriptorBucket P). r.1.total) row.test es v v row.at).2
+
+  -- the room that the pools of the row take is of the table's
+  pub pools_present : stored_load k v.pools.items ≤ sum_by stored_load_in es
+  pools_present =
+      let a = sum_set (stored_load_in {P = P}) row.test es v v row.at in
+      let is : k ≡ key_of a.0 = key_exact.same k (key_of a.0) (sym (row.same a.0) ∙ a.1) in
+      let old : stored_load_in {P = P} (a.0, v) ≡ stored_load k v.pools.items = ap (λ (l : Key). stored_load l v.pools.items) (sym is) in
+      let le = a.2 in
+      omega arith
+
+module _ {P : Type 0} {k : Key} {es fs : List (BucketKey × DescriptorBucket P)} {v w : DescriptorBucket P} (r : IsWritten k es fs v w) where
+  pub pools_set : (left room : ℕ) → left + stored_load k w.pools.items ≡ room + stored_load k v.pools.items → left + sum_by stored_load_in fs ≡ room + sum_by stored_load_in es
+  pools_set left room moved =
+      let a = sum_set (stored_load_in {P = P}) r.row.test es v w r.row.at in
+      let is : k ≡ key_of a.0 = key_exact.same k (key_of a.0) (sym (r.row.same a.0) ∙ a.1) in
+      let old : stored_load_in {P = P} (a.0, v) ≡ stored_load k v.pools.items = ap (λ (l : Key). stored_load l v.pools.items) (sym is) in
+      let new : stored_load_in {P = P} (a.0, w) ≡ stored_load k w.pools.items = ap (λ (l : Key). stored_load l w.pools.items) (sym is) in
+      let rest = a.3 in
+      rw r.wrote (omega arith)
+
+  taken_out : (n : ℕ) → w.total + n ≡ v.total → sum_by (λ b. b.1.total) (set_value r.row.test es w) + n ≡ sum_by (λ b. b.1.total) es
+  taken_out n total = (let moved = (sum_set (λ (b : BucketKey × DescriptorBucket P). b.1.total) r.row.test es v w r.row.at).3 in omega arith)
+
+  taken_load : (n : ℕ) → w.total + n ≡ v.total → sum_by load_in (set_value r.row.test es w) + marked_load k n ≡ sum_by load_in es
+  taken_load n total =
+      let a = sum_set (load_in {P = P}) r.row.test es v w r.row.at in
+      let is : k ≡ key_of a.0 = key_exact.same k (key_of a.0) (sym (r.row.same a.0) ∙ a.1) in
+      let old : load_in {P = P} (a.0, v) ≡ marked_load k v.total = ap (λ (l : Key). marked_load l v.total) (sym is) in
+      let new : load_in {P = P} (a.0, w) ≡ marked_load k w.total = ap (λ (l : Key). marked_load l w.total) (sym is) in
+      let parts : marked_load k v.total ≡ marked_load k w.total + marked_load k n = ap (marked_load k) (sym total) ∙ marked_load-add k w.total n in
+      let moved = a.3 in
+      omega arith
+
+  pub taken : {n : ℕ} → w.total + n ≡ v.total → Taken k n es fs
+  taken {n} total = rw r.wrote (record { out = taken_out n total; load = taken_load n total })
+
+module _ {P : Type 0} {k : Key} {n : ℕ} {es fs : List (BucketKey × DescriptorBucket P)} (t : Taken k n es fs) where
+  -- what goes was there
+  pub load_fits : {limit marked room out : ℕ} → IsConsistent limit marked room out es → marked_load k n ≤ marked
+  load_fits counted = (let is = counted.is_load in let load = t.load in omega arith)
+
+  pub counted_after : {limit marked room left out less : ℕ} → IsConsistent limit marked room out es → less ≡ marked_load k n → left + sum_by stored_load_in fs ≡ room + sum_by stored_load_in es → stored_keys fs ≡ stored_keys es → IsConsistent limit (marked - less) left (out - n) fs
+  counted_after counted load pools keys = record {
+    distinct = subst (IsDistinct key_eq) (sym keys) counted.distinct;
+    is_load = (let is = counted.is_load in let gone = t.load in omega arith);
+    within = (let within = counted.within in omega arith);
+    is_room = (let is = counted.is_room in omega arith);
+    is_out = (let is = counted.is_out in let gone = t.out in omega arith);
+  }
+
+  module _ (old : Allocations P) (is : old.table ≡ map row_of es) where
+    pub out_after : sum_over sets_out (map row_of fs) + n ≡ outstanding_of old
+    out_after =
+        let a = ap (sum_over sets_out) is ∙ rows_out es in
+        let b = rows_out fs in
+        let out = t.out in
+        omega arith
+
+    pub load_after : (m : ℕ) → m ≡ marked_load k n → sum_over descriptors_out (map row_of fs) + m ≡ marked_load_of old
+    load_after m same =
+        let a = ap (sum_over descriptors_out) is ∙ rows_load es in
+        let b = rows_load fs in
+        let load = t.load in
+        omega arith

@@ -1,0 +1,224 @@
+-- As many sets are out as are outstanding.
+use Rattle.std.proofs.Common.{◌≡◌, ℕ, suc, ◌+◌, ◌-◌, ◌<◌, ◌≤◌, ◌==◌, true, false, List, [], ◌∷◌, ◌++◌, length, map, count_by, sum_by, slice_get, Option, Some, None, inl, inr, refl, sym, ap, ◌∙◌, arith, eqb-true, eq-eqb, length-append}
+use Rattle.std.specs.Option.{option_map_or}
+use Rattle.std.specs.Prelude.{if◌then◌else◌}
+use Rattle.std.proofs.lemmas.Bool.{cases_Bool, cases_eq, cases_lt}
+use Rattle.std.proofs.lemmas.List.{length-map}
+use Rattle.std.proofs.lemmas.List.Sums.{sum_by-append, sum_by-cons}
+use Rattle.gpu_descriptor_types.specs.Ledger.{Pool, live_sets}
+use Rattle.gpu_descriptor_types.specs.Multiset.{LiveSet, set_eq, times}
+use Rattle.gpu_descriptor_types.proofs.Counting.{count_by_yes, count_by_no, counts_alike, set_exact}
+use Rattle.gpu_descriptor.specs.Model.Agreement.{State, Agree, Item, item_eq, set_of, count_of, live_at}
+use Rattle.gpu_descriptor.specs.Model.Books.{Key, key_eq, Entry, Bucket, no_pools, books_of, HasDistinctKeys, sum_over, AddsUp}
+use Rattle.gpu_descriptor.specs.Model.Grants.{items_at}
+use Rattle.gpu_descriptor.specs.Caller.Frees.{marked_descriptors}
+use Rattle.gpu_descriptor.specs.Laws.Load.{LoadIsDescriptors, OutIsLength, OutIsSize}
+use Rattle.gpu_descriptor.specs.Model.Load.{marked_load, descriptors_out, allocated_in, sets_out}
+use Rattle.gpu_descriptor.specs.Inner.Buckets.{IsBookedIn}
+use Rattle.gpu_descriptor.proofs.table.Exact.{bucket, item_exact, key_exact}
+use Rattle.gpu_descriptor.proofs.callers.HeldSets.{count_of-append}
+use Rattle.gpu_descriptor.proofs.request.KeyAgrees.{place_of_items, count_of_items, count_elsewhere}
+use Rattle.gpu_descriptor.proofs.request.StateAgrees.{booked_of}
+use Rattle.gpu_descriptor.proofs.request.StepsAgree.{live_of, live_below, live_from, count_append}
+use Rattle.gpu_descriptor.proofs.request.Rollback.{load_of_items}
+use Rattle.gpu_descriptor.proofs.table.Tables.{first_books, none_behind}
+use Rattle.std.proofs.Math.Logic.{∥∥₁_elim, ∥∥₁_map, ∥∥₁_prop}
+use Rattle.std.proofs.Props.{props}
+
+names_in : List LiveSet → List ℕ
+names_in sets = map (λ (x : LiveSet). x.name) sets
+
+-- sets that all have these counts are known by their names
+by_name : (counts : List ℕ) (sets : List LiveSet) → ((x : LiveSet) → 0 < times sets x → x.counts ≡ counts) → live_sets counts (names_in sets) ≡ sets
+unfolding names_in
+by_name counts [] all = refl
+by_name counts (x ∷ sets) all =
+    let own : times (x ∷ sets) x ≡ suc (times sets x) = count_by_yes (λ y. set_eq y x) x sets (set_exact.self x) in
+    let here : counts ≡ x.counts = sym (all x (omega arith)) in
+    let rest = by_name counts sets (λ y some. all y (let m = more y in omega arith)) in
+    λ i. record { name = x.name; counts = here i } ∷ rest i
+  where
+    more : (y : LiveSet) → times sets y ≤ times (x ∷ sets) y
+    more y = elim (cases_Bool (set_eq x y)) [
+      | inl h ↦ (let e : times (x ∷ sets) y ≡ suc (times sets y) = count_by_yes (λ z. set_eq z y) x sets h in omega arith)
+      | inr h ↦ (let e : times (x ∷ sets) y ≡ times sets y = count_by_no (λ z. set_eq z y) x sets h in omega arith)
+    ]
+
+-- the sets that are out of a key's pools
+record OutOf (k : Key) (b : Bucket) (ledger : ℕ → Option Pool) : Type 0 where
+  items : List Item
+  many : length items ≡ allocated_in b.pools
+  of_key : (t : Item) → 0 < count_of t items → (t.key ≡ k) × (t.id ≡ b.id)
+  each : (t : Item) → t.key ≡ k → t.id ≡ b.id → count_of t items ≡ live_at ledger b t
+
+none_out : (ledger : ℕ → Option Pool) (id first : ℕ) (t : Item) → live_at ledger (bucket id first []) t ≡ 0
+none_out ledger id first t = elim (cases_lt t.number first) [
+  | inl below ↦ live_below ledger id first [] t below
+  | inr above ↦ live_from ledger id first [] t above
+]
+
+key_out : (k : Key) (id first : ℕ) (es : List Entry) (ledger : ℕ → Option Pool) → ((i : ℕ) (e : Entry) → slice_get es i ≡ Some e → IsBookedIn k ledger e) → ∥ OutOf k (bucket id first es) ledger ∥₁
+unfolding names_in
+key_out k id first [] ledger booked = ∣ record { items = []; many = refl; of_key = λ t some. absurd (omega arith); each = λ t key own_id. sym (none_out ledger id first t) } ∣₁
+key_out k id first (e ∷ es) ledger booked =
+    let own = booked 0 e refl in
+    ∥∥₁_elim own.booked.allocated ∥∥₁_prop (λ size. ∥∥₁_map (key_out k id (first + 1) es ledger (λ i. booked (suc i))) (λ rest.
+    let names = names_in size.0 in
+    let same = by_name k.counts size.0 (λ x some. own.booked.sets x (let is = size.2 x in omega arith)) in
+    record {
+      items = items_at k id first names ++ rest.items;
+      many = (
+          let both = length-append (items_at k id first names) rest.items in
+          let named : length (items_at k id first names) ≡ length names = length-map names (λ n. let t : Item = record { key = k; id = id; number = first; name = n } in t) in
+          let all : length names ≡ length size.0 = length-map size.0 (λ (x : LiveSet). x.name) in
+          let long = size.1 in
+          let later = rest.many in
+          let whole = sum_by-cons (λ (d : Entry). d.allocated) e es in
+          omega arith);
+      of_key = λ t some. elim (cases_lt 0 (count_of t (items_at k id first names))) [
+        | inl here ↦ (let p = place_of_items k id first names t here in (p.0, p.2))
+        | inr none ↦ (let sum = count_append t (items_at k id first names) rest.items in rest.of_key t (omega arith))
+      ];
+      each = λ t key own_id.
+          let sum = count_append t (items_at k id first names) rest.items in
+          let later = rest.each t key own_id in
+          elim (cases_lt t.number first) [
+            | inl below ↦ (
+                let none = count_elsewhere k id first names t (λ bad. omega arith) in
+                let left = live_below ledger id (first + 1) es t (omega arith) in
+                let right = live_below ledger id first (e ∷ es) t below in
+                omega arith)
+            | inr above ↦ (elim (cases_eq t.number first) [
+              | inl here ↦ (
+                  let counted = count_of_items k id first names t key here own_id in
+                  let spelled : times (live_sets k.counts names) (set_of t) ≡ own.pool.live (set_of t) = ap (λ (l : List LiveSet). times l (set_of t)) same ∙ size.2 (set_of t) in
+                  let place : t.number - first ≡ 0 = omega arith in
+                  let left = live_below ledger id (first + 1) es t (omega arith) in
+                  let right : live_at ledger (bucket id first (e ∷ es)) t ≡ own.pool.live (set_of t) = live_from ledger id first (e ∷ es) t above ∙ ap (λ (n : ℕ). live_of ledger (slice_get (e ∷ es) n) (set_of t)) place ∙ ap (λ (o : Option Pool). option_map_or (λ (p : Pool). p.live (set_of t)) o 0) own.is_live in
+                  omega arith)
+              | inr there ↦ (
+                  let none = count_elsewhere k id first names t there in
+                  let place : t.number - first ≡ suc (t.number - (first + 1)) = omega arith in
+                  let left = live_from ledger id (first + 1) es t (omega arith) in
+                  let right : live_at ledger (bucket id first (e ∷ es)) t ≡ live_of ledger (slice_get es (t.number - (first + 1))) (set_of t) = live_from ledger id first (e ∷ es) t above ∙ ap (λ (n : ℕ). live_of ledger (slice_get (e ∷ es) n) (set_of t)) place in
+                  omega arith)
+            ])
+          ];
+    }))
+
+-- how often a set is out of a bucket: as often as it is live there, if its id is the bucket's
+abbrev out_at : (ℕ → Option Pool) → Bucket → Item → ℕ
+out_at ledger b t = if b.id == t.id then live_at ledger b t else 0
+
+out_of_none : (ledger : ℕ → Option Pool) (t : Item) → out_at ledger no_pools t ≡ 0
+out_of_none ledger t = elim (cases_Bool (0 == t.id)) [ inl same ↦ rw same (none_out ledger 0 0 t) | inr other ↦ rw other refl ]
+
+each_out : (k : Key) (b : Bucket) (ledger : ℕ → Option Pool) (out : OutOf k b ledger) (t : Item) → t.key ≡ k → count_of t out.items ≡ out_at ledger b t
+each_out k b ledger out t key = elim (cases_Bool (b.id == t.id)) [
+  | inl same ↦ rw same (out.each t key (sym (eqb-true b.id t.id same)))
+  | inr other ↦ rw other (elim (cases_lt 0 (count_of t out.items)) [
+    | inl some ↦ absurd (let bad : true ≡ false = sym (eq-eqb b.id t.id (sym (out.of_key t some).1)) ∙ other in cc)
+    | inr none ↦ (omega arith)
+  ])
+]
+
+-- the sets that are out of all keys of a table
+abbrev OutOfAll : (ℕ → Option Pool) → List (Key × Bucket) → Type 0
+OutOfAll ledger table = (items : List Item) × (length items ≡ sum_over sets_out table) × ((t : Item) → count_of t items ≡ out_at ledger (books_of table t.key) t) × (marked_descriptors items ≡ sum_over descriptors_out table)
+
+table_out : (ledger : ℕ → Option Pool) (table : List (Key × Bucket)) → HasDistinctKeys table → ((k : Key) (i : ℕ) (e : Entry) → slice_get (books_of table k).pools i ≡ Some e → IsBookedIn k ledger e) → ∥ OutOfAll ledger table ∥₁
+table_out ledger [] distinct booked = ∣ ([], refl, (λ t. sym (out_of_none ledger t)), refl) ∣₁
+table_out ledger (row ∷ table) distinct booked =
+    ∥∥₁_elim (key_out row.0 row.1.id row.1.first row.1.pools ledger (λ i e at. booked row.0 i e (ap (λ (b : Bucket). slice_get b.pools i) (first_books row table) ∙ at))) ∥∥₁_prop (λ here.
+    ∥∥₁_map (table_out ledger table distinct.1 (λ k i e at. booked k i e (behind k i e at))) (λ rest. (
+      here.items ++ rest.0,
+      (let both = length-append here.items rest.0 in let first = here.many in let later = rest.1 in let whole = sum_by-cons (λ (r : Key × Bucket). sets_out r.0 r.1) row table in omega arith),
+      (λ t.
+          let sum = count_append t here.items rest.0 in
+          let later = rest.2 t in
+          elim (cases_Bool (key_eq row.0 t.key)) [
+            | inl at ↦ (
+                let first = each_out row.0 row.1 ledger here t (sym (key_exact.same row.0 t.key at)) in
+                let none : out_at ledger (books_of table t.key) t ≡ 0 = ap (λ (b : Bucket). out_at ledger b t) (none_behind row table distinct t.key at) ∙ out_of_none ledger t in
+                let is : out_at ledger (books_of (row ∷ table) t.key) t ≡ out_at ledger row.1 t = rw at refl in
+                omega arith)
+            | inr other ↦ (
+                let is : out_at ledger (books_of (row ∷ table) t.key) t ≡ out_at ledger (books_of table t.key) t = rw other refl in
+                elim (cases_lt 0 (count_of t here.items)) [
+                  | inl some ↦ absurd (let bad : true ≡ false = sym (key_exact.self row.0) ∙ ap (key_eq row.0) (sym (here.of_key t some).0) ∙ other in cc)
+                  | inr none ↦ omega arith
+                ])
+          ]),
+      (let both = sum_by-append (λ (t : Item). marked_load t.key 1) here.items rest.0 in
+          let first : marked_descriptors here.items ≡ descriptors_out row.0 row.1 = load_of_items row.0 here.items (λ t some. (here.of_key t some).0) ∙ ap (marked_load row.0) here.many in
+          let later = rest.3 in
+          let whole = sum_by-cons (λ (r : Key × Bucket). descriptors_out r.0 r.1) row table in
+          omega arith),
+    )))
+  where
+    behind : (k : Key) (i : ℕ) (e : Entry) → slice_get (books_of table k).pools i ≡ Some e → slice_get (books_of (row ∷ table) k).pools i ≡ Some e
+    behind k i e at = elim (cases_Bool (key_eq row.0 k)) [
+      | inl same ↦ absurd (let bad : ◌≡◌ {A = Option Entry} None (Some e) = ap (λ (b : Bucket). slice_get b.pools i) (sym (none_behind row table distinct k same)) ∙ at in cc)
+      | inr other ↦ rw other at
+    ]
+
+-- the sets that are out of a table which keeps the books
+all_out : (s : State) (f : Key → Bucket → ℕ) (n : ℕ) → Agree s → (out : AddsUp f s.books n) → ∥ OutOfAll s.ledger out.table ∥₁
+all_out s f n agree out = table_out s.ledger out.table out.distinct (λ k i e at. (booked_of s k agree).each i e (ap (λ (b : Bucket). slice_get b.pools i) (sym (out.keeps k)) ∙ at))
+
+pub out_is_size : OutIsSize
+out_is_size s n agree out = ∥∥₁_map (all_out s sets_out n agree out) (λ all. (all.0, all.1 ∙ out.total, λ t. all.2 t ∙ ap (λ (b : Bucket). out_at s.ledger b t) (out.keeps t.key)))
+
+every : (items : List Item) → count_by (λ t. true) items ≡ length items
+every [] = refl
+every (t ∷ items) = count_by_yes (λ u. true) t items refl ∙ ap suc (every items)
+
+pub out_is_length : OutIsLength
+out_is_length s n agree out items alike = ∥∥₁_elim (out_is_size s n agree out) (search props) (λ all.
+    sym (every items) ∙ counts_alike item_exact items all.0 (λ t. alike t ∙ sym (all.2 t)) (λ u. true) ∙ every all.0 ∙ all.1)
+
+-- ---- sums over a list hang only on how often each item stands in it
+
+cons_count : (u t : Item) (m : List Item) → count_of u (t ∷ m) ≡ count_of u (t ∷ []) + count_of u m
+cons_count u t m = count_of-append u (t ∷ []) m
+
+-- an item taken out of a list
+removed : (f : Item → ℕ) (t : Item) (m : List Item) → 0 < count_of t m → (rest : List Item) × ((u : Item) → count_of u m ≡ count_of u (t ∷ rest)) × (sum_by f m ≡ f t + sum_by f rest)
+removed f t [] some = absurd (omega arith)
+removed f t (u ∷ m) some = elim (cases_Bool (item_eq u t)) [
+  | inl here ↦ (
+      let is : u ≡ t = item_exact.same u t here in
+      (m, (λ v. ap (λ (w : Item). count_of v (w ∷ m)) is), sum_by-cons f u m ∙ ap (λ (w : Item). f w + sum_by f m) is))
+  | inr other ↦ (
+      let skip : count_of t (u ∷ m) ≡ count_of t m = count_by_no (λ v. item_eq v t) u m other in
+      let found = removed f t m (omega arith) in (
+        u ∷ found.0,
+        (λ v.
+            let had = found.1 v in
+            let a = cons_count v u m in
+            let b = cons_count v t found.0 in
+            let c = cons_count v t (u ∷ found.0) in
+            let d = cons_count v u found.0 in
+            omega arith),
+        (let sum = found.2 in let a = sum_by-cons f u m in let b = sum_by-cons f u found.0 in omega arith),
+      ))
+]
+
+sums_alike : (f : Item → ℕ) (m n : List Item) → ((u : Item) → count_of u m ≡ count_of u n) → sum_by f m ≡ sum_by f n
+sums_alike f [] [] alike = refl
+sums_alike f [] (t ∷ n) alike =
+    let own : count_of t (t ∷ n) ≡ suc (count_of t n) = count_by_yes (λ v. item_eq v t) t n (item_exact.self t) in
+    let none = alike t in
+    absurd (omega arith)
+sums_alike f (t ∷ m) n alike =
+    let own : count_of t (t ∷ m) ≡ suc (count_of t m) = count_by_yes (λ v. item_eq v t) t m (item_exact.self t) in
+    let same = alike t in
+    let out = removed f t n (omega arith) in
+    let rest = sums_alike f m out.0 (λ u. let a = alike u in let b = out.1 u in let c = cons_count u t m in let d = cons_count u t out.0 in omega arith) in
+    let sum = out.2 in
+    let whole = sum_by-cons f t m in
+    omega arith
+
+pub load_is_descriptors : LoadIsDescriptors
+load_is_descriptors s n agree load items alike = ∥∥₁_elim (all_out s descriptors_out n agree load) (search props) (λ all.
+    sums_alike (λ (t : Item). marked_load t.key 1) items all.0 (λ t. alike t ∙ sym (all.2 t ∙ ap (λ (b : Bucket). out_at s.ledger b t) (load.keeps t.key))) ∙ all.3 ∙ load.total)

@@ -1,0 +1,6 @@
+pub mod Exact
+pub mod Readings
+pub mod Rising
+pub mod RowAt
+pub mod TableBooks
+pub mod Tables

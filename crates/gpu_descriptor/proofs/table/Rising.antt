@@ -1,0 +1,203 @@
+-- The ids of a table's keys: they rise, so one place has each, and one key.
+use Rattle.std.proofs.Common.{◌≡◌, ◌+◌, ◌&&◌, ◌<◌, ℕ, zero, suc, Bool, true, false, ◌++◌, ◌∷◌, [], List, length, filter, slice_get, Option, Some, None, inl, inr, refl, sym, ap, subst, ◌∙◌, arith}
+use Rattle.std.specs.Prelude.{slice_index_or, nat_lt}
+use Rattle.std.specs.List.{list_all}
+use Rattle.std.specs.List.Sorted.{IsNonDecreasingBy, IsPartitionPoint, IsPartitionedBy}
+use Rattle.std.proofs.lemmas.List.Sorted.{IsPartitionedBy-ltb}
+use Rattle.std.specs.Map.{lookup, values_of}
+use Rattle.std.proofs.lemmas.Bool.{cases_Bool, cases_lt, and_parts, and_from, lt-ltb, ltb-true, ltb-false}
+use Rattle.indexmap.specs.Layout.{set_value_at}
+use Rattle.gpu_descriptor.specs.declared.set.BucketKey.{BucketKey}
+use Rattle.gpu_descriptor.specs.declared.bucket.DescriptorBucket.{DescriptorBucket}
+use Rattle.gpu_descriptor.specs.Model.Books.{Key, key_eq}
+use Rattle.gpu_descriptor.specs.Caller.KeyOf.{key_of}
+use Rattle.gpu_descriptor.specs.Inner.Ids.{rise_below, stored_ids}
+use Rattle.gpu_descriptor.proofs.table.Exact.{key_exact}
+
+pub inside : {A : Type 0} (x y : A) → Some x ≡ Some y → x ≡ y
+inside x y same = cc
+
+record Rises (next i : ℕ) (later : List ℕ) : Type 0 where
+  below : i < next
+  first : list_all (nat_lt i) later ≡ true
+  rest : rise_below next later ≡ true
+
+parts : (next i : ℕ) (later : List ℕ) → rise_below next (i ∷ later) ≡ true → Rises next i later
+parts next i later h =
+    let whole = and_parts (nat_lt i next && list_all (nat_lt i) later) (rise_below next later) h in
+    let front = and_parts (nat_lt i next) (list_all (nat_lt i) later) whole.0 in
+    record { below = ltb-true i next front.0; first = front.1; rest = whole.1 }
+
+all_above : (n : ℕ) (xs : List ℕ) → list_all (nat_lt n) xs ≡ true → (i m : ℕ) → slice_get xs i ≡ Some m → n < m
+all_above n [] h i m at = absurd (let bad : ◌≡◌ {A = Option ℕ} None (Some m) = at in cc)
+all_above n (x ∷ xs) h zero m at =
+    let lt = ltb-true n x (and_parts (nat_lt n x) (list_all (nat_lt n) xs) h).0 in
+    let same : Some x ≡ Some m = at in
+    let is : x ≡ m = cc in
+    omega arith
+all_above n (x ∷ xs) h (suc i) m at = all_above n xs (and_parts (nat_lt n x) (list_all (nat_lt n) xs) h).1 i m at
+
+pub rises : (next : ℕ) (xs : List ℕ) → rise_below next xs ≡ true → (i j m n : ℕ) → i < j → slice_get xs i ≡ Some m → slice_get xs j ≡ Some n → m < n
+rises next [] h i j m n lt a b = absurd (let bad : ◌≡◌ {A = Option ℕ} None (Some m) = a in cc)
+rises next (x ∷ xs) h i zero m n lt a b = absurd (omega arith)
+rises next (x ∷ xs) h zero (suc j) m n lt a b =
+    let p = parts next x xs h in
+    let above = all_above x xs p.first j n b in
+    let same : Some x ≡ Some m = a in
+    let is : x ≡ m = cc in
+    omega arith
+rises next (x ∷ xs) h (suc i) (suc j) m n lt a b = rises next xs (parts next x xs h).rest i j m n (omega arith) a b
+
+-- one place has an id
+pub one_place : (next : ℕ) (xs : List ℕ) → rise_below next xs ≡ true → (i j n : ℕ) → slice_get xs i ≡ Some n → slice_get xs j ≡ Some n → i ≡ j
+one_place next xs h i j n a b = elim (cases_lt i j) [
+  | inl below ↦ absurd (let bad = rises next xs h i j n n below a b in omega arith)
+  | inr least ↦ elim (cases_lt j i) [
+    | inl above ↦ absurd (let bad = rises next xs h j i n n above b a in omega arith)
+    | inr above ↦ omega arith
+  ]
+]
+
+module _ {P : Type 0} where
+  id_at : (es : List (BucketKey × DescriptorBucket P)) (i : ℕ) (d : BucketKey × DescriptorBucket P) → i < length es → slice_get (stored_ids es) i ≡ Some (slice_index_or es i d).1.id
+  id_at [] i d lt = absurd (omega arith)
+  id_at (e ∷ es) zero d lt = refl
+  id_at (e ∷ es) (suc i) d lt = id_at es i d (omega arith)
+
+  -- the entry of an id
+  pub record HasId (es : List (BucketKey × DescriptorBucket P)) (i id : ℕ) : Type 0 where
+    pub entry : BucketKey × DescriptorBucket P
+    pub at : slice_get es i ≡ Some entry
+    pub is : entry.1.id ≡ id
+    pub within : i < length es
+
+  pub has_id : (es : List (BucketKey × DescriptorBucket P)) (i id : ℕ) → slice_get (stored_ids es) i ≡ Some id → HasId es i id
+  has_id [] i id at = absurd (let bad : ◌≡◌ {A = Option ℕ} None (Some id) = at in cc)
+  has_id (e ∷ es) zero id at = (let same : Some e.1.id ≡ Some id = at in record { entry = e; at = refl; is = cc; within = omega arith })
+  has_id (e ∷ es) (suc i) id at = (let r = has_id es i id at in let lt = r.within in record { entry = r.entry; at = r.at; is = r.is; within = omega arith })
+
+  module _ (next : ℕ) (es : List (BucketKey × DescriptorBucket P)) (rise : rise_below next (stored_ids es) ≡ true) (id : ℕ) where
+    in_order : IsNonDecreasingBy (λ e. e.1.id) es
+    in_order i j d le lt = elim (cases_lt i j) [
+      | inl below ↦ (let less = rises next (stored_ids es) rise i j (slice_index_or es i d).1.id (slice_index_or es j d).1.id below (id_at es i d (omega arith)) (id_at es j d lt) in omega arith)
+      | inr above ↦ (let same : i ≡ j = omega arith in let is = ap (λ (k : ℕ). (slice_index_or es k d).1.id) same in omega arith)
+    ]
+
+    -- those below an id stand in front
+    pub parted : IsPartitionedBy (λ e. nat_lt e.1.id id) es
+    parted = IsPartitionedBy-ltb (λ e. e.1.id) es id in_order
+
+    -- the first that isn't below an id that is there has it
+    pub at_point : (r : ℕ) → IsPartitionPoint (λ e. nat_lt e.1.id id ≡ true) (λ e. nat_lt e.1.id id ≡ false) es r → (i : ℕ) → slice_get (stored_ids es) i ≡ Some id → slice_get (stored_ids es) r ≡ Some id
+    at_point r point i at =
+        let here = has_id es i id at in
+        let d = here.entry in
+        let lt = here.within in
+        elim (cases_lt r i) [
+          | inl below ↦ absurd (
+              let le = ltb-false (slice_index_or es r d).1.id id (point.1 r d (omega arith) (omega arith)) in
+              let less = rises next (stored_ids es) rise r i (slice_index_or es r d).1.id id below (id_at es r d (omega arith)) at in
+              omega arith)
+          | inr least ↦ elim (cases_lt i r) [
+            | inl before ↦ absurd (
+                let less = ltb-true (slice_index_or es i d).1.id id (point.0 i d (omega arith) before) in
+                let same : Some (slice_index_or es i d).1.id ≡ Some id = sym (id_at es i d lt) ∙ at in
+                let is : (slice_index_or es i d).1.id ≡ id = cc in
+                omega arith)
+            | inr above ↦ (let is : r ≡ i = omega arith in rw is at)
+          ]
+        ]
+
+-- ---- keys
+
+module _ {P : Type 0} where
+  -- the row that a key's test finds has an id above those before it
+  found_above : (n : ℕ) (test : BucketKey → Bool) (es : List (BucketKey × DescriptorBucket P)) (v : DescriptorBucket P) → list_all (nat_lt n) (stored_ids es) ≡ true → lookup test es ≡ Some v → n < v.id
+  found_above n test [] v h found = absurd (let bad : ◌≡◌ {A = Option (DescriptorBucket P)} None (Some v) = found in cc)
+  found_above n test (e ∷ es) v h found = elim (cases_Bool (test e.0)) [
+    | inl here ↦ (
+        let lt = ltb-true n e.1.id (and_parts (nat_lt n e.1.id) (list_all (nat_lt n) (stored_ids es)) h).0 in
+        let same : Some e.1 ≡ Some v = rw here at found in
+        let is : e.1 ≡ v = cc in
+        let own : e.1.id ≡ v.id = ap (λ (b : DescriptorBucket P). b.id) is in
+        omega arith)
+    | inr other ↦ found_above n test es v (and_parts (nat_lt n e.1.id) (list_all (nat_lt n) (stored_ids es)) h).1 (rw other at found)
+  ]
+
+  pub id_of : (es : List (BucketKey × DescriptorBucket P)) (i : ℕ) (e : BucketKey × DescriptorBucket P) → slice_get es i ≡ Some e → slice_get (stored_ids es) i ≡ Some e.1.id
+  id_of [] i e at = absurd (let bad : ◌≡◌ {A = Option (BucketKey × DescriptorBucket P)} None (Some e) = at in cc)
+  id_of (x ∷ es) zero e at = ap (λ (r : BucketKey × DescriptorBucket P). Some r.1.id) (inside x e at)
+  id_of (x ∷ es) (suc i) e at = id_of es i e at
+
+  -- a row's key and bucket are those that a key's test found
+  abbrev Is : BucketKey × DescriptorBucket P → Key → DescriptorBucket P → Type 0
+  Is e k w = (key_of e.0 ≡ k) × (e.1 ≡ w)
+
+  first_is : (x : BucketKey × DescriptorBucket P) (es : List (BucketKey × DescriptorBucket P)) → list_all (nat_lt x.1.id) (stored_ids es) ≡ true → (k : Key) (w : DescriptorBucket P) → lookup (λ l. key_eq k (key_of l)) (x ∷ es) ≡ Some w → x.1.id ≡ w.id → Is x k w
+  first_is x es above k w found same = elim (cases_Bool (key_eq k (key_of x.0))) [
+    | inl hit ↦ (sym (key_exact.same k (key_of x.0) hit), inside x.1 w (rw hit at found))
+    | inr other ↦ absurd (let less = found_above x.1.id (λ l. key_eq k (key_of l)) es w above (rw other at found) in omega arith)
+  ]
+
+  later_is : (x : BucketKey × DescriptorBucket P) (es : List (BucketKey × DescriptorBucket P)) → list_all (nat_lt x.1.id) (stored_ids es) ≡ true → (k : Key) (w : DescriptorBucket P) → lookup (λ l. key_eq k (key_of l)) (x ∷ es) ≡ Some w → (i n : ℕ) → slice_get (stored_ids es) i ≡ Some n → n ≡ w.id → lookup (λ l. key_eq k (key_of l)) es ≡ Some w
+  later_is x es above k w found i n at same = elim (cases_Bool (key_eq k (key_of x.0))) [
+    | inl hit ↦ absurd (
+        let own : x.1.id ≡ w.id = ap (λ (b : DescriptorBucket P). b.id) (inside x.1 w (rw hit at found)) in
+        let less = all_above x.1.id (stored_ids es) above i n at in
+        omega arith)
+    | inr other ↦ rw other at found
+  ]
+
+  -- the row of a key stands where its id does
+  pub own_key : (next : ℕ) (es : List (BucketKey × DescriptorBucket P)) → rise_below next (stored_ids es) ≡ true → (k : Key) (w : DescriptorBucket P) → lookup (λ l. key_eq k (key_of l)) es ≡ Some w → (i : ℕ) (e : BucketKey × DescriptorBucket P) → slice_get es i ≡ Some e → e.1.id ≡ w.id → Is e k w
+  own_key next [] rise k w found i e at same = absurd (let bad : ◌≡◌ {A = Option (DescriptorBucket P)} None (Some w) = found in cc)
+  own_key next (x ∷ es) rise k w found zero e at same =
+      subst (λ (r : BucketKey × DescriptorBucket P). Is r k w) (inside x e at) (first_is x es (parts next x.1.id (stored_ids es) rise).first k w found (ap (λ (r : BucketKey × DescriptorBucket P). r.1.id) (inside x e at) ∙ same))
+  own_key next (x ∷ es) rise k w found (suc i) e at same =
+      let p = parts next x.1.id (stored_ids es) rise in
+      own_key next es p.rest k w (later_is x es p.first k w found i e.1.id (id_of es i e at) same) i e at same
+
+-- ---- as the table changes
+
+module _ {P : Type 0} where
+  -- a bucket that keeps its id changes none
+  pub ids_put : (es : List (BucketKey × DescriptorBucket P)) (i : ℕ) (v w : DescriptorBucket P) → slice_get (values_of es) i ≡ Some v → w.id ≡ v.id → stored_ids (set_value_at es i w) ≡ stored_ids es
+  ids_put [] i v w at same = refl
+  ids_put (e ∷ es) zero v w at same =
+      let here : Some e.1 ≡ Some v = at in
+      let is : e.1 ≡ v = cc in
+      ap (λ (n : ℕ). n ∷ stored_ids es) (same ∙ ap (λ (b : DescriptorBucket P). b.id) (sym is))
+  ids_put (e ∷ es) (suc i) v w at same = ap (λ (ids : List ℕ). e.1.id ∷ ids) (ids_put es i v w at same)
+
+-- the next id is above all, so a key that comes last may have it
+pub one_more : (next more : ℕ) (xs : List ℕ) → more ≡ next + 1 → rise_below next xs ≡ true → rise_below more (xs ++ next ∷ []) ≡ true
+one_more next more [] is h = and_from _ _ (and_from _ _ (lt-ltb next more (omega arith)) refl) refl
+one_more next more (x ∷ xs) is h =
+    let p = parts next x xs h in
+    let below = p.below in
+    and_from _ _ (and_from _ _ (lt-ltb x more (omega arith)) (all_more x next xs p.first below)) (one_more next more xs is p.rest)
+  where
+    all_more : (n m : ℕ) (xs : List ℕ) → list_all (nat_lt n) xs ≡ true → n < m → list_all (nat_lt n) (xs ++ m ∷ []) ≡ true
+    all_more n m [] h lt = and_from _ _ (lt-ltb n m lt) refl
+    all_more n m (x ∷ xs) h lt = (let both = and_parts (nat_lt n x) (list_all (nat_lt n) xs) h in and_from _ _ both.0 (all_more n m xs both.1 lt))
+
+-- those that are left rise still
+module _ {P : Type 0} (stays : BucketKey × DescriptorBucket P → Bool) where
+  all_left : (n : ℕ) (es : List (BucketKey × DescriptorBucket P)) → list_all (nat_lt n) (stored_ids es) ≡ true → list_all (nat_lt n) (stored_ids (filter stays es)) ≡ true
+  all_left n [] h = refl
+  all_left n (e ∷ es) h =
+      let both = and_parts (nat_lt n e.1.id) (list_all (nat_lt n) (stored_ids es)) h in
+      elim (cases_Bool (stays e)) [
+        | inl at ↦ rw at (and_from _ _ both.0 (all_left n es both.1))
+        | inr other ↦ rw other (all_left n es both.1)
+      ]
+
+  pub rise_left : (next : ℕ) (es : List (BucketKey × DescriptorBucket P)) → rise_below next (stored_ids es) ≡ true → rise_below next (stored_ids (filter stays es)) ≡ true
+  rise_left next [] h = refl
+  rise_left next (e ∷ es) h =
+      let p = parts next e.1.id (stored_ids es) h in
+      let rest = rise_left next es p.rest in
+      elim (cases_Bool (stays e)) [
+        | inl at ↦ rw at (and_from _ _ (and_from _ _ (lt-ltb e.1.id next p.below) (all_left e.1.id es p.first)) rest)
+        | inr other ↦ rw other rest
+      ]
