@@ -66,11 +66,11 @@ fn counts_of(mut layouts: Layouts<'_, Layout>) -> DescriptorTotalCount
 /// Puts so many sets.
 fn fill<K: SetSink<u64>>(first: u64, many: u32, sink: &mut K)
     requires names { first + many < 2 ^ 64 }
-    requires room { many ≤ K.room_left sink.old }
-    ensures kept { K.kept sink.new ≡ K.kept sink.old
-        ++ map (K.kept_as sink.old) (range_with_len first many) }
-    ensures alike { K.kept_as sink.new ≡ K.kept_as sink.old }
-    ensures room { K.room_left sink.new + many ≡ K.room_left sink.old }
+    requires room { many ≤ K.sink.room_left sink.old }
+    ensures kept { K.sink.kept sink.new ≡ K.sink.kept sink.old
+        ++ map (K.sink.kept_as sink.old) (range_with_len first many) }
+    ensures alike { K.sink.kept_as sink.new ≡ K.sink.kept_as sink.old }
+    ensures room { K.sink.room_left sink.new + many ≡ K.sink.room_left sink.old }
 {
     for name in first..first + u64::from(many) {
         sink.put(name);
@@ -142,21 +142,13 @@ impl DescriptorDevice<Layout, u64, u64> for CountingDevice {
     ) -> Result<(), DeviceAllocationError>
         requires fits { HasRoom pool.old (left layouts) (counts_in (layout layouts))
             (mark_of (layout layouts)) (ledger_of self.old) }
-        requires room { left layouts ≤ K.room_left sets.old }
+        requires room { left layouts ≤ K.sink.room_left sets.old }
         ensures name { pool.new ≡ pool.old }
-        ensures ok { OnOk result (Puts (record {
-          kept = K.kept;
-          kept_as = K.kept_as;
-          room_left =
-              K.room_left;
-        }) name_of pool.old (left layouts.entry) (counts_in (layout layouts.entry))
-            sets.old sets.new (ledger_of self.old) (ledger_of self.new)) }
-        ensures err { IfErr result (λ e. PutsNone (record {
-          kept = K.kept;
-          kept_as = K.kept_as;
-          room_left = K.room_left;
-        }) pool.old e sets.old sets.new (ledger_of self.old)
+        ensures ok { OnOk result (Puts K.sink name_of pool.old (left layouts.entry)
+            (counts_in (layout layouts.entry)) sets.old sets.new (ledger_of self.old)
             (ledger_of self.new)) }
+        ensures err { IfErr result (λ e. PutsNone K.sink pool.old e sets.old sets.new
+            (ledger_of self.old) (ledger_of self.new)) }
     {
         let many = layouts.len();
         let counts = counts_of(layouts);

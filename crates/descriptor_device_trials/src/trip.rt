@@ -35,11 +35,11 @@ impl<S> Room<S> {
 impl<S> SetSink<S> for Room<S> {
     type Kept = S;
 
-    ghost kept = { λ r. r.sets.items };
-
-    ghost kept_as = { λ r s. s };
-
-    ghost room_left = { λ r. r.left };
+    ghost sink = { record {
+      kept = λ r. r.sets.items;
+      kept_as = λ r s. s;
+      room_left = λ r. r.left;
+    } };
 
     fn room(&self) -> usize {
         self.left

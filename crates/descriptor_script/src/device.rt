@@ -175,22 +175,13 @@ impl DescriptorDevice<ScriptLayout, RawPool, RawSet> for ScriptedDevice {
     ) -> Result<(), DeviceAllocationError>
         requires fits { HasRoom (pool_id pool.old) (left layouts) (kinds (layout layouts).counts)
             (layout layouts).mark (ledger_of self.old) }
-        requires room { left layouts ≤ K.room_left sets.old }
+        requires room { left layouts ≤ K.sink.room_left sets.old }
         ensures name { pool_id pool.new ≡ pool_id pool.old }
-        ensures ok { OnOk result (Puts (record {
-          kept = K.kept;
-          kept_as = K.kept_as;
-          room_left =
-              K.room_left;
-        }) set_id (pool_id pool.old) (left layouts.entry)
+        ensures ok { OnOk result (Puts K.sink set_id (pool_id pool.old) (left layouts.entry)
             (kinds (layout layouts.entry).counts) sets.old sets.new (ledger_of self.old)
             (ledger_of self.new)) }
-        ensures err { IfErr result (λ e. PutsNone (record {
-          kept = K.kept;
-          kept_as = K.kept_as;
-          room_left = K.room_left;
-        }) (pool_id pool.old) e sets.old sets.new (ledger_of self.old)
-            (ledger_of self.new)) }
+        ensures err { IfErr result (λ e. PutsNone K.sink (pool_id pool.old) e sets.old sets.new
+            (ledger_of self.old) (ledger_of self.new)) }
 
         // One word is read, and decides.
         ensures rest { script_of self.new ≡ rest_words (script_of self.old) }
@@ -198,9 +189,9 @@ impl DescriptorDevice<ScriptLayout, RawPool, RawSet> for ScriptedDevice {
         ensures refused { IfErr result (λ e. e ≡ alloc_error (next_word (script_of self.old))) }
 
         // The sets have the next names, and name their pool.
-        ensures sets { OnOk result (K.kept sets.new ≡ K.kept sets.old
-            ++ map (K.kept_as sets.old) (raw_sets (pool_id pool.old) (names_given self.old).sets
-            (left layouts.entry))) }
+        ensures sets { OnOk result (K.sink.kept sets.new ≡ K.sink.kept sets.old
+            ++ map (K.sink.kept_as sets.old)
+            (raw_sets (pool_id pool.old) (names_given self.old).sets (left layouts.entry))) }
         ensures in_range { OnOk result ((names_given self.old).sets + left layouts.entry < 2 ^ 64) }
         ensures named { OnOk result (names_given self.new ≡ record (names_given self.old)
             { sets = (names_given self.old).sets + left layouts.entry }) }

@@ -39,14 +39,14 @@ pub fn fill<K: SetSink<RawSet>>(
     requires space { left layouts ≤ spare live.old }
     requires names { first + left layouts < 2 ^ 64 }
     requires fresh { (n : ℕ) → first ≤ n → get nat_eq live.old n ≡ None }
-    requires room { left layouts ≤ K.room_left sink.old }
+    requires room { left layouts ≤ K.sink.room_left sink.old }
     ensures live { live.new.entries ≡ live.old.entries
         ++ entries_named (layout layouts.entry).counts (range_with_len first (left layouts.entry)) }
     ensures fresh { (n : ℕ) → first + left layouts.entry ≤ n → get nat_eq live.new n ≡ None }
-    ensures sets { K.kept sink.new ≡ K.kept sink.old
-        ++ map (K.kept_as sink.old) (raw_sets pool first (left layouts.entry)) }
-    ensures alike { K.kept_as sink.new ≡ K.kept_as sink.old }
-    ensures room { K.room_left sink.new + left layouts.entry ≡ K.room_left sink.old }
+    ensures sets { K.sink.kept sink.new ≡ K.sink.kept sink.old
+        ++ map (K.sink.kept_as sink.old) (raw_sets pool first (left layouts.entry)) }
+    ensures alike { K.sink.kept_as sink.new ≡ K.sink.kept_as sink.old }
+    ensures room { K.sink.room_left sink.new + left layouts.entry ≡ K.sink.room_left sink.old }
 {
     let mut name = first;
     for layout in layouts {

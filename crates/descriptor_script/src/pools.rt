@@ -138,18 +138,13 @@ impl Pools {
         sink: &mut K,
     ) -> Result<(), Wanting>
         requires live { IsSome (pools_of self.old pool) }
-        requires room { left layouts ≤ K.room_left sink.old }
-        ensures ok { OnOk result (Grants (record {
-          kept = K.kept;
-          kept_as = K.kept_as;
-          room_left =
-              K.room_left;
-        }) pool (left layouts.entry) (kinds (layout layouts.entry).counts) sink.old
-            sink.new self.old self.new) }
+        requires room { left layouts ≤ K.sink.room_left sink.old }
+        ensures ok { OnOk result (Grants K.sink pool (left layouts.entry)
+            (kinds (layout layouts.entry).counts) sink.old sink.new self.old self.new) }
         ensures in_range { OnOk result ((next_names self.old).sets + left layouts.entry < 2 ^ 64) }
         ensures err { OnErr result (IsSame self.old self.new) }
         ensures err_sink { OnErr result (IsSameSink
-            (record { kept = K.kept; kept_as = K.kept_as; room_left = K.room_left }) sink.old
+            K.sink sink.old
             sink.new) }
     {
         let first = self.next_set;

@@ -151,20 +151,12 @@ impl<W: Write> DescriptorDevice<ScriptLayout, RawPool, RawSet> for Traced<W> {
     ) -> Result<(), DeviceAllocationError>
         requires fits { HasRoom (pool_id pool.old) (left layouts) (kinds (layout layouts).counts)
             (layout layouts).mark (traced_ledger self.old) }
-        requires room { left layouts ≤ K.room_left sets.old }
+        requires room { left layouts ≤ K.sink.room_left sets.old }
         ensures name { pool_id pool.new ≡ pool_id pool.old }
-        ensures ok { OnOk result (Puts (record {
-          kept = K.kept;
-          kept_as = K.kept_as;
-          room_left = K.room_left;
-        }) set_id (pool_id pool.old) (left layouts.entry)
+        ensures ok { OnOk result (Puts K.sink set_id (pool_id pool.old) (left layouts.entry)
             (kinds (layout layouts.entry).counts) sets.old sets.new (traced_ledger self.old)
             (traced_ledger self.new)) }
-        ensures err { IfErr result (λ e. PutsNone (record {
-          kept = K.kept;
-          kept_as = K.kept_as;
-          room_left = K.room_left;
-        }) (pool_id pool.old) e sets.old sets.new
+        ensures err { IfErr result (λ e. PutsNone K.sink (pool_id pool.old) e sets.old sets.new
             (traced_ledger self.old) (traced_ledger self.new)) }
         ensures rest { traced_script self.new ≡ rest_words (traced_script self.old) }
         ensures granted { OnOk result (next_word (traced_script self.old) ≡ Answer.Ok) }

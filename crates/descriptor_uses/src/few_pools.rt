@@ -95,14 +95,14 @@ impl<const MOST: u32> DescriptorDevice<ScriptLayout, RawPool, RawSet> for FewPoo
     ) -> Result<(), DeviceAllocationError>
         requires fits { HasRoom (pool_id pool.old) (left layouts) (kinds (layout layouts).counts)
             (layout layouts).mark (few_ledger self.old) }
-        requires room { left layouts ≤ K.room_left sets.old }
+        requires room { left layouts ≤ K.sink.room_left sets.old }
         ensures name { pool_id pool.new ≡ pool_id pool.old }
         ensures ok { OnOk result (Puts
-            (record { kept = K.kept; kept_as = K.kept_as; room_left = K.room_left }) set_id
+            K.sink set_id
             (pool_id pool.old) (left layouts.entry) (kinds (layout layouts.entry).counts)
             sets.old sets.new (few_ledger self.old) (few_ledger self.new)) }
         ensures err { IfErr result (λ e. PutsNone
-            (record { kept = K.kept; kept_as = K.kept_as; room_left = K.room_left })
+            K.sink
             (pool_id pool.old) e sets.old sets.new (few_ledger self.old) (few_ledger self.new)) }
     {
         self.device.alloc_descriptor_sets(pool, layouts, sets)

@@ -186,21 +186,12 @@ impl DescriptorDevice<ScriptLayout, RawPool, RawSet> for LogDevice {
     ) -> Result<(), DeviceAllocationError>
         requires fits { HasRoom (pool_id pool.old) (left layouts) (kinds (layout layouts).counts)
             (layout layouts).mark (ledger_logged self.old) }
-        requires room { left layouts ≤ K.room_left sets.old }
+        requires room { left layouts ≤ K.sink.room_left sets.old }
         ensures name { pool_id pool.new ≡ pool_id pool.old }
-        ensures ok { OnOk result (Puts (record {
-          kept = K.kept;
-          kept_as = K.kept_as;
-          room_left =
-              K.room_left;
-        }) set_id (pool_id pool.old) (left layouts.entry)
+        ensures ok { OnOk result (Puts K.sink set_id (pool_id pool.old) (left layouts.entry)
             (kinds (layout layouts.entry).counts) sets.old sets.new (ledger_logged self.old)
             (ledger_logged self.new)) }
-        ensures err { IfErr result (λ e. PutsNone (record {
-          kept = K.kept;
-          kept_as = K.kept_as;
-          room_left = K.room_left;
-        }) (pool_id pool.old) e sets.old sets.new
+        ensures err { IfErr result (λ e. PutsNone K.sink (pool_id pool.old) e sets.old sets.new
             (ledger_logged self.old) (ledger_logged self.new)) }
 
         // One word is read, and decides.

@@ -104,21 +104,13 @@ impl DescriptorDevice<DescriptorTotalCount, u64, u64> for OnePool {
     ) -> Result<(), DeviceAllocationError>
         requires fits { HasRoom pool.old (left layouts) (kinds (layout layouts)) false
             (owed_of self.old) }
-        requires room { left layouts ≤ K.room_left sets.old }
+        requires room { left layouts ≤ K.sink.room_left sets.old }
         ensures name { pool.new ≡ pool.old }
-        ensures ok { OnOk result (Puts (record {
-          kept = K.kept;
-          kept_as = K.kept_as;
-          room_left =
-              K.room_left;
-        }) (λ set. set) pool.old (left layouts.entry) (kinds (layout layouts.entry))
-            sets.old sets.new (owed_of self.old) (owed_of self.new)) }
-        ensures err { IfErr result (λ e. PutsNone (record {
-          kept = K.kept;
-          kept_as = K.kept_as;
-          room_left = K.room_left;
-        }) pool.old e sets.old sets.new (owed_of self.old)
+        ensures ok { OnOk result (Puts K.sink (λ set. set) pool.old (left layouts.entry)
+            (kinds (layout layouts.entry)) sets.old sets.new (owed_of self.old)
             (owed_of self.new)) }
+        ensures err { IfErr result (λ e. PutsNone K.sink pool.old e sets.old sets.new
+            (owed_of self.old) (owed_of self.new)) }
     {
         self.asked = Tally::next(&self.asked);
         self.refused = Tally::next(&self.refused);

@@ -87,7 +87,8 @@ pub fn books_alone()
 {}
 
 /// That books and ledger agree has one proof at most, so a struct that owns an allocator and its
-/// device can keep it as a ghost field, with `Agree-prop` of `proofs.callers.OneAgreement` after `by`.
+/// device can keep it as a ghost field, with `Agree-prop` of `proofs.callers.OneAgreement` after
+/// `by`.
 /// Every list that spells a pool's live sets, as `finite` of the device gives one, has as many sets
 /// as the books say.
 pub fn agreement_is_one()

@@ -62,19 +62,13 @@ pub trait DescriptorDevice<L, P, S> {
     ) -> Result<(), DeviceAllocationError>
         requires fits { HasRoom (pool_name pool.old) (left layouts) (layout_counts (layout layouts))
             (layout_mark (layout layouts)) (ledger self.old) }
-        requires room { left layouts ≤ K.room_left sets.old }
+        requires room { left layouts ≤ K.sink.room_left sets.old }
         ensures name { pool_name pool.new ≡ pool_name pool.old }
-        ensures ok { OnOk result (Puts (record {
-          kept = K.kept;
-          kept_as = K.kept_as;
-          room_left =
-              K.room_left;
-        }) set_name (pool_name pool.old) (left layouts.entry)
+        ensures ok { OnOk result (Puts K.sink set_name (pool_name pool.old) (left layouts.entry)
             (layout_counts (layout layouts.entry)) sets.old sets.new (ledger self.old)
             (ledger self.new)) }
-        ensures err { IfErr result (λ e. PutsNone
-            (record { kept = K.kept; kept_as = K.kept_as; room_left = K.room_left })
-            (pool_name pool.old) e sets.old sets.new (ledger self.old) (ledger self.new)) };
+        ensures err { IfErr result (λ e. PutsNone K.sink (pool_name pool.old) e sets.old sets.new
+            (ledger self.old) (ledger self.new)) };
 
     /// Releases the sets that the iterator gives, up to its end. It can't be refused.
     fn dealloc_descriptor_sets<I: Iterator<Item = S>>(&mut self, pool: &mut P, sets: &mut I)

@@ -1,5 +1,6 @@
 //! Where a device puts the sets that it allocates.
-ghost use Rattle.std.specs.Prelude.{◌≡◌, ℕ, ◌+◌, ◌<◌, List, [], ◌∷◌, ◌++◌};
+ghost use Rattle.std.specs.Prelude.{◌≡◌, ◌+◌, ◌<◌, [], ◌∷◌, ◌++◌};
+ghost use Rattle.gpu_descriptor_types.specs.Ledger.{Sink};
 
 /// Takes sets, as long as it has room.
 ///
@@ -10,23 +11,18 @@ pub trait SetSink<S> {
     /// What a sink keeps of a set.
     type Kept;
 
-    /// What is kept of the sets that were put, in order.
-    ghost kept: { Self → List Self.Kept };
-
-    /// What would be kept of a set.
-    ghost kept_as: { Self → S → Self.Kept };
-
-    /// How many more fit.
-    ghost room_left: { Self → ℕ };
+    /// What it shows: what is kept of the sets that were put, in order, what would be kept of a
+    /// set, and how many more fit.
+    ghost sink: { Sink Self S Self.Kept };
 
     /// How many more sets fit.
     fn room(&self) -> usize
-        ensures { result ≡ room_left self.now };
+        ensures { result ≡ sink.room_left self.now };
 
     /// Puts a set behind the others.
     fn put(&mut self, set: S)
-        requires { 0 < room_left self.old }
-        ensures kept { kept self.new ≡ kept self.old ++ kept_as self.old set ∷ [] }
-        ensures alike { kept_as self.new ≡ kept_as self.old }
-        ensures room { room_left self.new + 1 ≡ room_left self.old };
+        requires { 0 < sink.room_left self.old }
+        ensures kept { sink.kept self.new ≡ sink.kept self.old ++ sink.kept_as self.old set ∷ [] }
+        ensures alike { sink.kept_as self.new ≡ sink.kept_as self.old }
+        ensures room { sink.room_left self.new + 1 ≡ sink.room_left self.old };
 }

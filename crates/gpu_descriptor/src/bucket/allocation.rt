@@ -72,12 +72,11 @@ impl<S> SetSink<S> for Allocation<'_, S> {
 
     type Kept = DescriptorSet<S>;
 
-    ghost kept = { λ sink. sink.sets.items };
-
-    ghost kept_as = { λ sink raw. set_at (key_of sink.key.now) sink.id
-        sink.number raw };
-
-    ghost room_left = { λ sink. sink.left };
+    ghost sink = { record {
+      kept = λ sink. sink.sets.items;
+      kept_as = λ sink raw. set_at (key_of sink.key.now) sink.id sink.number raw;
+      room_left = λ sink. sink.left;
+    } };
 
     fn room(&self) -> usize {
         self.left

@@ -37,7 +37,8 @@ impl<P> DescriptorBucket<P> {
         requires ends { IsFinite (I.remaining sets.old) }
         requires stored { AreBookedIn first.key.is (D.ledger device.old).pools
             (bucket_of D.pool_name self.old).pools }
-        requires taken { HoldsAlong I.next_gives sets.old (λ xs. AllPass (at_place first.id first.number) xs
+        requires taken { HoldsAlong I.next_gives sets.old (λ xs.
+            AllPass (at_place first.id first.number) xs
             → IsTakenAt first.key.is first.number (names_of D.set_name (first ∷ xs))
             (bucket_of D.pool_name self.old) (D.ledger device.old).pools) }
         requires room { room.old + stored_load (key_of key.now) self.old.pools.items < 2 ^ 32 }

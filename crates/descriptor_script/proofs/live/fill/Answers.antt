@@ -28,7 +28,7 @@ loop-layout-preserved g c =
       live = grown _ _ _ _ (n, c.in-Some.layout.now.counts) _ _ _ n pushed i.live at (ap (λ (d : DescriptorTotalCount). (n, d)) layout_is) more;
       space = (let s = i.space in let u = c.insert.ensures.spare in omega arith);
       fresh = λ m above. changes m ∙ none_above n m _ _ above (i.fresh m (omega arith));
-      sets = kept_grown (g.K.SetSink.kept_as c.args.sink.now) _ _ _ _ c.args.pool c.args.first _ _ n c.put.ensures.kept i.sets at (ap (λ f. f (raw_set c.args.pool n)) i.alike) more;
+      sets = kept_grown (g.K.SetSink.sink.kept_as c.args.sink.now) _ _ _ _ c.args.pool c.args.first _ _ n c.put.ensures.kept i.sets at (ap (λ f. f (raw_set c.args.pool n)) i.alike) more;
       alike = c.put.ensures.alike ∙ i.alike;
       room = (let r = i.room in let p = c.put.ensures.room in omega arith);
     }

@@ -15,7 +15,7 @@ invariant-loop-layout g l = record {
   live : l.live.entries ≡ l.fn.live.entries ++ entries_named (layout l.fn.layouts).counts (range_with_len l.fn.first (length l.yielded));
   space : left l.layout-iterator ≤ spare l.live;
   fresh : (n : ℕ) → l.name ≤ n → get nat_eq l.live n ≡ None;
-  sets : g.K.SetSink.kept l.sink ≡ g.K.SetSink.kept l.fn.sink ++ map (g.K.SetSink.kept_as l.fn.sink) (raw_sets l.fn.pool l.fn.first (length l.yielded));
-  alike : g.K.SetSink.kept_as l.sink ≡ g.K.SetSink.kept_as l.fn.sink;
-  room : g.K.SetSink.room_left l.sink + length l.yielded ≡ g.K.SetSink.room_left l.fn.sink;
+  sets : g.K.SetSink.sink.kept l.sink ≡ g.K.SetSink.sink.kept l.fn.sink ++ map (g.K.SetSink.sink.kept_as l.fn.sink) (raw_sets l.fn.pool l.fn.first (length l.yielded));
+  alike : g.K.SetSink.sink.kept_as l.sink ≡ g.K.SetSink.sink.kept_as l.fn.sink;
+  room : g.K.SetSink.sink.room_left l.sink + length l.yielded ≡ g.K.SetSink.sink.room_left l.fn.sink;
 }

@@ -24,7 +24,7 @@ returns-clause-ok g c =
     record {
       sets = names;
       many = length-map-range_with_len (λ n. n) first many ∙ c.len-many.ensures;
-      kept = c.fill.ensures.kept ∙ ap (λ l. g.K.SetSink.kept c.args.sets.now ++ map (g.K.SetSink.kept_as c.args.sets.now) l) (sym (map-id (range_with_len first many)));
+      kept = c.fill.ensures.kept ∙ ap (λ l. g.K.SetSink.sink.kept c.args.sets.now ++ map (g.K.SetSink.sink.kept_as c.args.sets.now) l) (sym (map-id (range_with_len first many)));
       alike = c.fill.ensures.alike;
       room = (let r = c.fill.ensures.room in let l = c.len-many.ensures in omega arith);
       ledger = ap ledger_in c.note.ensures ∙ same_ledger _ _ (change_row old.rows c.args.pool.now (λ (r : OwedPool). record r { live = r.live ++ more }) (λ pool. record pool { live = λ x. pool.live x + times (live_sets (counts_in (layout c.args.layouts)) (map (λ n. n) names)) x }) (λ r at. ap (λ l. record (pool_owed r) { live = l }) (fun_ext (λ x. times-append r.live more x ∙ ap (λ s. times r.live x + times s x) same)))) refl;

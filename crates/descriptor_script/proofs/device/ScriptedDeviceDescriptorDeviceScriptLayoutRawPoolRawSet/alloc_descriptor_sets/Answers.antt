@@ -12,14 +12,14 @@ use Rattle.descriptor_script.proofs.device.ScriptedDeviceDescriptorDeviceScriptL
 
 pub returns-in-Ok-clause-ok : goal.returns-in-Ok-clause-ok
 returns-in-Ok-clause-ok g c =
-    let shown : Sink g.row.K.Denot RawSet g.row.K-Kept.Denot = record { kept = g.K.SetSink.kept; kept_as = g.K.SetSink.kept_as; room_left = g.K.SetSink.room_left } in
+    let shown : Sink g.row.K.Denot RawSet g.row.K-Kept.Denot = g.K.SetSink.sink in
     let old : ScriptedDevice = c.args.self.now in
     let new : ScriptedDevice = record { script = c.read-word.new.self; pools = c.grant.new.self; counters = record old.counters { asked = c.rise.new.self } } in
     puts shown c.args.sets.now c.grant.new.sink old new c.args.pool.now.id (left c.args.layouts) (kinds (layout c.args.layouts).counts) c.in-Ok.ensures.ok (ap (λ n. record (counters_of old.counters) { asked = n }) c.rise.ensures)
 
 pub returns-clause-err : goal.returns-clause-err
 returns-clause-err g c =
-    let shown : Sink g.row.K.Denot RawSet g.row.K-Kept.Denot = record { kept = g.K.SetSink.kept; kept_as = g.K.SetSink.kept_as; room_left = g.K.SetSink.room_left } in
+    let shown : Sink g.row.K.Denot RawSet g.row.K-Kept.Denot = g.K.SetSink.sink in
     let old : ScriptedDevice = c.args.self.now in
     let new : ScriptedDevice = record { script = c.if-eq.self.script; pools = c.refuse.new.self; counters = c.refuse_alloc.new.self } in
     let untouched : IsUntouched shown c.args.sets.now c.if-eq.sets old c.if-eq.self = elim c.if-eq.branch [
