@@ -30,7 +30,7 @@ use Rattle.gpu_descriptor.proofs.table.Exact.{key_exact}
 use Rattle.gpu_descriptor.proofs.release.Fronts.{whole_front, whole_trimmed, entry_at-from}
 use Rattle.gpu_descriptor.proofs.release.ReleaseAgrees.{front_found}
 use Rattle.gpu_descriptor.proofs.foreign.LedgerPools.{destroyed_both, destroyed_none}
-use Rattle.gpu_descriptor.proofs.sums.Loads.{marked_load-none}
+use Rattle.gpu_descriptor.proofs.sums.Loads.{marked_load-none, sum_put}
 use Rattle.gpu_descriptor.proofs.table.RowAt.{keys_at}
 use Rattle.gpu_descriptor.proofs.table.TableBooks.{rows_in, rows_are, keys_are}
 use Rattle.gpu_descriptor.proofs.table.Tables.{key_eq_symm, absent}
@@ -295,23 +295,6 @@ module _ {P : Type 0} (name : P → ℕ) where
       ap (λ (m : Ledger). m.counters) all ∙ ap (λ (m : ℕ). more_destroyed m l.counters) (sym sum)
 
 -- ---- the running totals stay
-
--- a sum over all rows, once the value at a place is another
-pub sum_put : {A B : Type 0} (f : A × B → ℕ) (es : List (A × B)) (i : ℕ) (k : A) (v w : B) → slice_get es i ≡ Some (k, v) → (f (k, v) ≤ sum_by f es) × (sum_by f (set_value_at es i w) + f (k, v) ≡ sum_by f es + f (k, w))
-sum_put {A} {B} f [] i k v w at = absurd (let bad : ◌≡◌ {A = Option (A × B)} None (Some (k, v)) = at in cc)
-sum_put {A} {B} f (e ∷ es) zero k v w at =
-    let same : Some e ≡ Some (k, v) = at in
-    let eq : e ≡ (k, v) = cc in
-    let old = sum_by-cons f e es ∙ ap (λ x. f x + sum_by f es) eq in
-    let new = sum_by-cons f (e.0, w) es ∙ ap (λ (x : A × B). f (x.0, w) + sum_by f es) eq in
-    (omega arith, omega arith)
-sum_put {A} {B} f (e ∷ es) (suc i) k v w at =
-    let rest = sum_put f es i k v w at in
-    let less = rest.0 in
-    let more = rest.1 in
-    let old = sum_by-cons f e es in
-    let new = sum_by-cons f e (set_value_at es i w) in
-    (omega arith, omega arith)
 
 -- a sum over those that count
 sum_filter : {A : Type 0} (f : A → ℕ) (p : A → Bool) → ((x : A) → p x ≡ false → f x ≡ 0) → (xs : List A) → sum_by f (filter p xs) ≡ sum_by f xs

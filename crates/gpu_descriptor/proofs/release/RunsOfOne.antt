@@ -17,7 +17,7 @@ use Rattle.gpu_descriptor.proofs.release.Places.{back, back_named, lies_in-at}
 abbrev pub IsRun : Key → ℕ → List Item → Type 0
 IsRun k i m = (t : Item) → 0 < count_of t m → (t.key ≡ k) × (t.number ≡ i)
 
-count_all : {A : Type 0} (xs : List A) → count_by (λ _. true) xs ≡ length xs
+pub count_all : {A : Type 0} (xs : List A) → count_by (λ _. true) xs ≡ length xs
 count_all [] = refl
 count_all (x ∷ xs) = count_by_yes (λ _. true) x xs refl ∙ ap suc (count_all xs)
 

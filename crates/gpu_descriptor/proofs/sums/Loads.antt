@@ -1,9 +1,10 @@
 -- The running totals of a table, and what a run takes from them.
-use Rattle.std.proofs.Common.{◌≡◌, ℕ, ◌+◌, ◌-◌, ◌≤◌, Bool, true, List, [], ◌∷◌, ◌++◌, length, map, sum_by, Option, Some, None, inl, inr, refl, sym, ap, subst, ◌∙◌, arith}
+use Rattle.std.proofs.Common.{◌≡◌, ℕ, ◌+◌, ◌-◌, ◌≤◌, Bool, true, List, [], ◌∷◌, ◌++◌, length, map, sum_by, Option, Some, None, inl, inr, refl, sym, ap, subst, ◌∙◌, arith, zero, suc, slice_get}
 use Rattle.std.specs.List.{IsDistinct}
 use Rattle.std.specs.Map.{lookup, set_value}
 use Rattle.std.proofs.lemmas.Bool.{cases_Bool}
 use Rattle.std.proofs.lemmas.List.Sums.{sum_by-cons, sum_by-append}
+use Rattle.indexmap.specs.Layout.{set_value_at}
 use Rattle.gpu_descriptor.specs.declared.set.BucketKey.{BucketKey}
 use Rattle.gpu_descriptor.specs.declared.set.DescriptorSet.{DescriptorSet}
 use Rattle.gpu_descriptor.specs.declared.bucket.DescriptorBucket.{DescriptorBucket}
@@ -45,26 +46,38 @@ pub record IsWritten {P : Type 0} (k : Key) (es fs : List (BucketKey × Descript
   pub row : IsRow k es v
   pub wrote : fs ≡ set_value row.test es w
 
+-- a sum over all rows, once the value at a place is another
+pub sum_put : {A B : Type 0} (f : A × B → ℕ) (es : List (A × B)) (i : ℕ) (k : A) (v w : B) → slice_get es i ≡ Some (k, v) → (f (k, v) ≤ sum_by f es) × (sum_by f (set_value_at es i w) + f (k, v) ≡ sum_by f es + f (k, w))
+sum_put {A} {B} f [] i k v w at = absurd (let bad : ◌≡◌ {A = Option (A × B)} None (Some (k, v)) = at in cc)
+sum_put {A} {B} f (e ∷ es) zero k v w at =
+    let same : Some e ≡ Some (k, v) = at in
+    let eq : e ≡ (k, v) = cc in
+    let old = sum_by-cons f e es ∙ ap (λ x. f x + sum_by f es) eq in
+    let new = sum_by-cons f (e.0, w) es ∙ ap (λ (x : A × B). f (x.0, w) + sum_by f es) eq in
+    (omega arith, omega arith)
+sum_put {A} {B} f (e ∷ es) (suc i) k v w at =
+    let rest = sum_put f es i k v w at in
+    let less = rest.0 in
+    let more = rest.1 in
+    let old = sum_by-cons f e es in
+    let new = sum_by-cons f e (set_value_at es i w) in
+    (omega arith, omega arith)
+
 module _ {P : Type 0} where
+  -- what a look-up finds stands at a place, and a write through the map is one there
+  found_place : (test : BucketKey → Bool) (es : List (BucketKey × DescriptorBucket P)) (v : DescriptorBucket P) → lookup test es ≡ Some v → (i : ℕ) × (k : BucketKey) × (test k ≡ true) × (slice_get es i ≡ Some (k, v)) × ((w : DescriptorBucket P) → set_value test es w ≡ set_value_at es i w)
+  found_place test [] v found = absurd (let bad : ◌≡◌ {A = Option (DescriptorBucket P)} None (Some v) = found in cc)
+  found_place test (e ∷ es) v found = elim (cases_Bool (test e.0)) [
+    | inl at ↦ (let is : Some e.1 ≡ Some v = rw at at found in let same : e.1 ≡ v = cc in (0, e.0, at, ap (λ (b : DescriptorBucket P). Some (e.0, b)) same, λ w. rw at refl))
+    | inr at ↦ (let rest = found_place test es v (rw at at found) in (suc rest.0, rest.1, rest.2, rest.3, λ w. rw at (ap (λ (l : List (BucketKey × DescriptorBucket P)). e ∷ l) (rest.4 w))))
+  ]
+
   -- a write through the map, in a sum over its entries
   pub sum_set : (f : BucketKey × DescriptorBucket P → ℕ) (test : BucketKey → Bool) (es : List (BucketKey × DescriptorBucket P)) (v w : DescriptorBucket P) → lookup test es ≡ Some v → (k : BucketKey) × (test k ≡ true) × (f (k, v) ≤ sum_by f es) × (sum_by f (set_value test es w) + f (k, v) ≡ sum_by f es + f (k, w))
-  sum_set f test [] v w found = absurd (let bad : ◌≡◌ {A = Option (DescriptorBucket P)} None (Some v) = found in cc)
-  sum_set f test (e ∷ es) v w found = elim (cases_Bool (test e.0)) [
-    | inl at ↦ (
-        let is : Some e.1 ≡ Some v = rw at at found in
-        let same : e.1 ≡ v = cc in
-        let own : f e ≡ f (e.0, v) = ap (λ (b : DescriptorBucket P). f (e.0, b)) same in
-        let old = sum_by-cons f e es in
-        let new = sum_by-cons f (e.0, w) es in
-        (e.0, at, (let le : f (e.0, v) ≤ sum_by f (e ∷ es) = omega arith in le), rw at (omega arith)))
-    | inr at ↦ (
-        let rest = sum_set f test es v w (rw at at found) in
-        let below = rest.2 in
-        let moved = rest.3 in
-        let old = sum_by-cons f e es in
-        let new = sum_by-cons f e (set_value test es w) in
-        (rest.0, rest.1, (let le : f (rest.0, v) ≤ sum_by f (e ∷ es) = omega arith in le), rw at (omega arith)))
-  ]
+  sum_set f test es v w found =
+      let place = found_place test es v found in
+      let put = sum_put f es place.0 place.1 v w place.3 in
+      (place.1, place.2, put.0, ap (λ l. sum_by f l + f (place.1, v)) (place.4 w) ∙ put.1)
 
   -- ---- the totals that the code keeps are those that callers see
 

@@ -22,6 +22,7 @@ use Rattle.gpu_descriptor.proofs.request.StateAgrees.{booked_of}
 use Rattle.gpu_descriptor.proofs.request.StepsAgree.{live_of, live_below, live_from, count_append}
 use Rattle.gpu_descriptor.proofs.request.Rollback.{load_of_items}
 use Rattle.gpu_descriptor.proofs.table.Tables.{first_books, none_behind}
+use Rattle.gpu_descriptor.proofs.release.RunsOfOne.{count_all}
 use Rattle.std.proofs.Math.Logic.{∥∥₁_elim, ∥∥₁_map, ∥∥₁_prop}
 use Rattle.std.proofs.Props.{props}
 
@@ -169,13 +170,9 @@ all_out s f n agree out = table_out s.ledger out.table out.distinct (λ k i e at
 pub out_is_size : OutIsSize
 out_is_size s n agree out = ∥∥₁_map (all_out s sets_out n agree out) (λ all. (all.0, all.1 ∙ out.total, λ t. all.2 t ∙ ap (λ (b : Bucket). out_at s.ledger b t) (out.keeps t.key)))
 
-every : (items : List Item) → count_by (λ t. true) items ≡ length items
-every [] = refl
-every (t ∷ items) = count_by_yes (λ u. true) t items refl ∙ ap suc (every items)
-
 pub out_is_length : OutIsLength
 out_is_length s n agree out items alike = ∥∥₁_elim (out_is_size s n agree out) (search props) (λ all.
-    sym (every items) ∙ counts_alike item_exact items all.0 (λ t. alike t ∙ sym (all.2 t)) (λ u. true) ∙ every all.0 ∙ all.1)
+    sym (count_all items) ∙ counts_alike item_exact items all.0 (λ t. alike t ∙ sym (all.2 t)) (λ u. true) ∙ count_all all.0 ∙ all.1)
 
 -- ---- sums over a list hang only on how often each item stands in it
 

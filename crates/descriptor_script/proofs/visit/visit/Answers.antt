@@ -1,4 +1,5 @@
 use Rattle.std.proofs.Common.{◌≡◌, ℕ, [], Result, Ok, Err, IfOk, sym, ap, ◌∙◌}
+use Rattle.std.proofs.lemmas.Result.{IfOk-weaker}
 use Rattle.gpu_descriptor_types.specs.Ledger.{Ledger}
 use Rattle.gpu_descriptor.specs.Model.Agreement.{Item, State, count_of, outstanding}
 use Rattle.gpu_descriptor.specs.Caller.Sets.{items_of}
@@ -22,16 +23,12 @@ cleans pool_name old new before after BadTicket h = absurd h
 cleans pool_name old new before after BadLayout h = absurd h
 cleans pool_name old new before after NoMemory h = absurd h
 
-if_ok : {T E : Type 0} (r : Result T E) (P Q : T → Type 0) → ((x : T) → P x → Q x) → IfOk r P → IfOk r Q
-if_ok (Ok x) P Q from holds = from x holds
-if_ok (Err e) P Q from holds = tt
-
 pub returns-clause-runs : goal.returns-clause-runs
 returns-clause-runs g c =
     let name = g.D.DescriptorDevice.pool_name in
     let ledger = g.D.DescriptorDevice.ledger in
     let done = cleans name c.run-replies.new.self c.step-clean.new.self (ledger c.run-replies.new.device) (ledger c.step-clean.new.device) c.step-clean.result c.step-clean.ensures.step in
-    if_ok c.run-replies.result _ _ (λ replies ran. (c.run-replies.new.self, ledger c.run-replies.new.device, ran, done)) c.run-replies.ensures.runs
+    IfOk-weaker c.run-replies.result _ _ (λ replies ran. (c.run-replies.new.self, ledger c.run-replies.new.device, ran, done)) c.run-replies.ensures.runs
 
 -- what the cleaning up did
 done : (g : _) (c : After-step-clean g) → Cleans g.D.DescriptorDevice.pool_name c.run-replies.new.self c.step-clean.new.self (g.D.DescriptorDevice.ledger c.run-replies.new.device) (g.D.DescriptorDevice.ledger c.step-clean.new.device)

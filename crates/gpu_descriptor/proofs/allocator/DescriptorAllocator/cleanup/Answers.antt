@@ -14,10 +14,10 @@ use Rattle.gpu_descriptor.specs.Inner.Stored.{bucket_of, row_of, stored_load_in}
 use Rattle.gpu_descriptor.specs.Caller.Values.{Allocations}
 use Rattle.gpu_descriptor.proofs.cleanup.Cleaning.{clean_agrees, takes_none}
 use Rattle.gpu_descriptor.proofs.foreign.ForeignPools.{cleaned_foreign, cleaned_loses}
-use Rattle.gpu_descriptor.proofs.sums.Loads.{rows_out, rows_load, rows_pool_load}
+use Rattle.gpu_descriptor.proofs.sums.Loads.{rows_out, rows_load, rows_pool_load, sum_put}
 use Rattle.gpu_descriptor.proofs.cleanup.KeyOrder.{keys_cleaned}
 use Rattle.gpu_descriptor.proofs.request.Requested.{keys_apart}
-use Rattle.gpu_descriptor.proofs.cleanup.RowsCleaned.{all_cleared, agree_is, cleared, counted_filter, counted_put, entry_there, ledger_less, next, next_stored, step_less, step_rows, sum_put, whole_clean, whole_count}
+use Rattle.gpu_descriptor.proofs.cleanup.RowsCleaned.{all_cleared, agree_is, cleared, counted_filter, counted_put, entry_there, ledger_less, next, next_stored, step_less, step_rows, whole_clean, whole_count}
 use Rattle.gpu_descriptor.proofs.foreign.OthersStay.{emptied, others_stay}
 use Rattle.gpu_descriptor.proofs.table.TableBooks.{rows_are, rows_in, distinct_rows, distinct_stored}
 use Rattle.gpu_descriptor.proofs.allocator.DescriptorAllocator.cleanup.Goals.{After-index_mut-bucket}

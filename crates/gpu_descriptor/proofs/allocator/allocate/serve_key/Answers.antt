@@ -12,6 +12,7 @@ use Rattle.gpu_descriptor_types.specs.Bounds.{greatest_u64}
 use Rattle.std.proofs.Common.{◌≡◌, ◌+◌, ◌≤◌, ◌++◌, ◌∷◌, [], Bool, List, Result, Ok, Err, None, inl, refl, sym, ap, ◌∙◌, subst, arith, rules, map}
 use Rattle.std.specs.List.{IsDistinct}
 use Rattle.std.specs.Prelude.{IfOk, IfErr, OnOk, OnErr}
+use Rattle.std.proofs.lemmas.Result.{IfErr-weaker, IfOk-weaker, on_err_weaker}
 use Rattle.indexmap.specs.IndexMap.{IndexMap, insert_entry}
 use Rattle.indexmap.proofs.CallerLemmas.{insert_entry-new}
 use Rattle.gpu_descriptor.specs.Model.Books.{Bucket, key_eq, no_pools, next_number}
@@ -25,18 +26,6 @@ use Rattle.gpu_descriptor.proofs.request.InTable.{present, missing, serves_prese
 use Rattle.gpu_descriptor.proofs.table.TableBooks.{distinct_stored}
 use Rattle.gpu_descriptor.proofs.allocator.allocate.serve_key.Goals.{After-index_mut, In-None, In-Ok-insert, After-serve}
 use Rattle.gpu_descriptor.proofs.allocator.allocate.serve_key.Goals as goal
-
-if_ok : {T E : Type 0} (A B : T → Type 0) (r : Result T E) → ((x : T) → A x → B x) → IfOk r A → IfOk r B
-if_ok A B (Ok x) f a = f x a
-if_ok A B (Err e) f a = tt
-
-if_err : {T E : Type 0} (A B : E → Type 0) (r : Result T E) → ((e : E) → A e → B e) → IfErr r A → IfErr r B
-if_err A B (Ok x) f a = tt
-if_err A B (Err e) f a = f e a
-
-on_err : {T E A B : Type 0} (r : Result T E) → (A → B) → OnErr r A → OnErr r B
-on_err (Ok x) f a = tt
-on_err (Err e) f a = f a
 
 put_new : {X S : Type 0} (eq : BucketKey → BucketKey → Bool) → ((k l : BucketKey) → eq k l ≡ key_eq (key_of k) (key_of l)) → (m : IndexMap BucketKey (DescriptorBucket X) S) (k : BucketKey) (v : DescriptorBucket X) (es new : List (BucketKey × DescriptorBucket X)) → new ≡ insert_entry eq es k v → es ≡ m.entries → lookup (is_of (key_of k)) m.entries ≡ None → new ≡ m.entries ++ (k, v) ∷ []
 put_new eq same m k v es new put kept none = put ∙ ap (λ l. insert_entry eq l k v) kept ∙ insert_entry-new eq m k v (lookup_same (eq k) (is_of (key_of k)) (same k) m.entries ∙ none)
@@ -70,15 +59,15 @@ left g c = written_at (key_of c.args.request.now.key) c.requires.distinct (there
 pub returns-in-Some-clause-served : goal.returns-in-Some-clause-served
 returns-in-Some-clause-served g c =
     let r = left g (goal.at.returns-in-Some-clause-served g c).After-serve in
-    if_ok _ _ c.serve.result (λ taken s. serves_present c.args.request.now.key c.serve.new.self s.0 s.1 refl refl r) c.serve.ensures.served
+    IfOk-weaker c.serve.result _ _ (λ taken s. serves_present c.args.request.now.key c.serve.new.self s.0 s.1 refl refl r) c.serve.ensures.served
 
 pub returns-in-Some-clause-refused : goal.returns-in-Some-clause-refused
 returns-in-Some-clause-refused g c =
     let is = present g.D.DescriptorDevice.pool_name (row g (goal.at.returns-in-Some-clause-refused g c).After-index_mut) in
-    if_err _ _ c.serve.result (λ e why. subst (λ (b : Bucket). IsUnserved c.args.request.now.count e b) (sym is) why) c.serve.ensures.refused
+    IfErr-weaker c.serve.result _ _ (λ e why. subst (λ (b : Bucket). IsUnserved c.args.request.now.count e b) (sym is) why) c.serve.ensures.refused
 
 pub returns-in-Some-clause-entries : goal.returns-in-Some-clause-entries
-returns-in-Some-clause-entries g c = on_err c.serve.result (written-same (left g (goal.at.returns-in-Some-clause-entries g c).After-serve)) c.serve.ensures.bucket
+returns-in-Some-clause-entries g c = on_err_weaker c.serve.result (written-same (left g (goal.at.returns-in-Some-clause-entries g c).After-serve)) c.serve.ensures.bucket
 
 pub returns-in-Some-clause-room : goal.returns-in-Some-clause-room
 returns-in-Some-clause-room g c = pools_set (left g (goal.at.returns-in-Some-clause-room g c).After-serve) _ _ c.serve.ensures.room

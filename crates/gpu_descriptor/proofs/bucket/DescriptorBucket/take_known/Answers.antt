@@ -2,6 +2,7 @@ use Rattle.std.proofs.Common.{◌≡◌, ℕ, Global, ◌+◌, [], ◌++◌, ari
 use Rattle.std.specs.Prelude.{IfOk, IfErr}
 use Rattle.std.specs.declared.collections.VecDeque.{VecDeque}
 use Rattle.std.proofs.lemmas.List.{length-map}
+use Rattle.std.proofs.lemmas.Result.{IfErr-weaker, IfOk-weaker}
 use Rattle.gpu_descriptor_types.specs.Ledger.{Ledger}
 use Rattle.gpu_descriptor_types.specs.declared.errors.DeviceAllocationError.{DeviceAllocationError}
 use Rattle.gpu_descriptor.specs.declared.set.DescriptorSet.{DescriptorSet}
@@ -21,14 +22,6 @@ use Rattle.gpu_descriptor.proofs.table.Exact.{bucket}
 use Rattle.gpu_descriptor.proofs.sums.StoredPools.{allocated_entries}
 use Rattle.gpu_descriptor.proofs.bucket.DescriptorBucket.take_known.Goals.{After-walk-walked}
 use Rattle.gpu_descriptor.proofs.bucket.DescriptorBucket.take_known.Goals as goal
-
-if_ok : {T E : Type 0} (A B : T → Type 0) (r : Result T E) → ((x : T) → A x → B x) → IfOk r A → IfOk r B
-if_ok A B (Ok x) f a = f x a
-if_ok A B (Err e) f a = tt
-
-if_err : {T E : Type 0} (A B : E → Type 0) (r : Result T E) → ((e : E) → A e → B e) → IfErr r A → IfErr r B
-if_err A B (Ok x) f a = tt
-if_err A B (Err e) f a = f e a
 
 module _ {S : Type 0} (name : S → ℕ) {was now : List (DescriptorSet S)} (put : List (DescriptorSet S)) (empty : was ≡ []) (is : now ≡ was ++ put) where
   all : put ≡ now
@@ -54,14 +47,14 @@ walk-walked-requires-clause-booked g c = subst (λ (q : VecDeque (DescriptorPool
 pub returns-clause-walked : goal.returns-clause-walked
 returns-clause-walked g c =
     let at = (goal.at.returns-clause-walked g c).After-walk-walked in
-    if_ok _ _ c.walk-walked.result (λ wanting p. (
+    IfOk-weaker c.walk-walked.result _ _ (λ wanting p. (
     let long = ap length (all g.D.DescriptorDevice.set_name p.0 c.requires.empty p.1) in
     (let given = p.3 in omega arith, (let left = p.2 in let room = c.requires.room in omega arith), walked_as g.D.DescriptorDevice.set_name p.0 c.requires.empty p.1 (was_bucket g at) (is_bucket g at) p.4))) c.walk-walked.ensures.walked
 
 pub returns-clause-stopped : goal.returns-clause-stopped
 returns-clause-stopped g c =
     let at = (goal.at.returns-clause-stopped g c).After-walk-walked in
-    if_err _ _ c.walk-walked.result (λ error p. stopped_as g.D.DescriptorDevice.set_name p.0 c.requires.empty p.1 (was_bucket g at) (is_bucket g at) p.2) c.walk-walked.ensures.stopped
+    IfErr-weaker c.walk-walked.result _ _ (λ error p. stopped_as g.D.DescriptorDevice.set_name p.0 c.requires.empty p.1 (was_bucket g at) (is_bucket g at) p.2) c.walk-walked.ensures.stopped
 
 pub returns-clause-few : goal.returns-clause-few
 returns-clause-few g c = (let few = c.walk-walked.ensures.given in let none = ap length c.requires.empty in omega arith)
