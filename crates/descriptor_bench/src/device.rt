@@ -94,13 +94,12 @@ impl DescriptorDevice<Layout, u64, u64> for CountingDevice {
     ghost use Rattle.descriptor_bench.specs.Device.{device_is_finite, ledger_of, name_of};
     ghost use Rattle.gpu_descriptor_types.specs.Ledger.{HasRoom, Puts, PutsNone};
 
-    ghost pool_name = { name_of };
-
-    ghost set_name = { name_of };
-
-    ghost layout_counts = { counts_in };
-
-    ghost layout_mark = { mark_of };
+    ghost meaning = { record {
+      pool_name = name_of;
+      set_name = name_of;
+      counts = counts_in;
+      mark = mark_of;
+    } };
 
     ghost ledger = { ledger_of };
 

@@ -81,9 +81,9 @@ pub fn round_trip<L, P, S: Drop, D: DescriptorDevice<L, P, S>>(
     count: u32,
     last_first: bool,
 ) -> Result<(), TripError>
-    requires plain { D.layout_mark layout.now ≡ false }
-    requires fits { (k : ℕ) → count * slice_index (D.layout_counts layout.now) k
-        ≤ slice_index (kinds counts.now) k }
+    requires plain { D.meaning.mark layout.now ≡ false }
+    requires fits { (k : ℕ) → count * slice_index (D.meaning.counts layout.now) k ≤ slice_index
+        (kinds counts.now) k }
     ensures pools { (D.ledger device.new).pools ≡ (D.ledger device.old).pools }
     ensures counters { OnOk result (let n = (D.ledger device.old).counters in
         (D.ledger device.new).counters ≡ record n {

@@ -6,7 +6,7 @@ use Rattle.gpu_descriptor_types.specs.Ledger.{Ledger}
 use Rattle.gpu_descriptor.specs.Caller.Flags.{is_marked}
 use Rattle.gpu_descriptor.specs.Caller.States.{state_of}
 use Rattle.gpu_descriptor.proofs.release.Places.{empty_agrees, none_out}
-use Rattle.descriptor_script.specs.Scripted.Raw.{pool_id, set_id}
+use Rattle.descriptor_script.specs.Scripted.Raw.{pool_id, script_meaning}
 use Rattle.descriptor_script.specs.Sessions.Ready.{IsScriptReady}
 use Rattle.descriptor_script.specs.Sessions.Session.{AreMeant, allocator_of, layouts_of, sets_of}
 use Rattle.descriptor_script.specs.Sessions.SessionRun.{RunsTo}
@@ -22,15 +22,15 @@ use Rattle.descriptor_script.specs.declared.raw.ScriptLayout.{ScriptLayout}
 use Rattle.descriptor_script.specs.declared.session.KnownLayout.{KnownLayout}
 use Rattle.descriptor_lines.specs.Commands.{IsKnown}
 use Rattle.descriptor_lines.specs.LayoutTable.{layout_count, layouts_in}
-use Rattle.descriptor_lines.specs.LineDevices.{HasScriptedMeanings}
 use Rattle.descriptor_lines.specs.LineStates.{LineState}
 use Rattle.descriptor_lines.specs.Programs.{CanRun}
 use Rattle.descriptor_lines.specs.Replies.{LineSession, HasAnswer}
 use Rattle.descriptor_lines.specs.ReplyTexts.{sets_asked, sets_given}
 use Rattle.descriptor_lines.specs.declared.layouts.Layouts.{Layouts}
+use Rattle.gpu_descriptor_types.specs.Side.{Side, side}
 
 -- a new session can make a step on any device
-pub new_is_ready : (s : LineSession) (l : Ledger) (max : ℕ) → allocator_of s ≡ record { limit = max; table = []; looks = 0; comparisons = 0 } → layouts_of s ≡ [] → sets_of s ≡ [] → IsScriptReady s l
+pub new_is_ready : (s : LineSession) (l : Ledger) (max : ℕ) → allocator_of s ≡ record { limit = max; table = []; looks = 0; comparisons = 0 } → layouts_of s ≡ [] → sets_of s ≡ [] → IsScriptReady (side s l)
 new_is_ready s l max allocator layouts sets = record {
   agree = rw allocator (empty_agrees l.pools);
   held = rw (allocator, sets) (λ t. none_out (state_of pool_id (record { limit = max; table = []; looks = 0; comparisons = 0 }) l) t refl);
@@ -38,7 +38,7 @@ new_is_ready s l max allocator layouts sets = record {
 }
 
 -- after a step the program can run the next line
-pub still_runs : (p : LineState) (s : LineSession) (script : List Answer) (l : Ledger) → CanRun p → IsScriptReady s l → layouts_of s ≡ layouts_of p.session → CanRun (record p { session = s; script = script; ledger = l })
+pub still_runs : (p : LineState) (s : LineSession) (script : List Answer) (l : Ledger) → CanRun p → IsScriptReady (side s l) → layouts_of s ≡ layouts_of p.session → CanRun (record p { session = s; script = script; ledger = l })
 still_runs p s script l can ready layouts = record {
   ready = ready;
   layouts = rw layouts can.layouts;
@@ -46,7 +46,7 @@ still_runs p s script l can ready layouts = record {
 }
 
 -- a session with the same books and sets is ready as well
-pub same_is_ready : (s t : LineSession) (l : Ledger) → IsScriptReady s l → allocator_of t ≡ allocator_of s → sets_of t ≡ sets_of s → AreMeant (λ l. kinds l.counts) (λ l. l.mark) (layouts_of t) → IsScriptReady t l
+pub same_is_ready : (s t : LineSession) (l : Ledger) → IsScriptReady (side s l) → allocator_of t ≡ allocator_of s → sets_of t ≡ sets_of s → AreMeant script_meaning (layouts_of t) → IsScriptReady (side t l)
 same_is_ready s t l ready allocator sets meant = record {
   agree = rw allocator ready.agree;
   held = rw (allocator, sets) ready.held;
@@ -54,7 +54,7 @@ same_is_ready s t l ready allocator sets meant = record {
 }
 
 -- one more layout that is meant
-pub meant_more : (ks : List (KnownLayout ScriptLayout)) (k : KnownLayout ScriptLayout) → AreMeant (λ l. kinds l.counts) (λ l. l.mark) ks → (kinds k.counts ≡ kinds k.layout.counts) × (is_marked k.flags ≡ k.layout.mark) → AreMeant (λ l. kinds l.counts) (λ l. l.mark) (ks ++ k ∷ [])
+pub meant_more : (ks : List (KnownLayout ScriptLayout)) (k : KnownLayout ScriptLayout) → AreMeant script_meaning ks → (kinds k.counts ≡ kinds k.layout.counts) × (is_marked k.flags ≡ k.layout.mark) → AreMeant script_meaning (ks ++ k ∷ [])
 meant_more [] k meant is zero x at = let same : k ≡ x = (cc) in rw (← same) is
 meant_more [] k meant is (suc i) x at = (cc)
 meant_more (y ∷ ks) k meant is zero x at = meant zero x at
@@ -71,30 +71,18 @@ module _ {X : Type 0} where
   some_behind slots given n past inside =
       rw (get_or-append_right slots (map Some given) (length slots) n None refl past) (some_at given (n - length slots) (omega arith))
 
--- ---- what a device means that has the pools, sets and layouts of the scripted one
-
-module _ {pool_name : RawPool → ℕ} {set_name : RawSet → ℕ} {counts : ScriptLayout → List ℕ} {mark : ScriptLayout → Bool} (own : HasScriptedMeanings pool_name set_name counts mark) (F : (RawPool → ℕ) → (RawSet → ℕ) → (ScriptLayout → List ℕ) → (ScriptLayout → Bool) → Type 0) where
-  -- what holds of its meanings holds of those that the values carry
-  pub as_carried : F pool_name set_name counts mark → F pool_id set_id (λ l. kinds l.counts) (λ l. l.mark)
-  as_carried holds =
-      subst (F pool_id set_id (λ l. kinds l.counts)) own.marks (subst (λ c. F pool_id set_id c mark) own.counts (subst (λ s. F pool_id s counts mark) own.sets (subst (λ p. F p set_name counts mark) own.pools holds)))
-
-  pub as_meant : F pool_id set_id (λ l. kinds l.counts) (λ l. l.mark) → F pool_name set_name counts mark
-  as_meant holds =
-      subst (F pool_name set_name counts) (sym own.marks) (subst (λ c. F pool_name set_name c (λ l. l.mark)) (sym own.counts) (subst (λ s. F pool_name s (λ l. kinds l.counts) (λ l. l.mark)) (sym own.sets) (subst (λ p. F p set_id (λ l. kinds l.counts) (λ l. l.mark)) (sym own.pools) holds)))
-
 -- a step of a session, where pools, sets and layouts mean what they carry
 abbrev Steps : Command → Reply → LineSession → LineSession → Ledger → Ledger → Type 0
-Steps command reply old new before after = StepsTo pool_id set_id (λ l. kinds l.counts) (λ l. l.mark) command reply old new before after
+Steps command reply old new before after = StepsTo script_meaning command reply (side old before) (side new after)
 
 -- the one step of a run of one command
-pub step_of_one : (command : Command) (replies : List Reply) (reply : Reply) (old new : LineSession) (before after : Ledger) → RunsTo pool_id set_id (λ l. kinds l.counts) (λ l. l.mark) (command ∷ []) replies old new before after → reply ≡ slice_index_or replies 0 reply → Steps command reply old new before after
+pub step_of_one : (command : Command) (replies : List Reply) (reply : Reply) (old new : LineSession) (before after : Ledger) → RunsTo script_meaning (command ∷ []) replies (side old before) (side new after) → reply ≡ slice_index_or replies 0 reply → Steps command reply old new before after
 step_of_one command [] reply old new before after run is = absurd run
-step_of_one command (r ∷ []) reply old new before after run is = rw (is, run.3.0, run.3.1) run.2.step
+step_of_one command (r ∷ []) reply old new before after run is = subst (λ (s : Side LineSession). StepsTo script_meaning command reply (side old before) s) (sym run.3) (rw is run.1)
 step_of_one command (r ∷ s ∷ rest) reply old new before after run is = absurd run.3
 
 -- a reply that memory is wanting changes nothing
-pub no_memory_changes_nothing : (command : Command) (old new : LineSession) (before after : Ledger) → Steps command NoMemory old new before after → IsAsBefore old new before after
+pub no_memory_changes_nothing : (command : Command) (old new : LineSession) (before after : Ledger) → Steps command NoMemory old new before after → IsAsBefore (side old before) (side new after)
 no_memory_changes_nothing (Allocate layout count) old new before after step = step.2
 no_memory_changes_nothing (Free tickets) old new before after step = absurd step
 no_memory_changes_nothing Cleanup old new before after step = absurd step

@@ -5,7 +5,6 @@ pub mod Exit
 pub mod FirstLayouts
 pub mod LayoutTable
 pub mod LineBuffers
-pub mod LineDevices
 pub mod LineStates
 pub mod Lines
 pub mod Outcomes

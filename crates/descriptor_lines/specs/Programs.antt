@@ -3,7 +3,7 @@ use Rattle.std.specs.Prelude.{◌≡◌, ◌⊎◌, ◌++◌, ◌∷◌, [], ℕ
 use Rattle.gpu_descriptor_types.specs.Bounds.{greatest_u32}
 use Rattle.gpu_descriptor_types.specs.Counts.{kinds}
 use Rattle.descriptor_script.specs.Scripted.Device.{empty_ledger}
-use Rattle.descriptor_script.specs.Scripted.Raw.{pool_id, set_id}
+use Rattle.descriptor_script.specs.Scripted.Raw.{script_meaning}
 use Rattle.descriptor_script.specs.Sessions.Ready.{IsScriptReady}
 use Rattle.descriptor_script.specs.Sessions.Session.{KeepsSession, allocator_of, layouts_of, sets_of}
 use Rattle.descriptor_script.specs.Sessions.Steps.{StepsTo}
@@ -26,6 +26,7 @@ use Rattle.descriptor_words.specs.declared.fault.Refusal.TheVariants as refusal
 use Rattle.descriptor_lines.specs.declared.command.Command as line
 use Rattle.descriptor_lines.specs.declared.command.Command.TheVariants as step
 use Rattle.descriptor_lines.specs.declared.layouts.Layout.{Layout}
+use Rattle.gpu_descriptor_types.specs.Side.{side}
 
 -- the layout that the device sees
 abbrev pub scripted : Layout → ScriptLayout
@@ -34,7 +35,7 @@ scripted layout = record { counts = layout.counts; mark = layout.mark }
 -- the program can run a line
 pub record CanRun (p : LineState) : Type 0 where
   -- the session can make a step on the device
-  pub ready : IsScriptReady p.session p.ledger
+  pub ready : IsScriptReady (side p.session p.ledger)
   -- the session has the layouts of the lines, in their order
   pub layouts : map (λ k. k.layout) (layouts_of p.session) ≡ map (λ l. scripted l.1) (layouts_in p.layouts)
   -- before the first command there is no layout
@@ -93,9 +94,9 @@ pub record Loads (script : List Answer) (old new : LineState) : Type 0 where
 pub record Does (command : Command) (text : List ℕ) (old new : LineState) : Type 0 where
   pub reply : Reply
   pub said : text ≡ text_of_reply (sets_of new.session) reply
-  pub step : StepsTo pool_id set_id (λ l. kinds l.counts) (λ l. l.mark) command reply old.session new.session old.ledger new.ledger
+  pub step : StepsTo script_meaning command reply (side old.session old.ledger) (side new.session new.ledger)
   -- limit and layouts stay, and no key has two rows
-  pub keeps : KeepsSession pool_id set_id (λ l. kinds l.counts) (λ l. l.mark) old.session new.session old.ledger new.ledger
+  pub keeps : KeepsSession script_meaning (side old.session old.ledger) (side new.session new.ledger)
   pub layouts : SameLayouts old.layouts new.layouts
 
 -- what the command of a line does, and its answer, where memory is there

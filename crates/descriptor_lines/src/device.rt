@@ -1,7 +1,7 @@
 //! The device that the lines speak to.
 ghost use Rattle.std.specs.Prelude.{◌≡◌, ◌-◌, ◌^◌, Bool, List, false, min};
 ghost use Rattle.descriptor_script.specs.declared.answer.Answer.{Answer};
-ghost use Rattle.descriptor_lines.specs.LineDevices.{HasScriptedMeanings};
+ghost use Rattle.descriptor_script.specs.Scripted.Raw.{script_meaning};
 
 use descriptor_script::{Answer, RawPool, RawSet, ScriptLayout, ScriptedDevice};
 use gpu_descriptor::DescriptorDevice;
@@ -9,8 +9,7 @@ use gpu_descriptor::DescriptorDevice;
 /// A device of scripted pools, sets and layouts, which means them as the scripted device does.
 pub trait ScriptedMeaning: DescriptorDevice<ScriptLayout, RawPool, RawSet> {
     /// Pools and sets have the names that they carry, layouts their counts and their mark.
-    ghost meanings: { HasScriptedMeanings Self.DescriptorDevice.pool_name Self.DescriptorDevice.set_name
-        Self.DescriptorDevice.layout_counts Self.DescriptorDevice.layout_mark };
+    ghost scripted: { Self.DescriptorDevice.meaning ≡ script_meaning };
 }
 
 /// A device that takes a script, shows its counters, and is told the lines that it is used by.
@@ -55,7 +54,7 @@ pub trait LineDevice: ScriptedMeaning {
 impl ScriptedMeaning for ScriptedDevice {
     ghost use Rattle.std.specs.Prelude.{refl};
 
-    ghost meanings = { record { pools = refl; sets = refl; counts = refl; marks = refl } };
+    ghost scripted = { refl };
 }
 
 /// A device that answers by a script alone hears nothing of the lines.

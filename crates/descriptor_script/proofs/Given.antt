@@ -2,7 +2,8 @@
 use Rattle.std.proofs.Common.{◌≡◌, ℕ, List, [], ◌∷◌, length, length-append, map, get_or, set, Option, None, Some, Bool, inl, inr, refl, ap, ◌∙◌, arith}
 use Rattle.std.proofs.lemmas.Bool.{cases_eq}
 use Rattle.std.proofs.lemmas.List.{get_or-set_other, get_or_append_left, length-set}
-use Rattle.gpu_descriptor_types.specs.Ledger.{Ledger}
+use Rattle.gpu_descriptor_types.specs.Meaning.{Meaning}
+use Rattle.gpu_descriptor_types.specs.Side.{Side}
 use Rattle.descriptor_script.specs.Sessions.Session.{sets_of}
 use Rattle.descriptor_script.specs.Sessions.Steps.{AllocatesTo, CleansTo, FreesTo, KeepsTickets}
 use Rattle.descriptor_script.specs.Sessions.Tickets.{emptied, set_at}
@@ -34,35 +35,35 @@ module _ {L P S : Type 0} where
   }
 
   -- no command gives a ticket twice
-  pub allocating_keeps : (pool_name : P → ℕ) (set_name : S → ℕ) (counts : L → List ℕ) (mark : L → Bool) (layout count : ℕ) (reply : Reply) (old new : Session L P S) (before after : Ledger) → AllocatesTo pool_name set_name counts mark layout count old new before after reply → KeepsTickets old new
-  allocating_keeps pool_name set_name counts mark layout count (Sets next many) old new before after h = record {
-    next = (let l = ap length h.sets in let a = length-append (sets_of old) (map Some h.given) in omega arith);
-    freed = λ ticket lt none. ap (λ s. set_at s ticket) h.sets ∙ get_or_append_left (sets_of old) (map Some h.given) None ticket lt ∙ none;
+  pub allocating_keeps : (means : Meaning L P S) (layout count : ℕ) (reply : Reply) (old new : Side (Session L P S)) → AllocatesTo means layout count old new reply → KeepsTickets old.value new.value
+  allocating_keeps means layout count (Sets next many) old new h = record {
+    next = (let l = ap length h.sets in let a = length-append (sets_of old.value) (map Some h.given) in omega arith);
+    freed = λ ticket lt none. ap (λ s. set_at s ticket) h.sets ∙ get_or_append_left (sets_of old.value) (map Some h.given) None ticket lt ∙ none;
   }
-  allocating_keeps pool_name set_name counts mark layout count (Refused e) old new before after h = same old new h.sets
-  allocating_keeps pool_name set_name counts mark layout count (Freed n) old new before after h = absurd h
-  allocating_keeps pool_name set_name counts mark layout count BadTicket old new before after h = absurd h
-  allocating_keeps pool_name set_name counts mark layout count BadLayout old new before after h = same old new h.1.sets
-  allocating_keeps pool_name set_name counts mark layout count NoMemory old new before after h = same old new h.2.sets
-  allocating_keeps pool_name set_name counts mark layout count Clean old new before after h = absurd h
+  allocating_keeps means layout count (Refused e) old new h = same old.value new.value h.sets
+  allocating_keeps means layout count (Freed n) old new h = absurd h
+  allocating_keeps means layout count BadTicket old new h = absurd h
+  allocating_keeps means layout count BadLayout old new h = same old.value new.value h.1.sets
+  allocating_keeps means layout count NoMemory old new h = same old.value new.value h.2.sets
+  allocating_keeps means layout count Clean old new h = absurd h
 
-  pub freeing_keeps : (pool_name : P → ℕ) (set_name : S → ℕ) (tickets : List ℕ) (reply : Reply) (old new : Session L P S) (before after : Ledger) → FreesTo pool_name set_name tickets old new before after reply → KeepsTickets old new
-  freeing_keeps pool_name set_name tickets (Sets next many) old new before after h = absurd h
-  freeing_keeps pool_name set_name tickets (Refused e) old new before after h = absurd h
-  freeing_keeps pool_name set_name tickets (Freed n) old new before after h = record {
-    next = (let l = ap length h.sets in let a = emptied_length (sets_of old) tickets in omega arith);
-    freed = λ ticket lt none. ap (λ s. set_at s ticket) h.sets ∙ emptied_none (sets_of old) tickets ticket none;
+  pub freeing_keeps : (means : Meaning L P S) (tickets : List ℕ) (reply : Reply) (old new : Side (Session L P S)) → FreesTo means tickets old new reply → KeepsTickets old.value new.value
+  freeing_keeps means tickets (Sets next many) old new h = absurd h
+  freeing_keeps means tickets (Refused e) old new h = absurd h
+  freeing_keeps means tickets (Freed n) old new h = record {
+    next = (let l = ap length h.sets in let a = emptied_length (sets_of old.value) tickets in omega arith);
+    freed = λ ticket lt none. ap (λ s. set_at s ticket) h.sets ∙ emptied_none (sets_of old.value) tickets ticket none;
   }
-  freeing_keeps pool_name set_name tickets BadTicket old new before after h = same old new h.1.sets
-  freeing_keeps pool_name set_name tickets BadLayout old new before after h = absurd h
-  freeing_keeps pool_name set_name tickets NoMemory old new before after h = absurd h
-  freeing_keeps pool_name set_name tickets Clean old new before after h = absurd h
+  freeing_keeps means tickets BadTicket old new h = same old.value new.value h.1.sets
+  freeing_keeps means tickets BadLayout old new h = absurd h
+  freeing_keeps means tickets NoMemory old new h = absurd h
+  freeing_keeps means tickets Clean old new h = absurd h
 
-  pub cleaning_keeps : (pool_name : P → ℕ) (reply : Reply) (old new : Session L P S) (before after : Ledger) → CleansTo pool_name old new before after reply → KeepsTickets old new
-  cleaning_keeps pool_name (Sets next many) old new before after h = absurd h
-  cleaning_keeps pool_name (Refused e) old new before after h = absurd h
-  cleaning_keeps pool_name (Freed n) old new before after h = absurd h
-  cleaning_keeps pool_name BadTicket old new before after h = absurd h
-  cleaning_keeps pool_name BadLayout old new before after h = absurd h
-  cleaning_keeps pool_name NoMemory old new before after h = absurd h
-  cleaning_keeps pool_name Clean old new before after h = same old new h.sets
+  pub cleaning_keeps : (means : Meaning L P S) (reply : Reply) (old new : Side (Session L P S)) → CleansTo means old new reply → KeepsTickets old.value new.value
+  cleaning_keeps means (Sets next many) old new h = absurd h
+  cleaning_keeps means (Refused e) old new h = absurd h
+  cleaning_keeps means (Freed n) old new h = absurd h
+  cleaning_keeps means BadTicket old new h = absurd h
+  cleaning_keeps means BadLayout old new h = absurd h
+  cleaning_keeps means NoMemory old new h = absurd h
+  cleaning_keeps means Clean old new h = same old.value new.value h.sets

@@ -1,14 +1,16 @@
 -- The parts of the headline hold at each step of a run.
-use Rattle.std.proofs.Common.{ℕ, Bool, List, [], ◌∷◌, refl, sym, ap, ◌∙◌, arith}
+use Rattle.std.proofs.Common.{List, [], ◌∷◌, refl, sym, ap, ◌∙◌, arith}
 use Rattle.std.proofs.lemmas.Option.{slice_get_within}
 use Rattle.std.specs.Prelude.{IfOk, Result, Ok, Err}
-use Rattle.gpu_descriptor_types.specs.Ledger.{Ledger, Counters}
+use Rattle.gpu_descriptor_types.specs.Ledger.{Counters}
+use Rattle.gpu_descriptor_types.specs.Meaning.{Meaning}
+use Rattle.gpu_descriptor_types.specs.Side.{Side}
 use Rattle.gpu_descriptor.specs.Caller.Sets.{items_of}
 use Rattle.gpu_descriptor.specs.Caller.States.{state_of}
 use Rattle.gpu_descriptor.proofs.release.ReleaseAgrees.{one_by_one}
 use Rattle.descriptor_script.specs.Sessions.Headline.{CallsOnceARun, FailsForCause, FreesOneByOne, HoldsExactly, HoldsWhatIsOut, KeepsAll, KeepsLimit, TurnsDownBad}
-use Rattle.descriptor_script.specs.Sessions.Session.{IsReady, allocator_of, sets_of}
-use Rattle.descriptor_script.specs.Sessions.SessionRun.{IsStep, RunsKeeping, RunsTo, Step}
+use Rattle.descriptor_script.specs.Sessions.Session.{IsReady, KeepsSession, allocator_of, sets_of}
+use Rattle.descriptor_script.specs.Sessions.SessionRun.{RunsKeeping, RunsTo, Step}
 use Rattle.descriptor_script.specs.Sessions.Steps.{StepsTo}
 use Rattle.descriptor_script.specs.declared.command.Command.{Command}
 use Rattle.descriptor_script.specs.declared.command.Command.TheVariants.{Allocate, Free, Cleanup}
@@ -21,37 +23,37 @@ pub if_ok : {T E : Type 0} {A B : T → Type 0} (r : Result T E) → IfOk r A �
 if_ok (Ok x) h f = f x h
 if_ok (Err e) h f = tt
 
-module _ {L P S : Type 0} (pool_name : P → ℕ) (set_name : S → ℕ) (counts : L → List ℕ) (mark : L → Bool) where
-  abbrev pub step_of : Command → Reply → Session L P S → Session L P S → Ledger → Ledger → Step L P S
-  step_of command reply old new before after = record { command = command; reply = reply; old = old; new = new; before = before; after = after }
+module _ {L P S : Type 0} (means : Meaning L P S) where
+  abbrev pub step_of : Command → Reply → Side (Session L P S) → Side (Session L P S) → Step L P S
+  step_of command reply old new = record { command = command; reply = reply; old = old; new = new }
 
   -- the promise is kept at each step of a session that is ready for it
   abbrev pub IsKept : (Step L P S → Type 0) → Type 0
-  IsKept promise = (command : Command) (reply : Reply) (old new : Session L P S) (before after : Ledger) → IsReady pool_name set_name counts mark old before
-      → IsStep {L = L} {P = P} {S = S} pool_name set_name counts mark command reply old new before after → promise (step_of command reply old new before after)
+  IsKept promise = (command : Command) (reply : Reply) (old new : Side (Session L P S)) → IsReady means old
+      → StepsTo means command reply old new → KeepsSession means old new → promise (step_of command reply old new)
 
   -- and then a run keeps it all along
-  pub kept_along : (promise : Step L P S → Type 0) → IsKept promise → (commands : List Command) (replies : List Reply) (old new : Session L P S) (before after : Ledger) → IsReady pool_name set_name counts mark old before
-      → RunsTo pool_name set_name counts mark commands replies old new before after → RunsKeeping pool_name set_name counts mark promise commands replies old new before after
-  kept_along promise keeps [] [] old new before after ready run = run
-  kept_along promise keeps [] (r ∷ rs) old new before after ready run = absurd run
-  kept_along promise keeps (c ∷ cs) [] old new before after ready run = absurd run
-  kept_along promise keeps (c ∷ cs) (r ∷ rs) old new before after ready run =
-      (run.0, run.1, run.2.step, keeps c r old run.0 before run.1 ready run.2, kept_along promise keeps cs rs run.0 new run.1 after run.2.keeps.ready run.3)
+  pub kept_along : (promise : Step L P S → Type 0) → IsKept promise → (commands : List Command) (replies : List Reply) (old new : Side (Session L P S)) → IsReady means old
+      → RunsTo means commands replies old new → RunsKeeping means promise commands replies old new
+  kept_along promise keeps [] [] old new ready run = run
+  kept_along promise keeps [] (r ∷ rs) old new ready run = absurd run
+  kept_along promise keeps (c ∷ cs) [] old new ready run = absurd run
+  kept_along promise keeps (c ∷ cs) (r ∷ rs) old new ready run =
+      (run.0, run.1, keeps c r old run.0 ready run.1 run.2, kept_along promise keeps cs rs run.0 new run.2.ready run.3)
 
-  pub holds_exactly : IsKept (HoldsExactly pool_name set_name)
-  holds_exactly command reply old new before after ready s = (s.keeps.ready.held, s.keeps.count)
+  pub holds_exactly : IsKept (HoldsExactly means)
+  holds_exactly command reply old new ready step keeps = (keeps.ready.held, keeps.count)
 
   pub keeps_limit : IsKept KeepsLimit
-  keeps_limit command reply old new before after ready s = (s.keeps.allocator.load, s.keeps.allocator.pool_load, s.keeps.allocator.limit)
+  keeps_limit command reply old new ready step keeps = (keeps.allocator.load, keeps.allocator.pool_load, keeps.allocator.limit)
 
-  abbrev Steps : Command → Reply → Session L P S → Session L P S → Ledger → Ledger → Type 0
-  Steps = StepsTo pool_name set_name counts mark
+  abbrev Steps : Command → Reply → Side (Session L P S) → Side (Session L P S) → Type 0
+  Steps = StepsTo means
 
   pub holds_what_is_out : IsKept HoldsWhatIsOut
-  holds_what_is_out command reply old new before after ready s = go command reply s.step
+  holds_what_is_out command reply old new ready step keeps = go command reply step
     where
-      go : (command : Command) (reply : Reply) → Steps command reply old new before after → HoldsWhatIsOut (step_of command reply old new before after)
+      go : (command : Command) (reply : Reply) → Steps command reply old new → HoldsWhatIsOut (step_of command reply old new)
       go (Allocate layout count) (Sets first many) h = (h.asked, h.first, h.given, h.all_given ∙ sym h.asked, h.sets)
       go (Allocate layout count) (Refused e) h = h.sets
       go (Allocate layout count) (Freed n) h = absurd h
@@ -75,14 +77,14 @@ module _ {L P S : Type 0} (pool_name : P → ℕ) (set_name : S → ℕ) (counts
       go Cleanup Clean h = h.sets
 
   -- what is promised of sets that go back, and of nothing else
-  frees_in_runs : IsKept (λ step. FreesOneByOne pool_name set_name step × CallsOnceARun set_name step)
-  frees_in_runs command reply old new before after ready s = go command reply s.step
+  frees_in_runs : IsKept (λ step. FreesOneByOne means step × CallsOnceARun means step)
+  frees_in_runs command reply old new ready step keeps = go command reply step
     where
-      go : (command : Command) (reply : Reply) → Steps command reply old new before after → FreesOneByOne pool_name set_name (step_of command reply old new before after) × CallsOnceARun set_name (step_of command reply old new before after)
+      go : (command : Command) (reply : Reply) → Steps command reply old new → FreesOneByOne means (step_of command reply old new) × CallsOnceARun means (step_of command reply old new)
       go (Free tickets) (Freed n) h =
-          let start = state_of pool_name (allocator_of old) before in
-          let out = listed_out set_name (sets_of old) tickets.items h.given start h.good h.each ready.held in (
-            (h.given, h.each, (λ order alike. h.back.state ∙ sym (one_by_one (items_of set_name h.given) order start ready.agree out alike))),
+          let start = state_of means.pool_name (allocator_of old.value) old.ledger in
+          let out = listed_out means.set_name (sets_of old.value) tickets.items h.given start h.good h.each ready.held in (
+            (h.given, h.each, (λ order alike. h.back.state ∙ sym (one_by_one (items_of means.set_name h.given) order start ready.agree out alike))),
             (h.given, h.each, ap (λ (c : Counters). c.released) h.back.counters),
           )
       go (Allocate layout count) (Freed n) h = absurd h
@@ -94,16 +96,16 @@ module _ {L P S : Type 0} (pool_name : P → ℕ) (set_name : S → ℕ) (counts
       go command NoMemory h = (tt, tt)
       go command Clean h = (tt, tt)
 
-  pub frees_one_by_one : IsKept (FreesOneByOne pool_name set_name)
-  frees_one_by_one command reply old new before after ready s = (frees_in_runs command reply old new before after ready s).0
+  pub frees_one_by_one : IsKept (FreesOneByOne means)
+  frees_one_by_one command reply old new ready step keeps = (frees_in_runs command reply old new ready step keeps).0
 
-  pub calls_once_a_run : IsKept (CallsOnceARun set_name)
-  calls_once_a_run command reply old new before after ready s = (frees_in_runs command reply old new before after ready s).1
+  pub calls_once_a_run : IsKept (CallsOnceARun means)
+  calls_once_a_run command reply old new ready step keeps = (frees_in_runs command reply old new ready step keeps).1
 
-  pub fails_for_cause : IsKept (FailsForCause pool_name counts mark)
-  fails_for_cause command reply old new before after ready s = go command reply s.step
+  pub fails_for_cause : IsKept (FailsForCause means)
+  fails_for_cause command reply old new ready step keeps = go command reply step
     where
-      go : (command : Command) (reply : Reply) → Steps command reply old new before after → FailsForCause pool_name counts mark (step_of command reply old new before after)
+      go : (command : Command) (reply : Reply) → Steps command reply old new → FailsForCause means (step_of command reply old new)
       go (Allocate layout count) (Refused e) h = (h.known, h.at, h.cause)
       go (Allocate layout count) (Sets first many) h = tt
       go (Allocate layout count) (Freed n) h = tt
@@ -115,9 +117,9 @@ module _ {L P S : Type 0} (pool_name : P → ℕ) (set_name : S → ℕ) (counts
       go Cleanup reply h = tt
 
   pub turns_down_bad : IsKept TurnsDownBad
-  turns_down_bad command reply old new before after ready s = go command reply s.step
+  turns_down_bad command reply old new ready step keeps = go command reply step
     where
-      go : (command : Command) (reply : Reply) → Steps command reply old new before after → TurnsDownBad (step_of command reply old new before after)
+      go : (command : Command) (reply : Reply) → Steps command reply old new → TurnsDownBad (step_of command reply old new)
       go (Allocate layout count) (Sets first many) h = ((((λ bad. absurd (cc)), (λ le. (let lt = slice_get_within _ layout h.known h.at in absurd (omega arith)))), (λ bad. absurd (cc))), tt)
       go (Allocate layout count) (Refused e) h = ((((λ bad. absurd (cc)), (λ le. (let lt = slice_get_within _ layout h.known h.at in absurd (omega arith)))), (λ bad. absurd (cc))), tt)
       go (Allocate layout count) (Freed n) h = absurd h
@@ -140,13 +142,13 @@ module _ {L P S : Type 0} (pool_name : P → ℕ) (set_name : S → ℕ) (counts
       go Cleanup NoMemory h = absurd h
       go Cleanup Clean h = (refl, tt)
 
-  pub keeps_all : IsKept (KeepsAll pool_name set_name counts mark)
-  keeps_all command reply old new before after ready s = record {
-    exactly = holds_exactly command reply old new before after ready s;
-    handed_out = holds_what_is_out command reply old new before after ready s;
-    one_by_one = frees_one_by_one command reply old new before after ready s;
-    one_call_a_run = calls_once_a_run command reply old new before after ready s;
-    limit = keeps_limit command reply old new before after ready s;
-    cause = fails_for_cause command reply old new before after ready s;
-    turned_down = turns_down_bad command reply old new before after ready s;
+  pub keeps_all : IsKept (KeepsAll means)
+  keeps_all command reply old new ready step keeps = record {
+    exactly = holds_exactly command reply old new ready step keeps;
+    handed_out = holds_what_is_out command reply old new ready step keeps;
+    one_by_one = frees_one_by_one command reply old new ready step keeps;
+    one_call_a_run = calls_once_a_run command reply old new ready step keeps;
+    limit = keeps_limit command reply old new ready step keeps;
+    cause = fails_for_cause command reply old new ready step keeps;
+    turned_down = turns_down_bad command reply old new ready step keeps;
   }

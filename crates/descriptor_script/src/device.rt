@@ -8,7 +8,7 @@ ghost use Rattle.gpu_descriptor_types.specs.Layouts.{layout, left};
 ghost use Rattle.gpu_descriptor_types.specs.Ledger.{AreLive, HasNoSets, HasRoom, Puts, PutsNone};
 ghost use Rattle.gpu_descriptor_types.specs.Ledger.{Releases, after_create, after_destroy};
 ghost use Rattle.gpu_descriptor_types.specs.Ledger.{after_no_create};
-ghost use Rattle.descriptor_script.specs.Scripted.Raw.{pool_id, raw_sets, set_id};
+ghost use Rattle.descriptor_script.specs.Scripted.Raw.{pool_id, raw_sets, script_meaning, set_id};
 ghost use Rattle.descriptor_script.specs.Scripted.Script.{alloc_error, create_error, next_word};
 ghost use Rattle.descriptor_script.specs.Scripted.Script.{rest_words};
 
@@ -109,13 +109,7 @@ impl DescriptorDevice<ScriptLayout, RawPool, RawSet> for ScriptedDevice {
     ghost use Rattle.descriptor_script.specs.Scripted.Device.{ledger_of, names_given, script_of};
     ghost use Rattle.descriptor_script.specs.Scripted.Finite.{scripted_finite};
 
-    ghost pool_name = { pool_id };
-
-    ghost set_name = { set_id };
-
-    ghost layout_counts = { λ l. kinds l.counts };
-
-    ghost layout_mark = { λ l. l.mark };
+    ghost meaning = { script_meaning };
 
     ghost ledger = { ledger_of };
 

@@ -3,6 +3,7 @@
 //! returned, batched frees, with one device call per run, leave what freeing one by one leaves,
 //! marked descriptors never pass the limit, and a request fails only for a named cause.
 ghost use Rattle.std.specs.Prelude.{◌≡◌, IfOk, OnErr};
+ghost use Rattle.gpu_descriptor_types.specs.Side.{side};
 ghost use Rattle.descriptor_script.specs.Sessions.Headline.{CallsOnceARun, FailsForCause};
 ghost use Rattle.descriptor_script.specs.Sessions.Headline.{FreesOneByOne, HoldsExactly};
 ghost use Rattle.descriptor_script.specs.Sessions.Headline.{HoldsWhatIsOut, KeepsAll, KeepsLimit};
@@ -25,66 +26,50 @@ pub fn headline<L, P: Drop, S: Drop, D: DescriptorDevice<L, P, S>>(
     device: &mut D,
     commands: &[Command],
 ) -> Result<Vec<Reply>, AllocError>
-    requires ready { IsReady D.pool_name D.set_name D.layout_counts D.layout_mark
-        session.old (D.ledger device.old) }
+    requires ready { IsReady D.meaning (side session.old (D.ledger device.old)) }
 
     // The replies are those of a run: the commands were done in order, each as its reply says.
-    ensures runs { IfOk result
-        (λ replies. RunsTo D.pool_name D.set_name D.layout_counts D.layout_mark
-        commands.now replies.items session.old session.new (D.ledger device.old)
-        (D.ledger device.new)) }
+    ensures runs { IfOk result (λ replies. RunsTo D.meaning commands.now replies.items
+        (side session.old (D.ledger device.old)) (side session.new (D.ledger device.new))) }
 
     // The pools hold exactly the sets that are held ..
-    ensures exactly { IfOk result
-        (λ replies. RunsKeeping D.pool_name D.set_name D.layout_counts D.layout_mark
-        (HoldsExactly D.pool_name D.set_name)
-        commands.now replies.items session.old session.new (D.ledger device.old)
-        (D.ledger device.new)) }
+    ensures exactly { IfOk result (λ replies. RunsKeeping D.meaning (HoldsExactly D.meaning)
+        commands.now replies.items (side session.old (D.ledger device.old))
+        (side session.new (D.ledger device.new))) }
 
     // .. and these are the sets that were handed out and not returned.
-    ensures handed_out { IfOk result
-        (λ replies. RunsKeeping D.pool_name D.set_name D.layout_counts D.layout_mark HoldsWhatIsOut
-        commands.now replies.items session.old session.new (D.ledger device.old)
-        (D.ledger device.new)) }
+    ensures handed_out { IfOk result (λ replies. RunsKeeping D.meaning HoldsWhatIsOut commands.now
+        replies.items (side session.old (D.ledger device.old))
+        (side session.new (D.ledger device.new))) }
 
-    ensures one_by_one { IfOk result
-        (λ replies. RunsKeeping D.pool_name D.set_name D.layout_counts D.layout_mark
-        (FreesOneByOne D.pool_name D.set_name)
-        commands.now replies.items session.old session.new (D.ledger device.old)
-        (D.ledger device.new)) }
-    ensures one_call_a_run { IfOk result
-        (λ replies. RunsKeeping D.pool_name D.set_name D.layout_counts D.layout_mark
-        (CallsOnceARun D.set_name)
-        commands.now replies.items session.old session.new (D.ledger device.old)
-        (D.ledger device.new)) }
-    ensures limit { IfOk result
-        (λ replies. RunsKeeping D.pool_name D.set_name D.layout_counts D.layout_mark KeepsLimit
-        commands.now replies.items session.old session.new (D.ledger device.old)
-        (D.ledger device.new)) }
-    ensures cause { IfOk result
-        (λ replies. RunsKeeping D.pool_name D.set_name D.layout_counts D.layout_mark
-        (FailsForCause D.pool_name D.layout_counts D.layout_mark)
-        commands.now replies.items session.old session.new (D.ledger device.old)
-        (D.ledger device.new)) }
-    ensures turned_down { IfOk result
-        (λ replies. RunsKeeping D.pool_name D.set_name D.layout_counts D.layout_mark TurnsDownBad
-        commands.now replies.items session.old session.new (D.ledger device.old)
-        (D.ledger device.new)) }
+    ensures one_by_one { IfOk result (λ replies. RunsKeeping D.meaning (FreesOneByOne D.meaning)
+        commands.now replies.items (side session.old (D.ledger device.old))
+        (side session.new (D.ledger device.new))) }
+    ensures one_call_a_run { IfOk result (λ replies. RunsKeeping D.meaning (CallsOnceARun D.meaning)
+        commands.now replies.items (side session.old (D.ledger device.old))
+        (side session.new (D.ledger device.new))) }
+    ensures limit { IfOk result (λ replies. RunsKeeping D.meaning KeepsLimit commands.now
+        replies.items (side session.old (D.ledger device.old))
+        (side session.new (D.ledger device.new))) }
+    ensures cause { IfOk result (λ replies. RunsKeeping D.meaning (FailsForCause D.meaning)
+        commands.now replies.items (side session.old (D.ledger device.old))
+        (side session.new (D.ledger device.new))) }
+    ensures turned_down { IfOk result (λ replies. RunsKeeping D.meaning TurnsDownBad commands.now
+        replies.items (side session.old (D.ledger device.old))
+        (side session.new (D.ledger device.new))) }
 
     // All these at the same states.
-    ensures together { IfOk result
-        (λ replies. RunsKeeping D.pool_name D.set_name D.layout_counts D.layout_mark
-        (KeepsAll D.pool_name D.set_name D.layout_counts D.layout_mark)
-        commands.now replies.items session.old session.new (D.ledger device.old)
-        (D.ledger device.new)) }
+    ensures together { IfOk result (λ replies. RunsKeeping D.meaning (KeepsAll D.meaning)
+        commands.now replies.items (side session.old (D.ledger device.old))
+        (side session.new (D.ledger device.new))) }
 
     // Without memory for the replies nothing is done.
     ensures session { OnErr result (session.new ≡ session.old) }
     ensures ledger { OnErr result (D.ledger device.new ≡ D.ledger device.old) }
 
     // Pools of others stay over the whole run, none is lost, and the next call may be made.
-    ensures keeps { KeepsSession D.pool_name D.set_name D.layout_counts D.layout_mark
-        session.old session.new (D.ledger device.old) (D.ledger device.new) }
+    ensures keeps { KeepsSession D.meaning (side session.old (D.ledger device.old))
+        (side session.new (D.ledger device.new)) }
 {
     session.run(device, commands)
 }

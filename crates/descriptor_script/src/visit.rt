@@ -1,9 +1,11 @@
 //! A visit to a device: of an allocator that is made, used and cleaned up nothing is left there,
 //! once all its sets are free.
 ghost use Rattle.std.specs.Prelude.{◌≡◌, [], IfOk};
+ghost use Rattle.gpu_descriptor_types.specs.Side.{side};
 ghost use Rattle.gpu_descriptor.specs.Caller.States.{Agrees, state_of};
 ghost use Rattle.descriptor_script.specs.Sessions.Session.{AreAllHeld, AreMeant, HasNoPools};
-ghost use Rattle.descriptor_script.specs.Sessions.Session.{KeepsSession, allocator_of, layouts_of, sets_of};
+ghost use Rattle.descriptor_script.specs.Sessions.Session.{KeepsSession, allocator_of};
+ghost use Rattle.descriptor_script.specs.Sessions.Session.{layouts_of, sets_of};
 ghost use Rattle.descriptor_script.specs.Sessions.SessionRun.{VisitsTo};
 ghost use Rattle.descriptor_script.specs.Sessions.Tickets.{held_sets};
 
@@ -21,22 +23,20 @@ pub fn visit<L, P: Drop, S: Drop, D: DescriptorDevice<L, P, S>>(
     device: &mut D,
     commands: &[Command],
 ) -> Result<Vec<Reply>, AllocError>
-    requires began { HasNoPools (state_of D.pool_name (allocator_of session.old)
+    requires began { HasNoPools (state_of D.meaning.pool_name (allocator_of session.old)
         (D.ledger device.old)) }
-    requires agree { Agrees D.pool_name (allocator_of session.old) (D.ledger device.old) }
-    requires held { AreAllHeld D.set_name (sets_of session.old)
-        (state_of D.pool_name (allocator_of session.old) (D.ledger device.old)) }
-    requires meant { AreMeant D.layout_counts D.layout_mark (layouts_of session.old) }
-    ensures runs { IfOk result
-        (λ replies. VisitsTo D.pool_name D.set_name D.layout_counts D.layout_mark
-        commands.now replies.items session.old session.new (D.ledger device.old)
-        (D.ledger device.new)) }
+    requires agree { Agrees D.meaning.pool_name (allocator_of session.old) (D.ledger device.old) }
+    requires held { AreAllHeld D.meaning.set_name (sets_of session.old) (state_of
+        D.meaning.pool_name (allocator_of session.old) (D.ledger device.old)) }
+    requires meant { AreMeant D.meaning (layouts_of session.old) }
+    ensures runs { IfOk result (λ replies. VisitsTo D.meaning commands.now replies.items
+        (side session.old (D.ledger device.old)) (side session.new (D.ledger device.new))) }
     ensures pools { held_sets (sets_of session.new) ≡ [] → (D.ledger device.new).pools
         ≡ (D.ledger device.old).pools }
-    ensures ended { held_sets (sets_of session.new) ≡ [] → HasNoPools (state_of D.pool_name
+    ensures ended { held_sets (sets_of session.new) ≡ [] → HasNoPools (state_of D.meaning.pool_name
         (allocator_of session.new) (D.ledger device.new)) }
-    ensures keeps { KeepsSession D.pool_name D.set_name D.layout_counts D.layout_mark
-        session.old session.new (D.ledger device.old) (D.ledger device.new) }
+    ensures keeps { KeepsSession D.meaning (side session.old (D.ledger device.old))
+        (side session.new (D.ledger device.new)) }
 {
     laws::no_pool_is_lost::<P>();
     laws::clean_again();

@@ -9,7 +9,7 @@ ghost use Rattle.gpu_descriptor_types.specs.Ledger.{AreLive, HasNoSets, HasRoom,
 ghost use Rattle.gpu_descriptor_types.specs.Ledger.{after_create, after_destroy, after_no_create};
 ghost use Rattle.gpu_descriptor_types.specs.Ledger.{Releases};
 ghost use Rattle.descriptor_script.specs.Scripted.Device.{empty_ledger};
-ghost use Rattle.descriptor_script.specs.Scripted.Raw.{pool_id, set_id};
+ghost use Rattle.descriptor_script.specs.Scripted.Raw.{pool_id, script_meaning, set_id};
 ghost use Rattle.descriptor_script.specs.Scripted.Script.{alloc_error, create_error, next_word};
 ghost use Rattle.descriptor_script.specs.Scripted.Script.{rest_words};
 ghost use Rattle.descriptor_trace.specs.TraceTexts as says;
@@ -85,13 +85,7 @@ impl<W: Write> DescriptorDevice<ScriptLayout, RawPool, RawSet> for Traced<W> {
     ghost use Rattle.descriptor_script.specs.Scripted.Finite.{scripted_finite};
     ghost use Rattle.descriptor_trace.specs.Traced.{traced_ledger, traced_names, traced_script};
 
-    ghost pool_name = { pool_id };
-
-    ghost set_name = { set_id };
-
-    ghost layout_counts = { λ l. kinds l.counts };
-
-    ghost layout_mark = { λ l. l.mark };
+    ghost meaning = { script_meaning };
 
     ghost ledger = { traced_ledger };
 
@@ -202,7 +196,7 @@ impl<W: Write> DescriptorDevice<ScriptLayout, RawPool, RawSet> for Traced<W> {
 impl<W: Write> ScriptedMeaning for Traced<W> {
     ghost use Rattle.std.specs.Prelude.{refl};
 
-    ghost meanings = { record { pools = refl; sets = refl; counts = refl; marks = refl } };
+    ghost scripted = { refl };
 }
 
 impl<W: Write> LineDevice for Traced<W> {

@@ -21,6 +21,7 @@ use Rattle.descriptor_script.specs.declared.raw.ScriptLayout.{ScriptLayout}
 use Rattle.descriptor_script.specs.declared.session.Session.{Session}
 use Rattle.descriptor_trials.specs.Pairs.{AreApart, ArePaired, IsNewSession, session_state}
 use Rattle.descriptor_script.specs.Sessions.Ready.{IsScriptReady}
+use Rattle.gpu_descriptor_types.specs.Side.{side}
 
 abbrev Held : Type 0
 Held = Session ScriptLayout RawPool RawSet
@@ -37,7 +38,7 @@ module _ (x x' y : Held) (l m : Ledger) (foreign : KeepsForeign (session_state x
   keeps = record { books = λ k. refl; pools = λ k n e at. (not_touched k n e at).0 }
 
   -- after a step of one session both can make the next, and no pool stands in both books
-  pub stepped : IsScriptReady x' m → ArePaired x' y m
+  pub stepped : IsScriptReady (side x' m) → ArePaired x' y m
   stepped ready = record {
     one = ready;
     other = record {
@@ -62,7 +63,7 @@ none_shared x y l limit empty k j m n d e there at same =
     none_at m d (ap (λ (b : Bucket). entry_at b m) (sym no_books) ∙ there)
 
 -- a session without keys and sets can make a step on any device
-pub new_ready : (s : Held) (l : Ledger) → IsNewSession s → IsScriptReady s l
+pub new_ready : (s : Held) (l : Ledger) → IsNewSession s → IsScriptReady (side s l)
 new_ready s l new = record {
   agree = subst (λ (a : Allocations RawPool). Agrees pool_id a l) (sym new.allocator) (empty_agrees l.pools);
   held = λ t.

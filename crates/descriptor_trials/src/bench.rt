@@ -1,5 +1,6 @@
 //! A session on a device, with which all its steps are made.
 ghost use Rattle.std.specs.Prelude.{◌≡◌};
+ghost use Rattle.gpu_descriptor_types.specs.Side.{side};
 ghost use Rattle.descriptor_script.proofs.OneReady.{IsReady-prop};
 ghost use Rattle.gpu_descriptor_types.specs.Counts.{kinds};
 ghost use Rattle.descriptor_script.specs.Sessions.Session.{IsReady};
@@ -19,9 +20,8 @@ use std::process::Abort;
 pub struct Bench<D: DescriptorDevice<ScriptLayout, RawPool, RawSet>> {
     pub session: Session<ScriptLayout, RawPool, RawSet>,
     pub device: D,
-    ghost ready: { IsReady D.pool_name D.set_name D.layout_counts D.layout_mark session
-        (D.ledger device) } by { IsReady-prop D.pool_name D.set_name D.layout_counts D.layout_mark
-            session (D.ledger device) },
+    ghost ready: { IsReady D.meaning (side session (D.ledger device)) } by { IsReady-prop D.meaning
+        (side session (D.ledger device)) },
 }
 
 /// A layout with so many samplers, and no other descriptors.
@@ -43,8 +43,8 @@ impl<D: DescriptorDevice<ScriptLayout, RawPool, RawSet>> Bench<D> {
 
     /// Puts a layout last that the device means as it stands, and answers its place.
     pub fn add_layout(&mut self, layout: ScriptLayout) -> Result<usize, &'static str>
-        requires counts { D.layout_counts layout ≡ kinds layout.counts }
-        requires mark { D.layout_mark layout ≡ layout.mark }
+        requires counts { D.meaning.counts layout ≡ kinds layout.counts }
+        requires mark { D.meaning.mark layout ≡ layout.mark }
     {
         let flags = flags_of(layout.mark);
         match self.session.add_layout(layout, layout.counts, flags) {

@@ -1,6 +1,7 @@
 //! Visits of a session to a device, with ample memory: that each succeeds and leaves nothing, so
 //! that the session may come again. No clause says that memory is there.
 ghost use Rattle.std.specs.Prelude.{OnOk};
+ghost use Rattle.gpu_descriptor_types.specs.Side.{side};
 ghost use Rattle.gpu_descriptor.specs.Caller.States.{state_of};
 ghost use Rattle.descriptor_script.specs.Scripted.Raw.{pool_id};
 ghost use Rattle.descriptor_script.specs.Sessions.Ready.{IsScriptReady};
@@ -38,10 +39,10 @@ fn expect_visit(
     commands: &[Command],
     replies: &[Reply],
 ) -> Result<(), Fail>
-    requires ready { IsScriptReady session.old (ledger_logged device.old) }
+    requires ready { IsScriptReady (side session.old (ledger_logged device.old)) }
     requires began { HasNoPools (state_of pool_id (allocator_of session.old)
         (ledger_logged device.old)) }
-    ensures ready { IsScriptReady session.new (ledger_logged device.new) }
+    ensures ready { IsScriptReady (side session.new (ledger_logged device.new)) }
     ensures ended { OnOk result (HasNoPools (state_of pool_id (allocator_of session.new)
         (ledger_logged device.new))) }
 {
@@ -60,7 +61,7 @@ fn expect_visits(
     session: &mut Session<ScriptLayout, RawPool, RawSet>,
     device: &mut LogDevice,
 ) -> Result<(), Fail>
-    requires ready { IsScriptReady session.old (ledger_logged device.old) }
+    requires ready { IsScriptReady (side session.old (ledger_logged device.old)) }
     requires began { HasNoPools (state_of pool_id (allocator_of session.old)
         (ledger_logged device.old)) }
 {

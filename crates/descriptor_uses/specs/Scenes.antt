@@ -22,4 +22,4 @@ module _ {L P S D : Type 0} {d : Ghosts D L P S} where
   pools_of s = (d.ledger s.device).pools
 
   abbrev pub others_in : Scene L P S D d → ℕ → Option Pool
-  others_in s = others_of d.pool_name s.allocator (d.ledger s.device)
+  others_in s = others_of d.meaning.pool_name s.allocator (d.ledger s.device)

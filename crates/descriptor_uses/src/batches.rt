@@ -14,13 +14,14 @@ pub fn free_both<L, P, S: Drop, D: DescriptorDevice<L, P, S>>(
     first: Vec<DescriptorSet<S>>,
     second: Vec<DescriptorSet<S>>,
 )
-    requires agree { Agrees D.pool_name allocator.old (D.ledger device.old) }
-    requires outstanding { AreOutstanding (items_of D.set_name (first.items ++ second.items))
-        (state_of D.pool_name allocator.old (D.ledger device.old)) }
-    ensures agree { Agrees D.pool_name allocator.new (D.ledger device.new) }
-    ensures returned { AreOutBesides (items_of D.set_name (first.items ++ second.items))
-        (state_of D.pool_name allocator.new (D.ledger device.new))
-        (state_of D.pool_name allocator.old (D.ledger device.old)) }
+    requires agree { Agrees D.meaning.pool_name allocator.old (D.ledger device.old) }
+    requires outstanding { AreOutstanding
+        (items_of D.meaning.set_name (first.items ++ second.items))
+        (state_of D.meaning.pool_name allocator.old (D.ledger device.old)) }
+    ensures agree { Agrees D.meaning.pool_name allocator.new (D.ledger device.new) }
+    ensures returned { AreOutBesides (items_of D.meaning.set_name (first.items ++ second.items))
+        (state_of D.meaning.pool_name allocator.new (D.ledger device.new))
+        (state_of D.meaning.pool_name allocator.old (D.ledger device.old)) }
 {
     allocator.free_all(device, first);
     allocator.free_all(device, second);

@@ -6,7 +6,7 @@ ghost use Rattle.gpu_descriptor_types.specs.Layouts.{layout, left};
 ghost use Rattle.gpu_descriptor_types.specs.Ledger.{HasRoom, Puts, PutsNone, after_create};
 ghost use Rattle.gpu_descriptor_types.specs.Ledger.{after_no_create};
 ghost use Rattle.descriptor_script.specs.Scripted.Device.{empty_ledger, ledger_of, script_of};
-ghost use Rattle.descriptor_script.specs.Scripted.Raw.{pool_id, set_id};
+ghost use Rattle.descriptor_script.specs.Scripted.Raw.{pool_id, script_meaning, set_id};
 
 use descriptor_script::{RawPool, RawSet, ScriptLayout, ScriptedDevice};
 use gpu_descriptor::{
@@ -42,13 +42,7 @@ impl<const MOST: u32> DescriptorDevice<ScriptLayout, RawPool, RawSet> for FewPoo
     ghost use Rattle.descriptor_script.specs.Scripted.Finite.{scripted_finite};
     ghost use Rattle.descriptor_uses.specs.FewPools.{few_ledger};
 
-    ghost pool_name = { pool_id };
-
-    ghost set_name = { set_id };
-
-    ghost layout_counts = { λ l. kinds l.counts };
-
-    ghost layout_mark = { λ l. l.mark };
+    ghost meaning = { script_meaning };
 
     ghost ledger = { few_ledger };
 

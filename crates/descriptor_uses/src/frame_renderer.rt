@@ -26,11 +26,11 @@ pub struct FrameRenderer<L, P, S, D: DescriptorDevice<L, P, S>> {
     manager: FrameManager<P, S>,
     in_use: VecDeque<DescriptorSet<S>>,
     layouts: PhantomData<L>,
-    ghost agree: { Agrees D.pool_name (allocator_of manager) (D.ledger device) } by { Agree-prop
-        (state_of D.pool_name (allocator_of manager) (D.ledger device)) },
-    ghost retired: { AreRetiredOut D.pool_name D.set_name manager (D.ledger device) },
-    ghost used: { AreInUse D.pool_name D.set_name (items_of D.set_name in_use.items) manager
+    ghost agree: { Agrees D.meaning.pool_name (allocator_of manager) (D.ledger device) } by { Agree-prop (state_of D.meaning.pool_name (allocator_of manager) (D.ledger device)) },
+    ghost retired: { AreRetiredOut D.meaning.pool_name D.meaning.set_name manager
         (D.ledger device) },
+    ghost used: { AreInUse D.meaning.pool_name D.meaning.set_name
+        (items_of D.meaning.set_name in_use.items) manager (D.ledger device) },
 }
 
 impl<L, P: Drop, S: Drop, D: DescriptorDevice<L, P, S>> FrameRenderer<L, P, S, D> {
@@ -53,7 +53,7 @@ impl<L, P: Drop, S: Drop, D: DescriptorDevice<L, P, S>> FrameRenderer<L, P, S, D
     /// Takes the sets that a frame draws with. False where some are still in use: retire these
     /// first.
     pub fn begin(&mut self, layout: &SetLayout<L>, count: u32) -> Result<bool, AllocationError>
-        requires { IsMeant D.layout_counts D.layout_mark layout.now }
+        requires { IsMeant D.meaning layout.now }
         ensures begins { result ≡ Ok true → length (used_of self.new) ≡ count }
         ensures waits { IfOk result (λ began. IsTrue began ↔ (used_of self.old ≡ [])) }
         ensures stay { ¬ (result ≡ Ok true) → used_of self.new ≡ used_of self.old }

@@ -10,7 +10,7 @@ ghost use Rattle.gpu_descriptor_types.specs.Ledger.{Releases, after_create, afte
 ghost use Rattle.gpu_descriptor_types.specs.Ledger.{after_no_create};
 ghost use Rattle.descriptor_script.specs.Scripted.Device.{empty_ledger, ledger_of, names_given};
 ghost use Rattle.descriptor_script.specs.Scripted.Device.{script_of};
-ghost use Rattle.descriptor_script.specs.Scripted.Raw.{pool_id, set_id};
+ghost use Rattle.descriptor_script.specs.Scripted.Raw.{pool_id, script_meaning, set_id};
 ghost use Rattle.descriptor_script.specs.Scripted.Script.{alloc_error, create_error, next_word};
 ghost use Rattle.descriptor_script.specs.Scripted.Script.{rest_words};
 ghost use Rattle.descriptor_uses.specs.Owed.{IsOwed, ReleasesMany};
@@ -106,13 +106,7 @@ impl DescriptorDevice<ScriptLayout, RawPool, RawSet> for LogDevice {
     ghost use Rattle.descriptor_uses.specs.Logged.{IsErrorOfCall, calls_of, ledger_logged};
     ghost use Rattle.descriptor_uses.specs.Logged.{next_pool, script_logged};
 
-    ghost pool_name = { pool_id };
-
-    ghost set_name = { set_id };
-
-    ghost layout_counts = { λ l. kinds l.counts };
-
-    ghost layout_mark = { λ l. l.mark };
+    ghost meaning = { script_meaning };
 
     ghost ledger = { ledger_logged };
 

@@ -18,8 +18,8 @@ pub fn draw_once<L, P: Drop, S: Drop, D: DescriptorDevice<L, P, S>>(
     flags: DescriptorSetLayoutCreateFlags,
     counts: &DescriptorTotalCount,
 ) -> Result<(), AllocationError>
-    requires counts { kinds counts.now ≡ D.layout_counts layout.now }
-    requires mark { is_marked flags ≡ D.layout_mark layout.now }
+    requires counts { kinds counts.now ≡ D.meaning.counts layout.now }
+    requires mark { is_marked flags ≡ D.meaning.mark layout.now }
     ensures pools { (D.ledger device.new).pools ≡ (D.ledger device.old).pools }
 {
     laws::books_alone();

@@ -52,13 +52,12 @@ impl OnePool {
 impl DescriptorDevice<DescriptorTotalCount, u64, u64> for OnePool {
     ghost use Rattle.descriptor_uses.specs.OwnDevice.{owed_is_finite, owed_of};
 
-    ghost pool_name = { λ pool. pool };
-
-    ghost set_name = { λ set. set };
-
-    ghost layout_counts = { kinds };
-
-    ghost layout_mark = { λ layout. false };
+    ghost meaning = { record {
+      pool_name = λ pool. pool;
+      set_name = λ set. set;
+      counts = kinds;
+      mark = λ layout. false;
+    } };
 
     ghost ledger = { owed_of };
 

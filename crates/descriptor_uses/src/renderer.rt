@@ -17,8 +17,8 @@ pub struct Renderer<L, P, S, D: DescriptorDevice<L, P, S>> {
     pub device: D,
     pub allocator: DescriptorAllocator<P, S>,
     pub layouts: PhantomData<L>,
-    ghost agree: { Agrees D.pool_name allocator (D.ledger device) } by { Agree-prop
-        (state_of D.pool_name allocator (D.ledger device)) },
+    ghost agree: { Agrees D.meaning.pool_name allocator (D.ledger device) } by { Agree-prop
+        (state_of D.meaning.pool_name allocator (D.ledger device)) },
 }
 
 impl<L, P: Drop, S: Drop, D: DescriptorDevice<L, P, S>> Renderer<L, P, S, D> {
@@ -42,13 +42,13 @@ impl<L, P: Drop, S: Drop, D: DescriptorDevice<L, P, S>> Renderer<L, P, S, D> {
         layout: &SetLayout<L>,
         count: u32,
     ) -> Result<Vec<DescriptorSet<S>>, AllocationError>
-        requires { IsMeant D.layout_counts D.layout_mark layout.now }
-        ensures given { IfOk result (λ sets. AreOutBesides (items_of D.set_name sets.items)
-            (state_of D.pool_name self.old.allocator (D.ledger self.old.device))
-            (state_of D.pool_name self.new.allocator (D.ledger self.new.device))) }
-        ensures back { OnErr result (KeepsOutstanding
-            (state_of D.pool_name self.old.allocator (D.ledger self.old.device))
-            (state_of D.pool_name self.new.allocator (D.ledger self.new.device))) }
+        requires { IsMeant D.meaning layout.now }
+        ensures given { IfOk result (λ sets. AreOutBesides (items_of D.meaning.set_name sets.items)
+            (state_of D.meaning.pool_name self.old.allocator (D.ledger self.old.device)) (state_of
+            D.meaning.pool_name self.new.allocator (D.ledger self.new.device))) }
+        ensures back { OnErr result (KeepsOutstanding (state_of D.meaning.pool_name
+            self.old.allocator (D.ledger self.old.device)) (state_of D.meaning.pool_name
+            self.new.allocator (D.ledger self.new.device))) }
     {
         self.allocator.allocate(
             &mut self.device,
@@ -61,30 +61,30 @@ impl<L, P: Drop, S: Drop, D: DescriptorDevice<L, P, S>> Renderer<L, P, S, D> {
 
     /// Gives sets back.
     pub fn give_back(&mut self, sets: Vec<DescriptorSet<S>>)
-        requires { AreOutstanding (items_of D.set_name sets.items)
-            (state_of D.pool_name self.old.allocator (D.ledger self.old.device)) }
-        ensures { AreOutBesides (items_of D.set_name sets.items)
-            (state_of D.pool_name self.new.allocator (D.ledger self.new.device))
-            (state_of D.pool_name self.old.allocator (D.ledger self.old.device)) }
+        requires { AreOutstanding (items_of D.meaning.set_name sets.items) (state_of
+            D.meaning.pool_name self.old.allocator (D.ledger self.old.device)) }
+        ensures { AreOutBesides (items_of D.meaning.set_name sets.items) (state_of
+            D.meaning.pool_name self.new.allocator (D.ledger self.new.device)) (state_of
+            D.meaning.pool_name self.old.allocator (D.ledger self.old.device)) }
     {
         self.allocator.free_all(&mut self.device, sets);
     }
 
     /// Destroys the pools without sets.
     pub fn clean(&mut self)
-        ensures { KeepsOutstanding
-            (state_of D.pool_name self.old.allocator (D.ledger self.old.device))
-            (state_of D.pool_name self.new.allocator (D.ledger self.new.device)) }
+        ensures { KeepsOutstanding (state_of D.meaning.pool_name self.old.allocator
+            (D.ledger self.old.device)) (state_of D.meaning.pool_name self.new.allocator
+            (D.ledger self.new.device)) }
     {
         self.allocator.cleanup(&mut self.device);
     }
 
     /// Takes sets, and gives them back.
     pub fn round(&mut self, layout: &SetLayout<L>, count: u32) -> Result<(), AllocationError>
-        requires { IsMeant D.layout_counts D.layout_mark layout.now }
-        ensures { KeepsOutstanding
-            (state_of D.pool_name self.old.allocator (D.ledger self.old.device))
-            (state_of D.pool_name self.new.allocator (D.ledger self.new.device)) }
+        requires { IsMeant D.meaning layout.now }
+        ensures { KeepsOutstanding (state_of D.meaning.pool_name self.old.allocator
+            (D.ledger self.old.device)) (state_of D.meaning.pool_name self.new.allocator
+            (D.ledger self.new.device)) }
     {
         let sets = self.take(layout, count)?;
         self.give_back(sets);

@@ -22,10 +22,10 @@ pub struct Scene<L, P, S, D: DescriptorDevice<L, P, S>> {
     allocator: DescriptorAllocator<P, S>,
     sets: Vec<DescriptorSet<S>>,
     layouts: PhantomData<L>,
-    ghost agree: { Agrees D.pool_name allocator (D.ledger device) } by { Agree-prop
-        (state_of D.pool_name allocator (D.ledger device)) },
-    ghost held: { AreOutstanding (items_of D.set_name sets.items) (state_of D.pool_name allocator
-        (D.ledger device)) },
+    ghost agree: { Agrees D.meaning.pool_name allocator (D.ledger device) } by { Agree-prop
+        (state_of D.meaning.pool_name allocator (D.ledger device)) },
+    ghost held: { AreOutstanding (items_of D.meaning.set_name sets.items)
+        (state_of D.meaning.pool_name allocator (D.ledger device)) },
     ghost all: { outstanding_of allocator ≡ length sets.items },
 }
 
@@ -48,7 +48,7 @@ impl<L, P: Drop, S: Drop, D: DescriptorDevice<L, P, S>> Scene<L, P, S, D> {
 
     /// Adds sets of a layout, all or none.
     pub fn add(&mut self, layout: &SetLayout<L>, count: u32) -> Result<(), AllocationError>
-        requires { IsMeant D.layout_counts D.layout_mark layout.now }
+        requires { IsMeant D.meaning layout.now }
         ensures added { OnOk result (Adds count (held_of self.old) (held_of self.new)) }
         ensures held { OnErr result (held_of self.new ≡ held_of self.old) }
     {

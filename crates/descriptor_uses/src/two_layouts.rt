@@ -16,8 +16,8 @@ pub fn draw_once<L, P: Drop, S: Drop, D: DescriptorDevice<L, P, S>>(
     first: &SetLayout<L>,
     second: &SetLayout<L>,
 ) -> Result<(), AllocationError>
-    requires first { IsMeant D.layout_counts D.layout_mark first.now }
-    requires second { IsMeant D.layout_counts D.layout_mark second.now }
+    requires first { IsMeant D.meaning first.now }
+    requires second { IsMeant D.meaning second.now }
     ensures pools { (D.ledger device.new).pools ≡ (D.ledger device.old).pools }
 {
     laws::books_alone();
@@ -35,13 +35,13 @@ pub fn borrow_sets<L, P: Drop, S: Drop, D: DescriptorDevice<L, P, S>>(
     first: &SetLayout<L>,
     second: &SetLayout<L>,
 ) -> Result<(), AllocationError>
-    requires first { IsMeant D.layout_counts D.layout_mark first.now }
-    requires second { IsMeant D.layout_counts D.layout_mark second.now }
-    requires agree { Agrees D.pool_name allocator.old (D.ledger device.old) }
-    ensures agree { Agrees D.pool_name allocator.new (D.ledger device.new) }
+    requires first { IsMeant D.meaning first.now }
+    requires second { IsMeant D.meaning second.now }
+    requires agree { Agrees D.meaning.pool_name allocator.old (D.ledger device.old) }
+    ensures agree { Agrees D.meaning.pool_name allocator.new (D.ledger device.new) }
     ensures outstanding { outstanding_of allocator.new ≡ outstanding_of allocator.old }
-    ensures others { others_of D.pool_name allocator.new (D.ledger device.new)
-        ≡ others_of D.pool_name allocator.old (D.ledger device.old) }
+    ensures others { others_of D.meaning.pool_name allocator.new (D.ledger device.new) ≡ others_of
+        D.meaning.pool_name allocator.old (D.ledger device.old) }
 {
     let three = allocator.allocate(device, &first.layout, first.flags, &first.counts, 3)?;
     match allocator.allocate(device, &second.layout, second.flags, &second.counts, 2) {

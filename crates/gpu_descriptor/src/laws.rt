@@ -75,8 +75,8 @@ pub fn no_pool_is_lost<P>()
     ensures one_or_other { NamedOrForeign P }
 
     // All pools are others' where the allocator has no keys.
-    ensures all_others { (name : P → ℕ) (a : Allocations P) (l : Ledger) → a.table ≡ []
-        → others_of name a l ≡ l.pools }
+    ensures all_others { (name : P → ℕ) (a : Allocations P) (l : Ledger) → a.table ≡ [] → others_of
+        name a l ≡ l.pools }
 {}
 
 /// An allocator without keys agrees with every ledger, and sums over all keys depend on the books
@@ -99,15 +99,12 @@ pub fn agreement_is_one()
 /// Where no key has two rows, the sets, the marked descriptors and the descriptors of marked keys'
 /// pools that an allocator's rows add up to are those of its books.
 pub fn rows_add_up<P>()
-    ensures out { (name : P → ℕ) (a : Allocations P) (l : Ledger)
-        → HasDistinctKeys (table_of name a)
-        → IsOut (state_of name a l) (outstanding_of a) }
-    ensures load { (name : P → ℕ) (a : Allocations P) (l : Ledger)
-        → HasDistinctKeys (table_of name a)
-        → IsMarkedLoad (state_of name a l) (marked_load_of a) }
-    ensures pool_load { (name : P → ℕ) (a : Allocations P) (l : Ledger)
-        → HasDistinctKeys (table_of name a)
-        → IsPoolLoad (state_of name a l) (pool_load_of a) }
+    ensures out { (name : P → ℕ) (a : Allocations P) (l : Ledger) → HasDistinctKeys
+        (table_of name a) → IsOut (state_of name a l) (outstanding_of a) }
+    ensures load { (name : P → ℕ) (a : Allocations P) (l : Ledger) → HasDistinctKeys
+        (table_of name a) → IsMarkedLoad (state_of name a l) (marked_load_of a) }
+    ensures pool_load { (name : P → ℕ) (a : Allocations P) (l : Ledger) → HasDistinctKeys
+        (table_of name a) → IsPoolLoad (state_of name a l) (pool_load_of a) }
 {}
 
 /// Where books and ledger agree, the descriptors that count towards the limit for a marked key's

@@ -3,5 +3,7 @@ pub mod Counts
 pub mod Flags
 pub mod Layouts
 pub mod Ledger
+pub mod Meaning
 pub mod Multiset
 pub mod PoolSize
+pub mod Side

@@ -1,11 +1,12 @@
 //! The interface of a device.
-ghost use Rattle.std.specs.Prelude.{◌≡◌, ℕ, ◌≤◌, List, map, Bool, IfOk, IfErr, OnOk, None};
+ghost use Rattle.std.specs.Prelude.{◌≡◌, ◌≤◌, map, IfOk, IfErr, OnOk, None};
 ghost use Rattle.std.specs.Iterator.{IsFinite, HoldsAlong};
 ghost use Rattle.gpu_descriptor_types.specs.Counts.{kinds};
 ghost use Rattle.gpu_descriptor_types.specs.Flags.{bits};
 ghost use Rattle.gpu_descriptor_types.specs.Layouts.{layout, left};
 ghost use Rattle.gpu_descriptor_types.specs.Ledger.{Ledger, after_create, after_no_create};
 ghost use Rattle.gpu_descriptor_types.specs.Ledger.{after_destroy, HasNoSets, HasRoom, AreLive};
+ghost use Rattle.gpu_descriptor_types.specs.Meaning.{Meaning};
 ghost use Rattle.gpu_descriptor_types.specs.Ledger.{Puts, PutsNone, Releases, IsFiniteLedger};
 
 use crate::counts::DescriptorTotalCount;
@@ -21,17 +22,8 @@ use crate::sink::SetSink;
 /// the ledger what it leaves, so whatever it does not name stays. Refusals are free: each call that
 /// answers a `Result` may refuse whenever it likes.
 pub trait DescriptorDevice<L, P, S> {
-    /// The name of a raw pool.
-    ghost pool_name: { P → ℕ };
-
-    /// The name of a raw set.
-    ghost set_name: { S → ℕ };
-
-    /// The counts of a layout.
-    ghost layout_counts: { L → List ℕ };
-
-    /// Whether a layout is marked as update-after-bind.
-    ghost layout_mark: { L → Bool };
+    /// What its pools, sets and layouts mean.
+    ghost meaning: { Meaning L P S };
 
     /// What the device owes.
     ghost ledger: { Self → Ledger };
@@ -43,15 +35,16 @@ pub trait DescriptorDevice<L, P, S> {
         max_sets: u32,
         flags: DescriptorPoolCreateFlags,
     ) -> Result<P, CreatePoolError>
-        ensures new_name { IfOk result (λ pool. (ledger self.old).pools (pool_name pool) ≡ None) }
+        ensures new_name { IfOk result (λ pool. (ledger self.old).pools (meaning.pool_name pool) ≡
+            None) }
         ensures ok { IfOk result (λ pool. ledger self.new ≡ after_create (kinds counts.now) max_sets
-            (bits flags) (pool_name pool) (ledger self.old)) }
+            (bits flags) (meaning.pool_name pool) (ledger self.old)) }
         ensures err { IfErr result (λ e. ledger self.new ≡ after_no_create e (ledger self.old)) };
 
     /// Destroys a pool without live sets. It can't be refused.
     fn destroy_descriptor_pool(&mut self, pool: P)
-        requires { HasNoSets (pool_name pool) (ledger self.old) }
-        ensures { ledger self.new ≡ after_destroy (pool_name pool) (ledger self.old) };
+        requires { HasNoSets (meaning.pool_name pool) (ledger self.old) }
+        ensures { ledger self.new ≡ after_destroy (meaning.pool_name pool) (ledger self.old) };
 
     /// Allocates a set for each layout and puts them into `sets`, all of them or none.
     fn alloc_descriptor_sets<K: SetSink<S>>(
@@ -60,25 +53,25 @@ pub trait DescriptorDevice<L, P, S> {
         layouts: Layouts<'_, L>,
         sets: &mut K,
     ) -> Result<(), DeviceAllocationError>
-        requires fits { HasRoom (pool_name pool.old) (left layouts) (layout_counts (layout layouts))
-            (layout_mark (layout layouts)) (ledger self.old) }
+        requires fits { HasRoom (meaning.pool_name pool.old) (left layouts) (meaning.counts (layout
+            layouts)) (meaning.mark (layout layouts)) (ledger self.old) }
         requires room { left layouts ≤ K.sink.room_left sets.old }
-        ensures name { pool_name pool.new ≡ pool_name pool.old }
-        ensures ok { OnOk result (Puts K.sink set_name (pool_name pool.old) (left layouts.entry)
-            (layout_counts (layout layouts.entry)) sets.old sets.new (ledger self.old)
-            (ledger self.new)) }
-        ensures err { IfErr result (λ e. PutsNone K.sink (pool_name pool.old) e sets.old sets.new
-            (ledger self.old) (ledger self.new)) };
+        ensures name { meaning.pool_name pool.new ≡ meaning.pool_name pool.old }
+        ensures ok { OnOk result (Puts K.sink meaning.set_name (meaning.pool_name pool.old) (left
+            layouts.entry) (meaning.counts (layout layouts.entry)) sets.old sets.new (ledger
+            self.old) (ledger self.new)) }
+        ensures err { IfErr result (λ e. PutsNone K.sink (meaning.pool_name pool.old) e sets.old
+            sets.new (ledger self.old) (ledger self.new)) };
 
     /// Releases the sets that the iterator gives, up to its end. It can't be refused.
     fn dealloc_descriptor_sets<I: Iterator<Item = S>>(&mut self, pool: &mut P, sets: &mut I)
         requires can { I.can_next sets.old }
         requires ends { IsFinite (I.remaining sets.old) }
-        requires live { HoldsAlong I.next_gives sets.old (λ xs. AreLive (pool_name pool.old)
-            (map set_name xs) (ledger self.old)) }
-        ensures name { pool_name pool.new ≡ pool_name pool.old }
-        ensures released { Releases I.next_gives set_name (pool_name pool.old) sets.old sets.new
-            (ledger self.old) (ledger self.new) };
+        requires live { HoldsAlong I.next_gives sets.old (λ xs. AreLive (meaning.pool_name pool.old)
+            (map meaning.set_name xs) (ledger self.old)) }
+        ensures name { meaning.pool_name pool.new ≡ meaning.pool_name pool.old }
+        ensures released { Releases I.next_gives meaning.set_name (meaning.pool_name pool.old)
+            sets.old sets.new (ledger self.old) (ledger self.new) };
 
     /// The ledger is of finitely many pools, each with finitely many sets.
     ghost finite: { (d : Self) → IsFiniteLedger (ledger d) };

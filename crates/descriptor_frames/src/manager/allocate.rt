@@ -1,6 +1,7 @@
 //! Handing sets out.
 ghost use Rattle.std.specs.Prelude.{◌≡◌, IfOk, OnErr};
 ghost use Rattle.gpu_descriptor_types.specs.Counts.{kinds};
+ghost use Rattle.gpu_descriptor_types.specs.Side.{side};
 ghost use Rattle.gpu_descriptor.specs.Caller.HandsOut.{HandsOut};
 ghost use Rattle.gpu_descriptor.specs.Caller.Keeps.{Keeps};
 ghost use Rattle.gpu_descriptor.specs.Caller.Flags.{is_marked};
@@ -27,26 +28,25 @@ impl<P: Drop, S: Drop> FrameManager<P, S> {
         layout_descriptor_count: &DescriptorTotalCount,
         count: u32,
     ) -> Result<Vec<DescriptorSet<S>>, AllocationError>
-        requires counts { kinds layout_descriptor_count.now ≡ D.layout_counts layout.now }
-        requires mark { is_marked flags ≡ D.layout_mark layout.now }
-        requires agree { Agrees D.pool_name (allocator_of self.old) (D.ledger device.old) }
+        requires counts { kinds layout_descriptor_count.now ≡ D.meaning.counts layout.now }
+        requires mark { is_marked flags ≡ D.meaning.mark layout.now }
+        requires agree { Agrees D.meaning.pool_name (allocator_of self.old) (D.ledger device.old) }
 
-        ensures hands_out { HandsOut D.pool_name D.set_name
-            (layout_key D.layout_counts D.layout_mark layout.now) count result
-            (allocator_of self.old) (allocator_of self.new)
-            (D.ledger device.old) (D.ledger device.new) }
-        ensures keeps { Keeps D.pool_name (allocator_of self.old) (allocator_of self.new)
-            (D.ledger device.old) (D.ledger device.new) }
+        ensures hands_out { HandsOut D.meaning (layout_key D.meaning layout.now) count result
+            (side (allocator_of self.old) (D.ledger device.old))
+            (side (allocator_of self.new) (D.ledger device.new)) }
+        ensures keeps { Keeps D.meaning (side (allocator_of self.old) (D.ledger device.old))
+            (side (allocator_of self.new) (D.ledger device.new)) }
 
         // If the retired sets were outstanding they still are, and only the answer comes into use.
-        ensures retired { KeepsRetired D.pool_name D.set_name self.old self.new
+        ensures retired { KeepsRetired D.meaning.pool_name D.meaning.set_name self.old self.new
             (D.ledger device.old) (D.ledger device.new) }
-        ensures in_use { AreRetiredOut D.pool_name D.set_name self.old (D.ledger device.old)
-            → IfOk result (λ sets. BringsIntoUse D.pool_name D.set_name
-            (items_of D.set_name sets.items) self.old self.new
+        ensures in_use { AreRetiredOut D.meaning.pool_name D.meaning.set_name self.old
+            (D.ledger device.old) → IfOk result (λ sets. BringsIntoUse D.meaning.pool_name
+            D.meaning.set_name (items_of D.meaning.set_name sets.items) self.old self.new
             (D.ledger device.old) (D.ledger device.new)) }
-        ensures in_use_stay { OnErr result (KeepsInUse D.pool_name D.set_name self.old self.new
-            (D.ledger device.old) (D.ledger device.new)) }
+        ensures in_use_stay { OnErr result (KeepsInUse D.meaning.pool_name D.meaning.set_name
+            self.old self.new (D.ledger device.old) (D.ledger device.new)) }
     {
         self.allocator
             .allocate(device, layout, flags, layout_descriptor_count, count)

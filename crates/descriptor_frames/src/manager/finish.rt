@@ -1,5 +1,6 @@
 //! Giving back the sets of the frames that are done.
 ghost use Rattle.std.specs.Prelude.{◌≡◌, []};
+ghost use Rattle.gpu_descriptor_types.specs.Side.{side};
 ghost use Rattle.gpu_descriptor.specs.Caller.Frees.{Returns};
 ghost use Rattle.gpu_descriptor.specs.Caller.Keeps.{Keeps};
 ghost use Rattle.gpu_descriptor.specs.Caller.States.{Agrees};
@@ -21,22 +22,24 @@ impl<P, S> FrameManager<P, S> {
     /// It takes about as many steps as sets go back; the others are not moved. With none it makes
     /// no call of the device and changes nothing.
     pub fn finish<L, D: DescriptorDevice<L, P, S>>(&mut self, device: &mut D, frame: u64)
-        requires agree { Agrees D.pool_name (allocator_of self.old) (D.ledger device.old) }
-        requires retired { AreRetiredOut D.pool_name D.set_name self.old (D.ledger device.old) }
+        requires agree { Agrees D.meaning.pool_name (allocator_of self.old) (D.ledger device.old) }
+        requires retired { AreRetiredOut D.meaning.pool_name D.meaning.set_name self.old
+            (D.ledger device.old) }
 
-        ensures returns { Returns D.pool_name D.set_name (due_sets frame self.old)
-            (allocator_of self.old) (allocator_of self.new)
-            (D.ledger device.old) (D.ledger device.new) }
-        ensures keeps { Keeps D.pool_name (allocator_of self.old) (allocator_of self.new)
-            (D.ledger device.old) (D.ledger device.new) }
+        ensures returns { Returns D.meaning (due_sets frame self.old)
+            (side (allocator_of self.old) (D.ledger device.old))
+            (side (allocator_of self.new) (D.ledger device.new)) }
+        ensures keeps { Keeps D.meaning (side (allocator_of self.old) (D.ledger device.old))
+            (side (allocator_of self.new) (D.ledger device.new)) }
 
         ensures rest { retired_of self.new ≡ later frame (retired_of self.old) }
         ensures greatest { greatest_of self.new ≡ greatest_of self.old }
-        ensures retired { AreRetiredOut D.pool_name D.set_name self.new (D.ledger device.new) }
-        ensures in_use { KeepsInUse D.pool_name D.set_name self.old self.new
+        ensures retired { AreRetiredOut D.meaning.pool_name D.meaning.set_name self.new
+            (D.ledger device.new) }
+        ensures in_use { KeepsInUse D.meaning.pool_name D.meaning.set_name self.old self.new
             (D.ledger device.old) (D.ledger device.new) }
-        ensures none { due_sets frame self.old ≡ [] → ManagerStays D.pool_name self.old self.new
-            (D.ledger device.old) (D.ledger device.new) }
+        ensures none { due_sets frame self.old ≡ [] → ManagerStays D.meaning.pool_name self.old
+            self.new (D.ledger device.old) (D.ledger device.new) }
     {
         let mut due = Due {
             retired: &mut self.retired,

@@ -1,8 +1,11 @@
 -- Names of raw pools and raw sets.
 use Rattle.std.specs.Prelude.{ℕ, List, map}
 use Rattle.std.specs.List.{range_with_len}
+use Rattle.gpu_descriptor_types.specs.Counts.{kinds}
+use Rattle.gpu_descriptor_types.specs.Meaning.{Meaning}
 use Rattle.descriptor_script.specs.declared.raw.RawPool.{RawPool}
 use Rattle.descriptor_script.specs.declared.raw.RawSet.{RawSet}
+use Rattle.descriptor_script.specs.declared.raw.ScriptLayout.{ScriptLayout}
 
 -- the name of the pool
 abbrev pub pool_id : RawPool → ℕ
@@ -11,6 +14,10 @@ pool_id pool = pool.id
 -- the name of the set
 abbrev pub set_id : RawSet → ℕ
 set_id set = set.id
+
+-- pools and sets have the names that they carry, layouts their counts and their mark
+abbrev pub script_meaning : Meaning ScriptLayout RawPool RawSet
+script_meaning = record { pool_name = pool_id; set_name = set_id; counts = λ l. kinds l.counts; mark = λ l. l.mark }
 
 -- the name of the set's pool
 abbrev pub set_pool : RawSet → ℕ

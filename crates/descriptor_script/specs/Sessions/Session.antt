@@ -1,10 +1,11 @@
 -- What a session keeps.
-use Rattle.std.specs.Prelude.{◌≡◌, ℕ, Bool, List, length, slice_get, Option, Some}
+use Rattle.std.specs.Prelude.{◌≡◌, ℕ, List, length, slice_get, Option, Some}
 use Rattle.gpu_descriptor_types.specs.Counts.{kinds}
 use Rattle.gpu_descriptor_types.specs.declared.counts.DescriptorTotalCount.{DescriptorTotalCount}
 use Rattle.gpu_descriptor.specs.Model.Agreement.{Item, State, count_of, outstanding}
 use Rattle.gpu_descriptor.specs.Model.Books.{Key, no_pools}
-use Rattle.gpu_descriptor_types.specs.Ledger.{Ledger}
+use Rattle.gpu_descriptor_types.specs.Meaning.{Meaning}
+use Rattle.gpu_descriptor_types.specs.Side.{Side, side}
 use Rattle.gpu_descriptor.specs.Caller.Flags.{is_marked}
 use Rattle.gpu_descriptor.specs.Caller.Keeps.{Keeps}
 use Rattle.gpu_descriptor.specs.Caller.States.{Agrees, outstanding_of, state_of}
@@ -21,6 +22,10 @@ module _ {L P S : Type 0} where
   abbrev pub allocator_of : Session L P S → Allocations P
   allocator_of s = s.allocator
 
+  -- the same, on the ledger of the session
+  abbrev pub allocator_on : Side (Session L P S) → Side (Allocations P)
+  allocator_on s = side (allocator_of s.value) s.ledger
+
   abbrev pub layouts_of : Session L P S → List (KnownLayout L)
   layouts_of s = s.layouts.items
 
@@ -31,10 +36,6 @@ module _ {L P S : Type 0} where
 abbrev pub known : {L : Type 0} → L → DescriptorTotalCount → DescriptorSetLayoutCreateFlags → KnownLayout L
 known layout counts flags = record { layout = layout; counts = counts; flags = flags }
 
--- the counts and the mark of each layout are those of the device's meaning
-abbrev pub AreMeant : {L : Type 0} → (L → List ℕ) → (L → Bool) → List (KnownLayout L) → Type 0
-AreMeant {L} counts mark layouts = (i : ℕ) (k : KnownLayout L) → slice_get layouts i ≡ Some k → (kinds k.counts ≡ counts k.layout) × (is_marked k.flags ≡ mark k.layout)
-
 -- the allocator has no pools
 abbrev pub HasNoPools : State → Type 0
 HasNoPools s = (k : Key) → s.books k ≡ no_pools
@@ -43,17 +44,21 @@ HasNoPools s = (k : Key) → s.books k ≡ no_pools
 abbrev pub AreAllHeld : {S : Type 0} → (S → ℕ) → List (Option (DescriptorSet S)) → State → Type 0
 AreAllHeld name slots s = (t : Item) → outstanding s t ≡ count_of t (items_of name (held_sets slots))
 
-module _ {L P S : Type 0} (pool_name : P → ℕ) (set_name : S → ℕ) (counts : L → List ℕ) (mark : L → Bool) where
+module _ {L P S : Type 0} (means : Meaning L P S) where
+  -- the counts and the mark of each layout are those of the device's meaning
+  abbrev pub AreMeant : List (KnownLayout L) → Type 0
+  AreMeant layouts = (i : ℕ) (k : KnownLayout L) → slice_get layouts i ≡ Some k → (kinds k.counts ≡ means.counts k.layout) × (is_marked k.flags ≡ means.mark k.layout)
+
   -- the next command may be run
-  pub record IsReady (s : Session L P S) (l : Ledger) : Type 0 where
-    pub agree : Agrees pool_name (allocator_of s) l
-    pub held : AreAllHeld set_name (sets_of s) (state_of pool_name (allocator_of s) l)
-    pub meant : AreMeant counts mark (layouts_of s)
+  pub record IsReady (s : Side (Session L P S)) : Type 0 where
+    pub agree : Agrees means.pool_name (allocator_of s.value) s.ledger
+    pub held : AreAllHeld means.set_name (sets_of s.value) (state_of means.pool_name (allocator_of s.value) s.ledger)
+    pub meant : AreMeant (layouts_of s.value)
 
   -- what every command keeps
-  pub record KeepsSession (old new : Session L P S) (before after : Ledger) : Type 0 where
-    pub ready : IsReady new after
-    pub allocator : Keeps pool_name (allocator_of old) (allocator_of new) before after
-    pub layouts : layouts_of new ≡ layouts_of old
+  pub record KeepsSession (old new : Side (Session L P S)) : Type 0 where
+    pub ready : IsReady new
+    pub allocator : Keeps means (allocator_on old) (allocator_on new)
+    pub layouts : layouts_of new.value ≡ layouts_of old.value
     -- the allocator counts as many sets as are held
-    pub count : length (held_sets (sets_of new)) ≡ outstanding_of (allocator_of new)
+    pub count : length (held_sets (sets_of new.value)) ≡ outstanding_of (allocator_of new.value)

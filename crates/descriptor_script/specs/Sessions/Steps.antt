@@ -1,10 +1,12 @@
 -- What a command does to a session, and what it replies.
-use Rattle.std.specs.Prelude.{◌≡◌, ℕ, ◌<◌, ◌≤◌, Bool, List, ◌++◌, length, map, slice_get, None, Some, Ok, Err}
-use Rattle.gpu_descriptor_types.specs.Ledger.{Ledger}
+use Rattle.std.specs.Prelude.{◌≡◌, ℕ, ◌<◌, ◌≤◌, List, ◌++◌, length, map, slice_get, None, Some, Result, Ok, Err}
+use Rattle.gpu_descriptor_types.specs.Meaning.{Meaning}
+use Rattle.gpu_descriptor_types.specs.Side.{Side}
 use Rattle.gpu_descriptor.specs.Model.Release.{more_destroyed}
 use Rattle.gpu_descriptor.specs.Model.Cleanup.{IsCleaned, pools_cleaned}
 use Rattle.gpu_descriptor.specs.Caller.Frees.{GivesBack}
-use Rattle.gpu_descriptor.specs.Model.Outcomes.{Allocates}
+use Rattle.gpu_descriptor.specs.Model.Agreement.{Item}
+use Rattle.gpu_descriptor.specs.Model.Outcomes.{Allocates, Call}
 use Rattle.gpu_descriptor.specs.Model.Promises.{HasCause}
 use Rattle.gpu_descriptor.specs.Caller.Call.{call_of, layout_key}
 use Rattle.gpu_descriptor.specs.Model.Runs.{runs}
@@ -12,7 +14,7 @@ use Rattle.gpu_descriptor.specs.Caller.Sets.{items_of}
 use Rattle.gpu_descriptor.specs.Caller.States.{keys_of, state_of}
 use Rattle.gpu_descriptor.specs.declared.errors.AllocationError.{AllocationError}
 use Rattle.gpu_descriptor.specs.declared.set.DescriptorSet.{DescriptorSet}
-use Rattle.descriptor_script.specs.Sessions.Session.{allocator_of, layouts_of, sets_of}
+use Rattle.descriptor_script.specs.Sessions.Session.{allocator_of, allocator_on, layouts_of, sets_of}
 use Rattle.descriptor_script.specs.Sessions.Tickets.{AreHeldOnce, emptied, set_at}
 use Rattle.descriptor_script.specs.declared.command.Command.{Command}
 use Rattle.descriptor_script.specs.declared.command.Command.TheVariants.{Allocate, Free, Cleanup}
@@ -22,74 +24,79 @@ use Rattle.descriptor_script.specs.declared.session.KnownLayout.{KnownLayout}
 use Rattle.descriptor_script.specs.declared.session.Session.{Session}
 
 -- nothing changed
-pub record IsAsBefore {L P S : Type 0} (old new : Session L P S) (before after : Ledger) : Type 0 where
-  pub allocator : allocator_of new ≡ allocator_of old
-  pub layouts : layouts_of new ≡ layouts_of old
-  pub sets : sets_of new ≡ sets_of old
-  pub ledger : after ≡ before
+pub record IsAsBefore {L P S : Type 0} (old new : Side (Session L P S)) : Type 0 where
+  pub allocator : allocator_of new.value ≡ allocator_of old.value
+  pub layouts : layouts_of new.value ≡ layouts_of old.value
+  pub sets : sets_of new.value ≡ sets_of old.value
+  pub ledger : new.ledger ≡ old.ledger
 
-module _ {L P S : Type 0} (pool_name : P → ℕ) (set_name : S → ℕ) (counts : L → List ℕ) (mark : L → Bool) (layout count : ℕ) (old new : Session L P S) (before after : Ledger) where
-  -- the sets of a request are held under the next tickets, in their order
-  pub record HoldsAnswer (next many : ℕ) : Type 0 where
-    pub known : KnownLayout L
-    pub at : slice_get (layouts_of old) layout ≡ Some known
-    pub given : List (DescriptorSet S)
-    pub outcome : Allocates (call_of pool_name (layout_key counts mark known.layout) count (allocator_of old) (allocator_of new) before after (Ok (items_of set_name given)))
-    pub asked : many ≡ count
-    pub all_given : length given ≡ count
-    pub first : next ≡ length (sets_of old)
-    pub sets : sets_of new ≡ sets_of old ++ map Some given
+module _ {L P S : Type 0} (means : Meaning L P S) where
+  -- the session's request to its allocator, and what it left
+  abbrev pub request_of : KnownLayout L → ℕ → Side (Session L P S) → Side (Session L P S) → Result (List Item) AllocationError → Call
+  request_of known count old new answer = call_of means (layout_key means known.layout) count (allocator_on old) (allocator_on new) answer
 
-  -- the allocator refused for a named cause, and the sets stay
-  pub record Refuses (error : AllocationError) : Type 0 where
-    pub known : KnownLayout L
-    pub at : slice_get (layouts_of old) layout ≡ Some known
-    pub outcome : Allocates (call_of pool_name (layout_key counts mark known.layout) count (allocator_of old) (allocator_of new) before after (Err error))
-    pub cause : HasCause error (call_of pool_name (layout_key counts mark known.layout) count (allocator_of old) (allocator_of new) before after (Err error))
-    pub sets : sets_of new ≡ sets_of old
+  module _ (layout count : ℕ) (old new : Side (Session L P S)) where
+    -- the sets of a request are held under the next tickets, in their order
+    pub record HoldsAnswer (next many : ℕ) : Type 0 where
+      pub known : KnownLayout L
+      pub at : slice_get (layouts_of old.value) layout ≡ Some known
+      pub given : List (DescriptorSet S)
+      pub outcome : Allocates (request_of known count old new (Ok (items_of means.set_name given)))
+      pub asked : many ≡ count
+      pub all_given : length given ≡ count
+      pub first : next ≡ length (sets_of old.value)
+      pub sets : sets_of new.value ≡ sets_of old.value ++ map Some given
 
-  -- what a request for so many sets of the layout at a place may reply. A request for none finds memory
-  abbrev pub AllocatesTo : Reply → Type 0
-  AllocatesTo (Sets first many) = HoldsAnswer first many
-  AllocatesTo (Refused error) = Refuses error
-  AllocatesTo BadLayout = (length (layouts_of old) ≤ layout) × IsAsBefore old new before after
-  AllocatesTo NoMemory = (layout < length (layouts_of old)) × (0 < count) × IsAsBefore old new before after
-  AllocatesTo _ = ⊥
+    -- the allocator refused for a named cause, and the sets stay
+    pub record Refuses (error : AllocationError) : Type 0 where
+      pub known : KnownLayout L
+      pub at : slice_get (layouts_of old.value) layout ≡ Some known
+      pub outcome : Allocates (request_of known count old new (Err error))
+      pub cause : HasCause error (request_of known count old new (Err error))
+      pub sets : sets_of new.value ≡ sets_of old.value
 
-module _ {L P S : Type 0} (pool_name : P → ℕ) (set_name : S → ℕ) (tickets : List ℕ) (old new : Session L P S) (before after : Ledger) where
-  -- the sets of these tickets, in the order of the list, have gone back, one release call for each run, and are held no longer
-  pub record GivesUp (many : ℕ) : Type 0 where
-    pub good : AreHeldOnce (sets_of old) tickets
-    pub all : many ≡ length tickets
-    pub given : List (DescriptorSet S)
-    pub each : map Some given ≡ map (set_at (sets_of old)) tickets
-    pub back : GivesBack pool_name set_name given (runs (items_of set_name given)) (allocator_of old) (allocator_of new) before after
-    pub sets : sets_of new ≡ emptied (sets_of old) tickets
+    -- what a request for so many sets of the layout at a place may reply. A request for none finds memory
+    abbrev pub AllocatesTo : Reply → Type 0
+    AllocatesTo (Sets first many) = HoldsAnswer first many
+    AllocatesTo (Refused error) = Refuses error
+    AllocatesTo BadLayout = (length (layouts_of old.value) ≤ layout) × IsAsBefore old new
+    AllocatesTo NoMemory = (layout < length (layouts_of old.value)) × (0 < count) × IsAsBefore old new
+    AllocatesTo _ = ⊥
 
-  -- what a free of these tickets may reply: that one is bad exactly where one isn't held or stands twice
-  abbrev pub FreesTo : Reply → Type 0
-  FreesTo (Freed many) = GivesUp many
-  FreesTo BadTicket = (¬ AreHeldOnce (sets_of old) tickets) × IsAsBefore old new before after
-  FreesTo _ = ⊥
+  module _ (tickets : List ℕ) (old new : Side (Session L P S)) where
+    -- the sets of these tickets, in the order of the list, have gone back, one release call for each run, and are held no longer
+    pub record GivesUp (many : ℕ) : Type 0 where
+      pub good : AreHeldOnce (sets_of old.value) tickets
+      pub all : many ≡ length tickets
+      pub given : List (DescriptorSet S)
+      pub each : map Some given ≡ map (set_at (sets_of old.value)) tickets
+      pub back : GivesBack means given (runs (items_of means.set_name given)) (allocator_on old) (allocator_on new)
+      pub sets : sets_of new.value ≡ emptied (sets_of old.value) tickets
 
-module _ {L P S : Type 0} (pool_name : P → ℕ) (old new : Session L P S) (before after : Ledger) where
-  -- the empty pools at the front of each key are gone, and the sets stay
-  pub record Cleans : Type 0 where
-    pub cleaned : IsCleaned (state_of pool_name (allocator_of old) before) (state_of pool_name (allocator_of new) after)
-    -- all other counters stay
-    pub counters : after.counters ≡ more_destroyed (pools_cleaned (keys_of (allocator_of old)) (state_of pool_name (allocator_of old) before)) before.counters
-    pub sets : sets_of new ≡ sets_of old
+    -- what a free of these tickets may reply: that one is bad exactly where one isn't held or stands twice
+    abbrev pub FreesTo : Reply → Type 0
+    FreesTo (Freed many) = GivesUp many
+    FreesTo BadTicket = (¬ AreHeldOnce (sets_of old.value) tickets) × IsAsBefore old new
+    FreesTo _ = ⊥
 
-  -- what a cleanup may reply
-  abbrev pub CleansTo : Reply → Type 0
-  CleansTo Clean = Cleans
-  CleansTo _ = ⊥
+  module _ (old new : Side (Session L P S)) where
+    -- the empty pools at the front of each key are gone, and the sets stay
+    pub record Cleans : Type 0 where
+      pub cleaned : IsCleaned (state_of means.pool_name (allocator_of old.value) old.ledger) (state_of means.pool_name (allocator_of new.value) new.ledger)
+      -- all other counters stay
+      pub counters : new.ledger.counters ≡ more_destroyed (pools_cleaned (keys_of (allocator_of old.value)) (state_of means.pool_name (allocator_of old.value) old.ledger)) old.ledger.counters
+      pub sets : sets_of new.value ≡ sets_of old.value
 
--- what a command may reply, and what it leaves
-abbrev pub StepsTo : {L P S : Type 0} → (P → ℕ) → (S → ℕ) → (L → List ℕ) → (L → Bool) → Command → Reply → Session L P S → Session L P S → Ledger → Ledger → Type 0
-StepsTo pool_name set_name counts mark (Allocate layout count) reply old new before after = AllocatesTo pool_name set_name counts mark layout count old new before after reply
-StepsTo pool_name set_name counts mark (Free tickets) reply old new before after = FreesTo pool_name set_name tickets.items old new before after reply
-StepsTo pool_name set_name counts mark Cleanup reply old new before after = CleansTo pool_name old new before after reply
+    -- what a cleanup may reply
+    abbrev pub CleansTo : Reply → Type 0
+    CleansTo Clean = Cleans
+    CleansTo _ = ⊥
+
+  -- what a command may reply, and what it leaves
+  abbrev pub StepsTo : Command → Reply → Side (Session L P S) → Side (Session L P S) → Type 0
+  StepsTo (Allocate layout count) reply old new = AllocatesTo layout count old new reply
+  StepsTo (Free tickets) reply old new = FreesTo tickets.items old new reply
+  StepsTo Cleanup reply old new = CleansTo old new reply
 
 -- no ticket is given twice: the next ticket never falls, and a ticket that was given and isn't held never is again
 pub record KeepsTickets {L P S : Type 0} (old new : Session L P S) : Type 0 where

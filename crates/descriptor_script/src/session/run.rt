@@ -1,5 +1,6 @@
 //! Commands, one after another.
 ghost use Rattle.std.specs.Prelude.{◌≡◌, IfOk, OnErr};
+ghost use Rattle.gpu_descriptor_types.specs.Side.{side};
 ghost use Rattle.descriptor_script.specs.Sessions.Session.{IsReady, KeepsSession};
 ghost use Rattle.descriptor_script.specs.Sessions.SessionRun.{RunsTo};
 
@@ -15,15 +16,13 @@ impl<L, P: Drop, S: Drop> Session<L, P, S> {
         device: &mut D,
         commands: &[Command],
     ) -> Result<Vec<Reply>, AllocError>
-        requires ready { IsReady D.pool_name D.set_name D.layout_counts D.layout_mark
-            self.old (D.ledger device.old) }
-        ensures runs { IfOk result (λ replies. RunsTo D.pool_name D.set_name D.layout_counts
-            D.layout_mark commands.now replies.items self.old self.new (D.ledger device.old)
-            (D.ledger device.new)) }
+        requires ready { IsReady D.meaning (side self.old (D.ledger device.old)) }
+        ensures runs { IfOk result (λ replies. RunsTo D.meaning commands.now replies.items
+            (side self.old (D.ledger device.old)) (side self.new (D.ledger device.new))) }
         ensures session { OnErr result (self.new ≡ self.old) }
         ensures ledger { OnErr result (D.ledger device.new ≡ D.ledger device.old) }
-        ensures keeps { KeepsSession D.pool_name D.set_name D.layout_counts D.layout_mark
-            self.old self.new (D.ledger device.old) (D.ledger device.new) }
+        ensures keeps { KeepsSession D.meaning (side self.old (D.ledger device.old))
+            (side self.new (D.ledger device.new)) }
     {
         // The proof reads from this that no key has two rows.
         let _out = self.allocator.outstanding();

@@ -1,4 +1,5 @@
 //! One command of a session.
+ghost use Rattle.gpu_descriptor_types.specs.Side.{side};
 ghost use Rattle.descriptor_script.specs.Sessions.Session.{IsReady, KeepsSession};
 ghost use Rattle.descriptor_script.specs.Sessions.Steps.{AllocatesTo, CleansTo, FreesTo};
 ghost use Rattle.descriptor_script.specs.Sessions.Steps.{KeepsTickets, StepsTo};
@@ -15,13 +16,12 @@ impl<L, P: Drop, S: Drop> Session<L, P, S> {
     ///
     /// A reply of `BadTicket`, `BadLayout` or `NoMemory` says that nothing changed.
     pub fn step<D: DescriptorDevice<L, P, S>>(&mut self, device: &mut D, command: &Command) -> Reply
-        requires ready { IsReady D.pool_name D.set_name D.layout_counts D.layout_mark
-            self.old (D.ledger device.old) }
-        ensures step { StepsTo D.pool_name D.set_name D.layout_counts D.layout_mark command.now
-            result self.old self.new (D.ledger device.old) (D.ledger device.new) }
+        requires ready { IsReady D.meaning (side self.old (D.ledger device.old)) }
+        ensures step { StepsTo D.meaning command.now result (side self.old (D.ledger device.old))
+            (side self.new (D.ledger device.new)) }
         ensures tickets { KeepsTickets self.old self.new }
-        ensures keeps { KeepsSession D.pool_name D.set_name D.layout_counts D.layout_mark
-            self.old self.new (D.ledger device.old) (D.ledger device.new) }
+        ensures keeps { KeepsSession D.meaning (side self.old (D.ledger device.old))
+            (side self.new (D.ledger device.new)) }
     {
         match command {
             Command::Allocate { layout, count } => self.allocate(device, *layout, *count),
@@ -37,12 +37,11 @@ impl<L, P: Drop, S: Drop> Session<L, P, S> {
         layout: usize,
         count: u32,
     ) -> Reply
-        requires ready { IsReady D.pool_name D.set_name D.layout_counts D.layout_mark
-            self.old (D.ledger device.old) }
-        ensures step { AllocatesTo D.pool_name D.set_name D.layout_counts D.layout_mark layout count
-            self.old self.new (D.ledger device.old) (D.ledger device.new) result }
-        ensures keeps { KeepsSession D.pool_name D.set_name D.layout_counts D.layout_mark
-            self.old self.new (D.ledger device.old) (D.ledger device.new) }
+        requires ready { IsReady D.meaning (side self.old (D.ledger device.old)) }
+        ensures step { AllocatesTo D.meaning layout count (side self.old (D.ledger device.old))
+            (side self.new (D.ledger device.new)) result }
+        ensures keeps { KeepsSession D.meaning (side self.old (D.ledger device.old))
+            (side self.new (D.ledger device.new)) }
     {
         // The proof reads from this that no key has two rows.
         let _out = self.allocator.outstanding();
@@ -67,12 +66,11 @@ impl<L, P: Drop, S: Drop> Session<L, P, S> {
 
     /// Gives back the sets of these tickets.
     fn free<D: DescriptorDevice<L, P, S>>(&mut self, device: &mut D, tickets: &[usize]) -> Reply
-        requires ready { IsReady D.pool_name D.set_name D.layout_counts D.layout_mark
-            self.old (D.ledger device.old) }
-        ensures step { FreesTo D.pool_name D.set_name tickets.now self.old self.new
-            (D.ledger device.old) (D.ledger device.new) result }
-        ensures keeps { KeepsSession D.pool_name D.set_name D.layout_counts D.layout_mark
-            self.old self.new (D.ledger device.old) (D.ledger device.new) }
+        requires ready { IsReady D.meaning (side self.old (D.ledger device.old)) }
+        ensures step { FreesTo D.meaning tickets.now (side self.old (D.ledger device.old))
+            (side self.new (D.ledger device.new)) result }
+        ensures keeps { KeepsSession D.meaning (side self.old (D.ledger device.old))
+            (side self.new (D.ledger device.new)) }
     {
         let _out = self.allocator.outstanding();
         if !self.slots.are_held_once(tickets) {
@@ -93,12 +91,11 @@ impl<L, P: Drop, S: Drop> Session<L, P, S> {
 
     /// Destroys the empty pools at the front of each key.
     fn cleanup<D: DescriptorDevice<L, P, S>>(&mut self, device: &mut D) -> Reply
-        requires ready { IsReady D.pool_name D.set_name D.layout_counts D.layout_mark
-            self.old (D.ledger device.old) }
-        ensures step { CleansTo D.pool_name self.old self.new (D.ledger device.old)
-            (D.ledger device.new) result }
-        ensures keeps { KeepsSession D.pool_name D.set_name D.layout_counts D.layout_mark
-            self.old self.new (D.ledger device.old) (D.ledger device.new) }
+        requires ready { IsReady D.meaning (side self.old (D.ledger device.old)) }
+        ensures step { CleansTo D.meaning (side self.old (D.ledger device.old))
+            (side self.new (D.ledger device.new)) result }
+        ensures keeps { KeepsSession D.meaning (side self.old (D.ledger device.old))
+            (side self.new (D.ledger device.new)) }
     {
         self.allocator.cleanup(device);
         Reply::Clean

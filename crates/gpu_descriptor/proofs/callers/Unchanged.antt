@@ -1,5 +1,7 @@
 -- What calls keep where nothing changed, and one after another.
 use Rattle.std.proofs.Common.{◌≡◌, ◌≤◌, ℕ, sym, ap, subst, ◌∙◌}
+use Rattle.gpu_descriptor_types.specs.Side.{side}
+use Rattle.gpu_descriptor_types.specs.Meaning.{Meaning}
 use Rattle.gpu_descriptor_types.specs.Ledger.{Ledger}
 use Rattle.gpu_descriptor.specs.Model.Agreement.{Agree}
 use Rattle.gpu_descriptor.specs.Model.Books.{HasDistinctKeys}
@@ -10,27 +12,27 @@ use Rattle.gpu_descriptor.specs.Caller.Values.{Allocations}
 use Rattle.gpu_descriptor.proofs.foreign.ForeignPools.{foreign_same, foreign_through, loses_same, loses_through}
 
 -- nothing changed
-module _ {P : Type 0} {name : P → ℕ} {old new : Allocations P} {before after : Ledger} (same : new ≡ old) (ledger : after ≡ before) where
-  pub keeps_still : Agrees name old before → marked_load_of new ≤ new.limit → pool_load_of new ≤ new.limit → HasDistinctKeys (table_of name new) → Keeps name old new before after
+module _ {L P S : Type 0} {means : Meaning L P S} {old new : Allocations P} {before after : Ledger} (same : new ≡ old) (ledger : after ≡ before) where
+  pub keeps_still : Agrees means.pool_name old before → marked_load_of new ≤ new.limit → pool_load_of new ≤ new.limit → HasDistinctKeys (table_of means.pool_name new) → Keeps means (side old before) (side new after)
   keeps_still agree load pool_load rows = record {
-    agree = subst Agree (λ i. state_of name (sym same i) (sym ledger i)) agree;
+    agree = subst Agree (λ i. state_of means.pool_name (sym same i) (sym ledger i)) agree;
     limit = ap (λ (a : Allocations P). a.limit) same;
     load = load;
     pool_load = pool_load;
     rows = rows;
-    foreign = foreign_same _ _ (λ i. state_of name (same i) (ledger i));
-    accounted = loses_same _ _ (λ i. state_of name (same i) (ledger i));
-    others = λ i. others_of name (same i) (ledger i);
+    foreign = foreign_same _ _ (λ i. state_of means.pool_name (same i) (ledger i));
+    accounted = loses_same _ _ (λ i. state_of means.pool_name (same i) (ledger i));
+    others = λ i. others_of means.pool_name (same i) (ledger i);
   }
 
-pub keeps_through : {P : Type 0} {name : P → ℕ} {a b c : Allocations P} {l m n : Ledger} → Keeps name a b l m → Keeps name b c m n → Keeps name a c l n
-keeps_through {P} {name} {a} {b} {c} {l} {m} {n} p q = record {
+pub keeps_through : {L P S : Type 0} {means : Meaning L P S} {a b c : Allocations P} {l m n : Ledger} → Keeps means (side a l) (side b m) → Keeps means (side b m) (side c n) → Keeps means (side a l) (side c n)
+keeps_through {L} {P} {S} {means} {a} {b} {c} {l} {m} {n} p q = record {
   agree = q.agree;
   limit = q.limit ∙ p.limit;
   load = q.load;
   pool_load = q.pool_load;
   rows = q.rows;
-  foreign = foreign_through (state_of name a l) (state_of name b m) (state_of name c n) p.foreign q.foreign;
-  accounted = loses_through (state_of name a l) (state_of name b m) (state_of name c n) p.accounted q.accounted;
+  foreign = foreign_through (state_of means.pool_name a l) (state_of means.pool_name b m) (state_of means.pool_name c n) p.foreign q.foreign;
+  accounted = loses_through (state_of means.pool_name a l) (state_of means.pool_name b m) (state_of means.pool_name c n) p.accounted q.accounted;
   others = q.others ∙ p.others;
 }

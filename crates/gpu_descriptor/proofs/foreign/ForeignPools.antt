@@ -5,6 +5,8 @@ use Rattle.std.proofs.lemmas.Bool.{cases_Bool, cases_lt, or_from, or_left, or_ri
 use Rattle.std.proofs.lemmas.Option.{slice_get_within}
 use Rattle.std.specs.List.{list_any}
 use Rattle.std.specs.Prelude.{if◌then◌else◌}
+use Rattle.gpu_descriptor_types.specs.Side.{side}
+use Rattle.gpu_descriptor_types.specs.Meaning.{Meaning}
 use Rattle.gpu_descriptor_types.specs.Ledger.{Pool, Ledger}
 use Rattle.gpu_descriptor_types.specs.Multiset.{LiveSet, set_eq}
 use Rattle.gpu_descriptor.specs.Model.Agreement.{State, Item, set_of, with_bucket}
@@ -234,8 +236,8 @@ entries_named (suc left) n refused (x ∷ es) rest (suc i) e at = entries_named 
 
 -- ---- as callers see it
 
-pub freed_foreign : {P S : Type 0} (name : P → ℕ) (set_name : S → ℕ) (sets : List (DescriptorSet S)) (calls : ℕ) (old new : Allocations P) (before after : Ledger) → GivesBack name set_name sets calls old new before after → KeepsForeign (state_of name old before) (state_of name new after)
-freed_foreign name set_name sets calls old new before after back = subst (KeepsForeign (state_of name old before)) (sym back.state) (released_foreign (items_of set_name sets) (state_of name old before))
+pub freed_foreign : {L P S : Type 0} (means : Meaning L P S) (sets : List (DescriptorSet S)) (calls : ℕ) (old new : Allocations P) (before after : Ledger) → GivesBack means sets calls (side old before) (side new after) → KeepsForeign (state_of means.pool_name old before) (state_of means.pool_name new after)
+freed_foreign means sets calls old new before after back = subst (KeepsForeign (state_of means.pool_name old before)) (sym back.state) (released_foreign (items_of means.set_name sets) (state_of means.pool_name old before))
 
-pub freed_loses : {P S : Type 0} (name : P → ℕ) (set_name : S → ℕ) (sets : List (DescriptorSet S)) (calls : ℕ) (old new : Allocations P) (before after : Ledger) → GivesBack name set_name sets calls old new before after → LosesNone (state_of name old before) (state_of name new after)
-freed_loses name set_name sets calls old new before after back = subst (LosesNone (state_of name old before)) (sym back.state) (released_loses (items_of set_name sets) (state_of name old before))
+pub freed_loses : {L P S : Type 0} (means : Meaning L P S) (sets : List (DescriptorSet S)) (calls : ℕ) (old new : Allocations P) (before after : Ledger) → GivesBack means sets calls (side old before) (side new after) → LosesNone (state_of means.pool_name old before) (state_of means.pool_name new after)
+freed_loses means sets calls old new before after back = subst (LosesNone (state_of means.pool_name old before)) (sym back.state) (released_loses (items_of means.set_name sets) (state_of means.pool_name old before))

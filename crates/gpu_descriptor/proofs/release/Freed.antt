@@ -5,6 +5,8 @@ use Rattle.std.proofs.iter.Next.{Yields-more}
 use Rattle.std.proofs.lemmas.Bool.{and_parts, and_from}
 use Rattle.std.proofs.lemmas.List.{map-append}
 use Rattle.std.proofs.lemmas.List.Sums.{sum_by-append}
+use Rattle.gpu_descriptor_types.specs.Side.{side}
+use Rattle.gpu_descriptor_types.specs.Meaning.{Meaning}
 use Rattle.gpu_descriptor_types.specs.Ledger.{Counters, Ledger}
 use Rattle.gpu_descriptor_types.proofs.Counting.{bool_iff}
 use Rattle.gpu_descriptor.specs.Model.Load.{marked_load}
@@ -68,24 +70,24 @@ none_gone keys s = go keys
     go [] = refl
     go (k ∷ keys) = go keys ∙ sym (sum_by-append (λ (l : Key). 0) (k ∷ []) keys ∙ (omega arith))
 
-module _ {S : Type 0} (set_name : S → ℕ) where
+module _ {L P S : Type 0} (means : Meaning L P S) where
   abbrev pub items : List (DescriptorSet S) → List Item
-  items xs = items_of set_name xs
+  items xs = items_of means.set_name xs
 
   pub run_then : (k : Key) (n : ℕ) (x : DescriptorSet S) (xs zs : List (DescriptorSet S)) → lies_at k n x ≡ true → AllPass (lies_at k n) xs → BeginsApart k n zs → runs (items ((x ∷ xs) ++ zs)) ≡ 1 + runs (items zs)
   run_then k n x [] [] own have apart = refl
   run_then k n x [] (z ∷ zs) own have apart =
       let other = same_spot k n x z own ∙ apart in
-      let e : breaks (item_of set_name x) (items (z ∷ zs)) ≡ 1 + breaks (item_of set_name z) (items zs) = rw other refl in
+      let e : breaks (item_of means.set_name x) (items (z ∷ zs)) ≡ 1 + breaks (item_of means.set_name z) (items zs) = rw other refl in
       omega arith
   run_then k n x (y ∷ ys) zs own have apart =
       let same = same_spot k n x y own ∙ have.0 in
-      let e : breaks (item_of set_name x) (items (y ∷ (ys ++ zs))) ≡ 0 + breaks (item_of set_name y) (items (ys ++ zs)) = rw same refl in
+      let e : breaks (item_of means.set_name x) (items (y ∷ (ys ++ zs))) ≡ 0 + breaks (item_of means.set_name y) (items (ys ++ zs)) = rw same refl in
       let rest : runs (items (y ∷ (ys ++ zs))) ≡ 1 + runs (items zs) = run_then k n y ys zs have.0 have.1 apart in
       omega arith
 
   items-append : (xs ys : List (DescriptorSet S)) → items (xs ++ ys) ≡ items xs ++ items ys
-  items-append xs ys = map-append (λ (x : DescriptorSet S). item_of set_name x) xs ys
+  items-append xs ys = map-append (λ (x : DescriptorSet S). item_of means.set_name x) xs ys
 
   both : {T : Type 0} (steps : T → Option (DescriptorSet S) → T → Type 0) (xs ys : List (DescriptorSet S)) (s t u : T) → Yields steps s xs t → Yields steps t ys u → Yields steps s (xs ++ ys) u
   both steps [] ys s t u a b = subst (λ k. Yields steps k ys u) (sym a) b
@@ -96,14 +98,14 @@ module _ {S : Type 0} (set_name : S → ℕ) where
   none_both (x ∷ xs) ys none = absurd (let bad : ◌≡◌ {A = List (DescriptorSet S)} (x ∷ (xs ++ ys)) [] = none in cc)
 
   -- two lists that go back one after the other go back as one
-  pub gives_both : {P : Type 0} (name : P → ℕ) (xs ys : List (DescriptorSet S)) (m n : ℕ) (old now new : Allocations P) (before mid after : Ledger) → Agree (state_of name old before) → AreOutstanding (items xs ++ items ys) (state_of name old before) → keys_of now ≡ keys_of old
-      → GivesBack name set_name xs m old now before mid → GivesBack name set_name ys n now new mid after → GivesBack name set_name (xs ++ ys) (m + n) old new before after
-  gives_both name xs ys m n old now new before mid after agree out keys one two =
-      let s = state_of name old before in
+  pub gives_both : (xs ys : List (DescriptorSet S)) (m n : ℕ) (old now new : Allocations P) (before mid after : Ledger) → Agree (state_of means.pool_name old before) → AreOutstanding (items xs ++ items ys) (state_of means.pool_name old before) → keys_of now ≡ keys_of old
+      → GivesBack means xs m (side old before) (side now mid) → GivesBack means ys n (side now mid) (side new after) → GivesBack means (xs ++ ys) (m + n) (side old before) (side new after)
+  gives_both xs ys m n old now new before mid after agree out keys one two =
+      let s = state_of means.pool_name old before in
       let whole = items-append xs ys in
       let first = one.counters in
       let second : after.counters ≡ more_destroyed (pools_gone (keys_of old) (items ys) (given_back (items ys) (released (items xs) s))) (more_released n mid.counters) =
-      two.counters ∙ ap (λ (ks : List Key). more_destroyed (pools_gone ks (items ys) (given_back (items ys) (state_of name now mid))) (more_released n mid.counters)) keys
+      two.counters ∙ ap (λ (ks : List Key). more_destroyed (pools_gone ks (items ys) (given_back (items ys) (state_of means.pool_name now mid))) (more_released n mid.counters)) keys
       ∙ ap (λ (t : State). more_destroyed (pools_gone (keys_of old) (items ys) (given_back (items ys) t)) (more_released n mid.counters)) one.state in
       let sum : pools_gone (keys_of old) (items xs) (given_back (items xs) s) + pools_gone (keys_of old) (items ys) (given_back (items ys) (released (items xs) s)) ≡ pools_gone (keys_of old) (items (xs ++ ys)) (given_back (items (xs ++ ys)) s) =
       gone (keys_of old) (items xs) (items ys) s agree out ∙ ap (λ (l : List Item). pools_gone (keys_of old) l (given_back l s)) (sym whole) in
@@ -125,17 +127,17 @@ module _ {S : Type 0} (set_name : S → ℕ) where
         none = λ is. let each = none_both xs ys is in let first = one.none each.0 in let second = two.none each.1 in (second.0 ∙ first.0, second.1 ∙ first.1);
       }
 
-  pub gives_none : {P : Type 0} (name : P → ℕ) (old : Allocations P) (before : Ledger) → GivesBack name set_name [] 0 old old before before
-  gives_none name old before = record {
-    state = sym (none_back (state_of name old before));
-    counters = counters_none before.counters ∙ ap (λ (n : ℕ). more_destroyed n (more_released 0 before.counters)) (none_gone (keys_of old) (given_back [] (state_of name old before)));
+  pub gives_none : (old : Allocations P) (before : Ledger) → GivesBack means [] 0 (side old before) (side old before)
+  gives_none old before = record {
+    state = sym (none_back (state_of means.pool_name old before));
+    counters = counters_none before.counters ∙ ap (λ (n : ℕ). more_destroyed n (more_released 0 before.counters)) (none_gone (keys_of old) (given_back [] (state_of means.pool_name old before)));
     outstanding = omega arith;
     marked = omega arith;
     returned = λ u. omega arith;
     none = λ is. (refl, refl);
   }
 
-  module _ {P T : Type 0} (name : P → ℕ) (steps : T → Option (DescriptorSet S) → T → Type 0) (can : T → Type 0) (left : T → Count) where
+  module _ {T : Type 0} (steps : T → Option (DescriptorSet S) → T → Type 0) (can : T → Type 0) (left : T → Count) where
     -- y begins a run behind xs
     abbrev pub Splits : List (DescriptorSet S) → DescriptorSet S → Type 0
     Splits xs y = (zs : List (DescriptorSet S)) → runs (items (xs ++ y ∷ zs)) ≡ runs (items xs) + runs (items (y ∷ zs))
@@ -148,40 +150,40 @@ module _ {S : Type 0} (set_name : S → ℕ) where
     -- from `first` on sets went back, and then `ahead` came and left `rest`
     pub record Freed (first : T) (old : Allocations P) (before : Ledger) (now : Allocations P) (after : Ledger) (ahead : Option (DescriptorSet S)) (rest : T) : Type 0 where
       pub sets : List (DescriptorSet S)
-      pub back : GivesBack name set_name sets (runs (items sets)) old now before after
-      pub agree : Agree (state_of name now after)
+      pub back : GivesBack means sets (runs (items sets)) (side old before) (side now after)
+      pub agree : Agree (state_of means.pool_name now after)
       pub keys : keys_of now ≡ keys_of old
       pub rises : old.comparisons ≤ now.comparisons
-      pub few : now.comparisons ≤ old.comparisons + run_digits (state_of name old before) (items sets)
+      pub few : now.comparisons ≤ old.comparisons + run_digits (state_of means.pool_name old before) (items sets)
       pub comes : Comes first sets ahead rest
 
     behind : (first : T) (xs : List (DescriptorSet S)) (y : DescriptorSet S) (zs : List (DescriptorSet S)) (rest t : T) → Yields steps first (xs ++ y ∷ []) rest → Yields steps rest zs t → Yields steps first (xs ++ y ∷ zs) t
     behind first xs y zs rest t a b = subst (λ vs. Yields steps first vs t) (append_assoc xs (y ∷ []) zs) (both steps (xs ++ y ∷ []) zs first rest t a b)
 
-    module _ (first : T) (old : Allocations P) (before : Ledger) (now : Allocations P) (mid : Ledger) (x : DescriptorSet S) (rest : T) (agree : Agree (state_of name old before)) (out : HoldsAlong steps first (λ xs. AreOutstanding (items xs) (state_of name old before))) (r : Freed first old before now mid (Some x) rest) where
+    module _ (first : T) (old : Allocations P) (before : Ledger) (now : Allocations P) (mid : Ledger) (x : DescriptorSet S) (rest : T) (agree : Agree (state_of means.pool_name old before)) (out : HoldsAlong steps first (λ xs. AreOutstanding (items xs) (state_of means.pool_name old before))) (r : Freed first old before now mid (Some x) rest) where
       -- what is to come is outstanding together with what came
-      all_out : (zs : List (DescriptorSet S)) (t : T) → Yields steps rest zs t → AreOutstanding (items r.sets ++ items (x ∷ zs)) (state_of name old before)
-      all_out zs t z = subst (λ m. AreOutstanding m (state_of name old before)) (items-append r.sets (x ∷ zs)) (out (r.sets ++ x ∷ zs) t (behind first r.sets x zs rest t r.comes.0 z))
+      all_out : (zs : List (DescriptorSet S)) (t : T) → Yields steps rest zs t → AreOutstanding (items r.sets ++ items (x ∷ zs)) (state_of means.pool_name old before)
+      all_out zs t z = subst (λ m. AreOutstanding m (state_of means.pool_name old before)) (items-append r.sets (x ∷ zs)) (out (r.sets ++ x ∷ zs) t (behind first r.sets x zs rest t r.comes.0 z))
 
-      came_out : (zs : List (DescriptorSet S)) (t : T) → Yields steps rest zs t → AreOutstanding (items r.sets) (state_of name old before)
+      came_out : (zs : List (DescriptorSet S)) (t : T) → Yields steps rest zs t → AreOutstanding (items r.sets) (state_of means.pool_name old before)
       came_out zs t z u =
           let fits = all_out zs t z u in
           let sum = count_of-append u (items r.sets) (items (x ∷ zs)) in
           omega arith
 
-      pub call_out : HoldsAlong steps rest (λ zs. AreOutstanding (items (x ∷ zs)) (state_of name now mid))
+      pub call_out : HoldsAlong steps rest (λ zs. AreOutstanding (items (x ∷ zs)) (state_of means.pool_name now mid))
       call_out zs t z = subst (λ s. AreOutstanding (items (x ∷ zs)) s) (sym r.back.state) (λ u.
           let fits = all_out zs t z u in
           let sum = count_of-append u (items r.sets) (items (x ∷ zs)) in
-          let less = takes (items r.sets) (state_of name old before) agree (came_out zs t z) u in
+          let less = takes (items r.sets) (state_of means.pool_name old before) agree (came_out zs t z) u in
           omega arith)
 
-      pub freed_more : (new : Allocations P) (after : Ledger) (a : Option (DescriptorSet S)) (t : T) → FreesRun steps name set_name x rest a t now new mid after → keys_of new ≡ keys_of now → OnSome a (IsNearerEnd can left rest t)
-          → now.comparisons ≤ new.comparisons → new.comparisons ≤ now.comparisons + binary_digits (open_pools ((state_of name now mid).books x.key.is)) → Freed first old before new after a t
+      pub freed_more : (new : Allocations P) (after : Ledger) (a : Option (DescriptorSet S)) (t : T) → FreesRun steps means x rest a t (side now mid) (side new after) → keys_of new ≡ keys_of now → OnSome a (IsNearerEnd can left rest t)
+          → now.comparisons ≤ new.comparisons → new.comparisons ≤ now.comparisons + binary_digits (open_pools ((state_of means.pool_name now mid).books x.key.is)) → Freed first old before new after a t
       freed_more new after a t run same n more few = record {
         sets = r.sets ++ x ∷ xs;
-        back = subst (λ (m : ℕ). GivesBack name set_name (r.sets ++ x ∷ xs) m old new before after) (sym count) (gives_both name r.sets (x ∷ xs) (runs (items r.sets)) 1 old now new before mid after agree (all_out xs run.came.1.0 run.came.1.1) r.keys r.back run.back);
-        agree = rw run.back.state (agrees (items (x ∷ xs)) (state_of name now mid) r.agree (call_out xs run.came.1.0 run.came.1.1));
+        back = subst (λ (m : ℕ). GivesBack means (r.sets ++ x ∷ xs) m (side old before) (side new after)) (sym count) (gives_both r.sets (x ∷ xs) (runs (items r.sets)) 1 old now new before mid after agree (all_out xs run.came.1.0 run.came.1.1) r.keys r.back run.back);
+        agree = rw run.back.state (agrees (items (x ∷ xs)) (state_of means.pool_name now mid) r.agree (call_out xs run.came.1.0 run.came.1.1));
         keys = same ∙ r.keys;
         rises = (let was = r.rises in omega arith);
         few = (let was = r.few in let digits = cost in omega arith);
@@ -202,11 +204,11 @@ module _ {S : Type 0} (set_name : S → ℕ) where
           count = r.comes.1 xs ∙ ap (λ n. runs (items r.sets) + n) alone
 
           -- the digits that this run adds
-          cost : run_digits (state_of name old before) (items (r.sets ++ x ∷ xs)) ≡ run_digits (state_of name old before) (items r.sets) + binary_digits (open_pools ((state_of name now mid).books x.key.is))
+          cost : run_digits (state_of means.pool_name old before) (items (r.sets ++ x ∷ xs)) ≡ run_digits (state_of means.pool_name old before) (items r.sets) + binary_digits (open_pools ((state_of means.pool_name now mid).books x.key.is))
           cost =
-              let s = state_of name old before in
+              let s = state_of means.pool_name old before in
               let whole = items-append r.sets (x ∷ xs) in
-              ap (run_digits s) whole ∙ run_digits_more s (items r.sets) (item_of set_name x) (items xs) (ap runs (sym whole) ∙ count) alone
+              ap (run_digits s) whole ∙ run_digits_more s (items r.sets) (item_of means.set_name x) (items xs) (ap runs (sym whole) ∙ count) alone
               ∙ ap (λ (t : State). run_digits s (items r.sets) + binary_digits (open_pools (t.books x.key.is))) (sym r.back.state)
 
           came : Yields steps first (r.sets ++ x ∷ xs) run.came.1.0
@@ -228,15 +230,15 @@ module _ {S : Type 0} (set_name : S → ℕ) where
     less rest None t n = omega arith
     less rest (Some y) t n = omega (arith, n.2)
 
-    pub freed_none : (first : T) (old : Allocations P) (before : Ledger) (a : Option (DescriptorSet S)) (rest : T) → Agree (state_of name old before) → IsFinite (left first) → steps first a rest → MakesProgress can left first a rest → Freed first old before old before a rest
-    freed_none first old before a rest agree finite step goes = record { sets = []; back = gives_none name old before; agree = agree; keys = refl; rises = omega arith; few = omega arith; comes = begin a step goes }
+    pub freed_none : (first : T) (old : Allocations P) (before : Ledger) (a : Option (DescriptorSet S)) (rest : T) → Agree (state_of means.pool_name old before) → IsFinite (left first) → steps first a rest → MakesProgress can left first a rest → Freed first old before old before a rest
+    freed_none first old before a rest agree finite step goes = record { sets = []; back = gives_none old before; agree = agree; keys = refl; rises = omega arith; few = omega arith; comes = begin a step goes }
       where
         begin : (a : Option (DescriptorSet S)) → steps first a rest → MakesProgress can left first a rest → Comes first [] a rest
         begin None step goes = (first, refl, step)
         begin (Some y) step goes = ((rest, step, refl), (λ zs. let e : runs (items (y ∷ zs)) ≡ 0 + runs (items (y ∷ zs)) = omega arith in e), goes.keeps, (goes.on finite).1)
 
     -- at the end all sets of the iterator have gone back
-    pub freed_all : (first : T) (old : Allocations P) (before : Ledger) (new : Allocations P) (after : Ledger) (end : T) → new.looks ≡ old.looks → Freed first old before new after None end → Frees steps name set_name first end old new before after
+    pub freed_all : (first : T) (old : Allocations P) (before : Ledger) (new : Allocations P) (after : Ledger) (end : T) → new.looks ≡ old.looks → Freed first old before new after None end → Frees steps means first end (side old before) (side new after)
     freed_all first old before new after end looks r = record {
       sets = r.sets;
       drained = r.comes;

@@ -1,6 +1,8 @@
 -- All that is promised of a request, from what it took: kept, given back, declined, or for no sets.
 use Rattle.std.proofs.Common.{◌≡◌, ◌≤◌, ℕ, ◌+◌, ◌<◌, List, Option, None, Some, MatchOption, Result, Ok, Err, inl, sym, ap, ◌∙◌, subst, arith}
 use Rattle.std.specs.Global.{Vec}
+use Rattle.gpu_descriptor_types.specs.Side.{side}
+use Rattle.gpu_descriptor_types.specs.Meaning.{Meaning}
 use Rattle.gpu_descriptor_types.specs.Ledger.{Ledger, Counters}
 use Rattle.gpu_descriptor.specs.declared.errors.AllocationError.{AllocationError}
 use Rattle.gpu_descriptor.specs.declared.set.DescriptorSet.{DescriptorSet}
@@ -28,9 +30,9 @@ either (Some x) none some = some x
 pub gained_as : {k l : Key} {old new : List Key} → k ≡ l → StayOrGainLast k old new → StayOrGainLast l old new
 gained_as same gained = rw (sym same) gained
 
-module _ {P S : Type 0} {name : P → ℕ} {set_name : S → ℕ} {k : Key} {count : ℕ} {sets : List (DescriptorSet S)} {ended : Result (Unit {0}) Stop} {old new : Allocations P} {before after : Ledger}
-    (t : Takes name set_name k count sets ended old new before after) (agree : Agrees name old before) where
-  pub keeps_all : new.limit ≡ old.limit → marked_load_of new ≤ new.limit → pool_load_of new ≤ new.limit → HasDistinctKeys (table_of name new) → Keeps name old new before after
+module _ {L P S : Type 0} {means : Meaning L P S} {k : Key} {count : ℕ} {sets : List (DescriptorSet S)} {ended : Result (Unit {0}) Stop} {old new : Allocations P} {before after : Ledger}
+    (t : Takes means k count sets ended (side old before) (side new after)) (agree : Agrees means.pool_name old before) where
+  pub keeps_all : new.limit ≡ old.limit → marked_load_of new ≤ new.limit → pool_load_of new ≤ new.limit → HasDistinctKeys (table_of means.pool_name new) → Keeps means (side old before) (side new after)
   keeps_all limit load pool_load rows =
       record {
         agree = taken_agree t agree;
@@ -43,7 +45,7 @@ module _ {P S : Type 0} {name : P → ℕ} {set_name : S → ℕ} {k : Key} {cou
         others = taken_others_of t agree;
       }
 
-  pub keeps_back : {last : Allocations P} {final : Ledger} → Returns name set_name sets new last after final → new.limit ≡ old.limit → Keeps name new last after final → Keeps name old last before final
+  pub keeps_back : {last : Allocations P} {final : Ledger} → Returns means sets (side new after) (side last final) → new.limit ≡ old.limit → Keeps means (side new after) (side last final) → Keeps means (side old before) (side last final)
   keeps_back r limit then =
       record {
         agree = then.agree;
@@ -56,10 +58,10 @@ module _ {P S : Type 0} {name : P → ℕ} {set_name : S → ℕ} {k : Key} {cou
         others = back_others_of t agree r.back;
       }
 
-module _ {P S : Type 0} {name : P → ℕ} {set_name : S → ℕ} {k : Key} {count : ℕ} (sets : Vec (DescriptorSet S)) {ended : Result (Unit {0}) Stop} {old new : Allocations P} {before after : Ledger}
-    (t : Takes name set_name k count sets.items ended old new before after) (agree : Agrees name old before) (distinct : HasDistinctKeys (table_of name old)) (keys : StayOrGainLast k (keys_of old) (keys_of new))
+module _ {L P S : Type 0} {means : Meaning L P S} {k : Key} {count : ℕ} (sets : Vec (DescriptorSet S)) {ended : Result (Unit {0}) Stop} {old new : Allocations P} {before after : Ledger}
+    (t : Takes means k count sets.items ended (side old before) (side new after)) (agree : Agrees means.pool_name old before) (distinct : HasDistinctKeys (table_of means.pool_name old)) (keys : StayOrGainLast k (keys_of old) (keys_of new))
     (looks : new.looks + before.counters.asked ≡ old.looks + after.counters.asked) (comparisons : new.comparisons ≡ old.comparisons) (some : 0 < count) where
-  pub hands_all : {x : Unit {0}} → ended ≡ Ok x → HandsOut name set_name k count (Ok sets) old new before after
+  pub hands_all : {x : Unit {0}} → ended ≡ Ok x → HandsOut means k count (Ok sets) (side old before) (side new after)
   hands_all is =
       let outcome = kept t agree distinct some is in
       record {
@@ -83,7 +85,7 @@ module _ {P S : Type 0} {name : P → ℕ} {set_name : S → ℕ} {k : Key} {cou
       }
 
   -- the sets went back
-  pub hands_back : {last : Allocations P} {final : Ledger} → HasDistinctKeys (table_of name new) → Returns name set_name sets.items new last after final → {why : Stop} → ended ≡ Err why → HandsOut name set_name k count (Err (stop_answer why)) old last before final
+  pub hands_back : {last : Allocations P} {final : Ledger} → HasDistinctKeys (table_of means.pool_name new) → Returns means sets.items (side new after) (side last final) → {why : Stop} → ended ≡ Err why → HandsOut means k count (Err (stop_answer why)) (side old before) (side last final)
   hands_back still r is =
       let went = went_back t agree distinct still some r.back is in
       let outcome = went.0 in
@@ -102,15 +104,15 @@ module _ {P S : Type 0} {name : P → ℕ} {set_name : S → ℕ} {k : Key} {cou
         other_keys = back_others t agree r.back;
         keys = subst (StayOrGainLast k (keys_of old)) (sym r.keys) keys;
         looks = (let stay = r.looks_stay in omega arith);
-        declined = λ none. absurd (let bad : ◌≡◌ {A = Option (List Item × State)} None (Some (items_of set_name sets.items, state_of name new after)) = sym none ∙ went.1 in cc);
+        declined = λ none. absurd (let bad : ◌≡◌ {A = Option (List Item × State)} None (Some (items_of means.set_name sets.items, state_of means.pool_name new after)) = sym none ∙ went.1 in cc);
         searches = rw went.1 (let few = r.comparisons in omega arith);
         comparisons_stay = tt;
         compared = (let more = r.compared in omega arith);
       }
 
 -- the request was declined, and nothing changed
-module _ {P S : Type 0} {name : P → ℕ} {set_name : S → ℕ} {k : Key} {count : ℕ} {old new : Allocations P} {before after : Ledger} (same : new ≡ old) (ledger : after ≡ before) where
-  pub hands_none : (error : AllocationError) → 0 < count → Allocates (call_of name k count old new before after (Err error)) → HandsOut name set_name k count (Err error) old new before after
+module _ {L P S : Type 0} {means : Meaning L P S} {k : Key} {count : ℕ} {old new : Allocations P} {before after : Ledger} (same : new ≡ old) (ledger : after ≡ before) where
+  pub hands_none : (error : AllocationError) → 0 < count → Allocates (call_of means k count (side old before) (side new after) (Err error)) → HandsOut means k count (Err error) (side old before) (side new after)
   hands_none error some outcome = record {
     outcome = outcome;
     nothing = λ zero. absurd (omega arith);
@@ -119,10 +121,10 @@ module _ {P S : Type 0} {name : P → ℕ} {set_name : S → ℕ} {k : Key} {cou
     own = tt;
     totals = tt;
     totals_stay = (λ i. outstanding_of (same i), λ i. marked_load_of (same i));
-    back = λ u i. outstanding (state_of name (same i) (ledger i)) u;
+    back = λ u i. outstanding (state_of means.pool_name (same i) (ledger i)) u;
     cause = has_cause _ outcome;
     creates = short _ outcome;
-    other_keys = λ l other. record { books = λ i. (state_of name (same i) (ledger i)).books l; pools = λ n e at i. (state_of name (same i) (ledger i)).ledger e.pool };
+    other_keys = λ l other. record { books = λ i. (state_of means.pool_name (same i) (ledger i)).books l; pools = λ n e at i. (state_of means.pool_name (same i) (ledger i)).ledger e.pool };
     keys = inl (ap keys_of same);
     looks = (let a = ap (λ (a : Allocations P). a.looks) same in let l = ap (λ (l : Ledger). l.counters.asked) ledger in omega arith);
     declined = λ none. (same, ledger);

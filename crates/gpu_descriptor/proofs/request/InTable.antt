@@ -5,6 +5,7 @@ use Rattle.std.specs.Option.{option_map_or}
 use Rattle.std.specs.Prelude.{nat_lt, sum_by, if◌then◌else◌}
 use Rattle.std.proofs.lemmas.Bool.{cases_Bool, cases_lt}
 use Rattle.std.proofs.lemmas.List.Sums.{sum_by-append}
+use Rattle.gpu_descriptor_types.specs.Meaning.{Meaning}
 use Rattle.gpu_descriptor_types.specs.Ledger.{Ledger, Pool}
 use Rattle.gpu_descriptor.specs.Model.Load.{marked_load}
 use Rattle.gpu_descriptor.specs.declared.set.BucketKey.{BucketKey}
@@ -58,36 +59,36 @@ grant_new h = record { id = λ some. absurd (omega arith); refusing = h.refusing
 taken_new : {k : Key} {n id : ℕ} {g : Grant} {items : List Item} {b : Bucket} {l m : Ledger} → HasTaken k n g items (record no_pools { id = id }) b l m → HasTaken k n g items no_pools b l m
 taken_new t = record { grant = grant_new t.grant; came = t.came; keeps = record { booked = t.keeps.booked; longer = t.keeps.longer; named = t.keeps.named; others = t.keeps.others; of_key = t.keeps.of_key; out = t.keeps.out; more = t.keeps.more }; bucket = t.bucket; pools = t.pools; counters = t.counters }
 
-served_new : {P S : Type 0} {name : P → ℕ} {set_name : S → ℕ} {k : Key} {room count id : ℕ} {sets : List (DescriptorSet S)} {ended : Result (Unit {0}) Stop} {b : Bucket} {before after : Ledger} → IsServed name set_name k room count sets ended (record no_pools { id = id }) b before after → IsServed name set_name k room count sets ended no_pools b before after
+served_new : {L P S : Type 0} {means : Meaning L P S} {k : Key} {room count id : ℕ} {sets : List (DescriptorSet S)} {ended : Result (Unit {0}) Stop} {b : Bucket} {before after : Ledger} → IsServed means k room count sets ended (record no_pools { id = id }) b before after → IsServed means k room count sets ended no_pools b before after
 served_new {ended = Ok done} s = record { numbers = s.numbers; few = s.few; taken = (s.taken.0, taken_new s.taken.1, s.taken.2, s.taken.3) }
 served_new {ended = Err why} s = record { numbers = s.numbers; few = s.few; taken = (s.taken.0, s.taken.1, taken_new s.taken.2, s.taken.3, s.taken.4) }
 
 -- what one key gave, in the table
-module _ {P S : Type 0} {name : P → ℕ} {set_name : S → ℕ} (k : BucketKey) (w : DescriptorBucket P) {old : Bucket} {room count : ℕ} {sets : List (DescriptorSet S)} {ended : Result (Unit {0}) Stop} {before after : Ledger}
-    (s : IsServed name set_name (key_of k) room count sets ended old (bucket_of name w) before after) where
+module _ {L P S : Type 0} {means : Meaning L P S} (k : BucketKey) (w : DescriptorBucket P) {old : Bucket} {room count : ℕ} {sets : List (DescriptorSet S)} {ended : Result (Unit {0}) Stop} {before after : Ledger}
+    (s : IsServed means (key_of k) room count sets ended old (bucket_of means.pool_name w) before after) where
   module _ {had : ℕ} (total : w.total ≡ had + length sets) {es fs : List (BucketKey × DescriptorBucket P)} where
-    pub serves_present : {v : DescriptorBucket P} → bucket_of name v ≡ old → v.total ≡ had → IsWritten (key_of k) es fs v w → ServesKey name set_name k room count sets ended es fs before after
+    pub serves_present : {v : DescriptorBucket P} → bucket_of means.pool_name v ≡ old → v.total ≡ had → IsWritten (key_of k) es fs v w → ServesKey means k room count sets ended es fs before after
     serves_present {v} was many r =
-        let here : books_in name es (key_of k) ≡ old = present name r.row ∙ was in
+        let here : books_in means.pool_name es (key_of k) ≡ old = present means.pool_name r.row ∙ was in
         let out = sum_set (λ b. b.1.total) r.row.test es v w r.row.at in
         let load = sum_set load_in r.row.test es v w r.row.at in
         let key : key_of load.0 ≡ key_of k = sym (key_exact.same (key_of k) (key_of load.0) (sym (r.row.same load.0) ∙ load.1)) in
         let grows = load_grows k load.0 v w (length sets) key (total ∙ ap (λ n. n + length sets) (sym many)) in
         rw r.wrote (record {
-          bucket = bucket_of name w;
-          served = subst (λ (b : Bucket). IsServed name set_name (key_of k) room count sets ended b (bucket_of name w) before after) (sym here) s;
-          books = written name r.row.test (key_of k) r.row.same es w (ap is_some r.row.at);
+          bucket = bucket_of means.pool_name w;
+          served = subst (λ (b : Bucket). IsServed means (key_of k) room count sets ended b (bucket_of means.pool_name w) before after) (sym here) s;
+          books = written means.pool_name r.row.test (key_of k) r.row.same es w (ap is_some r.row.at);
           out = (let a = out.2 in let b = out.3 in omega arith);
           load = (let a = load.2 in let b = load.3 in omega arith);
         })
 
-    pub serves_new : (test : BucketKey → Bool) → ((l : BucketKey) → test l ≡ key_eq (key_of k) (key_of l)) → lookup test es ≡ None → fs ≡ es ++ (k, w) ∷ [] → old ≡ record no_pools { id = old.id } → had ≡ 0 → ServesKey name set_name k room count sets ended es fs before after
+    pub serves_new : (test : BucketKey → Bool) → ((l : BucketKey) → test l ≡ key_eq (key_of k) (key_of l)) → lookup test es ≡ None → fs ≡ es ++ (k, w) ∷ [] → old ≡ record no_pools { id = old.id } → had ≡ 0 → ServesKey means k room count sets ended es fs before after
     serves_new test same at put empty none =
-        let gone = missing name (key_of k) es test same at in
+        let gone = missing means.pool_name (key_of k) es test same at in
         rw put (record {
-          bucket = bucket_of name w;
-          served = subst (λ (b : Bucket). IsServed name set_name (key_of k) room count sets ended b (bucket_of name w) before after) (sym gone) (served_new (subst (λ (b : Bucket). IsServed name set_name (key_of k) room count sets ended b (bucket_of name w) before after) empty s));
-          books = books_end name k w test same es at;
+          bucket = bucket_of means.pool_name w;
+          served = subst (λ (b : Bucket). IsServed means (key_of k) room count sets ended b (bucket_of means.pool_name w) before after) (sym gone) (served_new (subst (λ (b : Bucket). IsServed means (key_of k) room count sets ended b (bucket_of means.pool_name w) before after) empty s));
+          books = books_end means.pool_name k w test same es at;
           out = (let a = sum_by-append (λ (r : BucketKey × DescriptorBucket P). r.1.total) es ((k, w) ∷ []) in let one : sum_by (λ (r : BucketKey × DescriptorBucket P). r.1.total) ((k, w) ∷ []) ≡ w.total = omega arith in omega arith);
           load = (let a = sum_by-append load_in es ((k, w) ∷ []) in let one : sum_by load_in ((k, w) ∷ []) ≡ marked_load (key_of k) w.total = omega arith in let n : w.total ≡ length sets = omega arith in let e = ap (marked_load (key_of k)) n in omega arith);
         })

@@ -3,6 +3,8 @@ use Rattle.std.specs.Prelude.{◌↔◌}
 use Rattle.std.proofs.lemmas.Bool.{cases_lt}
 use Rattle.std.proofs.Common.{◌≡◌, ◌≢◌, ℕ, ◌+◌, ◌-◌, ◌<◌, ◌≤◌, inl, inr, true, false, Some, List, [], ◌∷◌, length, map, slice_get, arith, Result, Ok, Err, refl, sym, ap, ◌∙◌, subst}
 use Rattle.std.proofs.lemmas.List.{length-map}
+use Rattle.gpu_descriptor_types.specs.Side.{side}
+use Rattle.gpu_descriptor_types.specs.Meaning.{Meaning}
 use Rattle.gpu_descriptor_types.specs.Ledger.{Ledger, no_rise}
 use Rattle.gpu_descriptor.specs.declared.errors.AllocationError.{AllocationError}
 use Rattle.gpu_descriptor.specs.declared.set.DescriptorSet.{DescriptorSet}
@@ -52,17 +54,17 @@ bucket_taken (Ok x) k room n items old new l m t = (t.0, t.1.bucket, t.1.grant)
 bucket_taken (Err why) k room n items old new l m t = (t.0, t.2.bucket, t.2.grant)
 
 -- a request of a key is one of another that is the same
-pub taken_as : {P S : Type 0} {name : P → ℕ} {set_name : S → ℕ} {k l : Key} {count : ℕ} {sets : List (DescriptorSet S)} {ended : Result (Unit {0}) Stop} {old new : Allocations P} {before after : Ledger}
-    → k ≡ l → Takes name set_name k count sets ended old new before after → Takes name set_name l count sets ended old new before after
+pub taken_as : {L P S : Type 0} {means : Meaning L P S} {k l : Key} {count : ℕ} {sets : List (DescriptorSet S)} {ended : Result (Unit {0}) Stop} {old new : Allocations P} {before after : Ledger}
+    → k ≡ l → Takes means k count sets ended (side old before) (side new after) → Takes means l count sets ended (side old before) (side new after)
 taken_as same t = rw (sym same) t
 
-module _ {P S : Type 0} {name : P → ℕ} {set_name : S → ℕ} {k : Key} {count : ℕ} {sets : List (DescriptorSet S)} {ended : Result (Unit {0}) Stop} {old new : Allocations P} {before after : Ledger}
-    (t : Takes name set_name k count sets ended old new before after) (agree : Agrees name old before) where
+module _ {L P S : Type 0} {means : Meaning L P S} {k : Key} {count : ℕ} {sets : List (DescriptorSet S)} {ended : Result (Unit {0}) Stop} {old new : Allocations P} {before after : Ledger}
+    (t : Takes means k count sets ended (side old before) (side new after)) (agree : Agrees means.pool_name old before) where
   abbrev s : State
-  s = state_of name old before
+  s = state_of means.pool_name old before
 
   abbrev items : List Item
-  items = items_of set_name sets
+  items = items_of means.set_name sets
 
   -- what the limit leaves
   abbrev room : ℕ
@@ -81,21 +83,21 @@ module _ {P S : Type 0} {name : P → ℕ} {set_name : S → ℕ} {k : Key} {cou
   same_first = ap (λ (b : Bucket). b.first) left.1
 
   -- books and ledger agree after it
-  pub taken_agree : Agrees name new after
+  pub taken_agree : Agrees means.pool_name new after
   taken_agree = subst Agree (sym t.state) (keeps_agree k items t.bucket s after.pools agree same_id same_first keeps)
 
   -- and the sets may be given back
-  pub taken_given : AreOutstanding items (state_of name new after)
+  pub taken_given : AreOutstanding items (state_of means.pool_name new after)
   taken_given = subst (AreOutstanding items) (sym t.state) (keeps_given k items t.bucket s after.pools agree same_id same_first keeps)
 
   -- exactly these sets are outstanding besides
-  pub taken_out : AreOutBesides items s (state_of name new after)
+  pub taken_out : AreOutBesides items s (state_of means.pool_name new after)
   taken_out u = ap (λ (w : State). outstanding w u) t.state ∙ keeps_outstanding k items t.bucket s after.pools agree same_id same_first keeps u
 
   pub taken_own : AreOfKey k items
   taken_own = λ u some. (keeps.of_key u some).0
 
-  pub taken_others : KeepsOtherKeys k s (state_of name new after)
+  pub taken_others : KeepsOtherKeys k s (state_of means.pool_name new after)
   taken_others l other = record {
     books = ap (λ (w : State). w.books l) t.state ∙ rw other refl;
     pools = λ n e at. (
@@ -106,48 +108,48 @@ module _ {P S : Type 0} {name : P → ℕ} {set_name : S → ℕ} {k : Key} {cou
         ap (λ (w : State). w.ledger e.pool) t.state ∙ taken_apart k items t.bucket s after.pools same_first keeps e.pool booked.0 apart booked.1);
   }
 
-  pub taken_leaves : KeepsForeign s (state_of name new after)
+  pub taken_leaves : KeepsForeign s (state_of means.pool_name new after)
   taken_leaves = subst (KeepsForeign s) (sym t.state) (taken_foreign k items t.bucket s after.pools same_first keeps)
 
-  pub taken_loses_none : LosesNone s (state_of name new after)
+  pub taken_loses_none : LosesNone s (state_of means.pool_name new after)
   taken_loses_none =
       let g = left.0 in
       subst (LosesNone s) (sym t.state) (taken_loses k items t.bucket s after.pools same_first keeps (λ i e at.
       let kept = entries_named g.left count g.refused (s.books k).pools (map fresh_entry g.fresh) i e at in
       (kept.0, ap (λ (b : Bucket). slice_get b.pools i) left.1 ∙ kept.1, kept.2)))
 
-  pub taken_others_of : others_of name new after ≡ others_of name old before
-  taken_others_of = others_stay name old new before after taken_leaves taken_loses_none
+  pub taken_others_of : others_of means.pool_name new after ≡ others_of means.pool_name old before
+  taken_others_of = others_stay means.pool_name old new before after taken_leaves taken_loses_none
 
-  pub proceeds : HasDistinctKeys (table_of name old) → 0 < count → (last : Allocations P) (final : Ledger) (answer : Result (List Item) AllocationError) → Proceeds (call_of name k count old last before final answer)
+  pub proceeds : HasDistinctKeys (table_of means.pool_name old) → 0 < count → (last : Allocations P) (final : Ledger) (answer : Result (List Item) AllocationError) → Proceeds (call_of means k count (side old before) (side last final) answer)
   proceeds distinct some last final answer = record {
     some = some;
-    limit = record { load = marked_load_of old; is_load = load_is name old before distinct; within = t.within };
-    bound = record { out = outstanding_of old; is_out = out_is name old before distinct; numbers = t.served.numbers; sets = t.fits };
+    limit = record { load = marked_load_of old; is_load = load_is means old before distinct; within = t.within };
+    bound = record { out = outstanding_of old; is_out = out_is means old before distinct; numbers = t.served.numbers; sets = t.fits };
   }
 
   -- ---- the sets went back
 
-  module _ (distinct : HasDistinctKeys (table_of name old)) (still : HasDistinctKeys (table_of name new)) (some : 0 < count) {last : Allocations P} {final : Ledger} (back : GivesBack name set_name sets (runs items) new last after final) where
+  module _ (distinct : HasDistinctKeys (table_of means.pool_name old)) (still : HasDistinctKeys (table_of means.pool_name new)) (some : 0 < count) {last : Allocations P} {final : Ledger} (back : GivesBack means sets (runs items) (side new after) (side last final)) where
     -- which of the new allocator's pools go
-    gone : pools_gone (keys_of new) items (given_back items (state_of name new after)) ≡ pools_gone (k ∷ []) items (given_back items (state_of name new after))
-    gone = ap (λ (keys : List Key). pools_gone keys items (given_back items (state_of name new after))) (keys_table name new.table) ∙ only_key k items (state_of name new after) (table_of name new) still (λ l. refl) taken_own
+    gone : pools_gone (keys_of new) items (given_back items (state_of means.pool_name new after)) ≡ pools_gone (k ∷ []) items (given_back items (state_of means.pool_name new after))
+    gone = ap (λ (keys : List Key). pools_gone keys items (given_back items (state_of means.pool_name new after))) (keys_table means.pool_name new.table) ∙ only_key k items (state_of means.pool_name new after) (table_of means.pool_name new) still (λ l. refl) taken_own
 
-    went : (m : List Item) (u : State) → m ≡ items → u ≡ state_of name new after → final.counters ≡ risen (rollback_rise m k u) after.counters
+    went : (m : List Item) (u : State) → m ≡ items → u ≡ state_of means.pool_name new after → final.counters ≡ risen (rollback_rise m k u) after.counters
     went m u is same = back.counters ∙ give_back_rise _ (runs items) after.counters ∙ (λ i. risen (record no_rise { released = runs (sym is i); destroyed = (gone ∙ (λ j. pools_gone (k ∷ []) (sym is j) (given_back (sym is j) (sym same j)))) i }) after.counters)
 
     abbrev call : AllocationError → Call
-    call error = call_of name k count old last before final (Err error)
+    call error = call_of means k count (side old before) (side last final) (Err error)
 
     -- the outcome, and what it says went back
     abbrev Rolls : Stop → Type 0
-    Rolls why = (o : Allocates (call (stop_answer why))) × (rolled_back o ≡ Some (items, state_of name new after))
+    Rolls why = (o : Allocates (call (stop_answer why))) × (rolled_back o ≡ Some (items, state_of means.pool_name new after))
 
     module _ (why : Stop) (g : Grant) (between : Ledger) (taken : HasTaken k count g items (s.books k) t.bucket before between) (refused : IsRefused why between after) where
       now : (with_bucket k t.bucket after.pools s ≡ granted k count g s) × (after.counters ≡ risen (stop_rise why) (risen (grant_rise count g (s.books k).pools) before.counters))
       now = stopped_state k count why s t.bucket items before between after refl g taken refused
 
-      is_back : (b : IsBack (call (stop_answer why)) g why) × (Some (back_of b) ≡ Some (items, state_of name new after))
+      is_back : (b : IsBack (call (stop_answer why)) g why) × (Some (back_of b) ≡ Some (items, state_of means.pool_name new after))
       is_back = (
         record {
           taken = taken.grant;
@@ -164,26 +166,26 @@ module _ {P S : Type 0} {name : P → ℕ} {set_name : S → ℕ} {k : Key} {cou
     rolls : (why : Stop) (g : Grant) (between : Ledger) → HasTaken k count g items (s.books k) t.bucket before between → StopsAt why k room count g (s.books k).pools → IsRefused why between after → Rolls why
     rolls why g between taken at refused =
         let b = is_back why g between taken refused in
-        (stopped (goes why g between taken refused) (record { why = why; grant = g; pooled = pool_load_of old; is_pooled = pool_load_is name old before distinct; at = at; back = b.0 }), b.1)
+        (stopped (goes why g between taken refused) (record { why = why; grant = g; pooled = pool_load_of old; is_pooled = pool_load_is means old before distinct; at = at; back = b.0 }), b.1)
 
     pub went_back : {why : Stop} → ended ≡ Err why → Rolls why
     went_back {why} is =
         let taken = subst (λ (r : Result (Unit {0}) Stop). IsTaken r k room count items (s.books k) t.bucket before after) is t.served.taken in
         rolls why taken.0 taken.1 taken.2 taken.3 taken.4
 
-  module _ {last : Allocations P} {final : Ledger} {calls : ℕ} (back : GivesBack name set_name sets calls new last after final) where
+  module _ {last : Allocations P} {final : Ledger} {calls : ℕ} (back : GivesBack means sets calls (side new after) (side last final)) where
     -- the sets that went back are no longer outstanding
-    pub back_out : KeepsOutstanding s (state_of name last final)
+    pub back_out : KeepsOutstanding s (state_of means.pool_name last final)
     back_out u =
         let now = ap (λ (w : State). outstanding w u) back.state in
-        let less = takes items (state_of name new after) taken_agree taken_given u in
+        let less = takes items (state_of means.pool_name new after) taken_agree taken_given u in
         let more = taken_out u in
         omega arith
 
-    pub back_others : KeepsOtherKeys k s (state_of name last final)
+    pub back_others : KeepsOtherKeys k s (state_of means.pool_name last final)
     back_others l other =
-        let left = release_others items (state_of name new after) taken_agree l (unnamed_key k items taken_own l other) in
-        subst (IsUntouched l s) (sym back.state) (untouched_twice l s (state_of name new after) (released items (state_of name new after)) (taken_others l other) left)
+        let left = release_others items (state_of means.pool_name new after) taken_agree l (unnamed_key k items taken_own l other) in
+        subst (IsUntouched l s) (sym back.state) (untouched_twice l s (state_of means.pool_name new after) (released items (state_of means.pool_name new after)) (taken_others l other) left)
 
     -- the totals are as before
     pub back_totals : (outstanding_of last ≡ outstanding_of old) × (marked_load_of last ≡ marked_load_of old)
@@ -193,17 +195,17 @@ module _ {P S : Type 0} {name : P → ℕ} {set_name : S → ℕ} {k : Key} {cou
         let total = t.total in
         let more = t.marked in
         let load = load_of_items k items taken_own in
-        let long = ap (marked_load k) (length-map sets (λ (x : DescriptorSet S). item_of set_name x)) in
+        let long = ap (marked_load k) (length-map sets (λ (x : DescriptorSet S). item_of means.set_name x)) in
         ((let e : outstanding_of last ≡ outstanding_of old = omega arith in e), (let e : marked_load_of last ≡ marked_load_of old = omega arith in e))
 
-    pub back_leaves : KeepsForeign s (state_of name last final)
-    back_leaves = foreign_through s (state_of name new after) (state_of name last final) taken_leaves (freed_foreign name set_name sets calls new last after final back)
+    pub back_leaves : KeepsForeign s (state_of means.pool_name last final)
+    back_leaves = foreign_through s (state_of means.pool_name new after) (state_of means.pool_name last final) taken_leaves (freed_foreign means sets calls new last after final back)
 
-    pub back_loses_none : LosesNone s (state_of name last final)
-    back_loses_none = loses_through s (state_of name new after) (state_of name last final) taken_loses_none (freed_loses name set_name sets calls new last after final back)
+    pub back_loses_none : LosesNone s (state_of means.pool_name last final)
+    back_loses_none = loses_through s (state_of means.pool_name new after) (state_of means.pool_name last final) taken_loses_none (freed_loses means sets calls new last after final back)
 
-    pub back_others_of : others_of name last final ≡ others_of name old before
-    back_others_of = others_stay name old last before final back_leaves back_loses_none
+    pub back_others_of : others_of means.pool_name last final ≡ others_of means.pool_name old before
+    back_others_of = others_stay means.pool_name old last before final back_leaves back_loses_none
 
   -- ---- the sets are kept
 
@@ -215,7 +217,7 @@ module _ {P S : Type 0} {name : P → ℕ} {set_name : S → ℕ} {k : Key} {cou
       let all = all_of is in
       let many = grant_many k count _ _ (s.books k) all.0 all.1.grant.parts all.2 all.3 in
       let same = ap length all.1.came in
-      let long = length-map sets (λ (x : DescriptorSet S). item_of set_name x) in
+      let long = length-map sets (λ (x : DescriptorSet S). item_of means.set_name x) in
       omega arith
 
   pub kept_totals : {x : Unit {0}} → ended ≡ Ok x → (outstanding_of new ≡ outstanding_of old + count) × (marked_load_of new ≡ marked_load_of old + marked_load k count)
@@ -223,5 +225,5 @@ module _ {P S : Type 0} {name : P → ℕ} {set_name : S → ℕ} {k : Key} {cou
       let many = kept_many is in
       (t.total ∙ ap (λ n. outstanding_of old + n) many, t.marked ∙ ap (λ n. marked_load_of old + marked_load k n) many)
 
-  pub kept : HasDistinctKeys (table_of name old) → 0 < count → {x : Unit {0}} → ended ≡ Ok x → Allocates (call_of name k count old new before after (Ok items))
-  kept distinct some is = done (proceeds distinct some new after _) (is_done _ t.bucket items before after refl refl t.state refl (pool_load_of old) (pool_load_is name old before distinct) (all_of is) refl)
+  pub kept : HasDistinctKeys (table_of means.pool_name old) → 0 < count → {x : Unit {0}} → ended ≡ Ok x → Allocates (call_of means k count (side old before) (side new after) (Ok items))
+  kept distinct some is = done (proceeds distinct some new after _) (is_done _ t.bucket items before after refl refl t.state refl (pool_load_of old) (pool_load_is means old before distinct) (all_of is) refl)

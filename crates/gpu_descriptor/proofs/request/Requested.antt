@@ -1,4 +1,6 @@
 -- What a request leaves of an allocator: why it is declined before the walk, and what it took.
+use Rattle.gpu_descriptor_types.specs.Side.{side}
+use Rattle.gpu_descriptor_types.specs.Meaning.{Meaning}
 use Rattle.gpu_descriptor_types.specs.Bounds.{greatest_u64}
 use Rattle.std.proofs.Common.{[], ◌≡◌, ℕ, ◌+◌, ◌-◌, ◌*◌, ◌<◌, ◌≤◌, ◌&&◌, Bool, true, false, List, map, length, sum, sum_by, Result, Err, inl, inr, refl, sym, ap, subst, ◌∙◌, arith}
 use Rattle.std.proofs.Math.Path.{fun_ext}
@@ -88,8 +90,8 @@ module _ {P : Type 0} {a : Allocations P} {most looks compared : ℕ} (es : List
   pool_load_within counted = subst (λ (x : Allocations P). pool_load_of x ≤ x.limit) is (pools_within counted)
 
 -- how the totals of the table grow, by so many sets of a key
-module _ {P S : Type 0} (name : P → ℕ) (set_name : S → ℕ) (key : BucketKey) (room count : ℕ) (sets : List (DescriptorSet S)) (ended : Result (Unit {0}) Stop) (es fs : List (BucketKey × DescriptorBucket P)) (before after : Ledger)
-    (s : ServesKey name set_name key room count sets ended es fs before after) where
+module _ {L P S : Type 0} (means : Meaning L P S) (key : BucketKey) (room count : ℕ) (sets : List (DescriptorSet S)) (ended : Result (Unit {0}) Stop) (es fs : List (BucketKey × DescriptorBucket P)) (before after : Ledger)
+    (s : ServesKey means key room count sets ended es fs before after) where
   pub load_below : (most marked left out : ℕ) → IsConsistent most marked left out es → (key.update_after_bind ≡ true → count * sum (kinds key.size) + marked ≤ most) → marked_load (key_of key) (length sets) + marked ≤ most
   load_below most marked left out counted within = elim (cases_Bool key.update_after_bind) [
     | inl on ↦ (
@@ -110,45 +112,45 @@ module _ {P S : Type 0} (name : P → ℕ) (set_name : S → ℕ) (key : BucketK
       let d = s.out in
       record { distinct = distinct; is_load = omega arith; within = omega arith; is_room = omega arith; is_out = omega arith }
 
-module _ {P : Type 0} (name : P → ℕ) (a : Allocations P) (before : Ledger) (distinct : HasDistinctKeys (table_of name a)) where
-  pub load_is : IsMarkedLoad (state_of name a before) (marked_load_of a)
-  load_is = record { table = table_of name a; distinct = distinct; keeps = λ k. refl; total = sym (marked_load_of-table name a) }
+module _ {L P S : Type 0} (means : Meaning L P S) (a : Allocations P) (before : Ledger) (distinct : HasDistinctKeys (table_of means.pool_name a)) where
+  pub load_is : IsMarkedLoad (state_of means.pool_name a before) (marked_load_of a)
+  load_is = record { table = table_of means.pool_name a; distinct = distinct; keeps = λ k. refl; total = sym (marked_load_of-table means.pool_name a) }
 
-  pub pool_load_is : IsPoolLoad (state_of name a before) (pool_load_of a)
-  pool_load_is = record { table = table_of name a; distinct = distinct; keeps = λ k. refl; total = sym (pool_load_of-table name a) }
+  pub pool_load_is : IsPoolLoad (state_of means.pool_name a before) (pool_load_of a)
+  pool_load_is = record { table = table_of means.pool_name a; distinct = distinct; keeps = λ k. refl; total = sym (pool_load_of-table means.pool_name a) }
 
-  pub out_is : IsOut (state_of name a before) (outstanding_of a)
-  out_is = record { table = table_of name a; distinct = distinct; keeps = λ k. refl; total = sym (outstanding_of-table name a) }
+  pub out_is : IsOut (state_of means.pool_name a before) (outstanding_of a)
+  out_is = record { table = table_of means.pool_name a; distinct = distinct; keeps = λ k. refl; total = sym (outstanding_of-table means.pool_name a) }
 
   module _ (k : Key) (count : ℕ) (some : 0 < count) (b : Allocations P) (after : Ledger) (same : b ≡ a) (kept : after ≡ before) where
-    stays : (answer : Result _ AllocationError) → Stays (call_of name k count a b before after answer)
-    stays answer = record { state = λ i. state_of name (same i) (kept i); counters = λ i. (kept i).counters }
+    stays : (answer : Result _ AllocationError) → Stays (call_of means k count (side a before) (side b after) answer)
+    stays answer = record { state = λ i. state_of means.pool_name (same i) (kept i); counters = λ i. (kept i).counters }
 
-    pub above_limit : k.marked ≡ true → a.limit < count * sum k.counts + marked_load_of a → Allocates (call_of name k count a b before after (Err Fragmentation))
+    pub above_limit : k.marked ≡ true → a.limit < count * sum k.counts + marked_load_of a → Allocates (call_of means k count (side a before) (side b after) (Err Fragmentation))
     above_limit marked above = limit some (record { marked = marked; load = marked_load_of a; is_load = load_is; above = above }) refl (stays _)
 
     module _ (within : k.marked ≡ true → count * sum k.counts + marked_load_of a ≤ a.limit) where
-      in_limit : (answer : Result _ AllocationError) → IsWithinLimit (call_of name k count a b before after answer)
+      in_limit : (answer : Result _ AllocationError) → IsWithinLimit (call_of means k count (side a before) (side b after) answer)
       in_limit answer = record { load = marked_load_of a; is_load = load_is; within = within }
 
-      pub past_bound : (greatest_u64 < next_number ((state_of name a before).books k) + count) ⊎ (greatest_u64 < outstanding_of a + count) → Allocates (call_of name k count a b before after (Err Fragmentation))
+      pub past_bound : (greatest_u64 < next_number ((state_of means.pool_name a before).books k) + count) ⊎ (greatest_u64 < outstanding_of a + count) → Allocates (call_of means k count (side a before) (side b after) (Err Fragmentation))
       past_bound past = bound some (in_limit _) (record { out = outstanding_of a; is_out = out_is; past = past }) refl (stays _)
 
-      pub unserved : outstanding_of a + count ≤ greatest_u64 → (e : AllocationError) → IsUnserved count e ((state_of name a before).books k) → Allocates (call_of name k count a b before after (Err e))
+      pub unserved : outstanding_of a + count ≤ greatest_u64 → (e : AllocationError) → IsUnserved count e ((state_of means.pool_name a before).books k) → Allocates (call_of means k count (side a before) (side b after) (Err e))
       unserved sets e why = elim why [
         | inl memory ↦ (rw memory.0 (start (record { some = some; limit = in_limit _; bound = record { out = outstanding_of a; is_out = out_is; numbers = memory.1; sets = sets } }) refl (stays _)))
         | inr past ↦ (rw past.0 (past_bound (inl past.1)))
       ]
 
-module _ {P S : Type 0} (name : P → ℕ) (set_name : S → ℕ) (most looks_before looks_after compared : ℕ) (es fs : List (BucketKey × DescriptorBucket P)) where
+module _ {L P S : Type 0} (means : Meaning L P S) (most looks_before looks_after compared : ℕ) (es fs : List (BucketKey × DescriptorBucket P)) where
   abbrev old : Allocations P
   old = record { limit = most; table = map row_of es; looks = looks_before; comparisons = compared }
 
   abbrev new : Allocations P
   new = record { limit = most; table = map row_of fs; looks = looks_after; comparisons = compared }
 
-  pub takes : (key : BucketKey) (room count : ℕ) (sets : List (DescriptorSet S)) (ended : Result (Unit {0}) Stop) (before after : Ledger) → ServesKey name set_name key room count sets ended es fs before after → room + sum_by stored_load_in es ≡ most
-      → ((key_of key).marked ≡ true → count * sum (key_of key).counts + marked_load_of old ≤ most) → outstanding_of old + count ≤ greatest_u64 → Takes name set_name (key_of key) count sets ended old new before after
+  pub takes : (key : BucketKey) (room count : ℕ) (sets : List (DescriptorSet S)) (ended : Result (Unit {0}) Stop) (before after : Ledger) → ServesKey means key room count sets ended es fs before after → room + sum_by stored_load_in es ≡ most
+      → ((key_of key).marked ≡ true → count * sum (key_of key).counts + marked_load_of old ≤ most) → outstanding_of old + count ≤ greatest_u64 → Takes means (key_of key) count sets ended (side old before) (side new after)
   takes key room count sets ended before after served all within fits = record {
     bucket = s.bucket;
     served = s.served;
@@ -162,39 +164,39 @@ module _ {P S : Type 0} (name : P → ℕ) (set_name : S → ℕ) (most looks_be
       room_is : room ≡ most - pool_load_of old
       room_is = (let rows = rows_pool_load es in omega arith)
 
-      s : ServesKey name set_name key (most - pool_load_of old) count sets ended es fs before after
-      s = subst (λ (r : ℕ). ServesKey name set_name key r count sets ended es fs before after) room_is served
+      s : ServesKey means key (most - pool_load_of old) count sets ended es fs before after
+      s = subst (λ (r : ℕ). ServesKey means key r count sets ended es fs before after) room_is served
 
 -- ---- the tests of a request, over the fields of an allocator
 
-module _ {P : Type 0} (name : P → ℕ) {a : Allocations P} {most looks compared marked room out : ℕ} {es : List (BucketKey × DescriptorBucket P)} (is : seen most looks compared es ≡ a) (counted : IsConsistent most marked room out es) (apart : HasDistinctKeys (table_of name a)) (before : Ledger)
+module _ {L P S : Type 0} (means : Meaning L P S) {a : Allocations P} {most looks compared marked room out : ℕ} {es : List (BucketKey × DescriptorBucket P)} (is : seen most looks compared es ≡ a) (counted : IsConsistent most marked room out es) (apart : HasDistinctKeys (table_of means.pool_name a)) (before : Ledger)
     (key : BucketKey) {count : ℕ} (some : 0 < count) {above : Bool} (test : above ≡ (key.update_after_bind && nat_lt a.limit (count * sum (kinds key.size) + marked_load_of a))) where
-  pub declined_by_limit : above ≡ true → Allocates (call_of name (key_of key) count a a before before (Err Fragmentation))
+  pub declined_by_limit : above ≡ true → Allocates (call_of means (key_of key) count (side a before) (side a before) (Err Fragmentation))
   declined_by_limit passed =
       let both = and_parts key.update_after_bind (nat_lt a.limit (count * sum (kinds key.size) + marked_load_of a)) (sym test ∙ passed) in
-      above_limit name a before apart (key_of key) count some a before refl refl both.0 (ltb-true a.limit (count * sum (kinds key.size) + marked_load_of a) both.1)
+      above_limit means a before apart (key_of key) count some a before refl refl both.0 (ltb-true a.limit (count * sum (kinds key.size) + marked_load_of a) both.1)
 
   module _ (below : above ≡ false) {past : Bool} (bounded : past ≡ nat_lt greatest_u64 (out + count)) where
     inside : key.update_after_bind ≡ true → count * sum (kinds key.size) + marked_load_of a ≤ a.limit
     inside = within_of key.update_after_bind a.limit (count * sum (kinds key.size) + marked_load_of a) (sym test ∙ below)
 
-    pub declined_by_bound : past ≡ true → Allocates (call_of name (key_of key) count a a before before (Err Fragmentation))
+    pub declined_by_bound : past ≡ true → Allocates (call_of means (key_of key) count (side a before) (side a before) (Err Fragmentation))
     declined_by_bound passed =
         let more = ltb-true greatest_u64 (out + count) (sym bounded ∙ passed) in
         let all = out_of a es (table_is es is) in
         let is_out = counted.is_out in
-        past_bound name a before apart (key_of key) count some a before refl refl inside (inr (omega arith))
+        past_bound means a before apart (key_of key) count some a before refl refl inside (inr (omega arith))
 
-    pub declined_unserved : past ≡ false → {b : Allocations P} {after : Ledger} → b ≡ a → after ≡ before → (e : AllocationError) → IsUnserved count e (books_in name es (key_of key)) → Allocates (call_of name (key_of key) count a b before after (Err e))
+    pub declined_unserved : past ≡ false → {b : Allocations P} {after : Ledger} → b ≡ a → after ≡ before → (e : AllocationError) → IsUnserved count e (books_in means.pool_name es (key_of key)) → Allocates (call_of means (key_of key) count (side a before) (side b after) (Err e))
     declined_unserved kept_in {b} {after} same kept e why =
         let fits = ltb-false greatest_u64 (out + count) (sym bounded ∙ kept_in) in
         let all = out_of a es (table_is es is) in
         let is_out = counted.is_out in
-        unserved name a before apart (key_of key) count some b after same kept inside (omega arith) e (subst (λ (x : Bucket). IsUnserved count e x) (sym (books_at a es (table_is es is) name before (key_of key))) why)
+        unserved means a before apart (key_of key) count some b after same kept inside (omega arith) e (subst (λ (x : Bucket). IsUnserved count e x) (sym (books_at a es (table_is es is) means.pool_name before (key_of key))) why)
 
 -- a request that passed them, and took what its key has
-module _ {P S : Type 0} {name : P → ℕ} {set_name : S → ℕ} {key : BucketKey} {room count : ℕ} {sets : List (DescriptorSet S)} {ended : Result (Unit {0}) Stop} {es fs : List (BucketKey × DescriptorBucket P)} {before after : Ledger}
-    (s : ServesKey name set_name key room count sets ended es fs before after) {a : Allocations P} {most looks compared marked out : ℕ} (is : seen most looks compared es ≡ a) (counted : IsConsistent most marked room out es)
+module _ {L P S : Type 0} {means : Meaning L P S} {key : BucketKey} {room count : ℕ} {sets : List (DescriptorSet S)} {ended : Result (Unit {0}) Stop} {es fs : List (BucketKey × DescriptorBucket P)} {before after : Ledger}
+    (s : ServesKey means key room count sets ended es fs before after) {a : Allocations P} {most looks compared marked out : ℕ} (is : seen most looks compared es ≡ a) (counted : IsConsistent most marked room out es)
     {above : Bool} (test : above ≡ (key.update_after_bind && nat_lt a.limit (count * sum (kinds key.size) + marked_load_of a))) (below : above ≡ false) where
   sets_within : key.update_after_bind ≡ true → count * sum (kinds key.size) + marked_load_of a ≤ a.limit
   sets_within = within_of key.update_after_bind a.limit (count * sum (kinds key.size) + marked_load_of a) (sym test ∙ below)
@@ -205,19 +207,19 @@ module _ {P S : Type 0} {name : P → ℕ} {set_name : S → ℕ} {key : BucketK
       let load = load_of_rows a es (table_is es is) in
       let limit = ap (λ (x : Allocations P). x.limit) is in
       let is_load = counted.is_load in
-      let fits = load_below name set_name key room count sets ended es fs before after s most marked room out counted (λ on. (let all = sets_within on in omega arith)) in
+      let fits = load_below means key room count sets ended es fs before after s most marked room out counted (λ on. (let all = sets_within on in omega arith)) in
       let same = ap (marked_load (key_of key)) long in
       omega arith
 
   pub counted_now : {given more left : ℕ} → given ≡ length sets → more ≡ marked_load (key_of key) given → left + sum_by stored_load_in fs ≡ room + sum_by stored_load_in es → IsDistinct key_eq (stored_keys fs) → IsConsistent most (marked + more) left (out + given) fs
   counted_now {given} {more} {left} long load moved distinct =
       let fits = given_fits long in
-      counted_more name set_name key room count sets ended es fs before after s most marked room left out more given counted (load ∙ ap (marked_load (key_of key)) long) long (omega arith) moved distinct
+      counted_more means key room count sets ended es fs before after s most marked room left out more given counted (load ∙ ap (marked_load (key_of key)) long) long (omega arith) moved distinct
 
-  pub takes_of : {past : Bool} → past ≡ nat_lt greatest_u64 (out + count) → past ≡ false → {looked : ℕ} → Takes name set_name (key_of key) count sets ended a (seen most looked compared fs) before after
+  pub takes_of : {past : Bool} → past ≡ nat_lt greatest_u64 (out + count) → past ≡ false → {looked : ℕ} → Takes means (key_of key) count sets ended (side a before) (side (seen most looked compared fs) after)
   takes_of bounded kept_in {looked} =
       let fits = ltb-false greatest_u64 (out + count) (sym bounded ∙ kept_in) in
       let all = out_of a es (table_is es is) in
       let is_out = counted.is_out in
-      subst (λ (x : Allocations P). (key.update_after_bind ≡ true → count * sum (kinds key.size) + marked_load_of x ≤ x.limit) → outstanding_of x + count ≤ greatest_u64 → Takes name set_name (key_of key) count sets ended x (seen most looked compared fs) before after) is
-      (λ w f. takes name set_name most looks looked compared es fs key room count sets ended before after s counted.is_room w f) sets_within (omega arith)
+      subst (λ (x : Allocations P). (key.update_after_bind ≡ true → count * sum (kinds key.size) + marked_load_of x ≤ x.limit) → outstanding_of x + count ≤ greatest_u64 → Takes means (key_of key) count sets ended (side x before) (side (seen most looked compared fs) after)) is
+      (λ w f. takes means most looks looked compared es fs key room count sets ended before after s counted.is_room w f) sets_within (omega arith)

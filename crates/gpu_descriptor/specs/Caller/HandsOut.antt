@@ -1,7 +1,8 @@
 -- What a request for sets leaves of an allocator and of the ledger.
 use Rattle.std.specs.Prelude.{◌≡◌, ℕ, ◌+◌, ◌≤◌, length, IfOk, IfErr, MatchOption, None, OnOk, OnErr, Result}
 use Rattle.std.specs.Global.{Vec}
-use Rattle.gpu_descriptor_types.specs.Ledger.{Ledger}
+use Rattle.gpu_descriptor_types.specs.Meaning.{Meaning}
+use Rattle.gpu_descriptor_types.specs.Side.{Side}
 use Rattle.gpu_descriptor.specs.declared.errors.AllocationError.{AllocationError}
 use Rattle.gpu_descriptor.specs.declared.set.DescriptorSet.{DescriptorSet}
 use Rattle.gpu_descriptor.specs.Model.Books.{Key}
@@ -16,28 +17,28 @@ use Rattle.gpu_descriptor.specs.Caller.States.{keys_of, marked_load_of, outstand
 use Rattle.gpu_descriptor.specs.Caller.Values.{Allocations}
 
 -- a request of so many sets of a key was answered
-pub record HandsOut {P S : Type 0} (pool_name : P → ℕ) (set_name : S → ℕ) (k : Key) (count : ℕ) (answer : Result (Vec (DescriptorSet S)) AllocationError) (old new : Allocations P) (before after : Ledger) : Type 0 where
+pub record HandsOut {L P S : Type 0} (means : Meaning L P S) (k : Key) (count : ℕ) (answer : Result (Vec (DescriptorSet S)) AllocationError) (old new : Side (Allocations P)) : Type 0 where
   -- everything at once: which of its outcomes the request had
-  pub outcome : Allocates (call_of pool_name k count old new before after (answer_of set_name answer))
+  pub outcome : Allocates (call_of means k count old new (answer_of means.set_name answer))
   -- no sets change nothing
-  pub nothing : count ≡ 0 → (new ≡ old) × (after ≡ before)
+  pub nothing : count ≡ 0 → (new.value ≡ old.value) × (new.ledger ≡ old.ledger)
   pub many : IfOk answer (λ sets. length sets.items ≡ count)
   -- exactly the sets of the answer are outstanding besides those before
-  pub given : IfOk answer (λ sets. AreOutBesides (items_of set_name sets.items) (state_of pool_name old before) (state_of pool_name new after))
-  pub own : IfOk answer (λ sets. AreOfKey k (items_of set_name sets.items))
-  pub totals : IfOk answer (λ sets. (outstanding_of new ≡ outstanding_of old + count) × (marked_load_of new ≡ marked_load_of old + marked_load k count))
+  pub given : IfOk answer (λ sets. AreOutBesides (items_of means.set_name sets.items) (state_of means.pool_name old.value old.ledger) (state_of means.pool_name new.value new.ledger))
+  pub own : IfOk answer (λ sets. AreOfKey k (items_of means.set_name sets.items))
+  pub totals : IfOk answer (λ sets. (outstanding_of new.value ≡ outstanding_of old.value + count) × (marked_load_of new.value ≡ marked_load_of old.value + marked_load k count))
   -- a refusal gives back what it took
-  pub totals_stay : OnErr answer ((outstanding_of new ≡ outstanding_of old) × (marked_load_of new ≡ marked_load_of old))
-  pub back : OnErr answer (KeepsOutstanding (state_of pool_name old before) (state_of pool_name new after))
-  pub cause : IfErr answer (λ e. HasCause e (call_of pool_name k count old new before after (answer_of set_name answer)))
-  pub creates : CreatesOnlyWhereShort (call_of pool_name k count old new before after (answer_of set_name answer))
-  pub other_keys : KeepsOtherKeys k (state_of pool_name old before) (state_of pool_name new after)
-  pub keys : StayOrGainLast k (keys_of old) (keys_of new)
+  pub totals_stay : OnErr answer ((outstanding_of new.value ≡ outstanding_of old.value) × (marked_load_of new.value ≡ marked_load_of old.value))
+  pub back : OnErr answer (KeepsOutstanding (state_of means.pool_name old.value old.ledger) (state_of means.pool_name new.value new.ledger))
+  pub cause : IfErr answer (λ e. HasCause e (call_of means k count old new (answer_of means.set_name answer)))
+  pub creates : CreatesOnlyWhereShort (call_of means k count old new (answer_of means.set_name answer))
+  pub other_keys : KeepsOtherKeys k (state_of means.pool_name old.value old.ledger) (state_of means.pool_name new.value new.ledger)
+  pub keys : StayOrGainLast k (keys_of old.value) (keys_of new.value)
   -- a look for each call that asks a pool
-  pub looks : new.looks + before.counters.asked ≡ old.looks + after.counters.asked
+  pub looks : new.value.looks + old.ledger.counters.asked ≡ old.value.looks + new.ledger.counters.asked
   -- a request that was refused before it took anything changes nothing
-  pub declined : OnErr answer (rolled_back outcome ≡ None → (new ≡ old) × (after ≡ before))
+  pub declined : OnErr answer (rolled_back outcome ≡ None → (new.value ≡ old.value) × (new.ledger ≡ old.ledger))
   -- a rollback compares no more than a release of its sets, and no other request compares
-  pub searches : OnErr answer (MatchOption (rolled_back outcome) (new.comparisons ≡ old.comparisons) (λ r. new.comparisons ≤ old.comparisons + run_digits r.1 r.0))
-  pub comparisons_stay : OnOk answer (new.comparisons ≡ old.comparisons)
-  pub compared : old.comparisons ≤ new.comparisons
+  pub searches : OnErr answer (MatchOption (rolled_back outcome) (new.value.comparisons ≡ old.value.comparisons) (λ r. new.value.comparisons ≤ old.value.comparisons + run_digits r.1 r.0))
+  pub comparisons_stay : OnOk answer (new.value.comparisons ≡ old.value.comparisons)
+  pub compared : old.value.comparisons ≤ new.value.comparisons

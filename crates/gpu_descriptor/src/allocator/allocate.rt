@@ -1,5 +1,6 @@
 //! Handing sets out, whole or not at all.
 ghost use Rattle.std.specs.Prelude.{◌≡◌, ◌+◌, ◌*◌, ◌^◌, ◌<◌, ◌≤◌, ◌&&◌, nat_lt, length, sum};
+ghost use Rattle.gpu_descriptor_types.specs.Side.{side};
 ghost use Rattle.gpu_descriptor.specs.Inner.Ids.{rise_below, stored_ids};
 ghost use Rattle.std.specs.Prelude.{sum_by, true, Err, IfOk, IfErr, OnOk, OnErr};
 ghost use Rattle.std.specs.List.{IsDistinct};
@@ -63,15 +64,14 @@ impl<P: Drop, S: Drop> DescriptorAllocator<P, S> {
         layout_descriptor_count: &DescriptorTotalCount,
         count: u32,
     ) -> Result<Vec<DescriptorSet<S>>, AllocationError>
-        requires counts { kinds layout_descriptor_count.now ≡ D.layout_counts layout.now }
-        requires mark { is_marked flags ≡ D.layout_mark layout.now }
-        requires agree { Agrees D.pool_name self.old (D.ledger device.old) }
+        requires counts { kinds layout_descriptor_count.now ≡ D.meaning.counts layout.now }
+        requires mark { is_marked flags ≡ D.meaning.mark layout.now }
+        requires agree { Agrees D.meaning.pool_name self.old (D.ledger device.old) }
 
-        ensures hands_out { HandsOut D.pool_name D.set_name
-            (layout_key D.layout_counts D.layout_mark layout.now) count result
-            self.old self.new (D.ledger device.old) (D.ledger device.new) }
-        ensures keeps { Keeps D.pool_name self.old self.new
-            (D.ledger device.old) (D.ledger device.new) }
+        ensures hands_out { HandsOut D.meaning (layout_key D.meaning layout.now) count result
+            (side self.old (D.ledger device.old)) (side self.new (D.ledger device.new)) }
+        ensures keeps { Keeps D.meaning (side self.old (D.ledger device.old))
+            (side self.new (D.ledger device.new)) }
     {
         if count == 0 {
             return Ok(Vec::new(self.alloc));
@@ -101,13 +101,13 @@ impl<P: Drop, S: Drop> DescriptorAllocator<P, S> {
         key: BucketKey,
         count: u32,
     ) -> Result<Served<S>, AllocationError>
-        requires same { key_of key ≡ layout_key D.layout_counts D.layout_mark layout.now }
+        requires same { key_of key ≡ layout_key D.meaning layout.now }
         requires some { 0 < count }
-        requires agree { Agrees D.pool_name self.old (D.ledger device.old) }
-        ensures taken { IfOk result (λ r. Takes D.pool_name D.set_name (key_of key) count
-            r.sets.items r.taken self.old self.new (D.ledger device.old) (D.ledger device.new)) }
-        ensures declined { IfErr result (λ e. Allocates (call_of D.pool_name (key_of key) count
-            self.old self.new (D.ledger device.old) (D.ledger device.new) (Err e))) }
+        requires agree { Agrees D.meaning.pool_name self.old (D.ledger device.old) }
+        ensures taken { IfOk result (λ r. Takes D.meaning (key_of key) count r.sets.items r.taken
+            (side self.old (D.ledger device.old)) (side self.new (D.ledger device.new))) }
+        ensures declined { IfErr result (λ e. Allocates (call_of D.meaning (key_of key) count
+            (side self.old (D.ledger device.old)) (side self.new (D.ledger device.new)) (Err e))) }
         ensures looks { CountsLooks self.old.looks self.new.looks
             (D.ledger device.old) (D.ledger device.new) }
         ensures comparisons_stay { self.new.comparisons ≡ self.old.comparisons }
@@ -115,7 +115,7 @@ impl<P: Drop, S: Drop> DescriptorAllocator<P, S> {
             (keys_of self.new)) }
         ensures allocator { OnErr result (self.new ≡ self.old) }
         ensures ledger { OnErr result (D.ledger device.new ≡ D.ledger device.old) }
-        ensures rows { HasDistinctKeys (table_of D.pool_name self.new) }
+        ensures rows { HasDistinctKeys (table_of D.meaning.pool_name self.new) }
         ensures load { marked_load_of self.new ≤ self.new.limit }
         ensures pool_load { pool_load_of self.new ≤ self.new.limit }
         ensures limit { self.new.limit ≡ self.old.limit }
@@ -169,18 +169,17 @@ fn serve_key<L, P: Drop, S: Drop, D: DescriptorDevice<L, P, S>>(
     room: &mut u32,
     looks: &mut Tally,
 ) -> Result<Served<S>, AllocationError>
-    requires same { key_of request.now.key ≡ layout_key D.layout_counts D.layout_mark
-        request.now.layout.now }
-    requires booked { AreBookedIn (key_of request.now.key) (D.ledger device.old).pools
-        (books_in D.pool_name buckets.old.entries (key_of request.now.key)).pools }
+    requires same { key_of request.now.key ≡ layout_key D.meaning request.now.layout.now }
+    requires booked { AreBookedIn (key_of request.now.key) (D.ledger device.old).pools (books_in
+        D.meaning.pool_name buckets.old.entries (key_of request.now.key)).pools }
     requires distinct { IsDistinct key_eq (stored_keys buckets.old.entries) }
     requires rising { rise_below ids.old.next (stored_ids buckets.old.entries) ≡ true }
     requires bound { sum_by (λ r. r.1.total) buckets.old.entries + request.now.count < 2 ^ 64 }
-    ensures served { IfOk result (λ r. ServesKey D.pool_name D.set_name request.now.key room.old
+    ensures served { IfOk result (λ r. ServesKey D.meaning request.now.key room.old
         request.now.count r.sets.items r.taken buckets.old.entries buckets.new.entries
         (D.ledger device.old) (D.ledger device.new)) }
-    ensures refused { IfErr result (λ e. IsUnserved request.now.count e
-        (books_in D.pool_name buckets.old.entries (key_of request.now.key))) }
+    ensures refused { IfErr result (λ e. IsUnserved request.now.count e (books_in
+        D.meaning.pool_name buckets.old.entries (key_of request.now.key))) }
     ensures looks { CountsLooks looks.old.count looks.new.count
         (D.ledger device.old) (D.ledger device.new) }
     ensures looks_stay { OnErr result (looks.new ≡ looks.old) }

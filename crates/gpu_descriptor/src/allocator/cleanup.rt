@@ -1,5 +1,6 @@
 //! Cleaning up: the empty pools at the front of each key are destroyed.
 ghost use Rattle.std.specs.Prelude.{◌≡◌};
+ghost use Rattle.gpu_descriptor_types.specs.Side.{side};
 ghost use Rattle.gpu_descriptor.specs.Inner.Buckets.{has_pools};
 ghost use Rattle.gpu_descriptor.specs.Caller.CleansUp.{CleansUp};
 ghost use Rattle.gpu_descriptor.specs.Caller.Keeps.{Keeps};
@@ -17,11 +18,11 @@ impl<P: Drop, S> DescriptorAllocator<P, S> {
     /// The keys are gone through in the order in which they came. A key that was forgotten numbers
     /// its pools from 0 again. `device` must be that of all other calls.
     pub fn cleanup<L, D: DescriptorDevice<L, P, S>>(&mut self, device: &mut D)
-        requires agree { Agrees D.pool_name self.old (D.ledger device.old) }
-        ensures cleans_up { CleansUp D.pool_name self.old self.new
-            (D.ledger device.old) (D.ledger device.new) }
-        ensures keeps { Keeps D.pool_name self.old self.new
-            (D.ledger device.old) (D.ledger device.new) }
+        requires agree { Agrees D.meaning.pool_name self.old (D.ledger device.old) }
+        ensures cleans_up { CleansUp D.meaning (side self.old (D.ledger device.old))
+            (side self.new (D.ledger device.new)) }
+        ensures keeps { Keeps D.meaning (side self.old (D.ledger device.old))
+            (side self.new (D.ledger device.new)) }
     {
         for place in 0..self.buckets.len() {
             let key = *self.buckets.as_slice().get_index(place).unwrap().0;

@@ -1,6 +1,7 @@
 //! Giving sets back.
 ghost use Rattle.std.specs.Prelude.{◌≡◌, ◌+◌, ◌<◌, ◌≤◌, ◌^◌, ◌∷◌, OnSome};
 ghost use Rattle.std.specs.Iterator.{HoldsAlong, IsFinite, IsNearerEnd};
+ghost use Rattle.gpu_descriptor_types.specs.Side.{side};
 ghost use Rattle.gpu_descriptor.specs.Model.Agreement.{AreOutstanding};
 ghost use Rattle.gpu_descriptor.specs.Caller.Comparisons.{open_pools, binary_digits};
 ghost use Rattle.gpu_descriptor.specs.Caller.Keeps.{Keeps};
@@ -30,16 +31,15 @@ impl<P, S> DescriptorAllocator<P, S> {
             → I.IntoIter.can_next iter }
         requires ends { (iter : I.IntoIter) → I.into_iter_gives sets iter
             → IsFinite (I.IntoIter.remaining iter) }
-        requires agree { Agrees D.pool_name self.old (D.ledger device.old) }
-        requires outstanding { (iter : I.IntoIter) → I.into_iter_gives sets iter
-            → HoldsAlong I.IntoIter.next_gives iter
-            (λ xs. AreOutstanding (items_of D.set_name xs) (state_of D.pool_name self.old
-            (D.ledger device.old))) }
-        ensures frees { (iter : I.IntoIter) × (left : I.IntoIter) × I.into_iter_gives sets iter
-            × Frees I.IntoIter.next_gives D.pool_name D.set_name iter left self.old self.new
-            (D.ledger device.old) (D.ledger device.new) }
-        ensures keeps { Keeps D.pool_name self.old self.new
-            (D.ledger device.old) (D.ledger device.new) }
+        requires agree { Agrees D.meaning.pool_name self.old (D.ledger device.old) }
+        requires outstanding { (iter : I.IntoIter) → I.into_iter_gives sets iter → HoldsAlong
+            I.IntoIter.next_gives iter (λ xs. AreOutstanding (items_of D.meaning.set_name xs)
+            (state_of D.meaning.pool_name self.old (D.ledger device.old))) }
+        ensures frees { (iter : I.IntoIter) × (left : I.IntoIter) × I.into_iter_gives sets iter ×
+            Frees I.IntoIter.next_gives D.meaning iter left (side self.old (D.ledger device.old))
+            (side self.new (D.ledger device.new)) }
+        ensures keeps { Keeps D.meaning (side self.old (D.ledger device.old))
+            (side self.new (D.ledger device.new)) }
     {
         let mut sets = sets.into_iter();
         self.free_from(device, &mut sets);
@@ -53,14 +53,14 @@ impl<P, S> DescriptorAllocator<P, S> {
     )
         requires can { I.can_next sets.old }
         requires ends { IsFinite (I.remaining sets.old) }
-        requires agree { Agrees D.pool_name self.old (D.ledger device.old) }
-        requires outstanding { HoldsAlong I.next_gives sets.old
-            (λ xs. AreOutstanding (items_of D.set_name xs) (state_of D.pool_name self.old
-            (D.ledger device.old))) }
-        ensures frees { Frees I.next_gives D.pool_name D.set_name sets.old sets.new
-            self.old self.new (D.ledger device.old) (D.ledger device.new) }
-        ensures keeps { Keeps D.pool_name self.old self.new
-            (D.ledger device.old) (D.ledger device.new) }
+        requires agree { Agrees D.meaning.pool_name self.old (D.ledger device.old) }
+        requires outstanding { HoldsAlong I.next_gives sets.old (λ xs. AreOutstanding
+            (items_of D.meaning.set_name xs)
+            (state_of D.meaning.pool_name self.old (D.ledger device.old))) }
+        ensures frees { Frees I.next_gives D.meaning sets.old sets.new
+            (side self.old (D.ledger device.old)) (side self.new (D.ledger device.new)) }
+        ensures keeps { Keeps D.meaning (side self.old (D.ledger device.old))
+            (side self.new (D.ledger device.new)) }
     {
         let mut ahead = sets.next();
         while let Some(first) = ahead {
@@ -84,20 +84,19 @@ impl<P, S> DescriptorAllocator<P, S> {
     ) -> Option<DescriptorSet<S>>
         requires can { I.can_next sets.old }
         requires ends { IsFinite (I.remaining sets.old) }
-        requires agree { Agrees D.pool_name self.old (D.ledger device.old) }
-        requires outstanding { HoldsAlong I.next_gives sets.old
-            (λ xs. AreOutstanding (items_of D.set_name (first ∷ xs))
-            (state_of D.pool_name self.old (D.ledger device.old))) }
-        ensures ran { FreesRun I.next_gives D.pool_name D.set_name first sets.old result sets.new
-            self.old self.new (D.ledger device.old) (D.ledger device.new) }
+        requires agree { Agrees D.meaning.pool_name self.old (D.ledger device.old) }
+        requires outstanding { HoldsAlong I.next_gives sets.old (λ xs. AreOutstanding
+            (items_of D.meaning.set_name (first ∷ xs))
+            (state_of D.meaning.pool_name self.old (D.ledger device.old))) }
+        ensures ran { FreesRun I.next_gives D.meaning first sets.old result sets.new
+            (side self.old (D.ledger device.old)) (side self.new (D.ledger device.new)) }
         ensures goes { OnSome result (IsNearerEnd I.can_next I.remaining sets.old sets.new) }
         ensures keys { keys_of self.new ≡ keys_of self.old }
         ensures limit { self.new.limit ≡ self.old.limit }
         ensures looks_stay { self.new.looks ≡ self.old.looks }
         ensures rises { self.old.comparisons ≤ self.new.comparisons }
-        ensures few { self.new.comparisons ≤ self.old.comparisons
-            + binary_digits (open_pools ((state_of D.pool_name self.old
-            (D.ledger device.old)).books first.key.is)) }
+        ensures few { self.new.comparisons ≤ self.old.comparisons + binary_digits (open_pools
+            ((state_of D.meaning.pool_name self.old (D.ledger device.old)).books first.key.is)) }
     {
         let place = self.ids.place_of_id(&self.buckets, first.id);
         let key = *self.buckets.as_slice().get_index(place).unwrap().0;
@@ -127,13 +126,13 @@ impl<P, S: Drop> DescriptorAllocator<P, S> {
         device: &mut D,
         sets: Vec<DescriptorSet<S>>,
     )
-        requires agree { Agrees D.pool_name self.old (D.ledger device.old) }
-        requires outstanding { AreOutstanding (items_of D.set_name sets.items)
-            (state_of D.pool_name self.old (D.ledger device.old)) }
-        ensures returns { Returns D.pool_name D.set_name sets.items
-            self.old self.new (D.ledger device.old) (D.ledger device.new) }
-        ensures keeps { Keeps D.pool_name self.old self.new
-            (D.ledger device.old) (D.ledger device.new) }
+        requires agree { Agrees D.meaning.pool_name self.old (D.ledger device.old) }
+        requires outstanding { AreOutstanding (items_of D.meaning.set_name sets.items)
+            (state_of D.meaning.pool_name self.old (D.ledger device.old)) }
+        ensures returns { Returns D.meaning sets.items (side self.old (D.ledger device.old))
+            (side self.new (D.ledger device.new)) }
+        ensures keeps { Keeps D.meaning (side self.old (D.ledger device.old))
+            (side self.new (D.ledger device.new)) }
     {
         let mut back = sets.into_iter();
         self.free_from(device, &mut back);

@@ -19,12 +19,12 @@ impl<P> DescriptorBucket<P> {
         keep: usize,
     )
         requires room { room.old + stored_load (key_of key.now) self.old.pools.items < 2 ^ 32 }
-        requires stored { (k : Key)
-            × AreBookedIn k (D.ledger device.old).pools (bucket_of D.pool_name self.old).pools }
-        ensures books { bucket_of D.pool_name self.new
-            ≡ trimmed_bucket keep (bucket_of D.pool_name self.old) }
-        ensures ledger { D.ledger device.new
-            ≡ trimmed_ledger keep (bucket_of D.pool_name self.old) (D.ledger device.old) }
+        requires stored { (k : Key) × AreBookedIn k (D.ledger device.old).pools
+            (bucket_of D.meaning.pool_name self.old).pools }
+        ensures books { bucket_of D.meaning.pool_name self.new ≡ trimmed_bucket keep
+            (bucket_of D.meaning.pool_name self.old) }
+        ensures ledger { D.ledger device.new ≡ trimmed_ledger keep
+            (bucket_of D.meaning.pool_name self.old) (D.ledger device.old) }
         ensures total { self.new.total ≡ self.old.total }
         ensures room { room.new + stored_load (key_of key.now) self.new.pools.items
             ≡ room.old + stored_load (key_of key.now) self.old.pools.items }

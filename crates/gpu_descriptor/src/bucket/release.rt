@@ -36,18 +36,18 @@ impl<P> DescriptorBucket<P> {
         requires can { I.can_next sets.old }
         requires ends { IsFinite (I.remaining sets.old) }
         requires stored { AreBookedIn first.key.is (D.ledger device.old).pools
-            (bucket_of D.pool_name self.old).pools }
-        requires taken { HoldsAlong I.next_gives sets.old (λ xs.
-            AllPass (at_place first.id first.number) xs
-            → IsTakenAt first.key.is first.number (names_of D.set_name (first ∷ xs))
-            (bucket_of D.pool_name self.old) (D.ledger device.old).pools) }
+            (bucket_of D.meaning.pool_name self.old).pools }
+        requires taken { HoldsAlong I.next_gives sets.old (λ xs. AllPass
+            (at_place first.id first.number) xs → IsTakenAt first.key.is first.number
+            (names_of D.meaning.set_name (first ∷ xs)) (bucket_of D.meaning.pool_name self.old)
+            (D.ledger device.old).pools) }
         requires room { room.old + stored_load (key_of key.now) self.old.pools.items < 2 ^ 32 }
-        ensures ran { ReleasesRun I.next_gives D.pool_name D.set_name first sets.old result sets.new
-            self.old self.new (D.ledger device.old) (D.ledger device.new) }
+        ensures ran { ReleasesRun I.next_gives D.meaning.pool_name D.meaning.set_name first sets.old
+            result sets.new self.old self.new (D.ledger device.old) (D.ledger device.new) }
         ensures goes { OnSome result (IsNearerEnd I.can_next I.remaining sets.old sets.new) }
         ensures rises { comparisons.old.count ≤ comparisons.new.count }
         ensures few { comparisons.new.count ≤ comparisons.old.count + binary_digits
-            (open_pools (bucket_of D.pool_name self.old)) }
+            (open_pools (bucket_of D.meaning.pool_name self.old)) }
         ensures room { room.new + stored_load (key_of key.now) self.new.pools.items
             ≡ room.old + stored_load (key_of key.now) self.old.pools.items }
     {

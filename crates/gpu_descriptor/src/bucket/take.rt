@@ -93,23 +93,18 @@ fn ask<L, P, S, D: DescriptorDevice<L, P, S>>(
     wanted: u32,
     sink: &mut Allocation<'_, S>,
 ) -> Result<u32, DeviceAllocationError>
-    requires same { key_of key.now ≡ layout_key D.layout_counts D.layout_mark layout.now }
+    requires same { key_of key.now ≡ layout_key D.meaning layout.now }
     requires booked { IsBookedIn (key_of key.now) (D.ledger device.old).pools
-        (entry_of D.pool_name pool.old) }
+        (entry_of D.meaning.pool_name pool.old) }
     requires room { wanted ≤ sink.old.left }
-    ensures asked { IfOk result (λ given. (put : List S)
-        × (length put ≡ given)
-        × (sink.new.sets.items ≡ sink.old.sets.items ++ sets_at (key_of sink.old.key.now) sink.old.id
-        sink.old.number put)
-        × (sink.new.left + given ≡ sink.old.left)
-        × IsAsked (key_of key.now) wanted (map D.set_name put)
-        (entry_of D.pool_name pool.old) (entry_of D.pool_name pool.new)
-        (D.ledger device.old) (D.ledger device.new)) }
-    ensures err { IfErr result (λ e.
-        (sink.new.sets.items ≡ sink.old.sets.items)
-        × (entry_of D.pool_name pool.new ≡ entry_of D.pool_name pool.old)
-        × IsNoMemory wanted (entry_of D.pool_name pool.old) e
-        (D.ledger device.old) (D.ledger device.new)) }
+    ensures asked { IfOk result (λ given. (put : List S) × (length put ≡ given) ×
+        (sink.new.sets.items ≡ sink.old.sets.items ++ sets_at (key_of sink.old.key.now) sink.old.id
+        sink.old.number put) × (sink.new.left + given ≡ sink.old.left) × IsAsked (key_of key.now)
+        wanted (map D.meaning.set_name put) (entry_of D.meaning.pool_name pool.old)
+        (entry_of D.meaning.pool_name pool.new) (D.ledger device.old) (D.ledger device.new)) }
+    ensures err { IfErr result (λ e. (sink.new.sets.items ≡ sink.old.sets.items) × (entry_of
+        D.meaning.pool_name pool.new ≡ entry_of D.meaning.pool_name pool.old) × IsNoMemory wanted
+        (entry_of D.meaning.pool_name pool.old) e (D.ledger device.old) (D.ledger device.new)) }
 {
     let count = wanted.min(pool.available);
     if count == 0 {
@@ -140,24 +135,22 @@ fn walk<'k, L, P, S, D: DescriptorDevice<L, P, S>>(
     request: &'k SetRequest<'_, L>,
     sink: &mut Allocation<'k, S>,
 ) -> Result<u32, DeviceAllocationError>
-    requires same { key_of request.now.key ≡ layout_key D.layout_counts D.layout_mark
-        request.now.layout.now }
+    requires same { key_of request.now.key ≡ layout_key D.meaning request.now.layout.now }
     requires booked { AreBookedIn (key_of request.now.key) (D.ledger device.old).pools
-        (entries_of D.pool_name view.old.pools.now.items) }
+        (entries_of D.meaning.pool_name view.old.pools.now.items) }
     requires listed { IsListed view.old }
     requires room { request.now.count ≤ sink.old.left }
-    ensures walked { IfOk result (λ wanting. (put : List (DescriptorSet S))
-        × (sink.new.sets.items ≡ sink.old.sets.items ++ put)
-        × (sink.new.left + request.now.count ≡ sink.old.left + wanting)
-        × (length put + wanting ≡ request.now.count)
-        × IsWalked (key_of request.now.key) request.now.count wanting (items_of D.set_name put)
-        (bucket_in D.pool_name view.old) (bucket_in D.pool_name view.new)
+    ensures walked { IfOk result (λ wanting. (put : List (DescriptorSet S)) ×
+        (sink.new.sets.items ≡ sink.old.sets.items ++ put) ×
+        (sink.new.left + request.now.count ≡ sink.old.left + wanting) ×
+        (length put + wanting ≡ request.now.count) × IsWalked (key_of request.now.key)
+        request.now.count wanting (items_of D.meaning.set_name put)
+        (bucket_in D.meaning.pool_name view.old) (bucket_in D.meaning.pool_name view.new)
         (D.ledger device.old) (D.ledger device.new)) }
-    ensures stopped { IfErr result (λ e. (put : List (DescriptorSet S))
-        × (sink.new.sets.items ≡ sink.old.sets.items ++ put)
-        × IsTaken (Err (Existing e)) (key_of request.now.key) 0 request.now.count
-        (items_of D.set_name put)
-        (bucket_in D.pool_name view.old) (bucket_in D.pool_name view.new)
+    ensures stopped { IfErr result (λ e. (put : List (DescriptorSet S)) ×
+        (sink.new.sets.items ≡ sink.old.sets.items ++ put) × IsTaken (Err (Existing e))
+        (key_of request.now.key) 0 request.now.count (items_of D.meaning.set_name put)
+        (bucket_in D.meaning.pool_name view.old) (bucket_in D.meaning.pool_name view.new)
         (D.ledger device.old) (D.ledger device.new)) }
     ensures pools { length view.new.pools.now.items ≡ length view.old.pools.now.items }
     ensures capacity { deque_capacity view.new.listed.now ≡ deque_capacity view.old.listed.now }
@@ -230,19 +223,17 @@ impl<P: Drop> DescriptorBucket<P> {
         alloc: Global,
         looks: &mut Tally,
     ) -> Result<Served<S>, AllocationError>
-        requires same { key_of request.now.key ≡ layout_key D.layout_counts D.layout_mark
-            request.now.layout.now }
+        requires same { key_of request.now.key ≡ layout_key D.meaning request.now.layout.now }
         requires booked { AreBookedIn (key_of request.now.key) (D.ledger device.old).pools
-            (bucket_of D.pool_name self.old).pools }
+            (bucket_of D.meaning.pool_name self.old).pools }
         requires bound { self.old.total + request.now.count < 2 ^ 64 }
-        ensures served { IfOk result (λ r. IsServed D.pool_name D.set_name (key_of request.now.key)
-            room.old request.now.count r.sets.items r.taken
-            (bucket_of D.pool_name self.old) (bucket_of D.pool_name self.new)
-            (D.ledger device.old) (D.ledger device.new)
-            × (self.new.total ≡ self.old.total + length r.sets.items)) }
+        ensures served { IfOk result (λ r. IsServed D.meaning (key_of request.now.key) room.old
+            request.now.count r.sets.items r.taken (bucket_of D.meaning.pool_name self.old)
+            (bucket_of D.meaning.pool_name self.new) (D.ledger device.old) (D.ledger device.new) ×
+            (self.new.total ≡ self.old.total + length r.sets.items)) }
         ensures offset { self.new.offset ≡ self.old.offset }
         ensures refused { IfErr result (λ e. IsUnserved request.now.count e
-            (bucket_of D.pool_name self.old)) }
+            (bucket_of D.meaning.pool_name self.old)) }
         ensures looks { CountsLooks looks.old.count looks.new.count
             (D.ledger device.old) (D.ledger device.new) }
         ensures looks_stay { OnErr result (looks.new ≡ looks.old) }
@@ -272,18 +263,17 @@ impl<P: Drop> DescriptorBucket<P> {
         sink: &mut Allocation<'k, S>,
         looks: &mut Tally,
     ) -> Result<(), Stop>
-        requires same { key_of request.now.key ≡ layout_key D.layout_counts D.layout_mark
-            request.now.layout.now }
+        requires same { key_of request.now.key ≡ layout_key D.meaning request.now.layout.now }
         requires booked { AreBookedIn (key_of request.now.key) (D.ledger device.old).pools
-            (bucket_of D.pool_name self.old).pools }
+            (bucket_of D.meaning.pool_name self.old).pools }
         requires bound { self.old.total + request.now.count < 2 ^ 64 }
-        requires numbers { next_number (bucket_of D.pool_name self.old) + request.now.count
+        requires numbers { next_number (bucket_of D.meaning.pool_name self.old) + request.now.count
             < 2 ^ 64 }
         requires empty { sink.old.sets.items ≡ [] }
         requires room { request.now.count ≤ sink.old.left }
         ensures taken { IsTaken result (key_of request.now.key) room.old request.now.count
-            (items_of D.set_name sink.new.sets.items)
-            (bucket_of D.pool_name self.old) (bucket_of D.pool_name self.new)
+            (items_of D.meaning.set_name sink.new.sets.items)
+            (bucket_of D.meaning.pool_name self.old) (bucket_of D.meaning.pool_name self.new)
             (D.ledger device.old) (D.ledger device.new) }
         ensures id { self.new.id ≡ self.old.id }
         ensures offset { self.new.offset ≡ self.old.offset }
@@ -315,23 +305,21 @@ impl<P: Drop> DescriptorBucket<P> {
         sink: &mut Allocation<'k, S>,
         looks: &mut Tally,
     ) -> Result<u32, DeviceAllocationError>
-        requires same { key_of request.now.key ≡ layout_key D.layout_counts D.layout_mark
-            request.now.layout.now }
+        requires same { key_of request.now.key ≡ layout_key D.meaning request.now.layout.now }
         requires booked { AreBookedIn (key_of request.now.key) (D.ledger device.old).pools
-            (bucket_of D.pool_name self.old).pools }
+            (bucket_of D.meaning.pool_name self.old).pools }
         requires bound { self.old.total + request.now.count < 2 ^ 64 }
         requires empty { sink.old.sets.items ≡ [] }
         requires room { request.now.count ≤ sink.old.left }
         ensures walked { IfOk result (λ wanting.
-            (length sink.new.sets.items + wanting ≡ request.now.count)
-            × (wanting ≤ sink.new.left)
-            × IsWalked (key_of request.now.key) request.now.count wanting
-            (items_of D.set_name sink.new.sets.items)
-            (bucket_of D.pool_name self.old) (bucket_of D.pool_name self.new)
+            (length sink.new.sets.items + wanting ≡ request.now.count) × (wanting ≤ sink.new.left) ×
+            IsWalked (key_of request.now.key) request.now.count wanting
+            (items_of D.meaning.set_name sink.new.sets.items)
+            (bucket_of D.meaning.pool_name self.old) (bucket_of D.meaning.pool_name self.new)
             (D.ledger device.old) (D.ledger device.new)) }
         ensures stopped { IfErr result (λ e. IsTaken (Err (Existing e)) (key_of request.now.key) 0
-            request.now.count (items_of D.set_name sink.new.sets.items)
-            (bucket_of D.pool_name self.old) (bucket_of D.pool_name self.new)
+            request.now.count (items_of D.meaning.set_name sink.new.sets.items)
+            (bucket_of D.meaning.pool_name self.old) (bucket_of D.meaning.pool_name self.new)
             (D.ledger device.old) (D.ledger device.new)) }
         ensures id { self.new.id ≡ self.old.id }
         ensures offset { self.new.offset ≡ self.old.offset }
@@ -365,22 +353,19 @@ impl<P: Drop> DescriptorBucket<P> {
         sink: &mut Allocation<'k, S>,
         looks: &mut Tally,
     ) -> Result<u32, Stop>
-        requires same { key_of request.now.key ≡ layout_key D.layout_counts D.layout_mark
-            request.now.layout.now }
+        requires same { key_of request.now.key ≡ layout_key D.meaning request.now.layout.now }
         requires some { 0 < wanted }
         requires numbers { self.old.offset + length self.old.pools.items + wanted < 2 ^ 64 }
         requires bound { self.old.total + wanted < 2 ^ 64 }
         requires room { wanted ≤ sink.old.left }
-        ensures grown { IfOk result (λ given. (put : List S)
-            × (length put ≡ given)
-            × (sink.new.sets.items ≡ sink.old.sets.items ++ sets_at (key_of request.now.key)
-            self.old.id (self.old.offset + length self.old.pools.items) put)
-            × (sink.new.left + given ≡ sink.old.left)
-            × (self.new.total ≡ self.old.total + given)
-            × IsGrown (key_of request.now.key) room.old room.new self.old.total wanted
-            (map D.set_name put)
-            (bucket_of D.pool_name self.old).pools (bucket_of D.pool_name self.new).pools
-            (D.ledger device.old) (D.ledger device.new)) }
+        ensures grown { IfOk result (λ given. (put : List S) × (length put ≡ given) ×
+            (sink.new.sets.items ≡ sink.old.sets.items ++ sets_at (key_of request.now.key)
+            self.old.id (self.old.offset + length self.old.pools.items) put) ×
+            (sink.new.left + given ≡ sink.old.left) × (self.new.total ≡ self.old.total + given) ×
+            IsGrown (key_of request.now.key) room.old room.new self.old.total wanted
+            (map D.meaning.set_name put) (bucket_of D.meaning.pool_name self.old).pools
+            (bucket_of D.meaning.pool_name self.new).pools (D.ledger device.old)
+            (D.ledger device.new)) }
         ensures err { IfErr result (λ why.
             (sink.new.sets.items ≡ sink.old.sets.items)
             × (self.new.pools.items ≡ self.old.pools.items)

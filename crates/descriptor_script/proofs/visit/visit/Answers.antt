@@ -1,6 +1,7 @@
 use Rattle.std.proofs.Common.{◌≡◌, ℕ, [], Result, Ok, Err, IfOk, sym, ap, ◌∙◌}
 use Rattle.std.proofs.lemmas.Result.{IfOk-weaker}
-use Rattle.gpu_descriptor_types.specs.Ledger.{Ledger}
+use Rattle.gpu_descriptor_types.specs.Meaning.{Meaning}
+use Rattle.gpu_descriptor_types.specs.Side.{Side, side}
 use Rattle.gpu_descriptor.specs.Model.Agreement.{Item, State, count_of, outstanding}
 use Rattle.gpu_descriptor.specs.Caller.Sets.{items_of}
 use Rattle.gpu_descriptor.specs.Caller.States.{state_of}
@@ -14,33 +15,38 @@ use Rattle.descriptor_script.proofs.Running.{session_through}
 use Rattle.descriptor_script.proofs.visit.visit.Goals.{After-step-clean}
 use Rattle.descriptor_script.proofs.visit.visit.Goals as goal
 
-cleans : {L P S : Type 0} (pool_name : P → ℕ) (old new : Session L P S) (before after : Ledger) (reply : Reply) → CleansTo pool_name old new before after reply → Cleans pool_name old new before after
-cleans pool_name old new before after Clean h = h
-cleans pool_name old new before after (Sets first many) h = absurd h
-cleans pool_name old new before after (Refused e) h = absurd h
-cleans pool_name old new before after (Freed many) h = absurd h
-cleans pool_name old new before after BadTicket h = absurd h
-cleans pool_name old new before after BadLayout h = absurd h
-cleans pool_name old new before after NoMemory h = absurd h
+cleans : {L P S : Type 0} (means : Meaning L P S) (old new : Side (Session L P S)) (reply : Reply) → CleansTo means old new reply → Cleans means old new
+cleans means old new Clean h = h
+cleans means old new (Sets first many) h = absurd h
+cleans means old new (Refused e) h = absurd h
+cleans means old new (Freed many) h = absurd h
+cleans means old new BadTicket h = absurd h
+cleans means old new BadLayout h = absurd h
+cleans means old new NoMemory h = absurd h
+
+-- the session once the commands were run, and once it was cleaned up
+abbrev used : (g : _) (c : After-step-clean g) → Side (Session g.row.L.Denot g.row.P.Denot g.row.S.Denot)
+used g c = side c.run-replies.new.self (g.D.DescriptorDevice.ledger c.run-replies.new.device)
+
+abbrev left : (g : _) (c : After-step-clean g) → Side (Session g.row.L.Denot g.row.P.Denot g.row.S.Denot)
+left g c = side c.step-clean.new.self (g.D.DescriptorDevice.ledger c.step-clean.new.device)
+
+-- what the cleaning up did
+done : (g : _) (c : After-step-clean g) → Cleans g.D.DescriptorDevice.meaning (used g c) (left g c)
+done g c = cleans g.D.DescriptorDevice.meaning (used g c) (left g c) c.step-clean.result c.step-clean.ensures.step
 
 pub returns-clause-runs : goal.returns-clause-runs
 returns-clause-runs g c =
-    let name = g.D.DescriptorDevice.pool_name in
-    let ledger = g.D.DescriptorDevice.ledger in
-    let done = cleans name c.run-replies.new.self c.step-clean.new.self (ledger c.run-replies.new.device) (ledger c.step-clean.new.device) c.step-clean.result c.step-clean.ensures.step in
-    IfOk-weaker c.run-replies.result _ _ (λ replies ran. (c.run-replies.new.self, ledger c.run-replies.new.device, ran, done)) c.run-replies.ensures.runs
-
--- what the cleaning up did
-done : (g : _) (c : After-step-clean g) → Cleans g.D.DescriptorDevice.pool_name c.run-replies.new.self c.step-clean.new.self (g.D.DescriptorDevice.ledger c.run-replies.new.device) (g.D.DescriptorDevice.ledger c.step-clean.new.device)
-done g c = cleans g.D.DescriptorDevice.pool_name c.run-replies.new.self c.step-clean.new.self (g.D.DescriptorDevice.ledger c.run-replies.new.device) (g.D.DescriptorDevice.ledger c.step-clean.new.device) c.step-clean.result c.step-clean.ensures.step
+    let at = (goal.at.returns-clause-runs g c).After-step-clean in
+    IfOk-weaker c.run-replies.result _ _ (λ replies ran. (used g at, ran, done g at)) c.run-replies.ensures.runs
 
 -- with no set held afterwards none was outstanding
-nothing : (g : _) (c : After-step-clean g) → held_sets (sets_of c.step-clean.new.self) ≡ [] → (i : Item) → outstanding (state_of g.D.DescriptorDevice.pool_name (allocator_of c.run-replies.new.self) (g.D.DescriptorDevice.ledger c.run-replies.new.device)) i ≡ 0
-nothing g c none i = c.run-replies.ensures.keeps.ready.held i ∙ ap (λ l. count_of i (items_of g.D.DescriptorDevice.set_name (held_sets l))) (sym (done g c).sets) ∙ ap (λ l. count_of i (items_of g.D.DescriptorDevice.set_name l)) none
+nothing : (g : _) (c : After-step-clean g) → held_sets (sets_of c.step-clean.new.self) ≡ [] → (i : Item) → outstanding (state_of g.D.DescriptorDevice.meaning.pool_name (allocator_of c.run-replies.new.self) (g.D.DescriptorDevice.ledger c.run-replies.new.device)) i ≡ 0
+nothing g c none i = c.run-replies.ensures.keeps.ready.held i ∙ ap (λ l. count_of i (items_of g.D.DescriptorDevice.meaning.set_name (held_sets l))) (sym (done g c).sets) ∙ ap (λ l. count_of i (items_of g.D.DescriptorDevice.meaning.set_name l)) none
 
 pub returns-clause-pools : goal.returns-clause-pools
 returns-clause-pools g c none =
-    let name = g.D.DescriptorDevice.pool_name in
+    let name = g.D.DescriptorDevice.meaning.pool_name in
     let ledger = g.D.DescriptorDevice.ledger in
     let s : State = state_of name (allocator_of c.args.session.now) (ledger c.args.device.now) in
     let t : State = state_of name (allocator_of c.run-replies.new.self) (ledger c.run-replies.new.device) in
@@ -50,10 +56,10 @@ returns-clause-pools g c none =
 
 pub returns-clause-ended : goal.returns-clause-ended
 returns-clause-ended g c none =
-    let name = g.D.DescriptorDevice.pool_name in
+    let name = g.D.DescriptorDevice.meaning.pool_name in
     let ledger = g.D.DescriptorDevice.ledger in
     let at = (goal.at.returns-clause-ended g c).After-step-clean in
     c.clean_again.ensures.all (state_of name (allocator_of c.run-replies.new.self) (ledger c.run-replies.new.device)) _ c.run-replies.ensures.keeps.ready.agree (nothing g at none) (done g at).cleaned
 
 pub returns-clause-keeps : goal.returns-clause-keeps
-returns-clause-keeps g c = session_through _ _ _ _ c.run-replies.ensures.keeps c.step-clean.ensures.keeps
+returns-clause-keeps g c = session_through _ c.run-replies.ensures.keeps c.step-clean.ensures.keeps

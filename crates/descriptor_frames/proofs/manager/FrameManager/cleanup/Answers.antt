@@ -11,4 +11,4 @@ returns-clause-retired g c = record {
 }
 
 pub returns-clause-in_use : goal.returns-clause-in_use
-returns-clause-in_use g c t = ap (λ n. n - count_of t (retired_items g.D.DescriptorDevice.set_name c.args.self.now)) (c.cleanup.ensures.cleans_up.outstanding_stay t)
+returns-clause-in_use g c t = ap (λ n. n - count_of t (retired_items g.D.DescriptorDevice.meaning.set_name c.args.self.now)) (c.cleanup.ensures.cleans_up.outstanding_stay t)

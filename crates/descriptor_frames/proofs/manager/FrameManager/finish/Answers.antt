@@ -13,7 +13,7 @@ use Rattle.descriptor_frames.proofs.manager.FrameManager.finish.Goals as goal
 
 pub free_from-requires-clause-outstanding : goal.free_from-requires-clause-outstanding
 free_from-requires-clause-outstanding g c xs t y =
-    out_front g.D.DescriptorDevice.set_name xs (retired_sets t.retired.now.items) (retired_sets (retired_of c.args.self.now)) (state_in g.D.DescriptorDevice.pool_name c.args.self.now (g.D.DescriptorDevice.ledger c.args.device.now)) (stood_before xs _ t y) c.requires.retired
+    out_front g.D.DescriptorDevice.meaning.set_name xs (retired_sets t.retired.now.items) (retired_sets (retired_of c.args.self.now)) (state_in g.D.DescriptorDevice.meaning.pool_name c.args.self.now (g.D.DescriptorDevice.ledger c.args.device.now)) (stood_before xs _ t y) c.requires.retired
 
 pub shape_of-self : goal.shape_of-self
 shape_of-self g c = sym (same_list_then c.free_from.ensures.frees)
@@ -34,10 +34,10 @@ returns-clause-rest g c =
 
 -- books and ledger at the call, and when the sets went back
 abbrev before : (g : _) → After-end g → State
-before g c = state_in g.D.DescriptorDevice.pool_name c.args.self.now (g.D.DescriptorDevice.ledger c.args.device.now)
+before g c = state_in g.D.DescriptorDevice.meaning.pool_name c.args.self.now (g.D.DescriptorDevice.ledger c.args.device.now)
 
 abbrev after : (g : _) → After-end g → State
-after g c = state_of g.D.DescriptorDevice.pool_name c.free_from.new.self (g.D.DescriptorDevice.ledger c.free_from.new.device)
+after g c = state_of g.D.DescriptorDevice.meaning.pool_name c.free_from.new.self (g.D.DescriptorDevice.ledger c.free_from.new.device)
 
 -- the list is what went back and what is left of it
 list_parts : (g : _) (c : After-end g) → retired_sets (retired_of c.args.self.now) ≡ c.free_from.ensures.frees.sets ++ retired_sets c.end.new.self.0.items
@@ -48,16 +48,16 @@ list_parts g c =
 pub returns-clause-retired : goal.returns-clause-retired
 returns-clause-retired g c =
     let a = goal.at.returns-clause-retired g c in
-    later_out g.D.DescriptorDevice.set_name c.free_from.ensures.frees.sets _ _ (list_parts g a.After-end) (before g a.After-end) (after g a.After-end) c.free_from.ensures.frees.returns.back.returned c.requires.retired
+    later_out g.D.DescriptorDevice.meaning.set_name c.free_from.ensures.frees.sets _ _ (list_parts g a.After-end) (before g a.After-end) (after g a.After-end) c.free_from.ensures.frees.returns.back.returned c.requires.retired
 
 pub returns-clause-in_use : goal.returns-clause-in_use
 returns-clause-in_use g c =
     let a = goal.at.returns-clause-in_use g c in
-    same_besides g.D.DescriptorDevice.set_name c.free_from.ensures.frees.sets _ _ (list_parts g a.After-end) (before g a.After-end) (after g a.After-end) c.free_from.ensures.frees.returns.back.returned
+    same_besides g.D.DescriptorDevice.meaning.set_name c.free_from.ensures.frees.sets _ _ (list_parts g a.After-end) (before g a.After-end) (after g a.After-end) c.free_from.ensures.frees.returns.back.returned
 
 pub returns-clause-none : goal.returns-clause-none
 returns-clause-none g c e =
     let f = c.free_from.ensures.frees in
     let empty : f.sets ≡ [] = (took_due f c.args.self.now.greatest c.args.self.now.ordered).0 ∙ e in
     let same = f.returns.back.none empty in
-    record { state = ap (λ (x : Allocations _ × Ledger). state_of g.D.DescriptorDevice.pool_name x.0 x.1) (λ i. (same.0 i, same.1 i)); ledger = same.1; list = ap (λ q. q.items) c.end.ensures ∙ none_taken f empty; greatest = refl }
+    record { state = ap (λ (x : Allocations _ × Ledger). state_of g.D.DescriptorDevice.meaning.pool_name x.0 x.1) (λ i. (same.0 i, same.1 i)); ledger = same.1; list = ap (λ q. q.items) c.end.ensures ∙ none_taken f empty; greatest = refl }

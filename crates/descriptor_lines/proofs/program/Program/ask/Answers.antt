@@ -1,29 +1,30 @@
-use Rattle.std.proofs.Common.{◌≤◌, ◌++◌, ◌∷◌, [], length, refl, ap, ◌∙◌, arith}
+use Rattle.std.proofs.Common.{◌≤◌, ◌++◌, ◌∷◌, [], length, refl, sym, ap, subst, ◌∙◌, arith}
+use Rattle.gpu_descriptor_types.specs.Side.{side}
 use Rattle.descriptor_script.specs.Sessions.Session.{IsReady, KeepsSession, layouts_of, sets_of}
 use Rattle.descriptor_script.specs.Sessions.SessionRun.{RunsTo}
 use Rattle.descriptor_lines.specs.Commands.{IsKnown}
 use Rattle.descriptor_lines.specs.LineStates.{line_state}
 use Rattle.descriptor_lines.specs.ReplyTexts.{sets_asked, sets_given, text_of_reply}
-use Rattle.descriptor_lines.proofs.SessionLemmas.{as_carried, as_many, as_meant, few_tickets, given_as_asked, has_answer, no_memory_changes_nothing, step_of_one, still_runs}
+use Rattle.descriptor_lines.proofs.SessionLemmas.{as_many, few_tickets, given_as_asked, has_answer, no_memory_changes_nothing, step_of_one, still_runs}
 use Rattle.descriptor_lines.proofs.program.Program.ask.Goals as goal
 
 pub run-requires : goal.run-requires
 run-requires g c =
     let before = g.D.DescriptorDevice.ledger c.args.self.now.device in
-    record { ready = as_meant g.met.D.ScriptedMeaning.meanings (λ p s k m. IsReady p s k m c.args.self.now.session before) c.requires.ready.ready }
+    record { ready = subst (λ m. IsReady m (side c.args.self.now.session before)) (sym g.met.D.ScriptedMeaning.scripted) c.requires.ready.ready }
 
 pub returns-in_err-replies-clause-ready : goal.returns-in_err-replies-clause-ready
 returns-in_err-replies-clause-ready g c =
     let before = g.D.DescriptorDevice.ledger c.args.self.now.device in
     let after = g.D.DescriptorDevice.ledger c.run.new.device in
-    let keeps = as_carried g.met.D.ScriptedMeaning.meanings (λ p s k m. KeepsSession p s k m c.args.self.now.session c.run.new.self before after) c.run.ensures.keeps in
+    let keeps = subst (λ m. KeepsSession m (side c.args.self.now.session before) (side c.run.new.self after)) g.met.D.ScriptedMeaning.scripted c.run.ensures.keeps in
     still_runs (line_state g.D.DescriptorDevice.ledger g.D.LineDevice.script c.args.self.now) c.run.new.self (g.D.LineDevice.script c.run.new.device) after c.requires.ready keeps.ready keeps.layouts
 
 pub returns-in-NoMemory-clause-ready : goal.returns-in-NoMemory-clause-ready
 returns-in-NoMemory-clause-ready g c =
     let before = g.D.DescriptorDevice.ledger c.args.self.now.device in
     let after = g.D.DescriptorDevice.ledger c.run.new.device in
-    let keeps = as_carried g.met.D.ScriptedMeaning.meanings (λ p s k m. KeepsSession p s k m c.args.self.now.session c.run.new.self before after) c.run.ensures.keeps in
+    let keeps = subst (λ m. KeepsSession m (side c.args.self.now.session before) (side c.run.new.self after)) g.met.D.ScriptedMeaning.scripted c.run.ensures.keeps in
     still_runs (line_state g.D.DescriptorDevice.ledger g.D.LineDevice.script c.args.self.now) c.run.new.self (g.D.LineDevice.script c.run.new.device) after c.requires.ready keeps.ready keeps.layouts
 
 pub returns-in-NoMemory-clause-err : goal.returns-in-NoMemory-clause-err
@@ -32,7 +33,7 @@ returns-in-NoMemory-clause-err g c =
     let new = c.run.new.self in
     let before = g.D.DescriptorDevice.ledger c.args.self.now.device in
     let after = g.D.DescriptorDevice.ledger c.run.new.device in
-    let runs = as_carried g.met.D.ScriptedMeaning.meanings (λ p s k m. RunsTo p s k m (c.args.command ∷ []) c.in_ok-replies.replies.items old new before after) c.in_ok-replies.ensures.runs in
+    let runs = subst (λ m. RunsTo m (c.args.command ∷ []) c.in_ok-replies.replies.items (side old before) (side new after)) g.met.D.ScriptedMeaning.scripted c.in_ok-replies.ensures.runs in
     let step = step_of_one c.args.command c.in_ok-replies.replies.items c.index.result.now old new before after runs c.index.ensures in
     let same = no_memory_changes_nothing c.args.command old new before after (rw c.in-NoMemory.is at step) in
     record { layouts = refl; session = record { known = c.run.ensures.keeps.layouts; allocator = same.allocator; sets = same.sets }; ledger = same.ledger }
@@ -44,7 +45,7 @@ reply_answer-requires g c =
     let before = g.D.DescriptorDevice.ledger c.args.self.now.device in
     let after = g.D.DescriptorDevice.ledger c.run.new.device in
     let known : IsKnown (length (layouts_of old)) c.args.command = rw (as_many (line_state g.D.DescriptorDevice.ledger g.D.LineDevice.script c.args.self.now) c.requires.ready) at c.requires.known in
-    let runs = as_carried g.met.D.ScriptedMeaning.meanings (λ p s k m. RunsTo p s k m (c.args.command ∷ []) c.in_ok-replies.replies.items old new before after) c.in_ok-replies.ensures.runs in
+    let runs = subst (λ m. RunsTo m (c.args.command ∷ []) c.in_ok-replies.replies.items (side old before) (side new after)) g.met.D.ScriptedMeaning.scripted c.in_ok-replies.ensures.runs in
     let step = step_of_one c.args.command c.in_ok-replies.replies.items c.index.result.now old new before after runs c.index.ensures in
     let few : sets_given c.index.result.now ≤ sets_asked c.args.command = given_as_asked c.args.command c.index.result.now old new before after step in
     record {
@@ -58,8 +59,8 @@ returns g c =
     let new = c.run.new.self in
     let before = g.D.DescriptorDevice.ledger c.args.self.now.device in
     let after = g.D.DescriptorDevice.ledger c.run.new.device in
-    let keeps = as_carried g.met.D.ScriptedMeaning.meanings (λ p s k m. KeepsSession p s k m old new before after) c.run.ensures.keeps in
-    let runs = as_carried g.met.D.ScriptedMeaning.meanings (λ p s k m. RunsTo p s k m (c.args.command ∷ []) c.in_ok-replies.replies.items old new before after) c.in_ok-replies.ensures.runs in
+    let keeps = subst (λ m. KeepsSession m (side old before) (side new after)) g.met.D.ScriptedMeaning.scripted c.run.ensures.keeps in
+    let runs = subst (λ m. RunsTo m (c.args.command ∷ []) c.in_ok-replies.replies.items (side old before) (side new after)) g.met.D.ScriptedMeaning.scripted c.in_ok-replies.ensures.runs in
     record {
       ready = still_runs (line_state g.D.DescriptorDevice.ledger g.D.LineDevice.script c.args.self.now) new (g.D.LineDevice.script c.run.new.device) after c.requires.ready keeps.ready keeps.layouts;
       does = record {

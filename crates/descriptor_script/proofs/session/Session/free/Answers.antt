@@ -16,8 +16,8 @@ slots_are g c = ap slots_of c.replace-slots.ensures.value ∙ c.are_held_once.en
 good : (g : _) (c : After-iter g) → AreHeldOnce (slots_of c.args.self.now.slots) c.args.tickets.now
 good g c = c.are_held_once.ensures.answer.0 c.if-not-are_held_once.false
 
-held : (g : _) (c : After-iter g) → AreAllHeld g.D.DescriptorDevice.set_name (slots_of c.replace-slots.result) (state_of g.D.DescriptorDevice.pool_name c.args.self.now.allocator (g.D.DescriptorDevice.ledger c.args.device.now))
-held g c = held_as g.D.DescriptorDevice.set_name _ _ (state_of g.D.DescriptorDevice.pool_name c.args.self.now.allocator (g.D.DescriptorDevice.ledger c.args.device.now)) (slots_are g c) c.requires.ready.held
+held : (g : _) (c : After-iter g) → AreAllHeld g.D.DescriptorDevice.meaning.set_name (slots_of c.replace-slots.result) (state_of g.D.DescriptorDevice.meaning.pool_name c.args.self.now.allocator (g.D.DescriptorDevice.ledger c.args.device.now))
+held g c = held_as g.D.DescriptorDevice.meaning.set_name _ _ (state_of g.D.DescriptorDevice.meaning.pool_name c.args.self.now.allocator (g.D.DescriptorDevice.ledger c.args.device.now)) (slots_are g c) c.requires.ready.held
 
 pub free_from-requires-clause-can : goal.free_from-requires-clause-can
 free_from-requires-clause-can g c =
@@ -27,7 +27,7 @@ free_from-requires-clause-can g c =
 pub free_from-requires-clause-outstanding : goal.free_from-requires-clause-outstanding
 free_from-requires-clause-outstanding g c =
     let d = (goal.at.free_from-requires-clause-outstanding g c).After-iter in
-    all_out g.D.DescriptorDevice.set_name (record { slots = c.replace-slots.result; tickets = c.iter.result }) (state_of g.D.DescriptorDevice.pool_name c.args.self.now.allocator (g.D.DescriptorDevice.ledger c.args.device.now)) (held g d)
+    all_out g.D.DescriptorDevice.meaning.set_name (record { slots = c.replace-slots.result; tickets = c.iter.result }) (state_of g.D.DescriptorDevice.meaning.pool_name c.args.self.now.allocator (g.D.DescriptorDevice.ledger c.args.device.now)) (held g d)
 
 pub returns-clause-step : goal.returns-clause-step
 returns-clause-step g c =
@@ -50,12 +50,12 @@ returns-clause-keeps g c =
     let s : Taking g.row.S.Denot = record { slots = c.replace-slots.result; tickets = c.iter.result } in
     let frees = c.free_from.ensures.frees in
     let drained = frees.drained in
-    let old : State = state_of g.D.DescriptorDevice.pool_name c.args.self.now.allocator (g.D.DescriptorDevice.ledger c.args.device.now) in
-    let new : State = state_of g.D.DescriptorDevice.pool_name c.free_from.new.self (g.D.DescriptorDevice.ledger c.free_from.new.device) in
+    let old : State = state_of g.D.DescriptorDevice.meaning.pool_name c.args.self.now.allocator (g.D.DescriptorDevice.ledger c.args.device.now) in
+    let new : State = state_of g.D.DescriptorDevice.meaning.pool_name c.free_from.new.self (g.D.DescriptorDevice.ledger c.free_from.new.device) in
     record {
       ready = record {
         agree = c.free_from.ensures.keeps.agree;
-        held = held_as g.D.DescriptorDevice.set_name _ _ new drained.2.2 (all_held_less g.D.DescriptorDevice.set_name frees.sets s drained.0 old new (held g d) drained.1 frees.returns.back.returned);
+        held = held_as g.D.DescriptorDevice.meaning.set_name _ _ new drained.2.2 (all_held_less g.D.DescriptorDevice.meaning.set_name frees.sets s drained.0 old new (held g d) drained.1 frees.returns.back.returned);
         meant = c.requires.ready.meant;
       };
       allocator = c.free_from.ensures.keeps;

@@ -11,11 +11,10 @@ loop-command-preserved g c =
     let commands : take (c.loop-command.command-index + 1) c.args.commands.now ≡ take c.loop-command.command-index c.args.commands.now ++ command ∷ [] =
     take_more c.args.commands.now c.loop-command.command-index command c.loop-command-test.true ∙ ap (λ x. take c.loop-command.command-index c.args.commands.now ++ x ∷ []) (sym c.command-item.is) in
     let p = c.step-reply.ensures in
-    let more = runs_more g.D.DescriptorDevice.pool_name g.D.DescriptorDevice.set_name g.D.DescriptorDevice.layout_counts g.D.DescriptorDevice.layout_mark (take c.loop-command.command-index c.args.commands.now) c.loop-command.replies.items command c.step-reply.result c.args.self.now c.loop-command.self c.step-reply.new.self (g.D.DescriptorDevice.ledger c.args.device.now) (g.D.DescriptorDevice.ledger c.loop-command.device) (g.D.DescriptorDevice.ledger c.step-reply.new.device) inv.runs
-    (record { step = p.step; keeps = p.keeps }) in
+    let more = runs_more g.D.DescriptorDevice.meaning (take c.loop-command.command-index c.args.commands.now) c.loop-command.replies.items command c.step-reply.result _ _ _ inv.runs p.step p.keeps in
     record {
       runs = rw (commands, c.push_reserved.ensures.items) more;
-      keeps = session_through _ _ _ _ inv.keeps p.keeps;
+      keeps = session_through _ inv.keeps p.keeps;
       filled = (let f = inv.filled in let l = c.push_reserved.ensures.len in omega arith);
       room = (let r = inv.room in let cap = c.push_reserved.ensures.capacity in omega arith);
     }

@@ -1,4 +1,5 @@
 use Rattle.std.proofs.Common.{◌≡◌, ◌<◌, refl, arith, ◌∙◌, subst, Err}
+use Rattle.gpu_descriptor_types.specs.Side.{side}
 use Rattle.gpu_descriptor.specs.Model.Books.{Key}
 use Rattle.gpu_descriptor.specs.Model.Outcomes.{Allocates}
 use Rattle.gpu_descriptor.specs.Caller.Call.{call_of, layout_key}
@@ -14,15 +15,15 @@ use Rattle.gpu_descriptor.proofs.allocator.DescriptorAllocator.allocate.Goals.{A
 use Rattle.gpu_descriptor.proofs.allocator.DescriptorAllocator.allocate.Goals as goal
 
 -- the key of the request is that of the layout
-keyed : (g : _) (c : After-contains g) → key_of (record { size = c.args.layout_descriptor_count.now; update_after_bind = c.contains.result }) ≡ layout_key g.D.DescriptorDevice.layout_counts g.D.DescriptorDevice.layout_mark c.args.layout.now
+keyed : (g : _) (c : After-contains g) → key_of (record { size = c.args.layout_descriptor_count.now; update_after_bind = c.contains.result }) ≡ layout_key g.D.DescriptorDevice.meaning c.args.layout.now
 keyed g c = λ i. record { counts = c.requires.counts i; marked = (c.contains.ensures tt ∙ c.requires.mark) i }
 
 -- what the request took, under the layout's key
-taken : (g : _) (c : In-Ok g) → Takes g.D.DescriptorDevice.pool_name g.D.DescriptorDevice.set_name (layout_key g.D.DescriptorDevice.layout_counts g.D.DescriptorDevice.layout_mark c.args.layout.now) c.args.count c.in-Ok.served.sets.items c.in-Ok.served.taken c.args.self.now c.request.new.self (g.D.DescriptorDevice.ledger c.args.device.now) (g.D.DescriptorDevice.ledger c.request.new.device)
+taken : (g : _) (c : In-Ok g) → Takes g.D.DescriptorDevice.meaning (layout_key g.D.DescriptorDevice.meaning c.args.layout.now) c.args.count c.in-Ok.served.sets.items c.in-Ok.served.taken (side c.args.self.now (g.D.DescriptorDevice.ledger c.args.device.now)) (side c.request.new.self (g.D.DescriptorDevice.ledger c.request.new.device))
 taken g c = taken_as (λ i. record { counts = c.requires.counts i; marked = (c.contains.ensures tt ∙ c.requires.mark) i }) c.in-Ok.ensures.taken
 
 -- and the keys
-gained : (g : _) (c : In-Ok g) → StayOrGainLast (layout_key g.D.DescriptorDevice.layout_counts g.D.DescriptorDevice.layout_mark c.args.layout.now) (keys_of c.args.self.now) (keys_of c.request.new.self)
+gained : (g : _) (c : In-Ok g) → StayOrGainLast (layout_key g.D.DescriptorDevice.meaning c.args.layout.now) (keys_of c.args.self.now) (keys_of c.request.new.self)
 gained g c = gained_as (λ i. record { counts = c.requires.counts i; marked = (c.contains.ensures tt ∙ c.requires.mark) i }) c.in-Ok.ensures.keys
 
 -- some sets were asked for
@@ -38,12 +39,12 @@ free_all-requires-clause-outstanding g c = taken_given c.in-Ok.ensures.taken c.r
 pub returns-then-count-eq0-clause-keeps : goal.returns-then-count-eq0-clause-keeps
 returns-then-count-eq0-clause-keeps g c =
     keeps_still refl refl c.requires.agree (load_within _ c.self.view_is c.self.invariant) (pool_load_within _ c.self.view_is c.self.invariant)
-    (rows_apart _ c.self.view_is g.D.DescriptorDevice.pool_name c.self.invariant)
+    (rows_apart _ c.self.view_is g.D.DescriptorDevice.meaning.pool_name c.self.invariant)
 
 pub returns-in-Err-clause-hands_out : goal.returns-in-Err-clause-hands_out
 returns-in-Err-clause-hands_out g c =
     hands_none c.in-Err.ensures.allocator c.in-Err.ensures.ledger c.in-Err.error (let n = c.if-count-eq0.false in omega arith)
-    (subst (λ (k : Key). Allocates (call_of g.D.DescriptorDevice.pool_name k c.args.count c.args.self.now c.request.new.self (g.D.DescriptorDevice.ledger c.args.device.now) (g.D.DescriptorDevice.ledger c.request.new.device) (Err c.in-Err.error))) (keyed g (goal.at.returns-in-Err-clause-hands_out g c).After-contains) c.in-Err.ensures.declined)
+    (subst (λ (k : Key). Allocates (call_of g.D.DescriptorDevice.meaning k c.args.count (side c.args.self.now (g.D.DescriptorDevice.ledger c.args.device.now)) (side c.request.new.self (g.D.DescriptorDevice.ledger c.request.new.device)) (Err c.in-Err.error))) (keyed g (goal.at.returns-in-Err-clause-hands_out g c).After-contains) c.in-Err.ensures.declined)
 
 pub returns-in-Err-clause-keeps : goal.returns-in-Err-clause-keeps
 returns-in-Err-clause-keeps g c =
@@ -52,7 +53,7 @@ returns-in-Err-clause-keeps g c =
 pub returns-in-Ok-taken-clause-hands_out : goal.returns-in-Ok-taken-clause-hands_out
 returns-in-Ok-taken-clause-hands_out g c =
     let r = (goal.at.returns-in-Ok-taken-clause-hands_out g c).In-Ok in
-    hands_all c.in-Ok.served.sets (taken g r) c.requires.agree (rows_apart _ c.self.view_is g.D.DescriptorDevice.pool_name c.self.invariant) (gained g r) c.in-Ok.ensures.looks c.in-Ok.ensures.comparisons_stay (some g r) c.in-Ok-taken.is
+    hands_all c.in-Ok.served.sets (taken g r) c.requires.agree (rows_apart _ c.self.view_is g.D.DescriptorDevice.meaning.pool_name c.self.invariant) (gained g r) c.in-Ok.ensures.looks c.in-Ok.ensures.comparisons_stay (some g r) c.in-Ok-taken.is
 
 pub returns-in-Ok-taken-clause-keeps : goal.returns-in-Ok-taken-clause-keeps
 returns-in-Ok-taken-clause-keeps g c =
@@ -61,7 +62,7 @@ returns-in-Ok-taken-clause-keeps g c =
 pub returns-in-Err-taken-clause-hands_out : goal.returns-in-Err-taken-clause-hands_out
 returns-in-Err-taken-clause-hands_out g c =
     let r = (goal.at.returns-in-Err-taken-clause-hands_out g c).In-Ok in
-    rw c.error_of_stop.ensures (hands_back c.in-Ok.served.sets (taken g r) c.requires.agree (rows_apart _ c.self.view_is g.D.DescriptorDevice.pool_name c.self.invariant) (gained g r) c.in-Ok.ensures.looks c.in-Ok.ensures.comparisons_stay (some g r) c.in-Ok.ensures.rows c.free_all.ensures.returns c.in-Err-taken.is)
+    rw c.error_of_stop.ensures (hands_back c.in-Ok.served.sets (taken g r) c.requires.agree (rows_apart _ c.self.view_is g.D.DescriptorDevice.meaning.pool_name c.self.invariant) (gained g r) c.in-Ok.ensures.looks c.in-Ok.ensures.comparisons_stay (some g r) c.in-Ok.ensures.rows c.free_all.ensures.returns c.in-Err-taken.is)
 
 pub returns-in-Err-taken-clause-keeps : goal.returns-in-Err-taken-clause-keeps
 returns-in-Err-taken-clause-keeps g c =

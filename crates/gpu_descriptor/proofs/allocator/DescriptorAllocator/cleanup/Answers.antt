@@ -29,7 +29,7 @@ at_place g c = entry_there c.loop-place.self-inside.buckets.entries c.loop-place
 
 pub drop_front-requires-clause-stored : goal.drop_front-requires-clause-stored
 drop_front-requires-clause-stored g c =
-    let name = g.D.DescriptorDevice.pool_name in
+    let name = g.D.DescriptorDevice.meaning.pool_name in
     let ledger = g.D.DescriptorDevice.ledger in
     let h = c.loop-place.invariant in
     let es = c.self.inside.buckets.entries in
@@ -54,7 +54,7 @@ invariant_of-self-inside-in-loop-place g c =
 
 pub loop-place-preserved : goal.loop-place-preserved
 loop-place-preserved g c =
-    let name = g.D.DescriptorDevice.pool_name in
+    let name = g.D.DescriptorDevice.meaning.pool_name in
     let ledger = g.D.DescriptorDevice.ledger in
     let h = c.loop-place.invariant in
     let es = c.self.inside.buckets.entries in
@@ -89,7 +89,7 @@ invariant_of-self g c =
 
 pub returns : goal.returns
 returns g c =
-    let name = g.D.DescriptorDevice.pool_name in
+    let name = g.D.DescriptorDevice.meaning.pool_name in
     let ledger = g.D.DescriptorDevice.ledger in
     let h = c.loop-place.invariant in
     let es = c.self.inside.buckets.entries in

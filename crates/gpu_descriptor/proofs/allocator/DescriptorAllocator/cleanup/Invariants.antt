@@ -7,7 +7,7 @@ use Rattle.gpu_descriptor.proofs.allocator.DescriptorAllocator.cleanup.Given as 
 -- the first rows are cleared, and their empty fronts are gone
 abbrev pub invariant-loop-place : goal.invariant-loop-place
 invariant-loop-place g l =
-    let name = g.D.DescriptorDevice.pool_name in
+    let name = g.D.DescriptorDevice.meaning.pool_name in
     let ledger = g.D.DescriptorDevice.ledger in
     let start = rows_in name l.initial.self-inside.buckets.entries in
     record {

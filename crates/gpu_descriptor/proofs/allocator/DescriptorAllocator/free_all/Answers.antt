@@ -1,6 +1,7 @@
 use Rattle.std.proofs.Common.{◌≡◌, sym, ◌∙◌, subst}
 use Rattle.std.proofs.IntoIterSteps.{All-taken}
 use Rattle.std.specs.Vec.Iter.{into_iter_items}
+use Rattle.gpu_descriptor_types.specs.Side.{side}
 use Rattle.gpu_descriptor_types.proofs.Drained.{taken_front}
 use Rattle.gpu_descriptor.specs.Caller.Frees.{Returns}
 use Rattle.gpu_descriptor.specs.Caller.States.{state_of}
@@ -9,10 +10,10 @@ use Rattle.gpu_descriptor.proofs.allocator.DescriptorAllocator.free_all.Goals as
 
 pub free_from-requires-clause-outstanding : goal.free_from-requires-clause-outstanding
 free_from-requires-clause-outstanding g c xs t y =
-    out_front g.D.DescriptorDevice.set_name xs (into_iter_items t) c.args.sets.items (state_of g.D.DescriptorDevice.pool_name c.args.self.now (g.D.DescriptorDevice.ledger c.args.device.now)) (sym c.into_iter-back.ensures.rest ∙ taken_front c.into_iter-back.result xs t y) c.requires.outstanding
+    out_front g.D.DescriptorDevice.meaning.set_name xs (into_iter_items t) c.args.sets.items (state_of g.D.DescriptorDevice.meaning.pool_name c.args.self.now (g.D.DescriptorDevice.ledger c.args.device.now)) (sym c.into_iter-back.ensures.rest ∙ taken_front c.into_iter-back.result xs t y) c.requires.outstanding
 
 pub returns-clause-returns : goal.returns-clause-returns
 returns-clause-returns g c =
     let f = c.free_from.ensures.frees in
     let all : f.sets ≡ c.args.sets.items = All-taken c.into_iter-back.result f.sets (c.free_from.new.sets, f.drained) ∙ c.into_iter-back.ensures.rest in
-    subst (λ x. Returns g.D.DescriptorDevice.pool_name g.D.DescriptorDevice.set_name x c.args.self.now c.free_from.new.self (g.D.DescriptorDevice.ledger c.args.device.now) (g.D.DescriptorDevice.ledger c.free_from.new.device)) all f.returns
+    subst (λ x. Returns g.D.DescriptorDevice.meaning x (side c.args.self.now (g.D.DescriptorDevice.ledger c.args.device.now)) (side c.free_from.new.self (g.D.DescriptorDevice.ledger c.free_from.new.device))) all f.returns

@@ -8,45 +8,45 @@ use Rattle.gpu_descriptor.proofs.allocator.DescriptorAllocator.free_from.Goals a
 
 pub loop-ahead-init : goal.loop-ahead-init
 loop-ahead-init g c = record {
-  freed = freed_none g.D.DescriptorDevice.set_name g.D.DescriptorDevice.pool_name g.I.Iterator.next_gives g.I.Iterator.can_next g.I.Iterator.remaining c.args.sets.now c.args.self.now (g.D.DescriptorDevice.ledger c.args.device.now) c.next-ahead.result c.next-ahead.new.self c.requires.agree c.requires.ends c.next-ahead.ensures.steps c.next-ahead.ensures.goes;
+  freed = freed_none g.D.DescriptorDevice.meaning g.I.Iterator.next_gives g.I.Iterator.can_next g.I.Iterator.remaining c.args.sets.now c.args.self.now (g.D.DescriptorDevice.ledger c.args.device.now) c.next-ahead.result c.next-ahead.new.self c.requires.agree c.requires.ends c.next-ahead.ensures.steps c.next-ahead.ensures.goes;
   limit = λ i. c.args.self.now.limit;
   looks = λ i. c.args.self.now.looks;
 }
 
 -- the invariant at the set in hand
-in_hand : (g : _) (c : In-Some g) → Freed g.D.DescriptorDevice.set_name g.D.DescriptorDevice.pool_name g.I.Iterator.next_gives g.I.Iterator.can_next g.I.Iterator.remaining c.args.sets.now c.args.self.now (g.D.DescriptorDevice.ledger c.args.device.now) c.loop-ahead.self (g.D.DescriptorDevice.ledger c.loop-ahead.device) (Some c.in-Some.first) c.loop-ahead.sets
+in_hand : (g : _) (c : In-Some g) → Freed g.D.DescriptorDevice.meaning g.I.Iterator.next_gives g.I.Iterator.can_next g.I.Iterator.remaining c.args.sets.now c.args.self.now (g.D.DescriptorDevice.ledger c.args.device.now) c.loop-ahead.self (g.D.DescriptorDevice.ledger c.loop-ahead.device) (Some c.in-Some.first) c.loop-ahead.sets
 in_hand g c = rw c.in-Some.is at c.loop-ahead.invariant.freed
 
 pub release_run-ahead-requires-clause-outstanding : goal.release_run-ahead-requires-clause-outstanding
 release_run-ahead-requires-clause-outstanding g c =
-    call_out g.D.DescriptorDevice.set_name g.D.DescriptorDevice.pool_name g.I.Iterator.next_gives g.I.Iterator.can_next g.I.Iterator.remaining c.args.sets.now c.args.self.now (g.D.DescriptorDevice.ledger c.args.device.now) c.loop-ahead.self (g.D.DescriptorDevice.ledger c.loop-ahead.device) c.in-Some.first c.loop-ahead.sets
+    call_out g.D.DescriptorDevice.meaning g.I.Iterator.next_gives g.I.Iterator.can_next g.I.Iterator.remaining c.args.sets.now c.args.self.now (g.D.DescriptorDevice.ledger c.args.device.now) c.loop-ahead.self (g.D.DescriptorDevice.ledger c.loop-ahead.device) c.in-Some.first c.loop-ahead.sets
     c.requires.agree c.requires.outstanding (in_hand g (goal.at.release_run-ahead-requires-clause-outstanding g c).In-Some)
 
 pub loop-ahead-preserved : goal.loop-ahead-preserved
 loop-ahead-preserved g c =
     let r = in_hand g (goal.at.loop-ahead-preserved g c).In-Some in
     record {
-      freed = freed_more g.D.DescriptorDevice.set_name g.D.DescriptorDevice.pool_name g.I.Iterator.next_gives g.I.Iterator.can_next g.I.Iterator.remaining c.args.sets.now c.args.self.now (g.D.DescriptorDevice.ledger c.args.device.now) c.loop-ahead.self (g.D.DescriptorDevice.ledger c.loop-ahead.device) c.in-Some.first c.loop-ahead.sets
+      freed = freed_more g.D.DescriptorDevice.meaning g.I.Iterator.next_gives g.I.Iterator.can_next g.I.Iterator.remaining c.args.sets.now c.args.self.now (g.D.DescriptorDevice.ledger c.args.device.now) c.loop-ahead.self (g.D.DescriptorDevice.ledger c.loop-ahead.device) c.in-Some.first c.loop-ahead.sets
           c.requires.agree c.requires.outstanding r _ _ _ _ c.release_run-ahead.ensures.ran c.release_run-ahead.ensures.keys c.release_run-ahead.ensures.goes c.release_run-ahead.ensures.rises c.release_run-ahead.ensures.few;
       limit = c.release_run-ahead.ensures.limit ∙ c.loop-ahead.invariant.limit;
       looks = c.release_run-ahead.ensures.looks_stay ∙ c.loop-ahead.invariant.looks;
     }
 
 pub loop-ahead-smaller : goal.loop-ahead-smaller
-loop-ahead-smaller g c = rw c.in-Some.is (less g.D.DescriptorDevice.set_name g.D.DescriptorDevice.pool_name g.I.Iterator.next_gives g.I.Iterator.can_next g.I.Iterator.remaining c.loop-ahead.sets _ _ c.release_run-ahead.ensures.goes)
+loop-ahead-smaller g c = rw c.in-Some.is (less g.D.DescriptorDevice.meaning g.I.Iterator.next_gives g.I.Iterator.can_next g.I.Iterator.remaining c.loop-ahead.sets _ _ c.release_run-ahead.ensures.goes)
 
 pub returns-clause-frees : goal.returns-clause-frees
 returns-clause-frees g c =
-    freed_all g.D.DescriptorDevice.set_name g.D.DescriptorDevice.pool_name g.I.Iterator.next_gives g.I.Iterator.can_next g.I.Iterator.remaining c.args.sets.now c.args.self.now (g.D.DescriptorDevice.ledger c.args.device.now) c.loop-ahead.self (g.D.DescriptorDevice.ledger c.loop-ahead.device) c.loop-ahead.sets c.loop-ahead.invariant.looks (rw c.in_default.is at c.loop-ahead.invariant.freed)
+    freed_all g.D.DescriptorDevice.meaning g.I.Iterator.next_gives g.I.Iterator.can_next g.I.Iterator.remaining c.args.sets.now c.args.self.now (g.D.DescriptorDevice.ledger c.args.device.now) c.loop-ahead.self (g.D.DescriptorDevice.ledger c.loop-ahead.device) c.loop-ahead.sets c.loop-ahead.invariant.looks (rw c.in_default.is at c.loop-ahead.invariant.freed)
 
 pub returns-clause-keeps : goal.returns-clause-keeps
 returns-clause-keeps g c =
     let r = c.loop-ahead.invariant.freed in
-    let name = g.D.DescriptorDevice.pool_name in
+    let name = g.D.DescriptorDevice.meaning.pool_name in
     let before = g.D.DescriptorDevice.ledger c.args.device.now in
     let after = g.D.DescriptorDevice.ledger c.loop-ahead.device in
-    let foreign = freed_foreign name g.D.DescriptorDevice.set_name r.sets _ c.args.self.now c.loop-ahead.self before after r.back in
-    let accounted = freed_loses name g.D.DescriptorDevice.set_name r.sets _ c.args.self.now c.loop-ahead.self before after r.back in
+    let foreign = freed_foreign g.D.DescriptorDevice.meaning r.sets _ c.args.self.now c.loop-ahead.self before after r.back in
+    let accounted = freed_loses g.D.DescriptorDevice.meaning r.sets _ c.args.self.now c.loop-ahead.self before after r.back in
     record {
       agree = r.agree;
       limit = c.loop-ahead.invariant.limit;

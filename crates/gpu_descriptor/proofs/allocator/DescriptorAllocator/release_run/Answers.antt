@@ -26,7 +26,7 @@ use Rattle.gpu_descriptor.proofs.allocator.DescriptorAllocator.release_run.Goals
 pub place_of_id-place-requires-clause-there : goal.place_of_id-place-requires-clause-there
 place_of_id-place-requires-clause-there g c =
     let es = c.self.inside.buckets.entries in
-    let own = first_owns g.D.DescriptorDevice.pool_name g.D.DescriptorDevice.set_name c.args.self.now (g.D.DescriptorDevice.ledger c.args.device.now) es (table_is _ c.self.view_is) c.args.first [] (c.requires.outstanding [] c.args.sets.now refl) in
+    let own = first_owns g.D.DescriptorDevice.meaning.pool_name g.D.DescriptorDevice.meaning.set_name c.args.self.now (g.D.DescriptorDevice.ledger c.args.device.now) es (table_is _ c.self.view_is) c.args.first [] (c.requires.outstanding [] c.args.sets.now refl) in
     let at = stands c.args.first.key.is es own.bucket own.found in
     (at.place, at.id ∙ ap (λ (i : ℕ). Some i) own.has)
 
@@ -35,7 +35,7 @@ entry : (g : _) (c : After-unwrap g) → slice_get c.self.inside.buckets.entries
 entry g c = ap (λ es. slice_get es c.place_of_id-place.result) (sym c.as_slice.ensures.entries) ∙ sym c.get_index.ensures.entry ∙ ap (option_map deref_pair) c.unwrap.ensures
 
 owner : (g : _) (c : After-unwrap g) → Owns c.args.first.key.is c.args.first.id c.self.inside.buckets.entries
-owner g c = first_owns g.D.DescriptorDevice.pool_name g.D.DescriptorDevice.set_name c.args.self.now (g.D.DescriptorDevice.ledger c.args.device.now) c.self.inside.buckets.entries (table_is _ c.self.view_is) c.args.first [] (c.requires.outstanding [] c.args.sets.now refl)
+owner g c = first_owns g.D.DescriptorDevice.meaning.pool_name g.D.DescriptorDevice.meaning.set_name c.args.self.now (g.D.DescriptorDevice.ledger c.args.device.now) c.self.inside.buckets.entries (table_is _ c.self.view_is) c.args.first [] (c.requires.outstanding [] c.args.sets.now refl)
 
 own : (g : _) (c : After-unwrap g) → key_of c.unwrap.result.0.now ≡ c.args.first.key.is
 own g c =
@@ -62,7 +62,7 @@ pub release_run-ahead-requires-clause-stored : goal.release_run-ahead-requires-c
 release_run-ahead-requires-clause-stored g c =
     let at = goal.at.release_run-ahead-requires-clause-stored g c in
     let r = row g at.After-index_mut-bucket (there g at.After-index_mut-bucket (entry g at.After-unwrap) (own g at.After-unwrap)) in
-    row_stored g.D.DescriptorDevice.pool_name g.D.DescriptorDevice.set_name c.args.self.now (g.D.DescriptorDevice.ledger c.args.device.now) c.self.inside.buckets.entries (table_is _ c.self.view_is) c.requires.agree c.args.first r.test r.same
+    row_stored g.D.DescriptorDevice.meaning.pool_name g.D.DescriptorDevice.meaning.set_name c.args.self.now (g.D.DescriptorDevice.ledger c.args.device.now) c.self.inside.buckets.entries (table_is _ c.self.view_is) c.requires.agree c.args.first r.test r.same
     c.index_mut-bucket.result.now r.at
 
 pub release_run-ahead-requires-clause-taken : goal.release_run-ahead-requires-clause-taken
@@ -71,8 +71,8 @@ release_run-ahead-requires-clause-taken g c = λ xs t gave have.
     let r = row g at.After-index_mut-bucket (there g at.After-index_mut-bucket (entry g at.After-unwrap) (own g at.After-unwrap)) in
     let es = c.self.inside.buckets.entries in
     let was = table_is _ c.self.view_is in
-    let name = g.D.DescriptorDevice.pool_name in
-    let set_name = g.D.DescriptorDevice.set_name in
+    let name = g.D.DescriptorDevice.meaning.pool_name in
+    let set_name = g.D.DescriptorDevice.meaning.set_name in
     let before = g.D.DescriptorDevice.ledger c.args.device.now in
     let out = c.requires.outstanding xs t gave in
     let lie = lie_at name set_name c.args.self.now before es was c.self.inside.ids.next c.self.inside.rising c.args.first.key.is c.args.first.id c.args.first.number (owner g at.After-unwrap) xs (out_back set_name (c.args.first ∷ []) xs (c.args.first ∷ xs) (state_of name c.args.self.now before) refl out) have in
@@ -152,8 +152,8 @@ returns-clause-ran g c =
     let t = taken left ran.total in
     let es = c.self.inside.buckets.entries in
     let was = table_is _ c.self.view_is in
-    let name = g.D.DescriptorDevice.pool_name in
-    let set_name = g.D.DescriptorDevice.set_name in
+    let name = g.D.DescriptorDevice.meaning.pool_name in
+    let set_name = g.D.DescriptorDevice.meaning.set_name in
     let before = g.D.DescriptorDevice.ledger c.args.device.now in
     let after = g.D.DescriptorDevice.ledger c.release_run-ahead.new.device in
     let distinct = distinct_rows name es c.self.invariant.distinct in
@@ -181,7 +181,7 @@ pub returns-clause-few : goal.returns-clause-few
 returns-clause-few g c =
     let at = goal.at.returns-clause-few g c in
     let r = row g at.After-index_mut-bucket (there g at.After-index_mut-bucket (entry g at.After-unwrap) (own g at.After-unwrap)) in
-    let open_ones = row_open g.D.DescriptorDevice.pool_name g.D.DescriptorDevice.set_name c.args.self.now (g.D.DescriptorDevice.ledger c.args.device.now) c.self.inside.buckets.entries (table_is _ c.self.view_is) c.requires.agree c.args.first r.test r.same
+    let open_ones = row_open g.D.DescriptorDevice.meaning.pool_name g.D.DescriptorDevice.meaning.set_name c.args.self.now (g.D.DescriptorDevice.ledger c.args.device.now) c.self.inside.buckets.entries (table_is _ c.self.view_is) c.requires.agree c.args.first r.test r.same
     c.index_mut-bucket.result.now r.at in
     let same = ap binary_digits open_ones in
     let count = ap (λ (a : Allocations _). a.comparisons) c.self.view_is in

@@ -16,18 +16,18 @@ use Rattle.gpu_descriptor.proofs.allocator.DescriptorAllocator.request.Goals as 
 
 pub returns-then-is_above_limit-clause-declined : goal.returns-then-is_above_limit-clause-declined
 returns-then-is_above_limit-clause-declined g c =
-    declined_by_limit g.D.DescriptorDevice.pool_name c.self.view_is c.self.invariant (rows_apart _ c.self.view_is g.D.DescriptorDevice.pool_name c.self.invariant) _ c.args.key c.requires.some c.is_above_limit.ensures c.if-is_above_limit.true
+    declined_by_limit g.D.DescriptorDevice.meaning c.self.view_is c.self.invariant (rows_apart _ c.self.view_is g.D.DescriptorDevice.meaning.pool_name c.self.invariant) _ c.args.key c.requires.some c.is_above_limit.ensures c.if-is_above_limit.true
 
 pub returns-then-is_past_bound-clause-declined : goal.returns-then-is_past_bound-clause-declined
 returns-then-is_past_bound-clause-declined g c =
-    declined_by_bound g.D.DescriptorDevice.pool_name c.self.view_is c.self.invariant (rows_apart _ c.self.view_is g.D.DescriptorDevice.pool_name c.self.invariant) _ c.args.key c.requires.some c.is_above_limit.ensures c.if-is_above_limit.false
+    declined_by_bound g.D.DescriptorDevice.meaning c.self.view_is c.self.invariant (rows_apart _ c.self.view_is g.D.DescriptorDevice.meaning.pool_name c.self.invariant) _ c.args.key c.requires.some c.is_above_limit.ensures c.if-is_above_limit.false
     c.is_past_bound.ensures c.if-is_past_bound.true
 
 pub serve_key-served-requires-clause-booked : goal.serve_key-served-requires-clause-booked
 serve_key-served-requires-clause-booked g c =
     let l : Ledger = g.D.DescriptorDevice.ledger c.args.device.now in
-    let is = books_at c.args.self.now c.self.inside.buckets.entries (table_is _ c.self.view_is) g.D.DescriptorDevice.pool_name l (key_of c.args.key) in
-    subst (λ (b : Bucket). AreBookedIn (key_of c.args.key) l.pools b.pools) is (booked_of (state_of g.D.DescriptorDevice.pool_name c.args.self.now l) (key_of c.args.key) c.requires.agree)
+    let is = books_at c.args.self.now c.self.inside.buckets.entries (table_is _ c.self.view_is) g.D.DescriptorDevice.meaning.pool_name l (key_of c.args.key) in
+    subst (λ (b : Bucket). AreBookedIn (key_of c.args.key) l.pools b.pools) is (booked_of (state_of g.D.DescriptorDevice.meaning.pool_name c.args.self.now l) (key_of c.args.key) c.requires.agree)
 
 pub serve_key-served-requires-clause-bound : goal.serve_key-served-requires-clause-bound
 serve_key-served-requires-clause-bound g c =
@@ -37,7 +37,7 @@ serve_key-served-requires-clause-bound g c =
 
 pub returns-in-Err-clause-declined : goal.returns-in-Err-clause-declined
 returns-in-Err-clause-declined g c =
-    declined_unserved g.D.DescriptorDevice.pool_name c.self.view_is c.self.invariant (rows_apart _ c.self.view_is g.D.DescriptorDevice.pool_name c.self.invariant) _ c.args.key c.requires.some c.is_above_limit.ensures c.if-is_above_limit.false
+    declined_unserved g.D.DescriptorDevice.meaning c.self.view_is c.self.invariant (rows_apart _ c.self.view_is g.D.DescriptorDevice.meaning.pool_name c.self.invariant) _ c.args.key c.requires.some c.is_above_limit.ensures c.if-is_above_limit.false
     c.is_past_bound.ensures c.if-is_past_bound.false (seen_again _ c.self.view_is _ c.in-Err.ensures.entries (ap (λ t. t.count) c.in-Err.ensures.looks_stay)) c.in-Err.ensures.ledger c.in-Err.error c.in-Err.ensures.refused
 
 -- the descriptors of what came keep the limit
@@ -85,20 +85,20 @@ pub returns-clause-pool_load : goal.returns-clause-pool_load
 returns-clause-pool_load g c = pools_within (counted g (goal.at.returns-clause-pool_load g c).After-descriptors_of_sets-descriptors)
 
 pub returns-clause-rows : goal.returns-clause-rows
-returns-clause-rows g c = rows_distinct g.D.DescriptorDevice.pool_name _ c.in-Ok.ensures.distinct
+returns-clause-rows g c = rows_distinct g.D.DescriptorDevice.meaning.pool_name _ c.in-Ok.ensures.distinct
 
 pub returns-clause-taken : goal.returns-clause-taken
 returns-clause-taken g c =
     takes_of c.in-Ok.ensures.served c.self.view_is c.self.invariant c.is_above_limit.ensures c.if-is_above_limit.false c.is_past_bound.ensures c.if-is_past_bound.false
 
 pub returns-then-is_above_limit-clause-rows : goal.returns-then-is_above_limit-clause-rows
-returns-then-is_above_limit-clause-rows g c = rows_apart _ c.self.view_is g.D.DescriptorDevice.pool_name c.self.invariant
+returns-then-is_above_limit-clause-rows g c = rows_apart _ c.self.view_is g.D.DescriptorDevice.meaning.pool_name c.self.invariant
 
 pub returns-then-is_past_bound-clause-rows : goal.returns-then-is_past_bound-clause-rows
-returns-then-is_past_bound-clause-rows g c = rows_apart _ c.self.view_is g.D.DescriptorDevice.pool_name c.self.invariant
+returns-then-is_past_bound-clause-rows g c = rows_apart _ c.self.view_is g.D.DescriptorDevice.meaning.pool_name c.self.invariant
 
 pub returns-in-Err-clause-rows : goal.returns-in-Err-clause-rows
-returns-in-Err-clause-rows g c = rw c.in-Err.ensures.entries (rows_distinct g.D.DescriptorDevice.pool_name _ c.self.invariant.distinct)
+returns-in-Err-clause-rows g c = rw c.in-Err.ensures.entries (rows_distinct g.D.DescriptorDevice.meaning.pool_name _ c.self.invariant.distinct)
 
 pub returns-then-is_past_bound-clause-pool_load : goal.returns-then-is_past_bound-clause-pool_load
 returns-then-is_past_bound-clause-pool_load g c = pool_load_within _ c.self.view_is c.self.invariant

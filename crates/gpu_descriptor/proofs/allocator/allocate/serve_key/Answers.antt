@@ -44,7 +44,7 @@ row g c = row_at (key_of c.args.request.now.key) c.requires.distinct (there g c)
 
 pub serve-requires-clause-booked : goal.serve-requires-clause-booked
 serve-requires-clause-booked g c =
-    subst (λ (b : Bucket). AreBookedIn (key_of c.args.request.now.key) (g.D.DescriptorDevice.ledger c.args.device.now).pools b.pools) (present g.D.DescriptorDevice.pool_name (row g (goal.at.serve-requires-clause-booked g c).After-index_mut)) c.requires.booked
+    subst (λ (b : Bucket). AreBookedIn (key_of c.args.request.now.key) (g.D.DescriptorDevice.ledger c.args.device.now).pools b.pools) (present g.D.DescriptorDevice.meaning.pool_name (row g (goal.at.serve-requires-clause-booked g c).After-index_mut)) c.requires.booked
 
 pub serve-requires-clause-bound : goal.serve-requires-clause-bound
 serve-requires-clause-bound g c =
@@ -63,7 +63,7 @@ returns-in-Some-clause-served g c =
 
 pub returns-in-Some-clause-refused : goal.returns-in-Some-clause-refused
 returns-in-Some-clause-refused g c =
-    let is = present g.D.DescriptorDevice.pool_name (row g (goal.at.returns-in-Some-clause-refused g c).After-index_mut) in
+    let is = present g.D.DescriptorDevice.meaning.pool_name (row g (goal.at.returns-in-Some-clause-refused g c).After-index_mut) in
     IfErr-weaker c.serve.result _ _ (λ e why. subst (λ (b : Bucket). IsUnserved c.args.request.now.count e b) (sym is) why) c.serve.ensures.refused
 
 pub returns-in-Some-clause-entries : goal.returns-in-Some-clause-entries
@@ -76,8 +76,8 @@ pub returns-in-Some-clause-keys : goal.returns-in-Some-clause-keys
 returns-in-Some-clause-keys g c = on_ok c.serve.result (let r = left g (goal.at.returns-in-Some-clause-keys g c).After-serve in keys_written (key_of c.args.request.now.key) r.row.test c.args.buckets.now.entries _ c.serve.new.self r.wrote)
 
 -- a key that the table lacks has no pools
-absent : (g : _) (c : In-None g) → books_in g.D.DescriptorDevice.pool_name c.args.buckets.now.entries (key_of c.args.request.now.key) ≡ no_pools
-absent g c = missing g.D.DescriptorDevice.pool_name (key_of c.args.request.now.key) c.args.buckets.now.entries _ (λ k. search rules) (c.in-None.ensures.place)
+absent : (g : _) (c : In-None g) → books_in g.D.DescriptorDevice.meaning.pool_name c.args.buckets.now.entries (key_of c.args.request.now.key) ≡ no_pools
+absent g c = missing g.D.DescriptorDevice.meaning.pool_name (key_of c.args.request.now.key) c.args.buckets.now.entries _ (λ k. search rules) (c.in-None.ensures.place)
 
 pub returns-then-is_err-clause-refused : goal.returns-then-is_err-clause-refused
 returns-then-is_err-clause-refused g c =
@@ -93,7 +93,7 @@ pub returns-in-Err-clause-refused : goal.returns-in-Err-clause-refused
 returns-in-Err-clause-refused g c =
     let is = absent g (goal.at.returns-in-Err-clause-refused g c).In-None in
     let given : Bucket → Bucket = λ b. record b { id = c.place_of_key.new.self.next } in
-    let empty : given no_pools ≡ record { id = c.place_of_key.new.self.next; first = 0; pools = map (entry_of g.D.DescriptorDevice.pool_name) c.new.result.items } = λ i. record { id = c.place_of_key.new.self.next; first = 0; pools = map (entry_of g.D.DescriptorDevice.pool_name) (sym c.new.ensures.items i) } in
+    let empty : given no_pools ≡ record { id = c.place_of_key.new.self.next; first = 0; pools = map (entry_of g.D.DescriptorDevice.meaning.pool_name) c.new.result.items } = λ i. record { id = c.place_of_key.new.self.next; first = 0; pools = map (entry_of g.D.DescriptorDevice.meaning.pool_name) (sym c.new.ensures.items i) } in
     subst (λ (b : Bucket). IsUnserved c.args.request.now.count c.in-Err.error b) (sym (ap given is ∙ empty)) c.in-Err.ensures.refused
 
 -- the new key goes last
@@ -104,7 +104,7 @@ put g c =
 
 pub returns-clause-served : goal.returns-clause-served
 returns-clause-served g c =
-    serves_new c.args.request.now.key c.serve-2.new.self c.in-Ok.ensures.served.0 c.in-Ok.ensures.served.1 (is_of (key_of c.args.request.now.key)) (λ k. search rules) (c.in-None.ensures.place) (put g (goal.at.returns-clause-served g c).In-Ok-insert) (λ i. record { id = c.place_of_key.new.self.next; first = 0; pools = map (entry_of g.D.DescriptorDevice.pool_name) (c.new.ensures.items i) }) refl
+    serves_new c.args.request.now.key c.serve-2.new.self c.in-Ok.ensures.served.0 c.in-Ok.ensures.served.1 (is_of (key_of c.args.request.now.key)) (λ k. search rules) (c.in-None.ensures.place) (put g (goal.at.returns-clause-served g c).In-Ok-insert) (λ i. record { id = c.place_of_key.new.self.next; first = 0; pools = map (entry_of g.D.DescriptorDevice.meaning.pool_name) (c.new.ensures.items i) }) refl
 
 pub returns-clause-room : goal.returns-clause-room
 returns-clause-room g c =

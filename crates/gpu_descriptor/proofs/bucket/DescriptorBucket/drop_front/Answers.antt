@@ -8,14 +8,14 @@ use Rattle.gpu_descriptor.proofs.release.FrontPool.{IsFront, is_front, turn_unus
 use Rattle.gpu_descriptor.proofs.bucket.DescriptorBucket.drop_front.Goals.{After-unwrap-front}
 use Rattle.gpu_descriptor.proofs.bucket.DescriptorBucket.drop_front.Goals as goal
 
-front : (g : _) (c : After-unwrap-front g) → IsFront g.D.DescriptorDevice.pool_name c.args.keep c.loop-self.self.pools.items c.unwrap-front.result
+front : (g : _) (c : After-unwrap-front g) → IsFront g.D.DescriptorDevice.meaning.pool_name c.args.keep c.loop-self.self.pools.items c.unwrap-front.result
 front g c =
     let items = c.loop-self.self.pools.items in
     let many : c.args.keep < length items = omega (arith, c.loop-self.self.pools.ok.0) in
     let some : c.pop_front.result ≡ Some (get_or items 0 c.unwrap-front.result) = c.pop_front.ensures.value c.unwrap-front.result (omega arith) in
     let was : c.pop_front.result ≡ Some c.unwrap-front.result = search (Rattle.std.proofs.Common.rules) in
     let is : c.unwrap-front.result ≡ get_or items 0 c.unwrap-front.result = cc (some, was) in
-    is_front g.D.DescriptorDevice.pool_name c.args.keep items c.unwrap-front.result c.index.result.now many is c.index.ensures c.if-index-eq0.true
+    is_front g.D.DescriptorDevice.meaning.pool_name c.args.keep items c.unwrap-front.result c.index.result.now many is c.index.ensures c.if-index-eq0.true
 
 first_load : (g : _) (c : After-unwrap-front g) → stored_load (key_of c.args.key.now) c.loop-self.self.pools.items ≡ pool_load (key_of c.args.key.now) c.unwrap-front.result.capacity + stored_load (key_of c.args.key.now) (drop 1 c.loop-self.self.pools.items)
 first_load g c = (let first = front g c in let some = first.long in stored_first (key_of c.args.key.now) c.loop-self.self.pools.items c.unwrap-front.result (omega arith) first.is)
@@ -40,12 +40,12 @@ overflow_add-room g c =
 pub destroy_descriptor_pool-requires : goal.destroy_descriptor_pool-requires
 destroy_descriptor_pool-requires g c =
     let d = (goal.at.destroy_descriptor_pool-requires g c).After-unwrap-front in
-    turn_unused g.D.DescriptorDevice.pool_name c.args.keep c.loop-self.invariant.stored.0 c.loop-self.self.offset c.loop-self.self.pools.items c.unwrap-front.result (g.D.DescriptorDevice.ledger c.loop-self.device) (front g d) c.loop-self.invariant.stored.1
+    turn_unused g.D.DescriptorDevice.meaning.pool_name c.args.keep c.loop-self.invariant.stored.0 c.loop-self.self.offset c.loop-self.self.pools.items c.unwrap-front.result (g.D.DescriptorDevice.ledger c.loop-self.device) (front g d) c.loop-self.invariant.stored.1
 
 pub loop-self-preserved : goal.loop-self-preserved
 loop-self-preserved g c =
     let d = (goal.at.loop-self-preserved g c).After-unwrap-front in
-    let done = turn g.D.DescriptorDevice.pool_name c.args.keep c.loop-self.invariant.stored.0 c.loop-self.self.id c.loop-self.self.offset c.loop-self.self.pools.items c.pop_front.new.self.items c.unwrap-front.result (g.D.DescriptorDevice.ledger c.loop-self.device) (g.D.DescriptorDevice.ledger c.destroy_descriptor_pool.new.self)
+    let done = turn g.D.DescriptorDevice.meaning.pool_name c.args.keep c.loop-self.invariant.stored.0 c.loop-self.self.id c.loop-self.self.offset c.loop-self.self.pools.items c.pop_front.new.self.items c.unwrap-front.result (g.D.DescriptorDevice.ledger c.loop-self.device) (g.D.DescriptorDevice.ledger c.destroy_descriptor_pool.new.self)
     (front g d) c.pop_front.ensures.rest c.destroy_descriptor_pool.ensures c.loop-self.invariant.stored.1 in
     record {
       stored = (c.loop-self.invariant.stored.0, done.agree);
@@ -62,7 +62,7 @@ loop-self-preserved g c =
 
 pub returns-else-index-eq0-clause-ledger : goal.returns-else-index-eq0-clause-ledger
 returns-else-index-eq0-clause-ledger g c =
-    let name = g.D.DescriptorDevice.pool_name in
+    let name = g.D.DescriptorDevice.meaning.pool_name in
     let items = c.loop-self.self.pools.items in
     let many : c.args.keep < length items = omega (arith, c.loop-self.self.pools.ok.0) in
     let none = stop_full name c.args.keep c.loop-self.self.id c.loop-self.self.offset items c.index.result.now many c.index.ensures c.if-index-eq0.false in
@@ -70,7 +70,7 @@ returns-else-index-eq0-clause-ledger g c =
 
 pub returns-after-loop-self-clause-ledger : goal.returns-after-loop-self-clause-ledger
 returns-after-loop-self-clause-ledger g c =
-    let name = g.D.DescriptorDevice.pool_name in
+    let name = g.D.DescriptorDevice.meaning.pool_name in
     let items = c.loop-self.self.pools.items in
     let short : length items ≤ c.args.keep = omega (arith, c.loop-self.self.pools.ok.0) in
     let none = stop_short name c.args.keep c.loop-self.self.id c.loop-self.self.offset items short in

@@ -9,7 +9,7 @@ use Rattle.gpu_descriptor.proofs.bucket.DescriptorBucket.drop_front.Given as goa
 abbrev pub invariant-loop-self : goal.invariant-loop-self
 invariant-loop-self g l =
     let ledger = g.D.DescriptorDevice.ledger in
-    let name = g.D.DescriptorDevice.pool_name in
+    let name = g.D.DescriptorDevice.meaning.pool_name in
     record {
       stored : (k : Key) × AreBookedIn k (ledger l.device).pools (bucket_of name l.self).pools;
       books : trimmed_bucket l.fn.keep (bucket_of name l.self) ≡ trimmed_bucket l.fn.keep (bucket_of name l.fn.self);

@@ -26,7 +26,7 @@ module _ (g : _) (c : In-Ok g) where
   size = c.in-Some.size
 
   abbrev name : ℕ
-  name = g.D.DescriptorDevice.pool_name c.in-Ok.raw
+  name = g.D.DescriptorDevice.meaning.pool_name c.in-Ok.raw
 
   abbrev before : Ledger
   before = g.D.DescriptorDevice.ledger c.args.device.now
@@ -60,7 +60,7 @@ alloc_descriptor_sets-requires-clause-fits g c =
     let d = (goal.at.alloc_descriptor_sets-requires-clause-fits g c).In-Ok in
     let few : c.min-given.result ≤ c.in-Some.size = (let a = c.min-given.ensures in omega arith) in
     let keyed = subst (λ (k : Key). (created g d).pools (name g d) ≡ Some (fresh (pool_counts k.counts (size g d)) (size g d) (flags_of k))) c.requires.same (at g d) in
-    rw (c.new.ensures.left, c.new.ensures.layout) (fresh_room (g.D.DescriptorDevice.layout_counts c.args.request.now.layout.now) (g.D.DescriptorDevice.layout_mark c.args.request.now.layout.now) (size g d) (name g d) c.min-given.result (created g d) keyed few)
+    rw (c.new.ensures.left, c.new.ensures.layout) (fresh_room (g.D.DescriptorDevice.meaning.counts c.args.request.now.layout.now) (g.D.DescriptorDevice.meaning.mark c.args.request.now.layout.now) (size g d) (name g d) c.min-given.result (created g d) keyed few)
 
 pub destroy_descriptor_pool-requires : goal.destroy_descriptor_pool-requires
 destroy_descriptor_pool-requires g c =
@@ -90,18 +90,18 @@ returns-in-Ok-alloc_descriptor_sets-clause-grown g c =
     let d = (goal.at.returns-in-Ok-alloc_descriptor_sets-clause-grown g c).In-Ok in
     let m' : Ledger = g.D.DescriptorDevice.ledger c.alloc_descriptor_sets.new.self in
     let put = c.in-Ok-alloc_descriptor_sets.ensures.ok in
-    let names : List ℕ = map g.D.DescriptorDevice.set_name put.sets in
+    let names : List ℕ = map g.D.DescriptorDevice.meaning.set_name put.sets in
     let count = c.min-given.ensures in
     let many : length put.sets ≡ c.min-given.result = put.many ∙ c.new.ensures.left in
-    let long : length names ≡ min c.in-Some.size c.args.wanted = length-map put.sets g.D.DescriptorDevice.set_name ∙ many ∙ count in
-    let is : m' ≡ after_alloc (name g d) (live_sets (key g d).counts names) (created g d) = put.ledger ∙ ap (λ cs. after_alloc (name g d) (live_sets cs names) (created g d)) (ap g.D.DescriptorDevice.layout_counts c.new.ensures.layout ∙ sym (ap (λ (k : Key). k.counts) c.requires.same)) in
-    let old : List Entry = entries_of g.D.DescriptorDevice.pool_name c.args.self.now.pools.items in
-    let new : List Entry = entries_of g.D.DescriptorDevice.pool_name c.push.new.self.pools.items in
+    let long : length names ≡ min c.in-Some.size c.args.wanted = length-map put.sets g.D.DescriptorDevice.meaning.set_name ∙ many ∙ count in
+    let is : m' ≡ after_alloc (name g d) (live_sets (key g d).counts names) (created g d) = put.ledger ∙ ap (λ cs. after_alloc (name g d) (live_sets cs names) (created g d)) (ap g.D.DescriptorDevice.meaning.counts c.new.ensures.layout ∙ sym (ap (λ (k : Key). k.counts) c.requires.same)) in
+    let old : List Entry = entries_of g.D.DescriptorDevice.meaning.pool_name c.args.self.now.pools.items in
+    let new : List Entry = entries_of g.D.DescriptorDevice.meaning.pool_name c.push.new.self.pools.items in
     let value : DescriptorPool g.row.P.Denot = record { raw = c.alloc_descriptor_sets.new.pool; capacity = c.in-Some.size; allocated = c.min-given.result; available = c.in-Some.size - c.min-given.result } in
     let now : new ≡ old ++ record { pool = name g d; capacity = size g d; allocated = min (size g d) c.args.wanted; free = size g d - min (size g d) c.args.wanted } ∷ [] =
-    ap (map (entry_of g.D.DescriptorDevice.pool_name)) (c.push.ensures.pools ∙ ap (λ x. x ++ value ∷ []) c.make_room.ensures.pools)
-    ∙ map-append (entry_of g.D.DescriptorDevice.pool_name) c.args.self.now.pools.items (value ∷ [])
-    ∙ ap (λ (e : Entry). old ++ e ∷ []) (same_entry (entry_of g.D.DescriptorDevice.pool_name value) _ c.in-Ok-alloc_descriptor_sets.ensures.name refl count (ap (λ n. c.in-Some.size - n) count)) in
+    ap (map (entry_of g.D.DescriptorDevice.meaning.pool_name)) (c.push.ensures.pools ∙ ap (λ x. x ++ value ∷ []) c.make_room.ensures.pools)
+    ∙ map-append (entry_of g.D.DescriptorDevice.meaning.pool_name) c.args.self.now.pools.items (value ∷ [])
+    ∙ ap (λ (e : Entry). old ++ e ∷ []) (same_entry (entry_of g.D.DescriptorDevice.meaning.pool_name value) _ c.in-Ok-alloc_descriptor_sets.ensures.name refl count (ap (λ n. c.in-Some.size - n) count)) in
     let room : c.alloc_descriptor_sets.new.sets.left + c.min-given.result ≡ c.args.sink.now.left = (let r = put.room in let n = c.new.ensures.left in let a = c.aim.ensures.left in omega arith) in
     let total : c.push.new.self.total ≡ c.args.self.now.total + c.min-given.result = c.push.ensures.total ∙ ap (λ n. n + c.min-given.result) c.make_room.ensures.total in
     (put.sets, many, kept g (goal.at.returns-in-Ok-alloc_descriptor_sets-clause-grown g c).In-Ok-alloc_descriptor_sets, room, total, grown (key g d) c.args.room.now _ c.args.self.now.total c.args.wanted (size g d) (name g d) names old new (before g d) (created g d) m' c.in-Some.ensures.sets (let fits = c.in-Some.ensures.room.0 in let load = c.descriptors_of_pool.ensures in omega arith) long c.in-Ok.ensures.new_name (made g d) is now)

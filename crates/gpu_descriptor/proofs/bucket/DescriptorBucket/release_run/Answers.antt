@@ -28,36 +28,36 @@ use Rattle.gpu_descriptor.proofs.bucket.DescriptorBucket.release_run.Goals.{Star
 use Rattle.gpu_descriptor.proofs.bucket.DescriptorBucket.release_run.Goals as goal
 
 -- one set alone is in the place
-first_taken : (g : _) (c : Start g) → IsTakenAt c.args.first.key.is c.args.first.number (g.D.DescriptorDevice.set_name c.args.first.raw ∷ []) (bucket_of g.D.DescriptorDevice.pool_name c.args.self.now) (g.D.DescriptorDevice.ledger c.args.device.now).pools
+first_taken : (g : _) (c : Start g) → IsTakenAt c.args.first.key.is c.args.first.number (g.D.DescriptorDevice.meaning.set_name c.args.first.raw ∷ []) (bucket_of g.D.DescriptorDevice.meaning.pool_name c.args.self.now) (g.D.DescriptorDevice.ledger c.args.device.now).pools
 first_taken g c = c.requires.taken [] c.args.sets.now refl tt
 
 within : (g : _) (c : Start g) → c.args.first.number - c.args.self.now.offset < length c.args.self.now.pools.items
 within g c =
     let items = c.args.self.now.pools.items in
-    let at = is_within c.args.first.key.is c.args.first.number (g.D.DescriptorDevice.set_name c.args.first.raw ∷ []) (bucket_of g.D.DescriptorDevice.pool_name c.args.self.now) (g.D.DescriptorDevice.ledger c.args.device.now).pools (first_taken g c) in
-    let long = length-map items (entry_of g.D.DescriptorDevice.pool_name) in
+    let at = is_within c.args.first.key.is c.args.first.number (g.D.DescriptorDevice.meaning.set_name c.args.first.raw ∷ []) (bucket_of g.D.DescriptorDevice.meaning.pool_name c.args.self.now) (g.D.DescriptorDevice.ledger c.args.device.now).pools (first_taken g c) in
+    let long = length-map items (entry_of g.D.DescriptorDevice.meaning.pool_name) in
     omega arith
 
 pub overflow_sub-place : goal.overflow_sub-place
-overflow_sub-place g c = (let t = first_taken g (goal.at.overflow_sub-place g c).Start in (entry_at-found (bucket_of g.D.DescriptorDevice.pool_name c.args.self.now) c.args.first.number t.entry t.at).0)
+overflow_sub-place g c = (let t = first_taken g (goal.at.overflow_sub-place g c).Start in (entry_at-found (bucket_of g.D.DescriptorDevice.meaning.pool_name c.args.self.now) c.args.first.number t.entry t.at).0)
 
 pub index_mut-pool-requires : goal.index_mut-pool-requires
 index_mut-pool-requires g c = let lt = within g (goal.at.index_mut-pool-requires g c).Start in omega (arith, c.args.self.now.pools.ok.0)
 
 -- the place that was read
-at : (g : _) (c : After-index_mut-pool g) → slice_get (bucket_of g.D.DescriptorDevice.pool_name c.args.self.now).pools (c.args.first.number - c.args.self.now.offset) ≡ Some (entry_of g.D.DescriptorDevice.pool_name c.index_mut-pool.result.now)
-at g c = read_first g.D.DescriptorDevice.pool_name c.args.first.key.is c.args.first.number (g.D.DescriptorDevice.set_name c.args.first.raw ∷ []) c.args.self.now.id c.args.self.now.offset c.args.self.now.pools.items (g.D.DescriptorDevice.ledger c.args.device.now).pools c.index_mut-pool.result.now
+at : (g : _) (c : After-index_mut-pool g) → slice_get (bucket_of g.D.DescriptorDevice.meaning.pool_name c.args.self.now).pools (c.args.first.number - c.args.self.now.offset) ≡ Some (entry_of g.D.DescriptorDevice.meaning.pool_name c.index_mut-pool.result.now)
+at g c = read_first g.D.DescriptorDevice.meaning.pool_name c.args.first.key.is c.args.first.number (g.D.DescriptorDevice.meaning.set_name c.args.first.raw ∷ []) c.args.self.now.id c.args.self.now.offset c.args.self.now.pools.items (g.D.DescriptorDevice.ledger c.args.device.now).pools c.index_mut-pool.result.now
     (c.requires.taken [] c.args.sets.now refl tt) c.index_mut-pool.ensures.value
 
 room : (g : _) (c : After-index_mut-pool g) → c.index_mut-pool.result.now.allocated + c.index_mut-pool.result.now.available ≤ 2147483648
-room g c = place_room c.args.first.key.is (bucket_of g.D.DescriptorDevice.pool_name c.args.self.now) (g.D.DescriptorDevice.ledger c.args.device.now).pools (c.args.first.number - c.args.self.now.offset) (entry_of g.D.DescriptorDevice.pool_name c.index_mut-pool.result.now) c.requires.stored (at g c)
+room g c = place_room c.args.first.key.is (bucket_of g.D.DescriptorDevice.meaning.pool_name c.args.self.now) (g.D.DescriptorDevice.ledger c.args.device.now).pools (c.args.first.number - c.args.self.now.offset) (entry_of g.D.DescriptorDevice.meaning.pool_name c.index_mut-pool.result.now) c.requires.stored (at g c)
 
 -- the place is within
 here : (g : _) (c : After-index_mut-pool g) → c.args.first.number - c.args.self.now.offset < length c.args.self.now.pools.items
 here g c =
     let items = c.args.self.now.pools.items in
-    let at = is_within c.args.first.key.is c.args.first.number (g.D.DescriptorDevice.set_name c.args.first.raw ∷ []) (bucket_of g.D.DescriptorDevice.pool_name c.args.self.now) (g.D.DescriptorDevice.ledger c.args.device.now).pools (c.requires.taken [] c.args.sets.now refl tt) in
-    let long = length-map items (entry_of g.D.DescriptorDevice.pool_name) in
+    let at = is_within c.args.first.key.is c.args.first.number (g.D.DescriptorDevice.meaning.set_name c.args.first.raw ∷ []) (bucket_of g.D.DescriptorDevice.meaning.pool_name c.args.self.now) (g.D.DescriptorDevice.ledger c.args.device.now).pools (c.requires.taken [] c.args.sets.now refl tt) in
+    let long = length-map items (entry_of g.D.DescriptorDevice.meaning.pool_name) in
     omega arith
 
 -- the pool at the place
@@ -70,40 +70,40 @@ module _ (g : _) (c : After-finish-count g) where
   place = c.args.first.number - c.args.self.now.offset
 
   abbrev e : Entry
-  e = entry_of g.D.DescriptorDevice.pool_name c.index_mut-pool.result.now
+  e = entry_of g.D.DescriptorDevice.meaning.pool_name c.index_mut-pool.result.now
 
-  module _ (at : slice_get (bucket_of g.D.DescriptorDevice.pool_name c.args.self.now).pools place ≡ Some e) where
+  module _ (at : slice_get (bucket_of g.D.DescriptorDevice.meaning.pool_name c.args.self.now).pools place ≡ Some e) where
     -- the sets of which the release speaks are live in the place
-    taken : AreTaken (map g.D.DescriptorDevice.set_name c.dealloc_descriptor_sets.ensures.released.items) (live_in (g.D.DescriptorDevice.ledger c.args.device.now).pools e.pool) c.dealloc_descriptor_sets.ensures.released.gone
+    taken : AreTaken (map g.D.DescriptorDevice.meaning.set_name c.dealloc_descriptor_sets.ensures.released.items) (live_in (g.D.DescriptorDevice.ledger c.args.device.now).pools e.pool) c.dealloc_descriptor_sets.ensures.released.gone
     taken =
         let t = c.dealloc_descriptor_sets.ensures.released in
-        are_taken c.args.first.key.is (bucket_of g.D.DescriptorDevice.pool_name c.args.self.now) (g.D.DescriptorDevice.ledger c.args.device.now).pools place e (map g.D.DescriptorDevice.set_name t.items) t.gone c.requires.stored at t.named t.live
+        are_taken c.args.first.key.is (bucket_of g.D.DescriptorDevice.meaning.pool_name c.args.self.now) (g.D.DescriptorDevice.ledger c.args.device.now).pools place e (map g.D.DescriptorDevice.meaning.set_name t.items) t.gone c.requires.stored at t.named t.live
 
     -- as many sets were counted as went
     counted : (c.finish-count.result ≤ e.allocated) × (c.finish-count.result ≡ length c.dealloc_descriptor_sets.ensures.released.gone) × (0 < c.finish-count.result)
     counted =
         let t = c.dealloc_descriptor_sets.ensures.released in
-        let d = done g.I.Iterator.next_gives g.I.Iterator.can_next g.I.Iterator.remaining g.D.DescriptorDevice.set_name _ c.args.first (bucket_of g.D.DescriptorDevice.pool_name c.args.self.now) (g.D.DescriptorDevice.ledger c.args.device.now).pools e c.dealloc_descriptor_sets.new.sets t.items t.gone refl refl refl refl c.requires.stored at c.requires.taken t.drained taken in
+        let d = done g.I.Iterator.next_gives g.I.Iterator.can_next g.I.Iterator.remaining g.D.DescriptorDevice.meaning.set_name _ c.args.first (bucket_of g.D.DescriptorDevice.meaning.pool_name c.args.self.now) (g.D.DescriptorDevice.ledger c.args.device.now).pools e c.dealloc_descriptor_sets.new.sets t.items t.gone refl refl refl refl c.requires.stored at c.requires.taken t.drained taken in
         let fits = d.fits in
         let count = d.count in
         let long = d.long in
         let is = c.finish-count.ensures.count in
         (omega arith, is ∙ count ∙ sym long, omega arith)
 
-    changed : map (entry_of g.D.DescriptorDevice.pool_name) (set c.args.self.now.pools.items place (record { raw = c.dealloc_descriptor_sets.new.pool; capacity = c.index_mut-pool.result.now.capacity; allocated = c.index_mut-pool.result.now.allocated - c.finish-count.result; available = c.index_mut-pool.result.now.available + c.finish-count.result })) ≡ set (map (entry_of g.D.DescriptorDevice.pool_name) c.args.self.now.pools.items) place (entry_less (length c.dealloc_descriptor_sets.ensures.released.gone) e)
+    changed : map (entry_of g.D.DescriptorDevice.meaning.pool_name) (set c.args.self.now.pools.items place (record { raw = c.dealloc_descriptor_sets.new.pool; capacity = c.index_mut-pool.result.now.capacity; allocated = c.index_mut-pool.result.now.allocated - c.finish-count.result; available = c.index_mut-pool.result.now.available + c.finish-count.result })) ≡ set (map (entry_of g.D.DescriptorDevice.meaning.pool_name) c.args.self.now.pools.items) place (entry_less (length c.dealloc_descriptor_sets.ensures.released.gone) e)
     changed =
-        changed_at g.D.DescriptorDevice.pool_name c.args.self.now.pools.items place c.index_mut-pool.result.now c.dealloc_descriptor_sets.new.pool c.finish-count.result (length c.dealloc_descriptor_sets.ensures.released.gone) c.dealloc_descriptor_sets.ensures.name counted.1
+        changed_at g.D.DescriptorDevice.meaning.pool_name c.args.self.now.pools.items place c.index_mut-pool.result.now c.dealloc_descriptor_sets.new.pool c.finish-count.result (length c.dealloc_descriptor_sets.ensures.released.gone) c.dealloc_descriptor_sets.ensures.name counted.1
 
 pub dealloc_descriptor_sets-requires-clause-can : goal.dealloc_descriptor_sets-requires-clause-can
 dealloc_descriptor_sets-requires-clause-can g c =
     let d = (goal.at.dealloc_descriptor_sets-requires-clause-can g c).After-index_mut-pool in
     let fits = room g d in
-    (c.requires.can, run_counts g.I.Iterator.next_gives g.I.Iterator.can_next g.I.Iterator.remaining g.D.DescriptorDevice.set_name c.args.sets.now c.args.first (bucket_of g.D.DescriptorDevice.pool_name c.args.self.now) (g.D.DescriptorDevice.ledger c.args.device.now).pools (entry_of g.D.DescriptorDevice.pool_name c.index_mut-pool.result.now) (at g d) (omega arith) c.requires.taken)
+    (c.requires.can, run_counts g.I.Iterator.next_gives g.I.Iterator.can_next g.I.Iterator.remaining g.D.DescriptorDevice.meaning.set_name c.args.sets.now c.args.first (bucket_of g.D.DescriptorDevice.meaning.pool_name c.args.self.now) (g.D.DescriptorDevice.ledger c.args.device.now).pools (entry_of g.D.DescriptorDevice.meaning.pool_name c.index_mut-pool.result.now) (at g d) (omega arith) c.requires.taken)
 
 pub dealloc_descriptor_sets-requires-clause-live : goal.dealloc_descriptor_sets-requires-clause-live
 dealloc_descriptor_sets-requires-clause-live g c =
     let d = (goal.at.dealloc_descriptor_sets-requires-clause-live g c).After-index_mut-pool in
-    run_live g.I.Iterator.next_gives g.I.Iterator.can_next g.I.Iterator.remaining g.D.DescriptorDevice.set_name (bucket_of g.D.DescriptorDevice.pool_name c.args.self.now) (g.D.DescriptorDevice.ledger c.args.device.now) c.args.first (entry_of g.D.DescriptorDevice.pool_name c.index_mut-pool.result.now) _ refl refl refl c.requires.stored (at g d) c.requires.taken
+    run_live g.I.Iterator.next_gives g.I.Iterator.can_next g.I.Iterator.remaining g.D.DescriptorDevice.meaning.set_name (bucket_of g.D.DescriptorDevice.meaning.pool_name c.args.self.now) (g.D.DescriptorDevice.ledger c.args.device.now) c.args.first (entry_of g.D.DescriptorDevice.meaning.pool_name c.index_mut-pool.result.now) _ refl refl refl c.requires.stored (at g d) c.requires.taken
 
 pub overflow_sub-pool : goal.overflow_sub-pool
 overflow_sub-pool g c =
@@ -133,9 +133,9 @@ drop_front-requires-clause-stored g c =
     let r = (goal.at.drop_front-requires-clause-stored g c).After-index_mut-pool in
     let f = (goal.at.drop_front-requires-clause-stored g c).After-finish-count in
     let t = c.dealloc_descriptor_sets.ensures.released in
-    let e = entry_of g.D.DescriptorDevice.pool_name c.index_mut-pool.result.now in
+    let e = entry_of g.D.DescriptorDevice.meaning.pool_name c.index_mut-pool.result.now in
     let pools : (g.D.DescriptorDevice.ledger c.dealloc_descriptor_sets.new.self).pools ≡ taken_from (g.D.DescriptorDevice.ledger c.args.device.now).pools e.pool t.gone = ap (λ (l : Ledger). l.pools) t.ledger ∙ release_pools e.pool t.gone (g.D.DescriptorDevice.ledger c.args.device.now) in
-    let after = stored_after c.args.first.key.is c.args.self.now.offset (map (entry_of g.D.DescriptorDevice.pool_name) c.args.self.now.pools.items) (g.D.DescriptorDevice.ledger c.args.device.now).pools (place g f) e t.gone c.requires.stored (at g r) (taken g f (at g r)).within in
+    let after = stored_after c.args.first.key.is c.args.self.now.offset (map (entry_of g.D.DescriptorDevice.meaning.pool_name) c.args.self.now.pools.items) (g.D.DescriptorDevice.ledger c.args.device.now).pools (place g f) e t.gone c.requires.stored (at g r) (taken g f (at g r)).within in
     let there = subst (λ (x : List Entry). AreBookedIn c.args.first.key.is (taken_from (g.D.DescriptorDevice.ledger c.args.device.now).pools e.pool t.gone) x) (sym (changed g f (at g r))) after in
     (c.args.first.key.is, rw pools there)
 
@@ -152,7 +152,7 @@ invariant_of-self g c =
     let numbered = c.args.self.now.numbered in
     let some : 0 < c.index_mut-pool.result.now.available + c.finish-count.result = (let some = (counted g f (at g r)).2 in omega arith) in
     let first = c.requires.taken [] c.args.sets.now refl tt in
-    let above = (entry_at-found (bucket_of g.D.DescriptorDevice.pool_name c.args.self.now) c.args.first.number first.entry first.at).0 in
+    let above = (entry_at-found (bucket_of g.D.DescriptorDevice.meaning.pool_name c.args.self.now) c.args.first.number first.entry first.at).0 in
     let named : c.args.first.number ≡ c.args.self.now.offset + (c.args.first.number - c.args.self.now.offset) = omega (arith, above) in
     let new : DescriptorPool g.row.P.Denot = record { raw = c.dealloc_descriptor_sets.new.pool; capacity = c.index_mut-pool.result.now.capacity; allocated = c.index_mut-pool.result.now.allocated - c.finish-count.result; available = c.index_mut-pool.result.now.available + c.finish-count.result } in
     record {
@@ -177,26 +177,26 @@ returns-clause-ran g c =
     let r = (goal.at.returns-clause-ran g c).After-index_mut-pool in
     let f = (goal.at.returns-clause-ran g c).After-finish-count in
     let t = c.dealloc_descriptor_sets.ensures.released in
-    let es : List Entry = map (entry_of g.D.DescriptorDevice.pool_name) c.args.self.now.pools.items in
-    let e = entry_of g.D.DescriptorDevice.pool_name c.index_mut-pool.result.now in
-    let d = done g.I.Iterator.next_gives g.I.Iterator.can_next g.I.Iterator.remaining g.D.DescriptorDevice.set_name _ c.args.first (bucket_of g.D.DescriptorDevice.pool_name c.args.self.now) (g.D.DescriptorDevice.ledger c.args.device.now).pools e c.dealloc_descriptor_sets.new.sets t.items t.gone refl refl refl refl c.requires.stored (at g r) c.requires.taken t.drained (taken g f (at g r)) in
+    let es : List Entry = map (entry_of g.D.DescriptorDevice.meaning.pool_name) c.args.self.now.pools.items in
+    let e = entry_of g.D.DescriptorDevice.meaning.pool_name c.index_mut-pool.result.now in
+    let d = done g.I.Iterator.next_gives g.I.Iterator.can_next g.I.Iterator.remaining g.D.DescriptorDevice.meaning.set_name _ c.args.first (bucket_of g.D.DescriptorDevice.meaning.pool_name c.args.self.now) (g.D.DescriptorDevice.ledger c.args.device.now).pools e c.dealloc_descriptor_sets.new.sets t.items t.gone refl refl refl refl c.requires.stored (at g r) c.requires.taken t.drained (taken g f (at g r)) in
     let m = sym d.run.aname in
     let h = c.finish-count.ensures.ahead in
     let v = sym d.run.name in
     let w = c.finish-count.ensures.source in
     let fits = (counted g f (at g r)).0 in
     let less = total_less c.args.self.now.pools.items (place g f) c.index_mut-pool.result.now c.dealloc_descriptor_sets.new.pool c.finish-count.result (here g r) c.index_mut-pool.ensures.value (omega arith) in
-    let long = length-map d.run.xs (λ (x : DescriptorSet _). g.D.DescriptorDevice.set_name x.raw) in
+    let long = length-map d.run.xs (λ (x : DescriptorSet _). g.D.DescriptorDevice.meaning.set_name x.raw) in
     let entries = changed g f (at g r) ∙ ap (λ (l : ℕ). set es (place g f) (entry_less l e)) d.long in
     record {
       sets = d.run.xs;
-      came = run_ends g.I.Iterator.next_gives g.I.Iterator.can_next g.I.Iterator.remaining g.D.DescriptorDevice.set_name c.args.first _ c.dealloc_descriptor_sets.new.sets t.items d.run _ _ (search (rules, m, h)) (search (rules, v, w));
+      came = run_ends g.I.Iterator.next_gives g.I.Iterator.can_next g.I.Iterator.remaining g.D.DescriptorDevice.meaning.set_name c.args.first _ c.dealloc_descriptor_sets.new.sets t.items d.run _ _ (search (rules, m, h)) (search (rules, v, w));
       went = record {
         entry = e;
-        at = (let first = c.requires.taken [] c.args.sets.now refl tt in entry_at-from (bucket_of g.D.DescriptorDevice.pool_name c.args.self.now) c.args.first.number e (entry_at-found (bucket_of g.D.DescriptorDevice.pool_name c.args.self.now) c.args.first.number first.entry first.at).0 (at g r));
+        at = (let first = c.requires.taken [] c.args.sets.now refl tt in entry_at-from (bucket_of g.D.DescriptorDevice.meaning.pool_name c.args.self.now) c.args.first.number e (entry_at-found (bucket_of g.D.DescriptorDevice.meaning.pool_name c.args.self.now) c.args.first.number first.entry first.at).0 (at g r));
         books = c.drop_front.ensures.books ∙ ap (λ (x : List Entry). trimmed_bucket 1 (bucket c.args.self.now.id c.args.self.now.offset x)) entries;
         ledger = c.drop_front.ensures.ledger ∙ ap (λ (x : List Entry). trimmed_ledger 1 (bucket c.args.self.now.id c.args.self.now.offset x) (g.D.DescriptorDevice.ledger c.dealloc_descriptor_sets.new.self)) entries
-            ∙ ap (λ (l : Ledger). trimmed_ledger 1 (bucket c.args.self.now.id c.args.self.now.offset (set es (place g f) (entry_less (length (names_of g.D.DescriptorDevice.set_name (c.args.first ∷ d.run.xs))) e))) l) (t.ledger ∙ ap (λ (ls : List LiveSet). after_release e.pool ls (g.D.DescriptorDevice.ledger c.args.device.now)) d.sets);
+            ∙ ap (λ (l : Ledger). trimmed_ledger 1 (bucket c.args.self.now.id c.args.self.now.offset (set es (place g f) (entry_less (length (names_of g.D.DescriptorDevice.meaning.set_name (c.args.first ∷ d.run.xs))) e))) l) (t.ledger ∙ ap (λ (ls : List LiveSet). after_release e.pool ls (g.D.DescriptorDevice.ledger c.args.device.now)) d.sets);
       };
       total = (let total = c.drop_front.ensures.total in let from = c.from.ensures in let few = less.0 in let sum = c.args.self.now.counted in omega arith);
     }
@@ -205,12 +205,12 @@ pub returns-clause-goes : goal.returns-clause-goes
 returns-clause-goes g c =
     let r = (goal.at.returns-clause-goes g c).After-index_mut-pool in
     let t = c.dealloc_descriptor_sets.ensures.released in
-    let d = done g.I.Iterator.next_gives g.I.Iterator.can_next g.I.Iterator.remaining g.D.DescriptorDevice.set_name _ c.args.first (bucket_of g.D.DescriptorDevice.pool_name c.args.self.now) (g.D.DescriptorDevice.ledger c.args.device.now).pools (entry_of g.D.DescriptorDevice.pool_name c.index_mut-pool.result.now) c.dealloc_descriptor_sets.new.sets t.items t.gone refl refl refl refl c.requires.stored (at g r) c.requires.taken t.drained (taken g (goal.at.returns-clause-goes g c).After-finish-count (at g r)) in
+    let d = done g.I.Iterator.next_gives g.I.Iterator.can_next g.I.Iterator.remaining g.D.DescriptorDevice.meaning.set_name _ c.args.first (bucket_of g.D.DescriptorDevice.meaning.pool_name c.args.self.now) (g.D.DescriptorDevice.ledger c.args.device.now).pools (entry_of g.D.DescriptorDevice.meaning.pool_name c.index_mut-pool.result.now) c.dealloc_descriptor_sets.new.sets t.items t.gone refl refl refl refl c.requires.stored (at g r) c.requires.taken t.drained (taken g (goal.at.returns-clause-goes g c).After-finish-count (at g r)) in
     let m = sym d.run.aname in
     let h = c.finish-count.ensures.ahead in
     let v = sym d.run.name in
     let f = c.finish-count.ensures.source in
-    run_goes g.I.Iterator.next_gives g.I.Iterator.can_next g.I.Iterator.remaining g.D.DescriptorDevice.set_name c.args.first _ c.dealloc_descriptor_sets.new.sets t.items d.run _ _ (search (rules, m, h)) (search (rules, v, f)) c.requires.ends
+    run_goes g.I.Iterator.next_gives g.I.Iterator.can_next g.I.Iterator.remaining g.D.DescriptorDevice.meaning.set_name c.args.first _ c.dealloc_descriptor_sets.new.sets t.items d.run _ _ (search (rules, m, h)) (search (rules, v, f)) c.requires.ends
 
 pub drop_front-requires-clause-room : goal.drop_front-requires-clause-room
 drop_front-requires-clause-room g c =
@@ -228,7 +228,7 @@ returns-clause-room g c =
 
 pub returns-clause-few : goal.returns-clause-few
 returns-clause-few g c =
-    let many = ap length c.args.self.now.«open» ∙ listed_count g.D.DescriptorDevice.pool_name c.args.self.now.offset c.args.self.now.pools.items in
+    let many = ap length c.args.self.now.«open» ∙ listed_count g.D.DescriptorDevice.meaning.pool_name c.args.self.now.offset c.args.self.now.pools.items in
     let same = ap binary_digits many in
     let few = c.enter_new.ensures.few in
     omega arith

@@ -15,8 +15,8 @@ returns-clause-served g c =
     let key : Key = key_of c.args.request.now.key in
     let l : Ledger = g.D.DescriptorDevice.ledger c.args.device.now in
     let m : Ledger = g.D.DescriptorDevice.ledger c.take-taken.new.device in
-    let name = g.D.DescriptorDevice.pool_name in
-    subst (λ (x : List (DescriptorSet g.row.S.Denot)). IsServed name g.D.DescriptorDevice.set_name key c.args.room.now c.args.request.now.count x c.take-taken.result (bucket_of name c.args.self.now) (bucket_of name c.take-taken.new.self) l m × (c.take-taken.new.self.total ≡ c.args.self.now.total + length x)) (sym c.into_sets-sets.ensures) (
+    let name = g.D.DescriptorDevice.meaning.pool_name in
+    subst (λ (x : List (DescriptorSet g.row.S.Denot)). IsServed g.D.DescriptorDevice.meaning key c.args.room.now c.args.request.now.count x c.take-taken.result (bucket_of name c.args.self.now) (bucket_of name c.take-taken.new.self) l m × (c.take-taken.new.self.total ≡ c.args.self.now.total + length x)) (sym c.into_sets-sets.ensures) (
       record {
         numbers = (
             let below : c.next_number.result + c.args.request.now.count ≤ greatest_u64 = ltb-false greatest_u64 (c.next_number.result + c.args.request.now.count) (sym c.is_past_bound.ensures ∙ c.if-is_past_bound.false) in

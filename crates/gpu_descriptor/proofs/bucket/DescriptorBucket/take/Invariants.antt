@@ -16,7 +16,7 @@ invariant-loop-wanting g l = record {
   id : l.self.id ≡ l.fn.self.id;
   offset : l.self.offset ≡ l.fn.self.offset;
   pools : length l.self.pools.items + l.wanting ≤ length l.fn.self.pools.items + l.fn.request.count;
-  growing : Growing (key_of l.fn.request.key) l.fn.room l.fn.request.count l.fn.self.id l.fn.self.offset l.room l.self.total l.wanting (items_of g.D.DescriptorDevice.set_name l.sink.sets.items) (entries_of g.D.DescriptorDevice.pool_name l.fn.self.pools.items) (entries_of g.D.DescriptorDevice.pool_name l.self.pools.items) (g.D.DescriptorDevice.ledger l.fn.device) (g.D.DescriptorDevice.ledger l.device);
+  growing : Growing (key_of l.fn.request.key) l.fn.room l.fn.request.count l.fn.self.id l.fn.self.offset l.room l.self.total l.wanting (items_of g.D.DescriptorDevice.meaning.set_name l.sink.sets.items) (entries_of g.D.DescriptorDevice.meaning.pool_name l.fn.self.pools.items) (entries_of g.D.DescriptorDevice.meaning.pool_name l.self.pools.items) (g.D.DescriptorDevice.ledger l.fn.device) (g.D.DescriptorDevice.ledger l.device);
   load : l.room + stored_load (key_of l.fn.request.key) l.self.pools.items ≡ l.fn.room + stored_load (key_of l.fn.request.key) l.fn.self.pools.items;
   looks : CountsLooks l.fn.looks.count l.looks.count (g.D.DescriptorDevice.ledger l.fn.device) (g.D.DescriptorDevice.ledger l.device);
 }

@@ -35,26 +35,26 @@ module _ {S : Type 0} (name : S → ℕ) {was now : List (DescriptorSet S)} (put
     stopped_as t = rw (sym first, sym last, sym all) t
 
 -- the bucket before and after, as the view has it
-was_bucket : (g : _) (c : After-walk-walked g) → bucket_in g.D.DescriptorDevice.pool_name c.new-view.result ≡ bucket_of g.D.DescriptorDevice.pool_name c.args.self.now
-was_bucket g c = λ i. bucket (c.new-view.ensures.id i) (c.new-view.ensures.offset i) (entries_of g.D.DescriptorDevice.pool_name (c.new-view.ensures.pools i).items)
+was_bucket : (g : _) (c : After-walk-walked g) → bucket_in g.D.DescriptorDevice.meaning.pool_name c.new-view.result ≡ bucket_of g.D.DescriptorDevice.meaning.pool_name c.args.self.now
+was_bucket g c = λ i. bucket (c.new-view.ensures.id i) (c.new-view.ensures.offset i) (entries_of g.D.DescriptorDevice.meaning.pool_name (c.new-view.ensures.pools i).items)
 
-is_bucket : (g : _) (c : After-walk-walked g) → bucket_in g.D.DescriptorDevice.pool_name c.walk-walked.new.view ≡ bucket c.args.self.now.id c.args.self.now.offset (entries_of g.D.DescriptorDevice.pool_name c.walk-walked.new.view.pools.now.items)
-is_bucket g c = λ i. bucket ((c.walk-walked.ensures.kept.4 ∙ c.new-view.ensures.id) i) ((c.walk-walked.ensures.kept.0 ∙ c.new-view.ensures.offset) i) (entries_of g.D.DescriptorDevice.pool_name c.walk-walked.new.view.pools.now.items)
+is_bucket : (g : _) (c : After-walk-walked g) → bucket_in g.D.DescriptorDevice.meaning.pool_name c.walk-walked.new.view ≡ bucket c.args.self.now.id c.args.self.now.offset (entries_of g.D.DescriptorDevice.meaning.pool_name c.walk-walked.new.view.pools.now.items)
+is_bucket g c = λ i. bucket ((c.walk-walked.ensures.kept.4 ∙ c.new-view.ensures.id) i) ((c.walk-walked.ensures.kept.0 ∙ c.new-view.ensures.offset) i) (entries_of g.D.DescriptorDevice.meaning.pool_name c.walk-walked.new.view.pools.now.items)
 
 pub walk-walked-requires-clause-booked : goal.walk-walked-requires-clause-booked
-walk-walked-requires-clause-booked g c = subst (λ (q : VecDeque (DescriptorPool g.row.P.Denot) Global). AreBookedIn (key_of c.args.request.now.key) (g.D.DescriptorDevice.ledger c.args.device.now).pools (entries_of g.D.DescriptorDevice.pool_name q.items)) (sym c.new-view.ensures.pools) c.requires.booked
+walk-walked-requires-clause-booked g c = subst (λ (q : VecDeque (DescriptorPool g.row.P.Denot) Global). AreBookedIn (key_of c.args.request.now.key) (g.D.DescriptorDevice.ledger c.args.device.now).pools (entries_of g.D.DescriptorDevice.meaning.pool_name q.items)) (sym c.new-view.ensures.pools) c.requires.booked
 
 pub returns-clause-walked : goal.returns-clause-walked
 returns-clause-walked g c =
     let at = (goal.at.returns-clause-walked g c).After-walk-walked in
     IfOk-weaker c.walk-walked.result _ _ (λ wanting p. (
-    let long = ap length (all g.D.DescriptorDevice.set_name p.0 c.requires.empty p.1) in
-    (let given = p.3 in omega arith, (let left = p.2 in let room = c.requires.room in omega arith), walked_as g.D.DescriptorDevice.set_name p.0 c.requires.empty p.1 (was_bucket g at) (is_bucket g at) p.4))) c.walk-walked.ensures.walked
+    let long = ap length (all g.D.DescriptorDevice.meaning.set_name p.0 c.requires.empty p.1) in
+    (let given = p.3 in omega arith, (let left = p.2 in let room = c.requires.room in omega arith), walked_as g.D.DescriptorDevice.meaning.set_name p.0 c.requires.empty p.1 (was_bucket g at) (is_bucket g at) p.4))) c.walk-walked.ensures.walked
 
 pub returns-clause-stopped : goal.returns-clause-stopped
 returns-clause-stopped g c =
     let at = (goal.at.returns-clause-stopped g c).After-walk-walked in
-    IfErr-weaker c.walk-walked.result _ _ (λ error p. stopped_as g.D.DescriptorDevice.set_name p.0 c.requires.empty p.1 (was_bucket g at) (is_bucket g at) p.2) c.walk-walked.ensures.stopped
+    IfErr-weaker c.walk-walked.result _ _ (λ error p. stopped_as g.D.DescriptorDevice.meaning.set_name p.0 c.requires.empty p.1 (was_bucket g at) (is_bucket g at) p.2) c.walk-walked.ensures.stopped
 
 pub returns-clause-few : goal.returns-clause-few
 returns-clause-few g c = (let few = c.walk-walked.ensures.given in let none = ap length c.requires.empty in omega arith)
@@ -77,8 +77,8 @@ module _ {S : Type 0} (name : S → ℕ) (was now : List (DescriptorSet S)) (emp
 
 pub invariant_of-self-clause-counted : goal.invariant_of-self-clause-counted
 invariant_of-self-clause-counted g c =
-    let name = g.D.DescriptorDevice.pool_name in
-    let given = more g.D.DescriptorDevice.set_name c.args.sink.now.sets.items c.walk-walked.new.sink.sets.items c.requires.empty (key_of c.args.request.now.key) c.args.request.now.count c.args.sink.now.left c.walk-walked.new.sink.left (bucket_in name c.new-view.result) (bucket_in name c.walk-walked.new.view) (g.D.DescriptorDevice.ledger c.args.device.now) (g.D.DescriptorDevice.ledger c.walk-walked.new.device) c.walk-walked.result c.walk-walked.ensures.walked c.walk-walked.ensures.stopped in
+    let name = g.D.DescriptorDevice.meaning.pool_name in
+    let given = more g.D.DescriptorDevice.meaning.set_name c.args.sink.now.sets.items c.walk-walked.new.sink.sets.items c.requires.empty (key_of c.args.request.now.key) c.args.request.now.count c.args.sink.now.left c.walk-walked.new.sink.left (bucket_in name c.new-view.result) (bucket_in name c.walk-walked.new.view) (g.D.DescriptorDevice.ledger c.args.device.now) (g.D.DescriptorDevice.ledger c.walk-walked.new.device) c.walk-walked.result c.walk-walked.ensures.walked c.walk-walked.ensures.stopped in
     let was = allocated_entries name c.new-view.result.pools.now.items ∙ ap (λ (q : VecDeque (DescriptorPool g.row.P.Denot) Global). sum_by (λ (p : DescriptorPool g.row.P.Denot). p.allocated) q.items) c.new-view.ensures.pools in
     let is = allocated_entries name c.walk-walked.new.view.pools.now.items in
     let total = c.args.self.now.counted in

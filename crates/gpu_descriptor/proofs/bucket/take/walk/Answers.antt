@@ -51,7 +51,7 @@ loop-wanting-init g c = record {
   room = refl;
   given = omega arith;
   long = refl;
-  walk = open_walk_start g.D.DescriptorDevice.pool_name (key_of c.args.request.now.key) c.args.request.now.count c.args.view.now.id c.args.view.now.offset c.args.view.now.pools.now.items c.args.view.now.listed.now.items (g.D.DescriptorDevice.ledger c.args.device.now) c.requires.booked c.requires.listed;
+  walk = open_walk_start g.D.DescriptorDevice.meaning.pool_name (key_of c.args.request.now.key) c.args.request.now.count c.args.view.now.id c.args.view.now.offset c.args.view.now.pools.now.items c.args.view.now.listed.now.items (g.D.DescriptorDevice.ledger c.args.device.now) c.requires.booked c.requires.listed;
   space = refl;
   kept = (refl, refl, refl, refl, refl);
   looks = refl;
@@ -99,13 +99,13 @@ module _ (g : _) (c : In-Ok g) where
   put = c.loop-wanting.invariant.put ++ sets_at (key_of c.args.request.now.key) c.loop-wanting.view.id c.newest.new.sink.number raws
 
   abbrev names : List ℕ
-  names = map g.D.DescriptorDevice.set_name raws
+  names = map g.D.DescriptorDevice.meaning.set_name raws
 
   at : slice_get c.loop-wanting.view.pools.now.items (c.newest.new.sink.number - c.loop-wanting.view.offset) ≡ Some c.in-Some.pool.now
   at = c.in-Some.ensures.value
 
   many : length names ≡ c.in-Ok.given
-  many = length-map raws g.D.DescriptorDevice.set_name ∙ c.in-Ok.ensures.asked.1
+  many = length-map raws g.D.DescriptorDevice.meaning.set_name ∙ c.in-Ok.ensures.asked.1
 
   less : c.loop-wanting.wanting - c.in-Ok.given + length names ≡ c.loop-wanting.wanting
   less = (let a = c.in-Ok.ensures.asked.4.many in let d = many in omega arith)
@@ -136,7 +136,7 @@ loop-wanting-preserved g c =
       room = room g r;
       given = given g r;
       long = many ∙ inv.long;
-      walk = closed_walk (gave_more g.D.DescriptorDevice.set_name (key_of c.args.request.now.key) c.loop-wanting.view.id c.newest.new.sink.number inv.put (raws g r)) refl refl refl refl walked;
+      walk = closed_walk (gave_more g.D.DescriptorDevice.meaning.set_name (key_of c.args.request.now.key) c.loop-wanting.view.id c.newest.new.sink.number inv.put (raws g r)) refl refl refl refl walked;
       space = inv.space;
       kept = inv.kept;
       looks = (let a = inv.looks in omega arith);
@@ -161,7 +161,7 @@ loop-wanting-preserved-then-pool-eq0 g c =
       room = room g r;
       given = given g r;
       long = many ∙ inv.long;
-      walk = closed_walk (gave_more g.D.DescriptorDevice.set_name (key_of c.args.request.now.key) c.loop-wanting.view.id c.newest.new.sink.number inv.put (raws g r)) pools now.listed now.kept.0 now.kept.4 walked;
+      walk = closed_walk (gave_more g.D.DescriptorDevice.meaning.set_name (key_of c.args.request.now.key) c.loop-wanting.view.id c.newest.new.sink.number inv.put (raws g r)) pools now.listed now.kept.0 now.kept.4 walked;
       space = now.capacity ∙ inv.space;
       kept = (now.kept.0 ∙ inv.kept.0, now.kept.1 ∙ inv.kept.1, now.kept.2 ∙ inv.kept.2, now.kept.3 ∙ inv.kept.3, now.kept.4 ∙ inv.kept.4);
       looks = (let a = inv.looks in omega arith);

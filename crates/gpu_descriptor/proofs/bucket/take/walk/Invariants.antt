@@ -16,7 +16,7 @@ invariant-loop-wanting g l = record {
   room : l.sink.left + l.request.count ≡ l.initial.sink.left + l.wanting;
   given : length put + l.wanting ≡ l.request.count;
   long : length l.view.pools.now.items ≡ length l.initial.view.pools.now.items;
-  walk : OpenWalk g.D.DescriptorDevice.pool_name (key_of l.request.key) l.request.count l.view.id l.view.offset l.wanting (items_of g.D.DescriptorDevice.set_name put) (entries_of g.D.DescriptorDevice.pool_name l.initial.view.pools.now.items) l.view.pools.now.items l.view.listed.now.items (g.D.DescriptorDevice.ledger l.initial.device) (g.D.DescriptorDevice.ledger l.device);
+  walk : OpenWalk g.D.DescriptorDevice.meaning.pool_name (key_of l.request.key) l.request.count l.view.id l.view.offset l.wanting (items_of g.D.DescriptorDevice.meaning.set_name put) (entries_of g.D.DescriptorDevice.meaning.pool_name l.initial.view.pools.now.items) l.view.pools.now.items l.view.listed.now.items (g.D.DescriptorDevice.ledger l.initial.device) (g.D.DescriptorDevice.ledger l.device);
   space : deque_capacity l.view.listed.now ≡ deque_capacity l.initial.view.listed.now;
   kept : KeepsView l.initial.view l.view;
   looks : CountsLooks l.initial.view.looks.now.count l.view.looks.now.count (g.D.DescriptorDevice.ledger l.initial.device) (g.D.DescriptorDevice.ledger l.device);
