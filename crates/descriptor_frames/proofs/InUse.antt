@@ -3,9 +3,14 @@ use Rattle.std.proofs.Common.{◌≡◌, ℕ, ◌+◌, ◌-◌, ◌≤◌, List,
 use Rattle.std.specs.Global.{Vec}
 use Rattle.gpu_descriptor.specs.Model.Agreement.{AreOutstanding, Item, State, count_of, outstanding}
 use Rattle.gpu_descriptor.specs.Model.Promises.{AreOutBesides, KeepsOutstanding}
+use Rattle.gpu_descriptor_types.specs.Ledger.{Ledger}
 use Rattle.gpu_descriptor.specs.Caller.Sets.{items_of}
+use Rattle.gpu_descriptor.specs.Caller.States.{state_of}
 use Rattle.gpu_descriptor.specs.declared.set.DescriptorSet.{DescriptorSet}
 use Rattle.gpu_descriptor.proofs.callers.HeldSets.{count_parts}
+use Rattle.descriptor_frames.specs.Frames.{AreInUse, AreRetiredOut, Retires, allocator_of, retired_of, state_in}
+use Rattle.descriptor_frames.specs.Retired.{retired_sets}
+use Rattle.descriptor_frames.specs.declared.manager.FrameManager.{FrameManager}
 
 -- ---- a list in two parts
 
@@ -26,6 +31,17 @@ module _ {S : Type 0} (name : S → ℕ) (xs ys all : List (DescriptorSet S)) (i
   pub joins : (s : State) → AreOutstanding (items_of name xs) s → ((u : Item) → count_of u (items_of name ys) ≤ outstanding s u - count_of u (items_of name xs)) → (AreOutstanding (items_of name all) s) × ((u : Item) → outstanding s u - count_of u (items_of name all) + count_of u (items_of name ys) ≡ outstanding s u - count_of u (items_of name xs))
   joins s out used =
       (λ u. (let a = count_whole u in let b = out u in let c = used u in omega arith), λ u. (let a = count_whole u in let b = out u in let c = used u in omega arith))
+
+-- ---- a manager that retires sets
+
+pub retires : {P S : Type 0} (pool_name : P → ℕ) (set_name : S → ℕ) (old new : FrameManager P S) (l : Ledger) (xs : List (DescriptorSet S)) → allocator_of new ≡ allocator_of old → retired_sets (retired_of new) ≡ retired_sets (retired_of old) ++ xs → AreRetiredOut pool_name set_name old l → AreInUse pool_name set_name (items_of set_name xs) old l → Retires pool_name set_name (items_of set_name xs) old new l
+retires pool_name set_name old new l xs same is out used =
+    let more = joins set_name (retired_sets (retired_of old)) xs (retired_sets (retired_of new)) is (state_in pool_name old l) out used in
+    let as_before : (t : Item) → outstanding (state_in pool_name new l) t ≡ outstanding (state_in pool_name old l) t = λ t. ap (λ a. outstanding (state_of pool_name a l) t) same in
+    record {
+      retired = λ t. (let e = as_before t in let m = more.0 t in omega arith);
+      used = λ t. (let e = as_before t in let m = more.1 t in omega arith);
+    }
 
 -- ---- calls of the allocator
 

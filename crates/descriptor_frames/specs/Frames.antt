@@ -1,5 +1,6 @@
 -- What a manager keeps: an allocator, the retired sets with their frames, and the greatest frame so far. The sets in use are the outstanding ones less the retired.
-use Rattle.std.specs.Prelude.{◌≡◌, ℕ, ◌+◌, ◌-◌, ◌≤◌, List, [], ◌∷◌}
+use Rattle.std.specs.Prelude.{◌≡◌, ℕ, ◌+◌, ◌-◌, ◌≤◌, List, length}
+use Rattle.std.specs.VecDeque.{deque_capacity}
 use Rattle.gpu_descriptor_types.specs.Ledger.{Ledger}
 use Rattle.gpu_descriptor.specs.Model.Agreement.{AreOutstanding, Item, State, count_of, outstanding}
 use Rattle.gpu_descriptor.specs.Caller.Sets.{items_of}
@@ -21,6 +22,10 @@ module _ {P S : Type 0} where
   -- the greatest frame at which a set was ever retired
   abbrev pub greatest_of : FrameManager P S → ℕ
   greatest_of m = m.greatest
+
+  -- how many more sets there is room for in the list
+  abbrev pub room_of : FrameManager P S → ℕ
+  room_of m = deque_capacity m.retired - length (retired_of m)
 
   -- the sets that were retired at the frame or before
   abbrev pub due_sets : ℕ → FrameManager P S → List (DescriptorSet S)
@@ -47,9 +52,10 @@ module _ {P S : Type 0} where
       abbrev pub AreRetiredOut : FrameManager P S → Ledger → Type 0
       AreRetiredOut m l = AreOutstanding (retired_items set_name m) (state_in m l)
 
-      -- the list and the greatest frame stay, and retired sets that were outstanding still are
+      -- the list, its room and the greatest frame stay, and retired sets that were outstanding still are
       pub record KeepsRetired (old new : FrameManager P S) (before after : Ledger) : Type 0 where
         pub list : retired_of new ≡ retired_of old
+        pub room : room_of new ≡ room_of old
         pub greatest : greatest_of new ≡ greatest_of old
         pub outstanding : AreRetiredOut old before → AreRetiredOut new after
 
@@ -69,7 +75,11 @@ module _ {P S : Type 0} where
       abbrev pub BringsIntoUse : List Item → FrameManager P S → FrameManager P S → Ledger → Ledger → Type 0
       BringsIntoUse items old new before after = (t : Item) → in_use new after t ≡ in_use old before t + count_of t items
 
-      -- the set is in use once less, and the retired sets are outstanding
-      pub record LeavesUse (item : Item) (old new : FrameManager P S) (l : Ledger) : Type 0 where
+      -- exactly these sets are in use no longer
+      abbrev pub LeavesUse : List Item → FrameManager P S → FrameManager P S → Ledger → Ledger → Type 0
+      LeavesUse items old new before after = (t : Item) → in_use new after t + count_of t items ≡ in_use old before t
+
+      -- these sets were retired: they are in use no longer, and all retired sets are outstanding
+      pub record Retires (items : List Item) (old new : FrameManager P S) (l : Ledger) : Type 0 where
         pub retired : AreRetiredOut new l
-        pub used : (t : Item) → in_use new l t + count_of t (item ∷ []) ≡ in_use old l t
+        pub used : LeavesUse items old new l l

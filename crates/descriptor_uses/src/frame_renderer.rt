@@ -1,7 +1,6 @@
 //! A struct over a frame manager: a set is in use for a frame, and goes back when that is done.
 ghost use Rattle.std.specs.Prelude.{◌≡◌, ◌++◌, ◌↔◌, [], drop, length, map, take, true, Ok};
 ghost use Rattle.std.specs.Prelude.{IfOk, IsFalse, IsTrue};
-ghost use Rattle.descriptor_frames.specs.Errors.{set_back};
 ghost use Rattle.gpu_descriptor.specs.Caller.Sets.{items_of};
 ghost use Rattle.gpu_descriptor.specs.Caller.States.{Agrees, state_of};
 ghost use Rattle.gpu_descriptor.proofs.callers.OneAgreement.{Agree-prop};
@@ -10,7 +9,7 @@ ghost use Rattle.descriptor_frames.specs.Retired.{at_frame, later};
 ghost use Rattle.descriptor_uses.specs.Layouts.{IsMeant};
 
 use crate::layout::SetLayout;
-use descriptor_frames::{FrameManager, RetireError};
+use descriptor_frames::FrameManager;
 use gpu_descriptor::{AllocationError, DescriptorDevice, DescriptorSet, laws};
 use std::alloc::Global;
 use std::collections::VecDeque;
@@ -88,7 +87,7 @@ impl<L, P: Drop, S: Drop, D: DescriptorDevice<L, P, S>> FrameRenderer<L, P, S, D
         match self.manager.retire(frame, set) {
             Ok(()) => true,
             Err(error) => {
-                self.in_use.push_front_reserved(set_in(error));
+                self.in_use.push_front_reserved(error.into_inner());
                 false
             }
         }
@@ -101,15 +100,5 @@ impl<L, P: Drop, S: Drop, D: DescriptorDevice<L, P, S>> FrameRenderer<L, P, S, D
     {
         self.manager.finish(&mut self.device, frame);
         self.manager.cleanup(&mut self.device);
-    }
-}
-
-/// The set that was not retired.
-fn set_in<S>(error: RetireError<S>) -> DescriptorSet<S>
-    ensures { result ≡ set_back error }
-{
-    match error {
-        RetireError::FrameBack(set) => set,
-        RetireError::Memory(set) => set,
     }
 }

@@ -1,5 +1,5 @@
 //! Giving back the sets of the frames that are done.
-ghost use Rattle.std.specs.Prelude.{◌≡◌, []};
+ghost use Rattle.std.specs.Prelude.{◌≡◌, ◌+◌, ◌≤◌, [], length};
 ghost use Rattle.gpu_descriptor_types.specs.Side.{side};
 ghost use Rattle.gpu_descriptor.specs.Caller.Frees.{Returns};
 ghost use Rattle.gpu_descriptor.specs.Caller.Keeps.{Keeps};
@@ -13,7 +13,7 @@ use gpu_descriptor::DescriptorDevice;
 impl<P, S> FrameManager<P, S> {
     ghost use Rattle.descriptor_frames.specs.Frames.{AreRetiredOut, ManagerStays, KeepsInUse};
     ghost use Rattle.descriptor_frames.specs.Frames.{allocator_of, due_sets, greatest_of};
-    ghost use Rattle.descriptor_frames.specs.Frames.{retired_of};
+    ghost use Rattle.descriptor_frames.specs.Frames.{retired_of, room_of};
 
     /// Gives back all sets that were retired at this frame or before, in the order in which they
     /// were retired. It takes no memory and can't be refused. The device must be done with the work
@@ -33,6 +33,10 @@ impl<P, S> FrameManager<P, S> {
             (side (allocator_of self.new) (D.ledger device.new)) }
 
         ensures rest { retired_of self.new ≡ later frame (retired_of self.old) }
+        ensures count { length (retired_of self.new) + length (due_sets frame self.old)
+            ≡ length (retired_of self.old) }
+        ensures all { greatest_of self.old ≤ frame → retired_of self.new ≡ [] }
+        ensures room { room_of self.old ≤ room_of self.new }
         ensures greatest { greatest_of self.new ≡ greatest_of self.old }
         ensures retired { AreRetiredOut D.meaning.pool_name D.meaning.set_name self.new
             (D.ledger device.new) }

@@ -1,4 +1,5 @@
-use Rattle.std.proofs.Common.{◌≡◌, [], ◌++◌, refl, sym, ap, subst, ◌∙◌}
+use Rattle.std.proofs.Common.{◌≡◌, ◌+◌, ◌≤◌, [], ◌++◌, All, length, refl, sym, ap, subst, ◌∙◌, arith}
+use Rattle.std.specs.VecDeque.{deque_capacity}
 use Rattle.gpu_descriptor.specs.Model.Agreement.{State}
 use Rattle.gpu_descriptor.specs.Caller.States.{state_of}
 use Rattle.gpu_descriptor.specs.Caller.Values.{Allocations}
@@ -7,7 +8,7 @@ use Rattle.descriptor_frames.specs.Frames.{retired_of, state_in}
 use Rattle.descriptor_frames.specs.Retired.{AreInOrder, retired_sets}
 use Rattle.gpu_descriptor.proofs.callers.HeldSets.{out_front}
 use Rattle.descriptor_frames.proofs.InUse.{later_out, same_besides}
-use Rattle.descriptor_frames.proofs.Taken.{both_parts, none_taken, same_list_then, still_in_order, stood_before, took_due}
+use Rattle.descriptor_frames.proofs.Taken.{both_parts, fewer, none_later, none_taken, same_list_then, same_places_then, still_in_order, stood_before, took_due}
 use Rattle.descriptor_frames.proofs.manager.FrameManager.finish.Goals.{After-end}
 use Rattle.descriptor_frames.proofs.manager.FrameManager.finish.Goals as goal
 
@@ -31,6 +32,30 @@ returns-clause-returns g c =
 pub returns-clause-rest : goal.returns-clause-rest
 returns-clause-rest g c =
     ap (λ q. q.items) c.end.ensures ∙ (took_due c.free_from.ensures.frees c.args.self.now.greatest c.args.self.now.ordered).1
+
+-- how many went back
+went_back : (g : _) (c : After-end g) → length c.end.new.self.0.items + length c.free_from.ensures.frees.sets ≡ length (retired_of c.args.self.now)
+went_back g c =
+    let all = fewer c.free_from.ensures.frees in
+    let left = ap (λ q. length q.items) c.end.ensures in
+    omega arith
+
+pub returns-clause-count : goal.returns-clause-count
+returns-clause-count g c =
+    let all = went_back g (goal.at.returns-clause-count g c).After-end in
+    let due = ap length (took_due c.free_from.ensures.frees c.args.self.now.greatest c.args.self.now.ordered).0 in
+    omega arith
+
+pub returns-clause-all : goal.returns-clause-all
+returns-clause-all g c up =
+    let early : All (λ r. r.frame ≤ c.args.frame) (retired_of c.args.self.now) = λ i d lt. (let within = c.args.self.now.ordered.within i d lt in omega arith) in
+    ap (λ q. q.items) c.end.ensures ∙ (took_due c.free_from.ensures.frees c.args.self.now.greatest c.args.self.now.ordered).1 ∙ none_later c.args.frame (retired_of c.args.self.now) early
+
+pub returns-clause-room : goal.returns-clause-room
+returns-clause-room g c =
+    let all = went_back g (goal.at.returns-clause-room g c).After-end in
+    let places = ap deque_capacity c.end.ensures ∙ same_places_then c.free_from.ensures.frees in
+    omega arith
 
 -- books and ledger at the call, and when the sets went back
 abbrev before : (g : _) → After-end g → State
