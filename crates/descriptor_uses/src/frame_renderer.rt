@@ -25,9 +25,10 @@ pub struct FrameRenderer<L, P, S, D: DescriptorDevice<L, P, S>> {
     manager: FrameManager<P, S>,
     in_use: VecDeque<DescriptorSet<S>>,
     layouts: PhantomData<L>,
-    ghost agree: { Agrees D.meaning.pool_name (allocator_of manager) (D.ledger device) } by { Agree-prop (state_of D.meaning.pool_name (allocator_of manager) (D.ledger device)) },
-    ghost retired: { AreRetiredOut D.meaning.pool_name D.meaning.set_name manager
-        (D.ledger device) },
+    ghost agree: { Agrees D.meaning.pool_name (allocator_of manager) (D.ledger device) } by {
+        Agree-prop (state_of D.meaning.pool_name (allocator_of manager) (D.ledger device)) },
+    ghost retired: { AreRetiredOut D.meaning.pool_name D.meaning.set_name manager (D.ledger device)
+        },
     ghost used: { AreInUse D.meaning.pool_name D.meaning.set_name
         (items_of D.meaning.set_name in_use.items) manager (D.ledger device) },
 }

@@ -21,16 +21,20 @@ impl<P, S: Drop> FrameManager<P, S> {
         sets: Vec<DescriptorSet<S>>,
     )
         requires agree { Agrees D.meaning.pool_name (allocator_of self.old) (D.ledger device.old) }
-        requires in_use { AreInUse D.meaning.pool_name D.meaning.set_name (items_of D.meaning.set_name sets.items)
-            self.old (D.ledger device.old) }
+        requires in_use { AreInUse D.meaning.pool_name D.meaning.set_name
+            (items_of D.meaning.set_name sets.items) self.old (D.ledger device.old) }
 
-        ensures returns { Returns D.meaning sets.items (side (allocator_of self.old) (D.ledger device.old)) (side (allocator_of self.new) (D.ledger device.new)) }
-        ensures keeps { Keeps D.meaning (side (allocator_of self.old) (D.ledger device.old)) (side (allocator_of self.new) (D.ledger device.new)) }
+        ensures returns { Returns D.meaning sets.items
+            (side (allocator_of self.old) (D.ledger device.old))
+            (side (allocator_of self.new) (D.ledger device.new)) }
+        ensures keeps { Keeps D.meaning (side (allocator_of self.old) (D.ledger device.old))
+            (side (allocator_of self.new) (D.ledger device.new)) }
 
         ensures retired { KeepsRetired D.meaning.pool_name D.meaning.set_name self.old self.new
             (D.ledger device.old) (D.ledger device.new) }
-        ensures in_use { LeavesUse D.meaning.pool_name D.meaning.set_name (items_of D.meaning.set_name sets.items)
-            self.old self.new (D.ledger device.old) (D.ledger device.new) }
+        ensures in_use { LeavesUse D.meaning.pool_name D.meaning.set_name
+            (items_of D.meaning.set_name sets.items) self.old self.new (D.ledger device.old)
+            (D.ledger device.new) }
     {
         self.allocator.free_all(device, sets);
     }

@@ -24,8 +24,6 @@ impl<L, P: Drop, S: Drop> Session<L, P, S> {
         ensures keeps { KeepsSession D.meaning (side self.old (D.ledger device.old))
             (side self.new (D.ledger device.new)) }
     {
-        // The proof reads from this that no key has two rows.
-        let _out = self.allocator.outstanding();
         let mut replies = Vec::with_capacity(self.slots.alloc, commands.len())?;
         for command in commands {
             let reply = self.step(device, command);

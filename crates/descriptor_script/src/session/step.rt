@@ -43,8 +43,6 @@ impl<L, P: Drop, S: Drop> Session<L, P, S> {
         ensures keeps { KeepsSession D.meaning (side self.old (D.ledger device.old))
             (side self.new (D.ledger device.new)) }
     {
-        // The proof reads from this that no key has two rows.
-        let _out = self.allocator.outstanding();
         let Some(known) = self.layouts.get(layout) else {
             return Reply::BadLayout;
         };
@@ -72,7 +70,6 @@ impl<L, P: Drop, S: Drop> Session<L, P, S> {
         ensures keeps { KeepsSession D.meaning (side self.old (D.ledger device.old))
             (side self.new (D.ledger device.new)) }
     {
-        let _out = self.allocator.outstanding();
         if !self.slots.are_held_once(tickets) {
             return Reply::BadTicket;
         }

@@ -4,22 +4,20 @@ use Rattle.gpu_descriptor_types.specs.Side.{side}
 use Rattle.gpu_descriptor_types.specs.Meaning.{Meaning}
 use Rattle.gpu_descriptor_types.specs.Ledger.{Ledger}
 use Rattle.gpu_descriptor.specs.Model.Agreement.{Agree}
-use Rattle.gpu_descriptor.specs.Model.Books.{HasDistinctKeys}
 use Rattle.gpu_descriptor.specs.Caller.Keeps.{Keeps}
 use Rattle.gpu_descriptor.specs.Caller.Others.{others_of}
-use Rattle.gpu_descriptor.specs.Caller.States.{Agrees, marked_load_of, pool_load_of, state_of, table_of}
+use Rattle.gpu_descriptor.specs.Caller.States.{Agrees, marked_load_of, pool_load_of, state_of}
 use Rattle.gpu_descriptor.specs.Caller.Values.{Allocations}
 use Rattle.gpu_descriptor.proofs.foreign.ForeignPools.{foreign_same, foreign_through, loses_same, loses_through}
 
 -- nothing changed
 module _ {L P S : Type 0} {means : Meaning L P S} {old new : Allocations P} {before after : Ledger} (same : new ≡ old) (ledger : after ≡ before) where
-  pub keeps_still : Agrees means.pool_name old before → marked_load_of new ≤ new.limit → pool_load_of new ≤ new.limit → HasDistinctKeys (table_of means.pool_name new) → Keeps means (side old before) (side new after)
-  keeps_still agree load pool_load rows = record {
+  pub keeps_still : Agrees means.pool_name old before → marked_load_of new ≤ new.limit → pool_load_of new ≤ new.limit → Keeps means (side old before) (side new after)
+  keeps_still agree load pool_load = record {
     agree = subst Agree (λ i. state_of means.pool_name (sym same i) (sym ledger i)) agree;
     limit = ap (λ (a : Allocations P). a.limit) same;
     load = load;
     pool_load = pool_load;
-    rows = rows;
     foreign = foreign_same _ _ (λ i. state_of means.pool_name (same i) (ledger i));
     accounted = loses_same _ _ (λ i. state_of means.pool_name (same i) (ledger i));
     others = λ i. others_of means.pool_name (same i) (ledger i);
@@ -31,7 +29,6 @@ keeps_through {L} {P} {S} {means} {a} {b} {c} {l} {m} {n} p q = record {
   limit = q.limit ∙ p.limit;
   load = q.load;
   pool_load = q.pool_load;
-  rows = q.rows;
   foreign = foreign_through (state_of means.pool_name a l) (state_of means.pool_name b m) (state_of means.pool_name c n) p.foreign q.foreign;
   accounted = loses_through (state_of means.pool_name a l) (state_of means.pool_name b m) (state_of means.pool_name c n) p.accounted q.accounted;
   others = q.others ∙ p.others;

@@ -32,14 +32,13 @@ gained_as same gained = rw (sym same) gained
 
 module _ {L P S : Type 0} {means : Meaning L P S} {k : Key} {count : ℕ} {sets : List (DescriptorSet S)} {ended : Result (Unit {0}) Stop} {old new : Allocations P} {before after : Ledger}
     (t : Takes means k count sets ended (side old before) (side new after)) (agree : Agrees means.pool_name old before) where
-  pub keeps_all : new.limit ≡ old.limit → marked_load_of new ≤ new.limit → pool_load_of new ≤ new.limit → HasDistinctKeys (table_of means.pool_name new) → Keeps means (side old before) (side new after)
-  keeps_all limit load pool_load rows =
+  pub keeps_all : new.limit ≡ old.limit → marked_load_of new ≤ new.limit → pool_load_of new ≤ new.limit → Keeps means (side old before) (side new after)
+  keeps_all limit load pool_load =
       record {
         agree = taken_agree t agree;
         limit = limit;
         load = load;
         pool_load = pool_load;
-        rows = rows;
         foreign = taken_leaves t agree;
         accounted = taken_loses_none t agree;
         others = taken_others_of t agree;
@@ -52,7 +51,6 @@ module _ {L P S : Type 0} {means : Meaning L P S} {k : Key} {count : ℕ} {sets 
         limit = then.limit ∙ limit;
         load = then.load;
         pool_load = then.pool_load;
-        rows = then.rows;
         foreign = back_leaves t agree r.back;
         accounted = back_loses_none t agree r.back;
         others = back_others_of t agree r.back;

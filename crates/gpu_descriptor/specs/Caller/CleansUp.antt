@@ -2,22 +2,18 @@
 use Rattle.std.specs.Prelude.{◌≡◌, ℕ}
 use Rattle.gpu_descriptor_types.specs.Meaning.{Meaning}
 use Rattle.gpu_descriptor_types.specs.Side.{Side}
-use Rattle.gpu_descriptor.specs.Model.Books.{HasDistinctKeys}
 use Rattle.gpu_descriptor.specs.Model.Cleanup.{IsCleaned, pools_cleaned}
 use Rattle.gpu_descriptor.specs.Model.Promises.{KeepsOutstanding}
 use Rattle.gpu_descriptor.specs.Model.Release.{more_destroyed}
 use Rattle.gpu_descriptor.specs.Caller.Keys.{keys_with_pools}
 use Rattle.gpu_descriptor.specs.Caller.Others.{others_of}
-use Rattle.gpu_descriptor.specs.Caller.States.{keys_of, marked_load_of, outstanding_of, state_of, table_of}
+use Rattle.gpu_descriptor.specs.Caller.States.{keys_of, marked_load_of, outstanding_of, state_of}
 use Rattle.gpu_descriptor.specs.Caller.Values.{Allocations}
 
 pub record CleansUp {L P S : Type 0} (means : Meaning L P S) (old new : Side (Allocations P)) : Type 0 where
   pub cleaned : IsCleaned (state_of means.pool_name old.value old.ledger) (state_of means.pool_name new.value new.ledger)
   -- all other counters stay
   pub destroyed : new.ledger.counters ≡ more_destroyed (pools_cleaned (keys_of old.value) (state_of means.pool_name old.value old.ledger)) old.ledger.counters
-  -- for the reader of `destroyed`: no key has two rows before, so that sum counts each key once.
-  -- No body can break it, since it holds of each allocator
-  pub rows_before : HasDistinctKeys (table_of means.pool_name old.value)
   -- those that still have pools, in their order
   pub keys : keys_of new.value ≡ keys_with_pools (state_of means.pool_name new.value new.ledger) (keys_of old.value)
   pub outstanding_stay : KeepsOutstanding (state_of means.pool_name old.value old.ledger) (state_of means.pool_name new.value new.ledger)

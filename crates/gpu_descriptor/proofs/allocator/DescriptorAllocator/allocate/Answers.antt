@@ -39,7 +39,6 @@ free_all-requires-clause-outstanding g c = taken_given c.in-Ok.ensures.taken c.r
 pub returns-then-count-eq0-clause-keeps : goal.returns-then-count-eq0-clause-keeps
 returns-then-count-eq0-clause-keeps g c =
     keeps_still refl refl c.requires.agree (load_within _ c.self.view_is c.self.invariant) (pool_load_within _ c.self.view_is c.self.invariant)
-    (rows_apart _ c.self.view_is g.D.DescriptorDevice.meaning.pool_name c.self.invariant)
 
 pub returns-in-Err-clause-hands_out : goal.returns-in-Err-clause-hands_out
 returns-in-Err-clause-hands_out g c =
@@ -48,7 +47,7 @@ returns-in-Err-clause-hands_out g c =
 
 pub returns-in-Err-clause-keeps : goal.returns-in-Err-clause-keeps
 returns-in-Err-clause-keeps g c =
-    keeps_still c.in-Err.ensures.allocator c.in-Err.ensures.ledger c.requires.agree c.in-Err.ensures.load c.in-Err.ensures.pool_load c.in-Err.ensures.rows
+    keeps_still c.in-Err.ensures.allocator c.in-Err.ensures.ledger c.requires.agree c.in-Err.ensures.load c.in-Err.ensures.pool_load
 
 pub returns-in-Ok-taken-clause-hands_out : goal.returns-in-Ok-taken-clause-hands_out
 returns-in-Ok-taken-clause-hands_out g c =
@@ -57,7 +56,7 @@ returns-in-Ok-taken-clause-hands_out g c =
 
 pub returns-in-Ok-taken-clause-keeps : goal.returns-in-Ok-taken-clause-keeps
 returns-in-Ok-taken-clause-keeps g c =
-    keeps_all c.in-Ok.ensures.taken c.requires.agree c.in-Ok.ensures.limit c.in-Ok.ensures.load c.in-Ok.ensures.pool_load c.in-Ok.ensures.rows
+    keeps_all c.in-Ok.ensures.taken c.requires.agree c.in-Ok.ensures.limit c.in-Ok.ensures.load c.in-Ok.ensures.pool_load
 
 pub returns-in-Err-taken-clause-hands_out : goal.returns-in-Err-taken-clause-hands_out
 returns-in-Err-taken-clause-hands_out g c =

@@ -109,7 +109,6 @@ returns g c =
       cleans_up = record {
         cleaned = clean;
         destroyed = whole_count name c.args.self.now (ledger c.args.device.now) (ledger c.loop-place.device) es was distinct less;
-        rows_before = rows_before;
         keys = keys_cleaned name c.args.self.now now (ledger c.args.device.now) (ledger c.loop-place.device) es c.loop-place.self-inside.buckets.entries c.retain.new.self.entries was refl distinct rows kept clean;
         outstanding_stay = takes_none _ _ c.requires.agree clean;
         totals_stay = (
@@ -124,7 +123,6 @@ returns g c =
         limit = h.limit ∙ ap (λ (a : Allocations _). a.limit) c.self.view_is;
         load = (let load = rows_load c.retain.new.self.entries in let is = counted.is_load in let within = counted.within in omega arith);
         pool_load = (let rows = rows_pool_load c.retain.new.self.entries in let is = counted.is_room in omega arith);
-        rows = keys_apart now c.retain.new.self.entries refl name counted.distinct;
         foreign = foreign;
         accounted = accounted;
         others = others_stay name c.args.self.now now (ledger c.args.device.now) (ledger c.loop-place.device) foreign accounted;

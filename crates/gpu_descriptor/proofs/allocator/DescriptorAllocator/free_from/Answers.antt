@@ -1,7 +1,7 @@
 use Rattle.std.proofs.Common.{◌∙◌, Some}
 use Rattle.gpu_descriptor.proofs.foreign.OthersStay.{others_stay}
 use Rattle.gpu_descriptor.proofs.foreign.ForeignPools.{freed_foreign, freed_loses}
-use Rattle.gpu_descriptor.proofs.request.Requested.{rows_apart, load_within, pool_load_within}
+use Rattle.gpu_descriptor.proofs.request.Requested.{load_within, pool_load_within}
 use Rattle.gpu_descriptor.proofs.release.Freed.{Freed, freed_none, call_out, freed_more, freed_all, less}
 use Rattle.gpu_descriptor.proofs.allocator.DescriptorAllocator.free_from.Goals.{In-Some}
 use Rattle.gpu_descriptor.proofs.allocator.DescriptorAllocator.free_from.Goals as goal
@@ -52,7 +52,6 @@ returns-clause-keeps g c =
       limit = c.loop-ahead.invariant.limit;
       load = load_within _ c.self.view_is c.self.invariant;
       pool_load = pool_load_within _ c.self.view_is c.self.invariant;
-      rows = rows_apart _ c.self.view_is name c.self.invariant;
       foreign = foreign;
       accounted = accounted;
       others = others_stay name c.args.self.now c.loop-ahead.self before after foreign accounted;
