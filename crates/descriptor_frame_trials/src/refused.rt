@@ -1,7 +1,9 @@
 //! Sets that are retired while growths are refused: one alone, or each from one on. In a plain run
 //! every growth is granted; `tools/refuse-memory` refuses them in turn. It also compares how many
 //! growths two tests ask for.
-use crate::trial::Act::{Cleanup, Device, Finish, Pools, Retire, Sets};
+use crate::trial::Act::{
+    Cleanup, Device, Finish, FreeAll, Pools, Reserve, Retire, RetireAll, Sets,
+};
 use crate::trial::{Act, Outcome, Trial, expect_sets, play};
 use gpu_descriptor::AllocationError;
 use std::alloc::Global;
@@ -87,4 +89,53 @@ fn sets_are_retired_and_finished(rt: HostRuntime) -> Result<(), Fail> {
         Device(1, 2),
     ];
     play_retired(&rt, rt.alloc(), &acts)
+}
+
+/// Retires nine sets at once, or, where memory is wanting, none of them; these go back at once.
+fn expect_all_or_none(rt: &impl Abort, trial: &mut Trial) -> Result<(), Fail> {
+    if trial.retire_all(1) == Outcome::Retired {
+        expect_sets(rt, trial, 9, 9);
+    } else {
+        expect_sets(rt, trial, 9, 0);
+        assert_eq!(rt; trial.in_use.len(), 9);
+        trial.free_all();
+    }
+    trial.finish(1);
+    expect_sets(rt, trial, 0, 0);
+    Ok(())
+}
+
+#[test]
+fn all_sets_are_retired_or_none(rt: HostRuntime) -> Result<(), Fail> {
+    match Trial::new(rt.alloc(), 9) {
+        Ok(mut trial) => expect_all_or_none(&rt, &mut trial),
+        Err(error) => {
+            assert_eq!(rt; error, AllocationError::OutOfHostMemory);
+            Ok(())
+        }
+    }
+}
+
+/// Takes room for five sets.
+#[test]
+fn room_is_taken(rt: HostRuntime) -> Result<(), Fail> {
+    let mut trial = Trial::new(rt.alloc(), 5)?;
+    play(&rt, &mut trial, &[Reserve(5)])
+}
+
+/// Asks for as many growths as `room_is_taken`.
+#[test]
+fn room_is_taken_and_used(rt: HostRuntime) -> Result<(), Fail> {
+    let acts = [
+        Reserve(5),
+        Retire(1, Outcome::Retired),
+        Retire(1, Outcome::Retired),
+        RetireAll(2, Outcome::Retired),
+        Sets(5, 5),
+        Finish(1),
+        FreeAll,
+        Sets(3, 3),
+    ];
+    let mut trial = Trial::new(rt.alloc(), 5)?;
+    play(&rt, &mut trial, &acts)
 }

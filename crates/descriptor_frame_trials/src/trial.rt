@@ -14,6 +14,7 @@ use gpu_descriptor::{
 };
 use std::alloc::Global;
 use std::collections::VecDeque;
+use std::mem;
 use std::process::Abort;
 use std::test::Fail;
 
@@ -22,6 +23,7 @@ use std::test::Fail;
 /// Its ghost fields are what the manager's calls ask, so no test has a condition.
 #[derive(Drop)]
 pub struct Trial {
+    alloc: Global,
     pub device: ScriptedDevice,
     pub manager: FrameManager<RawPool, RawSet>,
     pub in_use: VecDeque<DescriptorSet<RawSet>>,
@@ -33,7 +35,7 @@ pub struct Trial {
         (ledger_of device) },
 }
 
-/// What became of a set that was to be retired, with its name if it came back.
+/// What became of sets that were to be retired, with the name of the first if they came back.
 #[derive(Clone, Copy, Debug, PartialEq, Eq)]
 pub enum Outcome {
     Retired,
@@ -56,6 +58,7 @@ impl Trial {
         let mut manager = FrameManager::new(alloc, u32::MAX);
         let sets = manager.allocate(&mut device, &layout, flags, &counts, count)?;
         Ok(Trial {
+            alloc,
             device,
             manager,
             in_use: VecDeque::from(sets),
@@ -83,6 +86,36 @@ impl Trial {
         }
     }
 
+    /// Retires all sets in use at once. Those that come back are in use again.
+    pub fn retire_all(&mut self, frame: u64) -> Outcome {
+        let sets = mem::replace(&mut self.in_use, VecDeque::new(self.alloc));
+        match self.manager.retire_all(frame, Vec::from(sets)) {
+            Ok(()) => Outcome::Retired,
+            Err(RetireError::FrameBack(sets)) => {
+                self.in_use = VecDeque::from(sets);
+                Outcome::FrameBack(self.first())
+            }
+            Err(RetireError::Memory(sets)) => {
+                self.in_use = VecDeque::from(sets);
+                Outcome::Memory(self.first())
+            }
+        }
+    }
+
+    /// The name of the first set in use, and the greatest number where there is none.
+    fn first(&self) -> u64 {
+        match self.in_use.front() {
+            Some(set) => set.raw().id(),
+            None => u64::MAX,
+        }
+    }
+
+    /// Gives all sets in use back at once.
+    pub fn free_all(&mut self) {
+        let sets = mem::replace(&mut self.in_use, VecDeque::new(self.alloc));
+        self.manager.free_all(&mut self.device, Vec::from(sets));
+    }
+
     pub fn finish(&mut self, frame: u64) {
         self.manager.finish(&mut self.device, frame);
     }
@@ -97,6 +130,12 @@ impl Trial {
 pub enum Act<'a> {
     /// The first of the sets in use is retired at this frame, with this outcome.
     Retire(u64, Outcome),
+    /// All sets in use are retired at this frame at once, with this outcome.
+    RetireAll(u64, Outcome),
+    /// All sets in use go back at once.
+    FreeAll,
+    /// Room is taken for so many sets.
+    Reserve(usize),
     /// A frame is finished.
     Finish(u64),
     Cleanup,
@@ -139,6 +178,11 @@ pub fn expect_device(rt: &impl Abort, trial: &Trial, destroyed: u64, released: u
 fn make(rt: &impl Abort, trial: &mut Trial, next: Act<'_>) -> Result<(), Fail> {
     match next {
         Act::Retire(frame, wanted) => assert_eq!(rt; trial.retire(frame)?, wanted, "at {frame}"),
+        Act::RetireAll(frame, wanted) => {
+            assert_eq!(rt; trial.retire_all(frame), wanted, "at {frame}");
+        }
+        Act::FreeAll => trial.free_all(),
+        Act::Reserve(count) => trial.manager.reserve(count)?,
         Act::Finish(frame) => trial.finish(frame),
         Act::Cleanup => trial.cleanup(),
         Act::Pools(pools) => expect_pools(rt, trial, pools),

@@ -1,5 +1,5 @@
 -- What is outstanding and in use, when sets are retired and go back.
-use Rattle.std.proofs.Common.{◌≡◌, ℕ, ◌+◌, ◌-◌, ◌≤◌, List, ◌++◌, IfOk, OnErr, Result, Ok, Err, ap, ◌∙◌, arith}
+use Rattle.std.proofs.Common.{◌≡◌, ℕ, ◌+◌, ◌-◌, ◌≤◌, List, [], ◌++◌, IfOk, OnErr, Result, Ok, Err, ap, ◌∙◌, arith}
 use Rattle.std.specs.Global.{Vec}
 use Rattle.gpu_descriptor.specs.Model.Agreement.{AreOutstanding, Item, State, count_of, outstanding}
 use Rattle.gpu_descriptor.specs.Model.Promises.{AreOutBesides, KeepsOutstanding}
@@ -36,12 +36,28 @@ module _ {S : Type 0} (name : S → ℕ) (xs ys all : List (DescriptorSet S)) (i
 
 pub retires : {P S : Type 0} (pool_name : P → ℕ) (set_name : S → ℕ) (old new : FrameManager P S) (l : Ledger) (xs : List (DescriptorSet S)) → allocator_of new ≡ allocator_of old → retired_sets (retired_of new) ≡ retired_sets (retired_of old) ++ xs → AreRetiredOut pool_name set_name old l → AreInUse pool_name set_name (items_of set_name xs) old l → Retires pool_name set_name (items_of set_name xs) old new l
 retires pool_name set_name old new l xs same is out used =
-    let more = joins set_name (retired_sets (retired_of old)) xs (retired_sets (retired_of new)) is (state_in pool_name old l) out used in
+    let more = joins set_name (retired_sets (retired_of old)) xs (retired_sets (retired_of new)) is (state_in pool_name old l) out.out used.used in
     let as_before : (t : Item) → outstanding (state_in pool_name new l) t ≡ outstanding (state_in pool_name old l) t = λ t. ap (λ a. outstanding (state_of pool_name a l) t) same in
     record {
-      retired = λ t. (let e = as_before t in let m = more.0 t in omega arith);
+      retired = record { out = λ t. (let e = as_before t in let m = more.0 t in omega arith) };
       used = λ t. (let e = as_before t in let m = more.1 t in omega arith);
     }
+
+pub none_retired : {P S : Type 0} (pool_name : P → ℕ) (set_name : S → ℕ) (m : FrameManager P S) (l : Ledger) → retired_of m ≡ [] → AreRetiredOut pool_name set_name m l
+none_retired pool_name set_name m l is = record { out = λ t. (let none = ap (λ rs. count_of t (items_of set_name (retired_sets rs))) is in omega arith) }
+
+-- sets that come out join those in use
+pub together : {P S E : Type 0} (pool_name : P → ℕ) (set_name : S → ℕ) (r : Result (Vec (DescriptorSet S)) E) (old new : FrameManager P S) (before after : Ledger) → retired_of new ≡ retired_of old → IfOk r (λ sets. AreOutBesides (items_of set_name sets.items) (state_in pool_name old before) (state_in pool_name new after)) → AreRetiredOut pool_name set_name old before → IfOk r (λ sets. (used all : List (DescriptorSet S)) → all ≡ used ++ sets.items → AreInUse pool_name set_name (items_of set_name used) old before → AreInUse pool_name set_name (items_of set_name all) new after)
+together pool_name set_name (Ok sets) old new before after same more out = λ used all is are. record {
+  used = λ t. (
+      let both = count_whole set_name used sets.items all is t in
+      let came = more t in
+      let kept = ap (λ rs. count_of t (items_of set_name (retired_sets rs))) same in
+      let waiting = out.out t in
+      let first = are.used t in
+      omega arith);
+}
+together pool_name set_name (Err e) old new before after same more out = tt
 
 -- ---- calls of the allocator
 

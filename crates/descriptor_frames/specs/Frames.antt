@@ -49,8 +49,8 @@ module _ {P S : Type 0} where
 
     module _ (set_name : S → ℕ) where
       -- the retired sets together are outstanding
-      abbrev pub AreRetiredOut : FrameManager P S → Ledger → Type 0
-      AreRetiredOut m l = AreOutstanding (retired_items set_name m) (state_in m l)
+      pub record AreRetiredOut (m : FrameManager P S) (l : Ledger) : Type 0 where
+        pub out : AreOutstanding (retired_items set_name m) (state_in m l)
 
       -- the list, its room and the greatest frame stay, and retired sets that were outstanding still are
       pub record KeepsRetired (old new : FrameManager P S) (before after : Ledger) : Type 0 where
@@ -64,8 +64,8 @@ module _ {P S : Type 0} where
       in_use m l t = outstanding (state_in m l) t - count_of t (retired_items set_name m)
 
       -- the sets of the list, each as often as it stands there, are in use
-      abbrev pub AreInUse : List Item → FrameManager P S → Ledger → Type 0
-      AreInUse items m l = (t : Item) → count_of t items ≤ in_use m l t
+      pub record AreInUse (items : List Item) (m : FrameManager P S) (l : Ledger) : Type 0 where
+        pub used : (t : Item) → count_of t items ≤ in_use m l t
 
       -- the same sets are in use
       abbrev pub KeepsInUse : FrameManager P S → FrameManager P S → Ledger → Ledger → Type 0

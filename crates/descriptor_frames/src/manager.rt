@@ -1,8 +1,9 @@
 //! The manager: an allocator, and the sets that wait for the end of their frame.
 ghost use Rattle.std.specs.Prelude.{◌≡◌, ℕ, [], length};
+ghost use Rattle.gpu_descriptor_types.specs.Ledger.{Ledger};
 ghost use Rattle.gpu_descriptor.specs.Model.Books.{AddsUp, HasDistinctKeys, books_of};
 ghost use Rattle.gpu_descriptor.specs.Model.Load.{sets_out};
-ghost use Rattle.gpu_descriptor.specs.Caller.States.{outstanding_of, table_of};
+ghost use Rattle.gpu_descriptor.specs.Caller.States.{Agrees, outstanding_of, table_of};
 ghost use Rattle.descriptor_frames.specs.Retired.{AreInOrder};
 
 mod allocate;
@@ -13,7 +14,7 @@ mod retire;
 mod retire_all;
 
 use crate::retired::Retired;
-use gpu_descriptor::DescriptorAllocator;
+use gpu_descriptor::{DescriptorAllocator, laws};
 use std::alloc::Global;
 use std::collections::VecDeque;
 
@@ -32,7 +33,8 @@ pub struct FrameManager<P, S> {
 }
 
 impl<P, S> FrameManager<P, S> {
-    ghost use Rattle.descriptor_frames.specs.Frames.{allocator_of, greatest_of, retired_of};
+    ghost use Rattle.descriptor_frames.specs.Frames.{AreRetiredOut, allocator_of, greatest_of};
+    ghost use Rattle.descriptor_frames.specs.Frames.{retired_of};
 
     /// A manager without sets, whose allocator has this limit on update-after-bind descriptors. It
     /// takes no memory.
@@ -40,8 +42,16 @@ impl<P, S> FrameManager<P, S> {
         ensures allocator { allocator_of result
             ≡ record { limit = max; table = []; looks = 0; comparisons = 0 } }
         ensures list { retired_of result ≡ [] }
+
+        // On any device.
+        ensures agree { (pool_name : P → ℕ) (l : Ledger)
+            → Agrees pool_name (allocator_of result) l }
+        ensures retired { (pool_name : P → ℕ) (set_name : S → ℕ) (l : Ledger)
+            → AreRetiredOut pool_name set_name result l }
+
         ensures greatest { greatest_of result ≡ 0 }
     {
+        laws::books_alone();
         FrameManager {
             allocator: DescriptorAllocator::new(alloc, max),
             retired: VecDeque::new(alloc),

@@ -1,9 +1,9 @@
 //! Callers, each once with ample memory: that it succeeds, and what it leaves. No clause says that
 //! memory is there.
 ghost use Rattle.std.specs.Prelude.{◌≡◌};
-ghost use Rattle.gpu_descriptor_types.specs.Counts.{kinds};
 ghost use Rattle.gpu_descriptor.specs.Caller.States.{Agrees};
 ghost use Rattle.descriptor_script.specs.Scripted.Raw.{pool_id};
+ghost use Rattle.descriptor_script.specs.Scripted.Raw.{script_meaning};
 ghost use Rattle.descriptor_uses.specs.Layouts.{IsMeant};
 ghost use Rattle.descriptor_uses.specs.Logged.{ledger_logged};
 
@@ -24,9 +24,16 @@ use std::test::Fail;
 
 /// A plain layout of one sampler, as a request takes it.
 pub fn plain_layout() -> SetLayout<ScriptLayout>
-    ensures { IsMeant (λ l. kinds l.counts) (λ l. l.mark) result }
+    ensures { IsMeant script_meaning result }
 {
-    let layout = layout_of(1, false);
+    set_layout(false)
+}
+
+/// A layout of one sampler, as a request takes it.
+pub fn set_layout(mark: bool) -> SetLayout<ScriptLayout>
+    ensures { IsMeant script_meaning result }
+{
+    let layout = layout_of(1, mark);
     SetLayout {
         layout,
         counts: layout.counts,

@@ -5,12 +5,15 @@
 mod acts;
 #[cfg(test)]
 mod bench;
+pub mod budget;
 #[cfg(test)]
 mod callers;
 #[cfg(test)]
 mod capacity;
 #[cfg(test)]
 mod commands;
+#[cfg(test)]
+mod engines;
 #[cfg(test)]
 mod large;
 #[cfg(test)]

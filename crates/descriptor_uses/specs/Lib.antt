@@ -1,5 +1,7 @@
+pub mod Engines
 pub mod FewPools
 pub mod FrameRenderers
+pub mod FrameSets
 pub mod Layouts
 pub mod Log
 pub mod Logged

@@ -1,6 +1,7 @@
 //! A struct over a frame manager: a set is in use for a frame, and goes back when that is done.
-ghost use Rattle.std.specs.Prelude.{◌≡◌, ◌++◌, ◌↔◌, [], drop, length, map, take, true, Ok};
-ghost use Rattle.std.specs.Prelude.{IfOk, IsFalse, IsTrue};
+ghost use Rattle.std.specs.Prelude.{◌≡◌, ◌+◌, ◌≤◌, ◌++◌, ◌↔◌, [], drop, length, map, take, true};
+ghost use Rattle.std.specs.Prelude.{IfOk, IsFalse, IsTrue, Ok, OnErr, OnOk};
+ghost use Rattle.std.specs.VecDeque.{deque_capacity};
 ghost use Rattle.gpu_descriptor.specs.Caller.Sets.{items_of};
 ghost use Rattle.gpu_descriptor.specs.Caller.States.{Agrees, state_of};
 ghost use Rattle.gpu_descriptor.proofs.callers.OneAgreement.{Agree-prop};
@@ -10,38 +11,39 @@ ghost use Rattle.descriptor_uses.specs.Layouts.{IsMeant};
 
 use crate::layout::SetLayout;
 use descriptor_frames::FrameManager;
-use gpu_descriptor::{AllocationError, DescriptorDevice, DescriptorSet, laws};
+use gpu_descriptor::{AllocationError, DescriptorDevice, DescriptorSet};
 use std::alloc::Global;
 use std::collections::VecDeque;
 use std::marker::PhantomData;
 
 /// A device with a frame manager, and the sets that are in use, in the order in which they came.
 ///
-/// Its ghost fields are what the manager's calls ask, so only `begin` asks something: of the
-/// layout.
+/// Its ghost fields are what the manager's calls ask, so only `begin` and `add` ask something: of
+/// the layout.
 #[derive(Drop)]
 pub struct FrameRenderer<L, P, S, D: DescriptorDevice<L, P, S>> {
     device: D,
     manager: FrameManager<P, S>,
     in_use: VecDeque<DescriptorSet<S>>,
     layouts: PhantomData<L>,
-    ghost agree: { Agrees D.meaning.pool_name (allocator_of manager) (D.ledger device) } by {
-        Agree-prop (state_of D.meaning.pool_name (allocator_of manager) (D.ledger device)) },
-    ghost retired: { AreRetiredOut D.meaning.pool_name D.meaning.set_name manager (D.ledger device)
-        },
+    ghost agree: { Agrees D.meaning.pool_name (allocator_of manager)
+        (D.ledger device) } by { Agree-prop
+            (state_of D.meaning.pool_name (allocator_of manager) (D.ledger device)) },
+    ghost retired: { AreRetiredOut D.meaning.pool_name D.meaning.set_name manager
+        (D.ledger device) },
     ghost used: { AreInUse D.meaning.pool_name D.meaning.set_name
         (items_of D.meaning.set_name in_use.items) manager (D.ledger device) },
 }
 
 impl<L, P: Drop, S: Drop, D: DescriptorDevice<L, P, S>> FrameRenderer<L, P, S, D> {
     ghost use Rattle.descriptor_uses.specs.FrameRenderers.{retired_in, used_of};
+    ghost use Rattle.descriptor_uses.specs.Scenes.{Adds};
 
     /// A renderer without sets.
     pub fn new(alloc: Global, device: D) -> Self
         ensures in_use { used_of result ≡ [] }
         ensures retired { retired_in result ≡ [] }
     {
-        laws::books_alone();
         FrameRenderer {
             device,
             manager: FrameManager::new(alloc, u32::MAX),
@@ -62,6 +64,20 @@ impl<L, P: Drop, S: Drop, D: DescriptorDevice<L, P, S>> FrameRenderer<L, P, S, D
         if !self.in_use.is_empty() {
             return Ok(false);
         }
+        self.add(layout, count)?;
+        Ok(true)
+    }
+
+    /// Adds sets to those in use, all or none.
+    pub fn add(&mut self, layout: &SetLayout<L>, count: u32) -> Result<(), AllocationError>
+        requires { IsMeant D.meaning layout.now }
+        ensures added { OnOk result (Adds count (used_of self.old) (used_of self.new)) }
+        ensures stay { OnErr result (used_of self.new ≡ used_of self.old) }
+        ensures retired { retired_in self.new ≡ retired_in self.old }
+    {
+        if self.in_use.reserve(count as usize).is_err() {
+            return Err(AllocationError::OutOfHostMemory);
+        }
         let sets = self.manager.allocate(
             &mut self.device,
             &layout.layout,
@@ -69,8 +85,8 @@ impl<L, P: Drop, S: Drop, D: DescriptorDevice<L, P, S>> FrameRenderer<L, P, S, D
             &layout.counts,
             count,
         )?;
-        self.in_use = VecDeque::from(sets);
-        Ok(true)
+        put(&mut self.in_use, sets);
+        Ok(())
     }
 
     /// Retires the oldest set in use at this frame, if there is one. A set that can't be retired is
@@ -101,5 +117,16 @@ impl<L, P: Drop, S: Drop, D: DescriptorDevice<L, P, S>> FrameRenderer<L, P, S, D
     {
         self.manager.finish(&mut self.device, frame);
         self.manager.cleanup(&mut self.device);
+    }
+}
+
+/// Puts sets behind those of a list, over room that was taken.
+fn put<S: Drop>(list: &mut VecDeque<DescriptorSet<S>>, sets: Vec<DescriptorSet<S>>)
+    requires { length list.old.items + length sets.items ≤ deque_capacity list.old }
+    ensures { list.new.items ≡ list.old.items ++ sets.items }
+{
+    match list.append(&mut VecDeque::from(sets)) {
+        Ok(()) => {}
+        Err(_) => unreachable!(),
     }
 }

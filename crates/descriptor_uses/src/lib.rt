@@ -3,8 +3,10 @@
 
 pub mod batches;
 pub mod drawing;
+pub mod engine;
 pub mod few_pools;
 pub mod frame_renderer;
+pub mod frames;
 mod layout;
 mod log;
 mod log_device;

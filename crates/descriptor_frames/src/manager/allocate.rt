@@ -1,5 +1,5 @@
 //! Handing sets out.
-ghost use Rattle.std.specs.Prelude.{◌≡◌, IfOk, OnErr};
+ghost use Rattle.std.specs.Prelude.{◌≡◌, ◌++◌, List, IfOk, OnErr};
 ghost use Rattle.gpu_descriptor_types.specs.Counts.{kinds};
 ghost use Rattle.gpu_descriptor_types.specs.Side.{side};
 ghost use Rattle.gpu_descriptor.specs.Caller.HandsOut.{HandsOut};
@@ -16,8 +16,9 @@ use gpu_descriptor::{
 };
 
 impl<P: Drop, S: Drop> FrameManager<P, S> {
-    ghost use Rattle.descriptor_frames.specs.Frames.{AreRetiredOut, BringsIntoUse, KeepsInUse};
-    ghost use Rattle.descriptor_frames.specs.Frames.{KeepsRetired, allocator_of};
+    ghost use Rattle.gpu_descriptor.specs.declared.set.DescriptorSet.{DescriptorSet};
+    ghost use Rattle.descriptor_frames.specs.Frames.{AreInUse, AreRetiredOut, BringsIntoUse};
+    ghost use Rattle.descriptor_frames.specs.Frames.{KeepsInUse, KeepsRetired, allocator_of};
 
     /// Allocates sets, as `DescriptorAllocator::allocate` does. The retired sets stay.
     pub fn allocate<L, D: DescriptorDevice<L, P, S>>(
@@ -45,6 +46,15 @@ impl<P: Drop, S: Drop> FrameManager<P, S> {
             (D.ledger device.old) → IfOk result (λ sets. BringsIntoUse D.meaning.pool_name
             D.meaning.set_name (items_of D.meaning.set_name sets.items) self.old self.new
             (D.ledger device.old) (D.ledger device.new)) }
+
+        // What was in use before and the answer are in use together.
+        ensures together { AreRetiredOut D.meaning.pool_name D.meaning.set_name self.old
+            (D.ledger device.old) → IfOk result (λ sets. (used all : List (DescriptorSet S)) → all ≡
+            used ++ sets.items → AreInUse D.meaning.pool_name D.meaning.set_name
+            (items_of D.meaning.set_name used) self.old (D.ledger device.old) → AreInUse
+            D.meaning.pool_name D.meaning.set_name (items_of D.meaning.set_name all) self.new
+            (D.ledger device.new)) }
+
         ensures in_use_stay { OnErr result (KeepsInUse D.meaning.pool_name D.meaning.set_name
             self.old self.new (D.ledger device.old) (D.ledger device.new)) }
     {

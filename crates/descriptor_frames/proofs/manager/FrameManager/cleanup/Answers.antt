@@ -8,7 +8,7 @@ returns-clause-retired g c = record {
   list = refl;
   room = refl;
   greatest = refl;
-  outstanding = λ out t. (let a = out t in let b = c.cleanup.ensures.cleans_up.outstanding_stay t in omega arith);
+  outstanding = λ o. record { out = λ t. (let a = o.out t in let b = c.cleanup.ensures.cleans_up.outstanding_stay t in omega arith) };
 }
 
 pub returns-clause-in_use : goal.returns-clause-in_use

@@ -14,7 +14,7 @@ use Rattle.descriptor_frames.proofs.manager.FrameManager.finish.Goals as goal
 
 pub free_from-requires-clause-outstanding : goal.free_from-requires-clause-outstanding
 free_from-requires-clause-outstanding g c xs t y =
-    out_front g.D.DescriptorDevice.meaning.set_name xs (retired_sets t.retired.now.items) (retired_sets (retired_of c.args.self.now)) (state_in g.D.DescriptorDevice.meaning.pool_name c.args.self.now (g.D.DescriptorDevice.ledger c.args.device.now)) (stood_before xs _ t y) c.requires.retired
+    out_front g.D.DescriptorDevice.meaning.set_name xs (retired_sets t.retired.now.items) (retired_sets (retired_of c.args.self.now)) (state_in g.D.DescriptorDevice.meaning.pool_name c.args.self.now (g.D.DescriptorDevice.ledger c.args.device.now)) (stood_before xs _ t y) c.requires.retired.out
 
 pub shape_of-self : goal.shape_of-self
 shape_of-self g c = sym (same_list_then c.free_from.ensures.frees)
@@ -73,7 +73,7 @@ list_parts g c =
 pub returns-clause-retired : goal.returns-clause-retired
 returns-clause-retired g c =
     let a = goal.at.returns-clause-retired g c in
-    later_out g.D.DescriptorDevice.meaning.set_name c.free_from.ensures.frees.sets _ _ (list_parts g a.After-end) (before g a.After-end) (after g a.After-end) c.free_from.ensures.frees.returns.back.returned c.requires.retired
+    record { out = later_out g.D.DescriptorDevice.meaning.set_name c.free_from.ensures.frees.sets _ _ (list_parts g a.After-end) (before g a.After-end) (after g a.After-end) c.free_from.ensures.frees.returns.back.returned c.requires.retired.out }
 
 pub returns-clause-in_use : goal.returns-clause-in_use
 returns-clause-in_use g c =

@@ -6,8 +6,8 @@ returns-clause-retired g c = record {
   list = refl;
   room = refl;
   greatest = refl;
-  outstanding = λ out t. (let a = out t in let b = c.free_all.ensures.returns.back.returned t in let u = c.requires.in_use t in omega arith);
+  outstanding = λ o. record { out = λ t. (let a = o.out t in let b = c.free_all.ensures.returns.back.returned t in let u = c.requires.in_use.used t in omega arith) };
 }
 
 pub returns-clause-in_use : goal.returns-clause-in_use
-returns-clause-in_use g c t = (let b = c.free_all.ensures.returns.back.returned t in let u = c.requires.in_use t in omega arith)
+returns-clause-in_use g c t = (let b = c.free_all.ensures.returns.back.returned t in let u = c.requires.in_use.used t in omega arith)
