@@ -1,7 +1,7 @@
 -- The definitions at one state, worked out by the check. A plain key has six pools: two empty ones at the front, one
 -- with a set, an empty one behind it, one with a set, and an empty one at the end. A marked key has two
 -- pools, both empty. One pool of the ledger is somebody else's.
-use Rattle.std.specs.Prelude.{◌≡◌, ℕ, ◌==◌, Bool, true, false, List, [], ◌∷◌, Option, Some, None, is_some, if◌then◌else◌, filter, map, replicate, refl}
+use Rattle.std.specs.Prelude.{◌≡◌, ℕ, ◌==◌, Bool, true, false, List, [], ◌∷◌, Some, None, is_some, if◌then◌else◌, filter, map, replicate, refl}
 use Rattle.std.specs.List.{list_any}
 use Rattle.gpu_descriptor_types.specs.Ledger.{Pool}
 use Rattle.gpu_descriptor_types.specs.Multiset.{LiveSet, set_eq}

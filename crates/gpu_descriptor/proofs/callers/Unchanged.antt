@@ -1,5 +1,5 @@
 -- What calls keep where nothing changed, and one after another.
-use Rattle.std.proofs.Common.{◌≡◌, ◌≤◌, ℕ, sym, ap, subst, ◌∙◌}
+use Rattle.std.proofs.Common.{◌≡◌, ◌≤◌, sym, ap, subst, ◌∙◌}
 use Rattle.gpu_descriptor_types.specs.Side.{side}
 use Rattle.gpu_descriptor_types.specs.Meaning.{Meaning}
 use Rattle.gpu_descriptor_types.specs.Ledger.{Ledger}

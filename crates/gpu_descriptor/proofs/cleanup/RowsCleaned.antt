@@ -22,7 +22,7 @@ use Rattle.gpu_descriptor.specs.Model.Release.{more_destroyed, empty_front, in_f
 use Rattle.gpu_descriptor.specs.Model.Cleanup.{cleaned_bucket, IsCleaned, pools_cleaned}
 use Rattle.gpu_descriptor.specs.Caller.KeyOf.{key_of}
 use Rattle.gpu_descriptor.specs.Caller.States.{named_row, state_of, keys_of}
-use Rattle.gpu_descriptor.specs.Inner.Stored.{row_of, entry_of, bucket_of, stored_keys, load_in, stored_load, stored_load_in, IsConsistent}
+use Rattle.gpu_descriptor.specs.Inner.Stored.{row_of, entry_of, bucket_of, stored_keys, stored_load, IsConsistent}
 use Rattle.gpu_descriptor.specs.Caller.Values.{Allocations}
 use Rattle.gpu_descriptor.proofs.lists.AtPlaces.{found_before, none_at}
 use Rattle.gpu_descriptor.proofs.cleanup.Cleaning.{cleaned_cases}
@@ -30,7 +30,7 @@ use Rattle.gpu_descriptor.proofs.table.Exact.{key_exact}
 use Rattle.gpu_descriptor.proofs.release.Fronts.{whole_front, whole_trimmed, entry_at-from}
 use Rattle.gpu_descriptor.proofs.release.ReleaseAgrees.{front_found}
 use Rattle.gpu_descriptor.proofs.foreign.LedgerPools.{destroyed_both, destroyed_none}
-use Rattle.gpu_descriptor.proofs.sums.Loads.{marked_load-none, sum_put}
+use Rattle.gpu_descriptor.proofs.sums.Loads.{load_in, marked_load-none, rows_load, rows_out, rows_pool_load, stored_load_in, sum_put}
 use Rattle.gpu_descriptor.proofs.table.RowAt.{keys_at}
 use Rattle.gpu_descriptor.proofs.table.TableBooks.{rows_in, rows_are, keys_are}
 use Rattle.gpu_descriptor.proofs.table.Tables.{key_eq_symm, absent}
@@ -325,17 +325,17 @@ module _ {P : Type 0} where
   pub counted_put : (limit marked room left out : ℕ) (es : List (BucketKey × DescriptorBucket P)) (i : ℕ) (k : BucketKey) (v w : DescriptorBucket P) → slice_get es i ≡ Some (k, v) → w.total ≡ v.total → left + stored_load_in (k, w) ≡ room + stored_load_in (k, v) → IsConsistent limit marked room out es → IsConsistent limit marked left out (set_value_at es i w)
   counted_put limit marked room left out es i k v w at same moved counted = record {
     distinct = subst (IsDistinct key_eq) (sym (keys_at es i w)) counted.distinct;
-    is_room = (let put = (sum_put (stored_load_in {P = P}) es i k v w at).1 in let was = counted.is_room in omega arith);
-    is_load = (let put = (sum_put (load_in {P = P}) es i k v w at).1 in let alike = ap (marked_load (key_of k)) same in let was = counted.is_load in omega arith);
+    is_room = (let put = (sum_put (stored_load_in {P = P}) es i k v w at).1 in let old = rows_pool_load es in let new = rows_pool_load (set_value_at es i w) in let was = counted.is_room in omega arith);
+    is_load = (let put = (sum_put (load_in {P = P}) es i k v w at).1 in let old = rows_load es in let new = rows_load (set_value_at es i w) in let alike = ap (marked_load (key_of k)) same in let was = counted.is_load in omega arith);
     within = counted.within;
-    is_out = (let put = (sum_put (λ (r : BucketKey × DescriptorBucket P). r.1.total) es i k v w at).1 in let was = counted.is_out in omega arith);
+    is_out = (let put = (sum_put (λ (r : BucketKey × DescriptorBucket P). r.1.total) es i k v w at).1 in let old = rows_out es in let new = rows_out (set_value_at es i w) in let was = counted.is_out in omega arith);
   }
 
   pub counted_filter : (limit marked room out : ℕ) (es fs : List (BucketKey × DescriptorBucket P)) → fs ≡ filter (λ e. has_pools e.1) es → IsDistinct key_eq (stored_keys fs) → IsConsistent limit marked room out es → IsConsistent limit marked room out fs
   counted_filter limit marked room out es fs kept distinct counted = rw kept (record {
     distinct = subst (λ (l : List (BucketKey × DescriptorBucket P)). IsDistinct key_eq (stored_keys l)) kept distinct;
-    is_room = ap (λ n. room + n) (sum_filter stored_load_in (λ e. has_pools e.1) (λ e none. ap (λ ps. stored_load (key_of e.0) ps) (empty_bucket e.1 none)) es) ∙ counted.is_room;
-    is_load = counted.is_load ∙ sym (sum_filter load_in (λ e. has_pools e.1) (λ e none. ap (marked_load (key_of e.0)) (none_out e.1 none) ∙ marked_load-none (key_of e.0)) es);
+    is_room = ap (λ n. room + n) (rows_pool_load (filter (λ e. has_pools e.1) es) ∙ sum_filter stored_load_in (λ e. has_pools e.1) (λ e none. ap (λ ps. stored_load (key_of e.0) ps) (empty_bucket e.1 none)) es ∙ sym (rows_pool_load es)) ∙ counted.is_room;
+    is_load = counted.is_load ∙ sym (rows_load (filter (λ e. has_pools e.1) es) ∙ sum_filter load_in (λ e. has_pools e.1) (λ e none. ap (marked_load (key_of e.0)) (none_out e.1 none) ∙ marked_load-none (key_of e.0)) es ∙ sym (rows_load es));
     within = counted.within;
-    is_out = counted.is_out ∙ sym (sum_filter (λ (r : BucketKey × DescriptorBucket P). r.1.total) (λ e. has_pools e.1) (λ e none. none_out e.1 none) es);
+    is_out = counted.is_out ∙ sym (rows_out (filter (λ e. has_pools e.1) es) ∙ sum_filter (λ (r : BucketKey × DescriptorBucket P). r.1.total) (λ e. has_pools e.1) (λ e none. none_out e.1 none) es ∙ sym (rows_out es));
   })

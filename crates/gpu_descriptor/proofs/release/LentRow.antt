@@ -27,7 +27,7 @@ use Rattle.gpu_descriptor.proofs.release.WholeRun.{trimmed_pools, taken_of, whol
 
 module _ {P S : Type 0} (name : P → ℕ) (set_name : S → ℕ) (a : Allocations P) (l : Ledger) (es : List (BucketKey × DescriptorBucket P)) (is : a.table ≡ map row_of es) (agree : Agree (state_of name a l)) (x : DescriptorSet S)
     (test : BucketKey → Bool) (same : (k : BucketKey) → test k ≡ key_eq x.key.is (key_of k)) where
-  books_are : (state_of name a l).books ≡ books_in name es
+  books_are : (state_of name a l).books ≡ books_in name (map row_of es)
   books_are = ap (λ (t : List _). books_of (map (named_row name) t)) is
 
   at_key : (o : Option (DescriptorBucket P)) → lookup test es ≡ o → (state_of name a l).books x.key.is ≡ option_map_or (bucket_of name) o no_pools
@@ -62,7 +62,7 @@ module _ {P S : Type 0} (name : P → ℕ) (set_name : S → ℕ) (a : Allocatio
           let k = x.key.is in
           let into = here in
           let some : IsSome (lookup test es) = rw found refl in
-          let books : (state_of name new after).books ≡ put_books s.books k (bucket_of name w) = ap (books_in name) wrote ∙ fun_ext (written name test k same es w some) ∙ ap (λ (f : Key → Bucket). put_books f k (bucket_of name w)) (sym books_are) in
+          let books : (state_of name new after).books ≡ put_books s.books k (bucket_of name w) = ap (λ (x : List (BucketKey × DescriptorBucket P)). books_in name (map row_of x)) wrote ∙ fun_ext (written name test k same es w some) ∙ ap (λ (f : Key → Bucket). put_books f k (bucket_of name w)) (sym books_are) in
           let b = bucket_back (s.books k) x.number (length (names_of set_name (x ∷ xs))) into.entry in
           let pools : after.pools ≡ trimmed_pools b (taken_from l.pools into.entry.pool (live_sets k.counts (names_of set_name (x ∷ xs)))) = ap (λ (m : Ledger). m.pools) into.ledger ∙ ap (trimmed_pools b) (release_pools into.entry.pool (live_sets k.counts (names_of set_name (x ∷ xs))) l) in
           let left : state_of name new after ≡ record { books = put_books s.books k (bucket_of name w); ledger = after.pools } = λ i. record { books = books i; ledger = after.pools } in

@@ -5,7 +5,6 @@ use Rattle.std.proofs.Math.Path.{fun_ext}
 use Rattle.std.proofs.lemmas.Bool.{cases_Bool}
 use Rattle.gpu_descriptor.specs.Model.Agreement.{set_of, State, Item, count_of, Agree}
 use Rattle.gpu_descriptor.specs.Model.Books.{Key, Entry, entry_at}
-use Rattle.gpu_descriptor.specs.Inner.Buckets.{HasDistinctNames}
 use Rattle.gpu_descriptor.specs.Model.Release.{lies_in, entry_less, given_back}
 use Rattle.gpu_descriptor_types.specs.Multiset.{LiveSet, set_eq}
 use Rattle.gpu_descriptor.proofs.release.Fronts.{entry_at-from}
@@ -51,6 +50,10 @@ untouched_rest n pool [] h = refl
 untouched_rest n pool (x ∷ es) h =
     let head : entry_less (if pool == x.pool then n else 0) x ≡ x = rw (ne_eqb pool x.pool (h 0 x refl)) (less_none x) in
     λ i. head i ∷ untouched_rest n pool es (λ j. h (suc j)) i
+
+-- no name stands at two places
+abbrev pub HasDistinctNames : List Entry → Type 0
+HasDistinctNames es = (i j : ℕ) (d e : Entry) → slice_get es i ≡ Some d → slice_get es j ≡ Some e → d.pool ≡ e.pool → i ≡ j
 
 -- the one entry that changes
 pub less_at : (n : ℕ) (es : List Entry) (j : ℕ) (e : Entry) → HasDistinctNames es → slice_get es j ≡ Some e → map (λ d. entry_less (if e.pool == d.pool then n else 0) d) es ≡ set es j (entry_less n e)

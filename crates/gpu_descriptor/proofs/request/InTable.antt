@@ -1,5 +1,5 @@
 -- What a request takes of one key, in the table of keys.
-use Rattle.std.proofs.Common.{◌≡◌, ℕ, ◌+◌, ◌≤◌, Bool, true, false, List, [], ◌∷◌, ◌++◌, length, Option, Some, None, is_some, Result, Ok, Err, inl, inr, refl, sym, ap, ◌∙◌, subst, arith, ◌-◌, ◌&&◌, lt-ltb, le-ltb}
+use Rattle.std.proofs.Common.{◌≡◌, ℕ, ◌+◌, ◌≤◌, Bool, true, false, List, [], ◌∷◌, ◌++◌, length, Option, Some, None, is_some, Result, Ok, Err, inl, inr, refl, sym, ap, ◌∙◌, subst, arith, ◌-◌, ◌&&◌, lt-ltb, le-ltb, map}
 use Rattle.std.specs.Map.{lookup, set_value}
 use Rattle.std.specs.Option.{option_map_or}
 use Rattle.std.specs.Prelude.{nat_lt, sum_by, if◌then◌else◌}
@@ -14,18 +14,18 @@ use Rattle.gpu_descriptor.specs.declared.bucket.DescriptorBucket.{DescriptorBuck
 use Rattle.gpu_descriptor.specs.declared.bucket.take.Stop.{Stop}
 use Rattle.gpu_descriptor.specs.Model.Books.{Key, key_eq, Bucket, no_pools}
 use Rattle.gpu_descriptor.specs.Caller.KeyOf.{key_of}
-use Rattle.gpu_descriptor.specs.Inner.Stored.{books_in, bucket_of, load_in}
+use Rattle.gpu_descriptor.specs.Inner.Stored.{books_in, bucket_of, row_of}
 use Rattle.gpu_descriptor.specs.Inner.Walk.{HasTaken}
 use Rattle.gpu_descriptor.specs.Model.Grants.{Grant, IsGrantOf}
 use Rattle.gpu_descriptor.specs.Model.Agreement.{Item}
 use Rattle.gpu_descriptor.specs.Inner.Serves.{IsServed, ServesKey}
 use Rattle.gpu_descriptor.proofs.table.Exact.{key_exact}
-use Rattle.gpu_descriptor.proofs.sums.Loads.{IsRow, IsWritten, sum_set, marked_load-add}
+use Rattle.gpu_descriptor.proofs.sums.Loads.{IsRow, IsWritten, load_in, sum_set, marked_load-add, rows_out, rows_load}
 use Rattle.gpu_descriptor.proofs.table.TableBooks.{put_books, written, looked_up, row_bucket}
 
 -- a new key goes last
 books_end : {P : Type 0} (name : P → ℕ) (k : BucketKey) (w : DescriptorBucket P) (test : BucketKey → Bool) → ((l : BucketKey) → test l ≡ key_eq (key_of k) (key_of l)) → (es : List (BucketKey × DescriptorBucket P)) → lookup test es ≡ None → (l : Key)
-    → books_in name (es ++ (k, w) ∷ []) l ≡ put_books (books_in name es) (key_of k) (bucket_of name w) l
+    → books_in name (map row_of (es ++ (k, w) ∷ [])) l ≡ put_books (books_in name (map row_of es)) (key_of k) (bucket_of name w) l
 books_end name k w test same [] none l = ap (λ (b : Bucket). if key_eq (key_of k) l then b else no_pools) (row_bucket name (k, w))
 books_end {P} name k w test same (e ∷ es) none l = elim (cases_Bool (test e.0)) [
   | inl at ↦ (let found : Some e.1 ≡ None = rw at at none in absurd (cc))
@@ -41,11 +41,11 @@ books_end {P} name k w test same (e ∷ es) none l = elim (cases_Bool (test e.0)
 ]
 
 -- a key that is there
-pub present : {P : Type 0} (name : P → ℕ) {k : Key} {es : List (BucketKey × DescriptorBucket P)} {v : DescriptorBucket P} → IsRow k es v → books_in name es k ≡ bucket_of name v
+pub present : {P : Type 0} (name : P → ℕ) {k : Key} {es : List (BucketKey × DescriptorBucket P)} {v : DescriptorBucket P} → IsRow k es v → books_in name (map row_of es) k ≡ bucket_of name v
 present {P} name {k} {es} row = looked_up name row.test k row.same es ∙ ap (λ (o : Option (DescriptorBucket P)). option_map_or (bucket_of name) o no_pools) row.at
 
 -- a key that isn't
-pub missing : {P : Type 0} (name : P → ℕ) (k : Key) (es : List (BucketKey × DescriptorBucket P)) (test : BucketKey → Bool) → ((l : BucketKey) → test l ≡ key_eq k (key_of l)) → lookup test es ≡ None → books_in name es k ≡ no_pools
+pub missing : {P : Type 0} (name : P → ℕ) (k : Key) (es : List (BucketKey × DescriptorBucket P)) (test : BucketKey → Bool) → ((l : BucketKey) → test l ≡ key_eq k (key_of l)) → lookup test es ≡ None → books_in name (map row_of es) k ≡ no_pools
 missing {P} name k es test same at = looked_up name test k same es ∙ ap (λ (o : Option (DescriptorBucket P)). option_map_or (bucket_of name) o no_pools) at
 
 load_grows : {P : Type 0} (k l : BucketKey) (v w : DescriptorBucket P) (n : ℕ) → key_of l ≡ key_of k → w.total ≡ v.total + n → load_in (l, w) ≡ load_in (l, v) + marked_load (key_of k) n
@@ -66,10 +66,10 @@ served_new {ended = Err why} s = record { numbers = s.numbers; few = s.few; take
 -- what one key gave, in the table
 module _ {L P S : Type 0} {means : Meaning L P S} (k : BucketKey) (w : DescriptorBucket P) {old : Bucket} {room count : ℕ} {sets : List (DescriptorSet S)} {ended : Result (Unit {0}) Stop} {before after : Ledger}
     (s : IsServed means (key_of k) room count sets ended old (bucket_of means.pool_name w) before after) where
-  module _ {had : ℕ} (total : w.total ≡ had + length sets) {es fs : List (BucketKey × DescriptorBucket P)} where
-    pub serves_present : {v : DescriptorBucket P} → bucket_of means.pool_name v ≡ old → v.total ≡ had → IsWritten (key_of k) es fs v w → ServesKey means k room count sets ended es fs before after
+  module _ {had : ℕ} (total : w.total ≡ had + length sets) (es : List (BucketKey × DescriptorBucket P)) {fs : List (BucketKey × DescriptorBucket P)} where
+    pub serves_present : {v : DescriptorBucket P} → bucket_of means.pool_name v ≡ old → v.total ≡ had → IsWritten (key_of k) es fs v w → ServesKey means (key_of k) room count sets ended (map row_of es) (map row_of fs) before after
     serves_present {v} was many r =
-        let here : books_in means.pool_name es (key_of k) ≡ old = present means.pool_name r.row ∙ was in
+        let here : books_in means.pool_name (map row_of es) (key_of k) ≡ old = present means.pool_name r.row ∙ was in
         let out = sum_set (λ b. b.1.total) r.row.test es v w r.row.at in
         let load = sum_set load_in r.row.test es v w r.row.at in
         let key : key_of load.0 ≡ key_of k = sym (key_exact.same (key_of k) (key_of load.0) (sym (r.row.same load.0) ∙ load.1)) in
@@ -78,19 +78,19 @@ module _ {L P S : Type 0} {means : Meaning L P S} (k : BucketKey) (w : Descripto
           bucket = bucket_of means.pool_name w;
           served = subst (λ (b : Bucket). IsServed means (key_of k) room count sets ended b (bucket_of means.pool_name w) before after) (sym here) s;
           books = written means.pool_name r.row.test (key_of k) r.row.same es w (ap is_some r.row.at);
-          out = (let a = out.2 in let b = out.3 in omega arith);
-          load = (let a = load.2 in let b = load.3 in omega arith);
+          out = (let a = out.2 in let b = out.3 in let was = rows_out es in let is = rows_out (set_value r.row.test es w) in omega arith);
+          load = (let a = load.2 in let b = load.3 in let was = rows_load es in let is = rows_load (set_value r.row.test es w) in omega arith);
         })
 
-    pub serves_new : (test : BucketKey → Bool) → ((l : BucketKey) → test l ≡ key_eq (key_of k) (key_of l)) → lookup test es ≡ None → fs ≡ es ++ (k, w) ∷ [] → old ≡ record no_pools { id = old.id } → had ≡ 0 → ServesKey means k room count sets ended es fs before after
+    pub serves_new : (test : BucketKey → Bool) → ((l : BucketKey) → test l ≡ key_eq (key_of k) (key_of l)) → lookup test es ≡ None → fs ≡ es ++ (k, w) ∷ [] → old ≡ record no_pools { id = old.id } → had ≡ 0 → ServesKey means (key_of k) room count sets ended (map row_of es) (map row_of fs) before after
     serves_new test same at put empty none =
         let gone = missing means.pool_name (key_of k) es test same at in
         rw put (record {
           bucket = bucket_of means.pool_name w;
           served = subst (λ (b : Bucket). IsServed means (key_of k) room count sets ended b (bucket_of means.pool_name w) before after) (sym gone) (served_new (subst (λ (b : Bucket). IsServed means (key_of k) room count sets ended b (bucket_of means.pool_name w) before after) empty s));
           books = books_end means.pool_name k w test same es at;
-          out = (let a = sum_by-append (λ (r : BucketKey × DescriptorBucket P). r.1.total) es ((k, w) ∷ []) in let one : sum_by (λ (r : BucketKey × DescriptorBucket P). r.1.total) ((k, w) ∷ []) ≡ w.total = omega arith in omega arith);
-          load = (let a = sum_by-append load_in es ((k, w) ∷ []) in let one : sum_by load_in ((k, w) ∷ []) ≡ marked_load (key_of k) w.total = omega arith in let n : w.total ≡ length sets = omega arith in let e = ap (marked_load (key_of k)) n in omega arith);
+          out = (let was = rows_out es in let is = rows_out (es ++ (k, w) ∷ []) in let a = sum_by-append (λ (r : BucketKey × DescriptorBucket P). r.1.total) es ((k, w) ∷ []) in let one : sum_by (λ (r : BucketKey × DescriptorBucket P). r.1.total) ((k, w) ∷ []) ≡ w.total = omega arith in omega arith);
+          load = (let was = rows_load es in let is = rows_load (es ++ (k, w) ∷ []) in let a = sum_by-append load_in es ((k, w) ∷ []) in let one : sum_by load_in ((k, w) ∷ []) ≡ marked_load (key_of k) w.total = omega arith in let n : w.total ≡ length sets = omega arith in let e = ap (marked_load (key_of k)) n in omega arith);
         })
 
 -- a write of what is there

@@ -1,5 +1,5 @@
 -- The walk over the open pools: the pools between them have nothing to give.
-use Rattle.std.proofs.Common.{◌≡◌, ℕ, suc, ◌+◌, ◌-◌, ◌<◌, ◌≤◌, List, [], ◌∷◌, ◌++◌, length, get_or, min, slice_set, nat_lt, true, Bool, ◌&&◌, if◌then◌else◌, Option, Some, None, Err, refl, sym, ap, ◌∙◌, subst, arith, inl, inr}
+use Rattle.std.proofs.Common.{◌≡◌, ℕ, suc, ◌+◌, ◌-◌, ◌<◌, ◌≤◌, List, [], ◌∷◌, ◌++◌, length, get_or, min, slice_set, nat_lt, true, Bool, ◌&&◌, if◌then◌else◌, Option, Some, None, Err, refl, sym, ap, ◌∙◌, subst, arith, inl, inr, map}
 use Rattle.std.proofs.lemmas.List.{length-map, map-set, length-set}
 use Rattle.std.proofs.lemmas.Option.{slice_get-map, slice_get_read, slice_get_within, slice_get-get_or}
 use Rattle.std.proofs.lemmas.Bool.{lt-ltb, cases_lt}
@@ -12,7 +12,7 @@ use Rattle.gpu_descriptor.specs.Model.Books.{Key, Entry}
 use Rattle.gpu_descriptor.specs.Inner.Buckets.{AreBookedIn, IsBookedIn}
 use Rattle.gpu_descriptor.specs.Inner.OpenNumbers.{free_in, open_numbers}
 use Rattle.gpu_descriptor.specs.Inner.Stored.{entry_of}
-use Rattle.gpu_descriptor.specs.Inner.Walk.{entries_of, IsAsked, IsNoMemory}
+use Rattle.gpu_descriptor.specs.Inner.Walk.{IsAsked, IsNoMemory}
 use Rattle.gpu_descriptor.specs.Inner.Grow.{IsTaken}
 use Rattle.gpu_descriptor.specs.declared.bucket.take.Stop.TheVariants.{Existing}
 use Rattle.gpu_descriptor.specs.Model.Grants.{items_at}
@@ -29,12 +29,12 @@ pub record OpenWalk {P : Type 0} (name : P → ℕ) (k : Key) (n id first wantin
   pub listed : numbers ≡ open_numbers first (free_in items)
   pub left : ℕ
   pub within : left ≤ length old
-  pub closed : (j : ℕ) (e : Entry) → left ≤ j → slice_get (entries_of name items) j ≡ Some e → min wanting e.free ≡ 0
-  pub walking : Walking k n id first left wanting out old (entries_of name items) l m
+  pub closed : (j : ℕ) (e : Entry) → left ≤ j → slice_get (map (entry_of name) items) j ≡ Some e → min wanting e.free ≡ 0
+  pub walking : Walking k n id first left wanting out old (map (entry_of name) items) l m
 
 module _ {P : Type 0} {name : P → ℕ} {k : Key} {n id first wanting : ℕ} {out : List Item} {old : List Entry} {items : List (DescriptorPool P)} {numbers : List ℕ} {l m : Ledger}
     (booked : AreBookedIn k l.pools old) (s : OpenWalk name k n id first wanting out old items numbers l m) where
-  free_get : (j : ℕ) (e : Entry) → slice_get (entries_of name items) j ≡ Some e → slice_get (free_in items) j ≡ Some e.free
+  free_get : (j : ℕ) (e : Entry) → slice_get (map (entry_of name) items) j ≡ Some e → slice_get (free_in items) j ≡ Some e.free
   free_get j e at = by_pool (slice_get items j) refl
     where
       by_pool : (o : Option (DescriptorPool P)) → slice_get items j ≡ o → slice_get (free_in items) j ≡ Some e.free
@@ -45,12 +45,12 @@ module _ {P : Type 0} {name : P → ℕ} {k : Key} {n id first wanting : ℕ} {o
           slice_get-map (λ p. p.available) items j ∙ ap (option_map (λ p. p.available)) is ∙ ap (λ (d : Entry). Some d.free) b
 
   -- where nothing is wanting the older pools are left
-  pub walk_sated : wanting ≡ 0 → Walking k n id first 0 wanting out old (entries_of name items) l m
-  walk_sated none = walk_gap k n id first wanting out old (entries_of name items) l m booked s.left 0 s.left (omega arith) s.within (λ j e le lt at. omega arith) s.walking
+  pub walk_sated : wanting ≡ 0 → Walking k n id first 0 wanting out old (map (entry_of name) items) l m
+  walk_sated none = walk_gap k n id first wanting out old (map (entry_of name) items) l m booked s.left 0 s.left (omega arith) s.within (λ j e le lt at. omega arith) s.walking
 
   -- where no pool is open they have nothing
-  pub walk_empty : numbers ≡ [] → Walking k n id first 0 wanting out old (entries_of name items) l m
-  walk_empty none = walk_gap k n id first wanting out old (entries_of name items) l m booked s.left 0 s.left (omega arith) s.within (λ j e le lt at. (let z = open_all_none first (free_in items) (sym s.listed ∙ none) j e.free (free_get j e at) in omega arith)) s.walking
+  pub walk_empty : numbers ≡ [] → Walking k n id first 0 wanting out old (map (entry_of name) items) l m
+  walk_empty none = walk_gap k n id first wanting out old (map (entry_of name) items) l m booked s.left 0 s.left (omega arith) s.within (λ j e le lt at. (let z = open_all_none first (free_in items) (sym s.listed ∙ none) j e.free (free_get j e at) in omega arith)) s.walking
 
   module _ (some : 0 < wanting) (front : List ℕ) (number : ℕ) (last : numbers ≡ front ++ number ∷ []) where
     newest : IsNewestOpen first (free_in items) front number
@@ -74,7 +74,7 @@ module _ {P : Type 0} {name : P → ℕ} {k : Key} {n id first wanting : ℕ} {o
 
     -- the pool that is asked
     module _ (p : DescriptorPool P) (at : slice_get items (number - first) ≡ Some p) where
-      entry_at_place : slice_get (entries_of name items) (number - first) ≡ Some (entry_of name p)
+      entry_at_place : slice_get (map (entry_of name) items) (number - first) ≡ Some (entry_of name p)
       entry_at_place = slice_get-map (entry_of name) items (number - first) ∙ ap (option_map (entry_of name)) at
 
       pub has_free : 0 < p.available
@@ -92,10 +92,10 @@ module _ {P : Type 0} {name : P → ℕ} {k : Key} {n id first wanting : ℕ} {o
         | inr le ↦ (let a = s.closed (number - first) (entry_of name p) le entry_at_place in let b = has_free in absurd (omega arith))
       ]
 
-      pub walk_reaches : Walking k n id first (suc (number - first)) wanting out old (entries_of name items) l m
+      pub walk_reaches : Walking k n id first (suc (number - first)) wanting out old (map (entry_of name) items) l m
       walk_reaches =
           let to = reached in
-          walk_gap k n id first wanting out old (entries_of name items) l m booked (s.left - suc (number - first)) (suc (number - first)) s.left (omega arith) s.within (λ j e le lt there. (let z = newer j e.free (omega arith) (free_get j e there) in omega arith)) s.walking
+          walk_gap k n id first wanting out old (map (entry_of name) items) l m booked (s.left - suc (number - first)) (suc (number - first)) s.left (omega arith) s.within (λ j e le lt there. (let z = newer j e.free (omega arith) (free_get j e there) in omega arith)) s.walking
 
       -- what stands in the books and the list once it was asked
       module _ (q : DescriptorPool P) where
@@ -106,15 +106,15 @@ module _ {P : Type 0} {name : P → ℕ} {k : Key} {n id first wanting : ℕ} {o
         listed_now_open has = listed_stays first items numbers s.listed (number - first) p q at has_free has
 
         pub closed_now : (names : List ℕ) (m' : Ledger) (wanting' : ℕ) → IsAsked k wanting names (entry_of name p) (entry_of name q) m m' → wanting' + length names ≡ wanting
-            → (j : ℕ) (e : Entry) → number - first ≤ j → slice_get (entries_of name (slice_set items (number - first) q)) j ≡ Some e → min wanting' e.free ≡ 0
+            → (j : ℕ) (e : Entry) → number - first ≤ j → slice_get (map (entry_of name) (slice_set items (number - first) q)) j ≡ Some e → min wanting' e.free ≡ 0
         closed_now names m' wanting' asked less j e le there = elim (cases_lt (number - first) j) [
           | inl lt ↦ (
-              let is : slice_get (entries_of name items) j ≡ Some e = sym (ap (λ (x : List Entry). slice_get x j) (map-set (entry_of name) items (number - first) q) ∙ set_there (entries_of name items) (number - first) (entry_of name q) j (λ same. omega arith)) ∙ there in
+              let is : slice_get (map (entry_of name) items) j ≡ Some e = sym (ap (λ (x : List Entry). slice_get x j) (map-set (entry_of name) items (number - first) q) ∙ set_there (map (entry_of name) items) (number - first) (entry_of name q) j (λ same. omega arith)) ∙ there in
               let z = newer j e.free lt (free_get j e is) in
               omega arith)
           | inr ge ↦ (
               let same : j ≡ number - first = omega arith in
-              let here : slice_get (entries_of name (slice_set items (number - first) q)) j ≡ Some (entry_of name q) = ap (λ (x : List Entry). slice_get x j) (map-set (entry_of name) items (number - first) q) ∙ ap (slice_get (slice_set (entries_of name items) (number - first) (entry_of name q))) same ∙ set_here (entries_of name items) (number - first) (entry_of name q) _ (slice_get-get_or (entries_of name items) (number - first) e (let a = length-map items (entry_of name) in let b = inside in omega arith)) in
+              let here : slice_get (map (entry_of name) (slice_set items (number - first) q)) j ≡ Some (entry_of name q) = ap (λ (x : List Entry). slice_get x j) (map-set (entry_of name) items (number - first) q) ∙ ap (slice_get (slice_set (map (entry_of name) items) (number - first) (entry_of name q))) same ∙ set_here (map (entry_of name) items) (number - first) (entry_of name q) _ (slice_get-get_or (map (entry_of name) items) (number - first) e (let a = length-map items (entry_of name) in let b = inside in omega arith)) in
               let is : Some (entry_of name q) ≡ Some e = sym here ∙ there in
               let entry : entry_of name q ≡ e = cc in
               let free : q.available ≡ e.free = ap (λ (d : Entry). d.free) entry in
@@ -134,8 +134,8 @@ module _ {P : Type 0} {name : P → ℕ} {k : Key} {n id first wanting : ℕ} {o
             → OpenWalk name k n id first wanting' (out ++ items_at k id number names) old (slice_set items (number - first) q) numbers' l m'
         open_walk_more numbers' names m' wanting' listed' asked less =
             let i : ℕ = number - first in
-            let was : slice_get old i ≡ Some (entry_of name p) = sym (next_was k n id first i wanting out old (entries_of name items) l m booked walk_reaches (let a = inside in let b = s.long in omega arith)) ∙ entry_at_place in
-            let next = walk_more k n id first i wanting out old (entries_of name items) l m booked walk_reaches (entry_of name p) (entry_of name q) names m' wanting' was asked less in
+            let was : slice_get old i ≡ Some (entry_of name p) = sym (next_was k n id first i wanting out old (map (entry_of name) items) l m booked walk_reaches (let a = inside in let b = s.long in omega arith)) ∙ entry_at_place in
+            let next = walk_more k n id first i wanting out old (map (entry_of name) items) l m booked walk_reaches (entry_of name p) (entry_of name q) names m' wanting' was asked less in
             let named : first + i ≡ number = (let a = above in omega arith) in
             let out' : out ++ items_at k id (first + i) names ≡ out ++ items_at k id number names = ap (λ (j : ℕ). out ++ items_at k id j names) named in
             record {
@@ -144,14 +144,14 @@ module _ {P : Type 0} {name : P → ℕ} {k : Key} {n id first wanting : ℕ} {o
               left = i;
               within = (let a = inside in let b = s.long in omega arith);
               closed = closed_now names m' wanting' asked less;
-              walking = subst (λ (x : List Entry). Walking k n id first i wanting' (out ++ items_at k id number names) old x l m') (sym (map-set (entry_of name) items i q)) (subst (λ (x : List Item). Walking k n id first i wanting' x old (slice_set (entries_of name items) i (entry_of name q)) l m') out' next);
+              walking = subst (λ (x : List Entry). Walking k n id first i wanting' (out ++ items_at k id number names) old x l m') (sym (map-set (entry_of name) items i q)) (subst (λ (x : List Item). Walking k n id first i wanting' x old (slice_set (map (entry_of name) items) i (entry_of name q)) l m') out' next);
             }
 
-        pub open_walk_stop : (room : ℕ) (error : DeviceAllocationError) (m' : Ledger) → entry_of name q ≡ entry_of name p → IsNoMemory wanting (entry_of name p) error m m' → IsTaken (Err (Existing error)) k room n out (bucket id first old) (bucket id first (entries_of name (slice_set items (number - first) q))) l m'
+        pub open_walk_stop : (room : ℕ) (error : DeviceAllocationError) (m' : Ledger) → entry_of name q ≡ entry_of name p → IsNoMemory wanting (entry_of name p) error m m' → IsTaken (Err (Existing error)) k room n out (bucket id first old) (bucket id first (map (entry_of name) (slice_set items (number - first) q))) l m'
         open_walk_stop room error m' same none =
             let i : ℕ = number - first in
-            let was : slice_get old i ≡ Some (entry_of name p) = sym (next_was k n id first i wanting out old (entries_of name items) l m booked walk_reaches (let a = inside in let b = s.long in omega arith)) ∙ entry_at_place in
-            subst (λ (x : List Entry). IsTaken (Err (Existing error)) k room n out (bucket id first old) (bucket id first x) l m') (sym (map-set (entry_of name) items i q)) (walk_stop k room n id first i wanting out old (entries_of name items) l m m' (entry_of name p) (entry_of name q) error walk_reaches was entry_at_place same none)
+            let was : slice_get old i ≡ Some (entry_of name p) = sym (next_was k n id first i wanting out old (map (entry_of name) items) l m booked walk_reaches (let a = inside in let b = s.long in omega arith)) ∙ entry_at_place in
+            subst (λ (x : List Entry). IsTaken (Err (Existing error)) k room n out (bucket id first old) (bucket id first x) l m') (sym (map-set (entry_of name) items i q)) (walk_stop k room n id first i wanting out old (map (entry_of name) items) l m m' (entry_of name p) (entry_of name q) error walk_reaches was entry_at_place same none)
 
         pub listed_now_same : entry_of name q ≡ entry_of name p → numbers ≡ open_numbers first (free_in (slice_set items (number - first) q))
         listed_now_same same = listed_now_open (let a : q.available ≡ p.available = ap (λ (d : Entry). d.free) same in let b = has_free in omega arith)
@@ -159,15 +159,15 @@ module _ {P : Type 0} {name : P → ℕ} {k : Key} {n id first wanting : ℕ} {o
       pub next_is_booked : IsBookedIn k m.pools (entry_of name p)
       next_is_booked =
           let i : ℕ = number - first in
-          let was : slice_get old i ≡ Some (entry_of name p) = sym (next_was k n id first i wanting out old (entries_of name items) l m booked walk_reaches (let a = inside in let b = s.long in omega arith)) ∙ entry_at_place in
-          next_booked k n id first i wanting out old (entries_of name items) l m booked walk_reaches (entry_of name p) was
+          let was : slice_get old i ≡ Some (entry_of name p) = sym (next_was k n id first i wanting out old (map (entry_of name) items) l m booked walk_reaches (let a = inside in let b = s.long in omega arith)) ∙ entry_at_place in
+          next_booked k n id first i wanting out old (map (entry_of name) items) l m booked walk_reaches (entry_of name p) was
 
-pub open_walk_start : {P : Type 0} (name : P → ℕ) (k : Key) (n id first : ℕ) (items : List (DescriptorPool P)) (numbers : List ℕ) (l : Ledger) → AreBookedIn k l.pools (entries_of name items) → numbers ≡ open_numbers first (free_in items) → OpenWalk name k n id first n [] (entries_of name items) items numbers l l
+pub open_walk_start : {P : Type 0} (name : P → ℕ) (k : Key) (n id first : ℕ) (items : List (DescriptorPool P)) (numbers : List ℕ) (l : Ledger) → AreBookedIn k l.pools (map (entry_of name) items) → numbers ≡ open_numbers first (free_in items) → OpenWalk name k n id first n [] (map (entry_of name) items) items numbers l l
 open_walk_start name k n id first items numbers l booked listed = record {
   long = sym (length-map items (entry_of name));
   listed = listed;
-  left = length (entries_of name items);
+  left = length (map (entry_of name) items);
   within = omega arith;
-  closed = λ j e le at. (let a = slice_get_within (entries_of name items) j e at in absurd (omega arith));
-  walking = walk_start k n id first (entries_of name items) l booked;
+  closed = λ j e le at. (let a = slice_get_within (map (entry_of name) items) j e at in absurd (omega arith));
+  walking = walk_start k n id first (map (entry_of name) items) l booked;
 }

@@ -1,7 +1,6 @@
 -- A request that took sets is as the definitions say: kept whole, or given back.
-use Rattle.std.specs.Prelude.{◌↔◌}
-use Rattle.std.proofs.lemmas.Bool.{cases_lt}
-use Rattle.std.proofs.Common.{◌≡◌, ◌≢◌, ℕ, ◌+◌, ◌-◌, ◌<◌, ◌≤◌, inl, inr, true, false, Some, List, [], ◌∷◌, length, map, slice_get, arith, Result, Ok, Err, refl, sym, ap, ◌∙◌, subst}
+use Rattle.std.proofs.Math.Path.{fun_ext}
+use Rattle.std.proofs.Common.{◌≡◌, ◌≢◌, ℕ, ◌+◌, ◌-◌, ◌<◌, true, false, Some, List, [], ◌∷◌, length, map, slice_get, arith, Result, Ok, Err, refl, sym, ap, ◌∙◌, subst}
 use Rattle.std.proofs.lemmas.List.{length-map}
 use Rattle.gpu_descriptor_types.specs.Side.{side}
 use Rattle.gpu_descriptor_types.specs.Meaning.{Meaning}
@@ -9,18 +8,16 @@ use Rattle.gpu_descriptor_types.specs.Ledger.{Ledger, no_rise}
 use Rattle.gpu_descriptor.specs.declared.errors.AllocationError.{AllocationError}
 use Rattle.gpu_descriptor.specs.declared.set.DescriptorSet.{DescriptorSet}
 use Rattle.gpu_descriptor.specs.declared.bucket.take.Stop.{Stop}
-use Rattle.gpu_descriptor.specs.declared.bucket.take.Stop.TheVariants as stop
 use Rattle.gpu_descriptor.specs.Model.Agreement.{State, Item, Agree, AreOutstanding, outstanding, with_bucket}
 use Rattle.gpu_descriptor.specs.Model.Books.{Key, key_eq, Entry, Bucket, HasDistinctKeys, entry_at}
 use Rattle.gpu_descriptor.specs.Model.Foreign.{KeepsForeign, LosesNone}
 use Rattle.gpu_descriptor.specs.Caller.Others.{others_of}
-use Rattle.gpu_descriptor.specs.Model.FreshPools.{fresh_entry, IsFreshFront}
+use Rattle.gpu_descriptor.specs.Model.FreshPools.{fresh_entry}
 use Rattle.gpu_descriptor.specs.Caller.Frees.{GivesBack}
 use Rattle.gpu_descriptor.specs.Model.Grants.{Grant, IsGrantOf, bucket_with, items_in, granted}
 use Rattle.gpu_descriptor.specs.Inner.Grow.{IsTaken}
 use Rattle.gpu_descriptor.specs.Inner.Walk.{IsRefused}
-use Rattle.gpu_descriptor.specs.Model.Load.{allocated_in, marked_load}
-use Rattle.gpu_descriptor.specs.Model.Shares.{all_shared, rest}
+use Rattle.gpu_descriptor.specs.Model.Load.{marked_load}
 use Rattle.gpu_descriptor.specs.Model.Outcomes.{Allocates, Call, Proceeds, IsBack, back_of, rolled_back, risen, grant_rise, rollback_rise, StopsAt, stop_answer, stop_rise}
 use Rattle.gpu_descriptor.specs.Model.Outcomes.Allocates.{done, stopped}
 use Rattle.gpu_descriptor.specs.Model.Promises.{IsUntouched, KeepsOtherKeys, AreOfKey, AreOutBesides, KeepsOutstanding}
@@ -70,51 +67,54 @@ module _ {L P S : Type 0} {means : Meaning L P S} {k : Key} {count : ℕ} {sets 
   abbrev room : ℕ
   room = old.limit - pool_load_of old
 
-  keeps : KeepsKey k items (s.books k) t.bucket s.ledger after.pools
-  keeps = keeps_taken ended k room count items (s.books k) t.bucket before after t.served.taken
+  state : state_of means.pool_name new after ≡ with_bucket k t.serves.bucket after.pools s
+  state = λ i. record { books = fun_ext t.serves.books i; ledger = after.pools }
 
-  left : (g : Grant) × (t.bucket ≡ bucket_with count g (s.books k)) × IsGrantOf count (s.books k) s.ledger g
-  left = bucket_taken ended k room count items (s.books k) t.bucket before after t.served.taken
+  keeps : KeepsKey k items (s.books k) t.serves.bucket s.ledger after.pools
+  keeps = keeps_taken ended k room count items (s.books k) t.serves.bucket before after t.serves.served.taken
 
-  same_id : 0 < length (s.books k).pools → t.bucket.id ≡ (s.books k).id
+  left : (g : Grant) × (t.serves.bucket ≡ bucket_with count g (s.books k)) × IsGrantOf count (s.books k) s.ledger g
+  left = bucket_taken ended k room count items (s.books k) t.serves.bucket before after t.serves.served.taken
+
+  same_id : 0 < length (s.books k).pools → t.serves.bucket.id ≡ (s.books k).id
   same_id some = ap (λ (b : Bucket). b.id) left.1 ∙ left.2.id some
 
-  same_first : t.bucket.first ≡ (s.books k).first
+  same_first : t.serves.bucket.first ≡ (s.books k).first
   same_first = ap (λ (b : Bucket). b.first) left.1
 
   -- books and ledger agree after it
   pub taken_agree : Agrees means.pool_name new after
-  taken_agree = subst Agree (sym t.state) (keeps_agree k items t.bucket s after.pools agree same_id same_first keeps)
+  taken_agree = subst Agree (sym state) (keeps_agree k items t.serves.bucket s after.pools agree same_id same_first keeps)
 
   -- and the sets may be given back
   pub taken_given : AreOutstanding items (state_of means.pool_name new after)
-  taken_given = subst (AreOutstanding items) (sym t.state) (keeps_given k items t.bucket s after.pools agree same_id same_first keeps)
+  taken_given = subst (AreOutstanding items) (sym state) (keeps_given k items t.serves.bucket s after.pools agree same_id same_first keeps)
 
   -- exactly these sets are outstanding besides
   pub taken_out : AreOutBesides items s (state_of means.pool_name new after)
-  taken_out u = ap (λ (w : State). outstanding w u) t.state ∙ keeps_outstanding k items t.bucket s after.pools agree same_id same_first keeps u
+  taken_out u = ap (λ (w : State). outstanding w u) state ∙ keeps_outstanding k items t.serves.bucket s after.pools agree same_id same_first keeps u
 
   pub taken_own : AreOfKey k items
   taken_own = λ u some. (keeps.of_key u some).0
 
   pub taken_others : KeepsOtherKeys k s (state_of means.pool_name new after)
   taken_others l other = record {
-    books = ap (λ (w : State). w.books l) t.state ∙ rw other refl;
+    books = ap (λ (w : State). w.books l) state ∙ rw other refl;
     pools = λ n e at. (
         let booked = agree.booked l n e at in
         let apart : (m : ℕ) (d : Entry) → entry_at (s.books k) m ≡ Some d → d.pool ≢ e.pool = λ m d there same.
         let bad : true ≡ false = sym (ap (key_eq k) (sym (agree.distinct k l m n d e there at same).0) ∙ key_exact.self k) ∙ other in
         absurd (cc) in
-        ap (λ (w : State). w.ledger e.pool) t.state ∙ taken_apart k items t.bucket s after.pools same_first keeps e.pool booked.0 apart booked.1);
+        ap (λ (w : State). w.ledger e.pool) state ∙ taken_apart k items t.serves.bucket s after.pools same_first keeps e.pool booked.0 apart booked.1);
   }
 
   pub taken_leaves : KeepsForeign s (state_of means.pool_name new after)
-  taken_leaves = subst (KeepsForeign s) (sym t.state) (taken_foreign k items t.bucket s after.pools same_first keeps)
+  taken_leaves = subst (KeepsForeign s) (sym state) (taken_foreign k items t.serves.bucket s after.pools same_first keeps)
 
   pub taken_loses_none : LosesNone s (state_of means.pool_name new after)
   taken_loses_none =
       let g = left.0 in
-      subst (LosesNone s) (sym t.state) (taken_loses k items t.bucket s after.pools same_first keeps (λ i e at.
+      subst (LosesNone s) (sym state) (taken_loses k items t.serves.bucket s after.pools same_first keeps (λ i e at.
       let kept = entries_named g.left count g.refused (s.books k).pools (map fresh_entry g.fresh) i e at in
       (kept.0, ap (λ (b : Bucket). slice_get b.pools i) left.1 ∙ kept.1, kept.2)))
 
@@ -125,7 +125,7 @@ module _ {L P S : Type 0} {means : Meaning L P S} {k : Key} {count : ℕ} {sets 
   proceeds distinct some last final answer = record {
     some = some;
     limit = record { load = marked_load_of old; is_load = load_is means old before distinct; within = t.within };
-    bound = record { out = outstanding_of old; is_out = out_is means old before distinct; numbers = t.served.numbers; sets = t.fits };
+    bound = record { out = outstanding_of old; is_out = out_is means old before distinct; numbers = t.serves.served.numbers; sets = t.fits };
   }
 
   -- ---- the sets went back
@@ -145,32 +145,32 @@ module _ {L P S : Type 0} {means : Meaning L P S} {k : Key} {count : ℕ} {sets 
     abbrev Rolls : Stop → Type 0
     Rolls why = (o : Allocates (call (stop_answer why))) × (rolled_back o ≡ Some (items, state_of means.pool_name new after))
 
-    module _ (why : Stop) (g : Grant) (between : Ledger) (taken : HasTaken k count g items (s.books k) t.bucket before between) (refused : IsRefused why between after) where
-      now : (with_bucket k t.bucket after.pools s ≡ granted k count g s) × (after.counters ≡ risen (stop_rise why) (risen (grant_rise count g (s.books k).pools) before.counters))
-      now = stopped_state k count why s t.bucket items before between after refl g taken refused
+    module _ (why : Stop) (g : Grant) (between : Ledger) (taken : HasTaken k count g items (s.books k) t.serves.bucket before between) (refused : IsRefused why between after) where
+      now : (with_bucket k t.serves.bucket after.pools s ≡ granted k count g s) × (after.counters ≡ risen (stop_rise why) (risen (grant_rise count g (s.books k).pools) before.counters))
+      now = stopped_state k count why s t.serves.bucket items before between after refl g taken refused
 
       is_back : (b : IsBack (call (stop_answer why)) g why) × (Some (back_of b) ≡ Some (items, state_of means.pool_name new after))
       is_back = (
         record {
           taken = taken.grant;
           answer = refl;
-          state = back.state ∙ (λ i. released (sym taken.came i) ((t.state ∙ now.0) i));
-          counters = went (items_in k g.id g.parts) (granted k count g s) taken.came (sym (t.state ∙ now.0)) ∙ ap (risen (rollback_rise (items_in k g.id g.parts) k (granted k count g s))) now.1;
+          state = back.state ∙ (λ i. released (sym taken.came i) ((state ∙ now.0) i));
+          counters = went (items_in k g.id g.parts) (granted k count g s) taken.came (sym (state ∙ now.0)) ∙ ap (risen (rollback_rise (items_in k g.id g.parts) k (granted k count g s))) now.1;
         },
-        λ i. Some (taken.came i, sym (t.state ∙ now.0) i),
+        λ i. Some (taken.came i, sym (state ∙ now.0) i),
       )
 
       goes : Proceeds (call (stop_answer why))
       goes = proceeds distinct some last final _
 
-    rolls : (why : Stop) (g : Grant) (between : Ledger) → HasTaken k count g items (s.books k) t.bucket before between → StopsAt why k room count g (s.books k).pools → IsRefused why between after → Rolls why
+    rolls : (why : Stop) (g : Grant) (between : Ledger) → HasTaken k count g items (s.books k) t.serves.bucket before between → StopsAt why k room count g (s.books k).pools → IsRefused why between after → Rolls why
     rolls why g between taken at refused =
         let b = is_back why g between taken refused in
         (stopped (goes why g between taken refused) (record { why = why; grant = g; pooled = pool_load_of old; is_pooled = pool_load_is means old before distinct; at = at; back = b.0 }), b.1)
 
     pub went_back : {why : Stop} → ended ≡ Err why → Rolls why
     went_back {why} is =
-        let taken = subst (λ (r : Result (Unit {0}) Stop). IsTaken r k room count items (s.books k) t.bucket before after) is t.served.taken in
+        let taken = subst (λ (r : Result (Unit {0}) Stop). IsTaken r k room count items (s.books k) t.serves.bucket before after) is t.serves.served.taken in
         rolls why taken.0 taken.1 taken.2 taken.3 taken.4
 
   module _ {last : Allocations P} {final : Ledger} {calls : ℕ} (back : GivesBack means sets calls (side new after) (side last final)) where
@@ -192,8 +192,8 @@ module _ {L P S : Type 0} {means : Meaning L P S} {k : Key} {count : ℕ} {sets 
     back_totals =
         let out = back.outstanding in
         let marked = back.marked in
-        let total = t.total in
-        let more = t.marked in
+        let total = t.serves.out in
+        let more = t.serves.load in
         let load = load_of_items k items taken_own in
         let long = ap (marked_load k) (length-map sets (λ (x : DescriptorSet S). item_of means.set_name x)) in
         ((let e : outstanding_of last ≡ outstanding_of old = omega arith in e), (let e : marked_load_of last ≡ marked_load_of old = omega arith in e))
@@ -209,8 +209,8 @@ module _ {L P S : Type 0} {means : Meaning L P S} {k : Key} {count : ℕ} {sets 
 
   -- ---- the sets are kept
 
-  all_of : {x : Unit {0}} → ended ≡ Ok x → IsTaken (Ok x) k room count items (s.books k) t.bucket before after
-  all_of is = subst (λ (r : Result (Unit {0}) Stop). IsTaken r k room count items (s.books k) t.bucket before after) is t.served.taken
+  all_of : {x : Unit {0}} → ended ≡ Ok x → IsTaken (Ok x) k room count items (s.books k) t.serves.bucket before after
+  all_of is = subst (λ (r : Result (Unit {0}) Stop). IsTaken r k room count items (s.books k) t.serves.bucket before after) is t.serves.served.taken
 
   pub kept_many : {x : Unit {0}} → ended ≡ Ok x → length sets ≡ count
   kept_many is =
@@ -223,7 +223,7 @@ module _ {L P S : Type 0} {means : Meaning L P S} {k : Key} {count : ℕ} {sets 
   pub kept_totals : {x : Unit {0}} → ended ≡ Ok x → (outstanding_of new ≡ outstanding_of old + count) × (marked_load_of new ≡ marked_load_of old + marked_load k count)
   kept_totals is =
       let many = kept_many is in
-      (t.total ∙ ap (λ n. outstanding_of old + n) many, t.marked ∙ ap (λ n. marked_load_of old + marked_load k n) many)
+      (t.serves.out ∙ ap (λ n. outstanding_of old + n) many, t.serves.load ∙ ap (λ n. marked_load_of old + marked_load k n) many)
 
   pub kept : HasDistinctKeys (table_of means.pool_name old) → 0 < count → {x : Unit {0}} → ended ≡ Ok x → Allocates (call_of means k count (side old before) (side new after) (Ok items))
-  kept distinct some is = done (proceeds distinct some new after _) (is_done _ t.bucket items before after refl refl t.state refl (pool_load_of old) (pool_load_is means old before distinct) (all_of is) refl)
+  kept distinct some is = done (proceeds distinct some new after _) (is_done _ t.serves.bucket items before after refl refl state refl (pool_load_of old) (pool_load_is means old before distinct) (all_of is) refl)

@@ -22,7 +22,7 @@ use Rattle.gpu_descriptor.specs.Model.Grants.{Grant, Part, portion_of, items_at,
 use Rattle.gpu_descriptor.specs.Model.Outcomes.Allocates.{none, limit, bound, start, done, stopped}
 use Rattle.gpu_descriptor.specs.Model.FreshPools.IsFreshList.{none as no_fresh, some as some_fresh}
 use Rattle.std.proofs.lemmas.Bool.{cases_Bool, cases_lt}
-use Rattle.gpu_descriptor.specs.Model.Promises.{HasCause, IsFragmentation, HasNewPools, EndsWith, IsShort, CreatesOnlyWhereShort}
+use Rattle.gpu_descriptor.specs.Model.Promises.{HasCause, HasNewPools, EndsWith, IsShort, CreatesOnlyWhereShort}
 use Rattle.gpu_descriptor.specs.Model.Promises.EndsWith.{met as met_all, stopped as stopped_with}
 use Rattle.gpu_descriptor.specs.Model.Promises.IsFragmentation.{above_limit, past_bound, no_room_left, no_pool_created, new_pool_refused}
 use Rattle.gpu_descriptor.specs.Model.Promises.IsHostMemory.{device_refused, no_memory_at_start, no_memory_for_a_pool}

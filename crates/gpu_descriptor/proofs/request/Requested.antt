@@ -2,8 +2,7 @@
 use Rattle.gpu_descriptor_types.specs.Side.{side}
 use Rattle.gpu_descriptor_types.specs.Meaning.{Meaning}
 use Rattle.gpu_descriptor_types.specs.Bounds.{greatest_u64}
-use Rattle.std.proofs.Common.{[], ◌≡◌, ℕ, ◌+◌, ◌-◌, ◌*◌, ◌<◌, ◌≤◌, ◌&&◌, Bool, true, false, List, map, length, sum, sum_by, Result, Err, inl, inr, refl, sym, ap, subst, ◌∙◌, arith}
-use Rattle.std.proofs.Math.Path.{fun_ext}
+use Rattle.std.proofs.Common.{[], ◌≡◌, ℕ, ◌+◌, ◌-◌, ◌*◌, ◌<◌, ◌≤◌, ◌&&◌, Bool, true, false, List, map, length, sum, Result, Err, inl, inr, refl, sym, ap, subst, ◌∙◌, arith}
 use Rattle.std.proofs.Math.Nat.{mul-le-mul_right}
 use Rattle.std.proofs.lemmas.Bool.{cases_Bool, and_parts, ltb-true, ltb-false}
 use Rattle.std.specs.List.{IsDistinct}
@@ -24,9 +23,8 @@ use Rattle.gpu_descriptor.specs.Caller.Call.{call_of}
 use Rattle.gpu_descriptor.specs.Inner.Serves.{IsUnserved, ServesKey, Takes}
 use Rattle.gpu_descriptor.specs.Caller.KeyOf.{key_of}
 use Rattle.gpu_descriptor.specs.Caller.States.{named_row, state_of, table_of, outstanding_of, marked_load_of, pool_load_of}
-use Rattle.gpu_descriptor.specs.Inner.Stored.{IsConsistent, row_of, load_in, stored_keys, stored_load_in, books_in}
+use Rattle.gpu_descriptor.specs.Inner.Stored.{IsConsistent, row_of, stored_keys, books_in}
 use Rattle.gpu_descriptor.specs.Caller.Values.{Allocations}
-use Rattle.gpu_descriptor.proofs.sums.Loads.{rows_out, rows_load, rows_pool_load}
 use Rattle.gpu_descriptor.proofs.table.TableBooks.{rows_are, distinct_rows}
 use Rattle.gpu_descriptor.proofs.sums.TableSums.{outstanding_of-table, marked_load_of-table, pool_load_of-table}
 
@@ -36,16 +34,16 @@ within_of marked most count off on = ltb-false most count (let seen : (marked &&
 
 -- what a table of the map says of an allocator that has it
 module _ {P : Type 0} (a : Allocations P) (es : List (BucketKey × DescriptorBucket P)) (is : a.table ≡ map row_of es) where
-  pub out_of : outstanding_of a ≡ sum_by (λ r. r.1.total) es
-  out_of = ap (sum_over sets_out) is ∙ rows_out es
+  pub out_of : outstanding_of a ≡ sum_over sets_out (map row_of es)
+  out_of = ap (sum_over sets_out) is
 
-  pub load_of_rows : marked_load_of a ≡ sum_by load_in es
-  load_of_rows = ap (sum_over descriptors_out) is ∙ rows_load es
+  pub load_of_rows : marked_load_of a ≡ sum_over descriptors_out (map row_of es)
+  load_of_rows = ap (sum_over descriptors_out) is
 
-  pub pool_load_of_rows : pool_load_of a ≡ sum_by stored_load_in es
-  pool_load_of_rows = ap (sum_over bucket_load) is ∙ rows_pool_load es
+  pub pool_load_of_rows : pool_load_of a ≡ sum_over bucket_load (map row_of es)
+  pool_load_of_rows = ap (sum_over bucket_load) is
 
-  pub books_at : (name : P → ℕ) (before : Ledger) (k : Key) → (state_of name a before).books k ≡ books_in name es k
+  pub books_at : (name : P → ℕ) (before : Ledger) (k : Key) → (state_of name a before).books k ≡ books_in name (map row_of es) k
   books_at name before k = ap (λ (t : List (Key × BucketOf P)). books_of (map (named_row name) t) k) is
 
   pub keys_apart : (name : P → ℕ) → IsDistinct key_eq (stored_keys es) → HasDistinctKeys (table_of name a)
@@ -67,10 +65,10 @@ counted_none most = record { distinct = tt; is_load = refl; within = omega arith
 -- the totals keep the limit
 module _ {P : Type 0} {most marked room out : ℕ} {es : List (BucketKey × DescriptorBucket P)} (counted : IsConsistent most marked room out es) where
   pub rows_within : sum_over descriptors_out (map row_of es) ≤ most
-  rows_within = (let rows = rows_load es in let load = counted.is_load in let within = counted.within in omega arith)
+  rows_within = (let load = counted.is_load in let within = counted.within in omega arith)
 
   pub pools_within : sum_over bucket_load (map row_of es) ≤ most
-  pools_within = (let rows = rows_pool_load es in let room = counted.is_room in omega arith)
+  pools_within = (let room = counted.is_room in omega arith)
 
 module _ {P : Type 0} {a : Allocations P} {most looks compared : ℕ} (es : List (BucketKey × DescriptorBucket P)) (is : seen most looks compared es ≡ a) where
   pub table_is : a.table ≡ map row_of es
@@ -91,7 +89,7 @@ module _ {P : Type 0} {a : Allocations P} {most looks compared : ℕ} (es : List
 
 -- how the totals of the table grow, by so many sets of a key
 module _ {L P S : Type 0} (means : Meaning L P S) (key : BucketKey) (room count : ℕ) (sets : List (DescriptorSet S)) (ended : Result (Unit {0}) Stop) (es fs : List (BucketKey × DescriptorBucket P)) (before after : Ledger)
-    (s : ServesKey means key room count sets ended es fs before after) where
+    (s : ServesKey means (key_of key) room count sets ended (map row_of es) (map row_of fs) before after) where
   pub load_below : (most marked left out : ℕ) → IsConsistent most marked left out es → (key.update_after_bind ≡ true → count * sum (kinds key.size) + marked ≤ most) → marked_load (key_of key) (length sets) + marked ≤ most
   load_below most marked left out counted within = elim (cases_Bool key.update_after_bind) [
     | inl on ↦ (
@@ -103,7 +101,7 @@ module _ {L P S : Type 0} (means : Meaning L P S) (key : BucketKey) (room count 
     | inr off ↦ (let is : marked_load (key_of key) (length sets) ≡ 0 = rw off refl in let all = counted.within in omega arith)
   ]
 
-  pub counted_more : (most marked old left out more many : ℕ) → IsConsistent most marked old out es → more ≡ marked_load (key_of key) (length sets) → many ≡ length sets → more + marked ≤ most → left + sum_by stored_load_in fs ≡ old + sum_by stored_load_in es → IsDistinct key_eq (stored_keys fs) → IsConsistent most (marked + more) left (out + many) fs
+  pub counted_more : (most marked old left out more many : ℕ) → IsConsistent most marked old out es → more ≡ marked_load (key_of key) (length sets) → many ≡ length sets → more + marked ≤ most → left + sum_over bucket_load (map row_of fs) ≡ old + sum_over bucket_load (map row_of es) → IsDistinct key_eq (stored_keys fs) → IsConsistent most (marked + more) left (out + many) fs
   counted_more most marked old left out more many counted load given fits pools distinct =
       let is_room = counted.is_room in
       let a = counted.is_load in
@@ -149,23 +147,16 @@ module _ {L P S : Type 0} (means : Meaning L P S) (most looks_before looks_after
   abbrev new : Allocations P
   new = record { limit = most; table = map row_of fs; looks = looks_after; comparisons = compared }
 
-  pub takes : (key : BucketKey) (room count : ℕ) (sets : List (DescriptorSet S)) (ended : Result (Unit {0}) Stop) (before after : Ledger) → ServesKey means key room count sets ended es fs before after → room + sum_by stored_load_in es ≡ most
+  pub takes : (key : BucketKey) (room count : ℕ) (sets : List (DescriptorSet S)) (ended : Result (Unit {0}) Stop) (before after : Ledger) → ServesKey means (key_of key) room count sets ended (map row_of es) (map row_of fs) before after → room + sum_over bucket_load (map row_of es) ≡ most
       → ((key_of key).marked ≡ true → count * sum (key_of key).counts + marked_load_of old ≤ most) → outstanding_of old + count ≤ greatest_u64 → Takes means (key_of key) count sets ended (side old before) (side new after)
   takes key room count sets ended before after served all within fits = record {
-    bucket = s.bucket;
-    served = s.served;
     within = within;
     fits = fits;
-    total = (let a = rows_out es in let b = rows_out fs in let c = s.out in omega arith);
-    marked = (let a = rows_load es in let b = rows_load fs in let c = s.load in omega arith);
-    state = λ i. record { books = fun_ext s.books i; ledger = after.pools };
+    serves = subst (λ (r : ℕ). ServesKey means (key_of key) r count sets ended old.table new.table before after) room_is served;
   }
     where
       room_is : room ≡ most - pool_load_of old
-      room_is = (let rows = rows_pool_load es in omega arith)
-
-      s : ServesKey means key (most - pool_load_of old) count sets ended es fs before after
-      s = subst (λ (r : ℕ). ServesKey means key r count sets ended es fs before after) room_is served
+      room_is = omega arith
 
 -- ---- the tests of a request, over the fields of an allocator
 
@@ -187,7 +178,7 @@ module _ {L P S : Type 0} (means : Meaning L P S) {a : Allocations P} {most look
         let is_out = counted.is_out in
         past_bound means a before apart (key_of key) count some a before refl refl inside (inr (omega arith))
 
-    pub declined_unserved : past ≡ false → {b : Allocations P} {after : Ledger} → b ≡ a → after ≡ before → (e : AllocationError) → IsUnserved count e (books_in means.pool_name es (key_of key)) → Allocates (call_of means (key_of key) count (side a before) (side b after) (Err e))
+    pub declined_unserved : past ≡ false → {b : Allocations P} {after : Ledger} → b ≡ a → after ≡ before → (e : AllocationError) → IsUnserved count e (books_in means.pool_name (map row_of es) (key_of key)) → Allocates (call_of means (key_of key) count (side a before) (side b after) (Err e))
     declined_unserved kept_in {b} {after} same kept e why =
         let fits = ltb-false greatest_u64 (out + count) (sym bounded ∙ kept_in) in
         let all = out_of a es (table_is es is) in
@@ -195,8 +186,8 @@ module _ {L P S : Type 0} (means : Meaning L P S) {a : Allocations P} {most look
         unserved means a before apart (key_of key) count some b after same kept inside (omega arith) e (subst (λ (x : Bucket). IsUnserved count e x) (sym (books_at a es (table_is es is) means.pool_name before (key_of key))) why)
 
 -- a request that passed them, and took what its key has
-module _ {L P S : Type 0} {means : Meaning L P S} {key : BucketKey} {room count : ℕ} {sets : List (DescriptorSet S)} {ended : Result (Unit {0}) Stop} {es fs : List (BucketKey × DescriptorBucket P)} {before after : Ledger}
-    (s : ServesKey means key room count sets ended es fs before after) {a : Allocations P} {most looks compared marked out : ℕ} (is : seen most looks compared es ≡ a) (counted : IsConsistent most marked room out es)
+module _ {L P S : Type 0} {means : Meaning L P S} {key : BucketKey} {room count : ℕ} {sets : List (DescriptorSet S)} {ended : Result (Unit {0}) Stop} {es : List (BucketKey × DescriptorBucket P)} (fs : List (BucketKey × DescriptorBucket P)) {before after : Ledger}
+    (s : ServesKey means (key_of key) room count sets ended (map row_of es) (map row_of fs) before after) {a : Allocations P} {most looks compared marked out : ℕ} (is : seen most looks compared es ≡ a) (counted : IsConsistent most marked room out es)
     {above : Bool} (test : above ≡ (key.update_after_bind && nat_lt a.limit (count * sum (kinds key.size) + marked_load_of a))) (below : above ≡ false) where
   sets_within : key.update_after_bind ≡ true → count * sum (kinds key.size) + marked_load_of a ≤ a.limit
   sets_within = within_of key.update_after_bind a.limit (count * sum (kinds key.size) + marked_load_of a) (sym test ∙ below)
@@ -211,7 +202,7 @@ module _ {L P S : Type 0} {means : Meaning L P S} {key : BucketKey} {room count 
       let same = ap (marked_load (key_of key)) long in
       omega arith
 
-  pub counted_now : {given more left : ℕ} → given ≡ length sets → more ≡ marked_load (key_of key) given → left + sum_by stored_load_in fs ≡ room + sum_by stored_load_in es → IsDistinct key_eq (stored_keys fs) → IsConsistent most (marked + more) left (out + given) fs
+  pub counted_now : {given more left : ℕ} → given ≡ length sets → more ≡ marked_load (key_of key) given → left + sum_over bucket_load (map row_of fs) ≡ room + sum_over bucket_load (map row_of es) → IsDistinct key_eq (stored_keys fs) → IsConsistent most (marked + more) left (out + given) fs
   counted_now {given} {more} {left} long load moved distinct =
       let fits = given_fits long in
       counted_more means key room count sets ended es fs before after s most marked room left out more given counted (load ∙ ap (marked_load (key_of key)) long) long (omega arith) moved distinct

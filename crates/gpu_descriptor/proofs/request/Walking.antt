@@ -1,4 +1,5 @@
 -- The walk over a key's pools, as far as it has come.
+use Rattle.gpu_descriptor.specs.Inner.SetAt.{set_at}
 use Rattle.std.proofs.Common.{◌≡◌, ◌≢◌, ℕ, zero, suc, ◌+◌, ◌<◌, ◌≤◌, List, [], ◌∷◌, ◌++◌, length, map, min, take, drop, slice_set, Bool, false, nat_lt, ◌&&◌, Option, Some, None, Err, refl, sym, ap, ◌∙◌, subst, arith}
 use Rattle.std.proofs.lemmas.List.{append-nil, drop_all}
 use Rattle.std.proofs.Math.Path.{fun_ext}
@@ -12,7 +13,7 @@ use Rattle.gpu_descriptor.specs.Model.Agreement.{Item}
 use Rattle.gpu_descriptor.specs.Model.Grants.{Part, items_at, items_in, pool_with, ledger_with}
 use Rattle.gpu_descriptor.specs.Model.Shares.{rest, all_shared, portions_of, asked_count, refused_count}
 use Rattle.gpu_descriptor.specs.Inner.Buckets.{IsBookedIn, AreBookedIn}
-use Rattle.gpu_descriptor.specs.Inner.Walk.{sets_at, IsAsked, IsNoMemory, HasTaken, IsWalked}
+use Rattle.gpu_descriptor.specs.Inner.Walk.{IsAsked, IsNoMemory, HasTaken, IsWalked}
 use Rattle.gpu_descriptor.specs.Inner.Grow.{IsTaken}
 use Rattle.gpu_descriptor.specs.declared.bucket.take.Stop.TheVariants.{Existing}
 use Rattle.gpu_descriptor_types.specs.Ledger.{Pool, Ledger, live_sets, changed}
@@ -153,6 +154,6 @@ walk_gap k n id first wanting items old new l m booked (suc gap) i left is here 
     (subst (λ (x : List Entry). Walking k n id first (gap + i) wanting items old x l m) (set_same new (gap + i) e there) (subst (λ (x : List Item). Walking k n id first (gap + i) wanting x old (slice_set new (gap + i) e) l m) (append-nil items) next))
 
 -- sets of one pool, as the books see them
-pub items_of-sets_at : {S : Type 0} (name : S → ℕ) (k : Key) (id number : ℕ) (raws : List S) → items_of name (sets_at k id number raws) ≡ items_at k id number (map name raws)
+pub items_of-sets_at : {S : Type 0} (name : S → ℕ) (k : Key) (id number : ℕ) (raws : List S) → items_of name (map (set_at k id number) raws) ≡ items_at k id number (map name raws)
 items_of-sets_at name k id number [] = refl
 items_of-sets_at name k id number (raw ∷ raws) = ap (λ rest. record { key = k; id = id; number = number; name = name raw } ∷ rest) (items_of-sets_at name k id number raws)

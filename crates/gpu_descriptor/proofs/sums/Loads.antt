@@ -16,7 +16,7 @@ use Rattle.gpu_descriptor.specs.Caller.KeyOf.{key_of}
 use Rattle.gpu_descriptor.specs.Caller.Sets.{item_of, items_of}
 use Rattle.gpu_descriptor.specs.Caller.States.{outstanding_of, marked_load_of}
 use Rattle.gpu_descriptor.specs.Inner.RunSteps.{AllPass, lies_at}
-use Rattle.gpu_descriptor.specs.Inner.Stored.{kept_in, kept_of, row_of, load_in, stored_keys, stored_load_in, stored_load, IsConsistent}
+use Rattle.gpu_descriptor.specs.Inner.Stored.{kept_in, kept_of, row_of, stored_keys, stored_load, IsConsistent}
 use Rattle.gpu_descriptor.specs.Caller.Values.{Allocations}
 use Rattle.gpu_descriptor.proofs.table.Exact.{key_exact}
 use Rattle.gpu_descriptor.proofs.sums.TableSums.{sum_map}
@@ -81,6 +81,14 @@ module _ {P : Type 0} where
 
   -- ---- the totals that the code keeps are those that callers see
 
+  -- the descriptors of a marked key's sets
+  abbrev pub load_in : BucketKey × DescriptorBucket P → ℕ
+  load_in r = marked_load (key_of r.0) r.1.total
+
+  -- the descriptors of a marked key's pools
+  abbrev pub stored_load_in : BucketKey × DescriptorBucket P → ℕ
+  stored_load_in r = stored_load (key_of r.0) r.1.pools.items
+
   pools_out : (r : BucketKey × DescriptorBucket P) → sets_out (key_of r.0) (kept_in r.1) ≡ r.1.total
   pools_out r = sum_map _ kept_of _ (λ p. refl) r.1.pools.items ∙ sym r.1.counted
 
@@ -106,45 +114,50 @@ run_load name k n (x ∷ xs) have =
     let c = ap (marked_load k) long in
     omega arith
 
-pub pools_end : {P : Type 0} (k : BucketKey) (es : List (BucketKey × DescriptorBucket P)) (w : DescriptorBucket P) (left room : ℕ) → left + stored_load (key_of k) w.pools.items ≡ room → left + sum_by stored_load_in (es ++ (k, w) ∷ []) ≡ room + sum_by stored_load_in es
+pub pools_end : {P : Type 0} (k : BucketKey) (es : List (BucketKey × DescriptorBucket P)) (w : DescriptorBucket P) (left room : ℕ) → left + stored_load (key_of k) w.pools.items ≡ room → left + sum_over bucket_load (map row_of (es ++ (k, w) ∷ [])) ≡ room + sum_over bucket_load (map row_of es)
 pools_end {P} k es w left room moved =
     let a = sum_by-append (stored_load_in {P = P}) es ((k, w) ∷ []) in
     let one : sum_by (stored_load_in {P = P}) ((k, w) ∷ []) ≡ stored_load (key_of k) w.pools.items = omega arith in
+    let was = rows_pool_load es in
+    let is = rows_pool_load (es ++ (k, w) ∷ []) in
     omega arith
 
 -- what a run takes from the totals
 pub record Taken {P : Type 0} (k : Key) (n : ℕ) (es fs : List (BucketKey × DescriptorBucket P)) : Type 0 where
-  pub out : sum_by (λ r. r.1.total) fs + n ≡ sum_by (λ r. r.1.total) es
-  pub load : sum_by load_in fs + marked_load k n ≡ sum_by load_in es
+  pub out : sum_over sets_out (map row_of fs) + n ≡ sum_over sets_out (map row_of es)
+  pub load : sum_over descriptors_out (map row_of fs) + marked_load k n ≡ sum_over descriptors_out (map row_of es)
 
 module _ {P : Type 0} {k : Key} {es : List (BucketKey × DescriptorBucket P)} {v : DescriptorBucket P} (row : IsRow k es v) where
   -- its sets are of the table's
-  pub total_present : v.total ≤ sum_by (λ r. r.1.total) es
-  total_present = (sum_set (λ (r : BucketKey × DescriptorBucket P). r.1.total) row.test es v v row.at).2
+  pub total_present : v.total ≤ sum_over sets_out (map row_of es)
+  total_present = (let le = (sum_set (λ (r : BucketKey × DescriptorBucket P). r.1.total) row.test es v v row.at).2 in let is = rows_out es in omega arith)
 
   -- the room that the pools of the row take is of the table's
-  pub pools_present : stored_load k v.pools.items ≤ sum_by stored_load_in es
+  pub pools_present : stored_load k v.pools.items ≤ sum_over bucket_load (map row_of es)
   pools_present =
       let a = sum_set (stored_load_in {P = P}) row.test es v v row.at in
       let is : k ≡ key_of a.0 = key_exact.same k (key_of a.0) (sym (row.same a.0) ∙ a.1) in
       let old : stored_load_in {P = P} (a.0, v) ≡ stored_load k v.pools.items = ap (λ (l : Key). stored_load l v.pools.items) (sym is) in
       let le = a.2 in
+      let all = rows_pool_load es in
       omega arith
 
 module _ {P : Type 0} {k : Key} {es fs : List (BucketKey × DescriptorBucket P)} {v w : DescriptorBucket P} (r : IsWritten k es fs v w) where
-  pub pools_set : (left room : ℕ) → left + stored_load k w.pools.items ≡ room + stored_load k v.pools.items → left + sum_by stored_load_in fs ≡ room + sum_by stored_load_in es
+  pub pools_set : (left room : ℕ) → left + stored_load k w.pools.items ≡ room + stored_load k v.pools.items → left + sum_over bucket_load (map row_of fs) ≡ room + sum_over bucket_load (map row_of es)
   pools_set left room moved =
       let a = sum_set (stored_load_in {P = P}) r.row.test es v w r.row.at in
       let is : k ≡ key_of a.0 = key_exact.same k (key_of a.0) (sym (r.row.same a.0) ∙ a.1) in
       let old : stored_load_in {P = P} (a.0, v) ≡ stored_load k v.pools.items = ap (λ (l : Key). stored_load l v.pools.items) (sym is) in
       let new : stored_load_in {P = P} (a.0, w) ≡ stored_load k w.pools.items = ap (λ (l : Key). stored_load l w.pools.items) (sym is) in
       let rest = a.3 in
+      let was = rows_pool_load es in
+      let has = rows_pool_load (set_value r.row.test es w) in
       rw r.wrote (omega arith)
 
-  taken_out : (n : ℕ) → w.total + n ≡ v.total → sum_by (λ b. b.1.total) (set_value r.row.test es w) + n ≡ sum_by (λ b. b.1.total) es
-  taken_out n total = (let moved = (sum_set (λ (b : BucketKey × DescriptorBucket P). b.1.total) r.row.test es v w r.row.at).3 in omega arith)
+  taken_out : (n : ℕ) → w.total + n ≡ v.total → sum_over sets_out (map row_of (set_value r.row.test es w)) + n ≡ sum_over sets_out (map row_of es)
+  taken_out n total = (let moved = (sum_set (λ (b : BucketKey × DescriptorBucket P). b.1.total) r.row.test es v w r.row.at).3 in let was = rows_out es in let is = rows_out (set_value r.row.test es w) in omega arith)
 
-  taken_load : (n : ℕ) → w.total + n ≡ v.total → sum_by load_in (set_value r.row.test es w) + marked_load k n ≡ sum_by load_in es
+  taken_load : (n : ℕ) → w.total + n ≡ v.total → sum_over descriptors_out (map row_of (set_value r.row.test es w)) + marked_load k n ≡ sum_over descriptors_out (map row_of es)
   taken_load n total =
       let a = sum_set (load_in {P = P}) r.row.test es v w r.row.at in
       let is : k ≡ key_of a.0 = key_exact.same k (key_of a.0) (sym (r.row.same a.0) ∙ a.1) in
@@ -152,6 +165,8 @@ module _ {P : Type 0} {k : Key} {es fs : List (BucketKey × DescriptorBucket P)}
       let new : load_in {P = P} (a.0, w) ≡ marked_load k w.total = ap (λ (l : Key). marked_load l w.total) (sym is) in
       let parts : marked_load k v.total ≡ marked_load k w.total + marked_load k n = ap (marked_load k) (sym total) ∙ marked_load-add k w.total n in
       let moved = a.3 in
+      let was = rows_load es in
+      let has = rows_load (set_value r.row.test es w) in
       omega arith
 
   pub taken : {n : ℕ} → w.total + n ≡ v.total → Taken k n es fs
@@ -162,7 +177,7 @@ module _ {P : Type 0} {k : Key} {n : ℕ} {es fs : List (BucketKey × Descriptor
   pub load_fits : {limit marked room out : ℕ} → IsConsistent limit marked room out es → marked_load k n ≤ marked
   load_fits counted = (let is = counted.is_load in let load = t.load in omega arith)
 
-  pub counted_after : {limit marked room left out less : ℕ} → IsConsistent limit marked room out es → less ≡ marked_load k n → left + sum_by stored_load_in fs ≡ room + sum_by stored_load_in es → stored_keys fs ≡ stored_keys es → IsConsistent limit (marked - less) left (out - n) fs
+  pub counted_after : {limit marked room left out less : ℕ} → IsConsistent limit marked room out es → less ≡ marked_load k n → left + sum_over bucket_load (map row_of fs) ≡ room + sum_over bucket_load (map row_of es) → stored_keys fs ≡ stored_keys es → IsConsistent limit (marked - less) left (out - n) fs
   counted_after counted load pools keys = record {
     distinct = subst (IsDistinct key_eq) (sym keys) counted.distinct;
     is_load = (let is = counted.is_load in let gone = t.load in omega arith);
@@ -174,14 +189,12 @@ module _ {P : Type 0} {k : Key} {n : ℕ} {es fs : List (BucketKey × Descriptor
   module _ (old : Allocations P) (is : old.table ≡ map row_of es) where
     pub out_after : sum_over sets_out (map row_of fs) + n ≡ outstanding_of old
     out_after =
-        let a = ap (sum_over sets_out) is ∙ rows_out es in
-        let b = rows_out fs in
+        let a = ap (sum_over sets_out) is in
         let out = t.out in
         omega arith
 
     pub load_after : (m : ℕ) → m ≡ marked_load k n → sum_over descriptors_out (map row_of fs) + m ≡ marked_load_of old
     load_after m same =
-        let a = ap (sum_over descriptors_out) is ∙ rows_load es in
-        let b = rows_load fs in
+        let a = ap (sum_over descriptors_out) is in
         let load = t.load in
         omega arith

@@ -1,5 +1,5 @@
 -- What cleaning up leaves of an allocator and of the ledger.
-use Rattle.std.specs.Prelude.{◌≡◌, ℕ}
+use Rattle.std.specs.Prelude.{◌≡◌}
 use Rattle.gpu_descriptor_types.specs.Meaning.{Meaning}
 use Rattle.gpu_descriptor_types.specs.Side.{Side}
 use Rattle.gpu_descriptor.specs.Model.Cleanup.{IsCleaned, pools_cleaned}

@@ -6,10 +6,6 @@ use Rattle.gpu_descriptor.specs.Model.Agreement.{IsAsBooked}
 use Rattle.gpu_descriptor.specs.Model.Books.{Key, Entry, Bucket}
 use Rattle.gpu_descriptor.specs.Model.Release.{empty_front, without_front, in_front, more_destroyed}
 
--- no name stands at two places
-abbrev pub HasDistinctNames : List Entry → Type 0
-HasDistinctNames es = (i j : ℕ) (d e : Entry) → slice_get es i ≡ Some d → slice_get es j ≡ Some e → d.pool ≡ e.pool → i ≡ j
-
 -- an entry has its pool in the ledger
 pub record IsBookedIn (k : Key) (pools : ℕ → Option Pool) (e : Entry) : Type 0 where
   pub pool : Pool
@@ -18,7 +14,8 @@ pub record IsBookedIn (k : Key) (pools : ℕ → Option Pool) (e : Entry) : Type
 
 -- one key's part of the agreement: its pools stand in the ledger as the books say
 pub record AreBookedIn (k : Key) (pools : ℕ → Option Pool) (entries : List Entry) : Type 0 where
-  pub distinct : HasDistinctNames entries
+  -- no name stands at two places
+  pub distinct : (i j : ℕ) (d e : Entry) → slice_get entries i ≡ Some d → slice_get entries j ≡ Some e → d.pool ≡ e.pool → i ≡ j
   pub each : (i : ℕ) (e : Entry) → slice_get entries i ≡ Some e → IsBookedIn k pools e
 
 -- how many empty pools may go from the front, if so many pools are to stay

@@ -1,11 +1,11 @@
 -- A key's pools, as the walk of a request sees them.
-use Rattle.std.specs.Prelude.{◌≡◌, ℕ, ◌+◌, [], Option}
+use Rattle.gpu_descriptor.specs.Inner.Stored.{entry_of}
+use Rattle.std.specs.Prelude.{◌≡◌, ℕ, ◌+◌, [], Option, map}
 use Rattle.std.specs.VecDeque.{deque_with_item}
 use Rattle.std.specs.Borrow.{LendsIf, MutBor, Fml, RattleType}
 use mir.Syntax.{named}
 use Rattle.gpu_descriptor_types.specs.Ledger.{Ledger}
 use Rattle.gpu_descriptor.specs.Inner.OpenNumbers.{open_numbers, free_in}
-use Rattle.gpu_descriptor.specs.Inner.Walk.{entries_of}
 use Rattle.gpu_descriptor.specs.Model.Books.{Bucket}
 use Rattle.gpu_descriptor.specs.declared.bucket.DescriptorPool.{DescriptorPool}
 use Rattle.gpu_descriptor.specs.declared.bucket.reads.OpenPools.{OpenPools}
@@ -23,7 +23,7 @@ module _ {P : Type 0} where
 
   -- the key's pools, as the view has them
   abbrev pub bucket_in : (P → ℕ) → OpenPools P → Bucket
-  bucket_in name v = record { id = v.id; first = v.offset; pools = entries_of name v.pools.now.items }
+  bucket_in name v = record { id = v.id; first = v.offset; pools = map (entry_of name) v.pools.now.items }
 
   -- the numbers start where they did, and the view is over the same values
   abbrev pub KeepsView : OpenPools P → OpenPools P → Type 0

@@ -1,18 +1,16 @@
 -- How one run goes back: at its key's pools, and at the allocator.
-use Rattle.std.specs.Prelude.{◌≡◌, ℕ, ◌+◌, List, ◌∷◌, length, Option, ◌-◌, ◌≤◌, map, set, Some}
+use Rattle.std.specs.Prelude.{◌≡◌, ℕ, List, ◌∷◌, length, Option, ◌-◌, ◌≤◌, map, set, Some}
 use Rattle.gpu_descriptor_types.specs.Ledger.{Ledger, Pool, after_release, live_sets}
 use Rattle.gpu_descriptor.specs.declared.set.DescriptorSet.{DescriptorSet}
 use Rattle.gpu_descriptor.specs.Model.Agreement.{live_in}
 use Rattle.gpu_descriptor.specs.Model.Release.{entry_less}
-use Rattle.gpu_descriptor.specs.Inner.RunSteps.{EndsRun, at_place, lies_at}
+use Rattle.gpu_descriptor.specs.Inner.RunSteps.{EndsRun, lies_at}
 use Rattle.gpu_descriptor.specs.Caller.Values.{Allocations}
 use Rattle.gpu_descriptor.specs.Caller.Frees.{GivesBack}
 use Rattle.gpu_descriptor_types.specs.Meaning.{Meaning}
 use Rattle.gpu_descriptor_types.specs.Side.{Side}
 use Rattle.gpu_descriptor_types.specs.Multiset.{LiveSet, times}
-use Rattle.gpu_descriptor.specs.declared.bucket.DescriptorBucket.{DescriptorBucket}
 use Rattle.gpu_descriptor.specs.Model.Books.{Key, Entry, Bucket, entry_at}
-use Rattle.gpu_descriptor.specs.Inner.Stored.{bucket_of}
 use Rattle.gpu_descriptor.specs.Inner.Buckets.{trimmed_bucket, trimmed_ledger}
 
 -- the sets of these names are live in the key's pool with the number
@@ -37,16 +35,7 @@ pub record RunsInto (k : Key) (number : ℕ) (names : List ℕ) (old : Bucket) (
 abbrev pub names_of : {S : Type 0} → (S → ℕ) → List (DescriptorSet S) → List ℕ
 names_of name xs = map (λ x. name x.raw) xs
 
--- one run came, from first to before the set ahead, and went back
-module _ {P S T : Type 0} (steps : T → Option (DescriptorSet S) → T → Type 0) (pool_name : P → ℕ) (set_name : S → ℕ) (first : DescriptorSet S) (given : T) (ahead : Option (DescriptorSet S)) (left : T) where
-  -- to its key's pools
-  pub record ReleasesRun (old new : DescriptorBucket P) (before after : Ledger) : Type 0 where
-    pub sets : List (DescriptorSet S)
-    pub came : EndsRun steps (at_place first.id first.number) given sets ahead left
-    pub went : RunsInto first.key.is first.number (names_of set_name (first ∷ sets)) (bucket_of pool_name old) before (bucket_of pool_name new) after
-    pub total : new.total + length (first ∷ sets) ≡ old.total
-
--- and to the allocator
+-- one run came, from first to before the set ahead, and went back to the allocator
 pub record FreesRun {L P S T : Type 0} (steps : T → Option (DescriptorSet S) → T → Type 0) (means : Meaning L P S) (first : DescriptorSet S) (given : T) (ahead : Option (DescriptorSet S)) (left : T) (old new : Side (Allocations P)) : Type 0 where
   -- the sets behind first
   pub sets : List (DescriptorSet S)

@@ -1,23 +1,19 @@
 -- What a request took of one key, before any of it goes back: in the bucket, in the table, and of an allocator.
 use Rattle.gpu_descriptor_types.specs.Bounds.{greatest_u64}
-use Rattle.std.specs.Prelude.{◌≡◌, ℕ, ◌+◌, ◌-◌, ◌*◌, ◌<◌, ◌≤◌, ◌⊎◌, true, if◌then◌else◌, List, length, sum, sum_by, Result}
+use Rattle.std.specs.Prelude.{◌≡◌, ℕ, ◌+◌, ◌-◌, ◌*◌, ◌<◌, ◌≤◌, ◌⊎◌, true, if◌then◌else◌, List, length, sum, Result}
 use Rattle.gpu_descriptor_types.specs.Ledger.{Ledger}
 use Rattle.gpu_descriptor_types.specs.Meaning.{Meaning}
 use Rattle.gpu_descriptor_types.specs.Side.{Side}
-use Rattle.gpu_descriptor.specs.Model.Load.{marked_load}
+use Rattle.gpu_descriptor.specs.Model.Load.{descriptors_out, marked_load, sets_out}
 use Rattle.gpu_descriptor.specs.declared.errors.AllocationError.{AllocationError}
 use Rattle.gpu_descriptor.specs.declared.errors.AllocationError.TheVariants.{OutOfHostMemory, Fragmentation}
-use Rattle.gpu_descriptor.specs.declared.set.BucketKey.{BucketKey}
 use Rattle.gpu_descriptor.specs.declared.set.DescriptorSet.{DescriptorSet}
-use Rattle.gpu_descriptor.specs.declared.bucket.DescriptorBucket.{DescriptorBucket}
 use Rattle.gpu_descriptor.specs.declared.bucket.take.Stop.{Stop}
-use Rattle.gpu_descriptor.specs.Model.Books.{Key, key_eq, Bucket, next_number}
-use Rattle.gpu_descriptor.specs.Caller.KeyOf.{key_of}
+use Rattle.gpu_descriptor.specs.Model.Books.{Key, key_eq, Bucket, BucketOf, next_number, sum_over}
 use Rattle.gpu_descriptor.specs.Caller.Sets.{items_of}
-use Rattle.gpu_descriptor.specs.Caller.States.{state_of, outstanding_of, marked_load_of, pool_load_of}
+use Rattle.gpu_descriptor.specs.Caller.States.{outstanding_of, marked_load_of, pool_load_of}
 use Rattle.gpu_descriptor.specs.Caller.Values.{Allocations}
-use Rattle.gpu_descriptor.specs.Inner.Stored.{books_in, load_in}
-use Rattle.gpu_descriptor.specs.Model.Agreement.{with_bucket}
+use Rattle.gpu_descriptor.specs.Inner.Stored.{books_in}
 use Rattle.gpu_descriptor.specs.Inner.Grow.{IsTaken}
 
 module _ {L P S : Type 0} (means : Meaning L P S) where
@@ -27,21 +23,19 @@ module _ {L P S : Type 0} (means : Meaning L P S) where
     pub few : length sets ≤ count
     pub taken : IsTaken ended k room count (items_of means.set_name sets) old new before after
 
-  pub record ServesKey (key : BucketKey) (room count : ℕ) (sets : List (DescriptorSet S)) (ended : Result (Unit {0}) Stop) (old new : List (BucketKey × DescriptorBucket P)) (before after : Ledger) : Type 0 where
+  -- and the table has the key's new bucket
+  pub record ServesKey (k : Key) (room count : ℕ) (sets : List (DescriptorSet S)) (ended : Result (Unit {0}) Stop) (old new : List (Key × BucketOf P)) (before after : Ledger) : Type 0 where
     pub bucket : Bucket
-    pub served : IsServed (key_of key) room count sets ended (books_in means.pool_name old (key_of key)) bucket before after
-    pub books : (l : Key) → books_in means.pool_name new l ≡ (if key_eq (key_of key) l then bucket else books_in means.pool_name old l)
-    pub out : sum_by (λ r. r.1.total) new ≡ sum_by (λ r. r.1.total) old + length sets
-    pub load : sum_by load_in new ≡ sum_by load_in old + marked_load (key_of key) (length sets)
+    pub served : IsServed k room count sets ended (books_in means.pool_name old k) bucket before after
+    pub books : (l : Key) → books_in means.pool_name new l ≡ (if key_eq k l then bucket else books_in means.pool_name old l)
+    pub out : sum_over sets_out new ≡ sum_over sets_out old + length sets
+    pub load : sum_over descriptors_out new ≡ sum_over descriptors_out old + marked_load k (length sets)
 
-pub record Takes {L P S : Type 0} (means : Meaning L P S) (k : Key) (count : ℕ) (sets : List (DescriptorSet S)) (ended : Result (Unit {0}) Stop) (old new : Side (Allocations P)) : Type 0 where
-  pub bucket : Bucket
-  pub served : IsServed means k (old.value.limit - pool_load_of old.value) count sets ended ((state_of means.pool_name old.value old.ledger).books k) bucket old.ledger new.ledger
-  pub within : k.marked ≡ true → count * sum k.counts + marked_load_of old.value ≤ old.value.limit
-  pub fits : outstanding_of old.value + count ≤ greatest_u64
-  pub total : outstanding_of new.value ≡ outstanding_of old.value + length sets
-  pub marked : marked_load_of new.value ≡ marked_load_of old.value + marked_load k (length sets)
-  pub state : state_of means.pool_name new.value new.ledger ≡ with_bucket k bucket new.ledger.pools (state_of means.pool_name old.value old.ledger)
+  -- after the tests that come before
+  pub record Takes (k : Key) (count : ℕ) (sets : List (DescriptorSet S)) (ended : Result (Unit {0}) Stop) (old new : Side (Allocations P)) : Type 0 where
+    pub within : k.marked ≡ true → count * sum k.counts + marked_load_of old.value ≤ old.value.limit
+    pub fits : outstanding_of old.value + count ≤ greatest_u64
+    pub serves : ServesKey k (old.value.limit - pool_load_of old.value) count sets ended old.value.table new.value.table old.ledger new.ledger
 
 -- nothing was taken: memory was wanting, or the numbers of the key's pools would pass 64 bits
 abbrev pub IsUnserved : ℕ → AllocationError → Bucket → Type 0

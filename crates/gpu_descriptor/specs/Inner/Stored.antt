@@ -4,8 +4,8 @@ use Rattle.std.specs.List.{IsDistinct}
 use Rattle.gpu_descriptor.specs.declared.set.BucketKey.{BucketKey}
 use Rattle.gpu_descriptor.specs.declared.bucket.DescriptorPool.{DescriptorPool}
 use Rattle.gpu_descriptor.specs.declared.bucket.DescriptorBucket.{DescriptorBucket}
-use Rattle.gpu_descriptor.specs.Model.Books.{Key, key_eq, EntryOf, BucketOf, Entry, Bucket, books_of}
-use Rattle.gpu_descriptor.specs.Model.Load.{marked_load, pool_load}
+use Rattle.gpu_descriptor.specs.Model.Books.{Key, key_eq, EntryOf, BucketOf, Entry, Bucket, books_of, sum_over}
+use Rattle.gpu_descriptor.specs.Model.Load.{bucket_load, descriptors_out, pool_load, sets_out}
 use Rattle.gpu_descriptor.specs.Caller.States.{named, named_row}
 use Rattle.gpu_descriptor.specs.Caller.KeyOf.{key_of}
 
@@ -27,22 +27,14 @@ module _ {P : Type 0} where
   abbrev pub stored_load : Key → List (DescriptorPool P) → ℕ
   stored_load k pools = sum_by (λ p. pool_load k p.capacity) pools
 
-  -- the descriptors of a marked key's sets
-  abbrev pub load_in : BucketKey × DescriptorBucket P → ℕ
-  load_in r = marked_load (key_of r.0) r.1.total
-
-  -- the descriptors of a marked key's pools
-  abbrev pub stored_load_in : BucketKey × DescriptorBucket P → ℕ
-  stored_load_in r = stored_load (key_of r.0) r.1.pools.items
-
   -- no key stands twice, the running totals are those of the table, the marked descriptors keep
   -- the limit, and room is what those of the pools leave of it
   pub record IsConsistent (limit marked room out : ℕ) (table : List (BucketKey × DescriptorBucket P)) : Type 0 where
     pub distinct : IsDistinct key_eq (stored_keys table)
-    pub is_load : marked ≡ sum_by load_in table
+    pub is_load : marked ≡ sum_over descriptors_out (map row_of table)
     pub within : marked ≤ limit
-    pub is_room : room + sum_by stored_load_in table ≡ limit
-    pub is_out : out ≡ sum_by (λ r. r.1.total) table
+    pub is_room : room + sum_over bucket_load (map row_of table) ≡ limit
+    pub is_out : out ≡ sum_over sets_out (map row_of table)
 
   module _ (name : P → ℕ) where
     abbrev pub entry_of : DescriptorPool P → Entry
@@ -51,6 +43,6 @@ module _ {P : Type 0} where
     abbrev pub bucket_of : DescriptorBucket P → Bucket
     bucket_of b = record { id = b.id; first = b.offset; pools = map entry_of b.pools.items }
 
--- the books that the entries of the map keep
-abbrev pub books_in : {P : Type 0} → (P → ℕ) → List (BucketKey × DescriptorBucket P) → Key → Bucket
-books_in name es = books_of (map (named_row name) (map row_of es))
+-- the books of a table, under the names of its pools
+abbrev pub books_in : {P : Type 0} → (P → ℕ) → List (Key × BucketOf P) → Key → Bucket
+books_in name table = books_of (map (named_row name) table)

@@ -1,28 +1,17 @@
 -- How a request walks over a key's pools, in the words of the books.
-use Rattle.std.specs.Prelude.{if◌then◌else◌, ◌≡◌, ℕ, ◌+◌, ◌-◌, ◌<◌, ◌≤◌, ◌==◌, ◌&&◌, ◌⊎◌, Bool, true, false, nat_lt, min, List, [], map, length, Option, Some, None, slice_get}
+use Rattle.std.specs.Prelude.{if◌then◌else◌, ◌≡◌, ℕ, ◌+◌, ◌-◌, ◌<◌, ◌≤◌, ◌==◌, ◌&&◌, ◌⊎◌, Bool, true, false, nat_lt, min, List, [], length, Option, Some, None, slice_get}
 use Rattle.std.specs.List.{list_any}
 use Rattle.gpu_descriptor_types.specs.Ledger.{Pool, Ledger, live_sets, on_pool, pool_refusals, no_rise}
 use Rattle.gpu_descriptor.specs.declared.bucket.take.Stop.{Stop}
 use Rattle.gpu_descriptor.specs.declared.bucket.take.Stop.TheVariants.{Existing}
 use Rattle.gpu_descriptor_types.specs.declared.errors.DeviceAllocationError.{DeviceAllocationError}
-use Rattle.gpu_descriptor.specs.declared.bucket.DescriptorPool.{DescriptorPool}
-use Rattle.gpu_descriptor.specs.Inner.SetAt.{set_at}
-use Rattle.gpu_descriptor.specs.declared.set.DescriptorSet.{DescriptorSet}
 use Rattle.gpu_descriptor.specs.Inner.Buckets.{AreBookedIn}
 use Rattle.gpu_descriptor.specs.Model.Books.{Key, Entry, Bucket}
 use Rattle.gpu_descriptor.specs.Model.Agreement.{Item, count_of, live_at}
 use Rattle.gpu_descriptor.specs.Model.Load.{allocated_in}
-use Rattle.gpu_descriptor.specs.Inner.Stored.{entry_of}
 use Rattle.gpu_descriptor.specs.Model.Shares.{rest}
 use Rattle.gpu_descriptor.specs.Model.Grants.{Grant, IsGrantOf, items_in, bucket_with, ledger_with, pool_with}
 use Rattle.gpu_descriptor.specs.Model.Outcomes.{risen, grant_rise, stop_rise}
-
-abbrev pub entries_of : {P : Type 0} → (P → ℕ) → List (DescriptorPool P) → List Entry
-entries_of name pools = map (entry_of name) pools
-
--- sets of one pool, out of the raw ones
-abbrev pub sets_at : {S : Type 0} → Key → ℕ → ℕ → List S → List (DescriptorSet S)
-sets_at k id number raws = map (set_at k id number) raws
 
 -- exactly these sets went out of a key's pools, and books and ledger agree on them as before
 pub record KeepsKey (k : Key) (items : List Item) (old new : Bucket) (before after : ℕ → Option Pool) : Type 0 where

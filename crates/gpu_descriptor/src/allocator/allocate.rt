@@ -2,10 +2,10 @@
 ghost use Rattle.std.specs.Prelude.{◌≡◌, ◌+◌, ◌*◌, ◌^◌, ◌<◌, ◌≤◌, ◌&&◌, nat_lt, length, sum};
 ghost use Rattle.gpu_descriptor_types.specs.Side.{side};
 ghost use Rattle.gpu_descriptor.specs.Inner.Ids.{rise_below, stored_ids};
-ghost use Rattle.std.specs.Prelude.{sum_by, true, Err, IfOk, IfErr, OnOk, OnErr};
+ghost use Rattle.std.specs.Prelude.{map, true, Err, IfOk, IfErr, OnOk, OnErr};
 ghost use Rattle.std.specs.List.{IsDistinct};
 ghost use Rattle.gpu_descriptor_types.specs.Counts.{kinds};
-ghost use Rattle.gpu_descriptor.specs.Model.Books.{HasDistinctKeys, key_eq};
+ghost use Rattle.gpu_descriptor.specs.Model.Books.{HasDistinctKeys, key_eq, sum_over};
 ghost use Rattle.gpu_descriptor.specs.Caller.Flags.{is_marked};
 ghost use Rattle.gpu_descriptor.specs.Caller.HandsOut.{HandsOut};
 ghost use Rattle.gpu_descriptor.specs.Caller.Keeps.{Keeps};
@@ -13,12 +13,13 @@ ghost use Rattle.gpu_descriptor.specs.Caller.Keys.{StayOrGainLast};
 ghost use Rattle.gpu_descriptor.specs.Caller.KeyOf.{key_of};
 ghost use Rattle.gpu_descriptor.specs.Caller.States.{Agrees, keys_of, marked_load_of, pool_load_of};
 ghost use Rattle.gpu_descriptor.specs.Caller.States.{table_of};
+ghost use Rattle.gpu_descriptor.specs.Model.Load.{bucket_load, sets_out};
 ghost use Rattle.gpu_descriptor.specs.Model.Outcomes.{Allocates, error_of_alloc as alloc_answer};
 ghost use Rattle.gpu_descriptor.specs.Model.Outcomes.{stop_answer};
 ghost use Rattle.gpu_descriptor.specs.Caller.Call.{call_of, layout_key};
 ghost use Rattle.gpu_descriptor.specs.Inner.Buckets.{AreBookedIn};
 ghost use Rattle.gpu_descriptor.specs.Inner.OpenPools.{CountsLooks};
-ghost use Rattle.gpu_descriptor.specs.Inner.Stored.{books_in, stored_keys, stored_load_in};
+ghost use Rattle.gpu_descriptor.specs.Inner.Stored.{books_in, row_of, stored_keys};
 ghost use Rattle.gpu_descriptor.specs.Inner.Serves.{IsUnserved, ServesKey, Takes};
 
 use super::DescriptorAllocator;
@@ -171,20 +172,21 @@ fn serve_key<L, P: Drop, S: Drop, D: DescriptorDevice<L, P, S>>(
 ) -> Result<Served<S>, AllocationError>
     requires same { key_of request.now.key ≡ layout_key D.meaning request.now.layout.now }
     requires booked { AreBookedIn (key_of request.now.key) (D.ledger device.old).pools (books_in
-        D.meaning.pool_name buckets.old.entries (key_of request.now.key)).pools }
+        D.meaning.pool_name (map row_of buckets.old.entries) (key_of request.now.key)).pools }
     requires distinct { IsDistinct key_eq (stored_keys buckets.old.entries) }
     requires rising { rise_below ids.old.next (stored_ids buckets.old.entries) ≡ true }
-    requires bound { sum_by (λ r. r.1.total) buckets.old.entries + request.now.count < 2 ^ 64 }
-    ensures served { IfOk result (λ r. ServesKey D.meaning request.now.key room.old
-        request.now.count r.sets.items r.taken buckets.old.entries buckets.new.entries
-        (D.ledger device.old) (D.ledger device.new)) }
+    requires bound { sum_over sets_out (map row_of buckets.old.entries) + request.now.count
+        < 2 ^ 64 }
+    ensures served { IfOk result (λ r. ServesKey D.meaning (key_of request.now.key) room.old
+        request.now.count r.sets.items r.taken (map row_of buckets.old.entries)
+        (map row_of buckets.new.entries) (D.ledger device.old) (D.ledger device.new)) }
     ensures refused { IfErr result (λ e. IsUnserved request.now.count e (books_in
-        D.meaning.pool_name buckets.old.entries (key_of request.now.key))) }
+        D.meaning.pool_name (map row_of buckets.old.entries) (key_of request.now.key))) }
     ensures looks { CountsLooks looks.old.count looks.new.count
         (D.ledger device.old) (D.ledger device.new) }
     ensures looks_stay { OnErr result (looks.new ≡ looks.old) }
-    ensures room { room.new + sum_by stored_load_in buckets.new.entries
-        ≡ room.old + sum_by stored_load_in buckets.old.entries }
+    ensures room { room.new + sum_over bucket_load (map row_of buckets.new.entries)
+        ≡ room.old + sum_over bucket_load (map row_of buckets.old.entries) }
     ensures keys { OnOk result (StayOrGainLast (key_of request.now.key)
         (stored_keys buckets.old.entries) (stored_keys buckets.new.entries)) }
     ensures distinct { OnOk result (IsDistinct key_eq (stored_keys buckets.new.entries)) }

@@ -1,11 +1,11 @@
 //! Giving a run back to the pools of its key.
-ghost use Rattle.std.specs.Prelude.{◌≡◌, ◌+◌, ◌<◌, ◌≤◌, ◌^◌, ◌∷◌, length, OnSome};
+ghost use Rattle.std.specs.Prelude.{◌≡◌, ◌+◌, ◌<◌, ◌≤◌, ◌^◌, ◌∷◌, List, length, OnSome};
 ghost use Rattle.std.specs.Iterator.{HoldsAlong, IsFinite, IsNearerEnd};
 ghost use Rattle.gpu_descriptor.specs.Inner.Buckets.{AreBookedIn};
-ghost use Rattle.gpu_descriptor.specs.Inner.Releases.{IsTakenAt, ReleasesRun, names_of};
+ghost use Rattle.gpu_descriptor.specs.Inner.Releases.{IsTakenAt, RunsInto, names_of};
 ghost use Rattle.gpu_descriptor.specs.Caller.Comparisons.{open_pools, binary_digits};
 ghost use Rattle.gpu_descriptor.specs.Caller.KeyOf.{key_of};
-ghost use Rattle.gpu_descriptor.specs.Inner.RunSteps.{AllPass, at_place};
+ghost use Rattle.gpu_descriptor.specs.Inner.RunSteps.{AllPass, EndsRun, at_place};
 ghost use Rattle.gpu_descriptor.specs.Inner.Stored.{bucket_of, stored_load};
 
 use crate::bucket::DescriptorBucket;
@@ -42,8 +42,12 @@ impl<P> DescriptorBucket<P> {
             (names_of D.meaning.set_name (first ∷ xs)) (bucket_of D.meaning.pool_name self.old)
             (D.ledger device.old).pools) }
         requires room { room.old + stored_load (key_of key.now) self.old.pools.items < 2 ^ 32 }
-        ensures ran { ReleasesRun I.next_gives D.meaning.pool_name D.meaning.set_name first sets.old
-            result sets.new self.old self.new (D.ledger device.old) (D.ledger device.new) }
+        ensures ran { (run : List (DescriptorSet S)) ×
+            EndsRun I.next_gives (at_place first.id first.number) sets.old run result sets.new ×
+            RunsInto first.key.is first.number (names_of D.meaning.set_name (first ∷ run))
+            (bucket_of D.meaning.pool_name self.old) (D.ledger device.old)
+            (bucket_of D.meaning.pool_name self.new) (D.ledger device.new) ×
+            (self.new.total + length (first ∷ run) ≡ self.old.total) }
         ensures goes { OnSome result (IsNearerEnd I.can_next I.remaining sets.old sets.new) }
         ensures rises { comparisons.old.count ≤ comparisons.new.count }
         ensures few { comparisons.new.count ≤ comparisons.old.count + binary_digits

@@ -1,4 +1,5 @@
 //! How a request takes sets from the pools of its key.
+ghost use Rattle.gpu_descriptor.specs.Inner.SetAt.{set_at};
 ghost use Rattle.std.specs.Prelude.{◌≡◌, ◌+◌, ◌<◌, ◌≤◌, ◌++◌, ◌^◌, List, [], length, map};
 ghost use Rattle.std.specs.Prelude.{if◌then◌else◌, IfOk, IfErr, IfSome, IfNone, OnErr, Err, true, false, ◌∷◌};
 ghost use Rattle.std.specs.VecDeque.{deque_capacity};
@@ -15,7 +16,7 @@ ghost use Rattle.gpu_descriptor.specs.Model.Books.{next_number};
 ghost use Rattle.gpu_descriptor.specs.Inner.OpenPools.{CountsLooks, IsListed, KeepsView, bucket_in};
 ghost use Rattle.gpu_descriptor.specs.Model.FreshPools.{IsNextSize};
 ghost use Rattle.gpu_descriptor.specs.Inner.Buckets.{IsBookedIn, AreBookedIn};
-ghost use Rattle.gpu_descriptor.specs.Inner.Walk.{entries_of, sets_at, IsAsked, IsNoMemory};
+ghost use Rattle.gpu_descriptor.specs.Inner.Walk.{IsAsked, IsNoMemory};
 ghost use Rattle.gpu_descriptor.specs.Inner.Walk.{IsRefused, IsWalked};
 ghost use Rattle.gpu_descriptor.specs.Caller.Call.{layout_key};
 ghost use Rattle.gpu_descriptor.specs.declared.bucket.take.Stop.TheVariants.{Existing};
@@ -98,10 +99,11 @@ fn ask<L, P, S, D: DescriptorDevice<L, P, S>>(
         (entry_of D.meaning.pool_name pool.old) }
     requires room { wanted ≤ sink.old.left }
     ensures asked { IfOk result (λ given. (put : List S) × (length put ≡ given) ×
-        (sink.new.sets.items ≡ sink.old.sets.items ++ sets_at (key_of sink.old.key.now) sink.old.id
-        sink.old.number put) × (sink.new.left + given ≡ sink.old.left) × IsAsked (key_of key.now)
-        wanted (map D.meaning.set_name put) (entry_of D.meaning.pool_name pool.old)
-        (entry_of D.meaning.pool_name pool.new) (D.ledger device.old) (D.ledger device.new)) }
+        (sink.new.sets.items ≡ sink.old.sets.items ++ map (set_at (key_of sink.old.key.now)
+        sink.old.id sink.old.number) put) × (sink.new.left + given ≡ sink.old.left) ×
+        IsAsked (key_of key.now) wanted (map D.meaning.set_name put)
+        (entry_of D.meaning.pool_name pool.old) (entry_of D.meaning.pool_name pool.new)
+        (D.ledger device.old) (D.ledger device.new)) }
     ensures err { IfErr result (λ e. (sink.new.sets.items ≡ sink.old.sets.items) × (entry_of
         D.meaning.pool_name pool.new ≡ entry_of D.meaning.pool_name pool.old) × IsNoMemory wanted
         (entry_of D.meaning.pool_name pool.old) e (D.ledger device.old) (D.ledger device.new)) }
@@ -137,7 +139,7 @@ fn walk<'k, L, P, S, D: DescriptorDevice<L, P, S>>(
 ) -> Result<u32, DeviceAllocationError>
     requires same { key_of request.now.key ≡ layout_key D.meaning request.now.layout.now }
     requires booked { AreBookedIn (key_of request.now.key) (D.ledger device.old).pools
-        (entries_of D.meaning.pool_name view.old.pools.now.items) }
+        (map (entry_of D.meaning.pool_name) view.old.pools.now.items) }
     requires listed { IsListed view.old }
     requires room { request.now.count ≤ sink.old.left }
     ensures walked { IfOk result (λ wanting. (put : List (DescriptorSet S)) ×
@@ -359,8 +361,8 @@ impl<P: Drop> DescriptorBucket<P> {
         requires bound { self.old.total + wanted < 2 ^ 64 }
         requires room { wanted ≤ sink.old.left }
         ensures grown { IfOk result (λ given. (put : List S) × (length put ≡ given) ×
-            (sink.new.sets.items ≡ sink.old.sets.items ++ sets_at (key_of request.now.key)
-            self.old.id (self.old.offset + length self.old.pools.items) put) ×
+            (sink.new.sets.items ≡ sink.old.sets.items ++ map (set_at (key_of request.now.key)
+            self.old.id (self.old.offset + length self.old.pools.items)) put) ×
             (sink.new.left + given ≡ sink.old.left) × (self.new.total ≡ self.old.total + given) ×
             IsGrown (key_of request.now.key) room.old room.new self.old.total wanted
             (map D.meaning.set_name put) (bucket_of D.meaning.pool_name self.old).pools

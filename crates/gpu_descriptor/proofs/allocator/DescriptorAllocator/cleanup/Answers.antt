@@ -10,13 +10,12 @@ use Rattle.gpu_descriptor.specs.Inner.Buckets.{AreBookedIn, has_pools}
 use Rattle.gpu_descriptor.specs.Inner.Ids.{rise_below, stored_ids}
 use Rattle.gpu_descriptor.proofs.table.Rising.{ids_put, rise_left}
 use Rattle.gpu_descriptor.specs.Caller.States.{outstanding_of, marked_load_of, named_row}
-use Rattle.gpu_descriptor.specs.Inner.Stored.{bucket_of, row_of, stored_load_in}
+use Rattle.gpu_descriptor.specs.Inner.Stored.{bucket_of, row_of}
 use Rattle.gpu_descriptor.specs.Caller.Values.{Allocations}
 use Rattle.gpu_descriptor.proofs.cleanup.Cleaning.{clean_agrees, takes_none}
 use Rattle.gpu_descriptor.proofs.foreign.ForeignPools.{cleaned_foreign, cleaned_loses}
-use Rattle.gpu_descriptor.proofs.sums.Loads.{rows_out, rows_load, rows_pool_load, sum_put}
+use Rattle.gpu_descriptor.proofs.sums.Loads.{rows_pool_load, stored_load_in, sum_put}
 use Rattle.gpu_descriptor.proofs.cleanup.KeyOrder.{keys_cleaned}
-use Rattle.gpu_descriptor.proofs.request.Requested.{keys_apart}
 use Rattle.gpu_descriptor.proofs.cleanup.RowsCleaned.{all_cleared, agree_is, cleared, counted_filter, counted_put, entry_there, ledger_less, next, next_stored, step_less, step_rows, whole_clean, whole_count}
 use Rattle.gpu_descriptor.proofs.foreign.OthersStay.{emptied, others_stay}
 use Rattle.gpu_descriptor.proofs.table.TableBooks.{rows_are, rows_in, distinct_rows, distinct_stored}
@@ -43,6 +42,7 @@ pub drop_front-requires-clause-room : goal.drop_front-requires-clause-room
 drop_front-requires-clause-room g c =
     let below = (sum_put stored_load_in c.loop-place.self-inside.buckets.entries c.loop-place.place (deref_pair c.unwrap.result).0 c.index_mut-bucket.result.now c.index_mut-bucket.result.now (at_place g (goal.at.drop_front-requires-clause-room g c).After-index_mut-bucket)).0 in
     let all = c.loop-place.invariant.counted.is_room in
+    let rows = rows_pool_load c.loop-place.self-inside.buckets.entries in
     let limit = c.loop-place.invariant.limit in
     let ranges = c.self.ranges in
     omega arith
@@ -112,8 +112,8 @@ returns g c =
         keys = keys_cleaned name c.args.self.now now (ledger c.args.device.now) (ledger c.loop-place.device) es c.loop-place.self-inside.buckets.entries c.retain.new.self.entries was refl distinct rows kept clean;
         outstanding_stay = takes_none _ _ c.requires.agree clean;
         totals_stay = (
-          rows_out c.retain.new.self.entries ∙ sym counted.is_out ∙ h.out ∙ c.self.invariant.is_out ∙ sym (rows_out es) ∙ ap outstanding_of c.self.view_is,
-          rows_load c.retain.new.self.entries ∙ sym counted.is_load ∙ h.marked ∙ c.self.invariant.is_load ∙ sym (rows_load es) ∙ ap marked_load_of c.self.view_is,
+          sym counted.is_out ∙ h.out ∙ c.self.invariant.is_out ∙ ap outstanding_of c.self.view_is,
+          sym counted.is_load ∙ h.marked ∙ c.self.invariant.is_load ∙ ap marked_load_of c.self.view_is,
         );
         emptied = emptied name c.args.self.now now (ledger c.args.device.now) (ledger c.loop-place.device) rows_before c.requires.agree clean;
         counts_stay = (h.looks ∙ ap (λ (a : Allocations _). a.looks) c.self.view_is, h.comparisons ∙ ap (λ (a : Allocations _). a.comparisons) c.self.view_is);
@@ -121,8 +121,8 @@ returns g c =
       keeps = record {
         agree = clean_agrees _ _ c.requires.agree clean;
         limit = h.limit ∙ ap (λ (a : Allocations _). a.limit) c.self.view_is;
-        load = (let load = rows_load c.retain.new.self.entries in let is = counted.is_load in let within = counted.within in omega arith);
-        pool_load = (let rows = rows_pool_load c.retain.new.self.entries in let is = counted.is_room in omega arith);
+        load = (let is = counted.is_load in let within = counted.within in omega arith);
+        pool_load = (let is = counted.is_room in omega arith);
         foreign = foreign;
         accounted = accounted;
         others = others_stay name c.args.self.now now (ledger c.args.device.now) (ledger c.loop-place.device) foreign accounted;

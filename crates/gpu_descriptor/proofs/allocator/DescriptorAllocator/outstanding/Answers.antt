@@ -3,14 +3,13 @@ use Rattle.gpu_descriptor.specs.Model.Books.{HasDistinctKeys}
 use Rattle.gpu_descriptor.specs.Caller.States.{outstanding_of, table_of}
 use Rattle.gpu_descriptor.specs.Model.Load.{sets_out}
 use Rattle.gpu_descriptor.specs.Caller.Values.{Allocations}
-use Rattle.gpu_descriptor.proofs.sums.Loads.{rows_out}
 use Rattle.gpu_descriptor.proofs.request.Requested.{rows_apart}
 use Rattle.gpu_descriptor.proofs.sums.TableSums.{adds_up, outstanding_of-table}
 use Rattle.gpu_descriptor.proofs.allocator.DescriptorAllocator.outstanding.Goals as goal
 
 pub returns : goal.returns
 returns g c =
-    let total = c.self.invariant.is_out ∙ sym (rows_out c.self.inside.buckets.entries) ∙ ap outstanding_of c.self.view_is in
+    let total = c.self.invariant.is_out ∙ ap outstanding_of c.self.view_is in
     let was = ap (λ (a : Allocations _). a.table) (sym c.self.view_is) in
     let rows : (name : g.row.P.Denot → ℕ) → HasDistinctKeys (table_of name c.args.self.now) = λ name. rows_apart _ c.self.view_is name c.self.invariant in
     record {

@@ -95,7 +95,7 @@ written g c at = written_at c.args.first.key.is c.self.invariant.distinct at _ _
 -- what the run takes from the totals
 run_taken : (g : _) (c : After-release_run-ahead g) → IsAt c.args.first.key.is c.self.inside.buckets.entries c.place_of_id-place.result c.index_mut-bucket.result.now
     → Taken c.args.first.key.is (c.index_mut-bucket.result.now.total - c.release_run-ahead.new.self.total) c.self.inside.buckets.entries (set_value_at c.self.inside.buckets.entries c.place_of_id-place.result c.release_run-ahead.new.self)
-run_taken g c at = taken (written g c at) (let total = c.release_run-ahead.ensures.ran.total in omega arith)
+run_taken g c at = taken (written g c at) (let total = c.release_run-ahead.ensures.ran.3 in omega arith)
 
 pub overflow_sub-self : goal.overflow_sub-self
 overflow_sub-self g c =
@@ -132,7 +132,7 @@ overflow_sub-self-2 g c =
 pub invariant_of-self-inside : goal.invariant_of-self-inside
 invariant_of-self-inside g c =
     let es = c.self.inside.buckets.entries in
-    let same = ids_put es c.place_of_id-place.result c.index_mut-bucket.result.now c.release_run-ahead.new.self c.index_mut-bucket.ensures.value (ap (λ (b : Bucket). b.id) c.release_run-ahead.ensures.ran.went.books) in
+    let same = ids_put es c.place_of_id-place.result c.index_mut-bucket.result.now c.release_run-ahead.new.self c.index_mut-bucket.ensures.value (ap (λ (b : Bucket). b.id) c.release_run-ahead.ensures.ran.2.books) in
     (ap (λ (ids : List ℕ). rise_below c.place_of_id-place.new.self.next ids) same ∙ ap (λ (n : ℕ). rise_below n (stored_ids es)) c.place_of_id-place.ensures.next ∙ c.self.inside.rising, tt)
 
 pub invariant_of-self : goal.invariant_of-self
@@ -149,7 +149,7 @@ returns-clause-ran g c =
     let at = goal.at.returns-clause-ran g c in
     let left = written g at.After-release_run-ahead (there g at.After-index_mut-bucket (entry g at.After-unwrap) (own g at.After-unwrap)) in
     let row = left.row in
-    let t = taken left ran.total in
+    let t = taken left ran.3 in
     let es = c.self.inside.buckets.entries in
     let was = table_is _ c.self.view_is in
     let name = g.D.DescriptorDevice.meaning.pool_name in
@@ -157,18 +157,18 @@ returns-clause-ran g c =
     let before = g.D.DescriptorDevice.ledger c.args.device.now in
     let after = g.D.DescriptorDevice.ledger c.release_run-ahead.new.device in
     let distinct = distinct_rows name es c.self.invariant.distinct in
-    let came = ends_at name set_name c.args.self.now before es was c.self.inside.ids.next c.self.inside.rising c.args.first.key.is c.args.first.id c.args.first.number (owner g at.After-unwrap) g.I.Iterator.next_gives c.args.first _ _ ran.sets _ c.requires.outstanding ran.came in
-    let state = row_ran name set_name c.args.self.now before es was c.requires.agree c.args.first row.test row.same c.index_mut-bucket.result.now row.at ran.sets came.0 c.release_run-ahead.new.self after ran.went c.self.inside.max_update_after_bind_descriptors_in_all_pools _ left.wrote in
+    let came = ends_at name set_name c.args.self.now before es was c.self.inside.ids.next c.self.inside.rising c.args.first.key.is c.args.first.id c.args.first.number (owner g at.After-unwrap) g.I.Iterator.next_gives c.args.first _ _ ran.0 _ c.requires.outstanding ran.1 in
+    let state = row_ran name set_name c.args.self.now before es was c.requires.agree c.args.first row.test row.same c.index_mut-bucket.result.now row.at ran.0 came.0 c.release_run-ahead.new.self after ran.2 c.self.inside.max_update_after_bind_descriptors_in_all_pools _ left.wrote in
     record {
-      sets = ran.sets;
+      sets = ran.0;
       came = came;
       back = record {
         state = state;
-        counters = row_counted name set_name c.args.self.now before es was c.requires.agree c.args.first row.test row.same c.index_mut-bucket.result.now row.at ran.sets came.0 c.release_run-ahead.new.self after ran.went distinct;
+        counters = row_counted name set_name c.args.self.now before es was c.requires.agree c.args.first row.test row.same c.index_mut-bucket.result.now row.at ran.0 came.0 c.release_run-ahead.new.self after ran.2 distinct;
         outstanding = out_after t c.args.self.now was;
-        marked = load_after t c.args.self.now was _ (run_load set_name c.args.first.key.is c.args.first.number (c.args.first ∷ ran.sets) (lies_own c.args.first, came.0));
-        returned = out_less (items_of set_name (c.args.first ∷ ran.sets)) (state_of name c.args.self.now before) _ c.requires.agree (c.requires.outstanding ran.sets ran.came.1.0 ran.came.1.1) state;
-        none = λ bad. absurd (let some : ◌≡◌ {A = List (DescriptorSet g.row.S.Denot)} (c.args.first ∷ ran.sets) [] = bad in cc);
+        marked = load_after t c.args.self.now was _ (run_load set_name c.args.first.key.is c.args.first.number (c.args.first ∷ ran.0) (lies_own c.args.first, came.0));
+        returned = out_less (items_of set_name (c.args.first ∷ ran.0)) (state_of name c.args.self.now before) _ c.requires.agree (c.requires.outstanding ran.0 ran.1.1.0 ran.1.1.1) state;
+        none = λ bad. absurd (let some : ◌≡◌ {A = List (DescriptorSet g.row.S.Denot)} (c.args.first ∷ ran.0) [] = bad in cc);
       };
     }
 

@@ -42,7 +42,7 @@ returns-in-Err-clause-declined g c =
 
 -- the descriptors of what came keep the limit
 fits : (g : _) (c : After-len-given g) → marked_load (key_of c.args.key) c.len-given.result + c.self.inside.current_update_after_bind_descriptors_in_all_pools ≤ c.self.inside.max_update_after_bind_descriptors_in_all_pools
-fits g c = given_fits c.in-Ok.ensures.served c.self.view_is c.self.invariant c.is_above_limit.ensures c.if-is_above_limit.false (c.len-given.ensures ∙ c.in-Ok.served.sets.ok.0)
+fits g c = given_fits c.serve_key-served.new.buckets.entries c.in-Ok.ensures.served c.self.view_is c.self.invariant c.is_above_limit.ensures c.if-is_above_limit.false (c.len-given.ensures ∙ c.in-Ok.served.sets.ok.0)
 
 pub descriptors_of_sets-descriptors-requires : goal.descriptors_of_sets-descriptors-requires
 descriptors_of_sets-descriptors-requires g c =
@@ -73,7 +73,7 @@ overflow_add-self-2 g c =
 
 -- the totals count what came
 counted : (g : _) (c : After-descriptors_of_sets-descriptors g) → IsConsistent c.self.inside.max_update_after_bind_descriptors_in_all_pools (c.self.inside.current_update_after_bind_descriptors_in_all_pools + c.descriptors_of_sets-descriptors.result) c.serve_key-served.new.room (c.self.inside.outstanding + c.len-given.result) c.serve_key-served.new.buckets.entries
-counted g c = counted_now c.in-Ok.ensures.served c.self.view_is c.self.invariant c.is_above_limit.ensures c.if-is_above_limit.false (c.len-given.ensures ∙ c.in-Ok.served.sets.ok.0) c.descriptors_of_sets-descriptors.ensures c.serve_key-served.ensures.room c.in-Ok.ensures.distinct
+counted g c = counted_now c.serve_key-served.new.buckets.entries c.in-Ok.ensures.served c.self.view_is c.self.invariant c.is_above_limit.ensures c.if-is_above_limit.false (c.len-given.ensures ∙ c.in-Ok.served.sets.ok.0) c.descriptors_of_sets-descriptors.ensures c.serve_key-served.ensures.room c.in-Ok.ensures.distinct
 
 pub invariant_of-self-2 : goal.invariant_of-self-2
 invariant_of-self-2 g c = counted g (goal.at.invariant_of-self-2 g c).After-descriptors_of_sets-descriptors
@@ -89,7 +89,7 @@ returns-clause-rows g c = rows_distinct g.D.DescriptorDevice.meaning.pool_name _
 
 pub returns-clause-taken : goal.returns-clause-taken
 returns-clause-taken g c =
-    takes_of c.in-Ok.ensures.served c.self.view_is c.self.invariant c.is_above_limit.ensures c.if-is_above_limit.false c.is_past_bound.ensures c.if-is_past_bound.false
+    takes_of c.serve_key-served.new.buckets.entries c.in-Ok.ensures.served c.self.view_is c.self.invariant c.is_above_limit.ensures c.if-is_above_limit.false c.is_past_bound.ensures c.if-is_past_bound.false
 
 pub returns-then-is_above_limit-clause-rows : goal.returns-then-is_above_limit-clause-rows
 returns-then-is_above_limit-clause-rows g c = rows_apart _ c.self.view_is g.D.DescriptorDevice.meaning.pool_name c.self.invariant

@@ -2,14 +2,13 @@ use Rattle.std.proofs.Common.{◌≤◌, sym, ap, subst, ◌∙◌}
 use Rattle.gpu_descriptor.specs.Caller.States.{marked_load_of}
 use Rattle.gpu_descriptor.specs.Model.Load.{descriptors_out}
 use Rattle.gpu_descriptor.specs.Caller.Values.{Allocations}
-use Rattle.gpu_descriptor.proofs.sums.Loads.{rows_load}
 use Rattle.gpu_descriptor.proofs.request.Requested.{rows_apart}
 use Rattle.gpu_descriptor.proofs.sums.TableSums.{adds_up, marked_load_of-table}
 use Rattle.gpu_descriptor.proofs.allocator.DescriptorAllocator.update_after_bind_descriptors.Goals as goal
 
 pub returns : goal.returns
 returns g c =
-    let sum = c.self.invariant.is_load ∙ sym (rows_load c.self.inside.buckets.entries) ∙ ap marked_load_of c.self.view_is in
+    let sum = c.self.invariant.is_load ∙ ap marked_load_of c.self.view_is in
     let was = ap (λ (a : Allocations _). a.table) (sym c.self.view_is) in
     record {
       sum = sum;

@@ -11,14 +11,14 @@ use Rattle.std.proofs.lemmas.List.{map-append}
 use Rattle.gpu_descriptor_types.specs.Bounds.{greatest_u64}
 use Rattle.std.proofs.Common.{◌≡◌, ◌+◌, ◌≤◌, ◌++◌, ◌∷◌, [], Bool, List, Result, Ok, Err, None, inl, refl, sym, ap, ◌∙◌, subst, arith, rules, map}
 use Rattle.std.specs.List.{IsDistinct}
-use Rattle.std.specs.Prelude.{IfOk, IfErr, OnOk, OnErr}
+use Rattle.std.specs.Prelude.{OnOk}
 use Rattle.std.proofs.lemmas.Result.{IfErr-weaker, IfOk-weaker, on_err_weaker}
 use Rattle.indexmap.specs.IndexMap.{IndexMap, insert_entry}
 use Rattle.indexmap.proofs.CallerLemmas.{insert_entry-new}
 use Rattle.gpu_descriptor.specs.Model.Books.{Bucket, key_eq, no_pools, next_number}
 use Rattle.gpu_descriptor.specs.Caller.KeyOf.{key_of}
 use Rattle.gpu_descriptor.specs.Inner.Buckets.{AreBookedIn}
-use Rattle.gpu_descriptor.specs.Inner.Stored.{books_in, entry_of, stored_keys, stored_load}
+use Rattle.gpu_descriptor.specs.Inner.Stored.{books_in, entry_of, stored_keys, stored_load, row_of}
 use Rattle.gpu_descriptor.specs.Inner.Serves.{IsUnserved}
 use Rattle.gpu_descriptor.proofs.cleanup.KeyOrder.{keys_put, keys_written}
 use Rattle.gpu_descriptor.proofs.sums.Loads.{IsRow, IsWritten, total_present, pools_set, pools_end}
@@ -59,7 +59,7 @@ left g c = written_at (key_of c.args.request.now.key) c.requires.distinct (there
 pub returns-in-Some-clause-served : goal.returns-in-Some-clause-served
 returns-in-Some-clause-served g c =
     let r = left g (goal.at.returns-in-Some-clause-served g c).After-serve in
-    IfOk-weaker c.serve.result _ _ (λ taken s. serves_present c.args.request.now.key c.serve.new.self s.0 s.1 refl refl r) c.serve.ensures.served
+    IfOk-weaker c.serve.result _ _ (λ taken s. serves_present c.args.request.now.key c.serve.new.self s.0 s.1 c.args.buckets.now.entries refl refl r) c.serve.ensures.served
 
 pub returns-in-Some-clause-refused : goal.returns-in-Some-clause-refused
 returns-in-Some-clause-refused g c =
@@ -76,7 +76,7 @@ pub returns-in-Some-clause-keys : goal.returns-in-Some-clause-keys
 returns-in-Some-clause-keys g c = on_ok c.serve.result (let r = left g (goal.at.returns-in-Some-clause-keys g c).After-serve in keys_written (key_of c.args.request.now.key) r.row.test c.args.buckets.now.entries _ c.serve.new.self r.wrote)
 
 -- a key that the table lacks has no pools
-absent : (g : _) (c : In-None g) → books_in g.D.DescriptorDevice.meaning.pool_name c.args.buckets.now.entries (key_of c.args.request.now.key) ≡ no_pools
+absent : (g : _) (c : In-None g) → books_in g.D.DescriptorDevice.meaning.pool_name (map row_of c.args.buckets.now.entries) (key_of c.args.request.now.key) ≡ no_pools
 absent g c = missing g.D.DescriptorDevice.meaning.pool_name (key_of c.args.request.now.key) c.args.buckets.now.entries _ (λ k. search rules) (c.in-None.ensures.place)
 
 pub returns-then-is_err-clause-refused : goal.returns-then-is_err-clause-refused
@@ -104,7 +104,7 @@ put g c =
 
 pub returns-clause-served : goal.returns-clause-served
 returns-clause-served g c =
-    serves_new c.args.request.now.key c.serve-2.new.self c.in-Ok.ensures.served.0 c.in-Ok.ensures.served.1 (is_of (key_of c.args.request.now.key)) (λ k. search rules) (c.in-None.ensures.place) (put g (goal.at.returns-clause-served g c).In-Ok-insert) (λ i. record { id = c.place_of_key.new.self.next; first = 0; pools = map (entry_of g.D.DescriptorDevice.meaning.pool_name) (c.new.ensures.items i) }) refl
+    serves_new c.args.request.now.key c.serve-2.new.self c.in-Ok.ensures.served.0 c.in-Ok.ensures.served.1 c.args.buckets.now.entries (is_of (key_of c.args.request.now.key)) (λ k. search rules) (c.in-None.ensures.place) (put g (goal.at.returns-clause-served g c).In-Ok-insert) (λ i. record { id = c.place_of_key.new.self.next; first = 0; pools = map (entry_of g.D.DescriptorDevice.meaning.pool_name) (c.new.ensures.items i) }) refl
 
 pub returns-clause-room : goal.returns-clause-room
 returns-clause-room g c =

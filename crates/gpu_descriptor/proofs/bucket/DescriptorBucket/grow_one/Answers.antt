@@ -1,3 +1,4 @@
+use Rattle.gpu_descriptor.specs.Inner.SetAt.{set_at}
 use Rattle.std.proofs.Common.{◌≡◌, ℕ, ◌+◌, ◌-◌, ◌≤◌, ◌++◌, List, [], ◌∷◌, length, map, min, refl, sym, ap, ◌∙◌, subst, arith}
 use Rattle.std.proofs.lemmas.List.{length-map, map-append}
 use Rattle.std.specs.Prelude.{Some}
@@ -10,7 +11,6 @@ use Rattle.gpu_descriptor.specs.Model.Load.{pool_load}
 use Rattle.gpu_descriptor.specs.declared.bucket.take.Stop.TheVariants as stop
 use Rattle.gpu_descriptor.specs.Caller.KeyOf.{key_of}
 use Rattle.gpu_descriptor.specs.Inner.Stored.{entry_of}
-use Rattle.gpu_descriptor.specs.Inner.Walk.{entries_of, sets_at}
 use Rattle.gpu_descriptor.proofs.request.NextSize.{one_fits}
 use Rattle.gpu_descriptor.proofs.request.Asks.{same_entry}
 use Rattle.gpu_descriptor.proofs.request.PoolCreated.{created_for, created_at, fresh_room, no_sets, grown, not_grown, not_created, none_asked, had_room, create_asked, alloc_asked}
@@ -45,15 +45,15 @@ module _ (g : _) (c : In-Ok g) where
   fits = one_fits key c.args.room.now c.args.self.now.total c.args.wanted size c.in-Some.ensures.sets
 
 -- what came stands behind what was there
-kept : (g : _) (c : In-Ok-alloc_descriptor_sets g) → c.alloc_descriptor_sets.new.sets.sets.items ≡ c.args.sink.now.sets.items ++ sets_at (key_of c.args.request.now.key) c.args.self.now.id (c.args.self.now.offset + length c.args.self.now.pools.items) c.in-Ok-alloc_descriptor_sets.ensures.ok.sets
+kept : (g : _) (c : In-Ok-alloc_descriptor_sets g) → c.alloc_descriptor_sets.new.sets.sets.items ≡ c.args.sink.now.sets.items ++ map (set_at (key_of c.args.request.now.key) c.args.self.now.id (c.args.self.now.offset + length c.args.self.now.pools.items)) c.in-Ok-alloc_descriptor_sets.ensures.ok.sets
 kept g c =
     let put = c.in-Ok-alloc_descriptor_sets.ensures.ok in
     let number = c.aim.ensures.number ∙ c.next_number.ensures ∙ (let k = c.make_room.ensures.offset in let same = ap length c.make_room.ensures.pools in let e : c.make_room.new.self.offset + length c.make_room.new.self.pools.items ≡ c.args.self.now.offset + length c.args.self.now.pools.items = omega arith in e) in
     put.kept
-    ∙ ap (λ l. l ++ sets_at (key_of c.aim.new.self.key.now) c.aim.new.self.id c.aim.new.self.number put.sets) c.aim.ensures.sets
-    ∙ ap (λ k. c.args.sink.now.sets.items ++ sets_at (key_of k) c.aim.new.self.id c.aim.new.self.number put.sets) c.aim.ensures.key
-    ∙ ap (λ j. c.args.sink.now.sets.items ++ sets_at (key_of c.args.request.now.key) j c.aim.new.self.number put.sets) (c.aim.ensures.id ∙ c.make_room.ensures.id)
-    ∙ ap (λ n. c.args.sink.now.sets.items ++ sets_at (key_of c.args.request.now.key) c.args.self.now.id n put.sets) number
+    ∙ ap (λ l. l ++ map (set_at (key_of c.aim.new.self.key.now) c.aim.new.self.id c.aim.new.self.number) put.sets) c.aim.ensures.sets
+    ∙ ap (λ k. c.args.sink.now.sets.items ++ map (set_at (key_of k) c.aim.new.self.id c.aim.new.self.number) put.sets) c.aim.ensures.key
+    ∙ ap (λ j. c.args.sink.now.sets.items ++ map (set_at (key_of c.args.request.now.key) j c.aim.new.self.number) put.sets) (c.aim.ensures.id ∙ c.make_room.ensures.id)
+    ∙ ap (λ n. c.args.sink.now.sets.items ++ map (set_at (key_of c.args.request.now.key) c.args.self.now.id n) put.sets) number
 
 pub alloc_descriptor_sets-requires-clause-fits : goal.alloc_descriptor_sets-requires-clause-fits
 alloc_descriptor_sets-requires-clause-fits g c =
@@ -95,8 +95,8 @@ returns-in-Ok-alloc_descriptor_sets-clause-grown g c =
     let many : length put.sets ≡ c.min-given.result = put.many ∙ c.new.ensures.left in
     let long : length names ≡ min c.in-Some.size c.args.wanted = length-map put.sets g.D.DescriptorDevice.meaning.set_name ∙ many ∙ count in
     let is : m' ≡ after_alloc (name g d) (live_sets (key g d).counts names) (created g d) = put.ledger ∙ ap (λ cs. after_alloc (name g d) (live_sets cs names) (created g d)) (ap g.D.DescriptorDevice.meaning.counts c.new.ensures.layout ∙ sym (ap (λ (k : Key). k.counts) c.requires.same)) in
-    let old : List Entry = entries_of g.D.DescriptorDevice.meaning.pool_name c.args.self.now.pools.items in
-    let new : List Entry = entries_of g.D.DescriptorDevice.meaning.pool_name c.push.new.self.pools.items in
+    let old : List Entry = map (entry_of g.D.DescriptorDevice.meaning.pool_name) c.args.self.now.pools.items in
+    let new : List Entry = map (entry_of g.D.DescriptorDevice.meaning.pool_name) c.push.new.self.pools.items in
     let value : DescriptorPool g.row.P.Denot = record { raw = c.alloc_descriptor_sets.new.pool; capacity = c.in-Some.size; allocated = c.min-given.result; available = c.in-Some.size - c.min-given.result } in
     let now : new ≡ old ++ record { pool = name g d; capacity = size g d; allocated = min (size g d) c.args.wanted; free = size g d - min (size g d) c.args.wanted } ∷ [] =
     ap (map (entry_of g.D.DescriptorDevice.meaning.pool_name)) (c.push.ensures.pools ∙ ap (λ x. x ++ value ∷ []) c.make_room.ensures.pools)

@@ -187,19 +187,18 @@ returns-clause-ran g c =
     let fits = (counted g f (at g r)).0 in
     let less = total_less c.args.self.now.pools.items (place g f) c.index_mut-pool.result.now c.dealloc_descriptor_sets.new.pool c.finish-count.result (here g r) c.index_mut-pool.ensures.value (omega arith) in
     let long = length-map d.run.xs (λ (x : DescriptorSet _). g.D.DescriptorDevice.meaning.set_name x.raw) in
-    let entries = changed g f (at g r) ∙ ap (λ (l : ℕ). set es (place g f) (entry_less l e)) d.long in
-    record {
-      sets = d.run.xs;
-      came = run_ends g.I.Iterator.next_gives g.I.Iterator.can_next g.I.Iterator.remaining g.D.DescriptorDevice.meaning.set_name c.args.first _ c.dealloc_descriptor_sets.new.sets t.items d.run _ _ (search (rules, m, h)) (search (rules, v, w));
-      went = record {
+    let entries = changed g f (at g r) ∙ ap (λ (l : ℕ). set es (place g f) (entry_less l e)) d.long in (
+      d.run.xs,
+      run_ends g.I.Iterator.next_gives g.I.Iterator.can_next g.I.Iterator.remaining g.D.DescriptorDevice.meaning.set_name c.args.first _ c.dealloc_descriptor_sets.new.sets t.items d.run _ _ (search (rules, m, h)) (search (rules, v, w)),
+      record {
         entry = e;
         at = (let first = c.requires.taken [] c.args.sets.now refl tt in entry_at-from (bucket_of g.D.DescriptorDevice.meaning.pool_name c.args.self.now) c.args.first.number e (entry_at-found (bucket_of g.D.DescriptorDevice.meaning.pool_name c.args.self.now) c.args.first.number first.entry first.at).0 (at g r));
         books = c.drop_front.ensures.books ∙ ap (λ (x : List Entry). trimmed_bucket 1 (bucket c.args.self.now.id c.args.self.now.offset x)) entries;
         ledger = c.drop_front.ensures.ledger ∙ ap (λ (x : List Entry). trimmed_ledger 1 (bucket c.args.self.now.id c.args.self.now.offset x) (g.D.DescriptorDevice.ledger c.dealloc_descriptor_sets.new.self)) entries
             ∙ ap (λ (l : Ledger). trimmed_ledger 1 (bucket c.args.self.now.id c.args.self.now.offset (set es (place g f) (entry_less (length (names_of g.D.DescriptorDevice.meaning.set_name (c.args.first ∷ d.run.xs))) e))) l) (t.ledger ∙ ap (λ (ls : List LiveSet). after_release e.pool ls (g.D.DescriptorDevice.ledger c.args.device.now)) d.sets);
-      };
-      total = (let total = c.drop_front.ensures.total in let from = c.from.ensures in let few = less.0 in let sum = c.args.self.now.counted in omega arith);
-    }
+      },
+      (let total = c.drop_front.ensures.total in let from = c.from.ensures in let few = less.0 in let sum = c.args.self.now.counted in omega arith),
+    )
 
 pub returns-clause-goes : goal.returns-clause-goes
 returns-clause-goes g c =

@@ -15,7 +15,7 @@ use Rattle.gpu_descriptor.specs.Caller.KeyOf.{key_of}
 use Rattle.gpu_descriptor.specs.Caller.Sets.{items_of}
 use Rattle.gpu_descriptor.specs.Inner.Grow.{IsTaken}
 use Rattle.gpu_descriptor.specs.Inner.Stored.{bucket_of, entry_of, stored_load}
-use Rattle.gpu_descriptor.specs.Inner.Walk.{entries_of, sets_at, IsWalked}
+use Rattle.gpu_descriptor.specs.Inner.Walk.{IsWalked}
 use Rattle.gpu_descriptor.proofs.table.Exact.{bucket}
 use Rattle.gpu_descriptor.proofs.request.Growing.{Growing, grow_start, grow_more, grow_end, grow_stop, grown_long, walked_long, load_more, load_walked}
 use Rattle.gpu_descriptor.proofs.sums.StoredPools.{allocated_entries, load_entries}
@@ -24,20 +24,20 @@ use Rattle.gpu_descriptor.proofs.bucket.DescriptorBucket.take.Goals as goal
 
 -- a walk leaves the load of the key's pools, and how many there are
 module _ {P : Type 0} (name : P → ℕ) {k : Key} {n id first own start : ℕ} {items : List Item} (old new : List (DescriptorPool P)) {l m : Ledger} where
-  walked_load : {wanting : ℕ} → IsWalked k n wanting items (bucket id first (entries_of name old)) (bucket own start (entries_of name new)) l m → stored_load k new ≡ stored_load k old
-  walked_load w = (let a = load_entries name k old in let b = load_entries name k new in let same = load_walked k n w.grant (bucket id first (entries_of name old)) (bucket own start (entries_of name new)) l m items w.taken w.no_fresh in omega arith)
+  walked_load : {wanting : ℕ} → IsWalked k n wanting items (bucket id first (map (entry_of name) old)) (bucket own start (map (entry_of name) new)) l m → stored_load k new ≡ stored_load k old
+  walked_load w = (let a = load_entries name k old in let b = load_entries name k new in let same = load_walked k n w.grant (bucket id first (map (entry_of name) old)) (bucket own start (map (entry_of name) new)) l m items w.taken w.no_fresh in omega arith)
 
-  stopped_load : {error : DeviceAllocationError} → IsTaken (Err (Existing error)) k 0 n items (bucket id first (entries_of name old)) (bucket own start (entries_of name new)) l m → stored_load k new ≡ stored_load k old
-  stopped_load t = (let a = load_entries name k old in let b = load_entries name k new in let same = load_walked k n t.0 (bucket id first (entries_of name old)) (bucket own start (entries_of name new)) l t.1 items t.2 t.3.no_fresh in omega arith)
+  stopped_load : {error : DeviceAllocationError} → IsTaken (Err (Existing error)) k 0 n items (bucket id first (map (entry_of name) old)) (bucket own start (map (entry_of name) new)) l m → stored_load k new ≡ stored_load k old
+  stopped_load t = (let a = load_entries name k old in let b = load_entries name k new in let same = load_walked k n t.0 (bucket id first (map (entry_of name) old)) (bucket own start (map (entry_of name) new)) l t.1 items t.2 t.3.no_fresh in omega arith)
 
 pub loop-wanting-init : goal.loop-wanting-init
 loop-wanting-init g c =
     let name = g.D.DescriptorDevice.meaning.pool_name in
     let known = c.in-Ok.ensures.walked in
-    let walked = subst (λ (b : Bucket). IsWalked (key_of c.args.request.now.key) c.args.request.now.count c.in-Ok.wanting (items_of g.D.DescriptorDevice.meaning.set_name c.take_known.new.sink.sets.items) (bucket_of name c.args.self.now) b (g.D.DescriptorDevice.ledger c.args.device.now) (g.D.DescriptorDevice.ledger c.take_known.new.device)) (λ i. bucket (c.take_known.ensures.id i) (c.take_known.ensures.offset i) (entries_of name c.take_known.new.self.pools.items)) known.2 in
+    let walked = subst (λ (b : Bucket). IsWalked (key_of c.args.request.now.key) c.args.request.now.count c.in-Ok.wanting (items_of g.D.DescriptorDevice.meaning.set_name c.take_known.new.sink.sets.items) (bucket_of name c.args.self.now) b (g.D.DescriptorDevice.ledger c.args.device.now) (g.D.DescriptorDevice.ledger c.take_known.new.device)) (λ i. bucket (c.take_known.ensures.id i) (c.take_known.ensures.offset i) (map (entry_of name) c.take_known.new.self.pools.items)) known.2 in
     let key : Key = key_of c.args.request.now.key in
-    let old : List Entry = entries_of name c.args.self.now.pools.items in
-    let new : List Entry = entries_of name c.take_known.new.self.pools.items in
+    let old : List Entry = map (entry_of name) c.args.self.now.pools.items in
+    let new : List Entry = map (entry_of name) c.take_known.new.self.pools.items in
     let start = grow_start key c.args.room.now c.args.request.now.count c.args.self.now.id c.args.self.now.offset c.take_known.new.self.total c.in-Ok.wanting (items_of g.D.DescriptorDevice.meaning.set_name c.take_known.new.sink.sets.items) old new (g.D.DescriptorDevice.ledger c.args.device.now) (g.D.DescriptorDevice.ledger c.take_known.new.device) walked (let out = allocated_entries name c.args.self.now.pools.items in let total = c.args.self.now.counted in let all = known.0 in let more = c.take_known.ensures.total in omega arith) in
     let long = walked_long key _ _ _ _ _ _ _ walked in
     record {
@@ -56,8 +56,8 @@ pub returns-clause-taken : goal.returns-clause-taken
 returns-clause-taken g c =
     let inv = c.loop-wanting.invariant in
     let key : Key = key_of c.args.request.now.key in
-    let old : List Entry = entries_of g.D.DescriptorDevice.meaning.pool_name c.args.self.now.pools.items in
-    let new : List Entry = entries_of g.D.DescriptorDevice.meaning.pool_name c.loop-wanting.self.pools.items in
+    let old : List Entry = map (entry_of g.D.DescriptorDevice.meaning.pool_name) c.args.self.now.pools.items in
+    let new : List Entry = map (entry_of g.D.DescriptorDevice.meaning.pool_name) c.loop-wanting.self.pools.items in
     let l : Ledger = g.D.DescriptorDevice.ledger c.args.device.now in
     let m : Ledger = g.D.DescriptorDevice.ledger c.loop-wanting.device in
     let out : List Item = items_of g.D.DescriptorDevice.meaning.set_name c.loop-wanting.sink.sets.items in
@@ -70,11 +70,11 @@ returns-in-Err-grow_one-clause-taken g c =
     let inv = c.loop-wanting.invariant in
     let err = c.in-Err-grow_one.ensures.err in
     let key : Key = key_of c.args.request.now.key in
-    let old : List Entry = entries_of g.D.DescriptorDevice.meaning.pool_name c.args.self.now.pools.items in
+    let old : List Entry = map (entry_of g.D.DescriptorDevice.meaning.pool_name) c.args.self.now.pools.items in
     let l : Ledger = g.D.DescriptorDevice.ledger c.args.device.now in
     let m : Ledger = g.D.DescriptorDevice.ledger c.loop-wanting.device in
     let m' : Ledger = g.D.DescriptorDevice.ledger c.grow_one.new.device in
-    let new' : List Entry = entries_of g.D.DescriptorDevice.meaning.pool_name c.grow_one.new.self.pools.items in
+    let new' : List Entry = map (entry_of g.D.DescriptorDevice.meaning.pool_name) c.grow_one.new.self.pools.items in
     let put : List Item = items_of g.D.DescriptorDevice.meaning.set_name c.grow_one.new.sink.sets.items in
     let stays : Growing key c.args.room.now c.args.request.now.count c.args.self.now.id c.args.self.now.offset c.loop-wanting.room c.loop-wanting.self.total c.loop-wanting.wanting put old new' l m = rw (err.0, err.1) inv.growing in
     subst (λ (b : Bucket). IsTaken (Err c.in-Err-grow_one.why) key c.args.room.now c.args.request.now.count put (bucket_of g.D.DescriptorDevice.meaning.pool_name c.args.self.now) b l m') (λ i. bucket (sym (c.in-Err-grow_one.ensures.id ∙ inv.id) i) (sym (c.in-Err-grow_one.ensures.offset ∙ inv.offset) i) new')
@@ -86,9 +86,9 @@ loop-wanting-preserved g c =
     let got = c.in-Ok-grow_one.ensures.grown in
     let key : Key = key_of c.args.request.now.key in
     let items : List (DescriptorPool g.row.P.Denot) = c.loop-wanting.self.pools.items in
-    let old : List Entry = entries_of g.D.DescriptorDevice.meaning.pool_name c.args.self.now.pools.items in
-    let new : List Entry = entries_of g.D.DescriptorDevice.meaning.pool_name items in
-    let new' : List Entry = entries_of g.D.DescriptorDevice.meaning.pool_name c.grow_one.new.self.pools.items in
+    let old : List Entry = map (entry_of g.D.DescriptorDevice.meaning.pool_name) c.args.self.now.pools.items in
+    let new : List Entry = map (entry_of g.D.DescriptorDevice.meaning.pool_name) items in
+    let new' : List Entry = map (entry_of g.D.DescriptorDevice.meaning.pool_name) c.grow_one.new.self.pools.items in
     let l : Ledger = g.D.DescriptorDevice.ledger c.args.device.now in
     let m : Ledger = g.D.DescriptorDevice.ledger c.loop-wanting.device in
     let m' : Ledger = g.D.DescriptorDevice.ledger c.grow_one.new.device in
@@ -102,7 +102,7 @@ loop-wanting-preserved g c =
     let few : length more ≤ c.loop-wanting.wanting = (let a = grown.many in let b = grown.given in omega arith) in
     let next : Growing key c.args.room.now c.args.request.now.count c.args.self.now.id c.args.self.now.offset c.grow_one.new.room c.grow_one.new.self.total left (put ++ items_at key c.args.self.now.id (c.args.self.now.offset + length old + length inv.growing.fresh) more) old new' l m' = grow_more key c.args.room.now c.args.request.now.count c.args.self.now.id c.args.self.now.offset c.loop-wanting.room c.grow_one.new.room c.loop-wanting.self.total c.loop-wanting.wanting put old new new' l m m' more c.requires.booked inv.growing grown c.grow_one.new.self.total left some (got.4 ∙ ap (λ n. c.loop-wanting.self.total + n) given) (omega arith) in
     let number : c.loop-wanting.self.offset + length items ≡ c.args.self.now.offset + length old + length inv.growing.fresh = (let a = length-map items (entry_of g.D.DescriptorDevice.meaning.pool_name) in let first = inv.offset in let b = grown_long key c.args.room.now c.args.request.now.count c.args.self.now.id c.args.self.now.offset c.loop-wanting.room c.loop-wanting.self.total c.loop-wanting.wanting put old new l m inv.growing in omega arith) in
-    let fresh : List (DescriptorSet g.row.S.Denot) = sets_at key c.loop-wanting.self.id (c.loop-wanting.self.offset + length items) got.0 in
+    let fresh : List (DescriptorSet g.row.S.Denot) = map (set_at key c.loop-wanting.self.id (c.loop-wanting.self.offset + length items)) got.0 in
     let seen : items_of g.D.DescriptorDevice.meaning.set_name c.grow_one.new.sink.sets.items ≡ put ++ items_at key c.args.self.now.id (c.args.self.now.offset + length old + length inv.growing.fresh) more =
     ap (items_of g.D.DescriptorDevice.meaning.set_name) got.2 ∙ map-append _ sets fresh
     ∙ ap (λ x. put ++ x) (items_of-sets_at g.D.DescriptorDevice.meaning.set_name key c.loop-wanting.self.id (c.loop-wanting.self.offset + length items) got.0 ∙ ap (λ i. items_at key i (c.loop-wanting.self.offset + length items) more) inv.id ∙ ap (λ n. items_at key c.args.self.now.id n more) number) in

@@ -1,10 +1,9 @@
 -- So many sets are still wanting, and the new pools gave what the others lacked.
-use Rattle.std.proofs.Common.{◌≡◌, ◌+◌, ◌≤◌, length}
+use Rattle.std.proofs.Common.{◌≡◌, ◌+◌, ◌≤◌, length, map}
 use Rattle.gpu_descriptor.specs.Caller.KeyOf.{key_of}
 use Rattle.gpu_descriptor.specs.Caller.Sets.{items_of}
 use Rattle.gpu_descriptor.specs.Inner.OpenPools.{CountsLooks}
-use Rattle.gpu_descriptor.specs.Inner.Stored.{stored_load}
-use Rattle.gpu_descriptor.specs.Inner.Walk.{entries_of}
+use Rattle.gpu_descriptor.specs.Inner.Stored.{stored_load, entry_of}
 use Rattle.gpu_descriptor.proofs.request.Growing.{Growing}
 use Rattle.gpu_descriptor.proofs.bucket.DescriptorBucket.take.Given as goal
 
@@ -16,7 +15,7 @@ invariant-loop-wanting g l = record {
   id : l.self.id ≡ l.fn.self.id;
   offset : l.self.offset ≡ l.fn.self.offset;
   pools : length l.self.pools.items + l.wanting ≤ length l.fn.self.pools.items + l.fn.request.count;
-  growing : Growing (key_of l.fn.request.key) l.fn.room l.fn.request.count l.fn.self.id l.fn.self.offset l.room l.self.total l.wanting (items_of g.D.DescriptorDevice.meaning.set_name l.sink.sets.items) (entries_of g.D.DescriptorDevice.meaning.pool_name l.fn.self.pools.items) (entries_of g.D.DescriptorDevice.meaning.pool_name l.self.pools.items) (g.D.DescriptorDevice.ledger l.fn.device) (g.D.DescriptorDevice.ledger l.device);
+  growing : Growing (key_of l.fn.request.key) l.fn.room l.fn.request.count l.fn.self.id l.fn.self.offset l.room l.self.total l.wanting (items_of g.D.DescriptorDevice.meaning.set_name l.sink.sets.items) (map (entry_of g.D.DescriptorDevice.meaning.pool_name) l.fn.self.pools.items) (map (entry_of g.D.DescriptorDevice.meaning.pool_name) l.self.pools.items) (g.D.DescriptorDevice.ledger l.fn.device) (g.D.DescriptorDevice.ledger l.device);
   load : l.room + stored_load (key_of l.fn.request.key) l.self.pools.items ≡ l.fn.room + stored_load (key_of l.fn.request.key) l.fn.self.pools.items;
   looks : CountsLooks l.fn.looks.count l.looks.count (g.D.DescriptorDevice.ledger l.fn.device) (g.D.DescriptorDevice.ledger l.device);
 }

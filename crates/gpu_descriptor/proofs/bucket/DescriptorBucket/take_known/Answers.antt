@@ -1,4 +1,4 @@
-use Rattle.std.proofs.Common.{◌≡◌, ℕ, Global, ◌+◌, [], ◌++◌, arith, length, sum_by, List, Result, Ok, Err, sym, ap, ◌∙◌, subst}
+use Rattle.std.proofs.Common.{◌≡◌, ℕ, Global, ◌+◌, [], ◌++◌, arith, length, sum_by, List, Result, Ok, Err, sym, ap, ◌∙◌, subst, map}
 use Rattle.std.specs.Prelude.{IfOk, IfErr}
 use Rattle.std.specs.declared.collections.VecDeque.{VecDeque}
 use Rattle.std.proofs.lemmas.List.{length-map}
@@ -16,8 +16,8 @@ use Rattle.gpu_descriptor.specs.Inner.Buckets.{AreBookedIn}
 use Rattle.gpu_descriptor.specs.Inner.Grow.{IsTaken}
 use Rattle.gpu_descriptor.specs.Inner.OpenNumbers.{free_in, open_numbers}
 use Rattle.gpu_descriptor.specs.Inner.OpenPools.{bucket_in}
-use Rattle.gpu_descriptor.specs.Inner.Stored.{bucket_of}
-use Rattle.gpu_descriptor.specs.Inner.Walk.{entries_of, IsWalked}
+use Rattle.gpu_descriptor.specs.Inner.Stored.{bucket_of, entry_of}
+use Rattle.gpu_descriptor.specs.Inner.Walk.{IsWalked}
 use Rattle.gpu_descriptor.proofs.table.Exact.{bucket}
 use Rattle.gpu_descriptor.proofs.sums.StoredPools.{allocated_entries}
 use Rattle.gpu_descriptor.proofs.bucket.DescriptorBucket.take_known.Goals.{After-walk-walked}
@@ -36,13 +36,13 @@ module _ {S : Type 0} (name : S → ℕ) {was now : List (DescriptorSet S)} (put
 
 -- the bucket before and after, as the view has it
 was_bucket : (g : _) (c : After-walk-walked g) → bucket_in g.D.DescriptorDevice.meaning.pool_name c.new-view.result ≡ bucket_of g.D.DescriptorDevice.meaning.pool_name c.args.self.now
-was_bucket g c = λ i. bucket (c.new-view.ensures.id i) (c.new-view.ensures.offset i) (entries_of g.D.DescriptorDevice.meaning.pool_name (c.new-view.ensures.pools i).items)
+was_bucket g c = λ i. bucket (c.new-view.ensures.id i) (c.new-view.ensures.offset i) (map (entry_of g.D.DescriptorDevice.meaning.pool_name) (c.new-view.ensures.pools i).items)
 
-is_bucket : (g : _) (c : After-walk-walked g) → bucket_in g.D.DescriptorDevice.meaning.pool_name c.walk-walked.new.view ≡ bucket c.args.self.now.id c.args.self.now.offset (entries_of g.D.DescriptorDevice.meaning.pool_name c.walk-walked.new.view.pools.now.items)
-is_bucket g c = λ i. bucket ((c.walk-walked.ensures.kept.4 ∙ c.new-view.ensures.id) i) ((c.walk-walked.ensures.kept.0 ∙ c.new-view.ensures.offset) i) (entries_of g.D.DescriptorDevice.meaning.pool_name c.walk-walked.new.view.pools.now.items)
+is_bucket : (g : _) (c : After-walk-walked g) → bucket_in g.D.DescriptorDevice.meaning.pool_name c.walk-walked.new.view ≡ bucket c.args.self.now.id c.args.self.now.offset (map (entry_of g.D.DescriptorDevice.meaning.pool_name) c.walk-walked.new.view.pools.now.items)
+is_bucket g c = λ i. bucket ((c.walk-walked.ensures.kept.4 ∙ c.new-view.ensures.id) i) ((c.walk-walked.ensures.kept.0 ∙ c.new-view.ensures.offset) i) (map (entry_of g.D.DescriptorDevice.meaning.pool_name) c.walk-walked.new.view.pools.now.items)
 
 pub walk-walked-requires-clause-booked : goal.walk-walked-requires-clause-booked
-walk-walked-requires-clause-booked g c = subst (λ (q : VecDeque (DescriptorPool g.row.P.Denot) Global). AreBookedIn (key_of c.args.request.now.key) (g.D.DescriptorDevice.ledger c.args.device.now).pools (entries_of g.D.DescriptorDevice.meaning.pool_name q.items)) (sym c.new-view.ensures.pools) c.requires.booked
+walk-walked-requires-clause-booked g c = subst (λ (q : VecDeque (DescriptorPool g.row.P.Denot) Global). AreBookedIn (key_of c.args.request.now.key) (g.D.DescriptorDevice.ledger c.args.device.now).pools (map (entry_of g.D.DescriptorDevice.meaning.pool_name) q.items)) (sym c.new-view.ensures.pools) c.requires.booked
 
 pub returns-clause-walked : goal.returns-clause-walked
 returns-clause-walked g c =

@@ -11,7 +11,7 @@ use Rattle.gpu_descriptor.specs.Model.Books.{Bucket, Entry, Key}
 use Rattle.gpu_descriptor.specs.Model.Grants.{items_at}
 use Rattle.gpu_descriptor.specs.Caller.KeyOf.{key_of}
 use Rattle.gpu_descriptor.specs.Caller.Sets.{items_of}
-use Rattle.gpu_descriptor.specs.Inner.Walk.{sets_at, IsWalked}
+use Rattle.gpu_descriptor.specs.Inner.Walk.{IsWalked}
 use Rattle.gpu_descriptor.specs.Inner.Grow.{IsTaken}
 use Rattle.gpu_descriptor.specs.declared.bucket.take.Stop.TheVariants.{Existing}
 use Rattle.gpu_descriptor.proofs.table.Exact.{bucket}
@@ -21,17 +21,17 @@ use Rattle.gpu_descriptor.proofs.bucket.take.walk.Goals.{In-Ok}
 use Rattle.gpu_descriptor.proofs.bucket.take.walk.Goals as goal
 
 -- sets of one key and number are those of another that are the same
-aimed_at : {S : Type 0} {k l : BucketKey} {i j : ℕ} (n : ℕ) (raws : List S) → k ≡ l → i ≡ j → sets_at (key_of k) i n raws ≡ sets_at (key_of l) j n raws
-aimed_at {l = l} {i = i} n raws keys ids = ap (λ (k : BucketKey). sets_at (key_of k) i n raws) keys ∙ ap (λ i. sets_at (key_of l) i n raws) ids
+aimed_at : {S : Type 0} {k l : BucketKey} {i j : ℕ} (n : ℕ) (raws : List S) → k ≡ l → i ≡ j → map (set_at (key_of k) i n) raws ≡ map (set_at (key_of l) j n) raws
+aimed_at {l = l} {i = i} n raws keys ids = ap (λ (k : BucketKey). map (set_at (key_of k) i n) raws) keys ∙ ap (λ i. map (set_at (key_of l) i n) raws) ids
 
 -- what one pool gave stands behind what the others gave
-gave_more : {S : Type 0} (name : S → ℕ) (k : Key) (id number : ℕ) (put : List (DescriptorSet S)) (raws : List S) → items_of name put ++ items_at k id number (map name raws) ≡ items_of name (put ++ sets_at k id number raws)
-gave_more name k id number put raws = sym (map-append _ put (sets_at k id number raws) ∙ ap (λ x. items_of name put ++ x) (items_of-sets_at name k id number raws))
+gave_more : {S : Type 0} (name : S → ℕ) (k : Key) (id number : ℕ) (put : List (DescriptorSet S)) (raws : List S) → items_of name put ++ items_at k id number (map name raws) ≡ items_of name (put ++ map (set_at k id number) raws)
+gave_more name k id number put raws = sym (map-append _ put (map (set_at k id number) raws) ∙ ap (λ x. items_of name put ++ x) (items_of-sets_at name k id number raws))
 
 -- as many were given as there are raw sets
-counted : {S : Type 0} (k : Key) (id number given : ℕ) (put : List (DescriptorSet S)) (raws : List S) → length raws ≡ given → length (put ++ sets_at k id number raws) ≡ length put + given
+counted : {S : Type 0} (k : Key) (id number given : ℕ) (put : List (DescriptorSet S)) (raws : List S) → length raws ≡ given → length (put ++ map (set_at k id number) raws) ≡ length put + given
 counted {S} k id number given put raws all =
-    let a = length-append put (sets_at k id number raws) in
+    let a = length-append put (map (set_at k id number) raws) in
     let b = length-map raws (λ raw. set_at k id number raw) in
     omega arith
 
@@ -96,7 +96,7 @@ module _ (g : _) (c : In-Ok g) where
   raws = c.in-Ok.ensures.asked.0
 
   abbrev put : List (DescriptorSet g.row.S.Denot)
-  put = c.loop-wanting.invariant.put ++ sets_at (key_of c.args.request.now.key) c.loop-wanting.view.id c.newest.new.sink.number raws
+  put = c.loop-wanting.invariant.put ++ map (set_at (key_of c.args.request.now.key) c.loop-wanting.view.id c.newest.new.sink.number) raws
 
   abbrev names : List ℕ
   names = map g.D.DescriptorDevice.meaning.set_name raws
@@ -112,7 +112,7 @@ module _ (g : _) (c : In-Ok g) where
 
   sets : c.ask.new.sink.sets.items ≡ c.args.sink.now.sets.items ++ put
   sets =
-      c.in-Ok.ensures.asked.2 ∙ ap (λ x. c.newest.new.sink.sets.items ++ x) (aimed_at c.newest.new.sink.number raws c.in-Some.ensures.key c.in-Some.ensures.id) ∙ ap (λ x. x ++ sets_at (key_of c.args.request.now.key) c.loop-wanting.view.id c.newest.new.sink.number raws) (c.newest.ensures.sets ∙ c.loop-wanting.invariant.sets) ∙ append_assoc c.args.sink.now.sets.items c.loop-wanting.invariant.put _
+      c.in-Ok.ensures.asked.2 ∙ ap (λ x. c.newest.new.sink.sets.items ++ x) (aimed_at c.newest.new.sink.number raws c.in-Some.ensures.key c.in-Some.ensures.id) ∙ ap (λ x. x ++ map (set_at (key_of c.args.request.now.key) c.loop-wanting.view.id c.newest.new.sink.number) raws) (c.newest.ensures.sets ∙ c.loop-wanting.invariant.sets) ∙ append_assoc c.args.sink.now.sets.items c.loop-wanting.invariant.put _
 
   room : c.ask.new.sink.left + c.args.request.now.count ≡ c.args.sink.now.left + (c.loop-wanting.wanting - c.in-Ok.given)
   room = (let a = c.loop-wanting.invariant.room in let b = c.in-Ok.ensures.asked.3 in let d = many in let q = c.newest.ensures.left in let few = less in omega arith)

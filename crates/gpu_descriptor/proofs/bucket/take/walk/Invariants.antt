@@ -1,11 +1,11 @@
 -- What came stands behind what was there, and each pool that was asked was looked at once.
-use Rattle.std.proofs.Common.{◌≡◌, ◌+◌, ◌++◌, List, length}
+use Rattle.gpu_descriptor.specs.Inner.Stored.{entry_of}
+use Rattle.std.proofs.Common.{◌≡◌, ◌+◌, ◌++◌, List, length, map}
 use Rattle.std.specs.VecDeque.{deque_capacity}
 use Rattle.gpu_descriptor.specs.declared.set.DescriptorSet.{DescriptorSet}
 use Rattle.gpu_descriptor.specs.Inner.OpenPools.{CountsLooks, KeepsView}
 use Rattle.gpu_descriptor.specs.Caller.KeyOf.{key_of}
 use Rattle.gpu_descriptor.specs.Caller.Sets.{items_of}
-use Rattle.gpu_descriptor.specs.Inner.Walk.{entries_of}
 use Rattle.gpu_descriptor.proofs.request.OpenWalk.{OpenWalk}
 use Rattle.gpu_descriptor.proofs.bucket.take.walk.Given as goal
 
@@ -16,7 +16,7 @@ invariant-loop-wanting g l = record {
   room : l.sink.left + l.request.count ≡ l.initial.sink.left + l.wanting;
   given : length put + l.wanting ≡ l.request.count;
   long : length l.view.pools.now.items ≡ length l.initial.view.pools.now.items;
-  walk : OpenWalk g.D.DescriptorDevice.meaning.pool_name (key_of l.request.key) l.request.count l.view.id l.view.offset l.wanting (items_of g.D.DescriptorDevice.meaning.set_name put) (entries_of g.D.DescriptorDevice.meaning.pool_name l.initial.view.pools.now.items) l.view.pools.now.items l.view.listed.now.items (g.D.DescriptorDevice.ledger l.initial.device) (g.D.DescriptorDevice.ledger l.device);
+  walk : OpenWalk g.D.DescriptorDevice.meaning.pool_name (key_of l.request.key) l.request.count l.view.id l.view.offset l.wanting (items_of g.D.DescriptorDevice.meaning.set_name put) (map (entry_of g.D.DescriptorDevice.meaning.pool_name) l.initial.view.pools.now.items) l.view.pools.now.items l.view.listed.now.items (g.D.DescriptorDevice.ledger l.initial.device) (g.D.DescriptorDevice.ledger l.device);
   space : deque_capacity l.view.listed.now ≡ deque_capacity l.initial.view.listed.now;
   kept : KeepsView l.initial.view l.view;
   looks : CountsLooks l.initial.view.looks.now.count l.view.looks.now.count (g.D.DescriptorDevice.ledger l.initial.device) (g.D.DescriptorDevice.ledger l.device);
