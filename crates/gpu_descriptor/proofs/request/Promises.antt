@@ -22,13 +22,12 @@ use Rattle.gpu_descriptor.specs.Model.Grants.{Grant, Part, portion_of, items_at,
 use Rattle.gpu_descriptor.specs.Model.Outcomes.Allocates.{none, limit, bound, start, done, stopped}
 use Rattle.gpu_descriptor.specs.Model.FreshPools.IsFreshList.{none as no_fresh, some as some_fresh}
 use Rattle.std.proofs.lemmas.Bool.{cases_Bool, cases_lt}
-use Rattle.gpu_descriptor.specs.Model.Promises.{HasCause, HasNewPools, EndsWith, IsShort, CreatesOnlyWhereShort}
-use Rattle.gpu_descriptor.specs.Model.Promises.EndsWith.{met as met_all, stopped as stopped_with}
+use Rattle.gpu_descriptor.specs.Model.Promises.{AreBelowTwice, HasCause, IsShort, CreatesOnlyWhereShort}
 use Rattle.gpu_descriptor.specs.Model.Promises.IsFragmentation.{above_limit, past_bound, no_room_left, no_pool_created, new_pool_refused}
 use Rattle.gpu_descriptor.specs.Model.Promises.IsHostMemory.{device_refused, no_memory_at_start, no_memory_for_a_pool}
 use Rattle.gpu_descriptor.specs.Model.Load.{pool_load}
 use Rattle.gpu_descriptor.proofs.request.NextSize.{next_whole, one_fits, some_fit, room_falls}
-use Rattle.gpu_descriptor.proofs.request.NewPools.{AreFilled, met, unmet, shares_used, done_new_pools, done_filled, released_pool, back_new_pools}
+use Rattle.gpu_descriptor.proofs.request.NewPools.{AreFilled, met, unmet, shares_used, done_filled, front_below, list_below}
 use Rattle.gpu_descriptor.specs.Model.Shares.{Portion, offer, rest, portions_of, refused_count, OnlyAskedRefuse}
 
 -- ---- how many sets
@@ -102,30 +101,6 @@ stop_cause c s (New alloc_error.OutOfHostMemory) is back at = memory_cause c s.g
 stop_cause c s (New alloc_error.FragmentedPool) is back at = (let n = ap (λ (k : Counters). k.pool_refused) back.counters in new_pool_refused s alloc_error.FragmentedPool is refl (omega arith))
 stop_cause c s (New alloc_error.OutOfPoolMemory) is back at = (let n = ap (λ (k : Counters). k.pool_refused) back.counters in new_pool_refused s alloc_error.OutOfPoolMemory is refl (omega arith))
 
--- ---- which pools refused
-
--- a pool that was live is none of the new ones
-old_pool : (k : Key) (fresh : List Fresh) (ledger : ℕ → Option Pool) (name : ℕ) (p : Pool) → AreNew ledger fresh → ledger name ≡ Some p → fresh_or k fresh name (Some p) ≡ Some p
-old_pool k [] ledger name p new live = refl
-old_pool k (f ∷ fresh) ledger name p new live = elim (cases_Bool (f.pool == name)) [
-  | inl same ↦ (let bad : ◌≡◌ {A = Option Pool} None (Some p) = sym new.0 ∙ ap ledger (eqb-true f.pool name same) ∙ live in absurd (cc))
-  | inr other ↦ rw other (old_pool k fresh ledger name p new.2 live)
-]
-
-granted_raises : (k : Key) (n : ℕ) (g : Grant) (s : State) (name : ℕ) (p q : Pool) → AreNew s.ledger g.fresh → g.refused name ≡ true → s.ledger name ≡ Some p → (granted k n g s).ledger name ≡ Some q → q.refusals ≡ p.refusals + 1
-granted_raises k n g s name p q new refused live after =
-    let f : Pool → Pool = pool_with (live_sets k.counts (came g.parts name)) (g.refused name) in
-    let is : (granted k n g s).ledger name ≡ Some (f p) = ap (λ (o : Option Pool). option_map f (fresh_or k g.fresh name o)) live ∙ ap (option_map f) (old_pool k g.fresh s.ledger name p new live) in
-    let same : Some (f p) ≡ Some q = sym is ∙ after in
-    let one : f p ≡ q = cc in
-    sym (ap (λ (x : Pool). x.refusals) one) ∙ ap (λ (b : Bool). if b then p.refusals + 1 else p.refusals) refused
-
--- what a request that stopped raised
-back_raises : (c : Call) (g : Grant) (why : Stop) → IsBack c g why → (name : ℕ) (p q : Pool) → g.refused name ≡ true → c.old.ledger name ≡ Some p → c.new.ledger name ≡ Some q → q.refusals ≡ p.refusals + 1
-back_raises c g why b name p q refused live after =
-    let r = released_pool (items_in c.request.key g.id g.parts) (granted c.request.key c.request.count g c.old) name q (sym (ap (λ (w : State). w.ledger name) b.state) ∙ after) in
-    r.2 ∙ granted_raises c.request.key c.request.count g c.old name p r.0 b.taken.new refused live r.1
-
 -- ---- pools are created only where the existing ones don't do
 
 times_more : (n m : ℕ) → suc n * m ≡ n * m + m
@@ -172,27 +147,12 @@ any_few k room total wanted (f ∷ h ∷ pools) sized full short =
     let all = one_more k room total wanted f (h ∷ pools) sized.0 left is (omega arith) (given_by (h ∷ pools) + pool_size_floor k.counts) more in
     omega arith
 
--- each pool that refused has one refusal more
-abbrev Raises : Call → Grant → Type 0
-Raises c g = (name : ℕ) (p q : Pool) → g.refused name ≡ true → c.old.ledger name ≡ Some p → c.new.ledger name ≡ Some q → q.refusals ≡ p.refusals + 1
-
--- the refusals of pools and creates in the call
-abbrev IsCounted : Call → Grant → ℕ → ℕ → Type 0
-IsCounted c g last i = c.after.pool_refused + c.after.fragmentation ≡ c.before.pool_refused + c.before.fragmentation + refused_count g.refused (drop i (c.old.books c.request.key).pools) + last
-
-pools_short : (c : Call) (g : Grant) → IsGrant c.request c.old g → g.left ≡ 0 → 0 < wanting c.request c.old g → (gone : ℕ) → HasNewPools c (wanting c.request c.old g) gone → OnOk c.answer (AreFilled c) → Raises c g → (last : ℕ) → EndsWith c gone last → IsCounted c g last g.left → (n : ℕ) → c.after.created ≡ c.before.created + n → n * pool_size_floor c.request.key.counts < wanting c.request c.old g + pool_size_floor c.request.key.counts → IsShort c
-pools_short c g is all some gone new filled raises last ends counted n rise few = record {
-  gone = gone;
-  last = last;
-  ends = ends;
-  refused = g.refused;
-  raised = raises;
-  counted = subst (IsCounted c g last) all counted;
-  only_asked = subst (λ i. OnlyAskedRefuse g.refused c.request.count (drop i (c.old.books c.request.key).pools)) all is.refusing;
+pools_short : (c : Call) (g : Grant) → 0 < wanting c.request c.old g → AreBelowTwice (out_then c.request c.old g) (wanting c.request c.old g) g.fresh → OnOk c.answer (AreFilled c) → (n : ℕ) → c.after.created ≡ c.before.created + n → n * pool_size_floor c.request.key.counts < wanting c.request c.old g + pool_size_floor c.request.key.counts → IsShort c g
+pools_short c g some below filled n rise few = record {
   short = omega arith;
   used_up = shares_used g.refused c.request.count (c.old.books c.request.key).pools some;
   filled = filled;
-  new_pools = new;
+  below_twice = below;
   few = (
       let m = pool_size_floor c.request.key.counts in
       let same : c.after.created - c.before.created ≡ n = omega arith in
@@ -219,38 +179,29 @@ few_with_room c g room front fits =
     omega arith
 
 -- after a front
-front_short : (c : Call) (s : IsStopped c) (why : Stop) (room : ℕ) → s.why ≡ why → IsBack c s.grant why → s.grant.left ≡ 0 → IsFreshFront c.request.key room (out_then c.request c.old s.grant) (wanting c.request c.old s.grant) s.grant.fresh → (stop_rise why).created ≡ (stop_rise why).destroyed → (stop_rise why).destroyed ≤ 1
-    → (length s.grant.fresh + (stop_rise why).destroyed) * pool_size_floor c.request.key.counts < wanting c.request c.old s.grant + pool_size_floor c.request.key.counts → IsShort c
-front_short c s why room is back all front same one few =
-    let g : Grant = s.grant in
-    let rise : Counters = stop_rise why in
+front_short : (c : Call) (s : IsStopped c) (why : Stop) (room : ℕ) → IsBack c s.grant why → IsFreshFront c.request.key room (out_then c.request c.old s.grant) (wanting c.request c.old s.grant) s.grant.fresh
+    → (length s.grant.fresh + (stop_rise why).created) * pool_size_floor c.request.key.counts < wanting c.request c.old s.grant + pool_size_floor c.request.key.counts → IsShort c s.grant
+front_short c s why room back front few =
     let short = front.short in
     let n = ap (λ (k : Counters). k.created) back.counters in
-    let refused = ap (λ (k : Counters). k.pool_refused) back.counters in
-    let fragmented = ap (λ (k : Counters). k.fragmentation) back.counters in
-    let created : c.after.created ≡ c.before.created + (length g.fresh + rise.destroyed) = omega arith in
-    let new = back_new_pools c g why room back all front rise.destroyed one created in
-    let ends = stopped_with s all (ap (λ (w : Stop). (stop_rise w).destroyed) (sym is)) (ap (λ (w : Stop). (stop_rise w).pool_refused + (stop_rise w).fragmentation) (sym is)) in
-    pools_short c g back.taken all (omega arith) rise.destroyed new (unmet (AreFilled c) c.answer _ back.answer) (back_raises c g why back) (rise.pool_refused + rise.fragmentation) ends (omega arith) (length g.fresh + rise.destroyed) created few
+    pools_short c s.grant (omega arith) (front_below c.request.key room _ _ s.grant.fresh front.sized front.full front.short) (unmet (AreFilled c) c.answer _ back.answer) (length s.grant.fresh + (stop_rise why).created) (omega arith) few
 
 -- a list that gave all
-done_short : (c : Call) (d : IsDone c) → IsFreshList c.request.key (c.request.limit - d.pooled) (out_then c.request c.old d.grant) (wanting c.request c.old d.grant) d.grant.fresh → 0 < length d.grant.fresh → IsShort c
+done_short : (c : Call) (d : IsDone c) → IsFreshList c.request.key (c.request.limit - d.pooled) (out_then c.request c.old d.grant) (wanting c.request c.old d.grant) d.grant.fresh → 0 < length d.grant.fresh → IsShort c d.grant
 done_short c d (no_fresh zero_wanted empty) some = (let e = ap length empty in absurd (omega arith))
 done_short c d (some_fresh front last parts short sized le given) some =
     let g : Grant = d.grant in
     let m : ℕ = pool_size_floor c.request.key.counts in
-    let few = list_few c.request.key (c.request.limit - d.pooled) (out_then c.request c.old g) (wanting c.request c.old g) front last (subst (AreSized c.request.key (c.request.limit - d.pooled) (out_then c.request c.old g) (wanting c.request c.old g)) parts sized) short.full short.short in
-    let below = short.short in
+    let whole_sized = subst (AreSized c.request.key (c.request.limit - d.pooled) (out_then c.request c.old g) (wanting c.request c.old g)) parts sized in
+    let few = list_few c.request.key (c.request.limit - d.pooled) (out_then c.request c.old g) (wanting c.request c.old g) front last whole_sized short.full short.short in
+    let below = subst (AreBelowTwice (out_then c.request c.old g) (wanting c.request c.old g)) (sym parts) (list_below c.request.key (c.request.limit - d.pooled) (out_then c.request c.old g) (wanting c.request c.old g) front last whole_sized short.full short.short) in
+    let less = short.short in
     let long = ap length parts ∙ length-append front (last ∷ []) in
     let product = times_more (length front) m in
     let same : length g.fresh ≡ suc (length front) = omega arith in
     let whole : length g.fresh * m ≡ suc (length front) * m = ap (λ n. n * m) same in
     let created = ap (λ (k : Counters). k.created) d.counters in
-    let refused = ap (λ (k : Counters). k.pool_refused) d.counters in
-    let fragmented = ap (λ (k : Counters). k.fragmentation) d.counters in
-    let raises : Raises c g = λ name p q refused live after. granted_raises c.request.key c.request.count g c.old name p q d.taken.new refused live (sym (ap (λ (w : State). w.ledger name) d.state) ∙ after) in
-    let filled : OnOk c.answer (AreFilled c) = met (AreFilled c) c.answer _ d.answer (done_filled c d some) in
-    pools_short c g d.taken d.all (omega arith) 0 (done_new_pools c d) filled raises 0 (met_all d refl refl) (omega arith) (length g.fresh) (omega arith) (omega arith)
+    pools_short c g (omega arith) below (met (AreFilled c) c.answer _ d.answer (done_filled c d some)) (length g.fresh) (omega arith) (omega arith)
 
 -- what an error adds to some of the counters
 alloc_creates : (e : DeviceAllocationError) → (alloc_refused e no_rise).created ≡ 0
@@ -263,11 +214,6 @@ create_creates : (e : CreatePoolError) → (create_refused e no_rise).created �
 create_creates create_error.OutOfDeviceMemory = refl
 create_creates create_error.OutOfHostMemory = refl
 create_creates create_error.Fragmentation = refl
-
-create_destroys : (e : CreatePoolError) → (create_refused e no_rise).destroyed ≡ 0
-create_destroys create_error.OutOfDeviceMemory = refl
-create_destroys create_error.OutOfHostMemory = refl
-create_destroys create_error.Fragmentation = refl
 
 -- there was room where it stopped for another reason
 fits : {why : Stop} {one room : ℕ} → (why ≡ Room) ↔ (room < one) → why ≢ Room → one ≤ room
@@ -289,22 +235,22 @@ module _ (c : Call) where
   has_cause (done p d) = given _ d.answer
   has_cause (stopped p s) = answered _ s.back.answer (stop_cause c s s.why refl s.back s.at)
 
-  stop_short : (s : IsStopped c) (why : Stop) → s.why ≡ why → IsBack c s.grant why → Stops c why s.grant s.pooled → c.before.created < c.after.created → IsShort c
-  stop_short s (Existing e) is back at more =
+  stop_short : (s : IsStopped c) (why : Stop) → IsBack c s.grant why → Stops c why s.grant s.pooled → c.before.created < c.after.created → IsShort c s.grant
+  stop_short s (Existing e) back at more =
       let n = ap (λ (k : Counters). k.created) back.counters in
       let none = alloc_creates e in
       let f = ap length at.no_fresh in
       absurd (omega arith)
-  stop_short s Room is back at more = front_short c s Room _ is back at.0 at.1 refl (omega arith) (few_any c s.grant _ at.1)
-  stop_short s Books is back at more = front_short c s Books _ is back at.0 at.1 refl (omega arith) (few_any c s.grant _ at.1)
-  stop_short s (Create e) is back at more = front_short c s (Create e) _ is back at.0 at.1 (create_creates e ∙ sym (create_destroys e)) (let none = create_destroys e in omega arith) (let none = create_destroys e in let few = few_any c s.grant _ at.1 in rw none few)
-  stop_short s (New e) is back at more = front_short c s (New e) _ is back at.0 at.1 refl (omega arith) (few_with_room c s.grant _ at.1 (fits at.2 (λ same. absurd (cc))))
+  stop_short s Room back at more = front_short c s Room _ back at.1 (few_any c s.grant _ at.1)
+  stop_short s Books back at more = front_short c s Books _ back at.1 (few_any c s.grant _ at.1)
+  stop_short s (Create e) back at more = front_short c s (Create e) _ back at.1 (let none = create_creates e in let few = few_any c s.grant _ at.1 in rw none few)
+  stop_short s (New e) back at more = front_short c s (New e) _ back at.1 (few_with_room c s.grant _ at.1 (fits at.2 (λ same. absurd (cc))))
 
   -- a pool is created only where the existing ones don't do
-  pub short : Allocates c → CreatesOnlyWhereShort c
-  short (none zero_count answer stays) more = (let n = ap (λ (k : Counters). k.created) stays.counters in absurd (omega arith))
-  short (limit some above answer stays) more = (let n = ap (λ (k : Counters). k.created) stays.counters in absurd (omega arith))
-  short (bound some within past answer stays) more = (let n = ap (λ (k : Counters). k.created) stays.counters in absurd (omega arith))
-  short (start p answer stays) more = (let n = ap (λ (k : Counters). k.created) stays.counters in absurd (omega arith))
+  pub short : (outcome : Allocates c) → CreatesOnlyWhereShort outcome
+  short (none zero_count answer stays) more = tt
+  short (limit some above answer stays) more = tt
+  short (bound some within past answer stays) more = tt
+  short (start p answer stays) more = tt
   short (done p d) more = (let n = ap (λ (k : Counters). k.created) d.counters in done_short c d d.fresh (omega arith))
-  short (stopped p s) more = stop_short s s.why refl s.back s.at more
+  short (stopped p s) more = stop_short s s.why s.back s.at more

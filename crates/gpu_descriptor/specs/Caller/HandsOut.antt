@@ -31,7 +31,7 @@ pub record HandsOut {L P S : Type 0} (means : Meaning L P S) (k : Key) (count : 
   pub totals_stay : OnErr answer ((outstanding_of new.value ≡ outstanding_of old.value) × (marked_load_of new.value ≡ marked_load_of old.value))
   pub back : OnErr answer (KeepsOutstanding (state_of means.pool_name old.value old.ledger) (state_of means.pool_name new.value new.ledger))
   pub cause : IfErr answer (λ e. HasCause e (call_of means k count old new (answer_of means.set_name answer)))
-  pub creates : CreatesOnlyWhereShort (call_of means k count old new (answer_of means.set_name answer))
+  pub creates : CreatesOnlyWhereShort outcome
   pub other_keys : KeepsOtherKeys k (state_of means.pool_name old.value old.ledger) (state_of means.pool_name new.value new.ledger)
   pub keys : StayOrGainLast k (keys_of old.value) (keys_of new.value)
   -- a look for each call that asks a pool

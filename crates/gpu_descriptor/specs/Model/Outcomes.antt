@@ -198,6 +198,15 @@ pub data Allocates (c : Call) : Type 0 where
   done : Proceeds c → IsDone c → Allocates c
   stopped : Proceeds c → IsStopped c → Allocates c
 
+-- what a request took. It takes nothing where it was refused before
+abbrev pub taken_by : {c : Call} → Allocates c → Option Grant
+taken_by (none zero_sets answer stays) = None
+taken_by (limit some above answer stays) = None
+taken_by (bound some within past answer stays) = None
+taken_by (start goes answer stays) = None
+taken_by (done goes is) = Some is.grant
+taken_by (stopped goes is) = Some is.grant
+
 -- the sets that went back when a request stopped, and the state from which they went
 abbrev pub back_of : {c : Call} {grant : Grant} {why : Stop} → IsBack c grant why → List Item × State
 back_of {c} {grant} back = (items_in c.request.key grant.id grant.parts, granted c.request.key c.request.count grant c.old)

@@ -1,16 +1,17 @@
 -- What a caller may read off a request without its outcomes.
-use Rattle.std.specs.Prelude.{◌≡◌, ℕ, ◌+◌, ◌-◌, ◌*◌, ◌<◌, Bool, true, min, List, [], ◌∷◌, length, take, sum_by, All, Some, slice_get, OnOk, false}
-use Rattle.gpu_descriptor_types.specs.Ledger.{Pool, pool_refusals}
+use Rattle.gpu_descriptor.specs.Model.Grants.{Grant}
+use Rattle.gpu_descriptor.specs.Model.FreshPools.{Fresh}
+use Rattle.std.specs.Prelude.{◌≡◌, ℕ, ◌+◌, ◌-◌, ◌*◌, ◌<◌, Bool, List, [], ◌∷◌, length, take, sum_by, All, Some, OnOk, false, IfSome}
+use Rattle.gpu_descriptor_types.specs.Ledger.{pool_refusals}
 use Rattle.gpu_descriptor_types.specs.PoolSize.{pool_size_floor, start_size}
 use Rattle.gpu_descriptor.specs.declared.errors.AllocationError.{AllocationError}
 use Rattle.gpu_descriptor.specs.declared.errors.AllocationError.TheVariants.{OutOfDeviceMemory, OutOfHostMemory, Fragmentation}
 use Rattle.gpu_descriptor_types.specs.declared.errors.DeviceAllocationError.{DeviceAllocationError}
 use Rattle.gpu_descriptor.specs.declared.bucket.take.Stop.TheVariants.{Room, Books, Create, New}
-use Rattle.gpu_descriptor.specs.Model.Books.{Key, Entry, entry_at, next_number, key_eq}
+use Rattle.gpu_descriptor.specs.Model.Books.{Key, Entry, entry_at, key_eq}
 use Rattle.gpu_descriptor.specs.Model.Agreement.{State, Item, count_of, outstanding}
-use Rattle.gpu_descriptor.specs.Model.Outcomes.{Call, IsAboveLimit, IsPastBound, IsDone, IsStopped, Proceeds, Stays, stop_rise}
-use Rattle.gpu_descriptor.specs.Model.Load.{allocated_in}
-use Rattle.gpu_descriptor.specs.Model.Shares.{offer, rest, all_shared, refused_count, OnlyAskedRefuse}
+use Rattle.gpu_descriptor.specs.Model.Outcomes.{Call, IsAboveLimit, IsPastBound, IsStopped, Proceeds, Stays, taken_by, out_then, wanting, Allocates}
+use Rattle.gpu_descriptor.specs.Model.Shares.{offer, all_shared}
 use Rattle.gpu_descriptor_types.specs.declared.errors.CreatePoolError.TheVariants as create_error
 
 -- exactly these sets are outstanding besides those before
@@ -47,53 +48,25 @@ HasCause OutOfDeviceMemory c = c.before.device_memory < c.after.device_memory
 HasCause OutOfHostMemory c = IsHostMemory c
 HasCause Fragmentation c = IsFragmentation c
 
--- new pools of these sizes, one after another, the first where out sets of the key are out and wanted are wanting. Each comes only where some are wanting, has fewer sets than twice what a pool is to hold at that moment, and gives what it can
-abbrev pub AreBelowTwice : (out wanted : ℕ) → List ℕ → Type 0
+-- new pools, one after another, the first where out sets of the key are out and wanted are wanting. Each comes only where some are wanting, and has fewer sets than twice what a pool is to hold at that moment
+abbrev pub AreBelowTwice : (out wanted : ℕ) → List Fresh → Type 0
 AreBelowTwice out wanted [] = Unit {0}
-AreBelowTwice out wanted (size ∷ later) = (0 < wanted) × (size < 2 * start_size out wanted) × AreBelowTwice (out + min size wanted) (wanted - size) later
+AreBelowTwice out wanted (f ∷ later) = (0 < wanted) × (f.size < 2 * start_size out wanted) × AreBelowTwice (out + f.given) (wanted - f.given) later
 
--- the new pools of a request, with so many sets wanting after the existing pools. One that refused is not among them: it was destroyed at once and took no number. So many of these are gone
-pub record HasNewPools (c : Call) (wanted gone : ℕ) : Type 0 where
-  -- their sizes, in the order in which they came
-  pub sizes : List ℕ
-  pub below_twice : let pools = (c.old.books c.request.key).pools in AreBelowTwice (allocated_in pools + (c.request.count - wanted)) wanted sizes
-  -- they took the next numbers
-  pub numbers : next_number (c.new.books c.request.key) ≡ next_number (c.old.books c.request.key) + length sizes
-  -- where the pool of such a number still stands in the books, it has the size
-  pub capacity : (i : ℕ) (e : Entry) (p : Pool) → entry_at (c.new.books c.request.key) (next_number (c.old.books c.request.key) + i) ≡ Some e → c.new.ledger e.pool ≡ Some p → slice_get sizes i ≡ Some p.capacity
-  pub created : c.after.created ≡ c.before.created + length sizes + gone
-  -- none has gone and none refused, if the request was met
-  pub stay : OnOk c.answer ((c.new.books c.request.key).first ≡ (c.old.books c.request.key).first)
-  pub met : OnOk c.answer (c.after.created ≡ c.before.created + length sizes)
-
--- how a request ended that created pools: gone of them refused and were destroyed at once, and so many refusals came last, of a create as fragmentation or of a new pool for its own sake
-pub data EndsWith (c : Call) (gone last : ℕ) : Type 0 where
-  met : IsDone c → gone ≡ 0 → last ≡ 0 → EndsWith c gone last
-  stopped : (s : IsStopped c) → s.grant.left ≡ 0 → gone ≡ (stop_rise s.why).destroyed → last ≡ (stop_rise s.why).pool_refused + (stop_rise s.why).fragmentation → EndsWith c gone last
-
--- the existing pools don't do: those that refused in this call aside, they have fewer free places than are wanted
-pub record IsShort (c : Call) : Type 0 where
-  pub refused : ℕ → Bool
-  pub only_asked : OnlyAskedRefuse refused c.request.count (c.old.books c.request.key).pools
-  -- a pool refused only where the ledger has one refusal more of it, if it is still there
-  pub raised : (name : ℕ) (p q : Pool) → refused name ≡ true → c.old.ledger name ≡ Some p → c.new.ledger name ≡ Some q → q.refusals ≡ p.refusals + 1
-  pub gone : ℕ
-  pub last : ℕ
-  pub ends : EndsWith c gone last
-  -- as many refusals of pools for their own sake and of creates as fragmentation as there are such pools, and those that came last
-  pub counted : c.after.pool_refused + c.after.fragmentation ≡ c.before.pool_refused + c.before.fragmentation + refused_count refused (c.old.books c.request.key).pools + last
-  pub short : sum_by (offer refused) (c.old.books c.request.key).pools < c.request.count
+-- the existing pools don't do: those that refused aside, they have fewer free places than are wanted. The new pools are those of the grant: one that refused was destroyed at once and took no number
+pub record IsShort (c : Call) (g : Grant) : Type 0 where
+  pub short : sum_by (offer g.refused) (c.old.books c.request.key).pools < c.request.count
   -- so they have no known free place left when the first new one comes
-  pub used_up : All (λ e. e.free ≡ 0) (all_shared refused c.request.count (c.old.books c.request.key).pools)
+  pub used_up : All (λ e. e.free ≡ 0) (all_shared g.refused c.request.count (c.old.books c.request.key).pools)
   -- and if the request was met, no pool of the key but the newest has one
   pub filled : OnOk c.answer (let pools = (c.new.books c.request.key).pools in All (λ e. e.free ≡ 0) (take (length pools - 1) pools))
-  pub new_pools : HasNewPools c (rest refused c.request.count (c.old.books c.request.key).pools) gone
+  pub below_twice : AreBelowTwice (out_then c.request c.old g) (wanting c.request c.old g) g.fresh
   -- at most as many new pools as what is wanting divided by the floor of a pool's size, rounded up
-  pub few : let floor = pool_size_floor c.request.key.counts in (c.after.created - c.before.created) * floor < rest refused c.request.count (c.old.books c.request.key).pools + floor
+  pub few : let floor = pool_size_floor c.request.key.counts in (c.after.created - c.before.created) * floor < wanting c.request c.old g + floor
 
 -- a pool is created only where the key's existing pools don't do
-abbrev pub CreatesOnlyWhereShort : Call → Type 0
-CreatesOnlyWhereShort c = c.before.created < c.after.created → IsShort c
+abbrev pub CreatesOnlyWhereShort : {c : Call} → Allocates c → Type 0
+CreatesOnlyWhereShort {c} outcome = c.before.created < c.after.created → IfSome (taken_by outcome) (λ g. IsShort c g)
 
 -- the key's pools are as they were, in the books and on the device
 pub record IsUntouched (k : Key) (old new : State) : Type 0 where
