@@ -1,4 +1,6 @@
 -- All that is promised of a request, from what it took: kept, given back, declined, or for no sets.
+use Rattle.gpu_descriptor.specs.Caller.Comparisons.{run_digits}
+use Rattle.gpu_descriptor.specs.Model.Grants.{Grant, granted, items_in}
 use Rattle.std.proofs.Common.{◌≡◌, ◌≤◌, ℕ, ◌+◌, ◌<◌, List, Option, None, Some, MatchOption, Result, Ok, Err, inl, sym, ap, ◌∙◌, subst, arith}
 use Rattle.std.specs.Global.{Vec}
 use Rattle.gpu_descriptor_types.specs.Side.{side}
@@ -7,9 +9,9 @@ use Rattle.gpu_descriptor_types.specs.Ledger.{Ledger, Counters}
 use Rattle.gpu_descriptor.specs.declared.errors.AllocationError.{AllocationError}
 use Rattle.gpu_descriptor.specs.declared.set.DescriptorSet.{DescriptorSet}
 use Rattle.gpu_descriptor.specs.declared.bucket.take.Stop.{Stop}
-use Rattle.gpu_descriptor.specs.Model.Agreement.{Item, State, outstanding}
+use Rattle.gpu_descriptor.specs.Model.Agreement.{outstanding}
 use Rattle.gpu_descriptor.specs.Model.Books.{HasDistinctKeys, Key}
-use Rattle.gpu_descriptor.specs.Model.Outcomes.{Allocates, rolled_back, stop_answer}
+use Rattle.gpu_descriptor.specs.Model.Outcomes.{Allocates, stop_answer, taken_by}
 use Rattle.gpu_descriptor.specs.Caller.Call.{call_of}
 use Rattle.gpu_descriptor.specs.Caller.Frees.{Returns}
 use Rattle.gpu_descriptor.specs.Caller.HandsOut.{HandsOut}
@@ -57,11 +59,11 @@ module _ {L P S : Type 0} {means : Meaning L P S} {k : Key} {count : ℕ} {sets 
       }
 
 module _ {L P S : Type 0} {means : Meaning L P S} {k : Key} {count : ℕ} (sets : Vec (DescriptorSet S)) {ended : Result (Unit {0}) Stop} {old new : Allocations P} {before after : Ledger}
-    (t : Takes means k count sets.items ended (side old before) (side new after)) (agree : Agrees means.pool_name old before) (distinct : HasDistinctKeys (table_of means.pool_name old)) (keys : StayOrGainLast k (keys_of old) (keys_of new))
+    (t : Takes means k count sets.items ended (side old before) (side new after)) (agree : Agrees means.pool_name old before) (keys : StayOrGainLast k (keys_of old) (keys_of new))
     (looks : new.looks + before.counters.asked ≡ old.looks + after.counters.asked) (comparisons : new.comparisons ≡ old.comparisons) (some : 0 < count) where
   pub hands_all : {x : Unit {0}} → ended ≡ Ok x → HandsOut means k count (Ok sets) (side old before) (side new after)
   hands_all is =
-      let outcome = kept t agree distinct some is in
+      let outcome = kept t agree some is in
       record {
         outcome = outcome;
         nothing = λ zero. absurd (omega arith);
@@ -85,9 +87,10 @@ module _ {L P S : Type 0} {means : Meaning L P S} {k : Key} {count : ℕ} (sets 
   -- the sets went back
   pub hands_back : {last : Allocations P} {final : Ledger} → HasDistinctKeys (table_of means.pool_name new) → Returns means sets.items (side new after) (side last final) → {why : Stop} → ended ≡ Err why → HandsOut means k count (Err (stop_answer why)) (side old before) (side last final)
   hands_back still r is =
-      let went = went_back t agree distinct still some r.back is in
+      let went = went_back t agree still some r.back is in
       let outcome = went.0 in
       let asked = ap (λ (c : Counters). c.asked) r.back.counters in
+      let gone : run_digits (granted k count went.1 (state_of means.pool_name old before)) (items_in k went.1.id went.1.parts) ≡ run_digits (state_of means.pool_name new after) (items_of means.set_name sets.items) = λ i. run_digits (went.4 i) (went.3 i) in
       record {
         outcome = outcome;
         nothing = λ zero. absurd (omega arith);
@@ -102,8 +105,8 @@ module _ {L P S : Type 0} {means : Meaning L P S} {k : Key} {count : ℕ} (sets 
         other_keys = back_others t agree r.back;
         keys = subst (StayOrGainLast k (keys_of old)) (sym r.keys) keys;
         looks = (let stay = r.looks_stay in omega arith);
-        declined = λ none. absurd (let bad : ◌≡◌ {A = Option (List Item × State)} None (Some (items_of means.set_name sets.items, state_of means.pool_name new after)) = sym none ∙ went.1 in cc);
-        searches = rw went.1 (let few = r.comparisons in omega arith);
+        declined = λ none. absurd (let bad : ◌≡◌ {A = Option Grant} None (Some went.1) = sym none ∙ went.2 in cc);
+        searches = rw went.2 (let few = r.comparisons in omega arith);
         comparisons_stay = tt;
         compared = (let more = r.compared in omega arith);
       }
@@ -126,7 +129,7 @@ module _ {L P S : Type 0} {means : Meaning L P S} {k : Key} {count : ℕ} {old n
     keys = inl (ap keys_of same);
     looks = (let a = ap (λ (a : Allocations P). a.looks) same in let l = ap (λ (l : Ledger). l.counters.asked) ledger in omega arith);
     declined = λ none. (same, ledger);
-    searches = either (rolled_back outcome) (let a = ap (λ (a : Allocations P). a.comparisons) same in omega arith) (λ r. (let a = ap (λ (a : Allocations P). a.comparisons) same in omega arith));
+    searches = either (taken_by outcome) (let a = ap (λ (a : Allocations P). a.comparisons) same in omega arith) (λ g. (let a = ap (λ (a : Allocations P). a.comparisons) same in omega arith));
     comparisons_stay = tt;
     compared = (let a = ap (λ (a : Allocations P). a.comparisons) same in omega arith);
   }

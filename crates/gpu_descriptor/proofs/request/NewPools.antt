@@ -1,33 +1,21 @@
 -- The new pools of a request: their sizes, their numbers, and what the pools before them have left.
-use Rattle.std.proofs.Common.{◌≡◌, ℕ, zero, suc, ◌+◌, ◌-◌, ◌<◌, ◌≤◌, min, Bool, true, false, ◌&&◌, ◌||◌, ◌==◌, List, [], ◌∷◌, ◌++◌, map, length, take, drop, slice_get, count_by, Option, Some, None, option_map, Result, Ok, Err, inl, inr, refl, sym, ap, ◌∙◌, subst, arith, eq-eqb, eqb-true, append_assoc, length-append, length-drop}
-use Rattle.std.specs.List.{list_any}
+use Rattle.std.proofs.Common.{◌≡◌, ℕ, ◌+◌, ◌-◌, ◌<◌, Bool, List, [], ◌∷◌, ◌++◌, map, length, take, drop, Result, Ok, Err, sym, ap, ◌∙◌, subst, arith, append_assoc, length-append}
 use Rattle.std.specs.Prelude.{All, if◌then◌else◌, OnOk}
-use Rattle.std.proofs.lemmas.Bool.{cases_Bool}
-use Rattle.std.proofs.lemmas.List.{length-map, map-append, take_at, drop_at}
+use Rattle.std.proofs.lemmas.List.{map-append, take_at}
 use Rattle.std.proofs.lemmas.List.Elements.{All-nil, All-cons, All-append, All-same}
 use Rattle.std.proofs.lemmas.List.Sums.{sum_by-cons}
-use Rattle.std.proofs.lemmas.Option.{slice_get-map}
-use Rattle.gpu_descriptor_types.specs.Ledger.{Pool, Counters, live_sets, fresh}
-use Rattle.gpu_descriptor_types.specs.Multiset.{set_eq}
-use Rattle.gpu_descriptor_types.specs.PoolSize.{pool_counts}
 use Rattle.gpu_descriptor.specs.declared.errors.AllocationError.{AllocationError}
-use Rattle.gpu_descriptor.specs.Model.Agreement.{State, Item, flags_of, set_of}
-use Rattle.gpu_descriptor.specs.declared.bucket.take.Stop.{Stop}
-use Rattle.gpu_descriptor.specs.Model.Books.{Key, key_eq, Entry, Bucket, entry_at, next_number}
-use Rattle.gpu_descriptor.specs.Model.FreshPools.{Fresh, AreNew, AreSized, AreFull, IsFreshList, given_by, fresh_entry, IsFreshFront}
+use Rattle.gpu_descriptor.specs.Model.Agreement.{State, Item}
+use Rattle.gpu_descriptor.specs.Model.Books.{Key, Entry, Bucket}
+use Rattle.gpu_descriptor.specs.Model.FreshPools.{Fresh, AreSized, AreFull, IsFreshList, given_by, fresh_entry}
 use Rattle.gpu_descriptor.specs.Model.FreshPools.IsFreshList.{none as no_fresh, some as some_fresh}
-use Rattle.gpu_descriptor.specs.Model.Grants.{Grant, items_in, came, granted, entries_with, fresh_or, pool_with}
-use Rattle.gpu_descriptor.specs.Model.Load.{allocated_in, pool_load}
-use Rattle.gpu_descriptor.specs.Model.Outcomes.{Call, IsBack, IsDone, out_then, wanting}
+use Rattle.gpu_descriptor.specs.Model.Grants.{Grant, granted, entries_with}
+use Rattle.gpu_descriptor.specs.Model.Load.{pool_load}
+use Rattle.gpu_descriptor.specs.Model.Outcomes.{Call, IsDone, out_then, wanting}
 use Rattle.gpu_descriptor.specs.Model.Promises.{AreBelowTwice}
-use Rattle.gpu_descriptor.specs.Model.Release.{released, given_back, pool_less, lies_in, in_front, spent_front, bucket_less}
 use Rattle.gpu_descriptor.specs.Model.Shares.{offer, rest, shared, all_shared}
 use Rattle.gpu_descriptor.proofs.table.Exact.{key_exact}
-use Rattle.gpu_descriptor.proofs.release.Fronts.{entry_at-found}
-use Rattle.gpu_descriptor.proofs.request.Growing.{allocated_shared, length-all_shared}
 use Rattle.gpu_descriptor.proofs.request.NextSize.{next_below}
-use Rattle.gpu_descriptor.proofs.release.Places.{back, front_of, released_books, was_there}
-use Rattle.gpu_descriptor.proofs.lists.AtPlaces.{get_drop}
 
 -- ---- sizes
 
@@ -93,7 +81,7 @@ module _ (c : Call) (d : IsDone c) where
   pub done_filled : 0 < length d.grant.fresh → AreFilled c
   done_filled more = by_list d.fresh
     where
-      by_list : IsFreshList k (c.request.limit - d.pooled) (out_then c.request c.old d.grant) (wanting c.request c.old d.grant) d.grant.fresh → AreFilled c
+      by_list : IsFreshList k (c.request.limit - c.pooled) (out_then c.request c.old d.grant) (wanting c.request c.old d.grant) d.grant.fresh → AreFilled c
       by_list (no_fresh zero_wanted empty) = (let e = ap length empty in absurd (omega arith))
       by_list (some_fresh front last is short sized le given) =
           let shares : List Entry = all_shared d.grant.refused c.request.count (c.old.books k).pools in

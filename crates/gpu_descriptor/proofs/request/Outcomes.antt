@@ -18,7 +18,7 @@ use Rattle.gpu_descriptor.specs.Model.Grants.{Grant, IsGrantOf, bucket_with, ite
 use Rattle.gpu_descriptor.specs.Inner.Grow.{IsTaken}
 use Rattle.gpu_descriptor.specs.Inner.Walk.{IsRefused}
 use Rattle.gpu_descriptor.specs.Model.Load.{marked_load}
-use Rattle.gpu_descriptor.specs.Model.Outcomes.{Allocates, Call, Proceeds, IsBack, back_of, rolled_back, risen, grant_rise, rollback_rise, StopsAt, stop_answer, stop_rise}
+use Rattle.gpu_descriptor.specs.Model.Outcomes.{Allocates, Call, Proceeds, taken_by, risen, grant_rise, rollback_rise, StopsAt, stop_answer, stop_rise}
 use Rattle.gpu_descriptor.specs.Model.Outcomes.Allocates.{done, stopped}
 use Rattle.gpu_descriptor.specs.Model.Promises.{IsUntouched, KeepsOtherKeys, AreOfKey, AreOutBesides, KeepsOutstanding}
 use Rattle.gpu_descriptor.specs.Model.Release.{released, given_back, pools_gone}
@@ -37,7 +37,6 @@ use Rattle.gpu_descriptor.proofs.foreign.OthersStay.{others_stay}
 use Rattle.gpu_descriptor.proofs.release.OtherKeys.{release_others, untouched_twice}
 use Rattle.gpu_descriptor.proofs.request.Promises.{grant_many}
 use Rattle.gpu_descriptor.proofs.request.Granted.{is_done, stopped_state}
-use Rattle.gpu_descriptor.proofs.request.Requested.{load_is, pool_load_is, out_is}
 use Rattle.gpu_descriptor.proofs.request.Rollback.{give_back_rise, only_key, keys_table, unnamed_key, load_of_items}
 
 -- what a request took keeps the key's part of the agreement, wherever it stopped
@@ -121,16 +120,12 @@ module _ {L P S : Type 0} {means : Meaning L P S} {k : Key} {count : ℕ} {sets 
   pub taken_others_of : others_of means.pool_name new after ≡ others_of means.pool_name old before
   taken_others_of = others_stay means.pool_name old new before after taken_leaves taken_loses_none
 
-  pub proceeds : HasDistinctKeys (table_of means.pool_name old) → 0 < count → (last : Allocations P) (final : Ledger) (answer : Result (List Item) AllocationError) → Proceeds (call_of means k count (side old before) (side last final) answer)
-  proceeds distinct some last final answer = record {
-    some = some;
-    limit = record { load = marked_load_of old; is_load = load_is means old before distinct; within = t.within };
-    bound = record { out = outstanding_of old; is_out = out_is means old before distinct; numbers = t.serves.served.numbers; sets = t.fits };
-  }
+  pub proceeds : 0 < count → (last : Allocations P) (final : Ledger) (answer : Result (List Item) AllocationError) → Proceeds (call_of means k count (side old before) (side last final) answer)
+  proceeds some last final answer = record { some = some; limit = t.within; numbers = t.serves.served.numbers; sets = t.fits }
 
   -- ---- the sets went back
 
-  module _ (distinct : HasDistinctKeys (table_of means.pool_name old)) (still : HasDistinctKeys (table_of means.pool_name new)) (some : 0 < count) {last : Allocations P} {final : Ledger} (back : GivesBack means sets (runs items) (side new after) (side last final)) where
+  module _ (still : HasDistinctKeys (table_of means.pool_name new)) (some : 0 < count) {last : Allocations P} {final : Ledger} (back : GivesBack means sets (runs items) (side new after) (side last final)) where
     -- which of the new allocator's pools go
     gone : pools_gone (keys_of new) items (given_back items (state_of means.pool_name new after)) ≡ pools_gone (k ∷ []) items (given_back items (state_of means.pool_name new after))
     gone = ap (λ (keys : List Key). pools_gone keys items (given_back items (state_of means.pool_name new after))) (keys_table means.pool_name new.table) ∙ only_key k items (state_of means.pool_name new after) (table_of means.pool_name new) still (λ l. refl) taken_own
@@ -141,37 +136,32 @@ module _ {L P S : Type 0} {means : Meaning L P S} {k : Key} {count : ℕ} {sets 
     abbrev call : AllocationError → Call
     call error = call_of means k count (side old before) (side last final) (Err error)
 
-    -- the outcome, and what it says went back
+    -- the outcome, and what it took
     abbrev Rolls : Stop → Type 0
-    Rolls why = (o : Allocates (call (stop_answer why))) × (rolled_back o ≡ Some (items, state_of means.pool_name new after))
+    Rolls why = (o : Allocates (call (stop_answer why))) × (g : Grant) × (taken_by o ≡ Some g) × (items_in k g.id g.parts ≡ items) × (granted k count g s ≡ state_of means.pool_name new after)
 
     module _ (why : Stop) (g : Grant) (between : Ledger) (taken : HasTaken k count g items (s.books k) t.serves.bucket before between) (refused : IsRefused why between after) where
       now : (with_bucket k t.serves.bucket after.pools s ≡ granted k count g s) × (after.counters ≡ risen (stop_rise why) (risen (grant_rise count g (s.books k).pools) before.counters))
       now = stopped_state k count why s t.serves.bucket items before between after refl g taken refused
 
-      is_back : (b : IsBack (call (stop_answer why)) g why) × (Some (back_of b) ≡ Some (items, state_of means.pool_name new after))
-      is_back = (
-        record {
+      rolls : StopsAt why k room count g (s.books k).pools → Rolls why
+      rolls at = (
+        stopped (proceeds some last final _) (record { why = why; grant = g; at = at; back = record {
           taken = taken.grant;
           answer = refl;
           state = back.state ∙ (λ i. released (sym taken.came i) ((state ∙ now.0) i));
           counters = went (items_in k g.id g.parts) (granted k count g s) taken.came (sym (state ∙ now.0)) ∙ ap (risen (rollback_rise (items_in k g.id g.parts) k (granted k count g s))) now.1;
-        },
-        λ i. Some (taken.came i, sym (state ∙ now.0) i),
+        } }),
+        g,
+        refl,
+        taken.came,
+        sym (state ∙ now.0),
       )
-
-      goes : Proceeds (call (stop_answer why))
-      goes = proceeds distinct some last final _
-
-    rolls : (why : Stop) (g : Grant) (between : Ledger) → HasTaken k count g items (s.books k) t.serves.bucket before between → StopsAt why k room count g (s.books k).pools → IsRefused why between after → Rolls why
-    rolls why g between taken at refused =
-        let b = is_back why g between taken refused in
-        (stopped (goes why g between taken refused) (record { why = why; grant = g; pooled = pool_load_of old; is_pooled = pool_load_is means old before distinct; at = at; back = b.0 }), b.1)
 
     pub went_back : {why : Stop} → ended ≡ Err why → Rolls why
     went_back {why} is =
         let taken = subst (λ (r : Result (Unit {0}) Stop). IsTaken r k room count items (s.books k) t.serves.bucket before after) is t.serves.served.taken in
-        rolls why taken.0 taken.1 taken.2 taken.3 taken.4
+        rolls why taken.0 taken.1 taken.2 taken.4 taken.3
 
   module _ {last : Allocations P} {final : Ledger} {calls : ℕ} (back : GivesBack means sets calls (side new after) (side last final)) where
     -- the sets that went back are no longer outstanding
@@ -225,5 +215,5 @@ module _ {L P S : Type 0} {means : Meaning L P S} {k : Key} {count : ℕ} {sets 
       let many = kept_many is in
       (t.serves.out ∙ ap (λ n. outstanding_of old + n) many, t.serves.load ∙ ap (λ n. marked_load_of old + marked_load k n) many)
 
-  pub kept : HasDistinctKeys (table_of means.pool_name old) → 0 < count → {x : Unit {0}} → ended ≡ Ok x → Allocates (call_of means k count (side old before) (side new after) (Ok items))
-  kept distinct some is = done (proceeds distinct some new after _) (is_done _ t.serves.bucket items before after refl refl state refl (pool_load_of old) (pool_load_is means old before distinct) (all_of is) refl)
+  pub kept : 0 < count → {x : Unit {0}} → ended ≡ Ok x → Allocates (call_of means k count (side old before) (side new after) (Ok items))
+  kept some is = done (proceeds some new after _) (is_done _ t.serves.bucket items before after refl refl state refl (all_of is) refl)

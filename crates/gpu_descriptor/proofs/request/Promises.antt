@@ -1,11 +1,11 @@
 -- What every outcome of a request promises.
-use Rattle.std.proofs.Common.{◌≡◌, ◌≢◌, ℕ, suc, ◌+◌, ◌-◌, ◌*◌, ◌<◌, ◌≤◌, Bool, true, List, [], ◌∷◌, ◌++◌, map, length, drop, sum_by, Option, Some, None, option_map, inl, inr, eqb-true, ◌==◌, Result, Ok, Err, refl, sym, ap, ◌∙◌, subst, arith}
+use Rattle.std.proofs.Common.{◌≡◌, ◌≢◌, ℕ, suc, ◌+◌, ◌-◌, ◌*◌, ◌<◌, ◌≤◌, Bool, List, [], ◌∷◌, ◌++◌, map, length, drop, sum_by, inl, inr, Result, Ok, Err, refl, sym, ap, ◌∙◌, subst, arith}
 use Rattle.std.proofs.lemmas.List.{length-map, length-append}
 use Rattle.std.proofs.lemmas.List.Sums.{sum_by-cons, sum_by-append}
 use Rattle.gpu_descriptor_types.proofs.Sizes.{pool_size_some}
 use Rattle.gpu_descriptor_types.specs.PoolSize.{pool_size_floor}
-use Rattle.std.specs.Prelude.{◌↔◌, min, if◌then◌else◌, OnOk, IfErr}
-use Rattle.gpu_descriptor_types.specs.Ledger.{Pool, Counters, live_sets, create_refused, alloc_refused, pool_refusals, no_rise}
+use Rattle.std.specs.Prelude.{◌↔◌, min, OnOk, IfErr}
+use Rattle.gpu_descriptor_types.specs.Ledger.{Counters, create_refused, alloc_refused, pool_refusals, no_rise}
 use Rattle.gpu_descriptor_types.specs.declared.errors.CreatePoolError.{CreatePoolError}
 use Rattle.gpu_descriptor_types.specs.declared.errors.CreatePoolError.TheVariants as create_error
 use Rattle.gpu_descriptor_types.specs.declared.errors.DeviceAllocationError.{DeviceAllocationError}
@@ -14,21 +14,21 @@ use Rattle.gpu_descriptor.specs.declared.errors.AllocationError.{AllocationError
 use Rattle.gpu_descriptor.specs.declared.errors.AllocationError.TheVariants.{OutOfHostMemory, Fragmentation}
 use Rattle.gpu_descriptor.specs.declared.bucket.take.Stop.{Stop}
 use Rattle.gpu_descriptor.specs.declared.bucket.take.Stop.TheVariants.{Existing, Room, Books, Create, New}
-use Rattle.gpu_descriptor.specs.Model.Agreement.{State, Item}
+use Rattle.gpu_descriptor.specs.Model.Agreement.{Item}
 use Rattle.gpu_descriptor.specs.Model.Books.{Key, Entry, Bucket, next_number}
-use Rattle.gpu_descriptor.specs.Model.Outcomes.{error_of_alloc, Allocates, Call, IsBack, IsDone, IsGrant, IsStopped, StopsAt, out_then, stop_answer, stop_rise, wanting}
-use Rattle.gpu_descriptor.specs.Model.FreshPools.{Fresh, AreNew, IsFreshFront, IsNextSize, room_after, AreSized, AreFull, IsFreshList, given_by, fresh_portions}
-use Rattle.gpu_descriptor.specs.Model.Grants.{Grant, Part, portion_of, items_at, items_in, came, granted, fresh_or, pool_with}
+use Rattle.gpu_descriptor.specs.Model.Outcomes.{error_of_alloc, Allocates, Call, IsBack, IsDone, IsStopped, StopsAt, out_then, stop_answer, stop_rise, wanting}
+use Rattle.gpu_descriptor.specs.Model.FreshPools.{Fresh, IsFreshFront, IsNextSize, room_after, AreSized, AreFull, IsFreshList, given_by, fresh_portions}
+use Rattle.gpu_descriptor.specs.Model.Grants.{Grant, Part, portion_of, items_at, items_in}
 use Rattle.gpu_descriptor.specs.Model.Outcomes.Allocates.{none, limit, bound, start, done, stopped}
 use Rattle.gpu_descriptor.specs.Model.FreshPools.IsFreshList.{none as no_fresh, some as some_fresh}
-use Rattle.std.proofs.lemmas.Bool.{cases_Bool, cases_lt}
+use Rattle.std.proofs.lemmas.Bool.{cases_lt}
 use Rattle.gpu_descriptor.specs.Model.Promises.{AreBelowTwice, HasCause, IsShort, CreatesOnlyWhereShort}
 use Rattle.gpu_descriptor.specs.Model.Promises.IsFragmentation.{above_limit, past_bound, no_room_left, no_pool_created, new_pool_refused}
 use Rattle.gpu_descriptor.specs.Model.Promises.IsHostMemory.{device_refused, no_memory_at_start, no_memory_for_a_pool}
 use Rattle.gpu_descriptor.specs.Model.Load.{pool_load}
 use Rattle.gpu_descriptor.proofs.request.NextSize.{next_whole, one_fits, some_fit, room_falls}
 use Rattle.gpu_descriptor.proofs.request.NewPools.{AreFilled, met, unmet, shares_used, done_filled, front_below, list_below}
-use Rattle.gpu_descriptor.specs.Model.Shares.{Portion, offer, rest, portions_of, refused_count, OnlyAskedRefuse}
+use Rattle.gpu_descriptor.specs.Model.Shares.{Portion, offer, rest, portions_of}
 
 -- ---- how many sets
 
@@ -86,10 +86,10 @@ memory_cause c g why back alloc_error.OutOfHostMemory memory device host = (let 
 memory_cause c g why back alloc_error.FragmentedPool memory device host = absurd (omega arith)
 memory_cause c g why back alloc_error.OutOfPoolMemory memory device host = absurd (omega arith)
 
-abbrev Stops : Call → Stop → Grant → ℕ → Type 0
-Stops c why g pooled = StopsAt why c.request.key (c.request.limit - pooled) c.request.count g (c.old.books c.request.key).pools
+abbrev Stops : Call → Stop → Grant → Type 0
+Stops c why g = StopsAt why c.request.key (c.request.limit - c.pooled) c.request.count g (c.old.books c.request.key).pools
 
-stop_cause : (c : Call) (s : IsStopped c) (why : Stop) → s.why ≡ why → IsBack c s.grant why → Stops c why s.grant s.pooled → HasCause (stop_answer why) c
+stop_cause : (c : Call) (s : IsStopped c) (why : Stop) → s.why ≡ why → IsBack c s.grant why → Stops c why s.grant → HasCause (stop_answer why) c
 stop_cause c s (Existing e) is back at = memory_cause c s.grant (Existing e) back e at.memory refl refl
 stop_cause c s Room is back at = no_room_left s is
 stop_cause c s Books is back at = no_memory_for_a_pool s is
@@ -187,14 +187,14 @@ front_short c s why room back front few =
     pools_short c s.grant (omega arith) (front_below c.request.key room _ _ s.grant.fresh front.sized front.full front.short) (unmet (AreFilled c) c.answer _ back.answer) (length s.grant.fresh + (stop_rise why).created) (omega arith) few
 
 -- a list that gave all
-done_short : (c : Call) (d : IsDone c) → IsFreshList c.request.key (c.request.limit - d.pooled) (out_then c.request c.old d.grant) (wanting c.request c.old d.grant) d.grant.fresh → 0 < length d.grant.fresh → IsShort c d.grant
+done_short : (c : Call) (d : IsDone c) → IsFreshList c.request.key (c.request.limit - c.pooled) (out_then c.request c.old d.grant) (wanting c.request c.old d.grant) d.grant.fresh → 0 < length d.grant.fresh → IsShort c d.grant
 done_short c d (no_fresh zero_wanted empty) some = (let e = ap length empty in absurd (omega arith))
 done_short c d (some_fresh front last parts short sized le given) some =
     let g : Grant = d.grant in
     let m : ℕ = pool_size_floor c.request.key.counts in
-    let whole_sized = subst (AreSized c.request.key (c.request.limit - d.pooled) (out_then c.request c.old g) (wanting c.request c.old g)) parts sized in
-    let few = list_few c.request.key (c.request.limit - d.pooled) (out_then c.request c.old g) (wanting c.request c.old g) front last whole_sized short.full short.short in
-    let below = subst (AreBelowTwice (out_then c.request c.old g) (wanting c.request c.old g)) (sym parts) (list_below c.request.key (c.request.limit - d.pooled) (out_then c.request c.old g) (wanting c.request c.old g) front last whole_sized short.full short.short) in
+    let whole_sized = subst (AreSized c.request.key (c.request.limit - c.pooled) (out_then c.request c.old g) (wanting c.request c.old g)) parts sized in
+    let few = list_few c.request.key (c.request.limit - c.pooled) (out_then c.request c.old g) (wanting c.request c.old g) front last whole_sized short.full short.short in
+    let below = subst (AreBelowTwice (out_then c.request c.old g) (wanting c.request c.old g)) (sym parts) (list_below c.request.key (c.request.limit - c.pooled) (out_then c.request c.old g) (wanting c.request c.old g) front last whole_sized short.full short.short) in
     let less = short.short in
     let long = ap length parts ∙ length-append front (last ∷ []) in
     let product = times_more (length front) m in
@@ -235,7 +235,7 @@ module _ (c : Call) where
   has_cause (done p d) = given _ d.answer
   has_cause (stopped p s) = answered _ s.back.answer (stop_cause c s s.why refl s.back s.at)
 
-  stop_short : (s : IsStopped c) (why : Stop) → IsBack c s.grant why → Stops c why s.grant s.pooled → c.before.created < c.after.created → IsShort c s.grant
+  stop_short : (s : IsStopped c) (why : Stop) → IsBack c s.grant why → Stops c why s.grant → c.before.created < c.after.created → IsShort c s.grant
   stop_short s (Existing e) back at more =
       let n = ap (λ (k : Counters). k.created) back.counters in
       let none = alloc_creates e in

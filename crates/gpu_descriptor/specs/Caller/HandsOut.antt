@@ -1,4 +1,5 @@
 -- What a request for sets leaves of an allocator and of the ledger.
+use Rattle.gpu_descriptor.specs.Model.Grants.{granted, items_in}
 use Rattle.std.specs.Prelude.{◌≡◌, ℕ, ◌+◌, ◌≤◌, length, IfOk, IfErr, MatchOption, None, OnOk, OnErr, Result}
 use Rattle.std.specs.Global.{Vec}
 use Rattle.gpu_descriptor_types.specs.Meaning.{Meaning}
@@ -7,7 +8,7 @@ use Rattle.gpu_descriptor.specs.declared.errors.AllocationError.{AllocationError
 use Rattle.gpu_descriptor.specs.declared.set.DescriptorSet.{DescriptorSet}
 use Rattle.gpu_descriptor.specs.Model.Books.{Key}
 use Rattle.gpu_descriptor.specs.Model.Load.{marked_load}
-use Rattle.gpu_descriptor.specs.Model.Outcomes.{Allocates, rolled_back}
+use Rattle.gpu_descriptor.specs.Model.Outcomes.{Allocates, taken_by}
 use Rattle.gpu_descriptor.specs.Model.Promises.{AreOfKey, AreOutBesides, CreatesOnlyWhereShort, HasCause, KeepsOtherKeys, KeepsOutstanding}
 use Rattle.gpu_descriptor.specs.Caller.Call.{answer_of, call_of}
 use Rattle.gpu_descriptor.specs.Caller.Comparisons.{run_digits}
@@ -37,8 +38,8 @@ pub record HandsOut {L P S : Type 0} (means : Meaning L P S) (k : Key) (count : 
   -- a look for each call that asks a pool
   pub looks : new.value.looks + old.ledger.counters.asked ≡ old.value.looks + new.ledger.counters.asked
   -- a request that was refused before it took anything changes nothing
-  pub declined : OnErr answer (rolled_back outcome ≡ None → (new.value ≡ old.value) × (new.ledger ≡ old.ledger))
+  pub declined : OnErr answer (taken_by outcome ≡ None → (new.value ≡ old.value) × (new.ledger ≡ old.ledger))
   -- a rollback compares no more than a release of its sets, and no other request compares
-  pub searches : OnErr answer (MatchOption (rolled_back outcome) (new.value.comparisons ≡ old.value.comparisons) (λ r. new.value.comparisons ≤ old.value.comparisons + run_digits r.1 r.0))
+  pub searches : OnErr answer (MatchOption (taken_by outcome) (new.value.comparisons ≡ old.value.comparisons) (λ g. new.value.comparisons ≤ old.value.comparisons + run_digits (granted k count g (state_of means.pool_name old.value old.ledger)) (items_in k g.id g.parts)))
   pub comparisons_stay : OnOk answer (new.value.comparisons ≡ old.value.comparisons)
   pub compared : old.value.comparisons ≤ new.value.comparisons

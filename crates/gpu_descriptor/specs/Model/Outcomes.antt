@@ -11,7 +11,7 @@ use Rattle.gpu_descriptor.specs.declared.bucket.take.Stop.TheVariants.{Existing,
 use Rattle.gpu_descriptor.specs.Model.Books.{Key, Entry, next_number}
 use Rattle.gpu_descriptor.specs.Model.Agreement.{State, Item}
 use Rattle.gpu_descriptor.specs.Model.Release.{given_back, released, pools_gone}
-use Rattle.gpu_descriptor.specs.Model.Load.{allocated_in, pool_load, IsOut, IsMarkedLoad, IsPoolLoad}
+use Rattle.gpu_descriptor.specs.Model.Load.{allocated_in, pool_load}
 use Rattle.gpu_descriptor.specs.Model.Runs.{runs}
 use Rattle.gpu_descriptor.specs.Model.Shares.{rest, is_asked, all_shared, asked_count, refused_count}
 use Rattle.gpu_descriptor.specs.Model.FreshPools.{IsFreshFront, IsFreshList, room_after}
@@ -87,6 +87,10 @@ pub record Call : Type 0 where
   pub before : Counters
   pub after : Counters
   pub answer : Result (List Item) AllocationError
+  -- before it: how many sets are out, how many descriptors the marked ones have, and how many the pools of marked keys
+  pub out : ℕ
+  pub load : ℕ
+  pub pooled : ℕ
 
 -- nothing changed
 pub record Stays (c : Call) : Type 0 where
@@ -95,41 +99,28 @@ pub record Stays (c : Call) : Type 0 where
 
 pub record IsAboveLimit (c : Call) : Type 0 where
   pub marked : c.request.key.marked ≡ true
-  pub load : ℕ
-  pub is_load : IsMarkedLoad c.old load
-  pub above : c.request.limit < c.request.count * sum c.request.key.counts + load
+  pub above : c.request.limit < c.request.count * sum c.request.key.counts + c.load
 
-pub record IsWithinLimit (c : Call) : Type 0 where
-  pub load : ℕ
-  pub is_load : IsMarkedLoad c.old load
-  pub within : c.request.key.marked ≡ true → c.request.count * sum c.request.key.counts + load ≤ c.request.limit
+abbrev pub IsWithinLimit : Call → Type 0
+IsWithinLimit c = c.request.key.marked ≡ true → c.request.count * sum c.request.key.counts + c.load ≤ c.request.limit
 
 -- pool numbers, or the number of sets that are out, would pass 64 bits
-pub record IsPastBound (c : Call) : Type 0 where
-  pub out : ℕ
-  pub is_out : IsOut c.old out
-  pub past : (greatest_u64 < next_number (c.old.books c.request.key) + c.request.count) ⊎ (greatest_u64 < out + c.request.count)
-
-pub record IsInBound (c : Call) : Type 0 where
-  pub out : ℕ
-  pub is_out : IsOut c.old out
-  pub numbers : next_number (c.old.books c.request.key) + c.request.count ≤ greatest_u64
-  pub sets : out + c.request.count ≤ greatest_u64
+abbrev pub IsPastBound : Call → Type 0
+IsPastBound c = (greatest_u64 < next_number (c.old.books c.request.key) + c.request.count) ⊎ (greatest_u64 < c.out + c.request.count)
 
 -- the tests before the walk are passed
 pub record Proceeds (c : Call) : Type 0 where
   pub some : 0 < c.request.count
   pub limit : IsWithinLimit c
-  pub bound : IsInBound c
+  pub numbers : next_number (c.old.books c.request.key) + c.request.count ≤ greatest_u64
+  pub sets : c.out + c.request.count ≤ greatest_u64
 
 -- all sets were had
 pub record IsDone (c : Call) : Type 0 where
   pub grant : Grant
   pub taken : IsGrant c.request c.old grant
   pub all : grant.left ≡ 0
-  pub pooled : ℕ
-  pub is_pooled : IsPoolLoad c.old pooled
-  pub fresh : IsFreshList c.request.key (c.request.limit - pooled) (out_then c.request c.old grant) (wanting c.request c.old grant) grant.fresh
+  pub fresh : IsFreshList c.request.key (c.request.limit - c.pooled) (out_then c.request c.old grant) (wanting c.request c.old grant) grant.fresh
   pub answer : c.answer ≡ Ok (items_in c.request.key grant.id grant.parts)
   pub state : c.new ≡ granted c.request.key c.request.count grant c.old
   pub counters : c.after ≡ risen (grant_rise c.request.count grant (c.old.books c.request.key).pools) c.before
@@ -184,10 +175,7 @@ StopsAt why k room n g old = (g.left ≡ 0) × IsFreshFront k room (allocated_in
 pub record IsStopped (c : Call) : Type 0 where
   pub why : Stop
   pub grant : Grant
-  -- the pool load before
-  pub pooled : ℕ
-  pub is_pooled : IsPoolLoad c.old pooled
-  pub at : StopsAt why c.request.key (c.request.limit - pooled) c.request.count grant (c.old.books c.request.key).pools
+  pub at : StopsAt why c.request.key (c.request.limit - c.pooled) c.request.count grant (c.old.books c.request.key).pools
   pub back : IsBack c grant why
 
 pub data Allocates (c : Call) : Type 0 where
@@ -206,16 +194,3 @@ taken_by (bound some within past answer stays) = None
 taken_by (start goes answer stays) = None
 taken_by (done goes is) = Some is.grant
 taken_by (stopped goes is) = Some is.grant
-
--- the sets that went back when a request stopped, and the state from which they went
-abbrev pub back_of : {c : Call} {grant : Grant} {why : Stop} → IsBack c grant why → List Item × State
-back_of {c} {grant} back = (items_in c.request.key grant.id grant.parts, granted c.request.key c.request.count grant c.old)
-
--- the rollback of a request: there is none where it was met, and where it was refused before it took anything
-abbrev pub rolled_back : {c : Call} → Allocates c → Option (List Item × State)
-rolled_back (none zero_sets answer stays) = None
-rolled_back (limit some above answer stays) = None
-rolled_back (bound some within past answer stays) = None
-rolled_back (start goes answer stays) = None
-rolled_back (done goes is) = None
-rolled_back (stopped goes is) = Some (back_of is.back)

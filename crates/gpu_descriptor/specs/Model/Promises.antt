@@ -1,7 +1,7 @@
 -- What a caller may read off a request without its outcomes.
 use Rattle.gpu_descriptor.specs.Model.Grants.{Grant}
 use Rattle.gpu_descriptor.specs.Model.FreshPools.{Fresh}
-use Rattle.std.specs.Prelude.{◌≡◌, ℕ, ◌+◌, ◌-◌, ◌*◌, ◌<◌, Bool, List, [], ◌∷◌, length, take, sum_by, All, Some, OnOk, false, IfSome}
+use Rattle.std.specs.Prelude.{◌≡◌, ℕ, ◌+◌, ◌-◌, ◌*◌, ◌<◌, List, [], ◌∷◌, length, take, sum_by, All, Some, OnOk, false, IfSome}
 use Rattle.gpu_descriptor_types.specs.Ledger.{pool_refusals}
 use Rattle.gpu_descriptor_types.specs.PoolSize.{pool_size_floor, start_size}
 use Rattle.gpu_descriptor.specs.declared.errors.AllocationError.{AllocationError}
