@@ -1,7 +1,7 @@
 -- Two sessions on one device: what a step of one leaves of the other.
 use Rattle.std.proofs.Common.{◌≡◌, ℕ, List, [], Option, Some, refl, sym, ap, ◌∙◌, subst}
 use Rattle.gpu_descriptor_types.specs.Ledger.{Ledger}
-use Rattle.gpu_descriptor.specs.Laws.Agreement.{KeepsOwn}
+use Rattle.gpu_descriptor.specs.Model.Foreign.{KeepsOwn}
 use Rattle.gpu_descriptor.specs.Model.Agreement.{count_of, outstanding}
 use Rattle.gpu_descriptor.specs.Model.Books.{Key, Entry, Bucket, entry_at, no_pools}
 use Rattle.gpu_descriptor.specs.Model.Foreign.{IsForeign, KeepsForeign}

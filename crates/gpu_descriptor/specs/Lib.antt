@@ -1,5 +1,4 @@
 pub mod Caller
 pub mod Example
 pub mod Inner
-pub mod Laws
 pub mod Model

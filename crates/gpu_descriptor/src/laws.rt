@@ -1,29 +1,29 @@
 //! Laws of giving sets back and of cleaning up, over the books of an allocator and the ledger of a
 //! device, and of the types, which their derives keep. The functions do nothing: their contracts
 //! are the laws.
-
-ghost use Rattle.std.specs.Prelude.{◌≡◌, ◌↔◌, ℕ, [], IsTrue};
-ghost use Rattle.gpu_descriptor_types.specs.Ledger.{Ledger};
-ghost use Rattle.gpu_descriptor.specs.Laws.Release.{ReleaseParts, ReleaseGone, ReleaseOrder};
-ghost use Rattle.gpu_descriptor.specs.Laws.Release.{ReleaseEach, ReleaseSingly, ReleaseNone};
-ghost use Rattle.gpu_descriptor.specs.Laws.Release.{ReleaseAgrees, ReleaseTakes, ReleaseOthers};
-ghost use Rattle.gpu_descriptor.specs.Laws.Cleanup.{CleanAgain, CleanAgainNone, CleanAll};
-ghost use Rattle.gpu_descriptor.specs.Laws.Cleanup.{CleanAllGone, CleanOnce, CleanAgrees};
-ghost use Rattle.gpu_descriptor.specs.Laws.Cleanup.{CleanRestores, CleanTakesNone};
-ghost use Rattle.gpu_descriptor.specs.Laws.Agreement.{AgreesOnce, BookedIsListed, EmptyAgrees};
-ghost use Rattle.gpu_descriptor.specs.Laws.Agreement.{KeyHasOneId, OwnAgrees, OwnOutstanding};
-ghost use Rattle.gpu_descriptor.specs.Model.Agreement.{Item, item_eq};
-ghost use Rattle.gpu_descriptor.specs.Model.Books.{HasDistinctKeys, Key, key_eq};
-ghost use Rattle.gpu_descriptor.specs.Laws.Load.{SumByBooks, LoadIsDescriptors, MarkedWithinPools};
-ghost use Rattle.gpu_descriptor.specs.Laws.Load.{PoolLoadIsCounts, PoolLoadIsCreated, OutIsLength};
-ghost use Rattle.gpu_descriptor.specs.Laws.Load.{OutIsSize};
-ghost use Rattle.gpu_descriptor.specs.Laws.Foreign.{LosesNoneInTurn, NamedOrForeign};
-ghost use Rattle.gpu_descriptor.specs.Caller.Others.{others_of};
-ghost use Rattle.gpu_descriptor.specs.Model.Load.{IsMarkedLoad, IsOut, IsPoolLoad};
-ghost use Rattle.gpu_descriptor.specs.Caller.States.{marked_load_of, outstanding_of, pool_load_of};
-ghost use Rattle.gpu_descriptor.specs.Caller.States.{state_of, table_of};
-ghost use Rattle.gpu_descriptor.specs.Caller.Values.{Allocations};
+ghost use Rattle.std.specs.Prelude.{◌≡◌, ◌↔◌, ℕ, [], IsTrue, List, None, Option, Some, false};
+ghost use Rattle.std.specs.Prelude.{flat_map, length, sum, true, ◌++◌, ◌+◌, ◌<◌, ◌≤◌, ◌⊎◌};
 ghost use Rattle.gpu_descriptor.specs.Caller.Flags.{layout_bits};
+ghost use Rattle.gpu_descriptor.specs.Caller.Frees.{marked_descriptors};
+ghost use Rattle.gpu_descriptor.specs.Caller.Others.{others_of};
+ghost use Rattle.gpu_descriptor.specs.Caller.States.{marked_load_of, outstanding_of};
+ghost use Rattle.gpu_descriptor.specs.Caller.States.{pool_load_of, state_of, table_of};
+ghost use Rattle.gpu_descriptor.specs.Caller.Values.{Allocations};
+ghost use Rattle.gpu_descriptor.specs.Model.Agreement.{Item, item_eq, Agree, AreOutstanding};
+ghost use Rattle.gpu_descriptor.specs.Model.Agreement.{IsAsBooked, State, count_of, outstanding};
+ghost use Rattle.gpu_descriptor.specs.Model.Books.{HasDistinctKeys, Key, key_eq, AddsUp, Bucket};
+ghost use Rattle.gpu_descriptor.specs.Model.Books.{Entry, books_of, entry_at, no_pools, sum_over};
+ghost use Rattle.gpu_descriptor.specs.Model.Cleanup.{IsCleaned, pools_cleaned};
+ghost use Rattle.gpu_descriptor.specs.Model.Foreign.{IsForeign, IsNamed, KeepsForeign, LosesNone};
+ghost use Rattle.gpu_descriptor.specs.Model.Foreign.{KeepsOwn};
+ghost use Rattle.gpu_descriptor.specs.Model.Load.{IsMarkedLoad, IsOut, IsPoolLoad, pool_load};
+ghost use Rattle.gpu_descriptor.specs.Model.Load.{descriptors_created};
+ghost use Rattle.gpu_descriptor.specs.Model.Promises.{IsUntouched};
+ghost use Rattle.gpu_descriptor.specs.Model.Release.{given_back, pools_gone, released};
+ghost use Rattle.gpu_descriptor.specs.Model.Release.{released_each, singly};
+ghost use Rattle.gpu_descriptor_types.specs.Ledger.{Ledger, Pool};
+ghost use Rattle.gpu_descriptor_types.specs.Multiset.{LiveSet, Spells};
+ghost use Rattle.std.specs.List.{list_any};
 ghost use Rattle.gpu_descriptor.specs.declared.errors.AllocationError.{AllocationError as Error};
 ghost use Rattle.gpu_descriptor.specs.declared.flags.DescriptorSetLayoutCreateFlags.{DescriptorSetLayoutCreateFlags as LayoutFlags};
 ghost use Rattle.gpu_descriptor.specs.declared.view.PoolView.{PoolView as View};
@@ -35,33 +35,48 @@ use std::hash::Hash;
 
 /// Sets that go back in parts, and in any order, leave what they leave at once.
 pub fn release_parts()
-    ensures parts { ReleaseParts }
-    ensures cut_anywhere { ReleaseEach }
-    ensures one_by_one { ReleaseSingly }
-    ensures order { ReleaseOrder }
-    ensures none { ReleaseNone }
+    ensures parts { (m n : List Item) (s : State) → Agree s → AreOutstanding (m ++ n) s → released n
+        (released m s) ≡ released (m ++ n) s }
+    ensures cut_anywhere { (ms : List (List Item)) (s : State) → Agree s → AreOutstanding
+        (flat_map (λ m. m) ms) s → released_each ms s ≡ released (flat_map (λ m. m) ms) s }
+    ensures one_by_one { (m order : List Item) (s : State) → Agree s → AreOutstanding m s
+        → ((t : Item) → count_of t order ≡ count_of t m) → released_each (singly order) s ≡ released
+        m s }
+    ensures order { (m n : List Item) (s : State) → ((t : Item) → count_of t m ≡ count_of t n)
+        → released m s ≡ released n s }
+    ensures none { (s : State) → released [] s ≡ s }
 
     // As many pools go in two parts as at once.
-    ensures pools_gone { ReleaseGone }
+    ensures pools_gone { (keys : List Key) (m n : List Item) (s : State) → Agree s → AreOutstanding
+        (m ++ n) s → pools_gone keys m (given_back m s) + pools_gone keys n
+        (given_back n (released m s)) ≡ pools_gone keys (m ++ n) (given_back (m ++ n) s) }
 
-    ensures agrees { ReleaseAgrees }
-    ensures outstanding { ReleaseTakes }
+    ensures agrees { (m : List Item) (s : State) → Agree s → AreOutstanding m s → Agree
+        (released m s) }
+    ensures outstanding { (m : List Item) (s : State) → Agree s → AreOutstanding m s → (t : Item)
+        → outstanding (released m s) t + count_of t m ≡ outstanding s t }
 
     // Keys of which no set goes back keep their pools as they are.
-    ensures other_keys { ReleaseOthers }
+    ensures other_keys { (m : List Item) (s : State) → Agree s → (k : Key) → list_any
+        (λ t. key_eq t.key k) m ≡ false → IsUntouched k s (released m s) }
 {}
 
 /// Cleaning up what was cleaned up changes nothing and destroys no pool. With nothing outstanding
 /// no pool is left, in the books and in the ledger.
 pub fn clean_again()
-    ensures again { CleanAgain }
-    ensures again_none { CleanAgainNone }
-    ensures all { CleanAll }
-    ensures all_gone { CleanAllGone }
-    ensures one_result { CleanOnce }
+    ensures again { (s t u : State) → IsCleaned s t → IsCleaned t u → u ≡ t }
+    ensures again_none { (keys : List Key) (s t : State) → IsCleaned s t → pools_cleaned keys t
+        ≡ 0 }
+    ensures all { (s t : State) → Agree s → ((i : Item) → outstanding s i ≡ 0) → IsCleaned s t
+        → (k : Key) → t.books k ≡ no_pools }
+    ensures all_gone { (s t : State) → Agree s → ((i : Item) → outstanding s i ≡ 0) → IsCleaned s t
+        → (k : Key) (n : ℕ) (e : Entry) → entry_at (s.books k) n ≡ Some e → t.ledger e.pool ≡ None }
+    ensures one_result { (keys : List Key) (s t u : State) → ((k : Key) → list_any (λ l. key_eq l k)
+        keys ≡ false → (s.books k).pools ≡ []) → IsCleaned s t → IsCleaned s u → t ≡ u }
 
-    ensures agrees { CleanAgrees }
-    ensures outstanding { CleanTakesNone }
+    ensures agrees { (s t : State) → Agree s → IsCleaned s t → Agree t }
+    ensures outstanding { (s t : State) → Agree s → IsCleaned s t → (i : Item) → outstanding t i
+        ≡ outstanding s i }
 {}
 
 /// No pool is lost over calls one after another, if each loses none. So an allocator that is made,
@@ -70,9 +85,13 @@ pub fn clean_again()
 /// That none is lost says of each live pool that the books name it, or that it is another's, which
 /// is as it was: for the books of an allocator are always one or the other.
 pub fn no_pool_is_lost<P>()
-    ensures in_turn { LosesNoneInTurn }
-    ensures restores { CleanRestores }
-    ensures one_or_other { NamedOrForeign P }
+    ensures in_turn { (s t u : State) → LosesNone s t → LosesNone t u → LosesNone s u }
+    ensures restores { (s t u : State) → ((k : Key) → s.books k ≡ no_pools) → KeepsForeign s t
+        → LosesNone s t → Agree t → ((i : Item) → outstanding t i ≡ 0) → IsCleaned t u → u.ledger
+        ≡ s.ledger }
+    ensures one_or_other { (name : P → ℕ) (a : Allocations P) (l : Ledger) → HasDistinctKeys
+        (table_of name a) → (pool : ℕ) → IsNamed (state_of name a l) pool ⊎ IsForeign
+        (state_of name a l) pool }
 
     // All pools are others' where the allocator has no keys.
     ensures all_others { (name : P → ℕ) (a : Allocations P) (l : Ledger) → a.table ≡ [] → others_of
@@ -82,8 +101,11 @@ pub fn no_pool_is_lost<P>()
 /// An allocator without keys agrees with every ledger, and sums over all keys depend on the books
 /// alone.
 pub fn books_alone()
-    ensures empty { EmptyAgrees }
-    ensures sums { SumByBooks }
+    ensures empty { (ledger : ℕ → Option Pool) → Agree
+        (record { books = λ _. no_pools; ledger = ledger }) }
+    ensures sums { (f : Key → Bucket → ℕ) (t u : List (Key × Bucket))
+        → ((k : Key) → f k no_pools ≡ 0) → HasDistinctKeys t → HasDistinctKeys u
+        → ((k : Key) → books_of t k ≡ books_of u k) → sum_over f t ≡ sum_over f u }
 {}
 
 /// That books and ledger agree has one proof at most, so a struct that owns an allocator and its
@@ -92,8 +114,9 @@ pub fn books_alone()
 /// Every list that spells a pool's live sets, as `finite` of the device gives one, has as many sets
 /// as the books say.
 pub fn agreement_is_one()
-    ensures one { AgreesOnce }
-    ensures listed { BookedIsListed }
+    ensures one { (s : State) → IsProp (Agree s) }
+    ensures listed { (k : Key) (pool : Pool) (e : Entry) → IsAsBooked k pool e
+        → (sets : List LiveSet) → Spells sets pool.live → length sets ≡ e.allocated }
 {}
 
 /// Where no key has two rows, the sets, the marked descriptors and the descriptors of marked keys'
@@ -111,30 +134,39 @@ pub fn rows_add_up<P>()
 /// pool are those that the device created it with. So they add up to what it created all pools of
 /// marked keys with, and no more descriptors of marked sets are out.
 pub fn pools_have_their_load()
-    ensures each { PoolLoadIsCounts }
-    ensures created { PoolLoadIsCreated }
-    ensures marked { MarkedWithinPools }
+    ensures each { (s : State) (k : Key) (n : ℕ) (e : Entry) (pool : Pool) → Agree s → length
+        k.counts ≡ 14 → k.marked ≡ true → entry_at (s.books k) n ≡ Some e → s.ledger e.pool ≡ Some
+        pool → sum pool.counts ≡ pool_load k e.capacity }
+    ensures created { (s : State) (n : ℕ) → Agree s → ((k : Key) → 0 < length (s.books k).pools
+        → length k.counts ≡ 14) → IsPoolLoad s n ↔ AddsUp (descriptors_created s.ledger) s.books n }
+    ensures marked { (s : State) (marked pools : ℕ) → Agree s → IsMarkedLoad s marked → IsPoolLoad s
+        pools → marked ≤ pools }
 {}
 
 /// Where books and ledger agree, as many sets are out as are outstanding: a list has each set as
 /// often as it is outstanding, and each such list has as many sets as are out. The marked load is
 /// the sum of the descriptors of its marked sets.
 pub fn out_is_outstanding()
-    ensures size { OutIsSize }
-    ensures any_list { OutIsLength }
-    ensures load { LoadIsDescriptors }
+    ensures size { (s : State) (n : ℕ) → Agree s → IsOut s n → ∥ ((items : List Item)
+        × (length items ≡ n) × ((t : Item) → count_of t items ≡ outstanding s t)) ∥₁ }
+    ensures any_list { (s : State) (n : ℕ) → Agree s → IsOut s n → (items : List Item)
+        → ((t : Item) → count_of t items ≡ outstanding s t) → length items ≡ n }
+    ensures load { (s : State) (n : ℕ) → Agree s → IsMarkedLoad s n → (items : List Item)
+        → ((t : Item) → count_of t items ≡ outstanding s t) → marked_descriptors items ≡ n }
 {}
 
 /// Pools of the device that are none of the allocator's may come, go and change between its calls:
 /// books and ledger agree as before, and the same sets are outstanding.
 pub fn others_are_free()
-    ensures agrees { OwnAgrees }
-    ensures outstanding { OwnOutstanding }
+    ensures agrees { (s t : State) → KeepsOwn s t → Agree s → Agree t }
+    ensures outstanding { (s t : State) → KeepsOwn s t → (i : Item) → outstanding t i ≡ outstanding
+        s i }
 {}
 
 /// Of sets that are outstanding those of one key have one id.
 pub fn a_key_has_one_id()
-    ensures one_id { KeyHasOneId }
+    ensures one_id { (s : State) (t u : Item) → 0 < outstanding s t → 0 < outstanding s u → t.key
+        ≡ u.key → t.id ≡ u.id }
 {}
 
 /// Keys and items are equal exactly where the tests by which they are counted say so.

@@ -8,9 +8,8 @@ use Rattle.std.specs.List.{list_any, prefix_len}
 use Rattle.std.proofs.lemmas.Bool.{cases_Bool, cases_eq, false_from_ne_true, or_left, or_right}
 use Rattle.std.proofs.lemmas.List.Sums.{prefix_len-le-length, sum_by-cons}
 use Rattle.gpu_descriptor.specs.Model.Agreement.{live_there, set_of, Item, State, live_in, outstanding, HasSize, Agree}
-use Rattle.gpu_descriptor.specs.Model.Books.{Key, key_eq, Entry, Bucket, entry_at}
-use Rattle.gpu_descriptor.specs.Model.Cleanup.{IsCleaned, cleaned_bucket}
-use Rattle.gpu_descriptor.specs.Laws.Cleanup.{CleanAgain, CleanAgainNone, CleanAll, CleanAllGone, CleanAgrees, CleanTakesNone, CleanOnce}
+use Rattle.gpu_descriptor.specs.Model.Books.{Key, key_eq, Entry, Bucket, entry_at, no_pools}
+use Rattle.gpu_descriptor.specs.Model.Cleanup.{IsCleaned, cleaned_bucket, pools_cleaned}
 use Rattle.gpu_descriptor.specs.Model.Release.{is_empty, empty_front, without_front, in_front}
 use Rattle.gpu_descriptor_types.specs.Multiset.{LiveSet, set_eq}
 use Rattle.gpu_descriptor.proofs.release.Fronts.{entry_at-found, entry_at-from, entry_at-without, entry_at-kept}
@@ -61,14 +60,14 @@ cleaned_twice b = elim (cleaned_cases b) [
       ap cleaned_bucket some.1 ∙ same ∙ sym some.1)
 ]
 
-pub again : CleanAgain
+pub again : (s t u : State) → IsCleaned s t → IsCleaned t u → u ≡ t
 again s t u first second =
     let books : u.books ≡ t.books = fun_ext (λ k. second.books k ∙ ap cleaned_bucket (first.books k) ∙ cleaned_twice (s.books k) ∙ sym (first.books k)) in
     let still : (k : Key) → empty_front (t.books k) ≡ 0 = λ k. ap empty_front (first.books k) ∙ front_cleaned (s.books k) in
     let ledger : u.ledger ≡ t.ledger = fun_ext (λ pool. second.kept pool (λ k. ap (λ (n : ℕ). in_front n (t.books k) pool) (still k))) in
     λ i. record { books = books i; ledger = ledger i }
 
-pub again_none : CleanAgainNone
+pub again_none : (keys : List Key) (s t : State) → IsCleaned s t → pools_cleaned keys t ≡ 0
 again_none [] s t clean = refl
 again_none (k ∷ keys) s t clean =
     let here : empty_front (t.books k) ≡ 0 = ap empty_front (clean.books k) ∙ front_cleaned (s.books k) in
@@ -108,7 +107,7 @@ whole_front s agree nothing k =
     ] in
     eq-eqb e.allocated 0 (none_live booked.0.live e.allocated booked.2.allocated zero_live))
 
-pub nothing_left : CleanAll
+pub nothing_left : (s t : State) → Agree s → ((i : Item) → outstanding s i ≡ 0) → IsCleaned s t → (k : Key) → t.books k ≡ no_pools
 nothing_left s t agree nothing clean k = elim (cleaned_cases (s.books k)) [
   | inl all ↦ clean.books k ∙ all.1
   | inr some ↦ (let whole = whole_front s agree nothing k in let bad = some.0 in absurd (omega arith))
@@ -122,7 +121,7 @@ among_all (x ∷ es) zero e at =
     or_left (x.pool == e.pool) (list_any (λ d. d.pool == e.pool) (take (length es) es)) (eq-eqb x.pool e.pool (ap (λ (d : Entry). d.pool) is))
 among_all (x ∷ es) (suc i) e at = or_right (x.pool == e.pool) (list_any (λ d. d.pool == e.pool) (take (length es) es)) (among_all es i e at)
 
-pub all_gone : CleanAllGone
+pub all_gone : (s t : State) → Agree s → ((i : Item) → outstanding s i ≡ 0) → IsCleaned s t → (k : Key) (n : ℕ) (e : Entry) → entry_at (s.books k) n ≡ Some e → t.ledger e.pool ≡ None
 all_gone s t agree nothing clean k n e at =
     let b = s.books k in
     let found = entry_at-found b n e at in
@@ -171,7 +170,7 @@ clean_stays s t agree clean k i e h = clean.kept e.pool (λ l. false_from_ne_tru
     let number = same.1 in
     omega arith))
 
-pub clean_agrees : CleanAgrees
+pub clean_agrees : (s t : State) → Agree s → IsCleaned s t → Agree t
 clean_agrees s t agree clean =
     let was : (k : Key) (i : ℕ) (e : Entry) → entry_at (t.books k) i ≡ Some e → entry_at (s.books k) i ≡ Some e = λ k i e h.
     (was_kept (s.books k) i e (ap (λ (x : Bucket). entry_at x i) (sym (clean.books k)) ∙ h)).1 in
@@ -191,7 +190,7 @@ clean_agrees s t agree clean =
       ];
     }
 
-pub takes_none : CleanTakesNone
+pub takes_none : (s t : State) → Agree s → IsCleaned s t → (i : Item) → outstanding t i ≡ outstanding s i
 takes_none s t agree clean x = elim (cases_option (entry_at (t.books x.key) x.number)) [
   | inr some ↦ (
       let e = some.0 in
@@ -225,7 +224,7 @@ takes_none s t agree clean x = elim (cases_option (entry_at (t.books x.key) x.nu
 ]
 
 -- where finitely many keys have pools, it is known which pools go
-pub once : CleanOnce
+pub once : (keys : List Key) (s t u : State) → ((k : Key) → list_any (λ l. key_eq l k) keys ≡ false → (s.books k).pools ≡ []) → IsCleaned s t → IsCleaned s u → t ≡ u
 once keys s t u covers first second =
     let books : t.books ≡ u.books = fun_ext (λ k. first.books k ∙ sym (second.books k)) in
     let ledger : t.ledger ≡ u.ledger = fun_ext (λ pool.

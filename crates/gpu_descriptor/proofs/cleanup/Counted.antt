@@ -1,12 +1,12 @@
 -- How many pools go, in two parts and at once.
+use Rattle.gpu_descriptor.specs.Model.Agreement.{State, AreOutstanding, Item, Agree}
 use Rattle.std.proofs.Common.{◌≡◌, ℕ, ◌+◌, Bool, true, false, ◌||◌, List, [], ◌∷◌, ◌++◌, sum_by, refl, sym, ap, ◌∙◌, arith}
 use Rattle.std.specs.Prelude.{if◌then◌else◌}
 use Rattle.std.proofs.Math.Path.{fun_ext}
 use Rattle.std.proofs.lemmas.List.Sums.{sum_by-append}
 use Rattle.std.proofs.lemmas.List.Folds.{list_any-append}
 use Rattle.gpu_descriptor.specs.Model.Books.{Key, key_eq, Bucket}
-use Rattle.gpu_descriptor.specs.Model.Release.{lies_in, bucket_less, spent_front, released}
-use Rattle.gpu_descriptor.specs.Laws.Release.{ReleaseGone}
+use Rattle.gpu_descriptor.specs.Model.Release.{lies_in, bucket_less, spent_front, released, pools_gone, given_back}
 use Rattle.gpu_descriptor.proofs.release.Fronts.{less-less, spent_front-less}
 use Rattle.gpu_descriptor_types.proofs.Counting.{count_by-append}
 use Rattle.gpu_descriptor.proofs.release.Places.{back}
@@ -32,7 +32,7 @@ sum_both f g h each (k ∷ keys) =
     more : (f : Key → ℕ) (k : Key) (keys : List Key) → sum_by f (k ∷ keys) ≡ f k + sum_by f keys
     more f k keys = sum_by-append f (k ∷ []) keys ∙ (let one : sum_by f (k ∷ []) ≡ f k = omega arith in omega arith)
 
-pub gone : ReleaseGone
+pub gone : (keys : List Key) (m n : List Item) (s : State) → Agree s → AreOutstanding (m ++ n) s → pools_gone keys m (given_back m s) + pools_gone keys n (given_back n (released m s)) ≡ pools_gone keys (m ++ n) (given_back (m ++ n) s)
 gone keys m n s agree out =
     let u = released m s in
     let counts : back n u ≡ back n s = back_still m n s agree out in

@@ -1,15 +1,15 @@
 -- What an allocator leaves of the ledger when it is done: nothing of its own.
+use Rattle.gpu_descriptor.specs.Caller.Values.{Allocations}
+use Rattle.gpu_descriptor.specs.Model.Cleanup.{IsCleaned}
 use Rattle.std.proofs.Common.{◌≡◌, ◌≢◌, ◌⊎◌, ℕ, zero, suc, ◌+◌, ◌-◌, ◌==◌, true, false, List, [], ◌∷◌, slice_get, Option, Some, None, inl, inr, refl, sym, ap, ◌∙◌, arith, eqb-true, eq-eqb}
 use Rattle.std.proofs.Math.Path.{fun_ext}
 use Rattle.std.specs.List.{list_any}
 use Rattle.std.proofs.lemmas.Bool.{cases_Bool, or_cases, or_left, or_right}
-use Rattle.gpu_descriptor_types.specs.Ledger.{Pool}
-use Rattle.gpu_descriptor.specs.Model.Agreement.{State}
+use Rattle.gpu_descriptor_types.specs.Ledger.{Pool, Ledger}
+use Rattle.gpu_descriptor.specs.Model.Agreement.{State, Item, outstanding, Agree}
 use Rattle.gpu_descriptor.specs.Model.Books.{Key, key_eq, Entry, Bucket, HasDistinctKeys, books_of, entry_at, no_pools}
-use Rattle.gpu_descriptor.specs.Laws.Cleanup.{CleanRestores}
-use Rattle.gpu_descriptor.specs.Model.Foreign.{IsForeign, IsNamed}
-use Rattle.gpu_descriptor.specs.Laws.Foreign.{NamedOrForeign}
-use Rattle.gpu_descriptor.specs.Caller.States.{table_of}
+use Rattle.gpu_descriptor.specs.Model.Foreign.{IsForeign, IsNamed, LosesNone, KeepsForeign}
+use Rattle.gpu_descriptor.specs.Caller.States.{table_of, state_of}
 use Rattle.gpu_descriptor.proofs.cleanup.Cleaning.{nothing_left}
 use Rattle.gpu_descriptor.proofs.foreign.ForeignPools.{cleaned_foreign, cleaned_loses, foreign_through, loses_through}
 use Rattle.gpu_descriptor.proofs.release.Fronts.{entry_at-found, entry_at-from}
@@ -23,7 +23,7 @@ none_at n e at = (let found = entry_at-found no_pools n e at in let bad : ◌≡
 pub no_keys : (s : State) → ((k : Key) → s.books k ≡ no_pools) → (name : ℕ) → IsForeign s name
 no_keys s empty name k n e at same = none_at n e (ap (λ (b : Bucket). entry_at b n) (sym (empty k)) ∙ at)
 
-pub restores : CleanRestores
+pub restores : (s t u : State) → ((k : Key) → s.books k ≡ no_pools) → KeepsForeign s t → LosesNone s t → Agree t → ((i : Item) → outstanding t i ≡ 0) → IsCleaned t u → u.ledger ≡ s.ledger
 restores s t u began keeps loses agree nothing clean =
     let kept = foreign_through s t u keeps (cleaned_foreign t u clean) in
     let lost_none = loses_through s t u loses (cleaned_loses t u clean) in
@@ -80,5 +80,5 @@ in_table l (row ∷ rows) distinct name = elim (cases_Bool (list_any (λ e. e.po
   ]
 ]
 
-pub named_or_foreign : (P : Type 0) → NamedOrForeign P
+pub named_or_foreign : (P : Type 0) → (name : P → ℕ) (a : Allocations P) (l : Ledger) → HasDistinctKeys (table_of name a) → (pool : ℕ) → IsNamed (state_of name a l) pool ⊎ IsForeign (state_of name a l) pool
 named_or_foreign P name a l distinct pool = in_table l.pools (table_of name a) distinct pool

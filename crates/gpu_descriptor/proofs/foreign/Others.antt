@@ -1,14 +1,14 @@
 -- Agreement, and what is outstanding, speak of the pools in the books alone.
+use Rattle.gpu_descriptor.specs.Model.Foreign.{KeepsOwn}
 use Rattle.std.specs.Prelude.{if◌then◌else◌}
 use Rattle.std.proofs.Common.{◌≡◌, ◌==◌, ℕ, Option, Some, inl, inr, refl, sym, ap, ◌∙◌}
 use Rattle.std.specs.Option.{option_map_or}
-use Rattle.gpu_descriptor.specs.Model.Agreement.{set_of, live_in}
-use Rattle.gpu_descriptor.specs.Laws.Agreement.{OwnAgrees, OwnOutstanding}
+use Rattle.gpu_descriptor.specs.Model.Agreement.{set_of, live_in, State, Agree, outstanding, Item}
 use Rattle.gpu_descriptor.specs.Model.Books.{Key, Entry, Bucket, entry_at}
 use Rattle.gpu_descriptor_types.specs.Ledger.{Pool}
 use Rattle.gpu_descriptor.proofs.release.ReleaseAgrees.{cases_option}
 
-pub own_agrees : OwnAgrees
+pub own_agrees : (s t : State) → KeepsOwn s t → Agree s → Agree t
 own_agrees s t same agree =
     let was : (k : Key) (n : ℕ) (e : Entry) → entry_at (t.books k) n ≡ Some e → entry_at (s.books k) n ≡ Some e = λ k n e at.
     ap (λ (b : Bucket). entry_at b n) (sym (same.books k)) ∙ at in
@@ -20,7 +20,7 @@ own_agrees s t same agree =
       absent = λ k none. ap (λ (b : Bucket). b.first) (same.books k) ∙ agree.absent k (ap (λ (b : Bucket). b.pools) (sym (same.books k)) ∙ none);
     }
 
-pub own_outstanding : OwnOutstanding
+pub own_outstanding : (s t : State) → KeepsOwn s t → (i : Item) → outstanding t i ≡ outstanding s i
 own_outstanding s t same x =
     ap (λ (b : Bucket). if b.id == x.id then option_map_or (λ (e : Entry). live_in t.ledger e.pool (set_of x)) (entry_at b x.number) 0 else 0) (same.books x.key)
     ∙ ap (λ (n : ℕ). if (s.books x.key).id == x.id then n else 0) (elim (cases_option (entry_at (s.books x.key) x.number)) [

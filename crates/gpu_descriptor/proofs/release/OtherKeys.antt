@@ -9,7 +9,6 @@ use Rattle.gpu_descriptor_types.specs.Multiset.{LiveSet, set_eq}
 use Rattle.gpu_descriptor.specs.Model.Agreement.{State, Item, Agree, set_of}
 use Rattle.gpu_descriptor.specs.Model.Books.{Key, key_eq, Bucket, Entry, entry_at}
 use Rattle.gpu_descriptor.specs.Model.Promises.{IsUntouched}
-use Rattle.gpu_descriptor.specs.Laws.Release.{ReleaseOthers}
 use Rattle.gpu_descriptor.specs.Model.Release.{given_back, released, spent_front, in_front, lies_in, pool_less}
 use Rattle.gpu_descriptor.proofs.table.Exact.{key_exact}
 use Rattle.gpu_descriptor.proofs.release.Fronts.{entry_at-from}
@@ -50,7 +49,7 @@ other_pool m s agree k none n e at =
     ∙ ap (λ (f : LiveSet → ℕ). option_map (pool_less f) (s.ledger e.pool)) kept
     ∙ ap (λ (w : State). w.ledger e.pool) (none_back s)
 
-pub release_others : ReleaseOthers
+pub release_others : (m : List Item) (s : State) → Agree s → (k : Key) → list_any (λ t. key_eq t.key k) m ≡ false → IsUntouched k s (released m s)
 release_others m s agree k none = record {
   books = other_key m s agree k none;
   pools = other_pool m s agree k none;

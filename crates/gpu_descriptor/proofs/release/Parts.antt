@@ -10,7 +10,6 @@ use Rattle.gpu_descriptor.specs.Model.Agreement.{set_of, State, Item, item_eq, c
 use Rattle.gpu_descriptor.specs.Model.Books.{Key, key_eq, Entry, Bucket, entry_at}
 use Rattle.gpu_descriptor.specs.Inner.Buckets.{trimmed_bucket}
 use Rattle.gpu_descriptor.specs.Model.Release.{lies_in, entry_less, bucket_less, pool_less, spent_front, without_front, in_front, released}
-use Rattle.gpu_descriptor.specs.Laws.Release.{ReleaseParts}
 use Rattle.gpu_descriptor_types.specs.Ledger.{Pool}
 use Rattle.gpu_descriptor_types.specs.Multiset.{LiveSet, set_eq}
 use Rattle.gpu_descriptor.proofs.release.Fronts.{less-less, less-without, one_key, spent_front-less, entry_at-from}
@@ -152,7 +151,7 @@ still_lies m n s agree out pool t in_n =
 pub back_still : (m n : List Item) (s : State) → Agree s → AreOutstanding (m ++ n) s → back n (released m s) ≡ back n s
 back_still m n s agree out = fun_ext (λ pool. count_by_alike item_exact (lies_in (released m s).books pool) (lies_in s.books pool) n (still_lies m n s agree out pool))
 
-pub parts : ReleaseParts
+pub parts : (m n : List Item) (s : State) → Agree s → AreOutstanding (m ++ n) s → released n (released m s) ≡ released (m ++ n) s
 parts m n s agree out =
     let u = released m s in
     let lies : (pool : ℕ) (t : Item) → 0 < count_of t n → lies_in u.books pool t ≡ lies_in s.books pool t = λ pool t in_n. still_lies m n s agree out pool t in_n in

@@ -7,7 +7,6 @@ use Rattle.std.proofs.lemmas.List.{length-map}
 use Rattle.std.proofs.lemmas.List.Sums.{length-filter, count_by-le-length}
 use Rattle.std.proofs.lemmas.Option.{slice_get-map}
 use Rattle.gpu_descriptor.specs.Model.Agreement.{set_of, State, Item, item_eq, count_of, live_in, outstanding, AreOutstanding, HasSize, Agree, live_there}
-use Rattle.gpu_descriptor.specs.Laws.Agreement.{EmptyAgrees}
 use Rattle.gpu_descriptor.specs.Model.Books.{Key, key_eq, Entry, Bucket, entry_at, no_pools}
 use Rattle.gpu_descriptor.specs.Model.Release.{lies_in, entry_less, bucket_less, is_empty, empty_front, spent_front, without_front, released}
 use Rattle.gpu_descriptor_types.specs.Ledger.{Pool}
@@ -228,7 +227,7 @@ kept m s agree out t more =
     )
 
 -- an allocator without keys agrees with every ledger
-pub empty_agrees : EmptyAgrees
+pub empty_agrees : (ledger : ℕ → Option Pool) → Agree (record { books = λ _. no_pools; ledger = ledger })
 empty_agrees ledger = record {
   distinct = λ k l m n d e at at' same. (let found = entry_at-found no_pools m d at in absurd (let bad : ◌≡◌ {A = Option Entry} None (Some d) = found.1 in cc));
   booked = λ k n e at. (let found = entry_at-found no_pools n e at in absurd (let bad : ◌≡◌ {A = Option Entry} None (Some e) = found.1 in cc));

@@ -7,8 +7,7 @@ use Rattle.std.proofs.lemmas.Bool.{cases_Bool, cases_lt, and_parts, false_from_n
 use Rattle.std.proofs.lemmas.List.{length-map}
 use Rattle.gpu_descriptor.specs.Model.Agreement.{set_of, State, Item, item_eq, count_of, live_there, outstanding, AreOutstanding, IsAsBooked, Agree}
 use Rattle.gpu_descriptor.specs.Model.Books.{Key, key_eq, Entry, Bucket, entry_at}
-use Rattle.gpu_descriptor.specs.Model.Release.{lies_in, entry_less, bucket_less, pool_less, given_back, spent_front, without_front, in_front, fronts_gone, released, singly}
-use Rattle.gpu_descriptor.specs.Laws.Release.{ReleaseAgrees, ReleaseTakes, ReleaseOrder, ReleaseNone, ReleaseEach, ReleaseSingly}
+use Rattle.gpu_descriptor.specs.Model.Release.{lies_in, entry_less, bucket_less, pool_less, given_back, spent_front, without_front, in_front, fronts_gone, released, singly, released_each}
 use Rattle.gpu_descriptor_types.specs.Ledger.{Pool}
 use Rattle.gpu_descriptor_types.specs.Multiset.{LiveSet, set_eq}
 use Rattle.gpu_descriptor.proofs.release.Fronts.{entry_at-from}
@@ -82,7 +81,7 @@ less_booked m s agree out k i d pool at live is =
       full = λ none. (let whole = is.full none in let e : d.allocated - back m s d.pool + (d.free + back m s d.pool) ≡ pool.capacity = omega arith in e);
     }
 
-pub agrees : ReleaseAgrees
+pub agrees : (m : List Item) (s : State) → Agree s → AreOutstanding m s → Agree (released m s)
 agrees m s agree out = record {
   distinct = λ k l i j d e at at' same.
       let was = was_there m s k i d at in
@@ -152,7 +151,7 @@ takes_own m s agree out t own = elim (cases_option (entry_at ((released m s).boo
       omega arith)
 ]
 
-pub takes : ReleaseTakes
+pub takes : (m : List Item) (s : State) → Agree s → AreOutstanding m s → (t : Item) → outstanding (released m s) t + count_of t m ≡ outstanding s t
 takes m s agree out t = elim (cases_Bool ((s.books t.key).id == t.id)) [
   | inl same ↦ takes_own m s agree out t (eqb-true (s.books t.key).id t.id same)
   | inr other ↦ (
@@ -162,7 +161,7 @@ takes m s agree out t = elim (cases_Bool ((s.books t.key).id == t.id)) [
       omega arith)
 ]
 
-pub order : ReleaseOrder
+pub order : (m n : List Item) (s : State) → ((t : Item) → count_of t m ≡ count_of t n) → released m s ≡ released n s
 order m n s alike =
     let counts : (p : Item → Bool) → count_by p m ≡ count_by p n = counts_alike item_exact m n alike in
     let any : (p : Item → Bool) → list_any p m ≡ list_any p n = λ p. list_any-count_by p m ∙ ap (ltb 0) (counts p) ∙ sym (list_any-count_by p n) in
@@ -178,7 +177,7 @@ order m n s alike =
     } in
     ap (fronts_gone m) given ∙ fronts (given_back n s)
 
-pub none_back : ReleaseNone
+pub none_back : (s : State) → released [] s ≡ s
 none_back s =
     let same : (e : Entry) → entry_less 0 e ≡ e = λ e.
     let allocated : e.allocated - 0 ≡ e.allocated = omega arith in
@@ -205,7 +204,7 @@ rest_outstanding m n s agree out =
     let out_m : AreOutstanding m s = λ t. let a = split t in let b = out t in omega arith in
     (out_m, λ t. let a = split t in let b = out t in let c = takes m s agree out_m t in omega arith)
 
-pub each : ReleaseEach
+pub each : (ms : List (List Item)) (s : State) → Agree s → AreOutstanding (flat_map (λ m. m) ms) s → released_each ms s ≡ released (flat_map (λ m. m) ms) s
 each [] s agree out = sym (none_back s)
 each (m ∷ ms) s agree out =
     let rest = flat_map (λ (n : List Item). n) ms in
@@ -216,7 +215,7 @@ singly_whole : (m : List Item) → flat_map (λ (n : List Item). n) (singly m) �
 singly_whole [] = refl
 singly_whole (t ∷ m) = ap (λ (n : List Item). t ∷ n) (singly_whole m)
 
-pub one_by_one : ReleaseSingly
+pub one_by_one : (m order : List Item) (s : State) → Agree s → AreOutstanding m s → ((t : Item) → count_of t order ≡ count_of t m) → released_each (singly order) s ≡ released m s
 one_by_one m turned s agree out alike =
     let whole = singly_whole turned in
     let turned_out : AreOutstanding turned s = λ t. let a = alike t in let b = out t in omega arith in

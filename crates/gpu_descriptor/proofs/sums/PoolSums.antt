@@ -1,15 +1,15 @@
 -- Over all pools of marked keys: the pool load is what the device created them with, and the marked load is no more.
 use Rattle.std.proofs.Common.{◌≡◌, ℕ, suc, ◌<◌, ◌≤◌, Bool, true, false, List, [], ◌∷◌, length, slice_get, sum, sum_by, Option, Some, inl, inr, refl, sym, ap, ◌∙◌, arith}
-use Rattle.std.specs.Prelude.{if◌then◌else◌}
+use Rattle.std.specs.Prelude.{if◌then◌else◌, ◌↔◌}
 use Rattle.std.specs.Option.{option_map_or}
 use Rattle.std.proofs.lemmas.Bool.{cases_Bool}
 use Rattle.std.proofs.lemmas.List.Sums.{sum_by-cons}
 use Rattle.gpu_descriptor_types.specs.Ledger.{Pool}
 use Rattle.gpu_descriptor.specs.Model.Agreement.{State, Agree}
-use Rattle.gpu_descriptor.specs.Model.Books.{Key, Entry, Bucket, no_pools, books_of, HasDistinctKeys, sum_over}
+use Rattle.gpu_descriptor.specs.Model.Books.{Key, Entry, Bucket, no_pools, books_of, HasDistinctKeys, sum_over, AddsUp}
 use Rattle.gpu_descriptor.specs.Inner.Buckets.{IsBookedIn}
-use Rattle.gpu_descriptor.specs.Model.Load.{allocated_in, marked_load, pool_load, pools_load, bucket_load, descriptors_out}
-use Rattle.gpu_descriptor.specs.Laws.Load.{created_with, descriptors_created, PoolLoadIsCreated, MarkedWithinPools}
+use Rattle.gpu_descriptor.specs.Model.Load.{allocated_in, marked_load, pool_load, pools_load, bucket_load, descriptors_out, IsPoolLoad, IsMarkedLoad}
+use Rattle.gpu_descriptor.specs.Model.Load.{created_with, descriptors_created}
 use Rattle.gpu_descriptor.proofs.request.StateAgrees.{booked_of}
 use Rattle.gpu_descriptor.proofs.sums.Loads.{marked_load-none, marked_load-add, marked_load-le}
 use Rattle.gpu_descriptor.proofs.sums.PoolCounts.{booked_load}
@@ -96,13 +96,13 @@ module _ (s : State) (agree : Agree s) where
         let within = out_at k in
         omega arith)
 
-pub pool_load_is_created : PoolLoadIsCreated
+pub pool_load_is_created : (s : State) (n : ℕ) → Agree s → ((k : Key) → 0 < length (s.books k).pools → length k.counts ≡ 14) → IsPoolLoad s n ↔ AddsUp (descriptors_created s.ledger) s.books n
 pool_load_is_created s n agree long = (
   λ load. record { table = load.table; distinct = load.distinct; keeps = load.keeps; total = created_over s agree load.table load.distinct load.keeps long ∙ load.total },
   λ created. record { table = created.table; distinct = created.distinct; keeps = created.keeps; total = sym (created_over s agree created.table created.distinct created.keeps long) ∙ created.total },
 )
 
-pub marked_within_pools : MarkedWithinPools
+pub marked_within_pools : (s : State) (marked pools : ℕ) → Agree s → IsMarkedLoad s marked → IsPoolLoad s pools → marked ≤ pools
 marked_within_pools s marked pools agree out load =
     let within = out_over s agree out.table out.distinct out.keeps in
     let same = sum_by_books bucket_load out.table load.table (λ k. refl) out.distinct load.distinct (λ k. out.keeps k ∙ sym (load.keeps k)) in

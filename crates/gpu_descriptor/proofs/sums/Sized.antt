@@ -1,10 +1,12 @@
 -- How many sets are live is one number, whichever list spells them.
+use Rattle.gpu_descriptor_types.specs.Ledger.{Pool}
+use Rattle.std.specs.Prelude.{List}
+use Rattle.gpu_descriptor.specs.Model.Books.{Entry, Key}
 use Rattle.std.proofs.Common.{◌≡◌, ℕ, length, refl, arith}
 use Rattle.std.proofs.Math.Logic.{∥∥₁_elim}
 use Rattle.std.proofs.Props.{props}
-use Rattle.gpu_descriptor_types.specs.Multiset.{LiveSet, AreIn}
-use Rattle.gpu_descriptor.specs.Model.Agreement.{HasSize}
-use Rattle.gpu_descriptor.specs.Laws.Agreement.{BookedIsListed}
+use Rattle.gpu_descriptor_types.specs.Multiset.{LiveSet, AreIn, Spells}
+use Rattle.gpu_descriptor.specs.Model.Agreement.{HasSize, IsAsBooked}
 use Rattle.gpu_descriptor.proofs.foreign.LedgerPools.{size_minus}
 
 pub size_one : (live : LiveSet → ℕ) (a b : ℕ) → HasSize live a → HasSize live b → a ≡ b
@@ -17,5 +19,5 @@ size_one live a b one other =
     let lb = other.1 in
     omega arith
 
-pub listed : BookedIsListed
+pub listed : (k : Key) (pool : Pool) (e : Entry) → IsAsBooked k pool e → (sets : List LiveSet) → Spells sets pool.live → length sets ≡ e.allocated
 listed k pool e b sets spelled = ∥∥₁_elim b.allocated (search props) (λ size. size_one pool.live (length sets) e.allocated (sets, refl, spelled) size)

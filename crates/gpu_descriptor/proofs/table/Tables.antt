@@ -4,7 +4,6 @@ use Rattle.std.specs.List.{list_any}
 use Rattle.std.proofs.lemmas.Bool.{cases_Bool, or_parts, or_from}
 use Rattle.std.proofs.lemmas.List.Sums.{sum_by-append}
 use Rattle.gpu_descriptor.specs.Model.Books.{Key, key_eq, Bucket, no_pools, books_of, HasDistinctKeys, sum_over}
-use Rattle.gpu_descriptor.specs.Laws.Load.{SumByBooks}
 use Rattle.gpu_descriptor_types.proofs.Counting.{bool_iff}
 use Rattle.gpu_descriptor.proofs.table.Exact.{key_exact}
 
@@ -97,7 +96,7 @@ books_without k l (row ∷ t) h = elim (cases_Bool (key_eq row.0 k)) [
   ])
 ]
 
-pub sum_by_books : SumByBooks
+pub sum_by_books : (f : Key → Bucket → ℕ) (t u : List (Key × Bucket)) → ((k : Key) → f k no_pools ≡ 0) → HasDistinctKeys t → HasDistinctKeys u → ((k : Key) → books_of t k ≡ books_of u k) → sum_over f t ≡ sum_over f u
 sum_by_books f [] u none dt du same = sym (nothing u du (λ k. sym (same k)))
   where
     nothing : (u : List (Key × Bucket)) → HasDistinctKeys u → ((k : Key) → books_of u k ≡ no_pools) → sum_over f u ≡ 0

@@ -1,6 +1,8 @@
 -- What is out in all keys: sets, and descriptors of marked sets. What the pools of marked keys have.
-use Rattle.std.specs.Prelude.{ℕ, ◌*◌, max, if◌then◌else◌, List, sum, sum_by}
-use Rattle.gpu_descriptor.specs.Model.Books.{Key, EntryOf, BucketOf, AddsUp}
+use Rattle.std.specs.Option.{option_map_or}
+use Rattle.gpu_descriptor_types.specs.Ledger.{Pool}
+use Rattle.std.specs.Prelude.{ℕ, ◌*◌, max, if◌then◌else◌, List, Option, sum, sum_by}
+use Rattle.gpu_descriptor.specs.Model.Books.{Key, EntryOf, BucketOf, Bucket, AddsUp}
 use Rattle.gpu_descriptor.specs.Model.Agreement.{State}
 
 -- how many sets are out of these pools
@@ -41,3 +43,11 @@ IsMarkedLoad s n = AddsUp descriptors_out s.books n
 -- the pools of marked keys have so many descriptors, whatever is out of them
 abbrev pub IsPoolLoad : State → ℕ → Type 0
 IsPoolLoad s n = AddsUp bucket_load s.books n
+
+-- the descriptors that the device created a live pool with
+abbrev pub created_with : (ℕ → Option Pool) → ℕ → ℕ
+created_with ledger pool = option_map_or (λ p. sum p.counts) (ledger pool) 0
+
+-- the descriptors that the device created a marked key's pools with
+abbrev pub descriptors_created : (ℕ → Option Pool) → Key → Bucket → ℕ
+descriptors_created ledger k b = if k.marked then sum_by (λ e. created_with ledger e.pool) b.pools else 0
