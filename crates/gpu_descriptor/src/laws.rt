@@ -16,7 +16,7 @@ ghost use Rattle.gpu_descriptor.specs.Model.Books.{Entry, books_of, entry_at, no
 ghost use Rattle.gpu_descriptor.specs.Model.Cleanup.{IsCleaned, pools_cleaned};
 ghost use Rattle.gpu_descriptor.specs.Model.Foreign.{IsForeign, IsNamed, KeepsForeign, LosesNone};
 ghost use Rattle.gpu_descriptor.specs.Model.Foreign.{KeepsOwn};
-ghost use Rattle.gpu_descriptor.specs.Model.Load.{IsMarkedLoad, IsOut, IsPoolLoad, pool_load};
+ghost use Rattle.gpu_descriptor.specs.Model.Load.{pool_load, sets_out, descriptors_out, bucket_load};
 ghost use Rattle.gpu_descriptor.specs.Model.Load.{descriptors_created};
 ghost use Rattle.gpu_descriptor.specs.Model.Promises.{IsUntouched};
 ghost use Rattle.gpu_descriptor.specs.Model.Release.{given_back, pools_gone, released};
@@ -123,11 +123,11 @@ pub fn agreement_is_one()
 /// pools that an allocator's rows add up to are those of its books.
 pub fn rows_add_up<P>()
     ensures out { (name : P → ℕ) (a : Allocations P) (l : Ledger) → HasDistinctKeys
-        (table_of name a) → IsOut (state_of name a l) (outstanding_of a) }
+        (table_of name a) → AddsUp sets_out (state_of name a l).books (outstanding_of a) }
     ensures load { (name : P → ℕ) (a : Allocations P) (l : Ledger) → HasDistinctKeys
-        (table_of name a) → IsMarkedLoad (state_of name a l) (marked_load_of a) }
+        (table_of name a) → AddsUp descriptors_out (state_of name a l).books (marked_load_of a) }
     ensures pool_load { (name : P → ℕ) (a : Allocations P) (l : Ledger) → HasDistinctKeys
-        (table_of name a) → IsPoolLoad (state_of name a l) (pool_load_of a) }
+        (table_of name a) → AddsUp bucket_load (state_of name a l).books (pool_load_of a) }
 {}
 
 /// Where books and ledger agree, the descriptors that count towards the limit for a marked key's
@@ -138,21 +138,25 @@ pub fn pools_have_their_load()
         k.counts ≡ 14 → k.marked ≡ true → entry_at (s.books k) n ≡ Some e → s.ledger e.pool ≡ Some
         pool → sum pool.counts ≡ pool_load k e.capacity }
     ensures created { (s : State) (n : ℕ) → Agree s → ((k : Key) → 0 < length (s.books k).pools
-        → length k.counts ≡ 14) → IsPoolLoad s n ↔ AddsUp (descriptors_created s.ledger) s.books n }
-    ensures marked { (s : State) (marked pools : ℕ) → Agree s → IsMarkedLoad s marked → IsPoolLoad s
-        pools → marked ≤ pools }
+        → length k.counts ≡ 14) → AddsUp bucket_load s.books n ↔ AddsUp
+        (descriptors_created s.ledger) s.books n }
+    ensures marked { (s : State) (marked pools : ℕ) → Agree s → AddsUp descriptors_out s.books
+        marked → AddsUp bucket_load s.books pools → marked ≤ pools }
 {}
 
 /// Where books and ledger agree, as many sets are out as are outstanding: a list has each set as
 /// often as it is outstanding, and each such list has as many sets as are out. The marked load is
 /// the sum of the descriptors of its marked sets.
 pub fn out_is_outstanding()
-    ensures size { (s : State) (n : ℕ) → Agree s → IsOut s n → ∥ ((items : List Item)
-        × (length items ≡ n) × ((t : Item) → count_of t items ≡ outstanding s t)) ∥₁ }
-    ensures any_list { (s : State) (n : ℕ) → Agree s → IsOut s n → (items : List Item)
-        → ((t : Item) → count_of t items ≡ outstanding s t) → length items ≡ n }
-    ensures load { (s : State) (n : ℕ) → Agree s → IsMarkedLoad s n → (items : List Item)
-        → ((t : Item) → count_of t items ≡ outstanding s t) → marked_descriptors items ≡ n }
+    ensures size { (s : State) (n : ℕ) → Agree s → AddsUp sets_out s.books n → ∥
+        ((items : List Item) × (length items ≡ n)
+        × ((t : Item) → count_of t items ≡ outstanding s t)) ∥₁ }
+    ensures any_list { (s : State) (n : ℕ) → Agree s → AddsUp sets_out s.books n
+        → (items : List Item) → ((t : Item) → count_of t items ≡ outstanding s t) → length items
+        ≡ n }
+    ensures load { (s : State) (n : ℕ) → Agree s → AddsUp descriptors_out s.books n
+        → (items : List Item) → ((t : Item) → count_of t items ≡ outstanding s t)
+        → marked_descriptors items ≡ n }
 {}
 
 /// Pools of the device that are none of the allocator's may come, go and change between its calls:

@@ -7,7 +7,7 @@ use Rattle.std.proofs.Props.{props}
 use Rattle.std.specs.List.{list_any, prefix_len}
 use Rattle.std.proofs.lemmas.Bool.{cases_Bool, cases_eq, false_from_ne_true, or_left, or_right}
 use Rattle.std.proofs.lemmas.List.Sums.{prefix_len-le-length, sum_by-cons}
-use Rattle.gpu_descriptor.specs.Model.Agreement.{live_there, set_of, Item, State, live_in, outstanding, HasSize, Agree}
+use Rattle.gpu_descriptor.specs.Model.Agreement.{set_of, Item, State, live_in, outstanding, HasSize, Agree, live_at}
 use Rattle.gpu_descriptor.specs.Model.Books.{Key, key_eq, Entry, Bucket, entry_at, no_pools}
 use Rattle.gpu_descriptor.specs.Model.Cleanup.{IsCleaned, cleaned_bucket, pools_cleaned}
 use Rattle.gpu_descriptor.specs.Model.Release.{is_empty, empty_front, without_front, in_front}
@@ -204,10 +204,10 @@ takes_none s t agree clean x = elim (cases_option (entry_at (t.books x.key) x.nu
             cc)
         | inr rest ↦ ap (λ (b : Bucket). b.id) (clean.books x.key ∙ rest.1)
       ] in
-      ap (λ (i : ℕ). if i == x.id then live_there t x else 0) id
+      ap (λ (i : ℕ). if i == x.id then live_at t.ledger (t.books x.key) x else 0) id
       ∙ ap (λ (n : ℕ). if (s.books x.key).id == x.id then n else 0) (live_there_at t x e booked.0 some.1 found ∙ sym (live_there_at s x e booked.0 was.1 booked.1)))
   | inl missing ↦ (
-      let empty : live_there t x ≡ 0 = rw missing refl in
+      let empty : live_at t.ledger (t.books x.key) x ≡ 0 = rw missing refl in
       let nothing : outstanding t x ≡ 0 = ap (λ (n : ℕ). if (t.books x.key).id == x.id then n else 0) empty ∙ if_none ((t.books x.key).id == x.id) in
       nothing ∙ elim (cases_eq 0 (outstanding s x)) [
         | inl same ↦ same

@@ -17,7 +17,7 @@ use Rattle.gpu_descriptor.specs.declared.bucket.DescriptorPool.{DescriptorPool}
 use Rattle.gpu_descriptor.specs.declared.bucket.DescriptorBucket.{DescriptorBucket}
 use Rattle.gpu_descriptor.specs.Model.Agreement.{State, Agree}
 use Rattle.gpu_descriptor.specs.Model.Books.{Key, key_eq, Bucket, entry_at, no_pools, books_of, HasDistinctKeys}
-use Rattle.gpu_descriptor.specs.Inner.Buckets.{AreBookedIn, has_pools, front_but, trimmed_bucket, trimmed_ledger, ledger_without, pools_without}
+use Rattle.gpu_descriptor.specs.Inner.Buckets.{AreBookedIn, has_pools, front_but, trimmed_bucket, trimmed_ledger, ledger_without}
 use Rattle.gpu_descriptor.specs.Model.Release.{more_destroyed, empty_front, in_front}
 use Rattle.gpu_descriptor.specs.Model.Cleanup.{cleaned_bucket, IsCleaned, pools_cleaned}
 use Rattle.gpu_descriptor.specs.Caller.KeyOf.{key_of}
@@ -101,7 +101,7 @@ step_less i rows r l now after at was done =
     let within = slice_get_within rows i r at in
     let read = get_or_from_slice_get rows i r r at in
     let front_of : Key × Bucket → ℕ = λ x. empty_front x.1 in
-    let pools : pools_without (empty_front r.1) r.1 (pools_less (take i rows) l.pools) ≡ pools_less (take (i + 1) rows) l.pools = fun_ext (λ p.
+    let pools : (λ p. if in_front (empty_front r.1) r.1 p then None else (pools_less (take i rows) l.pools) p) ≡ pools_less (take (i + 1) rows) l.pools = fun_ext (λ p.
     twice (front r.1 p) (gone (take i rows) p) (l.pools p)
     ∙ ap (λ (g : Bool). if g then None else l.pools p) (sym (list_any_more (λ (x : Key × Bucket). front x.1 p) rows i r within ∙ ap (λ (x : Key × Bucket). gone (take i rows) p || front x.1 p) read))) in
     let more : sum_by front_of (take i rows) + empty_front r.1 ≡ sum_by front_of (take (i + 1) rows) = sym (sum_by_more front_of rows i r within ∙ ap (λ (x : Key × Bucket). sum_by front_of (take i rows) + front_of x) read) in

@@ -7,7 +7,7 @@ use Rattle.std.proofs.lemmas.List.{length-map}
 use Rattle.gpu_descriptor_types.specs.Ledger.{Pool, Ledger, HasNoSets, after_destroy}
 use Rattle.gpu_descriptor.specs.declared.bucket.DescriptorPool.{DescriptorPool}
 use Rattle.gpu_descriptor.specs.Model.Books.{Key, Entry, Bucket}
-use Rattle.gpu_descriptor.specs.Inner.Buckets.{AreBookedIn, front_but, trimmed_bucket, trimmed_ledger, ledger_without, pools_without}
+use Rattle.gpu_descriptor.specs.Inner.Buckets.{AreBookedIn, front_but, trimmed_bucket, trimmed_ledger, ledger_without}
 use Rattle.gpu_descriptor.specs.Model.Release.{more_destroyed, is_empty, without_front, in_front}
 use Rattle.gpu_descriptor.specs.Inner.Stored.{entry_of}
 use Rattle.gpu_descriptor.proofs.table.Exact.{bucket}
@@ -30,7 +30,7 @@ taken_at pools pool p false = elim (cases_Bool (pool == p)) [ inl h ↦ rw h ref
 -- a front that goes pool by pool goes at once
 pub step_without : (n : ℕ) (id first : ℕ) (x : Entry) (es : List Entry) (l : Ledger) → ledger_without n (bucket id (first + 1) es) (after_destroy x.pool l) ≡ ledger_without (suc n) (bucket id first (x ∷ es)) l
 step_without n id first x es l =
-    let pools : pools_without n (bucket id (first + 1) es) (after_destroy x.pool l).pools ≡ pools_without (suc n) (bucket id first (x ∷ es)) l.pools = fun_ext (λ p. taken_at l.pools x.pool p (in_front n (bucket id (first + 1) es) p)) in
+    let pools : (λ p. if in_front n (bucket id (first + 1) es) p then None else (after_destroy x.pool l).pools p) ≡ (λ p. if in_front (suc n) (bucket id first (x ∷ es)) p then None else l.pools p) = fun_ext (λ p. taken_at l.pools x.pool p (in_front n (bucket id (first + 1) es) p)) in
     let more : 1 + n ≡ suc n = omega arith in
     let counters : more_destroyed n (more_destroyed 1 l.counters) ≡ more_destroyed (suc n) l.counters = destroyed_both 1 n l.counters ∙ ap (λ (m : ℕ). more_destroyed m l.counters) more in
     λ i. record { pools = pools i; counters = counters i }

@@ -6,7 +6,7 @@ use Rattle.std.proofs.lemmas.Bool.{cases_Bool, cases_lt, false_from_ne_true, and
 use Rattle.std.proofs.lemmas.List.{length-map}
 use Rattle.std.proofs.lemmas.List.Sums.{length-filter, count_by-le-length}
 use Rattle.std.proofs.lemmas.Option.{slice_get-map}
-use Rattle.gpu_descriptor.specs.Model.Agreement.{set_of, State, Item, item_eq, count_of, live_in, outstanding, AreOutstanding, HasSize, Agree, live_there}
+use Rattle.gpu_descriptor.specs.Model.Agreement.{set_of, State, Item, item_eq, count_of, live_in, outstanding, AreOutstanding, HasSize, Agree, live_at}
 use Rattle.gpu_descriptor.specs.Model.Books.{Key, key_eq, Entry, Bucket, entry_at, no_pools}
 use Rattle.gpu_descriptor.specs.Model.Release.{lies_in, entry_less, bucket_less, is_empty, empty_front, spent_front, without_front, released}
 use Rattle.gpu_descriptor_types.specs.Ledger.{Pool}
@@ -120,7 +120,7 @@ back_other m s agree k i e at x other = count_by_none item_exact (λ t. lies_in 
     let is : x ≡ y = λ j. record { name = x.name; counts = counts j } in
     let bad : true ≡ false = sym (ap (λ (z : LiveSet). set_eq z y) is ∙ set_exact.self y) ∙ other in cc))
 
-pub live_there_at : (s : State) (t : Item) (e : Entry) (pool : Pool) → entry_at (s.books t.key) t.number ≡ Some e → s.ledger e.pool ≡ Some pool → live_there s t ≡ pool.live (set_of t)
+pub live_there_at : (s : State) (t : Item) (e : Entry) (pool : Pool) → entry_at (s.books t.key) t.number ≡ Some e → s.ledger e.pool ≡ Some pool → live_at s.ledger (s.books t.key) t ≡ pool.live (set_of t)
 live_there_at s t e pool at found = rw at (rw found refl)
 
 -- how often a set is outstanding, read from the pool of its place
@@ -151,7 +151,7 @@ some_above (Some e) f a h = (e, refl, h)
 pub outstanding_found : (s : State) (t : Item) (a : ℕ) → a < outstanding s t → (e : Entry) × (entry_at (s.books t.key) t.number ≡ Some e) × (a < live_in s.ledger e.pool (set_of t)) × ((s.books t.key).id ≡ t.id)
 outstanding_found s t a h = elim (cases_Bool ((s.books t.key).id == t.id)) [
   | inl same ↦ (
-      let there : outstanding s t ≡ live_there s t = rw same refl in
+      let there : outstanding s t ≡ live_at s.ledger (s.books t.key) t = rw same refl in
       let found = some_above (entry_at (s.books t.key) t.number) (λ e. live_in s.ledger e.pool (set_of t)) a (omega (arith, there, h)) in
       (found.0, found.1, found.2, eqb-true (s.books t.key).id t.id same))
   | inr other ↦ (let none : outstanding s t ≡ 0 = rw other refl in absurd (omega arith))

@@ -5,7 +5,7 @@ use Rattle.std.proofs.Math.Path.{fun_ext}
 use Rattle.std.specs.List.{list_any}
 use Rattle.std.proofs.lemmas.Bool.{cases_Bool, cases_lt, and_parts, false_from_ne_true}
 use Rattle.std.proofs.lemmas.List.{length-map}
-use Rattle.gpu_descriptor.specs.Model.Agreement.{set_of, State, Item, item_eq, count_of, live_there, outstanding, AreOutstanding, IsAsBooked, Agree}
+use Rattle.gpu_descriptor.specs.Model.Agreement.{set_of, State, Item, item_eq, count_of, outstanding, AreOutstanding, IsAsBooked, Agree, live_at}
 use Rattle.gpu_descriptor.specs.Model.Books.{Key, key_eq, Entry, Bucket, entry_at}
 use Rattle.gpu_descriptor.specs.Model.Release.{lies_in, entry_less, bucket_less, pool_less, given_back, spent_front, without_front, in_front, fronts_gone, released, singly, released_each}
 use Rattle.gpu_descriptor_types.specs.Ledger.{Pool}
@@ -157,7 +157,7 @@ takes m s agree out t = elim (cases_Bool ((s.books t.key).id == t.id)) [
   | inr other ↦ (
       let fits = out t in
       let before : outstanding s t ≡ 0 = rw other refl in
-      let after : outstanding (released m s) t ≡ 0 = ap (λ (i : ℕ). if i == t.id then live_there (released m s) t else 0) (same_id m s t.key) ∙ rw other refl in
+      let after : outstanding (released m s) t ≡ 0 = ap (λ (i : ℕ). if i == t.id then live_at (released m s).ledger ((released m s).books t.key) t else 0) (same_id m s t.key) ∙ rw other refl in
       omega arith)
 ]
 

@@ -13,8 +13,8 @@ use Rattle.gpu_descriptor.specs.declared.set.DescriptorSet.{DescriptorSet}
 use Rattle.gpu_descriptor.specs.Model.Agreement.{set_of, State, Item, item_eq, count_of, live_in, AreOutstanding, Agree}
 use Rattle.gpu_descriptor.specs.Model.Books.{Key, key_eq, Entry, Bucket, entry_at}
 use Rattle.gpu_descriptor.specs.Inner.Releases.{IsTakenAt, names_of, bucket_back}
-use Rattle.gpu_descriptor.specs.Inner.Buckets.{trimmed_bucket, pools_without}
-use Rattle.gpu_descriptor.specs.Model.Release.{entry_less, pool_less, given_back, fronts_gone, released, spent_front, pools_gone}
+use Rattle.gpu_descriptor.specs.Inner.Buckets.{trimmed_bucket}
+use Rattle.gpu_descriptor.specs.Model.Release.{entry_less, pool_less, given_back, fronts_gone, released, spent_front, pools_gone, in_front}
 use Rattle.gpu_descriptor.specs.Caller.Sets.{item_of, items_of}
 use Rattle.gpu_descriptor.specs.Inner.RunSteps.{lies_at, AllPass}
 use Rattle.gpu_descriptor.proofs.table.Exact.{key_exact, item_exact}
@@ -28,7 +28,7 @@ use Rattle.gpu_descriptor.proofs.table.TableBooks.{put_books}
 
 -- the pools without those of a bucket's spent front
 abbrev pub trimmed_pools : Bucket → (ℕ → Option Pool) → ℕ → Option Pool
-trimmed_pools b pools = pools_without (spent_front b) b pools
+trimmed_pools b pools = (λ p. if in_front (spent_front b) b p then None else pools p)
 
 pub at_from : {S : Type 0} (k : Key) (n : ℕ) (x : DescriptorSet S) → x.key.is ≡ k → x.number ≡ n → lies_at k n x ≡ true
 unfolding lies_at

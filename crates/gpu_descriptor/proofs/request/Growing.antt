@@ -13,7 +13,7 @@ use Rattle.std.specs.Prelude.{if◌then◌else◌, option_map}
 use Rattle.gpu_descriptor.specs.Model.Agreement.{Item, flags_of}
 use Rattle.gpu_descriptor.specs.Model.Books.{Key, Entry, Bucket}
 use Rattle.gpu_descriptor.specs.Model.FreshPools.{Fresh, fresh_portions, fresh_entry, given_by, IsNextSize, room_after, AreSized, AreFull, AreNew, IsFreshFront, IsFreshList}
-use Rattle.gpu_descriptor.specs.Model.Grants.{Grant, Part, items_at, items_in, portion_of, came, pool_with, ledger_with, entries_with, fresh_or}
+use Rattle.gpu_descriptor.specs.Model.Grants.{Grant, Part, items_at, items_in, portion_of, came, pool_with, ledger_with, fresh_or}
 use Rattle.gpu_descriptor.specs.Inner.Grow.{IsGrown, IsTaken}
 use Rattle.gpu_descriptor.specs.Inner.Walk.{IsRefused}
 use Rattle.gpu_descriptor.specs.declared.bucket.take.Stop.TheVariants as stop
@@ -215,7 +215,7 @@ module _ (k : Key) (start n id first room left total wanting : ℕ) (items : Lis
       ∙ append_assoc (portions_of s.refused n (first + 0) old) (fresh_portions (first + length old) s.fresh) (portion_of part_now ∷ [])
       ∙ ap (λ x. portions_of s.refused n (first + 0) old ++ x) (ap (λ g. fresh_portions (first + length old) s.fresh ++ record { number = first + length old + length s.fresh; pool = q; given = g } ∷ []) many ∙ sym (fresh_rows_more (first + length old) s.fresh f))
 
-  entries_now : new' ≡ entries_with n (all_so_far id s.refused fresh_now parts_now) old
+  entries_now : new' ≡ take (all_so_far id s.refused fresh_now parts_now).left old ++ all_shared (all_so_far id s.refused fresh_now parts_now).refused n (drop (all_so_far id s.refused fresh_now parts_now).left old) ++ map fresh_entry (all_so_far id s.refused fresh_now parts_now).fresh
   entries_now =
       a.entries
       ∙ ap (λ (b : Bucket). b.pools ++ fresh_entry f ∷ []) s.taken.bucket

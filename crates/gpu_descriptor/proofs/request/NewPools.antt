@@ -9,7 +9,7 @@ use Rattle.gpu_descriptor.specs.Model.Agreement.{State, Item}
 use Rattle.gpu_descriptor.specs.Model.Books.{Key, Entry, Bucket}
 use Rattle.gpu_descriptor.specs.Model.FreshPools.{Fresh, AreSized, AreFull, IsFreshList, given_by, fresh_entry}
 use Rattle.gpu_descriptor.specs.Model.FreshPools.IsFreshList.{none as no_fresh, some as some_fresh}
-use Rattle.gpu_descriptor.specs.Model.Grants.{Grant, granted, entries_with}
+use Rattle.gpu_descriptor.specs.Model.Grants.{Grant, granted}
 use Rattle.gpu_descriptor.specs.Model.Load.{pool_load}
 use Rattle.gpu_descriptor.specs.Model.Outcomes.{Call, IsDone, out_then, wanting}
 use Rattle.gpu_descriptor.specs.Model.Promises.{AreBelowTwice}
@@ -56,8 +56,8 @@ module _ (k : Key) (n : ℕ) (g : Grant) (s : State) (all : g.left ≡ 0) where
   abbrev pools : List Entry
   pools = (s.books k).pools
 
-  own : (granted k n g s).books k ≡ record (s.books k) { id = g.id; pools = entries_with n g pools }
-  own = ap (λ (b : Bool). if b then record (s.books k) { id = g.id; pools = entries_with n g pools } else s.books k) (key_exact.self k)
+  own : (granted k n g s).books k ≡ record (s.books k) { id = g.id; pools = take g.left pools ++ all_shared g.refused n (drop g.left pools) ++ map fresh_entry g.fresh }
+  own = ap (λ (b : Bool). if b then record (s.books k) { id = g.id; pools = take g.left pools ++ all_shared g.refused n (drop g.left pools) ++ map fresh_entry g.fresh } else s.books k) (key_exact.self k)
 
   pub granted_entries : ((granted k n g s).books k).pools ≡ all_shared g.refused n pools ++ map fresh_entry g.fresh
   granted_entries = ap (λ (b : Bucket). b.pools) own ∙ ap (λ i. take i pools ++ all_shared g.refused n (drop i pools) ++ map fresh_entry g.fresh) all

@@ -146,12 +146,17 @@ module _ {L P S : Type 0} {means : Meaning L P S} {k : Key} {count : ℕ} {sets 
 
       rolls : StopsAt why k room count g (s.books k).pools → Rolls why
       rolls at = (
-        stopped (proceeds some last final _) (record { why = why; grant = g; at = at; back = record {
-          taken = taken.grant;
-          answer = refl;
-          state = back.state ∙ (λ i. released (sym taken.came i) ((state ∙ now.0) i));
-          counters = went (items_in k g.id g.parts) (granted k count g s) taken.came (sym (state ∙ now.0)) ∙ ap (risen (rollback_rise (items_in k g.id g.parts) k (granted k count g s))) now.1;
-        } }),
+        stopped (proceeds some last final _) (record {
+          why = why;
+          grant = g;
+          at = at;
+          back = record {
+            taken = taken.grant;
+            answer = refl;
+            state = back.state ∙ (λ i. released (sym taken.came i) ((state ∙ now.0) i));
+            counters = went (items_in k g.id g.parts) (granted k count g s) taken.came (sym (state ∙ now.0)) ∙ ap (risen (rollback_rise (items_in k g.id g.parts) k (granted k count g s))) now.1;
+          };
+        }),
         g,
         refl,
         taken.came,

@@ -12,7 +12,7 @@ use Rattle.gpu_descriptor.specs.Model.Agreement.{State, Agree, Item, item_eq, se
 use Rattle.gpu_descriptor.specs.Model.Books.{Key, key_eq, Entry, Bucket, no_pools, books_of, HasDistinctKeys, sum_over, AddsUp}
 use Rattle.gpu_descriptor.specs.Model.Grants.{items_at}
 use Rattle.gpu_descriptor.specs.Caller.Frees.{marked_descriptors}
-use Rattle.gpu_descriptor.specs.Model.Load.{marked_load, descriptors_out, allocated_in, sets_out, IsOut, IsMarkedLoad}
+use Rattle.gpu_descriptor.specs.Model.Load.{marked_load, descriptors_out, allocated_in, sets_out}
 use Rattle.gpu_descriptor.specs.Inner.Buckets.{IsBookedIn}
 use Rattle.gpu_descriptor.proofs.table.Exact.{bucket, item_exact, key_exact}
 use Rattle.gpu_descriptor.proofs.callers.HeldSets.{count_of-append}
@@ -166,10 +166,10 @@ table_out ledger (row ∷ table) distinct booked =
 all_out : (s : State) (f : Key → Bucket → ℕ) (n : ℕ) → Agree s → (out : AddsUp f s.books n) → ∥ OutOfAll s.ledger out.table ∥₁
 all_out s f n agree out = table_out s.ledger out.table out.distinct (λ k i e at. (booked_of s k agree).each i e (ap (λ (b : Bucket). slice_get b.pools i) (sym (out.keeps k)) ∙ at))
 
-pub out_is_size : (s : State) (n : ℕ) → Agree s → IsOut s n → ∥ ((items : List Item) × (length items ≡ n) × ((t : Item) → count_of t items ≡ outstanding s t)) ∥₁
+pub out_is_size : (s : State) (n : ℕ) → Agree s → AddsUp sets_out s.books n → ∥ ((items : List Item) × (length items ≡ n) × ((t : Item) → count_of t items ≡ outstanding s t)) ∥₁
 out_is_size s n agree out = ∥∥₁_map (all_out s sets_out n agree out) (λ all. (all.0, all.1 ∙ out.total, λ t. all.2 t ∙ ap (λ (b : Bucket). out_at s.ledger b t) (out.keeps t.key)))
 
-pub out_is_length : (s : State) (n : ℕ) → Agree s → IsOut s n → (items : List Item) → ((t : Item) → count_of t items ≡ outstanding s t) → length items ≡ n
+pub out_is_length : (s : State) (n : ℕ) → Agree s → AddsUp sets_out s.books n → (items : List Item) → ((t : Item) → count_of t items ≡ outstanding s t) → length items ≡ n
 out_is_length s n agree out items alike = ∥∥₁_elim (out_is_size s n agree out) (search props) (λ all.
     sym (count_all items) ∙ counts_alike item_exact items all.0 (λ t. alike t ∙ sym (all.2 t)) (λ u. true) ∙ count_all all.0 ∙ all.1)
 
@@ -215,6 +215,6 @@ sums_alike f (t ∷ m) n alike =
     let whole = sum_by-cons f t m in
     omega arith
 
-pub load_is_descriptors : (s : State) (n : ℕ) → Agree s → IsMarkedLoad s n → (items : List Item) → ((t : Item) → count_of t items ≡ outstanding s t) → marked_descriptors items ≡ n
+pub load_is_descriptors : (s : State) (n : ℕ) → Agree s → AddsUp descriptors_out s.books n → (items : List Item) → ((t : Item) → count_of t items ≡ outstanding s t) → marked_descriptors items ≡ n
 load_is_descriptors s n agree load items alike = ∥∥₁_elim (all_out s descriptors_out n agree load) (search props) (λ all.
     sums_alike (λ (t : Item). marked_load t.key 1) items all.0 (λ t. alike t ∙ sym (all.2 t ∙ ap (λ (b : Bucket). out_at s.ledger b t) (load.keeps t.key))) ∙ all.3 ∙ load.total)

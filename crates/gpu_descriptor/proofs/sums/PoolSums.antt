@@ -8,8 +8,8 @@ use Rattle.gpu_descriptor_types.specs.Ledger.{Pool}
 use Rattle.gpu_descriptor.specs.Model.Agreement.{State, Agree}
 use Rattle.gpu_descriptor.specs.Model.Books.{Key, Entry, Bucket, no_pools, books_of, HasDistinctKeys, sum_over, AddsUp}
 use Rattle.gpu_descriptor.specs.Inner.Buckets.{IsBookedIn}
-use Rattle.gpu_descriptor.specs.Model.Load.{allocated_in, marked_load, pool_load, pools_load, bucket_load, descriptors_out, IsPoolLoad, IsMarkedLoad}
-use Rattle.gpu_descriptor.specs.Model.Load.{created_with, descriptors_created}
+use Rattle.gpu_descriptor.specs.Model.Load.{allocated_in, marked_load, pool_load, pools_load, bucket_load, descriptors_out}
+use Rattle.gpu_descriptor.specs.Model.Load.{descriptors_created}
 use Rattle.gpu_descriptor.proofs.request.StateAgrees.{booked_of}
 use Rattle.gpu_descriptor.proofs.sums.Loads.{marked_load-none, marked_load-add, marked_load-le}
 use Rattle.gpu_descriptor.proofs.sums.PoolCounts.{booked_load}
@@ -20,15 +20,15 @@ AllBooked k ledger es = (i : ℕ) (e : Entry) → slice_get es i ≡ Some e → 
 
 -- ---- a marked key's pools
 
-created_entry : (k : Key) (ledger : ℕ → Option Pool) (e : Entry) → length k.counts ≡ 14 → k.marked ≡ true → IsBookedIn k ledger e → created_with ledger e.pool ≡ pool_load k e.capacity
+created_entry : (k : Key) (ledger : ℕ → Option Pool) (e : Entry) → length k.counts ≡ 14 → k.marked ≡ true → IsBookedIn k ledger e → option_map_or (λ p. sum p.counts) (ledger e.pool) 0 ≡ pool_load k e.capacity
 created_entry k ledger e long marked own = ap (λ (o : Option Pool). option_map_or (λ (p : Pool). sum p.counts) o 0) own.is_live ∙ booked_load k own.pool e long marked own.booked
 
-created_entries : (k : Key) (ledger : ℕ → Option Pool) (es : List Entry) → length k.counts ≡ 14 → k.marked ≡ true → AllBooked k ledger es → sum_by (λ e. created_with ledger e.pool) es ≡ pools_load k es
+created_entries : (k : Key) (ledger : ℕ → Option Pool) (es : List Entry) → length k.counts ≡ 14 → k.marked ≡ true → AllBooked k ledger es → sum_by (λ e. option_map_or (λ p. sum p.counts) (ledger e.pool) 0) es ≡ pools_load k es
 created_entries k ledger [] long marked booked = refl
 created_entries k ledger (e ∷ es) long marked booked =
     let first = created_entry k ledger e long marked (booked 0 e refl) in
     let rest = created_entries k ledger es long marked (λ i. booked (suc i)) in
-    let a = sum_by-cons (λ (d : Entry). created_with ledger d.pool) e es in
+    let a = sum_by-cons (λ (d : Entry). option_map_or (λ p. sum p.counts) (ledger d.pool) 0) e es in
     let b = sum_by-cons (λ (d : Entry). pool_load k d.capacity) e es in
     omega arith
 
@@ -67,11 +67,11 @@ module _ (s : State) (agree : Agree s) where
 
   created_at : (k : Key) → (0 < length (s.books k).pools → length k.counts ≡ 14) → descriptors_created s.ledger k (s.books k) ≡ bucket_load k (s.books k)
   created_at k long = elim (cases_Bool k.marked) [
-    | inl on ↦ ap (λ (m : Bool). if m then sum_by (λ (e : Entry). created_with s.ledger e.pool) (s.books k).pools else 0) on ∙ by_pools on (s.books k).pools long (booked k)
-    | inr off ↦ ap (λ (m : Bool). if m then sum_by (λ (e : Entry). created_with s.ledger e.pool) (s.books k).pools else 0) off ∙ sym (plain_entries k (s.books k).pools off)
+    | inl on ↦ ap (λ (m : Bool). if m then sum_by (λ (e : Entry). option_map_or (λ p. sum p.counts) (s.ledger e.pool) 0) (s.books k).pools else 0) on ∙ by_pools on (s.books k).pools long (booked k)
+    | inr off ↦ ap (λ (m : Bool). if m then sum_by (λ (e : Entry). option_map_or (λ p. sum p.counts) (s.ledger e.pool) 0) (s.books k).pools else 0) off ∙ sym (plain_entries k (s.books k).pools off)
   ]
     where
-      by_pools : k.marked ≡ true → (es : List Entry) → (0 < length es → length k.counts ≡ 14) → AllBooked k s.ledger es → sum_by (λ (e : Entry). created_with s.ledger e.pool) es ≡ pools_load k es
+      by_pools : k.marked ≡ true → (es : List Entry) → (0 < length es → length k.counts ≡ 14) → AllBooked k s.ledger es → sum_by (λ (e : Entry). option_map_or (λ p. sum p.counts) (s.ledger e.pool) 0) es ≡ pools_load k es
       by_pools on [] long all = refl
       by_pools on (e ∷ es) long all = created_entries k s.ledger (e ∷ es) (long (omega arith)) on all
 
@@ -96,13 +96,13 @@ module _ (s : State) (agree : Agree s) where
         let within = out_at k in
         omega arith)
 
-pub pool_load_is_created : (s : State) (n : ℕ) → Agree s → ((k : Key) → 0 < length (s.books k).pools → length k.counts ≡ 14) → IsPoolLoad s n ↔ AddsUp (descriptors_created s.ledger) s.books n
+pub pool_load_is_created : (s : State) (n : ℕ) → Agree s → ((k : Key) → 0 < length (s.books k).pools → length k.counts ≡ 14) → AddsUp bucket_load s.books n ↔ AddsUp (descriptors_created s.ledger) s.books n
 pool_load_is_created s n agree long = (
   λ load. record { table = load.table; distinct = load.distinct; keeps = load.keeps; total = created_over s agree load.table load.distinct load.keeps long ∙ load.total },
   λ created. record { table = created.table; distinct = created.distinct; keeps = created.keeps; total = sym (created_over s agree created.table created.distinct created.keeps long) ∙ created.total },
 )
 
-pub marked_within_pools : (s : State) (marked pools : ℕ) → Agree s → IsMarkedLoad s marked → IsPoolLoad s pools → marked ≤ pools
+pub marked_within_pools : (s : State) (marked pools : ℕ) → Agree s → AddsUp descriptors_out s.books marked → AddsUp bucket_load s.books pools → marked ≤ pools
 marked_within_pools s marked pools agree out load =
     let within = out_over s agree out.table out.distinct out.keeps in
     let same = sum_by_books bucket_load out.table load.table (λ k. refl) out.distinct load.distinct (λ k. out.keeps k ∙ sym (load.keeps k)) in

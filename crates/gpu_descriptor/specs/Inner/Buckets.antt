@@ -26,13 +26,9 @@ front_but keep b = min (empty_front b) (length b.pools - keep)
 abbrev pub trimmed_bucket : ℕ → Bucket → Bucket
 trimmed_bucket keep b = without_front (front_but keep b) b
 
--- the pools without the first n of a bucket
-abbrev pub pools_without : ℕ → Bucket → (ℕ → Option Pool) → ℕ → Option Pool
-pools_without n b pools p = if in_front n b p then None else pools p
-
 -- the ledger after the first n pools of a bucket were destroyed
 abbrev pub ledger_without : ℕ → Bucket → Ledger → Ledger
-ledger_without n b l = record { pools = pools_without n b l.pools; counters = more_destroyed n l.counters }
+ledger_without n b l = record { pools = λ p. if in_front n b p then None else l.pools p; counters = more_destroyed n l.counters }
 
 -- the ledger after the pools were destroyed that a trimmed bucket lost
 abbrev pub trimmed_ledger : ℕ → Bucket → Ledger → Ledger

@@ -43,13 +43,9 @@ live_in ledger pool x = option_map_or (λ p. p.live x) (ledger pool) 0
 abbrev pub live_at : (ℕ → Option Pool) → Bucket → Item → ℕ
 live_at ledger b t = option_map_or (λ e. live_in ledger e.pool (set_of t)) (entry_at b t.number) 0
 
--- and in the one that its key and its number name
-abbrev pub live_there : State → Item → ℕ
-live_there s t = live_at s.ledger (s.books t.key) t
-
 -- how often a set is outstanding: as often as it is live there, if its id is that of its key
 abbrev pub outstanding : State → Item → ℕ
-outstanding s t = if (s.books t.key).id == t.id then live_there s t else 0
+outstanding s t = if (s.books t.key).id == t.id then live_at s.ledger (s.books t.key) t else 0
 
 -- the sets of the list, each as often as it stands there, are outstanding
 abbrev pub AreOutstanding : List Item → State → Type 0

@@ -3,7 +3,7 @@ use Rattle.std.specs.Prelude.{◌≡◌, ℕ, ◌+◌, ◌<◌, Bool, ◌==◌, 
 use Rattle.gpu_descriptor_types.specs.Ledger.{Pool, live_sets, fresh}
 use Rattle.gpu_descriptor_types.specs.Multiset.{LiveSet, times}
 use Rattle.gpu_descriptor_types.specs.PoolSize.{pool_counts}
-use Rattle.gpu_descriptor.specs.Model.Books.{Key, Entry, Bucket, next_number}
+use Rattle.gpu_descriptor.specs.Model.Books.{Key, Bucket, next_number}
 use Rattle.gpu_descriptor.specs.Model.Agreement.{State, Item, flags_of, with_bucket}
 use Rattle.gpu_descriptor.specs.Model.Shares.{all_shared, Portion, OnlyAskedRefuse, portions_of}
 use Rattle.gpu_descriptor.specs.Model.FreshPools.{Fresh, fresh_entry, AreNew, fresh_portions}
@@ -47,11 +47,8 @@ abbrev pub came : List Part → ℕ → List ℕ
 came parts pool = flat_map (λ p. if p.pool == pool then p.names else []) parts
 
 -- the pools of the key: the oldest left alone, the others with their shares given, the new ones last
-abbrev pub entries_with : ℕ → Grant → List Entry → List Entry
-entries_with n g pools = take g.left pools ++ all_shared g.refused n (drop g.left pools) ++ map fresh_entry g.fresh
-
 abbrev pub bucket_with : ℕ → Grant → Bucket → Bucket
-bucket_with n g b = record b { id = g.id; pools = entries_with n g b.pools }
+bucket_with n g b = record b { id = g.id; pools = take g.left b.pools ++ all_shared g.refused n (drop g.left b.pools) ++ map fresh_entry g.fresh }
 
 -- the ledger's pool of this name, with the new ones
 abbrev pub fresh_or : Key → List Fresh → ℕ → Option Pool → Option Pool

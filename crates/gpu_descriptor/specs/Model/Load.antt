@@ -2,8 +2,7 @@
 use Rattle.std.specs.Option.{option_map_or}
 use Rattle.gpu_descriptor_types.specs.Ledger.{Pool}
 use Rattle.std.specs.Prelude.{ℕ, ◌*◌, max, if◌then◌else◌, List, Option, sum, sum_by}
-use Rattle.gpu_descriptor.specs.Model.Books.{Key, EntryOf, BucketOf, Bucket, AddsUp}
-use Rattle.gpu_descriptor.specs.Model.Agreement.{State}
+use Rattle.gpu_descriptor.specs.Model.Books.{Key, EntryOf, BucketOf, Bucket}
 
 -- how many sets are out of these pools
 abbrev pub allocated_in : {X : Type 0} → List (EntryOf X) → ℕ
@@ -32,22 +31,6 @@ descriptors_out k b = marked_load k (allocated_in b.pools)
 abbrev pub bucket_load : {X : Type 0} → Key → BucketOf X → ℕ
 bucket_load k b = pools_load k b.pools
 
--- so many sets are out
-abbrev pub IsOut : State → ℕ → Type 0
-IsOut s n = AddsUp sets_out s.books n
-
--- so many descriptors of marked sets are out
-abbrev pub IsMarkedLoad : State → ℕ → Type 0
-IsMarkedLoad s n = AddsUp descriptors_out s.books n
-
--- the pools of marked keys have so many descriptors, whatever is out of them
-abbrev pub IsPoolLoad : State → ℕ → Type 0
-IsPoolLoad s n = AddsUp bucket_load s.books n
-
--- the descriptors that the device created a live pool with
-abbrev pub created_with : (ℕ → Option Pool) → ℕ → ℕ
-created_with ledger pool = option_map_or (λ p. sum p.counts) (ledger pool) 0
-
 -- the descriptors that the device created a marked key's pools with
 abbrev pub descriptors_created : (ℕ → Option Pool) → Key → Bucket → ℕ
-descriptors_created ledger k b = if k.marked then sum_by (λ e. created_with ledger e.pool) b.pools else 0
+descriptors_created ledger k b = if k.marked then sum_by (λ e. option_map_or (λ p. sum p.counts) (ledger e.pool) 0) b.pools else 0
