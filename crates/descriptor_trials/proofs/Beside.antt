@@ -1,7 +1,7 @@
 -- Two sessions on one device: what a step of one leaves of the other.
 use Rattle.std.proofs.Common.{◌≡◌, ℕ, List, [], Option, Some, refl, sym, ap, ◌∙◌, subst}
 use Rattle.gpu_descriptor_types.specs.Ledger.{Ledger}
-use Rattle.gpu_descriptor.specs.Model.Foreign.{KeepsOwn}
+use Rattle.gpu_descriptor.specs.Model.Promises.{IsUntouched}
 use Rattle.gpu_descriptor.specs.Model.Agreement.{count_of, outstanding}
 use Rattle.gpu_descriptor.specs.Model.Books.{Key, Entry, Bucket, entry_at, no_pools}
 use Rattle.gpu_descriptor.specs.Model.Foreign.{IsForeign, KeepsForeign}
@@ -34,8 +34,8 @@ module _ (x x' y : Held) (l m : Ledger) (foreign : KeepsForeign (session_state x
       let after = foreign e.pool b.0 (λ j i d there. pair.apart j k i n d e there at) b.1 in
       (after.0 ∙ sym b.1, after.1)
 
-  keeps : KeepsOwn (session_state y l) (session_state y m)
-  keeps = record { books = λ k. refl; pools = λ k n e at. (not_touched k n e at).0 }
+  keeps : (k : Key) → IsUntouched k (session_state y l) (session_state y m)
+  keeps k = record { books = refl; pools = λ n e at. (not_touched k n e at).0 }
 
   -- after a step of one session both can make the next, and no pool stands in both books
   pub stepped : IsScriptReady (side x' m) → ArePaired x' y m

@@ -1,7 +1,7 @@
 -- The definitions at one state, worked out by the check. A plain key has six pools: two empty ones at the front, one
 -- with a set, an empty one behind it, one with a set, and an empty one at the end. A marked key has two
 -- pools, both empty.
-use Rattle.std.specs.Prelude.{◌≡◌, ℕ, true, false, List, [], ◌∷◌, None, if◌then◌else◌, map, replicate, refl}
+use Rattle.std.specs.Prelude.{◌++◌, ◌≡◌, ℕ, true, false, List, [], ◌∷◌, None, if◌then◌else◌, map, replicate, refl}
 use Rattle.gpu_descriptor_types.specs.PoolSize.{sets_in_room}
 use Rattle.gpu_descriptor.specs.Model.Agreement.{State, Item}
 use Rattle.gpu_descriptor.specs.Model.Books.{Key, key_eq, Entry, Bucket, no_pools}
@@ -14,11 +14,11 @@ use Rattle.gpu_descriptor.specs.Caller.Comparisons.{binary_digits}
 
 -- a sampler and two uniform buffers
 abbrev plain : Key
-plain = record { counts = 1 ∷ 0 ∷ 0 ∷ 0 ∷ 0 ∷ 0 ∷ 2 ∷ 0 ∷ 0 ∷ 0 ∷ 0 ∷ 0 ∷ 0 ∷ 0 ∷ []; marked = false }
+plain = record { counts = 1 ∷ replicate 5 0 ++ 2 ∷ replicate 7 0; marked = false }
 
 -- three sampled images
 abbrev marked : Key
-marked = record { counts = 0 ∷ 0 ∷ 3 ∷ 0 ∷ 0 ∷ 0 ∷ 0 ∷ 0 ∷ 0 ∷ 0 ∷ 0 ∷ 0 ∷ 0 ∷ 0 ∷ []; marked = true }
+marked = record { counts = replicate 2 0 ++ 3 ∷ replicate 11 0; marked = true }
 
 -- a pool without sets, and one with one
 abbrev unused : ℕ → Entry

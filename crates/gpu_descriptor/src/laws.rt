@@ -15,7 +15,6 @@ ghost use Rattle.gpu_descriptor.specs.Model.Books.{HasDistinctKeys, Key, key_eq,
 ghost use Rattle.gpu_descriptor.specs.Model.Books.{Entry, books_of, entry_at, no_pools, sum_over};
 ghost use Rattle.gpu_descriptor.specs.Model.Cleanup.{IsCleaned, pools_cleaned};
 ghost use Rattle.gpu_descriptor.specs.Model.Foreign.{IsForeign, IsNamed, KeepsForeign, LosesNone};
-ghost use Rattle.gpu_descriptor.specs.Model.Foreign.{KeepsOwn};
 ghost use Rattle.gpu_descriptor.specs.Model.Load.{pool_load, sets_out, descriptors_out, bucket_load};
 ghost use Rattle.gpu_descriptor.specs.Model.Load.{descriptors_created};
 ghost use Rattle.gpu_descriptor.specs.Model.Promises.{IsUntouched};
@@ -162,9 +161,9 @@ pub fn out_is_outstanding()
 /// Pools of the device that are none of the allocator's may come, go and change between its calls:
 /// books and ledger agree as before, and the same sets are outstanding.
 pub fn others_are_free()
-    ensures agrees { (s t : State) → KeepsOwn s t → Agree s → Agree t }
-    ensures outstanding { (s t : State) → KeepsOwn s t → (i : Item) → outstanding t i ≡ outstanding
-        s i }
+    ensures agrees { (s t : State) → ((k : Key) → IsUntouched k s t) → Agree s → Agree t }
+    ensures outstanding { (s t : State) → ((k : Key) → IsUntouched k s t) → (i : Item) → outstanding
+        t i ≡ outstanding s i }
 {}
 
 /// Of sets that are outstanding those of one key have one id.

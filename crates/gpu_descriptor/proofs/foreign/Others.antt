@@ -1,5 +1,5 @@
 -- Agreement, and what is outstanding, speak of the pools in the books alone.
-use Rattle.gpu_descriptor.specs.Model.Foreign.{KeepsOwn}
+use Rattle.gpu_descriptor.specs.Model.Promises.{IsUntouched}
 use Rattle.std.specs.Prelude.{if◌then◌else◌}
 use Rattle.std.proofs.Common.{◌≡◌, ◌==◌, ℕ, Option, Some, inl, inr, refl, sym, ap, ◌∙◌}
 use Rattle.std.specs.Option.{option_map_or}
@@ -8,22 +8,22 @@ use Rattle.gpu_descriptor.specs.Model.Books.{Key, Entry, Bucket, entry_at}
 use Rattle.gpu_descriptor_types.specs.Ledger.{Pool}
 use Rattle.gpu_descriptor.proofs.release.ReleaseAgrees.{cases_option}
 
-pub own_agrees : (s t : State) → KeepsOwn s t → Agree s → Agree t
+pub own_agrees : (s t : State) → ((k : Key) → IsUntouched k s t) → Agree s → Agree t
 own_agrees s t same agree =
     let was : (k : Key) (n : ℕ) (e : Entry) → entry_at (t.books k) n ≡ Some e → entry_at (s.books k) n ≡ Some e = λ k n e at.
-    ap (λ (b : Bucket). entry_at b n) (sym (same.books k)) ∙ at in
+    ap (λ (b : Bucket). entry_at b n) (sym (same k).books) ∙ at in
     record {
       distinct = λ k l m n d e at at' name. agree.distinct k l m n d e (was k m d at) (was l n e at') name;
       booked = λ k n e at.
           let booked = agree.booked k n e (was k n e at) in
-          (booked.0, same.pools k n e (was k n e at) ∙ booked.1, booked.2);
-      absent = λ k none. ap (λ (b : Bucket). b.first) (same.books k) ∙ agree.absent k (ap (λ (b : Bucket). b.pools) (sym (same.books k)) ∙ none);
+          (booked.0, (same k).pools n e (was k n e at) ∙ booked.1, booked.2);
+      absent = λ k none. ap (λ (b : Bucket). b.first) ((same k).books) ∙ agree.absent k (ap (λ (b : Bucket). b.pools) (sym (same k).books) ∙ none);
     }
 
-pub own_outstanding : (s t : State) → KeepsOwn s t → (i : Item) → outstanding t i ≡ outstanding s i
+pub own_outstanding : (s t : State) → ((k : Key) → IsUntouched k s t) → (i : Item) → outstanding t i ≡ outstanding s i
 own_outstanding s t same x =
-    ap (λ (b : Bucket). if b.id == x.id then option_map_or (λ (e : Entry). live_in t.ledger e.pool (set_of x)) (entry_at b x.number) 0 else 0) (same.books x.key)
+    ap (λ (b : Bucket). if b.id == x.id then option_map_or (λ (e : Entry). live_in t.ledger e.pool (set_of x)) (entry_at b x.number) 0 else 0) ((same x.key).books)
     ∙ ap (λ (n : ℕ). if (s.books x.key).id == x.id then n else 0) (elim (cases_option (entry_at (s.books x.key) x.number)) [
       | inl none ↦ rw none refl
-      | inr some ↦ rw some.1 (ap (λ (o : Option Pool). option_map_or (λ p. p.live (set_of x)) o 0) (same.pools x.key x.number some.0 some.1))
+      | inr some ↦ rw some.1 (ap (λ (o : Option Pool). option_map_or (λ p. p.live (set_of x)) o 0) ((same x.key).pools x.number some.0 some.1))
     ])

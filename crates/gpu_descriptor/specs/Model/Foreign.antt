@@ -19,8 +19,3 @@ KeepsForeign old new = (name : ℕ) (pool : Pool) → IsForeign old name → old
 -- no pool is lost: a live pool that isn't in the books afterwards was live and foreign before, and is as it was
 abbrev pub LosesNone : State → State → Type 0
 LosesNone old new = (name : ℕ) (pool : Pool) → IsForeign new name → new.ledger name ≡ Some pool → (old.ledger name ≡ Some pool) × IsForeign old name
-
--- the books stay, and so do the ledger's records of the pools that they name. Whatever other pools the device has may change
-pub record KeepsOwn (old new : State) : Type 0 where
-  pub books : (k : Key) → new.books k ≡ old.books k
-  pub pools : (k : Key) (n : ℕ) (e : Entry) → entry_at (old.books k) n ≡ Some e → new.ledger e.pool ≡ old.ledger e.pool

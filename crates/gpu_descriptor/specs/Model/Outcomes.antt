@@ -188,9 +188,6 @@ pub data Allocates (c : Call) : Type 0 where
 
 -- what a request took. It takes nothing where it was refused before
 abbrev pub taken_by : {c : Call} → Allocates c → Option Grant
-taken_by (none zero_sets answer stays) = None
-taken_by (limit some above answer stays) = None
-taken_by (bound some within past answer stays) = None
-taken_by (start goes answer stays) = None
 taken_by (done goes is) = Some is.grant
 taken_by (stopped goes is) = Some is.grant
+taken_by refused = None
