@@ -6,3 +6,4 @@ pub mod release
 pub mod request
 pub mod sums
 pub mod table
+pub mod Example

@@ -1,4 +1,3 @@
 pub mod Caller
-pub mod Example
 pub mod Inner
 pub mod Model
