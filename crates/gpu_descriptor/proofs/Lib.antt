@@ -1,3 +1,4 @@
+pub mod Common
 pub mod callers
 pub mod cleanup
 pub mod foreign

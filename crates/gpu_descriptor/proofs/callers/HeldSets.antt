@@ -1,11 +1,6 @@
 -- Which sets of a list are outstanding after a call: for callers that hold sets.
-use Rattle.std.proofs.Common.{◌≡◌, ℕ, ◌+◌, List, ◌++◌, sym, ap, ◌∙◌, arith}
-use Rattle.std.specs.List.Sorted.{IsPermutation}
-use Rattle.std.proofs.lemmas.List.{map-append}
+use Rattle.gpu_descriptor.proofs.Common.{◌≡◌, ℕ, ◌+◌, List, ◌++◌, sym, ap, ◌∙◌, arith, IsPermutation, map-append, count_by-append, DescriptorSet, State, Item, item_eq, Agree, AreOutstanding, count_of, outstanding}
 use Rattle.std.proofs.lemmas.List.Sorted.{sum_by-IsPermutation, IsPermutation-map}
-use Rattle.gpu_descriptor_types.proofs.Counting.{count_by-append}
-use Rattle.gpu_descriptor.specs.declared.set.DescriptorSet.{DescriptorSet}
-use Rattle.gpu_descriptor.specs.Model.Agreement.{State, Item, item_eq, Agree, AreOutstanding, count_of, outstanding}
 use Rattle.gpu_descriptor.specs.Model.Promises.{AreOutBesides, KeepsOutstanding}
 use Rattle.gpu_descriptor.specs.Model.Release.{released}
 use Rattle.gpu_descriptor.specs.Caller.Sets.{item_of, items_of}

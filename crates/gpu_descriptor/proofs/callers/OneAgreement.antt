@@ -1,10 +1,6 @@
 -- That books and ledger agree has one proof at most.
-use Rattle.std.proofs.Common.{◌≡◌, Option, Some, sym, ◌∙◌}
-use Rattle.std.proofs.Props.{props}
+use Rattle.gpu_descriptor.proofs.Common.{◌≡◌, Option, Some, sym, ◌∙◌, props, Pool, Key, Entry, State, Agree, IsAsBooked}
 use mathlib.Core.HLevel.{is_prop→PathP}
-use Rattle.gpu_descriptor_types.specs.Ledger.{Pool}
-use Rattle.gpu_descriptor.specs.Model.Books.{Key, Entry}
-use Rattle.gpu_descriptor.specs.Model.Agreement.{State, Agree, IsAsBooked}
 
 booked_prop : (k : Key) (pool : Pool) (e : Entry) → IsProp (IsAsBooked k pool e)
 booked_prop k pool e = Prim.hlevel props

@@ -1,13 +1,8 @@
 -- What calls keep where nothing changed, and one after another.
-use Rattle.std.proofs.Common.{◌≡◌, ◌≤◌, sym, ap, subst, ◌∙◌}
-use Rattle.gpu_descriptor_types.specs.Side.{side}
-use Rattle.gpu_descriptor_types.specs.Meaning.{Meaning}
-use Rattle.gpu_descriptor_types.specs.Ledger.{Ledger}
-use Rattle.gpu_descriptor.specs.Model.Agreement.{Agree}
+use Rattle.gpu_descriptor.proofs.Common.{◌≡◌, ◌≤◌, sym, ap, subst, ◌∙◌, side, Meaning, Ledger, Agree, Allocations}
 use Rattle.gpu_descriptor.specs.Caller.Keeps.{Keeps}
 use Rattle.gpu_descriptor.specs.Caller.Others.{others_of}
 use Rattle.gpu_descriptor.specs.Caller.States.{Agrees, marked_load_of, pool_load_of, state_of}
-use Rattle.gpu_descriptor.specs.Caller.Values.{Allocations}
 use Rattle.gpu_descriptor.proofs.foreign.ForeignPools.{foreign_same, foreign_through, loses_same, loses_through}
 
 -- nothing changed

@@ -1,19 +1,8 @@
-use Rattle.std.specs.Prelude.{if◌then◌else◌}
 -- Cleaning up: the whole empty front of each key goes.
-use Rattle.std.proofs.Common.{◌≡◌, ℕ, zero, suc, ◌==◌, ◌+◌, ◌-◌, ◌<◌, ◌≤◌, Bool, true, false, List, [], ◌∷◌, length, take, drop, count_by, slice_get, Option, Some, None, ◌⊎◌, inl, inr, refl, sym, ap, ◌∙◌, arith, eq-eqb, ne_eqb, length-drop}
-use Rattle.std.proofs.Math.Logic.{∥∥₁_elim}
-use Rattle.std.proofs.Math.Path.{fun_ext}
-use Rattle.std.proofs.Props.{props}
-use Rattle.std.specs.List.{list_any, prefix_len}
-use Rattle.std.proofs.lemmas.Bool.{cases_Bool, cases_eq, false_from_ne_true, or_left, or_right}
-use Rattle.std.proofs.lemmas.List.Sums.{prefix_len-le-length, sum_by-cons}
-use Rattle.gpu_descriptor.specs.Model.Agreement.{set_of, Item, State, live_in, outstanding, HasSize, Agree, live_at}
-use Rattle.gpu_descriptor.specs.Model.Books.{Key, key_eq, Entry, Bucket, entry_at, no_pools}
+use Rattle.gpu_descriptor.proofs.Common.{if◌then◌else◌, ◌≡◌, ℕ, zero, suc, ◌==◌, ◌+◌, ◌-◌, ◌<◌, ◌≤◌, Bool, true, false, List, [], ◌∷◌, length, take, drop, count_by, slice_get, Option, Some, None, ◌⊎◌, inl, inr, refl, sym, ap, ◌∙◌, arith, eq-eqb, ne_eqb, length-drop, ∥∥₁_elim, fun_ext, props, list_any, prefix_len, cases_Bool, cases_eq, false_from_ne_true, or_left, or_right, prefix_len-le-length, sum_by-cons, set_of, Item, State, live_in, outstanding, HasSize, Agree, live_at, Key, key_eq, Entry, Bucket, entry_at, no_pools, LiveSet, set_eq, set_exact, count_by_yes, any_found, any_from}
 use Rattle.gpu_descriptor.specs.Model.Cleanup.{IsCleaned, cleaned_bucket, pools_cleaned}
 use Rattle.gpu_descriptor.specs.Model.Release.{is_empty, empty_front, without_front, in_front}
-use Rattle.gpu_descriptor_types.specs.Multiset.{LiveSet, set_eq}
 use Rattle.gpu_descriptor.proofs.release.Fronts.{entry_at-found, entry_at-from, entry_at-without, entry_at-kept}
-use Rattle.gpu_descriptor_types.proofs.Counting.{set_exact, count_by_yes, any_found, any_from}
 use Rattle.gpu_descriptor.proofs.table.Exact.{key_exact}
 use Rattle.gpu_descriptor.proofs.release.Places.{live_there_at, outstanding_at, outstanding_found, size_pos}
 use Rattle.gpu_descriptor.proofs.release.ReleaseAgrees.{if_none, front_found, cases_option}

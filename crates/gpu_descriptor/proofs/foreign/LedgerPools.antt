@@ -1,12 +1,5 @@
 -- The live pools of a ledger, after one of them changed.
-use Rattle.std.proofs.Common.{◌≡◌, ◌≢◌, ℕ, ◌+◌, ◌-◌, ◌≤◌, List, [], ◌∷◌, length, map, Option, None, Some, nat_eq, option_map, inl, inr, refl, sym, ap, ◌∙◌, arith, eq-eqb, ne_eqb}
-use Rattle.std.specs.Map.{update}
-use Rattle.std.proofs.lemmas.Bool.{cases_Bool}
-use Rattle.gpu_descriptor_types.specs.Ledger.{Pool, Counters, Ledger, changed, after_release, live_sets}
-use Rattle.gpu_descriptor_types.specs.Multiset.{LiveSet, set_eq, times}
-use Rattle.gpu_descriptor_types.proofs.Counting.{set_exact, count_by_yes, count_by_no, all_taken_out}
-use Rattle.gpu_descriptor.specs.Model.Agreement.{HasSize}
-use Rattle.gpu_descriptor.specs.Model.Books.{Key}
+use Rattle.gpu_descriptor.proofs.Common.{◌≡◌, ◌≢◌, ℕ, ◌+◌, ◌-◌, ◌≤◌, List, [], ◌∷◌, length, map, Option, None, Some, nat_eq, option_map, inl, inr, refl, sym, ap, ◌∙◌, arith, eq-eqb, ne_eqb, update, cases_Bool, Pool, Counters, Ledger, changed, after_release, live_sets, LiveSet, set_eq, times, set_exact, count_by_yes, count_by_no, all_taken_out, HasSize, Key}
 use Rattle.gpu_descriptor.specs.Model.Release.{more_destroyed, pool_less}
 
 -- the pools with this at a name, and all else as it was

@@ -1,13 +1,6 @@
 -- What an allocator leaves of the ledger when it is done: nothing of its own.
-use Rattle.gpu_descriptor.specs.Caller.Values.{Allocations}
+use Rattle.gpu_descriptor.proofs.Common.{Allocations, ◌≡◌, ◌≢◌, ◌⊎◌, ℕ, zero, suc, ◌+◌, ◌-◌, ◌==◌, true, false, List, [], ◌∷◌, slice_get, Option, Some, None, inl, inr, refl, sym, ap, ◌∙◌, arith, eqb-true, eq-eqb, fun_ext, list_any, cases_Bool, or_cases, or_left, or_right, Pool, Ledger, State, Item, outstanding, Agree, Key, key_eq, Entry, Bucket, HasDistinctKeys, books_of, entry_at, no_pools}
 use Rattle.gpu_descriptor.specs.Model.Cleanup.{IsCleaned}
-use Rattle.std.proofs.Common.{◌≡◌, ◌≢◌, ◌⊎◌, ℕ, zero, suc, ◌+◌, ◌-◌, ◌==◌, true, false, List, [], ◌∷◌, slice_get, Option, Some, None, inl, inr, refl, sym, ap, ◌∙◌, arith, eqb-true, eq-eqb}
-use Rattle.std.proofs.Math.Path.{fun_ext}
-use Rattle.std.specs.List.{list_any}
-use Rattle.std.proofs.lemmas.Bool.{cases_Bool, or_cases, or_left, or_right}
-use Rattle.gpu_descriptor_types.specs.Ledger.{Pool, Ledger}
-use Rattle.gpu_descriptor.specs.Model.Agreement.{State, Item, outstanding, Agree}
-use Rattle.gpu_descriptor.specs.Model.Books.{Key, key_eq, Entry, Bucket, HasDistinctKeys, books_of, entry_at, no_pools}
 use Rattle.gpu_descriptor.specs.Model.Foreign.{IsForeign, IsNamed, LosesNone, KeepsForeign}
 use Rattle.gpu_descriptor.specs.Caller.States.{table_of, state_of}
 use Rattle.gpu_descriptor.proofs.cleanup.Cleaning.{nothing_left}

@@ -1,11 +1,6 @@
 -- Agreement, and what is outstanding, speak of the pools in the books alone.
+use Rattle.gpu_descriptor.proofs.Common.{if◌then◌else◌, ◌≡◌, ◌==◌, ℕ, Option, Some, inl, inr, refl, sym, ap, ◌∙◌, option_map_or, set_of, live_in, State, Agree, outstanding, Item, Key, Entry, Bucket, entry_at, Pool}
 use Rattle.gpu_descriptor.specs.Model.Promises.{IsUntouched}
-use Rattle.std.specs.Prelude.{if◌then◌else◌}
-use Rattle.std.proofs.Common.{◌≡◌, ◌==◌, ℕ, Option, Some, inl, inr, refl, sym, ap, ◌∙◌}
-use Rattle.std.specs.Option.{option_map_or}
-use Rattle.gpu_descriptor.specs.Model.Agreement.{set_of, live_in, State, Agree, outstanding, Item}
-use Rattle.gpu_descriptor.specs.Model.Books.{Key, Entry, Bucket, entry_at}
-use Rattle.gpu_descriptor_types.specs.Ledger.{Pool}
 use Rattle.gpu_descriptor.proofs.release.ReleaseAgrees.{cases_option}
 
 pub own_agrees : (s t : State) → ((k : Key) → IsUntouched k s t) → Agree s → Agree t

@@ -1,11 +1,5 @@
 -- The numbers of the open pools, as the code keeps them.
-use Rattle.std.proofs.Common.{◌≡◌, ℕ, ◌+◌, ◌<◌, ◌≤◌, ◌++◌, ◌∷◌, [], List, length, insert, arith, ap, sym, ◌∙◌, subst, slice_set, nat_eq, true, false, inl, inr, eqb-true, Some, slice_get}
-use Rattle.std.proofs.lemmas.List.{length-map, map-append, map-set}
-use Rattle.std.proofs.lemmas.Bool.{cases_Bool, eqb-false}
-use Rattle.std.proofs.lemmas.Option.{slice_get-map}
-use Rattle.std.specs.Prelude.{option_map}
-use Rattle.std.specs.List.Sorted.{IsPartitionPoint}
-use Rattle.gpu_descriptor.specs.declared.bucket.DescriptorPool.{DescriptorPool}
+use Rattle.gpu_descriptor.proofs.Common.{◌≡◌, ℕ, ◌+◌, ◌<◌, ◌≤◌, ◌++◌, ◌∷◌, [], List, length, insert, arith, ap, sym, ◌∙◌, subst, slice_set, nat_eq, true, false, inl, inr, eqb-true, Some, slice_get, length-map, map-append, map-set, cases_Bool, eqb-false, slice_get-map, option_map, IsPartitionPoint, DescriptorPool}
 use Rattle.gpu_descriptor.specs.Inner.OpenNumbers.{free_in, open_numbers, IsEntered}
 use Rattle.gpu_descriptor.proofs.lists.OpenNumbers.{IsNewestOpen, open_few, open_few_at, open_push_none, open_push_some, open_set_open, open_gains, open_closes}
 

@@ -1,8 +1,5 @@
 -- How the list of open pools changes with the pools.
-use Rattle.std.proofs.Common.{ℕ, zero, suc, ◌+◌, ◌<◌, ◌≤◌, ◌≡◌, List, [], ◌∷◌, ◌++◌, length, take, drop, get_or, slice_set, insert, arith, refl, sym, ap, ◌∙◌, subst, slice_get, Some}
-use Rattle.std.proofs.lemmas.List.{append-nil, set_split}
-use Rattle.std.specs.List.Sorted.{IsNonDecreasing, IsPartitionPoint}
-use Rattle.std.proofs.lemmas.Option.{slice_get_within}
+use Rattle.gpu_descriptor.proofs.Common.{ℕ, zero, suc, ◌+◌, ◌<◌, ◌≤◌, ◌≡◌, List, [], ◌∷◌, ◌++◌, length, take, drop, get_or, slice_set, insert, arith, refl, sym, ap, ◌∙◌, subst, slice_get, Some, append-nil, set_split, IsNonDecreasing, IsPartitionPoint, slice_get_within}
 use Rattle.gpu_descriptor.specs.Inner.OpenNumbers.{open_numbers}
 use Rattle.gpu_descriptor.proofs.lists.AtPlaces.{get_drop, long_take, split_at}
 

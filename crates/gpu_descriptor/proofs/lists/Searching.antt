@@ -1,8 +1,5 @@
 -- How far a binary search has come.
-use Rattle.std.proofs.Common.{ℕ, zero, suc, ◌+◌, ◌-◌, ◌/◌, ◌^◌, ◌<◌, ◌≤◌, ◌≡◌, List, length, get_or, nat_lt, true, false, arith, ltb-true, ltb-false}
-use Rattle.std.proofs.lemmas.List.{get_or_default}
-use Rattle.std.specs.List.{AllWithin}
-use Rattle.std.specs.List.Sorted.{IsNonDecreasing}
+use Rattle.gpu_descriptor.proofs.Common.{ℕ, zero, suc, ◌+◌, ◌-◌, ◌/◌, ◌^◌, ◌<◌, ◌≤◌, ◌≡◌, List, length, get_or, nat_lt, true, false, arith, ltb-true, ltb-false, get_or_default, AllWithin, IsNonDecreasing}
 use Rattle.gpu_descriptor.specs.Caller.Comparisons.{binary_digits}
 use Rattle.gpu_descriptor.proofs.release.Digits.{digits_enough, twice}
 

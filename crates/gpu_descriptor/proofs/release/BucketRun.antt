@@ -1,16 +1,5 @@
 -- Giving one run back to a stored bucket.
-use Rattle.std.proofs.Common.{◌≡◌, ℕ, zero, suc, ◌+◌, ◌-◌, ◌<◌, ◌≤◌, List, [], ◌∷◌, length, map, sum_by, set, get_or, slice_get, Option, Some, option_map, inl, inr, refl, sym, ap, ◌∙◌, arith}
-use Rattle.std.specs.Prelude.{IfSome}
-use Rattle.std.proofs.lemmas.Bool.{cases_Bool}
-use Rattle.std.proofs.lemmas.Option.{slice_get_within, slice_get-map, slice_get_read}
-use Rattle.std.proofs.lemmas.List.{length-map}
-use Rattle.std.proofs.lemmas.List.Sums.{sum_by-cons}
-use Rattle.gpu_descriptor_types.specs.Flags.{CanFree}
-use Rattle.gpu_descriptor_types.specs.Ledger.{Pool, live_sets}
-use Rattle.gpu_descriptor_types.specs.Multiset.{LiveSet, times, AreIn}
-use Rattle.gpu_descriptor.specs.declared.bucket.DescriptorPool.{DescriptorPool}
-use Rattle.gpu_descriptor.specs.Model.Agreement.{live_in, flags_of, IsAsBooked}
-use Rattle.gpu_descriptor.specs.Model.Books.{Key, Entry, Bucket}
+use Rattle.gpu_descriptor.proofs.Common.{◌≡◌, ℕ, zero, suc, ◌+◌, ◌-◌, ◌<◌, ◌≤◌, List, [], ◌∷◌, length, map, sum_by, set, get_or, slice_get, Option, Some, option_map, inl, inr, refl, sym, ap, ◌∙◌, arith, IfSome, cases_Bool, slice_get_within, slice_get-map, slice_get_read, length-map, sum_by-cons, CanFree, Pool, live_sets, LiveSet, times, AreIn, DescriptorPool, live_in, flags_of, IsAsBooked, Key, Entry, Bucket, ∥∥₁_elim, ∥∥₁_map, props}
 use Rattle.gpu_descriptor.specs.Inner.Buckets.{AreBookedIn}
 use Rattle.gpu_descriptor.specs.Inner.Releases.{IsTakenAt}
 use Rattle.gpu_descriptor.specs.Model.Release.{entry_less, pool_less}
@@ -19,8 +8,6 @@ use Rattle.gpu_descriptor.proofs.foreign.LedgerPools.{taken_from, with_pool_same
 use Rattle.gpu_descriptor.proofs.table.Exact.{bucket}
 use Rattle.gpu_descriptor.proofs.release.Fronts.{entry_at-found}
 use Rattle.gpu_descriptor.proofs.lists.AtPlaces.{set_got}
-use Rattle.std.proofs.Math.Logic.{∥∥₁_elim, ∥∥₁_map}
-use Rattle.std.proofs.Props.{props}
 
 -- a place that was read
 pub read_at : {P : Type 0} (name : P → ℕ) (items : List (DescriptorPool P)) (i : ℕ) (q : DescriptorPool P) → i < length items → q ≡ get_or items i q → slice_get (map (entry_of name) items) i ≡ Some (entry_of name q)

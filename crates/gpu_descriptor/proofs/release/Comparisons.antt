@@ -1,11 +1,5 @@
 -- What comparisons the runs of a list may take: a run more adds the digits at its first set.
-use Rattle.std.proofs.Common.{◌≡◌, ℕ, zero, suc, ◌+◌, Bool, true, false, List, [], ◌∷◌, ◌++◌, map, length, count_by, refl, sym, ap, ◌∙◌, arith, append_assoc, lt-ltb}
-use Rattle.std.proofs.lemmas.List.{append-nil}
-use Rattle.std.specs.Prelude.{nat_lt, if◌then◌else◌}
-use Rattle.gpu_descriptor_types.proofs.Counting.{count_by_no, count_by_yes}
-use Rattle.gpu_descriptor.specs.declared.bucket.DescriptorPool.{DescriptorPool}
-use Rattle.gpu_descriptor.specs.Model.Agreement.{State, Item}
-use Rattle.gpu_descriptor.specs.Model.Books.{Entry}
+use Rattle.gpu_descriptor.proofs.Common.{◌≡◌, ℕ, zero, suc, ◌+◌, Bool, true, false, List, [], ◌∷◌, ◌++◌, map, length, count_by, refl, sym, ap, ◌∙◌, arith, append_assoc, lt-ltb, append-nil, nat_lt, if◌then◌else◌, count_by_no, count_by_yes, DescriptorPool, State, Item, Entry}
 use Rattle.gpu_descriptor.specs.Caller.Comparisons.{digits_at, digits_behind, run_digits}
 use Rattle.gpu_descriptor.specs.Inner.OpenNumbers.{open_numbers, free_in}
 use Rattle.gpu_descriptor.specs.Model.Runs.{is_beside, breaks, runs}

@@ -1,18 +1,7 @@
 -- What the loop over the runs keeps.
-use Rattle.std.proofs.Common.{◌≡◌, ◌≤◌, ℕ, ◌+◌, ◌<◌, true, false, ◌&&◌, ◌==◌, List, [], ◌∷◌, ◌++◌, sum_by, refl, sym, ap, subst, ◌∙◌, arith, append_assoc, append-nil, length-append, eq-eqb, Option, Some, None, MatchOption, OnSome, IfSome, eqb-true}
-use Rattle.std.specs.Iterator.{Count, HoldsAlong, IsFinite, IsNearerEnd, MakesProgress, size, Yields, YieldsThen}
+use Rattle.gpu_descriptor.proofs.Common.{◌≡◌, ◌≤◌, ℕ, ◌+◌, ◌<◌, true, false, ◌&&◌, ◌==◌, List, [], ◌∷◌, ◌++◌, sum_by, refl, sym, ap, subst, ◌∙◌, arith, append_assoc, append-nil, length-append, eq-eqb, Option, Some, None, MatchOption, OnSome, IfSome, eqb-true, Count, HoldsAlong, IsFinite, IsNearerEnd, MakesProgress, size, Yields, YieldsThen, and_parts, and_from, map-append, sum_by-append, side, Meaning, Counters, Ledger, bool_iff, DescriptorSet, State, Item, AreOutstanding, Agree, count_of, Key, key_eq, Allocations}
 use Rattle.std.proofs.iter.Next.{Yields-more}
-use Rattle.std.proofs.lemmas.Bool.{and_parts, and_from}
-use Rattle.std.proofs.lemmas.List.{map-append}
-use Rattle.std.proofs.lemmas.List.Sums.{sum_by-append}
-use Rattle.gpu_descriptor_types.specs.Side.{side}
-use Rattle.gpu_descriptor_types.specs.Meaning.{Meaning}
-use Rattle.gpu_descriptor_types.specs.Ledger.{Counters, Ledger}
-use Rattle.gpu_descriptor_types.proofs.Counting.{bool_iff}
 use Rattle.gpu_descriptor.specs.Model.Load.{marked_load}
-use Rattle.gpu_descriptor.specs.declared.set.DescriptorSet.{DescriptorSet}
-use Rattle.gpu_descriptor.specs.Model.Agreement.{State, Item, AreOutstanding, Agree, count_of}
-use Rattle.gpu_descriptor.specs.Model.Books.{Key, key_eq}
 use Rattle.gpu_descriptor.specs.Model.Release.{more_released, more_destroyed, released, given_back, pools_gone}
 use Rattle.gpu_descriptor.specs.Caller.Comparisons.{open_pools, run_digits, binary_digits}
 use Rattle.gpu_descriptor.specs.Caller.Frees.{GivesBack, Frees}
@@ -21,7 +10,6 @@ use Rattle.gpu_descriptor.specs.Model.Runs.{runs, breaks}
 use Rattle.gpu_descriptor.specs.Caller.Sets.{item_of, items_of}
 use Rattle.gpu_descriptor.specs.Inner.RunSteps.{lies_at, AllPass}
 use Rattle.gpu_descriptor.specs.Caller.States.{state_of, keys_of}
-use Rattle.gpu_descriptor.specs.Caller.Values.{Allocations}
 use Rattle.gpu_descriptor.proofs.release.Comparisons.{run_digits_more}
 use Rattle.gpu_descriptor.proofs.cleanup.Counted.{gone}
 use Rattle.gpu_descriptor.proofs.table.Exact.{key_exact}

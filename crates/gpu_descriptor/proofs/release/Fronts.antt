@@ -1,10 +1,5 @@
 -- The front of a bucket: what giving back does to it, and which places keep their pools when it goes.
-use Rattle.std.proofs.Common.{◌≡◌, ℕ, zero, suc, ◌+◌, ◌-◌, ◌<◌, ◌≤◌, true, false, min, List, [], ◌∷◌, length, map, drop, slice_get, Option, Some, None, inl, inr, refl, sym, ap, ◌∙◌, subst, arith, eqb-true, eq-eqb, lt-ltb, le-ltb, drop-drop}
-use Rattle.std.specs.List.{prefix_len}
-use Rattle.std.proofs.lemmas.Bool.{cases_Bool, cases_lt}
-use Rattle.std.proofs.lemmas.List.{drop-map}
-use Rattle.std.proofs.lemmas.List.Sums.{prefix_len-le-length}
-use Rattle.gpu_descriptor.specs.Model.Books.{Entry, Bucket, entry_at}
+use Rattle.gpu_descriptor.proofs.Common.{◌≡◌, ℕ, zero, suc, ◌+◌, ◌-◌, ◌<◌, ◌≤◌, true, false, min, List, [], ◌∷◌, length, map, drop, slice_get, Option, Some, None, inl, inr, refl, sym, ap, ◌∙◌, subst, arith, eqb-true, eq-eqb, lt-ltb, le-ltb, drop-drop, prefix_len, cases_Bool, cases_lt, drop-map, prefix_len-le-length, Entry, Bucket, entry_at}
 use Rattle.gpu_descriptor.specs.Inner.Buckets.{front_but, trimmed_bucket}
 use Rattle.gpu_descriptor.specs.Model.Release.{entry_less, bucket_less, is_empty, empty_front, spent_front, without_front}
 use Rattle.gpu_descriptor.proofs.lists.AtPlaces.{get_drop}

@@ -1,24 +1,13 @@
 -- One run through a row that the table lends.
-use Rattle.std.proofs.Common.{◌≡◌, ℕ, ◌-◌, Bool, List, [], ◌∷◌, map, count_by, slice_get, Option, Some, None, IsSome, length, refl, sym, ap, subst, ◌∙◌}
-use Rattle.std.proofs.Math.Path.{fun_ext}
-use Rattle.std.specs.Map.{lookup, set_value}
-use Rattle.std.specs.Option.{option_map_or}
-use Rattle.gpu_descriptor_types.specs.Ledger.{Ledger, live_sets}
-use Rattle.gpu_descriptor.specs.declared.set.BucketKey.{BucketKey}
-use Rattle.gpu_descriptor.specs.declared.set.DescriptorSet.{DescriptorSet}
-use Rattle.gpu_descriptor.specs.declared.bucket.DescriptorBucket.{DescriptorBucket}
-use Rattle.gpu_descriptor.specs.Model.Agreement.{Agree, AreOutstanding}
-use Rattle.gpu_descriptor.specs.Model.Books.{Key, key_eq, Entry, Bucket, no_pools, books_of, HasDistinctKeys}
+use Rattle.gpu_descriptor.proofs.Common.{◌≡◌, ℕ, ◌-◌, Bool, List, [], ◌∷◌, map, count_by, slice_get, Option, Some, None, IsSome, length, refl, sym, ap, subst, ◌∙◌, fun_ext, lookup, set_value, option_map_or, Ledger, live_sets, BucketKey, DescriptorSet, DescriptorBucket, Agree, AreOutstanding, Key, key_eq, Entry, Bucket, no_pools, books_of, HasDistinctKeys, key_of, Allocations}
 use Rattle.gpu_descriptor.specs.Inner.Buckets.{AreBookedIn}
 use Rattle.gpu_descriptor.specs.Inner.Releases.{IsTakenAt, RunsInto, names_of, bucket_back}
 use Rattle.gpu_descriptor.specs.Model.Release.{more_destroyed, more_released, given_back, released, pools_gone}
 use Rattle.gpu_descriptor.specs.Caller.Comparisons.{open_pools}
-use Rattle.gpu_descriptor.specs.Caller.KeyOf.{key_of}
 use Rattle.gpu_descriptor.specs.Caller.Sets.{items_of}
 use Rattle.gpu_descriptor.specs.Caller.States.{named_row, state_of, keys_of}
 use Rattle.gpu_descriptor.specs.Inner.RunSteps.{AllPass, lies_at}
 use Rattle.gpu_descriptor.specs.Inner.Stored.{books_in, row_of, bucket_of}
-use Rattle.gpu_descriptor.specs.Caller.Values.{Allocations}
 use Rattle.gpu_descriptor.proofs.release.Fronts.{entry_at-found}
 use Rattle.gpu_descriptor.proofs.foreign.LedgerPools.{taken_from, release_pools}
 use Rattle.gpu_descriptor.proofs.table.TableBooks.{put_books, rows_in, looked_up, written, key_once, keys_are}

@@ -1,9 +1,6 @@
 -- What one look at the caller's iterator leaves.
-use Rattle.std.proofs.Common.{◌≡◌, ℕ, ◌+◌, ◌<◌, ◌^◌, Bool, true, false, [], ◌∷◌, length, refl, sym, ap, ◌∙◌, subst, arith, Option, Some, None}
+use Rattle.gpu_descriptor.proofs.Common.{◌≡◌, ℕ, ◌+◌, ◌<◌, ◌^◌, Bool, true, false, [], ◌∷◌, length, refl, sym, ap, ◌∙◌, subst, arith, Option, Some, None, Count, IsFinite, size, option_len, DescriptorSet}
 use Rattle.std.specs.Bool.{MatchBool}
-use Rattle.std.specs.Iterator.{Count, IsFinite, size}
-use Rattle.std.specs.Option.{option_len}
-use Rattle.gpu_descriptor.specs.declared.set.DescriptorSet.{DescriptorSet}
 use Rattle.gpu_descriptor.specs.declared.bucket.run.Run.{Run}
 use Rattle.gpu_descriptor.specs.Inner.RunSteps.{at_place, CountsFrom, AllPass, Looks, RunStep}
 

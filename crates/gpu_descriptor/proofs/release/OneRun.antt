@@ -1,15 +1,6 @@
 -- One run: what the device may take of the caller's iterator, and what it took.
-use Rattle.std.proofs.Common.{◌≡◌, ℕ, ◌+◌, ◌-◌, ◌≤◌, true, List, [], ◌∷◌, length, map, slice_get, refl, sym, ap, subst, ◌∙◌, arith, eq-eqb, Option, Some, None, OnSome}
-use Rattle.std.specs.Iterator.{Count, HoldsAlong, IsFinite, IsNearerEnd, Yields, YieldsThen}
-use Rattle.std.proofs.lemmas.Bool.{and_from}
-use Rattle.std.proofs.lemmas.List.{length-map}
-use Rattle.gpu_descriptor_types.specs.Ledger.{Pool, Ledger, AreLive, live_sets}
-use Rattle.gpu_descriptor_types.specs.Flags.{CanFree}
-use Rattle.gpu_descriptor_types.specs.Multiset.{LiveSet}
-use Rattle.gpu_descriptor.specs.declared.set.DescriptorSet.{DescriptorSet}
+use Rattle.gpu_descriptor.proofs.Common.{◌≡◌, ℕ, ◌+◌, ◌-◌, ◌≤◌, true, List, [], ◌∷◌, length, map, slice_get, refl, sym, ap, subst, ◌∙◌, arith, eq-eqb, Option, Some, None, OnSome, Count, HoldsAlong, IsFinite, IsNearerEnd, Yields, YieldsThen, and_from, length-map, Pool, Ledger, AreLive, live_sets, CanFree, LiveSet, DescriptorSet, live_in, Key, Entry, Bucket}
 use Rattle.gpu_descriptor.specs.declared.bucket.run.Run.{Run}
-use Rattle.gpu_descriptor.specs.Model.Agreement.{live_in}
-use Rattle.gpu_descriptor.specs.Model.Books.{Key, Entry, Bucket}
 use Rattle.gpu_descriptor.specs.Inner.Buckets.{AreBookedIn}
 use Rattle.gpu_descriptor.specs.Inner.Releases.{IsTakenAt, names_of}
 use Rattle.gpu_descriptor.specs.Inner.RunSteps.{at_place, RunStep, CountsFrom, EndsRun, AllPass}

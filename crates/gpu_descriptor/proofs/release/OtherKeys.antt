@@ -1,13 +1,5 @@
 -- Giving sets back leaves the keys of which none of them is.
-use Rattle.std.proofs.Common.{◌≡◌, ℕ, ◌+◌, ◌-◌, ◌&&◌, Bool, true, false, List, [], ◌∷◌, count_by, Some, None, option_map, slice_get, refl, sym, ap, ◌∙◌, arith}
-use Rattle.std.proofs.Math.Path.{fun_ext}
-use Rattle.std.proofs.lemmas.Bool.{and_parts, or_parts, or_from, false_from_ne_true}
-use Rattle.std.specs.List.{list_any}
-use Rattle.std.specs.Prelude.{if◌then◌else◌}
-use Rattle.gpu_descriptor_types.proofs.Counting.{count_by_no}
-use Rattle.gpu_descriptor_types.specs.Multiset.{LiveSet, set_eq}
-use Rattle.gpu_descriptor.specs.Model.Agreement.{State, Item, Agree, set_of}
-use Rattle.gpu_descriptor.specs.Model.Books.{Key, key_eq, Bucket, Entry, entry_at}
+use Rattle.gpu_descriptor.proofs.Common.{◌≡◌, ℕ, ◌+◌, ◌-◌, ◌&&◌, Bool, true, false, List, [], ◌∷◌, count_by, Some, None, option_map, slice_get, refl, sym, ap, ◌∙◌, arith, fun_ext, and_parts, or_parts, or_from, false_from_ne_true, list_any, if◌then◌else◌, count_by_no, LiveSet, set_eq, State, Item, Agree, set_of, Key, key_eq, Bucket, Entry, entry_at}
 use Rattle.gpu_descriptor.specs.Model.Promises.{IsUntouched}
 use Rattle.gpu_descriptor.specs.Model.Release.{given_back, released, spent_front, in_front, lies_in, pool_less}
 use Rattle.gpu_descriptor.proofs.table.Exact.{key_exact}

@@ -1,21 +1,8 @@
 -- The row of a set that is out: its key's, and the only one with its id.
-use Rattle.std.proofs.Common.{◌≡◌, ◌⊎◌, ◌<◌, ℕ, suc, true, false, List, [], ◌∷◌, ◌++◌, slice_get, Option, Some, None, IfSome, inl, inr, refl, sym, ap, subst, ◌∙◌, arith, eq-eqb, eqb-true, map, nat_eq}
-use Rattle.std.specs.Map.{lookup}
-use Rattle.std.specs.Option.{option_map_or}
-use Rattle.std.specs.Iterator.{HoldsAlong}
+use Rattle.gpu_descriptor.proofs.Common.{◌≡◌, ◌⊎◌, ◌<◌, ℕ, suc, true, false, List, [], ◌∷◌, ◌++◌, slice_get, Option, Some, None, IfSome, inl, inr, refl, sym, ap, subst, ◌∙◌, arith, eq-eqb, eqb-true, map, nat_eq, lookup, option_map_or, HoldsAlong, cases_Bool, and_from, and_parts, false_from_ne_true, Ledger, count_by_yes, BucketKey, DescriptorSet, DescriptorBucket, AreOutstanding, Item, State, item_eq, outstanding, Bucket, Key, entry_at, no_pools, key_of, Allocations}
 use Rattle.std.proofs.iter.Next.{Yields-more}
-use Rattle.std.proofs.lemmas.Bool.{cases_Bool, and_from, and_parts, false_from_ne_true}
-use Rattle.gpu_descriptor_types.specs.Ledger.{Ledger}
-use Rattle.gpu_descriptor_types.proofs.Counting.{count_by_yes}
-use Rattle.gpu_descriptor.specs.declared.set.BucketKey.{BucketKey}
-use Rattle.gpu_descriptor.specs.declared.set.DescriptorSet.{DescriptorSet}
-use Rattle.gpu_descriptor.specs.declared.bucket.DescriptorBucket.{DescriptorBucket}
-use Rattle.gpu_descriptor.specs.Model.Agreement.{AreOutstanding, Item, State, item_eq, outstanding}
-use Rattle.gpu_descriptor.specs.Model.Books.{Bucket, Key, entry_at, no_pools}
-use Rattle.gpu_descriptor.specs.Caller.KeyOf.{key_of}
 use Rattle.gpu_descriptor.specs.Caller.Sets.{item_of, items_of}
 use Rattle.gpu_descriptor.specs.Caller.States.{state_of}
-use Rattle.gpu_descriptor.specs.Caller.Values.{Allocations}
 use Rattle.gpu_descriptor.specs.Inner.Ids.{is_of, rise_below, stored_ids}
 use Rattle.gpu_descriptor.specs.Inner.RunSteps.{EndsRun, AllPass, at_place, lies_at}
 use Rattle.gpu_descriptor.specs.Inner.Stored.{bucket_of, row_of}

@@ -1,21 +1,8 @@
 -- Which places of the books keep their pools when sets go back: those that still have a set out.
-use Rattle.std.proofs.Common.{◌≡◌, ℕ, suc, ◌+◌, ◌-◌, ◌<◌, ◌≤◌, Bool, true, false, cond, ltb, ◌&&◌, ◌==◌, List, [], ◌∷◌, length, map, filter, count_by, Option, Some, None, option_map, inl, inr, refl, sym, ap, ◌∙◌, arith, eqb-true, eq-eqb, ne_eqb}
-use Rattle.std.specs.Option.{option_map_or}
-use Rattle.std.specs.List.{list_any}
-use Rattle.std.proofs.lemmas.Bool.{cases_Bool, cases_lt, false_from_ne_true, and_parts, and_from}
-use Rattle.std.proofs.lemmas.List.{length-map}
-use Rattle.std.proofs.lemmas.List.Sums.{length-filter, count_by-le-length}
-use Rattle.std.proofs.lemmas.Option.{slice_get-map}
-use Rattle.gpu_descriptor.specs.Model.Agreement.{set_of, State, Item, item_eq, count_of, live_in, outstanding, AreOutstanding, HasSize, Agree, live_at}
-use Rattle.gpu_descriptor.specs.Model.Books.{Key, key_eq, Entry, Bucket, entry_at, no_pools}
+use Rattle.gpu_descriptor.proofs.Common.{◌≡◌, ℕ, suc, ◌+◌, ◌-◌, ◌<◌, ◌≤◌, Bool, true, false, cond, ltb, ◌&&◌, ◌==◌, List, [], ◌∷◌, length, map, filter, count_by, Option, Some, None, option_map, inl, inr, refl, sym, ap, ◌∙◌, arith, eqb-true, eq-eqb, ne_eqb, option_map_or, list_any, cases_Bool, cases_lt, false_from_ne_true, and_parts, and_from, length-map, length-filter, count_by-le-length, slice_get-map, set_of, State, Item, item_eq, count_of, live_in, outstanding, AreOutstanding, HasSize, Agree, live_at, Key, key_eq, Entry, Bucket, entry_at, no_pools, Pool, LiveSet, set_eq, bool_iff, count_by_alike, count_by_none, set_exact, count_by_yes, count_by_no, all_taken_out, ∥∥₁_elim, ∥∥₁_map, props}
 use Rattle.gpu_descriptor.specs.Model.Release.{lies_in, entry_less, bucket_less, is_empty, empty_front, spent_front, without_front, released}
-use Rattle.gpu_descriptor_types.specs.Ledger.{Pool}
-use Rattle.gpu_descriptor_types.specs.Multiset.{LiveSet, set_eq}
 use Rattle.gpu_descriptor.proofs.release.Fronts.{entry_at-found, entry_at-without, entry_at-kept}
-use Rattle.gpu_descriptor_types.proofs.Counting.{bool_iff, count_by_alike, count_by_none, set_exact, count_by_yes, count_by_no, all_taken_out}
 use Rattle.gpu_descriptor.proofs.table.Exact.{item_exact, item_parts, item_from}
-use Rattle.std.proofs.Math.Logic.{∥∥₁_elim, ∥∥₁_map}
-use Rattle.std.proofs.Props.{props}
 
 -- how many sets go back to a pool, and how many of a name
 abbrev pub back : List Item → State → ℕ → ℕ

@@ -1,17 +1,7 @@
 -- What giving back keeps: agreement, and what is outstanding but for the sets given.
-use Rattle.std.proofs.Common.{◌≡◌, ℕ, ◌+◌, ◌-◌, ◌<◌, ◌≤◌, Bool, true, false, ltb, ◌&&◌, ◌==◌, List, [], ◌∷◌, ◌++◌, flat_map, map, length, take, drop, count_by, slice_get, Option, Some, None, option_map, ◌⊎◌, inl, inr, refl, sym, ap, ◌∙◌, subst, arith, eqb-true, length-drop}
-use Rattle.std.specs.Prelude.{if◌then◌else◌}
-use Rattle.std.proofs.Math.Path.{fun_ext}
-use Rattle.std.specs.List.{list_any}
-use Rattle.std.proofs.lemmas.Bool.{cases_Bool, cases_lt, and_parts, false_from_ne_true}
-use Rattle.std.proofs.lemmas.List.{length-map}
-use Rattle.gpu_descriptor.specs.Model.Agreement.{set_of, State, Item, item_eq, count_of, outstanding, AreOutstanding, IsAsBooked, Agree, live_at}
-use Rattle.gpu_descriptor.specs.Model.Books.{Key, key_eq, Entry, Bucket, entry_at}
+use Rattle.gpu_descriptor.proofs.Common.{◌≡◌, ℕ, ◌+◌, ◌-◌, ◌<◌, ◌≤◌, Bool, true, false, ltb, ◌&&◌, ◌==◌, List, [], ◌∷◌, ◌++◌, flat_map, map, length, take, drop, count_by, slice_get, Option, Some, None, option_map, ◌⊎◌, inl, inr, refl, sym, ap, ◌∙◌, subst, arith, eqb-true, length-drop, if◌then◌else◌, fun_ext, list_any, cases_Bool, cases_lt, and_parts, false_from_ne_true, length-map, set_of, State, Item, item_eq, count_of, outstanding, AreOutstanding, IsAsBooked, Agree, live_at, Key, key_eq, Entry, Bucket, entry_at, Pool, LiveSet, set_eq, counts_alike, count_by-append, list_any-count_by}
 use Rattle.gpu_descriptor.specs.Model.Release.{lies_in, entry_less, bucket_less, pool_less, given_back, spent_front, without_front, in_front, fronts_gone, released, singly, released_each}
-use Rattle.gpu_descriptor_types.specs.Ledger.{Pool}
-use Rattle.gpu_descriptor_types.specs.Multiset.{LiveSet, set_eq}
 use Rattle.gpu_descriptor.proofs.release.Fronts.{entry_at-from}
-use Rattle.gpu_descriptor_types.proofs.Counting.{counts_alike, count_by-append, list_any-count_by}
 use Rattle.gpu_descriptor.proofs.lists.AtPlaces.{found_before}
 use Rattle.gpu_descriptor.proofs.table.Exact.{item_exact}
 use Rattle.gpu_descriptor.proofs.release.Places.{outstanding_found, back, back_named, back_named-is, part_fits, size_less, outstanding_at, entry_at-less, some_before, front_of, released_books, was_there, kept}

@@ -1,7 +1,5 @@
 -- What a whole run took of the caller's iterator.
-use Rattle.std.proofs.Common.{ap, ◌≡◌, ℕ, ◌+◌, ◌≤◌, List, [], ◌∷◌, length, map, Bool, true, false, refl, sym, subst, ◌∙◌, arith, Option, Some, None, MatchOption, MatchBool}
-use Rattle.std.specs.Iterator.{Count, IsFinite, size, MakesProgress, Yields, YieldsThen}
-use Rattle.gpu_descriptor.specs.declared.set.DescriptorSet.{DescriptorSet}
+use Rattle.gpu_descriptor.proofs.Common.{ap, ◌≡◌, ℕ, ◌+◌, ◌≤◌, List, [], ◌∷◌, length, map, Bool, true, false, refl, sym, subst, ◌∙◌, arith, Option, Some, None, MatchOption, MatchBool, Count, IsFinite, size, MakesProgress, Yields, YieldsThen, DescriptorSet}
 use Rattle.gpu_descriptor.specs.declared.bucket.run.Run.{Run}
 use Rattle.gpu_descriptor.specs.Inner.RunSteps.{at_place, AllPass, Looks, Hands, RunStep}
 

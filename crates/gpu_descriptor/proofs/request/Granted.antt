@@ -1,14 +1,10 @@
 -- What was taken from one key's pools is what the definitions say of the whole.
-use Rattle.std.proofs.Common.{◌≡◌, ℕ, ◌-◌, List, Option, Ok, sym, ap, ◌∙◌, subst}
-use Rattle.gpu_descriptor.specs.Model.Agreement.{State, Item, with_bucket}
-use Rattle.gpu_descriptor.specs.Model.Books.{Key, Bucket}
+use Rattle.gpu_descriptor.proofs.Common.{◌≡◌, ℕ, ◌-◌, List, Option, Ok, sym, ap, ◌∙◌, subst, State, Item, with_bucket, Key, Bucket, Pool, Ledger, Stop}
 use Rattle.gpu_descriptor.specs.Model.Grants.{Grant, IsGrantOf, granted, ledger_with}
 use Rattle.gpu_descriptor.specs.Inner.Grow.{IsTaken}
 use Rattle.gpu_descriptor.specs.Inner.Walk.{IsRefused}
 use Rattle.gpu_descriptor.specs.Model.Outcomes.{Call, IsDone, risen, grant_rise, stop_rise}
 use Rattle.gpu_descriptor.specs.Inner.Walk.{HasTaken}
-use Rattle.gpu_descriptor_types.specs.Ledger.{Pool, Ledger}
-use Rattle.gpu_descriptor.specs.declared.bucket.take.Stop.{Stop}
 
 pub granted_is : (k : Key) (n : ℕ) (g : Grant) (s : State) (items : List Item) (b : Bucket) (l m : Ledger) → s.ledger ≡ l.pools → HasTaken k n g items (s.books k) b l m → with_bucket k b m.pools s ≡ granted k n g s
 granted_is k n g s items b l m same taken = λ i. with_bucket k (taken.bucket i) ((taken.pools ∙ ap (ledger_with k g) (sym same)) i) s

@@ -1,17 +1,8 @@
 -- The new pools of a request, as far as it has come.
-use Rattle.std.proofs.Common.{◌≡◌, ◌≢◌, ℕ, zero, suc, take, drop, ◌+◌, ◌-◌, ◌<◌, inl, inr, List, [], ◌∷◌, ◌++◌, length, map, Bool, true, false, cond, ◌||◌, ◌==◌, nat_eq, Option, Some, None, Ok, Err, refl, sym, ap, ◌∙◌, subst, arith, eqb-true, eq-eqb, append_assoc, length-append}
-use Rattle.std.proofs.Math.Path.{fun_ext}
-use Rattle.std.proofs.lemmas.Bool.{cases_Bool, eqb-false}
-use Rattle.std.proofs.lemmas.List.{map-append, append-nil, length-map}
+use Rattle.gpu_descriptor.proofs.Common.{◌≡◌, ◌≢◌, ℕ, zero, suc, take, drop, ◌+◌, ◌-◌, ◌<◌, inl, inr, List, [], ◌∷◌, ◌++◌, length, map, Bool, true, false, cond, ◌||◌, ◌==◌, nat_eq, Option, Some, None, Ok, Err, refl, sym, ap, ◌∙◌, subst, arith, eqb-true, eq-eqb, append_assoc, length-append, fun_ext, cases_Bool, eqb-false, map-append, append-nil, length-map, sum_by-cons, sum_by-append, list_any, update, if◌then◌else◌, option_map, Item, flags_of, Key, Entry, Bucket, Pool, Ledger, live_sets, changed, no_rise, pool_counts, Stop}
 use Rattle.std.proofs.lemmas.Grind.{flat_map-append}
-use Rattle.std.proofs.lemmas.List.Sums.{sum_by-cons, sum_by-append}
 use Rattle.std.proofs.lemmas.List.Folds.{list_any-append}
 use Rattle.std.proofs.lemmas.Map.{update_here}
-use Rattle.std.specs.List.{list_any}
-use Rattle.std.specs.Map.{update}
-use Rattle.std.specs.Prelude.{if◌then◌else◌, option_map}
-use Rattle.gpu_descriptor.specs.Model.Agreement.{Item, flags_of}
-use Rattle.gpu_descriptor.specs.Model.Books.{Key, Entry, Bucket}
 use Rattle.gpu_descriptor.specs.Model.FreshPools.{Fresh, fresh_portions, fresh_entry, given_by, IsNextSize, room_after, AreSized, AreFull, AreNew, IsFreshFront, IsFreshList}
 use Rattle.gpu_descriptor.specs.Model.Grants.{Grant, Part, items_at, items_in, portion_of, came, pool_with, ledger_with, fresh_or}
 use Rattle.gpu_descriptor.specs.Inner.Grow.{IsGrown, IsTaken}
@@ -22,11 +13,8 @@ use Rattle.gpu_descriptor.specs.Model.Outcomes.{risen, grant_rise, NoneIsNew, St
 use Rattle.gpu_descriptor.specs.Model.Shares.{offer, rest, share, shared, all_shared, Portion, portions_of}
 use Rattle.gpu_descriptor.specs.Inner.Buckets.{AreBookedIn}
 use Rattle.gpu_descriptor.specs.Inner.Walk.{HasTaken, KeepsKey, IsWalked}
-use Rattle.gpu_descriptor_types.specs.Ledger.{Pool, Ledger, live_sets, changed, no_rise}
-use Rattle.gpu_descriptor_types.specs.PoolSize.{pool_counts}
 use Rattle.gpu_descriptor_types.specs.Ledger as ledgers
 use Rattle.gpu_descriptor.specs.Model.FreshPools as grants
-use Rattle.gpu_descriptor.specs.declared.bucket.take.Stop.{Stop}
 use Rattle.gpu_descriptor.proofs.request.NextSize.{room_more}
 use Rattle.gpu_descriptor.proofs.table.Exact.{bucket}
 use Rattle.gpu_descriptor.proofs.request.StepsAgree.{keeps_grown}

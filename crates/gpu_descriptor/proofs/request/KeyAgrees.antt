@@ -1,23 +1,12 @@
 -- What a request takes of a key's pools leaves books and ledger of the key in agreement.
-use Rattle.std.proofs.Common.{◌≡◌, ◌≢◌, ℕ, zero, suc, ◌+◌, ◌-◌, ◌<◌, ◌≤◌, min, ◌==◌, ◌&&◌, ◌||◌, inl, inr, List, [], ◌∷◌, ◌++◌, length, slice_set, Bool, true, false, Option, Some, refl, sym, ap, ◌∙◌, arith, eqb-true, eq-eqb, length-append}
-use Rattle.std.proofs.lemmas.Bool.{cases_Bool, cases_lt}
-use Rattle.std.proofs.lemmas.List.{length-map}
-use Rattle.std.proofs.lemmas.List.Sums.{sum_by-cons}
+use Rattle.gpu_descriptor.proofs.Common.{◌≡◌, ◌≢◌, ℕ, zero, suc, ◌+◌, ◌-◌, ◌<◌, ◌≤◌, min, ◌==◌, ◌&&◌, ◌||◌, inl, inr, List, [], ◌∷◌, ◌++◌, length, slice_set, Bool, true, false, Option, Some, refl, sym, ap, ◌∙◌, arith, eqb-true, eq-eqb, length-append, cases_Bool, cases_lt, length-map, sum_by-cons, slice_get, list_any, if◌then◌else◌, Pool, Ledger, live_sets, changed, on_pool, LiveSet, set_eq, times, count_by_yes, count_by_no, set_exact, times-append, Key, key_eq, Entry, Item, item_eq, set_of, count_of, IsAsBooked, ∥∥₁_map}
 use Rattle.std.proofs.lemmas.Map.{update_here}
-use Rattle.std.specs.List.{slice_get, list_any}
-use Rattle.std.specs.Prelude.{if◌then◌else◌}
-use Rattle.gpu_descriptor_types.specs.Ledger.{Pool, Ledger, live_sets, changed, on_pool}
-use Rattle.gpu_descriptor_types.specs.Multiset.{LiveSet, set_eq, times}
-use Rattle.gpu_descriptor_types.proofs.Counting.{count_by_yes, count_by_no, set_exact, times-append}
-use Rattle.gpu_descriptor.specs.Model.Books.{Key, key_eq, Entry}
-use Rattle.gpu_descriptor.specs.Model.Agreement.{Item, item_eq, set_of, count_of, IsAsBooked}
 use Rattle.gpu_descriptor.specs.Model.Grants.{items_at, pool_with}
 use Rattle.gpu_descriptor.specs.Model.Load.{allocated_in}
 use Rattle.gpu_descriptor.specs.Inner.Buckets.{IsBookedIn}
 use Rattle.gpu_descriptor.specs.Inner.Walk.{IsAsked}
 use Rattle.gpu_descriptor.proofs.lists.AtPlaces.{none_at}
 use Rattle.gpu_descriptor.proofs.table.Exact.{item_exact, item_from}
-use Rattle.std.proofs.Math.Logic.{∥∥₁_map}
 
 -- a set that stands among sets of these counts has them
 pub counts_of_live : (counts names : List ℕ) (x : LiveSet) → 0 < times (live_sets counts names) x → x.counts ≡ counts

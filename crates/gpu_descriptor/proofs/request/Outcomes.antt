@@ -1,15 +1,5 @@
 -- A request that took sets is as the definitions say: kept whole, or given back.
-use Rattle.std.proofs.Math.Path.{fun_ext}
-use Rattle.std.proofs.Common.{◌≡◌, ◌≢◌, ℕ, ◌+◌, ◌-◌, ◌<◌, true, false, Some, List, [], ◌∷◌, length, map, slice_get, arith, Result, Ok, Err, refl, sym, ap, ◌∙◌, subst}
-use Rattle.std.proofs.lemmas.List.{length-map}
-use Rattle.gpu_descriptor_types.specs.Side.{side}
-use Rattle.gpu_descriptor_types.specs.Meaning.{Meaning}
-use Rattle.gpu_descriptor_types.specs.Ledger.{Ledger, no_rise}
-use Rattle.gpu_descriptor.specs.declared.errors.AllocationError.{AllocationError}
-use Rattle.gpu_descriptor.specs.declared.set.DescriptorSet.{DescriptorSet}
-use Rattle.gpu_descriptor.specs.declared.bucket.take.Stop.{Stop}
-use Rattle.gpu_descriptor.specs.Model.Agreement.{State, Item, Agree, AreOutstanding, outstanding, with_bucket}
-use Rattle.gpu_descriptor.specs.Model.Books.{Key, key_eq, Entry, Bucket, HasDistinctKeys, entry_at}
+use Rattle.gpu_descriptor.proofs.Common.{fun_ext, ◌≡◌, ◌≢◌, ℕ, ◌+◌, ◌-◌, ◌<◌, true, false, Some, List, [], ◌∷◌, length, map, slice_get, arith, Result, Ok, Err, refl, sym, ap, ◌∙◌, subst, length-map, side, Meaning, Ledger, no_rise, AllocationError, DescriptorSet, Stop, State, Item, Agree, AreOutstanding, outstanding, with_bucket, Key, key_eq, Entry, Bucket, HasDistinctKeys, entry_at, Allocations}
 use Rattle.gpu_descriptor.specs.Model.Foreign.{KeepsForeign, LosesNone}
 use Rattle.gpu_descriptor.specs.Caller.Others.{others_of}
 use Rattle.gpu_descriptor.specs.Model.FreshPools.{fresh_entry}
@@ -27,7 +17,6 @@ use Rattle.gpu_descriptor.specs.Inner.Serves.{Takes}
 use Rattle.gpu_descriptor.specs.Model.Runs.{runs}
 use Rattle.gpu_descriptor.specs.Caller.Sets.{item_of, items_of}
 use Rattle.gpu_descriptor.specs.Caller.States.{Agrees, state_of, table_of, keys_of, outstanding_of, marked_load_of, pool_load_of}
-use Rattle.gpu_descriptor.specs.Caller.Values.{Allocations}
 use Rattle.gpu_descriptor.specs.Inner.Walk.{KeepsKey, HasTaken}
 use Rattle.gpu_descriptor.proofs.request.StateAgrees.{keeps_agree, keeps_given, keeps_outstanding}
 use Rattle.gpu_descriptor.proofs.foreign.ForeignPools.{entries_named, taken_apart, taken_foreign, taken_loses, freed_foreign, freed_loses, foreign_through, loses_through}

@@ -1,17 +1,6 @@
 -- Known free places are room on the device.
-use Rattle.std.proofs.Common.{◌≡◌, ℕ, zero, suc, ◌+◌, ◌*◌, ◌<◌, ◌≤◌, inl, inr, List, [], ◌∷◌, length, map, Bool, true, false, slice_set, slice_index, refl, sym, ap, subst, arith, eqb-true}
-use Rattle.std.proofs.Math.Nat.{mul-le-mul_right}
-use Rattle.std.proofs.lemmas.Bool.{cases_Bool}
-use Rattle.std.proofs.lemmas.List.Sums.{sum_by-cons}
-use Rattle.std.specs.Prelude.{IfSome, IsTrue, sum, sum_by, ◌==◌, if◌then◌else◌}
-use Rattle.gpu_descriptor.specs.Model.Agreement.{flags_of}
-use Rattle.gpu_descriptor.specs.Model.Books.{Key, Entry}
+use Rattle.gpu_descriptor.proofs.Common.{◌≡◌, ℕ, zero, suc, ◌+◌, ◌*◌, ◌<◌, ◌≤◌, inl, inr, List, [], ◌∷◌, length, map, Bool, true, false, slice_set, slice_index, refl, sym, ap, subst, arith, eqb-true, mul-le-mul_right, cases_Bool, sum_by-cons, IfSome, IsTrue, sum, sum_by, ◌==◌, if◌then◌else◌, flags_of, Key, Entry, count_by_yes, count_by_no, set_exact, IsUpdateAfterBind, Pool, Ledger, HasRoom, IsFiniteLedger, LiveSet, Spells, set_eq, times, pool_counts}
 use Rattle.gpu_descriptor.specs.Inner.Buckets.{IsBookedIn}
-use Rattle.gpu_descriptor_types.proofs.Counting.{count_by_yes, count_by_no, set_exact}
-use Rattle.gpu_descriptor_types.specs.Flags.{IsUpdateAfterBind}
-use Rattle.gpu_descriptor_types.specs.Ledger.{Pool, Ledger, HasRoom, IsFiniteLedger}
-use Rattle.gpu_descriptor_types.specs.Multiset.{LiveSet, Spells, set_eq, times}
-use Rattle.gpu_descriptor_types.specs.PoolSize.{pool_counts}
 use Rattle.gpu_descriptor.proofs.sums.Sized.{listed}
 
 abbrev pub key_with : List ℕ → Bool → Key

@@ -1,27 +1,15 @@
 -- What every outcome of a request promises.
-use Rattle.std.proofs.Common.{◌≡◌, ◌≢◌, ℕ, suc, ◌+◌, ◌-◌, ◌*◌, ◌<◌, ◌≤◌, Bool, List, [], ◌∷◌, ◌++◌, map, length, drop, sum_by, inl, inr, Result, Ok, Err, refl, sym, ap, ◌∙◌, subst, arith}
-use Rattle.std.proofs.lemmas.List.{length-map, length-append}
-use Rattle.std.proofs.lemmas.List.Sums.{sum_by-cons, sum_by-append}
+use Rattle.gpu_descriptor.proofs.Common.{◌≡◌, ◌≢◌, ℕ, suc, ◌+◌, ◌-◌, ◌*◌, ◌<◌, ◌≤◌, Bool, List, [], ◌∷◌, ◌++◌, map, length, drop, sum_by, inl, inr, Result, Ok, Err, refl, sym, ap, ◌∙◌, subst, arith, length-map, length-append, sum_by-cons, sum_by-append, pool_size_floor, ◌↔◌, min, OnOk, IfErr, Counters, create_refused, alloc_refused, pool_refusals, no_rise, CreatePoolError, DeviceAllocationError, AllocationError, Stop, Item, Key, Entry, Bucket, next_number, cases_lt}
 use Rattle.gpu_descriptor_types.proofs.Sizes.{pool_size_some}
-use Rattle.gpu_descriptor_types.specs.PoolSize.{pool_size_floor}
-use Rattle.std.specs.Prelude.{◌↔◌, min, OnOk, IfErr}
-use Rattle.gpu_descriptor_types.specs.Ledger.{Counters, create_refused, alloc_refused, pool_refusals, no_rise}
-use Rattle.gpu_descriptor_types.specs.declared.errors.CreatePoolError.{CreatePoolError}
 use Rattle.gpu_descriptor_types.specs.declared.errors.CreatePoolError.TheVariants as create_error
-use Rattle.gpu_descriptor_types.specs.declared.errors.DeviceAllocationError.{DeviceAllocationError}
 use Rattle.gpu_descriptor_types.specs.declared.errors.DeviceAllocationError.TheVariants as alloc_error
-use Rattle.gpu_descriptor.specs.declared.errors.AllocationError.{AllocationError}
 use Rattle.gpu_descriptor.specs.declared.errors.AllocationError.TheVariants.{OutOfHostMemory, Fragmentation}
-use Rattle.gpu_descriptor.specs.declared.bucket.take.Stop.{Stop}
 use Rattle.gpu_descriptor.specs.declared.bucket.take.Stop.TheVariants.{Existing, Room, Books, Create, New}
-use Rattle.gpu_descriptor.specs.Model.Agreement.{Item}
-use Rattle.gpu_descriptor.specs.Model.Books.{Key, Entry, Bucket, next_number}
 use Rattle.gpu_descriptor.specs.Model.Outcomes.{error_of_alloc, Allocates, Call, IsBack, IsDone, IsStopped, StopsAt, out_then, stop_answer, stop_rise, wanting}
 use Rattle.gpu_descriptor.specs.Model.FreshPools.{Fresh, IsFreshFront, IsNextSize, room_after, AreSized, AreFull, IsFreshList, given_by, fresh_portions}
 use Rattle.gpu_descriptor.specs.Model.Grants.{Grant, Part, portion_of, items_at, items_in}
 use Rattle.gpu_descriptor.specs.Model.Outcomes.Allocates.{none, limit, bound, start, done, stopped}
 use Rattle.gpu_descriptor.specs.Model.FreshPools.IsFreshList.{none as no_fresh, some as some_fresh}
-use Rattle.std.proofs.lemmas.Bool.{cases_lt}
 use Rattle.gpu_descriptor.specs.Model.Promises.{AreBelowTwice, HasCause, IsShort, CreatesOnlyWhereShort}
 use Rattle.gpu_descriptor.specs.Model.Promises.IsFragmentation.{above_limit, past_bound, no_room_left, no_pool_created, new_pool_refused}
 use Rattle.gpu_descriptor.specs.Model.Promises.IsHostMemory.{device_refused, no_memory_at_start, no_memory_for_a_pool}

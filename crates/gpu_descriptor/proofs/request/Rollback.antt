@@ -1,15 +1,6 @@
 -- What giving the sets of a request back leaves, and how it raises the counters.
-use Rattle.std.proofs.Common.{◌+◌, ◌≡◌, ℕ, ◌<◌, true, false, List, [], ◌∷◌, map, sum_by, inl, inr, refl, sym, ap, ◌∙◌, arith, suc, length}
-use Rattle.std.proofs.Math.Path.{fun_ext}
-use Rattle.std.proofs.lemmas.Bool.{cases_Bool, or_parts, false_from_ne_true}
-use Rattle.std.proofs.lemmas.List.Sums.{sum_by-cons}
-use Rattle.std.specs.List.{list_any}
-use Rattle.std.specs.Prelude.{if◌then◌else◌}
-use Rattle.gpu_descriptor_types.proofs.Counting.{any_found, count_by_yes, count_by_no}
-use Rattle.gpu_descriptor_types.specs.Ledger.{Counters, no_rise}
+use Rattle.gpu_descriptor.proofs.Common.{◌+◌, ◌≡◌, ℕ, ◌<◌, true, false, List, [], ◌∷◌, map, sum_by, inl, inr, refl, sym, ap, ◌∙◌, arith, suc, length, fun_ext, cases_Bool, or_parts, false_from_ne_true, sum_by-cons, list_any, if◌then◌else◌, any_found, count_by_yes, count_by_no, Counters, no_rise, State, Item, item_eq, count_of, Agree, Key, key_eq, Bucket, BucketOf, books_of, no_pools, HasDistinctKeys}
 use Rattle.gpu_descriptor.specs.Model.Load.{marked_load}
-use Rattle.gpu_descriptor.specs.Model.Agreement.{State, Item, item_eq, count_of, Agree}
-use Rattle.gpu_descriptor.specs.Model.Books.{Key, key_eq, Bucket, BucketOf, books_of, no_pools, HasDistinctKeys}
 use Rattle.gpu_descriptor.specs.Model.Release.{more_released, more_destroyed, given_back, released, pools_gone, spent_front, bucket_less}
 use Rattle.gpu_descriptor.specs.Caller.Frees.{marked_descriptors}
 use Rattle.gpu_descriptor.specs.Model.Outcomes.{risen}

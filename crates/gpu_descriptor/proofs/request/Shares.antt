@@ -1,10 +1,5 @@
 -- The shares of the newer pools stay when an older pool is asked.
-use Rattle.std.proofs.Common.{◌≡◌, ◌≢◌, ℕ, zero, suc, ◌+◌, ◌-◌, inl, inr, List, [], ◌∷◌, Bool, true, false, ◌&&◌, ◌||◌, ◌==◌, Some, refl, ap, arith, eqb-true, eq-eqb}
-use Rattle.std.proofs.lemmas.Bool.{cases_Bool}
-use Rattle.std.proofs.lemmas.List.Sums.{sum_by-cons}
-use Rattle.std.specs.List.{slice_get}
-use Rattle.std.specs.Prelude.{if◌then◌else◌, sum_by}
-use Rattle.gpu_descriptor.specs.Model.Books.{Entry}
+use Rattle.gpu_descriptor.proofs.Common.{◌≡◌, ◌≢◌, ℕ, zero, suc, ◌+◌, ◌-◌, inl, inr, List, [], ◌∷◌, Bool, true, false, ◌&&◌, ◌||◌, ◌==◌, Some, refl, ap, arith, eqb-true, eq-eqb, cases_Bool, sum_by-cons, slice_get, if◌then◌else◌, sum_by, Entry}
 use Rattle.gpu_descriptor.specs.Model.Shares.{offer, rest, is_asked, share, shared, all_shared, asked_count, refused_count, asks, OnlyAskedRefuse, portions_of}
 
 -- the pools of the list aren't of this name

@@ -1,12 +1,5 @@
 -- What a request takes of a key keeps books and ledger of the whole allocator in agreement.
-use Rattle.std.proofs.Common.{◌≡◌, ◌≢◌, ℕ, suc, ◌+◌, ◌-◌, ◌<◌, ◌≤◌, ◌==◌, inl, inr, List, [], ◌∷◌, length, Bool, true, false, Option, Some, None, refl, sym, ap, ◌∙◌, subst, arith, eqb-true, eq-eqb, ne_eqb}
-use Rattle.std.proofs.lemmas.Bool.{cases_Bool, cases_lt, or_cases, or_from}
-use Rattle.std.specs.List.{slice_get, list_any}
-use Rattle.std.specs.Option.{option_map_or}
-use Rattle.std.specs.Prelude.{if◌then◌else◌}
-use Rattle.gpu_descriptor_types.specs.Ledger.{Pool}
-use Rattle.gpu_descriptor.specs.Model.Books.{Key, key_eq, Entry, Bucket, entry_at}
-use Rattle.gpu_descriptor.specs.Model.Agreement.{State, Item, set_of, count_of, live_in, live_at, with_bucket, outstanding, AreOutstanding, IsAsBooked, Agree}
+use Rattle.gpu_descriptor.proofs.Common.{◌≡◌, ◌≢◌, ℕ, suc, ◌+◌, ◌-◌, ◌<◌, ◌≤◌, ◌==◌, inl, inr, List, [], ◌∷◌, length, Bool, true, false, Option, Some, None, refl, sym, ap, ◌∙◌, subst, arith, eqb-true, eq-eqb, ne_eqb, cases_Bool, cases_lt, or_cases, or_from, slice_get, list_any, option_map_or, if◌then◌else◌, Pool, Key, key_eq, Entry, Bucket, entry_at, State, Item, set_of, count_of, live_in, live_at, with_bucket, outstanding, AreOutstanding, IsAsBooked, Agree}
 use Rattle.gpu_descriptor.specs.Inner.Buckets.{AreBookedIn}
 use Rattle.gpu_descriptor.specs.Inner.Walk.{KeepsKey}
 use Rattle.gpu_descriptor.proofs.table.Exact.{key_exact}

@@ -1,21 +1,7 @@
 -- Step by step, what a request takes keeps books and ledger of its key in agreement.
-use Rattle.std.proofs.Common.{◌≡◌, ◌≢◌, ℕ, suc, ◌+◌, ◌-◌, ◌<◌, ◌≤◌, ◌==◌, inl, inr, List, [], ◌∷◌, ◌++◌, length, slice_set, true, false, Option, Some, None, refl, sym, ap, ◌∙◌, subst, arith, eq-eqb, ne_eqb, nat_eq, length-append, lt-ltb, le-ltb}
-use Rattle.std.proofs.lemmas.Option.{slice_get_past}
-use Rattle.std.proofs.lemmas.Bool.{cases_eq, cases_lt, or_parts, or_from}
-use Rattle.std.proofs.lemmas.List.{length-map, length-set}
-use Rattle.std.proofs.lemmas.List.Sums.{sum_by-append}
+use Rattle.gpu_descriptor.proofs.Common.{◌≡◌, ◌≢◌, ℕ, suc, ◌+◌, ◌-◌, ◌<◌, ◌≤◌, ◌==◌, inl, inr, List, [], ◌∷◌, ◌++◌, length, slice_set, true, false, Option, Some, None, refl, sym, ap, ◌∙◌, subst, arith, eq-eqb, ne_eqb, nat_eq, length-append, lt-ltb, le-ltb, slice_get_past, cases_eq, cases_lt, or_parts, or_from, length-map, length-set, sum_by-append, slice_get, list_any, update, option_map_or, ◌⊎◌, Pool, Ledger, live_sets, changed, fresh, LiveSet, times, pool_counts, count_by-append, Key, Entry, Item, item_eq, set_of, count_of, live_in, live_at, flags_of, IsAsBooked}
 use Rattle.std.proofs.lemmas.Map.{update_here, update_apart}
-use Rattle.std.specs.List.{slice_get, list_any}
-use Rattle.std.specs.Map.{update}
-use Rattle.std.specs.Option.{option_map_or}
-use Rattle.std.specs.Prelude.{◌⊎◌}
-use Rattle.gpu_descriptor_types.specs.Ledger.{Pool, Ledger, live_sets, changed, fresh}
-use Rattle.gpu_descriptor_types.specs.Multiset.{LiveSet, times}
-use Rattle.gpu_descriptor_types.specs.PoolSize.{pool_counts}
-use Rattle.gpu_descriptor_types.proofs.Counting.{count_by-append}
 use Rattle.gpu_descriptor.proofs.request.NextSize.{next_small}
-use Rattle.gpu_descriptor.specs.Model.Books.{Key, Entry}
-use Rattle.gpu_descriptor.specs.Model.Agreement.{Item, item_eq, set_of, count_of, live_in, live_at, flags_of, IsAsBooked}
 use Rattle.gpu_descriptor.specs.Model.FreshPools.{fresh_entry}
 use Rattle.gpu_descriptor.specs.Model.Grants.{items_at, pool_with}
 use Rattle.gpu_descriptor.specs.Model.Load.{allocated_in}

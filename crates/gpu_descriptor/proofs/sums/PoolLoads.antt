@@ -1,9 +1,5 @@
 -- The descriptors of a key's pools, as the code has them.
-use Rattle.std.proofs.Common.{◌≡◌, ℕ, zero, suc, ◌+◌, ◌<◌, List, [], ◌∷◌, length, drop, get_or, ap, arith}
-use Rattle.std.specs.Prelude.{set}
-use Rattle.std.proofs.lemmas.List.Sums.{sum_by-cons}
-use Rattle.gpu_descriptor.specs.declared.bucket.DescriptorPool.{DescriptorPool}
-use Rattle.gpu_descriptor.specs.Model.Books.{Key}
+use Rattle.gpu_descriptor.proofs.Common.{◌≡◌, ℕ, zero, suc, ◌+◌, ◌<◌, List, [], ◌∷◌, length, drop, get_or, ap, arith, set, sum_by-cons, DescriptorPool, Key}
 use Rattle.gpu_descriptor.specs.Model.Load.{pool_load}
 use Rattle.gpu_descriptor.specs.Inner.Stored.{stored_load}
 

@@ -1,12 +1,5 @@
 -- Over all pools of marked keys: the pool load is what the device created them with, and the marked load is no more.
-use Rattle.std.proofs.Common.{◌≡◌, ℕ, suc, ◌<◌, ◌≤◌, Bool, true, false, List, [], ◌∷◌, length, slice_get, sum, sum_by, Option, Some, inl, inr, refl, sym, ap, ◌∙◌, arith}
-use Rattle.std.specs.Prelude.{if◌then◌else◌, ◌↔◌}
-use Rattle.std.specs.Option.{option_map_or}
-use Rattle.std.proofs.lemmas.Bool.{cases_Bool}
-use Rattle.std.proofs.lemmas.List.Sums.{sum_by-cons}
-use Rattle.gpu_descriptor_types.specs.Ledger.{Pool}
-use Rattle.gpu_descriptor.specs.Model.Agreement.{State, Agree}
-use Rattle.gpu_descriptor.specs.Model.Books.{Key, Entry, Bucket, no_pools, books_of, HasDistinctKeys, sum_over, AddsUp}
+use Rattle.gpu_descriptor.proofs.Common.{◌≡◌, ℕ, suc, ◌<◌, ◌≤◌, Bool, true, false, List, [], ◌∷◌, length, slice_get, sum, sum_by, Option, Some, inl, inr, refl, sym, ap, ◌∙◌, arith, if◌then◌else◌, ◌↔◌, option_map_or, cases_Bool, sum_by-cons, Pool, State, Agree, Key, Entry, Bucket, no_pools, books_of, HasDistinctKeys, sum_over, AddsUp}
 use Rattle.gpu_descriptor.specs.Inner.Buckets.{IsBookedIn}
 use Rattle.gpu_descriptor.specs.Model.Load.{allocated_in, marked_load, pool_load, pools_load, bucket_load, descriptors_out}
 use Rattle.gpu_descriptor.specs.Model.Load.{descriptors_created}

@@ -1,12 +1,5 @@
 -- How many sets are live is one number, whichever list spells them.
-use Rattle.gpu_descriptor_types.specs.Ledger.{Pool}
-use Rattle.std.specs.Prelude.{List}
-use Rattle.gpu_descriptor.specs.Model.Books.{Entry, Key}
-use Rattle.std.proofs.Common.{◌≡◌, ℕ, length, refl, arith}
-use Rattle.std.proofs.Math.Logic.{∥∥₁_elim}
-use Rattle.std.proofs.Props.{props}
-use Rattle.gpu_descriptor_types.specs.Multiset.{LiveSet, AreIn, Spells}
-use Rattle.gpu_descriptor.specs.Model.Agreement.{HasSize, IsAsBooked}
+use Rattle.gpu_descriptor.proofs.Common.{Pool, List, Entry, Key, ◌≡◌, ℕ, length, refl, arith, ∥∥₁_elim, props, LiveSet, AreIn, Spells, HasSize, IsAsBooked}
 use Rattle.gpu_descriptor.proofs.foreign.LedgerPools.{size_minus}
 
 pub size_one : (live : LiveSet → ℕ) (a b : ℕ) → HasSize live a → HasSize live b → a ≡ b

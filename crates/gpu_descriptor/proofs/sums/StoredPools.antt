@@ -1,7 +1,5 @@
 -- Sums over a key's pools, as the code has them and as the books do.
-use Rattle.std.proofs.Common.{◌≡◌, ℕ, List, sum_by, refl, map}
-use Rattle.gpu_descriptor.specs.declared.bucket.DescriptorPool.{DescriptorPool}
-use Rattle.gpu_descriptor.specs.Model.Books.{Key}
+use Rattle.gpu_descriptor.proofs.Common.{◌≡◌, ℕ, List, sum_by, refl, map, DescriptorPool, Key}
 use Rattle.gpu_descriptor.specs.Model.Load.{allocated_in, pools_load}
 use Rattle.gpu_descriptor.specs.Inner.Stored.{entry_of, stored_load}
 use Rattle.gpu_descriptor.proofs.sums.TableSums.{sum_map}

@@ -1,14 +1,8 @@
 -- The totals that callers see are sums over the table of the books, and naming the pools keeps what readers see.
-use Rattle.std.proofs.Common.{◌≡◌, ℕ, ◌+◌, List, [], ◌∷◌, length, map, slice_get, sum_by, Option, Some, None, option_map, inl, inr, refl, ap, ◌∙◌, sym}
-use Rattle.std.proofs.lemmas.Bool.{cases_Bool}
-use Rattle.std.proofs.lemmas.List.{length-map}
-use Rattle.std.proofs.lemmas.List.Sums.{sum_by-cons}
-use Rattle.std.proofs.lemmas.Option.{slice_get-map}
+use Rattle.gpu_descriptor.proofs.Common.{◌≡◌, ℕ, ◌+◌, List, [], ◌∷◌, length, map, slice_get, sum_by, Option, Some, None, option_map, inl, inr, refl, ap, ◌∙◌, sym, cases_Bool, length-map, sum_by-cons, slice_get-map, Key, key_eq, EntryOf, BucketOf, Entry, Bucket, AddsUp, HasDistinctKeys, books_of, sum_over, Allocations}
 use Rattle.gpu_descriptor.specs.declared.view.PoolView.{PoolView}
-use Rattle.gpu_descriptor.specs.Model.Books.{Key, key_eq, EntryOf, BucketOf, Entry, Bucket, AddsUp, HasDistinctKeys, books_of, sum_over}
 use Rattle.gpu_descriptor.specs.Model.Load.{marked_load, bucket_load, sets_out, descriptors_out}
 use Rattle.gpu_descriptor.specs.Caller.States.{named, named_bucket, named_row, table_of, outstanding_of, marked_load_of, pool_load_of}
-use Rattle.gpu_descriptor.specs.Caller.Values.{Allocations}
 use Rattle.gpu_descriptor.specs.Caller.Views.{view_in}
 
 -- a sum over a list whose items are mapped

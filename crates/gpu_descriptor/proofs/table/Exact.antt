@@ -1,13 +1,9 @@
 -- Keys and items are equal exactly where their tests say so.
-use Rattle.std.proofs.Common.{◌≡◌, ℕ, List, true, ◌&&◌, ◌==◌, refl, eqb-true, eq-eqb, nat_eq}
-use Rattle.std.proofs.lemmas.Bool.{and_parts, and_from}
+use Rattle.gpu_descriptor.proofs.Common.{◌≡◌, ℕ, List, true, ◌&&◌, ◌==◌, refl, eqb-true, eq-eqb, nat_eq, and_parts, and_from, key_eq, Entry, Bucket, Item, item_eq, IsExact}
 use Rattle.std.proofs.lemmas.Bool.Decides.{Decides-eqb}
 use Rattle.std.specs.Cmp.{booleans_Decides}
 use lib.Pointwise.{pointwise, pointwise_decides}
 use mathlib.Core.Bool.{beq}
-use Rattle.gpu_descriptor.specs.Model.Books.{key_eq, Entry, Bucket}
-use Rattle.gpu_descriptor.specs.Model.Agreement.{Item, item_eq}
-use Rattle.gpu_descriptor_types.proofs.Counting.{IsExact}
 
 pub key_exact : IsExact key_eq
 key_exact = record {

@@ -1,13 +1,5 @@
 -- What readers see of a key is what the map has at it.
-use Rattle.std.proofs.Common.{◌≡◌, Bool, List, [], ◌∷◌, map, Option, inl, inr, refl, sym, ap, ◌∙◌}
-use Rattle.std.specs.Map.{lookup}
-use Rattle.std.specs.Option.{option_map_or}
-use Rattle.std.proofs.lemmas.Bool.{cases_Bool}
-use Rattle.gpu_descriptor.specs.declared.set.BucketKey.{BucketKey}
-use Rattle.gpu_descriptor.specs.declared.bucket.DescriptorBucket.{DescriptorBucket}
-use Rattle.gpu_descriptor.specs.Model.Books.{Key, key_eq, BucketOf, books_of, no_pools}
-use Rattle.gpu_descriptor.specs.Caller.KeyOf.{key_of}
-use Rattle.gpu_descriptor.specs.Caller.Values.{Allocations}
+use Rattle.gpu_descriptor.proofs.Common.{◌≡◌, Bool, List, [], ◌∷◌, map, Option, inl, inr, refl, sym, ap, ◌∙◌, lookup, option_map_or, cases_Bool, BucketKey, DescriptorBucket, Key, key_eq, BucketOf, books_of, no_pools, key_of, Allocations}
 use Rattle.gpu_descriptor.specs.Inner.Stored.{kept_in, row_of}
 use Rattle.gpu_descriptor.proofs.table.Tables.{key_eq_symm}
 

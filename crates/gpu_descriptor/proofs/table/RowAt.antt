@@ -1,13 +1,6 @@
 -- The row at a place of the table is the row of its key.
-use Rattle.std.proofs.Common.{◌≡◌, ℕ, zero, suc, Bool, true, false, List, [], ◌∷◌, slice_get, Option, Some, None, inl, inr, refl, sym, ap, ◌∙◌}
-use Rattle.std.proofs.lemmas.Bool.{cases_Bool}
-use Rattle.std.specs.List.{IsDistinct, AllByRecursion}
-use Rattle.std.specs.Map.{lookup, set_value, values_of}
+use Rattle.gpu_descriptor.proofs.Common.{◌≡◌, ℕ, zero, suc, Bool, true, false, List, [], ◌∷◌, slice_get, Option, Some, None, inl, inr, refl, sym, ap, ◌∙◌, cases_Bool, IsDistinct, AllByRecursion, lookup, set_value, values_of, BucketKey, DescriptorBucket, Key, key_eq, key_of}
 use Rattle.indexmap.specs.Layout.{set_value_at}
-use Rattle.gpu_descriptor.specs.declared.set.BucketKey.{BucketKey}
-use Rattle.gpu_descriptor.specs.declared.bucket.DescriptorBucket.{DescriptorBucket}
-use Rattle.gpu_descriptor.specs.Model.Books.{Key, key_eq}
-use Rattle.gpu_descriptor.specs.Caller.KeyOf.{key_of}
 use Rattle.gpu_descriptor.specs.Inner.Ids.{is_of}
 use Rattle.gpu_descriptor.specs.Inner.Stored.{stored_keys}
 use Rattle.gpu_descriptor.proofs.table.Exact.{key_exact}

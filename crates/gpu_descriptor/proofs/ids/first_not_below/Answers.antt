@@ -1,4 +1,4 @@
-use Rattle.std.proofs.Common.{◌≡◌, rules, nat_lt}
+use Rattle.gpu_descriptor.proofs.Common.{◌≡◌, rules, nat_lt}
 use Rattle.std.proofs.lemmas.Fn.{always_returns_same}
 use Rattle.gpu_descriptor.proofs.table.Rising.{parted, at_point}
 use Rattle.gpu_descriptor.proofs.ids.first_not_below.Goals as goal

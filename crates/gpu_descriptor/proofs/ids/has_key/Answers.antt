@@ -1,6 +1,4 @@
-use Rattle.std.proofs.Common.{◌≡◌, true, Some, rules, sym, ap, ◌∙◌}
-use Rattle.gpu_descriptor.specs.Model.Books.{Key, key_eq}
-use Rattle.gpu_descriptor.specs.Caller.KeyOf.{key_of}
+use Rattle.gpu_descriptor.proofs.Common.{◌≡◌, true, Some, rules, sym, ap, ◌∙◌, Key, key_eq, key_of}
 use Rattle.gpu_descriptor.proofs.table.Exact.{key_exact}
 use Rattle.gpu_descriptor.proofs.table.RowAt.{key_at}
 use Rattle.gpu_descriptor.proofs.ids.has_key.Goals as goal

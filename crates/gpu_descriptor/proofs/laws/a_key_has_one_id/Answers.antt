@@ -1,5 +1,4 @@
-use Rattle.std.proofs.Common.{sym, ap, ◌∙◌}
-use Rattle.gpu_descriptor.specs.Model.Books.{Key}
+use Rattle.gpu_descriptor.proofs.Common.{sym, ap, ◌∙◌, Key}
 use Rattle.gpu_descriptor.proofs.release.Places.{outstanding_found}
 use Rattle.gpu_descriptor.proofs.laws.a_key_has_one_id.Goals as goal
 

@@ -1,6 +1,4 @@
-use Rattle.std.proofs.Common.{sym, ap, ◌∙◌}
-use Rattle.gpu_descriptor.specs.Model.Agreement.{item_eq}
-use Rattle.gpu_descriptor.specs.Model.Books.{key_eq}
+use Rattle.gpu_descriptor.proofs.Common.{sym, ap, ◌∙◌, item_eq, key_eq}
 use Rattle.gpu_descriptor.proofs.table.Exact.{item_exact, key_exact}
 use Rattle.gpu_descriptor.proofs.laws.items_are_their_parts.Goals as goal
 

@@ -1,10 +1,7 @@
-use Rattle.std.proofs.Common.{◌≡◌, ◌<◌, refl, arith, ◌∙◌, subst, Err}
-use Rattle.gpu_descriptor_types.specs.Side.{side}
-use Rattle.gpu_descriptor.specs.Model.Books.{Key}
+use Rattle.gpu_descriptor.proofs.Common.{◌≡◌, ◌<◌, refl, arith, ◌∙◌, subst, Err, side, Key, key_of}
 use Rattle.gpu_descriptor.specs.Model.Outcomes.{Allocates}
 use Rattle.gpu_descriptor.specs.Caller.Call.{call_of, layout_key}
 use Rattle.gpu_descriptor.specs.Caller.Keys.{StayOrGainLast}
-use Rattle.gpu_descriptor.specs.Caller.KeyOf.{key_of}
 use Rattle.gpu_descriptor.specs.Caller.States.{keys_of}
 use Rattle.gpu_descriptor.specs.Inner.Serves.{Takes}
 use Rattle.gpu_descriptor.proofs.request.Outcomes.{taken_agree, taken_as, taken_given}

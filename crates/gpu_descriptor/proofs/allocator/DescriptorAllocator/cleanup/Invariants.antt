@@ -1,4 +1,4 @@
-use Rattle.std.proofs.Common.{◌≡◌, length, take}
+use Rattle.gpu_descriptor.proofs.Common.{◌≡◌, length, take}
 use Rattle.gpu_descriptor.specs.Inner.Stored.{IsConsistent}
 use Rattle.gpu_descriptor.proofs.cleanup.RowsCleaned.{cleared, ledger_less}
 use Rattle.gpu_descriptor.proofs.table.TableBooks.{rows_in}

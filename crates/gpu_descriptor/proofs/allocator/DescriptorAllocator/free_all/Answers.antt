@@ -1,7 +1,6 @@
-use Rattle.std.proofs.Common.{◌≡◌, sym, ◌∙◌, subst}
+use Rattle.gpu_descriptor.proofs.Common.{◌≡◌, sym, ◌∙◌, subst, side}
 use Rattle.std.proofs.IntoIterSteps.{All-taken}
 use Rattle.std.specs.Vec.Iter.{into_iter_items}
-use Rattle.gpu_descriptor_types.specs.Side.{side}
 use Rattle.gpu_descriptor_types.proofs.Drained.{taken_front}
 use Rattle.gpu_descriptor.specs.Caller.Frees.{Returns}
 use Rattle.gpu_descriptor.specs.Caller.States.{state_of}

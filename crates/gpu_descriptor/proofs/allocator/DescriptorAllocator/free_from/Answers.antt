@@ -1,4 +1,4 @@
-use Rattle.std.proofs.Common.{◌∙◌, Some}
+use Rattle.gpu_descriptor.proofs.Common.{◌∙◌, Some}
 use Rattle.gpu_descriptor.proofs.foreign.OthersStay.{others_stay}
 use Rattle.gpu_descriptor.proofs.foreign.ForeignPools.{freed_foreign, freed_loses}
 use Rattle.gpu_descriptor.proofs.request.Requested.{load_within, pool_load_within}

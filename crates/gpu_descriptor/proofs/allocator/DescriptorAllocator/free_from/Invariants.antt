@@ -1,5 +1,4 @@
-use Rattle.std.proofs.Common.{◌≡◌}
-use Rattle.std.specs.Iterator.{size}
+use Rattle.gpu_descriptor.proofs.Common.{◌≡◌, size}
 use Rattle.gpu_descriptor.proofs.release.Freed.{Freed, weight}
 use Rattle.gpu_descriptor.proofs.allocator.DescriptorAllocator.free_from.Given as goal
 

@@ -1,8 +1,5 @@
-use Rattle.std.proofs.Common.{◌≡◌, ◌*◌, ◌-◌, ap, ◌∙◌, arith}
-use Rattle.std.specs.Prelude.{sum}
-use Rattle.gpu_descriptor_types.specs.Counts.{kinds}
+use Rattle.gpu_descriptor.proofs.Common.{◌≡◌, ◌*◌, ◌-◌, ap, ◌∙◌, arith, sum, kinds, Allocations}
 use Rattle.gpu_descriptor.specs.Caller.States.{marked_load_of}
-use Rattle.gpu_descriptor.specs.Caller.Values.{Allocations}
 use Rattle.gpu_descriptor.proofs.request.InTable.{above-limit}
 use Rattle.gpu_descriptor.proofs.allocator.DescriptorAllocator.is_above_limit.Goals as goal
 

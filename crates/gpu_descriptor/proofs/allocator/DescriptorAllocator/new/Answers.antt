@@ -1,4 +1,4 @@
-use Rattle.std.proofs.Common.{sym, subst, ap}
+use Rattle.gpu_descriptor.proofs.Common.{sym, subst, ap}
 use Rattle.gpu_descriptor.specs.Inner.Ids.{rise_below, stored_ids}
 use Rattle.gpu_descriptor.specs.Inner.Stored.{IsConsistent}
 use Rattle.gpu_descriptor.proofs.request.Requested.{counted_none}

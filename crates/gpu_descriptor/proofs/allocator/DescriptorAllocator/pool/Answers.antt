@@ -1,11 +1,4 @@
-use Rattle.std.proofs.Common.{◌+◌, map, option_map, ◌<◌, ◌≤◌, arith, rules, ap, sym, ◌∙◌, length, refl, inl, inr, true, false, ◌≡◌}
-use Rattle.std.proofs.lemmas.Bool.{cases_lt}
-use Rattle.std.proofs.lemmas.List.{length-map}
-use Rattle.std.proofs.lemmas.Option.{slice_get-map, slice_get_past, slice_get_read}
-use Rattle.std.specs.Option.{option_copied}
-use Rattle.gpu_descriptor.specs.Caller.Values.{Allocations}
-use Rattle.gpu_descriptor.specs.Model.Books.{Key, BucketOf, EntryOf}
-use Rattle.gpu_descriptor.specs.Caller.KeyOf.{key_of}
+use Rattle.gpu_descriptor.proofs.Common.{◌+◌, map, option_map, ◌<◌, ◌≤◌, arith, rules, ap, sym, ◌∙◌, length, refl, inl, inr, true, false, ◌≡◌, cases_lt, length-map, slice_get-map, slice_get_past, slice_get_read, option_copied, Allocations, Key, BucketOf, EntryOf, key_of}
 use Rattle.gpu_descriptor.specs.Caller.Views.{view_in}
 use Rattle.gpu_descriptor.specs.Inner.Stored.{kept_of}
 use Rattle.gpu_descriptor.proofs.table.Readings.{seen_at}

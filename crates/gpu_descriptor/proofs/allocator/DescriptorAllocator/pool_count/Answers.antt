@@ -1,8 +1,4 @@
-use Rattle.std.proofs.Common.{length, sym, ap, ◌∙◌, rules}
-use Rattle.std.proofs.lemmas.List.{length-map}
-use Rattle.gpu_descriptor.specs.Model.Books.{Key, BucketOf}
-use Rattle.gpu_descriptor.specs.Caller.KeyOf.{key_of}
-use Rattle.gpu_descriptor.specs.Caller.Values.{Allocations}
+use Rattle.gpu_descriptor.proofs.Common.{length, sym, ap, ◌∙◌, rules, length-map, Key, BucketOf, key_of, Allocations}
 use Rattle.gpu_descriptor.specs.Inner.Stored.{kept_of}
 use Rattle.gpu_descriptor.proofs.table.Readings.{seen_at}
 use Rattle.gpu_descriptor.proofs.sums.TableSums.{pools_of-table}

@@ -1,10 +1,5 @@
-use Rattle.gpu_descriptor_types.specs.Bounds.{greatest_u64}
-use Rattle.std.proofs.Common.{◌+◌, ◌≤◌, arith, refl, ap, subst, sym, ◌∙◌}
-use Rattle.std.proofs.lemmas.Bool.{ltb-false}
-use Rattle.gpu_descriptor_types.specs.Ledger.{Ledger}
+use Rattle.gpu_descriptor.proofs.Common.{greatest_u64, ◌+◌, ◌≤◌, arith, refl, ap, subst, sym, ◌∙◌, ltb-false, Ledger, Bucket, key_of}
 use Rattle.gpu_descriptor.specs.Model.Load.{marked_load}
-use Rattle.gpu_descriptor.specs.Model.Books.{Bucket}
-use Rattle.gpu_descriptor.specs.Caller.KeyOf.{key_of}
 use Rattle.gpu_descriptor.specs.Caller.States.{state_of}
 use Rattle.gpu_descriptor.specs.Inner.Stored.{IsConsistent}
 use Rattle.gpu_descriptor.specs.Inner.Buckets.{AreBookedIn}

@@ -1,15 +1,7 @@
+use Rattle.gpu_descriptor.proofs.Common.{◌≡◌, ℕ, ◌+◌, ◌-◌, ◌≤◌, ◌++◌, List, [], ◌∷◌, length, map, min, refl, sym, ap, ◌∙◌, subst, arith, length-map, map-append, Some, Ledger, after_alloc, after_create, after_destroy, live_sets, HasNoSets, fresh, pool_counts, DescriptorPool, Entry, Key, flags_of, key_of}
 use Rattle.gpu_descriptor.specs.Inner.SetAt.{set_at}
-use Rattle.std.proofs.Common.{◌≡◌, ℕ, ◌+◌, ◌-◌, ◌≤◌, ◌++◌, List, [], ◌∷◌, length, map, min, refl, sym, ap, ◌∙◌, subst, arith}
-use Rattle.std.proofs.lemmas.List.{length-map, map-append}
-use Rattle.std.specs.Prelude.{Some}
-use Rattle.gpu_descriptor_types.specs.Ledger.{Ledger, after_alloc, after_create, after_destroy, live_sets, HasNoSets, fresh}
-use Rattle.gpu_descriptor_types.specs.PoolSize.{pool_counts}
-use Rattle.gpu_descriptor.specs.declared.bucket.DescriptorPool.{DescriptorPool}
-use Rattle.gpu_descriptor.specs.Model.Books.{Entry, Key}
-use Rattle.gpu_descriptor.specs.Model.Agreement.{flags_of}
 use Rattle.gpu_descriptor.specs.Model.Load.{pool_load}
 use Rattle.gpu_descriptor.specs.declared.bucket.take.Stop.TheVariants as stop
-use Rattle.gpu_descriptor.specs.Caller.KeyOf.{key_of}
 use Rattle.gpu_descriptor.specs.Inner.Stored.{entry_of}
 use Rattle.gpu_descriptor.proofs.request.NextSize.{one_fits}
 use Rattle.gpu_descriptor.proofs.request.Asks.{same_entry}

@@ -1,4 +1,4 @@
-use Rattle.std.proofs.Common.{length, arith, ap}
+use Rattle.gpu_descriptor.proofs.Common.{length, arith, ap}
 use Rattle.gpu_descriptor.proofs.lists.OpenList.{few_listed}
 use Rattle.gpu_descriptor.proofs.bucket.DescriptorBucket.make_room.Goals as goal
 

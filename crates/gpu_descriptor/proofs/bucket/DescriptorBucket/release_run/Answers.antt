@@ -1,16 +1,6 @@
-use Rattle.gpu_descriptor.specs.Caller.KeyOf.{key_of}
-use Rattle.std.proofs.Common.{◌≡◌, ℕ, List, set, ◌+◌, ◌<◌, ◌≤◌, ◌-◌, rules, arith, sym, refl, ◌∙◌, ap, subst, length, map, slice_get, [], ◌∷◌, Some, length-set, eqb-true}
-use Rattle.std.proofs.lemmas.List.{length-map}
-use Rattle.std.proofs.lemmas.Option.{slice_get_read}
-use Rattle.gpu_descriptor.specs.declared.bucket.DescriptorPool.{DescriptorPool}
-use Rattle.gpu_descriptor_types.specs.Ledger.{Ledger, after_release}
-use Rattle.gpu_descriptor_types.specs.Multiset.{LiveSet}
-use Rattle.gpu_descriptor.specs.declared.set.DescriptorSet.{DescriptorSet}
-use Rattle.gpu_descriptor.specs.Model.Agreement.{live_in}
-use Rattle.gpu_descriptor.specs.Model.Books.{Entry}
+use Rattle.gpu_descriptor.proofs.Common.{key_of, ◌≡◌, ℕ, List, set, ◌+◌, ◌<◌, ◌≤◌, ◌-◌, rules, arith, sym, refl, ◌∙◌, ap, subst, length, map, slice_get, [], ◌∷◌, Some, length-set, eqb-true, length-map, slice_get_read, DescriptorPool, Ledger, after_release, LiveSet, DescriptorSet, live_in, Entry, IsNonDecreasing}
 use Rattle.gpu_descriptor.specs.Inner.Buckets.{AreBookedIn, trimmed_bucket, trimmed_ledger}
 use Rattle.gpu_descriptor.specs.Inner.Releases.{IsTakenAt, names_of}
-use Rattle.std.specs.List.Sorted.{IsNonDecreasing}
 use Rattle.gpu_descriptor.specs.Inner.OpenNumbers.{free_in}
 use Rattle.gpu_descriptor.proofs.sums.PoolLoads.{stored_put}
 use Rattle.gpu_descriptor.proofs.lists.OpenNumbers.{open_rises}

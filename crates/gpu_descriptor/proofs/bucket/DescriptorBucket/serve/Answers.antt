@@ -1,11 +1,4 @@
-use Rattle.gpu_descriptor_types.specs.Bounds.{greatest_u64}
-use Rattle.std.proofs.Common.{◌≡◌, ◌≤◌, ◌+◌, List, length, arith, sym, ◌∙◌, subst}
-use Rattle.std.proofs.lemmas.Bool.{ltb-false}
-use Rattle.std.proofs.lemmas.List.{length-map}
-use Rattle.gpu_descriptor_types.specs.Ledger.{Ledger}
-use Rattle.gpu_descriptor.specs.declared.set.DescriptorSet.{DescriptorSet}
-use Rattle.gpu_descriptor.specs.Model.Books.{Key}
-use Rattle.gpu_descriptor.specs.Caller.KeyOf.{key_of}
+use Rattle.gpu_descriptor.proofs.Common.{greatest_u64, ◌≡◌, ◌≤◌, ◌+◌, List, length, arith, sym, ◌∙◌, subst, ltb-false, length-map, Ledger, DescriptorSet, Key, key_of}
 use Rattle.gpu_descriptor.specs.Inner.Stored.{bucket_of, entry_of}
 use Rattle.gpu_descriptor.specs.Inner.Serves.{IsServed}
 use Rattle.gpu_descriptor.proofs.bucket.DescriptorBucket.serve.Goals as goal

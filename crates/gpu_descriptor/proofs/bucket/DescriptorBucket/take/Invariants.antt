@@ -1,6 +1,5 @@
 -- So many sets are still wanting, and the new pools gave what the others lacked.
-use Rattle.std.proofs.Common.{◌≡◌, ◌+◌, ◌≤◌, length, map}
-use Rattle.gpu_descriptor.specs.Caller.KeyOf.{key_of}
+use Rattle.gpu_descriptor.proofs.Common.{◌≡◌, ◌+◌, ◌≤◌, length, map, key_of}
 use Rattle.gpu_descriptor.specs.Caller.Sets.{items_of}
 use Rattle.gpu_descriptor.specs.Inner.OpenPools.{CountsLooks}
 use Rattle.gpu_descriptor.specs.Inner.Stored.{stored_load, entry_of}

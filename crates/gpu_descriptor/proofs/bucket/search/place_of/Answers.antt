@@ -1,4 +1,4 @@
-use Rattle.std.proofs.Common.{◌≡◌, ◌+◌, ◌/◌, ◌∙◌, ℕ, List, refl, sym, ap, subst, nat_lt, get_or, true, false}
+use Rattle.gpu_descriptor.proofs.Common.{◌≡◌, ◌+◌, ◌/◌, ◌∙◌, ℕ, List, refl, sym, ap, subst, nat_lt, get_or, true, false}
 use Rattle.gpu_descriptor.proofs.lists.Searching.{Searching, search_start, search_right, search_left}
 use Rattle.gpu_descriptor.proofs.bucket.search.place_of.Goals as goal
 

@@ -1,4 +1,4 @@
-use Rattle.std.proofs.Common.{◌≡◌}
+use Rattle.gpu_descriptor.proofs.Common.{◌≡◌}
 use Rattle.gpu_descriptor.proofs.lists.Searching.{Searching}
 use Rattle.gpu_descriptor.proofs.bucket.search.place_of.Given as goal
 

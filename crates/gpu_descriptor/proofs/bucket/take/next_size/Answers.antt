@@ -1,5 +1,4 @@
-use Rattle.std.proofs.Common.{arith, refl, IfSome, Option, Some, None}
-use Rattle.gpu_descriptor.specs.Caller.KeyOf.{key_of}
+use Rattle.gpu_descriptor.proofs.Common.{arith, refl, IfSome, Option, Some, None, key_of}
 use Rattle.gpu_descriptor.proofs.request.NextSize.{next_fits}
 use Rattle.gpu_descriptor.proofs.bucket.take.next_size.Goals as goal
 

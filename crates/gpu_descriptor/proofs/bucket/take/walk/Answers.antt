@@ -1,15 +1,6 @@
+use Rattle.gpu_descriptor.proofs.Common.{◌≡◌, ℕ, ◌+◌, ◌-◌, ◌++◌, List, [], length, map, slice_get, slice_set, Some, Err, refl, sym, ap, ◌∙◌, arith, append_assoc, length-append, length-map, append-nil, map-append, length-set, Ledger, DescriptorPool, DeviceAllocationError, BucketKey, DescriptorSet, Item, Bucket, Entry, Key, key_of}
 use Rattle.gpu_descriptor.specs.Inner.SetAt.{set_at}
-use Rattle.std.proofs.Common.{◌≡◌, ℕ, ◌+◌, ◌-◌, ◌++◌, List, [], length, map, slice_get, slice_set, Some, Err, refl, sym, ap, ◌∙◌, arith, append_assoc, length-append}
-use Rattle.std.proofs.lemmas.List.{length-map, append-nil, map-append, length-set}
-use Rattle.gpu_descriptor_types.specs.Ledger.{Ledger}
-use Rattle.gpu_descriptor.specs.declared.bucket.DescriptorPool.{DescriptorPool}
-use Rattle.gpu_descriptor_types.specs.declared.errors.DeviceAllocationError.{DeviceAllocationError}
-use Rattle.gpu_descriptor.specs.declared.set.BucketKey.{BucketKey}
-use Rattle.gpu_descriptor.specs.declared.set.DescriptorSet.{DescriptorSet}
-use Rattle.gpu_descriptor.specs.Model.Agreement.{Item}
-use Rattle.gpu_descriptor.specs.Model.Books.{Bucket, Entry, Key}
 use Rattle.gpu_descriptor.specs.Model.Grants.{items_at}
-use Rattle.gpu_descriptor.specs.Caller.KeyOf.{key_of}
 use Rattle.gpu_descriptor.specs.Caller.Sets.{items_of}
 use Rattle.gpu_descriptor.specs.Inner.Walk.{IsWalked}
 use Rattle.gpu_descriptor.specs.Inner.Grow.{IsTaken}

@@ -1,10 +1,7 @@
 -- What came stands behind what was there, and each pool that was asked was looked at once.
+use Rattle.gpu_descriptor.proofs.Common.{◌≡◌, ◌+◌, ◌++◌, List, length, map, deque_capacity, DescriptorSet, key_of}
 use Rattle.gpu_descriptor.specs.Inner.Stored.{entry_of}
-use Rattle.std.proofs.Common.{◌≡◌, ◌+◌, ◌++◌, List, length, map}
-use Rattle.std.specs.VecDeque.{deque_capacity}
-use Rattle.gpu_descriptor.specs.declared.set.DescriptorSet.{DescriptorSet}
 use Rattle.gpu_descriptor.specs.Inner.OpenPools.{CountsLooks, KeepsView}
-use Rattle.gpu_descriptor.specs.Caller.KeyOf.{key_of}
 use Rattle.gpu_descriptor.specs.Caller.Sets.{items_of}
 use Rattle.gpu_descriptor.proofs.request.OpenWalk.{OpenWalk}
 use Rattle.gpu_descriptor.proofs.bucket.take.walk.Given as goal

@@ -1,13 +1,7 @@
-use Rattle.std.proofs.Common.{◌≡◌, ◌<◌, ℕ, zero, suc, Bool, true, List, [], ◌∷◌, Some, None, length, get_or, slice_get, rules, sym, ap, ◌∙◌, arith}
-use Rattle.std.specs.List.{position}
-use Rattle.std.specs.Map.{keys_of, lookup}
+use Rattle.gpu_descriptor.proofs.Common.{◌≡◌, ◌<◌, ℕ, zero, suc, Bool, true, List, [], ◌∷◌, Some, None, length, get_or, slice_get, rules, sym, ap, ◌∙◌, arith, position, keys_of, lookup, BucketKey, DescriptorBucket, Key, key_eq, key_of}
 use Rattle.indexmap.proofs.MapLemmas.{Missing-position}
 use Rattle.gpu_descriptor.specs.Inner.Ids.{is_of}
 use Rattle.std.proofs.lemmas.List.Quantifiers.{position-Some}
-use Rattle.gpu_descriptor.specs.declared.set.BucketKey.{BucketKey}
-use Rattle.gpu_descriptor.specs.declared.bucket.DescriptorBucket.{DescriptorBucket}
-use Rattle.gpu_descriptor.specs.Model.Books.{Key, key_eq}
-use Rattle.gpu_descriptor.specs.Caller.KeyOf.{key_of}
 use Rattle.gpu_descriptor.specs.Inner.Stored.{stored_keys}
 use Rattle.gpu_descriptor.proofs.table.Exact.{key_exact}
 use Rattle.gpu_descriptor.proofs.table.RowAt.{lookup_same}

@@ -1,3 +1,4 @@
+use Rattle.gpu_descriptor.proofs.Common.{key_of}
 use mathlib.Core.Path.{refl}
 use mathlib.Core.List.{[], ◌∷◌}
 use seplogic.Ra.Ura.{Ura}
@@ -32,7 +33,6 @@ use Rattle.gpu_descriptor.proofs.key.SetKey.of.Statement as stated
 use Rattle.gpu_descriptor.proofs.key.SetKey.of.Code as code
 use Rattle.gpu_descriptor.specs.contracts.set.BucketKey as passed_key
 use Rattle.gpu_descriptor.specs.contracts.key.SetKey as made
-use Rattle.gpu_descriptor.specs.Caller.KeyOf.{key_of}
 
 abbrev stayed : Stays (f.ended).signature.params (f.ended).kept
 stayed = (stay_none_ref (0 ∷ []) tt (plain (λ _. passed_key.the_row)) yes, tt)

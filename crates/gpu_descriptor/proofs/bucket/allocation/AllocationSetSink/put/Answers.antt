@@ -1,5 +1,4 @@
-use Rattle.std.proofs.Common.{◌∙◌, ap, [], ◌∷◌, ◌++◌}
-use Rattle.gpu_descriptor.specs.Model.Books.{Key}
+use Rattle.gpu_descriptor.proofs.Common.{◌∙◌, ap, [], ◌∷◌, ◌++◌, Key}
 use Rattle.gpu_descriptor.specs.Inner.SetAt.{set_at}
 use Rattle.gpu_descriptor.proofs.bucket.allocation.AllocationSetSink.put.Goals as goal
 

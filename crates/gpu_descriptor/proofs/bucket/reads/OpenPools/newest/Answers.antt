@@ -1,6 +1,4 @@
-use Rattle.std.proofs.Common.{◌≡◌, ◌+◌, ◌-◌, ◌<◌, ◌++◌, ◌∷◌, [], inl, refl, ℕ, length, take, slice_get, arith, ap, sym, ◌∙◌}
-use Rattle.std.proofs.lemmas.List.{length-map}
-use Rattle.std.proofs.lemmas.Option.{slice_get_read, slice_get_within}
+use Rattle.gpu_descriptor.proofs.Common.{◌≡◌, ◌+◌, ◌-◌, ◌<◌, ◌++◌, ◌∷◌, [], inl, refl, ℕ, length, take, slice_get, arith, ap, sym, ◌∙◌, length-map, slice_get_read, slice_get_within}
 use Rattle.gpu_descriptor_types.specs.declared.counter.Tally.{Tally}
 use Rattle.gpu_descriptor.specs.declared.bucket.reads.OpenPools.{OpenPools}
 use Rattle.gpu_descriptor.specs.Inner.OpenNumbers.{free_in}
