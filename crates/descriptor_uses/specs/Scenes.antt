@@ -1,16 +1,10 @@
 -- What a scene holds, and the pools of its device.
-use Rattle.std.specs.Prelude.{◌≡◌, ℕ, List, ◌++◌, length, Option}
+use Rattle.std.specs.Prelude.{ℕ, List, Option}
 use Rattle.gpu_descriptor_types.specs.Ledger.{Pool}
 use Rattle.gpu_descriptor_types.specs.declared.device.DescriptorDevice.{Ghosts}
 use Rattle.gpu_descriptor.specs.Caller.Others.{others_of}
 use Rattle.gpu_descriptor.specs.declared.set.DescriptorSet.{DescriptorSet}
 use Rattle.descriptor_uses.specs.declared.scene.Scene.{Scene}
-
--- so many sets were put behind those of a list
-pub record Adds {S : Type 0} (count : ℕ) (old new : List (DescriptorSet S)) : Type 0 where
-  pub sets : List (DescriptorSet S)
-  pub many : length sets ≡ count
-  pub behind : new ≡ old ++ sets
 
 module _ {L P S D : Type 0} {d : Ghosts D L P S} where
   -- the sets that it holds, in the order in which they came

@@ -7,7 +7,7 @@ ghost use Rattle.gpu_descriptor.specs.Caller.States.{Agrees, state_of};
 ghost use Rattle.gpu_descriptor.proofs.callers.OneAgreement.{Agree-prop};
 ghost use Rattle.descriptor_frames.specs.Frames.{AreInUse, AreRetiredOut, allocator_of};
 ghost use Rattle.descriptor_frames.specs.Retired.{at_frame, later};
-ghost use Rattle.descriptor_uses.specs.Layouts.{IsMeant};
+ghost use Rattle.descriptor_uses.specs.Layouts.{Adds, IsMeant};
 
 use crate::layout::SetLayout;
 use descriptor_frames::FrameManager;
@@ -37,9 +37,9 @@ pub struct FrameRenderer<L, P, S, D: DescriptorDevice<L, P, S>> {
 
 impl<L, P: Drop, S: Drop, D: DescriptorDevice<L, P, S>> FrameRenderer<L, P, S, D> {
     ghost use Rattle.descriptor_uses.specs.FrameRenderers.{retired_in, used_of};
-    ghost use Rattle.descriptor_uses.specs.Scenes.{Adds};
 
     /// A renderer without sets.
+    #[tactic(auto, using(descriptor_frames::proofs::NewManagers::new_agrees))]
     pub fn new(alloc: Global, device: D) -> Self
         ensures in_use { used_of result ≡ [] }
         ensures retired { retired_in result ≡ [] }
@@ -71,7 +71,8 @@ impl<L, P: Drop, S: Drop, D: DescriptorDevice<L, P, S>> FrameRenderer<L, P, S, D
     /// Adds sets to those in use, all or none.
     pub fn add(&mut self, layout: &SetLayout<L>, count: u32) -> Result<(), AllocationError>
         requires { IsMeant D.meaning layout.now }
-        ensures added { OnOk result (Adds count (used_of self.old) (used_of self.new)) }
+        ensures added { OnOk result (Adds D.meaning layout.now.layout count (used_of self.old)
+            (used_of self.new)) }
         ensures stay { OnErr result (used_of self.new ≡ used_of self.old) }
         ensures retired { retired_in self.new ≡ retired_in self.old }
     {

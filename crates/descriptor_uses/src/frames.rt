@@ -1,13 +1,14 @@
 //! A device with its frame manager, and the sets of the frame that is drawn: the lower half of an
 //! engine.
-ghost use Rattle.std.specs.Prelude.{◌≡◌, ℕ, ◌+◌, ◌<◌, ◌≤◌, ◌++◌, [], length, vec_capacity};
-ghost use Rattle.std.specs.Prelude.{IsTrue, OnErr, OnOk};
+ghost use Rattle.std.specs.Prelude.{◌≡◌, ℕ, ◌+◌, ◌<◌, ◌≤◌, ◌++◌, [], length, map};
+ghost use Rattle.std.specs.Prelude.{vec_capacity, IsTrue, OnErr, OnOk};
 ghost use Rattle.gpu_descriptor.specs.Caller.Sets.{items_of};
 ghost use Rattle.gpu_descriptor.specs.Caller.States.{Agrees, state_of};
 ghost use Rattle.gpu_descriptor.proofs.callers.OneAgreement.{Agree-prop};
 ghost use Rattle.descriptor_frames.specs.Frames.{AreInUse, AreRetiredOut, allocator_of};
 ghost use Rattle.descriptor_frames.specs.Frames.{greatest_of, retired_of, room_of};
-ghost use Rattle.descriptor_uses.specs.Layouts.{IsMeant};
+ghost use Rattle.descriptor_frames.specs.Retired.{at_frame, later};
+ghost use Rattle.descriptor_uses.specs.Layouts.{Adds, IsMeant};
 
 use crate::layout::SetLayout;
 use descriptor_frames::FrameManager;
@@ -34,11 +35,14 @@ pub struct Frames<L, P, S, D: DescriptorDevice<L, P, S>> {
 }
 
 impl<L, P: Drop, S: Drop, D: DescriptorDevice<L, P, S>> Frames<L, P, S, D> {
-    ghost use Rattle.descriptor_uses.specs.FrameSets.{CanRetire, IsAccounted, others_in, used_of};
+    ghost use Rattle.descriptor_uses.specs.FrameSets.{CanRetire, IsAccounted};
+    ghost use Rattle.descriptor_uses.specs.FrameSets.{others_in, retired_in, used_of};
 
     /// Frames without sets.
+    #[tactic(auto, using(descriptor_frames::proofs::NewManagers::new_agrees))]
     pub fn new(alloc: Global, device: D) -> Self
         ensures in_use { used_of result ≡ [] }
+        ensures retired { retired_in result ≡ [] }
         ensures accounted { IsAccounted result }
         ensures can_retire { CanRetire 0 result }
         ensures others { others_in result ≡ (D.ledger device).pools }
@@ -56,8 +60,10 @@ impl<L, P: Drop, S: Drop, D: DescriptorDevice<L, P, S>> Frames<L, P, S, D> {
     /// Takes a set of a layout, and room to retire it.
     pub fn take(&mut self, layout: &SetLayout<L>) -> Result<(), AllocationError>
         requires { IsMeant D.meaning layout.now }
-        ensures taken { OnOk result (length (used_of self.new) ≡ length (used_of self.old) + 1) }
+        ensures taken { OnOk result (Adds D.meaning layout.now.layout 1 (used_of self.old)
+            (used_of self.new)) }
         ensures stay { OnErr result (used_of self.new ≡ used_of self.old) }
+        ensures retired { retired_in self.new ≡ retired_in self.old }
         ensures accounted { IsAccounted self.old → IsAccounted self.new }
         ensures can_retire { (frame : ℕ) → CanRetire frame self.old → CanRetire frame self.new }
         ensures others { others_in self.new ≡ others_in self.old }
@@ -98,6 +104,8 @@ impl<L, P: Drop, S: Drop, D: DescriptorDevice<L, P, S>> Frames<L, P, S, D> {
     pub fn retire(&mut self, frame: u64)
         requires { CanRetire frame self.old }
         ensures in_use { used_of self.new ≡ [] }
+        ensures retired { retired_in self.new ≡ retired_in self.old
+            ++ map (at_frame frame) (used_of self.old) }
         ensures accounted { IsAccounted self.old → IsAccounted self.new }
         ensures can_retire { CanRetire frame self.new }
         ensures others { others_in self.new ≡ others_in self.old }
@@ -112,6 +120,7 @@ impl<L, P: Drop, S: Drop, D: DescriptorDevice<L, P, S>> Frames<L, P, S, D> {
     /// The device is done with this frame and those before it: their sets go back.
     pub fn finish(&mut self, frame: u64)
         ensures in_use { used_of self.new ≡ used_of self.old }
+        ensures retired { retired_in self.new ≡ later frame (retired_in self.old) }
         ensures accounted { IsAccounted self.old → IsAccounted self.new }
         ensures can_retire { (frame : ℕ) → CanRetire frame self.old → CanRetire frame self.new }
         ensures others { others_in self.new ≡ others_in self.old }

@@ -4,7 +4,7 @@ ghost use Rattle.gpu_descriptor.specs.Model.Agreement.{AreOutstanding};
 ghost use Rattle.gpu_descriptor.specs.Caller.Sets.{items_of};
 ghost use Rattle.gpu_descriptor.specs.Caller.States.{Agrees, outstanding_of, state_of};
 ghost use Rattle.gpu_descriptor.proofs.callers.OneAgreement.{Agree-prop};
-ghost use Rattle.descriptor_uses.specs.Layouts.{IsMeant};
+ghost use Rattle.descriptor_uses.specs.Layouts.{Adds, IsMeant};
 
 use crate::layout::SetLayout;
 use gpu_descriptor::{AllocationError, DescriptorAllocator, DescriptorDevice, DescriptorSet, laws};
@@ -30,7 +30,7 @@ pub struct Scene<L, P, S, D: DescriptorDevice<L, P, S>> {
 }
 
 impl<L, P: Drop, S: Drop, D: DescriptorDevice<L, P, S>> Scene<L, P, S, D> {
-    ghost use Rattle.descriptor_uses.specs.Scenes.{Adds, held_of, others_in, pools_of};
+    ghost use Rattle.descriptor_uses.specs.Scenes.{held_of, others_in, pools_of};
 
     /// A scene without sets.
     pub fn new(alloc: Global, device: D) -> Self
@@ -49,7 +49,8 @@ impl<L, P: Drop, S: Drop, D: DescriptorDevice<L, P, S>> Scene<L, P, S, D> {
     /// Adds sets of a layout, all or none.
     pub fn add(&mut self, layout: &SetLayout<L>, count: u32) -> Result<(), AllocationError>
         requires { IsMeant D.meaning layout.now }
-        ensures added { OnOk result (Adds count (held_of self.old) (held_of self.new)) }
+        ensures added { OnOk result (Adds D.meaning layout.now.layout count (held_of self.old)
+            (held_of self.new)) }
         ensures held { OnErr result (held_of self.new ≡ held_of self.old) }
     {
         let mut sets = self.allocator.allocate(
