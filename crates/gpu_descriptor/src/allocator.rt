@@ -46,7 +46,7 @@ impl<P, S> Model for DescriptorAllocator<P, S> {
     ghost coded = { allocations_code P.code };
 
     ghost use Rattle.std.specs.Prelude.{map};
-    ghost use Rattle.gpu_descriptor.specs.Inner.Stored.{row_of, IsConsistent};
+    ghost use Rattle.gpu_descriptor.specs.Inner.Stored.{row_of, IsCounted};
 
     ghost view = { λ a. record {
       limit = a.max_update_after_bind_descriptors_in_all_pools;
@@ -55,7 +55,7 @@ impl<P, S> Model for DescriptorAllocator<P, S> {
       comparisons = a.comparisons.count;
     } };
 
-    ghost invariant = { λ a. IsConsistent a.max_update_after_bind_descriptors_in_all_pools
+    ghost invariant = { λ a. IsCounted a.max_update_after_bind_descriptors_in_all_pools
         a.current_update_after_bind_descriptors_in_all_pools a.update_after_bind_room
         a.outstanding a.buckets.entries };
 }

@@ -1,4 +1,5 @@
 -- In which order keys stay in the table.
+use Rattle.gpu_descriptor.specs.Caller.Keys.{keys_with_pools}
 use Rattle.gpu_descriptor.proofs.Common.{◌≡◌, ℕ, suc, ◌==◌, not, Bool, List, [], ◌∷◌, ◌++◌, length, map, filter, slice_get, Some, inl, inr, refl, sym, ap, subst, ◌∙◌, arith, length-drop, set_value, cases_Bool, map-append, Ledger, BucketKey, DescriptorBucket, Key, Bucket, HasDistinctKeys, books_of, key_of, Allocations}
 use Rattle.gpu_descriptor.specs.Inner.Buckets.{has_pools, front_but, trimmed_bucket}
 use Rattle.gpu_descriptor.specs.Model.Cleanup.{IsCleaned, cleaned_bucket}
@@ -51,7 +52,7 @@ keys_left stays (r ∷ rows) says =
 
 -- the keys that still have pools are left, in their order
 pub keys_cleaned : {P : Type 0} (name : P → ℕ) (a b : Allocations P) (l m : Ledger) (es now fs : List (BucketKey × DescriptorBucket P)) → a.table ≡ map row_of es → b.table ≡ map row_of fs → HasDistinctKeys (rows_in name es) → rows_in name now ≡ map cleared_row (rows_in name es) → fs ≡ filter (λ e. has_pools e.1) now
-    → IsCleaned (state_of name a l) (state_of name b m) → keys_of b ≡ filter (λ k. not (length ((state_of name b m).books k).pools == 0)) (keys_of a)
+    → IsCleaned (state_of name a l) (state_of name b m) → keys_of b ≡ keys_with_pools (state_of name b m) (keys_of a)
 keys_cleaned {P} name a b l m es now fs was is distinct rows kept clean =
     let t = state_of name b m in
     let stays : Key → Bool = λ k. not (length (t.books k).pools == 0) in

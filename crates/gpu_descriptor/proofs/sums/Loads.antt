@@ -6,7 +6,7 @@ use Rattle.gpu_descriptor.specs.Caller.Frees.{marked_descriptors}
 use Rattle.gpu_descriptor.specs.Caller.Sets.{item_of, items_of}
 use Rattle.gpu_descriptor.specs.Caller.States.{outstanding_of, marked_load_of}
 use Rattle.gpu_descriptor.specs.Inner.RunSteps.{AllPass, lies_at}
-use Rattle.gpu_descriptor.specs.Inner.Stored.{kept_in, kept_of, row_of, stored_keys, stored_load, IsConsistent}
+use Rattle.gpu_descriptor.specs.Inner.Stored.{kept_in, kept_of, row_of, stored_keys, stored_load, IsConsistent, IsCounted}
 use Rattle.gpu_descriptor.proofs.table.Exact.{key_exact}
 use Rattle.gpu_descriptor.proofs.sums.TableSums.{sum_map}
 use Rattle.gpu_descriptor.proofs.release.WholeRun.{at_parts}
@@ -23,6 +23,16 @@ marked_load-le k m n le =
     let parts = marked_load-add k m (n - m) in
     let whole : marked_load k (m + (n - m)) ≡ marked_load k n = ap (marked_load k) rest in
     omega arith
+
+-- the allocator's invariant, opened and closed
+module _ {P : Type 0} {limit marked room out : ℕ} {es : List (BucketKey × DescriptorBucket P)} where
+  pub opened : IsCounted limit marked room out es → IsConsistent limit marked room out es
+  unfolding IsCounted
+  opened counted = counted
+
+  pub closed : IsConsistent limit marked room out es → IsCounted limit marked room out es
+  unfolding IsCounted
+  closed counted = counted
 
 -- the row of a key, which a test of the map finds
 pub record IsRow {P : Type 0} (k : Key) (es : List (BucketKey × DescriptorBucket P)) (v : DescriptorBucket P) : Type 0 where

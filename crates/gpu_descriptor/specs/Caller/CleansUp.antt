@@ -1,10 +1,11 @@
 -- What cleaning up leaves of an allocator and of the ledger.
-use Rattle.std.specs.Prelude.{◌==◌, length, ◌≡◌, filter, not}
+use Rattle.std.specs.Prelude.{◌≡◌}
 use Rattle.gpu_descriptor_types.specs.Meaning.{Meaning}
 use Rattle.gpu_descriptor_types.specs.Side.{Side}
 use Rattle.gpu_descriptor.specs.Model.Cleanup.{IsCleaned, pools_cleaned}
 use Rattle.gpu_descriptor.specs.Model.Promises.{KeepsOutstanding}
 use Rattle.gpu_descriptor.specs.Model.Release.{more_destroyed}
+use Rattle.gpu_descriptor.specs.Caller.Keys.{keys_with_pools}
 use Rattle.gpu_descriptor.specs.Caller.Others.{others_of}
 use Rattle.gpu_descriptor.specs.Caller.States.{keys_of, marked_load_of, outstanding_of, state_of}
 use Rattle.gpu_descriptor.specs.Caller.Values.{Allocations}
@@ -14,7 +15,7 @@ pub record CleansUp {L P S : Type 0} (means : Meaning L P S) (old new : Side (Al
   -- all other counters stay
   pub destroyed : new.ledger.counters ≡ more_destroyed (pools_cleaned (keys_of old.value) (state_of means.pool_name old.value old.ledger)) old.ledger.counters
   -- those that still have pools, in their order
-  pub keys : keys_of new.value ≡ filter (λ k. not (length ((state_of means.pool_name new.value new.ledger).books k).pools == 0)) (keys_of old.value)
+  pub keys : keys_of new.value ≡ keys_with_pools (state_of means.pool_name new.value new.ledger) (keys_of old.value)
   pub outstanding_stay : KeepsOutstanding (state_of means.pool_name old.value old.ledger) (state_of means.pool_name new.value new.ledger)
   pub totals_stay : (outstanding_of new.value ≡ outstanding_of old.value) × (marked_load_of new.value ≡ marked_load_of old.value)
   -- with no set out, the device has only the pools of others left

@@ -36,6 +36,10 @@ module _ {P : Type 0} where
     pub is_room : room + sum_over bucket_load (map row_of table) ≡ limit
     pub is_out : out ≡ sum_over sets_out (map row_of table)
 
+  -- the same, closed: so the search of a caller that drops an allocator does not go through its sums
+  unfoldable pub IsCounted : (limit marked room out : ℕ) → List (BucketKey × DescriptorBucket P) → Type 0
+  IsCounted limit marked room out table = IsConsistent limit marked room out table
+
   module _ (name : P → ℕ) where
     abbrev pub entry_of : DescriptorPool P → Entry
     entry_of p = named name (kept_of p)

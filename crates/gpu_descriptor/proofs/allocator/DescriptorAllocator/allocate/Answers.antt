@@ -1,3 +1,4 @@
+use Rattle.gpu_descriptor.proofs.sums.Loads.{opened}
 use Rattle.gpu_descriptor.proofs.Common.{◌≡◌, ◌<◌, refl, arith, ◌∙◌, subst, Err, side, Key, key_of}
 use Rattle.gpu_descriptor.specs.Model.Outcomes.{Allocates}
 use Rattle.gpu_descriptor.specs.Caller.Call.{call_of, layout_key}
@@ -35,7 +36,7 @@ free_all-requires-clause-outstanding g c = taken_given c.in-Ok.ensures.taken c.r
 
 pub returns-then-count-eq0-clause-keeps : goal.returns-then-count-eq0-clause-keeps
 returns-then-count-eq0-clause-keeps g c =
-    keeps_still refl refl c.requires.agree (load_within _ c.self.view_is c.self.invariant) (pool_load_within _ c.self.view_is c.self.invariant)
+    keeps_still refl refl c.requires.agree (load_within _ c.self.view_is (opened c.self.invariant)) (pool_load_within _ c.self.view_is (opened c.self.invariant))
 
 pub returns-in-Err-clause-hands_out : goal.returns-in-Err-clause-hands_out
 returns-in-Err-clause-hands_out g c =

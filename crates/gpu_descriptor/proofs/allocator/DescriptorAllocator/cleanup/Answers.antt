@@ -9,7 +9,7 @@ use Rattle.gpu_descriptor.specs.Caller.States.{outstanding_of, marked_load_of, n
 use Rattle.gpu_descriptor.specs.Inner.Stored.{bucket_of, row_of}
 use Rattle.gpu_descriptor.proofs.cleanup.Cleaning.{clean_agrees, takes_none}
 use Rattle.gpu_descriptor.proofs.foreign.ForeignPools.{cleaned_foreign, cleaned_loses}
-use Rattle.gpu_descriptor.proofs.sums.Loads.{rows_pool_load, stored_load_in, sum_put}
+use Rattle.gpu_descriptor.proofs.sums.Loads.{rows_pool_load, stored_load_in, sum_put, opened, closed}
 use Rattle.gpu_descriptor.proofs.cleanup.KeyOrder.{keys_cleaned}
 use Rattle.gpu_descriptor.proofs.cleanup.RowsCleaned.{all_cleared, agree_is, cleared, counted_filter, counted_put, entry_there, ledger_less, next, next_stored, step_less, step_rows, whole_clean, whole_count}
 use Rattle.gpu_descriptor.proofs.foreign.OthersStay.{emptied, others_stay}
@@ -30,7 +30,7 @@ drop_front-requires-clause-stored g c =
     let k = (deref_pair c.unwrap.result).0 in
     let at = next name c.loop-place.place c.loop-place.self-inside.buckets.entries (rows_in name es) k c.index_mut-bucket.result.now h.rows (at_place g (goal.at.drop_front-requires-clause-stored g c).After-index_mut-bucket) in
     let agree = agree_is name c.args.self.now (ledger c.args.device.now) es (ap (λ (a : Allocations _). a.table) (sym c.self.view_is)) c.requires.agree in
-    let there = next_stored (rows_in name es) (ledger c.args.device.now).pools c.loop-place.place (key_of k, bucket_of name c.index_mut-bucket.result.now) (distinct_rows name es c.self.invariant.distinct) agree at in
+    let there = next_stored (rows_in name es) (ledger c.args.device.now).pools c.loop-place.place (key_of k, bucket_of name c.index_mut-bucket.result.now) (distinct_rows name es (opened c.self.invariant).distinct) agree at in
     (key_of k, subst (λ (l : Ledger). AreBookedIn (key_of k) l.pools (bucket_of name c.index_mut-bucket.result.now).pools) (sym h.ledger) there)
 
 pub drop_front-requires-clause-room : goal.drop_front-requires-clause-room
@@ -80,7 +80,7 @@ invariant_of-self-inside-2 g c =
 pub invariant_of-self : goal.invariant_of-self
 invariant_of-self g c =
     let kept = filter-RetainsPairs _ (λ e. has_pools e.1) _ (λ k v b w f call. search rules) _ _ c.retain.ensures.filtered in
-    counted_filter _ _ _ _ _ _ kept (distinct_stored _ (λ k l. search rules) _ c.retain.ensures.unique) c.loop-place.invariant.counted
+    closed (counted_filter _ _ _ _ _ _ kept (distinct_stored _ (λ k l. search rules) _ c.retain.ensures.unique) c.loop-place.invariant.counted)
 
 pub returns : goal.returns
 returns g c =
@@ -89,7 +89,7 @@ returns g c =
     let h = c.loop-place.invariant in
     let es = c.self.inside.buckets.entries in
     let was = ap (λ (a : Allocations _). a.table) (sym c.self.view_is) in
-    let distinct = distinct_rows name es c.self.invariant.distinct in
+    let distinct = distinct_rows name es (opened c.self.invariant).distinct in
     let kept = filter-RetainsPairs _ (λ e. has_pools e.1) _ (λ k v b w f call. search rules) _ _ c.retain.ensures.filtered in
     let le : length (rows_in name es) ≤ c.loop-place.place = (let rows : length (rows_in name es) ≡ length es = length-map es (λ e. (key_of e.0, bucket_of name e.1)) in let all = h.long in omega arith) in
     let rows = h.rows ∙ all_cleared c.loop-place.place (rows_in name es) le in
@@ -107,8 +107,8 @@ returns g c =
         keys = keys_cleaned name c.args.self.now now (ledger c.args.device.now) (ledger c.loop-place.device) es c.loop-place.self-inside.buckets.entries c.retain.new.self.entries was refl distinct rows kept clean;
         outstanding_stay = takes_none _ _ c.requires.agree clean;
         totals_stay = (
-          sym counted.is_out ∙ h.out ∙ c.self.invariant.is_out ∙ ap outstanding_of c.self.view_is,
-          sym counted.is_load ∙ h.marked ∙ c.self.invariant.is_load ∙ ap marked_load_of c.self.view_is,
+          sym counted.is_out ∙ h.out ∙ (opened c.self.invariant).is_out ∙ ap outstanding_of c.self.view_is,
+          sym counted.is_load ∙ h.marked ∙ (opened c.self.invariant).is_load ∙ ap marked_load_of c.self.view_is,
         );
         emptied = emptied name c.args.self.now now (ledger c.args.device.now) (ledger c.loop-place.device) rows_before c.requires.agree clean;
         counts_stay = (h.looks ∙ ap (λ (a : Allocations _). a.looks) c.self.view_is, h.comparisons ∙ ap (λ (a : Allocations _). a.comparisons) c.self.view_is);
@@ -123,3 +123,6 @@ returns g c =
         others = others_stay name c.args.self.now now (ledger c.args.device.now) (ledger c.loop-place.device) foreign accounted;
       };
     }
+
+pub loop-place-init : goal.loop-place-init
+loop-place-init g c = (let counted = opened c.self.invariant in search (rules, counted))

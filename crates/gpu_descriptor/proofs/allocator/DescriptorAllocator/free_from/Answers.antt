@@ -1,3 +1,5 @@
+use Rattle.std.proofs.Common.{rules}
+use Rattle.gpu_descriptor.proofs.sums.Loads.{opened}
 use Rattle.gpu_descriptor.proofs.Common.{◌∙◌, Some}
 use Rattle.gpu_descriptor.proofs.foreign.OthersStay.{others_stay}
 use Rattle.gpu_descriptor.proofs.foreign.ForeignPools.{freed_foreign, freed_loses}
@@ -50,9 +52,12 @@ returns-clause-keeps g c =
     record {
       agree = r.agree;
       limit = c.loop-ahead.invariant.limit;
-      load = load_within _ c.self.view_is c.self.invariant;
-      pool_load = pool_load_within _ c.self.view_is c.self.invariant;
+      load = load_within _ c.self.view_is (opened c.self.invariant);
+      pool_load = pool_load_within _ c.self.view_is (opened c.self.invariant);
       foreign = foreign;
       accounted = accounted;
       others = others_stay name c.args.self.now c.loop-ahead.self before after foreign accounted;
     }
+
+pub prove-unreachable-requires : goal.prove-unreachable-requires
+prove-unreachable-requires g c = (let within = (opened c.self.invariant).within in search (rules, within))

@@ -1,3 +1,4 @@
+use Rattle.gpu_descriptor.proofs.sums.Loads.{opened}
 use Rattle.gpu_descriptor.proofs.Common.{ℕ, sym, ap, ◌∙◌, HasDistinctKeys, Allocations}
 use Rattle.gpu_descriptor.specs.Caller.States.{outstanding_of, table_of}
 use Rattle.gpu_descriptor.specs.Model.Load.{sets_out}
@@ -7,9 +8,9 @@ use Rattle.gpu_descriptor.proofs.allocator.DescriptorAllocator.outstanding.Goals
 
 pub returns : goal.returns
 returns g c =
-    let total = c.self.invariant.is_out ∙ ap outstanding_of c.self.view_is in
+    let total = (opened c.self.invariant).is_out ∙ ap outstanding_of c.self.view_is in
     let was = ap (λ (a : Allocations _). a.table) (sym c.self.view_is) in
-    let rows : (name : g.row.P.Denot → ℕ) → HasDistinctKeys (table_of name c.args.self.now) = λ name. rows_apart _ c.self.view_is name c.self.invariant in
+    let rows : (name : g.row.P.Denot → ℕ) → HasDistinctKeys (table_of name c.args.self.now) = λ name. rows_apart _ c.self.view_is name (opened c.self.invariant) in
     record {
       total = total;
       books = λ name. adds_up name c.args.self.now sets_out (rows name) (outstanding_of-table name c.args.self.now) total;

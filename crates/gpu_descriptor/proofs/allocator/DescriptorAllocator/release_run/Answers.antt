@@ -9,7 +9,7 @@ use Rattle.gpu_descriptor.specs.Inner.Stored.{stored_load}
 use Rattle.gpu_descriptor.specs.Model.Load.{marked_load}
 use Rattle.gpu_descriptor.proofs.callers.HeldSets.{out_back, out_less}
 use Rattle.gpu_descriptor.proofs.release.LentRow.{row_open, row_stored, row_taken, row_ran, row_counted}
-use Rattle.gpu_descriptor.proofs.sums.Loads.{IsRow, IsWritten, Taken, taken, load_fits, counted_after, out_after, load_after, run_load, pools_present, pools_set}
+use Rattle.gpu_descriptor.proofs.sums.Loads.{IsRow, IsWritten, Taken, taken, load_fits, counted_after, out_after, load_after, run_load, pools_present, pools_set, opened, closed}
 use Rattle.gpu_descriptor.proofs.release.Owned.{Owns, ends_at, first_owns, lie_at, stands}
 use Rattle.gpu_descriptor.proofs.request.Requested.{table_is}
 use Rattle.gpu_descriptor.proofs.table.Rising.{id_of, ids_put, inside, own_key}
@@ -49,7 +49,7 @@ there : (g : _) (c : After-index_mut-bucket g) → slice_get c.self.inside.bucke
 there g c at key = is_at c.args.first.key.is c.self.inside.buckets.entries c.place_of_id-place.result c.index_mut-bucket.result.now (key_at c.self.inside.buckets.entries c.place_of_id-place.result _ _ at ∙ ap (λ (k : Key). Some k) key) c.index_mut-bucket.ensures.value
 
 row : (g : _) (c : After-index_mut-bucket g) → There g c → IsRow c.args.first.key.is c.self.inside.buckets.entries c.index_mut-bucket.result.now
-row g c at = row_at c.args.first.key.is c.self.invariant.distinct at
+row g c at = row_at c.args.first.key.is (opened c.self.invariant).distinct at
 
 pub release_run-ahead-requires-clause-same : goal.release_run-ahead-requires-clause-same
 release_run-ahead-requires-clause-same g c = own g (goal.at.release_run-ahead-requires-clause-same g c).After-unwrap
@@ -79,14 +79,14 @@ release_run-ahead-requires-clause-room g c =
     let at = goal.at.release_run-ahead-requires-clause-room g c in
     let below = pools_present (row g at.After-index_mut-bucket (there g at.After-index_mut-bucket (entry g at.After-unwrap) (own g at.After-unwrap))) in
     let same = ap (λ (k : Key). stored_load k c.index_mut-bucket.result.now.pools.items) (own g at.After-unwrap) in
-    let all = c.self.invariant.is_room in
+    let all = (opened c.self.invariant).is_room in
     let ranges = c.self.ranges in
     omega arith
 
 -- the row that the run leaves
 written : (g : _) (c : After-release_run-ahead g) → IsAt c.args.first.key.is c.self.inside.buckets.entries c.place_of_id-place.result c.index_mut-bucket.result.now
     → IsWritten c.args.first.key.is c.self.inside.buckets.entries (set_value_at c.self.inside.buckets.entries c.place_of_id-place.result c.release_run-ahead.new.self) c.index_mut-bucket.result.now c.release_run-ahead.new.self
-written g c at = written_at c.args.first.key.is c.self.invariant.distinct at _ _ refl
+written g c at = written_at c.args.first.key.is (opened c.self.invariant).distinct at _ _ refl
 
 -- what the run takes from the totals
 run_taken : (g : _) (c : After-release_run-ahead g) → IsAt c.args.first.key.is c.self.inside.buckets.entries c.place_of_id-place.result c.index_mut-bucket.result.now
@@ -97,13 +97,13 @@ pub overflow_sub-self : goal.overflow_sub-self
 overflow_sub-self g c =
     let at = goal.at.overflow_sub-self g c in
     let out = (run_taken g at.After-release_run-ahead (there g at.After-index_mut-bucket (entry g at.After-unwrap) (own g at.After-unwrap))).out in
-    let is = c.self.invariant.is_out in
+    let is = (opened c.self.invariant).is_out in
     omega arith
 
 pub descriptors_of_sets-descriptors-requires : goal.descriptors_of_sets-descriptors-requires
 descriptors_of_sets-descriptors-requires g c =
     let at = goal.at.descriptors_of_sets-descriptors-requires g c in
-    let fits = load_fits (run_taken g at.After-release_run-ahead (there g at.After-index_mut-bucket (entry g at.After-unwrap) (own g at.After-unwrap))) c.self.invariant in
+    let fits = load_fits (run_taken g at.After-release_run-ahead (there g at.After-index_mut-bucket (entry g at.After-unwrap) (own g at.After-unwrap))) (opened c.self.invariant) in
     let same = ap (λ (k : Key). marked_load k (c.index_mut-bucket.result.now.total - c.release_run-ahead.new.self.total)) (own g at.After-unwrap) in
     let ranges = c.self.ranges in
     omega arith
@@ -111,7 +111,7 @@ descriptors_of_sets-descriptors-requires g c =
 pub overflow_cast-descriptors : goal.overflow_cast-descriptors
 overflow_cast-descriptors g c =
     let at = goal.at.overflow_cast-descriptors g c in
-    let fits = load_fits (run_taken g at.After-release_run-ahead (there g at.After-index_mut-bucket (entry g at.After-unwrap) (own g at.After-unwrap))) c.self.invariant in
+    let fits = load_fits (run_taken g at.After-release_run-ahead (there g at.After-index_mut-bucket (entry g at.After-unwrap) (own g at.After-unwrap))) (opened c.self.invariant) in
     let same = ap (λ (k : Key). marked_load k (c.index_mut-bucket.result.now.total - c.release_run-ahead.new.self.total)) (own g at.After-unwrap) in
     let ranges = c.self.ranges in
     let is = c.descriptors_of_sets-descriptors.ensures in
@@ -120,7 +120,7 @@ overflow_cast-descriptors g c =
 pub overflow_sub-self-2 : goal.overflow_sub-self-2
 overflow_sub-self-2 g c =
     let at = goal.at.overflow_sub-self-2 g c in
-    let fits = load_fits (run_taken g at.After-release_run-ahead (there g at.After-index_mut-bucket (entry g at.After-unwrap) (own g at.After-unwrap))) c.self.invariant in
+    let fits = load_fits (run_taken g at.After-release_run-ahead (there g at.After-index_mut-bucket (entry g at.After-unwrap) (own g at.After-unwrap))) (opened c.self.invariant) in
     let same = ap (λ (k : Key). marked_load k (c.index_mut-bucket.result.now.total - c.release_run-ahead.new.self.total)) (own g at.After-unwrap) in
     let is = c.descriptors_of_sets-descriptors.ensures in
     omega arith
@@ -135,9 +135,9 @@ pub invariant_of-self : goal.invariant_of-self
 invariant_of-self g c =
     let at = goal.at.invariant_of-self g c in
     let here = there g at.After-index_mut-bucket (entry g at.After-unwrap) (own g at.After-unwrap) in
-    counted_after (run_taken g at.After-release_run-ahead here) c.self.invariant (c.descriptors_of_sets-descriptors.ensures ∙ ap (λ (k : Key). marked_load k (c.index_mut-bucket.result.now.total - c.release_run-ahead.new.self.total)) (own g at.After-unwrap))
+    closed (counted_after (run_taken g at.After-release_run-ahead here) (opened c.self.invariant) (c.descriptors_of_sets-descriptors.ensures ∙ ap (λ (k : Key). marked_load k (c.index_mut-bucket.result.now.total - c.release_run-ahead.new.self.total)) (own g at.After-unwrap))
     (pools_set (written g at.After-release_run-ahead here) _ _ (subst (λ (k : Key). c.release_run-ahead.new.room + stored_load k c.release_run-ahead.new.self.pools.items ≡ c.self.inside.update_after_bind_room + stored_load k c.index_mut-bucket.result.now.pools.items) (own g at.After-unwrap) c.release_run-ahead.ensures.room))
-    (keys_at c.self.inside.buckets.entries c.place_of_id-place.result c.release_run-ahead.new.self)
+    (keys_at c.self.inside.buckets.entries c.place_of_id-place.result c.release_run-ahead.new.self))
 
 pub returns-clause-ran : goal.returns-clause-ran
 returns-clause-ran g c =
@@ -152,7 +152,7 @@ returns-clause-ran g c =
     let set_name = g.D.DescriptorDevice.meaning.set_name in
     let before = g.D.DescriptorDevice.ledger c.args.device.now in
     let after = g.D.DescriptorDevice.ledger c.release_run-ahead.new.device in
-    let distinct = distinct_rows name es c.self.invariant.distinct in
+    let distinct = distinct_rows name es (opened c.self.invariant).distinct in
     let came = ends_at name set_name c.args.self.now before es was c.self.inside.ids.next c.self.inside.rising c.args.first.key.is c.args.first.id c.args.first.number (owner g at.After-unwrap) g.I.Iterator.next_gives c.args.first _ _ ran.0 _ c.requires.outstanding ran.1 in
     let state = row_ran name set_name c.args.self.now before es was c.requires.agree c.args.first row.test row.same c.index_mut-bucket.result.now row.at ran.0 came.0 c.release_run-ahead.new.self after ran.2 c.self.inside.max_update_after_bind_descriptors_in_all_pools _ left.wrote in
     record {

@@ -1,3 +1,4 @@
+use Rattle.gpu_descriptor.proofs.sums.Loads.{opened, closed}
 use Rattle.gpu_descriptor.proofs.Common.{greatest_u64, ◌+◌, ◌≤◌, arith, refl, ap, subst, sym, ◌∙◌, ltb-false, Ledger, Bucket, key_of}
 use Rattle.gpu_descriptor.specs.Model.Load.{marked_load}
 use Rattle.gpu_descriptor.specs.Caller.States.{state_of}
@@ -5,17 +6,17 @@ use Rattle.gpu_descriptor.specs.Inner.Stored.{IsConsistent}
 use Rattle.gpu_descriptor.specs.Inner.Buckets.{AreBookedIn}
 use Rattle.gpu_descriptor.proofs.request.StateAgrees.{booked_of}
 use Rattle.gpu_descriptor.proofs.cleanup.KeyOrder.{keys_seen}
-use Rattle.gpu_descriptor.proofs.request.Requested.{seen, seen_again, table_is, books_at, rows_apart, rows_distinct, rows_within, pools_within, pool_load_within, declined_by_limit, declined_by_bound, declined_unserved, given_fits, counted_now, takes_of}
+use Rattle.gpu_descriptor.proofs.request.Requested.{seen, seen_again, table_is, books_at, rows_apart, rows_distinct, rows_within, pools_within, pool_load_within, declined_by_limit, declined_by_bound, declined_unserved, given_fits, counted_now, takes_of, load_within}
 use Rattle.gpu_descriptor.proofs.allocator.DescriptorAllocator.request.Goals.{After-len-given, After-descriptors_of_sets-descriptors}
 use Rattle.gpu_descriptor.proofs.allocator.DescriptorAllocator.request.Goals as goal
 
 pub returns-then-is_above_limit-clause-declined : goal.returns-then-is_above_limit-clause-declined
 returns-then-is_above_limit-clause-declined g c =
-    declined_by_limit g.D.DescriptorDevice.meaning c.self.view_is c.self.invariant _ c.args.key c.requires.some c.is_above_limit.ensures c.if-is_above_limit.true
+    declined_by_limit g.D.DescriptorDevice.meaning c.self.view_is (opened c.self.invariant) _ c.args.key c.requires.some c.is_above_limit.ensures c.if-is_above_limit.true
 
 pub returns-then-is_past_bound-clause-declined : goal.returns-then-is_past_bound-clause-declined
 returns-then-is_past_bound-clause-declined g c =
-    declined_by_bound g.D.DescriptorDevice.meaning c.self.view_is c.self.invariant _ c.args.key c.requires.some c.is_above_limit.ensures c.if-is_above_limit.false
+    declined_by_bound g.D.DescriptorDevice.meaning c.self.view_is (opened c.self.invariant) _ c.args.key c.requires.some c.is_above_limit.ensures c.if-is_above_limit.false
     c.is_past_bound.ensures c.if-is_past_bound.true
 
 pub serve_key-served-requires-clause-booked : goal.serve_key-served-requires-clause-booked
@@ -27,17 +28,17 @@ serve_key-served-requires-clause-booked g c =
 pub serve_key-served-requires-clause-bound : goal.serve_key-served-requires-clause-bound
 serve_key-served-requires-clause-bound g c =
     let below = ltb-false greatest_u64 (c.self.inside.outstanding + c.args.count) (sym c.is_past_bound.ensures ∙ c.if-is_past_bound.false) in
-    let is = c.self.invariant.is_out in
+    let is = (opened c.self.invariant).is_out in
     omega arith
 
 pub returns-in-Err-clause-declined : goal.returns-in-Err-clause-declined
 returns-in-Err-clause-declined g c =
-    declined_unserved g.D.DescriptorDevice.meaning c.self.view_is c.self.invariant _ c.args.key c.requires.some c.is_above_limit.ensures c.if-is_above_limit.false
+    declined_unserved g.D.DescriptorDevice.meaning c.self.view_is (opened c.self.invariant) _ c.args.key c.requires.some c.is_above_limit.ensures c.if-is_above_limit.false
     c.is_past_bound.ensures c.if-is_past_bound.false (seen_again _ c.self.view_is _ c.in-Err.ensures.entries (ap (λ t. t.count) c.in-Err.ensures.looks_stay)) c.in-Err.ensures.ledger c.in-Err.error c.in-Err.ensures.refused
 
 -- the descriptors of what came keep the limit
 fits : (g : _) (c : After-len-given g) → marked_load (key_of c.args.key) c.len-given.result + c.self.inside.current_update_after_bind_descriptors_in_all_pools ≤ c.self.inside.max_update_after_bind_descriptors_in_all_pools
-fits g c = given_fits c.serve_key-served.new.buckets.entries c.in-Ok.ensures.served c.self.view_is c.self.invariant c.is_above_limit.ensures c.if-is_above_limit.false (c.len-given.ensures ∙ c.in-Ok.served.sets.ok.0)
+fits g c = given_fits c.serve_key-served.new.buckets.entries c.in-Ok.ensures.served c.self.view_is (opened c.self.invariant) c.is_above_limit.ensures c.if-is_above_limit.false (c.len-given.ensures ∙ c.in-Ok.served.sets.ok.0)
 
 pub descriptors_of_sets-descriptors-requires : goal.descriptors_of_sets-descriptors-requires
 descriptors_of_sets-descriptors-requires g c =
@@ -68,10 +69,10 @@ overflow_add-self-2 g c =
 
 -- the totals count what came
 counted : (g : _) (c : After-descriptors_of_sets-descriptors g) → IsConsistent c.self.inside.max_update_after_bind_descriptors_in_all_pools (c.self.inside.current_update_after_bind_descriptors_in_all_pools + c.descriptors_of_sets-descriptors.result) c.serve_key-served.new.room (c.self.inside.outstanding + c.len-given.result) c.serve_key-served.new.buckets.entries
-counted g c = counted_now c.serve_key-served.new.buckets.entries c.in-Ok.ensures.served c.self.view_is c.self.invariant c.is_above_limit.ensures c.if-is_above_limit.false (c.len-given.ensures ∙ c.in-Ok.served.sets.ok.0) c.descriptors_of_sets-descriptors.ensures c.serve_key-served.ensures.room c.in-Ok.ensures.distinct
+counted g c = counted_now c.serve_key-served.new.buckets.entries c.in-Ok.ensures.served c.self.view_is (opened c.self.invariant) c.is_above_limit.ensures c.if-is_above_limit.false (c.len-given.ensures ∙ c.in-Ok.served.sets.ok.0) c.descriptors_of_sets-descriptors.ensures c.serve_key-served.ensures.room c.in-Ok.ensures.distinct
 
 pub invariant_of-self-2 : goal.invariant_of-self-2
-invariant_of-self-2 g c = counted g (goal.at.invariant_of-self-2 g c).After-descriptors_of_sets-descriptors
+invariant_of-self-2 g c = closed (counted g (goal.at.invariant_of-self-2 g c).After-descriptors_of_sets-descriptors)
 
 pub returns-clause-load : goal.returns-clause-load
 returns-clause-load g c = rows_within (counted g (goal.at.returns-clause-load g c).After-descriptors_of_sets-descriptors)
@@ -84,28 +85,37 @@ returns-clause-rows g c = rows_distinct g.D.DescriptorDevice.meaning.pool_name _
 
 pub returns-clause-taken : goal.returns-clause-taken
 returns-clause-taken g c =
-    takes_of c.serve_key-served.new.buckets.entries c.in-Ok.ensures.served c.self.view_is c.self.invariant c.is_above_limit.ensures c.if-is_above_limit.false c.is_past_bound.ensures c.if-is_past_bound.false
+    takes_of c.serve_key-served.new.buckets.entries c.in-Ok.ensures.served c.self.view_is (opened c.self.invariant) c.is_above_limit.ensures c.if-is_above_limit.false c.is_past_bound.ensures c.if-is_past_bound.false
 
 pub returns-then-is_above_limit-clause-rows : goal.returns-then-is_above_limit-clause-rows
-returns-then-is_above_limit-clause-rows g c = rows_apart _ c.self.view_is g.D.DescriptorDevice.meaning.pool_name c.self.invariant
+returns-then-is_above_limit-clause-rows g c = rows_apart _ c.self.view_is g.D.DescriptorDevice.meaning.pool_name (opened c.self.invariant)
 
 pub returns-then-is_past_bound-clause-rows : goal.returns-then-is_past_bound-clause-rows
-returns-then-is_past_bound-clause-rows g c = rows_apart _ c.self.view_is g.D.DescriptorDevice.meaning.pool_name c.self.invariant
+returns-then-is_past_bound-clause-rows g c = rows_apart _ c.self.view_is g.D.DescriptorDevice.meaning.pool_name (opened c.self.invariant)
 
 pub returns-in-Err-clause-rows : goal.returns-in-Err-clause-rows
-returns-in-Err-clause-rows g c = rw c.in-Err.ensures.entries (rows_distinct g.D.DescriptorDevice.meaning.pool_name _ c.self.invariant.distinct)
+returns-in-Err-clause-rows g c = rw c.in-Err.ensures.entries (rows_distinct g.D.DescriptorDevice.meaning.pool_name _ (opened c.self.invariant).distinct)
 
 pub returns-then-is_past_bound-clause-pool_load : goal.returns-then-is_past_bound-clause-pool_load
-returns-then-is_past_bound-clause-pool_load g c = pool_load_within _ c.self.view_is c.self.invariant
+returns-then-is_past_bound-clause-pool_load g c = pool_load_within _ c.self.view_is (opened c.self.invariant)
 
 pub returns-then-is_above_limit-clause-pool_load : goal.returns-then-is_above_limit-clause-pool_load
-returns-then-is_above_limit-clause-pool_load g c = pool_load_within _ c.self.view_is c.self.invariant
+returns-then-is_above_limit-clause-pool_load g c = pool_load_within _ c.self.view_is (opened c.self.invariant)
 
 pub returns-clause-keys : goal.returns-clause-keys
 returns-clause-keys g c = keys_seen (key_of c.args.key) c.args.self.now (seen 0 0 0 c.serve_key-served.new.buckets.entries) c.self.inside.buckets.entries c.serve_key-served.new.buckets.entries (table_is _ c.self.view_is) refl c.in-Ok.ensures.keys
 
 pub returns-in-Err-clause-load : goal.returns-in-Err-clause-load
-returns-in-Err-clause-load g c = rw c.in-Err.ensures.entries (rows_within c.self.invariant)
+returns-in-Err-clause-load g c = rw c.in-Err.ensures.entries (rows_within (opened c.self.invariant))
 
 pub returns-in-Err-clause-pool_load : goal.returns-in-Err-clause-pool_load
-returns-in-Err-clause-pool_load g c = rw c.in-Err.ensures.entries (pools_within c.self.invariant)
+returns-in-Err-clause-pool_load g c = rw c.in-Err.ensures.entries (pools_within (opened c.self.invariant))
+
+pub returns-then-is_above_limit-clause-load : goal.returns-then-is_above_limit-clause-load
+returns-then-is_above_limit-clause-load g c = load_within _ c.self.view_is (opened c.self.invariant)
+
+pub returns-then-is_past_bound-clause-load : goal.returns-then-is_past_bound-clause-load
+returns-then-is_past_bound-clause-load g c = load_within _ c.self.view_is (opened c.self.invariant)
+
+pub serve_key-served-requires-clause-distinct : goal.serve_key-served-requires-clause-distinct
+serve_key-served-requires-clause-distinct g c = (opened c.self.invariant).distinct
