@@ -5,7 +5,7 @@ use Rattle.std.proofs.lemmas.Bool.Decides.{nat_tests}
 use Rattle.std.proofs.lemmas.List.{flat_map_more, length-reverse}
 use Rattle.std.proofs.lemmas.List.FromFn.{length-range_with_len}
 use Rattle.std.specs.List.{flat_map, range_with_len}
-use Rattle.descriptor_words.specs.Tickets.{falling, first_of, last_of, rising, span_length, tickets_between, tickets_of}
+use Rattle.descriptor_words.specs.Tickets.{tickets_between, tickets_of}
 
 range_more : (a n : ℕ) → range_with_len a (suc n) ≡ range_with_len a n ++ (a + n) ∷ []
 range_more a zero = ap (λ x. x ∷ []) (let e : a ≡ a + 0 = omega arith in e)
@@ -13,21 +13,22 @@ range_more a (suc n) =
     ap (λ xs. a ∷ xs) (range_more (a + 1) n ∙ ap (λ x. range_with_len (a + 1) n ++ x ∷ []) (let e : a + 1 + n ≡ a + suc n = omega arith in e))
 
 -- one more up
-pub rising_more : (first n : ℕ) → rising first (n + 1) ≡ rising first n ++ (first + n) ∷ []
+pub rising_more : (first n : ℕ) → range_with_len first (n + 1) ≡ range_with_len first n ++ (first + n) ∷ []
 rising_more first n = ap (range_with_len first) (let e : n + 1 ≡ suc n = omega arith in e) ∙ range_more first n
 
 -- one more down
-pub falling_more : (first n : ℕ) → n ≤ first → falling first (n + 1) ≡ falling first n ++ (first - n) ∷ []
+pub falling_more : (first n : ℕ) → n ≤ first → reverse (range_with_len (first + 1 - (n + 1)) (n + 1)) ≡ reverse (range_with_len (first + 1 - n) n) ++ (first - n) ∷ []
 falling_more first n inside =
     let count : n + 1 ≡ suc n = omega arith in
     let last : first + 1 - suc n ≡ first - n = omega arith in
     let rest : first - n + 1 ≡ first + 1 - n = omega arith in
     ap (λ k. reverse (range_with_len (first + 1 - k) k)) count ∙ ap (λ a. reverse (range_with_len a (suc n))) last ∙ reverse_onto (range_with_len (first - n + 1) n) (first - n) [] ∙ ap (λ a. reverse (range_with_len a n) ++ (first - n) ∷ []) rest
 
-count_between : (first last : ℕ) → length (tickets_between first last) ≡ span_length first last
+-- how many tickets there are from the one to the other, with both
+pub count_between : (first last : ℕ) → length (tickets_between first last) ≡ (first - last) + (last - first) + 1
 count_between first last = grind (arith, common_steps, nat_tests, length-range_with_len, length-reverse {A = ℕ})
 
 -- the tickets with one word more
-pub count_more : (words : List (List ℕ)) (word : List ℕ) → length (flat_map tickets_of (words ++ word ∷ [])) ≡ length (flat_map tickets_of words) + span_length (first_of word) (last_of word)
+pub count_more : (words : List (List ℕ)) (word : List ℕ) → length (flat_map tickets_of (words ++ word ∷ [])) ≡ length (flat_map tickets_of words) + length (tickets_of word)
 count_more words word =
-    ap length (sym (flat_map_more tickets_of [] words word)) ∙ length-append (flat_map tickets_of words) (tickets_of word) ∙ ap (λ count. length (flat_map tickets_of words) + count) (count_between (first_of word) (last_of word))
+    ap length (sym (flat_map_more tickets_of [] words word)) ∙ length-append (flat_map tickets_of words) (tickets_of word)

@@ -39,24 +39,13 @@ pub record AreKinds (words : List (List ℕ)) : Type 0 where
 abbrev pub IsAgain : List (List ℕ) → List ℕ → Type 0
 IsAgain before word = Contains (map kind_of before) (kind_of word)
 
--- the first word at fault names no kind
-abbrev pub IsFirstNoKind : List (List ℕ) → List ℕ → Type 0
-IsFirstNoKind before word = AreKinds before × ¬ NamesKind word
-
--- the first word at fault names a kind again
-abbrev pub IsFirstTwice : List (List ℕ) → List ℕ → Type 0
-IsFirstTwice before word = AreKinds before × NamesKind word × IsAgain before word
-
--- the first word at fault gives no count
-abbrev pub IsFirstNoCount : List (List ℕ) → List ℕ → Type 0
-IsFirstNoCount before word =
-    AreKinds before × NamesKind word × ¬ IsAgain before word × ¬ GivesCount word
-
--- what is wrong with the words that give counts
+-- what is wrong with the words that give counts: the first word at fault names no kind, or names one again, or gives no count
 abbrev pub IsFaultOfKinds : List (List ℕ) → Fault → Type 0
-IsFaultOfKinds words BadKind = AtWord IsFirstNoKind words
-IsFaultOfKinds words KindTwice = AtWord IsFirstTwice words
-IsFaultOfKinds words BadNumber = AtWord IsFirstNoCount words
+IsFaultOfKinds words BadKind = AtWord (λ before word. AreKinds before × ¬ NamesKind word) words
+IsFaultOfKinds words KindTwice =
+    AtWord (λ before word. AreKinds before × NamesKind word × IsAgain before word) words
+IsFaultOfKinds words BadNumber =
+    AtWord (λ before word. AreKinds before × NamesKind word × ¬ IsAgain before word × ¬ GivesCount word) words
 IsFaultOfKinds words _ = ⊥
 
 -- the kind at this place has this name

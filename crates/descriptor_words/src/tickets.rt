@@ -1,13 +1,12 @@
 //! The tickets of a line that gives sets back.
 ghost use Rattle.std.specs.Prelude.{◌≡◌, ◌≢◌, ◌+◌, ◌^◌, ◌≤◌, ◌<◌, ◌↔◌, ◌++◌, vec_len, vec_capacity};
-ghost use Rattle.std.specs.Prelude.{IsOk, IfOk, IfErr, OnOk, Err};
-ghost use Rattle.std.specs.List.{flat_map};
+ghost use Rattle.std.specs.Prelude.{◌-◌, IsOk, IfOk, IfErr, OnOk, Err, length, reverse};
+ghost use Rattle.std.specs.List.{flat_map, range_with_len};
 ghost use Rattle.descriptor_words.specs.Fault.{IfFault, faulty};
 ghost use Rattle.gpu_descriptor_types.specs.Bounds.{greatest_u64};
 ghost use Rattle.descriptor_words.specs.Numbers.{WritesNumberWithin, value_of};
-ghost use Rattle.descriptor_words.specs.Tickets.{AreTickets, IsFaultOfFree, WritesTickets, falling};
-ghost use Rattle.descriptor_words.specs.Tickets.{first_of, first_side, last_of, last_side};
-ghost use Rattle.descriptor_words.specs.Tickets.{most_tickets, rising, span_length};
+ghost use Rattle.descriptor_words.specs.Tickets.{AreTickets, IsFaultOfFree, WritesTickets};
+ghost use Rattle.descriptor_words.specs.Tickets.{first_side, last_side, most_tickets};
 ghost use Rattle.descriptor_words.specs.Tickets.{tickets_between, tickets_of};
 ghost use Rattle.descriptor_words.specs.Words.{words_left};
 
@@ -47,8 +46,8 @@ pub fn parse_free(alloc: Global, words: Words<'_>) -> Result<Vec<usize>, Refusal
 /// The tickets of a word: one, `T`, or a range, `A-B`.
 fn parse_span(word: &[u8]) -> Result<Span, Fault>
     ensures accepted { IsOk result ↔ WritesTickets word.now }
-    ensures first { IfOk result (λ span. span.first ≡ first_of word.now) }
-    ensures last { IfOk result (λ span. span.last ≡ last_of word.now) }
+    ensures first { IfOk result (λ span. span.first ≡ value_of (first_side word.now)) }
+    ensures last { IfOk result (λ span. span.last ≡ value_of (last_side word.now)) }
     ensures fault { IfErr result (λ fault. fault ≡ Fault.BadNumber) }
 {
     let (first, last) = sides(word);
@@ -79,12 +78,14 @@ fn parse_ticket(word: &[u8]) -> Result<usize, Fault>
 }
 
 /// Puts the tickets behind the others. A fault comes before any of them is written.
+#[tactic(auto, using(crate::proofs::TicketLemmas::count_between))]
 fn add_tickets(tickets: &mut Vec<usize>, span: Span) -> Result<(), Refusal>
     requires { vec_len tickets.old ≤ most_tickets }
     ensures fault { IfErr result (λ reason. IfFault reason (λ fault. fault
         ≡ Fault.TooManyTickets)) }
     ensures too_many { result ≡ Err (faulty Fault.TooManyTickets)
-        ↔ (most_tickets < vec_len tickets.old + span_length span.first span.last) }
+        ↔ (most_tickets < vec_len tickets.old + length (tickets_between span.first
+        span.last)) }
     ensures added { OnOk result (tickets.new.items ≡ tickets.old.items ++ tickets_between span.first
         span.last) }
     ensures few { OnOk result (vec_len tickets.new ≤ most_tickets) }
@@ -106,7 +107,7 @@ fn add_tickets(tickets: &mut Vec<usize>, span: Span) -> Result<(), Refusal>
 fn push_rising(tickets: &mut Vec<usize>, first: usize, count: usize)
     requires room { vec_len tickets.old + count ≤ vec_capacity tickets.old }
     requires fits { first + count ≤ 2 ^ 64 }
-    ensures items { tickets.new.items ≡ tickets.old.items ++ rising first count }
+    ensures items { tickets.new.items ≡ tickets.old.items ++ range_with_len first count }
     ensures len { vec_len tickets.new ≡ vec_len tickets.old + count }
 {
     for step in 0..count {
@@ -118,7 +119,8 @@ fn push_rising(tickets: &mut Vec<usize>, first: usize, count: usize)
 fn push_falling(tickets: &mut Vec<usize>, first: usize, count: usize)
     requires room { vec_len tickets.old + count ≤ vec_capacity tickets.old }
     requires fits { count ≤ first + 1 }
-    ensures items { tickets.new.items ≡ tickets.old.items ++ falling first count }
+    ensures items { tickets.new.items ≡ tickets.old.items ++ reverse (range_with_len
+        (first + 1 - count) count) }
     ensures len { vec_len tickets.new ≡ vec_len tickets.old + count }
 {
     for step in 0..count {

@@ -9,7 +9,7 @@ use Rattle.descriptor_words.proofs.TicketLemmas.{count_more}
 use Rattle.descriptor_words.proofs.WordLemmas.{at_next}
 use Rattle.descriptor_words.specs.Fault.{faulty}
 use Rattle.descriptor_words.specs.declared.fault.Fault.TheVariants.{TooManyTickets}
-use Rattle.descriptor_words.specs.Tickets.{AreTickets, IsFaultOfFree, IsFirstTooMany, IsFirstWithout, WritesTickets, first_of, last_of, most_tickets, tickets_between, tickets_of}
+use Rattle.descriptor_words.specs.Tickets.{AreTickets, IsFaultOfFree, WritesTickets, first_side, last_side, most_tickets, tickets_between, tickets_of}
 use Rattle.descriptor_words.specs.Words.{words_left}
 use Rattle.descriptor_words.proofs.tickets.parse_free.Goals as goal
 
@@ -38,7 +38,7 @@ loop-word-preserved c =
     let span = c.in_ok-parse_span.ensures in
     let word = c.in-Some.word.now in
     let words = map (λ word. word.now) c.loop-word.yielded in
-    let more : c.add_tickets.new.tickets.items ≡ c.loop-word.tickets.items ++ tickets_between (first_of word) (last_of word) = rw (← span.first, ← span.last) added.added in
+    let more : c.add_tickets.new.tickets.items ≡ c.loop-word.tickets.items ++ tickets_of word = rw (← span.first, ← span.last) added.added in
     let one = map-append (λ word. word.now) c.loop-word.yielded (c.in-Some.word ∷ []) in
     record {
       items = more ∙ ap (λ l. l ++ tickets_of word) c.loop-word.invariant.items ∙ flat_map_more tickets_of [] words word ∙ ap (flat_map tickets_of) (sym one);
@@ -55,7 +55,7 @@ pub returns-in_err-parse_span-clause-fault : goal.returns-in_err-parse_span-clau
 returns-in_err-parse_span-clause-fault c =
     let start = c.into_iter-word-iterator.result in
     let given = are_tickets c.loop-word.tickets _ c.loop-word.invariant.written c.loop-word.invariant.items c.loop-word.invariant.few in
-    let at = at_next IsFirstWithout (words_left c.args.words) c.loop-word.yielded start c.loop-word.word-iterator c.next.new.self c.in-Some.word.now c.loop-word.yielded_by (ap words_left c.into_iter-word-iterator.ensures.into_iter_gives) c.in-Some.ensures.steps (given, λ writes. false≢true (c.in_err-parse_span.ensures.accepted.1 writes)) in
+    let at = at_next _ (words_left c.args.words) c.loop-word.yielded start c.loop-word.word-iterator c.next.new.self c.in-Some.word.now c.loop-word.yielded_by (ap words_left c.into_iter-word-iterator.ensures.into_iter_gives) c.in-Some.ensures.steps (given, λ writes. false≢true (c.in_err-parse_span.ensures.accepted.1 writes)) in
     refused_for c.from_residual.result c.in_err-parse_span.field-0.0 (IsFaultOfFree (words_left c.args.words)) c.from_residual.ensures.1 (rw c.in_err-parse_span.ensures.fault at)
 
 pub returns-in_err-add_tickets-clause-fault : goal.returns-in_err-add_tickets-clause-fault
@@ -68,7 +68,7 @@ returns-in_err-add_tickets-clause-fault c =
     let refused = c.in_err-add_tickets in
     let count : vec_len c.loop-word.tickets ≡ length (flat_map tickets_of words) = vec_count c.loop-word.tickets _ c.loop-word.invariant.items in
     let too_many : refused.field-0.0 ≡ faulty TooManyTickets → most_tickets < length (flat_map tickets_of (words ++ word ∷ [])) = λ is. (let past = refused.ensures.too_many.0 (ap Err is) in rw (count_more words word, ← span.first, ← span.last, ← count) past) in
-    let at = λ (is : refused.field-0.0 ≡ faulty TooManyTickets). at_next IsFirstTooMany (words_left c.args.words) c.loop-word.yielded start c.loop-word.word-iterator c.next.new.self word c.loop-word.yielded_by (ap words_left c.into_iter-word-iterator.ensures.into_iter_gives) c.in-Some.ensures.steps (given, span.accepted.0 refl, too_many is) in
+    let at = λ (is : refused.field-0.0 ≡ faulty TooManyTickets). at_next _ (words_left c.args.words) c.loop-word.yielded start c.loop-word.word-iterator c.next.new.self word c.loop-word.yielded_by (ap words_left c.into_iter-word-iterator.ensures.into_iter_gives) c.in-Some.ensures.steps (given, span.accepted.0 refl, too_many is) in
     handed_on c.from_residual-in_err-add_tickets.result refused.field-0.0 (IsFaultOfFree (words_left c.args.words)) c.from_residual-in_err-add_tickets.ensures.1 (only_for refused.field-0.0 TooManyTickets (IsFaultOfFree (words_left c.args.words)) refused.ensures.fault at)
 
 pub returns-clause-accepted : goal.returns-clause-accepted

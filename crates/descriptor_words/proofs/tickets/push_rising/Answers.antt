@@ -1,5 +1,5 @@
 use Rattle.std.proofs.Common.{◌+◌, ◌++◌, ◌∷◌, [], sym, ap, ◌∙◌, append_assoc, arith}
-use Rattle.descriptor_words.specs.Tickets.{rising}
+use Rattle.std.specs.List.{range_with_len}
 use Rattle.descriptor_words.proofs.TicketLemmas.{rising_more}
 use Rattle.descriptor_words.proofs.tickets.push_rising.Goals as goal
 
@@ -10,7 +10,7 @@ loop-step-preserved c =
     let first = c.args.first in
     let step = c.loop-step.step in
     record {
-      items = c.push_reserved.ensures.items ∙ ap (λ l. l ++ (first + step) ∷ []) inv.items ∙ append_assoc old (rising first step) ((first + step) ∷ []) ∙ ap (λ l. old ++ l) (sym (rising_more first step));
+      items = c.push_reserved.ensures.items ∙ ap (λ l. l ++ (first + step) ∷ []) inv.items ∙ append_assoc old (range_with_len first step) ((first + step) ∷ []) ∙ ap (λ l. old ++ l) (sym (rising_more first step));
       filled = (let f = inv.filled in let l = c.push_reserved.ensures.len in omega arith);
       room = (let r = inv.room in let cap = c.push_reserved.ensures.capacity in omega arith);
     }
