@@ -1,11 +1,12 @@
 -- What a call leaves of the ledger, from what it leaves of the pools and the counters.
-use Rattle.std.proofs.Common.{◌≡◌, ℕ, ◌+◌, List, ap, ◌∙◌}
+use Rattle.std.proofs.Common.{◌≡◌, ℕ, ◌+◌, List, ◌++◌, map, ap, ◌∙◌}
 use Rattle.std.proofs.lemmas.List.FromFn.{length-map-range_with_len}
-use Rattle.gpu_descriptor_types.specs.Ledger.{Ledger, Sink, Puts, PutsNone, on_pool, alloc_refused, pool_refusals}
+use Rattle.gpu_descriptor_types.specs.Ledger.{Ledger, Sink, Puts, PutsNone, live_sets, on_pool, alloc_refused, pool_refusals}
+use Rattle.gpu_descriptor_types.specs.Multiset.{times}
 use Rattle.gpu_descriptor_types.specs.declared.errors.DeviceAllocationError.{DeviceAllocationError}
 use Rattle.descriptor_script.specs.Inner.Counters.{counters_of}
 use Rattle.descriptor_script.specs.Scripted.Device.{ledger_of}
-use Rattle.descriptor_script.specs.Inner.Pools.{Grants, IsSameSink, pools_of, next_names}
+use Rattle.descriptor_script.specs.Inner.Pools.{pools_of, next_names}
 use Rattle.descriptor_script.specs.Scripted.Raw.{raw_set, raw_sets, set_id}
 use Rattle.descriptor_script.specs.declared.device.ScriptedDevice.{ScriptedDevice}
 use Rattle.descriptor_script.specs.declared.raw.RawSet.{RawSet}
@@ -15,30 +16,31 @@ same_ledger a b pools counters = λ i. record { pools = pools i; counters = coun
 
 module _ {K X : Type 0} (sink : Sink K RawSet X) (before after : K) where
   -- pools that grant, and a call counted as asked
-  pub puts : (old new : ScriptedDevice) (name many : ℕ) (counts : List ℕ) → Grants sink name many counts before after old.pools new.pools
+  pub puts : (old new : ScriptedDevice) (name many : ℕ) (counts : List ℕ) → sink.kept after ≡ sink.kept before ++ map (sink.kept_as before) (raw_sets name (next_names old.pools).sets many) → sink.kept_as after ≡ sink.kept_as before → sink.room_left after + many ≡ sink.room_left before
+      → pools_of new.pools ≡ on_pool name (λ pool. record pool { live = λ x. pool.live x + times (live_sets counts (map set_id (raw_sets name (next_names old.pools).sets many))) x }) (pools_of old.pools)
       → counters_of new.counters ≡ record (counters_of old.counters) { asked = (counters_of old.counters).asked + 1 } → Puts sink set_id name many counts before after (ledger_of old) (ledger_of new)
-  puts old new name many counts grants asked = record {
+  puts old new name many counts kept alike room pools asked = record {
     sets = raw_sets name (next_names old.pools).sets many;
     many = length-map-range_with_len (raw_set name) (next_names old.pools).sets many;
-    kept = grants.kept;
-    alike = grants.alike;
-    room = grants.room;
-    ledger = same_ledger _ _ grants.pools asked;
+    kept = kept;
+    alike = alike;
+    room = room;
+    ledger = same_ledger _ _ pools asked;
   }
 
   -- nothing was done but a word read
   pub record IsUntouched (old new : ScriptedDevice) : Type 0 where
     pub pools : pools_of new.pools ≡ pools_of old.pools
     pub counters : counters_of new.counters ≡ counters_of old.counters
-    pub same_sink : IsSameSink sink before after
+    pub same_sink : after ≡ before
 
   -- a refusal that is counted
   pub puts_none : (old middle new : ScriptedDevice) (name : ℕ) (e : DeviceAllocationError) → IsUntouched old middle
       → counters_of new.counters ≡ alloc_refused e (counters_of middle.counters) → pools_of new.pools ≡ on_pool name (λ p. record p { refusals = p.refusals + pool_refusals e }) (pools_of middle.pools)
       → PutsNone sink name e before after (ledger_of old) (ledger_of new)
   puts_none old middle new name e untouched counted refused = record {
-    kept = untouched.same_sink.kept;
-    alike = untouched.same_sink.alike;
-    room = untouched.same_sink.room;
+    kept = ap sink.kept untouched.same_sink;
+    alike = ap sink.kept_as untouched.same_sink;
+    room = ap sink.room_left untouched.same_sink;
     ledger = same_ledger _ _ (refused ∙ ap (on_pool name (λ p. record p { refusals = p.refusals + pool_refusals e })) untouched.pools) (counted ∙ ap (alloc_refused e) untouched.counters);
   }

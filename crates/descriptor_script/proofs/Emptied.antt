@@ -11,7 +11,9 @@ use Rattle.gpu_descriptor.specs.Model.Promises.{AreOutBesides}
 use Rattle.gpu_descriptor.specs.Caller.Sets.{item_of, items_of}
 use Rattle.gpu_descriptor.specs.declared.set.DescriptorSet.{DescriptorSet}
 use Rattle.descriptor_script.specs.Sessions.Session.{AreAllHeld}
-use Rattle.descriptor_script.specs.Inner.Taking.{CanTake, TakesNext, slots_in, tickets_left}
+use Rattle.std.specs.Slice.Iter.{iter_rest}
+use Rattle.descriptor_script.specs.Inner.Slots.{slots_of}
+use Rattle.descriptor_script.specs.Inner.Taking.{TakesNext}
 use Rattle.descriptor_script.specs.Sessions.Tickets.{AreHeldOnce, emptied, held_sets, set_at}
 use Rattle.descriptor_script.specs.declared.taking.Taking.{Taking}
 
@@ -74,19 +76,18 @@ module _ {X : Type 0} where
       let b = still_each slots n xs ns rest in
       cc
 
+  -- the first ticket has a set
+  pub first_held : (slots : List (Option X)) (n : ℕ) (ns : List ℕ) → AreHeldOnce slots (n ∷ ns) → IsSome (set_at slots n)
+  first_held slots n ns h = h.held 0 (omega arith)
+
   -- when the first ticket's set is taken, the others are still held once
-  rest_once : (slots : List (Option X)) (n : ℕ) (ns : List ℕ) → AreHeldOnce slots (n ∷ ns) → AreHeldOnce (set slots n None) ns
+  pub rest_once : (slots : List (Option X)) (n : ℕ) (ns : List ℕ) → AreHeldOnce slots (n ∷ ns) → AreHeldOnce (set slots n None) ns
   rest_once slots n ns h = record {
     held = λ i lt.
         let e = get_or-set_other slots n (get_or ns i 0) None None (λ same. h.once 0 (suc i) (omega arith) (omega arith) (sym same)) in
         ap (λ o. is_some o) e ∙ h.held (suc i) (omega arith);
     once = λ i j below lt. h.once (suc i) (suc j) (omega arith) (omega arith);
   }
-
-  -- distinct tickets of held sets can be taken one by one
-  pub can_take : (slots : List (Option X)) (tickets : List ℕ) → AreHeldOnce slots tickets → CanTake slots tickets
-  can_take slots [] h = tt
-  can_take slots (n ∷ ns) h = (h.held 0 (omega arith), can_take (set slots n None) ns (rest_once slots n ns h))
 
   same_elsewhere : (slots : List (Option X)) (n : ℕ) (ns : List ℕ) → ((i : ℕ) → i < length ns → get_or ns i 0 ≢ n) → map (set_at (set slots n None)) ns ≡ map (set_at slots) ns
   same_elsewhere slots n [] apart = refl
@@ -110,51 +111,51 @@ module _ {X : Type 0} where
 
 module _ {S : Type 0} where
   -- what was taken and what is held make up what was held
-  pub taken_from : (f : DescriptorSet S → ℕ) (xs : List (DescriptorSet S)) (s t : Taking S) → Yields TakesNext s xs t → tally f xs + tally f (held_sets (slots_in t)) ≡ tally f (held_sets (slots_in s))
-  taken_from f [] s t y = let same = ap (λ (u : Taking S). tally f (held_sets (slots_in u))) y in omega arith
+  pub taken_from : (f : DescriptorSet S → ℕ) (xs : List (DescriptorSet S)) (s t : Taking S) → Yields TakesNext s xs t → tally f xs + tally f (held_sets (slots_of t.slots)) ≡ tally f (held_sets (slots_of s.slots))
+  taken_from f [] s t y = let same = ap (λ (u : Taking S). tally f (held_sets (slots_of u.slots))) y in omega arith
   taken_from f (x ∷ xs) s t y =
       let next = taken_from f xs y.0 t y.2 in
-      let less = held_less f (slots_in s) y.1.0 x y.1.2 in
+      let less = held_less f (slots_of s.slots) y.1.0 x y.1.2 in
       let left = ap (λ l. tally f (held_sets l)) y.1.3 in
       omega arith
 
-  pub fewer_held : (xs : List (DescriptorSet S)) (s t : Taking S) → Yields TakesNext s xs t → length (held_sets (slots_in t)) + length xs ≡ length (held_sets (slots_in s))
+  pub fewer_held : (xs : List (DescriptorSet S)) (s t : Taking S) → Yields TakesNext s xs t → length (held_sets (slots_of t.slots)) + length xs ≡ length (held_sets (slots_of s.slots))
   fewer_held xs s t y =
       let all = taken_from (λ _. 1) xs s t y in
       let a = tally-length xs in
-      let b = tally-length (held_sets (slots_in t)) in
-      let c = tally-length (held_sets (slots_in s)) in
+      let b = tally-length (held_sets (slots_of t.slots)) in
+      let c = tally-length (held_sets (slots_of s.slots)) in
       omega arith
 
   -- the set of each ticket came
-  pub each_taken : (xs : List (DescriptorSet S)) (s t : Taking S) → Yields TakesNext s xs t → tickets_left t ≡ [] → map Some xs ≡ map (set_at (slots_in s)) (tickets_left s)
-  each_taken [] s t y none = sym (ap (map (set_at (slots_in s))) (ap tickets_left y ∙ none))
+  pub each_taken : (xs : List (DescriptorSet S)) (s t : Taking S) → Yields TakesNext s xs t → iter_rest t.tickets ≡ [] → map Some xs ≡ map (set_at (slots_of s.slots)) (iter_rest s.tickets)
+  each_taken [] s t y none = sym (ap (map (set_at (slots_of s.slots))) (ap (λ (u : Taking S). iter_rest u.tickets) y ∙ none))
   each_taken (x ∷ xs) s t y none =
       let n = y.1.0 in
-      let rest = each_taken xs y.0 t y.2 none ∙ ap (λ l. map (set_at l) (tickets_left y.0)) y.1.3 in
-      let same = still_each (slots_in s) n xs (tickets_left y.0) rest in
-      ap (λ o. o ∷ map Some xs) (sym y.1.2) ∙ ap (λ l. set_at (slots_in s) n ∷ l) same ∙ sym (ap (map (set_at (slots_in s))) y.1.1)
+      let rest = each_taken xs y.0 t y.2 none ∙ ap (λ l. map (set_at l) (iter_rest y.0.tickets)) y.1.3 in
+      let same = still_each (slots_of s.slots) n xs (iter_rest y.0.tickets) rest in
+      ap (λ o. o ∷ map Some xs) (sym y.1.2) ∙ ap (λ l. set_at (slots_of s.slots) n ∷ l) same ∙ sym (ap (map (set_at (slots_of s.slots))) y.1.1)
 
   -- the slots of the tickets are empty
-  pub all_emptied : (xs : List (DescriptorSet S)) (s t : Taking S) → Yields TakesNext s xs t → tickets_left t ≡ [] → slots_in t ≡ emptied (slots_in s) (tickets_left s)
-  all_emptied [] s t y none = ap slots_in (sym y) ∙ sym (ap (emptied (slots_in s)) (ap tickets_left y ∙ none))
+  pub all_emptied : (xs : List (DescriptorSet S)) (s t : Taking S) → Yields TakesNext s xs t → iter_rest t.tickets ≡ [] → slots_of t.slots ≡ emptied (slots_of s.slots) (iter_rest s.tickets)
+  all_emptied [] s t y none = ap (λ (u : Taking S). slots_of u.slots) (sym y) ∙ sym (ap (emptied (slots_of s.slots)) (ap (λ (u : Taking S). iter_rest u.tickets) y ∙ none))
   all_emptied (x ∷ xs) s t y none =
-      all_emptied xs y.0 t y.2 none ∙ ap (λ l. emptied l (tickets_left y.0)) y.1.3 ∙ sym (ap (emptied (slots_in s)) y.1.1)
+      all_emptied xs y.0 t y.2 none ∙ ap (λ l. emptied l (iter_rest y.0.tickets)) y.1.3 ∙ sym (ap (emptied (slots_of s.slots)) y.1.1)
 
   tally-items : (name : S → ℕ) (i : Item) (xs : List (DescriptorSet S)) → tally (λ x. count_of i (item_of name x ∷ [])) xs ≡ count_of i (items_of name xs)
   tally-items name i [] = refl
   tally-items name i (x ∷ xs) = ap (λ n. count_of i (item_of name x ∷ []) + n) (tally-items name i xs) ∙ sym (count_by-append (λ j. item_eq j i) (item_of name x ∷ []) (items_of name xs))
 
-  counted : (name : S → ℕ) (i : Item) (xs : List (DescriptorSet S)) (s t : Taking S) → Yields TakesNext s xs t → count_of i (items_of name xs) + count_of i (items_of name (held_sets (slots_in t))) ≡ count_of i (items_of name (held_sets (slots_in s)))
+  counted : (name : S → ℕ) (i : Item) (xs : List (DescriptorSet S)) (s t : Taking S) → Yields TakesNext s xs t → count_of i (items_of name xs) + count_of i (items_of name (held_sets (slots_of t.slots))) ≡ count_of i (items_of name (held_sets (slots_of s.slots)))
   counted name i xs s t y =
       let all = taken_from (λ x. count_of i (item_of name x ∷ [])) xs s t y in
       let a = tally-items name i xs in
-      let b = tally-items name i (held_sets (slots_in t)) in
-      let c = tally-items name i (held_sets (slots_in s)) in
+      let b = tally-items name i (held_sets (slots_of t.slots)) in
+      let c = tally-items name i (held_sets (slots_of s.slots)) in
       omega arith
 
   -- what comes is outstanding
-  pub all_out : (name : S → ℕ) (s : Taking S) (state : State) → AreAllHeld name (slots_in s) state → HoldsAlong TakesNext s (λ xs. AreOutstanding (items_of name xs) state)
+  pub all_out : (name : S → ℕ) (s : Taking S) (state : State) → AreAllHeld name (slots_of s.slots) state → HoldsAlong TakesNext s (λ xs. AreOutstanding (items_of name xs) state)
   all_out name s state held xs t y i =
       let all = counted name i xs s t y in
       let h = held i in
@@ -170,7 +171,7 @@ module _ {S : Type 0} where
       omega arith
 
   -- what went back is held no longer
-  pub all_held_less : (name : S → ℕ) (xs : List (DescriptorSet S)) (s t : Taking S) (old new : State) → AreAllHeld name (slots_in s) old → Yields TakesNext s xs t → AreOutBesides (items_of name xs) new old → AreAllHeld name (slots_in t) new
+  pub all_held_less : (name : S → ℕ) (xs : List (DescriptorSet S)) (s t : Taking S) (old new : State) → AreAllHeld name (slots_of s.slots) old → Yields TakesNext s xs t → AreOutBesides (items_of name xs) new old → AreAllHeld name (slots_of t.slots) new
   all_held_less name xs s t old new held y less i =
       let back = less i in
       let all = counted name i xs s t y in

@@ -1,11 +1,11 @@
 -- Tickets are given once.
-use Rattle.std.proofs.Common.{◌≡◌, ℕ, List, [], ◌∷◌, length, length-append, map, get_or, set, Option, None, Some, Bool, inl, inr, refl, ap, ◌∙◌, arith}
+use Rattle.std.proofs.Common.{◌≡◌, ℕ, List, [], ◌∷◌, length, length-append, map, get_or, set, Option, None, Some, inl, inr, refl, ap, ◌∙◌, arith}
 use Rattle.std.proofs.lemmas.Bool.{cases_eq}
 use Rattle.std.proofs.lemmas.List.{get_or-set_other, get_or_append_left, length-set}
 use Rattle.gpu_descriptor_types.specs.Meaning.{Meaning}
 use Rattle.gpu_descriptor_types.specs.Side.{Side}
 use Rattle.descriptor_script.specs.Sessions.Session.{sets_of}
-use Rattle.descriptor_script.specs.Sessions.Steps.{AllocatesTo, CleansTo, FreesTo, KeepsTickets}
+use Rattle.descriptor_script.specs.Sessions.Steps.{AllocatesTo, Cleans, FreesTo, KeepsTickets}
 use Rattle.descriptor_script.specs.Sessions.Tickets.{emptied, set_at}
 use Rattle.descriptor_script.specs.declared.command.Reply.{Reply}
 use Rattle.descriptor_script.specs.declared.command.Reply.TheVariants.{Sets, Refused, Freed, BadTicket, BadLayout, NoMemory, Clean}
@@ -59,11 +59,5 @@ module _ {L P S : Type 0} where
   freeing_keeps means tickets NoMemory old new h = absurd h
   freeing_keeps means tickets Clean old new h = absurd h
 
-  pub cleaning_keeps : (means : Meaning L P S) (reply : Reply) (old new : Side (Session L P S)) → CleansTo means old new reply → KeepsTickets old.value new.value
-  cleaning_keeps means (Sets next many) old new h = absurd h
-  cleaning_keeps means (Refused e) old new h = absurd h
-  cleaning_keeps means (Freed n) old new h = absurd h
-  cleaning_keeps means BadTicket old new h = absurd h
-  cleaning_keeps means BadLayout old new h = absurd h
-  cleaning_keeps means NoMemory old new h = absurd h
-  cleaning_keeps means Clean old new h = same old.value new.value h.sets
+  pub cleaning_keeps : (means : Meaning L P S) (old new : Side (Session L P S)) → Cleans means old new → KeepsTickets old.value new.value
+  cleaning_keeps means old new h = same old.value new.value h.sets

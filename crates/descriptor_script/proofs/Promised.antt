@@ -1,5 +1,5 @@
 -- The parts of the headline hold at each step of a run.
-use Rattle.std.proofs.Common.{List, [], ◌∷◌, refl, sym, ap, ◌∙◌, arith}
+use Rattle.std.proofs.Common.{List, [], ◌∷◌, refl, sym, ap, ◌∙◌}
 use Rattle.std.proofs.lemmas.Option.{slice_get_within}
 use Rattle.std.specs.Prelude.{IfOk, Result, Ok, Err}
 use Rattle.gpu_descriptor_types.specs.Ledger.{Counters}
@@ -10,8 +10,8 @@ use Rattle.gpu_descriptor.specs.Caller.States.{state_of}
 use Rattle.gpu_descriptor.proofs.release.ReleaseAgrees.{one_by_one}
 use Rattle.descriptor_script.specs.Sessions.Headline.{CallsOnceARun, FailsForCause, FreesOneByOne, HoldsExactly, HoldsWhatIsOut, KeepsAll, KeepsLimit, TurnsDownBad}
 use Rattle.descriptor_script.specs.Sessions.Session.{IsReady, KeepsSession, allocator_of, sets_of}
-use Rattle.descriptor_script.specs.Sessions.SessionRun.{RunsKeeping, RunsTo, Step}
-use Rattle.descriptor_script.specs.Sessions.Steps.{StepsTo}
+use Rattle.descriptor_script.specs.Sessions.SessionRun.{RunsKeeping, RunsTo}
+use Rattle.descriptor_script.specs.Sessions.Steps.{OfStep, StepsTo}
 use Rattle.descriptor_script.specs.declared.command.Command.{Command}
 use Rattle.descriptor_script.specs.declared.command.Command.TheVariants.{Allocate, Free, Cleanup}
 use Rattle.descriptor_script.specs.declared.command.Reply.{Reply}
@@ -24,16 +24,13 @@ if_ok (Ok x) h f = f x h
 if_ok (Err e) h f = tt
 
 module _ {L P S : Type 0} (means : Meaning L P S) where
-  abbrev pub step_of : Command → Reply → Side (Session L P S) → Side (Session L P S) → Step L P S
-  step_of command reply old new = record { command = command; reply = reply; old = old; new = new }
-
   -- the promise is kept at each step of a session that is ready for it
-  abbrev pub IsKept : (Step L P S → Type 0) → Type 0
+  abbrev pub IsKept : OfStep L P S → Type 0
   IsKept promise = (command : Command) (reply : Reply) (old new : Side (Session L P S)) → IsReady means old
-      → StepsTo means command reply old new → KeepsSession means old new → promise (step_of command reply old new)
+      → StepsTo means command reply old new → KeepsSession means old new → promise command reply old new
 
   -- and then a run keeps it all along
-  pub kept_along : (promise : Step L P S → Type 0) → IsKept promise → (commands : List Command) (replies : List Reply) (old new : Side (Session L P S)) → IsReady means old
+  pub kept_along : (promise : OfStep L P S) → IsKept promise → (commands : List Command) (replies : List Reply) (old new : Side (Session L P S)) → IsReady means old
       → RunsTo means commands replies old new → RunsKeeping means promise commands replies old new
   kept_along promise keeps [] [] old new ready run = run
   kept_along promise keeps [] (r ∷ rs) old new ready run = absurd run
@@ -47,13 +44,13 @@ module _ {L P S : Type 0} (means : Meaning L P S) where
   pub keeps_limit : IsKept KeepsLimit
   keeps_limit command reply old new ready step keeps = (keeps.allocator.load, keeps.allocator.pool_load, keeps.allocator.limit)
 
-  abbrev Steps : Command → Reply → Side (Session L P S) → Side (Session L P S) → Type 0
+  abbrev Steps : OfStep L P S
   Steps = StepsTo means
 
   pub holds_what_is_out : IsKept HoldsWhatIsOut
   holds_what_is_out command reply old new ready step keeps = go command reply step
     where
-      go : (command : Command) (reply : Reply) → Steps command reply old new → HoldsWhatIsOut (step_of command reply old new)
+      go : (command : Command) (reply : Reply) → Steps command reply old new → HoldsWhatIsOut command reply old new
       go (Allocate layout count) (Sets first many) h = (h.asked, h.first, h.given, h.all_given ∙ sym h.asked, h.sets)
       go (Allocate layout count) (Refused e) h = h.sets
       go (Allocate layout count) (Freed n) h = absurd h
@@ -77,24 +74,24 @@ module _ {L P S : Type 0} (means : Meaning L P S) where
       go Cleanup Clean h = h.sets
 
   -- what is promised of sets that go back, and of nothing else
-  frees_in_runs : IsKept (λ step. FreesOneByOne means step × CallsOnceARun means step)
+  frees_in_runs : IsKept (λ command reply old new. FreesOneByOne means command reply old new × CallsOnceARun means command reply old new)
   frees_in_runs command reply old new ready step keeps = go command reply step
     where
-      go : (command : Command) (reply : Reply) → Steps command reply old new → FreesOneByOne means (step_of command reply old new) × CallsOnceARun means (step_of command reply old new)
+      go : (command : Command) (reply : Reply) → Steps command reply old new → FreesOneByOne means command reply old new × CallsOnceARun means command reply old new
       go (Free tickets) (Freed n) h =
           let start = state_of means.pool_name (allocator_of old.value) old.ledger in
           let out = listed_out means.set_name (sets_of old.value) tickets.items h.given start h.good h.each ready.held in (
             (h.given, h.each, (λ order alike. h.back.state ∙ sym (one_by_one (items_of means.set_name h.given) order start ready.agree out alike))),
             (h.given, h.each, ap (λ (c : Counters). c.released) h.back.counters),
           )
-      go (Allocate layout count) (Freed n) h = absurd h
-      go Cleanup (Freed n) h = absurd h
-      go command (Sets first many) h = (tt, tt)
-      go command (Refused e) h = (tt, tt)
-      go command BadTicket h = (tt, tt)
-      go command BadLayout h = (tt, tt)
-      go command NoMemory h = (tt, tt)
-      go command Clean h = (tt, tt)
+      go (Free tickets) (Sets first many) h = (tt, tt)
+      go (Free tickets) (Refused e) h = (tt, tt)
+      go (Free tickets) BadTicket h = (tt, tt)
+      go (Free tickets) BadLayout h = (tt, tt)
+      go (Free tickets) NoMemory h = (tt, tt)
+      go (Free tickets) Clean h = (tt, tt)
+      go (Allocate layout count) reply h = (tt, tt)
+      go Cleanup reply h = (tt, tt)
 
   pub frees_one_by_one : IsKept (FreesOneByOne means)
   frees_one_by_one command reply old new ready step keeps = (frees_in_runs command reply old new ready step keeps).0
@@ -105,8 +102,8 @@ module _ {L P S : Type 0} (means : Meaning L P S) where
   pub fails_for_cause : IsKept (FailsForCause means)
   fails_for_cause command reply old new ready step keeps = go command reply step
     where
-      go : (command : Command) (reply : Reply) → Steps command reply old new → FailsForCause means (step_of command reply old new)
-      go (Allocate layout count) (Refused e) h = (h.known, h.at, h.cause)
+      go : (command : Command) (reply : Reply) → Steps command reply old new → FailsForCause means command reply old new
+      go (Allocate layout count) (Refused e) h = h
       go (Allocate layout count) (Sets first many) h = tt
       go (Allocate layout count) (Freed n) h = tt
       go (Allocate layout count) BadTicket h = tt
@@ -119,18 +116,18 @@ module _ {L P S : Type 0} (means : Meaning L P S) where
   pub turns_down_bad : IsKept TurnsDownBad
   turns_down_bad command reply old new ready step keeps = go command reply step
     where
-      go : (command : Command) (reply : Reply) → Steps command reply old new → TurnsDownBad (step_of command reply old new)
-      go (Allocate layout count) (Sets first many) h = ((((λ bad. absurd (cc)), (λ le. (let lt = slice_get_within _ layout h.known h.at in absurd (omega arith)))), (λ bad. absurd (cc))), tt)
-      go (Allocate layout count) (Refused e) h = ((((λ bad. absurd (cc)), (λ le. (let lt = slice_get_within _ layout h.known h.at in absurd (omega arith)))), (λ bad. absurd (cc))), tt)
+      go : (command : Command) (reply : Reply) → Steps command reply old new → TurnsDownBad command reply old new
+      go (Allocate layout count) (Sets first many) h = slice_get_within _ layout h.known h.at
+      go (Allocate layout count) (Refused e) h = slice_get_within _ layout h.known h.at
       go (Allocate layout count) (Freed n) h = absurd h
       go (Allocate layout count) BadTicket h = absurd h
-      go (Allocate layout count) BadLayout h = ((((λ same. h.0), (λ le. refl)), (λ bad. absurd (cc))), h.1)
-      go (Allocate layout count) NoMemory h = ((((λ bad. absurd (cc)), (λ le. (let lt = h.0 in absurd (omega arith)))), (λ same. h.1)), h.2)
+      go (Allocate layout count) BadLayout h = h
+      go (Allocate layout count) NoMemory h = h
       go (Allocate layout count) Clean h = absurd h
       go (Free tickets) (Sets first many) h = absurd h
       go (Free tickets) (Refused e) h = absurd h
-      go (Free tickets) (Freed n) h = (((λ bad. absurd (cc)), (λ bad. absurd (bad h.good))), tt)
-      go (Free tickets) BadTicket h = (((λ same. h.0), (λ bad. refl)), h.1)
+      go (Free tickets) (Freed n) h = h.good
+      go (Free tickets) BadTicket h = h
       go (Free tickets) BadLayout h = absurd h
       go (Free tickets) NoMemory h = absurd h
       go (Free tickets) Clean h = absurd h
@@ -140,7 +137,7 @@ module _ {L P S : Type 0} (means : Meaning L P S) where
       go Cleanup BadTicket h = absurd h
       go Cleanup BadLayout h = absurd h
       go Cleanup NoMemory h = absurd h
-      go Cleanup Clean h = (refl, tt)
+      go Cleanup Clean h = refl
 
   pub keeps_all : IsKept (KeepsAll means)
   keeps_all command reply old new ready step keeps = record {

@@ -11,7 +11,7 @@ use Rattle.gpu_descriptor_types.specs.Ledger.{Pool, changed, on_pool, live_sets}
 use Rattle.gpu_descriptor_types.specs.Multiset.{times, set_eq}
 use Rattle.gpu_descriptor_types.specs.declared.counts.DescriptorTotalCount.{DescriptorTotalCount}
 use Rattle.gpu_descriptor_types.proofs.Counting.{count_by-append}
-use Rattle.descriptor_script.specs.Inner.Live.{live_set_of, live_sets_of, entries_named}
+use Rattle.descriptor_script.specs.Inner.Live.{live_set_of, live_sets_of}
 use Rattle.descriptor_script.specs.Scripted.Raw.{set_id, raw_set, raw_sets}
 use Rattle.descriptor_script.specs.Inner.Table.{seen, pools_in, has_set, PoolsAreBelow, SetsAreBelow}
 use Rattle.descriptor_script.specs.declared.live.LivePool.{LivePool}
@@ -64,15 +64,15 @@ module _ {S : Type 0} {m n : IndexMap ℕ LivePool S} {name : ℕ} {old new : Li
       chosen false o = refl
 
 -- the sets that were put under names are those of their entries
-entries_sets : (c : DescriptorTotalCount) (pool : ℕ) (names : List ℕ) → live_sets_of (entries_named c names) ≡ live_sets (kinds c) (map set_id (map (raw_set pool) names))
+entries_sets : (c : DescriptorTotalCount) (pool : ℕ) (names : List ℕ) → live_sets_of (map (λ n. (n, c)) names) ≡ live_sets (kinds c) (map set_id (map (raw_set pool) names))
 entries_sets c pool [] = refl
 entries_sets c pool (n ∷ names) = ap (λ l. live_set_of (n, c) ∷ l) (entries_sets c pool names)
 
-pub more_live : (old new : List (ℕ × DescriptorTotalCount)) (c : DescriptorTotalCount) (pool first many : ℕ) → new ≡ old ++ entries_named c (range_with_len first many)
+pub more_live : (old new : List (ℕ × DescriptorTotalCount)) (c : DescriptorTotalCount) (pool first many : ℕ) → new ≡ old ++ map (λ n. (n, c)) (range_with_len first many)
     → times (live_sets_of new) ≡ (λ x. times (live_sets_of old) x + times (live_sets (kinds c) (map set_id (raw_sets pool first many))) x)
 more_live old new c pool first many is = fun_ext (λ x.
     let names : List ℕ = range_with_len first many in
-    ap (λ l. times (live_sets_of l) x) is ∙ ap (λ l. times l x) (map-append live_set_of old (entries_named c names)) ∙ count_by-append (λ y. set_eq y x) (live_sets_of old) (live_sets_of (entries_named c names)) ∙ ap (λ l. times (live_sets_of old) x + times l x) (entries_sets c pool names))
+    ap (λ l. times (live_sets_of l) x) is ∙ ap (λ l. times l x) (map-append live_set_of old (map (λ n. (n, c)) names)) ∙ count_by-append (λ y. set_eq y x) (live_sets_of old) (live_sets_of (map (λ n. (n, c)) names)) ∙ ap (λ l. times (live_sets_of old) x + times l x) (entries_sets c pool names))
 
 -- the ledger shows the pool that the table has
 pub same_pool : {S : Type 0} (m : IndexMap ℕ LivePool S) (name : ℕ) (old : LivePool) (pool : Pool) → Some old ≡ get nat_eq m name → pools_in m name ≡ Some pool → pool ≡ seen old

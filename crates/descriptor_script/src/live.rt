@@ -5,8 +5,7 @@ ghost use Rattle.std.specs.Iterator.{IsFinite, HoldsAlong};
 ghost use Rattle.indexmap.specs.IndexMap.{get, spare};
 ghost use Rattle.gpu_descriptor_types.specs.Layouts.{layout, left};
 ghost use Rattle.descriptor_script.specs.Scripted.Raw.{raw_sets, set_id};
-ghost use Rattle.descriptor_script.specs.Inner.Live.{HasNamed, TakesOut, entries_named};
-ghost use Rattle.descriptor_script.specs.Inner.Live.{live_sets_of};
+ghost use Rattle.descriptor_script.specs.Inner.Live.{HasNamed, TakesOut, live_sets_of};
 
 use crate::raw::{RawSet, ScriptLayout};
 use gpu_descriptor_types::{
@@ -41,7 +40,8 @@ pub fn fill<K: SetSink<RawSet>>(
     requires fresh { (n : ℕ) → first ≤ n → get nat_eq live.old n ≡ None }
     requires room { left layouts ≤ K.sink.room_left sink.old }
     ensures live { live.new.entries ≡ live.old.entries
-        ++ entries_named (layout layouts.entry).counts (range_with_len first (left layouts.entry)) }
+        ++ map (λ name. (name, (layout layouts.entry).counts))
+        (range_with_len first (left layouts.entry)) }
     ensures fresh { (n : ℕ) → first + left layouts.entry ≤ n → get nat_eq live.new n ≡ None }
     ensures sets { K.sink.kept sink.new ≡ K.sink.kept sink.old
         ++ map (K.sink.kept_as sink.old) (raw_sets pool first (left layouts.entry)) }

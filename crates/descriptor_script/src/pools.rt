@@ -1,6 +1,6 @@
 //! The live pools of a device, by name.
-ghost use Rattle.std.specs.Prelude.{◌≡◌, ℕ, ◌+◌, ◌-◌, ◌<◌, ◌≤◌, ◌^◌, map, Some, None, IsSome, IfOk};
-ghost use Rattle.std.specs.Prelude.{IfSome, OnOk, OnErr, nat_eq};
+ghost use Rattle.std.specs.Prelude.{◌≡◌, ℕ, ◌+◌, ◌-◌, ◌<◌, ◌≤◌, ◌^◌, ◌++◌, map, Some, None};
+ghost use Rattle.std.specs.Prelude.{IfOk, IfSome, IsSome, OnOk, OnErr, nat_eq};
 ghost use Rattle.std.specs.Iterator.{IsFinite, HoldsAlong};
 ghost use Rattle.std.specs.Map.{update};
 ghost use Rattle.gpu_descriptor_types.specs.Counts.{kinds};
@@ -8,8 +8,8 @@ ghost use Rattle.gpu_descriptor_types.specs.Flags.{bits};
 ghost use Rattle.gpu_descriptor_types.specs.Layouts.{layout, left};
 ghost use Rattle.gpu_descriptor_types.specs.Ledger.{fresh as fresh_pool, on_pool, pool_refusals};
 ghost use Rattle.gpu_descriptor.specs.Model.Agreement.{HasSize};
-ghost use Rattle.descriptor_script.specs.Scripted.Raw.{set_id};
-ghost use Rattle.descriptor_script.specs.Inner.Table.{AreNamed, PoolsAreBelow, SetsAreBelow};
+ghost use Rattle.descriptor_script.specs.Scripted.Raw.{raw_sets, set_id};
+ghost use Rattle.descriptor_script.specs.Inner.Table.{PoolsAreBelow, SetsAreBelow};
 
 use crate::live::{LivePool, fill, take_back};
 use crate::raw::{RawSet, ScriptLayout};
@@ -35,8 +35,10 @@ pub struct Pools {
 }
 
 impl Pools {
-    ghost use Rattle.descriptor_script.specs.Inner.Pools.{Grants, TakesBack, IsSame};
-    ghost use Rattle.descriptor_script.specs.Inner.Pools.{IsSameSink, next_names, pools_of};
+    ghost use Rattle.descriptor_script.specs.Inner.Pools.{next_names, owed, pools_of};
+    ghost use Rattle.gpu_descriptor_types.specs.Ledger.{AreLive, Counters, Releases, live_sets};
+    ghost use Rattle.gpu_descriptor_types.specs.Ledger.{no_rise};
+    ghost use Rattle.gpu_descriptor_types.specs.Multiset.{times};
 
     /// No pool is live, and these names of a pool and of a set come next.
     pub fn with_names(alloc: Global, next_pool: u64, next_set: u64) -> Self
@@ -65,7 +67,8 @@ impl Pools {
             (Some (fresh_pool (kinds counts.now) max_sets (bits flags)))) }
         ensures names { OnOk result (next_names self.new ≡ record (next_names self.old)
             { pools = (next_names self.old).pools + 1 }) }
-        ensures err { OnErr result (IsSame self.old self.new) }
+        ensures err { OnErr result (pools_of self.new ≡ pools_of self.old) }
+        ensures unnamed { OnErr result (next_names self.new ≡ next_names self.old) }
     {
         let name = self.next_pool;
         if name == u64::MAX {
@@ -139,13 +142,28 @@ impl Pools {
     ) -> Result<(), Wanting>
         requires live { IsSome (pools_of self.old pool) }
         requires room { left layouts ≤ K.sink.room_left sink.old }
-        ensures ok { OnOk result (Grants K.sink pool (left layouts.entry)
-            (kinds (layout layouts.entry).counts) sink.old sink.new self.old self.new) }
+        ensures pools { OnOk result (pools_of self.new ≡ on_pool pool (λ p.
+            record p {
+              live = λ x. p.live x + times (live_sets (kinds (layout layouts.entry).counts)
+                  (map set_id (raw_sets pool (next_names self.old).sets (left layouts.entry)))) x;
+            })
+            (pools_of self.old)) }
+        ensures names { OnOk result (next_names self.new ≡ record (next_names self.old)
+            { sets = (next_names self.old).sets + left layouts.entry }) }
         ensures in_range { OnOk result ((next_names self.old).sets + left layouts.entry < 2 ^ 64) }
-        ensures err { OnErr result (IsSame self.old self.new) }
-        ensures err_sink { OnErr result (IsSameSink
-            K.sink sink.old
-            sink.new) }
+
+        // What the sink got.
+        ensures sets { OnOk result (K.sink.kept sink.new ≡ K.sink.kept sink.old
+            ++ map (K.sink.kept_as sink.old)
+            (raw_sets pool (next_names self.old).sets (left layouts.entry))) }
+        ensures alike { OnOk result (K.sink.kept_as sink.new ≡ K.sink.kept_as sink.old) }
+        ensures room { OnOk result (K.sink.room_left sink.new + left layouts.entry
+            ≡ K.sink.room_left sink.old) }
+
+        // Without names or memory nothing is done.
+        ensures err { OnErr result (pools_of self.new ≡ pools_of self.old) }
+        ensures unnamed { OnErr result (next_names self.new ≡ next_names self.old) }
+        ensures err_sink { OnErr result (sink.new ≡ sink.old) }
     {
         let first = self.next_set;
         let count = layouts.len();
@@ -167,9 +185,11 @@ impl Pools {
     pub fn release<I: Iterator<Item = RawSet>>(&mut self, pool: u64, sets: &mut I)
         requires can { I.can_next sets.old }
         requires ends { IsFinite (I.remaining sets.old) }
-        requires live { HoldsAlong I.next_gives sets.old (λ xs. AreNamed pool (map set_id xs)
-            (pools_of self.old)) }
-        ensures released { TakesBack I.next_gives pool sets.old sets.new self.old self.new }
+        requires live { HoldsAlong I.next_gives sets.old (λ xs.
+            AreLive pool (map set_id xs) (owed self.old no_rise)) }
+        // With whatever counters, of which one rises.
+        ensures released { (n : Counters) → Releases I.next_gives set_id pool sets.old sets.new
+            (owed self.old n) (owed self.new (record n { released = n.released + 1 })) }
         ensures names { next_names self.new ≡ next_names self.old }
     {
         let Some(live) = self.live.get_mut(&pool) else {

@@ -36,8 +36,7 @@ pub struct Session<L, P, S> {
 }
 
 impl<L, P, S> Session<L, P, S> {
-    ghost use Rattle.descriptor_script.specs.Sessions.Session.{allocator_of, known, layouts_of};
-    ghost use Rattle.descriptor_script.specs.Sessions.Session.{sets_of};
+    ghost use Rattle.descriptor_script.specs.Sessions.Session.{allocator_of, layouts_of, sets_of};
 
     /// A session without layouts and sets, whose allocator has this limit on update-after-bind
     /// descriptors. It takes no memory.
@@ -67,7 +66,7 @@ impl<L, P, S> Session<L, P, S> {
     ) -> Result<usize, L>
         ensures place { IfOk result (λ place. place ≡ length (layouts_of self.old)) }
         ensures last { OnOk result (layouts_of self.new ≡ layouts_of self.old
-            ++ known layout counts flags ∷ []) }
+            ++ record { layout = layout; counts = counts; flags = flags } ∷ []) }
         ensures back { IfErr result (λ l. l ≡ layout) }
         ensures layouts { OnErr result (layouts_of self.new ≡ layouts_of self.old) }
         ensures allocator { allocator_of self.new ≡ allocator_of self.old }

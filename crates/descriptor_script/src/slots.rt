@@ -1,6 +1,6 @@
 //! Sets by ticket.
-ghost use Rattle.std.specs.Prelude.{◌≡◌, ◌++◌, ◌∷◌, ◌<◌, ◌↔◌, [], length, map, slice_set, Some};
-ghost use Rattle.std.specs.Prelude.{None, IsSome, IsTrue, OnOk, OnErr, vec_len};
+ghost use Rattle.std.specs.Prelude.{◌≡◌, ◌+◌, ◌++◌, ◌∷◌, ◌<◌, ◌↔◌, [], length, map, slice_set};
+ghost use Rattle.std.specs.Prelude.{None, Some, IsSome, IsTrue, OnOk, OnErr, vec_capacity, vec_len};
 ghost use Rattle.std.specs.Option.{option_copied};
 ghost use Rattle.descriptor_script.specs.Inner.Marks.{AreClear};
 ghost use Rattle.descriptor_script.specs.Sessions.Tickets.{AreHeldOnce, held_sets, set_at};
@@ -26,7 +26,7 @@ pub(crate) struct Slots<S> {
 }
 
 impl<S> Slots<S> {
-    ghost use Rattle.descriptor_script.specs.Inner.Slots.{HasSpareSlots, KeepsRoom, slots_of};
+    ghost use Rattle.descriptor_script.specs.Inner.Slots.{HasSpareSlots, slots_of};
 
     /// No ticket was given. It takes no memory.
     pub(crate) fn new(alloc: Global) -> Self
@@ -90,7 +90,10 @@ impl<S> Slots<S> {
     fn push(&mut self, set: DescriptorSet<S>)
         requires { HasSpareSlots 1 self.old }
         ensures sets { slots_of self.new ≡ slots_of self.old ++ Some set ∷ [] }
-        ensures room { KeepsRoom 1 self.old self.new }
+        ensures room { (vec_len self.new.sets ≡ vec_len self.old.sets + 1)
+            × (vec_capacity self.new.sets ≡ vec_capacity self.old.sets) }
+        ensures marks { (vec_len self.new.listed ≡ vec_len self.old.listed + 1)
+            × (vec_capacity self.new.listed ≡ vec_capacity self.old.listed) }
     {
         self.sets.push_reserved(Some(set));
         self.listed.push_reserved(false);

@@ -14,16 +14,18 @@ pub(crate) struct Taking<'a, S> {
 }
 
 impl<S: Drop> Iterator for Taking<'_, S> {
-    ghost use Rattle.descriptor_script.specs.Inner.Taking.{CanTake, TakesNext, slots_in};
-    ghost use Rattle.descriptor_script.specs.Inner.Taking.{tickets_left};
+    ghost use Rattle.std.specs.Slice.Iter.{iter_rest};
+    ghost use Rattle.descriptor_script.specs.Inner.Slots.{slots_of};
+    ghost use Rattle.descriptor_script.specs.Inner.Taking.{TakesNext};
+    ghost use Rattle.descriptor_script.specs.Sessions.Tickets.{AreHeldOnce};
 
     type Item = DescriptorSet<S>;
 
-    ghost can_next = { λ s. CanTake (slots_in s) (tickets_left s) };
+    ghost can_next = { λ s. AreHeldOnce (slots_of s.slots) (iter_rest s.tickets) };
 
     ghost next_gives = { TakesNext };
 
-    ghost remaining = { λ s. at_most (length (tickets_left s)) };
+    ghost remaining = { λ s. at_most (length (iter_rest s.tickets)) };
 
     fn next(&mut self) -> Option<DescriptorSet<S>> {
         let ticket = self.tickets.next()?;

@@ -14,10 +14,6 @@ live_set_of e = record { name = e.0; counts = kinds e.1 }
 abbrev pub live_sets_of : List (ℕ × DescriptorTotalCount) → List LiveSet
 live_sets_of entries = map live_set_of entries
 
--- entries of these counts under these names
-abbrev pub entries_named : DescriptorTotalCount → List ℕ → List (ℕ × DescriptorTotalCount)
-entries_named counts names = map (λ n. (n, counts)) names
-
 -- sets of these names are among those of the list
 pub record HasNamed (names : List ℕ) (all : List LiveSet) : Type 0 where
   pub gone : List LiveSet

@@ -1,5 +1,5 @@
 -- The slots of a session, as the code has them.
-use Rattle.std.specs.Prelude.{◌≡◌, ℕ, ◌+◌, ◌≤◌, List, Option, vec_len, vec_capacity}
+use Rattle.std.specs.Prelude.{ℕ, ◌+◌, ◌≤◌, List, Option, vec_len, vec_capacity}
 use Rattle.gpu_descriptor.specs.declared.set.DescriptorSet.{DescriptorSet}
 use Rattle.descriptor_script.specs.declared.slots.Slots.{Slots}
 
@@ -11,8 +11,3 @@ module _ {S : Type 0} where
   pub record HasSpareSlots (n : ℕ) (s : Slots S) : Type 0 where
     pub sets : vec_len s.sets + n ≤ vec_capacity s.sets
     pub listed : vec_len s.listed + n ≤ vec_capacity s.listed
-
-  -- so many tickets were given, over room that stays
-  pub record KeepsRoom (n : ℕ) (old new : Slots S) : Type 0 where
-    pub sets : (vec_len new.sets ≡ vec_len old.sets + n) × (vec_capacity new.sets ≡ vec_capacity old.sets)
-    pub listed : (vec_len new.listed ≡ vec_len old.listed + n) × (vec_capacity new.listed ≡ vec_capacity old.listed)

@@ -1,11 +1,11 @@
 -- The live pools of a table, as a ledger shows them, and the names that were given.
-use Rattle.std.specs.Prelude.{◌≡◌, ℕ, ◌≤◌, List, map, Bool, false, Option, None, Some, is_some, nat_eq}
+use Rattle.std.specs.Prelude.{◌≡◌, ℕ, ◌≤◌, Bool, false, Option, None, Some, is_some, nat_eq}
 use Rattle.std.specs.Option.{option_map}
 use Rattle.indexmap.specs.IndexMap.{IndexMap, get}
 use Rattle.gpu_descriptor_types.specs.Counts.{kinds}
 use Rattle.gpu_descriptor_types.specs.Flags.{bits}
 use Rattle.gpu_descriptor_types.specs.Ledger.{Pool}
-use Rattle.gpu_descriptor_types.specs.Multiset.{LiveSet, times, AreIn}
+use Rattle.gpu_descriptor_types.specs.Multiset.{times}
 use Rattle.descriptor_script.specs.Inner.Live.{live_sets_of}
 use Rattle.descriptor_script.specs.declared.live.LivePool.{LivePool}
 
@@ -28,11 +28,3 @@ PoolsAreBelow live next = (q : ℕ) → next ≤ q → is_some (get nat_eq live 
 -- no live set has this name or a later one
 abbrev pub SetsAreBelow : {S : Type 0} → IndexMap ℕ LivePool S → ℕ → Type 0
 SetsAreBelow live next = (q n : ℕ) → next ≤ n → has_set n (get nat_eq live q) ≡ false
-
--- sets of these names are live in the pool of this name
-pub record AreNamed (name : ℕ) (names : List ℕ) (pools : ℕ → Option Pool) : Type 0 where
-  pub pool : Pool
-  pub is_live : pools name ≡ Some pool
-  pub gone : List LiveSet
-  pub named : map (λ s. s.name) gone ≡ names
-  pub live : AreIn gone pool.live

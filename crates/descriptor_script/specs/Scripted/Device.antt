@@ -2,14 +2,14 @@
 use Rattle.std.specs.Prelude.{List, None}
 use Rattle.gpu_descriptor_types.specs.Ledger.{Ledger, no_rise}
 use Rattle.descriptor_script.specs.Inner.Counters.{counters_of}
-use Rattle.descriptor_script.specs.Inner.Pools.{pools_of, next_names}
+use Rattle.descriptor_script.specs.Inner.Pools.{next_names, owed}
 use Rattle.descriptor_script.specs.Scripted.Raw.{Names}
 use Rattle.descriptor_script.specs.Inner.Words.{words_of}
 use Rattle.descriptor_script.specs.declared.answer.Answer.{Answer}
 use Rattle.descriptor_script.specs.declared.device.ScriptedDevice.{ScriptedDevice}
 
 abbrev pub ledger_of : ScriptedDevice → Ledger
-ledger_of d = record { pools = pools_of d.pools; counters = counters_of d.counters }
+ledger_of d = owed d.pools (counters_of d.counters)
 
 -- the words that are still to be read
 abbrev pub script_of : ScriptedDevice → List Answer

@@ -1,7 +1,6 @@
 -- What a session keeps.
 use Rattle.std.specs.Prelude.{◌≡◌, ℕ, List, length, slice_get, Option, Some}
 use Rattle.gpu_descriptor_types.specs.Counts.{kinds}
-use Rattle.gpu_descriptor_types.specs.declared.counts.DescriptorTotalCount.{DescriptorTotalCount}
 use Rattle.gpu_descriptor.specs.Model.Agreement.{Item, State, count_of, outstanding}
 use Rattle.gpu_descriptor.specs.Model.Books.{Key, no_pools}
 use Rattle.gpu_descriptor_types.specs.Meaning.{Meaning}
@@ -11,7 +10,6 @@ use Rattle.gpu_descriptor.specs.Caller.Keeps.{Keeps}
 use Rattle.gpu_descriptor.specs.Caller.States.{Agrees, outstanding_of, state_of}
 use Rattle.gpu_descriptor.specs.Caller.Sets.{items_of}
 use Rattle.gpu_descriptor.specs.Caller.Values.{Allocations}
-use Rattle.gpu_descriptor.specs.declared.flags.DescriptorSetLayoutCreateFlags.{DescriptorSetLayoutCreateFlags}
 use Rattle.gpu_descriptor.specs.declared.set.DescriptorSet.{DescriptorSet}
 use Rattle.descriptor_script.specs.Inner.Slots.{slots_of}
 use Rattle.descriptor_script.specs.Sessions.Tickets.{held_sets}
@@ -33,9 +31,6 @@ module _ {L P S : Type 0} where
   abbrev pub sets_of : Session L P S → List (Option (DescriptorSet S))
   sets_of s = slots_of s.slots
 
-abbrev pub known : {L : Type 0} → L → DescriptorTotalCount → DescriptorSetLayoutCreateFlags → KnownLayout L
-known layout counts flags = record { layout = layout; counts = counts; flags = flags }
-
 -- the allocator has no pools
 abbrev pub HasNoPools : State → Type 0
 HasNoPools s = (k : Key) → s.books k ≡ no_pools
@@ -45,6 +40,10 @@ abbrev pub AreAllHeld : {S : Type 0} → (S → ℕ) → List (Option (Descripto
 AreAllHeld name slots s = (t : Item) → outstanding s t ≡ count_of t (items_of name (held_sets slots))
 
 module _ {L P S : Type 0} (means : Meaning L P S) where
+  -- the books of the allocator, and the ledger
+  abbrev pub state_on : Side (Session L P S) → State
+  state_on s = state_of means.pool_name (allocator_of s.value) s.ledger
+
   -- the counts and the mark of each layout are those of the device's meaning
   abbrev pub AreMeant : List (KnownLayout L) → Type 0
   AreMeant layouts = (i : ℕ) (k : KnownLayout L) → slice_get layouts i ≡ Some k → (kinds k.counts ≡ means.counts k.layout) × (is_marked k.flags ≡ means.mark k.layout)
@@ -52,7 +51,7 @@ module _ {L P S : Type 0} (means : Meaning L P S) where
   -- the next command may be run
   pub record IsReady (s : Side (Session L P S)) : Type 0 where
     pub agree : Agrees means.pool_name (allocator_of s.value) s.ledger
-    pub held : AreAllHeld means.set_name (sets_of s.value) (state_of means.pool_name (allocator_of s.value) s.ledger)
+    pub held : AreAllHeld means.set_name (sets_of s.value) (state_on s)
     pub meant : AreMeant (layouts_of s.value)
 
   -- what every command keeps

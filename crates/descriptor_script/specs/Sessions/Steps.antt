@@ -11,10 +11,10 @@ use Rattle.gpu_descriptor.specs.Model.Promises.{HasCause}
 use Rattle.gpu_descriptor.specs.Caller.Call.{call_of, layout_key}
 use Rattle.gpu_descriptor.specs.Model.Runs.{runs}
 use Rattle.gpu_descriptor.specs.Caller.Sets.{items_of}
-use Rattle.gpu_descriptor.specs.Caller.States.{keys_of, state_of}
+use Rattle.gpu_descriptor.specs.Caller.States.{keys_of}
 use Rattle.gpu_descriptor.specs.declared.errors.AllocationError.{AllocationError}
 use Rattle.gpu_descriptor.specs.declared.set.DescriptorSet.{DescriptorSet}
-use Rattle.descriptor_script.specs.Sessions.Session.{allocator_of, allocator_on, layouts_of, sets_of}
+use Rattle.descriptor_script.specs.Sessions.Session.{allocator_of, allocator_on, layouts_of, sets_of, state_on}
 use Rattle.descriptor_script.specs.Sessions.Tickets.{AreHeldOnce, emptied, set_at}
 use Rattle.descriptor_script.specs.declared.command.Command.{Command}
 use Rattle.descriptor_script.specs.declared.command.Command.TheVariants.{Allocate, Free, Cleanup}
@@ -30,18 +30,22 @@ pub record IsAsBefore {L P S : Type 0} (old new : Side (Session L P S)) : Type 0
   pub sets : sets_of new.value ≡ sets_of old.value
   pub ledger : new.ledger ≡ old.ledger
 
-module _ {L P S : Type 0} (means : Meaning L P S) where
-  -- the session's request to its allocator, and what it left
-  abbrev pub request_of : KnownLayout L → ℕ → Side (Session L P S) → Side (Session L P S) → Result (List Item) AllocationError → Call
-  request_of known count old new answer = call_of means (layout_key means known.layout) count (allocator_on old) (allocator_on new) answer
+-- what may be said of a command, its reply, and the session before it and after it
+abbrev pub OfStep : (L P S : Type 0) → Type 1
+OfStep L P S = Command → Reply → Side (Session L P S) → Side (Session L P S) → Type 0
 
+module _ {L P S : Type 0} (means : Meaning L P S) where
   module _ (layout count : ℕ) (old new : Side (Session L P S)) where
+    -- the session's request to its allocator, and what it left
+    abbrev pub request_of : KnownLayout L → Result (List Item) AllocationError → Call
+    request_of known answer = call_of means (layout_key means known.layout) count (allocator_on old) (allocator_on new) answer
+
     -- the sets of a request are held under the next tickets, in their order
     pub record HoldsAnswer (next many : ℕ) : Type 0 where
       pub known : KnownLayout L
       pub at : slice_get (layouts_of old.value) layout ≡ Some known
       pub given : List (DescriptorSet S)
-      pub outcome : Allocates (request_of known count old new (Ok (items_of means.set_name given)))
+      pub outcome : Allocates (request_of known (Ok (items_of means.set_name given)))
       pub asked : many ≡ count
       pub all_given : length given ≡ count
       pub first : next ≡ length (sets_of old.value)
@@ -51,8 +55,8 @@ module _ {L P S : Type 0} (means : Meaning L P S) where
     pub record Refuses (error : AllocationError) : Type 0 where
       pub known : KnownLayout L
       pub at : slice_get (layouts_of old.value) layout ≡ Some known
-      pub outcome : Allocates (request_of known count old new (Err error))
-      pub cause : HasCause error (request_of known count old new (Err error))
+      pub outcome : Allocates (request_of known (Err error))
+      pub cause : HasCause error (request_of known (Err error))
       pub sets : sets_of new.value ≡ sets_of old.value
 
     -- what a request for so many sets of the layout at a place may reply. A request for none finds memory
@@ -82,21 +86,17 @@ module _ {L P S : Type 0} (means : Meaning L P S) where
   module _ (old new : Side (Session L P S)) where
     -- the empty pools at the front of each key are gone, and the sets stay
     pub record Cleans : Type 0 where
-      pub cleaned : IsCleaned (state_of means.pool_name (allocator_of old.value) old.ledger) (state_of means.pool_name (allocator_of new.value) new.ledger)
+      pub cleaned : IsCleaned (state_on means old) (state_on means new)
       -- all other counters stay
-      pub counters : new.ledger.counters ≡ more_destroyed (pools_cleaned (keys_of (allocator_of old.value)) (state_of means.pool_name (allocator_of old.value) old.ledger)) old.ledger.counters
+      pub counters : new.ledger.counters ≡ more_destroyed (pools_cleaned (keys_of (allocator_of old.value)) (state_on means old)) old.ledger.counters
       pub sets : sets_of new.value ≡ sets_of old.value
 
-    -- what a cleanup may reply
-    abbrev pub CleansTo : Reply → Type 0
-    CleansTo Clean = Cleans
-    CleansTo _ = ⊥
-
   -- what a command may reply, and what it leaves
-  abbrev pub StepsTo : Command → Reply → Side (Session L P S) → Side (Session L P S) → Type 0
+  abbrev pub StepsTo : OfStep L P S
   StepsTo (Allocate layout count) reply old new = AllocatesTo layout count old new reply
   StepsTo (Free tickets) reply old new = FreesTo tickets.items old new reply
-  StepsTo Cleanup reply old new = CleansTo old new reply
+  StepsTo Cleanup Clean old new = Cleans old new
+  StepsTo Cleanup _ old new = ⊥
 
 -- no ticket is given twice: the next ticket never falls, and a ticket that was given and isn't held never is again
 pub record KeepsTickets {L P S : Type 0} (old new : Session L P S) : Type 0 where

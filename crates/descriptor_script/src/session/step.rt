@@ -1,7 +1,8 @@
 //! One command of a session.
+ghost use Rattle.std.specs.Prelude.{◌≡◌};
 ghost use Rattle.gpu_descriptor_types.specs.Side.{side};
 ghost use Rattle.descriptor_script.specs.Sessions.Session.{IsReady, KeepsSession};
-ghost use Rattle.descriptor_script.specs.Sessions.Steps.{AllocatesTo, CleansTo, FreesTo};
+ghost use Rattle.descriptor_script.specs.Sessions.Steps.{AllocatesTo, Cleans, FreesTo};
 ghost use Rattle.descriptor_script.specs.Sessions.Steps.{KeepsTickets, StepsTo};
 
 use super::Session;
@@ -89,8 +90,9 @@ impl<L, P: Drop, S: Drop> Session<L, P, S> {
     /// Destroys the empty pools at the front of each key.
     fn cleanup<D: DescriptorDevice<L, P, S>>(&mut self, device: &mut D) -> Reply
         requires ready { IsReady D.meaning (side self.old (D.ledger device.old)) }
-        ensures step { CleansTo D.meaning (side self.old (D.ledger device.old))
-            (side self.new (D.ledger device.new)) result }
+        ensures clean { result ≡ Reply.Clean }
+        ensures cleans { Cleans D.meaning (side self.old (D.ledger device.old))
+            (side self.new (D.ledger device.new)) }
         ensures keeps { KeepsSession D.meaning (side self.old (D.ledger device.old))
             (side self.new (D.ledger device.new)) }
     {

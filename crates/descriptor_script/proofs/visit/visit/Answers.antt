@@ -1,4 +1,4 @@
-use Rattle.std.proofs.Common.{◌≡◌, ℕ, [], Result, Ok, Err, IfOk, sym, ap, ◌∙◌}
+use Rattle.std.proofs.Common.{◌≡◌, [], sym, ap, ◌∙◌}
 use Rattle.std.proofs.lemmas.Result.{IfOk-weaker}
 use Rattle.gpu_descriptor_types.specs.Meaning.{Meaning}
 use Rattle.gpu_descriptor_types.specs.Side.{Side, side}
@@ -6,8 +6,9 @@ use Rattle.gpu_descriptor.specs.Model.Agreement.{Item, State, count_of, outstand
 use Rattle.gpu_descriptor.specs.Caller.Sets.{items_of}
 use Rattle.gpu_descriptor.specs.Caller.States.{state_of}
 use Rattle.descriptor_script.specs.Sessions.Session.{allocator_of, sets_of}
-use Rattle.descriptor_script.specs.Sessions.Steps.{Cleans, CleansTo}
+use Rattle.descriptor_script.specs.Sessions.Steps.{Cleans, StepsTo}
 use Rattle.descriptor_script.specs.Sessions.Tickets.{held_sets}
+use Rattle.descriptor_script.specs.declared.command.Command.TheVariants.{Cleanup}
 use Rattle.descriptor_script.specs.declared.command.Reply.{Reply}
 use Rattle.descriptor_script.specs.declared.command.Reply.TheVariants.{Sets, Refused, Freed, BadTicket, BadLayout, NoMemory, Clean}
 use Rattle.descriptor_script.specs.declared.session.Session.{Session}
@@ -15,7 +16,7 @@ use Rattle.descriptor_script.proofs.Running.{session_through}
 use Rattle.descriptor_script.proofs.visit.visit.Goals.{After-step-clean}
 use Rattle.descriptor_script.proofs.visit.visit.Goals as goal
 
-cleans : {L P S : Type 0} (means : Meaning L P S) (old new : Side (Session L P S)) (reply : Reply) → CleansTo means old new reply → Cleans means old new
+cleans : {L P S : Type 0} (means : Meaning L P S) (old new : Side (Session L P S)) (reply : Reply) → StepsTo means Cleanup reply old new → Cleans means old new
 cleans means old new Clean h = h
 cleans means old new (Sets first many) h = absurd h
 cleans means old new (Refused e) h = absurd h

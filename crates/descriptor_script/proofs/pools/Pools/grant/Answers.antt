@@ -5,7 +5,7 @@ use Rattle.gpu_descriptor_types.specs.Counts.{kinds}
 use Rattle.gpu_descriptor_types.specs.Ledger.{live_sets}
 use Rattle.gpu_descriptor_types.specs.Layouts.{layout, left}
 use Rattle.gpu_descriptor_types.specs.Multiset.{LiveSet, times}
-use Rattle.descriptor_script.specs.Inner.Live.{live_sets_of, entries_named}
+use Rattle.descriptor_script.specs.Inner.Live.{live_sets_of}
 use Rattle.descriptor_script.specs.Scripted.Raw.{set_id, raw_sets}
 use Rattle.descriptor_script.specs.Inner.Table.{seen}
 use Rattle.descriptor_script.specs.declared.live.LivePool.{LivePool}
@@ -39,8 +39,8 @@ invariant_of-self-2 g c =
       sets_named = sets_below h c.args.self.now.next_set (c.args.self.now.next_set + c.from-2.result) (omega arith) c.args.self.now.sets_named (λ j above. c.fill.ensures.fresh j (omega arith));
     }
 
-pub returns-clause-ok : goal.returns-clause-ok
-returns-clause-ok g c =
+pub returns-clause-pools : goal.returns-clause-pools
+returns-clause-pools g c =
     let old : LivePool = c.in-Some.live.now in
     let new : LivePool = record old { sets = c.fill.new.live } in
     let h = written c.args.self.now.live (c.get_mut.follows.lender new) c.args.pool old new c.in-Some.ensures.value (c.get_mut.follows.holds new) in
@@ -48,12 +48,10 @@ returns-clause-ok g c =
     let many : ℕ = left c.args.layouts in
     let counts = (layout c.args.layouts).counts in
     let sets : List LiveSet = live_sets (kinds counts) (map set_id (raw_sets c.args.pool first many)) in
-    let put : c.fill.new.live.entries ≡ old.sets.entries ++ entries_named counts (range_with_len first many) = c.fill.ensures.live ∙ ap (λ l. l ++ entries_named counts (range_with_len first many)) c.reserve.ensures.entries in
+    let put : c.fill.new.live.entries ≡ old.sets.entries ++ map (λ name. (name, counts)) (range_with_len first many) = c.fill.ensures.live ∙ ap (λ l. l ++ map (λ name. (name, counts)) (range_with_len first many)) c.reserve.ensures.entries in
     let live : times (live_sets_of c.fill.new.live.entries) ≡ (λ x. times (live_sets_of old.sets.entries) x + times sets x) = more_live old.sets.entries c.fill.new.live.entries counts c.args.pool first many put in
-    record {
-      kept = c.fill.ensures.sets;
-      alike = c.fill.ensures.alike;
-      room = c.fill.ensures.room;
-      pools = on_written h (λ pool. record pool { live = λ x. pool.live x + times sets x }) (ap (λ (l : LiveSet → ℕ). record (seen old) { live = l }) live);
-      names = ap (λ n. record { pools = c.args.self.now.next_pool; sets = c.args.self.now.next_set + n }) (c.from-2.ensures ∙ c.len-count.ensures);
-    }
+    on_written h (λ pool. record pool { live = λ x. pool.live x + times sets x }) (ap (λ (l : LiveSet → ℕ). record (seen old) { live = l }) live)
+
+pub returns-clause-names : goal.returns-clause-names
+returns-clause-names g c =
+    ap (λ n. record { pools = c.args.self.now.next_pool; sets = c.args.self.now.next_set + n }) (c.from-2.ensures ∙ c.len-count.ensures)

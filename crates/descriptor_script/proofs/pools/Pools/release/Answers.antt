@@ -1,4 +1,4 @@
-use Rattle.std.proofs.Common.{◌≡◌, ℕ, ◌-◌, List, [], refl, sym, ap, subst}
+use Rattle.std.proofs.Common.{◌≡◌, ℕ, ◌+◌, ◌-◌, List, [], refl, sym, ap, subst}
 use Rattle.std.specs.Prelude.{IfSome}
 use Rattle.std.proofs.Math.Path.{fun_ext}
 use Rattle.gpu_descriptor_types.specs.Ledger.{Pool}
@@ -32,7 +32,7 @@ invariant_of-self g c =
     }
 
 pub returns-clause-released : goal.returns-clause-released
-returns-clause-released g c =
+returns-clause-released g c n =
     let old : LivePool = c.in-Some.live.now in
     let new : LivePool = record old { sets = c.take_back.new.live } in
     let h = written c.args.self.now.live (c.get_mut.follows.lender new) c.args.pool old new c.in-Some.ensures.value (c.get_mut.follows.holds new) in
@@ -45,5 +45,5 @@ returns-clause-released g c =
       gone = gone;
       named = back.named;
       live = subst (λ o. IfSome o (λ (pool : Pool). AreIn gone pool.live)) (sym (seen_was h)) back.live;
-      pools = on_written h (λ pool. record pool { live = λ x. pool.live x - times gone x }) (ap (λ (l : LiveSet → ℕ). record (seen old) { live = l }) live);
+      ledger = ap (λ pools. record { pools = pools; counters = record n { released = n.released + 1 } }) (on_written h (λ pool. record pool { live = λ x. pool.live x - times gone x }) (ap (λ (l : LiveSet → ℕ). record (seen old) { live = l }) live));
     }

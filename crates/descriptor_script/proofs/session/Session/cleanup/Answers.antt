@@ -1,8 +1,8 @@
 use Rattle.std.proofs.Common.{◌∙◌, rules}
 use Rattle.descriptor_script.proofs.session.Session.cleanup.Goals as goal
 
-pub returns-clause-step : goal.returns-clause-step
-returns-clause-step g c = record {
+pub returns-clause-cleans : goal.returns-clause-cleans
+returns-clause-cleans g c = record {
   cleaned = c.cleanup.ensures.cleans_up.cleaned;
   counters = c.cleanup.ensures.cleans_up.destroyed;
   sets = search rules;

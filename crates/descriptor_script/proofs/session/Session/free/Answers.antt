@@ -3,10 +3,10 @@ use Rattle.gpu_descriptor.specs.Model.Agreement.{State}
 use Rattle.gpu_descriptor.specs.Caller.States.{state_of}
 use Rattle.descriptor_script.specs.Sessions.Session.{AreAllHeld}
 use Rattle.descriptor_script.specs.Inner.Slots.{slots_of}
-use Rattle.descriptor_script.specs.Inner.Taking.{tickets_left}
+use Rattle.std.specs.Slice.Iter.{iter_rest}
 use Rattle.descriptor_script.specs.Sessions.Tickets.{AreHeldOnce, emptied, held_sets, set_at}
 use Rattle.descriptor_script.specs.declared.taking.Taking.{Taking}
-use Rattle.descriptor_script.proofs.Emptied.{all_emptied, all_held_less, all_out, can_take, each_taken, fewer_held, held_as}
+use Rattle.descriptor_script.proofs.Emptied.{all_emptied, all_held_less, all_out, each_taken, fewer_held, held_as}
 use Rattle.descriptor_script.proofs.session.Session.free.Goals.{After-iter}
 use Rattle.descriptor_script.proofs.session.Session.free.Goals as goal
 
@@ -22,7 +22,7 @@ held g c = held_as g.D.DescriptorDevice.meaning.set_name _ _ (state_of g.D.Descr
 pub free_from-requires-clause-can : goal.free_from-requires-clause-can
 free_from-requires-clause-can g c =
     let d = (goal.at.free_from-requires-clause-can g c).After-iter in
-    rw (slots_are g d, c.iter.ensures.rest) (can_take _ _ (good g d))
+    rw (slots_are g d, c.iter.ensures.rest) (good g d)
 
 pub free_from-requires-clause-outstanding : goal.free_from-requires-clause-outstanding
 free_from-requires-clause-outstanding g c =
@@ -39,9 +39,9 @@ returns-clause-step g c =
       good = good g d;
       all = search rules;
       given = frees.sets;
-      each = each_taken frees.sets s drained.0 drained.1 drained.2.0 ∙ ap (λ l. map (set_at l) (tickets_left s)) (slots_are g d) ∙ ap (map (set_at (slots_of c.args.self.now.slots))) c.iter.ensures.rest;
+      each = each_taken frees.sets s drained.0 drained.1 drained.2.0 ∙ ap (λ l. map (set_at l) (iter_rest s.tickets)) (slots_are g d) ∙ ap (map (set_at (slots_of c.args.self.now.slots))) c.iter.ensures.rest;
       back = frees.returns.back;
-      sets = drained.2.2 ∙ all_emptied frees.sets s drained.0 drained.1 drained.2.0 ∙ ap (λ l. emptied l (tickets_left s)) (slots_are g d) ∙ ap (emptied (slots_of c.args.self.now.slots)) c.iter.ensures.rest;
+      sets = drained.2.2 ∙ all_emptied frees.sets s drained.0 drained.1 drained.2.0 ∙ ap (λ l. emptied l (iter_rest s.tickets)) (slots_are g d) ∙ ap (emptied (slots_of c.args.self.now.slots)) c.iter.ensures.rest;
     }
 
 pub returns-clause-keeps : goal.returns-clause-keeps

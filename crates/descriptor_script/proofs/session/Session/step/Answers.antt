@@ -8,4 +8,4 @@ pub returns-in-Free-clause-tickets : goal.returns-in-Free-clause-tickets
 returns-in-Free-clause-tickets g c = freeing_keeps _ _ _ _ _ c.free.ensures.step
 
 pub returns-in-Cleanup-clause-tickets : goal.returns-in-Cleanup-clause-tickets
-returns-in-Cleanup-clause-tickets g c = cleaning_keeps _ _ _ _ c.cleanup.ensures.step
+returns-in-Cleanup-clause-tickets g c = cleaning_keeps _ _ _ c.cleanup.ensures.cleans
