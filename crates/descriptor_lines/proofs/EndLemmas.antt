@@ -1,9 +1,9 @@
 -- How a run of lines ends.
-use Rattle.std.proofs.Common.{◌≡◌, ℕ, ◌+◌, ◌-◌, ◌<◌, ◌≤◌, ◌⊎◌, ◌||◌, inl, inr, Bool, true, false, IsTrue, IsFalse, not, List, [], ◌∷◌, ◌++◌, Option, None, Some, Result, Ok, Err, OnOk, OnErr, IfErr, drop, take, slice_range, length, length-take, subst, refl, sym, ap, ◌∙◌, arith}
+use Rattle.std.proofs.Common.{◌≡◌, if◌then◌else◌, ℕ, ◌+◌, ◌-◌, ◌<◌, ◌≤◌, ◌⊎◌, ◌||◌, inl, inr, Bool, true, false, IsTrue, IsFalse, not, List, [], ◌∷◌, ◌++◌, Option, None, Some, Result, Ok, Err, OnOk, OnErr, IfErr, drop, take, slice_range, length, length-take, append-nil, subst, refl, sym, ap, ◌∙◌, arith}
 use Rattle.std.specs.Bool.{⊤}
 use Rattle.std.specs.List.{position_or_len}
 use Rattle.std.specs.Io.BufRead.{strip_last}
-use Rattle.std.specs.Io.KnownBytes.{Appends, IsAtEnd}
+use Rattle.std.specs.Io.KnownBytes.{Appends, IsAtEnd, prepend_known}
 use Rattle.std.proofs.KnownBytes.{Appends-trans}
 use Rattle.descriptor_words.specs.Fault.{IfFault, faulty}
 use Rattle.descriptor_words.specs.Words.{is_byte, is_silent, words}
@@ -14,10 +14,10 @@ use Rattle.descriptor_words.specs.declared.fault.Refusal.TheVariants as refusal
 use Rattle.descriptor_lines.specs.Answers.{fault_line}
 use Rattle.descriptor_lines.specs.LineBuffers.{buffered, bytes_at, unread}
 use Rattle.descriptor_lines.specs.LineStates.{LineState}
-use Rattle.descriptor_lines.specs.Lines.{BeginsTooLong, LosesLine, after_end, before_end, lines_of, known_left}
+use Rattle.descriptor_lines.specs.Lines.{BeginsTooLong, LosesLine, after_end, before_end, lines_of}
 use Rattle.descriptor_lines.specs.Outcomes.{AppendsFront, IsNoFault, said_of}
 use Rattle.descriptor_lines.specs.Programs.{CanRun, DoesLine, IsFresh, IsReasonFor, IsUnchanged, KeepsDevice, begun}
-use Rattle.descriptor_lines.specs.Transcripts.{IsAnswered, IsAtLine, IsFaultOfLine, IsSaid, Writes, WritesFromStart, words_in}
+use Rattle.descriptor_lines.specs.Transcripts.{ComesTo, IsAnswered, IsFaultOfLine, IsRefused, Writes, WritesFromStart, words_in}
 use Rattle.descriptor_lines.specs.declared.exit.Exit.{Exit}
 use Rattle.descriptor_lines.specs.declared.exit.Exit.TheVariants.{BadLine, Done, NoMemory, ReadFault, WriteFault}
 use Rattle.descriptor_lines.specs.declared.input.LineBuffer.{LineBuffer}
@@ -111,21 +111,33 @@ stands_on (Some bytes) (Some left) rest start old new answers text number outcom
 pub ends_done : (known left : Option (List ℕ)) (start p : LineState) (answers : List ℕ) (number : ℕ) (old new : Option (List ℕ)) → Stands known start answers number left p → IsAtEnd left → Appends old new answers → Writes known start Done old new p
 ends_done None left start p answers number old new at end grown = tt
 ends_done (Some bytes) None start p answers number old new at end grown = absurd at
-ends_done (Some bytes) (Some left) start p answers number old new at end grown =
+ends_done (Some bytes) (Some left) start p answers number old new (before, all, next, at) end grown =
     let nothing : lines_of left ≡ [] = ap lines_of end ∙ no_lines in
-    (answers, record { number = number; reaches = rw nothing at at }, grown)
+    let every : lines_of bytes ≡ before = all ∙ ap (λ l. before ++ l) nothing ∙ append-nil before in
+    (answers, rw every at, grown)
 
 pub ends_unread : (known left : Option (List ℕ)) (start p : LineState) (answers : List ℕ) (number : ℕ) (old new : Option (List ℕ)) → Stands known start answers number left p → Appends old new answers → Writes known start ReadFault old new p
 ends_unread None left start p answers number old new at grown = tt
 ends_unread (Some bytes) None start p answers number old new at grown = absurd at
-ends_unread (Some bytes) (Some left) start p answers number old new at grown =
-    (answers, (lines_of left, record { number = number; reaches = at }), grown)
+ends_unread (Some bytes) (Some left) start p answers number old new (before, all, next, at) grown =
+    (answers, (before, lines_of left, all, at), grown)
 
--- where a run has come to, with the next line
-abbrev at_line : (bytes left line : List ℕ) (start p : LineState) (answers : List ℕ) (number : ℕ) → Stands (Some bytes) start answers number (Some left) p → 0 < length left → line ≡ before_end left → IsAtLine (lines_of bytes) start
-at_line bytes left line start p answers number at some first =
+-- a run that has come to its next line, with what was said of it
+at_line : (Says : ℕ → List ℕ → List ℕ → LineState → Type 0) (bytes left line said : List ℕ) (start p : LineState) (answers : List ℕ) (number : ℕ) → Stands (Some bytes) start answers number (Some left) p → 0 < length left → line ≡ before_end left → Says number line said p → ComesTo Says (lines_of bytes) start (answers ++ said)
+at_line Says bytes left line said start p answers number (before, all, next, at) some first says =
     let split : lines_of left ≡ line ∷ lines_of (after_end left) = lines_split left some ∙ ap (λ l. l ∷ lines_of (after_end left)) (sym first) in
-    record { line = line; left = lines_of (after_end left); answers = answers; program = p; reached = record { number = number; reaches = rw split at at } }
+    record {
+      before = before;
+      line = line;
+      after = lines_of (after_end left);
+      split = all ∙ ap (λ l. before ++ l) split;
+      answers = answers;
+      program = p;
+      answered = at;
+      said = said;
+      whole = refl;
+      says = subst (λ n. Says n line said p) next says;
+    }
 
 ends_refused : (known left rest : Option (List ℕ)) (start p now : LineState) (answers text : List ℕ) (number : ℕ) (outcome : Result Unit Refusal) (fault : Fault) (old mid new : Option (List ℕ)) → outcome ≡ Err (refusal.Fault fault) → Stands known start answers number left p → Takes number left rest outcome text p now → Appends old mid answers → Appends mid new (said_of number outcome text) → Writes known start BadLine old new now
 ends_refused None left rest start p now answers text number outcome fault old mid new is at takes before said = tt
@@ -133,13 +145,7 @@ ends_refused (Some bytes) None rest start p now answers text number outcome faul
 ends_refused (Some bytes) (Some left) rest start p now answers text number outcome fault old mid new is at (line, taken) before said =
     let last : said_of number outcome text ≡ fault_line number fault = ap (λ o. said_of number o text) is in (
       answers ++ said_of number outcome text,
-      record {
-        at = at_line bytes left line start p answers number at taken.some taken.first;
-        fault = said_of number outcome text;
-        refused = record { fault = fault; wrong = taken.wrong fault is; said = last };
-        said = refl;
-        device = taken.device fault is;
-      },
+      at_line (λ n l t q. IsRefused n l t q now) bytes left line (said_of number outcome text) start p answers number at taken.some taken.first (record { fault = fault; wrong = taken.wrong fault is; said = last; device = taken.device fault is }),
       Appends-trans old mid new answers _ before said,
     )
 
@@ -154,10 +160,10 @@ ends_at_fault known left rest start p now answers text number outcome old mid ne
     let (fault, is) = is_fault outcome faulty in
     ends_refused known left rest start p now answers text number outcome fault old mid new is at takes before said
 
-is_said : (number : ℕ) (line bytes : List ℕ) (rest : Option (List ℕ)) (outcome : Result Unit Refusal) (text : List ℕ) (old new : LineState) → IsTaken number line bytes rest outcome text old new → IsSaid number line (said_of number outcome text) old new
+is_said : (number : ℕ) (line bytes : List ℕ) (rest : Option (List ℕ)) (outcome : Result Unit Refusal) (text : List ℕ) (old new : LineState) → IsTaken number line bytes rest outcome text old new → IsAnswered line (said_of number outcome text) old new ⊎ IsRefused number line (said_of number outcome text) old new
 is_said number line bytes rest (Ok done) text old new taken = inl (taken.answered tt)
 is_said number line bytes rest (Err refusal.NoMemory) text old new taken = inl (taken.answered refl)
-is_said number line bytes rest (Err (refusal.Fault fault)) text old new taken = inr (record { fault = fault; wrong = taken.wrong fault refl; said = refl }, taken.device fault refl)
+is_said number line bytes rest (Err (refusal.Fault fault)) text old new taken = inr (record { fault = fault; wrong = taken.wrong fault refl; said = refl; device = taken.device fault refl })
 
 -- a write failed
 pub ends_unwritten : (known left rest : Option (List ℕ)) (start p now : LineState) (answers text : List ℕ) (number : ℕ) (outcome : Result Unit Refusal) (old mid new : Option (List ℕ)) → Stands known start answers number left p → Takes number left rest outcome text p now → Appends old mid answers → AppendsFront mid new (said_of number outcome text) → Writes known start WriteFault old new now
@@ -165,13 +171,7 @@ ends_unwritten None left rest start p now answers text number outcome old mid ne
 ends_unwritten (Some bytes) None rest start p now answers text number outcome old mid new at takes before wrote = absurd at
 ends_unwritten (Some bytes) (Some left) rest start p now answers text number outcome old mid new at (line, taken) before wrote = (
   answers ++ wrote.front,
-  record {
-    at = at_line bytes left line start p answers number at taken.some taken.first;
-    front = wrote.front;
-    unwritten = wrote.unwritten;
-    answer = subst (λ t. IsSaid number line t p now) wrote.split (is_said number line left rest outcome text p now taken);
-    said = refl;
-  },
+  at_line (λ n l t q. (unwritten : List ℕ) × (IsAnswered l (t ++ unwritten) q now ⊎ IsRefused n l (t ++ unwritten) q now)) bytes left line wrote.front start p answers number at taken.some taken.first (wrote.unwritten, subst (λ t. IsAnswered line t p now ⊎ IsRefused number line t p now) wrote.split (is_said number line left rest outcome text p now taken)),
   Appends-trans old mid new answers _ before wrote.grown,
 )
 
@@ -187,7 +187,7 @@ slice_range_none bytes place =
     let none : place - place ≡ 0 = omega arith in
     ap (λ n. take n (drop place bytes)) none
 
-known_left_of_none : (ended : Bool) (known : Option (List ℕ)) → ended ≡ false → known_left ended [] known ≡ known
+known_left_of_none : (ended : Bool) (known : Option (List ℕ)) → ended ≡ false → (if ended then Some [] else prepend_known [] known) ≡ known
 known_left_of_none true known «open» = absurd (cc)
 known_left_of_none false None «open» = refl
 known_left_of_none false (Some bytes) «open» = refl
@@ -196,7 +196,7 @@ known_left_of_none false (Some bytes) «open» = refl
 pub unread_first : (buffer : LineBuffer) (known : Option (List ℕ)) → buffer.start ≡ buffer.end → buffer.is_at_end ≡ false → unread buffer known ≡ known
 unread_first buffer known empty «open» =
     let nothing : buffered buffer ≡ [] = ap (slice_range buffer.bytes.items buffer.start) (sym empty) ∙ slice_range_none buffer.bytes.items buffer.start in
-    ap (λ l. known_left buffer.is_at_end l known) nothing ∙ known_left_of_none buffer.is_at_end known «open»
+    ap (λ l. if buffer.is_at_end then Some l else prepend_known l known) nothing ∙ known_left_of_none buffer.is_at_end known «open»
 
 pub from_start : (known : Option (List ℕ)) (start last : LineState) (exit : Exit) (old new : Option (List ℕ)) → (exit ≡ NoMemory → ⊥) → IsFresh start → Writes known start exit old new last → WritesFromStart known exit old new last.ledger last.script
 from_start known start last Done old new memory fresh wrote = (start, last, fresh, wrote, refl, refl)

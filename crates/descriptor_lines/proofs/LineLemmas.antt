@@ -1,7 +1,7 @@
 -- Lemmas on the lines that bytes begin with.
-use Rattle.std.proofs.Common.{◌≡◌, ℕ, ◌+◌, ◌-◌, ◌<◌, ◌≤◌, ◌⊎◌, inl, inr, subst, append_assoc, append-nil, length-take, Bool, true, false, IsTrue, List, [], ◌++◌, Option, None, Some, not, is_some, unwrap_or, length, length-take-le, take, drop, position, slice_range, length-append, take-append-drop, refl, sym, ap, ◌∙◌, arith, IfSome}
+use Rattle.std.proofs.Common.{◌≡◌, if◌then◌else◌, ℕ, ◌+◌, ◌-◌, ◌<◌, ◌≤◌, ◌⊎◌, inl, inr, subst, append_assoc, append-nil, length-take, Bool, true, false, IsTrue, List, [], ◌++◌, Option, None, Some, not, is_some, unwrap_or, length, length-take-le, take, drop, position, slice_range, length-append, take-append-drop, refl, sym, ap, ◌∙◌, arith, IfSome}
 use Rattle.std.specs.List.{position_or_len}
-use Rattle.std.specs.Io.KnownBytes.{Keeps, IsAtEnd, Consumes}
+use Rattle.std.specs.Io.KnownBytes.{Keeps, IsAtEnd, Consumes, prepend_known}
 use Rattle.std.proofs.lemmas.Bool.{cases_lt}
 use Rattle.std.proofs.lemmas.Bool.Decides.{nat_tests}
 use Rattle.std.proofs.lemmas.List.{drop-drop, drop-take, take-take, take_all, drop_all, take-append-le, drop-append-le}
@@ -10,7 +10,7 @@ use Rattle.std.proofs.lemmas.Slice.{between_is}
 use Rattle.std.proofs.lemmas.List.Edits.{length-between}
 use Rattle.std.proofs.lemmas.List.Folds.{prefix_len-append}
 use Rattle.std.proofs.lemmas.List.Sums.{prefix_len-le-length}
-use Rattle.descriptor_lines.specs.Lines.{HasEnd, HasNoEnd, LosesLine, BeginsTooLong, before_end, after_end, known_left, longest_line}
+use Rattle.descriptor_lines.specs.Lines.{HasEnd, HasNoEnd, LosesLine, BeginsTooLong, before_end, after_end, longest_line}
 use Rattle.descriptor_words.specs.Words.{is_byte}
 
 -- ---- parts of a list
@@ -170,25 +170,25 @@ Keeps-LosesLine (Some x) (Some y) None same h = absurd h
 Keeps-LosesLine (Some x) (Some y) (Some z) same h = subst (λ l. LosesLine (Some l) (Some z)) same h
 
 -- a line that ends among the bytes at hand
-pub taken : (was now : Bool) (known : Option (List ℕ)) (bytes rest : List ℕ) → now ≡ was → HasEnd bytes → rest ≡ after_end bytes → LosesLine (known_left was bytes known) (known_left now rest known)
+pub taken : (was now : Bool) (known : Option (List ℕ)) (bytes rest : List ℕ) → now ≡ was → HasEnd bytes → rest ≡ after_end bytes → LosesLine (if was then Some bytes else prepend_known bytes known) (if now then Some rest else prepend_known rest known)
 taken true true known bytes rest kept some is = (omega arith, is)
 taken true false known bytes rest kept some is = absurd (cc)
 taken false true known bytes rest kept some is = absurd (cc)
 taken false false None bytes rest kept some is = tt
 taken false false (Some more) bytes rest kept some is = (omega (arith, length-append bytes more), ap (λ l. l ++ more) is ∙ sym (after_end-append bytes more some))
 
-pub taken_line : (ended : Bool) (known : Option (List ℕ)) (bytes line : List ℕ) → HasEnd bytes → line ≡ before_end bytes → IfSome (known_left ended bytes known) (λ all. line ≡ before_end all)
+pub taken_line : (ended : Bool) (known : Option (List ℕ)) (bytes line : List ℕ) → HasEnd bytes → line ≡ before_end bytes → IfSome (if ended then Some bytes else prepend_known bytes known) (λ all. line ≡ before_end all)
 taken_line true known bytes line some is = is
 taken_line false None bytes line some is = tt
 taken_line false (Some more) bytes line some is = is ∙ sym (before_end-append bytes more some)
 
-pub too_long : (ended : Bool) (known : Option (List ℕ)) (bytes : List ℕ) → longest_line < length (before_end bytes) → BeginsTooLong (known_left ended bytes known)
+pub too_long : (ended : Bool) (known : Option (List ℕ)) (bytes : List ℕ) → longest_line < length (before_end bytes) → BeginsTooLong (if ended then Some bytes else prepend_known bytes known)
 too_long true known bytes long = long
 too_long false None bytes long = tt
 too_long false (Some more) bytes long = omega (arith, before_end-grows bytes more)
 
 -- a read put its bytes behind those at hand, and saw the end only where none was left
-pub read_kept : (was ended : Bool) (old new : Option (List ℕ)) (bytes front got all : List ℕ) → was ≡ false → front ≡ bytes → all ≡ front ++ got → Consumes old new got → (IsTrue ended → IsAtEnd new) → Keeps (known_left was bytes old) (known_left ended all new)
+pub read_kept : (was ended : Bool) (old new : Option (List ℕ)) (bytes front got all : List ℕ) → was ≡ false → front ≡ bytes → all ≡ front ++ got → Consumes old new got → (IsTrue ended → IsAtEnd new) → Keeps (if was then Some bytes else prepend_known bytes old) (if ended then Some all else prepend_known all new)
 read_kept true ended old new bytes front got all unseen same is took end = absurd (cc)
 read_kept false ended None new bytes front got all unseen same is took end = tt
 read_kept false ended (Some xs) None bytes front got all unseen same is took end = absurd took
@@ -197,7 +197,7 @@ read_kept false true (Some xs) (Some ys) bytes front got all unseen same is took
     let whole : xs ≡ got = took ∙ ap (λ l. got ++ l) (end refl) ∙ append-nil got in
     is ∙ ap (λ l. l ++ got) same ∙ ap (λ l. bytes ++ l) (sym whole)
 
-pub read_failed_kept : (was now : Bool) (old new : Option (List ℕ)) (bytes front : List ℕ) → was ≡ false → now ≡ was → front ≡ bytes → Keeps old new → Keeps (known_left was bytes old) (known_left now front new)
+pub read_failed_kept : (was now : Bool) (old new : Option (List ℕ)) (bytes front : List ℕ) → was ≡ false → now ≡ was → front ≡ bytes → Keeps old new → Keeps (if was then Some bytes else prepend_known bytes old) (if now then Some front else prepend_known front new)
 read_failed_kept true now old new bytes front unseen kept is same = absurd (cc)
 read_failed_kept false true old new bytes front unseen kept is same = absurd (cc)
 read_failed_kept false false None new bytes front unseen kept is same = tt

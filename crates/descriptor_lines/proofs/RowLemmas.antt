@@ -1,5 +1,5 @@
 -- Runs over given lines, step by step.
-use Rattle.std.proofs.Common.{◌≡◌, ◌⊎◌, inl, inr, ℕ, ◌+◌, ◌≤◌, ◌==◌, if◌then◌else◌, Bool, IsTrue, IsFalse, List, [], ◌∷◌, ◌++◌, codes, length, map, slice_index, Option, None, Some, IsSome, append_assoc, refl, subst, ap, sym, ◌∙◌, arith}
+use Rattle.std.proofs.Common.{◌≡◌, ◌⊎◌, inl, inr, ℕ, suc, ◌+◌, ◌≤◌, ◌==◌, if◌then◌else◌, Bool, IsTrue, IsFalse, List, [], ◌∷◌, ◌++◌, codes, length, map, slice_index, Option, None, Some, IsSome, append_assoc, refl, subst, ap, sym, ◌∙◌, arith}
 use Rattle.std.proofs.lemmas.List.Elements.{All-cons, All-nil}
 use Rattle.std.proofs.lemmas.Bool.{eqb-true, false≢true}
 use Rattle.descriptor_words.specs.Fault.{faulty}
@@ -13,13 +13,13 @@ use Rattle.descriptor_words.specs.declared.keyword.Keyword.TheVariants as keywor
 use Rattle.descriptor_words.specs.Names.{IsName, IsNameByte}
 use Rattle.descriptor_lines.specs.Arguments.{GiveCommand, IsCommandOf, IsFaultOfUse, IsRefusalOf, IsRefusalOfWords}
 use Rattle.descriptor_words.specs.Numbers.{WritesNumberWithin}
-use Rattle.descriptor_lines.specs.Answers.{fault_line}
+use Rattle.descriptor_lines.specs.Answers.{fault_line, no_memory}
 use Rattle.descriptor_lines.specs.FirstLayouts.{listed}
 use Rattle.descriptor_lines.specs.LayoutTable.{layout_named, layouts_in}
 use Rattle.descriptor_lines.specs.LineStates.{LineState}
 use Rattle.descriptor_lines.specs.Programs.{DoesLine}
-use Rattle.descriptor_lines.specs.Rows.{HadMemory, no_memory}
-use Rattle.descriptor_lines.specs.Transcripts.{IsAnswered, IsFaultOfLine, IsRefused, LacksMemory, Reaches, Wrote, words_in}
+use Rattle.descriptor_lines.specs.Rows.{HadMemory}
+use Rattle.descriptor_lines.specs.Transcripts.{AreAnswered, IsAnswered, IsFaultOfLine, IsRefused, LacksMemory, Wrote, words_in}
 use Rattle.descriptor_lines.specs.declared.command.Command.{Command}
 use Rattle.descriptor_lines.specs.declared.command.Command.TheVariants as command
 use Rattle.descriptor_lines.specs.declared.exit.Exit.{Exit}
@@ -29,15 +29,15 @@ use Rattle.descriptor_lines.specs.declared.layouts.Layouts.{Layouts}
 
 -- a run of lines from this number on that ended well, or at a faulty line
 abbrev pub Ends : ℕ → List (List ℕ) → LineState → Exit → List ℕ → Type 0
-Ends number lines old Done text = (next : ℕ) × (new : LineState) × Reaches number lines old text next [] new
+Ends number lines old Done text = (new : LineState) × AreAnswered lines text old new
 Ends number lines old BadLine text =
-    (next : ℕ) × (line : List ℕ) × (left : List (List ℕ)) × (new : LineState) × (answers : List ℕ) × (last : List ℕ) × Reaches number lines old answers next (line ∷ left) new × IsRefused next line last new × (text ≡ answers ++ last)
+    (before : List (List ℕ)) × (line : List ℕ) × (after : List (List ℕ)) × (answers : List ℕ) × (last : List ℕ) × (p : LineState) × (new : LineState) × (lines ≡ before ++ line ∷ after) × AreAnswered before answers old p × IsRefused (length before + number) line last p new × (text ≡ answers ++ last)
 Ends number lines old _ text = ⊥
 
 -- its first line is faulty, or was answered before the others
 abbrev pub Goes : ℕ → List ℕ → List (List ℕ) → LineState → Exit → List ℕ → Type 0
 Goes number line lines old exit text =
-    ((exit ≡ BadLine) × IsRefused number line text old)
+    ((exit ≡ BadLine) × (new : LineState) × IsRefused number line text old new)
     ⊎ ((answer : List ℕ) × (rest : List ℕ) × (p : LineState) × IsAnswered line answer old p × (text ≡ answer ++ rest) × Ends (number + 1) lines p exit rest)
 
 not_end : {X : Type 0} {line : X} {lines : List X} → [] ≡ line ∷ lines → ⊥
@@ -46,30 +46,45 @@ not_end same = cc
 head_same : {line other : List ℕ} {lines others : List (List ℕ)} → line ∷ lines ≡ other ∷ others → line ≡ other
 head_same same = cc
 
+tail_same : {line other : List ℕ} {lines others : List (List ℕ)} → line ∷ lines ≡ other ∷ others → lines ≡ others
+tail_same same = cc
+
+done_step : (number : ℕ) (line : List ℕ) (lines : List (List ℕ)) (old new : LineState) (text : List ℕ) → AreAnswered (line ∷ lines) text old new → Goes number line lines old Done text
+done_step number line lines old new text (answer, answers, p, answered, said, others) =
+    inr (answer, answers, p, answered, said, (new, others))
+
+faulty_step : (number : ℕ) (line : List ℕ) (lines : List (List ℕ)) (old p new : LineState) (text : List ℕ) (before : List (List ℕ)) (faulty_line : List ℕ) (after : List (List ℕ)) (answers last : List ℕ) → line ∷ lines ≡ before ++ faulty_line ∷ after → AreAnswered before answers old p → IsRefused (length before + number) faulty_line last p new → text ≡ answers ++ last → Goes number line lines old BadLine text
+faulty_step number line lines old p new text [] faulty_line after answers last split (nothing, same) refused said =
+    let at : 0 + number ≡ number = omega arith in
+    inl (refl, new, rw (said, nothing, head_same split, ← same) (subst (λ n. IsRefused n faulty_line last p new) at refused))
+faulty_step number line lines old p new text (first ∷ before) faulty_line after answers last split (answer, more, q, answered, is, others) refused said =
+    let at : length before + (number + 1) ≡ suc (length before) + number = omega arith in
+    inr (answer, more ++ last, q, subst (λ l. IsAnswered l answer old q) (sym (head_same split)) answered, said ∙ ap (λ a. a ++ last) is ∙ append_assoc answer more last, (before, faulty_line, after, more, last, p, new, tail_same split, others, rw at refused, refl))
+
 pub step_of : (number : ℕ) (line : List ℕ) (lines : List (List ℕ)) (old : LineState) (exit : Exit) (text : List ℕ) → Ends number (line ∷ lines) old exit text → Goes number line lines old exit text
-step_of number line lines old Done text (next, new, inl here) = absurd (not_end here.all)
-step_of number line lines old Done text (next, new, inr (answer, answers, p, answered, said, reaches)) =
-    inr (answer, answers, p, answered, said, (next, new, reaches))
-step_of number line lines old BadLine text (next, faulty_line, left, new, answers, last, inl here, refused, said) =
-    inl (refl, rw (said, here.nothing, ← head_same here.all, ← here.number, ← here.program) refused)
-step_of number line lines old BadLine text (next, faulty_line, left, new, answers, last, inr (answer, more, p, answered, first, reaches), refused, said) =
-    inr (answer, more ++ last, p, answered, said ∙ ap (λ a. a ++ last) first ∙ append_assoc answer more last, (next, faulty_line, left, new, more, last, reaches, refused, refl))
+step_of number line lines old Done text ends = done_step number line lines old ends.0 text ends.1
+step_of number line lines old BadLine text (before, faulty_line, after, answers, last, p, new, split, answered, refused, said) =
+    faulty_step number line lines old p new text before faulty_line after answers last split answered refused said
 step_of number line lines old ReadFault text ends = absurd ends
 step_of number line lines old WriteFault text ends = absurd ends
 step_of number line lines old NoMemory text ends = absurd ends
 
+none_split : (before after : List (List ℕ)) (line : List ℕ) → [] ≡ before ++ line ∷ after → ⊥
+none_split [] after line split = not_end split
+none_split (first ∷ before) after line split = not_end split
+
 pub end_of : (number : ℕ) (old : LineState) (exit : Exit) (text : List ℕ) → Ends number [] old exit text → (exit ≡ Done) × (text ≡ [])
-end_of number old Done text (next, new, here) = (refl, here.nothing)
-end_of number old BadLine text (next, line, left, new, answers, last, here, refused, said) = absurd (not_end (sym here.all))
+end_of number old Done text ends = (refl, ends.1.0)
+end_of number old BadLine text (before, line, after, answers, last, p, new, split, answered, refused, said) = absurd (none_split before after line split)
 end_of number old ReadFault text ends = absurd ends
 end_of number old WriteFault text ends = absurd ends
 end_of number old NoMemory text ends = absurd ends
 
 -- a run whose reads and writes were good
 pub ends_from : (lines : List (List ℕ)) (start last : LineState) (exit : Exit) (text : List ℕ) → (exit ≡ Done) ⊎ (exit ≡ BadLine) → Wrote lines start exit text last → Ends 1 lines start exit text
-ends_from lines start last Done text well wrote = (wrote.number, last, wrote.reaches)
+ends_from lines start last Done text well wrote = (last, wrote)
 ends_from lines start last BadLine text well wrote =
-    (wrote.at.reached.number, wrote.at.line, wrote.at.left, wrote.at.program, wrote.at.answers, wrote.fault, wrote.at.reached.reaches, wrote.refused, wrote.said)
+    (wrote.before, wrote.line, wrote.after, wrote.answers, wrote.said, wrote.program, last, wrote.split, wrote.answered, wrote.says, wrote.whole)
 ends_from lines start last ReadFault text (inl well) wrote = cc
 ends_from lines start last ReadFault text (inr well) wrote = cc
 ends_from lines start last WriteFault text (inl well) wrote = cc
@@ -122,7 +137,7 @@ keyword_is_heard keyword.Show words = refl
 
 refused_is_heard : (layouts : Layouts) (has_begun : Bool) (words : List (List ℕ)) (reason : Refusal) → IsRefusalOf layouts has_begun words reason → IsTrue (is_silent words) → ⊥
 refused_is_heard layouts has_begun [] reason refused silent = refused
-refused_is_heard layouts has_begun (word ∷ words) reason (inl (unknown, is)) silent = unknown.0 (eqb-true _ _ silent)
+refused_is_heard layouts has_begun (word ∷ words) reason (inl (heard, unknown, is)) silent = heard (eqb-true _ _ silent)
 refused_is_heard layouts has_begun (word ∷ words) reason (inr (keyword, is, wrong)) silent =
     false≢true (sym (keyword_is_heard keyword words) ∙ ap (λ first. is_silent (first ∷ words)) (sym is) ∙ silent)
 
@@ -146,7 +161,7 @@ pub silent_line : (number : ℕ) (line : List ℕ) (lines : List (List ℕ)) (ol
 silent_line number line lines old exit text short silent ends = passed (step_of number line lines old exit text ends)
   where
     passed : Goes number line lines old exit text → Ends (number + 1) lines old exit text
-    passed (inl (bad, refused)) = absurd (not_refused refused.wrong)
+    passed (inl (bad, new, refused)) = absurd (not_refused refused.wrong)
       where
         not_refused : IsFaultOfLine old line refused.fault → ⊥
         not_refused (inl (long, is)) = omega arith
@@ -198,10 +213,10 @@ no_place layouts name count command.Cleanup none gives = gives
 no_place layouts name count command.Show none gives = gives
 
 no_layout_refusal : (layouts : Layouts) (has_begun : Bool) (name count : List ℕ) (fault : Fault) → IsName name → layout_named layouts name ≡ None → IsRefusalOf layouts has_begun (codes "alloc" ∷ name ∷ count ∷ []) (faulty fault) → fault ≡ NoSuchLayout
-no_layout_refusal layouts has_begun name count fault is none (inl (unknown, same)) = absurd (unknown.1 keyword.Alloc refl)
+no_layout_refusal layouts has_begun name count fault is none (inl (heard, unknown, same)) = absurd (unknown keyword.Alloc refl)
 no_layout_refusal layouts has_begun name count fault is none (inr (word, same, wrong)) =
     let alloc = one_keyword word keyword.Alloc (sym same) in
-    no_layout layouts name (WritesNumberWithin 1000000 count) fault is none (subst (λ k. IsRefusalOfWords layouts has_begun k (name ∷ count ∷ []) (faulty fault)) alloc wrong)
+    no_layout layouts name (WritesNumberWithin 1000000 count) fault is none (subst (λ k. IsRefusalOfWords layouts k has_begun (name ∷ count ∷ []) (faulty fault)) alloc wrong)
 
 no_layout_command : (layouts : Layouts) (name count : List ℕ) (command : Command) → layout_named layouts name ≡ None → IsCommandOf layouts (codes "alloc" ∷ name ∷ count ∷ []) command → ⊥
 no_layout_command layouts name count command none (word, same, gives) =
@@ -213,7 +228,7 @@ pub unknown_layout : (number : ℕ) (line : List ℕ) (lines : List (List ℕ)) 
 unknown_layout number line lines old exit text name count short words is none had ends = (passed (step_of number line lines old exit text ends))
   where
     passed : Goes number line lines old exit text → (exit ≡ BadLine) × (text ≡ fault_line number NoSuchLayout)
-    passed (inl (bad, refused)) = (bad, refused.said ∙ ap (fault_line number) (fault_is refused.wrong))
+    passed (inl (bad, new, refused)) = (bad, refused.said ∙ ap (fault_line number) (fault_is refused.wrong))
       where
         fault_is : IsFaultOfLine old line refused.fault → refused.fault ≡ NoSuchLayout
         fault_is (inl (long, is)) = absurd (omega arith)

@@ -1,5 +1,5 @@
 -- How far a run of lines has come, and one line more.
-use Rattle.std.proofs.Common.{◌≡◌, ℕ, ◌+◌, ◌<◌, ◌≤◌, ◌⊎◌, inl, inr, List, [], ◌∷◌, ◌++◌, Option, None, Some, IfSome, length, append_assoc, append-nil, subst, refl, sym, ap, ◌∙◌, arith}
+use Rattle.std.proofs.Common.{◌≡◌, ℕ, ◌+◌, ◌<◌, ◌≤◌, ◌⊎◌, inl, inr, List, [], ◌∷◌, ◌++◌, Option, None, Some, IfSome, length, length-append, append_assoc, append-nil, subst, refl, sym, ap, ◌∙◌, arith}
 use Rattle.std.specs.Bool.{⊤}
 use Rattle.std.specs.List.{position_or_len, slice_split}
 use Rattle.std.proofs.lemmas.Bool.{cases_lt}
@@ -8,7 +8,7 @@ use Rattle.std.proofs.lemmas.List.Sums.{fails_before_first, prefix_len-le-length
 use Rattle.descriptor_words.specs.Words.{is_byte}
 use Rattle.descriptor_lines.specs.LineStates.{LineState}
 use Rattle.descriptor_lines.specs.Lines.{HasEnd, LosesLine, after_end, before_end, lines_of, without_empty_last}
-use Rattle.descriptor_lines.specs.Transcripts.{IsAnswered, Reaches}
+use Rattle.descriptor_lines.specs.Transcripts.{AreAnswered, IsAnswered}
 use Rattle.descriptor_lines.proofs.LineLemmas.{after_end-whole, before_end-whole}
 
 -- ---- the lines of bytes
@@ -55,33 +55,25 @@ lines_split bytes some = lines_split_by bytes some (cases_lt _ _)
 
 -- ---- one line more
 
-pub here : (number : ℕ) (lines : List (List ℕ)) (p : LineState) → Reaches number lines p [] number lines p
-here number [] p = record { nothing = refl; number = refl; all = refl; program = refl }
-here number (line ∷ lines) p = inl (record { nothing = refl; number = refl; all = refl; program = refl })
-
--- where a run has come to, it goes on with the next line
-pub goes_on : (number : ℕ) (lines : List (List ℕ)) (old : LineState) (text : List ℕ) (next : ℕ) (line : List ℕ) (left : List (List ℕ)) (new : LineState) (answer : List ℕ) (after : LineState) → Reaches number lines old text next (line ∷ left) new → IsAnswered line answer new after → Reaches number lines old (text ++ answer) (next + 1) left after
-goes_on number [] old text next line left new answer after at answered = let lines_is : line ∷ left ≡ [] = at.all in absurd (cc)
-goes_on number (first ∷ lines) old text next line left new answer after (inl at) answered =
-    let lines_is : line ∷ left ≡ first ∷ lines = at.all in
-    let same : line ≡ first = cc in
-    let others : left ≡ lines = cc in
-    let first_answered : IsAnswered first answer old after = subst (λ l. IsAnswered l answer old after) same (subst (λ p. IsAnswered line answer p after) at.program answered) in
-    inr (answer, [], after, first_answered, rw at.nothing (sym (append-nil answer)), rw (at.number, others) (here (number + 1) lines after))
-goes_on number (first ∷ lines) old text next line left new answer after (inr (said, answers, p, was, is, reaches)) answered =
-    inr (said, answers ++ answer, p, was, ap (λ l. l ++ answer) is ∙ append_assoc said answers answer, goes_on (number + 1) lines p answers next line left new answer after reaches answered)
+-- lines that were answered, and then one more
+pub goes_on : (lines : List (List ℕ)) (text : List ℕ) (old p : LineState) (line answer : List ℕ) (new : LineState) → AreAnswered lines text old p → IsAnswered line answer p new → AreAnswered (lines ++ line ∷ []) (text ++ answer) old new
+goes_on [] text old p line answer new (nothing, same) answered =
+    (answer, [], new, subst (λ q. IsAnswered line answer q new) same answered, ap (λ t. t ++ answer) nothing ∙ sym (append-nil answer), (refl, refl))
+goes_on (first ∷ lines) text old p line answer new (said, answers, q, was, is, others) answered =
+    (said, answers ++ answer, q, was, ap (λ l. l ++ answer) is ∙ append_assoc said answers answer, goes_on lines answers q p line answer new others answered)
 
 -- ---- known bytes
 
--- how far a run over known bytes has come, where these are left
+-- how far a run over known bytes has come, where these are left: the lines before were answered, and the next one has this number
 abbrev pub Stands : Option (List ℕ) → LineState → List ℕ → ℕ → Option (List ℕ) → LineState → Type 0
 Stands None old text next left new = ⊤
 Stands (Some bytes) old text next None new = ⊥
-Stands (Some bytes) old text next (Some left) new = Reaches 1 (lines_of bytes) old text next (lines_of left) new
+Stands (Some bytes) old text next (Some left) new =
+    (before : List (List ℕ)) × (lines_of bytes ≡ before ++ lines_of left) × (next ≡ length before + 1) × AreAnswered before text old new
 
 pub stands_first : (known : Option (List ℕ)) (p : LineState) → Stands known p [] 1 known p
 stands_first None p = tt
-stands_first (Some bytes) p = here 1 (lines_of bytes) p
+stands_first (Some bytes) p = ([], refl, refl, (refl, refl))
 
 -- the first line of known bytes
 abbrev pub IsFirstOf : List ℕ → Option (List ℕ) → Type 0
@@ -91,6 +83,7 @@ pub stands_next : (known left rest : Option (List ℕ)) (old p new : LineState) 
 stands_next None left rest old p new text answer line next at first loses answered = tt
 stands_next (Some bytes) None rest old p new text answer line next at first loses answered = absurd at
 stands_next (Some bytes) (Some left) None old p new text answer line next at first loses answered = absurd loses
-stands_next (Some bytes) (Some left) (Some rest) old p new text answer line next at first loses answered =
+stands_next (Some bytes) (Some left) (Some rest) old p new text answer line next (before, all, number, at) first loses answered =
     let split : lines_of left ≡ line ∷ lines_of rest = lines_split left loses.0 ∙ ap (λ l. l ∷ lines_of (after_end left)) (sym first) ∙ ap (λ l. line ∷ lines_of l) (sym loses.1) in
-    goes_on 1 (lines_of bytes) old text next line (lines_of rest) p answer new (subst (λ lines. Reaches 1 (lines_of bytes) old text next lines p) split at) answered
+    let long : length (before ++ line ∷ []) ≡ length before + 1 = length-append before (line ∷ []) in
+    (before ++ line ∷ [], all ∙ ap (λ l. before ++ l) split ∙ sym (append_assoc before (line ∷ []) (lines_of rest)), omega arith, goes_on before text old p line answer new at answered)

@@ -57,6 +57,10 @@ device_answer created destroyed asked released =
 abbrev pub held_answer : ℕ → ℕ → List ℕ
 held_answer held marked = codes "held " ++ decimal held ++ codes " marked " ++ decimal marked ++ 10 ∷ []
 
+-- the answer where there was no memory to run a line
+abbrev pub no_memory : List ℕ
+no_memory = codes "refused: no memory" ++ 10 ∷ []
+
 -- the last line of a run that ended at a fault
 abbrev pub fault_line : ℕ → Fault → List ℕ
 fault_line number fault =

@@ -1,5 +1,5 @@
 -- What can be wrong with the arguments of a command, and what a command says otherwise.
-use Rattle.std.specs.Prelude.{◌≡◌, ◌⊎◌, ◌<◌, Some, map, ◌≤◌, codes, ℕ, Bool, true, false, List, [], ◌∷◌, None, IsSome}
+use Rattle.std.specs.Prelude.{◌≡◌, ◌≢◌, ◌⊎◌, ◌<◌, Some, map, ◌≤◌, codes, ℕ, Bool, true, false, List, [], ◌∷◌, None, IsSome, slice_index}
 use Rattle.std.specs.List.{flat_map}
 use Rattle.std.specs.Option.{option_map}
 use Rattle.gpu_descriptor_types.specs.Bounds.{greatest_u32, greatest_u64}
@@ -16,7 +16,7 @@ use Rattle.descriptor_words.specs.Names.{IsName}
 use Rattle.descriptor_words.specs.Numbers.{WritesNumberWithin, value_of}
 use Rattle.descriptor_lines.specs.ScriptWords.{IsFaultOfScript, word_of_answer}
 use Rattle.descriptor_words.specs.Tickets.{AreTickets, IsFaultOfFree, tickets_of}
-use Rattle.descriptor_words.specs.Keywords.{IsUnknown, word_of_keyword}
+use Rattle.descriptor_words.specs.Keywords.{IsNoKeyword, word_of_keyword}
 use Rattle.descriptor_words.specs.declared.keyword.Keyword.{Keyword}
 use Rattle.descriptor_words.specs.declared.keyword.Keyword.TheVariants as keyword
 use Rattle.descriptor_words.specs.declared.fault.Fault.{Fault}
@@ -30,30 +30,10 @@ IsFaultOfLimit true words fault = fault ≡ LimitNotFirst
 IsFaultOfLimit false (word ∷ []) fault = (fault ≡ BadNumber) × ¬ WritesNumberWithin greatest_u32 word
 IsFaultOfLimit false words fault = fault ≡ BadWordCount
 
--- what is wrong with the name of a layout, or else with numbers behind it
-abbrev pub IsFaultOfUse : Layouts → List ℕ → Type 0 → Fault → Type 0
-IsFaultOfUse layouts name Numbers BadName = ¬ IsName name
-IsFaultOfUse layouts name Numbers NoSuchLayout = IsName name × (layout_named layouts name ≡ None)
-IsFaultOfUse layouts name Numbers BadNumber =
-    IsName name × IsSome (layout_named layouts name) × ¬ Numbers
-IsFaultOfUse layouts name Numbers _ = ⊥
-
 -- the numbers of `size`
 pub record WriteSize (total wanted : List ℕ) : Type 0 where
   pub total_fits : WritesNumberWithin greatest_u64 total
   pub wanted_fits : WritesNumberWithin greatest_u32 wanted
-
--- what is wrong with the words of `size`
-abbrev pub IsFaultOfSize : Layouts → List (List ℕ) → Fault → Type 0
-IsFaultOfSize layouts (name ∷ total ∷ wanted ∷ []) fault =
-    IsFaultOfUse layouts name (WriteSize total wanted) fault
-IsFaultOfSize layouts words fault = fault ≡ BadWordCount
-
--- what is wrong with the words of `alloc`
-abbrev pub IsFaultOfAlloc : Layouts → List (List ℕ) → Fault → Type 0
-IsFaultOfAlloc layouts (name ∷ count ∷ []) fault =
-    IsFaultOfUse layouts name (WritesNumberWithin most_sets count) fault
-IsFaultOfAlloc layouts words fault = fault ≡ BadWordCount
 
 -- the word of a mark, or of none
 abbrev pub word_of_mark : Bool → List ℕ
@@ -63,100 +43,91 @@ word_of_mark true = codes "mark"
 abbrev pub IsMarkWord : List ℕ → Type 0
 IsMarkWord word = (mark : Bool) × (word ≡ word_of_mark mark)
 
--- a name that no layout has
-pub record IsNew (layouts : Layouts) (name : List ℕ) : Type 0 where
-  pub is_name : IsName name
-  pub absent : layout_named layouts name ≡ None
+module _ (layouts : Layouts) where
+  -- what is wrong with the name of a layout, or else with numbers behind it
+  abbrev pub IsFaultOfUse : List ℕ → Type 0 → Fault → Type 0
+  IsFaultOfUse name Numbers BadName = ¬ IsName name
+  IsFaultOfUse name Numbers NoSuchLayout = IsName name × (layout_named layouts name ≡ None)
+  IsFaultOfUse name Numbers BadNumber = IsName name × IsSome (layout_named layouts name) × ¬ Numbers
+  IsFaultOfUse name Numbers _ = ⊥
 
--- what is wrong with a new name, a mark and the words behind them
-abbrev pub IsFaultOfNew : Layouts → List ℕ → List ℕ → List (List ℕ) → Fault → Type 0
-IsFaultOfNew layouts name mark words BadName = ¬ IsName name
-IsFaultOfNew layouts name mark words NameIsTaken =
-    IsName name × IsSome (layout_named layouts name)
-IsFaultOfNew layouts name mark words BadMark = IsNew layouts name × ¬ IsMarkWord mark
-IsFaultOfNew layouts name mark words TooManyLayouts =
-    IsNew layouts name × IsMarkWord mark × AreKinds words × most_layouts ≤ layout_count layouts
-IsFaultOfNew layouts name mark words fault =
-    IsNew layouts name × IsMarkWord mark × IsFaultOfKinds words fault
+  -- a name that no layout has
+  pub record IsNew (name : List ℕ) : Type 0 where
+    pub is_name : IsName name
+    pub absent : layout_named layouts name ≡ None
 
--- what is wrong with the words of `layout`
-abbrev pub IsFaultOfLayout : Layouts → List (List ℕ) → Fault → Type 0
-IsFaultOfLayout layouts (name ∷ mark ∷ words) fault = IsFaultOfNew layouts name mark words fault
-IsFaultOfLayout layouts words fault = fault ≡ BadWordCount
+  -- what is wrong with a new name, a mark and the words behind them
+  abbrev pub IsFaultOfNew : List ℕ → List ℕ → List (List ℕ) → Fault → Type 0
+  IsFaultOfNew name mark words BadName = ¬ IsName name
+  IsFaultOfNew name mark words NameIsTaken = IsName name × IsSome (layout_named layouts name)
+  IsFaultOfNew name mark words BadMark = IsNew name × ¬ IsMarkWord mark
+  IsFaultOfNew name mark words TooManyLayouts =
+      IsNew name × IsMarkWord mark × AreKinds words × most_layouts ≤ layout_count layouts
+  IsFaultOfNew name mark words fault = IsNew name × IsMarkWord mark × IsFaultOfKinds words fault
 
--- what is wrong with the words of a command that takes none
-abbrev pub IsFaultOfEnd : List (List ℕ) → Fault → Type 0
-IsFaultOfEnd [] fault = ⊥
-IsFaultOfEnd (word ∷ words) fault = fault ≡ BadWordCount
+  -- what is wrong with the words behind that of a command, of which `limit` may come only where no line had one: memory can be wanting for `script` and `free` alone
+  abbrev pub IsRefusalOfWords : Keyword → Bool → List (List ℕ) → Refusal → Type 0
+  IsRefusalOfWords keyword.Limit has_begun words reason = IsFaultAnd reason (IsFaultOfLimit has_begun words)
+  IsRefusalOfWords keyword.Layout has_begun (name ∷ mark ∷ words) reason =
+      IsFaultAnd reason (IsFaultOfNew name mark words)
+  IsRefusalOfWords keyword.Size has_begun (name ∷ total ∷ wanted ∷ []) reason =
+      IsFaultAnd reason (IsFaultOfUse name (WriteSize total wanted))
+  IsRefusalOfWords keyword.Script has_begun words reason = IfFault reason (IsFaultOfScript words)
+  IsRefusalOfWords keyword.Alloc has_begun (name ∷ count ∷ []) reason =
+      IsFaultAnd reason (IsFaultOfUse name (WritesNumberWithin most_sets count))
+  IsRefusalOfWords keyword.Free has_begun words reason = IfFault reason (IsFaultOfFree words)
+  IsRefusalOfWords keyword.Cleanup has_begun words reason = (reason ≡ faulty BadWordCount) × (words ≢ [])
+  IsRefusalOfWords keyword.Show has_begun words reason = (reason ≡ faulty BadWordCount) × (words ≢ [])
+  IsRefusalOfWords keyword has_begun words reason = reason ≡ faulty BadWordCount
 
--- what is wrong with the words behind that of a command: memory can be wanting for `script` and `free` alone
-abbrev pub IsRefusalOfWords : Layouts → Bool → Keyword → List (List ℕ) → Refusal → Type 0
-IsRefusalOfWords layouts has_begun keyword.Limit words reason =
-    IsFaultAnd reason (IsFaultOfLimit has_begun words)
-IsRefusalOfWords layouts has_begun keyword.Layout words reason =
-    IsFaultAnd reason (IsFaultOfLayout layouts words)
-IsRefusalOfWords layouts has_begun keyword.Size words reason =
-    IsFaultAnd reason (IsFaultOfSize layouts words)
-IsRefusalOfWords layouts has_begun keyword.Script words reason =
-    IfFault reason (IsFaultOfScript words)
-IsRefusalOfWords layouts has_begun keyword.Alloc words reason =
-    IsFaultAnd reason (IsFaultOfAlloc layouts words)
-IsRefusalOfWords layouts has_begun keyword.Free words reason =
-    IfFault reason (IsFaultOfFree words)
-IsRefusalOfWords layouts has_begun keyword.Cleanup words reason =
-    IsFaultAnd reason (IsFaultOfEnd words)
-IsRefusalOfWords layouts has_begun keyword.Show words reason =
-    IsFaultAnd reason (IsFaultOfEnd words)
+  -- why a line of these words is refused: its first word is no command, or the others are wrong
+  abbrev pub IsRefusalOf : Bool → List (List ℕ) → Refusal → Type 0
+  IsRefusalOf has_begun [] reason = ⊥
+  IsRefusalOf has_begun (word ∷ words) reason =
+      ((slice_index word 0 ≢ 35) × IsNoKeyword word × (reason ≡ faulty UnknownCommand))
+      ⊎ ((keyword : Keyword) × (word ≡ word_of_keyword keyword) × IsRefusalOfWords keyword has_begun words reason)
 
--- why a line of these words is refused: its first word is no command, or the others are wrong
-abbrev pub IsRefusalOf : Layouts → Bool → List (List ℕ) → Refusal → Type 0
-IsRefusalOf layouts has_begun [] reason = ⊥
-IsRefusalOf layouts has_begun (word ∷ words) reason =
-    (IsUnknown (word ∷ words) × (reason ≡ faulty UnknownCommand))
-    ⊎ ((keyword : Keyword) × (word ≡ word_of_keyword keyword) × IsRefusalOfWords layouts has_begun keyword words reason)
+  -- the words of `layout` give this new layout
+  pub record GiveLayout (name mark : List ℕ) (words : List (List ℕ)) (layout : Layout) : Type 0 where
+    pub new : IsNew name
+    pub fits : layout_count layouts < most_layouts
+    pub mark_is : mark ≡ word_of_mark layout.mark
+    pub kinds_are : AreKinds words
+    pub counts_are : GiveCounts words (kinds layout.counts)
 
--- the words of `layout` give this new layout
-pub record GiveLayout (layouts : Layouts) (name mark : List ℕ) (words : List (List ℕ)) (layout : Layout) : Type 0 where
-  pub new : IsNew layouts name
-  pub fits : layout_count layouts < most_layouts
-  pub mark_is : mark ≡ word_of_mark layout.mark
-  pub kinds_are : AreKinds words
-  pub counts_are : GiveCounts words (kinds layout.counts)
+  -- the words of `size` give the counts of a layout and these numbers
+  pub record GiveSize (name total wanted : List ℕ) (counts : DescriptorTotalCount) (all sets : ℕ) : Type 0 where
+    pub is_name : IsName name
+    pub counts_are : option_map (λ l. l.counts) (layout_named layouts name) ≡ Some counts
+    pub numbers : WriteSize total wanted
+    pub total_is : all ≡ value_of total
+    pub wanted_is : sets ≡ value_of wanted
 
--- the words of `size` give the counts of a layout and these numbers
-pub record GiveSize (layouts : Layouts) (name total wanted : List ℕ) (counts : DescriptorTotalCount) (all sets : ℕ) : Type 0 where
-  pub is_name : IsName name
-  pub counts_are : option_map (λ l. l.counts) (layout_named layouts name) ≡ Some counts
-  pub numbers : WriteSize total wanted
-  pub total_is : all ≡ value_of total
-  pub wanted_is : sets ≡ value_of wanted
+  -- the words of `alloc` give the place of a layout and this number
+  pub record GiveAlloc (name count : List ℕ) (place sets : ℕ) : Type 0 where
+    pub is_name : IsName name
+    pub known : IsSome (layout_named layouts name)
+    pub place_is : layout_at layouts place ≡ layout_named layouts name
+    pub number : WritesNumberWithin most_sets count
+    pub count_is : sets ≡ value_of count
 
--- the words of `alloc` give the place of a layout and this number
-pub record GiveAlloc (layouts : Layouts) (name count : List ℕ) (place sets : ℕ) : Type 0 where
-  pub is_name : IsName name
-  pub known : IsSome (layout_named layouts name)
-  pub place_is : layout_at layouts place ≡ layout_named layouts name
-  pub number : WritesNumberWithin most_sets count
-  pub count_is : sets ≡ value_of count
+  -- the words behind that of a command give the command
+  abbrev pub GiveCommand : Keyword → List (List ℕ) → Command → Type 0
+  GiveCommand keyword.Limit words (Limit max) = IsNumberOf words max
+  GiveCommand keyword.Layout (name ∷ mark ∷ words) (MakesLayout named layout) =
+      (named.now ≡ name) × GiveLayout name mark words layout
+  GiveCommand keyword.Size (name ∷ total ∷ wanted ∷ []) (Size counts all sets) =
+      GiveSize name total wanted counts all sets
+  GiveCommand keyword.Script words (Script script) = map word_of_answer script.items ≡ words
+  GiveCommand keyword.Alloc (name ∷ count ∷ []) (Alloc place sets) = GiveAlloc name count place sets
+  GiveCommand keyword.Free words (Free tickets) =
+      AreTickets words × (tickets.items ≡ flat_map tickets_of words)
+  GiveCommand keyword.Cleanup words Cleanup = words ≡ []
+  GiveCommand keyword.Show words Show = words ≡ []
+  GiveCommand word words command = ⊥
 
--- the words behind that of a command give the command
-abbrev pub GiveCommand : Layouts → Keyword → List (List ℕ) → Command → Type 0
-GiveCommand layouts keyword.Limit words (Limit max) = IsNumberOf words max
-GiveCommand layouts keyword.Layout (name ∷ mark ∷ words) (MakesLayout named layout) =
-    (named.now ≡ name) × GiveLayout layouts name mark words layout
-GiveCommand layouts keyword.Size (name ∷ total ∷ wanted ∷ []) (Size counts all sets) =
-    GiveSize layouts name total wanted counts all sets
-GiveCommand layouts keyword.Script words (Script script) = map word_of_answer script.items ≡ words
-GiveCommand layouts keyword.Alloc (name ∷ count ∷ []) (Alloc place sets) =
-    GiveAlloc layouts name count place sets
-GiveCommand layouts keyword.Free words (Free tickets) =
-    AreTickets words × (tickets.items ≡ flat_map tickets_of words)
-GiveCommand layouts keyword.Cleanup words Cleanup = words ≡ []
-GiveCommand layouts keyword.Show words Show = words ≡ []
-GiveCommand layouts word words command = ⊥
-
--- a line of these words gives the command
-abbrev pub IsCommandOf : Layouts → List (List ℕ) → Command → Type 0
-IsCommandOf layouts [] command = ⊥
-IsCommandOf layouts (word ∷ words) command =
-    (keyword : Keyword) × (word ≡ word_of_keyword keyword) × GiveCommand layouts keyword words command
+  -- a line of these words gives the command
+  abbrev pub IsCommandOf : List (List ℕ) → Command → Type 0
+  IsCommandOf [] command = ⊥
+  IsCommandOf (word ∷ words) command =
+      (keyword : Keyword) × (word ≡ word_of_keyword keyword) × GiveCommand keyword words command

@@ -1,5 +1,5 @@
 -- What the parser knows of the command of a line.
-use Rattle.std.specs.Prelude.{◌≡◌, ◌≤◌, ◌<◌, ℕ, Bool, List, [], ◌∷◌, None, IsFalse}
+use Rattle.std.specs.Prelude.{◌≡◌, ◌<◌, ℕ, Bool, List, [], ◌∷◌, None, IsFalse}
 use Rattle.gpu_descriptor_types.specs.Bounds.{greatest_u32}
 use Rattle.descriptor_script.specs.declared.command.Command as session
 use Rattle.descriptor_script.specs.declared.command.Command.TheVariants as step
@@ -17,7 +17,7 @@ most_sets = 1000000
 abbrev pub IsRunnable : Layouts → Command → Type 0
 IsRunnable layouts (Limit max) = layout_count layouts ≡ 0
 IsRunnable layouts (Layout name layout) = layout_named layouts name.now ≡ None
-IsRunnable layouts (Alloc layout count) = (layout < layout_count layouts) × (count ≤ most_sets)
+IsRunnable layouts (Alloc layout count) = layout < layout_count layouts
 IsRunnable layouts _ = Unit {0}
 
 -- a limit comes before all other commands

@@ -1,7 +1,6 @@
 -- What a buffer of lines has to give.
-use Rattle.std.specs.Prelude.{ℕ, List, Option, IsTrue, slice_range}
-use Rattle.std.specs.Io.KnownBytes.{IsAtEnd}
-use Rattle.descriptor_lines.specs.Lines.{known_left}
+use Rattle.std.specs.Prelude.{ℕ, List, Option, Some, IsTrue, if◌then◌else◌, slice_range}
+use Rattle.std.specs.Io.KnownBytes.{IsAtEnd, prepend_known}
 use Rattle.descriptor_lines.specs.declared.input.LineBuffer.{LineBuffer}
 use Rattle.descriptor_lines.specs.declared.input.Span.{Span}
 
@@ -17,9 +16,10 @@ buffered buffer = slice_range buffer.bytes.items buffer.start buffer.end
 abbrev pub bytes_at : LineBuffer → Span → List ℕ
 bytes_at buffer span = slice_range buffer.bytes.items span.start span.end
 
--- the bytes that are in no line yet: those in the buffer, and then those that the reader has left
+-- the bytes that are in no line yet: those in the buffer, and then, before the end of the reader was seen, those that it has left
 abbrev pub unread : LineBuffer → Option (List ℕ) → Option (List ℕ)
-unread buffer known = known_left buffer.is_at_end (buffered buffer) known
+unread buffer known =
+    if buffer.is_at_end then Some (buffered buffer) else prepend_known (buffered buffer) known
 
 -- the buffer has seen the end of a reader only where that has nothing left
 abbrev pub SeesEndOf : LineBuffer → Option (List ℕ) → Type 0

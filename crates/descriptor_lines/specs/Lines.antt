@@ -1,7 +1,6 @@
 -- The lines that known bytes begin with.
-use Rattle.std.specs.Prelude.{◌≡◌, ℕ, ◌<◌, Bool, true, false, List, [], ◌∷◌, Option, None, Some, ⊤, length, IfSome}
+use Rattle.std.specs.Prelude.{◌≡◌, ℕ, ◌<◌, List, [], ◌∷◌, Option, None, Some, ⊤, length, IfSome}
 use Rattle.std.specs.List.{after_first, before_first, position_or_len, slice_split}
-use Rattle.std.specs.Io.KnownBytes.{prepend_known}
 use Rattle.descriptor_words.specs.Words.{is_byte}
 
 -- a line ends among the bytes
@@ -48,8 +47,3 @@ buffer_len = 65536
 -- the first line of known bytes has more bytes than a line may have
 abbrev pub BeginsTooLong : Option (List ℕ) → Type 0
 BeginsTooLong known = IfSome known (λ bytes. longest_line < length (before_end bytes))
-
--- the bytes at hand, and then, before the end of the reader was seen, those that it has left
-abbrev pub known_left : Bool → List ℕ → Option (List ℕ) → Option (List ℕ)
-known_left true bytes known = Some bytes
-known_left false bytes known = prepend_known bytes known

@@ -1,7 +1,7 @@
 -- What the output says of a line that was run.
-use Rattle.std.specs.Prelude.{◌≡◌, List, ℕ, Option, [], ◌∷◌, ◌++◌, codes, Result, Ok, Err, IfErr}
+use Rattle.std.specs.Prelude.{◌≡◌, List, ℕ, Option, ◌++◌, Result, Ok, Err, IfErr}
 use Rattle.std.specs.Io.KnownBytes.{Appends}
-use Rattle.descriptor_lines.specs.Answers.{fault_line}
+use Rattle.descriptor_lines.specs.Answers.{fault_line, no_memory}
 use Rattle.descriptor_words.specs.declared.fault.Fault.{Fault}
 use Rattle.descriptor_words.specs.declared.fault.Refusal.{Refusal}
 use Rattle.descriptor_words.specs.declared.fault.Refusal.TheVariants as refusal
@@ -13,7 +13,7 @@ IsNoFault outcome = IfErr outcome (λ reason. reason ≡ refusal.NoMemory)
 -- what there is to say of the line: the text that it made, or why it made none
 abbrev pub said_of : ℕ → Result Unit Refusal → List ℕ → List ℕ
 said_of number (Ok done) text = text
-said_of number (Err refusal.NoMemory) text = codes "refused: no memory" ++ 10 ∷ []
+said_of number (Err refusal.NoMemory) text = no_memory
 said_of number (Err (refusal.Fault fault)) text = fault_line number fault
 
 -- known bytes grow, and last by the line of a fault

@@ -7,7 +7,6 @@ use Rattle.descriptor_script.specs.Scripted.Raw.{script_meaning}
 use Rattle.descriptor_script.specs.Sessions.Ready.{IsScriptReady}
 use Rattle.descriptor_script.specs.Sessions.Session.{KeepsSession, allocator_of, layouts_of, sets_of}
 use Rattle.descriptor_script.specs.Sessions.Steps.{StepsTo}
-use Rattle.descriptor_script.specs.declared.answer.Answer.{Answer}
 use Rattle.descriptor_script.specs.declared.command.Command.{Command}
 use Rattle.descriptor_script.specs.declared.command.Command.TheVariants.{Allocate, Free, Cleanup}
 use Rattle.descriptor_script.specs.declared.command.Reply.{Reply}
@@ -56,16 +55,12 @@ pub record KeepsDevice (old new : LineState) : Type 0 where
   pub script : new.script ≡ old.script
   pub ledger : new.ledger ≡ old.ledger
 
--- the session has the layouts, books and sets that it had
-pub record SameSession (old new : LineState) : Type 0 where
-  pub known : layouts_of new.session ≡ layouts_of old.session
-  pub allocator : allocator_of new.session ≡ allocator_of old.session
-  pub sets : sets_of new.session ≡ sets_of old.session
-
 -- layouts, books, sets and ledger are as before
 pub record IsUnchanged (old new : LineState) : Type 0 where
   pub layouts : SameLayouts old.layouts new.layouts
-  pub session : SameSession old new
+  pub known : layouts_of new.session ≡ layouts_of old.session
+  pub allocator : allocator_of new.session ≡ allocator_of old.session
+  pub sets : sets_of new.session ≡ sets_of old.session
   pub ledger : new.ledger ≡ old.ledger
 
 -- the session is a new one with this limit
@@ -82,13 +77,6 @@ pub record AddsLayout (name : List ℕ) (layout : Layout) (old new : LineState) 
   pub allocator : allocator_of new.session ≡ allocator_of old.session
   pub sets : sets_of new.session ≡ sets_of old.session
   pub device : KeepsDevice old new
-
--- the device has a new script
-pub record Loads (script : List Answer) (old new : LineState) : Type 0 where
-  pub script_is : new.script ≡ script
-  pub ledger : new.ledger ≡ old.ledger
-  pub session : SameSession old new
-  pub layouts : SameLayouts old.layouts new.layouts
 
 -- the session of the program did the command, and the text is the answer to its reply
 pub record Does (command : Command) (text : List ℕ) (old new : LineState) : Type 0 where
@@ -107,22 +95,17 @@ DoesCommand (step.Layout name layout) text old new =
 DoesCommand (step.Size counts total wanted) text old new =
     (new ≡ old) × AnswersSize (kinds counts) total wanted text
 DoesCommand (step.Script script) text old new =
-    Loads script.items old new × (text ≡ script_answer (length script.items))
+    (new ≡ record old { script = script.items }) × (text ≡ script_answer (length script.items))
 DoesCommand (step.Alloc layout count) text old new = Does (Allocate layout count) text old new
 DoesCommand (step.Free tickets) text old new = Does (Free tickets) text old new
 DoesCommand step.Cleanup text old new = Does Cleanup text old new
 DoesCommand step.Show text old new = (new ≡ old) × (text ≡ show_answer old)
 
--- a line of these words gives this command, in its time
-abbrev pub IsCommandNow : LineState → List (List ℕ) → line.Command → Type 0
-IsCommandNow p words command =
-    IsCommandOf p.layouts words command × IsInTime p.has_begun command
-
 -- why a line is not run: a fault of its words; or there was no memory to read them, or to run the command that they give
 abbrev pub IsReasonFor : LineState → List (List ℕ) → Refusal → Type 0
 IsReasonFor p words (refusal.Fault fault) = IsRefusalOf p.layouts p.has_begun words (faulty fault)
 IsReasonFor p words refusal.NoMemory =
-    IsRefusalOf p.layouts p.has_begun words refusal.NoMemory ⊎ ((command : line.Command) × IsCommandNow p words command)
+    IsRefusalOf p.layouts p.has_begun words refusal.NoMemory ⊎ ((command : line.Command) × IsCommandOf p.layouts words command × IsInTime p.has_begun command)
 
 -- a line gave a command, and from then on one had come
 abbrev pub begun : LineState → LineState

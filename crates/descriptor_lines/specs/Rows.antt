@@ -1,6 +1,7 @@
 -- Rows: what runs over given bytes write, where memory is there and reads and writes are good.
-use Rattle.std.specs.Prelude.{◌≡◌, ◌≢◌, ◌⊎◌, ℕ, List, [], ◌∷◌, ◌++◌, codes}
+use Rattle.std.specs.Prelude.{◌≡◌, ◌≢◌, ◌⊎◌, ℕ, List, [], ◌∷◌, ◌++◌}
 use Rattle.std.specs.List.{flat_map}
+use Rattle.descriptor_lines.specs.Answers.{no_memory}
 use Rattle.descriptor_lines.specs.LineStates.{LineState}
 use Rattle.descriptor_lines.specs.Lines.{lines_of}
 use Rattle.descriptor_lines.specs.Programs.{IsFresh}
@@ -11,10 +12,6 @@ use Rattle.descriptor_lines.specs.declared.exit.Exit.TheVariants.{Done, BadLine}
 -- each line with its end
 abbrev pub in_lines : List (List ℕ) → List ℕ
 in_lines lines = flat_map (λ line. line ++ 10 ∷ []) lines
-
--- the answer where there was no memory to run a line
-abbrev pub no_memory : List ℕ
-no_memory = codes "refused: no memory" ++ 10 ∷ []
 
 -- a text says nowhere that memory was wanting
 abbrev pub HadMemory : List ℕ → Type 0

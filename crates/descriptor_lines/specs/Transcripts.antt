@@ -1,5 +1,5 @@
 -- What a run of the program writes: the answers of the lines of its input, in order, up to the end or the line that stopped it.
-use Rattle.std.specs.Prelude.{◌≡◌, ◌⊎◌, ◌≤◌, ◌<◌, ◌+◌, ◌++◌, ◌∷◌, [], ⊤, ℕ, List, Option, None, Some, IsTrue, IsFalse, codes, length}
+use Rattle.std.specs.Prelude.{◌≡◌, ◌⊎◌, ◌≤◌, ◌<◌, ◌+◌, ◌++◌, ◌∷◌, [], ℕ, List, Option, IfSome, IsTrue, IsFalse, length}
 use Rattle.std.specs.Io.BufRead.{strip_last}
 use Rattle.std.specs.Io.KnownBytes.{Appends, IsAtEnd, Keeps}
 use Rattle.gpu_descriptor_types.specs.Ledger.{Ledger}
@@ -10,7 +10,7 @@ use Rattle.descriptor_words.specs.Words.{is_silent, words}
 use Rattle.descriptor_words.specs.declared.fault.Fault.{Fault}
 use Rattle.descriptor_words.specs.declared.fault.Fault.TheVariants.{LineTooLong}
 use Rattle.descriptor_words.specs.declared.fault.Refusal.TheVariants as refusal
-use Rattle.descriptor_lines.specs.Answers.{fault_line}
+use Rattle.descriptor_lines.specs.Answers.{fault_line, no_memory}
 use Rattle.descriptor_lines.specs.Arguments.{IsRefusalOf}
 use Rattle.descriptor_lines.specs.LineStates.{LineState}
 use Rattle.descriptor_lines.specs.Lines.{lines_of, longest_line}
@@ -27,7 +27,7 @@ words_in line = words (strip_last 13 line)
 pub record LacksMemory (words : List (List ℕ)) (text : List ℕ) (old new : LineState) : Type 0 where
   pub speaks : IsFalse (is_silent words)
   pub reason : IsReasonFor old words refusal.NoMemory
-  pub said : text ≡ codes "refused: no memory" ++ 10 ∷ []
+  pub said : text ≡ no_memory
   pub unchanged : IsUnchanged old new
   pub begun : IsTrue new.has_begun
 
@@ -44,72 +44,47 @@ IsFaultOfLine p line fault =
     ((longest_line < length line) × (fault ≡ LineTooLong))
     ⊎ ((length line ≤ longest_line) × IsRefusalOf p.layouts p.has_begun (words_in line) (faulty fault))
 
--- a faulty line is answered by the line of its fault, with its number
-pub record IsRefused (number : ℕ) (line text : List ℕ) (p : LineState) : Type 0 where
+-- a faulty line is answered by the line of its fault, with its number, and leaves the device alone
+pub record IsRefused (number : ℕ) (line text : List ℕ) (old new : LineState) : Type 0 where
   pub fault : Fault
-  pub wrong : IsFaultOfLine p line fault
+  pub wrong : IsFaultOfLine old line fault
   pub said : text ≡ fault_line number fault
+  pub device : KeepsDevice old new
 
--- what there is to say of a line: its answer, or its fault, which leaves the device alone
-abbrev pub IsSaid : ℕ → List ℕ → List ℕ → LineState → LineState → Type 0
-IsSaid number line text old new = IsAnswered line text old new ⊎ (IsRefused number line text old × KeepsDevice old new)
+-- these lines were answered in order, each by its text
+abbrev pub AreAnswered : List (List ℕ) → List ℕ → LineState → LineState → Type 0
+AreAnswered [] text old new = (text ≡ []) × (new ≡ old)
+AreAnswered (line ∷ lines) text old new =
+    (answer : List ℕ) × (answers : List ℕ) × (next : LineState) × IsAnswered line answer old next × (text ≡ answer ++ answers) × AreAnswered lines answers next new
 
--- no line was answered yet
-pub record IsHere (first : ℕ) (lines : List (List ℕ)) (old : LineState) (text : List ℕ) (next : ℕ) (left : List (List ℕ)) (new : LineState) : Type 0 where
-  pub nothing : text ≡ []
-  pub number : next ≡ first
-  pub all : left ≡ lines
-  pub program : new ≡ old
-
--- of lines that are numbered from the first number on, those before the ones that are left were answered in order, each by its text
-abbrev pub Reaches : ℕ → List (List ℕ) → LineState → List ℕ → ℕ → List (List ℕ) → LineState → Type 0
-Reaches number [] old text next left new = IsHere number [] old text next left new
-Reaches number (line ∷ lines) old text next left new =
-    IsHere number (line ∷ lines) old text next left new
-    ⊎ ((answer : List ℕ) × (answers : List ℕ) × (p : LineState) × IsAnswered line answer old p × (text ≡ answer ++ answers) × Reaches (number + 1) lines p answers next left new)
-
--- where a run of lines from 1 on has come to: the lines before the next were answered by this text
-pub record Reached (lines : List (List ℕ)) (start : LineState) (text : List ℕ) (left : List (List ℕ)) (program : LineState) : Type 0 where
-  pub number : ℕ
-  pub reaches : Reaches 1 lines start text number left program
-
--- a run has come to a line: those before it were answered
-pub record IsAtLine (lines : List (List ℕ)) (start : LineState) : Type 0 where
+-- a run came to a line: those before it were answered, and this holds of its number, of the line, of what was said of it, and of the state before it
+pub record ComesTo (Says : ℕ → List ℕ → List ℕ → LineState → Type 0) (lines : List (List ℕ)) (start : LineState) (text : List ℕ) : Type 0 where
+  pub before : List (List ℕ)
   pub line : List ℕ
-  pub left : List (List ℕ)
+  pub after : List (List ℕ)
+  pub split : lines ≡ before ++ line ∷ after
   pub answers : List ℕ
   pub program : LineState
-  pub reached : Reached lines start answers (line ∷ left) program
+  pub answered : AreAnswered before answers start program
+  pub said : List ℕ
+  pub whole : text ≡ answers ++ said
+  pub says : Says (length before + 1) line said program
 
--- it came to a faulty line, and then the fault was said
-pub record StopsAtFault (lines : List (List ℕ)) (start : LineState) (text : List ℕ) (last : LineState) : Type 0 where
-  pub at : IsAtLine lines start
-  pub fault : List ℕ
-  pub refused : IsRefused at.reached.number at.line fault at.program
-  pub said : text ≡ at.answers ++ fault
-  pub device : KeepsDevice at.program last
-
--- it came to a line, and then a front was written of what there is to say of that
-pub record BreaksOff (lines : List (List ℕ)) (start : LineState) (text : List ℕ) (last : LineState) : Type 0 where
-  pub at : IsAtLine lines start
-  pub front : List ℕ
-  pub unwritten : List ℕ
-  pub answer : IsSaid at.reached.number at.line (front ++ unwritten) at.program last
-  pub said : text ≡ at.answers ++ front
-
--- what a run of these lines wrote, by how it ended, and the state that it left
+-- what a run of these lines wrote, by how it ended, and the state that it left: at a faulty line the fault is said last, and where a write failed a front of what there is to say of a line
 abbrev pub Wrote : List (List ℕ) → LineState → Exit → List ℕ → LineState → Type 0
-Wrote lines start Done text last = Reached lines start text [] last
-Wrote lines start BadLine text last = StopsAtFault lines start text last
-Wrote lines start ReadFault text last = (left : List (List ℕ)) × Reached lines start text left last
-Wrote lines start WriteFault text last = BreaksOff lines start text last
+Wrote lines start Done text last = AreAnswered lines text start last
+Wrote lines start BadLine text last =
+    ComesTo (λ number line said p. IsRefused number line said p last) lines start text
+Wrote lines start ReadFault text last =
+    (before : List (List ℕ)) × (after : List (List ℕ)) × (lines ≡ before ++ after) × AreAnswered before text start last
+Wrote lines start WriteFault text last =
+    ComesTo (λ number line said p. (unwritten : List ℕ) × (IsAnswered line (said ++ unwritten) p last ⊎ IsRefused number line (said ++ unwritten) p last)) lines start text
 Wrote lines start NoMemory text last = text ≡ []
 
 -- known bytes grow by what a run of the lines of known bytes wrote
 abbrev pub Writes : Option (List ℕ) → LineState → Exit → Option (List ℕ) → Option (List ℕ) → LineState → Type 0
-Writes None start exit old new last = ⊤
-Writes (Some bytes) start exit old new last =
-    (text : List ℕ) × Wrote (lines_of bytes) start exit text last × Appends old new text
+Writes known start exit old new last =
+    IfSome known (λ bytes. (text : List ℕ) × Wrote (lines_of bytes) start exit text last × Appends old new text)
 
 -- so it is from a program on that no line was run on before, and its device is left with this ledger and this script; a run for whose buffers there is no memory writes nothing, and its device is as it was
 abbrev pub WritesFromStart : Option (List ℕ) → Exit → Option (List ℕ) → Option (List ℕ) → Ledger → List Answer → Type 0

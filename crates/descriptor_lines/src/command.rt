@@ -1,11 +1,10 @@
 //! The commands that lines give.
-ghost use Rattle.std.specs.Prelude.{◌≡◌, ◌↔◌, IsTrue, IsFalse, IfOk, IfErr, IfSome, OnOk, Ok, None};
-ghost use Rattle.std.specs.Prelude.{[]};
-ghost use Rattle.descriptor_lines.specs.Arguments.{GiveCommand, IsCommandOf, IsFaultOfAlloc};
-ghost use Rattle.descriptor_lines.specs.Arguments.{IsFaultOfEnd, IsFaultOfLimit, IsFaultOfSize};
+ghost use Rattle.std.specs.Prelude.{◌≡◌, ◌≢◌, ◌↔◌, [], Bool, IsTrue, IsFalse, IfOk, IfErr, IfSome};
+ghost use Rattle.std.specs.Prelude.{OnOk, Ok, None};
+ghost use Rattle.descriptor_lines.specs.Arguments.{GiveCommand, IsCommandOf, IsFaultOfLimit};
 ghost use Rattle.descriptor_lines.specs.Arguments.{IsRefusalOf, IsRefusalOfWords};
 ghost use Rattle.descriptor_lines.specs.Commands.{IsInTime, IsNumberOf, IsRunnable};
-ghost use Rattle.descriptor_words.specs.Fault.{IsFaultAnd};
+ghost use Rattle.descriptor_words.specs.Fault.{IsFaultAnd, faulty};
 ghost use Rattle.descriptor_lines.specs.LayoutTable.{layout_count};
 ghost use Rattle.descriptor_words.specs.Words.{words as words_of, words_left, is_silent};
 
@@ -106,7 +105,7 @@ fn parse_words<'a>(
     has_begun: bool,
 ) -> Result<Command<'a>, Refusal>
     requires fresh { IsFalse has_begun → layout_count layouts.now ≡ 0 }
-    ensures refusal { IfErr result (IsRefusalOfWords layouts.now has_begun keyword
+    ensures refusal { IfErr result (IsRefusalOfWords layouts.now keyword has_begun
         (words_left words.entry)) }
     ensures command { IfOk result (GiveCommand layouts.now keyword (words_left words.entry)) }
     ensures in_time { IfOk result (IsInTime has_begun) }
@@ -157,8 +156,8 @@ fn parse_limit(mut words: Words<'_>, has_begun: bool) -> Result<u32, Refusal>
 
 /// `size NAME TOTAL WANTED`.
 fn parse_size<'a>(mut words: Words<'a>, layouts: &Layouts) -> Result<Command<'a>, Refusal>
-    ensures fault { IfErr result (λ reason. IsFaultAnd reason
-        (IsFaultOfSize layouts.now (words_left words.entry))) }
+    ensures fault { (has_begun : Bool) → IfErr result (IsRefusalOfWords layouts.now Keyword.Size
+        has_begun (words_left words.entry)) }
     ensures value { IfOk result (GiveCommand layouts.now Keyword.Size (words_left words.entry)) }
     ensures runnable { IfOk result (IsRunnable layouts.now) }
 {
@@ -183,8 +182,8 @@ fn parse_size<'a>(mut words: Words<'a>, layouts: &Layouts) -> Result<Command<'a>
 
 /// `alloc NAME N`.
 fn parse_alloc<'a>(mut words: Words<'a>, layouts: &Layouts) -> Result<Command<'a>, Refusal>
-    ensures fault { IfErr result (λ reason. IsFaultAnd reason
-        (IsFaultOfAlloc layouts.now (words_left words.entry))) }
+    ensures fault { (has_begun : Bool) → IfErr result (IsRefusalOfWords layouts.now Keyword.Alloc
+        has_begun (words_left words.entry)) }
     ensures value { IfOk result (GiveCommand layouts.now Keyword.Alloc (words_left words.entry)) }
     ensures runnable { IfOk result (IsRunnable layouts.now) }
 {
@@ -200,8 +199,8 @@ fn parse_alloc<'a>(mut words: Words<'a>, layouts: &Layouts) -> Result<Command<'a
 /// The end of a line whose command has no arguments.
 fn expect_end(mut words: Words<'_>) -> Result<(), Refusal>
     ensures end { OnOk result (words_left words.entry ≡ []) }
-    ensures fault { IfErr result (λ reason. IsFaultAnd reason
-        (IsFaultOfEnd (words_left words.entry))) }
+    ensures fault { IfErr result (λ reason. (reason ≡ faulty Fault.BadWordCount)
+        × (words_left words.entry ≢ [])) }
 {
     if words.next().is_some() {
         return Err(Refusal::Fault(Fault::BadWordCount));

@@ -1,5 +1,5 @@
 -- The words that commands begin with.
-use Rattle.std.specs.Prelude.{◌≢◌, ℕ, List, [], ◌∷◌, codes, slice_index}
+use Rattle.std.specs.Prelude.{◌≢◌, ℕ, List, codes}
 use Rattle.descriptor_words.specs.declared.keyword.Keyword.{Keyword}
 use Rattle.descriptor_words.specs.declared.keyword.Keyword.TheVariants.{Limit, Layout, Size, Script, Alloc, Free, Cleanup, Show}
 
@@ -17,8 +17,3 @@ word_of_keyword Show = codes "show"
 -- the word is none of a command
 abbrev pub IsNoKeyword : List ℕ → Type 0
 IsNoKeyword word = (keyword : Keyword) → word ≢ word_of_keyword keyword
-
--- the first word of a line is no command, and begins no comment
-abbrev pub IsUnknown : List (List ℕ) → Type 0
-IsUnknown [] = ⊥
-IsUnknown (word ∷ words) = (slice_index word 0 ≢ 35) × IsNoKeyword word

@@ -1,8 +1,7 @@
 //! The command that makes a layout.
-ghost use Rattle.std.specs.Prelude.{◌≡◌, ◌↔◌, true, false, IfOk, IfErr, codes, Ok};
-ghost use Rattle.descriptor_lines.specs.Arguments.{GiveCommand, IsFaultOfLayout};
+ghost use Rattle.std.specs.Prelude.{◌≡◌, ◌↔◌, Bool, true, false, IfOk, IfErr, codes, Ok};
+ghost use Rattle.descriptor_lines.specs.Arguments.{GiveCommand, IsRefusalOfWords};
 ghost use Rattle.descriptor_lines.specs.Commands.{IsRunnable};
-ghost use Rattle.descriptor_words.specs.Fault.{IsFaultAnd};
 ghost use Rattle.descriptor_words.specs.Words.{words_left};
 
 use super::Command;
@@ -11,8 +10,8 @@ use descriptor_words::{Fault, Keyword, Refusal, Words, parse_counts};
 
 /// `layout NAME plain` or `mark`, and the kinds with their counts.
 pub fn parse_layout<'a>(mut words: Words<'a>, layouts: &Layouts) -> Result<Command<'a>, Refusal>
-    ensures fault { IfErr result (λ reason. IsFaultAnd reason
-        (IsFaultOfLayout layouts.now (words_left words.entry))) }
+    ensures fault { (has_begun : Bool) → IfErr result (IsRefusalOfWords layouts.now Keyword.Layout
+        has_begun (words_left words.entry)) }
     ensures value { IfOk result (GiveCommand layouts.now Keyword.Layout (words_left words.entry)) }
     ensures runnable { IfOk result (IsRunnable layouts.now) }
 {

@@ -10,7 +10,7 @@ ghost use Rattle.descriptor_lines.specs.Commands.{IsKnown, IsRunnable};
 ghost use Rattle.descriptor_lines.specs.LayoutTable.{layout_count, layout_named};
 ghost use Rattle.descriptor_lines.specs.LineStates.{line_state};
 ghost use Rattle.descriptor_lines.specs.Programs.{AddsLayout, Begins, CanRun, Does, DoesCommand};
-ghost use Rattle.descriptor_lines.specs.Programs.{IsUnchanged, KeepsDevice, Loads};
+ghost use Rattle.descriptor_lines.specs.Programs.{IsUnchanged, KeepsDevice};
 
 use super::Program;
 use crate::answer;
@@ -118,8 +118,8 @@ impl<D: LineDevice> Program<D> {
     fn load(&mut self, script: Vec<Answer>, answer: &mut String) -> Result<(), AllocError>
         requires ready { CanRun (line_state D.ledger D.script self.old) }
         ensures ready { CanRun (line_state D.ledger D.script self.new) }
-        ensures loads { OnOk result (Loads script.items (line_state D.ledger D.script self.old)
-            (line_state D.ledger D.script self.new)) }
+        ensures loads { OnOk result (line_state D.ledger D.script self.new
+            ≡ record (line_state D.ledger D.script self.old) { script = script.items }) }
         ensures answered { OnOk result (string_bytes answer.new ≡ string_bytes answer.old
             ++ script_answer_of (length script.items)) }
         ensures device { OnErr result (KeepsDevice (line_state D.ledger D.script self.old)

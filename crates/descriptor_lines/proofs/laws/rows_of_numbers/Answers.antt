@@ -13,7 +13,7 @@ returns c = record {
       unknown_layout 1 (codes "alloc x 1") [] start end text (codes "x") (codes "1") (omega arith) refl (name_of_letter 120 (omega arith) (omega arith)) (layout_in_none start.layouts (codes "x") fresh.layouts) had ends);
   passed_over = λ start last end text fresh well had wrote.
       (let ends = ends_from (codes "# note" ∷ [] ∷ codes "alloc s 1" ∷ []) start last end text well wrote in
-      let second = silent_line 1 _ _ start end text (omega arith) refl ends in
-      let third = silent_line 2 _ _ start end text (omega arith) refl second in
+      let second = silent_line 1 (codes "# note") ([] ∷ codes "alloc s 1" ∷ []) start end text (omega arith) refl ends in
+      let third = silent_line 2 [] (codes "alloc s 1" ∷ []) start end text (omega arith) refl second in
       unknown_layout 3 (codes "alloc s 1") [] start end text (codes "s") (codes "1") (omega arith) refl (name_of_letter 115 (omega arith) (omega arith)) (layout_in_none start.layouts (codes "s") fresh.layouts) had third);
 }
