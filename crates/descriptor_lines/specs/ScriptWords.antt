@@ -18,11 +18,8 @@ word_of_answer Pool = codes "pool"
 abbrev pub IsAnswerWord : List ℕ → Type 0
 IsAnswerWord word = (answer : Answer) × (word ≡ word_of_answer answer)
 
--- the first word that is none of them
-abbrev pub IsFirstUnknown : List (List ℕ) → List ℕ → Type 0
-IsFirstUnknown before word = All IsAnswerWord before × ¬ IsAnswerWord word
-
--- what is wrong with the words of a script
+-- what is wrong with the words of a script: the first word that is none of them
 abbrev pub IsFaultOfScript : List (List ℕ) → Fault → Type 0
-IsFaultOfScript words BadAnswerWord = AtWord IsFirstUnknown words
+IsFaultOfScript words BadAnswerWord =
+    AtWord (λ before word. All IsAnswerWord before × ¬ IsAnswerWord word) words
 IsFaultOfScript words _ = ⊥

@@ -25,14 +25,6 @@ answer_of_alloc alloc.OutOfHostMemory = Host
 answer_of_alloc alloc.FragmentedPool = Frag
 answer_of_alloc alloc.OutOfPoolMemory = Pool
 
--- the word for the error of a create
-abbrev pub create_word : CreatePoolError → List ℕ
-create_word error = word_of_answer (answer_of_create error)
-
--- the word for the error of a call for sets
-abbrev pub alloc_word : DeviceAllocationError → List ℕ
-alloc_word error = word_of_answer (answer_of_alloc error)
-
 -- the name of a new pool, and `-` where it was refused
 abbrev pub new_name : Result RawPool CreatePoolError → List ℕ
 new_name (Ok pool) = decimal (pool_id pool)
@@ -50,20 +42,20 @@ mark_part mark = if mark then codes ", mark" else []
 abbrev pub counts_part : List ℕ → List ℕ
 counts_part counts = if sum counts == 0 then [] else codes "," ++ kinds_answer counts
 
--- the end of a line: nothing more where the call was granted, and the word of the error where not
-abbrev pub line_end : {R E : Type 0} → (E → List ℕ) → Result R E → List ℕ
-line_end word (Ok done) = codes "\n"
-line_end word (Err error) = codes ", refused: " ++ word error ++ codes "\n"
+-- the end of a line: nothing more where the call was granted, and where not, the word of a script that refuses so
+abbrev pub line_end : {R E : Type 0} → (E → Answer) → Result R E → List ℕ
+line_end answer_of (Ok done) = codes "\n"
+line_end answer_of (Err error) = codes ", refused: " ++ word_of_answer (answer_of error) ++ codes "\n"
 
 -- a pool of so many sets was to be created, with these flags and these counts in all
 abbrev pub create_line : ℕ → ℕ → List ℕ → Result RawPool CreatePoolError → List ℕ
 create_line sets flags counts answer =
-    codes "create " ++ new_name answer ++ codes ": " ++ decimal sets ++ codes " sets" ++ release_part flags ++ mark_part (bit_and flags 2 == 2) ++ counts_part counts ++ line_end create_word answer
+    codes "create " ++ new_name answer ++ codes ": " ++ decimal sets ++ codes " sets" ++ release_part flags ++ mark_part (bit_and flags 2 == 2) ++ counts_part counts ++ line_end answer_of_create answer
 
 -- so many sets of one layout were asked of a pool, with this mark and these counts each
 abbrev pub alloc_line : ℕ → ℕ → Bool → List ℕ → Result Unit DeviceAllocationError → List ℕ
 alloc_line pool sets mark counts answer =
-    codes "alloc " ++ decimal pool ++ codes ": " ++ decimal sets ++ mark_part mark ++ counts_part counts ++ line_end alloc_word answer
+    codes "alloc " ++ decimal pool ++ codes ": " ++ decimal sets ++ mark_part mark ++ counts_part counts ++ line_end answer_of_alloc answer
 
 -- so many sets went back to a pool
 abbrev pub release_line : ℕ → ℕ → List ℕ

@@ -1,25 +1,12 @@
--- A device that writes down what passes through it: what it owes, and what it writes.
+-- What a device writes that writes down what passes through it.
 use Rattle.std.specs.Prelude.{ℕ, List, Option, IsTrue, IsFalse, length}
 use Rattle.std.specs.Io.KnownBytes.{Appends, Keeps}
-use Rattle.gpu_descriptor_types.specs.Ledger.{Ledger, Releases}
-use Rattle.descriptor_script.specs.Scripted.Device.{ledger_of, names_given, script_of}
-use Rattle.descriptor_script.specs.Scripted.Raw.{Names, set_id}
-use Rattle.descriptor_script.specs.declared.answer.Answer.{Answer}
+use Rattle.gpu_descriptor_types.specs.Ledger.{Releases}
+use Rattle.descriptor_script.specs.Scripted.Device.{ledger_of}
+use Rattle.descriptor_script.specs.Scripted.Raw.{set_id}
 use Rattle.descriptor_script.specs.declared.raw.RawSet.{RawSet}
 use Rattle.descriptor_trace.specs.declared.traced.Traced.{Traced}
 use Rattle.descriptor_trace.specs.TraceTexts.{release_line}
-
--- it owes what the device behind it owes
-abbrev pub traced_ledger : {W : Type 0} → Traced W → Ledger
-traced_ledger d = ledger_of d.device
-
--- the words that are still to be read
-abbrev pub traced_script : {W : Type 0} → Traced W → List Answer
-traced_script d = script_of d.device
-
--- how many names were given to pools and to sets
-abbrev pub traced_names : {W : Type 0} → Traced W → Names
-traced_names d = names_given d.device
 
 -- a text goes behind what the output holds, unless something is lost, and nothing goes behind a loss
 pub record WritesDown {W : Type 0} (contents : W → Option (List ℕ)) (old new : Traced W) (text : List ℕ) : Type 0 where
@@ -29,5 +16,5 @@ pub record WritesDown {W : Type 0} (contents : W → Option (List ℕ)) (old new
 
 -- sets left a pool, and their number is written down
 pub record WritesRelease {W I : Type 0} (contents : W → Option (List ℕ)) (steps : I → Option RawSet → I → Type 0) (pool : ℕ) (sets_old sets_new : I) (old new : Traced W) : Type 0 where
-  pub released : Releases steps set_id pool sets_old sets_new (traced_ledger old) (traced_ledger new)
+  pub released : Releases steps set_id pool sets_old sets_new (ledger_of old.device) (ledger_of new.device)
   pub written : WritesDown contents old new (release_line pool (length released.items))

@@ -3,6 +3,7 @@ ghost use Rattle.std.specs.Prelude.{◌≡◌, ◌++◌, OnOk, codes, string_byt
 ghost use Rattle.gpu_descriptor_types.specs.Counts.{kinds};
 ghost use Rattle.gpu_descriptor_types.specs.Flags.{bits};
 ghost use Rattle.descriptor_script.specs.Scripted.Script.{alloc_error, create_error};
+ghost use Rattle.descriptor_lines.specs.ScriptWords.{word_of_answer};
 ghost use Rattle.descriptor_trace.specs.TraceTexts as says;
 
 use bitflags::Flags;
@@ -124,7 +125,7 @@ fn create_end(
     answer: &Result<RawPool, CreatePoolError>,
 ) -> Result<(), AllocError>
     ensures { OnOk result (string_bytes text.new ≡ string_bytes text.old
-        ++ says.line_end says.create_word answer.now) }
+        ++ says.line_end says.answer_of_create answer.now) }
 {
     match answer {
         Ok(_) => text.push('\n'),
@@ -138,7 +139,7 @@ fn alloc_end(
     answer: &Result<(), DeviceAllocationError>,
 ) -> Result<(), AllocError>
     ensures { OnOk result (string_bytes text.new ≡ string_bytes text.old
-        ++ says.line_end says.alloc_word answer.now) }
+        ++ says.line_end says.answer_of_alloc answer.now) }
 {
     match answer {
         Ok(()) => text.push('\n'),
@@ -156,7 +157,7 @@ fn refused_end(text: &mut String, word: &str) -> Result<(), AllocError>
 
 /// The word of a script that refuses a create so.
 fn create_word(error: CreatePoolError) -> &'static str
-    ensures word { result.now ≡ says.create_word error }
+    ensures word { result.now ≡ word_of_answer (says.answer_of_create error) }
     ensures refuses { create_error (says.answer_of_create error) ≡ error }
 {
     match error {
@@ -168,7 +169,7 @@ fn create_word(error: CreatePoolError) -> &'static str
 
 /// The word of a script that refuses a call for sets so.
 fn alloc_word(error: DeviceAllocationError) -> &'static str
-    ensures word { result.now ≡ says.alloc_word error }
+    ensures word { result.now ≡ word_of_answer (says.answer_of_alloc error) }
     ensures refuses { alloc_error (says.answer_of_alloc error) ≡ error }
 {
     match error {

@@ -36,13 +36,13 @@ pub struct Traced<W> {
 }
 
 impl<W: Write + Drop> Traced<W> {
-    ghost use Rattle.descriptor_trace.specs.Traced.{traced_ledger, traced_names, traced_script};
+    ghost use Rattle.descriptor_script.specs.Scripted.Device.{ledger_of, names_given, script_of};
 
     /// A device without pools and without a script.
     pub fn new(alloc: Global, output: W) -> Result<Self, AllocError>
-        ensures ledger { IfOk result (λ d. traced_ledger d ≡ empty_ledger) }
-        ensures script { IfOk result (λ d. traced_script d ≡ []) }
-        ensures names { IfOk result (λ d. traced_names d ≡ record { pools = 0; sets = 0 }) }
+        ensures ledger { IfOk result (λ d. ledger_of d.device ≡ empty_ledger) }
+        ensures script { IfOk result (λ d. script_of d.device ≡ []) }
+        ensures names { IfOk result (λ d. names_given d.device ≡ record { pools = 0; sets = 0 }) }
         ensures output { IfOk result (λ d. d.output ≡ output) }
         ensures whole { IfOk result (λ d. IsFalse d.has_lost) }
     {
@@ -83,11 +83,11 @@ impl<W: Write> Traced<W> {
 
 impl<W: Write> DescriptorDevice<ScriptLayout, RawPool, RawSet> for Traced<W> {
     ghost use Rattle.descriptor_script.specs.Scripted.Finite.{scripted_finite};
-    ghost use Rattle.descriptor_trace.specs.Traced.{traced_ledger, traced_names, traced_script};
+    ghost use Rattle.descriptor_script.specs.Scripted.Device.{ledger_of, names_given, script_of};
 
     ghost meaning = { script_meaning };
 
-    ghost ledger = { traced_ledger };
+    ghost ledger = { λ d. ledger_of d.device };
 
     ghost finite = { λ d. scripted_finite d.device };
 
@@ -97,20 +97,20 @@ impl<W: Write> DescriptorDevice<ScriptLayout, RawPool, RawSet> for Traced<W> {
         max_sets: u32,
         flags: DescriptorPoolCreateFlags,
     ) -> Result<RawPool, CreatePoolError>
-        ensures new_name { IfOk result (λ pool. (traced_ledger self.old).pools (pool_id pool)
+        ensures new_name { IfOk result (λ pool. (ledger_of self.old.device).pools (pool_id pool)
             ≡ None) }
-        ensures ok { IfOk result (λ pool. traced_ledger self.new ≡ after_create (kinds counts.now)
-            max_sets (bits flags) (pool_id pool) (traced_ledger self.old)) }
-        ensures err { IfErr result (λ e. traced_ledger self.new
-            ≡ after_no_create e (traced_ledger self.old)) }
-        ensures rest { traced_script self.new ≡ rest_words (traced_script self.old) }
-        ensures granted { OnOk result (next_word (traced_script self.old) ≡ Answer.Ok) }
+        ensures ok { IfOk result (λ pool. ledger_of self.new.device ≡ after_create (kinds counts.now)
+            max_sets (bits flags) (pool_id pool) (ledger_of self.old.device)) }
+        ensures err { IfErr result (λ e. ledger_of self.new.device
+            ≡ after_no_create e (ledger_of self.old.device)) }
+        ensures rest { script_of self.new.device ≡ rest_words (script_of self.old.device) }
+        ensures granted { OnOk result (next_word (script_of self.old.device) ≡ Answer.Ok) }
         ensures refused { IfErr result (λ e. e ≡ create_error (next_word
-            (traced_script self.old))) }
-        ensures next_name { IfOk result (λ pool. pool_id pool ≡ (traced_names self.old).pools) }
-        ensures named { OnOk result (traced_names self.new ≡ record (traced_names self.old)
-            { pools = (traced_names self.old).pools + 1 }) }
-        ensures unnamed { OnErr result (traced_names self.new ≡ traced_names self.old) }
+            (script_of self.old.device))) }
+        ensures next_name { IfOk result (λ pool. pool_id pool ≡ (names_given self.old.device).pools) }
+        ensures named { OnOk result (names_given self.new.device ≡ record (names_given self.old.device)
+            { pools = (names_given self.old.device).pools + 1 }) }
+        ensures unnamed { OnErr result (names_given self.new.device ≡ names_given self.old.device) }
         ensures written { WritesDown W.contents self.old self.new
             (says.create_line max_sets (bits flags) (kinds counts.now) result) }
     {
@@ -122,11 +122,11 @@ impl<W: Write> DescriptorDevice<ScriptLayout, RawPool, RawSet> for Traced<W> {
     }
 
     fn destroy_descriptor_pool(&mut self, pool: RawPool)
-        requires { HasNoSets (pool_id pool) (traced_ledger self.old) }
-        ensures ledger { traced_ledger self.new
-            ≡ after_destroy (pool_id pool) (traced_ledger self.old) }
-        ensures script { traced_script self.new ≡ traced_script self.old }
-        ensures names { traced_names self.new ≡ traced_names self.old }
+        requires { HasNoSets (pool_id pool) (ledger_of self.old.device) }
+        ensures ledger { ledger_of self.new.device
+            ≡ after_destroy (pool_id pool) (ledger_of self.old.device) }
+        ensures script { script_of self.new.device ≡ script_of self.old.device }
+        ensures names { names_given self.new.device ≡ names_given self.old.device }
         ensures written { WritesDown W.contents self.old self.new
             (says.destroy_line (pool_id pool)) }
     {
@@ -144,19 +144,19 @@ impl<W: Write> DescriptorDevice<ScriptLayout, RawPool, RawSet> for Traced<W> {
         sets: &mut K,
     ) -> Result<(), DeviceAllocationError>
         requires fits { HasRoom (pool_id pool.old) (left layouts) (kinds (layout layouts).counts)
-            (layout layouts).mark (traced_ledger self.old) }
+            (layout layouts).mark (ledger_of self.old.device) }
         requires room { left layouts ≤ K.sink.room_left sets.old }
         ensures name { pool_id pool.new ≡ pool_id pool.old }
         ensures ok { OnOk result (Puts K.sink set_id (pool_id pool.old) (left layouts.entry)
-            (kinds (layout layouts.entry).counts) sets.old sets.new (traced_ledger self.old)
-            (traced_ledger self.new)) }
+            (kinds (layout layouts.entry).counts) sets.old sets.new (ledger_of self.old.device)
+            (ledger_of self.new.device)) }
         ensures err { IfErr result (λ e. PutsNone K.sink (pool_id pool.old) e sets.old sets.new
-            (traced_ledger self.old) (traced_ledger self.new)) }
-        ensures rest { traced_script self.new ≡ rest_words (traced_script self.old) }
-        ensures granted { OnOk result (next_word (traced_script self.old) ≡ Answer.Ok) }
+            (ledger_of self.old.device) (ledger_of self.new.device)) }
+        ensures rest { script_of self.new.device ≡ rest_words (script_of self.old.device) }
+        ensures granted { OnOk result (next_word (script_of self.old.device) ≡ Answer.Ok) }
         ensures refused { IfErr result (λ e. e ≡ alloc_error (next_word
-            (traced_script self.old))) }
-        ensures pools { (traced_names self.new).pools ≡ (traced_names self.old).pools }
+            (script_of self.old.device))) }
+        ensures pools { (names_given self.new.device).pools ≡ (names_given self.old.device).pools }
         ensures written { WritesDown W.contents self.old self.new
             (says.alloc_line (pool_id pool.old) (left layouts.entry) (layout layouts.entry).mark
             (kinds (layout layouts.entry).counts) result) }
@@ -177,12 +177,12 @@ impl<W: Write> DescriptorDevice<ScriptLayout, RawPool, RawSet> for Traced<W> {
         requires can { I.can_next sets.old }
         requires ends { IsFinite (I.remaining sets.old) }
         requires live { HoldsAlong I.next_gives sets.old
-            (λ xs. AreLive (pool_id pool.old) (map set_id xs) (traced_ledger self.old)) }
+            (λ xs. AreLive (pool_id pool.old) (map set_id xs) (ledger_of self.old.device)) }
         ensures name { pool_id pool.new ≡ pool_id pool.old }
         ensures released { Releases I.next_gives set_id (pool_id pool.old) sets.old sets.new
-            (traced_ledger self.old) (traced_ledger self.new) }
-        ensures script { traced_script self.new ≡ traced_script self.old }
-        ensures names { traced_names self.new ≡ traced_names self.old }
+            (ledger_of self.old.device) (ledger_of self.new.device) }
+        ensures script { script_of self.new.device ≡ script_of self.old.device }
+        ensures names { names_given self.new.device ≡ names_given self.old.device }
         ensures written { WritesRelease W.contents I.next_gives (pool_id pool.old) sets.old
             sets.new self.old self.new }
     {
@@ -200,15 +200,15 @@ impl<W: Write> ScriptedMeaning for Traced<W> {
 }
 
 impl<W: Write> LineDevice for Traced<W> {
-    ghost use Rattle.descriptor_trace.specs.Traced.{traced_ledger, traced_names, traced_script};
+    ghost use Rattle.descriptor_script.specs.Scripted.Device.{ledger_of, names_given, script_of};
 
-    ghost script = { traced_script };
+    ghost script = { λ d. script_of d.device };
 
     ghost lost = { λ d. d.has_lost };
 
     fn hear(&mut self, line: &[u8])
-        ensures ledger { traced_ledger self.new ≡ traced_ledger self.old }
-        ensures script { traced_script self.new ≡ traced_script self.old }
+        ensures ledger { ledger_of self.new.device ≡ ledger_of self.old.device }
+        ensures script { script_of self.new.device ≡ script_of self.old.device }
         ensures written { WritesDown W.contents self.old self.new (says.input_line line.now) }
     {
         let is_written = !self.has_lost
@@ -225,9 +225,9 @@ impl<W: Write> LineDevice for Traced<W> {
     }
 
     fn load(&mut self, words: Vec<Answer>)
-        ensures script { traced_script self.new ≡ words.items }
-        ensures ledger { traced_ledger self.new ≡ traced_ledger self.old }
-        ensures names { traced_names self.new ≡ traced_names self.old }
+        ensures script { script_of self.new.device ≡ words.items }
+        ensures ledger { ledger_of self.new.device ≡ ledger_of self.old.device }
+        ensures names { names_given self.new.device ≡ names_given self.old.device }
         ensures output { self.new.output ≡ self.old.output }
         ensures lost { self.new.has_lost ≡ self.old.has_lost }
     {

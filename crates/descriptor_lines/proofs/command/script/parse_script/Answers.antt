@@ -4,7 +4,7 @@ use Rattle.std.proofs.lemmas.Iterator.Consumers.{YieldsList-from_first, YieldsLi
 use Rattle.std.proofs.lemmas.List.Elements.{All-push}
 use Rattle.descriptor_words.proofs.FaultLemmas.{refused_for}
 use Rattle.descriptor_words.proofs.WordLemmas.{at_next}
-use Rattle.descriptor_lines.specs.ScriptWords.{IsAnswerWord, IsFaultOfScript, IsFirstUnknown, word_of_answer}
+use Rattle.descriptor_lines.specs.ScriptWords.{IsAnswerWord, IsFaultOfScript, word_of_answer}
 use Rattle.descriptor_words.specs.Words.{words_left}
 use Rattle.descriptor_lines.proofs.command.script.parse_script.Goals as goal
 
@@ -29,7 +29,7 @@ loop-word-preserved c =
 pub returns-in_err-answer-clause-fault : goal.returns-in_err-answer-clause-fault
 returns-in_err-answer-clause-fault c =
     let start = c.into_iter-word-iterator.result in
-    let at = at_next IsFirstUnknown (words_left c.args.words) c.loop-word.yielded start c.loop-word.word-iterator c.next.new.self c.in-Some.word.now c.loop-word.yielded_by (ap words_left c.into_iter-word-iterator.ensures.into_iter_gives) c.in-Some.ensures.steps (c.loop-word.invariant.known, λ known. c.in_err-answer.ensures.unknown known.0 known.1) in
+    let at = at_next _ (words_left c.args.words) c.loop-word.yielded start c.loop-word.word-iterator c.next.new.self c.in-Some.word.now c.loop-word.yielded_by (ap words_left c.into_iter-word-iterator.ensures.into_iter_gives) c.in-Some.ensures.steps (c.loop-word.invariant.known, λ known. c.in_err-answer.ensures.unknown known.0 known.1) in
     refused_for c.from_residual.result c.in_err-answer.field-0.0 (IsFaultOfScript (words_left c.args.words)) c.from_residual.ensures.1 (rw c.in_err-answer.ensures.fault at)
 
 pub returns-clause-script : goal.returns-clause-script
