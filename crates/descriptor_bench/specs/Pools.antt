@@ -1,7 +1,7 @@
 -- The pools of a log, as a ledger shows them.
 use Rattle.std.specs.Prelude.{◌≡◌, ℕ, ◌≤◌, ◌==◌, List, [], ◌∷◌, false, Option, None, is_some, if◌then◌else◌, nat_eq}
 use Rattle.std.specs.Option.{option_map}
-use Rattle.gpu_descriptor_types.specs.Ledger.{Pool, Ledger}
+use Rattle.gpu_descriptor_types.specs.Ledger.{Pool}
 use Rattle.gpu_descriptor_types.specs.Multiset.{LiveSet, times}
 use Rattle.descriptor_bench.specs.Log.{OwedPool, Log}
 
@@ -16,12 +16,6 @@ row_at (r ∷ rs) q = if nat_eq r.0 q then r.1 else row_at rs q
 
 abbrev pub pools_owed : List (ℕ × Option OwedPool) → ℕ → Option Pool
 pools_owed rows q = option_map pool_owed (row_at rows q)
-
-abbrev pub ledger_in : Log → Ledger
-ledger_in l = record {
-  pools = pools_owed l.rows;
-  counters = record { created = l.created; destroyed = l.destroyed; asked = l.asked; released = l.released; device_memory = l.refused; host_memory = 0; fragmentation = 0; pool_refused = 0 };
-}
 
 -- no live pool has this name or a later one
 abbrev pub AreBelow : Log → ℕ → Type 0

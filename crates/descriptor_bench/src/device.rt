@@ -5,7 +5,6 @@ ghost use Rattle.std.specs.List.{range_with_len};
 ghost use Rattle.std.specs.Iterator.{IsFinite, YieldsThen};
 ghost use Rattle.gpu_descriptor_types.specs.Counts.{kinds};
 ghost use Rattle.gpu_descriptor_types.specs.Layouts.{layout, left};
-ghost use Rattle.descriptor_bench.specs.Layouts.{counts_in, mark_of};
 ghost use Rattle.descriptor_bench.specs.Pools.{AreBelow};
 
 use crate::act::Act;
@@ -15,6 +14,7 @@ use gpu_descriptor::{
     CreatePoolError, DescriptorDevice, DescriptorPoolCreateFlags, DescriptorTotalCount,
     DeviceAllocationError, Layouts, SetSink,
 };
+use gpu_descriptor_types::Tally;
 
 /// A device of counters, with a checksum of what is released and destroyed. Pools and sets are
 /// numbered from 0 up. What it owes takes no memory.
@@ -30,6 +30,13 @@ pub struct CountingDevice {
     most_pools: u64,
     sum: u64,
     owed: Owed,
+
+    /// How often it did each thing, as only proofs read it.
+    created: Tally,
+    destroyed: Tally,
+    asked: Tally,
+    released: Tally,
+    refused: Tally,
     ghost below: { AreBelow owed.log next_pool },
     ghost none_taken: { owed.log.taken ≡ [] },
 }
@@ -44,6 +51,11 @@ impl CountingDevice {
             most_pools,
             sum: 0,
             owed: Owed::none(),
+            created: Tally::zero(),
+            destroyed: Tally::zero(),
+            asked: Tally::zero(),
+            released: Tally::zero(),
+            refused: Tally::zero(),
         }
     }
 
@@ -55,7 +67,7 @@ impl CountingDevice {
 
 /// The counts of a layout that is to come.
 fn counts_of(mut layouts: Layouts<'_, Layout>) -> DescriptorTotalCount
-    ensures { 0 < left layouts.entry → kinds result ≡ counts_in (layout layouts.entry) }
+    ensures { 0 < left layouts.entry → kinds result ≡ kinds (layout layouts.entry).counts }
 {
     match layouts.next() {
         Some(layout) => layout.counts,
@@ -97,8 +109,8 @@ impl DescriptorDevice<Layout, u64, u64> for CountingDevice {
     ghost meaning = { record {
       pool_name = name_of;
       set_name = name_of;
-      counts = counts_in;
-      mark = mark_of;
+      counts = λ l. kinds l.counts;
+      mark = λ l. l.mark;
     } };
 
     ghost ledger = { ledger_of };
@@ -113,11 +125,12 @@ impl DescriptorDevice<Layout, u64, u64> for CountingDevice {
     ) -> Result<u64, CreatePoolError> {
         let pool = self.next_pool;
         if self.pools >= self.most_pools || pool == u64::MAX {
-            self.owed.note(Act::Refuse);
+            self.refused = Tally::next(&self.refused);
             return Err(CreatePoolError::OutOfDeviceMemory);
         }
         self.next_pool = pool + 1;
         self.pools += 1;
+        self.created = Tally::next(&self.created);
         self.owed.note(Act::Create {
             pool,
             counts: *counts,
@@ -130,6 +143,7 @@ impl DescriptorDevice<Layout, u64, u64> for CountingDevice {
     fn destroy_descriptor_pool(&mut self, pool: u64) {
         self.sum ^= pool;
         self.pools = self.pools.saturating_sub(1);
+        self.destroyed = Tally::next(&self.destroyed);
         self.owed.note(Act::Destroy { pool });
     }
 
@@ -139,12 +153,12 @@ impl DescriptorDevice<Layout, u64, u64> for CountingDevice {
         layouts: Layouts<'_, Layout>,
         sets: &mut K,
     ) -> Result<(), DeviceAllocationError>
-        requires fits { HasRoom pool.old (left layouts) (counts_in (layout layouts))
-            (mark_of (layout layouts)) (ledger_of self.old) }
+        requires fits { HasRoom pool.old (left layouts) (kinds (layout layouts).counts)
+            (layout layouts).mark (ledger_of self.old) }
         requires room { left layouts ≤ K.sink.room_left sets.old }
         ensures name { pool.new ≡ pool.old }
         ensures ok { OnOk result (Puts K.sink name_of pool.old (left layouts.entry)
-            (counts_in (layout layouts.entry)) sets.old sets.new (ledger_of self.old)
+            (kinds (layout layouts.entry).counts) sets.old sets.new (ledger_of self.old)
             (ledger_of self.new)) }
         ensures err { IfErr result (λ e. PutsNone K.sink pool.old e sets.old sets.new
             (ledger_of self.old) (ledger_of self.new)) }
@@ -158,6 +172,7 @@ impl DescriptorDevice<Layout, u64, u64> for CountingDevice {
         };
         fill(first, many, sets);
         self.next_set = first + u64::from(many);
+        self.asked = Tally::next(&self.asked);
         self.owed.note(Act::Put {
             pool: *pool,
             first,
@@ -171,6 +186,7 @@ impl DescriptorDevice<Layout, u64, u64> for CountingDevice {
         let mut owed = std::mem::replace(&mut self.owed, Owed::none());
         take_each(&mut owed, *pool, &mut self.sum, sets);
         owed.note(Act::Release { pool: *pool });
+        self.released = Tally::next(&self.released);
         self.owed = owed;
     }
 }

@@ -99,16 +99,18 @@ impl<W: Write> DescriptorDevice<ScriptLayout, RawPool, RawSet> for Traced<W> {
     ) -> Result<RawPool, CreatePoolError>
         ensures new_name { IfOk result (λ pool. (ledger_of self.old.device).pools (pool_id pool)
             ≡ None) }
-        ensures ok { IfOk result (λ pool. ledger_of self.new.device ≡ after_create (kinds counts.now)
-            max_sets (bits flags) (pool_id pool) (ledger_of self.old.device)) }
+        ensures ok { IfOk result (λ pool. ledger_of self.new.device ≡ after_create
+            (kinds counts.now) max_sets (bits flags) (pool_id pool) (ledger_of self.old.device)) }
         ensures err { IfErr result (λ e. ledger_of self.new.device
             ≡ after_no_create e (ledger_of self.old.device)) }
         ensures rest { script_of self.new.device ≡ rest_words (script_of self.old.device) }
         ensures granted { OnOk result (next_word (script_of self.old.device) ≡ Answer.Ok) }
         ensures refused { IfErr result (λ e. e ≡ create_error (next_word
             (script_of self.old.device))) }
-        ensures next_name { IfOk result (λ pool. pool_id pool ≡ (names_given self.old.device).pools) }
-        ensures named { OnOk result (names_given self.new.device ≡ record (names_given self.old.device)
+        ensures next_name { IfOk result (λ pool. pool_id pool
+            ≡ (names_given self.old.device).pools) }
+        ensures named { OnOk result (names_given self.new.device
+            ≡ record (names_given self.old.device)
             { pools = (names_given self.old.device).pools + 1 }) }
         ensures unnamed { OnErr result (names_given self.new.device ≡ names_given self.old.device) }
         ensures written { WritesDown W.contents self.old self.new

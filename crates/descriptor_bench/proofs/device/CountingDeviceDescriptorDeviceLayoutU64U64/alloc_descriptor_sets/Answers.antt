@@ -1,4 +1,4 @@
-use Rattle.std.proofs.Common.{◌≡◌, ℕ, ◌+◌, List, ◌++◌, map, refl, sym, ap, ◌∙◌, arith}
+use Rattle.std.proofs.Common.{◌≡◌, ℕ, ◌+◌, List, ◌++◌, map, sym, ap, ◌∙◌, arith}
 use Rattle.std.proofs.Math.Path.{fun_ext}
 use Rattle.std.specs.List.{range_with_len}
 use Rattle.std.proofs.lemmas.List.FromFn.{length-map-range_with_len}
@@ -7,9 +7,9 @@ use Rattle.gpu_descriptor_types.specs.Layouts.{layout, left}
 use Rattle.gpu_descriptor_types.specs.Ledger.{live_sets}
 use Rattle.gpu_descriptor_types.specs.Multiset.{LiveSet, times}
 use Rattle.gpu_descriptor_types.proofs.Counting.{times-append}
-use Rattle.descriptor_bench.specs.Layouts.{counts_in}
-use Rattle.descriptor_bench.specs.Log.{OwedPool}
-use Rattle.descriptor_bench.specs.Pools.{ledger_in, pool_owed}
+use Rattle.descriptor_bench.specs.Device.{ledger_of}
+use Rattle.descriptor_bench.specs.Log.{Log, OwedPool}
+use Rattle.descriptor_bench.specs.Pools.{pool_owed, pools_owed}
 use Rattle.descriptor_bench.proofs.Rows.{change_row, live_alike, map-id, same_ledger}
 use Rattle.descriptor_bench.proofs.device.CountingDeviceDescriptorDeviceLayoutU64U64.alloc_descriptor_sets.Goals as goal
 
@@ -20,12 +20,12 @@ returns-clause-ok g c =
     let names : List ℕ = map (λ n. n) (range_with_len first many) in
     let old = c.args.self.now.owed.log in
     let more : List LiveSet = live_sets (kinds c.counts_of-counts.result) names in
-    let same : more ≡ live_sets (counts_in (layout c.args.layouts)) (map (λ n. n) names) = live_alike _ _ first many (left c.args.layouts) c.len-many.ensures c.counts_of-counts.ensures in
+    let same : more ≡ live_sets (kinds (layout c.args.layouts).counts) (map (λ n. n) names) = live_alike _ _ first many (left c.args.layouts) c.len-many.ensures c.counts_of-counts.ensures in
     record {
       sets = names;
       many = length-map-range_with_len (λ n. n) first many ∙ c.len-many.ensures;
       kept = c.fill.ensures.kept ∙ ap (λ l. g.K.SetSink.sink.kept c.args.sets.now ++ map (g.K.SetSink.sink.kept_as c.args.sets.now) l) (sym (map-id (range_with_len first many)));
       alike = c.fill.ensures.alike;
       room = (let r = c.fill.ensures.room in let l = c.len-many.ensures in omega arith);
-      ledger = ap ledger_in c.note.ensures ∙ same_ledger _ _ (change_row old.rows c.args.pool.now (λ (r : OwedPool). record r { live = r.live ++ more }) (λ pool. record pool { live = λ x. pool.live x + times (live_sets (counts_in (layout c.args.layouts)) (map (λ n. n) names)) x }) (λ r at. ap (λ l. record (pool_owed r) { live = l }) (fun_ext (λ x. times-append r.live more x ∙ ap (λ s. times r.live x + times s x) same)))) refl;
+      ledger = same_ledger _ _ (ap (λ (l : Log). pools_owed l.rows) c.note.ensures ∙ change_row old.rows c.args.pool.now (λ (r : OwedPool). record r { live = r.live ++ more }) (λ pool. record pool { live = λ x. pool.live x + times (live_sets (kinds (layout c.args.layouts).counts) (map (λ n. n) names)) x }) (λ r at. ap (λ l. record (pool_owed r) { live = l }) (fun_ext (λ x. times-append r.live more x ∙ ap (λ s. times r.live x + times s x) same)))) (ap (λ (n : ℕ). record (ledger_of c.args.self.now).counters { asked = n }) c.next-self.ensures);
     }

@@ -1,11 +1,12 @@
-use Rattle.std.proofs.Common.{◌≡◌, ℕ, ◌-◌, List, ◌++◌, refl, sym, ap, ◌∙◌, subst}
+use Rattle.std.proofs.Common.{◌≡◌, ℕ, ◌-◌, List, ◌++◌, sym, ap, ◌∙◌, subst}
 use Rattle.std.specs.Prelude.{IfSome}
 use Rattle.std.specs.Option.{option_map}
 use Rattle.gpu_descriptor_types.specs.Ledger.{Pool}
 use Rattle.gpu_descriptor_types.specs.Multiset.{LiveSet, AreIn, times}
 use Rattle.descriptor_bench.specs.Acts.{log_after}
+use Rattle.descriptor_bench.specs.Device.{ledger_of}
 use Rattle.descriptor_bench.specs.Log.{Log, OwedPool}
-use Rattle.descriptor_bench.specs.Pools.{ledger_in, none_named, pool_owed}
+use Rattle.descriptor_bench.specs.Pools.{none_named, pool_owed, pools_owed}
 use Rattle.descriptor_bench.specs.declared.act.Act.TheVariants.{Release}
 use Rattle.descriptor_bench.proofs.Rows.{AreTaken, all_named, are_taken, change_row, live_row, map-id, row_is, same_ledger, taken_in, taken_less}
 use Rattle.descriptor_bench.proofs.device.CountingDeviceDescriptorDeviceLayoutU64U64.dealloc_descriptor_sets.Goals as goal
@@ -26,5 +27,5 @@ returns-clause-released g c =
       gone = gone;
       named = taken.named ∙ sym (map-id items);
       live = subst (λ o. IfSome (option_map pool_owed o) (λ pool. AreIn gone pool.live)) (sym row.1) (taken_in items row.0.live taken);
-      ledger = ap ledger_in (c.note.ensures ∙ ap (log_after (Release c.args.pool.now)) before) ∙ same_ledger _ _ (change_row old.rows c.args.pool.now (λ (r : OwedPool). record r { live = none_named items r.live }) (λ pool. record pool { live = λ x. pool.live x - times gone x }) (λ r at. subst (λ (s : OwedPool). ◌≡◌ {A = Pool} (pool_owed (record s { live = none_named items s.live })) (record (pool_owed s) { live = λ x. times s.live x - times gone x })) (row_is row.0 r (sym row.1 ∙ at)) (ap (λ l. record (pool_owed row.0) { live = l }) (taken_less items row.0.live taken)))) refl;
+      ledger = same_ledger _ _ (ap (λ (l : Log). pools_owed l.rows) (c.note.ensures ∙ ap (log_after (Release c.args.pool.now)) before) ∙ change_row old.rows c.args.pool.now (λ (r : OwedPool). record r { live = none_named items r.live }) (λ pool. record pool { live = λ x. pool.live x - times gone x }) (λ r at. subst (λ (s : OwedPool). ◌≡◌ {A = Pool} (pool_owed (record s { live = none_named items s.live })) (record (pool_owed s) { live = λ x. times s.live x - times gone x })) (row_is row.0 r (sym row.1 ∙ at)) (ap (λ l. record (pool_owed row.0) { live = l }) (taken_less items row.0.live taken)))) (ap (λ (n : ℕ). record (ledger_of c.args.self.now).counters { released = n }) c.next-self.ensures);
     }
