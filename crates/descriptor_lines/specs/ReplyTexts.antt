@@ -39,16 +39,6 @@ stretches_text pools = flat_map stretch_text (stretches pools)
 abbrev pub range_text : ℕ → ℕ → List ℕ
 range_text first last = codes "sets " ++ decimal first ++ (codes "-" ++ decimal last) ++ codes ":"
 
--- the device pools of so many tickets from the first up
-abbrev pub pools_from : List (Option (DescriptorSet RawSet)) → ℕ → ℕ → List ℕ
-pools_from slots first count = map (pool_at slots) (range_with_len first count)
-
--- the answer to a request for so many sets, which have the tickets from the first up
-abbrev pub sets_text : List (Option (DescriptorSet RawSet)) → ℕ → ℕ → List ℕ
-sets_text slots first zero = codes "sets none\n"
-sets_text slots first (suc more) =
-    range_text first (first + more) ++ stretches_text (pools_from slots first (suc more)) ++ codes "\n"
-
 -- that a request is refused, and why
 abbrev pub refused_text : AllocationError → List ℕ
 refused_text error = codes "refused: " ++ error_text error ++ codes "\n"
@@ -57,15 +47,26 @@ refused_text error = codes "refused: " ++ error_text error ++ codes "\n"
 abbrev pub freed_text : ℕ → List ℕ
 freed_text count = codes "freed " ++ decimal count ++ codes "\n"
 
--- the answer to a reply, where these are the sets afterwards. A layout that isn't there has none
-abbrev pub text_of_reply : List (Option (DescriptorSet RawSet)) → Reply → List ℕ
-text_of_reply slots (Sets first count) = sets_text slots first count
-text_of_reply slots (Refused error) = refused_text error
-text_of_reply slots (Freed count) = freed_text count
-text_of_reply slots BadTicket = codes "bad ticket\n"
-text_of_reply slots BadLayout = []
-text_of_reply slots NoMemory = codes "refused: no memory\n"
-text_of_reply slots Clean = codes "clean\n"
+module _ (slots : List (Option (DescriptorSet RawSet))) where
+  -- the device pools of so many tickets from the first up
+  abbrev pub pools_from : ℕ → ℕ → List ℕ
+  pools_from first count = map (pool_at slots) (range_with_len first count)
+
+  -- the answer to a request for so many sets, which have the tickets from the first up
+  abbrev pub sets_text : ℕ → ℕ → List ℕ
+  sets_text first zero = codes "sets none\n"
+  sets_text first (suc more) =
+      range_text first (first + more) ++ stretches_text (pools_from first (suc more)) ++ codes "\n"
+
+  -- the answer to a reply, where these are the sets afterwards. A layout that isn't there has none
+  abbrev pub text_of_reply : Reply → List ℕ
+  text_of_reply (Sets first count) = sets_text first count
+  text_of_reply (Refused error) = refused_text error
+  text_of_reply (Freed count) = freed_text count
+  text_of_reply BadTicket = codes "bad ticket\n"
+  text_of_reply BadLayout = []
+  text_of_reply NoMemory = codes "refused: no memory\n"
+  text_of_reply Clean = codes "clean\n"
 
 -- how many sets a command asks for
 abbrev pub sets_asked : Command → ℕ

@@ -1,6 +1,6 @@
 //! The layouts that the lines made, by name.
 ghost use Rattle.std.specs.Prelude.{◌≡◌, ◌+◌, ◌<◌, ◌≤◌, ◌↔◌, ◌++◌, ◌∷◌, [], IsTrue, IfOk, IfSome};
-ghost use Rattle.std.specs.Prelude.{OnOk, None, is_some, string_bytes};
+ghost use Rattle.std.specs.Prelude.{Contains, map, OnOk, None, is_some, string_bytes};
 ghost use Rattle.descriptor_lines.specs.FirstLayouts.{TellFirsts};
 
 use gpu_descriptor_types::DescriptorTotalCount;
@@ -38,7 +38,8 @@ pub struct Layouts {
 impl Layouts {
     ghost use Rattle.descriptor_lines.specs.LayoutTable.{layout_at, layout_count};
     ghost use Rattle.descriptor_lines.specs.LayoutTable.{layout_named, layouts_in, most_layouts};
-    ghost use Rattle.descriptor_lines.specs.LayoutTable.{HasSparePlace, IsNewKey, SameLayouts};
+    ghost use Rattle.descriptor_lines.specs.LayoutTable.{SameLayouts};
+    ghost use Rattle.indexmap.specs.IndexMap.{spare};
 
     pub fn new(alloc: Global) -> Self
         ensures { layouts_in result ≡ [] }
@@ -82,7 +83,7 @@ impl Layouts {
 
     /// Takes room for one more layout.
     pub fn reserve(&mut self) -> Result<(), AllocError>
-        ensures room { OnOk result (HasSparePlace self.new) }
+        ensures room { OnOk result (0 < spare self.new.by_name) }
         ensures same { SameLayouts self.old self.new }
     {
         self.by_name.reserve(1)
@@ -97,7 +98,7 @@ impl Layouts {
 
     /// Whether no layout has the same counts and the same mark.
     fn is_new(&self, layout: &Layout) -> bool
-        ensures { IsTrue result ↔ IsNewKey self.now layout.now }
+        ensures { IsTrue result ↔ ¬ Contains (map (λ l. l.1) (layouts_in self.now)) layout.now }
     {
         for entry in self.by_name.values() {
             if entry.layout == *layout {
@@ -109,7 +110,7 @@ impl Layouts {
 
     /// Puts a layout of a new name last, over room that was taken.
     pub fn push(&mut self, name: String, layout: Layout)
-        requires room { HasSparePlace self.old }
+        requires room { 0 < spare self.old.by_name }
         requires absent { layout_named self.old (string_bytes name) ≡ None }
         ensures layouts { layouts_in self.new ≡ layouts_in self.old ++ (string_bytes name, layout)
             ∷ [] }

@@ -6,4 +6,3 @@ pub mod Pools
 pub mod Slots
 pub mod Table
 pub mod Taking
-pub mod Words

@@ -1,7 +1,7 @@
 //! The words that a device is still to read.
 ghost use Rattle.std.specs.Prelude.{◌≡◌};
+ghost use Rattle.std.specs.Vec.Iter.{into_iter_items};
 ghost use Rattle.descriptor_script.specs.Scripted.Script.{next_word, rest_words};
-ghost use Rattle.descriptor_script.specs.Inner.Words.{words_of};
 
 use crate::answer::Answer;
 use std::vec::IntoIter;
@@ -14,7 +14,7 @@ pub struct Script {
 
 impl Script {
     pub fn new(words: Vec<Answer>) -> Self
-        ensures { words_of result ≡ words.items }
+        ensures { into_iter_items result.words ≡ words.items }
     {
         Script {
             words: words.into_iter(),
@@ -23,8 +23,8 @@ impl Script {
 
     /// Reads one word.
     pub fn read(&mut self) -> Answer
-        ensures word { result ≡ next_word (words_of self.old) }
-        ensures rest { words_of self.new ≡ rest_words (words_of self.old) }
+        ensures word { result ≡ next_word (into_iter_items self.old.words) }
+        ensures rest { into_iter_items self.new.words ≡ rest_words (into_iter_items self.old.words) }
     {
         self.words.next().unwrap_or(Answer::Ok)
     }

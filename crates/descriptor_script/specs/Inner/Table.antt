@@ -13,18 +13,19 @@ use Rattle.descriptor_script.specs.declared.live.LivePool.{LivePool}
 abbrev pub seen : LivePool → Pool
 seen p = record { counts = kinds p.counts; capacity = p.max_sets; flags = bits p.flags; refusals = p.refusals.count; live = times (live_sets_of p.sets.entries) }
 
-abbrev pub pools_in : {S : Type 0} → IndexMap ℕ LivePool S → ℕ → Option Pool
-pools_in live q = option_map seen (get nat_eq live q)
-
 -- whether the pool has a set of this name
 abbrev pub has_set : ℕ → Option LivePool → Bool
 has_set n None = false
 has_set n (Some p) = is_some (get nat_eq p.sets n)
 
--- no live pool has this name or a later one
-abbrev pub PoolsAreBelow : {S : Type 0} → IndexMap ℕ LivePool S → ℕ → Type 0
-PoolsAreBelow live next = (q : ℕ) → next ≤ q → is_some (get nat_eq live q) ≡ false
+module _ {S : Type 0} (live : IndexMap ℕ LivePool S) where
+  abbrev pub pools_in : ℕ → Option Pool
+  pools_in q = option_map seen (get nat_eq live q)
 
--- no live set has this name or a later one
-abbrev pub SetsAreBelow : {S : Type 0} → IndexMap ℕ LivePool S → ℕ → Type 0
-SetsAreBelow live next = (q n : ℕ) → next ≤ n → has_set n (get nat_eq live q) ≡ false
+  -- no live pool has this name or a later one
+  abbrev pub PoolsAreBelow : ℕ → Type 0
+  PoolsAreBelow next = (q : ℕ) → next ≤ q → is_some (get nat_eq live q) ≡ false
+
+  -- no live set has this name or a later one
+  abbrev pub SetsAreBelow : ℕ → Type 0
+  SetsAreBelow next = (q n : ℕ) → next ≤ n → has_set n (get nat_eq live q) ≡ false
