@@ -83,7 +83,7 @@ pub record Does (command : Command) (text : List ℕ) (old new : LineState) : Ty
   pub reply : Reply
   pub said : text ≡ text_of_reply (sets_of new.session) reply
   pub step : StepsTo script_meaning command reply (side old.session old.ledger) (side new.session new.ledger)
-  -- limit and layouts stay, and no key has two rows
+  -- limit and layouts stay
   pub keeps : KeepsSession script_meaning (side old.session old.ledger) (side new.session new.ledger)
   pub layouts : SameLayouts old.layouts new.layouts
 

@@ -1,4 +1,6 @@
 -- What was taken from one key's pools is what the definitions say of the whole.
+use Rattle.gpu_descriptor.specs.Model.Load.{bucket_load}
+use Rattle.gpu_descriptor.specs.Model.Books.{AddsUp}
 use Rattle.gpu_descriptor.proofs.Common.{◌≡◌, ℕ, ◌-◌, List, Option, Ok, sym, ap, ◌∙◌, subst, State, Item, with_bucket, Key, Bucket, Pool, Ledger, Stop}
 use Rattle.gpu_descriptor.specs.Model.Grants.{Grant, IsGrantOf, granted, ledger_with}
 use Rattle.gpu_descriptor.specs.Inner.Grow.{IsTaken}
@@ -11,10 +13,12 @@ granted_is k n g s items b l m same taken = λ i. with_bucket k (taken.bucket i)
 
 -- a request that took all is done
 pub is_done : (c : Call) (b : Bucket) (items : List Item) (l m : Ledger) → c.old.ledger ≡ l.pools → c.before ≡ l.counters → c.new ≡ with_bucket c.request.key b m.pools c.old → c.after ≡ m.counters
-    → {all : Unit {0}} → IsTaken (Ok all) c.request.key (c.request.limit - c.pooled) c.request.count items (c.old.books c.request.key) b l m → c.answer ≡ Ok items → IsDone c
-is_done c b items l m ledger before now after t answer =
+    → (pooled : ℕ) → AddsUp bucket_load c.old.books pooled → {all : Unit {0}} → IsTaken (Ok all) c.request.key (c.request.limit - pooled) c.request.count items (c.old.books c.request.key) b l m → c.answer ≡ Ok items → IsDone c
+is_done c b items l m ledger before now after pooled is_pooled t answer =
     let g = t.0 in
     let taken = t.1 in record {
+      pooled = pooled;
+      is_pooled = is_pooled;
       grant = g;
       taken = subst (λ (f : ℕ → Option Pool). IsGrantOf c.request.count (c.old.books c.request.key) f g) (sym ledger) taken.grant;
       all = t.2;

@@ -49,11 +49,11 @@ module _ {L P S : Type 0} {means : Meaning L P S} {k : Key} {count : ℕ} {sets 
       }
 
 module _ {L P S : Type 0} {means : Meaning L P S} {k : Key} {count : ℕ} (sets : Vec (DescriptorSet S)) {ended : Result (Unit {0}) Stop} {old new : Allocations P} {before after : Ledger}
-    (t : Takes means k count sets.items ended (side old before) (side new after)) (agree : Agrees means.pool_name old before) (keys : StayOrGainLast k (keys_of old) (keys_of new))
+    (t : Takes means k count sets.items ended (side old before) (side new after)) (agree : Agrees means.pool_name old before) (distinct : HasDistinctKeys (table_of means.pool_name old)) (keys : StayOrGainLast k (keys_of old) (keys_of new))
     (looks : new.looks + before.counters.asked ≡ old.looks + after.counters.asked) (comparisons : new.comparisons ≡ old.comparisons) (some : 0 < count) where
   pub hands_all : {x : Unit {0}} → ended ≡ Ok x → HandsOut means k count (Ok sets) (side old before) (side new after)
   hands_all is =
-      let outcome = kept t agree some is in
+      let outcome = kept t agree distinct some is in
       record {
         outcome = outcome;
         nothing = λ zero. absurd (omega arith);
@@ -77,7 +77,7 @@ module _ {L P S : Type 0} {means : Meaning L P S} {k : Key} {count : ℕ} (sets 
   -- the sets went back
   pub hands_back : {last : Allocations P} {final : Ledger} → HasDistinctKeys (table_of means.pool_name new) → Returns means sets.items (side new after) (side last final) → {why : Stop} → ended ≡ Err why → HandsOut means k count (Err (stop_answer why)) (side old before) (side last final)
   hands_back still r is =
-      let went = went_back t agree still some r.back is in
+      let went = went_back t agree distinct still some r.back is in
       let outcome = went.0 in
       let asked = ap (λ (c : Counters). c.asked) r.back.counters in
       let gone : run_digits (granted k count went.1 (state_of means.pool_name old before)) (items_in k went.1.id went.1.parts) ≡ run_digits (state_of means.pool_name new after) (items_of means.set_name sets.items) = λ i. run_digits (went.4 i) (went.3 i) in

@@ -74,7 +74,7 @@ module _ (c : Call) (d : IsDone c) where
   pub done_filled : 0 < length d.grant.fresh → AreFilled c
   done_filled more = by_list d.fresh
     where
-      by_list : IsFreshList k (c.request.limit - c.pooled) (out_then c.request c.old d.grant) (wanting c.request c.old d.grant) d.grant.fresh → AreFilled c
+      by_list : IsFreshList k (c.request.limit - d.pooled) (out_then c.request c.old d.grant) (wanting c.request c.old d.grant) d.grant.fresh → AreFilled c
       by_list (no_fresh zero_wanted empty) = (let e = ap length empty in absurd (omega arith))
       by_list (some_fresh front last is short sized le given) =
           let shares : List Entry = all_shared d.grant.refused c.request.count (c.old.books k).pools in

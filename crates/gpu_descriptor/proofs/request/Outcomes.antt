@@ -1,4 +1,5 @@
 -- A request that took sets is as the definitions say: kept whole, or given back.
+use Rattle.gpu_descriptor.proofs.request.Requested.{load_is, pool_load_is, out_is}
 use Rattle.gpu_descriptor.proofs.Common.{fun_ext, ◌≡◌, ◌≢◌, ℕ, ◌+◌, ◌-◌, ◌<◌, true, false, Some, List, [], ◌∷◌, length, map, slice_get, arith, Result, Ok, Err, refl, sym, ap, ◌∙◌, subst, length-map, side, Meaning, Ledger, no_rise, AllocationError, DescriptorSet, Stop, State, Item, Agree, AreOutstanding, outstanding, with_bucket, Key, key_eq, Entry, Bucket, HasDistinctKeys, entry_at, Allocations}
 use Rattle.gpu_descriptor.specs.Model.Foreign.{KeepsForeign, LosesNone}
 use Rattle.gpu_descriptor.specs.Caller.Others.{others_of}
@@ -109,12 +110,19 @@ module _ {L P S : Type 0} {means : Meaning L P S} {k : Key} {count : ℕ} {sets 
   pub taken_others_of : others_of means.pool_name new after ≡ others_of means.pool_name old before
   taken_others_of = others_stay means.pool_name old new before after taken_leaves taken_loses_none
 
-  pub proceeds : 0 < count → (last : Allocations P) (final : Ledger) (answer : Result (List Item) AllocationError) → Proceeds (call_of means k count (side old before) (side last final) answer)
-  proceeds some last final answer = record { some = some; limit = t.within; numbers = t.serves.served.numbers; sets = t.fits }
+  pub proceeds : HasDistinctKeys (table_of means.pool_name old) → 0 < count → (last : Allocations P) (final : Ledger) (answer : Result (List Item) AllocationError) → Proceeds (call_of means k count (side old before) (side last final) answer)
+  proceeds distinct some last final answer = record {
+    some = some;
+    limit = record { load = marked_load_of old; is_load = load_is means old before distinct; within = t.within };
+    numbers = t.serves.served.numbers;
+    out = outstanding_of old;
+    is_out = out_is means old before distinct;
+    sets = t.fits;
+  }
 
   -- ---- the sets went back
 
-  module _ (still : HasDistinctKeys (table_of means.pool_name new)) (some : 0 < count) {last : Allocations P} {final : Ledger} (back : GivesBack means sets (runs items) (side new after) (side last final)) where
+  module _ (distinct : HasDistinctKeys (table_of means.pool_name old)) (still : HasDistinctKeys (table_of means.pool_name new)) (some : 0 < count) {last : Allocations P} {final : Ledger} (back : GivesBack means sets (runs items) (side new after) (side last final)) where
     -- which of the new allocator's pools go
     gone : pools_gone (keys_of new) items (given_back items (state_of means.pool_name new after)) ≡ pools_gone (k ∷ []) items (given_back items (state_of means.pool_name new after))
     gone = ap (λ (keys : List Key). pools_gone keys items (given_back items (state_of means.pool_name new after))) (keys_table means.pool_name new.table) ∙ only_key k items (state_of means.pool_name new after) (table_of means.pool_name new) still (λ l. refl) taken_own
@@ -135,9 +143,11 @@ module _ {L P S : Type 0} {means : Meaning L P S} {k : Key} {count : ℕ} {sets 
 
       rolls : StopsAt why k room count g (s.books k).pools → Rolls why
       rolls at = (
-        stopped (proceeds some last final _) (record {
+        stopped (proceeds distinct some last final _) (record {
           why = why;
           grant = g;
+          pooled = pool_load_of old;
+          is_pooled = pool_load_is means old before distinct;
           at = at;
           back = record {
             taken = taken.grant;
@@ -209,5 +219,5 @@ module _ {L P S : Type 0} {means : Meaning L P S} {k : Key} {count : ℕ} {sets 
       let many = kept_many is in
       (t.serves.out ∙ ap (λ n. outstanding_of old + n) many, t.serves.load ∙ ap (λ n. marked_load_of old + marked_load k n) many)
 
-  pub kept : 0 < count → {x : Unit {0}} → ended ≡ Ok x → Allocates (call_of means k count (side old before) (side new after) (Ok items))
-  kept some is = done (proceeds some new after _) (is_done _ t.serves.bucket items before after refl refl state refl (all_of is) refl)
+  pub kept : HasDistinctKeys (table_of means.pool_name old) → 0 < count → {x : Unit {0}} → ended ≡ Ok x → Allocates (call_of means k count (side old before) (side new after) (Ok items))
+  kept distinct some is = done (proceeds distinct some new after _) (is_done _ t.serves.bucket items before after refl refl state refl (pool_load_of old) (pool_load_is means old before distinct) (all_of is) refl)

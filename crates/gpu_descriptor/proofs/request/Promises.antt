@@ -74,10 +74,10 @@ memory_cause c g why back alloc_error.OutOfHostMemory memory device host = (let 
 memory_cause c g why back alloc_error.FragmentedPool memory device host = absurd (omega arith)
 memory_cause c g why back alloc_error.OutOfPoolMemory memory device host = absurd (omega arith)
 
-abbrev Stops : Call → Stop → Grant → Type 0
-Stops c why g = StopsAt why c.request.key (c.request.limit - c.pooled) c.request.count g (c.old.books c.request.key).pools
+abbrev Stops : Call → Stop → Grant → ℕ → Type 0
+Stops c why g pooled = StopsAt why c.request.key (c.request.limit - pooled) c.request.count g (c.old.books c.request.key).pools
 
-stop_cause : (c : Call) (s : IsStopped c) (why : Stop) → s.why ≡ why → IsBack c s.grant why → Stops c why s.grant → HasCause (stop_answer why) c
+stop_cause : (c : Call) (s : IsStopped c) (why : Stop) → s.why ≡ why → IsBack c s.grant why → Stops c why s.grant s.pooled → HasCause (stop_answer why) c
 stop_cause c s (Existing e) is back at = memory_cause c s.grant (Existing e) back e at.memory refl refl
 stop_cause c s Room is back at = no_room_left s is
 stop_cause c s Books is back at = no_memory_for_a_pool s is
@@ -175,14 +175,14 @@ front_short c s why room back front few =
     pools_short c s.grant (omega arith) (front_below c.request.key room _ _ s.grant.fresh front.sized front.full front.short) (unmet (AreFilled c) c.answer _ back.answer) (length s.grant.fresh + (stop_rise why).created) (omega arith) few
 
 -- a list that gave all
-done_short : (c : Call) (d : IsDone c) → IsFreshList c.request.key (c.request.limit - c.pooled) (out_then c.request c.old d.grant) (wanting c.request c.old d.grant) d.grant.fresh → 0 < length d.grant.fresh → IsShort c d.grant
+done_short : (c : Call) (d : IsDone c) → IsFreshList c.request.key (c.request.limit - d.pooled) (out_then c.request c.old d.grant) (wanting c.request c.old d.grant) d.grant.fresh → 0 < length d.grant.fresh → IsShort c d.grant
 done_short c d (no_fresh zero_wanted empty) some = (let e = ap length empty in absurd (omega arith))
 done_short c d (some_fresh front last parts short sized le given) some =
     let g : Grant = d.grant in
     let m : ℕ = pool_size_floor c.request.key.counts in
-    let whole_sized = subst (AreSized c.request.key (c.request.limit - c.pooled) (out_then c.request c.old g) (wanting c.request c.old g)) parts sized in
-    let few = list_few c.request.key (c.request.limit - c.pooled) (out_then c.request c.old g) (wanting c.request c.old g) front last whole_sized short.full short.short in
-    let below = subst (AreBelowTwice (out_then c.request c.old g) (wanting c.request c.old g)) (sym parts) (list_below c.request.key (c.request.limit - c.pooled) (out_then c.request c.old g) (wanting c.request c.old g) front last whole_sized short.full short.short) in
+    let whole_sized = subst (AreSized c.request.key (c.request.limit - d.pooled) (out_then c.request c.old g) (wanting c.request c.old g)) parts sized in
+    let few = list_few c.request.key (c.request.limit - d.pooled) (out_then c.request c.old g) (wanting c.request c.old g) front last whole_sized short.full short.short in
+    let below = subst (AreBelowTwice (out_then c.request c.old g) (wanting c.request c.old g)) (sym parts) (list_below c.request.key (c.request.limit - d.pooled) (out_then c.request c.old g) (wanting c.request c.old g) front last whole_sized short.full short.short) in
     let less = short.short in
     let long = ap length parts ∙ length-append front (last ∷ []) in
     let product = times_more (length front) m in
@@ -223,7 +223,7 @@ module _ (c : Call) where
   has_cause (done p d) = given _ d.answer
   has_cause (stopped p s) = answered _ s.back.answer (stop_cause c s s.why refl s.back s.at)
 
-  stop_short : (s : IsStopped c) (why : Stop) → IsBack c s.grant why → Stops c why s.grant → c.before.created < c.after.created → IsShort c s.grant
+  stop_short : (s : IsStopped c) (why : Stop) → IsBack c s.grant why → Stops c why s.grant s.pooled → c.before.created < c.after.created → IsShort c s.grant
   stop_short s (Existing e) back at more =
       let n = ap (λ (k : Counters). k.created) back.counters in
       let none = alloc_creates e in
@@ -236,9 +236,9 @@ module _ (c : Call) where
 
   -- a pool is created only where the existing ones don't do
   pub short : (outcome : Allocates c) → CreatesOnlyWhereShort outcome
-  short (none zero_count answer stays) more = tt
-  short (limit some above answer stays) more = tt
-  short (bound some within past answer stays) more = tt
-  short (start p answer stays) more = tt
-  short (done p d) more = (let n = ap (λ (k : Counters). k.created) d.counters in done_short c d d.fresh (omega arith))
-  short (stopped p s) more = stop_short s s.why s.back s.at more
+  short (none zero_count answer stays) more = (let n = ap (λ (k : Counters). k.created) stays.counters in absurd (omega arith))
+  short (limit some above answer stays) more = (let n = ap (λ (k : Counters). k.created) stays.counters in absurd (omega arith))
+  short (bound some within past answer stays) more = (let n = ap (λ (k : Counters). k.created) stays.counters in absurd (omega arith))
+  short (start p answer stays) more = (let n = ap (λ (k : Counters). k.created) stays.counters in absurd (omega arith))
+  short (done p d) more = (d.grant, refl, (let n = ap (λ (k : Counters). k.created) d.counters in done_short c d d.fresh (omega arith)))
+  short (stopped p s) more = (s.grant, refl, stop_short s s.why s.back s.at more)

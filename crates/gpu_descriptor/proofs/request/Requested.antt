@@ -1,8 +1,10 @@
 -- What a request leaves of an allocator: why it is declined before the walk, and what it took.
+use Rattle.gpu_descriptor.proofs.sums.TableSums.{outstanding_of-table, marked_load_of-table, pool_load_of-table}
+use Rattle.gpu_descriptor.specs.Model.Books.{AddsUp}
 use Rattle.gpu_descriptor.proofs.Common.{side, Meaning, greatest_u64, [], ◌≡◌, ℕ, ◌+◌, ◌-◌, ◌*◌, ◌<◌, ◌≤◌, ◌&&◌, Bool, true, false, List, map, length, sum, Result, Err, inl, inr, refl, sym, ap, subst, ◌∙◌, arith, mul-le-mul_right, cases_Bool, and_parts, ltb-true, ltb-false, IsDistinct, nat_lt, ◌⊎◌, kinds, Ledger, AllocationError, BucketKey, DescriptorSet, DescriptorBucket, Stop, Key, key_eq, Bucket, BucketOf, HasDistinctKeys, books_of, next_number, sum_over, key_of, Allocations}
 use Rattle.gpu_descriptor.specs.declared.errors.AllocationError.TheVariants.{Fragmentation}
 use Rattle.gpu_descriptor.specs.Model.Load.{bucket_load, descriptors_out, marked_load, sets_out}
-use Rattle.gpu_descriptor.specs.Model.Outcomes.{Allocates, Stays}
+use Rattle.gpu_descriptor.specs.Model.Outcomes.{Allocates, Stays, IsWithinLimit}
 use Rattle.gpu_descriptor.specs.Model.Outcomes.Allocates.{limit, bound, start}
 use Rattle.gpu_descriptor.specs.Caller.Call.{call_of}
 use Rattle.gpu_descriptor.specs.Inner.Serves.{IsUnserved, ServesKey, Takes}
@@ -92,22 +94,35 @@ module _ {L P S : Type 0} (means : Meaning L P S) (key : BucketKey) (room count 
       let d = s.out in
       record { distinct = distinct; is_load = omega arith; within = omega arith; is_room = omega arith; is_out = omega arith }
 
-module _ {L P S : Type 0} (means : Meaning L P S) (a : Allocations P) (before : Ledger) (k : Key) (count : ℕ) (some : 0 < count) (b : Allocations P) (after : Ledger) (same : b ≡ a) (kept : after ≡ before) where
-  stays : (answer : Result _ AllocationError) → Stays (call_of means k count (side a before) (side b after) answer)
-  stays answer = record { state = λ i. state_of means.pool_name (same i) (kept i); counters = λ i. (kept i).counters }
+module _ {L P S : Type 0} (means : Meaning L P S) (a : Allocations P) (before : Ledger) (distinct : HasDistinctKeys (table_of means.pool_name a)) where
+  pub load_is : AddsUp descriptors_out (state_of means.pool_name a before).books (marked_load_of a)
+  load_is = record { table = table_of means.pool_name a; distinct = distinct; keeps = λ k. refl; total = sym (marked_load_of-table means.pool_name a) }
 
-  pub above_limit : k.marked ≡ true → a.limit < count * sum k.counts + marked_load_of a → Allocates (call_of means k count (side a before) (side b after) (Err Fragmentation))
-  above_limit marked above = limit some (record { marked = marked; above = above }) refl (stays _)
+  pub pool_load_is : AddsUp bucket_load (state_of means.pool_name a before).books (pool_load_of a)
+  pool_load_is = record { table = table_of means.pool_name a; distinct = distinct; keeps = λ k. refl; total = sym (pool_load_of-table means.pool_name a) }
 
-  module _ (within : k.marked ≡ true → count * sum k.counts + marked_load_of a ≤ a.limit) where
-    pub past_bound : (greatest_u64 < next_number ((state_of means.pool_name a before).books k) + count) ⊎ (greatest_u64 < outstanding_of a + count) → Allocates (call_of means k count (side a before) (side b after) (Err Fragmentation))
-    past_bound past = bound some within past refl (stays _)
+  pub out_is : AddsUp sets_out (state_of means.pool_name a before).books (outstanding_of a)
+  out_is = record { table = table_of means.pool_name a; distinct = distinct; keeps = λ k. refl; total = sym (outstanding_of-table means.pool_name a) }
 
-    pub unserved : outstanding_of a + count ≤ greatest_u64 → (e : AllocationError) → IsUnserved count e ((state_of means.pool_name a before).books k) → Allocates (call_of means k count (side a before) (side b after) (Err e))
-    unserved sets e why = elim why [
-      | inl memory ↦ (rw memory.0 (start (record { some = some; limit = within; numbers = memory.1; sets = sets }) refl (stays _)))
-      | inr past ↦ (rw past.0 (past_bound (inl past.1)))
-    ]
+  module _ (k : Key) (count : ℕ) (some : 0 < count) (b : Allocations P) (after : Ledger) (same : b ≡ a) (kept : after ≡ before) where
+    stays : (answer : Result _ AllocationError) → Stays (call_of means k count (side a before) (side b after) answer)
+    stays answer = record { state = λ i. state_of means.pool_name (same i) (kept i); counters = λ i. (kept i).counters }
+
+    pub above_limit : k.marked ≡ true → a.limit < count * sum k.counts + marked_load_of a → Allocates (call_of means k count (side a before) (side b after) (Err Fragmentation))
+    above_limit marked above = limit some (record { marked = marked; load = marked_load_of a; is_load = load_is; above = above }) refl (stays _)
+
+    module _ (within : k.marked ≡ true → count * sum k.counts + marked_load_of a ≤ a.limit) where
+      in_limit : (answer : Result _ AllocationError) → IsWithinLimit (call_of means k count (side a before) (side b after) answer)
+      in_limit answer = record { load = marked_load_of a; is_load = load_is; within = within }
+
+      pub past_bound : (greatest_u64 < next_number ((state_of means.pool_name a before).books k) + count) ⊎ (greatest_u64 < outstanding_of a + count) → Allocates (call_of means k count (side a before) (side b after) (Err Fragmentation))
+      past_bound past = bound some (in_limit _) (record { out = outstanding_of a; is_out = out_is; past = past }) refl (stays _)
+
+      pub unserved : outstanding_of a + count ≤ greatest_u64 → (e : AllocationError) → IsUnserved count e ((state_of means.pool_name a before).books k) → Allocates (call_of means k count (side a before) (side b after) (Err e))
+      unserved sets e why = elim why [
+        | inl memory ↦ (rw memory.0 (start (record { some = some; limit = in_limit _; numbers = memory.1; out = outstanding_of a; is_out = out_is; sets = sets }) refl (stays _)))
+        | inr past ↦ (rw past.0 (past_bound (inl past.1)))
+      ]
 
 module _ {L P S : Type 0} (means : Meaning L P S) (most looks_before looks_after compared : ℕ) (es fs : List (BucketKey × DescriptorBucket P)) where
   abbrev old : Allocations P
@@ -129,12 +144,12 @@ module _ {L P S : Type 0} (means : Meaning L P S) (most looks_before looks_after
 
 -- ---- the tests of a request, over the fields of an allocator
 
-module _ {L P S : Type 0} (means : Meaning L P S) {a : Allocations P} {most looks compared marked room out : ℕ} {es : List (BucketKey × DescriptorBucket P)} (is : seen most looks compared es ≡ a) (counted : IsConsistent most marked room out es) (before : Ledger)
+module _ {L P S : Type 0} (means : Meaning L P S) {a : Allocations P} {most looks compared marked room out : ℕ} {es : List (BucketKey × DescriptorBucket P)} (is : seen most looks compared es ≡ a) (counted : IsConsistent most marked room out es) (apart : HasDistinctKeys (table_of means.pool_name a)) (before : Ledger)
     (key : BucketKey) {count : ℕ} (some : 0 < count) {above : Bool} (test : above ≡ (key.update_after_bind && nat_lt a.limit (count * sum (kinds key.size) + marked_load_of a))) where
   pub declined_by_limit : above ≡ true → Allocates (call_of means (key_of key) count (side a before) (side a before) (Err Fragmentation))
   declined_by_limit passed =
       let both = and_parts key.update_after_bind (nat_lt a.limit (count * sum (kinds key.size) + marked_load_of a)) (sym test ∙ passed) in
-      above_limit means a before (key_of key) count some a before refl refl both.0 (ltb-true a.limit (count * sum (kinds key.size) + marked_load_of a) both.1)
+      above_limit means a before apart (key_of key) count some a before refl refl both.0 (ltb-true a.limit (count * sum (kinds key.size) + marked_load_of a) both.1)
 
   module _ (below : above ≡ false) {past : Bool} (bounded : past ≡ nat_lt greatest_u64 (out + count)) where
     inside : key.update_after_bind ≡ true → count * sum (kinds key.size) + marked_load_of a ≤ a.limit
@@ -145,14 +160,14 @@ module _ {L P S : Type 0} (means : Meaning L P S) {a : Allocations P} {most look
         let more = ltb-true greatest_u64 (out + count) (sym bounded ∙ passed) in
         let all = out_of a es (table_is es is) in
         let is_out = counted.is_out in
-        past_bound means a before (key_of key) count some a before refl refl inside (inr (omega arith))
+        past_bound means a before apart (key_of key) count some a before refl refl inside (inr (omega arith))
 
     pub declined_unserved : past ≡ false → {b : Allocations P} {after : Ledger} → b ≡ a → after ≡ before → (e : AllocationError) → IsUnserved count e (books_in means.pool_name (map row_of es) (key_of key)) → Allocates (call_of means (key_of key) count (side a before) (side b after) (Err e))
     declined_unserved kept_in {b} {after} same kept e why =
         let fits = ltb-false greatest_u64 (out + count) (sym bounded ∙ kept_in) in
         let all = out_of a es (table_is es is) in
         let is_out = counted.is_out in
-        unserved means a before (key_of key) count some b after same kept inside (omega arith) e (subst (λ (x : Bucket). IsUnserved count e x) (sym (books_at a es (table_is es is) means.pool_name before (key_of key))) why)
+        unserved means a before apart (key_of key) count some b after same kept inside (omega arith) e (subst (λ (x : Bucket). IsUnserved count e x) (sym (books_at a es (table_is es is) means.pool_name before (key_of key))) why)
 
 -- a request that passed them, and took what its key has
 module _ {L P S : Type 0} {means : Meaning L P S} {key : BucketKey} {room count : ℕ} {sets : List (DescriptorSet S)} {ended : Result (Unit {0}) Stop} {es : List (BucketKey × DescriptorBucket P)} (fs : List (BucketKey × DescriptorBucket P)) {before after : Ledger}

@@ -8,7 +8,7 @@ use Rattle.gpu_descriptor.specs.declared.set.DescriptorSet.{DescriptorSet}
 use Rattle.gpu_descriptor.specs.Model.Books.{Key}
 use Rattle.gpu_descriptor.specs.Model.Agreement.{Item}
 use Rattle.gpu_descriptor.specs.Caller.Sets.{items_of}
-use Rattle.gpu_descriptor.specs.Caller.States.{marked_load_of, outstanding_of, pool_load_of, state_of}
+use Rattle.gpu_descriptor.specs.Caller.States.{state_of}
 use Rattle.gpu_descriptor.specs.Caller.Values.{Allocations}
 use Rattle.gpu_descriptor.specs.Model.Outcomes.{Call}
 
@@ -27,9 +27,6 @@ module _ {L P S : Type 0} (means : Meaning L P S) where
     before = old.ledger.counters;
     after = new.ledger.counters;
     answer = answer;
-    out = outstanding_of old.value;
-    load = marked_load_of old.value;
-    pooled = pool_load_of old.value;
   }
 
   -- the key of a layout

@@ -8,10 +8,10 @@ use Rattle.gpu_descriptor.specs.declared.errors.AllocationError.TheVariants.{Out
 use Rattle.gpu_descriptor_types.specs.Ledger.{Counters, no_rise, create_refused, alloc_refused, pool_refusals}
 use Rattle.gpu_descriptor.specs.declared.bucket.take.Stop.{Stop}
 use Rattle.gpu_descriptor.specs.declared.bucket.take.Stop.TheVariants.{Existing, Room, Books, Create, New}
-use Rattle.gpu_descriptor.specs.Model.Books.{Key, Entry, next_number}
+use Rattle.gpu_descriptor.specs.Model.Books.{Key, Entry, next_number, AddsUp}
 use Rattle.gpu_descriptor.specs.Model.Agreement.{State, Item}
 use Rattle.gpu_descriptor.specs.Model.Release.{given_back, released, pools_gone}
-use Rattle.gpu_descriptor.specs.Model.Load.{allocated_in, pool_load}
+use Rattle.gpu_descriptor.specs.Model.Load.{allocated_in, pool_load, sets_out, descriptors_out, bucket_load}
 use Rattle.gpu_descriptor.specs.Model.Runs.{runs}
 use Rattle.gpu_descriptor.specs.Model.Shares.{rest, is_asked, all_shared, asked_count, refused_count}
 use Rattle.gpu_descriptor.specs.Model.FreshPools.{IsFreshFront, IsFreshList, room_after}
@@ -87,10 +87,6 @@ pub record Call : Type 0 where
   pub before : Counters
   pub after : Counters
   pub answer : Result (List Item) AllocationError
-  -- before it: how many sets are out, how many descriptors the marked ones have, and how many the pools of marked keys
-  pub out : ℕ
-  pub load : ℕ
-  pub pooled : ℕ
 
 -- nothing changed
 pub record Stays (c : Call) : Type 0 where
@@ -99,28 +95,38 @@ pub record Stays (c : Call) : Type 0 where
 
 pub record IsAboveLimit (c : Call) : Type 0 where
   pub marked : c.request.key.marked ≡ true
-  pub above : c.request.limit < c.request.count * sum c.request.key.counts + c.load
+  pub load : ℕ
+  pub is_load : AddsUp descriptors_out c.old.books load
+  pub above : c.request.limit < c.request.count * sum c.request.key.counts + load
 
-abbrev pub IsWithinLimit : Call → Type 0
-IsWithinLimit c = c.request.key.marked ≡ true → c.request.count * sum c.request.key.counts + c.load ≤ c.request.limit
+pub record IsWithinLimit (c : Call) : Type 0 where
+  pub load : ℕ
+  pub is_load : AddsUp descriptors_out c.old.books load
+  pub within : c.request.key.marked ≡ true → c.request.count * sum c.request.key.counts + load ≤ c.request.limit
 
 -- pool numbers, or the number of sets that are out, would pass 64 bits
-abbrev pub IsPastBound : Call → Type 0
-IsPastBound c = (greatest_u64 < next_number (c.old.books c.request.key) + c.request.count) ⊎ (greatest_u64 < c.out + c.request.count)
+pub record IsPastBound (c : Call) : Type 0 where
+  pub out : ℕ
+  pub is_out : AddsUp sets_out c.old.books out
+  pub past : (greatest_u64 < next_number (c.old.books c.request.key) + c.request.count) ⊎ (greatest_u64 < out + c.request.count)
 
 -- the tests before the walk are passed
 pub record Proceeds (c : Call) : Type 0 where
   pub some : 0 < c.request.count
   pub limit : IsWithinLimit c
   pub numbers : next_number (c.old.books c.request.key) + c.request.count ≤ greatest_u64
-  pub sets : c.out + c.request.count ≤ greatest_u64
+  pub out : ℕ
+  pub is_out : AddsUp sets_out c.old.books out
+  pub sets : out + c.request.count ≤ greatest_u64
 
 -- all sets were had
 pub record IsDone (c : Call) : Type 0 where
   pub grant : Grant
   pub taken : IsGrant c.request c.old grant
   pub all : grant.left ≡ 0
-  pub fresh : IsFreshList c.request.key (c.request.limit - c.pooled) (out_then c.request c.old grant) (wanting c.request c.old grant) grant.fresh
+  pub pooled : ℕ
+  pub is_pooled : AddsUp bucket_load c.old.books pooled
+  pub fresh : IsFreshList c.request.key (c.request.limit - pooled) (out_then c.request c.old grant) (wanting c.request c.old grant) grant.fresh
   pub answer : c.answer ≡ Ok (items_in c.request.key grant.id grant.parts)
   pub state : c.new ≡ granted c.request.key c.request.count grant c.old
   pub counters : c.after ≡ risen (grant_rise c.request.count grant (c.old.books c.request.key).pools) c.before
@@ -175,7 +181,10 @@ StopsAt why k room n g old = (g.left ≡ 0) × IsFreshFront k room (allocated_in
 pub record IsStopped (c : Call) : Type 0 where
   pub why : Stop
   pub grant : Grant
-  pub at : StopsAt why c.request.key (c.request.limit - c.pooled) c.request.count grant (c.old.books c.request.key).pools
+  -- the pool load before
+  pub pooled : ℕ
+  pub is_pooled : AddsUp bucket_load c.old.books pooled
+  pub at : StopsAt why c.request.key (c.request.limit - pooled) c.request.count grant (c.old.books c.request.key).pools
   pub back : IsBack c grant why
 
 pub data Allocates (c : Call) : Type 0 where
@@ -186,8 +195,8 @@ pub data Allocates (c : Call) : Type 0 where
   done : Proceeds c → IsDone c → Allocates c
   stopped : Proceeds c → IsStopped c → Allocates c
 
--- what a request took. It takes nothing where it was refused before
+-- what a request took: nothing where none are asked for, or where it was refused before
 abbrev pub taken_by : {c : Call} → Allocates c → Option Grant
 taken_by (done goes is) = Some is.grant
 taken_by (stopped goes is) = Some is.grant
-taken_by refused = None
+taken_by other = None

@@ -1,7 +1,7 @@
 -- What a caller may read off a request without its outcomes.
 use Rattle.gpu_descriptor.specs.Model.Grants.{Grant}
 use Rattle.gpu_descriptor.specs.Model.FreshPools.{Fresh}
-use Rattle.std.specs.Prelude.{◌≡◌, ℕ, ◌+◌, ◌-◌, ◌*◌, ◌<◌, List, [], ◌∷◌, length, take, sum_by, All, Some, OnOk, false, IfSome}
+use Rattle.std.specs.Prelude.{◌≡◌, ℕ, ◌+◌, ◌-◌, ◌*◌, ◌<◌, List, [], ◌∷◌, length, take, sum_by, All, Some, OnOk, false}
 use Rattle.gpu_descriptor_types.specs.Ledger.{pool_refusals}
 use Rattle.gpu_descriptor_types.specs.PoolSize.{pool_size_floor, start_size}
 use Rattle.gpu_descriptor.specs.declared.errors.AllocationError.{AllocationError}
@@ -66,7 +66,7 @@ pub record IsShort (c : Call) (g : Grant) : Type 0 where
 
 -- a pool is created only where the key's existing pools don't do
 abbrev pub CreatesOnlyWhereShort : {c : Call} → Allocates c → Type 0
-CreatesOnlyWhereShort {c} outcome = c.before.created < c.after.created → IfSome (taken_by outcome) (λ g. IsShort c g)
+CreatesOnlyWhereShort {c} outcome = c.before.created < c.after.created → (g : Grant) × (taken_by outcome ≡ Some g) × IsShort c g
 
 -- the key's pools are as they were, in the books and on the device
 pub record IsUntouched (k : Key) (old new : State) : Type 0 where

@@ -8,7 +8,7 @@ use Rattle.gpu_descriptor.specs.Inner.Serves.{Takes}
 use Rattle.gpu_descriptor.proofs.request.Outcomes.{taken_agree, taken_as, taken_given}
 use Rattle.gpu_descriptor.proofs.request.HandedOut.{gained_as, hands_all, hands_back, hands_none, keeps_all, keeps_back}
 use Rattle.gpu_descriptor.proofs.callers.Unchanged.{keeps_still}
-use Rattle.gpu_descriptor.proofs.request.Requested.{load_within, pool_load_within}
+use Rattle.gpu_descriptor.proofs.request.Requested.{load_within, pool_load_within, rows_apart}
 use Rattle.gpu_descriptor.proofs.allocator.DescriptorAllocator.allocate.Goals.{After-contains, In-Ok}
 use Rattle.gpu_descriptor.proofs.allocator.DescriptorAllocator.allocate.Goals as goal
 
@@ -50,7 +50,7 @@ returns-in-Err-clause-keeps g c =
 pub returns-in-Ok-taken-clause-hands_out : goal.returns-in-Ok-taken-clause-hands_out
 returns-in-Ok-taken-clause-hands_out g c =
     let r = (goal.at.returns-in-Ok-taken-clause-hands_out g c).In-Ok in
-    hands_all c.in-Ok.served.sets (taken g r) c.requires.agree (gained g r) c.in-Ok.ensures.looks c.in-Ok.ensures.comparisons_stay (some g r) c.in-Ok-taken.is
+    hands_all c.in-Ok.served.sets (taken g r) c.requires.agree (rows_apart _ c.self.view_is g.D.DescriptorDevice.meaning.pool_name (opened c.self.invariant)) (gained g r) c.in-Ok.ensures.looks c.in-Ok.ensures.comparisons_stay (some g r) c.in-Ok-taken.is
 
 pub returns-in-Ok-taken-clause-keeps : goal.returns-in-Ok-taken-clause-keeps
 returns-in-Ok-taken-clause-keeps g c =
@@ -59,7 +59,7 @@ returns-in-Ok-taken-clause-keeps g c =
 pub returns-in-Err-taken-clause-hands_out : goal.returns-in-Err-taken-clause-hands_out
 returns-in-Err-taken-clause-hands_out g c =
     let r = (goal.at.returns-in-Err-taken-clause-hands_out g c).In-Ok in
-    rw c.error_of_stop.ensures (hands_back c.in-Ok.served.sets (taken g r) c.requires.agree (gained g r) c.in-Ok.ensures.looks c.in-Ok.ensures.comparisons_stay (some g r) c.in-Ok.ensures.rows c.free_all.ensures.returns c.in-Err-taken.is)
+    rw c.error_of_stop.ensures (hands_back c.in-Ok.served.sets (taken g r) c.requires.agree (rows_apart _ c.self.view_is g.D.DescriptorDevice.meaning.pool_name (opened c.self.invariant)) (gained g r) c.in-Ok.ensures.looks c.in-Ok.ensures.comparisons_stay (some g r) c.in-Ok.ensures.rows c.free_all.ensures.returns c.in-Err-taken.is)
 
 pub returns-in-Err-taken-clause-keeps : goal.returns-in-Err-taken-clause-keeps
 returns-in-Err-taken-clause-keeps g c =
