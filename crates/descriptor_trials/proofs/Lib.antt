@@ -1,2 +1,3 @@
 mod Beside
 mod Layouts
+mod Trips

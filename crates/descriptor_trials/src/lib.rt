@@ -1,4 +1,5 @@
-//! Devices and sessions tried through their public calls. Tests alone.
+//! Values, devices, sessions and frames tried through public calls. Tests alone: the gate proves a
+//! crate with tests twice, so they have one of their own.
 #![tactic(auto)]
 
 #[cfg(test)]
@@ -13,7 +14,11 @@ mod capacity;
 #[cfg(test)]
 mod commands;
 #[cfg(test)]
+mod device;
+#[cfg(test)]
 mod engines;
+#[cfg(test)]
+mod frames;
 #[cfg(test)]
 mod large;
 #[cfg(test)]
@@ -34,5 +39,7 @@ mod scenes;
 mod sets;
 #[cfg(test)]
 mod traces;
+#[cfg(test)]
+mod values;
 #[cfg(test)]
 mod visits;

@@ -1,0 +1,114 @@
+//! The scripted device alone: that calls succeed where memory is there, which no clause says, and
+//! each word at each call.
+ghost use Rattle.std.specs.Prelude.{◌≡◌, ◌+◌, ◌∷◌, replicate, IfOk, OnOk};
+ghost use Rattle.gpu_descriptor_types.specs.Counts.{kinds};
+ghost use Rattle.descriptor_script.specs.Scripted.Device.{ledger_of};
+
+use crate::device::trip::{TripError, round_trip};
+use descriptor_script::{Answer, ScriptLayout, ScriptedDevice};
+use gpu_descriptor_types::{CreatePoolError, DescriptorTotalCount, DeviceAllocationError};
+use std::alloc::{AllocError, Global};
+use std::process::Abort;
+use std::test::Fail;
+
+/// So many samplers, and no other descriptors.
+pub fn samplers(count: u32) -> DescriptorTotalCount
+    ensures { kinds result ≡ count ∷ replicate 13 0 }
+{
+    let mut counts = DescriptorTotalCount::default();
+    counts.set_kind(0, count);
+    counts
+}
+
+/// A trip with sets of one sampler.
+pub fn trip(
+    alloc: Global,
+    device: &mut ScriptedDevice,
+    count: u32,
+    last_first: bool,
+) -> Result<(), TripError>
+    ensures { (ledger_of device.new).pools ≡ (ledger_of device.old).pools }
+{
+    let layout = ScriptLayout {
+        counts: samplers(1),
+        mark: false,
+    };
+    round_trip(alloc, device, &layout, &samplers(count), count, last_first)
+}
+
+/// Compares the pools created and destroyed, and the calls that asked for sets and released some.
+fn expect_counts(rt: &impl Abort, device: &ScriptedDevice, wanted: [u64; 4]) {
+    let seen = [
+        device.created(),
+        device.destroyed(),
+        device.asked(),
+        device.released(),
+    ];
+    assert_eq!(rt; seen, wanted);
+}
+
+/// Makes a trip that begins with these words, and compares why it ends early.
+fn expect_end(
+    rt: &impl Abort,
+    alloc: Global,
+    device: &mut ScriptedDevice,
+    words: &[Answer],
+    error: TripError,
+) -> Result<(), AllocError> {
+    device.load(words.to_vec(alloc)?);
+    let answer = trip(alloc, device, 3, false);
+    assert_eq!(rt; answer, Err(error), "at {words:?}");
+    Ok(())
+}
+
+#[test]
+fn each_word_at_a_create(rt: HostRuntime) -> Result<(), Fail> {
+    let mut device = ScriptedDevice::new(rt.alloc(), Vec::new(rt.alloc()));
+    for (word, error) in [
+        (Answer::Device, CreatePoolError::OutOfDeviceMemory),
+        (Answer::Host, CreatePoolError::OutOfHostMemory),
+        (Answer::Frag, CreatePoolError::Fragmentation),
+        (Answer::Pool, CreatePoolError::Fragmentation),
+    ] {
+        let end = TripError::Create(error);
+        expect_end(&rt, rt.alloc(), &mut device, &[word], end)?;
+    }
+    expect_counts(&rt, &device, [0, 0, 0, 0]);
+    Ok(())
+}
+
+#[test]
+fn each_word_at_an_alloc(rt: HostRuntime) -> Result<(), Fail> {
+    let mut device = ScriptedDevice::new(rt.alloc(), Vec::new(rt.alloc()));
+    for (word, error) in [
+        (Answer::Device, DeviceAllocationError::OutOfDeviceMemory),
+        (Answer::Host, DeviceAllocationError::OutOfHostMemory),
+        (Answer::Frag, DeviceAllocationError::FragmentedPool),
+        (Answer::Pool, DeviceAllocationError::OutOfPoolMemory),
+    ] {
+        let end = TripError::Alloc(error);
+        expect_end(&rt, rt.alloc(), &mut device, &[Answer::Ok, word], end)?;
+    }
+    expect_counts(&rt, &device, [4, 4, 4, 0]);
+    Ok(())
+}
+
+#[test]
+fn grants_after_the_end(rt: HostRuntime) -> Result<(), Fail> {
+    let mut device = ScriptedDevice::new(rt.alloc(), vec![in rt.alloc(); Answer::Frag]?);
+    device.load(Vec::new(rt.alloc()));
+    trip(rt.alloc(), &mut device, 3, false)?;
+    trip(rt.alloc(), &mut device, 0, true)?;
+    expect_counts(&rt, &device, [2, 2, 2, 2]);
+    Ok(())
+}
+
+#[test]
+fn a_million_sets(rt: HostRuntime) -> Result<(), Fail> {
+    let mut device = ScriptedDevice::new(rt.alloc(), Vec::new(rt.alloc()));
+    for last_first in [false, true] {
+        trip(rt.alloc(), &mut device, 1_000_000, last_first)?;
+    }
+    assert_eq!(rt; device.released(), 2);
+    Ok(())
+}

@@ -1,0 +1,141 @@
+//! Sets that are retired while growths are refused: one alone, or each from one on. In a plain run
+//! every growth is granted; `tools/refuse-memory` refuses them in turn. It also compares how many
+//! growths two tests ask for.
+use crate::frames::trial::Act::{
+    Cleanup, Device, Finish, FreeAll, Pools, Reserve, Retire, RetireAll, Sets,
+};
+use crate::frames::trial::{Act, Outcome, Trial, expect_sets, play};
+use gpu_descriptor::AllocationError;
+use std::alloc::Global;
+use std::process::Abort;
+use std::test::Fail;
+
+/// Retires the first of the sets in use, at a frame. One that came back for want of memory changed
+/// nothing. How many sets are retired now.
+fn expect_retired(
+    rt: &impl Abort,
+    trial: &mut Trial,
+    frame: u64,
+    retired: u64,
+) -> Result<u64, Fail> {
+    let first = trial.in_use.front().map(|set| set.raw().id());
+    let retired = match trial.retire(frame)? {
+        Outcome::Memory(back) => {
+            assert_eq!(rt; Some(back), first);
+            retired
+        }
+        outcome => {
+            assert_eq!(rt; outcome, Outcome::Retired);
+            retired.saturating_add(1)
+        }
+    };
+    expect_sets(rt, trial, 9, retired);
+    Ok(retired)
+}
+
+/// Retires nine sets, as far as memory is there, and finishes their frames.
+fn expect_nine_retired(rt: &impl Abort, trial: &mut Trial) -> Result<(), Fail> {
+    let mut retired = 0;
+    for frame in 0..9 {
+        retired = expect_retired(rt, trial, frame, retired)?;
+    }
+    trial.finish(8);
+    expect_sets(rt, trial, 9_u64.saturating_sub(retired), 0);
+    Ok(())
+}
+
+#[test]
+fn sets_are_retired_until_memory_is_wanting(rt: HostRuntime) -> Result<(), Fail> {
+    match Trial::new(rt.alloc(), 9) {
+        Ok(mut trial) => expect_nine_retired(&rt, &mut trial),
+        Err(error) => {
+            assert_eq!(rt; error, AllocationError::OutOfHostMemory);
+            Ok(())
+        }
+    }
+}
+
+/// Does the acts behind three sets that are retired at frames 5, 6 and 7.
+fn play_behind(rt: &impl Abort, trial: &mut Trial, acts: &[Act<'_>]) -> Result<(), Fail> {
+    let retired = [
+        Retire(5, Outcome::Retired),
+        Retire(6, Outcome::Retired),
+        Retire(7, Outcome::Retired),
+    ];
+    play(rt, trial, &retired)?;
+    play(rt, trial, acts)
+}
+
+/// Does the acts at three new sets that are retired at frames 5, 6 and 7.
+fn play_retired(rt: &impl Abort, alloc: Global, acts: &[Act<'_>]) -> Result<(), Fail> {
+    let mut trial = Trial::new(alloc, 3)?;
+    play_behind(rt, &mut trial, acts)
+}
+
+#[test]
+fn sets_are_retired(rt: HostRuntime) -> Result<(), Fail> {
+    play_retired(&rt, rt.alloc(), &[Sets(3, 3)])
+}
+
+/// Asks for as many growths as `sets_are_retired`.
+#[test]
+fn sets_are_retired_and_finished(rt: HostRuntime) -> Result<(), Fail> {
+    let acts = [
+        Finish(6),
+        Sets(1, 1),
+        Finish(7),
+        Pools(&[(0, 0, 64)]),
+        Cleanup,
+        Device(1, 2),
+    ];
+    play_retired(&rt, rt.alloc(), &acts)
+}
+
+/// Retires nine sets at once, or, where memory is wanting, none of them; these go back at once.
+fn expect_all_or_none(rt: &impl Abort, trial: &mut Trial) -> Result<(), Fail> {
+    if trial.retire_all(1) == Outcome::Retired {
+        expect_sets(rt, trial, 9, 9);
+    } else {
+        expect_sets(rt, trial, 9, 0);
+        assert_eq!(rt; trial.in_use.len(), 9);
+        trial.free_all();
+    }
+    trial.finish(1);
+    expect_sets(rt, trial, 0, 0);
+    Ok(())
+}
+
+#[test]
+fn all_sets_are_retired_or_none(rt: HostRuntime) -> Result<(), Fail> {
+    match Trial::new(rt.alloc(), 9) {
+        Ok(mut trial) => expect_all_or_none(&rt, &mut trial),
+        Err(error) => {
+            assert_eq!(rt; error, AllocationError::OutOfHostMemory);
+            Ok(())
+        }
+    }
+}
+
+/// Takes room for five sets.
+#[test]
+fn room_is_taken(rt: HostRuntime) -> Result<(), Fail> {
+    let mut trial = Trial::new(rt.alloc(), 5)?;
+    play(&rt, &mut trial, &[Reserve(5)])
+}
+
+/// Asks for as many growths as `room_is_taken`.
+#[test]
+fn room_is_taken_and_used(rt: HostRuntime) -> Result<(), Fail> {
+    let acts = [
+        Reserve(5),
+        Retire(1, Outcome::Retired),
+        Retire(1, Outcome::Retired),
+        RetireAll(2, Outcome::Retired),
+        Sets(5, 5),
+        Finish(1),
+        FreeAll,
+        Sets(3, 3),
+    ];
+    let mut trial = Trial::new(rt.alloc(), 5)?;
+    play(&rt, &mut trial, &acts)
+}
