@@ -1,6 +1,5 @@
 -- The parts of the headline hold at each step of a run.
 use Rattle.std.proofs.Common.{List, [], ◌∷◌, refl, sym, ap, ◌∙◌}
-use Rattle.std.proofs.lemmas.Option.{slice_get_within}
 use Rattle.std.specs.Prelude.{IfOk, Result, Ok, Err}
 use Rattle.gpu_descriptor_types.specs.Ledger.{Counters}
 use Rattle.gpu_descriptor_types.specs.Meaning.{Meaning}
@@ -8,7 +7,7 @@ use Rattle.gpu_descriptor_types.specs.Side.{Side}
 use Rattle.gpu_descriptor.specs.Caller.Sets.{items_of}
 use Rattle.gpu_descriptor.specs.Caller.States.{state_of}
 use Rattle.gpu_descriptor.proofs.release.ReleaseAgrees.{one_by_one}
-use Rattle.descriptor_script.specs.Sessions.Headline.{CallsOnceARun, FailsForCause, FreesOneByOne, HoldsExactly, HoldsWhatIsOut, KeepsAll, KeepsLimit, TurnsDownBad}
+use Rattle.descriptor_script.specs.Sessions.Headline.{CallsOnceARun, FailsForCause, FreesOneByOne, HoldsExactly, HoldsWhatIsOut, KeepsAll, KeepsLimit}
 use Rattle.descriptor_script.specs.Sessions.Session.{IsReady, KeepsSession, allocator_of, sets_of}
 use Rattle.descriptor_script.specs.Sessions.SessionRun.{RunsKeeping, RunsTo}
 use Rattle.descriptor_script.specs.Sessions.Steps.{OfStep, StepsTo}
@@ -113,32 +112,6 @@ module _ {L P S : Type 0} (means : Meaning L P S) where
       go (Free tickets) reply h = tt
       go Cleanup reply h = tt
 
-  pub turns_down_bad : IsKept TurnsDownBad
-  turns_down_bad command reply old new ready step keeps = go command reply step
-    where
-      go : (command : Command) (reply : Reply) → Steps command reply old new → TurnsDownBad command reply old new
-      go (Allocate layout count) (Sets first many) h = slice_get_within _ layout h.known h.at
-      go (Allocate layout count) (Refused e) h = slice_get_within _ layout h.known h.at
-      go (Allocate layout count) (Freed n) h = absurd h
-      go (Allocate layout count) BadTicket h = absurd h
-      go (Allocate layout count) BadLayout h = h
-      go (Allocate layout count) NoMemory h = h
-      go (Allocate layout count) Clean h = absurd h
-      go (Free tickets) (Sets first many) h = absurd h
-      go (Free tickets) (Refused e) h = absurd h
-      go (Free tickets) (Freed n) h = h.good
-      go (Free tickets) BadTicket h = h
-      go (Free tickets) BadLayout h = absurd h
-      go (Free tickets) NoMemory h = absurd h
-      go (Free tickets) Clean h = absurd h
-      go Cleanup (Sets first many) h = absurd h
-      go Cleanup (Refused e) h = absurd h
-      go Cleanup (Freed n) h = absurd h
-      go Cleanup BadTicket h = absurd h
-      go Cleanup BadLayout h = absurd h
-      go Cleanup NoMemory h = absurd h
-      go Cleanup Clean h = refl
-
   pub keeps_all : IsKept (KeepsAll means)
   keeps_all command reply old new ready step keeps = record {
     exactly = holds_exactly command reply old new ready step keeps;
@@ -147,5 +120,4 @@ module _ {L P S : Type 0} (means : Meaning L P S) where
     one_call_a_run = calls_once_a_run command reply old new ready step keeps;
     limit = keeps_limit command reply old new ready step keeps;
     cause = fails_for_cause command reply old new ready step keeps;
-    turned_down = turns_down_bad command reply old new ready step keeps;
   }

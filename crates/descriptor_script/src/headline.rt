@@ -7,7 +7,6 @@ ghost use Rattle.gpu_descriptor_types.specs.Side.{side};
 ghost use Rattle.descriptor_script.specs.Sessions.Headline.{CallsOnceARun, FailsForCause};
 ghost use Rattle.descriptor_script.specs.Sessions.Headline.{FreesOneByOne, HoldsExactly};
 ghost use Rattle.descriptor_script.specs.Sessions.Headline.{HoldsWhatIsOut, KeepsAll, KeepsLimit};
-ghost use Rattle.descriptor_script.specs.Sessions.Headline.{TurnsDownBad};
 ghost use Rattle.descriptor_script.specs.Sessions.Session.{IsReady, KeepsSession};
 ghost use Rattle.descriptor_script.specs.Sessions.SessionRun.{RunsKeeping, RunsTo};
 
@@ -53,9 +52,6 @@ pub fn headline<L, P: Drop, S: Drop, D: DescriptorDevice<L, P, S>>(
         (side session.new (D.ledger device.new))) }
     ensures cause { IfOk result (λ replies. RunsKeeping D.meaning (FailsForCause D.meaning)
         commands.now replies.items (side session.old (D.ledger device.old))
-        (side session.new (D.ledger device.new))) }
-    ensures turned_down { IfOk result (λ replies. RunsKeeping D.meaning TurnsDownBad commands.now
-        replies.items (side session.old (D.ledger device.old))
         (side session.new (D.ledger device.new))) }
 
     // All these at the same states.

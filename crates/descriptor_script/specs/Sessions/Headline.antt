@@ -1,5 +1,5 @@
 -- The parts of the headline: what holds after each command of a run.
-use Rattle.std.specs.Prelude.{◌≡◌, ◌+◌, ◌<◌, ◌≤◌, List, ◌++◌, length, map, Some}
+use Rattle.std.specs.Prelude.{◌≡◌, ◌+◌, ◌≤◌, List, ◌++◌, length, map, Some}
 use Rattle.gpu_descriptor_types.specs.Meaning.{Meaning}
 use Rattle.gpu_descriptor_types.specs.Side.{Side}
 use Rattle.gpu_descriptor.specs.Model.Agreement.{Item, count_of}
@@ -8,13 +8,13 @@ use Rattle.gpu_descriptor.specs.Model.Runs.{runs}
 use Rattle.gpu_descriptor.specs.Caller.Sets.{items_of}
 use Rattle.gpu_descriptor.specs.Caller.States.{marked_load_of, pool_load_of, outstanding_of}
 use Rattle.gpu_descriptor.specs.declared.set.DescriptorSet.{DescriptorSet}
-use Rattle.descriptor_script.specs.Sessions.Session.{AreAllHeld, allocator_of, layouts_of, sets_of, state_on}
-use Rattle.descriptor_script.specs.Sessions.Steps.{IsAsBefore, OfStep, Refuses}
-use Rattle.descriptor_script.specs.Sessions.Tickets.{AreHeldOnce, emptied, held_sets, set_at}
+use Rattle.descriptor_script.specs.Sessions.Session.{AreAllHeld, allocator_of, sets_of, state_on}
+use Rattle.descriptor_script.specs.Sessions.Steps.{OfStep, Refuses}
+use Rattle.descriptor_script.specs.Sessions.Tickets.{emptied, held_sets, set_at}
 use Rattle.descriptor_script.specs.declared.command.Command.{Command}
-use Rattle.descriptor_script.specs.declared.command.Command.TheVariants.{Allocate, Free, Cleanup}
+use Rattle.descriptor_script.specs.declared.command.Command.TheVariants.{Allocate, Free}
 use Rattle.descriptor_script.specs.declared.command.Reply.{Reply}
-use Rattle.descriptor_script.specs.declared.command.Reply.TheVariants.{Sets, Refused, Freed, BadTicket, BadLayout, NoMemory, Clean}
+use Rattle.descriptor_script.specs.declared.command.Reply.TheVariants.{Sets, Refused, Freed}
 use Rattle.descriptor_script.specs.declared.session.Session.{Session}
 
 module _ {L P S : Type 0} where
@@ -32,15 +32,6 @@ module _ {L P S : Type 0} where
       let before = allocator_of old.value in
       let after = allocator_of new.value in
       (marked_load_of after ≤ after.limit) × (pool_load_of after ≤ after.limit) × (after.limit ≡ before.limit)
-
-  -- BadLayout and BadTicket come exactly where a layout or a ticket is bad, NoMemory only where sets are asked for, and with all three nothing changes
-  abbrev pub TurnsDownBad : OfStep L P S
-  TurnsDownBad (Allocate layout count) BadLayout old new = (length (layouts_of old.value) ≤ layout) × IsAsBefore old new
-  TurnsDownBad (Allocate layout count) NoMemory old new = (layout < length (layouts_of old.value)) × (0 < count) × IsAsBefore old new
-  TurnsDownBad (Allocate layout count) _ old new = layout < length (layouts_of old.value)
-  TurnsDownBad (Free tickets) BadTicket old new = (¬ AreHeldOnce (sets_of old.value) tickets.items) × IsAsBefore old new
-  TurnsDownBad (Free tickets) _ old new = AreHeldOnce (sets_of old.value) tickets.items
-  TurnsDownBad Cleanup reply old new = reply ≡ Clean
 
   module _ (means : Meaning L P S) where
     -- a free calls the device once for each run of its sets
@@ -73,4 +64,3 @@ module _ {L P S : Type 0} where
       pub one_call_a_run : CallsOnceARun command reply old new
       pub limit : KeepsLimit command reply old new
       pub cause : FailsForCause command reply old new
-      pub turned_down : TurnsDownBad command reply old new

@@ -1,5 +1,5 @@
-use Rattle.descriptor_script.specs.Sessions.Headline.{CallsOnceARun, FailsForCause, FreesOneByOne, HoldsExactly, HoldsWhatIsOut, KeepsAll, KeepsLimit, TurnsDownBad}
-use Rattle.descriptor_script.proofs.Promised.{if_ok, kept_along, holds_exactly, holds_what_is_out, frees_one_by_one, calls_once_a_run, keeps_limit, fails_for_cause, turns_down_bad, keeps_all}
+use Rattle.descriptor_script.specs.Sessions.Headline.{CallsOnceARun, FailsForCause, FreesOneByOne, HoldsExactly, HoldsWhatIsOut, KeepsAll, KeepsLimit}
+use Rattle.descriptor_script.proofs.Promised.{if_ok, kept_along, holds_exactly, holds_what_is_out, frees_one_by_one, calls_once_a_run, keeps_limit, fails_for_cause, keeps_all}
 use Rattle.descriptor_script.proofs.headline.headline.Goals as goal
 
 pub returns-clause-exactly : goal.returns-clause-exactly
@@ -19,9 +19,6 @@ returns-clause-limit g c = if_ok c.run.result c.run.ensures.runs (λ replies. ke
 
 pub returns-clause-cause : goal.returns-clause-cause
 returns-clause-cause g c = if_ok c.run.result c.run.ensures.runs (λ replies. kept_along g.D.DescriptorDevice.meaning (FailsForCause g.D.DescriptorDevice.meaning) (fails_for_cause g.D.DescriptorDevice.meaning) _ _ _ _ c.requires.ready)
-
-pub returns-clause-turned_down : goal.returns-clause-turned_down
-returns-clause-turned_down g c = if_ok c.run.result c.run.ensures.runs (λ replies. kept_along g.D.DescriptorDevice.meaning TurnsDownBad (turns_down_bad g.D.DescriptorDevice.meaning) _ _ _ _ c.requires.ready)
 
 pub returns-clause-together : goal.returns-clause-together
 returns-clause-together g c = if_ok c.run.result c.run.ensures.runs (λ replies. kept_along g.D.DescriptorDevice.meaning (KeepsAll g.D.DescriptorDevice.meaning) (keeps_all g.D.DescriptorDevice.meaning) _ _ _ _ c.requires.ready)
