@@ -15,7 +15,7 @@ use Rattle.descriptor_lines.specs.Answers.{fault_line}
 use Rattle.descriptor_lines.specs.LineBuffers.{buffered, bytes_at, unread}
 use Rattle.descriptor_lines.specs.LineStates.{LineState}
 use Rattle.descriptor_lines.specs.Lines.{BeginsTooLong, LosesLine, after_end, before_end, lines_of}
-use Rattle.descriptor_lines.specs.Outcomes.{AppendsFront, IsNoFault, said_of}
+use Rattle.descriptor_lines.specs.Outcomes.{AppendsPrefix, IsNoFault, said_of}
 use Rattle.descriptor_lines.specs.Programs.{CanRun, DoesLine, IsFresh, IsReasonFor, IsUnchanged, KeepsDevice, begun}
 use Rattle.descriptor_lines.specs.Transcripts.{ComesTo, IsAnswered, IsFaultOfLine, IsRefused, Writes, WritesFromStart, words_in}
 use Rattle.descriptor_lines.specs.declared.exit.Exit.{Exit}
@@ -166,12 +166,12 @@ is_said number line bytes rest (Err refusal.NoMemory) text old new taken = inl (
 is_said number line bytes rest (Err (refusal.Fault fault)) text old new taken = inr (record { fault = fault; wrong = taken.wrong fault refl; said = refl; device = taken.device fault refl })
 
 -- a write failed
-pub ends_unwritten : (known left rest : Option (List ℕ)) (start p now : LineState) (answers text : List ℕ) (number : ℕ) (outcome : Result Unit Refusal) (old mid new : Option (List ℕ)) → Stands known start answers number left p → Takes number left rest outcome text p now → Appends old mid answers → AppendsFront mid new (said_of number outcome text) → Writes known start WriteFault old new now
+pub ends_unwritten : (known left rest : Option (List ℕ)) (start p now : LineState) (answers text : List ℕ) (number : ℕ) (outcome : Result Unit Refusal) (old mid new : Option (List ℕ)) → Stands known start answers number left p → Takes number left rest outcome text p now → Appends old mid answers → AppendsPrefix mid new (said_of number outcome text) → Writes known start WriteFault old new now
 ends_unwritten None left rest start p now answers text number outcome old mid new at takes before wrote = tt
 ends_unwritten (Some bytes) None rest start p now answers text number outcome old mid new at takes before wrote = absurd at
 ends_unwritten (Some bytes) (Some left) rest start p now answers text number outcome old mid new at (line, taken) before wrote = (
-  answers ++ wrote.front,
-  at_line (λ n l t q. (unwritten : List ℕ) × (IsAnswered l (t ++ unwritten) q now ⊎ IsRefused n l (t ++ unwritten) q now)) bytes left line wrote.front start p answers number at taken.some taken.first (wrote.unwritten, subst (λ t. IsAnswered line t p now ⊎ IsRefused number line t p now) wrote.split (is_said number line left rest outcome text p now taken)),
+  answers ++ wrote.prefix,
+  at_line (λ n l t q. (unwritten : List ℕ) × (IsAnswered l (t ++ unwritten) q now ⊎ IsRefused n l (t ++ unwritten) q now)) bytes left line wrote.prefix start p answers number at taken.some taken.first (wrote.unwritten, subst (λ t. IsAnswered line t p now ⊎ IsRefused number line t p now) wrote.split (is_said number line left rest outcome text p now taken)),
   Appends-trans old mid new answers _ before wrote.grown,
 )
 

@@ -23,9 +23,9 @@ pub record EndsInFault (old new : Option (List ℕ)) : Type 0 where
   pub fault : Fault
   pub grown : Appends old new (answers ++ fault_line number fault)
 
--- known bytes grow by a front of a text
-pub record AppendsFront (old new : Option (List ℕ)) (text : List ℕ) : Type 0 where
-  pub front : List ℕ
+-- known bytes grow by a prefix of a text
+pub record AppendsPrefix (old new : Option (List ℕ)) (text : List ℕ) : Type 0 where
+  pub prefix : List ℕ
   pub unwritten : List ℕ
-  pub split : text ≡ front ++ unwritten
-  pub grown : Appends old new front
+  pub split : text ≡ prefix ++ unwritten
+  pub grown : Appends old new prefix

@@ -70,7 +70,7 @@ pub record ComesTo (Says : ℕ → List ℕ → List ℕ → LineState → Type 
   pub whole : text ≡ answers ++ said
   pub says : Says (length before + 1) line said program
 
--- what a run of these lines wrote, by how it ended, and the state that it left: at a faulty line the fault is said last, and where a write failed a front of what there is to say of a line
+-- what a run of these lines wrote, by how it ended, and the state that it left: at a faulty line the fault is said last, and where a write failed a prefix of what there is to say of a line
 abbrev pub Wrote : List (List ℕ) → LineState → Exit → List ℕ → LineState → Type 0
 Wrote lines start Done text last = AreAnswered lines text start last
 Wrote lines start BadLine text last =

@@ -1,7 +1,7 @@
 //! What there is to say of a line, on its way out.
 ghost use Rattle.std.specs.Prelude.{◌≡◌, ◌⊎◌, [], Err, IfErr, OnErr, OnOk, string_bytes};
 ghost use Rattle.std.specs.Io.KnownBytes.{Appends};
-ghost use Rattle.descriptor_lines.specs.Outcomes.{AppendsFront, IsNoFault, said_of};
+ghost use Rattle.descriptor_lines.specs.Outcomes.{AppendsPrefix, IsNoFault, said_of};
 
 use crate::answer;
 use crate::exit::Exit;
@@ -25,7 +25,7 @@ pub fn answer_line<W: Write>(
     ensures bad_line { result ≡ Err Exit.BadLine → ¬ (IsNoFault outcome) }
     ensures told { result ≡ Err Exit.BadLine → Appends (W.contents output.old)
         (W.contents output.new) (said_of number outcome (string_bytes answer.old)) }
-    ensures broken { result ≡ Err Exit.WriteFault → AppendsFront (W.contents output.old)
+    ensures broken { result ≡ Err Exit.WriteFault → AppendsPrefix (W.contents output.old)
         (W.contents output.new) (said_of number outcome (string_bytes answer.old)) }
     ensures err { IfErr result (λ exit. (exit ≡ Exit.BadLine) ⊎ (exit ≡ Exit.WriteFault)) }
 {
@@ -48,7 +48,7 @@ pub fn answer_line<W: Write>(
 fn write_text<W: Write>(output: &mut W, text: &str) -> Result<(), Exit>
     ensures written { OnOk result (Appends (W.contents output.old) (W.contents output.new)
         text.now) }
-    ensures front { OnErr result (AppendsFront (W.contents output.old) (W.contents output.new)
+    ensures prefix { OnErr result (AppendsPrefix (W.contents output.old) (W.contents output.new)
         text.now) }
     ensures fault { IfErr result (λ exit. exit ≡ Exit.WriteFault) }
 {

@@ -72,7 +72,7 @@ returns-then-has_lost-clause-writes g c =
       | in-Ok-Some w ↦ let ran = w.run_line-outcome.ensures in let found = w.in-Ok-Some.ensures in rw (w.program-is, w.answer-is, w.outcome-is) (takes_span _ c.next_line.new.self w.in-Ok-Some.span _ _ _ _ _ _ _ (rw w.in-Ok-Some.field-0-is at found.line) (rw w.in-Ok-Some.field-0-is at found.rest) (rw w.in-Ok-Some.field-0-is at found.short) w.line.ensures.bytes ran.does ran.err ran.begun ran.speaks ran.own ran.faulty ran.ready)
       | in-Err-LineTooLong w ↦ rw (w.program-is, w.answer-is) (takes_long _ _ _ _ _ _ w.outcome-is (c.next_line.ensures.too_long (w.in-Err-LineTooLong.is ∙ ap Err w.in-Err-LineTooLong.field-0-is)))
     ] in
-    ends_unwritten _ _ _ _ _ _ _ _ _ _ _ _ _ stands takes grown (record { front = []; unwritten = _; split = refl; grown = Appends-nil _ })
+    ends_unwritten _ _ _ _ _ _ _ _ _ _ _ _ _ stands takes grown (record { prefix = []; unwritten = _; split = refl; grown = Appends-nil _ })
 
 pub returns-in-Ok-None-clause-done : goal.returns-in-Ok-None-clause-done
 returns-in-Ok-None-clause-done g c = λ _. (rw c.in-Ok-None.field-0-is at c.in-Ok-None.ensures.end) c.loop-number.invariant.sees
