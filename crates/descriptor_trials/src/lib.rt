@@ -12,8 +12,6 @@ mod callers;
 #[cfg(test)]
 mod capacity;
 #[cfg(test)]
-mod commands;
-#[cfg(test)]
 mod device;
 #[cfg(test)]
 mod engines;
@@ -21,8 +19,6 @@ mod engines;
 mod frames;
 #[cfg(test)]
 mod large;
-#[cfg(test)]
-mod memory;
 #[cfg(test)]
 mod order;
 #[cfg(test)]

@@ -1,6 +1,6 @@
-//! Each answer of a device at each of its calls, at one and at two of them. Clauses say what each
-//! step may reply and leaves; none says that a refused call costs one request and no other, that
-//! later requests are met, or how many calls a run makes.
+//! Each answer of a device at each of its calls. Clauses say what each step may reply and leaves;
+//! none says that a refused call costs one request and no other, that later requests are met, or
+//! how many calls a run makes.
 use crate::acts::Act::{Allocate, Pools};
 use crate::acts::play_new;
 use crate::bench::{Bench, expect_pools, expect_same, layout_of, scripted, sets};
@@ -155,62 +155,6 @@ fn pool_that_is_passed_over_shows_no_free_place(rt: HostRuntime) -> Result<(), F
     for word in [Answer::Frag, Answer::Pool] {
         let script = [Answer::Ok, Answer::Ok, word];
         play_new(&rt, rt.alloc(), u32::MAX, &layouts, &script, &acts)?;
-    }
-    Ok(())
-}
-
-/// These two words, each at its place. The first costs its request, as alone; the second costs one
-/// more or none, as it may be read for another call, or for none.
-fn expect_pair(
-    rt: &impl Abort,
-    alloc: Global,
-    plan: &Plan<'_>,
-    [earlier, later]: [usize; 2],
-    [first, second]: [Refusal; 2],
-) -> Result<(), Fail> {
-    let mut script = refuse_at(alloc, later, second.word)?;
-    if let Some(word) = script.get_mut(earlier) {
-        *word = first.word;
-    }
-    let refused = run(rt, alloc, plan, script)?;
-    let both = [first.error, second.error];
-    let wanted = if is_passed_over(plan, earlier, first) {
-        &both[1..]
-    } else {
-        &both[..]
-    };
-    let fewest = wanted.len() - 1;
-    let seen = refused.as_slice();
-    assert!(rt;
-        seen == wanted || seen == &wanted[..fewest],
-        "{seen:?} at {earlier}, {later}"
-    );
-    Ok(())
-}
-
-/// Each two words at these places.
-fn expect_pairs(
-    rt: &impl Abort,
-    alloc: Global,
-    plan: &Plan<'_>,
-    places: [usize; 2],
-) -> Result<(), Fail> {
-    for first in REFUSALS {
-        for second in REFUSALS {
-            expect_pair(rt, alloc, plan, places, [first, second])?;
-        }
-    }
-    Ok(())
-}
-
-#[test]
-fn two_calls_are_refused(rt: HostRuntime) -> Result<(), Fail> {
-    for plan in [new_pools(), old_pools(), dropped_pools(), keys_in_turn()] {
-        for later in 1..plan.words {
-            for earlier in 0..later {
-                expect_pairs(&rt, rt.alloc(), &plan, [earlier, later])?;
-            }
-        }
     }
     Ok(())
 }

@@ -1,14 +1,11 @@
 //! Whole runs of a session in which growths are refused: one alone, or each from one on. In a plain
-//! run every growth is granted; `tools/refuse-memory` refuses them in turn. It also compares how
-//! many growths two tests ask for.
-use crate::bench::{Bench, expect_same, layout_of, scripted, sets};
-use crate::memory::{expect_counted, is_out_of_memory, put_layout};
-use descriptor_script::{Answer, Command, Reply, ScriptLayout, ScriptedDevice};
+//! run every growth is granted; `tools/refuse-memory` refuses them in turn.
+use crate::bench::{Bench, expect_same, layout_of, sets};
+use descriptor_script::{Command, Reply, ScriptLayout};
 use descriptor_uses::LogDevice;
 use gpu_descriptor::AllocationError;
 use std::alloc::{AllocError, Global};
 use std::process::Abort;
-use std::test::Fail;
 
 /// Sets of so many samplers that come by these requests, and the order in which they go back.
 #[derive(Clone, Copy)]
@@ -55,6 +52,26 @@ fn replies(alloc: Global, commands: &[Command]) -> Result<Vec<Reply>, AllocError
         })?;
     }
     Ok(replies)
+}
+
+/// Sees that as many sets are held as are outstanding, and as are allocated from the pools of the
+/// only layout.
+fn expect_counted(rt: &impl Abort, bench: &Bench<LogDevice>, layout: &ScriptLayout) {
+    let (counts, mark) = (&layout.counts, layout.mark);
+    let allocator = bench.session.allocator();
+    let mut allocated: u64 = 0;
+    for index in 0..allocator.pool_count(counts, mark) {
+        if let Some(pool) = allocator.pool(counts, mark, index) {
+            allocated = allocated.saturating_add(u64::from(pool.allocated));
+        }
+    }
+    expect_same(rt, bench.session.held(), allocated);
+    expect_same(rt, allocator.outstanding(), allocated);
+}
+
+/// Whether the reply says that the host's memory was wanting.
+fn is_out_of_memory(reply: Reply) -> bool {
+    reply == Reply::NoMemory || reply == Reply::Refused(AllocationError::OutOfHostMemory)
 }
 
 /// Compares the replies up to the first that says that memory was wanting.
@@ -140,101 +157,4 @@ fn pools_in_turn_until_memory_is_wanting(rt: HostRuntime) {
         tickets: &[0, 2, 1, 3],
     };
     expect_runs(&rt, rt.alloc(), &taken);
-}
-
-/// What gives back 128 sets, which come at a bench.
-fn with_sets(
-    rt: &impl Abort,
-    alloc: Global,
-    bench: &mut Bench<ScriptedDevice>,
-) -> Result<Command, Fail> {
-    let mut tickets = Vec::new(alloc);
-    for ticket in 0..128 {
-        tickets.push(ticket)?;
-    }
-    put_layout(bench, layout_of(1, false))?;
-    expect_same(rt, bench.allocate(0, 64), sets(0, 64));
-    expect_same(rt, bench.allocate(0, 64), sets(64, 64));
-    Ok(Command::Free { tickets })
-}
-
-/// The sets of the bench go back.
-fn expect_gone(rt: &impl Abort, bench: &mut Bench<ScriptedDevice>, free: &Command) {
-    let layout = layout_of(1, false);
-    expect_same(rt, bench.allocate(0, 0), sets(128, 0));
-    expect_same(rt, bench.step(free), Reply::Freed(128));
-    expect_counted(rt, bench, &layout);
-    expect_same(rt, bench.cleanup(), Reply::Clean);
-    expect_counted(rt, bench, &layout);
-    let marked = bench.session.allocator().update_after_bind_descriptors();
-    expect_same(rt, marked, 0);
-    expect_same(rt, bench.session.set(0).is_none(), true);
-}
-
-/// Sets come at a bench, and go if they are to.
-fn expect_come(
-    rt: &impl Abort,
-    alloc: Global,
-    bench: &mut Bench<ScriptedDevice>,
-    also_go: bool,
-) -> Result<(), Fail> {
-    let free = with_sets(rt, alloc, bench)?;
-    expect_same(rt, bench.session.held(), 128);
-    if also_go {
-        expect_gone(rt, bench, &free);
-    }
-    Ok(())
-}
-
-/// Sets come at a new bench, and go if they are to.
-fn expect_sets(rt: &impl Abort, alloc: Global, also_go: bool) -> Result<(), Fail> {
-    let mut bench = scripted(alloc, 0, Vec::new(alloc));
-    expect_come(rt, alloc, &mut bench, also_go)
-}
-
-#[test]
-fn sets_come(rt: HostRuntime) -> Result<(), Fail> {
-    expect_sets(&rt, rt.alloc(), false)
-}
-
-/// Asks for as many growths as `sets_come`.
-#[test]
-fn sets_come_and_go(rt: HostRuntime) -> Result<(), Fail> {
-    expect_sets(&rt, rt.alloc(), true)
-}
-
-/// Three pools with two sets each, of which one goes back. Then three sets are asked for.
-fn expect_refused_at(
-    rt: &impl Abort,
-    alloc: Global,
-    bench: &mut Bench<ScriptedDevice>,
-) -> Result<(), Fail> {
-    put_layout(bench, layout_of(2147483647, false))?;
-    expect_same(rt, bench.allocate(0, 6), sets(0, 6));
-    expect_same(rt, bench.free(alloc, &[1, 3, 5])?, Reply::Freed(3));
-    let refused = Reply::Refused(AllocationError::OutOfDeviceMemory);
-    expect_same(rt, bench.allocate(0, 3), refused);
-    expect_same(rt, bench.session.held(), 3);
-    Ok(())
-}
-
-/// Sets are asked for again at three pools, and the device then answers these words.
-fn expect_refused(rt: &impl Abort, alloc: Global, words: [Answer; 3]) -> Result<(), Fail> {
-    let mut script = [Answer::Ok; 9];
-    for (place, word) in script.iter_mut().skip(6).zip(words) {
-        *place = word;
-    }
-    let mut bench = scripted(alloc, 0, script.to_vec(alloc)?);
-    expect_refused_at(rt, alloc, &mut bench)
-}
-
-#[test]
-fn refused_before_any_set(rt: HostRuntime) -> Result<(), Fail> {
-    expect_refused(&rt, rt.alloc(), [Answer::Device, Answer::Ok, Answer::Ok])
-}
-
-/// Asks for as many growths as `refused_before_any_set`, and gives back sets of two pools.
-#[test]
-fn refused_behind_two_sets(rt: HostRuntime) -> Result<(), Fail> {
-    expect_refused(&rt, rt.alloc(), [Answer::Ok, Answer::Ok, Answer::Device])
 }

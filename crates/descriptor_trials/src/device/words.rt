@@ -1,13 +1,12 @@
-//! The scripted device alone: that calls succeed where memory is there, which no clause says, and
-//! each word at each call.
+//! The scripted device alone: that calls succeed where memory is there, which no clause says.
 ghost use Rattle.std.specs.Prelude.{◌≡◌, ◌+◌, ◌∷◌, replicate, IfOk, OnOk};
 ghost use Rattle.gpu_descriptor_types.specs.Counts.{kinds};
 ghost use Rattle.descriptor_script.specs.Scripted.Device.{ledger_of};
 
 use crate::device::trip::{TripError, round_trip};
 use descriptor_script::{Answer, ScriptLayout, ScriptedDevice};
-use gpu_descriptor_types::{CreatePoolError, DescriptorTotalCount, DeviceAllocationError};
-use std::alloc::{AllocError, Global};
+use gpu_descriptor_types::DescriptorTotalCount;
+use std::alloc::Global;
 use std::process::Abort;
 use std::test::Fail;
 
@@ -45,52 +44,6 @@ fn expect_counts(rt: &impl Abort, device: &ScriptedDevice, wanted: [u64; 4]) {
         device.released(),
     ];
     assert_eq!(rt; seen, wanted);
-}
-
-/// Makes a trip that begins with these words, and compares why it ends early.
-fn expect_end(
-    rt: &impl Abort,
-    alloc: Global,
-    device: &mut ScriptedDevice,
-    words: &[Answer],
-    error: TripError,
-) -> Result<(), AllocError> {
-    device.load(words.to_vec(alloc)?);
-    let answer = trip(alloc, device, 3, false);
-    assert_eq!(rt; answer, Err(error), "at {words:?}");
-    Ok(())
-}
-
-#[test]
-fn each_word_at_a_create(rt: HostRuntime) -> Result<(), Fail> {
-    let mut device = ScriptedDevice::new(rt.alloc(), Vec::new(rt.alloc()));
-    for (word, error) in [
-        (Answer::Device, CreatePoolError::OutOfDeviceMemory),
-        (Answer::Host, CreatePoolError::OutOfHostMemory),
-        (Answer::Frag, CreatePoolError::Fragmentation),
-        (Answer::Pool, CreatePoolError::Fragmentation),
-    ] {
-        let end = TripError::Create(error);
-        expect_end(&rt, rt.alloc(), &mut device, &[word], end)?;
-    }
-    expect_counts(&rt, &device, [0, 0, 0, 0]);
-    Ok(())
-}
-
-#[test]
-fn each_word_at_an_alloc(rt: HostRuntime) -> Result<(), Fail> {
-    let mut device = ScriptedDevice::new(rt.alloc(), Vec::new(rt.alloc()));
-    for (word, error) in [
-        (Answer::Device, DeviceAllocationError::OutOfDeviceMemory),
-        (Answer::Host, DeviceAllocationError::OutOfHostMemory),
-        (Answer::Frag, DeviceAllocationError::FragmentedPool),
-        (Answer::Pool, DeviceAllocationError::OutOfPoolMemory),
-    ] {
-        let end = TripError::Alloc(error);
-        expect_end(&rt, rt.alloc(), &mut device, &[Answer::Ok, word], end)?;
-    }
-    expect_counts(&rt, &device, [4, 4, 4, 0]);
-    Ok(())
 }
 
 #[test]

@@ -10,51 +10,6 @@ use std::alloc::Global;
 use std::process::Abort;
 use std::test::Fail;
 
-/// Retires the first of the sets in use, at a frame. One that came back for want of memory changed
-/// nothing. How many sets are retired now.
-fn expect_retired(
-    rt: &impl Abort,
-    trial: &mut Trial,
-    frame: u64,
-    retired: u64,
-) -> Result<u64, Fail> {
-    let first = trial.in_use.front().map(|set| set.raw().id());
-    let retired = match trial.retire(frame)? {
-        Outcome::Memory(back) => {
-            assert_eq!(rt; Some(back), first);
-            retired
-        }
-        outcome => {
-            assert_eq!(rt; outcome, Outcome::Retired);
-            retired.saturating_add(1)
-        }
-    };
-    expect_sets(rt, trial, 9, retired);
-    Ok(retired)
-}
-
-/// Retires nine sets, as far as memory is there, and finishes their frames.
-fn expect_nine_retired(rt: &impl Abort, trial: &mut Trial) -> Result<(), Fail> {
-    let mut retired = 0;
-    for frame in 0..9 {
-        retired = expect_retired(rt, trial, frame, retired)?;
-    }
-    trial.finish(8);
-    expect_sets(rt, trial, 9_u64.saturating_sub(retired), 0);
-    Ok(())
-}
-
-#[test]
-fn sets_are_retired_until_memory_is_wanting(rt: HostRuntime) -> Result<(), Fail> {
-    match Trial::new(rt.alloc(), 9) {
-        Ok(mut trial) => expect_nine_retired(&rt, &mut trial),
-        Err(error) => {
-            assert_eq!(rt; error, AllocationError::OutOfHostMemory);
-            Ok(())
-        }
-    }
-}
-
 /// Does the acts behind three sets that are retired at frames 5, 6 and 7.
 fn play_behind(rt: &impl Abort, trial: &mut Trial, acts: &[Act<'_>]) -> Result<(), Fail> {
     let retired = [
