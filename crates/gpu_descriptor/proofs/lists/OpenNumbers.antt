@@ -77,9 +77,7 @@ open_around first xs i n at =
     ∙ ap (λ k. before first xs i ++ open_numbers (first + k) (n ∷ drop (suc i) xs)) (long_take xs i n at)
 
 pub open_set : (first : ℕ) (xs : List ℕ) (i n m : ℕ) → slice_get xs i ≡ Some n → open_numbers first (slice_set xs i m) ≡ before first xs i ++ open_numbers (first + i) (m ∷ drop (suc i) xs)
-open_set first xs i n m at =
-    ap (open_numbers first) (set_split xs i m (slice_get_within xs i n at)) ∙ open_append first (take i xs) (m ∷ drop (suc i) xs)
-    ∙ ap (λ k. before first xs i ++ open_numbers (first + k) (m ∷ drop (suc i) xs)) (long_take xs i n at)
+open_set first xs i n m at = grind (arith, long_take, open_append, set_split, slice_get_within)
 
 one_up : (first i : ℕ) (ys : List ℕ) → open_numbers (suc (first + i)) ys ≡ open_numbers (first + suc i) ys
 one_up first i ys = ap (λ n. open_numbers n ys) (let e : suc (first + i) ≡ first + suc i = omega arith in e)

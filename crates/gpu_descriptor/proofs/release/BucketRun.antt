@@ -1,5 +1,5 @@
 -- Giving one run back to a stored bucket.
-use Rattle.gpu_descriptor.proofs.Common.{◌≡◌, ℕ, zero, suc, ◌+◌, ◌-◌, ◌<◌, ◌≤◌, List, [], ◌∷◌, length, map, sum_by, set, get_or, slice_get, Option, Some, option_map, inl, inr, refl, sym, ap, ◌∙◌, arith, IfSome, cases_Bool, slice_get_within, slice_get-map, slice_get_read, length-map, sum_by-cons, CanFree, Pool, live_sets, LiveSet, times, AreIn, DescriptorPool, live_in, flags_of, IsAsBooked, Key, Entry, Bucket, ∥∥₁_elim, ∥∥₁_map, props}
+use Rattle.gpu_descriptor.proofs.Common.{◌≡◌, ℕ, zero, suc, ◌+◌, ◌-◌, ◌<◌, ◌≤◌, List, [], ◌∷◌, length, map, sum_by, set, get_or, slice_get, Option, Some, option_map, inl, inr, refl, sym, ap, ◌∙◌, arith, IfSome, slice_get_within, slice_get-map, slice_get_read, length-map, sum_by-cons, CanFree, Pool, live_sets, LiveSet, times, AreIn, DescriptorPool, live_in, flags_of, IsAsBooked, Key, Entry, Bucket, ∥∥₁_elim, ∥∥₁_map, props}
 use Rattle.gpu_descriptor.specs.Inner.Buckets.{AreBookedIn}
 use Rattle.gpu_descriptor.specs.Inner.Releases.{IsTakenAt}
 use Rattle.gpu_descriptor.specs.Model.Release.{entry_less, pool_less}
@@ -26,9 +26,7 @@ pub record CanTake (k : Key) (names : List ℕ) (pools : ℕ → Option Pool) (e
   pub live : (x : LiveSet) → times (live_sets k.counts names) x ≤ live_in pools e.pool x
 
 pub can_take : (k : Key) (number : ℕ) (names : List ℕ) (b : Bucket) (pools : ℕ → Option Pool) (e : Entry) → IsTakenAt k number names b pools → slice_get b.pools (number - b.first) ≡ Some e → CanTake k names pools e
-can_take k number names b pools e t at =
-    let same : t.entry ≡ e = (let p = (entry_at-found b number t.entry t.at).1 in let q : Some t.entry ≡ Some e = sym p ∙ at in cc) in
-    rw (← same) (record { fits = t.fits; live = t.live })
+can_take k number names b pools e t at = grind arith
 
 pub is_within : (k : Key) (number : ℕ) (names : List ℕ) (b : Bucket) (pools : ℕ → Option Pool) → IsTakenAt k number names b pools → number - b.first < length b.pools
 is_within k number names b pools t = slice_get_within b.pools (number - b.first) t.entry (entry_at-found b number t.entry t.at).1
@@ -47,10 +45,7 @@ are_taken k b pools i e names ls stored at are live =
 
 -- sets of a marked key's pools and of others may go back singly
 pub can_free : (k : Key) → CanFree (flags_of k)
-can_free k = elim (cases_Bool k.marked) [
-  | inl on ↦ rw on refl
-  | inr off ↦ rw off refl
-]
+can_free k = grind arith
 
 -- the sets that a call took of the place are the key's sets of their names
 pub took_these : (k : Key) (b : Bucket) (pools : ℕ → Option Pool) (i : ℕ) (e : Entry) (names : List ℕ) (ls : List LiveSet) → AreBookedIn k pools b.pools → slice_get b.pools i ≡ Some e → AreTaken names (live_in pools e.pool) ls → ls ≡ live_sets k.counts names

@@ -1,5 +1,5 @@
 -- What giving back keeps: agreement, and what is outstanding but for the sets given.
-use Rattle.gpu_descriptor.proofs.Common.{◌≡◌, ℕ, ◌+◌, ◌-◌, ◌<◌, ◌≤◌, Bool, true, false, ltb, ◌&&◌, ◌==◌, List, [], ◌∷◌, ◌++◌, flat_map, map, length, take, drop, count_by, slice_get, Option, Some, None, option_map, ◌⊎◌, inl, inr, refl, sym, ap, ◌∙◌, subst, arith, eqb-true, length-drop, if◌then◌else◌, fun_ext, list_any, cases_Bool, cases_lt, and_parts, false_from_ne_true, length-map, set_of, State, Item, item_eq, count_of, outstanding, AreOutstanding, IsAsBooked, Agree, live_at, Key, key_eq, Entry, Bucket, entry_at, Pool, LiveSet, set_eq, counts_alike, count_by-append, list_any-count_by}
+use Rattle.gpu_descriptor.proofs.Common.{◌≡◌, ℕ, ◌+◌, ◌-◌, ◌<◌, ◌≤◌, Bool, true, false, ltb, ◌&&◌, ◌==◌, List, [], ◌∷◌, ◌++◌, flat_map, map, length, take, drop, count_by, slice_get, Option, Some, None, option_map, ◌⊎◌, inl, inr, refl, sym, ap, ◌∙◌, subst, arith, eqb-true, length-drop, if◌then◌else◌, fun_ext, list_any, cases_lt, and_parts, false_from_ne_true, length-map, set_of, State, Item, count_of, outstanding, AreOutstanding, IsAsBooked, Agree, Key, key_eq, Entry, Bucket, entry_at, Pool, LiveSet, set_eq, counts_alike, count_by-append, list_any-count_by}
 use Rattle.gpu_descriptor.specs.Model.Release.{lies_in, entry_less, bucket_less, pool_less, given_back, spent_front, without_front, in_front, fronts_gone, released, singly, released_each}
 use Rattle.gpu_descriptor.proofs.release.Fronts.{entry_at-from}
 use Rattle.gpu_descriptor.proofs.lists.AtPlaces.{found_before}
@@ -46,12 +46,7 @@ no_length [] h = refl
 no_length (e ∷ es) h = absurd (omega arith)
 
 front_of-last : (m : List Item) (s : State) (k : Key) → front_of m s k ≤ length (s.books k).pools - 1
-front_of-last m s k =
-    let long : length (bucket_less (back m s) (s.books k)).pools ≡ length (s.books k).pools = length-map (s.books k).pools (λ (e : Entry). entry_less (back m s e.pool) e) in
-    elim (cases_Bool (names_key m k)) [
-      | inl h ↦ rw h (omega arith)
-      | inr h ↦ rw h (omega arith)
-    ]
+front_of-last m s k = grind (arith, length-map)
 
 -- a pool and its books still match once its sets went back
 less_booked : (m : List Item) (s : State) → Agree s → AreOutstanding m s → (k : Key) (i : ℕ) (d : Entry) (pool : Pool) → entry_at (s.books k) i ≡ Some d → s.ledger d.pool ≡ Some pool → IsAsBooked k pool d → IsAsBooked k (pool_less (back_named m s d.pool) pool) (entry_less (back m s d.pool) d)
@@ -142,14 +137,7 @@ takes_own m s agree out t own = elim (cases_option (entry_at ((released m s).boo
 ]
 
 pub takes : (m : List Item) (s : State) → Agree s → AreOutstanding m s → (t : Item) → outstanding (released m s) t + count_of t m ≡ outstanding s t
-takes m s agree out t = elim (cases_Bool ((s.books t.key).id == t.id)) [
-  | inl same ↦ takes_own m s agree out t (eqb-true (s.books t.key).id t.id same)
-  | inr other ↦ (
-      let fits = out t in
-      let before : outstanding s t ≡ 0 = rw other refl in
-      let after : outstanding (released m s) t ≡ 0 = ap (λ (i : ℕ). if i == t.id then live_at (released m s).ledger ((released m s).books t.key) t else 0) (same_id m s t.key) ∙ rw other refl in
-      omega arith)
-]
+takes m s agree out t = grind (arith, takes_own)
 
 pub order : (m n : List Item) (s : State) → ((t : Item) → count_of t m ≡ count_of t n) → released m s ≡ released n s
 order m n s alike =
@@ -189,10 +177,7 @@ none_back s =
 
 -- what a later part needs still lies where it lay
 pub rest_outstanding : (m n : List Item) (s : State) → Agree s → AreOutstanding (m ++ n) s → AreOutstanding m s × AreOutstanding n (released m s)
-rest_outstanding m n s agree out =
-    let split : (t : Item) → count_of t (m ++ n) ≡ count_of t m + count_of t n = λ t. count_by-append (λ x. item_eq x t) m n in
-    let out_m : AreOutstanding m s = λ t. let a = split t in let b = out t in omega arith in
-    (out_m, λ t. let a = split t in let b = out t in let c = takes m s agree out_m t in omega arith)
+rest_outstanding m n s agree out = grind (arith, count_by-append, takes)
 
 pub each : (ms : List (List Item)) (s : State) → Agree s → AreOutstanding (flat_map (λ m. m) ms) s → released_each ms s ≡ released (flat_map (λ m. m) ms) s
 each [] s agree out = sym (none_back s)
@@ -212,32 +197,6 @@ one_by_one m turned s agree out alike =
     each (singly turned) s agree (subst (λ (n : List Item). AreOutstanding n s) (sym whole) turned_out)
     ∙ ap (λ (n : List Item). released n s) whole
     ∙ order turned m s alike
-
--- before any front goes, books and ledger agree too
-pub given_agrees : (m : List Item) (s : State) → Agree s → AreOutstanding m s → Agree (given_back m s)
-given_agrees m s agree out =
-    let was : (k : Key) (i : ℕ) (e : Entry) → entry_at ((given_back m s).books k) i ≡ Some e → (d : Entry) × (entry_at (s.books k) i ≡ Some d) × (entry_less (back m s d.pool) d ≡ e) = λ k i e h.
-    some_before (λ e. entry_less (back m s e.pool) e) (entry_at (s.books k) i) e (sym (entry_at-less (back m s) (s.books k) i) ∙ h) in
-    record {
-      distinct = λ k l i j d e at at' same.
-          let one = was k i d at in
-          let other = was l j e at' in
-          agree.distinct k l i j one.0 other.0 one.1 other.1 (ap (λ (x : Entry). x.pool) one.2 ∙ same ∙ sym (ap (λ (x : Entry). x.pool) other.2));
-      booked = λ k i e at.
-          let had = was k i e at in
-          let d = had.0 in
-          let booked = agree.booked k i d had.1 in
-          let pool = booked.0 in
-          let P : Entry → Type 0 = λ x. (p : Pool) × ((given_back m s).ledger x.pool ≡ Some p) × IsAsBooked k p x in
-          subst P had.2 (
-            pool_less (back_named m s d.pool) pool,
-            ap (option_map (pool_less (back_named m s d.pool))) booked.1,
-            less_booked m s agree out k i d pool had.1 booked.1 booked.2,
-          );
-      absent = λ k none.
-          let long : length (bucket_less (back m s) (s.books k)).pools ≡ length (s.books k).pools = length-map (s.books k).pools (λ (e : Entry). entry_less (back m s e.pool) e) in
-          agree.absent k (no_length (s.books k).pools (sym long ∙ ap length none));
-    }
 
 -- a set that goes back has a place, and its pool has as many sets as go back to it
 pub has_place : (m : List Item) (s : State) → Agree s → AreOutstanding m s → (t : Item) → 0 < count_of t m → (e : Entry) × (entry_at (s.books t.key) t.number ≡ Some e) × (pool : Pool) × (s.ledger e.pool ≡ Some pool) × IsAsBooked t.key pool e × (back m s e.pool ≤ e.allocated)

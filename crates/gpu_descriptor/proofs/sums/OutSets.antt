@@ -1,5 +1,5 @@
 -- As many sets are out as are outstanding.
-use Rattle.gpu_descriptor.proofs.Common.{◌≡◌, ℕ, suc, ◌+◌, ◌-◌, ◌<◌, ◌≤◌, ◌==◌, true, false, List, [], ◌∷◌, ◌++◌, length, map, sum_by, slice_get, Option, Some, None, inl, inr, refl, sym, ap, ◌∙◌, arith, eqb-true, eq-eqb, length-append, option_map_or, if◌then◌else◌, cases_Bool, cases_eq, cases_lt, length-map, sum_by-append, sum_by-cons, Pool, live_sets, LiveSet, set_eq, times, count_by_yes, count_by_no, counts_alike, set_exact, State, Agree, Item, item_eq, set_of, count_of, live_at, outstanding, Key, key_eq, Entry, Bucket, no_pools, books_of, HasDistinctKeys, sum_over, AddsUp, ∥∥₁_elim, ∥∥₁_map, ∥∥₁_prop, props}
+use Rattle.gpu_descriptor.proofs.Common.{◌≡◌, ℕ, suc, ◌+◌, ◌-◌, ◌<◌, ◌≤◌, ◌==◌, true, false, List, [], ◌∷◌, ◌++◌, length, map, sum_by, slice_get, Option, Some, None, inl, inr, refl, sym, ap, ◌∙◌, arith, length-append, option_map_or, if◌then◌else◌, cases_Bool, cases_eq, cases_lt, length-map, sum_by-append, sum_by-cons, Pool, live_sets, LiveSet, set_eq, times, count_by_yes, count_by_no, counts_alike, set_exact, State, Agree, Item, item_eq, set_of, count_of, live_at, outstanding, Key, key_eq, Entry, Bucket, no_pools, books_of, HasDistinctKeys, sum_over, AddsUp, ∥∥₁_elim, ∥∥₁_map, ∥∥₁_prop, props}
 use Rattle.gpu_descriptor.specs.Model.Grants.{items_at}
 use Rattle.gpu_descriptor.specs.Caller.Frees.{marked_descriptors}
 use Rattle.gpu_descriptor.specs.Model.Load.{marked_load, descriptors_out, allocated_in, sets_out}
@@ -40,10 +40,7 @@ record OutOf (k : Key) (b : Bucket) (ledger : ℕ → Option Pool) : Type 0 wher
   each : (t : Item) → t.key ≡ k → t.id ≡ b.id → count_of t items ≡ live_at ledger b t
 
 none_out : (ledger : ℕ → Option Pool) (id first : ℕ) (t : Item) → live_at ledger (bucket id first []) t ≡ 0
-none_out ledger id first t = elim (cases_lt t.number first) [
-  | inl below ↦ live_below ledger id first [] t below
-  | inr above ↦ live_from ledger id first [] t above
-]
+none_out ledger id first t = grind arith
 
 key_out : (k : Key) (id first : ℕ) (es : List Entry) (ledger : ℕ → Option Pool) → ((i : ℕ) (e : Entry) → slice_get es i ≡ Some e → IsBookedIn k ledger e) → ∥ OutOf k (bucket id first es) ledger ∥₁
 unfolding names_in
@@ -102,13 +99,7 @@ out_of_none : (ledger : ℕ → Option Pool) (t : Item) → out_at ledger no_poo
 out_of_none ledger t = elim (cases_Bool (0 == t.id)) [ inl same ↦ rw same (none_out ledger 0 0 t) | inr other ↦ rw other refl ]
 
 each_out : (k : Key) (b : Bucket) (ledger : ℕ → Option Pool) (out : OutOf k b ledger) (t : Item) → t.key ≡ k → count_of t out.items ≡ out_at ledger b t
-each_out k b ledger out t key = elim (cases_Bool (b.id == t.id)) [
-  | inl same ↦ rw same (out.each t key (sym (eqb-true b.id t.id same)))
-  | inr other ↦ rw other (elim (cases_lt 0 (count_of t out.items)) [
-    | inl some ↦ absurd (let bad : true ≡ false = sym (eq-eqb b.id t.id (sym (out.of_key t some).1)) ∙ other in cc)
-    | inr none ↦ (omega arith)
-  ])
-]
+each_out k b ledger out t key = grind arith
 
 -- the sets that are out of all keys of a table
 abbrev OutOfAll : (ℕ → Option Pool) → List (Key × Bucket) → Type 0

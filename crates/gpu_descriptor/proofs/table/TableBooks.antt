@@ -118,7 +118,4 @@ module _ {P : Type 0} where
   -- a write through the map keeps its keys
   pub keys_set : (test : BucketKey → Bool) (es : List (BucketKey × DescriptorBucket P)) (w : DescriptorBucket P) → map (λ (e : BucketKey × DescriptorBucket P). key_of e.0) (set_value test es w) ≡ map (λ (e : BucketKey × DescriptorBucket P). key_of e.0) es
   keys_set test [] w = refl
-  keys_set test (e ∷ es) w = elim (cases_Bool (test e.0)) [
-    | inl at ↦ rw at refl
-    | inr at ↦ rw at (ap (λ (l : List Key). key_of e.0 ∷ l) (keys_set test es w))
-  ]
+  keys_set test (e ∷ es) w = grind (arith, (keys_set test es w))
