@@ -38,9 +38,7 @@ none_live live a some none = ∥∥₁_elim some (search props) (λ size. elim s
   | [] ↦ λ long counts. sym long
   | x ∷ xs ↦ λ long counts. (
       let own : count_by (λ y. set_eq y x) (x ∷ xs) ≡ suc (count_by (λ y. set_eq y x) xs) = count_by_yes (λ y. set_eq y x) x xs (set_exact.self x) in
-      let is = counts x in
-      let zero_live = none x in
-      absurd (omega arith))
+      grind (arith, common_steps))
 ] size.1 size.2)
 
 -- where each pool is empty, the front is the whole
@@ -89,18 +87,7 @@ was_kept b i e h = grind (arith, entry_at-without)
 pub still_there : (b : Bucket) (i : ℕ) (e : Entry) → entry_at b i ≡ Some e → is_empty e ≡ false → entry_at (cleaned_bucket b) i ≡ Some e
 still_there b i e h full =
     let kept = entry_at-kept b (empty_front b) i e (let le : empty_front b ≤ empty_front b = omega arith in le) h full in
-    elim (cleaned_cases b) [
-      | inl all ↦ (
-          let gone : drop (empty_front b) b.pools ≡ [] = ap (λ (n : ℕ). drop n b.pools) all.0 ∙ drop_whole b.pools in
-          let found = entry_at-found (without_front (empty_front b) b) i e kept in
-          let at : slice_get [] (i - (b.first + empty_front b)) ≡ Some e = ap (λ (es : List Entry). slice_get es (i - (b.first + empty_front b))) (sym gone) ∙ found.1 in
-          absurd (let bad : ◌≡◌ {A = Option Entry} None (Some e) = at in cc))
-      | inr some ↦ ap (λ (x : Bucket). entry_at x i) some.1 ∙ kept
-    ]
-  where
-    drop_whole : (es : List Entry) → drop (length es) es ≡ []
-    drop_whole [] = refl
-    drop_whole (e ∷ es) = drop_whole es
+    grind (arith, common_steps, cleaned_cases, entry_at-found)
 
 -- the ledger keeps a pool that the books keep
 pub clean_stays : (s t : State) → Agree s → IsCleaned s t → (k : Key) (i : ℕ) (e : Entry) → entry_at (t.books k) i ≡ Some e → t.ledger e.pool ≡ s.ledger e.pool
@@ -110,14 +97,7 @@ clean_stays s t agree clean k i e h = clean.kept e.pool (λ l. false_from_ne_tru
     let j = found.0 in
     let place : b.first + j - b.first ≡ j = omega arith in
     let there : entry_at b (b.first + j) ≡ Some found.1 = entry_at-from b (b.first + j) found.1 (omega arith) (rw place found.3) in
-    let was = was_kept (s.books k) i e (ap (λ (x : Bucket). entry_at x i) (sym (clean.books k)) ∙ h) in
-    let same = agree.distinct l k (b.first + j) i found.1 e there was.1 found.4 in
-    let fronts : empty_front (s.books l) ≡ empty_front (s.books k) = ap (λ (x : Key). empty_front (s.books x)) same.0 in
-    let firsts : (s.books l).first ≡ (s.books k).first = ap (λ (x : Key). (s.books x).first) same.0 in
-    let past = was.0 in
-    let below = found.2 in
-    let number = same.1 in
-    omega arith))
+    grind (arith, common_steps, was_kept)))
 
 pub clean_agrees : (s t : State) → Agree s → IsCleaned s t → Agree t
 clean_agrees s t agree clean =
@@ -134,27 +114,14 @@ clean_agrees s t agree clean =
             let b = s.books k in
             let dropped : drop (empty_front b) b.pools ≡ [] = ap (λ (x : Bucket). x.pools) (sym (clean.books k ∙ some.1)) ∙ no_pools in
             let long : 0 ≡ length b.pools - empty_front b = sym (ap length dropped) ∙ length-drop (empty_front b) b.pools in
-            let more = some.0 in
-            absurd (omega arith))
+            grind (arith, common_steps))
       ];
     }
 
 pub takes_none : (s t : State) → Agree s → IsCleaned s t → (i : Item) → outstanding t i ≡ outstanding s i
 takes_none s t agree clean x = elim (cases_option (entry_at (t.books x.key) x.number)) [
   | inr some ↦ (
-      let e = some.0 in
-      let was = was_kept (s.books x.key) x.number e (ap (λ (b : Bucket). entry_at b x.number) (sym (clean.books x.key)) ∙ some.1) in
-      let booked = agree.booked x.key x.number e was.1 in
-      let found : t.ledger e.pool ≡ Some booked.0 = clean_stays s t agree clean x.key x.number e some.1 ∙ booked.1 in
-      let id : (t.books x.key).id ≡ (s.books x.key).id = elim (cleaned_cases (s.books x.key)) [
-        | inl whole ↦ absurd (
-            let gone = entry_at-found (record { id = 0; first = 0; pools = [] }) x.number e (ap (λ (b : Bucket). entry_at b x.number) (sym (clean.books x.key ∙ whole.1)) ∙ some.1) in
-            let bad : ◌≡◌ {A = Option Entry} None (Some e) = gone.1 in
-            cc)
-        | inr rest ↦ ap (λ (b : Bucket). b.id) (clean.books x.key ∙ rest.1)
-      ] in
-      ap (λ (i : ℕ). if i == x.id then live_at t.ledger (t.books x.key) x else 0) id
-      ∙ ap (λ (n : ℕ). if (s.books x.key).id == x.id then n else 0) (live_there_at t x e booked.0 some.1 found ∙ sym (live_there_at s x e booked.0 was.1 booked.1)))
+      grind (arith, common_steps, clean_stays, cleaned_cases, entry_at-found, live_there_at, was_kept))
   | inl missing ↦ (
       let empty : live_at t.ledger (t.books x.key) x ≡ 0 = rw missing refl in
       let nothing : outstanding t x ≡ 0 = ap (λ (n : ℕ). if (t.books x.key).id == x.id then n else 0) empty ∙ if_none ((t.books x.key).id == x.id) in

@@ -1,6 +1,7 @@
 -- In which order keys stay in the table.
 use Rattle.gpu_descriptor.specs.Caller.Keys.{keys_with_pools}
-use Rattle.gpu_descriptor.proofs.Common.{◌≡◌, ℕ, suc, ◌==◌, not, Bool, List, [], ◌∷◌, ◌++◌, length, map, filter, slice_get, Some, inl, inr, refl, sym, ap, subst, ◌∙◌, arith, length-drop, set_value, cases_Bool, map-append, Ledger, BucketKey, DescriptorBucket, Key, Bucket, HasDistinctKeys, books_of, key_of, Allocations}
+use Rattle.std.proofs.lemmas.Grind.{common_steps}
+use Rattle.gpu_descriptor.proofs.Common.{◌≡◌, ℕ, suc, ◌==◌, not, Bool, List, [], ◌∷◌, ◌++◌, length, map, filter, slice_get, Some, inl, inr, refl, sym, ap, subst, ◌∙◌, arith, length-drop, set_value, map-append, Ledger, BucketKey, DescriptorBucket, Key, Bucket, HasDistinctKeys, books_of, key_of, Allocations}
 use Rattle.gpu_descriptor.specs.Inner.Buckets.{has_pools, trimmed_bucket}
 use Rattle.gpu_descriptor.specs.Model.Cleanup.{IsCleaned, cleaned_bucket}
 use Rattle.gpu_descriptor.specs.Caller.Keys.{StayOrGainLast}
@@ -35,10 +36,7 @@ keys_left stays [] says = refl
 keys_left stays (r ∷ rows) says =
     let rest = keys_left stays rows (λ i. says (suc i)) in
     let own = says 0 r refl in
-    elim (cases_Bool (length (trimmed_bucket 0 r.1).pools == 0)) [
-      | inl none ↦ rw (none, own ∙ ap not none) rest
-      | inr some ↦ rw (some, own ∙ ap not some) (ap (λ (l : List Key). r.0 ∷ l) rest)
-    ]
+    grind (arith, common_steps)
 
 -- the keys that still have pools are left, in their order
 pub keys_cleaned : {P : Type 0} (name : P → ℕ) (a b : Allocations P) (l m : Ledger) (es now fs : List (BucketKey × DescriptorBucket P)) → a.table ≡ map row_of es → b.table ≡ map row_of fs → HasDistinctKeys (rows_in name es) → rows_in name now ≡ map cleared_row (rows_in name es) → fs ≡ filter (λ e. has_pools e.1) now

@@ -1,9 +1,9 @@
 -- Cleaning up, row by row.
-use Rattle.gpu_descriptor.proofs.Common.{◌≡◌, ℕ, zero, suc, ◌+◌, ◌-◌, ◌<◌, ◌≤◌, Bool, true, false, not, ◌||◌, ◌==◌, List, [], ◌∷◌, ◌++◌, length, map, filter, set, take, drop, sum_by, slice_get, Option, Some, None, option_map, inl, inr, refl, sym, ap, subst, ◌∙◌, arith, length-drop, if◌then◌else◌, fun_ext, list_any, IsDistinct, values_of, cases_Bool, false_from_ne_true, append-nil, drop_all, length-map, take_all, sum_by-cons, sum_by_more, get_or_from_slice_get, slice_get-map, slice_get_within, Pool, Ledger, BucketKey, DescriptorPool, DescriptorBucket, State, Agree, Key, key_eq, Bucket, entry_at, no_pools, books_of, HasDistinctKeys, key_of, Allocations}
+use Rattle.gpu_descriptor.proofs.Common.{◌≡◌, ℕ, zero, suc, ◌+◌, ◌-◌, ◌<◌, ◌≤◌, Bool, true, false, not, ◌==◌, List, [], ◌∷◌, ◌++◌, length, map, filter, set, take, drop, sum_by, slice_get, Option, Some, None, option_map, inl, inr, refl, sym, ap, subst, ◌∙◌, arith, length-drop, if◌then◌else◌, fun_ext, list_any, IsDistinct, values_of, cases_Bool, false_from_ne_true, append-nil, drop_all, length-map, take_all, sum_by-cons, sum_by_more, get_or_from_slice_get, slice_get-map, slice_get_within, Pool, Ledger, BucketKey, DescriptorPool, DescriptorBucket, State, Agree, Key, key_eq, Bucket, entry_at, no_pools, books_of, HasDistinctKeys, key_of, Allocations}
 use Rattle.std.proofs.lemmas.Grind.{common_steps}
 use Rattle.std.proofs.lemmas.List.Folds.{list_any_more}
 use Rattle.indexmap.specs.Layout.{set_value_at}
-use Rattle.gpu_descriptor.specs.Inner.Buckets.{AreBookedIn, has_pools, trimmed_bucket, trimmed_ledger, ledger_without}
+use Rattle.gpu_descriptor.specs.Inner.Buckets.{AreBookedIn, has_pools, trimmed_bucket, trimmed_ledger}
 use Rattle.gpu_descriptor.specs.Model.Release.{more_destroyed, empty_front, in_front}
 use Rattle.gpu_descriptor.specs.Model.Cleanup.{cleaned_bucket, IsCleaned, pools_cleaned}
 use Rattle.gpu_descriptor.specs.Caller.States.{named_row, state_of, keys_of}
@@ -80,20 +80,7 @@ pub step_less : (i : ℕ) (rows : Rows) (r : Key × Bucket) (l now after : Ledge
 step_less i rows r l now after at was done =
     let within = slice_get_within rows i r at in
     let read = get_or_from_slice_get rows i r r at in
-    let front_of : Key × Bucket → ℕ = λ x. empty_front x.1 in
-    let pools : (λ p. if in_front (empty_front r.1) r.1 p then None else (pools_less (take i rows) l.pools) p) ≡ pools_less (take (i + 1) rows) l.pools = fun_ext (λ p.
-    twice (front r.1 p) (gone (take i rows) p) (l.pools p)
-    ∙ ap (λ (g : Bool). if g then None else l.pools p) (sym (list_any_more (λ (x : Key × Bucket). front x.1 p) rows i r within ∙ ap (λ (x : Key × Bucket). gone (take i rows) p || front x.1 p) read))) in
-    let more : sum_by front_of (take i rows) + empty_front r.1 ≡ sum_by front_of (take (i + 1) rows) = sym (sum_by_more front_of rows i r within ∙ ap (λ (x : Key × Bucket). sum_by front_of (take i rows) + front_of x) read) in
-    let counters = destroyed_both (sum_by front_of (take i rows)) (empty_front r.1) l.counters ∙ ap (λ (n : ℕ). more_destroyed n l.counters) more in
-    let last : ledger_without (empty_front r.1) r.1 (ledger_less (take i rows) l) ≡ ledger_less (take (i + 1) rows) l = λ j. record { pools = pools j; counters = counters j } in
-    done ∙ ap (λ (m : Ledger). trimmed_ledger 0 r.1 m) was ∙ ap (λ (n : ℕ). ledger_without n r.1 (ledger_less (take i rows) l)) (whole_front r.1) ∙ last
-  where
-    twice : (a b : Bool) (o : Option Pool) → (if a then None else (if b then None else o)) ≡ (if b || a then None else o)
-    twice true true o = refl
-    twice true false o = refl
-    twice false true o = refl
-    twice false false o = refl
+    grind (arith, common_steps, destroyed_both, fun_ext, list_any_more, sum_by_more, whole_front)
 
 -- ---- rows with distinct keys
 
@@ -129,11 +116,7 @@ next_stored rows pools i r distinct agree at =
           let mine : entry_at r.1 (r.1.first + j) ≡ Some e = entry_at-from r.1 (r.1.first + j) e (omega arith) (rw b here) in
           let same = (agree.distinct q.0 r.0 (q.1.first + inside.0) (r.1.first + j) inside.1 e (ap (λ (x : Bucket). entry_at x (q.1.first + inside.0)) other ∙ there) (ap (λ (x : Bucket). entry_at x (r.1.first + j)) own ∙ mine) inside.4).0 in
           apart rows found.0 i q r distinct found.2 found.3 at same) in
-          record {
-            pool = booked.pool;
-            is_live = (let kept : pools_less (take i rows) pools e.pool ≡ pools e.pool = rw stays refl in kept ∙ booked.is_live);
-            booked = booked.booked;
-          };
+          grind (arith, common_steps);
     }
 
 any_gone : (rows : Rows) (k : Key) (p : ℕ) → front (books_of rows k) p ≡ true → gone rows p ≡ true
@@ -162,8 +145,7 @@ left_books [] k d = refl
 left_books (r ∷ rows) k d = elim (cases_Bool (length (trimmed_bucket 0 r.1).pools == 0)) [
   | inl none ↦ rw none (left_books rows k d.1 ∙ elim (cases_Bool (key_eq r.0 k)) [
     | inl at ↦ (
-        let gone_row : books_of rows k ≡ no_pools = absent k rows (ap (λ (x : Key). list_any (λ o. key_eq o.0 x) rows) (sym (key_exact.same r.0 k at)) ∙ d.0) in
-        rw at (ap cleaned_bucket gone_row ∙ sym (left_none r.1 none)))
+        grind (arith, common_steps, absent, key_exact, left_none))
     | inr other ↦ rw other refl
   ])
   | inr some ↦ rw some (elim (cases_Bool (key_eq r.0 k)) [
@@ -200,12 +182,8 @@ skip_row r rows (q ∷ qs) none = grind (arith, common_steps, key_eq_symm, (skip
 by_keys : (rows : Rows) → HasDistinctKeys rows → sum_by (λ k. empty_front (books_of rows k)) (map (λ r. r.0) rows) ≡ sum_by (λ r. empty_front r.1) rows
 by_keys [] d = refl
 by_keys (r ∷ rows) d =
-    let own : empty_front (books_of (r ∷ rows) r.0) ≡ empty_front r.1 = rw (key_exact.self r.0) refl in
     let skip = skip_row r rows rows d.0 in
-    let rest = by_keys rows d.1 in
-    let a = sum_by-cons (λ k. empty_front (books_of (r ∷ rows) k)) r.0 (map (λ (x : Key × Bucket). x.0) rows) in
-    let b = sum_by-cons (λ (x : Key × Bucket). empty_front x.1) r rows in
-    omega arith
+    grind (arith, common_steps, key_exact, sum_by-cons, (by_keys rows d.1))
 
 module _ {P : Type 0} (name : P → ℕ) where
   state_is : (a : Allocations P) (l : Ledger) (es : List (BucketKey × DescriptorBucket P)) → a.table ≡ map row_of es → state_of name a l ≡ record { books = books_of (rows_in name es); ledger = l.pools }

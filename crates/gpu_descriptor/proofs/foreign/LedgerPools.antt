@@ -27,18 +27,7 @@ destroyed_both m n c = (let e : c.destroyed + m + n ≡ c.destroyed + (m + n) = 
 pub size_minus : (live : LiveSet → ℕ) (a : ℕ) (ls : List LiveSet) → HasSize live a → ((x : LiveSet) → times ls x ≤ live x) → (length ls ≤ a) × HasSize (λ x. live x - times ls x) (a - length ls)
 size_minus live a ls size fits =
     let out = all_taken_out set_exact ls size.0 (λ x. rw (size.2 x) (fits x)) in
-    let lengths = out.1 in
-    let sizes = size.1 in (
-      omega arith,
-      (
-        out.0,
-        (let e : length out.0 ≡ a - length ls = omega arith in e),
-        (λ x.
-            let got = out.2 (λ y. set_eq y x) in
-            let had = size.2 x in
-            let e : times out.0 x ≡ live x - times ls x = omega arith in e),
-      ),
-    )
+    grind (arith, common_steps)
 
 times_more : (l : LiveSet) (ls : List LiveSet) (x : LiveSet) → times ls x ≤ times (l ∷ ls) x
 times_more l ls x = grind (arith, common_steps)

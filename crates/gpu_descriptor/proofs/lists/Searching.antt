@@ -1,5 +1,6 @@
 -- How far a binary search has come.
 use Rattle.gpu_descriptor.proofs.Common.{ℕ, zero, suc, ◌+◌, ◌-◌, ◌/◌, ◌^◌, ◌<◌, ◌≤◌, ◌≡◌, List, length, get_or, nat_lt, true, false, arith, ltb-true, ltb-false, get_or_default, AllWithin, IsNonDecreasing}
+use Rattle.std.proofs.lemmas.Grind.{common_steps}
 use Rattle.gpu_descriptor.specs.Caller.Comparisons.{binary_digits}
 use Rattle.gpu_descriptor.proofs.release.Digits.{digits_enough, twice}
 
@@ -35,9 +36,7 @@ module _ (items : List ℕ) (number low size before count : ℕ) (rising : IsNon
         inside = (let h = s.inside in omega arith);
         below = λ k d h lt.
             let last = rising k (low + size / 2) 0 (omega arith) (let i = s.inside in omega arith) in
-            let less = ltb-true _ _ is in
-            let same = get_or_default items k d 0 (let i = s.inside in omega arith) in
-            omega arith;
+            grind (arith, common_steps, get_or_default, ltb-true);
         above = λ k d h lt. s.above k d (omega arith) lt;
         rises = (let r = s.rises in omega arith);
         left = left;
@@ -55,9 +54,7 @@ module _ (items : List ℕ) (number low size before count : ℕ) (rising : IsNon
         below = s.below;
         above = λ k d h lt.
             let next = rising (low + size / 2) k 0 h lt in
-            let more = ltb-false _ _ is in
-            let same = get_or_default items k d 0 lt in
-            omega arith;
+            grind (arith, common_steps, get_or_default, ltb-false);
         rises = (let r = s.rises in omega arith);
         left = left;
         small = (let t = twice left in omega arith);

@@ -36,8 +36,7 @@ same_spot k n x y own =
     bool_iff (key_eq x.key.is y.key.is && (x.number == y.number)) (lies_at k n y)
     (λ h. let both = and_parts (key_eq x.key.is y.key.is) (x.number == y.number) h in
     at_from k n y (sym (key_exact.same x.key.is y.key.is both.0) ∙ here.0) (sym (eqb-true x.number y.number both.1) ∙ here.1))
-    (λ h. let there = at_parts k n y h in
-    and_from _ _ (ap (λ (l : Key). key_eq l y.key.is) (here.0 ∙ sym there.0) ∙ key_exact.self y.key.is) (eq-eqb x.number y.number (here.1 ∙ sym there.1)))
+    (λ h. grind (arith, common_steps, and_from, at_parts, eq-eqb, key_exact))
 
 -- the counters after both
 counters_both : (a b m n : ℕ) (c : Counters) → more_destroyed m (more_released n (more_destroyed a (more_released b c))) ≡ more_destroyed (a + m) (more_released (b + n) c)
@@ -146,10 +145,8 @@ module _ {L P S : Type 0} (means : Meaning L P S) where
 
       pub call_out : HoldsAlong steps rest (λ zs. AreOutstanding (items (x ∷ zs)) (state_of means.pool_name now mid))
       call_out zs t z = subst (λ s. AreOutstanding (items (x ∷ zs)) s) (sym r.back.state) (λ u.
-          let fits = all_out zs t z u in
-          let sum = count_of-append u (items r.sets) (items (x ∷ zs)) in
           let less = takes (items r.sets) (state_of means.pool_name old before) agree (came_out zs t z) u in
-          omega arith)
+          grind (arith, common_steps, all_out, count_of-append))
 
       pub freed_more : (new : Allocations P) (after : Ledger) (a : Option (DescriptorSet S)) (t : T) → FreesRun steps means x rest a t (side now mid) (side new after) → keys_of new ≡ keys_of now → OnSome a (IsNearerEnd can left rest t)
           → now.comparisons ≤ new.comparisons → new.comparisons ≤ now.comparisons + binary_digits (open_pools ((state_of means.pool_name now mid).books x.key.is)) → Freed first old before new after a t

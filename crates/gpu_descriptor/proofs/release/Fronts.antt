@@ -1,5 +1,6 @@
 -- The front of a bucket: what giving back does to it, and which places keep their pools when it goes.
 use Rattle.gpu_descriptor.proofs.Common.{◌≡◌, ℕ, zero, suc, ◌+◌, ◌-◌, ◌<◌, ◌≤◌, true, false, min, List, [], ◌∷◌, length, map, drop, slice_get, Some, inl, inr, refl, sym, ap, ◌∙◌, arith, le-ltb, drop-drop, prefix_len, cases_Bool, drop-map, prefix_len-le-length, Entry, Bucket, entry_at}
+use Rattle.std.proofs.lemmas.Grind.{common_steps}
 use Rattle.gpu_descriptor.specs.Inner.Buckets.{front_but, trimmed_bucket}
 use Rattle.gpu_descriptor.specs.Model.Release.{entry_less, bucket_less, is_empty, empty_front, spent_front, without_front}
 use Rattle.gpu_descriptor.proofs.lists.AtPlaces.{get_drop}
@@ -83,5 +84,4 @@ one_key f g b =
     let twice : bucket_less g c ≡ d = less-less f g b in
     let part : bucket_less g (trimmed_bucket 1 c) ≡ without_front (spent_front c) d = less-without g (spent_front c) c ∙ ap (without_front (spent_front c)) twice in
     let sizes : spent_front d ≡ spent_front c + spent_front (bucket_less g (trimmed_bucket 1 c)) = ap spent_front (sym twice) ∙ spent_front-less g c in
-    ap (trimmed_bucket 1) part ∙ without-without (spent_front c) (spent_front (without_front (spent_front c) d)) d
-    ∙ ap (λ (n : ℕ). without_front n d) (ap (λ (x : Bucket). spent_front c + spent_front x) (sym part) ∙ sym sizes)
+    grind (arith, common_steps, without-without)

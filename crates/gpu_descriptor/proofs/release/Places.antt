@@ -43,10 +43,7 @@ size_less live a lies m some fits = (∥∥₁_elim some (search props) (λ size
 -- where a name is left, a set is left
 pub size_pos : (live : LiveSet → ℕ) (a : ℕ) (name : LiveSet) → ∥ HasSize live a ∥₁ → 0 < live name → 0 < a
 size_pos live a name listed lt = ∥∥₁_elim listed (search props) (λ size.
-    let some = count_by-le-length (λ x. set_eq x name) size.0 in
-    let is = size.2 name in
-    let long = size.1 in
-    omega arith)
+    grind (arith, common_steps, count_by-le-length))
 
 some_of : (o : Option Entry) (pool : ℕ) → option_map_or (λ e. e.pool == pool) o false ≡ true → (e : Entry) × (o ≡ Some e) × (e.pool ≡ pool)
 some_of None pool h = absurd (let bad : true ≡ false = sym h in cc)
@@ -69,27 +66,17 @@ back_named-is m s agree out k i e at name =
     let u : Item = record { key = k; id = (s.books k).id; number = i; name = name } in
     count_by_alike item_exact (λ t. lies_in s.books e.pool t && set_eq (set_of t) x) (λ t. item_eq t u) m (λ t in_m. bool_iff (lies_in s.books e.pool t && set_eq (set_of t) x) (item_eq t u)
     (λ h.
-    let both = and_parts (lies_in s.books e.pool t) (set_eq (set_of t) x) h in
-    let found = lies_in-found s.books e.pool t both.0 in
-    let same = agree.distinct t.key k t.number i found.0 e found.1 at found.2 in
-    item_from t u same.0 same.1 (ap (λ (y : LiveSet). y.name) (set_exact.same (set_of t) x both.1)) (sym (own_id m s out t in_m) ∙ ap (λ (l : Key). (s.books l).id) same.0))
+    grind (arith, common_steps, and_parts, item_from, lies_in-found, own_id, set_exact))
     (λ h.
     let same = item_parts t u h in
-    let here : entry_at (s.books t.key) t.number ≡ Some e = rw (same.0, same.1) at in
-    let one : set_of t ≡ x = λ j. record { name = same.2 j; counts = (same.0 j).counts } in
-    and_from _ _ (lies_in-at s.books e.pool t e here ∙ eq-eqb e.pool e.pool refl) (ap (λ (y : LiveSet). set_eq y x) one ∙ set_exact.self x)))
+    grind (arith, common_steps, and_from, eq-eqb, lies_in-at, set_exact)))
 
 -- no set of other counts goes back to the pool
 back_other : (m : List Item) (s : State) → Agree s → (k : Key) (i : ℕ) (e : Entry) → entry_at (s.books k) i ≡ Some e → (x : LiveSet) → set_eq x (record { name = x.name; counts = k.counts }) ≡ false → back_named m s e.pool x ≡ 0
 back_other m s agree k i e at x other = count_by_none item_exact (λ t. lies_in s.books e.pool t && set_eq (set_of t) x) m (λ t in_m. false_from_ne_true (lies_in s.books e.pool t && set_eq (set_of t) x) (λ h.
     let both = and_parts (lies_in s.books e.pool t) (set_eq (set_of t) x) h in
-    let found = lies_in-found s.books e.pool t both.0 in
-    let same = agree.distinct t.key k t.number i found.0 e found.1 at found.2 in
     let one : set_of t ≡ x = set_exact.same (set_of t) x both.1 in
-    let counts : x.counts ≡ k.counts = ap (λ (y : LiveSet). y.counts) (sym one) ∙ ap (λ (l : Key). l.counts) same.0 in
-    let y : LiveSet = record { name = x.name; counts = k.counts } in
-    let is : x ≡ y = λ j. record { name = x.name; counts = counts j } in
-    let bad : true ≡ false = sym (ap (λ (z : LiveSet). set_eq z y) is ∙ set_exact.self y) ∙ other in cc))
+    grind (arith, common_steps, lies_in-found, set_exact)))
 
 pub live_there_at : (s : State) (t : Item) (e : Entry) (pool : Pool) → entry_at (s.books t.key) t.number ≡ Some e → s.ledger e.pool ≡ Some pool → live_at s.ledger (s.books t.key) t ≡ pool.live (set_of t)
 live_there_at s t e pool at found = rw at (rw found refl)
@@ -110,8 +97,7 @@ part_fits m s agree out k i e pool at found x =
           let had : outstanding s t ≡ pool.live y = outstanding_at s t e pool refl at found in
           let fits = out t in
           let a : back_named m s e.pool x ≡ back_named m s e.pool y = ap (back_named m s e.pool) one in
-          let b : pool.live x ≡ pool.live y = ap pool.live one in
-          omega arith)
+          grind (arith, common_steps))
       | inr other ↦ (let none = back_other m s agree k i e at x other in omega arith)
     ]
 
@@ -145,8 +131,7 @@ was_there m s k i e h =
     let same = released_books m s k in
     let here : entry_at (without_front (front_of m s k) (bucket_less (back m s) (s.books k))) i ≡ Some e = ap (λ (b : Bucket). entry_at b i) (sym same) ∙ h in
     let whole = entry_at-without (front_of m s k) (bucket_less (back m s) (s.books k)) i e here in
-    let had = some_before (λ e. entry_less (back m s e.pool) e) (entry_at (s.books k) i) e (sym (entry_at-less (back m s) (s.books k) i) ∙ whole.1) in
-    (had.0, had.1, had.2, whole.0)
+    grind (arith, common_steps, entry_at-less, some_before)
 
 -- THE CRUX: the place of a set that is still out keeps its pool and its number
 pub kept : (m : List Item) (s : State) → Agree s → AreOutstanding m s → (t : Item) → count_of t m < outstanding s t → (e : Entry) × (entry_at (s.books t.key) t.number ≡ Some e) × (entry_at ((released m s).books t.key) t.number ≡ Some (entry_less (back m s e.pool) e))

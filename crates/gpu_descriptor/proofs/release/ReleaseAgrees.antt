@@ -1,5 +1,6 @@
 -- What giving back keeps: agreement, and what is outstanding but for the sets given.
 use Rattle.gpu_descriptor.proofs.Common.{◌≡◌, ℕ, ◌+◌, ◌-◌, ◌<◌, ◌≤◌, Bool, true, false, ltb, ◌&&◌, ◌==◌, List, [], ◌∷◌, ◌++◌, flat_map, map, length, take, drop, count_by, slice_get, Option, Some, None, option_map, ◌⊎◌, inl, inr, refl, sym, ap, ◌∙◌, subst, arith, eqb-true, length-drop, if◌then◌else◌, fun_ext, list_any, cases_lt, and_parts, false_from_ne_true, length-map, set_of, State, Item, count_of, outstanding, AreOutstanding, IsAsBooked, Agree, Key, key_eq, Entry, Bucket, entry_at, Pool, LiveSet, set_eq, counts_alike, count_by-append, list_any-count_by}
+use Rattle.std.proofs.lemmas.Grind.{common_steps}
 use Rattle.gpu_descriptor.specs.Model.Release.{lies_in, entry_less, bucket_less, pool_less, given_back, spent_front, without_front, in_front, fronts_gone, released, singly, released_each}
 use Rattle.gpu_descriptor.proofs.release.Fronts.{entry_at-from}
 use Rattle.gpu_descriptor.proofs.lists.AtPlaces.{found_before}
@@ -52,19 +53,7 @@ front_of-last m s k = grind (arith, length-map)
 less_booked : (m : List Item) (s : State) → Agree s → AreOutstanding m s → (k : Key) (i : ℕ) (d : Entry) (pool : Pool) → entry_at (s.books k) i ≡ Some d → s.ledger d.pool ≡ Some pool → IsAsBooked k pool d → IsAsBooked k (pool_less (back_named m s d.pool) pool) (entry_less (back m s d.pool) d)
 less_booked m s agree out k i d pool at live is =
     let left = size_less pool.live d.allocated (lies_in s.books d.pool) m is.allocated (part_fits m s agree out k i d pool at live) in
-    let fits = left.0 in
-    let room = is.room in
-    record {
-      allocated = left.1;
-      room = (let e : d.allocated - back m s d.pool + (d.free + back m s d.pool) ≤ pool.capacity = omega arith in e);
-      flags = is.flags;
-      at_least = is.at_least;
-      small = is.small;
-      capacity = is.capacity;
-      counts = is.counts;
-      sets = λ x lt. is.sets x (omega arith);
-      full = λ none. (let whole = is.full none in let e : d.allocated - back m s d.pool + (d.free + back m s d.pool) ≡ pool.capacity = omega arith in e);
-    }
+    grind (arith, common_steps, back)
 
 pub agrees : (m : List Item) (s : State) → Agree s → AreOutstanding m s → Agree (released m s)
 agrees m s agree out = record {
@@ -162,8 +151,7 @@ none_back s =
     let free : e.free + 0 ≡ e.free = omega arith in
     λ i. record { pool = e.pool; capacity = e.capacity; allocated = allocated i; free = free i } in
     let books : (released [] s).books ≡ s.books = fun_ext (λ k. λ i. record (s.books k) { pools = map_same (λ e. entry_less 0 e) same (s.books k).pools i }) in
-    let ledger : (released [] s).ledger ≡ s.ledger = fun_ext (λ pool. pool_same (s.ledger pool)) in
-    λ i. record { books = books i; ledger = ledger i }
+    grind (arith, common_steps, fun_ext)
   where
     map_same : (f : Entry → Entry) → ((e : Entry) → f e ≡ e) → (es : List Entry) → map f es ≡ es
     map_same f h [] = refl

@@ -1,5 +1,6 @@
 -- One run: sets of one key and one number. What giving it back changes, and how its front goes pool by pool.
 use Rattle.gpu_descriptor.proofs.Common.{◌≡◌, ◌≢◌, ℕ, zero, suc, ◌+◌, ◌-◌, ◌<◌, Bool, true, ◌&&◌, ◌==◌, List, [], ◌∷◌, length, map, set, count_by, slice_get, Option, Some, None, inl, inr, refl, sym, ap, ◌∙◌, arith, eq-eqb, ne_eqb, if◌then◌else◌, cases_Bool, set_of, State, Item, count_of, Agree, Key, Entry, entry_at, LiveSet, set_eq, count_by_yes, count_by_alike, count_by_none}
+use Rattle.std.proofs.lemmas.Grind.{common_steps}
 use Rattle.gpu_descriptor.specs.Model.Release.{lies_in, entry_less, given_back}
 use Rattle.gpu_descriptor.proofs.release.Fronts.{entry_at-from}
 use Rattle.gpu_descriptor.proofs.table.Exact.{item_exact}
@@ -58,9 +59,7 @@ distinct_names s agree k i j d e at at' same =
     let b = s.books k in
     let p : b.first + i - b.first ≡ i = omega arith in
     let q : b.first + j - b.first ≡ j = omega arith in
-    let both = agree.distinct k k (b.first + i) (b.first + j) d e (entry_at-from b (b.first + i) d (omega arith) (rw p at)) (entry_at-from b (b.first + j) e (omega arith) (rw q at')) same in
-    let number = both.1 in
-    let one : i ≡ j = omega arith in one
+    grind (arith, common_steps, entry_at-from)
 
 -- THE BOOKS AFTER A RUN: one entry of one key
 pub run_books : (k : Key) (i : ℕ) (m : List Item) (s : State) (e : Entry) → Agree s → IsRun k i m → entry_at (s.books k) i ≡ Some e → slice_get (s.books k).pools (i - (s.books k).first) ≡ Some e → (given_back m s).books k ≡ record (s.books k) { pools = set (s.books k).pools (i - (s.books k).first) (entry_less (length m) e) }

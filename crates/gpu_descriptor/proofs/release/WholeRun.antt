@@ -39,8 +39,7 @@ module _ {S : Type 0} (name : S → ℕ) where
       elim (cases_Bool (item_eq one t)) [
         | inl same ↦ (
             let is = item_exact.same one t same in
-            let parts = at_parts k n x have.0 in
-            (ap (λ (u : Item). u.key) (sym is) ∙ parts.0, ap (λ (u : Item). u.number) (sym is) ∙ parts.1))
+            grind (arith, common_steps, at_parts))
         | inr other ↦ (let skip : count_of t (one ∷ items_of name xs) ≡ count_of t (items_of name xs) = count_by_no (λ u. item_eq u t) one (items_of name xs) other in in_run k n xs have.1 t (omega arith))
       ]
 

@@ -109,22 +109,14 @@ module _ {P : Type 0} {k : Key} {es : List (BucketKey × DescriptorBucket P)} {v
   pools_present =
       let a = sum_set (stored_load_in {P = P}) row.test es v v row.at in
       let is : k ≡ key_of a.0 = key_exact.same k (key_of a.0) (sym (row.same a.0) ∙ a.1) in
-      let old : stored_load_in {P = P} (a.0, v) ≡ stored_load k v.pools.items = ap (λ (l : Key). stored_load l v.pools.items) (sym is) in
-      let le = a.2 in
-      let all = rows_pool_load es in
-      omega arith
+      grind (arith, common_steps, rows_pool_load)
 
 module _ {P : Type 0} {k : Key} {es fs : List (BucketKey × DescriptorBucket P)} {v w : DescriptorBucket P} (r : IsWritten k es fs v w) where
   pub pools_set : (left room : ℕ) → left + stored_load k w.pools.items ≡ room + stored_load k v.pools.items → left + sum_over bucket_load (map row_of fs) ≡ room + sum_over bucket_load (map row_of es)
   pools_set left room moved =
       let a = sum_set (stored_load_in {P = P}) r.row.test es v w r.row.at in
       let is : k ≡ key_of a.0 = key_exact.same k (key_of a.0) (sym (r.row.same a.0) ∙ a.1) in
-      let old : stored_load_in {P = P} (a.0, v) ≡ stored_load k v.pools.items = ap (λ (l : Key). stored_load l v.pools.items) (sym is) in
-      let new : stored_load_in {P = P} (a.0, w) ≡ stored_load k w.pools.items = ap (λ (l : Key). stored_load l w.pools.items) (sym is) in
-      let rest = a.3 in
-      let was = rows_pool_load es in
-      let has = rows_pool_load (set_value r.row.test es w) in
-      rw r.wrote (omega arith)
+      grind (arith, common_steps, rows_pool_load)
 
   taken_out : (n : ℕ) → w.total + n ≡ v.total → sum_over sets_out (map row_of (set_value r.row.test es w)) + n ≡ sum_over sets_out (map row_of es)
   taken_out n total = (let moved = (sum_set (λ (b : BucketKey × DescriptorBucket P). b.1.total) r.row.test es v w r.row.at).3 in let was = rows_out es in let is = rows_out (set_value r.row.test es w) in omega arith)
@@ -133,13 +125,7 @@ module _ {P : Type 0} {k : Key} {es fs : List (BucketKey × DescriptorBucket P)}
   taken_load n total =
       let a = sum_set (load_in {P = P}) r.row.test es v w r.row.at in
       let is : k ≡ key_of a.0 = key_exact.same k (key_of a.0) (sym (r.row.same a.0) ∙ a.1) in
-      let old : load_in {P = P} (a.0, v) ≡ marked_load k v.total = ap (λ (l : Key). marked_load l v.total) (sym is) in
-      let new : load_in {P = P} (a.0, w) ≡ marked_load k w.total = ap (λ (l : Key). marked_load l w.total) (sym is) in
-      let parts : marked_load k v.total ≡ marked_load k w.total + marked_load k n = ap (marked_load k) (sym total) ∙ marked_load-add k w.total n in
-      let moved = a.3 in
-      let was = rows_load es in
-      let has = rows_load (set_value r.row.test es w) in
-      omega arith
+      grind (arith, common_steps, marked_load-add, rows_load)
 
   pub taken : {n : ℕ} → w.total + n ≡ v.total → Taken k n es fs
   taken {n} total = rw r.wrote (record { out = taken_out n total; load = taken_load n total })

@@ -1,5 +1,6 @@
 -- As many sets are out as are outstanding.
 use Rattle.gpu_descriptor.proofs.Common.{◌≡◌, ℕ, suc, ◌+◌, ◌-◌, ◌<◌, ◌≤◌, ◌==◌, true, false, List, [], ◌∷◌, ◌++◌, length, map, sum_by, slice_get, Option, Some, None, inl, inr, refl, sym, ap, ◌∙◌, arith, length-append, option_map_or, if◌then◌else◌, cases_Bool, cases_eq, cases_lt, length-map, sum_by-append, sum_by-cons, Pool, live_sets, LiveSet, set_eq, times, count_by_yes, count_by_no, counts_alike, set_exact, State, Agree, Item, item_eq, set_of, count_of, live_at, outstanding, Key, key_eq, Entry, Bucket, no_pools, books_of, HasDistinctKeys, sum_over, AddsUp, ∥∥₁_elim, ∥∥₁_map, ∥∥₁_prop, props}
+use Rattle.std.proofs.lemmas.Grind.{common_steps}
 use Rattle.gpu_descriptor.specs.Model.Grants.{items_at}
 use Rattle.gpu_descriptor.specs.Caller.Frees.{marked_descriptors}
 use Rattle.gpu_descriptor.specs.Model.Load.{marked_load, descriptors_out, allocated_in, sets_out}
@@ -22,9 +23,8 @@ unfolding names_in
 by_name counts [] all = refl
 by_name counts (x ∷ sets) all =
     let own : times (x ∷ sets) x ≡ suc (times sets x) = count_by_yes (λ y. set_eq y x) x sets (set_exact.self x) in
-    let here : counts ≡ x.counts = sym (all x (omega arith)) in
     let rest = by_name counts sets (λ y some. all y (let m = more y in omega arith)) in
-    λ i. record { name = x.name; counts = here i } ∷ rest i
+    grind (arith, common_steps)
   where
     more : (y : LiveSet) → times sets y ≤ times (x ∷ sets) y
     more y = elim (cases_Bool (set_eq x y)) [
@@ -169,12 +169,7 @@ removed f t (u ∷ m) some = elim (cases_Bool (item_eq u t)) [
       let found = removed f t m (omega arith) in (
         u ∷ found.0,
         (λ v.
-            let had = found.1 v in
-            let a = cons_count v u m in
-            let b = cons_count v t found.0 in
-            let c = cons_count v t (u ∷ found.0) in
-            let d = cons_count v u found.0 in
-            omega arith),
+            grind (arith, common_steps, cons_count)),
         (let sum = found.2 in let a = sum_by-cons f u m in let b = sum_by-cons f u found.0 in omega arith),
       ))
 ]
@@ -183,16 +178,13 @@ sums_alike : (f : Item → ℕ) (m n : List Item) → ((u : Item) → count_of u
 sums_alike f [] [] alike = refl
 sums_alike f [] (t ∷ n) alike =
     let own : count_of t (t ∷ n) ≡ suc (count_of t n) = count_by_yes (λ v. item_eq v t) t n (item_exact.self t) in
-    let none = alike t in
-    absurd (omega arith)
+    grind (arith, common_steps)
 sums_alike f (t ∷ m) n alike =
     let own : count_of t (t ∷ m) ≡ suc (count_of t m) = count_by_yes (λ v. item_eq v t) t m (item_exact.self t) in
     let same = alike t in
     let out = removed f t n (omega arith) in
     let rest = sums_alike f m out.0 (λ u. let a = alike u in let b = out.1 u in let c = cons_count u t m in let d = cons_count u t out.0 in omega arith) in
-    let sum = out.2 in
-    let whole = sum_by-cons f t m in
-    omega arith
+    grind (arith, common_steps, sum_by-cons)
 
 pub load_is_descriptors : (s : State) (n : ℕ) → Agree s → AddsUp descriptors_out s.books n → (items : List Item) → ((t : Item) → count_of t items ≡ outstanding s t) → marked_descriptors items ≡ n
 load_is_descriptors s n agree load items alike = ∥∥₁_elim (all_out s descriptors_out n agree load) (search props) (λ all.

@@ -22,9 +22,7 @@ created_entries k ledger [] long marked booked = refl
 created_entries k ledger (e ∷ es) long marked booked =
     let first = created_entry k ledger e long marked (booked 0 e refl) in
     let rest = created_entries k ledger es long marked (λ i. booked (suc i)) in
-    let a = sum_by-cons (λ (d : Entry). option_map_or (λ p. sum p.counts) (ledger d.pool) 0) e es in
-    let b = sum_by-cons (λ (d : Entry). pool_load k d.capacity) e es in
-    omega arith
+    grind (arith, common_steps, sum_by-cons)
 
 -- a plain key's pools count nothing
 plain_entries : (k : Key) (es : List Entry) → k.marked ≡ false → pools_load k es ≡ 0
@@ -41,13 +39,9 @@ out_of_entries k ledger [] booked = (let none = marked_load-none k in omega arit
 out_of_entries k ledger (e ∷ es) booked =
     let own = (booked 0 e refl).booked in
     let room = own.room in
-    let capacity = own.capacity in
     let first = marked_load-le k e.allocated e.capacity (omega arith) in
-    let fits = out_of_entry k e.capacity in
     let rest = out_of_entries k ledger es (λ i. booked (suc i)) in
-    let parts = ap (marked_load k) (sum_by-cons (λ (d : Entry). d.allocated) e es) ∙ marked_load-add k e.allocated (allocated_in es) in
-    let whole = sum_by-cons (λ (d : Entry). pool_load k d.capacity) e es in
-    omega arith
+    grind (arith, common_steps, marked_load-add, out_of_entry, sum_by-cons)
 
 -- ---- all keys
 

@@ -63,14 +63,11 @@ module _ {P : Type 0} where
         elim (cases_lt r i) [
           | inl below ↦ absurd (
               let le = ltb-false (slice_index_or es r d).1.id id (point.1 r d (omega arith) (omega arith)) in
-              let less = rises next (stored_ids es) rise r i (slice_index_or es r d).1.id id below (id_at es r d (omega arith)) at in
-              omega arith)
+              grind (arith, common_steps, id_at, rises))
           | inr least ↦ elim (cases_lt i r) [
             | inl before ↦ absurd (
                 let less = ltb-true (slice_index_or es i d).1.id id (point.0 i d (omega arith) before) in
-                let same : Some (slice_index_or es i d).1.id ≡ Some id = sym (id_at es i d lt) ∙ at in
-                let is : (slice_index_or es i d).1.id ≡ id = cc in
-                omega arith)
+                grind (arith, common_steps, id_at))
             | inr above ↦ (let is : r ≡ i = omega arith in rw is at)
           ]
         ]

@@ -31,13 +31,7 @@ pub sum_over_below : (f g : Key → Bucket → ℕ) (t : List (Key × Bucket)) �
 sum_over_below f g [] none distinct below = omega arith
 sum_over_below f g (row ∷ t) none distinct below =
     let here : f row.0 row.1 ≤ g row.0 row.1 = subst (λ (b : Bucket). f row.0 b ≤ g row.0 b) (first_books row t) (below row.0) in
-    let rest : sum_over f t ≤ sum_over g t = sum_over_below f g t none distinct.1 (λ k. elim (cases_Bool (key_eq row.0 k)) [
-      | inl at ↦ (let nothing : f k (books_of t k) ≡ 0 = ap (f k) (none_behind row t distinct k at) ∙ none k in omega arith)
-      | inr other ↦ (let skip : books_of (row ∷ t) k ≡ books_of t k = rw other refl in subst (λ (b : Bucket). f k b ≤ g k b) skip (below k))
-    ]) in
-    let a = sum_more f row t in
-    let b = sum_more g row t in
-    omega arith
+    grind (arith, common_steps, none_behind, sum_more, (sum_over_below f g t none distinct.1))
 
 sum_without : (f : Key → Bucket → ℕ) → ((k : Key) → f k no_pools ≡ 0) → (k : Key) (t : List (Key × Bucket)) → sum_over f t ≡ f k (books_of t k) + sum_over f (without k t)
 unfolding without
@@ -79,11 +73,5 @@ sum_by_books f [] u none dt du same = sym (nothing u du (λ k. sym (same k)))
         omega arith
 sum_by_books f (row ∷ t) u none dt du same =
     let k = row.0 in
-    let there : f k row.1 ≡ f k (books_of u k) = ap (f k) (sym (first_books row t) ∙ same k) in
-    let rest : sum_over f t ≡ sum_over f (without k u) = sum_by_books f t (without k u) none dt.1 (distinct_without k u du) (λ l. elim (cases_Bool (key_eq k l)) [
-      | inl at ↦ none_behind row t dt l at ∙ sym (books_without k l u du ∙ rw at refl)
-      | inr other ↦ (let skip : books_of (row ∷ t) l ≡ books_of t l = rw other refl in sym skip ∙ same l ∙ sym (books_without k l u du ∙ rw other refl))
-    ]) in
-    let a = sum_more f row t in
     let b = sum_without f none k u in
-    omega arith
+    grind (arith, common_steps, books_without, distinct_without, first_books, none_behind, sum_more, without, (sum_by_books f t))
