@@ -33,12 +33,12 @@ module _ (items : List ℕ) (number low size before count : ℕ) (rising : IsNon
       by_left : (left : ℕ) → size < 2 ^ left → count + left ≤ before + binary_digits (length items) → Searching items number (low + (size / 2 + 1)) (size - (size / 2 + 1)) before count'
       by_left zero small few = absurd (omega arith)
       by_left (suc left) small few = record {
-        inside = (let h = s.inside in omega arith);
+        inside = (omega arith);
         below = λ k d h lt.
-            let last = rising k (low + size / 2) 0 (omega arith) (let i = s.inside in omega arith) in
+            let last = rising k (low + size / 2) 0 (omega arith) (omega arith) in
             grind (arith, common_steps, get_or_default, ltb-true);
         above = λ k d h lt. s.above k d (omega arith) lt;
-        rises = (let r = s.rises in omega arith);
+        rises = (omega arith);
         left = left;
         small = (let t = twice left in omega arith);
         few = omega arith;
@@ -50,12 +50,12 @@ module _ (items : List ℕ) (number low size before count : ℕ) (rising : IsNon
       by_left : (left : ℕ) → size < 2 ^ left → count + left ≤ before + binary_digits (length items) → Searching items number low (size / 2) before count'
       by_left zero small few = absurd (omega arith)
       by_left (suc left) small few = record {
-        inside = (let h = s.inside in omega arith);
+        inside = (omega arith);
         below = s.below;
         above = λ k d h lt.
             let next = rising (low + size / 2) k 0 h lt in
             grind (arith, common_steps, get_or_default, ltb-false);
-        rises = (let r = s.rises in omega arith);
+        rises = (omega arith);
         left = left;
         small = (let t = twice left in omega arith);
         few = omega arith;

@@ -29,8 +29,8 @@ pub record CanTake (k : Key) (names : List ℕ) (pools : ℕ → Option Pool) (e
 pub can_take : (k : Key) (number : ℕ) (names : List ℕ) (b : Bucket) (pools : ℕ → Option Pool) (e : Entry) → IsTakenAt k number names b pools → slice_get b.pools (number - b.first) ≡ Some e → CanTake k names pools e
 can_take k number names b pools e t at = grind arith
 
-pub is_within : (k : Key) (number : ℕ) (names : List ℕ) (b : Bucket) (pools : ℕ → Option Pool) → IsTakenAt k number names b pools → number - b.first < length b.pools
-is_within k number names b pools t = slice_get_within b.pools (number - b.first) t.entry (entry_at-found b number t.entry t.at).1
+pub is_within : {P : Type 0} (name : P → ℕ) (k : Key) (number : ℕ) (names : List ℕ) (id first : ℕ) (items : List (DescriptorPool P)) (pools : ℕ → Option Pool) → IsTakenAt k number names (bucket id first (map (entry_of name) items)) pools → number - first < length items
+is_within name k number names id first items pools t = grind (arith, entry_at-found, slice_get_within, length-map)
 
 -- ls are sets of these names, each live as often as it stands there
 pub record AreTaken (names : List ℕ) (live : LiveSet → ℕ) (ls : List LiveSet) : Type 0 where
@@ -98,9 +98,7 @@ stored_after k first es pools i e ls stored at within =
     }
 
 pub read_first : {P : Type 0} (name : P → ℕ) (k : Key) (number : ℕ) (names : List ℕ) (id first : ℕ) (items : List (DescriptorPool P)) (pools : ℕ → Option Pool) (q : DescriptorPool P) → IsTakenAt k number names (bucket id first (map (entry_of name) items)) pools → q ≡ get_or items (number - first) q → slice_get (map (entry_of name) items) (number - first) ≡ Some (entry_of name q)
-read_first name k number names id first items pools q t is =
-    let lt = is_within k number names (bucket id first (map (entry_of name) items)) pools t in
-    grind (arith, common_steps, length-map, read_at)
+read_first name k number names id first items pools q t is = read_at name items (number - first) q (is_within name k number names id first items pools t) is
 
 pub place_room : (k : Key) (b : Bucket) (pools : ℕ → Option Pool) (i : ℕ) (e : Entry) → AreBookedIn k pools b.pools → slice_get b.pools i ≡ Some e → e.allocated + e.free ≤ 2147483648
 place_room k b pools i e stored at =

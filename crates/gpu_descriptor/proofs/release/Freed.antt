@@ -155,8 +155,8 @@ module _ {L P S : Type 0} (means : Meaning L P S) where
         back = subst (λ (m : ℕ). GivesBack means (r.sets ++ x ∷ xs) m (side old before) (side new after)) (sym count) (gives_both r.sets (x ∷ xs) (runs (items r.sets)) 1 old now new before mid after agree (all_out xs run.came.1.0 run.came.1.1) r.keys r.back run.back);
         agree = rw run.back.state (agrees (items (x ∷ xs)) (state_of means.pool_name now mid) r.agree (call_out xs run.came.1.0 run.came.1.1));
         keys = same ∙ r.keys;
-        rises = (let was = r.rises in omega arith);
-        few = (let was = r.few in let digits = cost in omega arith);
+        rises = (omega arith);
+        few = (let digits = cost in omega arith);
         comes = stop a run.came.1.2 run.came.2 n;
       }
         where

@@ -1,7 +1,7 @@
 -- What giving back keeps: agreement, and what is outstanding but for the sets given.
-use Rattle.gpu_descriptor.proofs.Common.{◌≡◌, ℕ, ◌+◌, ◌-◌, ◌<◌, ◌≤◌, Bool, true, false, ltb, ◌&&◌, ◌==◌, List, [], ◌∷◌, ◌++◌, flat_map, map, length, take, drop, count_by, slice_get, Option, Some, None, option_map, ◌⊎◌, inl, inr, refl, sym, ap, ◌∙◌, subst, arith, eqb-true, length-drop, if◌then◌else◌, fun_ext, list_any, cases_lt, and_parts, false_from_ne_true, length-map, set_of, State, Item, count_of, outstanding, AreOutstanding, IsAsBooked, Agree, Key, key_eq, Entry, Bucket, entry_at, Pool, LiveSet, set_eq, counts_alike, count_by-append, list_any-count_by}
+use Rattle.gpu_descriptor.proofs.Common.{◌≡◌, ℕ, ◌+◌, ◌-◌, ◌<◌, ◌≤◌, Bool, true, false, ltb, ◌&&◌, ◌==◌, List, [], ◌∷◌, ◌++◌, flat_map, map, length, take, drop, count_by, slice_get, Option, Some, None, option_map, ◌⊎◌, inl, inr, refl, sym, ap, ◌∙◌, subst, arith, eqb-true, length-drop, if◌then◌else◌, fun_ext, list_any, cases_lt, and_parts, false_from_ne_true, length-map, set_of, State, Item, count_of, outstanding, AreOutstanding, IsAsBooked, Agree, Key, Entry, Bucket, entry_at, Pool, LiveSet, set_eq, counts_alike, count_by-append, list_any-count_by}
 use Rattle.std.proofs.lemmas.Grind.{common_steps}
-use Rattle.gpu_descriptor.specs.Model.Release.{lies_in, entry_less, bucket_less, pool_less, given_back, spent_front, without_front, in_front, fronts_gone, released, singly, released_each}
+use Rattle.gpu_descriptor.specs.Model.Release.{lies_in, entry_less, bucket_less, pool_less, given_back, spent_front, released, singly, released_each}
 use Rattle.gpu_descriptor.proofs.release.Fronts.{entry_at-from}
 use Rattle.gpu_descriptor.proofs.lists.AtPlaces.{found_before}
 use Rattle.gpu_descriptor.proofs.table.Exact.{item_exact}
@@ -30,11 +30,7 @@ stays m s agree k i e h = false_from_ne_true (list_any (λ t. goes (bucket_less 
     let named : names_key m k ≡ true = ap (names_key m) (sym same.0) ∙ both.0 in
     let front : front_of m s k ≡ spent_front (bucket_less (back m s) (s.books k)) = rw named refl in
     let fronts : spent_front c ≡ spent_front (bucket_less (back m s) (s.books k)) = ap (λ (x : Key). spent_front (bucket_less (back m s) (s.books x))) same.0 in
-    let firsts : (s.books l).first ≡ (s.books k).first = ap (λ (x : Key). (s.books x).first) same.0 in
-    let past = was.3 in
-    let below = found.2 in
-    let number = same.1 in
-    omega arith)
+    grind arith)
 
 -- the ledger's record of a pool that the books still have
 pub ledger_after : (m : List Item) (s : State) → Agree s → (k : Key) (i : ℕ) (e : Entry) (pool : Pool) → entry_at ((released m s).books k) i ≡ Some e → s.ledger e.pool ≡ Some pool → (released m s).ledger e.pool ≡ Some (pool_less (back_named m s e.pool) pool)
@@ -138,18 +134,12 @@ order m n s alike =
       books = λ k. bucket_less (backs i) (s.books k);
       ledger = λ pool. option_map (pool_less (named pool i)) (s.ledger pool);
     } in
-    let fronts : (w : State) → fronts_gone m w ≡ fronts_gone n w = λ w i. record {
-      books = λ k. let b = w.books k in if any (λ t. key_eq t.key k) i then without_front (spent_front b) b else b;
-      ledger = λ pool. if any (λ t. let b = w.books t.key in in_front (spent_front b) b pool) i then None else w.ledger pool;
-    } in
-    ap (fronts_gone m) given ∙ fronts (given_back n s)
+    grind arith
 
 pub none_back : (s : State) → released [] s ≡ s
 none_back s =
     let same : (e : Entry) → entry_less 0 e ≡ e = λ e.
-    let allocated : e.allocated - 0 ≡ e.allocated = omega arith in
-    let free : e.free + 0 ≡ e.free = omega arith in
-    λ i. record { pool = e.pool; capacity = e.capacity; allocated = allocated i; free = free i } in
+    grind arith in
     let books : (released [] s).books ≡ s.books = fun_ext (λ k. λ i. record (s.books k) { pools = map_same (λ e. entry_less 0 e) same (s.books k).pools i }) in
     grind (arith, common_steps, fun_ext)
   where

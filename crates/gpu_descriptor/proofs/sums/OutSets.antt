@@ -56,8 +56,6 @@ key_out k id first (e ∷ es) ledger booked =
           let both = length-append (items_at k id first names) rest.items in
           let named : length (items_at k id first names) ≡ length names = length-map names (λ n. let t : Item = record { key = k; id = id; number = first; name = n } in t) in
           let all : length names ≡ length size.0 = length-map size.0 (λ (x : LiveSet). x.name) in
-          let long = size.1 in
-          let later = rest.many in
           let whole = sum_by-cons (λ (d : Entry). d.allocated) e es in
           omega arith);
       of_key = λ t some. elim (cases_lt 0 (count_of t (items_at k id first names))) [
@@ -111,7 +109,7 @@ table_out ledger (row ∷ table) distinct booked =
     ∥∥₁_elim (key_out row.0 row.1.id row.1.first row.1.pools ledger (λ i e at. booked row.0 i e (ap (λ (b : Bucket). slice_get b.pools i) (first_books row table) ∙ at))) ∥∥₁_prop (λ here.
     ∥∥₁_map (table_out ledger table distinct.1 (λ k i e at. booked k i e (behind k i e at))) (λ rest. (
       here.items ++ rest.0,
-      (let both = length-append here.items rest.0 in let first = here.many in let later = rest.1 in let whole = sum_by-cons (λ (r : Key × Bucket). sets_out r.0 r.1) row table in omega arith),
+      (let both = length-append here.items rest.0 in let whole = sum_by-cons (λ (r : Key × Bucket). sets_out r.0 r.1) row table in omega arith),
       (λ t.
           let sum = count_append t here.items rest.0 in
           let later = rest.2 t in
@@ -130,7 +128,6 @@ table_out ledger (row ∷ table) distinct booked =
           ]),
       (let both = sum_by-append (λ (t : Item). marked_load t.key 1) here.items rest.0 in
           let first : marked_descriptors here.items ≡ descriptors_out row.0 row.1 = load_of_items row.0 here.items (λ t some. (here.of_key t some).0) ∙ ap (marked_load row.0) here.many in
-          let later = rest.3 in
           let whole = sum_by-cons (λ (r : Key × Bucket). descriptors_out r.0 r.1) row table in
           omega arith),
     )))
@@ -170,7 +167,7 @@ removed f t (u ∷ m) some = elim (cases_Bool (item_eq u t)) [
         u ∷ found.0,
         (λ v.
             grind (arith, common_steps, cons_count)),
-        (let sum = found.2 in let a = sum_by-cons f u m in let b = sum_by-cons f u found.0 in omega arith),
+        (let a = sum_by-cons f u m in let b = sum_by-cons f u found.0 in omega arith),
       ))
 ]
 

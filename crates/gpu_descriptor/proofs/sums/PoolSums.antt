@@ -38,7 +38,6 @@ out_of_entries : (k : Key) (ledger : ℕ → Option Pool) (es : List Entry) → 
 out_of_entries k ledger [] booked = (let none = marked_load-none k in omega arith)
 out_of_entries k ledger (e ∷ es) booked =
     let own = (booked 0 e refl).booked in
-    let room = own.room in
     let first = marked_load-le k e.allocated e.capacity (omega arith) in
     let rest = out_of_entries k ledger es (λ i. booked (suc i)) in
     grind (arith, common_steps, marked_load-add, out_of_entry, sum_by-cons)

@@ -41,10 +41,7 @@ module _ {P : Type 0} (name : P → ℕ) where
   looked_up test k same [] = refl
   looked_up test k same (e ∷ es) =
       let here : key_eq (key_of e.0) k ≡ test e.0 = key_eq_symm (key_of e.0) k ∙ sym (same e.0) in
-      head_books e es k ∙ elim (cases_Bool (test e.0)) [
-        | inl h ↦ rw (here ∙ h, h) refl
-        | inr h ↦ rw (here ∙ h, h) (looked_up test k same es)
-      ]
+      grind (arith, head_books, (looked_up test k same es))
 
   no_bad : (A : Type 0) → true ≡ false → A
   no_bad A h = absurd (let bad : true ≡ false = h in cc)
