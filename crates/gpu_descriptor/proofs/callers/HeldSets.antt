@@ -1,5 +1,6 @@
 -- Which sets of a list are outstanding after a call: for callers that hold sets.
 use Rattle.gpu_descriptor.proofs.Common.{◌≡◌, ℕ, ◌+◌, List, ◌++◌, sym, ap, ◌∙◌, arith, IsPermutation, map-append, count_by-append, DescriptorSet, State, Item, item_eq, Agree, AreOutstanding, count_of, outstanding}
+use Rattle.std.proofs.lemmas.Grind.{common_steps}
 use Rattle.std.proofs.lemmas.List.Sorted.{sum_by-IsPermutation, IsPermutation-map}
 use Rattle.gpu_descriptor.specs.Model.Promises.{AreOutBesides, KeepsOutstanding}
 use Rattle.gpu_descriptor.specs.Model.Release.{released}
@@ -45,26 +46,17 @@ module _ {S : Type 0} (name : S → ℕ) where
 
   -- in another order
   pub out_moved : (xs ys : List (DescriptorSet S)) (s : State) → IsPermutation xs ys → AreOutstanding (items_of name xs) s → AreOutstanding (items_of name ys) s
-  out_moved xs ys s moved out u =
-      let a : count_of u (items_of name ys) ≡ count_of u (items_of name xs) = sum_by-IsPermutation _ _ _ (IsPermutation-map (λ (x : DescriptorSet S). item_of name x) xs ys moved) in
-      let b = out u in
-      omega arith
+  out_moved xs ys s moved out u = grind (arith, IsPermutation-map, sum_by-IsPermutation)
 
   pub out_turned : (xs ys all : List (DescriptorSet S)) (s : State) → all ≡ xs ++ ys → AreOutstanding (items_of name all) s → AreOutstanding (items_of name (ys ++ xs)) s
   out_turned xs ys all s is out u = (let a = ap (λ (l : List (DescriptorSet S)). count_of u (items_of name l)) is ∙ count_parts xs ys u in let c = count_parts ys xs u in let b = out u in omega arith)
 
   -- sets that came, in another order
   pub out_mixed : (came xs ys : List (DescriptorSet S)) (s t : State) → AreOutBesides (items_of name came) s t → xs ≡ came → IsPermutation xs ys → AreOutBesides (items_of name ys) s t
-  out_mixed came xs ys s t out is mixed u =
-      let a : count_of u (items_of name ys) ≡ count_of u (items_of name xs) = sum_by-IsPermutation _ _ _ (IsPermutation-map (λ (x : DescriptorSet S). item_of name x) xs ys mixed) in
-      let b = ap (λ (l : List (DescriptorSet S)). count_of u (items_of name l)) is in
-      let c = out u in
-      omega arith
+  out_mixed came xs ys s t out is mixed u = grind (arith, IsPermutation-map, sum_by-IsPermutation)
 
   -- where the later ones went back
   pub out_rest : (xs ys all : List (DescriptorSet S)) (s t : State) → all ≡ xs ++ ys → AreOutstanding (items_of name all) s → AreOutBesides (items_of name ys) t s → AreOutstanding (items_of name xs) t
   out_rest xs ys all s t is out less u =
       let a = ap (λ (l : List (DescriptorSet S)). count_of u (items_of name l)) is ∙ count_parts xs ys u in
-      let b = out u in
-      let c = less u in
-      omega arith
+      grind (arith, common_steps)

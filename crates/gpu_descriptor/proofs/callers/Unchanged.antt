@@ -1,5 +1,5 @@
 -- What calls keep where nothing changed, and one after another.
-use Rattle.gpu_descriptor.proofs.Common.{◌≡◌, ◌≤◌, sym, ap, subst, ◌∙◌, side, Meaning, Ledger, Agree, Allocations}
+use Rattle.gpu_descriptor.proofs.Common.{◌≡◌, ◌≤◌, sym, ap, subst, side, Meaning, Ledger, Agree, Allocations, arith}
 use Rattle.gpu_descriptor.specs.Caller.Keeps.{Keeps}
 use Rattle.gpu_descriptor.specs.Caller.Others.{others_of}
 use Rattle.gpu_descriptor.specs.Caller.States.{Agrees, marked_load_of, pool_load_of, state_of}
@@ -19,12 +19,4 @@ module _ {L P S : Type 0} {means : Meaning L P S} {old new : Allocations P} {bef
   }
 
 pub keeps_through : {L P S : Type 0} {means : Meaning L P S} {a b c : Allocations P} {l m n : Ledger} → Keeps means (side a l) (side b m) → Keeps means (side b m) (side c n) → Keeps means (side a l) (side c n)
-keeps_through {L} {P} {S} {means} {a} {b} {c} {l} {m} {n} p q = record {
-  agree = q.agree;
-  limit = q.limit ∙ p.limit;
-  load = q.load;
-  pool_load = q.pool_load;
-  foreign = foreign_through (state_of means.pool_name a l) (state_of means.pool_name b m) (state_of means.pool_name c n) p.foreign q.foreign;
-  accounted = loses_through (state_of means.pool_name a l) (state_of means.pool_name b m) (state_of means.pool_name c n) p.accounted q.accounted;
-  others = q.others ∙ p.others;
-}
+keeps_through {L} {P} {S} {means} {a} {b} {c} {l} {m} {n} p q = search (arith, foreign_through, loses_through)

@@ -1,66 +1,36 @@
 -- Cleaning up: the whole empty front of each key goes.
-use Rattle.gpu_descriptor.proofs.Common.{if◌then◌else◌, ◌≡◌, ℕ, zero, suc, ◌==◌, ◌+◌, ◌-◌, ◌<◌, ◌≤◌, Bool, true, false, List, [], ◌∷◌, length, take, drop, count_by, slice_get, Option, Some, None, ◌⊎◌, inl, inr, refl, sym, ap, ◌∙◌, arith, eq-eqb, ne_eqb, length-drop, ∥∥₁_elim, fun_ext, props, list_any, prefix_len, cases_Bool, cases_eq, false_from_ne_true, or_left, or_right, prefix_len-le-length, sum_by-cons, set_of, Item, State, live_in, outstanding, HasSize, Agree, live_at, Key, key_eq, Entry, Bucket, entry_at, no_pools, LiveSet, set_eq, set_exact, count_by_yes, any_found, any_from}
+use Rattle.gpu_descriptor.proofs.Common.{if◌then◌else◌, ◌≡◌, ℕ, zero, suc, ◌==◌, ◌+◌, ◌-◌, ◌<◌, ◌≤◌, true, false, List, [], ◌∷◌, length, take, drop, count_by, slice_get, Option, Some, None, ◌⊎◌, inl, inr, refl, sym, ap, ◌∙◌, arith, eq-eqb, ne_eqb, length-drop, ∥∥₁_elim, props, list_any, prefix_len, cases_eq, false_from_ne_true, or_right, prefix_len-le-length, sum_by-cons, set_of, Item, State, live_in, outstanding, HasSize, Agree, live_at, Key, key_eq, Entry, Bucket, entry_at, no_pools, LiveSet, set_eq, set_exact, count_by_yes}
+use Rattle.std.proofs.lemmas.Grind.{common_steps}
 use Rattle.gpu_descriptor.specs.Model.Cleanup.{IsCleaned, cleaned_bucket, pools_cleaned}
 use Rattle.gpu_descriptor.specs.Model.Release.{is_empty, empty_front, without_front, in_front}
 use Rattle.gpu_descriptor.proofs.release.Fronts.{entry_at-found, entry_at-from, entry_at-without, entry_at-kept}
-use Rattle.gpu_descriptor.proofs.table.Exact.{key_exact}
 use Rattle.gpu_descriptor.proofs.release.Places.{live_there_at, outstanding_at, outstanding_found, size_pos}
 use Rattle.gpu_descriptor.proofs.release.ReleaseAgrees.{if_none, front_found, cases_option}
 
 front_yes : (x : Entry) (es : List Entry) → is_empty x ≡ true → prefix_len is_empty (x ∷ es) ≡ suc (prefix_len is_empty es)
 front_yes x es h = rw h (omega arith)
 
-front_no : (x : Entry) (es : List Entry) → is_empty x ≡ false → prefix_len is_empty (x ∷ es) ≡ 0
-front_no x es h = rw h refl
-
 -- behind the empty front stands no empty pool
 behind_front : (es : List Entry) → prefix_len is_empty (drop (prefix_len is_empty es) es) ≡ 0
 behind_front [] = refl
-behind_front (x ∷ es) = elim (cases_Bool (is_empty x)) [
-  | inl h ↦ ap (λ (n : ℕ). prefix_len is_empty (drop n (x ∷ es))) (front_yes x es h) ∙ behind_front es
-  | inr h ↦ ap (λ (n : ℕ). prefix_len is_empty (drop n (x ∷ es))) (front_no x es h) ∙ front_no x es h
-]
+behind_front (x ∷ es) = grind (arith, front_yes, (behind_front es))
 
 -- what is cleaned is the bucket without pools, or the one without its front
 pub cleaned_cases : (b : Bucket) → ((empty_front b ≡ length b.pools) × (cleaned_bucket b ≡ record { id = 0; first = 0; pools = [] })) ⊎ ((empty_front b < length b.pools) × (cleaned_bucket b ≡ without_front (empty_front b) b))
-cleaned_cases b = elim (cases_eq (empty_front b) (length b.pools)) [
-  | inl all ↦ inl (all, rw (eq-eqb (empty_front b) (length b.pools) all) refl)
-  | inr some ↦ inr ((let le = prefix_len-le-length is_empty b.pools in omega arith), rw (ne_eqb (empty_front b) (length b.pools) some) refl)
-]
+cleaned_cases b = grind (arith, prefix_len-le-length)
 
 front_cleaned : (b : Bucket) → empty_front (cleaned_bucket b) ≡ 0
-front_cleaned b = elim (cleaned_cases b) [
-  | inl all ↦ ap empty_front all.1
-  | inr some ↦ ap empty_front some.1 ∙ behind_front b.pools
-]
+front_cleaned b = grind (arith, behind_front)
 
 cleaned_twice : (b : Bucket) → cleaned_bucket (cleaned_bucket b) ≡ cleaned_bucket b
-cleaned_twice b = elim (cleaned_cases b) [
-  | inl all ↦ ap cleaned_bucket all.1 ∙ sym all.1
-  | inr some ↦ (
-      let c = without_front (empty_front b) b in
-      let still : empty_front c ≡ 0 = behind_front b.pools in
-      let long : length c.pools ≡ length b.pools - empty_front b = length-drop (empty_front b) b.pools in
-      let more = some.0 in
-      let same : cleaned_bucket c ≡ c = elim (cleaned_cases c) [
-        | inl all ↦ (let bad = all.0 in absurd (omega arith))
-        | inr rest ↦ rest.1 ∙ ap (λ (n : ℕ). without_front n c) still ∙ (let first : c.first + 0 ≡ c.first = omega arith in λ i. record c { first = first i; pools = c.pools })
-      ] in
-      ap cleaned_bucket some.1 ∙ same ∙ sym some.1)
-]
+cleaned_twice b = grind (arith, behind_front, cleaned_cases, length-drop)
 
 pub again : (s t u : State) → IsCleaned s t → IsCleaned t u → u ≡ t
-again s t u first second =
-    let books : u.books ≡ t.books = fun_ext (λ k. second.books k ∙ ap cleaned_bucket (first.books k) ∙ cleaned_twice (s.books k) ∙ sym (first.books k)) in
-    let still : (k : Key) → empty_front (t.books k) ≡ 0 = λ k. ap empty_front (first.books k) ∙ front_cleaned (s.books k) in
-    let ledger : u.ledger ≡ t.ledger = fun_ext (λ pool. second.kept pool (λ k. ap (λ (n : ℕ). in_front n (t.books k) pool) (still k))) in
-    λ i. record { books = books i; ledger = ledger i }
+again s t u first second = search (arith, cleaned_twice)
 
 pub again_none : (keys : List Key) (s t : State) → IsCleaned s t → pools_cleaned keys t ≡ 0
 again_none [] s t clean = refl
-again_none (k ∷ keys) s t clean =
-    let here : empty_front (t.books k) ≡ 0 = ap empty_front (clean.books k) ∙ front_cleaned (s.books k) in
-    sum_by-cons (λ (l : Key). empty_front (t.books l)) k keys ∙ (λ i. here i + again_none keys s t clean i)
+again_none (k ∷ keys) s t clean = grind (arith, common_steps, front_cleaned, sum_by-cons, (again_none keys s t clean))
 
 -- a pool without live sets has none allocated
 none_live : (live : LiveSet → ℕ) (a : ℕ) → ∥ HasSize live a ∥₁ → ((name : LiveSet) → live name ≡ 0) → a ≡ 0
@@ -68,9 +38,7 @@ none_live live a some none = ∥∥₁_elim some (search props) (λ size. elim s
   | [] ↦ λ long counts. sym long
   | x ∷ xs ↦ λ long counts. (
       let own : count_by (λ y. set_eq y x) (x ∷ xs) ≡ suc (count_by (λ y. set_eq y x) xs) = count_by_yes (λ y. set_eq y x) x xs (set_exact.self x) in
-      let is = counts x in
-      let zero_live = none x in
-      absurd (omega arith))
+      grind (arith, common_steps))
 ] size.1 size.2)
 
 -- where each pool is empty, the front is the whole
@@ -97,17 +65,12 @@ whole_front s agree nothing k =
     eq-eqb e.allocated 0 (none_live booked.0.live e.allocated booked.2.allocated zero_live))
 
 pub nothing_left : (s t : State) → Agree s → ((i : Item) → outstanding s i ≡ 0) → IsCleaned s t → (k : Key) → t.books k ≡ no_pools
-nothing_left s t agree nothing clean k = elim (cleaned_cases (s.books k)) [
-  | inl all ↦ clean.books k ∙ all.1
-  | inr some ↦ (let whole = whole_front s agree nothing k in let bad = some.0 in absurd (omega arith))
-]
+nothing_left s t agree nothing clean k = grind (arith, whole_front)
 
 -- a pool of the list is among them all
 among_all : (es : List Entry) (i : ℕ) (e : Entry) → slice_get es i ≡ Some e → list_any (λ d. d.pool == e.pool) (take (length es) es) ≡ true
 among_all [] i e at = absurd (let bad : ◌≡◌ {A = Option Entry} None (Some e) = at in cc)
-among_all (x ∷ es) zero e at =
-    let is : x ≡ e = cc in
-    or_left (x.pool == e.pool) (list_any (λ d. d.pool == e.pool) (take (length es) es)) (eq-eqb x.pool e.pool (ap (λ (d : Entry). d.pool) is))
+among_all (x ∷ es) zero e at = grind arith
 among_all (x ∷ es) (suc i) e at = or_right (x.pool == e.pool) (list_any (λ d. d.pool == e.pool) (take (length es) es)) (among_all es i e at)
 
 pub all_gone : (s t : State) → Agree s → ((i : Item) → outstanding s i ≡ 0) → IsCleaned s t → (k : Key) (n : ℕ) (e : Entry) → entry_at (s.books k) n ≡ Some e → t.ledger e.pool ≡ None
@@ -118,29 +81,13 @@ all_gone s t agree nothing clean k n e at =
 
 -- what has a number afterwards had it before
 pub was_kept : (b : Bucket) (i : ℕ) (e : Entry) → entry_at (cleaned_bucket b) i ≡ Some e → (b.first + empty_front b ≤ i) × (entry_at b i ≡ Some e)
-was_kept b i e h = elim (cleaned_cases b) [
-  | inl all ↦ (
-      let found = entry_at-found (record { id = 0; first = 0; pools = [] }) i e (ap (λ (x : Bucket). entry_at x i) (sym all.1) ∙ h) in
-      absurd (let bad : ◌≡◌ {A = Option Entry} None (Some e) = found.1 in cc))
-  | inr some ↦ entry_at-without (empty_front b) b i e (ap (λ (x : Bucket). entry_at x i) (sym some.1) ∙ h)
-]
+was_kept b i e h = grind (arith, entry_at-without)
 
 -- a pool with sets keeps its number
 pub still_there : (b : Bucket) (i : ℕ) (e : Entry) → entry_at b i ≡ Some e → is_empty e ≡ false → entry_at (cleaned_bucket b) i ≡ Some e
 still_there b i e h full =
     let kept = entry_at-kept b (empty_front b) i e (let le : empty_front b ≤ empty_front b = omega arith in le) h full in
-    elim (cleaned_cases b) [
-      | inl all ↦ (
-          let gone : drop (empty_front b) b.pools ≡ [] = ap (λ (n : ℕ). drop n b.pools) all.0 ∙ drop_whole b.pools in
-          let found = entry_at-found (without_front (empty_front b) b) i e kept in
-          let at : slice_get [] (i - (b.first + empty_front b)) ≡ Some e = ap (λ (es : List Entry). slice_get es (i - (b.first + empty_front b))) (sym gone) ∙ found.1 in
-          absurd (let bad : ◌≡◌ {A = Option Entry} None (Some e) = at in cc))
-      | inr some ↦ ap (λ (x : Bucket). entry_at x i) some.1 ∙ kept
-    ]
-  where
-    drop_whole : (es : List Entry) → drop (length es) es ≡ []
-    drop_whole [] = refl
-    drop_whole (e ∷ es) = drop_whole es
+    grind (arith, common_steps, cleaned_cases, entry_at-found)
 
 -- the ledger keeps a pool that the books keep
 pub clean_stays : (s t : State) → Agree s → IsCleaned s t → (k : Key) (i : ℕ) (e : Entry) → entry_at (t.books k) i ≡ Some e → t.ledger e.pool ≡ s.ledger e.pool
@@ -150,14 +97,7 @@ clean_stays s t agree clean k i e h = clean.kept e.pool (λ l. false_from_ne_tru
     let j = found.0 in
     let place : b.first + j - b.first ≡ j = omega arith in
     let there : entry_at b (b.first + j) ≡ Some found.1 = entry_at-from b (b.first + j) found.1 (omega arith) (rw place found.3) in
-    let was = was_kept (s.books k) i e (ap (λ (x : Bucket). entry_at x i) (sym (clean.books k)) ∙ h) in
-    let same = agree.distinct l k (b.first + j) i found.1 e there was.1 found.4 in
-    let fronts : empty_front (s.books l) ≡ empty_front (s.books k) = ap (λ (x : Key). empty_front (s.books x)) same.0 in
-    let firsts : (s.books l).first ≡ (s.books k).first = ap (λ (x : Key). (s.books x).first) same.0 in
-    let past = was.0 in
-    let below = found.2 in
-    let number = same.1 in
-    omega arith))
+    grind (arith, common_steps, was_kept)))
 
 pub clean_agrees : (s t : State) → Agree s → IsCleaned s t → Agree t
 clean_agrees s t agree clean =
@@ -174,27 +114,14 @@ clean_agrees s t agree clean =
             let b = s.books k in
             let dropped : drop (empty_front b) b.pools ≡ [] = ap (λ (x : Bucket). x.pools) (sym (clean.books k ∙ some.1)) ∙ no_pools in
             let long : 0 ≡ length b.pools - empty_front b = sym (ap length dropped) ∙ length-drop (empty_front b) b.pools in
-            let more = some.0 in
-            absurd (omega arith))
+            grind (arith, common_steps))
       ];
     }
 
 pub takes_none : (s t : State) → Agree s → IsCleaned s t → (i : Item) → outstanding t i ≡ outstanding s i
 takes_none s t agree clean x = elim (cases_option (entry_at (t.books x.key) x.number)) [
   | inr some ↦ (
-      let e = some.0 in
-      let was = was_kept (s.books x.key) x.number e (ap (λ (b : Bucket). entry_at b x.number) (sym (clean.books x.key)) ∙ some.1) in
-      let booked = agree.booked x.key x.number e was.1 in
-      let found : t.ledger e.pool ≡ Some booked.0 = clean_stays s t agree clean x.key x.number e some.1 ∙ booked.1 in
-      let id : (t.books x.key).id ≡ (s.books x.key).id = elim (cleaned_cases (s.books x.key)) [
-        | inl whole ↦ absurd (
-            let gone = entry_at-found (record { id = 0; first = 0; pools = [] }) x.number e (ap (λ (b : Bucket). entry_at b x.number) (sym (clean.books x.key ∙ whole.1)) ∙ some.1) in
-            let bad : ◌≡◌ {A = Option Entry} None (Some e) = gone.1 in
-            cc)
-        | inr rest ↦ ap (λ (b : Bucket). b.id) (clean.books x.key ∙ rest.1)
-      ] in
-      ap (λ (i : ℕ). if i == x.id then live_at t.ledger (t.books x.key) x else 0) id
-      ∙ ap (λ (n : ℕ). if (s.books x.key).id == x.id then n else 0) (live_there_at t x e booked.0 some.1 found ∙ sym (live_there_at s x e booked.0 was.1 booked.1)))
+      grind (arith, common_steps, clean_stays, cleaned_cases, entry_at-found, live_there_at, was_kept))
   | inl missing ↦ (
       let empty : live_at t.ledger (t.books x.key) x ≡ 0 = rw missing refl in
       let nothing : outstanding t x ≡ 0 = ap (λ (n : ℕ). if (t.books x.key).id == x.id then n else 0) empty ∙ if_none ((t.books x.key).id == x.id) in
@@ -214,20 +141,4 @@ takes_none s t agree clean x = elim (cases_option (entry_at (t.books x.key) x.nu
 
 -- where finitely many keys have pools, it is known which pools go
 pub once : (keys : List Key) (s t u : State) → ((k : Key) → list_any (λ l. key_eq l k) keys ≡ false → (s.books k).pools ≡ []) → IsCleaned s t → IsCleaned s u → t ≡ u
-once keys s t u covers first second =
-    let books : t.books ≡ u.books = fun_ext (λ k. first.books k ∙ sym (second.books k)) in
-    let ledger : t.ledger ≡ u.ledger = fun_ext (λ pool.
-    let test : Key → Bool = λ k. in_front (empty_front (s.books k)) (s.books k) pool in
-    elim (cases_Bool (list_any test keys)) [
-      | inl some ↦ (let found = any_found key_exact test keys some in first.gone found.0 pool found.2 ∙ sym (second.gone found.0 pool found.2))
-      | inr no_key ↦ (
-          let kept : (k : Key) → test k ≡ false = λ k. elim (cases_Bool (list_any (λ l. key_eq l k) keys)) [
-            | inl named ↦ false_from_ne_true (test k) (λ gone.
-                let found = any_found key_exact (λ l. key_eq l k) keys named in
-                let here = any_from key_exact test keys found.0 found.1 (ap test (key_exact.same found.0 k found.2) ∙ gone) in
-                let bad : true ≡ false = sym here ∙ no_key in cc)
-            | inr other ↦ rw (covers k other) refl
-          ] in
-          first.kept pool kept ∙ sym (second.kept pool kept))
-    ]) in
-    λ i. record { books = books i; ledger = ledger i }
+once keys s t u covers first second = grind arith

@@ -1,5 +1,6 @@
 -- How many pools go, in two parts and at once.
-use Rattle.gpu_descriptor.proofs.Common.{State, AreOutstanding, Item, Agree, ◌≡◌, ℕ, ◌+◌, Bool, true, false, ◌||◌, List, [], ◌∷◌, ◌++◌, sum_by, refl, sym, ap, ◌∙◌, arith, if◌then◌else◌, fun_ext, sum_by-append, Key, key_eq, Bucket, count_by-append}
+use Rattle.gpu_descriptor.proofs.Common.{State, AreOutstanding, Item, Agree, ◌≡◌, ℕ, ◌+◌, Bool, true, false, ◌||◌, List, [], ◌∷◌, ◌++◌, sum_by, refl, sym, ap, ◌∙◌, arith, if◌then◌else◌, fun_ext, Key, key_eq, Bucket, count_by-append}
+use Rattle.std.proofs.lemmas.Grind.{common_steps}
 use Rattle.std.proofs.lemmas.List.Folds.{list_any-append}
 use Rattle.gpu_descriptor.specs.Model.Release.{lies_in, bucket_less, spent_front, released, pools_gone, given_back}
 use Rattle.gpu_descriptor.proofs.release.Fronts.{less-less, spent_front-less}
@@ -15,16 +16,7 @@ count_law false false f g b quiet = omega arith
 
 sum_both : (f g h : Key → ℕ) → ((k : Key) → f k + g k ≡ h k) → (keys : List Key) → sum_by f keys + sum_by g keys ≡ sum_by h keys
 sum_both f g h each [] = omega arith
-sum_both f g h each (k ∷ keys) =
-    let a : sum_by f (k ∷ keys) ≡ f k + sum_by f keys = more f k keys in
-    let b : sum_by g (k ∷ keys) ≡ g k + sum_by g keys = more g k keys in
-    let c : sum_by h (k ∷ keys) ≡ h k + sum_by h keys = more h k keys in
-    let here = each k in
-    let rest = sum_both f g h each keys in
-    omega arith
-  where
-    more : (f : Key → ℕ) (k : Key) (keys : List Key) → sum_by f (k ∷ keys) ≡ f k + sum_by f keys
-    more f k keys = sum_by-append f (k ∷ []) keys ∙ (let one : sum_by f (k ∷ []) ≡ f k = omega arith in omega arith)
+sum_both f g h each (k ∷ keys) = grind (arith, common_steps, (sum_both f g h each keys))
 
 pub gone : (keys : List Key) (m n : List Item) (s : State) → Agree s → AreOutstanding (m ++ n) s → pools_gone keys m (given_back m s) + pools_gone keys n (given_back n (released m s)) ≡ pools_gone keys (m ++ n) (given_back (m ++ n) s)
 gone keys m n s agree out =

@@ -1,13 +1,12 @@
 -- In which order keys stay in the table.
 use Rattle.gpu_descriptor.specs.Caller.Keys.{keys_with_pools}
-use Rattle.gpu_descriptor.proofs.Common.{◌≡◌, ℕ, suc, ◌==◌, not, Bool, List, [], ◌∷◌, ◌++◌, length, map, filter, slice_get, Some, inl, inr, refl, sym, ap, subst, ◌∙◌, arith, length-drop, set_value, cases_Bool, map-append, Ledger, BucketKey, DescriptorBucket, Key, Bucket, HasDistinctKeys, books_of, key_of, Allocations}
-use Rattle.gpu_descriptor.specs.Inner.Buckets.{has_pools, front_but, trimmed_bucket}
+use Rattle.std.proofs.lemmas.Grind.{common_steps}
+use Rattle.gpu_descriptor.proofs.Common.{◌≡◌, ℕ, suc, ◌==◌, not, Bool, List, [], ◌∷◌, ◌++◌, length, map, filter, slice_get, Some, inl, inr, refl, sym, ap, subst, ◌∙◌, arith, length-drop, set_value, map-append, Ledger, BucketKey, DescriptorBucket, Key, Bucket, HasDistinctKeys, books_of, key_of, Allocations}
+use Rattle.gpu_descriptor.specs.Inner.Buckets.{has_pools, trimmed_bucket}
 use Rattle.gpu_descriptor.specs.Model.Cleanup.{IsCleaned, cleaned_bucket}
 use Rattle.gpu_descriptor.specs.Caller.Keys.{StayOrGainLast}
 use Rattle.gpu_descriptor.specs.Caller.States.{keys_of, named_row, state_of}
 use Rattle.gpu_descriptor.specs.Inner.Stored.{row_of, stored_keys}
-use Rattle.gpu_descriptor.proofs.cleanup.Cleaning.{cleaned_cases}
-use Rattle.gpu_descriptor.proofs.release.Fronts.{whole_front, whole_trimmed}
 use Rattle.gpu_descriptor.proofs.cleanup.RowsCleaned.{Rows, cleared_row, first_keys, has_row, row_books, rows_left}
 use Rattle.gpu_descriptor.proofs.table.TableBooks.{keys_are, keys_set, rows_are, rows_in}
 
@@ -30,25 +29,14 @@ module _ {P : Type 0} (k : Key) where
 
 -- a key is left exactly if it has pools once it is cleaned
 left_exactly : (b : Bucket) → (length (cleaned_bucket b).pools == 0) ≡ (length (trimmed_bucket 0 b).pools == 0)
-left_exactly b = elim (cleaned_cases b) [
-  | inl all ↦ (
-      let long = length-drop (front_but 0 b) b.pools in
-      let front = whole_front b in
-      let whole = all.0 in
-      let none : length (trimmed_bucket 0 b).pools ≡ 0 = omega arith in
-      ap (λ (c : Bucket). length c.pools == 0) all.1 ∙ ap (λ (n : ℕ). n == 0) (sym none))
-  | inr some ↦ ap (λ (c : Bucket). length c.pools == 0) (some.1 ∙ sym (whole_trimmed b))
-]
+left_exactly b = grind (arith, length-drop)
 
 keys_left : (stays : Key → Bool) (rows : Rows) → ((i : ℕ) (r : Key × Bucket) → slice_get rows i ≡ Some r → stays r.0 ≡ has_row (cleared_row r)) → map (λ r. r.0) (filter has_row (map cleared_row rows)) ≡ filter stays (map (λ r. r.0) rows)
 keys_left stays [] says = refl
 keys_left stays (r ∷ rows) says =
     let rest = keys_left stays rows (λ i. says (suc i)) in
     let own = says 0 r refl in
-    elim (cases_Bool (length (trimmed_bucket 0 r.1).pools == 0)) [
-      | inl none ↦ rw (none, own ∙ ap not none) rest
-      | inr some ↦ rw (some, own ∙ ap not some) (ap (λ (l : List Key). r.0 ∷ l) rest)
-    ]
+    grind (arith, common_steps)
 
 -- the keys that still have pools are left, in their order
 pub keys_cleaned : {P : Type 0} (name : P → ℕ) (a b : Allocations P) (l m : Ledger) (es now fs : List (BucketKey × DescriptorBucket P)) → a.table ≡ map row_of es → b.table ≡ map row_of fs → HasDistinctKeys (rows_in name es) → rows_in name now ≡ map cleared_row (rows_in name es) → fs ≡ filter (λ e. has_pools e.1) now

@@ -1,20 +1,19 @@
 -- Cleaning up, row by row.
-use Rattle.gpu_descriptor.proofs.Common.{◌≡◌, ℕ, zero, suc, ◌+◌, ◌-◌, ◌<◌, ◌≤◌, Bool, true, false, not, ◌||◌, ◌==◌, List, [], ◌∷◌, ◌++◌, length, map, filter, set, take, drop, sum_by, slice_get, Option, Some, None, option_map, inl, inr, refl, sym, ap, subst, ◌∙◌, arith, eq-eqb, eqb-true, length-drop, if◌then◌else◌, fun_ext, list_any, IsDistinct, values_of, cases_Bool, or_left, or_right, or_parts, false_from_ne_true, append-nil, drop_all, length-map, take_all, sum_by-cons, sum_by_more, get_or_from_slice_get, slice_get-map, slice_get_within, Pool, Ledger, BucketKey, DescriptorPool, DescriptorBucket, State, Agree, Key, key_eq, Bucket, entry_at, no_pools, books_of, HasDistinctKeys, key_of, Allocations}
+use Rattle.gpu_descriptor.proofs.Common.{◌≡◌, ℕ, zero, suc, ◌+◌, ◌-◌, ◌<◌, ◌≤◌, Bool, true, false, not, ◌==◌, List, [], ◌∷◌, ◌++◌, length, map, filter, set, take, drop, sum_by, slice_get, Option, Some, None, option_map, inl, inr, refl, sym, ap, subst, ◌∙◌, arith, length-drop, if◌then◌else◌, fun_ext, list_any, IsDistinct, values_of, cases_Bool, false_from_ne_true, append-nil, drop_all, length-map, take_all, sum_by-cons, sum_by_more, get_or_from_slice_get, slice_get-map, slice_get_within, Pool, Ledger, BucketKey, DescriptorPool, DescriptorBucket, State, Agree, Key, key_eq, Bucket, entry_at, no_pools, books_of, HasDistinctKeys, key_of, Allocations}
+use Rattle.std.proofs.lemmas.Grind.{common_steps}
 use Rattle.std.proofs.lemmas.List.Folds.{list_any_more}
 use Rattle.indexmap.specs.Layout.{set_value_at}
-use Rattle.gpu_descriptor.specs.Model.Load.{marked_load}
-use Rattle.gpu_descriptor.specs.Inner.Buckets.{AreBookedIn, has_pools, front_but, trimmed_bucket, trimmed_ledger, ledger_without}
+use Rattle.gpu_descriptor.specs.Inner.Buckets.{AreBookedIn, has_pools, trimmed_bucket, trimmed_ledger}
 use Rattle.gpu_descriptor.specs.Model.Release.{more_destroyed, empty_front, in_front}
 use Rattle.gpu_descriptor.specs.Model.Cleanup.{cleaned_bucket, IsCleaned, pools_cleaned}
 use Rattle.gpu_descriptor.specs.Caller.States.{named_row, state_of, keys_of}
-use Rattle.gpu_descriptor.specs.Inner.Stored.{row_of, entry_of, bucket_of, stored_keys, stored_load, IsConsistent}
+use Rattle.gpu_descriptor.specs.Inner.Stored.{row_of, bucket_of, stored_keys, IsConsistent}
 use Rattle.gpu_descriptor.proofs.lists.AtPlaces.{found_before, none_at}
-use Rattle.gpu_descriptor.proofs.cleanup.Cleaning.{cleaned_cases}
 use Rattle.gpu_descriptor.proofs.table.Exact.{key_exact}
-use Rattle.gpu_descriptor.proofs.release.Fronts.{whole_front, whole_trimmed, entry_at-from}
+use Rattle.gpu_descriptor.proofs.release.Fronts.{whole_front, entry_at-from}
 use Rattle.gpu_descriptor.proofs.release.ReleaseAgrees.{front_found}
-use Rattle.gpu_descriptor.proofs.foreign.LedgerPools.{destroyed_both, destroyed_none}
-use Rattle.gpu_descriptor.proofs.sums.Loads.{load_in, marked_load-none, rows_load, rows_out, rows_pool_load, stored_load_in, sum_put}
+use Rattle.gpu_descriptor.proofs.foreign.LedgerPools.{destroyed_both}
+use Rattle.gpu_descriptor.proofs.sums.Loads.{marked_load-none, rows_load, rows_out, rows_pool_load, stored_load_in, sum_put}
 use Rattle.gpu_descriptor.proofs.table.RowAt.{keys_at}
 use Rattle.gpu_descriptor.proofs.table.TableBooks.{rows_in, rows_are, keys_are}
 use Rattle.gpu_descriptor.proofs.table.Tables.{key_eq_symm, absent}
@@ -60,10 +59,7 @@ cleared_set (x ∷ rows) (suc i) r at = ap (λ (l : Rows). cleared_row x ∷ l) 
 
 -- the entry at a place, seen by its value
 pub entry_there : {P : Type 0} (es : List (BucketKey × DescriptorBucket P)) (i : ℕ) (e : BucketKey × DescriptorBucket P) (v : DescriptorBucket P) → slice_get es i ≡ Some e → slice_get (values_of es) i ≡ Some v → slice_get es i ≡ Some (e.0, v)
-entry_there {P} es i e v at found =
-    let same : Some e.1 ≡ Some v = ap (option_map (λ (x : BucketKey × DescriptorBucket P). x.1)) (sym at) ∙ sym (slice_get-map (λ (x : BucketKey × DescriptorBucket P). x.1) es i) ∙ found in
-    let eq : e.1 ≡ v = cc in
-    at ∙ ap (λ (w : DescriptorBucket P). Some (e.0, w)) eq
+entry_there {P} es i e v at found = grind (arith, slice_get-map)
 
 module _ {P : Type 0} (name : P → ℕ) where
   rows_set : (es : List (BucketKey × DescriptorBucket P)) (i : ℕ) (k : BucketKey) (v w : DescriptorBucket P) → slice_get es i ≡ Some (k, v) → rows_in name (set_value_at es i w) ≡ set (rows_in name es) i (key_of k, bucket_of name w)
@@ -84,43 +80,20 @@ pub step_less : (i : ℕ) (rows : Rows) (r : Key × Bucket) (l now after : Ledge
 step_less i rows r l now after at was done =
     let within = slice_get_within rows i r at in
     let read = get_or_from_slice_get rows i r r at in
-    let front_of : Key × Bucket → ℕ = λ x. empty_front x.1 in
-    let pools : (λ p. if in_front (empty_front r.1) r.1 p then None else (pools_less (take i rows) l.pools) p) ≡ pools_less (take (i + 1) rows) l.pools = fun_ext (λ p.
-    twice (front r.1 p) (gone (take i rows) p) (l.pools p)
-    ∙ ap (λ (g : Bool). if g then None else l.pools p) (sym (list_any_more (λ (x : Key × Bucket). front x.1 p) rows i r within ∙ ap (λ (x : Key × Bucket). gone (take i rows) p || front x.1 p) read))) in
-    let more : sum_by front_of (take i rows) + empty_front r.1 ≡ sum_by front_of (take (i + 1) rows) = sym (sum_by_more front_of rows i r within ∙ ap (λ (x : Key × Bucket). sum_by front_of (take i rows) + front_of x) read) in
-    let counters = destroyed_both (sum_by front_of (take i rows)) (empty_front r.1) l.counters ∙ ap (λ (n : ℕ). more_destroyed n l.counters) more in
-    let last : ledger_without (empty_front r.1) r.1 (ledger_less (take i rows) l) ≡ ledger_less (take (i + 1) rows) l = λ j. record { pools = pools j; counters = counters j } in
-    done ∙ ap (λ (m : Ledger). trimmed_ledger 0 r.1 m) was ∙ ap (λ (n : ℕ). ledger_without n r.1 (ledger_less (take i rows) l)) (whole_front r.1) ∙ last
-  where
-    twice : (a b : Bool) (o : Option Pool) → (if a then None else (if b then None else o)) ≡ (if b || a then None else o)
-    twice true true o = refl
-    twice true false o = refl
-    twice false true o = refl
-    twice false false o = refl
-
-pub none_less : (l : Ledger) → l ≡ ledger_less [] l
-none_less l = (let counters = sym (destroyed_none l.counters) in λ i. record { pools = l.pools; counters = counters i })
+    grind (arith, common_steps, destroyed_both, fun_ext, list_any_more, sum_by_more, whole_front)
 
 -- ---- rows with distinct keys
 
 apart : (rows : Rows) (j i : ℕ) (r s : Key × Bucket) → HasDistinctKeys rows → j < i → slice_get rows j ≡ Some r → slice_get rows i ≡ Some s → r.0 ≡ s.0 → ⊥
 apart [] j i r s h lt at at' same = (let bad : ◌≡◌ {A = Option (Key × Bucket)} None (Some r) = at in cc)
 apart (x ∷ rows) j zero r s h lt at at' same = omega arith
-apart (x ∷ rows) zero (suc i) r s h lt at at' same =
-    let is : Some x ≡ Some r = at in
-    let eq : x ≡ r = cc in
-    let other = none_at (λ (o : Key × Bucket). key_eq o.0 x.0) rows i s h.0 at' in
-    let own : key_eq s.0 x.0 ≡ true = ap (λ (k : Key). key_eq k x.0) (sym same ∙ ap (λ (y : Key × Bucket). y.0) (sym eq)) ∙ key_exact.self x.0 in
-    (let bad : true ≡ false = sym own ∙ other in cc)
+apart (x ∷ rows) zero (suc i) r s h lt at at' same = grind (arith, key_exact, none_at)
 apart (x ∷ rows) (suc j) (suc i) r s h lt at at' same = apart rows j i r s h.1 (omega arith) at at' same
 
 pub row_books : (rows : Rows) (i : ℕ) (r : Key × Bucket) → HasDistinctKeys rows → slice_get rows i ≡ Some r → books_of rows r.0 ≡ r.1
 row_books [] i r h at = absurd (let bad : ◌≡◌ {A = Option (Key × Bucket)} None (Some r) = at in cc)
 row_books (x ∷ rows) zero r h at = (let is : Some x ≡ Some r = at in let eq : x ≡ r = cc in subst (λ (y : Key × Bucket). books_of (x ∷ rows) y.0 ≡ y.1) eq (rw (key_exact.self x.0) refl))
-row_books (x ∷ rows) (suc i) r h at =
-    let other : key_eq x.0 r.0 ≡ false = key_eq_symm x.0 r.0 ∙ none_at (λ (o : Key × Bucket). key_eq o.0 x.0) rows i r h.0 at in
-    rw other (row_books rows i r h.1 at)
+row_books (x ∷ rows) (suc i) r h at = grind (arith, key_eq_symm, none_at, (row_books rows i r h.1 at))
 
 -- the next row stands in the ledger still
 pub next_stored : (rows : Rows) (pools : ℕ → Option Pool) (i : ℕ) (r : Key × Bucket) → HasDistinctKeys rows → Agree (record { books = books_of rows; ledger = pools }) → slice_get rows i ≡ Some r → AreBookedIn r.0 (pools_less (take i rows) pools) r.1.pools
@@ -143,42 +116,19 @@ next_stored rows pools i r distinct agree at =
           let mine : entry_at r.1 (r.1.first + j) ≡ Some e = entry_at-from r.1 (r.1.first + j) e (omega arith) (rw b here) in
           let same = (agree.distinct q.0 r.0 (q.1.first + inside.0) (r.1.first + j) inside.1 e (ap (λ (x : Bucket). entry_at x (q.1.first + inside.0)) other ∙ there) (ap (λ (x : Bucket). entry_at x (r.1.first + j)) own ∙ mine) inside.4).0 in
           apart rows found.0 i q r distinct found.2 found.3 at same) in
-          record {
-            pool = booked.pool;
-            is_live = (let kept : pools_less (take i rows) pools e.pool ≡ pools e.pool = rw stays refl in kept ∙ booked.is_live);
-            booked = booked.booked;
-          };
+          grind (arith, common_steps);
     }
 
 any_gone : (rows : Rows) (k : Key) (p : ℕ) → front (books_of rows k) p ≡ true → gone rows p ≡ true
 any_gone [] k p h = absurd (let bad : true ≡ false = sym h in cc)
-any_gone (r ∷ rows) k p h = elim (cases_Bool (key_eq r.0 k)) [
-  | inl at ↦ or_left (front r.1 p) (gone rows p) (rw at at h)
-  | inr other ↦ or_right (front r.1 p) (gone rows p) (any_gone rows k p (rw other at h))
-]
+any_gone (r ∷ rows) k p h = grind (arith, (any_gone rows k p))
 
 -- what is left of a bucket that is cleared
 left_some : (b : Bucket) → (length (trimmed_bucket 0 b).pools == 0) ≡ false → trimmed_bucket 0 b ≡ cleaned_bucket b
-left_some b more = elim (cleaned_cases b) [
-  | inl all ↦ (
-      let front = whole_front b in
-      let long = length-drop (front_but 0 b) b.pools in
-      let whole = all.0 in
-      let none : length (trimmed_bucket 0 b).pools ≡ 0 = omega arith in
-      absurd (let bad : true ≡ false = sym (eq-eqb (length (trimmed_bucket 0 b).pools) 0 none) ∙ more in cc))
-  | inr some ↦ whole_trimmed b ∙ sym some.1
-]
+left_some b more = grind (arith, length-drop)
 
 left_none : (b : Bucket) → (length (trimmed_bucket 0 b).pools == 0) ≡ true → cleaned_bucket b ≡ no_pools
-left_none b none = elim (cleaned_cases b) [
-  | inl all ↦ all.1
-  | inr some ↦ (
-      let front = whole_front b in
-      let long = length-drop (front_but 0 b) b.pools in
-      let more = some.0 in
-      let zero_left = eqb-true (length (trimmed_bucket 0 b).pools) 0 none in
-      absurd (omega arith))
-]
+left_none b none = grind (arith, length-drop, whole_front)
 
 -- ---- all rows
 
@@ -195,8 +145,7 @@ left_books [] k d = refl
 left_books (r ∷ rows) k d = elim (cases_Bool (length (trimmed_bucket 0 r.1).pools == 0)) [
   | inl none ↦ rw none (left_books rows k d.1 ∙ elim (cases_Bool (key_eq r.0 k)) [
     | inl at ↦ (
-        let gone_row : books_of rows k ≡ no_pools = absent k rows (ap (λ (x : Key). list_any (λ o. key_eq o.0 x) rows) (sym (key_exact.same r.0 k at)) ∙ d.0) in
-        rw at (ap cleaned_bucket gone_row ∙ sym (left_none r.1 none)))
+        grind (arith, common_steps, absent, key_exact, left_none))
     | inr other ↦ rw other refl
   ])
   | inr some ↦ rw some (elim (cases_Bool (key_eq r.0 k)) [
@@ -208,12 +157,7 @@ left_books (r ∷ rows) k d = elim (cases_Bool (length (trimmed_bucket 0 r.1).po
 module _ {P : Type 0} (name : P → ℕ) where
   pub rows_left : (es : List (BucketKey × DescriptorBucket P)) → rows_in name (filter (λ e. has_pools e.1) es) ≡ filter has_row (rows_in name es)
   rows_left [] = refl
-  rows_left (e ∷ es) =
-      let long = ap (λ n. n == 0) (length-map e.1.pools.items (entry_of name)) in
-      elim (cases_Bool (length e.1.pools.items == 0)) [
-        | inl none ↦ rw (none, long ∙ none) (rows_left es)
-        | inr some ↦ rw (some, long ∙ some) (ap (λ (l : Rows). (key_of e.0, bucket_of name e.1) ∷ l) (rows_left es))
-      ]
+  rows_left (e ∷ es) = grind (arith, length-map, (rows_left es))
 
   pub is_cleaned : (es : List (BucketKey × DescriptorBucket P)) (rows : Rows) (pools : ℕ → Option Pool) → HasDistinctKeys rows → rows_in name es ≡ map cleared_row rows
       → IsCleaned (record { books = books_of rows; ledger = pools }) (record { books = books_of (rows_in name (filter (λ e. has_pools e.1) es)); ledger = pools_less rows pools })
@@ -233,24 +177,13 @@ module _ {P : Type 0} (name : P → ℕ) where
 -- a row that comes before is of another key
 skip_row : (r : Key × Bucket) (rows qs : Rows) → list_any (λ other. key_eq other.0 r.0) qs ≡ false → sum_by (λ k. empty_front (books_of (r ∷ rows) k)) (map (λ q. q.0) qs) ≡ sum_by (λ k. empty_front (books_of rows k)) (map (λ q. q.0) qs)
 skip_row r rows [] none = refl
-skip_row r rows (q ∷ qs) none =
-    let both = or_parts (key_eq q.0 r.0) (list_any (λ other. key_eq other.0 r.0) qs) none in
-    let other : key_eq r.0 q.0 ≡ false = key_eq_symm r.0 q.0 ∙ both.0 in
-    let here : empty_front (books_of (r ∷ rows) q.0) ≡ empty_front (books_of rows q.0) = rw other refl in
-    let rest = skip_row r rows qs both.1 in
-    let a = sum_by-cons (λ k. empty_front (books_of (r ∷ rows) k)) q.0 (map (λ (x : Key × Bucket). x.0) qs) in
-    let b = sum_by-cons (λ k. empty_front (books_of rows k)) q.0 (map (λ (x : Key × Bucket). x.0) qs) in
-    omega arith
+skip_row r rows (q ∷ qs) none = grind (arith, common_steps, key_eq_symm, (skip_row r rows qs))
 
 by_keys : (rows : Rows) → HasDistinctKeys rows → sum_by (λ k. empty_front (books_of rows k)) (map (λ r. r.0) rows) ≡ sum_by (λ r. empty_front r.1) rows
 by_keys [] d = refl
 by_keys (r ∷ rows) d =
-    let own : empty_front (books_of (r ∷ rows) r.0) ≡ empty_front r.1 = rw (key_exact.self r.0) refl in
     let skip = skip_row r rows rows d.0 in
-    let rest = by_keys rows d.1 in
-    let a = sum_by-cons (λ k. empty_front (books_of (r ∷ rows) k)) r.0 (map (λ (x : Key × Bucket). x.0) rows) in
-    let b = sum_by-cons (λ (x : Key × Bucket). empty_front x.1) r rows in
-    omega arith
+    grind (arith, common_steps, key_exact, sum_by-cons, (by_keys rows d.1))
 
 module _ {P : Type 0} (name : P → ℕ) where
   state_is : (a : Allocations P) (l : Ledger) (es : List (BucketKey × DescriptorBucket P)) → a.table ≡ map row_of es → state_of name a l ≡ record { books = books_of (rows_in name es); ledger = l.pools }
@@ -283,43 +216,18 @@ module _ {P : Type 0} (name : P → ℕ) where
 -- a sum over those that count
 sum_filter : {A : Type 0} (f : A → ℕ) (p : A → Bool) → ((x : A) → p x ≡ false → f x ≡ 0) → (xs : List A) → sum_by f (filter p xs) ≡ sum_by f xs
 sum_filter f p nothing [] = refl
-sum_filter f p nothing (x ∷ xs) =
-    let rest = sum_filter f p nothing xs in
-    let all = sum_by-cons f x xs in
-    elim (cases_Bool (p x)) [
-      | inl on ↦ rw on (let more = sum_by-cons f x (filter p xs) in omega arith)
-      | inr off ↦ rw off (let none = nothing x off in omega arith)
-    ]
+sum_filter f p nothing (x ∷ xs) = grind (arith, sum_by-cons, (sum_filter f p nothing xs))
 
 module _ {P : Type 0} where
   -- a key without pools has no sets out, and takes no room
   empty_bucket : (b : DescriptorBucket P) → has_pools b ≡ false → b.pools.items ≡ []
-  empty_bucket b h = go b.pools.items h
-    where
-      go : (ps : List (DescriptorPool P)) → not (length ps == 0) ≡ false → ps ≡ []
-      go [] h = refl
-      go (p ∷ ps) h = elim (cases_Bool (length (p ∷ ps) == 0)) [
-        | inl none ↦ absurd (let bad : length (p ∷ ps) ≡ 0 = eqb-true (length (p ∷ ps)) 0 none in omega arith)
-        | inr some ↦ absurd (let bad : true ≡ false = sym (ap not some) ∙ h in cc)
-      ]
+  empty_bucket b h = grind (arith, common_steps)
 
   none_out : (b : DescriptorBucket P) → has_pools b ≡ false → b.total ≡ 0
   none_out b h = b.counted ∙ ap (sum_by (λ (p : DescriptorPool P). p.allocated)) (empty_bucket b h)
 
   pub counted_put : (limit marked room left out : ℕ) (es : List (BucketKey × DescriptorBucket P)) (i : ℕ) (k : BucketKey) (v w : DescriptorBucket P) → slice_get es i ≡ Some (k, v) → w.total ≡ v.total → left + stored_load_in (k, w) ≡ room + stored_load_in (k, v) → IsConsistent limit marked room out es → IsConsistent limit marked left out (set_value_at es i w)
-  counted_put limit marked room left out es i k v w at same moved counted = record {
-    distinct = subst (IsDistinct key_eq) (sym (keys_at es i w)) counted.distinct;
-    is_room = (let put = (sum_put (stored_load_in {P = P}) es i k v w at).1 in let old = rows_pool_load es in let new = rows_pool_load (set_value_at es i w) in let was = counted.is_room in omega arith);
-    is_load = (let put = (sum_put (load_in {P = P}) es i k v w at).1 in let old = rows_load es in let new = rows_load (set_value_at es i w) in let alike = ap (marked_load (key_of k)) same in let was = counted.is_load in omega arith);
-    within = counted.within;
-    is_out = (let put = (sum_put (λ (r : BucketKey × DescriptorBucket P). r.1.total) es i k v w at).1 in let old = rows_out es in let new = rows_out (set_value_at es i w) in let was = counted.is_out in omega arith);
-  }
+  counted_put limit marked room left out es i k v w at same moved counted = grind (arith, keys_at, rows_load, rows_out, rows_pool_load, sum_put)
 
   pub counted_filter : (limit marked room out : ℕ) (es fs : List (BucketKey × DescriptorBucket P)) → fs ≡ filter (λ e. has_pools e.1) es → IsDistinct key_eq (stored_keys fs) → IsConsistent limit marked room out es → IsConsistent limit marked room out fs
-  counted_filter limit marked room out es fs kept distinct counted = rw kept (record {
-    distinct = subst (λ (l : List (BucketKey × DescriptorBucket P)). IsDistinct key_eq (stored_keys l)) kept distinct;
-    is_room = ap (λ n. room + n) (rows_pool_load (filter (λ e. has_pools e.1) es) ∙ sum_filter stored_load_in (λ e. has_pools e.1) (λ e none. ap (λ ps. stored_load (key_of e.0) ps) (empty_bucket e.1 none)) es ∙ sym (rows_pool_load es)) ∙ counted.is_room;
-    is_load = counted.is_load ∙ sym (rows_load (filter (λ e. has_pools e.1) es) ∙ sum_filter load_in (λ e. has_pools e.1) (λ e none. ap (marked_load (key_of e.0)) (none_out e.1 none) ∙ marked_load-none (key_of e.0)) es ∙ sym (rows_load es));
-    within = counted.within;
-    is_out = counted.is_out ∙ sym (rows_out (filter (λ e. has_pools e.1) es) ∙ sum_filter (λ (r : BucketKey × DescriptorBucket P). r.1.total) (λ e. has_pools e.1) (λ e none. none_out e.1 none) es ∙ sym (rows_out es));
-  })
+  counted_filter limit marked room out es fs kept distinct counted = grind (arith, common_steps, marked_load-none, rows_load, rows_out, rows_pool_load, stored_load_in, sum_filter)

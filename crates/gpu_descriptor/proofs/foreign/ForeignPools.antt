@@ -1,5 +1,5 @@
 -- What requests, frees and cleaning up leave of pools that aren't the allocator's.
-use Rattle.gpu_descriptor.proofs.Common.{◌≡◌, ◌≢◌, ℕ, zero, suc, ◌+◌, ◌-◌, ◌<◌, ◌==◌, ◌&&◌, Bool, true, false, List, [], ◌∷◌, ◌++◌, take, drop, count_by, Option, Some, None, option_map, slice_get, inl, inr, refl, sym, ap, ◌∙◌, subst, arith, eq-eqb, ne_eqb, fun_ext, cases_Bool, cases_lt, or_from, or_left, or_right, false_from_ne_true, slice_get_within, list_any, if◌then◌else◌, side, Meaning, Pool, Ledger, LiveSet, set_eq, State, Item, set_of, with_bucket, Key, key_eq, Entry, Bucket, entry_at, DescriptorSet, Allocations}
+use Rattle.gpu_descriptor.proofs.Common.{◌≡◌, ◌≢◌, ℕ, zero, suc, ◌+◌, ◌-◌, ◌<◌, ◌==◌, ◌&&◌, Bool, true, false, List, [], ◌∷◌, ◌++◌, take, drop, count_by, Option, Some, None, option_map, slice_get, inl, inr, refl, sym, ap, ◌∙◌, subst, arith, ne_eqb, fun_ext, cases_Bool, cases_lt, or_from, or_right, false_from_ne_true, slice_get_within, list_any, if◌then◌else◌, side, Meaning, Pool, Ledger, LiveSet, set_eq, State, Item, set_of, with_bucket, Key, key_eq, Entry, Bucket, entry_at, DescriptorSet, Allocations}
 use Rattle.gpu_descriptor.specs.Model.Foreign.{IsForeign, KeepsForeign, LosesNone}
 use Rattle.gpu_descriptor.specs.Model.Cleanup.{IsCleaned}
 use Rattle.gpu_descriptor.specs.Model.Release.{given_back, released, bucket_less, entry_less, empty_front, spent_front, in_front, without_front, lies_in, pool_less}
@@ -28,9 +28,7 @@ any_none f none (t ∷ m) = or_from (f t) (list_any f m) (none t) (any_none f no
 among_front : (es : List Entry) (f i : ℕ) (e : Entry) → slice_get es i ≡ Some e → i < f → list_any (λ d. d.pool == e.pool) (take f es) ≡ true
 among_front es zero i e at lt = absurd (omega arith)
 among_front [] (suc f) i e at lt = absurd (let bad : ◌≡◌ {A = Option Entry} None (Some e) = at in cc)
-among_front (x ∷ es) (suc f) zero e at lt =
-    let is : x ≡ e = cc in
-    or_left (x.pool == e.pool) (list_any (λ d. d.pool == e.pool) (take f es)) (eq-eqb x.pool e.pool (ap (λ (d : Entry). d.pool) is))
+among_front (x ∷ es) (suc f) zero e at lt = grind arith
 among_front (x ∷ es) (suc f) (suc i) e at lt = or_right (x.pool == e.pool) (list_any (λ d. d.pool == e.pool) (take f es)) (among_front es f i e at (omega arith))
 
 -- giving sets back leaves them as they are
@@ -51,10 +49,7 @@ released_same m s name foreign =
 
 -- and out of the books
 pub released_foreign : (m : List Item) (s : State) → KeepsForeign s (released m s)
-released_foreign m s name pool foreign live = (
-  released_same m s name foreign ∙ live,
-  (λ k n e at same. (let was = was_there m s k n e at in foreign k n was.0 was.1 (ap (λ (x : Entry). x.pool) was.2 ∙ same))),
-)
+released_foreign m s name pool foreign live = grind (arith, released_same, was_there)
 
 -- a pool that the books name is named still, or has gone
 released_named : (m : List Item) (s : State) (name : ℕ) (pool : Pool) → IsForeign (released m s) name → (released m s).ledger name ≡ Some pool → IsForeign s name
@@ -98,10 +93,7 @@ outside_front s name foreign k = false_from_ne_true _ (λ front.
 
 -- cleaning up leaves them
 pub cleaned_foreign : (s t : State) → IsCleaned s t → KeepsForeign s t
-cleaned_foreign s t clean name pool foreign live = (
-  clean.kept name (outside_front s name foreign) ∙ live,
-  (λ k n e at. foreign k n e (was_kept (s.books k) n e (ap (λ (b : Bucket). entry_at b n) (sym (clean.books k)) ∙ at)).1),
-)
+cleaned_foreign s t clean name pool foreign live = grind (arith, outside_front, was_kept)
 
 cleaned_named : (s t : State) → IsCleaned s t → (name : ℕ) (pool : Pool) → IsForeign t name → t.ledger name ≡ Some pool → IsForeign s name
 cleaned_named s t clean name pool foreign live k n e at same =
@@ -167,15 +159,7 @@ module _ (k : Key) (items : List Item) (new : Bucket) (s : State) (after : ℕ �
   taken_apart name pool apart live = h.others name (none_named new.pools (own_apart name pool apart live))
 
   still_foreign : (name : ℕ) (pool : Pool) → IsForeign s name → s.ledger name ≡ Some pool → IsForeign t name
-  still_foreign name pool foreign live l n e at same = elim (cases_Bool (key_eq k l)) [
-    | inl own ↦ (
-        let here : t.books l ≡ new = rw own refl in
-        let f = entry_at-found new n e (ap (λ (x : Bucket). entry_at x n) (sym here) ∙ at) in
-        own_apart name pool (foreign k) live (n - new.first) e f.1 same)
-    | inr other ↦ (
-        let here : t.books l ≡ s.books l = rw other refl in
-        foreign l n e (ap (λ (x : Bucket). entry_at x n) (sym here) ∙ at) same)
-  ]
+  still_foreign name pool foreign live l n e at same = grind (arith, own_apart)
 
   pub taken_foreign : KeepsForeign s t
   taken_foreign name pool foreign live = (taken_apart name pool (foreign k) live ∙ live, still_foreign name pool foreign live)

@@ -1,5 +1,6 @@
 -- The live pools of a ledger, after one of them changed.
-use Rattle.gpu_descriptor.proofs.Common.{◌≡◌, ◌≢◌, ℕ, ◌+◌, ◌-◌, ◌≤◌, List, [], ◌∷◌, length, map, Option, None, Some, nat_eq, option_map, inl, inr, refl, sym, ap, ◌∙◌, arith, eq-eqb, ne_eqb, update, cases_Bool, Pool, Counters, Ledger, changed, after_release, live_sets, LiveSet, set_eq, times, set_exact, count_by_yes, count_by_no, all_taken_out, HasSize, Key}
+use Rattle.gpu_descriptor.proofs.Common.{◌≡◌, ◌≢◌, ℕ, ◌+◌, ◌-◌, ◌≤◌, List, [], ◌∷◌, length, map, Option, nat_eq, option_map, refl, sym, ap, ◌∙◌, arith, eq-eqb, ne_eqb, update, Pool, Counters, Ledger, after_release, live_sets, LiveSet, set_eq, times, set_exact, count_by_yes, all_taken_out, HasSize, Key}
+use Rattle.std.proofs.lemmas.Grind.{common_steps}
 use Rattle.gpu_descriptor.specs.Model.Release.{more_destroyed, pool_less}
 
 -- the pools with this at a name, and all else as it was
@@ -17,14 +18,7 @@ pub with_pool_other : (pools : ℕ → Option Pool) (pool p : ℕ) (to : Option 
 with_pool_other pools pool p to other = rw (ne_eqb pool p (λ e. other (sym e))) refl
 
 pub release_pools : (pool : ℕ) (ls : List LiveSet) (l : Ledger) → (after_release pool ls l).pools ≡ taken_from l.pools pool ls
-release_pools pool ls l = ap (λ (o : Option Pool). with_pool l.pools pool o) (change (l.pools pool))
-  where
-    change : (o : Option Pool) → changed (pool_less (times ls)) o ≡ option_map (pool_less (times ls)) o
-    change None = refl
-    change (Some p) = refl
-
-pub destroyed_none : (c : Counters) → more_destroyed 0 c ≡ c
-destroyed_none c = (let e : c.destroyed + 0 ≡ c.destroyed = omega arith in λ i. record c { destroyed = e i })
+release_pools pool ls l = grind arith
 
 pub destroyed_both : (m n : ℕ) (c : Counters) → more_destroyed n (more_destroyed m c) ≡ more_destroyed (m + n) c
 destroyed_both m n c = (let e : c.destroyed + m + n ≡ c.destroyed + (m + n) = omega arith in λ i. record c { destroyed = e i })
@@ -33,24 +27,10 @@ destroyed_both m n c = (let e : c.destroyed + m + n ≡ c.destroyed + (m + n) = 
 pub size_minus : (live : LiveSet → ℕ) (a : ℕ) (ls : List LiveSet) → HasSize live a → ((x : LiveSet) → times ls x ≤ live x) → (length ls ≤ a) × HasSize (λ x. live x - times ls x) (a - length ls)
 size_minus live a ls size fits =
     let out = all_taken_out set_exact ls size.0 (λ x. rw (size.2 x) (fits x)) in
-    let lengths = out.1 in
-    let sizes = size.1 in (
-      omega arith,
-      (
-        out.0,
-        (let e : length out.0 ≡ a - length ls = omega arith in e),
-        (λ x.
-            let got = out.2 (λ y. set_eq y x) in
-            let had = size.2 x in
-            let e : times out.0 x ≡ live x - times ls x = omega arith in e),
-      ),
-    )
+    grind (arith, common_steps)
 
 times_more : (l : LiveSet) (ls : List LiveSet) (x : LiveSet) → times ls x ≤ times (l ∷ ls) x
-times_more l ls x = elim (cases_Bool (set_eq l x)) [
-  | inl h ↦ (let e = count_by_yes (λ y. set_eq y x) l ls h in omega arith)
-  | inr h ↦ (let e = count_by_no (λ y. set_eq y x) l ls h in omega arith)
-]
+times_more l ls x = grind (arith, common_steps)
 
 -- sets that all have the key's counts are those of their names
 pub only_these : (k : Key) (names : List ℕ) (ls : List LiveSet) → map (λ x. x.name) ls ≡ names → ((x : LiveSet) → 1 ≤ times ls x → x.counts ≡ k.counts) → ls ≡ live_sets k.counts names

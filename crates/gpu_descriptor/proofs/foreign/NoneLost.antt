@@ -1,5 +1,6 @@
 -- What an allocator leaves of the ledger when it is done: nothing of its own.
-use Rattle.gpu_descriptor.proofs.Common.{Allocations, ◌≡◌, ◌≢◌, ◌⊎◌, ℕ, zero, suc, ◌+◌, ◌-◌, ◌==◌, true, false, List, [], ◌∷◌, slice_get, Option, Some, None, inl, inr, refl, sym, ap, ◌∙◌, arith, eqb-true, eq-eqb, fun_ext, list_any, cases_Bool, or_cases, or_left, or_right, Pool, Ledger, State, Item, outstanding, Agree, Key, key_eq, Entry, Bucket, HasDistinctKeys, books_of, entry_at, no_pools}
+use Rattle.gpu_descriptor.proofs.Common.{Allocations, ◌≡◌, ◌≢◌, ◌⊎◌, ℕ, zero, suc, ◌+◌, ◌-◌, ◌==◌, true, false, List, [], ◌∷◌, slice_get, Option, Some, None, inl, inr, refl, sym, ap, ◌∙◌, arith, eqb-true, fun_ext, list_any, cases_Bool, or_cases, Pool, Ledger, State, Item, outstanding, Agree, Key, key_eq, Entry, Bucket, HasDistinctKeys, books_of, entry_at, no_pools}
+use Rattle.std.proofs.lemmas.Grind.{common_steps}
 use Rattle.gpu_descriptor.specs.Model.Cleanup.{IsCleaned}
 use Rattle.gpu_descriptor.specs.Model.Foreign.{IsForeign, IsNamed, LosesNone, KeepsForeign}
 use Rattle.gpu_descriptor.specs.Caller.States.{table_of, state_of}
@@ -38,14 +39,8 @@ found_in (x ∷ es) name any = elim (or_cases (x.pool == name) (list_any (λ e. 
 
 pub none_in : (es : List Entry) (name : ℕ) → list_any (λ e. e.pool == name) es ≡ false → (i : ℕ) (e : Entry) → slice_get es i ≡ Some e → e.pool ≢ name
 none_in [] name none i e at same = (let bad : ◌≡◌ {A = Option Entry} None (Some e) = at in cc)
-none_in (x ∷ es) name none zero e at same =
-    let is : x ≡ e = cc in
-    let bad : true ≡ false = sym (or_left (x.pool == name) (list_any (λ d. d.pool == name) es) (eq-eqb x.pool name (ap (λ (d : Entry). d.pool) is ∙ same))) ∙ none in
-    cc
-none_in (x ∷ es) name none (suc i) e at same = elim (cases_Bool (list_any (λ d. d.pool == name) es)) [
-  | inl some ↦ (let bad : true ≡ false = sym (or_right (x.pool == name) (list_any (λ d. d.pool == name) es) some) ∙ none in cc)
-  | inr still ↦ none_in es name still i e at same
-]
+none_in (x ∷ es) name none zero e at same = grind arith
+none_in (x ∷ es) name none (suc i) e at same = grind (arith, (none_in es name))
 
 in_table : (l : ℕ → Option Pool) (rows : List (Key × Bucket)) → HasDistinctKeys rows → (name : ℕ) → IsNamed (record { books = books_of rows; ledger = l }) name ⊎ IsForeign (record { books = books_of rows; ledger = l }) name
 in_table l [] distinct name = inr (λ k n e at same. none_at n e at)
@@ -58,17 +53,13 @@ in_table l (row ∷ rows) distinct name = elim (cases_Bool (list_any (λ e. e.po
     | inl later ↦ elim (cases_Bool (key_eq row.0 later.0)) [
       | inl at ↦ absurd (none_at later.1 later.2 (ap (λ (x : Bucket). entry_at x later.1) (sym (none_behind row rows distinct later.0 at)) ∙ later.3))
       | inr other ↦ (
-          let is : books_of (row ∷ rows) later.0 ≡ books_of rows later.0 = rw other refl in
-          inl (later.0, later.1, later.2, ap (λ (x : Bucket). entry_at x later.1) is ∙ later.3, later.4))
+          grind (arith, common_steps))
     ]
     | inr foreign ↦ inr (λ k n e at. elim (cases_Bool (key_eq row.0 k)) [
       | inl own ↦ (
-          let is : books_of (row ∷ rows) k ≡ row.1 = rw own refl in
-          let found = entry_at-found row.1 n e (ap (λ (x : Bucket). entry_at x n) (sym is) ∙ at) in
-          none_in row.1.pools name none (n - row.1.first) e found.1)
+          grind (arith, common_steps, entry_at-found, none_in))
       | inr other ↦ (
-          let is : books_of (row ∷ rows) k ≡ books_of rows k = rw other refl in
-          foreign k n e (ap (λ (x : Bucket). entry_at x n) (sym is) ∙ at))
+          grind (arith, common_steps))
     ])
   ]
 ]

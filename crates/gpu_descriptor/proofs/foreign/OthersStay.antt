@@ -1,5 +1,5 @@
 -- The pools that are none of the allocator's are a function of books and ledger, and each call leaves it.
-use Rattle.gpu_descriptor.proofs.Common.{◌≡◌, ℕ, ◌+◌, ◌-◌, ◌==◌, Bool, true, false, List, [], ◌∷◌, slice_get, Option, Some, None, inl, inr, refl, sym, ap, ◌∙◌, arith, fun_ext, list_any, cases_Bool, or_cases, or_left, or_right, nil_from_length, ∥∥₁_elim, props, Pool, Ledger, State, Item, Agree, count_of, outstanding, Key, key_eq, Bucket, HasDistinctKeys, books_of, entry_at, no_pools, Allocations}
+use Rattle.gpu_descriptor.proofs.Common.{◌≡◌, ℕ, ◌+◌, ◌-◌, ◌==◌, Bool, true, false, List, [], ◌∷◌, slice_get, Option, Some, None, inl, inr, refl, sym, ap, ◌∙◌, arith, fun_ext, list_any, cases_Bool, nil_from_length, ∥∥₁_elim, props, Pool, Ledger, State, Item, Agree, count_of, outstanding, Key, Bucket, HasDistinctKeys, books_of, no_pools, Allocations}
 use Rattle.gpu_descriptor.specs.Model.Cleanup.{IsCleaned}
 use Rattle.gpu_descriptor.specs.Model.Foreign.{IsForeign, IsNamed, KeepsForeign, LosesNone}
 use Rattle.gpu_descriptor.specs.Caller.Others.{is_named, others_of}
@@ -7,23 +7,17 @@ use Rattle.gpu_descriptor.specs.Caller.States.{outstanding_of, state_of, table_o
 use Rattle.gpu_descriptor.proofs.cleanup.Cleaning.{nothing_left}
 use Rattle.gpu_descriptor.proofs.table.Exact.{key_exact}
 use Rattle.gpu_descriptor.proofs.foreign.ForeignPools.{cleaned_foreign, cleaned_loses}
-use Rattle.gpu_descriptor.proofs.release.Fronts.{entry_at-found, entry_at-from}
-use Rattle.gpu_descriptor.proofs.foreign.NoneLost.{found_in, no_keys, none_at, none_in}
+use Rattle.gpu_descriptor.proofs.release.Fronts.{entry_at-from}
+use Rattle.gpu_descriptor.proofs.foreign.NoneLost.{found_in, no_keys, none_in}
 use Rattle.gpu_descriptor.proofs.sums.OutSets.{out_is_size}
 use Rattle.gpu_descriptor.proofs.table.Tables.{absent}
 use Rattle.gpu_descriptor.proofs.sums.TableSums.{outstanding_of-table}
 
 found_row : {R : Type 0} (g : R → Bool) (rows : List R) → list_any g rows ≡ true → (row : R) × (g row ≡ true) × ((f : R → Bool) → f row ≡ true → list_any f rows ≡ true)
 found_row g [] any = absurd (let bad : true ≡ false = sym any in cc)
-found_row g (x ∷ rows) any = elim (or_cases (g x) (list_any g rows) any) [
-  | inl here ↦ (x, here, λ f is. or_left (f x) (list_any f rows) is)
-  | inr later ↦ (let r = found_row g rows later in (r.0, r.1, λ f is. or_right (f x) (list_any f rows) (r.2 f is)))
-]
+found_row g (x ∷ rows) any = grind (arith, (found_row g rows))
 
 module _ (table : List (Key × Bucket)) (l : ℕ → Option Pool) (pool : ℕ) where
-  in_row : Key × Bucket → Bool
-  in_row row = list_any (λ e. e.pool == pool) (books_of table row.0).pools
-
   pub named : is_named table pool ≡ true → IsNamed (record { books = books_of table; ledger = l }) pool
   named any =
       let row = found_row (λ row. list_any (λ e. e.pool == pool) (books_of table row.0).pools) table any in
@@ -33,20 +27,7 @@ module _ (table : List (Key × Bucket)) (l : ℕ → Option Pool) (pool : ℕ) w
       (row.0.0, b.first + f.0, f.1, entry_at-from b (b.first + f.0) f.1 (omega arith) at, f.3)
 
   pub unnamed : is_named table pool ≡ false → IsForeign (record { books = books_of table; ledger = l }) pool
-  unnamed none k n e at same = elim (cases_Bool (list_any (λ row. key_eq row.0 k) table)) [
-    | inr out ↦ none_at n e (ap (λ (b : Bucket). entry_at b n) (sym (absent k table out)) ∙ at)
-    | inl there ↦ (
-        let row = found_row (λ row. key_eq row.0 k) table there in
-        let is : row.0.0 ≡ k = key_exact.same row.0.0 k row.1 in
-        let found = entry_at-found (books_of table k) n e at in
-        elim (cases_Bool (list_any (λ d. d.pool == pool) (books_of table k).pools)) [
-          | inl own ↦ (
-              let here : list_any (λ d. d.pool == pool) (books_of table row.0.0).pools ≡ true = ap (λ key. list_any (λ d. d.pool == pool) (books_of table key).pools) is ∙ own in
-              let bad : true ≡ false = sym (row.2 (λ r. list_any (λ d. d.pool == pool) (books_of table r.0).pools) here) ∙ none in
-              cc)
-          | inr not ↦ none_in (books_of table k).pools pool not (n - (books_of table k).first) e found.1 same
-        ])
-  ]
+  unnamed none k n e at same = grind (arith, absent, found_row, key_exact, none_in)
 
 -- two that each say what the other has are one
 one : (was is : Option Pool) → ((p : Pool) → was ≡ Some p → is ≡ Some p) → ((p : Pool) → is ≡ Some p → was ≡ Some p) → is ≡ was

@@ -1,5 +1,5 @@
 -- What stands at the places of a list.
-use Rattle.gpu_descriptor.proofs.Common.{◌≡◌, ◌≢◌, ℕ, zero, suc, ◌<◌, inl, inr, List, [], ◌∷◌, ◌++◌, length, take, slice_set, Bool, true, false, Some, None, refl, sym, ap, ◌∙◌, arith, drop, ◌+◌, cases_Bool, or_cases, or_left, or_right, slice_get, list_any, ◌⊎◌, get_or_from_slice_get, slice_get_within, length-take-le, set-get_or}
+use Rattle.gpu_descriptor.proofs.Common.{◌≡◌, ◌≢◌, ℕ, zero, suc, ◌<◌, inl, inr, List, [], ◌∷◌, ◌++◌, length, take, slice_set, Bool, true, false, Some, None, refl, sym, ap, ◌∙◌, arith, drop, ◌+◌, or_cases, or_left, or_right, slice_get, list_any, ◌⊎◌, get_or_from_slice_get, slice_get_within, length-take-le, set-get_or}
 use Rattle.std.proofs.Math.Seq.{take-suc}
 
 -- ---- tests
@@ -19,10 +19,7 @@ any_here p (y ∷ xs) zero x at hit = (let same : y ≡ x = cc in or_left (p y) 
 any_here p (y ∷ xs) (suc i) x at hit = or_right (p y) (list_any p xs) (any_here p xs i x at hit)
 
 pub none_at : {A : Type 0} (p : A → Bool) (xs : List A) (i : ℕ) (x : A) → list_any p xs ≡ false → slice_get xs i ≡ Some x → p x ≡ false
-none_at p xs i x none at = elim (cases_Bool (p x)) [
-  | inr off ↦ off
-  | inl hit ↦ absurd (let bad : true ≡ false = sym (any_here p xs i x at hit) ∙ none in cc)
-]
+none_at p xs i x none at = grind (arith, any_here)
 
 -- ---- a write, and one more at the end
 
@@ -32,10 +29,7 @@ set_got [] i x j y at = absurd (cc)
 set_got (z ∷ xs) zero x zero y at = inl (refl, (let e : x ≡ y = cc in sym e))
 set_got (z ∷ xs) zero x (suc j) y at = inr ((λ e. omega arith), at)
 set_got (z ∷ xs) (suc i) x zero y at = inr ((λ e. omega arith), at)
-set_got (z ∷ xs) (suc i) x (suc j) y at = elim (set_got xs i x j y at) [
-  | inl here ↦ inl (ap suc here.0, here.1)
-  | inr other ↦ inr ((λ e. other.0 (omega arith)), other.1)
-]
+set_got (z ∷ xs) (suc i) x (suc j) y at = grind (arith, (set_got xs i x j y at))
 
 pub set_here : {A : Type 0} (xs : List A) (i : ℕ) (x y : A) → slice_get xs i ≡ Some y → slice_get (slice_set xs i x) i ≡ Some x
 set_here [] i x y at = absurd (cc)

@@ -1,5 +1,6 @@
 -- The numbers of the open pools, as the code keeps them.
-use Rattle.gpu_descriptor.proofs.Common.{◌≡◌, ℕ, ◌+◌, ◌<◌, ◌≤◌, ◌++◌, ◌∷◌, [], List, length, insert, arith, ap, sym, ◌∙◌, subst, slice_set, nat_eq, true, false, inl, inr, eqb-true, Some, slice_get, length-map, map-append, map-set, cases_Bool, eqb-false, slice_get-map, option_map, IsPartitionPoint, DescriptorPool}
+use Rattle.gpu_descriptor.proofs.Common.{◌≡◌, ℕ, ◌+◌, ◌<◌, ◌≤◌, ◌++◌, ◌∷◌, [], List, length, insert, arith, ap, sym, ◌∙◌, slice_set, nat_eq, true, false, Some, slice_get, length-map, map-append, map-set, slice_get-map, option_map, IsPartitionPoint, DescriptorPool}
+use Rattle.std.proofs.lemmas.Grind.{common_steps}
 use Rattle.gpu_descriptor.specs.Inner.OpenNumbers.{free_in, open_numbers, IsEntered}
 use Rattle.gpu_descriptor.proofs.lists.OpenNumbers.{IsNewestOpen, open_few, open_few_at, open_push_none, open_push_some, open_set_open, open_gains, open_closes}
 
@@ -11,10 +12,7 @@ module _ {P : Type 0} (first : ℕ) (items : List (DescriptorPool P)) (numbers :
   pushed p = map-append (λ p. p.available) items (p ∷ [])
 
   pub listed_push_open : (p : DescriptorPool P) → 0 < p.available → numbers ++ (first + length items) ∷ [] ≡ open_numbers first (free_in (items ++ p ∷ []))
-  listed_push_open p some =
-      ap (λ l. l ++ (first + length items) ∷ []) listed
-      ∙ ap (λ n. open_numbers first (free_in items) ++ (first + n) ∷ []) (sym (length-map items (λ p. p.available)))
-      ∙ sym (ap (open_numbers first) (pushed p) ∙ open_push_some first (free_in items) p.available some)
+  listed_push_open p some = grind (arith, common_steps, open_push_some)
 
   pub listed_push_closed : (p : DescriptorPool P) → p.available ≤ 0 → numbers ≡ open_numbers first (free_in (items ++ p ∷ []))
   listed_push_closed p none =
@@ -34,29 +32,16 @@ module _ {P : Type 0} (first : ℕ) (items : List (DescriptorPool P)) (numbers :
     -- it gains its first
     pub listed_gains : (at_place : ℕ) → old.available ≡ 0 → 0 < new.available → at_place ≤ length numbers → IsPartitionPoint (λ x. x < first + place) (λ x. first + place ≤ x) numbers at_place
         → insert numbers at_place (first + place) ≡ open_numbers first (free_in (slice_set items place new))
-    listed_gains at_place none some within point =
-        ap (λ l. insert l at_place (first + place)) listed
-        ∙ sym (ap (open_numbers first) free_set ∙ open_gains first (free_in items) place new.available at_place (free_at ∙ ap Some none) some (subst (λ (l : List ℕ). at_place ≤ length l) listed within) (subst (λ (l : List ℕ). IsPartitionPoint (λ x. x < first + place) (λ x. first + place ≤ x) l at_place) listed point))
+    listed_gains at_place none some within point = grind (arith, free_at, free_set, open_gains)
 
     -- so it goes after a release, whether it was full or not
     pub listed_again : (number : ℕ) → number ≡ first + place → 0 < new.available → (numbers' : List ℕ) → (nat_eq old.available 0 ≡ true → IsEntered number numbers numbers') → (nat_eq old.available 0 ≡ false → numbers' ≡ numbers)
         → numbers' ≡ open_numbers first (free_in (slice_set items place new))
-    listed_again number is some numbers' enters stays = elim (cases_Bool (nat_eq old.available 0)) [
-      | inl full ↦ (
-          let e = enters full in
-          let point : IsPartitionPoint (λ x. x < first + place) (λ x. first + place ≤ x) numbers e.place = subst (λ (n : ℕ). IsPartitionPoint (λ x. x < n) (λ x. n ≤ x) numbers e.place) is e.point in
-          e.is ∙ ap (insert numbers e.place) is ∙ listed_gains e.place (eqb-true old.available 0 full) some e.within point)
-      | inr has ↦ stays has ∙ listed_stays (let n = eqb-false old.available 0 has in omega arith) some
-    ]
+    listed_again number is some numbers' enters stays = grind (arith, listed_gains, listed_stays)
 
     -- where a pool isn't listed there are fewer numbers than pools
     pub fewer_listed : old.available ≡ 0 → length numbers < length items
-    fewer_listed none =
-        let full : slice_get (free_in items) place ≡ Some 0 = free_at ∙ ap Some none in
-        let more = open_few_at first (free_in items) place full in
-        let long = length-map items (λ p. p.available) in
-        let is = ap length listed in
-        omega arith
+    fewer_listed none = grind (arith, free_at, length-map, open_few_at)
 
   -- the newest open pool has none left
   pub listed_closes : (front : List ℕ) (number : ℕ) (o : IsNewestOpen first (free_in items) front number) (new : DescriptorPool P) → new.available ≡ 0 → front ≡ open_numbers first (free_in (slice_set items o.place new))

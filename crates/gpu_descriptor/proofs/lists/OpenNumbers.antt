@@ -1,5 +1,6 @@
 -- How the list of open pools changes with the pools.
 use Rattle.gpu_descriptor.proofs.Common.{ℕ, zero, suc, ◌+◌, ◌<◌, ◌≤◌, ◌≡◌, List, [], ◌∷◌, ◌++◌, length, take, drop, get_or, slice_set, insert, arith, refl, sym, ap, ◌∙◌, subst, slice_get, Some, append-nil, set_split, IsNonDecreasing, IsPartitionPoint, slice_get_within}
+use Rattle.std.proofs.lemmas.Grind.{common_steps}
 use Rattle.gpu_descriptor.specs.Inner.OpenNumbers.{open_numbers}
 use Rattle.gpu_descriptor.proofs.lists.AtPlaces.{get_drop, long_take, split_at}
 
@@ -77,9 +78,7 @@ open_around first xs i n at =
     ∙ ap (λ k. before first xs i ++ open_numbers (first + k) (n ∷ drop (suc i) xs)) (long_take xs i n at)
 
 pub open_set : (first : ℕ) (xs : List ℕ) (i n m : ℕ) → slice_get xs i ≡ Some n → open_numbers first (slice_set xs i m) ≡ before first xs i ++ open_numbers (first + i) (m ∷ drop (suc i) xs)
-open_set first xs i n m at =
-    ap (open_numbers first) (set_split xs i m (slice_get_within xs i n at)) ∙ open_append first (take i xs) (m ∷ drop (suc i) xs)
-    ∙ ap (λ k. before first xs i ++ open_numbers (first + k) (m ∷ drop (suc i) xs)) (long_take xs i n at)
+open_set first xs i n m at = grind (arith, long_take, open_append, set_split, slice_get_within)
 
 one_up : (first i : ℕ) (ys : List ℕ) → open_numbers (suc (first + i)) ys ≡ open_numbers (first + suc i) ys
 one_up first i ys = ap (λ n. open_numbers n ys) (let e : suc (first + i) ≡ first + suc i = omega arith in e)
@@ -111,11 +110,10 @@ pub open_gains : (first : ℕ) (xs : List ℕ) (i m place : ℕ) → slice_get x
 open_gains first xs i zero place at h within p = absurd (omega arith)
 open_gains first xs i (suc m) place at h within p =
     let is : open_numbers first xs ≡ before first xs i ++ behind first xs i = open_around first xs i 0 at ∙ ap (λ l. before first xs i ++ l) (one_up first i (drop (suc i) xs)) in
-    let to : open_numbers first (slice_set xs i (suc m)) ≡ before first xs i ++ (first + i) ∷ behind first xs i = open_set first xs i 0 (suc m) at ∙ ap (λ l. before first xs i ++ (first + i) ∷ l) (one_up first i (drop (suc i) xs)) in
     let low : AreBetween first (first + i) (before first xs i) = subst (λ (n : ℕ). AreBetween first (first + n) (before first xs i)) (long_take xs i 0 at) (open_between first (take i xs)) in
     let high : AreBetween (first + i) (first + suc i + length (drop (suc i) xs)) (behind first xs i) = wider (first + i) (first + suc i) _ _ (behind first xs i) (omega arith) (omega arith) (open_between (first + suc i) (drop (suc i) xs)) in
     let ends : place ≡ length (before first xs i) = part_ends first (first + suc i + length (drop (suc i) xs)) (first + i) (before first xs i) (behind first xs i) place low high (let e = ap length is in omega arith) (subst (λ (l : List ℕ). IsPartitionPoint (λ x. x < first + i) (λ x. first + i ≤ x) l place) is p) in
-    to ∙ sym (ap (λ l. insert l place (first + i)) is ∙ ap (λ k. insert (before first xs i ++ behind first xs i) k (first + i)) ends ∙ insert_between (before first xs i) (behind first xs i) (first + i))
+    grind (arith, common_steps, insert_between, one_up, open_set)
 
 -- ---- the newest open pool
 

@@ -1,5 +1,6 @@
 -- How far a binary search has come.
-use Rattle.gpu_descriptor.proofs.Common.{ℕ, zero, suc, ◌+◌, ◌-◌, ◌/◌, ◌^◌, ◌<◌, ◌≤◌, ◌≡◌, List, length, get_or, nat_lt, true, false, arith, ltb-true, ltb-false, get_or_default, AllWithin, IsNonDecreasing}
+use Rattle.gpu_descriptor.proofs.Common.{ℕ, zero, suc, ◌+◌, ◌-◌, ◌/◌, ◌^◌, ◌<◌, ◌≤◌, ◌≡◌, List, length, get_or, nat_lt, true, false, arith, ltb-true, ltb-false, get_or_default, AllWithin, IsNonDecreasing, refl}
+use Rattle.std.proofs.lemmas.Grind.{common_steps}
 use Rattle.gpu_descriptor.specs.Caller.Comparisons.{binary_digits}
 use Rattle.gpu_descriptor.proofs.release.Digits.{digits_enough, twice}
 
@@ -25,41 +26,38 @@ search_start items number count = record {
   few = omega arith;
 }
 
+-- a comparison halves what is left
+halves : (left size : ℕ) → 0 < size → size < 2 ^ left → (l : ℕ) × (left ≡ suc l) × (size / 2 < 2 ^ l)
+halves zero size some small = absurd (omega arith)
+halves (suc l) size some small = (l, refl, (let t = twice l in omega arith))
+
 module _ (items : List ℕ) (number low size before count : ℕ) (rising : IsNonDecreasing items) (s : Searching items number low size before count) (some : 0 < size) (count' : ℕ) (one_more : count' ≡ count + 1) where
   pub search_right : nat_lt (get_or items (low + size / 2) 0) number ≡ true → Searching items number (low + (size / 2 + 1)) (size - (size / 2 + 1)) before count'
-  search_right is = by_left s.left s.small s.few
-    where
-      by_left : (left : ℕ) → size < 2 ^ left → count + left ≤ before + binary_digits (length items) → Searching items number (low + (size / 2 + 1)) (size - (size / 2 + 1)) before count'
-      by_left zero small few = absurd (omega arith)
-      by_left (suc left) small few = record {
-        inside = (let h = s.inside in omega arith);
+  search_right is =
+      let half = halves s.left size some s.small in
+      record {
+        inside = omega arith;
         below = λ k d h lt.
-            let last = rising k (low + size / 2) 0 (omega arith) (let i = s.inside in omega arith) in
-            let less = ltb-true _ _ is in
-            let same = get_or_default items k d 0 (let i = s.inside in omega arith) in
-            omega arith;
+            let last = rising k (low + size / 2) 0 (omega arith) (omega arith) in
+            grind (arith, common_steps, get_or_default, ltb-true);
         above = λ k d h lt. s.above k d (omega arith) lt;
-        rises = (let r = s.rises in omega arith);
-        left = left;
-        small = (let t = twice left in omega arith);
+        rises = omega arith;
+        left = half.0;
+        small = omega arith;
         few = omega arith;
       }
 
   pub search_left : nat_lt (get_or items (low + size / 2) 0) number ≡ false → Searching items number low (size / 2) before count'
-  search_left is = by_left s.left s.small s.few
-    where
-      by_left : (left : ℕ) → size < 2 ^ left → count + left ≤ before + binary_digits (length items) → Searching items number low (size / 2) before count'
-      by_left zero small few = absurd (omega arith)
-      by_left (suc left) small few = record {
-        inside = (let h = s.inside in omega arith);
+  search_left is =
+      let half = halves s.left size some s.small in
+      record {
+        inside = omega arith;
         below = s.below;
         above = λ k d h lt.
             let next = rising (low + size / 2) k 0 h lt in
-            let more = ltb-false _ _ is in
-            let same = get_or_default items k d 0 lt in
-            omega arith;
-        rises = (let r = s.rises in omega arith);
-        left = left;
-        small = (let t = twice left in omega arith);
+            grind (arith, common_steps, get_or_default, ltb-false);
+        rises = omega arith;
+        left = half.0;
+        small = half.2;
         few = omega arith;
       }

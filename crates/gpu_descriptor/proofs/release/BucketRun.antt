@@ -1,5 +1,6 @@
 -- Giving one run back to a stored bucket.
-use Rattle.gpu_descriptor.proofs.Common.{◌≡◌, ℕ, zero, suc, ◌+◌, ◌-◌, ◌<◌, ◌≤◌, List, [], ◌∷◌, length, map, sum_by, set, get_or, slice_get, Option, Some, option_map, inl, inr, refl, sym, ap, ◌∙◌, arith, IfSome, cases_Bool, slice_get_within, slice_get-map, slice_get_read, length-map, sum_by-cons, CanFree, Pool, live_sets, LiveSet, times, AreIn, DescriptorPool, live_in, flags_of, IsAsBooked, Key, Entry, Bucket, ∥∥₁_elim, ∥∥₁_map, props}
+use Rattle.gpu_descriptor.proofs.Common.{◌≡◌, ℕ, zero, suc, ◌+◌, ◌-◌, ◌<◌, ◌≤◌, List, [], ◌∷◌, length, map, sum_by, set, get_or, slice_get, Option, Some, option_map, inl, inr, refl, sym, ap, ◌∙◌, arith, IfSome, slice_get_within, slice_get-map, slice_get_read, length-map, sum_by-cons, CanFree, Pool, live_sets, LiveSet, times, AreIn, DescriptorPool, live_in, flags_of, IsAsBooked, Key, Entry, Bucket, ∥∥₁_elim, ∥∥₁_map, props}
+use Rattle.std.proofs.lemmas.Grind.{common_steps}
 use Rattle.gpu_descriptor.specs.Inner.Buckets.{AreBookedIn}
 use Rattle.gpu_descriptor.specs.Inner.Releases.{IsTakenAt}
 use Rattle.gpu_descriptor.specs.Model.Release.{entry_less, pool_less}
@@ -26,12 +27,10 @@ pub record CanTake (k : Key) (names : List ℕ) (pools : ℕ → Option Pool) (e
   pub live : (x : LiveSet) → times (live_sets k.counts names) x ≤ live_in pools e.pool x
 
 pub can_take : (k : Key) (number : ℕ) (names : List ℕ) (b : Bucket) (pools : ℕ → Option Pool) (e : Entry) → IsTakenAt k number names b pools → slice_get b.pools (number - b.first) ≡ Some e → CanTake k names pools e
-can_take k number names b pools e t at =
-    let same : t.entry ≡ e = (let p = (entry_at-found b number t.entry t.at).1 in let q : Some t.entry ≡ Some e = sym p ∙ at in cc) in
-    rw (← same) (record { fits = t.fits; live = t.live })
+can_take k number names b pools e t at = grind arith
 
-pub is_within : (k : Key) (number : ℕ) (names : List ℕ) (b : Bucket) (pools : ℕ → Option Pool) → IsTakenAt k number names b pools → number - b.first < length b.pools
-is_within k number names b pools t = slice_get_within b.pools (number - b.first) t.entry (entry_at-found b number t.entry t.at).1
+pub is_within : {P : Type 0} (name : P → ℕ) (k : Key) (number : ℕ) (names : List ℕ) (id first : ℕ) (items : List (DescriptorPool P)) (pools : ℕ → Option Pool) → IsTakenAt k number names (bucket id first (map (entry_of name) items)) pools → number - first < length items
+is_within name k number names id first items pools t = grind (arith, entry_at-found, slice_get_within, length-map)
 
 -- ls are sets of these names, each live as often as it stands there
 pub record AreTaken (names : List ℕ) (live : LiveSet → ℕ) (ls : List LiveSet) : Type 0 where
@@ -42,23 +41,18 @@ pub record AreTaken (names : List ℕ) (live : LiveSet → ℕ) (ls : List LiveS
 pub are_taken : (k : Key) (b : Bucket) (pools : ℕ → Option Pool) (i : ℕ) (e : Entry) (names : List ℕ) (ls : List LiveSet) → AreBookedIn k pools b.pools → slice_get b.pools i ≡ Some e → map (λ x. x.name) ls ≡ names → IfSome (pools e.pool) (λ pool. AreIn ls pool.live) → AreTaken names (live_in pools e.pool) ls
 are_taken k b pools i e names ls stored at are live =
     let booked = stored.each i e at in
-    let within : AreIn ls booked.pool.live = rw booked.is_live at live in
-    record { are = are; within = λ x. let is : live_in pools e.pool x ≡ booked.pool.live x = rw booked.is_live refl in rw is (within x) }
+    grind (arith, common_steps)
 
 -- sets of a marked key's pools and of others may go back singly
 pub can_free : (k : Key) → CanFree (flags_of k)
-can_free k = elim (cases_Bool k.marked) [
-  | inl on ↦ rw on refl
-  | inr off ↦ rw off refl
-]
+can_free k = grind arith
 
 -- the sets that a call took of the place are the key's sets of their names
 pub took_these : (k : Key) (b : Bucket) (pools : ℕ → Option Pool) (i : ℕ) (e : Entry) (names : List ℕ) (ls : List LiveSet) → AreBookedIn k pools b.pools → slice_get b.pools i ≡ Some e → AreTaken names (live_in pools e.pool) ls → ls ≡ live_sets k.counts names
 took_these k b pools i e names ls stored at are = only_these k names ls are.are (λ x some.
     let booked = stored.each i e at in
     let live : live_in pools e.pool x ≡ booked.pool.live x = rw booked.is_live refl in
-    let within = are.within x in
-    booked.booked.sets x (omega arith))
+    grind (arith, common_steps))
 
 -- the bucket and the ledger after one run keep agreement
 pub stored_after : (k : Key) (first : ℕ) (es : List Entry) (pools : ℕ → Option Pool) (i : ℕ) (e : Entry) (ls : List LiveSet) → AreBookedIn k pools es → slice_get es i ≡ Some e → ((x : LiveSet) → times ls x ≤ live_in pools e.pool x) → AreBookedIn k (taken_from pools e.pool ls) (set es i (entry_less (length ls) e))
@@ -92,11 +86,7 @@ stored_after k first es pools i e ls stored at within =
               room = omega arith;
               full = λ none. (let whole = booked.booked.full none in omega arith);
             } in
-            record {
-              pool = after;
-              is_live = ap (λ (x : Entry). taken_from pools e.pool ls x.pool) same.1 ∙ with_pool_same pools e.pool (option_map (pool_less (times ls)) (pools e.pool)) ∙ ap (option_map (pool_less (times ls))) booked.is_live;
-              booked = rw same.1 is;
-            })
+            grind (arith, common_steps, taken_from, with_pool_same))
         | inr other ↦ (
             let booked = stored.each j d other.1 in
             record {
@@ -108,17 +98,12 @@ stored_after k first es pools i e ls stored at within =
     }
 
 pub read_first : {P : Type 0} (name : P → ℕ) (k : Key) (number : ℕ) (names : List ℕ) (id first : ℕ) (items : List (DescriptorPool P)) (pools : ℕ → Option Pool) (q : DescriptorPool P) → IsTakenAt k number names (bucket id first (map (entry_of name) items)) pools → q ≡ get_or items (number - first) q → slice_get (map (entry_of name) items) (number - first) ≡ Some (entry_of name q)
-read_first name k number names id first items pools q t is =
-    let lt = is_within k number names (bucket id first (map (entry_of name) items)) pools t in
-    let long = length-map items (entry_of name) in
-    read_at name items (number - first) q (omega arith) is
+read_first name k number names id first items pools q t is = read_at name items (number - first) q (is_within name k number names id first items pools t) is
 
 pub place_room : (k : Key) (b : Bucket) (pools : ℕ → Option Pool) (i : ℕ) (e : Entry) → AreBookedIn k pools b.pools → slice_get b.pools i ≡ Some e → e.allocated + e.free ≤ 2147483648
 place_room k b pools i e stored at =
     let booked = (stored.each i e at).booked in
-    let room = booked.room in
-    let small = booked.small in
-    omega arith
+    grind (arith, common_steps)
 
 pub length_names : (k : Key) (names : List ℕ) → length (live_sets k.counts names) ≡ length names
 length_names k names = length-map names (λ (name : ℕ). record { name = name; counts = k.counts })
@@ -132,15 +117,7 @@ pub total_less : {P : Type 0} (items : List (DescriptorPool P)) (i : ℕ) (q : D
 total_less [] i q raw m lt is fits = absurd (omega arith)
 total_less {P = P} (x ∷ items) zero q raw m lt is fits =
     let e : q.allocated ≡ x.allocated = ap (λ (p : DescriptorPool P). p.allocated) is in
-    let old : allocated_from (x ∷ items) ≡ x.allocated + allocated_from items = sum_by-cons (λ (p : DescriptorPool P). p.allocated) x items in
-    let y : DescriptorPool P = record { raw = raw; capacity = q.capacity; allocated = q.allocated - m; available = q.available + m } in
-    let new : allocated_from (y ∷ items) ≡ y.allocated + allocated_from items = sum_by-cons (λ (p : DescriptorPool P). p.allocated) y items in
-    (omega arith, omega arith)
+    grind (arith, common_steps, sum_by-cons)
 total_less {P = P} (x ∷ items) (suc i) q raw m lt is fits =
     let rest = total_less items i q raw m (omega arith) is fits in
-    let a = rest.0 in
-    let b = rest.1 in
-    let y : DescriptorPool P = record { raw = raw; capacity = q.capacity; allocated = q.allocated - m; available = q.available + m } in
-    let old : allocated_from (x ∷ items) ≡ x.allocated + allocated_from items = sum_by-cons (λ (p : DescriptorPool P). p.allocated) x items in
-    let new : allocated_from (x ∷ set items i y) ≡ x.allocated + allocated_from (set items i y) = sum_by-cons (λ (p : DescriptorPool P). p.allocated) x (set items i y) in
-    (omega arith, omega arith)
+    grind (arith, common_steps, sum_by-cons)

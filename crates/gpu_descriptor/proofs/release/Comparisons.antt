@@ -2,12 +2,8 @@
 use Rattle.gpu_descriptor.proofs.Common.{◌≡◌, ℕ, zero, suc, ◌+◌, Bool, true, false, List, [], ◌∷◌, ◌++◌, map, length, count_by, refl, sym, ap, ◌∙◌, arith, append_assoc, lt-ltb, append-nil, nat_lt, if◌then◌else◌, count_by_no, count_by_yes, DescriptorPool, State, Item, Entry}
 use Rattle.gpu_descriptor.specs.Caller.Comparisons.{digits_at, digits_behind, run_digits}
 use Rattle.gpu_descriptor.specs.Inner.OpenNumbers.{open_numbers, free_in}
-use Rattle.gpu_descriptor.specs.Model.Runs.{is_beside, breaks, runs}
+use Rattle.gpu_descriptor.specs.Model.Runs.{breaks, runs}
 use Rattle.gpu_descriptor.specs.Inner.Stored.{entry_of}
-
-one_of : (b : Bool) → ◌≡◌ {A = ℕ} (if b then 0 else 1) 0 → b ≡ true
-one_of true h = refl
-one_of false h = absurd (omega arith)
 
 none_of : (b : Bool) → ◌≡◌ {A = ℕ} (if b then 0 else 1) 1 → b ≡ false
 none_of true h = absurd (omega arith)
@@ -17,24 +13,12 @@ module _ (state : State) where
   -- where no neighbours differ no run begins
   digits_none : (before : List Item) (s : Item) (rest : List Item) → breaks s rest ≡ 0 → digits_behind state before s rest ≡ 0
   digits_none before s [] h = refl
-  digits_none before s (t ∷ rest) h =
-      let first : ◌≡◌ {A = ℕ} (if is_beside s t then 0 else 1) 0 = omega (arith, h) in
-      let none : ◌≡◌ {A = ℕ} (if is_beside s t then 0 else digits_at state before t) 0 = ap (λ (b : Bool). if b then 0 else digits_at state before t) (one_of (is_beside s t) first) in
-      let more = digits_none (before ++ t ∷ []) t rest (omega (arith, h)) in
-      omega (arith, none, more)
+  digits_none before s (t ∷ rest) h = grind (arith, (digits_none (before ++ t ∷ []) t rest))
 
   digits_more : (before : List Item) (s : Item) (ys : List Item) (y : Item) (zs : List Item) → breaks s (ys ++ y ∷ zs) ≡ breaks s ys + 1 → breaks y zs ≡ 0
       → digits_behind state before s (ys ++ y ∷ zs) ≡ digits_behind state before s ys + digits_at state (before ++ ys) y
-  digits_more before s [] y zs h alone =
-      let first : ◌≡◌ {A = ℕ} (if is_beside s y then 0 else 1) 1 = omega (arith, h, alone) in
-      let is : ◌≡◌ {A = ℕ} (if is_beside s y then 0 else digits_at state before y) (digits_at state before y) = ap (λ (b : Bool). if b then 0 else digits_at state before y) (none_of (is_beside s y) first) in
-      let none = digits_none (before ++ y ∷ []) y zs alone in
-      let same : digits_at state before y ≡ digits_at state (before ++ []) y = ap (λ l. digits_at state l y) (sym (append-nil before)) in
-      omega (arith, is, none, same)
-  digits_more before s (t ∷ ys) y zs h alone =
-      let next = digits_more (before ++ t ∷ []) t ys y zs (omega (arith, h)) alone in
-      let same : digits_at state ((before ++ t ∷ []) ++ ys) y ≡ digits_at state (before ++ t ∷ ys) y = ap (λ l. digits_at state l y) (append_assoc before (t ∷ []) ys) in
-      omega (arith, next, same)
+  digits_more before s [] y zs h alone = grind (arith, append-nil, digits_none)
+  digits_more before s (t ∷ ys) y zs h alone = grind (arith, append_assoc, (digits_more (before ++ t ∷ []) t ys y zs))
 
   -- a run behind a list, of which it is no part
   pub run_digits_more : (xs : List Item) (y : Item) (zs : List Item) → runs (xs ++ y ∷ zs) ≡ runs xs + 1 → runs (y ∷ zs) ≡ 1

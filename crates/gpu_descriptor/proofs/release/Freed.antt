@@ -1,12 +1,13 @@
 -- What the loop over the runs keeps.
 use Rattle.gpu_descriptor.proofs.Common.{◌≡◌, ◌≤◌, ℕ, ◌+◌, ◌<◌, true, false, ◌&&◌, ◌==◌, List, [], ◌∷◌, ◌++◌, sum_by, refl, sym, ap, subst, ◌∙◌, arith, append_assoc, append-nil, length-append, eq-eqb, Option, Some, None, MatchOption, OnSome, IfSome, eqb-true, Count, HoldsAlong, IsFinite, IsNearerEnd, MakesProgress, size, Yields, YieldsThen, and_parts, and_from, map-append, sum_by-append, side, Meaning, Counters, Ledger, bool_iff, DescriptorSet, State, Item, AreOutstanding, Agree, count_of, Key, key_eq, Allocations}
+use Rattle.std.proofs.lemmas.Grind.{common_steps}
 use Rattle.std.proofs.iter.Next.{Yields-more}
 use Rattle.gpu_descriptor.specs.Model.Load.{marked_load}
 use Rattle.gpu_descriptor.specs.Model.Release.{more_released, more_destroyed, released, given_back, pools_gone}
 use Rattle.gpu_descriptor.specs.Caller.Comparisons.{open_pools, run_digits, binary_digits}
 use Rattle.gpu_descriptor.specs.Caller.Frees.{GivesBack, Frees}
 use Rattle.gpu_descriptor.specs.Inner.Releases.{FreesRun}
-use Rattle.gpu_descriptor.specs.Model.Runs.{runs, breaks}
+use Rattle.gpu_descriptor.specs.Model.Runs.{runs}
 use Rattle.gpu_descriptor.specs.Caller.Sets.{item_of, items_of}
 use Rattle.gpu_descriptor.specs.Inner.RunSteps.{lies_at, AllPass}
 use Rattle.gpu_descriptor.specs.Caller.States.{state_of, keys_of}
@@ -35,21 +36,14 @@ same_spot k n x y own =
     bool_iff (key_eq x.key.is y.key.is && (x.number == y.number)) (lies_at k n y)
     (λ h. let both = and_parts (key_eq x.key.is y.key.is) (x.number == y.number) h in
     at_from k n y (sym (key_exact.same x.key.is y.key.is both.0) ∙ here.0) (sym (eqb-true x.number y.number both.1) ∙ here.1))
-    (λ h. let there = at_parts k n y h in
-    and_from _ _ (ap (λ (l : Key). key_eq l y.key.is) (here.0 ∙ sym there.0) ∙ key_exact.self y.key.is) (eq-eqb x.number y.number (here.1 ∙ sym there.1)))
+    (λ h. grind (arith, common_steps, and_from, at_parts, eq-eqb, key_exact))
 
 -- the counters after both
 counters_both : (a b m n : ℕ) (c : Counters) → more_destroyed m (more_released n (more_destroyed a (more_released b c))) ≡ more_destroyed (a + m) (more_released (b + n) c)
-counters_both a b m n c =
-    let destroyed : c.destroyed + a + m ≡ c.destroyed + (a + m) = omega arith in
-    let released : c.released + b + n ≡ c.released + (b + n) = omega arith in
-    λ i. record c { destroyed = destroyed i; released = released i }
+counters_both a b m n c = grind arith
 
 counters_none : (c : Counters) → c ≡ more_destroyed 0 (more_released 0 c)
-counters_none c =
-    let destroyed : c.destroyed ≡ c.destroyed + 0 = omega arith in
-    let released : c.released ≡ c.released + 0 = omega arith in
-    λ i. record c { destroyed = destroyed i; released = released i }
+counters_none c = grind arith
 
 none_gone : (keys : List Key) (s : State) → 0 ≡ pools_gone keys [] s
 none_gone keys s = go keys
@@ -64,15 +58,8 @@ module _ {L P S : Type 0} (means : Meaning L P S) where
 
   pub run_then : (k : Key) (n : ℕ) (x : DescriptorSet S) (xs zs : List (DescriptorSet S)) → lies_at k n x ≡ true → AllPass (lies_at k n) xs → BeginsApart k n zs → runs (items ((x ∷ xs) ++ zs)) ≡ 1 + runs (items zs)
   run_then k n x [] [] own have apart = refl
-  run_then k n x [] (z ∷ zs) own have apart =
-      let other = same_spot k n x z own ∙ apart in
-      let e : breaks (item_of means.set_name x) (items (z ∷ zs)) ≡ 1 + breaks (item_of means.set_name z) (items zs) = rw other refl in
-      omega arith
-  run_then k n x (y ∷ ys) zs own have apart =
-      let same = same_spot k n x y own ∙ have.0 in
-      let e : breaks (item_of means.set_name x) (items (y ∷ (ys ++ zs))) ≡ 0 + breaks (item_of means.set_name y) (items (ys ++ zs)) = rw same refl in
-      let rest : runs (items (y ∷ (ys ++ zs))) ≡ 1 + runs (items zs) = run_then k n y ys zs have.0 have.1 apart in
-      omega arith
+  run_then k n x [] (z ∷ zs) own have apart = grind (arith, same_spot)
+  run_then k n x (y ∷ ys) zs own have apart = grind (arith, common_steps, same_spot, (run_then k n y ys zs have.0 have.1 apart))
 
   items-append : (xs ys : List (DescriptorSet S)) → items (xs ++ ys) ≡ items xs ++ items ys
   items-append xs ys = map-append (λ (x : DescriptorSet S). item_of means.set_name x) xs ys
@@ -154,17 +141,12 @@ module _ {L P S : Type 0} (means : Meaning L P S) where
       all_out zs t z = subst (λ m. AreOutstanding m (state_of means.pool_name old before)) (items-append r.sets (x ∷ zs)) (out (r.sets ++ x ∷ zs) t (behind first r.sets x zs rest t r.comes.0 z))
 
       came_out : (zs : List (DescriptorSet S)) (t : T) → Yields steps rest zs t → AreOutstanding (items r.sets) (state_of means.pool_name old before)
-      came_out zs t z u =
-          let fits = all_out zs t z u in
-          let sum = count_of-append u (items r.sets) (items (x ∷ zs)) in
-          omega arith
+      came_out zs t z u = grind arith
 
       pub call_out : HoldsAlong steps rest (λ zs. AreOutstanding (items (x ∷ zs)) (state_of means.pool_name now mid))
       call_out zs t z = subst (λ s. AreOutstanding (items (x ∷ zs)) s) (sym r.back.state) (λ u.
-          let fits = all_out zs t z u in
-          let sum = count_of-append u (items r.sets) (items (x ∷ zs)) in
           let less = takes (items r.sets) (state_of means.pool_name old before) agree (came_out zs t z) u in
-          omega arith)
+          grind (arith, common_steps, all_out, count_of-append))
 
       pub freed_more : (new : Allocations P) (after : Ledger) (a : Option (DescriptorSet S)) (t : T) → FreesRun steps means x rest a t (side now mid) (side new after) → keys_of new ≡ keys_of now → OnSome a (IsNearerEnd can left rest t)
           → now.comparisons ≤ new.comparisons → new.comparisons ≤ now.comparisons + binary_digits (open_pools ((state_of means.pool_name now mid).books x.key.is)) → Freed first old before new after a t
@@ -173,8 +155,8 @@ module _ {L P S : Type 0} (means : Meaning L P S) where
         back = subst (λ (m : ℕ). GivesBack means (r.sets ++ x ∷ xs) m (side old before) (side new after)) (sym count) (gives_both r.sets (x ∷ xs) (runs (items r.sets)) 1 old now new before mid after agree (all_out xs run.came.1.0 run.came.1.1) r.keys r.back run.back);
         agree = rw run.back.state (agrees (items (x ∷ xs)) (state_of means.pool_name now mid) r.agree (call_out xs run.came.1.0 run.came.1.1));
         keys = same ∙ r.keys;
-        rises = (let was = r.rises in omega arith);
-        few = (let was = r.few in let digits = cost in omega arith);
+        rises = (omega arith);
+        few = (let digits = cost in omega arith);
         comes = stop a run.came.1.2 run.came.2 n;
       }
         where
@@ -227,8 +209,4 @@ module _ {L P S : Type 0} (means : Meaning L P S) where
 
     -- at the end all sets of the iterator have gone back
     pub freed_all : (first : T) (old : Allocations P) (before : Ledger) (new : Allocations P) (after : Ledger) (end : T) → new.looks ≡ old.looks → Freed first old before new after None end → Frees steps means first end (side old before) (side new after)
-    freed_all first old before new after end looks r = record {
-      sets = r.sets;
-      drained = r.comes;
-      returns = record { back = r.back; keys = r.keys; looks_stay = looks; comparisons = r.few; compared = r.rises };
-    }
+    freed_all first old before new after end looks r = grind arith

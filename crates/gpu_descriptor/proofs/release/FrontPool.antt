@@ -1,36 +1,18 @@
 -- One pool leaves the front.
-use Rattle.gpu_descriptor.proofs.Common.{◌≡◌, ◌≢◌, ℕ, suc, ◌+◌, ◌<◌, ◌≤◌, Bool, true, false, ◌||◌, ◌==◌, List, [], ◌∷◌, length, map, drop, get_or, Option, None, inl, inr, refl, sym, ap, ◌∙◌, arith, eq-eqb, ne_eqb, if◌then◌else◌, fun_ext, cases_Bool, cases_eq, length-map, Pool, Ledger, HasNoSets, after_destroy, DescriptorPool, Key, Entry, Bucket}
+use Rattle.gpu_descriptor.proofs.Common.{◌≡◌, ◌≢◌, ℕ, suc, ◌+◌, ◌<◌, ◌≤◌, true, List, [], ◌∷◌, length, map, drop, get_or, Option, None, inl, inr, refl, sym, ap, ◌∙◌, arith, eq-eqb, cases_eq, length-map, Pool, Ledger, HasNoSets, after_destroy, DescriptorPool, Key, Entry, Bucket}
 use Rattle.gpu_descriptor.specs.Inner.Buckets.{AreBookedIn, front_but, trimmed_bucket, trimmed_ledger, ledger_without}
-use Rattle.gpu_descriptor.specs.Model.Release.{more_destroyed, is_empty, without_front, in_front}
+use Rattle.gpu_descriptor.specs.Model.Release.{is_empty}
 use Rattle.gpu_descriptor.specs.Inner.Stored.{entry_of}
 use Rattle.gpu_descriptor.proofs.table.Exact.{bucket}
-use Rattle.gpu_descriptor.proofs.release.Fronts.{trim, trim_yes, trim_no, trim_short}
+use Rattle.gpu_descriptor.proofs.release.Fronts.{trim_yes, trim_short}
 use Rattle.gpu_descriptor.proofs.release.Places.{size_pos}
-use Rattle.gpu_descriptor.proofs.foreign.LedgerPools.{with_pool, with_pool_other, destroyed_none, destroyed_both}
+use Rattle.gpu_descriptor.proofs.foreign.LedgerPools.{with_pool, with_pool_other}
 
 pub step_books : (keep id first : ℕ) (x : Entry) (es : List Entry) → keep ≤ length es → is_empty x ≡ true → trimmed_bucket keep (bucket id (first + 1) es) ≡ trimmed_bucket keep (bucket id first (x ∷ es))
-step_books keep id first x es le empty =
-    let n : ℕ = trim keep es in
-    let number : first + 1 + n ≡ first + suc n = omega arith in
-    let same : trimmed_bucket keep (bucket id (first + 1) es) ≡ without_front (suc n) (bucket id first (x ∷ es)) = λ i. record { id = id; first = number i; pools = drop n es } in
-    same ∙ ap (λ (m : ℕ). without_front m (bucket id first (x ∷ es))) (sym (trim_yes keep x es le empty))
-
--- a pool that is taken out of the ledger, seen at one name
-pub taken_at : (pools : ℕ → Option Pool) (pool p : ℕ) (rest : Bool) → (if rest then None else with_pool pools pool None p) ≡ (if (pool == p) || rest then None else pools p)
-taken_at pools pool p true = elim (cases_Bool (pool == p)) [ inl h ↦ rw h refl | inr h ↦ rw h refl ]
-taken_at pools pool p false = elim (cases_Bool (pool == p)) [ inl h ↦ rw h refl | inr h ↦ rw h refl ]
-
--- a front that goes pool by pool goes at once
-pub step_without : (n : ℕ) (id first : ℕ) (x : Entry) (es : List Entry) (l : Ledger) → ledger_without n (bucket id (first + 1) es) (after_destroy x.pool l) ≡ ledger_without (suc n) (bucket id first (x ∷ es)) l
-step_without n id first x es l =
-    let pools : (λ p. if in_front n (bucket id (first + 1) es) p then None else (after_destroy x.pool l).pools p) ≡ (λ p. if in_front (suc n) (bucket id first (x ∷ es)) p then None else l.pools p) = fun_ext (λ p. taken_at l.pools x.pool p (in_front n (bucket id (first + 1) es) p)) in
-    let more : 1 + n ≡ suc n = omega arith in
-    let counters : more_destroyed n (more_destroyed 1 l.counters) ≡ more_destroyed (suc n) l.counters = destroyed_both 1 n l.counters ∙ ap (λ (m : ℕ). more_destroyed m l.counters) more in
-    λ i. record { pools = pools i; counters = counters i }
+step_books keep id first x es le empty = grind (arith, trim_yes)
 
 pub step_ledger : (keep id first : ℕ) (x : Entry) (es : List Entry) (l : Ledger) → keep ≤ length es → is_empty x ≡ true → trimmed_ledger keep (bucket id (first + 1) es) (after_destroy x.pool l) ≡ trimmed_ledger keep (bucket id first (x ∷ es)) l
-step_ledger keep id first x es l le empty =
-    step_without (trim keep es) id first x es l ∙ ap (λ (m : ℕ). ledger_without m (bucket id first (x ∷ es)) l) (sym (trim_yes keep x es le empty))
+step_ledger keep id first x es l le empty = grind (arith, trim_yes)
 
 pub front_unused : (k : Key) (first : ℕ) (x : Entry) (es : List Entry) (l : Ledger) → AreBookedIn k l.pools (x ∷ es) → x.allocated ≡ 0 → HasNoSets x.pool l
 front_unused k first x es l stored none =
@@ -55,10 +37,7 @@ step_stored k first x es pools stored = record {
 
 -- a front that stays
 pub still : (n : ℕ) → n ≡ 0 → (b : Bucket) (l : Ledger) → ledger_without n b l ≡ l
-still n none b l =
-    let counters = destroyed_none l.counters in
-    let kept : ledger_without 0 b l ≡ l = λ i. record { pools = l.pools; counters = counters i } in
-    ap (λ (m : ℕ). ledger_without m b l) none ∙ kept
+still n none b l = grind arith
 
 module _ {P : Type 0} (name : P → ℕ) (keep : ℕ) where
   -- the first of more stored pools than are to stay
@@ -76,10 +55,7 @@ module _ {P : Type 0} (name : P → ℕ) (keep : ℕ) where
 
   pub turn_unused : (k : Key) (first : ℕ) (items : List (DescriptorPool P)) (p : DescriptorPool P) (l : Ledger) → IsFront items p → stored k first items l.pools → HasNoSets (name p.raw) l
   turn_unused k first [] p l front agree = (let bad = front.long in absurd (omega arith))
-  turn_unused k first (x ∷ items) p l front agree = (
-      let is : p ≡ x = front.is in
-      let empty : x.allocated ≡ 0 = ap (λ (y : DescriptorPool P). y.allocated) (sym is) ∙ front.empty in
-      rw is (front_unused k first (entry_of name x) (map (entry_of name) items) l agree empty))
+  turn_unused k first (x ∷ items) p l front agree = grind (arith, front_unused)
 
   -- what the turn leaves
   pub record Turned (k : Key) (id first : ℕ) (items news : List (DescriptorPool P)) (before after : Ledger) : Type 0 where
@@ -105,9 +81,7 @@ module _ {P : Type 0} (name : P → ℕ) (keep : ℕ) where
   -- a front with sets stays, and so do the last pools that are kept
   pub stop_full : (id first : ℕ) (items : List (DescriptorPool P)) (q : DescriptorPool P) → keep < length items → q ≡ get_or items 0 q → (q.allocated ≡ 0 → ⊥) → front_but keep (bucket id first (map (entry_of name) items)) ≡ 0
   stop_full id first [] q long is full = absurd (omega arith)
-  stop_full id first (x ∷ items) q long is full = (
-      let same : q ≡ x = is in
-      trim_no keep (entry_of name x) (map (entry_of name) items) (ne_eqb x.allocated 0 (λ none. full (ap (λ (z : DescriptorPool P). z.allocated) same ∙ none))))
+  stop_full id first (x ∷ items) q long is full = grind arith
 
   pub stop_short : (id first : ℕ) (items : List (DescriptorPool P)) → length items ≤ keep → front_but keep (bucket id first (map (entry_of name) items)) ≡ 0
   stop_short id first items short = trim_short keep (map (entry_of name) items) (let same = length-map items (entry_of name) in omega arith)

@@ -1,5 +1,6 @@
 -- The front of a bucket: what giving back does to it, and which places keep their pools when it goes.
-use Rattle.gpu_descriptor.proofs.Common.{◌≡◌, ℕ, zero, suc, ◌+◌, ◌-◌, ◌<◌, ◌≤◌, true, false, min, List, [], ◌∷◌, length, map, drop, slice_get, Option, Some, None, inl, inr, refl, sym, ap, ◌∙◌, subst, arith, eqb-true, eq-eqb, lt-ltb, le-ltb, drop-drop, prefix_len, cases_Bool, cases_lt, drop-map, prefix_len-le-length, Entry, Bucket, entry_at}
+use Rattle.gpu_descriptor.proofs.Common.{◌≡◌, ℕ, zero, suc, ◌+◌, ◌-◌, ◌<◌, ◌≤◌, true, false, min, List, [], ◌∷◌, length, map, drop, slice_get, Some, inl, inr, refl, sym, ap, ◌∙◌, arith, le-ltb, drop-drop, prefix_len, cases_Bool, drop-map, prefix_len-le-length, Entry, Bucket, entry_at}
+use Rattle.std.proofs.lemmas.Grind.{common_steps}
 use Rattle.gpu_descriptor.specs.Inner.Buckets.{front_but, trimmed_bucket}
 use Rattle.gpu_descriptor.specs.Model.Release.{entry_less, bucket_less, is_empty, empty_front, spent_front, without_front}
 use Rattle.gpu_descriptor.proofs.lists.AtPlaces.{get_drop}
@@ -21,9 +22,6 @@ trim_short keep es le = omega arith
 pub whole_front : (b : Bucket) → front_but 0 b ≡ empty_front b
 whole_front b = (let le = prefix_len-le-length is_empty b.pools in omega arith)
 
-pub whole_trimmed : (b : Bucket) → trimmed_bucket 0 b ≡ without_front (empty_front b) b
-whole_trimmed b = ap (λ (n : ℕ). without_front n b) (whole_front b)
-
 -- a change that leaves empty pools empty
 abbrev pub KeepsEmpty : (Entry → Entry) → Type 0
 KeepsEmpty g = (e : Entry) → is_empty e ≡ true → is_empty (g e) ≡ true
@@ -40,48 +38,26 @@ trim-map g keeps (x ∷ y ∷ es) = elim (cases_Bool (is_empty x)) [
 -- a pool in the front is empty
 pub front_empty : (es : List Entry) (i : ℕ) (e : Entry) → slice_get es i ≡ Some e → i < prefix_len is_empty es → is_empty e ≡ true
 front_empty [] i e at lt = absurd (omega arith)
-front_empty (x ∷ es) zero e at lt = elim (cases_Bool (is_empty x)) [
-  | inl h ↦ (let same : x ≡ e = cc in subst (λ (z : Entry). is_empty z ≡ true) same h)
-  | inr h ↦ (let none : prefix_len is_empty (x ∷ es) ≡ 0 = rw h refl in absurd (omega arith))
-]
-front_empty (x ∷ es) (suc i) e at lt = elim (cases_Bool (is_empty x)) [
-  | inl h ↦ (let more : prefix_len is_empty (x ∷ es) ≡ 1 + prefix_len is_empty es = rw h refl in front_empty es i e at (omega arith))
-  | inr h ↦ (let none : prefix_len is_empty (x ∷ es) ≡ 0 = rw h refl in absurd (omega arith))
-]
+front_empty (x ∷ es) zero e at lt = grind arith
+front_empty (x ∷ es) (suc i) e at lt = grind (arith, (front_empty es i e at))
 
 -- a place of the books, by its number
 pub entry_at-found : (b : Bucket) (n : ℕ) (e : Entry) → entry_at b n ≡ Some e → (b.first ≤ n) × (slice_get b.pools (n - b.first) ≡ Some e)
-entry_at-found b n e h = elim (cases_lt n b.first) [
-  | inl lt ↦ (let none : entry_at b n ≡ None = rw (lt-ltb n b.first lt) refl in absurd (let bad : ◌≡◌ {A = Option Entry} None (Some e) = sym none ∙ h in cc))
-  | inr le ↦ (le, (let here : entry_at b n ≡ slice_get b.pools (n - b.first) = rw (le-ltb n b.first le) refl in sym here ∙ h))
-]
+entry_at-found b n e h = grind arith
 
 pub entry_at-from : (b : Bucket) (n : ℕ) (e : Entry) → b.first ≤ n → slice_get b.pools (n - b.first) ≡ Some e → entry_at b n ≡ Some e
 entry_at-from b n e le h = rw (le-ltb n b.first le) h
 
 -- what has a number after the front is gone had it before
 pub entry_at-without : (f : ℕ) (b : Bucket) (n : ℕ) (e : Entry) → entry_at (without_front f b) n ≡ Some e → (b.first + f ≤ n) × (entry_at b n ≡ Some e)
-entry_at-without f b n e h =
-    let found = entry_at-found (without_front f b) n e h in
-    let place : f + (n - (b.first + f)) ≡ n - b.first = omega (arith, found.0) in
-    (found.0, entry_at-from b n e (omega (arith, found.0)) (rw (← place) (sym (get_drop b.pools f (n - (b.first + f))) ∙ found.1)))
+entry_at-without f b n e h = grind (arith, get_drop)
 
 -- a pool with sets keeps its number when the front goes
 pub entry_at-kept : (b : Bucket) (f n : ℕ) (e : Entry) → f ≤ empty_front b → entry_at b n ≡ Some e → is_empty e ≡ false → entry_at (without_front f b) n ≡ Some e
-entry_at-kept b f n e le h full =
-    let found = entry_at-found b n e h in
-    elim (cases_lt (n - b.first) f) [
-      | inl lt ↦ (let empty : is_empty e ≡ true = front_empty b.pools (n - b.first) e found.1 (omega arith) in absurd (let bad : true ≡ false = sym empty ∙ full in cc))
-      | inr ge ↦ (
-          let place : f + (n - (b.first + f)) ≡ n - b.first = omega (arith, found.0) in
-          entry_at-from (without_front f b) n e (omega (arith, found.0)) (get_drop b.pools f (n - (b.first + f)) ∙ rw place found.1))
-    ]
+entry_at-kept b f n e le h full = grind (arith, front_empty, get_drop)
 
 pub entry_less-less : (a c : ℕ) (e : Entry) → entry_less c (entry_less a e) ≡ entry_less (a + c) e
-entry_less-less a c e =
-    let allocated : e.allocated - a - c ≡ e.allocated - (a + c) = omega arith in
-    let free : e.free + a + c ≡ e.free + (a + c) = omega arith in
-    λ i. record { pool = e.pool; capacity = e.capacity; allocated = allocated i; free = free i }
+entry_less-less a c e = grind arith
 
 pub less-less : (f g : ℕ → ℕ) (b : Bucket) → bucket_less g (bucket_less f b) ≡ bucket_less (λ p. f p + g p) b
 less-less f g b = λ i. record b { pools = each b.pools i }
@@ -94,20 +70,11 @@ pub less-without : (g : ℕ → ℕ) (n : ℕ) (b : Bucket) → bucket_less g (w
 less-without g n b = λ i. record b { first = b.first + n; pools = sym (drop-map (λ (e : Entry). entry_less (g e.pool) e) n b.pools) i }
 
 pub without-without : (m n : ℕ) (b : Bucket) → without_front n (without_front m b) ≡ without_front (m + n) b
-without-without m n b =
-    let first : b.first + m + n ≡ b.first + (m + n) = omega arith in
-    λ i. record b { first = first i; pools = drop-drop n m b.pools i }
-
-less-keeps_empty : (g : ℕ → ℕ) → KeepsEmpty (λ e. entry_less (g e.pool) e)
-less-keeps_empty g e h =
-    let none : e.allocated ≡ 0 = eqb-true e.allocated 0 h in
-    eq-eqb (e.allocated - g e.pool) 0 (omega arith)
+without-without m n b = grind (arith, drop-drop)
 
 -- The front after a second subtraction is the front after the first, and then the front of what that leaves
 pub spent_front-less : (g : ℕ → ℕ) (b : Bucket) → spent_front (bucket_less g b) ≡ spent_front b + spent_front (bucket_less g (trimmed_bucket 1 b))
-spent_front-less g b =
-    trim-map (λ e. entry_less (g e.pool) e) (less-keeps_empty g) b.pools
-    ∙ ap (λ (es : List Entry). trim 1 b.pools + trim 1 es) (drop-map (λ (e : Entry). entry_less (g e.pool) e) (trim 1 b.pools) b.pools)
+spent_front-less g b = grind (arith, drop-map, trim-map)
 
 -- THE LAW FOR ONE KEY: two parts, the front gone after each, leave what both at once leave
 pub one_key : (f g : ℕ → ℕ) (b : Bucket) → trimmed_bucket 1 (bucket_less g (trimmed_bucket 1 (bucket_less f b))) ≡ trimmed_bucket 1 (bucket_less (λ p. f p + g p) b)
@@ -117,5 +84,4 @@ one_key f g b =
     let twice : bucket_less g c ≡ d = less-less f g b in
     let part : bucket_less g (trimmed_bucket 1 c) ≡ without_front (spent_front c) d = less-without g (spent_front c) c ∙ ap (without_front (spent_front c)) twice in
     let sizes : spent_front d ≡ spent_front c + spent_front (bucket_less g (trimmed_bucket 1 c)) = ap spent_front (sym twice) ∙ spent_front-less g c in
-    ap (trimmed_bucket 1) part ∙ without-without (spent_front c) (spent_front (without_front (spent_front c) d)) d
-    ∙ ap (λ (n : ℕ). without_front n d) (ap (λ (x : Bucket). spent_front c + spent_front x) (sym part) ∙ sym sizes)
+    grind (arith, common_steps, without-without)

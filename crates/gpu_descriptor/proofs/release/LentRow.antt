@@ -1,5 +1,5 @@
 -- One run through a row that the table lends.
-use Rattle.gpu_descriptor.proofs.Common.{◌≡◌, ℕ, ◌-◌, Bool, List, [], ◌∷◌, map, count_by, slice_get, Option, Some, None, IsSome, length, refl, sym, ap, subst, ◌∙◌, fun_ext, lookup, set_value, option_map_or, Ledger, live_sets, BucketKey, DescriptorSet, DescriptorBucket, Agree, AreOutstanding, Key, key_eq, Entry, Bucket, no_pools, books_of, HasDistinctKeys, key_of, Allocations}
+use Rattle.gpu_descriptor.proofs.Common.{◌≡◌, ℕ, Bool, List, [], ◌∷◌, map, count_by, Option, Some, IsSome, length, refl, sym, ap, subst, ◌∙◌, fun_ext, lookup, set_value, option_map_or, Ledger, live_sets, BucketKey, DescriptorSet, DescriptorBucket, Agree, AreOutstanding, Key, key_eq, Bucket, no_pools, books_of, HasDistinctKeys, key_of, Allocations}
 use Rattle.gpu_descriptor.specs.Inner.Buckets.{AreBookedIn}
 use Rattle.gpu_descriptor.specs.Inner.Releases.{IsTakenAt, RunsInto, names_of, bucket_back}
 use Rattle.gpu_descriptor.specs.Model.Release.{more_destroyed, more_released, given_back, released, pools_gone}
@@ -8,7 +8,6 @@ use Rattle.gpu_descriptor.specs.Caller.Sets.{items_of}
 use Rattle.gpu_descriptor.specs.Caller.States.{named_row, state_of, keys_of}
 use Rattle.gpu_descriptor.specs.Inner.RunSteps.{AllPass, lies_at}
 use Rattle.gpu_descriptor.specs.Inner.Stored.{books_in, row_of, bucket_of}
-use Rattle.gpu_descriptor.proofs.release.Fronts.{entry_at-found}
 use Rattle.gpu_descriptor.proofs.foreign.LedgerPools.{taken_from, release_pools}
 use Rattle.gpu_descriptor.proofs.table.TableBooks.{put_books, rows_in, looked_up, written, key_once, keys_are}
 use Rattle.gpu_descriptor.proofs.request.StateAgrees.{booked_of}
@@ -21,14 +20,6 @@ module _ {P S : Type 0} (name : P → ℕ) (set_name : S → ℕ) (a : Allocatio
 
   at_key : (o : Option (DescriptorBucket P)) → lookup test es ≡ o → (state_of name a l).books x.key.is ≡ option_map_or (bucket_of name) o no_pools
   at_key o found = ap (λ (f : Key → Bucket). f x.key.is) books_are ∙ looked_up name test x.key.is same es ∙ ap (λ (o : Option (DescriptorBucket P)). option_map_or (bucket_of name) o no_pools) found
-
-  -- the row is there
-  pub no_row : AreOutstanding (items_of set_name (x ∷ [])) (state_of name a l) → lookup test es ≡ None → ⊥
-  no_row out none =
-      let t = taken_of set_name (state_of name a l) agree x [] tt out in
-      let e : ((state_of name a l).books x.key.is).pools ≡ [] = ap (λ (b : Bucket). b.pools) (at_key None none) in
-      let found = (entry_at-found ((state_of name a l).books x.key.is) x.number t.entry t.at).1 in
-      let bad : ◌≡◌ {A = Option Entry} None (Some t.entry) = ap (λ (ps : List Entry). slice_get ps (x.number - ((state_of name a l).books x.key.is).first)) (sym e) ∙ found in cc
 
   module _ (bucket : DescriptorBucket P) (found : lookup test es ≡ Some bucket) where
     pub row_stored : AreBookedIn x.key.is l.pools (bucket_of name bucket).pools

@@ -1,8 +1,7 @@
 -- What one look at the caller's iterator leaves.
-use Rattle.gpu_descriptor.proofs.Common.{◌≡◌, ℕ, ◌+◌, ◌<◌, ◌^◌, Bool, true, false, [], ◌∷◌, length, refl, sym, ap, ◌∙◌, subst, arith, Option, Some, None, Count, IsFinite, size, option_len, DescriptorSet}
-use Rattle.std.specs.Bool.{MatchBool}
+use Rattle.gpu_descriptor.proofs.Common.{◌≡◌, ℕ, ◌+◌, ◌<◌, ◌^◌, Bool, true, false, [], ◌∷◌, length, refl, sym, ◌∙◌, arith, Option, Some, None, Count, IsFinite, size, option_len, DescriptorSet}
 use Rattle.gpu_descriptor.specs.declared.bucket.run.Run.{Run}
-use Rattle.gpu_descriptor.specs.Inner.RunSteps.{at_place, CountsFrom, AllPass, Looks, RunStep}
+use Rattle.gpu_descriptor.specs.Inner.RunSteps.{at_place, CountsFrom, Looks, RunStep}
 
 module _ {T S : Type 0} (steps : T → Option (DescriptorSet S) → T → Type 0) (k i : ℕ) (s : T) (n : ℕ) where
   pub count_now : CountsFrom steps k i s n → n < 2 ^ 32
@@ -12,9 +11,7 @@ module _ {T S : Type 0} (steps : T → Option (DescriptorSet S) → T → Type 0
   count_more x t is h e = λ xs u y have. let r : n + length (x ∷ xs) < 2 ^ 32 = h (x ∷ xs) u (t, e, y) (is, have) in omega arith
 
 pub count_as : {T S : Type 0} (steps : T → Option (DescriptorSet S) → T → Type 0) (k l i j : ℕ) (s : T) (m n : ℕ) → k ≡ l → i ≡ j → m ≡ n → CountsFrom steps k i s m → CountsFrom steps l j s n
-count_as steps k l i j s m n p q e h = λ xs t y have.
-    let own : AllPass (at_place k i) xs = subst (λ a. AllPass (at_place a i) xs) (sym p) (subst (λ b. AllPass (at_place l b) xs) (sym q) have) in
-    let r : m + length xs < 2 ^ 32 = h xs t y own in omega arith
+count_as steps k l i j s m n p q e h = grind arith
 
 module _ {T S : Type 0} (steps : T → Option (DescriptorSet S) → T → Type 0) (can : T → Type 0) (left : T → Count) where
   -- the source may be asked on, with one set less to come
@@ -29,8 +26,7 @@ module _ {T S : Type 0} (steps : T → Option (DescriptorSet S) → T → Type 0
       let r = count_as steps k k i i s (n + 0) n refl refl (omega arith) h in
       let m = count_more steps k i s n x t is r l.0 in
       record { can_go = l.1.keeps; counts = m; fits = count_now steps k i t (n + 1) m; ends = λ f. let p = l.1.on f in (p.1, (omega (arith, p.2))) }
-  looked k i s (Some y) n x t is c h l =
-      record { can_go = subst can (sym l.1) c; counts = subst (λ u. CountsFrom steps k i u (n + 1)) (sym l.1) h; fits = count_now steps k i s (n + 1) h; ends = λ f. subst (λ u. IsFinite (left u) × (size (left u) < size (left s) + 1)) (sym l.1) (f, (omega arith)) }
+  looked k i s (Some y) n x t is c h l = grind (arith, count_now)
 
   -- x came by one look, which left the run at m
   pub record Came (s : Run T S) (x : DescriptorSet S) (m : Run T S) : Type 0 where
@@ -46,11 +42,7 @@ module _ {T S : Type 0} (steps : T → Option (DescriptorSet S) → T → Type 0
   at_start s m x b c came h is = rw (← came.key, ← came.number) (sym is ∙ h)
 
   pub hands_it : (s m : Run T S) (x : DescriptorSet S) (b : Bool) → Came s x m → b ≡ true → b ≡ at_place m.id m.number x → RunStep steps can left s (Some x.raw) (record m { count = m.count + 1 })
-  hands_it s m x b c h is =
-      let e : MatchBool (at_place s.id s.number x) (((Some x.raw) ≡ Some x.raw) × (m.ahead.now ≡ None) × (m.count + 1 ≡ s.count + 1)) (◌≡◌ {A = Option S} (Some x.raw) None × (m.ahead.now ≡ Some x) × (m.count + 1 ≡ s.count)) = rw (at_start s m x b true c h is) (refl, c.none, ap (λ n. n + 1) c.count) in
-      (c.key, c.number, c.name, c.aname, (Some x, c.looks, e))
+  hands_it s m x b c h is = grind arith
 
   pub hands_none : (s m : Run T S) (x : DescriptorSet S) (b : Bool) (a : Option (DescriptorSet S)) → Came s x m → b ≡ false → b ≡ at_place m.id m.number x → a ≡ Some x → RunStep steps can left s None (record m { ahead = record m.ahead { now = a } })
-  hands_none s m x b a c h is put =
-      let e : MatchBool (at_place s.id s.number x) (◌≡◌ {A = Option S} None (Some x.raw) × (a ≡ None) × (m.count ≡ s.count + 1)) (◌≡◌ {A = Option S} None None × (a ≡ Some x) × (m.count ≡ s.count)) = rw (at_start s m x b false c h is) (refl, put, c.count) in
-      (c.key, c.number, c.name, c.aname, (Some x, c.looks, e))
+  hands_none s m x b a c h is put = grind arith

@@ -5,7 +5,7 @@ use Rattle.gpu_descriptor.specs.Inner.Buckets.{AreBookedIn}
 use Rattle.gpu_descriptor.specs.Inner.Releases.{IsTakenAt, names_of}
 use Rattle.gpu_descriptor.specs.Inner.RunSteps.{at_place, RunStep, CountsFrom, EndsRun, AllPass}
 use Rattle.gpu_descriptor.proofs.release.BucketRun.{AreTaken, can_free, can_take, took_these, length_names}
-use Rattle.gpu_descriptor.proofs.release.RunTaken.{Stopped, Whole, whole, front}
+use Rattle.gpu_descriptor.proofs.release.RunTaken.{Whole, whole, front}
 
 pub at_own : {S : Type 0} (x : DescriptorSet S) → at_place x.id x.number x ≡ true
 unfolding at_place
@@ -21,11 +21,7 @@ module _ {T S : Type 0} (steps : T → Option (DescriptorSet S) → T → Type 0
   Takes rest x b pools = HoldsAlong steps rest (λ xs. AllPass (at_place x.id x.number) xs → IsTakenAt x.key.is x.number (names_of name (x ∷ xs)) b pools)
 
   pub run_counts : (rest : T) (x : DescriptorSet S) (b : Bucket) (pools : ℕ → Option Pool) (e : Entry) → slice_get b.pools (x.number - b.first) ≡ Some e → e.allocated ≤ 2147483648 → Takes rest x b pools → CountsFrom steps x.id x.number rest (0 + 1)
-  run_counts rest x b pools e at small h = λ zs t z have.
-      let take = can_take x.key.is x.number (names_of name (x ∷ zs)) b pools e (h zs t z have) at in
-      let fits = take.fits in
-      let long = length-map zs (λ (y : DescriptorSet S). name y.raw) in
-      omega arith
+  run_counts rest x b pools e at small h = grind (arith, length-map)
 
   -- all that a run gives is live in the place
   pub run_live : (b : Bucket) (l : Ledger) (x : DescriptorSet S) (e : Entry) (s : Run T S) → s.ahead.now ≡ Some x → x.id ≡ s.id → x.number ≡ s.number → AreBookedIn x.key.is l.pools b.pools → slice_get b.pools (x.number - b.first) ≡ Some e → Takes s.source.now x b l.pools
@@ -60,24 +56,13 @@ module _ {T S : Type 0} (steps : T → Option (DescriptorSet S) → T → Type 0
   run_names x s u ys w = ap (λ zs. map name zs) (sym w.raws) ∙ names name (x ∷ w.xs)
 
   pub run_long : (x : DescriptorSet S) (s u : Run T S) (ys : List S) (w : Whole steps can left s x ys u) → s.count ≡ 0 → u.count ≡ length (names_of name (x ∷ w.xs))
-  run_long x s u ys w z =
-      let c = w.count in
-      let long = length-map w.xs (λ (y : DescriptorSet S). name y.raw) in
-      omega arith
+  run_long x s u ys w z = grind (arith, length-map)
 
   pub run_ends : (x : DescriptorSet S) (s u : Run T S) (ys : List S) (w : Whole steps can left s x ys u) (a : Option (DescriptorSet S)) (v : T) → a ≡ u.ahead.now → v ≡ u.source.now → EndsRun steps (at_place s.id s.number) s.source.now w.xs a v
-  run_ends x s u ys w a v ea ev = rw (ea, ev) (go u.ahead.now w.stop)
-    where
-      go : (a : Option (DescriptorSet S)) → Stopped steps can left s.id s.number w.source a u.source.now → EndsRun steps (at_place s.id s.number) s.source.now w.xs a u.source.now
-      go None h = (w.keys, (w.source, w.came, h), tt)
-      go (Some y) h = (w.keys, (w.source, w.came, h.1), h.0)
+  run_ends x s u ys w a v ea ev = grind arith
 
   pub run_goes : (x : DescriptorSet S) (s u : Run T S) (ys : List S) (w : Whole steps can left s x ys u) (a : Option (DescriptorSet S)) (v : T) → a ≡ u.ahead.now → v ≡ u.source.now → IsFinite (left s.source.now) → OnSome a (IsNearerEnd can left s.source.now v)
-  run_goes x s u ys w a v ea ev f = rw (ea, ev) (go u.ahead.now w.stop)
-    where
-      go : (a : Option (DescriptorSet S)) → Stopped steps can left s.id s.number w.source a u.source.now → OnSome a (IsNearerEnd can left s.source.now u.source.now)
-      go None h = tt
-      go (Some y) h = let p = w.ends f in let q = h.2.on p.0 in (h.2.keeps, q.1, omega (arith, p.1, q.2))
+  run_goes x s u ys w a v ea ev f = grind arith
 
   -- what the device took of a run that began with x ahead
   pub record Done (s : Run T S) (x : DescriptorSet S) (b : Bucket) (pools : ℕ → Option Pool) (e : Entry) (u : Run T S) (ys : List S) (ls : List LiveSet) : Type 0 where

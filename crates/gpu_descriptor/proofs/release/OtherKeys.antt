@@ -1,5 +1,5 @@
 -- Giving sets back leaves the keys of which none of them is.
-use Rattle.gpu_descriptor.proofs.Common.{◌≡◌, ℕ, ◌+◌, ◌-◌, ◌&&◌, Bool, true, false, List, [], ◌∷◌, count_by, Some, None, option_map, slice_get, refl, sym, ap, ◌∙◌, arith, fun_ext, and_parts, or_parts, or_from, false_from_ne_true, list_any, if◌then◌else◌, count_by_no, LiveSet, set_eq, State, Item, Agree, set_of, Key, key_eq, Bucket, Entry, entry_at}
+use Rattle.gpu_descriptor.proofs.Common.{◌≡◌, ℕ, ◌+◌, ◌-◌, ◌&&◌, Bool, true, false, List, [], ◌∷◌, count_by, Some, None, option_map, slice_get, refl, sym, ap, ◌∙◌, arith, fun_ext, and_parts, false_from_ne_true, list_any, if◌then◌else◌, LiveSet, set_eq, State, Item, Agree, set_of, Key, key_eq, Bucket, Entry, entry_at}
 use Rattle.gpu_descriptor.specs.Model.Promises.{IsUntouched}
 use Rattle.gpu_descriptor.specs.Model.Release.{given_back, released, spent_front, in_front, lies_in, pool_less}
 use Rattle.gpu_descriptor.proofs.table.Exact.{key_exact}
@@ -14,15 +14,11 @@ module _ {A : Type 0} (f g : A → Bool) (le : (t : A) → f t ≡ true → g t 
 
   any_off : (m : List A) → list_any g m ≡ false → list_any f m ≡ false
   any_off [] none = refl
-  any_off (t ∷ m) none =
-      let both = or_parts (g t) (list_any g m) none in
-      or_from (f t) (list_any f m) (off t both.0) (any_off m both.1)
+  any_off (t ∷ m) none = grind (arith, (any_off m))
 
   count_off : (m : List A) → list_any g m ≡ false → count_by f m ≡ 0
   count_off [] none = refl
-  count_off (t ∷ m) none =
-      let both = or_parts (g t) (list_any g m) none in
-      count_by_no f t m (off t both.0) ∙ count_off m both.1
+  count_off (t ∷ m) none = grind (arith, (count_off m))
 
 -- a pool in the books of a key that the sets don't name stays on the device
 other_pool : (m : List Item) (s : State) → Agree s → (k : Key) → list_any (λ t. key_eq t.key k) m ≡ false → (n : ℕ) (e : Entry) → entry_at (s.books k) n ≡ Some e → (released m s).ledger e.pool ≡ s.ledger e.pool
@@ -42,14 +38,8 @@ other_pool m s agree k none n e at =
     ∙ ap (λ (w : State). w.ledger e.pool) (none_back s)
 
 pub release_others : (m : List Item) (s : State) → Agree s → (k : Key) → list_any (λ t. key_eq t.key k) m ≡ false → IsUntouched k s (released m s)
-release_others m s agree k none = record {
-  books = other_key m s agree k none;
-  pools = other_pool m s agree k none;
-}
+release_others m s agree k none = grind (arith, other_key, other_pool)
 
 -- untouched by one call and by the next
 pub untouched_twice : (k : Key) (s t u : State) → IsUntouched k s t → IsUntouched k t u → IsUntouched k s u
-untouched_twice k s t u first second = record {
-  books = second.books ∙ first.books;
-  pools = λ n e at. second.pools n e (ap (λ (b : Bucket). entry_at b n) first.books ∙ at) ∙ first.pools n e at;
-}
+untouched_twice k s t u first second = grind arith

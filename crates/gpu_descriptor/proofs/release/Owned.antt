@@ -1,5 +1,6 @@
 -- The row of a set that is out: its key's, and the only one with its id.
 use Rattle.gpu_descriptor.proofs.Common.{◌≡◌, ◌⊎◌, ◌<◌, ℕ, suc, true, false, List, [], ◌∷◌, ◌++◌, slice_get, Option, Some, None, IfSome, inl, inr, refl, sym, ap, subst, ◌∙◌, arith, eq-eqb, eqb-true, map, nat_eq, lookup, option_map_or, HoldsAlong, cases_Bool, and_from, and_parts, false_from_ne_true, Ledger, count_by_yes, BucketKey, DescriptorSet, DescriptorBucket, AreOutstanding, Item, State, item_eq, outstanding, Bucket, Key, entry_at, no_pools, key_of, Allocations}
+use Rattle.std.proofs.lemmas.Grind.{common_steps}
 use Rattle.std.proofs.iter.Next.{Yields-more}
 use Rattle.gpu_descriptor.specs.Caller.Sets.{item_of, items_of}
 use Rattle.gpu_descriptor.specs.Caller.States.{state_of}
@@ -57,8 +58,7 @@ module _ {P : Type 0} where
   pub one_owner : (next : ℕ) (es : List (BucketKey × DescriptorBucket P)) → rise_below next (stored_ids es) ≡ true → (k l : Key) (id : ℕ) → Owns k id es → Owns l id es → l ≡ k
   one_owner next es rise k l id a b =
       let s = stands l es b.bucket b.found in
-      let same : s.entry.1.id ≡ a.bucket.id = ap (λ (w : DescriptorBucket P). w.id) s.is ∙ b.has ∙ sym a.has in
-      sym s.key ∙ (own_key next es rise k a.bucket a.found s.place s.entry s.at same).0
+      grind (arith, common_steps, own_key)
 
 module _ {P S : Type 0} (name : P → ℕ) (set_name : S → ℕ) (a : Allocations P) (l : Ledger) (es : List (BucketKey × DescriptorBucket P)) (is : a.table ≡ map row_of es) where
   abbrev s : State
@@ -97,13 +97,8 @@ module _ {P S : Type 0} (name : P → ℕ) (set_name : S → ℕ) (a : Allocatio
     -- a set with another id isn't
     pub lies_apart : (x : DescriptorSet S) → AreOutstanding (items_of set_name (x ∷ [])) s → at_place id n x ≡ false → lies_at k n x ≡ false
     lies_apart x out apart = false_from_ne_true (lies_at k n x) (λ h.
-        let p = at_parts k n x h in
         let other = first_owns x [] out in
-        let same : Some other.bucket ≡ Some own.bucket = sym other.found ∙ ap (λ (q : Key). lookup (is_of q) es) p.0 ∙ own.found in
-        let one : other.bucket ≡ own.bucket = cc in
-        let ids : x.id ≡ id = sym other.has ∙ ap (λ (b : DescriptorBucket P). b.id) one ∙ own.has in
-        let bad : true ≡ false = sym (placed id n x ids p.1) ∙ apart in
-        cc)
+        grind (arith, common_steps, at_parts, placed))
 
     -- so a run by the id is one by the key
     pub ends_at : {T : Type 0} (steps : T → Option (DescriptorSet S) → T → Type 0) (x : DescriptorSet S) (given left : T) (xs : List (DescriptorSet S)) (ahead : Option (DescriptorSet S)) → HoldsAlong steps given (λ zs. AreOutstanding (items_of set_name (x ∷ zs)) s) → EndsRun steps (at_place id n) given xs ahead left → EndsRun steps (lies_at k n) given xs ahead left

@@ -1,5 +1,5 @@
 -- Giving back in two parts is giving back at once.
-use Rattle.gpu_descriptor.proofs.Common.{◌≡◌, ℕ, suc, ◌+◌, ◌-◌, ◌<◌, Bool, true, false, ◌&&◌, ◌||◌, ◌==◌, List, [], ◌∷◌, ◌++◌, map, take, drop, slice_get, Option, Some, None, option_map, inl, inr, refl, sym, ap, ◌∙◌, arith, take-add, if◌then◌else◌, fun_ext, list_any, and_parts, and_from, or_left, or_right, or_cases, false_from_ne_true, take-map, set_of, State, Item, item_eq, count_of, AreOutstanding, Agree, Key, key_eq, Entry, Bucket, entry_at, Pool, LiveSet, set_eq, bool_iff, count_by-append, count_by_alike, count_by_none, any_from, any_found}
+use Rattle.gpu_descriptor.proofs.Common.{◌≡◌, ℕ, suc, ◌+◌, ◌-◌, ◌<◌, Bool, true, false, ◌&&◌, ◌||◌, ◌==◌, List, [], ◌∷◌, ◌++◌, map, take, drop, slice_get, Option, Some, None, option_map, refl, sym, ap, ◌∙◌, arith, take-add, if◌then◌else◌, fun_ext, list_any, and_parts, and_from, false_from_ne_true, take-map, set_of, State, Item, item_eq, count_of, AreOutstanding, Agree, Key, key_eq, Entry, Bucket, entry_at, Pool, LiveSet, set_eq, count_by-append, count_by_alike, count_by_none, any_from, any_found}
 use Rattle.std.proofs.lemmas.List.Folds.{list_any-append}
 use Rattle.gpu_descriptor.specs.Inner.Buckets.{trimmed_bucket}
 use Rattle.gpu_descriptor.specs.Model.Release.{lies_in, entry_less, bucket_less, pool_less, spent_front, without_front, in_front, released}
@@ -76,22 +76,7 @@ key_any test m k h =
     any_from item_exact (λ u. test u.key) m t found.1 (ap test (key_exact.same t.key k found.2) ∙ both.1)
 
 any_law : (a b c : Key → Bool) (m n : List Item) → ((k : Key) → ((names_key m k || names_key n k) && a k) ≡ ((names_key m k && b k) || (names_key n k && c k))) → list_any (λ t. a t.key) (m ++ n) ≡ (list_any (λ t. b t.key) m || list_any (λ t. c t.key) n)
-any_law a b c m n h = bool_iff (list_any (λ t. a t.key) (m ++ n)) (list_any (λ t. b t.key) m || list_any (λ t. c t.key) n)
-    (λ all.
-    let at = any_key a (m ++ n) all in
-    let k = at.0 in
-    let both : ((names_key m k || names_key n k) && a k) ≡ true = ap (λ (x : Bool). x && a k) (sym (list_any-append (λ t. key_eq t.key k) m n)) ∙ at.1 in
-    elim (or_cases (names_key m k && b k) (names_key n k && c k) (sym (h k) ∙ both)) [
-      | inl first ↦ or_left (list_any (λ t. b t.key) m) (list_any (λ t. c t.key) n) (key_any b m k first)
-      | inr second ↦ or_right (list_any (λ t. b t.key) m) (list_any (λ t. c t.key) n) (key_any c n k second)
-    ])
-    (λ some.
-    let back_at : (k : Key) → ((names_key m k && b k) || (names_key n k && c k)) ≡ true → list_any (λ t. a t.key) (m ++ n) ≡ true = λ k is.
-    key_any a (m ++ n) k (ap (λ (x : Bool). x && a k) (list_any-append (λ t. key_eq t.key k) m n) ∙ h k ∙ is) in
-    elim (or_cases (list_any (λ t. b t.key) m) (list_any (λ t. c t.key) n) some) [
-      | inl first ↦ (let at = any_key b m first in back_at at.0 (or_left (names_key m at.0 && b at.0) (names_key n at.0 && c at.0) at.1))
-      | inr second ↦ (let at = any_key c n second in back_at at.0 (or_right (names_key m at.0 && b at.0) (names_key n at.0 && c at.0) at.1))
-    ])
+any_law a b c m n h = grind (arith, any_key, key_any, list_any-append)
 
 -- THE LEDGER AT ONE POOL
 ledger_law : (first second : Bool) (f g : LiveSet → ℕ) (o : Option Pool) → (if second then None else option_map (pool_less g) (if first then None else option_map (pool_less f) o)) ≡ (if first || second then None else option_map (pool_less (λ name. f name + g name)) o)
@@ -99,9 +84,7 @@ ledger_law true true f g o = refl
 ledger_law true false f g o = refl
 ledger_law false true f g o = refl
 ledger_law false false f g None = refl
-ledger_law false false f g (Some p) =
-    let live : ◌≡◌ {A = LiveSet → ℕ} (λ name. p.live name - f name - g name) (λ name. p.live name - (f name + g name)) = fun_ext (λ name. let e : p.live name - f name - g name ≡ p.live name - (f name + g name) = omega arith in e) in
-    λ i. Some (record { counts = p.counts; capacity = p.capacity; flags = p.flags; refusals = p.refusals; live = live i })
+ledger_law false false f g (Some p) = grind arith
 
 each_alike : (f g : Entry → Entry) (es : List Entry) → ((i : ℕ) (e : Entry) → slice_get es i ≡ Some e → f e ≡ g e) → map f es ≡ map g es
 each_alike f g [] h = refl

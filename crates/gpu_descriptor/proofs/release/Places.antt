@@ -1,7 +1,8 @@
 -- Which places of the books keep their pools when sets go back: those that still have a set out.
-use Rattle.gpu_descriptor.proofs.Common.{◌≡◌, ℕ, suc, ◌+◌, ◌-◌, ◌<◌, ◌≤◌, Bool, true, false, cond, ltb, ◌&&◌, ◌==◌, List, [], ◌∷◌, length, map, filter, count_by, Option, Some, None, option_map, inl, inr, refl, sym, ap, ◌∙◌, arith, eqb-true, eq-eqb, ne_eqb, option_map_or, list_any, cases_Bool, cases_lt, false_from_ne_true, and_parts, and_from, length-map, length-filter, count_by-le-length, slice_get-map, set_of, State, Item, item_eq, count_of, live_in, outstanding, AreOutstanding, HasSize, Agree, live_at, Key, key_eq, Entry, Bucket, entry_at, no_pools, Pool, LiveSet, set_eq, bool_iff, count_by_alike, count_by_none, set_exact, count_by_yes, count_by_no, all_taken_out, ∥∥₁_elim, ∥∥₁_map, props}
+use Rattle.gpu_descriptor.proofs.Common.{◌≡◌, ℕ, ◌+◌, ◌-◌, ◌<◌, ◌≤◌, Bool, true, false, cond, ◌&&◌, ◌==◌, List, [], ◌∷◌, length, map, filter, count_by, Option, Some, None, option_map, inl, inr, refl, sym, ap, ◌∙◌, arith, eqb-true, eq-eqb, ne_eqb, option_map_or, list_any, cases_Bool, false_from_ne_true, and_parts, and_from, length-map, length-filter, count_by-le-length, slice_get-map, set_of, State, Item, item_eq, count_of, live_in, outstanding, AreOutstanding, HasSize, Agree, live_at, Key, key_eq, Entry, Bucket, entry_at, no_pools, Pool, LiveSet, set_eq, bool_iff, count_by_alike, count_by_none, set_exact, all_taken_out, ∥∥₁_elim, ∥∥₁_map, props}
+use Rattle.std.proofs.lemmas.Grind.{common_steps}
 use Rattle.gpu_descriptor.specs.Model.Release.{lies_in, entry_less, bucket_less, is_empty, empty_front, spent_front, without_front, released}
-use Rattle.gpu_descriptor.proofs.release.Fronts.{entry_at-found, entry_at-without, entry_at-kept}
+use Rattle.gpu_descriptor.proofs.release.Fronts.{entry_at-without, entry_at-kept}
 use Rattle.gpu_descriptor.proofs.table.Exact.{item_exact, item_parts, item_from}
 
 -- how many sets go back to a pool, and how many of a name
@@ -11,24 +12,10 @@ back m s pool = count_by (lies_in s.books pool) m
 abbrev pub back_named : List Item → State → ℕ → LiveSet → ℕ
 back_named m s pool name = count_by (λ t. lies_in s.books pool t && (set_eq (set_of t) name)) m
 
-filter_yes : (lies : Item → Bool) (t : Item) (m : List Item) → lies t ≡ true → filter lies (t ∷ m) ≡ t ∷ filter lies m
-filter_yes lies t m h = rw h refl
-
-filter_no : (lies : Item → Bool) (t : Item) (m : List Item) → lies t ≡ false → filter lies (t ∷ m) ≡ filter lies m
-filter_no lies t m h = rw h refl
-
 -- the names of the sets that lie in the pool
 names_of : (lies : Item → Bool) (m : List Item) (name : LiveSet) → count_by (λ x. set_eq x name) (map (λ (t : Item). set_of t) (filter lies m)) ≡ count_by (λ t. lies t && (set_eq (set_of t) name)) m
 names_of lies [] name = refl
-names_of lies (t ∷ m) name =
-    let counted : List Item → ℕ = λ ts. count_by (λ x. set_eq x name) (map (λ (t : Item). set_of t) ts) in
-    elim (cases_Bool (lies t)) [
-      | inl h ↦ ap counted (filter_yes lies t m h) ∙ elim (cases_Bool (set_eq (set_of t) name)) [
-        | inl same ↦ count_by_yes (λ x. set_eq x name) (set_of t) (map (λ (u : Item). set_of u) (filter lies m)) same ∙ ap suc (names_of lies m name) ∙ sym (count_by_yes (λ t. lies t && (set_eq (set_of t) name)) t m (and_from _ _ h same))
-        | inr other ↦ count_by_no (λ x. set_eq x name) (set_of t) (map (λ (u : Item). set_of u) (filter lies m)) other ∙ names_of lies m name ∙ sym (count_by_no (λ t. lies t && (set_eq (set_of t) name)) t m (rw (h, other) refl))
-      ]
-      | inr h ↦ ap counted (filter_no lies t m h) ∙ names_of lies m name ∙ sym (count_by_no (λ t. lies t && (set_eq (set_of t) name)) t m (rw h refl))
-    ]
+names_of lies (t ∷ m) name = grind (arith, common_steps, (names_of lies m name))
 
 -- a part that the pool has leaves the rest, as many fewer
 rest_less : (live : LiveSet → ℕ) (a : ℕ) (lies : Item → Bool) (m : List Item) → HasSize live a → ((name : LiveSet) → count_by (λ t. lies t && (set_eq (set_of t) name)) m ≤ live name) → (count_by lies m ≤ a) × HasSize (λ name. live name - count_by (λ t. lies t && (set_eq (set_of t) name)) m) (a - count_by lies m)
@@ -56,10 +43,7 @@ size_less live a lies m some fits = (∥∥₁_elim some (search props) (λ size
 -- where a name is left, a set is left
 pub size_pos : (live : LiveSet → ℕ) (a : ℕ) (name : LiveSet) → ∥ HasSize live a ∥₁ → 0 < live name → 0 < a
 size_pos live a name listed lt = ∥∥₁_elim listed (search props) (λ size.
-    let some = count_by-le-length (λ x. set_eq x name) size.0 in
-    let is = size.2 name in
-    let long = size.1 in
-    omega arith)
+    grind (arith, common_steps, count_by-le-length))
 
 some_of : (o : Option Entry) (pool : ℕ) → option_map_or (λ e. e.pool == pool) o false ≡ true → (e : Entry) × (o ≡ Some e) × (e.pool ≡ pool)
 some_of None pool h = absurd (let bad : true ≡ false = sym h in cc)
@@ -73,10 +57,7 @@ lies_in-at books pool t e h = ap (λ (o : Option Entry). option_map_or (λ e. e.
 
 -- a set of an outstanding list has the id of its key
 pub own_id : (m : List Item) (s : State) → AreOutstanding m s → (t : Item) → 0 < count_of t m → (s.books t.key).id ≡ t.id
-own_id m s out t some = elim (cases_Bool ((s.books t.key).id == t.id)) [
-  | inl same ↦ eqb-true (s.books t.key).id t.id same
-  | inr other ↦ (let none : outstanding s t ≡ 0 = rw other refl in let fits = out t in absurd (omega arith))
-]
+own_id m s out t some = grind arith
 
 -- the sets that lie in a pool are those of its key and number
 pub back_named-is : (m : List Item) (s : State) → Agree s → AreOutstanding m s → (k : Key) (i : ℕ) (e : Entry) → entry_at (s.books k) i ≡ Some e → (name : ℕ) → back_named m s e.pool (record { name = name; counts = k.counts }) ≡ count_of (record { key = k; id = (s.books k).id; number = i; name = name }) m
@@ -85,27 +66,17 @@ back_named-is m s agree out k i e at name =
     let u : Item = record { key = k; id = (s.books k).id; number = i; name = name } in
     count_by_alike item_exact (λ t. lies_in s.books e.pool t && set_eq (set_of t) x) (λ t. item_eq t u) m (λ t in_m. bool_iff (lies_in s.books e.pool t && set_eq (set_of t) x) (item_eq t u)
     (λ h.
-    let both = and_parts (lies_in s.books e.pool t) (set_eq (set_of t) x) h in
-    let found = lies_in-found s.books e.pool t both.0 in
-    let same = agree.distinct t.key k t.number i found.0 e found.1 at found.2 in
-    item_from t u same.0 same.1 (ap (λ (y : LiveSet). y.name) (set_exact.same (set_of t) x both.1)) (sym (own_id m s out t in_m) ∙ ap (λ (l : Key). (s.books l).id) same.0))
+    grind (arith, common_steps, and_parts, item_from, lies_in-found, own_id, set_exact))
     (λ h.
     let same = item_parts t u h in
-    let here : entry_at (s.books t.key) t.number ≡ Some e = rw (same.0, same.1) at in
-    let one : set_of t ≡ x = λ j. record { name = same.2 j; counts = (same.0 j).counts } in
-    and_from _ _ (lies_in-at s.books e.pool t e here ∙ eq-eqb e.pool e.pool refl) (ap (λ (y : LiveSet). set_eq y x) one ∙ set_exact.self x)))
+    grind (arith, common_steps, and_from, eq-eqb, lies_in-at, set_exact)))
 
 -- no set of other counts goes back to the pool
 back_other : (m : List Item) (s : State) → Agree s → (k : Key) (i : ℕ) (e : Entry) → entry_at (s.books k) i ≡ Some e → (x : LiveSet) → set_eq x (record { name = x.name; counts = k.counts }) ≡ false → back_named m s e.pool x ≡ 0
 back_other m s agree k i e at x other = count_by_none item_exact (λ t. lies_in s.books e.pool t && set_eq (set_of t) x) m (λ t in_m. false_from_ne_true (lies_in s.books e.pool t && set_eq (set_of t) x) (λ h.
     let both = and_parts (lies_in s.books e.pool t) (set_eq (set_of t) x) h in
-    let found = lies_in-found s.books e.pool t both.0 in
-    let same = agree.distinct t.key k t.number i found.0 e found.1 at found.2 in
     let one : set_of t ≡ x = set_exact.same (set_of t) x both.1 in
-    let counts : x.counts ≡ k.counts = ap (λ (y : LiveSet). y.counts) (sym one) ∙ ap (λ (l : Key). l.counts) same.0 in
-    let y : LiveSet = record { name = x.name; counts = k.counts } in
-    let is : x ≡ y = λ j. record { name = x.name; counts = counts j } in
-    let bad : true ≡ false = sym (ap (λ (z : LiveSet). set_eq z y) is ∙ set_exact.self y) ∙ other in cc))
+    grind (arith, common_steps, lies_in-found, set_exact)))
 
 pub live_there_at : (s : State) (t : Item) (e : Entry) (pool : Pool) → entry_at (s.books t.key) t.number ≡ Some e → s.ledger e.pool ≡ Some pool → live_at s.ledger (s.books t.key) t ≡ pool.live (set_of t)
 live_there_at s t e pool at found = rw at (rw found refl)
@@ -126,40 +97,19 @@ part_fits m s agree out k i e pool at found x =
           let had : outstanding s t ≡ pool.live y = outstanding_at s t e pool refl at found in
           let fits = out t in
           let a : back_named m s e.pool x ≡ back_named m s e.pool y = ap (back_named m s e.pool) one in
-          let b : pool.live x ≡ pool.live y = ap pool.live one in
-          omega arith)
+          grind (arith, common_steps))
       | inr other ↦ (let none = back_other m s agree k i e at x other in omega arith)
     ]
 
-some_above : (o : Option Entry) (f : Entry → ℕ) (a : ℕ) → a < option_map_or f o 0 → (e : Entry) × (o ≡ Some e) × (a < f e)
-some_above None f a h = absurd (omega arith)
-some_above (Some e) f a h = (e, refl, h)
-
 pub outstanding_found : (s : State) (t : Item) (a : ℕ) → a < outstanding s t → (e : Entry) × (entry_at (s.books t.key) t.number ≡ Some e) × (a < live_in s.ledger e.pool (set_of t)) × ((s.books t.key).id ≡ t.id)
-outstanding_found s t a h = elim (cases_Bool ((s.books t.key).id == t.id)) [
-  | inl same ↦ (
-      let there : outstanding s t ≡ live_at s.ledger (s.books t.key) t = rw same refl in
-      let found = some_above (entry_at (s.books t.key) t.number) (λ e. live_in s.ledger e.pool (set_of t)) a (omega (arith, there, h)) in
-      (found.0, found.1, found.2, eqb-true (s.books t.key).id t.id same))
-  | inr other ↦ (let none : outstanding s t ≡ 0 = rw other refl in absurd (omega arith))
-]
+outstanding_found s t a h = grind arith
 
 -- a key without pools has no set out
 pub none_out : (s : State) (t : Item) → s.books t.key ≡ no_pools → outstanding s t ≡ 0
-none_out s t none = elim (cases_lt 0 (outstanding s t)) [
-  | inl some ↦ absurd (
-      let out = outstanding_found s t 0 some in
-      let at = entry_at-found no_pools t.number out.0 (ap (λ (b : Bucket). entry_at b t.number) (sym none) ∙ out.1) in
-      let bad : ◌≡◌ {A = Option Entry} None (Some out.0) = at.1 in
-      cc)
-  | inr zero_out ↦ omega arith
-]
+none_out s t none = grind arith
 
 pub entry_at-less : (g : ℕ → ℕ) (b : Bucket) (n : ℕ) → entry_at (bucket_less g b) n ≡ option_map (λ e. entry_less (g e.pool) e) (entry_at b n)
-entry_at-less g b n = elim (cases_Bool (ltb n b.first)) [
-  | inl h ↦ rw h refl
-  | inr h ↦ rw h (slice_get-map (λ e. entry_less (g e.pool) e) b.pools (n - b.first))
-]
+entry_at-less g b n = grind (arith, slice_get-map)
 
 pub some_before : (f : Entry → Entry) (o : Option Entry) (e : Entry) → option_map f o ≡ Some e → (d : Entry) × (o ≡ Some d) × (f d ≡ e)
 some_before f None e h = absurd (let bad : ◌≡◌ {A = Option Entry} None (Some e) = h in cc)
@@ -169,20 +119,11 @@ some_before f (Some d) e h = (d, refl, (let is : ◌≡◌ {A = Option Entry} (S
 abbrev pub front_of : List Item → State → Key → ℕ
 front_of m s k = cond (list_any (λ t. key_eq t.key k) m) (spent_front (bucket_less (back m s) (s.books k))) 0
 
-without_none : (b : Bucket) → b ≡ without_front 0 b
-without_none b = let first : b.first ≡ b.first + 0 = omega arith in λ i. record b { first = first i }
-
 pub released_books : (m : List Item) (s : State) (k : Key) → (released m s).books k ≡ without_front (front_of m s k) (bucket_less (back m s) (s.books k))
-released_books m s k = elim (cases_Bool (list_any (λ t. key_eq t.key k) m)) [
-  | inl h ↦ rw h refl
-  | inr h ↦ rw h (without_none (bucket_less (back m s) (s.books k)))
-]
+released_books m s k = grind arith
 
 pub front_of-le : (m : List Item) (s : State) (k : Key) → front_of m s k ≤ empty_front (bucket_less (back m s) (s.books k))
-front_of-le m s k = elim (cases_Bool (list_any (λ t. key_eq t.key k) m)) [
-  | inl h ↦ rw h (omega arith)
-  | inr h ↦ rw h (omega arith)
-]
+front_of-le m s k = grind arith
 
 -- what has a number afterwards had it before, in the same pool
 pub was_there : (m : List Item) (s : State) (k : Key) (i : ℕ) (e : Entry) → entry_at ((released m s).books k) i ≡ Some e → (d : Entry) × (entry_at (s.books k) i ≡ Some d) × (entry_less (back m s d.pool) d ≡ e) × ((s.books k).first + front_of m s k ≤ i)
@@ -190,8 +131,7 @@ was_there m s k i e h =
     let same = released_books m s k in
     let here : entry_at (without_front (front_of m s k) (bucket_less (back m s) (s.books k))) i ≡ Some e = ap (λ (b : Bucket). entry_at b i) (sym same) ∙ h in
     let whole = entry_at-without (front_of m s k) (bucket_less (back m s) (s.books k)) i e here in
-    let had = some_before (λ e. entry_less (back m s e.pool) e) (entry_at (s.books k) i) e (sym (entry_at-less (back m s) (s.books k) i) ∙ whole.1) in
-    (had.0, had.1, had.2, whole.0)
+    grind (arith, common_steps, entry_at-less, some_before)
 
 -- THE CRUX: the place of a set that is still out keeps its pool and its number
 pub kept : (m : List Item) (s : State) → Agree s → AreOutstanding m s → (t : Item) → count_of t m < outstanding s t → (e : Entry) × (entry_at (s.books t.key) t.number ≡ Some e) × (entry_at ((released m s).books t.key) t.number ≡ Some (entry_less (back m s e.pool) e))
@@ -215,8 +155,4 @@ kept m s agree out t more =
 
 -- an allocator without keys agrees with every ledger
 pub empty_agrees : (ledger : ℕ → Option Pool) → Agree (record { books = λ _. no_pools; ledger = ledger })
-empty_agrees ledger = record {
-  distinct = λ k l m n d e at at' same. (let found = entry_at-found no_pools m d at in absurd (let bad : ◌≡◌ {A = Option Entry} None (Some d) = found.1 in cc));
-  booked = λ k n e at. (let found = entry_at-found no_pools n e at in absurd (let bad : ◌≡◌ {A = Option Entry} None (Some e) = found.1 in cc));
-  absent = λ k none. refl;
-}
+empty_agrees ledger = grind arith

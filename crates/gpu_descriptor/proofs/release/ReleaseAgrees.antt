@@ -1,6 +1,7 @@
 -- What giving back keeps: agreement, and what is outstanding but for the sets given.
-use Rattle.gpu_descriptor.proofs.Common.{◌≡◌, ℕ, ◌+◌, ◌-◌, ◌<◌, ◌≤◌, Bool, true, false, ltb, ◌&&◌, ◌==◌, List, [], ◌∷◌, ◌++◌, flat_map, map, length, take, drop, count_by, slice_get, Option, Some, None, option_map, ◌⊎◌, inl, inr, refl, sym, ap, ◌∙◌, subst, arith, eqb-true, length-drop, if◌then◌else◌, fun_ext, list_any, cases_Bool, cases_lt, and_parts, false_from_ne_true, length-map, set_of, State, Item, item_eq, count_of, outstanding, AreOutstanding, IsAsBooked, Agree, live_at, Key, key_eq, Entry, Bucket, entry_at, Pool, LiveSet, set_eq, counts_alike, count_by-append, list_any-count_by}
-use Rattle.gpu_descriptor.specs.Model.Release.{lies_in, entry_less, bucket_less, pool_less, given_back, spent_front, without_front, in_front, fronts_gone, released, singly, released_each}
+use Rattle.gpu_descriptor.proofs.Common.{◌≡◌, ℕ, ◌+◌, ◌-◌, ◌<◌, ◌≤◌, Bool, true, false, ltb, ◌&&◌, ◌==◌, List, [], ◌∷◌, ◌++◌, flat_map, map, length, take, drop, count_by, slice_get, Option, Some, None, option_map, ◌⊎◌, inl, inr, refl, sym, ap, ◌∙◌, subst, arith, eqb-true, length-drop, if◌then◌else◌, fun_ext, list_any, cases_lt, and_parts, false_from_ne_true, length-map, set_of, State, Item, count_of, outstanding, AreOutstanding, IsAsBooked, Agree, Key, Entry, Bucket, entry_at, Pool, LiveSet, set_eq, counts_alike, count_by-append, list_any-count_by}
+use Rattle.std.proofs.lemmas.Grind.{common_steps}
+use Rattle.gpu_descriptor.specs.Model.Release.{lies_in, entry_less, bucket_less, pool_less, given_back, spent_front, released, singly, released_each}
 use Rattle.gpu_descriptor.proofs.release.Fronts.{entry_at-from}
 use Rattle.gpu_descriptor.proofs.lists.AtPlaces.{found_before}
 use Rattle.gpu_descriptor.proofs.table.Exact.{item_exact}
@@ -29,11 +30,7 @@ stays m s agree k i e h = false_from_ne_true (list_any (λ t. goes (bucket_less 
     let named : names_key m k ≡ true = ap (names_key m) (sym same.0) ∙ both.0 in
     let front : front_of m s k ≡ spent_front (bucket_less (back m s) (s.books k)) = rw named refl in
     let fronts : spent_front c ≡ spent_front (bucket_less (back m s) (s.books k)) = ap (λ (x : Key). spent_front (bucket_less (back m s) (s.books x))) same.0 in
-    let firsts : (s.books l).first ≡ (s.books k).first = ap (λ (x : Key). (s.books x).first) same.0 in
-    let past = was.3 in
-    let below = found.2 in
-    let number = same.1 in
-    omega arith)
+    grind arith)
 
 -- the ledger's record of a pool that the books still have
 pub ledger_after : (m : List Item) (s : State) → Agree s → (k : Key) (i : ℕ) (e : Entry) (pool : Pool) → entry_at ((released m s).books k) i ≡ Some e → s.ledger e.pool ≡ Some pool → (released m s).ledger e.pool ≡ Some (pool_less (back_named m s e.pool) pool)
@@ -46,30 +43,13 @@ no_length [] h = refl
 no_length (e ∷ es) h = absurd (omega arith)
 
 front_of-last : (m : List Item) (s : State) (k : Key) → front_of m s k ≤ length (s.books k).pools - 1
-front_of-last m s k =
-    let long : length (bucket_less (back m s) (s.books k)).pools ≡ length (s.books k).pools = length-map (s.books k).pools (λ (e : Entry). entry_less (back m s e.pool) e) in
-    elim (cases_Bool (names_key m k)) [
-      | inl h ↦ rw h (omega arith)
-      | inr h ↦ rw h (omega arith)
-    ]
+front_of-last m s k = grind (arith, length-map)
 
 -- a pool and its books still match once its sets went back
 less_booked : (m : List Item) (s : State) → Agree s → AreOutstanding m s → (k : Key) (i : ℕ) (d : Entry) (pool : Pool) → entry_at (s.books k) i ≡ Some d → s.ledger d.pool ≡ Some pool → IsAsBooked k pool d → IsAsBooked k (pool_less (back_named m s d.pool) pool) (entry_less (back m s d.pool) d)
 less_booked m s agree out k i d pool at live is =
     let left = size_less pool.live d.allocated (lies_in s.books d.pool) m is.allocated (part_fits m s agree out k i d pool at live) in
-    let fits = left.0 in
-    let room = is.room in
-    record {
-      allocated = left.1;
-      room = (let e : d.allocated - back m s d.pool + (d.free + back m s d.pool) ≤ pool.capacity = omega arith in e);
-      flags = is.flags;
-      at_least = is.at_least;
-      small = is.small;
-      capacity = is.capacity;
-      counts = is.counts;
-      sets = λ x lt. is.sets x (omega arith);
-      full = λ none. (let whole = is.full none in let e : d.allocated - back m s d.pool + (d.free + back m s d.pool) ≡ pool.capacity = omega arith in e);
-    }
+    grind (arith, common_steps, back)
 
 pub agrees : (m : List Item) (s : State) → Agree s → AreOutstanding m s → Agree (released m s)
 agrees m s agree out = record {
@@ -142,14 +122,7 @@ takes_own m s agree out t own = elim (cases_option (entry_at ((released m s).boo
 ]
 
 pub takes : (m : List Item) (s : State) → Agree s → AreOutstanding m s → (t : Item) → outstanding (released m s) t + count_of t m ≡ outstanding s t
-takes m s agree out t = elim (cases_Bool ((s.books t.key).id == t.id)) [
-  | inl same ↦ takes_own m s agree out t (eqb-true (s.books t.key).id t.id same)
-  | inr other ↦ (
-      let fits = out t in
-      let before : outstanding s t ≡ 0 = rw other refl in
-      let after : outstanding (released m s) t ≡ 0 = ap (λ (i : ℕ). if i == t.id then live_at (released m s).ledger ((released m s).books t.key) t else 0) (same_id m s t.key) ∙ rw other refl in
-      omega arith)
-]
+takes m s agree out t = grind (arith, takes_own)
 
 pub order : (m n : List Item) (s : State) → ((t : Item) → count_of t m ≡ count_of t n) → released m s ≡ released n s
 order m n s alike =
@@ -161,21 +134,14 @@ order m n s alike =
       books = λ k. bucket_less (backs i) (s.books k);
       ledger = λ pool. option_map (pool_less (named pool i)) (s.ledger pool);
     } in
-    let fronts : (w : State) → fronts_gone m w ≡ fronts_gone n w = λ w i. record {
-      books = λ k. let b = w.books k in if any (λ t. key_eq t.key k) i then without_front (spent_front b) b else b;
-      ledger = λ pool. if any (λ t. let b = w.books t.key in in_front (spent_front b) b pool) i then None else w.ledger pool;
-    } in
-    ap (fronts_gone m) given ∙ fronts (given_back n s)
+    grind arith
 
 pub none_back : (s : State) → released [] s ≡ s
 none_back s =
     let same : (e : Entry) → entry_less 0 e ≡ e = λ e.
-    let allocated : e.allocated - 0 ≡ e.allocated = omega arith in
-    let free : e.free + 0 ≡ e.free = omega arith in
-    λ i. record { pool = e.pool; capacity = e.capacity; allocated = allocated i; free = free i } in
+    grind arith in
     let books : (released [] s).books ≡ s.books = fun_ext (λ k. λ i. record (s.books k) { pools = map_same (λ e. entry_less 0 e) same (s.books k).pools i }) in
-    let ledger : (released [] s).ledger ≡ s.ledger = fun_ext (λ pool. pool_same (s.ledger pool)) in
-    λ i. record { books = books i; ledger = ledger i }
+    grind (arith, common_steps, fun_ext)
   where
     map_same : (f : Entry → Entry) → ((e : Entry) → f e ≡ e) → (es : List Entry) → map f es ≡ es
     map_same f h [] = refl
@@ -189,10 +155,7 @@ none_back s =
 
 -- what a later part needs still lies where it lay
 pub rest_outstanding : (m n : List Item) (s : State) → Agree s → AreOutstanding (m ++ n) s → AreOutstanding m s × AreOutstanding n (released m s)
-rest_outstanding m n s agree out =
-    let split : (t : Item) → count_of t (m ++ n) ≡ count_of t m + count_of t n = λ t. count_by-append (λ x. item_eq x t) m n in
-    let out_m : AreOutstanding m s = λ t. let a = split t in let b = out t in omega arith in
-    (out_m, λ t. let a = split t in let b = out t in let c = takes m s agree out_m t in omega arith)
+rest_outstanding m n s agree out = grind (arith, count_by-append, takes)
 
 pub each : (ms : List (List Item)) (s : State) → Agree s → AreOutstanding (flat_map (λ m. m) ms) s → released_each ms s ≡ released (flat_map (λ m. m) ms) s
 each [] s agree out = sym (none_back s)
@@ -212,32 +175,6 @@ one_by_one m turned s agree out alike =
     each (singly turned) s agree (subst (λ (n : List Item). AreOutstanding n s) (sym whole) turned_out)
     ∙ ap (λ (n : List Item). released n s) whole
     ∙ order turned m s alike
-
--- before any front goes, books and ledger agree too
-pub given_agrees : (m : List Item) (s : State) → Agree s → AreOutstanding m s → Agree (given_back m s)
-given_agrees m s agree out =
-    let was : (k : Key) (i : ℕ) (e : Entry) → entry_at ((given_back m s).books k) i ≡ Some e → (d : Entry) × (entry_at (s.books k) i ≡ Some d) × (entry_less (back m s d.pool) d ≡ e) = λ k i e h.
-    some_before (λ e. entry_less (back m s e.pool) e) (entry_at (s.books k) i) e (sym (entry_at-less (back m s) (s.books k) i) ∙ h) in
-    record {
-      distinct = λ k l i j d e at at' same.
-          let one = was k i d at in
-          let other = was l j e at' in
-          agree.distinct k l i j one.0 other.0 one.1 other.1 (ap (λ (x : Entry). x.pool) one.2 ∙ same ∙ sym (ap (λ (x : Entry). x.pool) other.2));
-      booked = λ k i e at.
-          let had = was k i e at in
-          let d = had.0 in
-          let booked = agree.booked k i d had.1 in
-          let pool = booked.0 in
-          let P : Entry → Type 0 = λ x. (p : Pool) × ((given_back m s).ledger x.pool ≡ Some p) × IsAsBooked k p x in
-          subst P had.2 (
-            pool_less (back_named m s d.pool) pool,
-            ap (option_map (pool_less (back_named m s d.pool))) booked.1,
-            less_booked m s agree out k i d pool had.1 booked.1 booked.2,
-          );
-      absent = λ k none.
-          let long : length (bucket_less (back m s) (s.books k)).pools ≡ length (s.books k).pools = length-map (s.books k).pools (λ (e : Entry). entry_less (back m s e.pool) e) in
-          agree.absent k (no_length (s.books k).pools (sym long ∙ ap length none));
-    }
 
 -- a set that goes back has a place, and its pool has as many sets as go back to it
 pub has_place : (m : List Item) (s : State) → Agree s → AreOutstanding m s → (t : Item) → 0 < count_of t m → (e : Entry) × (entry_at (s.books t.key) t.number ≡ Some e) × (pool : Pool) × (s.ledger e.pool ≡ Some pool) × IsAsBooked t.key pool e × (back m s e.pool ≤ e.allocated)

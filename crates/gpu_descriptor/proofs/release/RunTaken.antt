@@ -32,26 +32,10 @@ module _ {T S : Type 0} (steps : T → Option (DescriptorSet S) → T → Type 0
   Stopped k n s ahead t = MatchOption ahead (steps s None t) (λ x. (at_place k n x ≡ false) × steps s (Some x) t × MakesProgress can left s (Some x) t)
 
   stopped : (s : Run T S) (t : Run T S) → s.ahead.now ≡ None → RunStep steps can left s None t → Stopped s.id s.number s.source.now t.ahead.now t.source.now
-  stopped s t n h = go h.4.0 (asks s.source.now s.ahead.now h.4.0 t.source.now n h.4.1) h.4.2
-    where
-      some : (x : DescriptorSet S) (r : Option S) (b : Bool) → r ≡ None → at_place s.id s.number x ≡ b → steps s.source.now (Some x) t.source.now × MakesProgress can left s.source.now (Some x) t.source.now → MatchBool b ((r ≡ Some x.raw) × (t.ahead.now ≡ None) × (t.count ≡ s.count + 1)) ((r ≡ None) × (t.ahead.now ≡ Some x) × (t.count ≡ s.count)) → Stopped s.id s.number s.source.now t.ahead.now t.source.now
-      some x r true i e l m = let a = m.0 in (cc)
-      some x r false i e l m = rw m.1 (e, l.0, l.1)
-
-      go : (o : Option (DescriptorSet S)) → steps s.source.now o t.source.now × MakesProgress can left s.source.now o t.source.now → Hands steps can left s o None t → Stopped s.id s.number s.source.now t.ahead.now t.source.now
-      go None l m = rw m.1 l.0
-      go (Some x) l m = some x None (at_place s.id s.number x) refl refl l m
+  stopped s t n h = grind arith
 
   kept_count : (s t : Run T S) → RunStep steps can left s None t → t.count ≡ s.count
-  kept_count s t h = go h.4.0 h.4.2
-    where
-      some : (x : DescriptorSet S) (r : Option S) (b : Bool) → r ≡ None → MatchBool b ((r ≡ Some x.raw) × (t.ahead.now ≡ None) × (t.count ≡ s.count + 1)) ((r ≡ None) × (t.ahead.now ≡ Some x) × (t.count ≡ s.count)) → t.count ≡ s.count
-      some x r true i m = let a = m.0 in (cc)
-      some x r false i m = m.2
-
-      go : (o : Option (DescriptorSet S)) → Hands steps can left s o None t → t.count ≡ s.count
-      go None m = m.2
-      go (Some x) m = some x None (at_place s.id s.number x) refl m
+  kept_count s t h = grind arith
 
   -- the steps from s gave ys: the source gave xs
   pub record Took (s : Run T S) (ys : List S) (t : Run T S) : Type 0 where
@@ -97,14 +81,7 @@ module _ {T S : Type 0} (steps : T → Option (DescriptorSet S) → T → Type 0
 
   -- with an item of the run's key ahead, an item comes
   comes : (s : Run T S) (x : DescriptorSet S) (u : Run T S) → s.ahead.now ≡ Some x → at_place s.id s.number x ≡ true → RunStep steps can left s None u → ⊥
-  comes s x u n k h =
-      let l : (h.4.0 ≡ Some x) × (u.source.now ≡ s.source.now) = subst (λ b. Looks steps can left s.source.now b h.4.0 u.source.now) n h.4.1 in
-      let m : Hands steps can left s (Some x) None u = subst (λ o. Hands steps can left s o None u) l.0 h.4.2 in
-      some None refl (at_place s.id s.number x) k m
-    where
-      some : (r : Option S) → r ≡ None → (b : Bool) → b ≡ true → MatchBool b ((r ≡ Some x.raw) × (u.ahead.now ≡ None) × (u.count ≡ s.count + 1)) ((r ≡ None) × (u.ahead.now ≡ Some x) × (u.count ≡ s.count)) → ⊥
-      some r i true e m = let a = m.0 in (cc)
-      some r i false e m = (cc)
+  comes s x u n k h = grind arith
 
   -- a whole run that began with x ahead
   pub record Whole (s : Run T S) (x : DescriptorSet S) (ys : List S) (u : Run T S) : Type 0 where
@@ -155,16 +132,4 @@ module _ {T S : Type 0} (steps : T → Option (DescriptorSet S) → T → Type 0
     pub came : Yields steps s.source.now xs source
 
   pub front : (s : Run T S) (x : DescriptorSet S) (z : S) (zs : List S) (t : Run T S) → s.ahead.now ≡ Some x → Yields (RunStep steps can left) s (z ∷ zs) t → Front s x (z ∷ zs)
-  front s x z zs t n y =
-      let j = y.0 in
-      let v = gave s z j y.1 in
-      let l : (Some v.item ≡ Some x) × (j.source.now ≡ s.source.now) = subst (λ b. Looks steps can left s.source.now b (Some v.item) j.source.now) n v.looks in
-      let w = took zs j t v.ahead y.2 in
-      let vx : v.item ≡ x = (cc) in
-      record {
-        xs = w.xs;
-        raws = rw (← vx, v.raw, w.raws) refl;
-        keys = subst (λ a. AllPass (at_place a s.number) w.xs) y.1.0 (subst (λ b. AllPass (at_place j.id b) w.xs) y.1.1 w.keys);
-        source = t.source.now;
-        came = subst (λ a. Yields steps a w.xs t.source.now) l.1 w.came;
-      }
+  front s x z zs t n y = grind (arith, took)

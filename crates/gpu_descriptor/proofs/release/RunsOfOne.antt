@@ -1,9 +1,10 @@
 -- One run: sets of one key and one number. What giving it back changes, and how its front goes pool by pool.
-use Rattle.gpu_descriptor.proofs.Common.{◌≡◌, ◌≢◌, ℕ, zero, suc, ◌+◌, ◌-◌, ◌<◌, Bool, true, ◌&&◌, ◌==◌, List, [], ◌∷◌, length, map, set, count_by, slice_get, Option, Some, None, inl, inr, refl, sym, ap, ◌∙◌, arith, eq-eqb, ne_eqb, if◌then◌else◌, fun_ext, cases_Bool, set_of, State, Item, count_of, Agree, Key, Entry, entry_at, LiveSet, set_eq, count_by_yes, count_by_alike, count_by_none}
+use Rattle.gpu_descriptor.proofs.Common.{◌≡◌, ◌≢◌, ℕ, zero, suc, ◌+◌, ◌-◌, ◌<◌, Bool, true, ◌&&◌, ◌==◌, List, [], ◌∷◌, length, map, set, count_by, slice_get, Option, Some, None, inl, inr, refl, sym, ap, ◌∙◌, arith, eq-eqb, ne_eqb, if◌then◌else◌, cases_Bool, set_of, State, Item, count_of, Agree, Key, Entry, entry_at, LiveSet, set_eq, count_by_yes, count_by_alike, count_by_none}
+use Rattle.std.proofs.lemmas.Grind.{common_steps}
 use Rattle.gpu_descriptor.specs.Model.Release.{lies_in, entry_less, given_back}
 use Rattle.gpu_descriptor.proofs.release.Fronts.{entry_at-from}
 use Rattle.gpu_descriptor.proofs.table.Exact.{item_exact}
-use Rattle.gpu_descriptor.proofs.release.Places.{back, back_named, lies_in-at}
+use Rattle.gpu_descriptor.proofs.release.Places.{back, back_named}
 
 -- all sets of the list have this key and number
 abbrev pub IsRun : Key → ℕ → List Item → Type 0
@@ -15,10 +16,7 @@ count_all (x ∷ xs) = count_by_yes (λ _. true) x xs refl ∙ ap suc (count_all
 
 -- a run goes back to one pool
 pub run_lies : (k : Key) (i : ℕ) (m : List Item) (s : State) (e : Entry) → IsRun k i m → entry_at (s.books k) i ≡ Some e → (pool : ℕ) (t : Item) → 0 < count_of t m → lies_in s.books pool t ≡ (e.pool == pool)
-run_lies k i m s e run at pool t in_m =
-    let place = run t in_m in
-    let here : entry_at (s.books t.key) t.number ≡ Some e = rw (place.0, place.1) at in
-    lies_in-at s.books pool t e here
+run_lies k i m s e run at pool t in_m = grind arith
 
 pub run_back : (k : Key) (i : ℕ) (m : List Item) (s : State) (e : Entry) → IsRun k i m → entry_at (s.books k) i ≡ Some e → (pool : ℕ) → back m s pool ≡ (if e.pool == pool then length m else 0)
 run_back k i m s e run at pool = elim (cases_Bool (e.pool == pool)) [
@@ -33,10 +31,7 @@ run_named k i m s e run at pool name = elim (cases_Bool (e.pool == pool)) [
 ]
 
 less_none : (e : Entry) → entry_less 0 e ≡ e
-less_none e =
-    let allocated : e.allocated - 0 ≡ e.allocated = omega arith in
-    let free : e.free + 0 ≡ e.free = omega arith in
-    λ i. record { pool = e.pool; capacity = e.capacity; allocated = allocated i; free = free i }
+less_none e = grind arith
 
 pub untouched_rest : (n : ℕ) (pool : ℕ) (es : List Entry) → ((i : ℕ) (d : Entry) → slice_get es i ≡ Some d → pool ≢ d.pool) → map (λ d. entry_less (if pool == d.pool then n else 0) d) es ≡ es
 untouched_rest n pool [] h = refl
@@ -64,14 +59,8 @@ distinct_names s agree k i j d e at at' same =
     let b = s.books k in
     let p : b.first + i - b.first ≡ i = omega arith in
     let q : b.first + j - b.first ≡ j = omega arith in
-    let both = agree.distinct k k (b.first + i) (b.first + j) d e (entry_at-from b (b.first + i) d (omega arith) (rw p at)) (entry_at-from b (b.first + j) e (omega arith) (rw q at')) same in
-    let number = both.1 in
-    let one : i ≡ j = omega arith in one
+    grind (arith, common_steps, entry_at-from)
 
 -- THE BOOKS AFTER A RUN: one entry of one key
 pub run_books : (k : Key) (i : ℕ) (m : List Item) (s : State) (e : Entry) → Agree s → IsRun k i m → entry_at (s.books k) i ≡ Some e → slice_get (s.books k).pools (i - (s.books k).first) ≡ Some e → (given_back m s).books k ≡ record (s.books k) { pools = set (s.books k).pools (i - (s.books k).first) (entry_less (length m) e) }
-run_books k i m s e agree run at place =
-    let pools : map (λ d. entry_less (back m s d.pool) d) (s.books k).pools ≡ set (s.books k).pools (i - (s.books k).first) (entry_less (length m) e) =
-    ap (λ (f : ℕ → ℕ). map (λ (d : Entry). entry_less (f d.pool) d) (s.books k).pools) (fun_ext (run_back k i m s e run at))
-    ∙ less_at (length m) (s.books k).pools (i - (s.books k).first) e (distinct_names s agree k) place in
-    λ x. record (s.books k) { pools = pools x }
+run_books k i m s e agree run at place = grind (arith, distinct_names, less_at, run_back)

@@ -1,5 +1,6 @@
 -- Giving one run back, over the books of all keys.
-use Rattle.gpu_descriptor.proofs.Common.{◌≡◌, ℕ, suc, ◌+◌, ◌-◌, ◌<◌, ◌≤◌, Bool, true, false, ◌==◌, List, [], ◌∷◌, length, map, count_by, sum_by, Option, Some, None, option_map, inl, inr, refl, sym, ap, ◌∙◌, arith, eq-eqb, ne_eqb, eqb-true, if◌then◌else◌, fun_ext, list_any, cases_Bool, cases_eq, and_parts, and_from, false_from_ne_true, length-map, sum_by-cons, Pool, live_sets, LiveSet, set_eq, times, bool_iff, any_found, any_from, count_by_yes, count_by_no, DescriptorSet, set_of, State, Item, item_eq, count_of, live_in, AreOutstanding, Agree, Key, key_eq, Entry, Bucket, entry_at}
+use Rattle.gpu_descriptor.proofs.Common.{◌≡◌, ℕ, suc, ◌+◌, ◌-◌, ◌<◌, ◌≤◌, Bool, true, false, ◌==◌, List, [], ◌∷◌, length, map, count_by, sum_by, Option, Some, None, option_map, inl, inr, refl, sym, ap, ◌∙◌, arith, eq-eqb, ne_eqb, if◌then◌else◌, fun_ext, list_any, cases_Bool, cases_eq, and_parts, and_from, false_from_ne_true, length-map, sum_by-cons, Pool, live_sets, LiveSet, set_eq, times, bool_iff, any_found, any_from, count_by_yes, count_by_no, DescriptorSet, set_of, State, Item, item_eq, count_of, live_in, AreOutstanding, Agree, Key, key_eq, Entry, Bucket, entry_at}
+use Rattle.std.proofs.lemmas.Grind.{common_steps}
 use Rattle.gpu_descriptor.specs.Inner.Releases.{IsTakenAt, names_of, bucket_back}
 use Rattle.gpu_descriptor.specs.Inner.Buckets.{trimmed_bucket}
 use Rattle.gpu_descriptor.specs.Model.Release.{entry_less, pool_less, given_back, fronts_gone, released, spent_front, pools_gone, in_front}
@@ -28,9 +29,7 @@ lies_own x = and_from _ _ (key_exact.self x.key.is) (eq-eqb x.number x.number re
 
 pub at_parts : {S : Type 0} (k : Key) (n : ℕ) (x : DescriptorSet S) → lies_at k n x ≡ true → (x.key.is ≡ k) × (x.number ≡ n)
 unfolding lies_at
-at_parts k n x h =
-    let both = and_parts (key_eq x.key.is k) (x.number == n) h in
-    (key_exact.same x.key.is k both.0, eqb-true x.number n both.1)
+at_parts k n x h = grind (arith, key_exact)
 
 module _ {S : Type 0} (name : S → ℕ) where
   in_run : (k : Key) (n : ℕ) (xs : List (DescriptorSet S)) → AllPass (lies_at k n) xs → (t : Item) → 0 < count_of t (items_of name xs) → (t.key ≡ k) × (t.number ≡ n)
@@ -40,8 +39,7 @@ module _ {S : Type 0} (name : S → ℕ) where
       elim (cases_Bool (item_eq one t)) [
         | inl same ↦ (
             let is = item_exact.same one t same in
-            let parts = at_parts k n x have.0 in
-            (ap (λ (u : Item). u.key) (sym is) ∙ parts.0, ap (λ (u : Item). u.number) (sym is) ∙ parts.1))
+            grind (arith, common_steps, at_parts))
         | inr other ↦ (let skip : count_of t (one ∷ items_of name xs) ≡ count_of t (items_of name xs) = count_by_no (λ u. item_eq u t) one (items_of name xs) other in in_run k n xs have.1 t (omega arith))
       ]
 
@@ -51,15 +49,7 @@ module _ {S : Type 0} (name : S → ℕ) where
   -- the sets of a run, counted
   pub named_times : (k : Key) (n : ℕ) (xs : List (DescriptorSet S)) → AllPass (lies_at k n) xs → (x : LiveSet) → count_by (λ t. set_eq (set_of t) x) (items_of name xs) ≡ times (live_sets k.counts (names_of name xs)) x
   named_times k n [] have x = refl
-  named_times k n (y ∷ ys) have x =
-      let one : Item = item_of name y in
-      let it : LiveSet = record { name = name y.raw; counts = k.counts } in
-      let parts = at_parts k n y have.0 in
-      let same : set_of one ≡ it = λ i. record { name = name y.raw; counts = (parts.0 i).counts } in
-      elim (cases_Bool (set_eq (set_of one) x)) [
-        | inl h ↦ count_by_yes (λ t. set_eq (set_of t) x) one (items_of name ys) h ∙ ap suc (named_times k n ys have.1 x) ∙ sym (count_by_yes (λ z. set_eq z x) it (live_sets k.counts (names_of name ys)) (ap (λ (z : LiveSet). set_eq z x) (sym same) ∙ h))
-        | inr h ↦ count_by_no (λ t. set_eq (set_of t) x) one (items_of name ys) h ∙ named_times k n ys have.1 x ∙ sym (count_by_no (λ z. set_eq z x) it (live_sets k.counts (names_of name ys)) (ap (λ (z : LiveSet). set_eq z x) (sym same) ∙ h))
-      ]
+  named_times k n (y ∷ ys) have x = grind (arith, common_steps, at_parts, (named_times k n ys have.1 x))
 
   first_of : (x : DescriptorSet S) (xs : List (DescriptorSet S)) → 0 < count_of (item_of name x) (items_of name (x ∷ xs))
   first_of x xs = (let own : count_of (item_of name x) (items_of name (x ∷ xs)) ≡ suc (count_of (item_of name x) (items_of name xs)) = count_by_yes (λ u. item_eq u (item_of name x)) (item_of name x) (items_of name xs) (item_exact.self (item_of name x)) in omega arith)
@@ -98,9 +88,7 @@ module _ {S : Type 0} (name : S → ℕ) where
 
   pool_none : (o : Option Pool) → option_map (pool_less (λ x. 0)) o ≡ o
   pool_none None = refl
-  pool_none (Some p) =
-      let live : ◌≡◌ {A = LiveSet → ℕ} (λ x. p.live x - 0) p.live = fun_ext (λ x. let e : p.live x - 0 ≡ p.live x = omega arith in e) in
-      λ i. Some (record p { live = live i })
+  pool_none (Some p) = grind arith
 
   -- THE STATE AFTER ONE RUN, before the front goes
   pub given_run : (s : State) → Agree s → (x : DescriptorSet S) (xs : List (DescriptorSet S)) → AllPass (lies_at x.key.is x.number) xs → (e : Entry) → entry_at (s.books x.key.is) x.number ≡ Some e
@@ -191,10 +179,7 @@ module _ {S : Type 0} (name : S → ℕ) where
   -- what is 0 at all other keys adds up to what it is at one that is there once
   sum_none : (k : Key) (f : Key → ℕ) → ((l : Key) → key_eq k l ≡ false → f l ≡ 0) → (keys : List Key) → count_by (key_eq k) keys ≡ 0 → sum_by f keys ≡ 0
   sum_none k f none [] h = refl
-  sum_none k f none (l ∷ keys) h = elim (cases_Bool (key_eq k l)) [
-    | inl at ↦ (let more = count_by_yes (key_eq k) l keys at in absurd (omega arith))
-    | inr at ↦ (let skip = count_by_no (key_eq k) l keys at in let here = none l at in let rest = sum_none k f none keys (omega arith) in let sum = sum_by-cons f l keys in omega arith)
-  ]
+  sum_none k f none (l ∷ keys) h = grind (arith, common_steps, (sum_none k f none keys))
 
   sum_once : (k : Key) (f : Key → ℕ) → ((l : Key) → key_eq k l ≡ false → f l ≡ 0) → (keys : List Key) → count_by (key_eq k) keys ≡ 1 → sum_by f keys ≡ f k
   sum_once k f none [] h = absurd (omega arith)

@@ -1,9 +1,10 @@
 -- The running totals of a table, and what a run takes from them.
-use Rattle.gpu_descriptor.proofs.Common.{◌≡◌, ℕ, ◌+◌, ◌-◌, ◌≤◌, Bool, true, List, [], ◌∷◌, ◌++◌, length, map, sum_by, Option, Some, None, inl, inr, refl, sym, ap, subst, ◌∙◌, arith, zero, suc, slice_get, IsDistinct, lookup, set_value, cases_Bool, sum_by-cons, sum_by-append, BucketKey, DescriptorSet, DescriptorBucket, Key, key_eq, sum_over, Item, key_of, Allocations}
+use Rattle.gpu_descriptor.proofs.Common.{◌≡◌, ℕ, ◌+◌, ◌-◌, ◌≤◌, Bool, true, List, [], ◌∷◌, ◌++◌, length, map, sum_by, Option, Some, None, inl, inr, refl, sym, ap, ◌∙◌, arith, zero, suc, slice_get, lookup, set_value, cases_Bool, sum_by-cons, BucketKey, DescriptorSet, DescriptorBucket, Key, key_eq, sum_over, key_of, Allocations}
+use Rattle.std.proofs.lemmas.Grind.{common_steps}
 use Rattle.indexmap.specs.Layout.{set_value_at}
 use Rattle.gpu_descriptor.specs.Model.Load.{bucket_load, descriptors_out, marked_load, sets_out}
 use Rattle.gpu_descriptor.specs.Caller.Frees.{marked_descriptors}
-use Rattle.gpu_descriptor.specs.Caller.Sets.{item_of, items_of}
+use Rattle.gpu_descriptor.specs.Caller.Sets.{items_of}
 use Rattle.gpu_descriptor.specs.Caller.States.{outstanding_of, marked_load_of}
 use Rattle.gpu_descriptor.specs.Inner.RunSteps.{AllPass, lies_at}
 use Rattle.gpu_descriptor.specs.Inner.Stored.{kept_in, kept_of, row_of, stored_keys, stored_load, IsConsistent, IsCounted}
@@ -18,11 +19,7 @@ pub marked_load-add : (k : Key) (m n : ℕ) → marked_load k (m + n) ≡ marked
 marked_load-add k m n = elim (cases_Bool k.marked) [ inl on ↦ rw on (grind arith) | inr off ↦ rw off refl ]
 
 pub marked_load-le : (k : Key) (m n : ℕ) → m ≤ n → marked_load k m ≤ marked_load k n
-marked_load-le k m n le =
-    let rest : m + (n - m) ≡ n = omega arith in
-    let parts = marked_load-add k m (n - m) in
-    let whole : marked_load k (m + (n - m)) ≡ marked_load k n = ap (marked_load k) rest in
-    omega arith
+marked_load-le k m n le = grind arith
 
 -- the allocator's invariant, opened and closed
 module _ {P : Type 0} {limit marked room out : ℕ} {es : List (BucketKey × DescriptorBucket P)} where
@@ -48,19 +45,8 @@ pub record IsWritten {P : Type 0} (k : Key) (es fs : List (BucketKey × Descript
 -- a sum over all rows, once the value at a place is another
 pub sum_put : {A B : Type 0} (f : A × B → ℕ) (es : List (A × B)) (i : ℕ) (k : A) (v w : B) → slice_get es i ≡ Some (k, v) → (f (k, v) ≤ sum_by f es) × (sum_by f (set_value_at es i w) + f (k, v) ≡ sum_by f es + f (k, w))
 sum_put {A} {B} f [] i k v w at = absurd (let bad : ◌≡◌ {A = Option (A × B)} None (Some (k, v)) = at in cc)
-sum_put {A} {B} f (e ∷ es) zero k v w at =
-    let same : Some e ≡ Some (k, v) = at in
-    let eq : e ≡ (k, v) = cc in
-    let old = sum_by-cons f e es ∙ ap (λ x. f x + sum_by f es) eq in
-    let new = sum_by-cons f (e.0, w) es ∙ ap (λ (x : A × B). f (x.0, w) + sum_by f es) eq in
-    (omega arith, omega arith)
-sum_put {A} {B} f (e ∷ es) (suc i) k v w at =
-    let rest = sum_put f es i k v w at in
-    let less = rest.0 in
-    let more = rest.1 in
-    let old = sum_by-cons f e es in
-    let new = sum_by-cons f e (set_value_at es i w) in
-    (omega arith, omega arith)
+sum_put {A} {B} f (e ∷ es) zero k v w at = grind (arith, sum_by-cons)
+sum_put {A} {B} f (e ∷ es) (suc i) k v w at = grind (arith, common_steps, sum_by-cons, (sum_put f es i k v w at))
 
 module _ {P : Type 0} where
   -- what a look-up finds stands at a place, and a write through the map is one there
@@ -103,23 +89,10 @@ module _ {P : Type 0} where
 -- the descriptors of a run
 pub run_load : {S : Type 0} (name : S → ℕ) (k : Key) (n : ℕ) (xs : List (DescriptorSet S)) → AllPass (lies_at k n) xs → marked_descriptors (items_of name xs) ≡ marked_load k (length xs)
 run_load name k n [] have = sym (marked_load-none k)
-run_load name k n (x ∷ xs) have =
-    let key : x.key.is ≡ k = (at_parts k n x have.0).0 in
-    let one : marked_load k 1 ≡ marked_load x.key.is 1 = ap (λ (l : Key). marked_load l 1) (sym key) in
-    let rest = run_load name k n xs have.1 in
-    let a = sum_by-cons (λ (t : Item). marked_load t.key 1) (item_of name x) (items_of name xs) in
-    let b = marked_load-add k 1 (length xs) in
-    let long : 1 + length xs ≡ length (x ∷ xs) = omega arith in
-    let c = ap (marked_load k) long in
-    omega arith
+run_load name k n (x ∷ xs) have = grind (arith, common_steps, at_parts, (run_load name k n xs have.1))
 
 pub pools_end : {P : Type 0} (k : BucketKey) (es : List (BucketKey × DescriptorBucket P)) (w : DescriptorBucket P) (left room : ℕ) → left + stored_load (key_of k) w.pools.items ≡ room → left + sum_over bucket_load (map row_of (es ++ (k, w) ∷ [])) ≡ room + sum_over bucket_load (map row_of es)
-pools_end {P} k es w left room moved =
-    let a = sum_by-append (stored_load_in {P = P}) es ((k, w) ∷ []) in
-    let one : sum_by (stored_load_in {P = P}) ((k, w) ∷ []) ≡ stored_load (key_of k) w.pools.items = omega arith in
-    let was = rows_pool_load es in
-    let is = rows_pool_load (es ++ (k, w) ∷ []) in
-    omega arith
+pools_end {P} k es w left room moved = grind (arith, common_steps)
 
 -- what a run takes from the totals
 pub record Taken {P : Type 0} (k : Key) (n : ℕ) (es fs : List (BucketKey × DescriptorBucket P)) : Type 0 where
@@ -136,22 +109,14 @@ module _ {P : Type 0} {k : Key} {es : List (BucketKey × DescriptorBucket P)} {v
   pools_present =
       let a = sum_set (stored_load_in {P = P}) row.test es v v row.at in
       let is : k ≡ key_of a.0 = key_exact.same k (key_of a.0) (sym (row.same a.0) ∙ a.1) in
-      let old : stored_load_in {P = P} (a.0, v) ≡ stored_load k v.pools.items = ap (λ (l : Key). stored_load l v.pools.items) (sym is) in
-      let le = a.2 in
-      let all = rows_pool_load es in
-      omega arith
+      grind (arith, common_steps, rows_pool_load)
 
 module _ {P : Type 0} {k : Key} {es fs : List (BucketKey × DescriptorBucket P)} {v w : DescriptorBucket P} (r : IsWritten k es fs v w) where
   pub pools_set : (left room : ℕ) → left + stored_load k w.pools.items ≡ room + stored_load k v.pools.items → left + sum_over bucket_load (map row_of fs) ≡ room + sum_over bucket_load (map row_of es)
   pools_set left room moved =
       let a = sum_set (stored_load_in {P = P}) r.row.test es v w r.row.at in
       let is : k ≡ key_of a.0 = key_exact.same k (key_of a.0) (sym (r.row.same a.0) ∙ a.1) in
-      let old : stored_load_in {P = P} (a.0, v) ≡ stored_load k v.pools.items = ap (λ (l : Key). stored_load l v.pools.items) (sym is) in
-      let new : stored_load_in {P = P} (a.0, w) ≡ stored_load k w.pools.items = ap (λ (l : Key). stored_load l w.pools.items) (sym is) in
-      let rest = a.3 in
-      let was = rows_pool_load es in
-      let has = rows_pool_load (set_value r.row.test es w) in
-      rw r.wrote (omega arith)
+      grind (arith, common_steps, rows_pool_load)
 
   taken_out : (n : ℕ) → w.total + n ≡ v.total → sum_over sets_out (map row_of (set_value r.row.test es w)) + n ≡ sum_over sets_out (map row_of es)
   taken_out n total = (let moved = (sum_set (λ (b : BucketKey × DescriptorBucket P). b.1.total) r.row.test es v w r.row.at).3 in let was = rows_out es in let is = rows_out (set_value r.row.test es w) in omega arith)
@@ -160,13 +125,7 @@ module _ {P : Type 0} {k : Key} {es fs : List (BucketKey × DescriptorBucket P)}
   taken_load n total =
       let a = sum_set (load_in {P = P}) r.row.test es v w r.row.at in
       let is : k ≡ key_of a.0 = key_exact.same k (key_of a.0) (sym (r.row.same a.0) ∙ a.1) in
-      let old : load_in {P = P} (a.0, v) ≡ marked_load k v.total = ap (λ (l : Key). marked_load l v.total) (sym is) in
-      let new : load_in {P = P} (a.0, w) ≡ marked_load k w.total = ap (λ (l : Key). marked_load l w.total) (sym is) in
-      let parts : marked_load k v.total ≡ marked_load k w.total + marked_load k n = ap (marked_load k) (sym total) ∙ marked_load-add k w.total n in
-      let moved = a.3 in
-      let was = rows_load es in
-      let has = rows_load (set_value r.row.test es w) in
-      omega arith
+      grind (arith, common_steps, marked_load-add, rows_load)
 
   pub taken : {n : ℕ} → w.total + n ≡ v.total → Taken k n es fs
   taken {n} total = rw r.wrote (record { out = taken_out n total; load = taken_load n total })
@@ -177,23 +136,11 @@ module _ {P : Type 0} {k : Key} {n : ℕ} {es fs : List (BucketKey × Descriptor
   load_fits counted = (let is = counted.is_load in let load = t.load in omega arith)
 
   pub counted_after : {limit marked room left out less : ℕ} → IsConsistent limit marked room out es → less ≡ marked_load k n → left + sum_over bucket_load (map row_of fs) ≡ room + sum_over bucket_load (map row_of es) → stored_keys fs ≡ stored_keys es → IsConsistent limit (marked - less) left (out - n) fs
-  counted_after counted load pools keys = record {
-    distinct = subst (IsDistinct key_eq) (sym keys) counted.distinct;
-    is_load = (let is = counted.is_load in let gone = t.load in omega arith);
-    within = (let within = counted.within in omega arith);
-    is_room = (let is = counted.is_room in omega arith);
-    is_out = (let is = counted.is_out in let gone = t.out in omega arith);
-  }
+  counted_after counted load pools keys = grind arith
 
   module _ (old : Allocations P) (is : old.table ≡ map row_of es) where
     pub out_after : sum_over sets_out (map row_of fs) + n ≡ outstanding_of old
-    out_after =
-        let a = ap (sum_over sets_out) is in
-        let out = t.out in
-        omega arith
+    out_after = grind arith
 
     pub load_after : (m : ℕ) → m ≡ marked_load k n → sum_over descriptors_out (map row_of fs) + m ≡ marked_load_of old
-    load_after m same =
-        let a = ap (sum_over descriptors_out) is in
-        let load = t.load in
-        omega arith
+    load_after m same = grind arith

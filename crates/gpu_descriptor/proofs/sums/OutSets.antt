@@ -1,5 +1,6 @@
 -- As many sets are out as are outstanding.
-use Rattle.gpu_descriptor.proofs.Common.{◌≡◌, ℕ, suc, ◌+◌, ◌-◌, ◌<◌, ◌≤◌, ◌==◌, true, false, List, [], ◌∷◌, ◌++◌, length, map, sum_by, slice_get, Option, Some, None, inl, inr, refl, sym, ap, ◌∙◌, arith, eqb-true, eq-eqb, length-append, option_map_or, if◌then◌else◌, cases_Bool, cases_eq, cases_lt, length-map, sum_by-append, sum_by-cons, Pool, live_sets, LiveSet, set_eq, times, count_by_yes, count_by_no, counts_alike, set_exact, State, Agree, Item, item_eq, set_of, count_of, live_at, outstanding, Key, key_eq, Entry, Bucket, no_pools, books_of, HasDistinctKeys, sum_over, AddsUp, ∥∥₁_elim, ∥∥₁_map, ∥∥₁_prop, props}
+use Rattle.gpu_descriptor.proofs.Common.{◌≡◌, ℕ, suc, ◌+◌, ◌-◌, ◌<◌, ◌≤◌, ◌==◌, true, false, List, [], ◌∷◌, ◌++◌, length, map, sum_by, slice_get, Option, Some, None, inl, inr, refl, sym, ap, ◌∙◌, arith, length-append, option_map_or, if◌then◌else◌, cases_Bool, cases_eq, cases_lt, length-map, sum_by-append, sum_by-cons, Pool, live_sets, LiveSet, set_eq, times, count_by_yes, count_by_no, counts_alike, set_exact, State, Agree, Item, item_eq, set_of, count_of, live_at, outstanding, Key, key_eq, Entry, Bucket, no_pools, books_of, HasDistinctKeys, sum_over, AddsUp, ∥∥₁_elim, ∥∥₁_map, ∥∥₁_prop, props}
+use Rattle.std.proofs.lemmas.Grind.{common_steps}
 use Rattle.gpu_descriptor.specs.Model.Grants.{items_at}
 use Rattle.gpu_descriptor.specs.Caller.Frees.{marked_descriptors}
 use Rattle.gpu_descriptor.specs.Model.Load.{marked_load, descriptors_out, allocated_in, sets_out}
@@ -22,9 +23,8 @@ unfolding names_in
 by_name counts [] all = refl
 by_name counts (x ∷ sets) all =
     let own : times (x ∷ sets) x ≡ suc (times sets x) = count_by_yes (λ y. set_eq y x) x sets (set_exact.self x) in
-    let here : counts ≡ x.counts = sym (all x (omega arith)) in
     let rest = by_name counts sets (λ y some. all y (let m = more y in omega arith)) in
-    λ i. record { name = x.name; counts = here i } ∷ rest i
+    grind (arith, common_steps)
   where
     more : (y : LiveSet) → times sets y ≤ times (x ∷ sets) y
     more y = elim (cases_Bool (set_eq x y)) [
@@ -40,10 +40,7 @@ record OutOf (k : Key) (b : Bucket) (ledger : ℕ → Option Pool) : Type 0 wher
   each : (t : Item) → t.key ≡ k → t.id ≡ b.id → count_of t items ≡ live_at ledger b t
 
 none_out : (ledger : ℕ → Option Pool) (id first : ℕ) (t : Item) → live_at ledger (bucket id first []) t ≡ 0
-none_out ledger id first t = elim (cases_lt t.number first) [
-  | inl below ↦ live_below ledger id first [] t below
-  | inr above ↦ live_from ledger id first [] t above
-]
+none_out ledger id first t = grind arith
 
 key_out : (k : Key) (id first : ℕ) (es : List Entry) (ledger : ℕ → Option Pool) → ((i : ℕ) (e : Entry) → slice_get es i ≡ Some e → IsBookedIn k ledger e) → ∥ OutOf k (bucket id first es) ledger ∥₁
 unfolding names_in
@@ -59,8 +56,6 @@ key_out k id first (e ∷ es) ledger booked =
           let both = length-append (items_at k id first names) rest.items in
           let named : length (items_at k id first names) ≡ length names = length-map names (λ n. let t : Item = record { key = k; id = id; number = first; name = n } in t) in
           let all : length names ≡ length size.0 = length-map size.0 (λ (x : LiveSet). x.name) in
-          let long = size.1 in
-          let later = rest.many in
           let whole = sum_by-cons (λ (d : Entry). d.allocated) e es in
           omega arith);
       of_key = λ t some. elim (cases_lt 0 (count_of t (items_at k id first names))) [
@@ -102,13 +97,7 @@ out_of_none : (ledger : ℕ → Option Pool) (t : Item) → out_at ledger no_poo
 out_of_none ledger t = elim (cases_Bool (0 == t.id)) [ inl same ↦ rw same (none_out ledger 0 0 t) | inr other ↦ rw other refl ]
 
 each_out : (k : Key) (b : Bucket) (ledger : ℕ → Option Pool) (out : OutOf k b ledger) (t : Item) → t.key ≡ k → count_of t out.items ≡ out_at ledger b t
-each_out k b ledger out t key = elim (cases_Bool (b.id == t.id)) [
-  | inl same ↦ rw same (out.each t key (sym (eqb-true b.id t.id same)))
-  | inr other ↦ rw other (elim (cases_lt 0 (count_of t out.items)) [
-    | inl some ↦ absurd (let bad : true ≡ false = sym (eq-eqb b.id t.id (sym (out.of_key t some).1)) ∙ other in cc)
-    | inr none ↦ (omega arith)
-  ])
-]
+each_out k b ledger out t key = grind arith
 
 -- the sets that are out of all keys of a table
 abbrev OutOfAll : (ℕ → Option Pool) → List (Key × Bucket) → Type 0
@@ -120,7 +109,7 @@ table_out ledger (row ∷ table) distinct booked =
     ∥∥₁_elim (key_out row.0 row.1.id row.1.first row.1.pools ledger (λ i e at. booked row.0 i e (ap (λ (b : Bucket). slice_get b.pools i) (first_books row table) ∙ at))) ∥∥₁_prop (λ here.
     ∥∥₁_map (table_out ledger table distinct.1 (λ k i e at. booked k i e (behind k i e at))) (λ rest. (
       here.items ++ rest.0,
-      (let both = length-append here.items rest.0 in let first = here.many in let later = rest.1 in let whole = sum_by-cons (λ (r : Key × Bucket). sets_out r.0 r.1) row table in omega arith),
+      (let both = length-append here.items rest.0 in let whole = sum_by-cons (λ (r : Key × Bucket). sets_out r.0 r.1) row table in omega arith),
       (λ t.
           let sum = count_append t here.items rest.0 in
           let later = rest.2 t in
@@ -139,7 +128,6 @@ table_out ledger (row ∷ table) distinct booked =
           ]),
       (let both = sum_by-append (λ (t : Item). marked_load t.key 1) here.items rest.0 in
           let first : marked_descriptors here.items ≡ descriptors_out row.0 row.1 = load_of_items row.0 here.items (λ t some. (here.of_key t some).0) ∙ ap (marked_load row.0) here.many in
-          let later = rest.3 in
           let whole = sum_by-cons (λ (r : Key × Bucket). descriptors_out r.0 r.1) row table in
           omega arith),
     )))
@@ -178,13 +166,8 @@ removed f t (u ∷ m) some = elim (cases_Bool (item_eq u t)) [
       let found = removed f t m (omega arith) in (
         u ∷ found.0,
         (λ v.
-            let had = found.1 v in
-            let a = cons_count v u m in
-            let b = cons_count v t found.0 in
-            let c = cons_count v t (u ∷ found.0) in
-            let d = cons_count v u found.0 in
-            omega arith),
-        (let sum = found.2 in let a = sum_by-cons f u m in let b = sum_by-cons f u found.0 in omega arith),
+            grind (arith, common_steps, cons_count)),
+        (let a = sum_by-cons f u m in let b = sum_by-cons f u found.0 in omega arith),
       ))
 ]
 
@@ -192,16 +175,13 @@ sums_alike : (f : Item → ℕ) (m n : List Item) → ((u : Item) → count_of u
 sums_alike f [] [] alike = refl
 sums_alike f [] (t ∷ n) alike =
     let own : count_of t (t ∷ n) ≡ suc (count_of t n) = count_by_yes (λ v. item_eq v t) t n (item_exact.self t) in
-    let none = alike t in
-    absurd (omega arith)
+    grind (arith, common_steps)
 sums_alike f (t ∷ m) n alike =
     let own : count_of t (t ∷ m) ≡ suc (count_of t m) = count_by_yes (λ v. item_eq v t) t m (item_exact.self t) in
     let same = alike t in
     let out = removed f t n (omega arith) in
     let rest = sums_alike f m out.0 (λ u. let a = alike u in let b = out.1 u in let c = cons_count u t m in let d = cons_count u t out.0 in omega arith) in
-    let sum = out.2 in
-    let whole = sum_by-cons f t m in
-    omega arith
+    grind (arith, common_steps, sum_by-cons)
 
 pub load_is_descriptors : (s : State) (n : ℕ) → Agree s → AddsUp descriptors_out s.books n → (items : List Item) → ((t : Item) → count_of t items ≡ outstanding s t) → marked_descriptors items ≡ n
 load_is_descriptors s n agree load items alike = ∥∥₁_elim (all_out s descriptors_out n agree load) (search props) (λ all.

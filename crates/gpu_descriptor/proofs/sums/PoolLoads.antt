@@ -1,5 +1,6 @@
 -- The descriptors of a key's pools, as the code has them.
 use Rattle.gpu_descriptor.proofs.Common.{◌≡◌, ℕ, zero, suc, ◌+◌, ◌<◌, List, [], ◌∷◌, length, drop, get_or, ap, arith, set, sum_by-cons, DescriptorPool, Key}
+use Rattle.std.proofs.lemmas.Grind.{common_steps}
 use Rattle.gpu_descriptor.specs.Model.Load.{pool_load}
 use Rattle.gpu_descriptor.specs.Inner.Stored.{stored_load}
 
@@ -16,15 +17,5 @@ module _ {P : Type 0} (k : Key) where
   pub stored_put : (items : List (DescriptorPool P)) (i : ℕ) (q : DescriptorPool P) (raw : P) (allocated available : ℕ) → i < length items → q ≡ get_or items i q
       → stored_load k (set items i (record { raw = raw; capacity = q.capacity; allocated = allocated; available = available })) ≡ stored_load k items
   stored_put [] i q raw allocated available within is = absurd (omega arith)
-  stored_put (x ∷ items) zero q raw allocated available within is = (
-      let y : DescriptorPool P = record { raw = raw; capacity = q.capacity; allocated = allocated; available = available } in
-      let same : pool_load k q.capacity ≡ pool_load k x.capacity = ap (λ (z : DescriptorPool P). pool_load k z.capacity) is in
-      let a = cons y items in
-      let b = cons x items in
-      omega arith)
-  stored_put (x ∷ items) (suc i) q raw allocated available within is = (
-      let y : DescriptorPool P = record { raw = raw; capacity = q.capacity; allocated = allocated; available = available } in
-      let rest = stored_put items i q raw allocated available (omega arith) is in
-      let a = cons x (set items i y) in
-      let b = cons x items in
-      omega arith)
+  stored_put (x ∷ items) zero q raw allocated available within is = grind arith
+  stored_put (x ∷ items) (suc i) q raw allocated available within is = grind (arith, common_steps)

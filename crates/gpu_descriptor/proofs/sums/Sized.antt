@@ -8,8 +8,6 @@ size_one live a b one other =
     let many : AreIn other.0 live = λ x. (let h = other.2 x in omega arith) in
     let le = (size_minus live b one.0 other few).0 in
     let ge = (size_minus live a other.0 one many).0 in
-    let la = one.1 in
-    let lb = other.1 in
     omega arith
 
 pub listed : (k : Key) (pool : Pool) (e : Entry) → IsAsBooked k pool e → (sets : List LiveSet) → Spells sets pool.live → length sets ≡ e.allocated

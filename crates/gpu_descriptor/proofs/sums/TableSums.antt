@@ -1,6 +1,5 @@
 -- The totals that callers see are sums over the table of the books, and naming the pools keeps what readers see.
-use Rattle.gpu_descriptor.proofs.Common.{◌≡◌, ℕ, ◌+◌, List, [], ◌∷◌, length, map, slice_get, sum_by, Option, Some, None, option_map, inl, inr, refl, ap, ◌∙◌, sym, cases_Bool, length-map, sum_by-cons, slice_get-map, Key, key_eq, EntryOf, BucketOf, Entry, Bucket, AddsUp, HasDistinctKeys, books_of, sum_over, Allocations}
-use Rattle.gpu_descriptor.specs.declared.view.PoolView.{PoolView}
+use Rattle.gpu_descriptor.proofs.Common.{◌≡◌, ℕ, ◌+◌, List, [], ◌∷◌, length, map, sum_by, inl, inr, refl, ap, ◌∙◌, sym, cases_Bool, length-map, sum_by-cons, slice_get-map, Key, key_eq, BucketOf, Bucket, AddsUp, HasDistinctKeys, books_of, sum_over, Allocations, arith}
 use Rattle.gpu_descriptor.specs.Model.Load.{marked_load, bucket_load, sets_out, descriptors_out}
 use Rattle.gpu_descriptor.specs.Caller.States.{named, named_bucket, named_row, table_of, outstanding_of, marked_load_of, pool_load_of}
 use Rattle.gpu_descriptor.specs.Caller.Views.{view_in}
@@ -41,14 +40,4 @@ module _ {P : Type 0} (name : P → ℕ) where
   pools_of-table a k = sym (ap (λ (b : Bucket). length b.pools) (books_named a.table k) ∙ length-map (books_of a.table k).pools (named name))
 
   pub view_of-table : (a : Allocations P) (k : Key) (i : ℕ) → view_in (books_of a.table k) i ≡ view_in (books_of (table_of name a) k) i
-  view_of-table a k i = sym (ap (λ (b : Bucket). view_in b i) (books_named a.table k) ∙ view_named (books_of a.table k))
-    where
-      seen : ℕ → ℕ → ℕ → PoolView
-      seen first allocated free = record { number = first + i; allocated = allocated; available = free }
-
-      same : (first : ℕ) (o : Option (EntryOf P)) → option_map (λ (e : Entry). seen first e.allocated e.free) (option_map (named name) o) ≡ option_map (λ (e : EntryOf P). seen first e.allocated e.free) o
-      same first None = refl
-      same first (Some e) = refl
-
-      view_named : (b : BucketOf P) → view_in (named_bucket name b) i ≡ view_in b i
-      view_named b = ap (option_map (λ (e : Entry). seen b.first e.allocated e.free)) (slice_get-map (named name) b.pools i) ∙ same b.first (slice_get b.pools i)
+  view_of-table a k i = grind (arith, books_named, slice_get-map)

@@ -1,5 +1,6 @@
 -- The ids of a table's keys: they rise, so one place has each, and one key.
-use Rattle.gpu_descriptor.proofs.Common.{◌≡◌, ◌+◌, ◌&&◌, ◌<◌, ℕ, zero, suc, Bool, true, false, ◌++◌, ◌∷◌, [], List, length, filter, slice_get, Option, Some, None, inl, inr, refl, sym, ap, subst, ◌∙◌, arith, slice_index_or, nat_lt, list_all, IsNonDecreasingBy, IsPartitionPoint, IsPartitionedBy, lookup, values_of, cases_Bool, cases_lt, and_parts, and_from, lt-ltb, ltb-true, ltb-false, BucketKey, DescriptorBucket, Key, key_eq, key_of}
+use Rattle.gpu_descriptor.proofs.Common.{◌≡◌, ◌+◌, ◌<◌, ℕ, zero, suc, Bool, true, false, ◌++◌, ◌∷◌, [], List, length, filter, slice_get, Option, Some, None, inl, inr, refl, sym, ap, subst, ◌∙◌, arith, slice_index_or, nat_lt, list_all, IsNonDecreasingBy, IsPartitionPoint, IsPartitionedBy, lookup, values_of, cases_Bool, cases_lt, and_parts, and_from, lt-ltb, ltb-true, ltb-false, BucketKey, DescriptorBucket, Key, key_eq, key_of}
+use Rattle.std.proofs.lemmas.Grind.{common_steps}
 use Rattle.std.proofs.lemmas.List.Sorted.{IsPartitionedBy-ltb}
 use Rattle.indexmap.specs.Layout.{set_value_at}
 use Rattle.gpu_descriptor.specs.Inner.Ids.{rise_below, stored_ids}
@@ -14,40 +15,18 @@ record Rises (next i : ℕ) (later : List ℕ) : Type 0 where
   rest : rise_below next later ≡ true
 
 parts : (next i : ℕ) (later : List ℕ) → rise_below next (i ∷ later) ≡ true → Rises next i later
-parts next i later h =
-    let whole = and_parts (nat_lt i next && list_all (nat_lt i) later) (rise_below next later) h in
-    let front = and_parts (nat_lt i next) (list_all (nat_lt i) later) whole.0 in
-    record { below = ltb-true i next front.0; first = front.1; rest = whole.1 }
+parts next i later h = grind arith
 
 all_above : (n : ℕ) (xs : List ℕ) → list_all (nat_lt n) xs ≡ true → (i m : ℕ) → slice_get xs i ≡ Some m → n < m
 all_above n [] h i m at = absurd (let bad : ◌≡◌ {A = Option ℕ} None (Some m) = at in cc)
-all_above n (x ∷ xs) h zero m at =
-    let lt = ltb-true n x (and_parts (nat_lt n x) (list_all (nat_lt n) xs) h).0 in
-    let same : Some x ≡ Some m = at in
-    let is : x ≡ m = cc in
-    omega arith
+all_above n (x ∷ xs) h zero m at = grind arith
 all_above n (x ∷ xs) h (suc i) m at = all_above n xs (and_parts (nat_lt n x) (list_all (nat_lt n) xs) h).1 i m at
 
 pub rises : (next : ℕ) (xs : List ℕ) → rise_below next xs ≡ true → (i j m n : ℕ) → i < j → slice_get xs i ≡ Some m → slice_get xs j ≡ Some n → m < n
 rises next [] h i j m n lt a b = absurd (let bad : ◌≡◌ {A = Option ℕ} None (Some m) = a in cc)
 rises next (x ∷ xs) h i zero m n lt a b = absurd (omega arith)
-rises next (x ∷ xs) h zero (suc j) m n lt a b =
-    let p = parts next x xs h in
-    let above = all_above x xs p.first j n b in
-    let same : Some x ≡ Some m = a in
-    let is : x ≡ m = cc in
-    omega arith
+rises next (x ∷ xs) h zero (suc j) m n lt a b = grind (arith, all_above)
 rises next (x ∷ xs) h (suc i) (suc j) m n lt a b = rises next xs (parts next x xs h).rest i j m n (omega arith) a b
-
--- one place has an id
-pub one_place : (next : ℕ) (xs : List ℕ) → rise_below next xs ≡ true → (i j n : ℕ) → slice_get xs i ≡ Some n → slice_get xs j ≡ Some n → i ≡ j
-one_place next xs h i j n a b = elim (cases_lt i j) [
-  | inl below ↦ absurd (let bad = rises next xs h i j n n below a b in omega arith)
-  | inr least ↦ elim (cases_lt j i) [
-    | inl above ↦ absurd (let bad = rises next xs h j i n n above b a in omega arith)
-    | inr above ↦ omega arith
-  ]
-]
 
 module _ {P : Type 0} where
   id_at : (es : List (BucketKey × DescriptorBucket P)) (i : ℕ) (d : BucketKey × DescriptorBucket P) → i < length es → slice_get (stored_ids es) i ≡ Some (slice_index_or es i d).1.id
@@ -69,10 +48,7 @@ module _ {P : Type 0} where
 
   module _ (next : ℕ) (es : List (BucketKey × DescriptorBucket P)) (rise : rise_below next (stored_ids es) ≡ true) (id : ℕ) where
     in_order : IsNonDecreasingBy (λ e. e.1.id) es
-    in_order i j d le lt = elim (cases_lt i j) [
-      | inl below ↦ (let less = rises next (stored_ids es) rise i j (slice_index_or es i d).1.id (slice_index_or es j d).1.id below (id_at es i d (omega arith)) (id_at es j d lt) in omega arith)
-      | inr above ↦ (let same : i ≡ j = omega arith in let is = ap (λ (k : ℕ). (slice_index_or es k d).1.id) same in omega arith)
-    ]
+    in_order i j d le lt = grind (arith, id_at, rises)
 
     -- those below an id stand in front
     pub parted : IsPartitionedBy (λ e. nat_lt e.1.id id) es
@@ -87,14 +63,11 @@ module _ {P : Type 0} where
         elim (cases_lt r i) [
           | inl below ↦ absurd (
               let le = ltb-false (slice_index_or es r d).1.id id (point.1 r d (omega arith) (omega arith)) in
-              let less = rises next (stored_ids es) rise r i (slice_index_or es r d).1.id id below (id_at es r d (omega arith)) at in
-              omega arith)
+              grind (arith, common_steps, id_at, rises))
           | inr least ↦ elim (cases_lt i r) [
             | inl before ↦ absurd (
                 let less = ltb-true (slice_index_or es i d).1.id id (point.0 i d (omega arith) before) in
-                let same : Some (slice_index_or es i d).1.id ≡ Some id = sym (id_at es i d lt) ∙ at in
-                let is : (slice_index_or es i d).1.id ≡ id = cc in
-                omega arith)
+                grind (arith, common_steps, id_at))
             | inr above ↦ (let is : r ≡ i = omega arith in rw is at)
           ]
         ]
@@ -105,15 +78,7 @@ module _ {P : Type 0} where
   -- the row that a key's test finds has an id above those before it
   found_above : (n : ℕ) (test : BucketKey → Bool) (es : List (BucketKey × DescriptorBucket P)) (v : DescriptorBucket P) → list_all (nat_lt n) (stored_ids es) ≡ true → lookup test es ≡ Some v → n < v.id
   found_above n test [] v h found = absurd (let bad : ◌≡◌ {A = Option (DescriptorBucket P)} None (Some v) = found in cc)
-  found_above n test (e ∷ es) v h found = elim (cases_Bool (test e.0)) [
-    | inl here ↦ (
-        let lt = ltb-true n e.1.id (and_parts (nat_lt n e.1.id) (list_all (nat_lt n) (stored_ids es)) h).0 in
-        let same : Some e.1 ≡ Some v = rw here at found in
-        let is : e.1 ≡ v = cc in
-        let own : e.1.id ≡ v.id = ap (λ (b : DescriptorBucket P). b.id) is in
-        omega arith)
-    | inr other ↦ found_above n test es v (and_parts (nat_lt n e.1.id) (list_all (nat_lt n) (stored_ids es)) h).1 (rw other at found)
-  ]
+  found_above n test (e ∷ es) v h found = grind (arith, (found_above n test es v))
 
   pub id_of : (es : List (BucketKey × DescriptorBucket P)) (i : ℕ) (e : BucketKey × DescriptorBucket P) → slice_get es i ≡ Some e → slice_get (stored_ids es) i ≡ Some e.1.id
   id_of [] i e at = absurd (let bad : ◌≡◌ {A = Option (BucketKey × DescriptorBucket P)} None (Some e) = at in cc)
@@ -131,13 +96,7 @@ module _ {P : Type 0} where
   ]
 
   later_is : (x : BucketKey × DescriptorBucket P) (es : List (BucketKey × DescriptorBucket P)) → list_all (nat_lt x.1.id) (stored_ids es) ≡ true → (k : Key) (w : DescriptorBucket P) → lookup (λ l. key_eq k (key_of l)) (x ∷ es) ≡ Some w → (i n : ℕ) → slice_get (stored_ids es) i ≡ Some n → n ≡ w.id → lookup (λ l. key_eq k (key_of l)) es ≡ Some w
-  later_is x es above k w found i n at same = elim (cases_Bool (key_eq k (key_of x.0))) [
-    | inl hit ↦ absurd (
-        let own : x.1.id ≡ w.id = ap (λ (b : DescriptorBucket P). b.id) (inside x.1 w (rw hit at found)) in
-        let less = all_above x.1.id (stored_ids es) above i n at in
-        omega arith)
-    | inr other ↦ rw other at found
-  ]
+  later_is x es above k w found i n at same = grind (arith, all_above)
 
   -- the row of a key stands where its id does
   pub own_key : (next : ℕ) (es : List (BucketKey × DescriptorBucket P)) → rise_below next (stored_ids es) ≡ true → (k : Key) (w : DescriptorBucket P) → lookup (λ l. key_eq k (key_of l)) es ≡ Some w → (i : ℕ) (e : BucketKey × DescriptorBucket P) → slice_get es i ≡ Some e → e.1.id ≡ w.id → Is e k w
@@ -154,41 +113,20 @@ module _ {P : Type 0} where
   -- a bucket that keeps its id changes none
   pub ids_put : (es : List (BucketKey × DescriptorBucket P)) (i : ℕ) (v w : DescriptorBucket P) → slice_get (values_of es) i ≡ Some v → w.id ≡ v.id → stored_ids (set_value_at es i w) ≡ stored_ids es
   ids_put [] i v w at same = refl
-  ids_put (e ∷ es) zero v w at same =
-      let here : Some e.1 ≡ Some v = at in
-      let is : e.1 ≡ v = cc in
-      ap (λ (n : ℕ). n ∷ stored_ids es) (same ∙ ap (λ (b : DescriptorBucket P). b.id) (sym is))
+  ids_put (e ∷ es) zero v w at same = grind arith
   ids_put (e ∷ es) (suc i) v w at same = ap (λ (ids : List ℕ). e.1.id ∷ ids) (ids_put es i v w at same)
 
 -- the next id is above all, so a key that comes last may have it
 pub one_more : (next more : ℕ) (xs : List ℕ) → more ≡ next + 1 → rise_below next xs ≡ true → rise_below more (xs ++ next ∷ []) ≡ true
 one_more next more [] is h = and_from _ _ (and_from _ _ (lt-ltb next more (omega arith)) refl) refl
-one_more next more (x ∷ xs) is h =
-    let p = parts next x xs h in
-    let below = p.below in
-    and_from _ _ (and_from _ _ (lt-ltb x more (omega arith)) (all_more x next xs p.first below)) (one_more next more xs is p.rest)
-  where
-    all_more : (n m : ℕ) (xs : List ℕ) → list_all (nat_lt n) xs ≡ true → n < m → list_all (nat_lt n) (xs ++ m ∷ []) ≡ true
-    all_more n m [] h lt = and_from _ _ (lt-ltb n m lt) refl
-    all_more n m (x ∷ xs) h lt = (let both = and_parts (nat_lt n x) (list_all (nat_lt n) xs) h in and_from _ _ both.0 (all_more n m xs both.1 lt))
+one_more next more (x ∷ xs) is h = grind (arith, common_steps, (one_more next more xs is))
 
 -- those that are left rise still
 module _ {P : Type 0} (stays : BucketKey × DescriptorBucket P → Bool) where
   all_left : (n : ℕ) (es : List (BucketKey × DescriptorBucket P)) → list_all (nat_lt n) (stored_ids es) ≡ true → list_all (nat_lt n) (stored_ids (filter stays es)) ≡ true
   all_left n [] h = refl
-  all_left n (e ∷ es) h =
-      let both = and_parts (nat_lt n e.1.id) (list_all (nat_lt n) (stored_ids es)) h in
-      elim (cases_Bool (stays e)) [
-        | inl at ↦ rw at (and_from _ _ both.0 (all_left n es both.1))
-        | inr other ↦ rw other (all_left n es both.1)
-      ]
+  all_left n (e ∷ es) h = grind (arith, (all_left n es))
 
   pub rise_left : (next : ℕ) (es : List (BucketKey × DescriptorBucket P)) → rise_below next (stored_ids es) ≡ true → rise_below next (stored_ids (filter stays es)) ≡ true
   rise_left next [] h = refl
-  rise_left next (e ∷ es) h =
-      let p = parts next e.1.id (stored_ids es) h in
-      let rest = rise_left next es p.rest in
-      elim (cases_Bool (stays e)) [
-        | inl at ↦ rw at (and_from _ _ (and_from _ _ (lt-ltb e.1.id next p.below) (all_left e.1.id es p.first)) rest)
-        | inr other ↦ rw other rest
-      ]
+  rise_left next (e ∷ es) h = grind (arith, all_left, (rise_left next es))

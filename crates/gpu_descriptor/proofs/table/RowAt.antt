@@ -1,11 +1,11 @@
 -- The row at a place of the table is the row of its key.
-use Rattle.gpu_descriptor.proofs.Common.{◌≡◌, ℕ, zero, suc, Bool, true, false, List, [], ◌∷◌, slice_get, Option, Some, None, inl, inr, refl, sym, ap, ◌∙◌, cases_Bool, IsDistinct, AllByRecursion, lookup, set_value, values_of, BucketKey, DescriptorBucket, Key, key_eq, key_of}
+use Rattle.gpu_descriptor.proofs.Common.{◌≡◌, ℕ, zero, suc, Bool, false, List, [], ◌∷◌, slice_get, Option, Some, None, refl, ap, ◌∙◌, IsDistinct, AllByRecursion, lookup, set_value, values_of, BucketKey, DescriptorBucket, Key, key_eq, key_of, arith}
+use Rattle.std.proofs.lemmas.Grind.{common_steps}
 use Rattle.indexmap.specs.Layout.{set_value_at}
 use Rattle.gpu_descriptor.specs.Inner.Ids.{is_of}
 use Rattle.gpu_descriptor.specs.Inner.Stored.{stored_keys}
 use Rattle.gpu_descriptor.proofs.table.Exact.{key_exact}
 use Rattle.gpu_descriptor.proofs.sums.Loads.{IsRow, IsWritten}
-use Rattle.gpu_descriptor.proofs.table.Tables.{key_eq_symm}
 
 -- the key and the bucket at a place
 pub record IsAt {P : Type 0} (k : Key) (es : List (BucketKey × DescriptorBucket P)) (i : ℕ) (v : DescriptorBucket P) : Type 0 where
@@ -17,35 +17,20 @@ module _ {P : Type 0} (k : Key) where
   -- a key that stands further down has another before it
   none_here : (e : BucketKey × DescriptorBucket P) (es : List (BucketKey × DescriptorBucket P)) → AllByRecursion (λ l. key_eq (key_of e.0) l ≡ false) (stored_keys es) → (i : ℕ) (v : DescriptorBucket P) → IsAt k es i v → is_of k e.0 ≡ false
   none_here e [] all i v h = absurd (let at = h.at in let bad : ◌≡◌ {A = Option (BucketKey × DescriptorBucket P)} None (Some (h.key, v)) = at in cc)
-  none_here e (x ∷ es) all zero v h =
-      let same : Some x ≡ Some (h.key, v) = h.at in
-      let is : x ≡ (h.key, v) = cc in
-      key_eq_symm k (key_of e.0) ∙ ap (key_eq (key_of e.0)) (sym h.is ∙ ap (λ (r : BucketKey × DescriptorBucket P). key_of r.0) (sym is)) ∙ all.0
+  none_here e (x ∷ es) all zero v h = grind (arith, common_steps)
   none_here e (x ∷ es) all (suc i) v h = none_here e es all.1 i v (record { key = h.key; at = h.at; is = h.is })
 
   pub found_at : (es : List (BucketKey × DescriptorBucket P)) → IsDistinct key_eq (stored_keys es) → (i : ℕ) (v : DescriptorBucket P) → IsAt k es i v → lookup (is_of k) es ≡ Some v
   unfolding IsDistinct
   found_at [] d i v h = absurd (let at = h.at in let bad : ◌≡◌ {A = Option (BucketKey × DescriptorBucket P)} None (Some (h.key, v)) = at in cc)
-  found_at (e ∷ es) d zero v h =
-      let same : Some e ≡ Some (h.key, v) = h.at in
-      let is : e ≡ (h.key, v) = cc in
-      let yes : is_of k e.0 ≡ true = ap (key_eq k) (ap (λ (r : BucketKey × DescriptorBucket P). key_of r.0) is ∙ h.is) ∙ key_exact.self k in
-      rw yes (ap (λ (r : BucketKey × DescriptorBucket P). Some r.1) is)
-  found_at (e ∷ es) d (suc i) v h =
-      let below : IsAt k es i v = record { key = h.key; at = h.at; is = h.is } in
-      rw (none_here e es d.0 i v below) (found_at es d.1 i v below)
+  found_at (e ∷ es) d zero v h = grind (arith, key_exact)
+  found_at (e ∷ es) d (suc i) v h = grind (arith, none_here, (found_at es d.1 i v))
 
   put_at : (es : List (BucketKey × DescriptorBucket P)) → IsDistinct key_eq (stored_keys es) → (i : ℕ) (v w : DescriptorBucket P) → IsAt k es i v → set_value_at es i w ≡ set_value (is_of k) es w
   unfolding IsDistinct
   put_at [] d i v w h = refl
-  put_at (e ∷ es) d zero v w h =
-      let same : Some e ≡ Some (h.key, v) = h.at in
-      let is : e ≡ (h.key, v) = cc in
-      let yes : is_of k e.0 ≡ true = ap (key_eq k) (ap (λ (r : BucketKey × DescriptorBucket P). key_of r.0) is ∙ h.is) ∙ key_exact.self k in
-      rw yes refl
-  put_at (e ∷ es) d (suc i) v w h =
-      let below : IsAt k es i v = record { key = h.key; at = h.at; is = h.is } in
-      rw (none_here e es d.0 i v below) (ap (λ (l : List (BucketKey × DescriptorBucket P)). e ∷ l) (put_at es d.1 i v w below))
+  put_at (e ∷ es) d zero v w h = grind (arith, key_exact)
+  put_at (e ∷ es) d (suc i) v w h = grind (arith, none_here, (put_at es d.1 i v w))
 
   -- what a place's key and its bucket say together
   pub is_at : (es : List (BucketKey × DescriptorBucket P)) (i : ℕ) (v : DescriptorBucket P) → slice_get (stored_keys es) i ≡ Some k → slice_get (values_of es) i ≡ Some v → IsAt k es i v
@@ -73,10 +58,7 @@ keys_at (e ∷ es) (suc i) w = ap (λ (ks : List Key). key_of e.0 ∷ ks) (keys_
 -- tests with the same answers find the same
 pub lookup_same : {P : Type 0} (s t : BucketKey → Bool) → ((k : BucketKey) → s k ≡ t k) → (es : List (BucketKey × DescriptorBucket P)) → lookup s es ≡ lookup t es
 lookup_same s t same [] = refl
-lookup_same s t same (e ∷ es) = elim (cases_Bool (t e.0)) [
-  | inl hit ↦ (let own : s e.0 ≡ true = same e.0 ∙ hit in rw (own, hit) refl)
-  | inr miss ↦ (let own : s e.0 ≡ false = same e.0 ∙ miss in rw (own, miss) (lookup_same s t same es))
-]
+lookup_same s t same (e ∷ es) = grind arith
 
 module _ {P : Type 0} where
   -- the key at a place

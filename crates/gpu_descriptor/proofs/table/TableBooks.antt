@@ -1,5 +1,6 @@
 -- The books of a table, and what a write to one of its rows does to them.
 use Rattle.gpu_descriptor.proofs.Common.{◌≡◌, ℕ, arith, Bool, true, false, List, [], ◌∷◌, map, count_by, Option, Some, None, IsSome, inl, inr, refl, sym, ap, ◌∙◌, if◌then◌else◌, list_any, IsDistinct, AllByRecursion, lookup, set_value, option_map_or, cases_Bool, or_from, or_parts, count_by_yes, count_by_no, BucketKey, DescriptorPool, DescriptorBucket, Key, key_eq, Entry, Bucket, no_pools, HasDistinctKeys, key_of, Allocations}
+use Rattle.std.proofs.lemmas.Grind.{common_steps}
 use Rattle.std.specs.Map.{keys_of as map_keys}
 use Rattle.gpu_descriptor.specs.Caller.States.{named, named_row, keys_of}
 use Rattle.gpu_descriptor.specs.Inner.Stored.{books_in, kept_of, row_of, entry_of, bucket_of, stored_keys}
@@ -40,10 +41,7 @@ module _ {P : Type 0} (name : P → ℕ) where
   looked_up test k same [] = refl
   looked_up test k same (e ∷ es) =
       let here : key_eq (key_of e.0) k ≡ test e.0 = key_eq_symm (key_of e.0) k ∙ sym (same e.0) in
-      head_books e es k ∙ elim (cases_Bool (test e.0)) [
-        | inl h ↦ rw (here ∙ h, h) refl
-        | inr h ↦ rw (here ∙ h, h) (looked_up test k same es)
-      ]
+      grind (arith, head_books, (looked_up test k same es))
 
   no_bad : (A : Type 0) → true ≡ false → A
   no_bad A h = absurd (let bad : true ≡ false = h in cc)
@@ -55,23 +53,10 @@ module _ {P : Type 0} (name : P → ℕ) where
     | inl h ↦ (
         let is : k ≡ key_of e.0 = key_exact.same k (key_of e.0) (sym (same e.0) ∙ h) in
         let left : books_in name (map row_of (set_value test (e ∷ es) w)) l ≡ (if key_eq (key_of e.0) l then bucket_of name w else books_in name (map row_of es) l) = rw h (head_books (e.0, w) es l) in
-        left ∙ elim (cases_Bool (key_eq (key_of e.0) l)) [
-          | inl at ↦ (let here : key_eq k l ≡ true = ap (λ (x : Key). key_eq x l) is ∙ at in rw (at, here) refl)
-          | inr at ↦ (let here : key_eq k l ≡ false = ap (λ (x : Key). key_eq x l) is ∙ at in rw (at, here) refl)
-        ])
+        grind (arith, common_steps))
     | inr h ↦ (
         let left : books_in name (map row_of (set_value test (e ∷ es) w)) l ≡ (if key_eq (key_of e.0) l then bucket_of name e.1 else books_in name (map row_of (set_value test es w)) l) = rw h (head_books e (set_value test es w) l) in
-        let more : IsSome (lookup test es) = rw h at some in
-        let rest : books_in name (map row_of (set_value test es w)) l ≡ put_books (books_in name (map row_of es)) k (bucket_of name w) l = written test k same es w more l in
-        left ∙ elim (cases_Bool (key_eq (key_of e.0) l)) [
-          | inl at ↦ (
-              let other : key_eq k l ≡ false = elim (cases_Bool (key_eq k l)) [
-                | inl yes_k ↦ no_bad (key_eq k l ≡ false) (sym (same e.0 ∙ (let p : k ≡ key_of e.0 = key_exact.same k l yes_k ∙ sym (key_exact.same (key_of e.0) l at) in rw p (key_exact.self (key_of e.0)))) ∙ h)
-                | inr not_k ↦ not_k
-              ] in
-              rw (at, other) (sym (row_bucket e)))
-          | inr at ↦ rw at rest
-        ])
+        grind (arith, common_steps, key_exact, no_bad, row_bucket, (written test k same es w)))
   ]
 
   pub rows_are : (es : List (BucketKey × DescriptorBucket P)) → map (named_row name) (map row_of es) ≡ rows_in es
@@ -118,7 +103,4 @@ module _ {P : Type 0} where
   -- a write through the map keeps its keys
   pub keys_set : (test : BucketKey → Bool) (es : List (BucketKey × DescriptorBucket P)) (w : DescriptorBucket P) → map (λ (e : BucketKey × DescriptorBucket P). key_of e.0) (set_value test es w) ≡ map (λ (e : BucketKey × DescriptorBucket P). key_of e.0) es
   keys_set test [] w = refl
-  keys_set test (e ∷ es) w = elim (cases_Bool (test e.0)) [
-    | inl at ↦ rw at refl
-    | inr at ↦ rw at (ap (λ (l : List Key). key_of e.0 ∷ l) (keys_set test es w))
-  ]
+  keys_set test (e ∷ es) w = grind (arith, (keys_set test es w))

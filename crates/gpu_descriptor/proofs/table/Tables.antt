@@ -1,14 +1,13 @@
 -- Sums over a table depend on the books that it keeps, and not on its order.
-use Rattle.gpu_descriptor.proofs.Common.{◌≡◌, ℕ, ◌+◌, ◌≤◌, true, false, cond, List, [], ◌∷◌, inl, inr, refl, sym, ap, ◌∙◌, subst, arith, list_any, cases_Bool, or_parts, or_from, sum_by-append, Key, key_eq, Bucket, no_pools, books_of, HasDistinctKeys, sum_over, bool_iff}
+use Rattle.gpu_descriptor.proofs.Common.{◌≡◌, ℕ, ◌+◌, ◌≤◌, true, false, cond, List, [], ◌∷◌, inl, inr, refl, sym, ap, ◌∙◌, subst, arith, list_any, cases_Bool, sum_by-append, Key, key_eq, Bucket, no_pools, books_of, HasDistinctKeys, sum_over}
+use Rattle.std.proofs.lemmas.Grind.{common_steps}
 use Rattle.gpu_descriptor.proofs.table.Exact.{key_exact}
 
 sum_more : (f : Key → Bucket → ℕ) (row : Key × Bucket) (t : List (Key × Bucket)) → sum_over f (row ∷ t) ≡ f row.0 row.1 + sum_over f t
 sum_more f row t = sum_by-append (λ r. f r.0 r.1) (row ∷ []) t ∙ (let one : sum_over f (row ∷ []) ≡ f row.0 row.1 = omega arith in omega arith)
 
 pub key_eq_symm : (k l : Key) → key_eq k l ≡ key_eq l k
-key_eq_symm k l = bool_iff (key_eq k l) (key_eq l k)
-    (λ h. ap (key_eq l) (key_exact.same k l h) ∙ key_exact.self l)
-    (λ h. ap (key_eq k) (key_exact.same l k h) ∙ key_exact.self k)
+key_eq_symm k l = grind (arith, key_exact)
 
 -- the table without a key's row
 without : Key → List (Key × Bucket) → List (Key × Bucket)
@@ -17,9 +16,7 @@ without k (row ∷ t) = cond (key_eq row.0 k) t (row ∷ without k t)
 
 pub absent : (k : Key) (t : List (Key × Bucket)) → list_any (λ row. key_eq row.0 k) t ≡ false → books_of t k ≡ no_pools
 absent k [] h = refl
-absent k (row ∷ t) h =
-    let both = or_parts (key_eq row.0 k) (list_any (λ r. key_eq r.0 k) t) h in
-    rw both.0 (absent k t both.1)
+absent k (row ∷ t) h = grind (arith, (absent k t))
 
 -- the first row has the books of its key
 pub first_books : (row : Key × Bucket) (t : List (Key × Bucket)) → books_of (row ∷ t) row.0 ≡ row.1
@@ -34,35 +31,17 @@ pub sum_over_below : (f g : Key → Bucket → ℕ) (t : List (Key × Bucket)) �
 sum_over_below f g [] none distinct below = omega arith
 sum_over_below f g (row ∷ t) none distinct below =
     let here : f row.0 row.1 ≤ g row.0 row.1 = subst (λ (b : Bucket). f row.0 b ≤ g row.0 b) (first_books row t) (below row.0) in
-    let rest : sum_over f t ≤ sum_over g t = sum_over_below f g t none distinct.1 (λ k. elim (cases_Bool (key_eq row.0 k)) [
-      | inl at ↦ (let nothing : f k (books_of t k) ≡ 0 = ap (f k) (none_behind row t distinct k at) ∙ none k in omega arith)
-      | inr other ↦ (let skip : books_of (row ∷ t) k ≡ books_of t k = rw other refl in subst (λ (b : Bucket). f k b ≤ g k b) skip (below k))
-    ]) in
-    let a = sum_more f row t in
-    let b = sum_more g row t in
-    omega arith
+    grind (arith, common_steps, none_behind, sum_more, (sum_over_below f g t none distinct.1))
 
 sum_without : (f : Key → Bucket → ℕ) → ((k : Key) → f k no_pools ≡ 0) → (k : Key) (t : List (Key × Bucket)) → sum_over f t ≡ f k (books_of t k) + sum_over f (without k t)
 unfolding without
 sum_without f none k [] = (let e = none k in omega arith)
-sum_without f none k (row ∷ t) = elim (cases_Bool (key_eq row.0 k)) [
-  | inl h ↦ rw (h) (sum_more f row t ∙ ap (λ (l : Key). f l row.1 + sum_over f t) (key_exact.same row.0 k h))
-  | inr h ↦ rw (h) (
-      let step = sum_without f none k t in
-      let a = sum_more f row t in
-      let b = sum_more f row (without k t) in
-      omega arith)
-]
+sum_without f none k (row ∷ t) = grind (arith, common_steps, key_exact, (sum_without f none k t))
 
 any_without : (k l : Key) (t : List (Key × Bucket)) → list_any (λ row. key_eq row.0 l) t ≡ false → list_any (λ row. key_eq row.0 l) (without k t) ≡ false
 unfolding without
 any_without k l [] h = refl
-any_without k l (row ∷ t) h =
-    let both = or_parts (key_eq row.0 l) (list_any (λ r. key_eq r.0 l) t) h in
-    elim (cases_Bool (key_eq row.0 k)) [
-      | inl e ↦ rw e both.1
-      | inr e ↦ rw e (or_from (key_eq row.0 l) (list_any (λ r. key_eq r.0 l) (without k t)) both.0 (any_without k l t both.1))
-    ]
+any_without k l (row ∷ t) h = grind (arith, (any_without k l t))
 
 distinct_without : (k : Key) (t : List (Key × Bucket)) → HasDistinctKeys t → HasDistinctKeys (without k t)
 unfolding without
@@ -76,20 +55,7 @@ distinct_without k (row ∷ t) h = elim (cases_Bool (key_eq row.0 k)) [
 books_without : (k l : Key) (t : List (Key × Bucket)) → HasDistinctKeys t → books_of (without k t) l ≡ cond (key_eq k l) no_pools (books_of t l)
 unfolding without
 books_without k l [] h = elim (cases_Bool (key_eq k l)) [ inl e ↦ rw e refl | inr e ↦ rw e refl ]
-books_without k l (row ∷ t) h = elim (cases_Bool (key_eq row.0 k)) [
-  | inl e ↦ (
-      let same : row.0 ≡ k = key_exact.same row.0 k e in
-      rw e (elim (cases_Bool (key_eq k l)) [
-        | inl at ↦ rw at (absent l t (ap (λ (x : Key). list_any (λ r. key_eq r.0 x) t) (sym (same ∙ key_exact.same k l at)) ∙ h.0))
-        | inr other ↦ rw (other, (ap (λ (x : Key). key_eq x l) same ∙ other)) refl
-      ]))
-  | inr e ↦ rw e (elim (cases_Bool (key_eq row.0 l)) [
-    | inl at ↦ rw at (
-        let differ : key_eq k l ≡ false = ap (λ (x : Key). key_eq k x) (sym (key_exact.same row.0 l at)) ∙ key_eq_symm k row.0 ∙ e in
-        rw differ refl)
-    | inr other ↦ rw other (books_without k l t h.1)
-  ])
-]
+books_without k l (row ∷ t) h = grind (arith, absent, key_exact, (books_without k l t h.1))
 
 pub sum_by_books : (f : Key → Bucket → ℕ) (t u : List (Key × Bucket)) → ((k : Key) → f k no_pools ≡ 0) → HasDistinctKeys t → HasDistinctKeys u → ((k : Key) → books_of t k ≡ books_of u k) → sum_over f t ≡ sum_over f u
 sum_by_books f [] u none dt du same = sym (nothing u du (λ k. sym (same k)))
@@ -107,11 +73,5 @@ sum_by_books f [] u none dt du same = sym (nothing u du (λ k. sym (same k)))
         omega arith
 sum_by_books f (row ∷ t) u none dt du same =
     let k = row.0 in
-    let there : f k row.1 ≡ f k (books_of u k) = ap (f k) (sym (first_books row t) ∙ same k) in
-    let rest : sum_over f t ≡ sum_over f (without k u) = sum_by_books f t (without k u) none dt.1 (distinct_without k u du) (λ l. elim (cases_Bool (key_eq k l)) [
-      | inl at ↦ none_behind row t dt l at ∙ sym (books_without k l u du ∙ rw at refl)
-      | inr other ↦ (let skip : books_of (row ∷ t) l ≡ books_of t l = rw other refl in sym skip ∙ same l ∙ sym (books_without k l u du ∙ rw other refl))
-    ]) in
-    let a = sum_more f row t in
     let b = sum_without f none k u in
-    omega arith
+    grind (arith, common_steps, books_without, distinct_without, first_books, none_behind, sum_more, without, (sum_by_books f t))

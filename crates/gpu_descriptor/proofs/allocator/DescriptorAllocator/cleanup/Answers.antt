@@ -36,10 +36,7 @@ drop_front-requires-clause-stored g c =
 pub drop_front-requires-clause-room : goal.drop_front-requires-clause-room
 drop_front-requires-clause-room g c =
     let below = (sum_put stored_load_in c.loop-place.self-inside.buckets.entries c.loop-place.place (deref_pair c.unwrap.result).0 c.index_mut-bucket.result.now c.index_mut-bucket.result.now (at_place g (goal.at.drop_front-requires-clause-room g c).After-index_mut-bucket)).0 in
-    let all = c.loop-place.invariant.counted.is_room in
     let rows = rows_pool_load c.loop-place.self-inside.buckets.entries in
-    let limit = c.loop-place.invariant.limit in
-    let ranges = c.self.ranges in
     omega arith
 
 pub invariant_of-self-inside-in-loop-place : goal.invariant_of-self-inside-in-loop-place
@@ -91,7 +88,7 @@ returns g c =
     let was = ap (λ (a : Allocations _). a.table) (sym c.self.view_is) in
     let distinct = distinct_rows name es (opened c.self.invariant).distinct in
     let kept = filter-RetainsPairs _ (λ e. has_pools e.1) _ (λ k v b w f call. search rules) _ _ c.retain.ensures.filtered in
-    let le : length (rows_in name es) ≤ c.loop-place.place = (let rows : length (rows_in name es) ≡ length es = length-map es (λ e. (key_of e.0, bucket_of name e.1)) in let all = h.long in omega arith) in
+    let le : length (rows_in name es) ≤ c.loop-place.place = (let rows : length (rows_in name es) ≡ length es = length-map es (λ e. (key_of e.0, bucket_of name e.1)) in omega arith) in
     let rows = h.rows ∙ all_cleared c.loop-place.place (rows_in name es) le in
     let less = h.ledger ∙ ap (λ l. ledger_less l (ledger c.args.device.now)) (take_all c.loop-place.place (rows_in name es) le) in
     let counted = counted_filter _ _ _ _ _ _ kept (distinct_stored _ (λ k l. search rules) _ c.retain.ensures.unique) h.counted in
@@ -116,8 +113,8 @@ returns g c =
       keeps = record {
         agree = clean_agrees _ _ c.requires.agree clean;
         limit = h.limit ∙ ap (λ (a : Allocations _). a.limit) c.self.view_is;
-        load = (let is = counted.is_load in let within = counted.within in omega arith);
-        pool_load = (let is = counted.is_room in omega arith);
+        load = (omega arith);
+        pool_load = (omega arith);
         foreign = foreign;
         accounted = accounted;
         others = others_stay name c.args.self.now now (ledger c.args.device.now) (ledger c.loop-place.device) foreign accounted;

@@ -28,7 +28,6 @@ returns-in_err-pool g c =
 
 pub overflow_add-result : goal.overflow_add-result
 overflow_add-result g c =
-    let fits = c.in_ok-bucket.bucket.now.numbered in
     let lt : c.args.index < length c.in_ok-bucket.bucket.now.pools.items = (let lt = c.in_ok-pool.ensures.variant.0 refl in omega (arith, c.in_ok-bucket.bucket.now.pools.ok.0)) in
     omega arith
 

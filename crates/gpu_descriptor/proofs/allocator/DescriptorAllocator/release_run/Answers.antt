@@ -80,7 +80,6 @@ release_run-ahead-requires-clause-room g c =
     let below = pools_present (row g at.After-index_mut-bucket (there g at.After-index_mut-bucket (entry g at.After-unwrap) (own g at.After-unwrap))) in
     let same = ap (λ (k : Key). stored_load k c.index_mut-bucket.result.now.pools.items) (own g at.After-unwrap) in
     let all = (opened c.self.invariant).is_room in
-    let ranges = c.self.ranges in
     omega arith
 
 -- the row that the run leaves
@@ -105,7 +104,6 @@ descriptors_of_sets-descriptors-requires g c =
     let at = goal.at.descriptors_of_sets-descriptors-requires g c in
     let fits = load_fits (run_taken g at.After-release_run-ahead (there g at.After-index_mut-bucket (entry g at.After-unwrap) (own g at.After-unwrap))) (opened c.self.invariant) in
     let same = ap (λ (k : Key). marked_load k (c.index_mut-bucket.result.now.total - c.release_run-ahead.new.self.total)) (own g at.After-unwrap) in
-    let ranges = c.self.ranges in
     omega arith
 
 pub overflow_cast-descriptors : goal.overflow_cast-descriptors
@@ -113,8 +111,6 @@ overflow_cast-descriptors g c =
     let at = goal.at.overflow_cast-descriptors g c in
     let fits = load_fits (run_taken g at.After-release_run-ahead (there g at.After-index_mut-bucket (entry g at.After-unwrap) (own g at.After-unwrap))) (opened c.self.invariant) in
     let same = ap (λ (k : Key). marked_load k (c.index_mut-bucket.result.now.total - c.release_run-ahead.new.self.total)) (own g at.After-unwrap) in
-    let ranges = c.self.ranges in
-    let is = c.descriptors_of_sets-descriptors.ensures in
     omega arith
 
 pub overflow_sub-self-2 : goal.overflow_sub-self-2
@@ -122,7 +118,6 @@ overflow_sub-self-2 g c =
     let at = goal.at.overflow_sub-self-2 g c in
     let fits = load_fits (run_taken g at.After-release_run-ahead (there g at.After-index_mut-bucket (entry g at.After-unwrap) (own g at.After-unwrap))) (opened c.self.invariant) in
     let same = ap (λ (k : Key). marked_load k (c.index_mut-bucket.result.now.total - c.release_run-ahead.new.self.total)) (own g at.After-unwrap) in
-    let is = c.descriptors_of_sets-descriptors.ensures in
     omega arith
 
 pub invariant_of-self-inside : goal.invariant_of-self-inside
@@ -181,5 +176,4 @@ returns-clause-few g c =
     c.index_mut-bucket.result.now r.at in
     let same = ap binary_digits open_ones in
     let count = ap (λ (a : Allocations _). a.comparisons) c.self.view_is in
-    let few = c.release_run-ahead.ensures.few in
     omega arith

@@ -23,17 +23,12 @@ pub descriptors_of_pool-requires : goal.descriptors_of_pool-requires
 descriptors_of_pool-requires g c =
     let d = (goal.at.descriptors_of_pool-requires g c).After-unwrap-front in
     let all = first_load g d in
-    let was = c.loop-self.invariant.room in
-    let fits = c.requires.room in
     omega arith
 
 pub overflow_add-room : goal.overflow_add-room
 overflow_add-room g c =
     let d = (goal.at.overflow_add-room g c).After-unwrap-front in
     let all = first_load g d in
-    let load = c.descriptors_of_pool.ensures in
-    let was = c.loop-self.invariant.room in
-    let fits = c.requires.room in
     omega arith
 
 pub destroy_descriptor_pool-requires : goal.destroy_descriptor_pool-requires
@@ -54,8 +49,6 @@ loop-self-preserved g c =
       room = (
           let all = first_load g d in
           let rest = ap (stored_load (key_of c.args.key.now)) c.pop_front.ensures.rest in
-          let load = c.descriptors_of_pool.ensures in
-          let was = c.loop-self.invariant.room in
           omega arith);
     }
 

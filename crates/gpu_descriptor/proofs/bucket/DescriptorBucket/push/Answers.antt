@@ -19,13 +19,11 @@ invariant_of-self g c =
       | inr none ↦ c.list_last.ensures.stays (le-ltb 0 c.args.pool.available none) ∙ listed_push_closed first items c.args.self.now.listed.items c.args.self.now.«open» c.args.pool none
     ] in
     record {
-      numbered = (let fits = c.requires.numbers in omega arith);
+      numbered = (omega arith);
       counted = (
           let all = ap (sum_by (λ (p : DescriptorPool g.row.P.Denot). p.allocated)) is ∙ sum_by-append (λ (p : DescriptorPool g.row.P.Denot). p.allocated) items (c.args.pool ∷ []) in
           let one : sum_by (λ (p : DescriptorPool g.row.P.Denot). p.allocated) (c.args.pool ∷ []) ≡ c.args.pool.allocated = omega arith in
-          let before = c.args.self.now.counted in
-          let more = c.from.ensures in
           omega arith);
       «open» = listed ∙ ap (λ ps. open_numbers first (free_in ps)) (sym is);
-      room = (let fits = c.requires.room_listed in let same = c.list_last.ensures.capacity in omega arith);
+      room = (omega arith);
     }

@@ -22,11 +22,7 @@ first_taken : (g : _) (c : Start g) → IsTakenAt c.args.first.key.is c.args.fir
 first_taken g c = c.requires.taken [] c.args.sets.now refl tt
 
 within : (g : _) (c : Start g) → c.args.first.number - c.args.self.now.offset < length c.args.self.now.pools.items
-within g c =
-    let items = c.args.self.now.pools.items in
-    let at = is_within c.args.first.key.is c.args.first.number (g.D.DescriptorDevice.meaning.set_name c.args.first.raw ∷ []) (bucket_of g.D.DescriptorDevice.meaning.pool_name c.args.self.now) (g.D.DescriptorDevice.ledger c.args.device.now).pools (first_taken g c) in
-    let long = length-map items (entry_of g.D.DescriptorDevice.meaning.pool_name) in
-    omega arith
+within g c = is_within g.D.DescriptorDevice.meaning.pool_name c.args.first.key.is c.args.first.number (g.D.DescriptorDevice.meaning.set_name c.args.first.raw ∷ []) c.args.self.now.id c.args.self.now.offset c.args.self.now.pools.items (g.D.DescriptorDevice.ledger c.args.device.now).pools (first_taken g c)
 
 pub overflow_sub-place : goal.overflow_sub-place
 overflow_sub-place g c = (let t = first_taken g (goal.at.overflow_sub-place g c).Start in (entry_at-found (bucket_of g.D.DescriptorDevice.meaning.pool_name c.args.self.now) c.args.first.number t.entry t.at).0)
@@ -44,11 +40,7 @@ room g c = place_room c.args.first.key.is (bucket_of g.D.DescriptorDevice.meanin
 
 -- the place is within
 here : (g : _) (c : After-index_mut-pool g) → c.args.first.number - c.args.self.now.offset < length c.args.self.now.pools.items
-here g c =
-    let items = c.args.self.now.pools.items in
-    let at = is_within c.args.first.key.is c.args.first.number (g.D.DescriptorDevice.meaning.set_name c.args.first.raw ∷ []) (bucket_of g.D.DescriptorDevice.meaning.pool_name c.args.self.now) (g.D.DescriptorDevice.ledger c.args.device.now).pools (c.requires.taken [] c.args.sets.now refl tt) in
-    let long = length-map items (entry_of g.D.DescriptorDevice.meaning.pool_name) in
-    omega arith
+here g c = is_within g.D.DescriptorDevice.meaning.pool_name c.args.first.key.is c.args.first.number (g.D.DescriptorDevice.meaning.set_name c.args.first.raw ∷ []) c.args.self.now.id c.args.self.now.offset c.args.self.now.pools.items (g.D.DescriptorDevice.ledger c.args.device.now).pools (c.requires.taken [] c.args.sets.now refl tt)
 
 -- the pool at the place
 read : (g : _) (c : After-index_mut-pool g) → slice_get c.args.self.now.pools.items (c.args.first.number - c.args.self.now.offset) ≡ Some c.index_mut-pool.result.now
@@ -74,7 +66,6 @@ module _ (g : _) (c : After-finish-count g) where
     counted =
         let t = c.dealloc_descriptor_sets.ensures.released in
         let d = done g.I.Iterator.next_gives g.I.Iterator.can_next g.I.Iterator.remaining g.D.DescriptorDevice.meaning.set_name _ c.args.first (bucket_of g.D.DescriptorDevice.meaning.pool_name c.args.self.now) (g.D.DescriptorDevice.ledger c.args.device.now).pools e c.dealloc_descriptor_sets.new.sets t.items t.gone refl refl refl refl c.requires.stored at c.requires.taken t.drained taken in
-        let fits = d.fits in
         let count = d.count in
         let long = d.long in
         let is = c.finish-count.ensures.count in
@@ -113,9 +104,6 @@ overflow_sub-self g c =
     let r = (goal.at.overflow_sub-self g c).After-index_mut-pool in
     let fits = (counted g (goal.at.overflow_sub-self g c).After-finish-count (at g r)).0 in
     let less = total_less c.args.self.now.pools.items (c.args.first.number - c.args.self.now.offset) c.index_mut-pool.result.now c.dealloc_descriptor_sets.new.pool c.finish-count.result (here g r) c.index_mut-pool.ensures.value (omega arith) in
-    let few = less.0 in
-    let total = c.args.self.now.counted in
-    let from = c.from.ensures in
     omega arith
 
 pub drop_front-requires-clause-stored : goal.drop_front-requires-clause-stored
@@ -149,7 +137,7 @@ invariant_of-self g c =
       numbered = simp length-set numbered;
       counted = omega arith;
       «open» = listed_again c.args.self.now.offset c.args.self.now.pools.items c.args.self.now.listed.items c.args.self.now.«open» (c.args.first.number - c.args.self.now.offset) c.index_mut-pool.result.now new (read g r) c.args.first.number named some c.enter_new.new.listed.items c.enter_new.ensures.entered c.enter_new.ensures.stays;
-      room = (let room = c.args.self.now.room in let more = c.enter_new.ensures.capacity in let long = length-set c.args.self.now.pools.items (c.args.first.number - c.args.self.now.offset) new in omega arith);
+      room = (let long = length-set c.args.self.now.pools.items (c.args.first.number - c.args.self.now.offset) new in omega arith);
     }
 
 pub enter_new-requires-clause-rising : goal.enter_new-requires-clause-rising
@@ -159,7 +147,6 @@ pub enter_new-requires-clause-room : goal.enter_new-requires-clause-room
 enter_new-requires-clause-room g c = λ full.
     let r = (goal.at.enter_new-requires-clause-room g c).After-index_mut-pool in
     let fewer = fewer_listed c.args.self.now.offset c.args.self.now.pools.items c.args.self.now.listed.items c.args.self.now.«open» (c.args.first.number - c.args.self.now.offset) c.index_mut-pool.result.now c.index_mut-pool.result.now (read g r) (eqb-true _ _ full) in
-    let room = c.args.self.now.room in
     omega arith
 
 pub returns-clause-ran : goal.returns-clause-ran
@@ -187,7 +174,7 @@ returns-clause-ran g c =
         ledger = c.drop_front.ensures.ledger ∙ ap (λ (x : List Entry). trimmed_ledger 1 (bucket c.args.self.now.id c.args.self.now.offset x) (g.D.DescriptorDevice.ledger c.dealloc_descriptor_sets.new.self)) entries
             ∙ ap (λ (l : Ledger). trimmed_ledger 1 (bucket c.args.self.now.id c.args.self.now.offset (set es (place g f) (entry_less (length (names_of g.D.DescriptorDevice.meaning.set_name (c.args.first ∷ d.run.xs))) e))) l) (t.ledger ∙ ap (λ (ls : List LiveSet). after_release e.pool ls (g.D.DescriptorDevice.ledger c.args.device.now)) d.sets);
       },
-      (let total = c.drop_front.ensures.total in let from = c.from.ensures in let few = less.0 in let sum = c.args.self.now.counted in omega arith),
+      (omega arith),
     )
 
 pub returns-clause-goes : goal.returns-clause-goes
@@ -205,19 +192,16 @@ pub drop_front-requires-clause-room : goal.drop_front-requires-clause-room
 drop_front-requires-clause-room g c =
     let r = (goal.at.drop_front-requires-clause-room g c).After-index_mut-pool in
     let same = stored_put (key_of c.args.key.now) c.args.self.now.pools.items (c.args.first.number - c.args.self.now.offset) c.index_mut-pool.result.now c.dealloc_descriptor_sets.new.pool (c.index_mut-pool.result.now.allocated - c.finish-count.result) (c.index_mut-pool.result.now.available + c.finish-count.result) (here g r) c.index_mut-pool.ensures.value in
-    let fits = c.requires.room in
     omega arith
 
 pub returns-clause-room : goal.returns-clause-room
 returns-clause-room g c =
     let r = (goal.at.returns-clause-room g c).After-index_mut-pool in
     let same = stored_put (key_of c.args.key.now) c.args.self.now.pools.items (c.args.first.number - c.args.self.now.offset) c.index_mut-pool.result.now c.dealloc_descriptor_sets.new.pool (c.index_mut-pool.result.now.allocated - c.finish-count.result) (c.index_mut-pool.result.now.available + c.finish-count.result) (here g r) c.index_mut-pool.ensures.value in
-    let room = c.drop_front.ensures.room in
     omega arith
 
 pub returns-clause-few : goal.returns-clause-few
 returns-clause-few g c =
     let many = ap length c.args.self.now.«open» ∙ listed_count g.D.DescriptorDevice.meaning.pool_name c.args.self.now.offset c.args.self.now.pools.items in
     let same = ap binary_digits many in
-    let few = c.enter_new.ensures.few in
     omega arith
