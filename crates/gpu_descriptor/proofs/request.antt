@@ -15,6 +15,7 @@ pub mod Requested
 pub mod Rollback
 pub mod Shares
 pub mod StateAgrees
-pub mod StepsAgree
+pub mod TakenAgrees
+pub mod TakenPlaces
 pub mod WalkStep
 pub mod Walking

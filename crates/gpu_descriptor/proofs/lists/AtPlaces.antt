@@ -1,5 +1,5 @@
 -- What stands at the places of a list.
-use Rattle.gpu_descriptor.proofs.Common.{◌≡◌, ◌≢◌, ℕ, zero, suc, ◌<◌, inl, inr, List, [], ◌∷◌, ◌++◌, length, take, slice_set, Bool, true, false, Some, None, refl, sym, ap, ◌∙◌, arith, drop, ◌+◌, cases_Bool, or_cases, or_left, or_right, slice_get, list_any, ◌⊎◌, get_or_from_slice_get, slice_get_within, length-take-le, set-get_or}
+use Rattle.gpu_descriptor.proofs.Common.{◌≡◌, ◌≢◌, ℕ, zero, suc, ◌<◌, inl, inr, List, [], ◌∷◌, ◌++◌, length, take, slice_set, Bool, true, false, Some, None, refl, sym, ap, ◌∙◌, arith, drop, ◌+◌, cases_Bool, or_cases, or_from, or_left, or_right, slice_get, list_any, ◌⊎◌, get_or_from_slice_get, slice_get_within, length-take-le, set-get_or}
 use Rattle.std.proofs.Math.Seq.{take-suc}
 
 -- ---- tests
@@ -23,6 +23,10 @@ none_at p xs i x none at = elim (cases_Bool (p x)) [
   | inr off ↦ off
   | inl hit ↦ absurd (let bad : true ≡ false = sym (any_here p xs i x at hit) ∙ none in cc)
 ]
+
+pub none_from : {A : Type 0} (p : A → Bool) (xs : List A) → ((i : ℕ) (x : A) → slice_get xs i ≡ Some x → p x ≡ false) → list_any p xs ≡ false
+none_from p [] each = refl
+none_from p (x ∷ xs) each = or_from (p x) (list_any p xs) (each 0 x refl) (none_from p xs (λ i y at. each (suc i) y at))
 
 -- ---- a write, and one more at the end
 

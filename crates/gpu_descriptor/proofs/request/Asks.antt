@@ -1,5 +1,5 @@
 -- What asking one pool does, from what the device did.
-use Rattle.gpu_descriptor.proofs.Common.{◌≡◌, ℕ, zero, suc, ◌+◌, ◌-◌, ◌<◌, min, List, [], length, Bool, true, false, cond, ◌&&◌, Option, Some, None, nat_eq, nat_lt, refl, sym, ap, ◌∙◌, arith, lt-ltb, eqb-true, fun_ext, and_from, Key, Entry, Pool, Ledger, Counters, live_sets, changed, on_pool, after_alloc, after_no_alloc, alloc_refused, pool_refusals, no_rise, LiveSet, DeviceAllocationError}
+use Rattle.gpu_descriptor.proofs.Common.{◌≡◌, ℕ, zero, suc, ◌+◌, ◌-◌, ◌<◌, min, List, [], length, Bool, true, false, cond, ◌&&◌, Option, Some, None, nat_eq, nat_lt, refl, sym, ap, ◌∙◌, arith, lt-ltb, eqb-true, fun_ext, and_from, Key, Entry, Pool, Ledger, Counters, live_sets, changed, on_pool, option_map, after_alloc, after_no_alloc, alloc_refused, pool_refusals, no_rise, LiveSet, DeviceAllocationError}
 use Rattle.gpu_descriptor.specs.Model.Grants.{pool_with}
 use Rattle.gpu_descriptor.specs.Model.Outcomes.{risen}
 use Rattle.gpu_descriptor.specs.Inner.Walk.{IsAsked, IsNoMemory}
@@ -21,6 +21,10 @@ alloc_rise alloc_error.OutOfPoolMemory c = same_counters _ _ (omega arith) (omeg
 pub pool_same : (p : Pool) → pool_with [] false p ≡ p
 pool_same p = λ i. record p { live = fun_ext (λ (x : LiveSet). (let e : p.live x + 0 ≡ p.live x = omega arith in e)) i }
 
+pub none_with : (o : Option Pool) → option_map (pool_with [] false) o ≡ o
+none_with None = refl
+none_with (Some p) = ap (λ (x : Pool). Some x) (pool_same p)
+
 asks_some : (free wanted : ℕ) → 0 < min wanted free → nat_lt 0 free && nat_lt 0 wanted ≡ true
 asks_some free wanted h = and_from _ _ (lt-ltb 0 free (omega arith)) (lt-ltb 0 wanted (omega arith))
 
@@ -36,12 +40,8 @@ asks_none (suc free) (suc wanted) h = absurd (omega arith)
 on_same : (name : ℕ) (pools : ℕ → Option Pool) → pools ≡ on_pool name (pool_with [] false) pools
 on_same name pools = fun_ext (λ q. at (nat_eq name q) q refl)
   where
-    each : (o : Option Pool) → o ≡ changed (pool_with [] false) o
-    each None = refl
-    each (Some p) = ap (λ (x : Pool). Some x) (sym (pool_same p))
-
     at : (b : Bool) (q : ℕ) → nat_eq name q ≡ b → pools q ≡ cond b (changed (pool_with [] false) (pools name)) (pools q)
-    at true q h = ap pools (sym (eqb-true name q h)) ∙ each (pools name)
+    at true q h = ap pools (sym (eqb-true name q h)) ∙ sym (none_with (pools name))
     at false q h = refl
 
 pub skipped : (k : Key) (wanted : ℕ) (e : Entry) (l : Ledger) → min wanted e.free ≡ 0 → IsAsked k wanted [] e e l l

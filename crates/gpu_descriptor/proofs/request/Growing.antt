@@ -1,5 +1,5 @@
 -- The new pools of a request, as far as it has come.
-use Rattle.gpu_descriptor.proofs.Common.{◌≡◌, ◌≢◌, ℕ, zero, suc, take, drop, ◌+◌, ◌-◌, ◌<◌, inl, inr, List, [], ◌∷◌, ◌++◌, length, map, Bool, true, false, cond, ◌||◌, ◌==◌, nat_eq, Option, Some, None, Ok, Err, refl, sym, ap, ◌∙◌, subst, arith, eqb-true, eq-eqb, append_assoc, length-append, fun_ext, cases_Bool, eqb-false, map-append, append-nil, length-map, sum_by-cons, sum_by-append, list_any, update, if◌then◌else◌, option_map, Item, flags_of, Key, Entry, Bucket, Pool, Ledger, live_sets, changed, no_rise, pool_counts, Stop}
+use Rattle.gpu_descriptor.proofs.Common.{◌≡◌, ◌≢◌, ℕ, zero, suc, take, drop, ◌+◌, ◌-◌, ◌<◌, inl, inr, List, [], ◌∷◌, ◌++◌, length, map, Bool, true, false, cond, ◌||◌, ◌==◌, nat_eq, Option, Some, None, Ok, Err, refl, sym, ap, ◌∙◌, subst, arith, eqb-true, eq-eqb, append_assoc, length-append, fun_ext, ne_eqb, nil_from_length, eqb-false, map-append, append-nil, length-map, sum_by-cons, sum_by-append, list_any, update, if◌then◌else◌, option_map, Item, flags_of, Key, Entry, Bucket, next_number, Pool, Ledger, live_sets, changed, no_rise, pool_counts, Stop}
 use Rattle.std.proofs.lemmas.Grind.{flat_map-append}
 use Rattle.std.proofs.lemmas.List.Folds.{list_any-append}
 use Rattle.std.proofs.lemmas.Map.{update_here}
@@ -12,15 +12,16 @@ use Rattle.gpu_descriptor.specs.Model.Load.{allocated_in, pool_load, pools_load}
 use Rattle.gpu_descriptor.specs.Model.Outcomes.{risen, grant_rise, NoneIsNew, StopsAt}
 use Rattle.gpu_descriptor.specs.Model.Shares.{offer, rest, share, shared, all_shared, Portion, portions_of}
 use Rattle.gpu_descriptor.specs.Inner.Buckets.{AreBookedIn}
-use Rattle.gpu_descriptor.specs.Inner.Walk.{HasTaken, KeepsKey, IsWalked}
+use Rattle.gpu_descriptor.specs.Inner.Walk.{HasTaken, IsWalked}
 use Rattle.gpu_descriptor_types.specs.Ledger as ledgers
 use Rattle.gpu_descriptor.specs.Model.FreshPools as grants
 use Rattle.gpu_descriptor.proofs.request.NextSize.{room_more}
+use Rattle.gpu_descriptor.proofs.request.Promises.{length_items, shares_sum, sum_given}
 use Rattle.gpu_descriptor.proofs.table.Exact.{bucket}
-use Rattle.gpu_descriptor.proofs.request.StepsAgree.{keeps_grown}
 use Rattle.gpu_descriptor.proofs.request.Asks.{same_counters}
 use Rattle.gpu_descriptor.proofs.request.Shares.{IsApart, apart_from, not_refused}
 use Rattle.gpu_descriptor.proofs.request.WalkStep.{part, came_more}
+use Rattle.gpu_descriptor.proofs.request.TakenPlaces.{came_long, fresh_or_past, given_at, no_fresh, no_share}
 
 abbrev pub all_so_far : ℕ → (ℕ → Bool) → List Fresh → List Part → Grant
 all_so_far id refused fresh parts = record { id = id; left = 0; refused = refused; fresh = fresh; parts = parts }
@@ -72,41 +73,6 @@ fresh_or_more : (k : Key) (q : ℕ) (fs : List Fresh) (f : Fresh) (o : Option Po
 fresh_or_more k q [] f o = refl
 fresh_or_more k q (h ∷ fs) f o = ap (λ (x : Option Pool). if h.pool == q then Some (ledgers.fresh (pool_counts k.counts h.size) h.size (flags_of k)) else x) (fresh_or_more k q fs f o)
 
-fresh_or_past : (k : Key) (q : ℕ) (fs : List Fresh) (o : Option Pool) → list_any (λ h. h.pool == q) fs ≡ false → fresh_or k fs q o ≡ o
-fresh_or_past k q [] o none = refl
-fresh_or_past k q (h ∷ fs) o none = by_test (h.pool == q) (fresh_or_past k q fs o) none
-  where
-    by_test : (b : Bool) → (list_any (λ h. h.pool == q) fs ≡ false → fresh_or k fs q o ≡ o) → b || list_any (λ h. h.pool == q) fs ≡ false → (if b then Some (ledgers.fresh (pool_counts k.counts h.size) h.size (flags_of k)) else fresh_or k fs q o) ≡ o
-    by_test true ih none = absurd (cc)
-    by_test false ih none = ih none
-
-came_none : (q : ℕ) (parts : List Part) → list_any (λ (r : Portion). r.pool == q) (map portion_of parts) ≡ false → came parts q ≡ []
-came_none q [] none = refl
-came_none q (p ∷ parts) none = by_test (p.pool == q) (came_none q parts) none
-  where
-    by_test : (b : Bool) → (list_any (λ (r : Portion). r.pool == q) (map portion_of parts) ≡ false → came parts q ≡ []) → b || list_any (λ (r : Portion). r.pool == q) (map portion_of parts) ≡ false → (if b then p.names else []) ++ came parts q ≡ []
-    by_test true ih none = absurd (cc)
-    by_test false ih none = ih none
-
-ne_test : (a b : ℕ) → a ≢ b → (a == b) ≡ false
-ne_test a b ne = elim (cases_Bool (a == b)) [ inl on ↦ absurd (ne (eqb-true a b on)) | inr off ↦ off ]
-
-rows_apart : (refused : ℕ → Bool) (n q number : ℕ) (es : List Entry) → IsApart q es → list_any (λ (r : Portion). r.pool == q) (portions_of refused n number es) ≡ false
-rows_apart refused n q number [] h = refl
-rows_apart refused n q number (e ∷ newer) h =
-    let a = list_any-append (λ (r : Portion). r.pool == q) (portions_of refused n (number + 1) newer) (record { number = number; pool = e.pool; given = share refused n newer e } ∷ []) in
-    let b = rows_apart refused n q (number + 1) newer h.1 in
-    let d = ne_test e.pool q h.0 in
-    a ∙ ap (λ x. x || ((e.pool == q) || false)) b ∙ ap (λ (x : Bool). x || false) d
-
-fresh_rows_apart : (q number : ℕ) (fs : List Fresh) → list_any (λ h. h.pool == q) fs ≡ false → list_any (λ (r : Portion). r.pool == q) (fresh_portions number fs) ≡ false
-fresh_rows_apart q number [] none = refl
-fresh_rows_apart q number (h ∷ fs) none = by_test (h.pool == q) (fresh_rows_apart q (number + 1) fs) none
-  where
-    by_test : (b : Bool) → (list_any (λ h. h.pool == q) fs ≡ false → list_any (λ (r : Portion). r.pool == q) (fresh_portions (number + 1) fs) ≡ false) → b || list_any (λ h. h.pool == q) fs ≡ false → b || list_any (λ (r : Portion). r.pool == q) (fresh_portions (number + 1) fs) ≡ false
-    by_test true ih none = absurd (cc)
-    by_test false ih none = ih none
-
 fresh_rows_more : (number : ℕ) (fs : List Fresh) (f : Fresh) → fresh_portions number (fs ++ f ∷ []) ≡ fresh_portions number fs ++ record { number = number + length fs; pool = f.pool; given = f.given } ∷ []
 fresh_rows_more number [] f = (let e : number ≡ number + 0 = omega arith in λ i. record { number = e i; pool = f.pool; given = f.given } ∷ [])
 fresh_rows_more number (h ∷ fs) f =
@@ -119,7 +85,7 @@ new_more pools (h ∷ fs) f new none at = by_test (h.pool == f.pool) refl none (
   where
     by_test : (b : Bool) → (h.pool == f.pool) ≡ b → b || list_any (λ x. x.pool == f.pool) fs ≡ false → (list_any (λ x. x.pool == f.pool) fs ≡ false → pools f.pool ≡ None → AreNew pools (fs ++ f ∷ [])) → AreNew pools (h ∷ fs ++ f ∷ [])
     by_test true same none ih = absurd (cc)
-    by_test false other none ih = (new.0, list_any-append (λ x. x.pool == h.pool) fs (f ∷ []) ∙ ap (λ (x : Bool). x || ((f.pool == h.pool) || false)) new.1 ∙ ap (λ (x : Bool). x || false) (ne_test f.pool h.pool (λ e. eqb-false h.pool f.pool other (sym e))), ih none at)
+    by_test false other none ih = (new.0, list_any-append (λ x. x.pool == h.pool) fs (f ∷ []) ∙ ap (λ (x : Bool). x || ((f.pool == h.pool) || false)) new.1 ∙ ap (λ (x : Bool). x || false) (ne_eqb f.pool h.pool (λ e. eqb-false h.pool f.pool other (sym e))), ih none at)
 
 given_more : (fs : List Fresh) (f : Fresh) → given_by (fs ++ f ∷ []) ≡ given_by fs + f.given
 given_more fs f = sum_by-append (λ (f : Fresh). f.given) fs (f ∷ []) ∙ (let one : given_by (f ∷ []) ≡ f.given = omega arith in omega arith)
@@ -164,11 +130,11 @@ module _ (k : Key) (start n id first room left total wanting : ℕ) (items : Lis
   not_yet = not_refused s.refused n q old apart s.taken.grant.refusing
 
   none_came : came s.parts q ≡ []
-  none_came = came_none q s.parts
-      (ap (list_any (λ (r : Portion). r.pool == q)) s.taken.grant.parts
-      ∙ list_any-append (λ (r : Portion). r.pool == q) (portions_of s.refused n (first + 0) old) (fresh_portions (first + length old) s.fresh)
-      ∙ ap (λ x. x || list_any (λ (r : Portion). r.pool == q) (fresh_portions (first + length old) s.fresh)) (rows_apart s.refused n q (first + 0) old apart)
-      ∙ fresh_rows_apart q (first + length old) s.fresh none_before.0)
+  none_came =
+      let many = came_long q s.parts ∙ ap (given_at q) s.taken.grant.parts ∙ sum_by-append _ (portions_of s.refused n (first + 0) old) (fresh_portions (first + length old) s.fresh) in
+      let old_none = no_share s.refused n q (first + 0) old apart in
+      let fresh_none = no_fresh q (first + length old) s.fresh none_before.0 in
+      nil_from_length (came s.parts q) (omega arith)
 
   many : length more ≡ f.given
   many = a.many
@@ -225,7 +191,6 @@ module _ (k : Key) (start n id first room left total wanting : ℕ) (items : Lis
   grow_more total' wanting' some totals' less =
       let all = given_more s.fresh f in
       let g = a.given in
-      let number : first + length new ≡ first + length old + length s.fresh = (let long = grown_long k start n id first room total wanting items old new l m s in omega arith) in
       record {
         refused = s.refused;
         parts = parts_now;
@@ -239,7 +204,6 @@ module _ (k : Key) (start n id first room left total wanting : ℕ) (items : Lis
         taken = record {
           grant = record { id = λ some. refl; refusing = s.taken.grant.refusing; parts = rows_now; new = new_more l.pools s.fresh f s.taken.grant.new none_before.0 none_before.1 };
           came = flat_map-append (λ (p : Part). items_at k id p.number p.names) s.parts (part_now ∷ []) ∙ ap (λ x. items_in k id s.parts ++ x) (append-nil (items_at k id (first + length old + length s.fresh) more)) ∙ ap (λ x. x ++ items_at k id (first + length old + length s.fresh) more) s.taken.came;
-          keeps = subst (λ (n : ℕ). KeepsKey k (items ++ items_at k id n more) (bucket id first old) (bucket id first new') l.pools m'.pools) number (keeps_grown k id first room left total wanting items old new new' l.pools more m m' s.taken.keeps a);
           bucket = ap (bucket id first) entries_now;
           pools = pools_now;
           counters = counters_now;
@@ -323,3 +287,23 @@ load_walked k n g old new l m items taken none =
     let shares : List Entry = take g.left old.pools ++ all_shared g.refused n (drop g.left old.pools) in
     let all : new.pools ≡ shares ++ [] = ap (λ (b : Bucket). b.pools) taken.bucket ∙ ap (λ fs. shares ++ map fresh_entry fs) none in
     ap (pools_load k) (all ∙ append-nil shares) ∙ load_split k g.refused n g.left old.pools
+
+-- and as many more are allocated as came
+allocated_split : (refused : ℕ → Bool) (n number i : ℕ) (es : List Entry) → allocated_in (take i es ++ all_shared refused n (drop i es)) ≡ allocated_in es + sum_given (portions_of refused n number (drop i es))
+allocated_split refused n number zero es = (let a = allocated_shared refused n es in let b = shares_sum refused n number es in omega arith)
+allocated_split refused n number (suc i) [] = refl
+allocated_split refused n number (suc i) (e ∷ es) =
+    let a = sum_by-cons (λ (x : Entry). x.allocated) e (take i es ++ all_shared refused n (drop i es)) in
+    let b = sum_by-cons (λ (x : Entry). x.allocated) e es in
+    let ih = allocated_split refused n number i es in
+    omega arith
+
+pub allocated_walked : (k : Key) (n : ℕ) (g : Grant) (old new : Bucket) (l m : Ledger) (items : List Item) → HasTaken k n g items old new l m → g.fresh ≡ [] → allocated_in new.pools ≡ allocated_in old.pools + length items
+allocated_walked k n g old new l m items taken none =
+    let shares : List Entry = take g.left old.pools ++ all_shared g.refused n (drop g.left old.pools) in
+    let rows : List Portion = portions_of g.refused n (old.first + g.left) (drop g.left old.pools) in
+    let all : new.pools ≡ shares ++ [] = ap (λ (b : Bucket). b.pools) taken.bucket ∙ ap (λ fs. shares ++ map fresh_entry fs) none in
+    let came : map portion_of g.parts ≡ rows ++ [] = taken.grant.parts ∙ ap (λ fs. rows ++ fresh_portions (next_number old) fs) none in
+    let long = ap length (sym taken.came) ∙ length_items k g.id g.parts ∙ ap sum_given (came ∙ append-nil rows) in
+    let same = ap allocated_in (all ∙ append-nil shares) ∙ allocated_split g.refused n (old.first + g.left) g.left old.pools in
+    omega arith

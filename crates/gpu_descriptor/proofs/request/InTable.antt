@@ -43,7 +43,7 @@ grant_new : {n id : ℕ} {ledger : ℕ → Option Pool} {g : Grant} → IsGrantO
 grant_new h = record { id = λ some. absurd (omega arith); refusing = h.refusing; parts = h.parts; new = h.new }
 
 taken_new : {k : Key} {n id : ℕ} {g : Grant} {items : List Item} {b : Bucket} {l m : Ledger} → HasTaken k n g items (record no_pools { id = id }) b l m → HasTaken k n g items no_pools b l m
-taken_new t = record { grant = grant_new t.grant; came = t.came; keeps = record { booked = t.keeps.booked; longer = t.keeps.longer; named = t.keeps.named; others = t.keeps.others; of_key = t.keeps.of_key; out = t.keeps.out; more = t.keeps.more }; bucket = t.bucket; pools = t.pools; counters = t.counters }
+taken_new t = record { grant = grant_new t.grant; came = t.came; bucket = t.bucket; pools = t.pools; counters = t.counters }
 
 served_new : {L P S : Type 0} {means : Meaning L P S} {k : Key} {room count id : ℕ} {sets : List (DescriptorSet S)} {ended : Result (Unit {0}) Stop} {b : Bucket} {before after : Ledger} → IsServed means k room count sets ended (record no_pools { id = id }) b before after → IsServed means k room count sets ended no_pools b before after
 served_new {ended = Ok done} s = record { numbers = s.numbers; few = s.few; taken = (s.taken.0, taken_new s.taken.1, s.taken.2, s.taken.3) }

@@ -152,12 +152,12 @@ module _ {P : Type 0} {name : P → ℕ} {k : Key} {n id first wanting : ℕ} {o
           let was : slice_get old i ≡ Some (entry_of name p) = sym (next_was k n id first i wanting out old (map (entry_of name) items) l m booked walk_reaches (let a = inside in let b = s.long in omega arith)) ∙ entry_at_place in
           next_booked k n id first i wanting out old (map (entry_of name) items) l m booked walk_reaches (entry_of name p) was
 
-pub open_walk_start : {P : Type 0} (name : P → ℕ) (k : Key) (n id first : ℕ) (items : List (DescriptorPool P)) (numbers : List ℕ) (l : Ledger) → AreBookedIn k l.pools (map (entry_of name) items) → numbers ≡ open_numbers first (free_in items) → OpenWalk name k n id first n [] (map (entry_of name) items) items numbers l l
-open_walk_start name k n id first items numbers l booked listed = record {
+pub open_walk_start : {P : Type 0} (name : P → ℕ) (k : Key) (n id first : ℕ) (items : List (DescriptorPool P)) (numbers : List ℕ) (l : Ledger) → numbers ≡ open_numbers first (free_in items) → OpenWalk name k n id first n [] (map (entry_of name) items) items numbers l l
+open_walk_start name k n id first items numbers l listed = record {
   long = sym (length-map items (entry_of name));
   listed = listed;
   left = length (map (entry_of name) items);
   within = omega arith;
   closed = λ j e le at. (let a = slice_get_within (map (entry_of name) items) j e at in absurd (omega arith));
-  walking = walk_start k n id first (map (entry_of name) items) l booked;
+  walking = walk_start k n id first (map (entry_of name) items) l;
 }

@@ -20,10 +20,10 @@ use Rattle.gpu_descriptor.specs.Model.Shares.{Portion, offer, rest, portions_of}
 
 -- ---- how many sets
 
-abbrev sum_given : List Portion → ℕ
+abbrev pub sum_given : List Portion → ℕ
 sum_given ps = sum_by (λ p. p.given) ps
 
-length_items : (k : Key) (id : ℕ) (parts : List Part) → length (items_in k id parts) ≡ sum_given (map portion_of parts)
+pub length_items : (k : Key) (id : ℕ) (parts : List Part) → length (items_in k id parts) ≡ sum_given (map portion_of parts)
 length_items k id [] = refl
 length_items k id (p ∷ parts) =
     let a = length-append (items_at k id p.number p.names) (items_in k id parts) in
@@ -32,7 +32,7 @@ length_items k id (p ∷ parts) =
     let more = length_items k id parts in
     omega arith
 
-shares_sum : (refused : ℕ → Bool) (n number : ℕ) (pools : List Entry) → sum_given (portions_of refused n number pools) + rest refused n pools ≡ n
+pub shares_sum : (refused : ℕ → Bool) (n number : ℕ) (pools : List Entry) → sum_given (portions_of refused n number pools) + rest refused n pools ≡ n
 shares_sum refused n number [] = omega arith
 shares_sum refused n number (e ∷ newer) =
     let last : Portion = record { number = number; pool = e.pool; given = min (offer refused e) (rest refused n newer) } in

@@ -5,7 +5,7 @@ use Rattle.std.proofs.Math.Seq.{set-append_seam}
 use Rattle.gpu_descriptor.specs.Model.Grants.{Grant, Part, items_in, portion_of, came, pool_with, ledger_with}
 use Rattle.gpu_descriptor.specs.Model.Outcomes.{risen, grant_rise}
 use Rattle.gpu_descriptor.specs.Model.Shares.{offer, rest, is_asked, share, shared, all_shared, asked_count, refused_count, OnlyAskedRefuse, portions_of}
-use Rattle.gpu_descriptor.specs.Inner.Walk.{IsAsked, HasTaken, KeepsKey}
+use Rattle.gpu_descriptor.specs.Inner.Walk.{IsAsked, HasTaken}
 use Rattle.gpu_descriptor.proofs.request.Asks.{same_counters, same_entry}
 use Rattle.gpu_descriptor.proofs.table.Exact.{bucket}
 use Rattle.gpu_descriptor.proofs.request.Shares.{IsApart, or_at, or_at_apart, or_at_here, sum_same, rest_same, all_same, is_asked_same, count_same, refused_same, rows_same, asks_same}
@@ -140,11 +140,10 @@ module _ (id n first i : ℕ) (refused : ℕ → Bool) (parts : List Part) (old 
   pools_now before was = a.pools ∙ ap (on_pool e.pool (pool_with (live_sets k.counts names) a.refused)) was ∙ ledger_more k refused parts a.refused (first + i) e.pool names before.pools id (suc i) i not_yet
 
   pub taken_more : (before : Ledger) (entries : List Entry) (items given : List Item) → length (take i old) ≡ i → take (suc i) old ≡ take i old ++ e ∷ [] → HasTaken k n (so_far id (suc i) refused parts) items (bucket id first old) (bucket id first entries) before l
-      → items_in k id (parts ++ part_now ∷ []) ≡ given → KeepsKey k given (bucket id first old) (bucket id first (slice_set entries i f)) before.pools m.pools → HasTaken k n (so_far id i now (parts ++ part_now ∷ [])) given (bucket id first old) (bucket id first (slice_set entries i f)) before m
-  taken_more before entries items given long more was came keeps = record {
+      → items_in k id (parts ++ part_now ∷ []) ≡ given → HasTaken k n (so_far id i now (parts ++ part_now ∷ [])) given (bucket id first old) (bucket id first (slice_set entries i f)) before m
+  taken_more before entries items given long more was came = record {
     grant = record { id = λ some. refl; refusing = subst (λ (es : List Entry). OnlyAskedRefuse now n es) (sym tail) (refusing_now was.grant.refusing); parts = parts_now was.grant.parts; new = tt };
     came = came;
-    keeps = keeps;
     bucket = ap (bucket id first) (ap (λ (b : Bucket). slice_set b.pools i f) was.bucket ∙ entries_now long more);
     pools = pools_now before was.pools;
     counters = counters_now before.counters was.counters;

@@ -12,8 +12,7 @@ use Rattle.gpu_descriptor.specs.Inner.Grow.{IsTaken}
 use Rattle.gpu_descriptor.specs.declared.bucket.take.Stop.TheVariants.{Existing}
 use Rattle.std.proofs.Math.Seq.{take-length}
 use Rattle.gpu_descriptor.proofs.table.Exact.{bucket}
-use Rattle.gpu_descriptor.proofs.request.StepsAgree.{keeps_start, keeps_asked}
-use Rattle.gpu_descriptor.proofs.request.Asks.{pool_same, same_counters, skipped}
+use Rattle.gpu_descriptor.proofs.request.Asks.{none_with, same_counters, skipped}
 use Rattle.gpu_descriptor.proofs.request.Shares.{IsApart, apart_from, not_refused, or_at}
 use Rattle.gpu_descriptor.proofs.request.WalkStep.{part, so_far, taken_more, rest_now}
 use Rattle.gpu_descriptor.proofs.lists.AtPlaces.{drop_at, get_drop, long_take, set_same, split_at, take_get}
@@ -55,8 +54,7 @@ module _ (k : Key) (n id first i wanting : ℕ) (items : List Item) (old new : L
         parts = s.parts ++ part (first + i) e.pool more ∷ [];
         wants = (let r = rest_now id n first i s.refused s.parts old e f more k m m' (apart e at) tail not_yet a in let w = s.wants in omega arith);
         taken = taken_more id n first i s.refused s.parts old e f more k m m' (apart e at) tail not_yet a l new items (items ++ items_at k id (first + i) more) (long_take old i e at) (take_get old i e at) s.taken
-            (flat_map-append (λ (p : Part). items_at k id p.number p.names) s.parts (part (first + i) e.pool more ∷ []) ∙ ap (λ x. items_in k id s.parts ++ x) (append-nil (items_at k id (first + i) more)) ∙ ap (λ x. x ++ items_at k id (first + i) more) s.taken.came)
-            (keeps_asked k id first i wanting items old new l.pools more e f m m' s.taken.keeps (next_was (slice_get_within old i e at) ∙ at) asked);
+            (flat_map-append (λ (p : Part). items_at k id p.number p.names) s.parts (part (first + i) e.pool more ∷ []) ∙ ap (λ x. items_in k id s.parts ++ x) (append-nil (items_at k id (first + i) more)) ∙ ap (λ x. x ++ items_at k id (first + i) more) s.taken.came);
         untouched = λ j d lt there.
             let ne : d.pool ≢ e.pool = λ same. (let place = booked.distinct j i d e there at same in absurd (omega arith)) in
             ap (λ (f : ℕ → Option Pool). f d.pool) asked.pools
@@ -65,14 +63,10 @@ module _ (k : Key) (n id first i wanting : ℕ) (items : List Item) (old new : L
       }
 
 ledger_none : (k : Key) (id left : ℕ) (pools : ℕ → Option Pool) → pools ≡ ledger_with k (so_far id left (λ _. false) []) pools
-ledger_none k id left pools = fun_ext (λ q. each (pools q))
-  where
-    each : (o : Option Pool) → o ≡ option_map (pool_with [] false) o
-    each None = refl
-    each (Some p) = ap (λ (x : Pool). Some x) (sym (pool_same p))
+ledger_none k id left pools = fun_ext (λ q. sym (none_with (pools q)))
 
-pub walk_start : (k : Key) (n id first : ℕ) (old : List Entry) (l : Ledger) → AreBookedIn k l.pools old → Walking k n id first (length old) n [] old old l l
-walk_start k n id first old l booked =
+pub walk_start : (k : Key) (n id first : ℕ) (old : List Entry) (l : Ledger) → Walking k n id first (length old) n [] old old l l
+walk_start k n id first old l =
     let none : drop (length old) old ≡ [] = drop_all (length old) old (omega arith) in
     let none_refuse : ℕ → Bool = λ _. false in
     record {
@@ -82,7 +76,6 @@ walk_start k n id first old l booked =
       taken = record {
         grant = record { id = λ some. refl; refusing = λ name h. absurd (cc); parts = ap (λ es. portions_of none_refuse n (first + length old) es ++ []) (sym none); new = tt };
         came = refl;
-        keeps = keeps_start k id first old l.pools booked;
         bucket = ap (bucket id first) (sym (ap (λ es. take (length old) old ++ all_shared none_refuse n es ++ []) none ∙ append-nil (take (length old) old ++ []) ∙ append-nil (take (length old) old) ∙ take-length old));
         pools = ledger_none k id (length old) l.pools;
         counters =

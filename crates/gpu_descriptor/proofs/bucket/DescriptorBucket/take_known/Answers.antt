@@ -10,6 +10,7 @@ use Rattle.gpu_descriptor.specs.Inner.OpenNumbers.{free_in, open_numbers}
 use Rattle.gpu_descriptor.specs.Inner.OpenPools.{bucket_in}
 use Rattle.gpu_descriptor.specs.Inner.Stored.{bucket_of, entry_of}
 use Rattle.gpu_descriptor.specs.Inner.Walk.{IsWalked}
+use Rattle.gpu_descriptor.proofs.request.Growing.{allocated_walked}
 use Rattle.gpu_descriptor.proofs.table.Exact.{bucket}
 use Rattle.gpu_descriptor.proofs.sums.StoredPools.{allocated_entries}
 use Rattle.gpu_descriptor.proofs.bucket.DescriptorBucket.take_known.Goals.{After-walk-walked}
@@ -64,8 +65,8 @@ module _ {S : Type 0} (name : S → ℕ) (was now : List (DescriptorSet S)) (emp
         → IfOk r (λ w. (put : List (DescriptorSet S)) × (now ≡ was ++ put) × (has + n ≡ had + w) × (length put + w ≡ n) × IsWalked k n w (items_of name put) old new l m)
         → IfErr r (λ e. (put : List (DescriptorSet S)) × (now ≡ was ++ put) × IsTaken (Err (Existing e)) k 0 n (items_of name put) old new l m)
         → allocated_in new.pools ≡ allocated_in old.pools + length now
-    more (Ok w) walked stopped = walked.4.taken.keeps.more ∙ ap (λ j. allocated_in old.pools + j) (long walked.0 walked.1)
-    more (Err e) walked stopped = stopped.2.2.keeps.more ∙ ap (λ j. allocated_in old.pools + j) (long stopped.0 stopped.1)
+    more (Ok w) walked stopped = allocated_walked k n walked.4.grant old new l m _ walked.4.taken walked.4.no_fresh ∙ ap (λ j. allocated_in old.pools + j) (long walked.0 walked.1)
+    more (Err e) walked stopped = allocated_walked k n stopped.2.0 old new l _ _ stopped.2.2 stopped.2.3.no_fresh ∙ ap (λ j. allocated_in old.pools + j) (long stopped.0 stopped.1)
 
 pub invariant_of-self-clause-counted : goal.invariant_of-self-clause-counted
 invariant_of-self-clause-counted g c =
