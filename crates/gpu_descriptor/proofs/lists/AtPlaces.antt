@@ -1,6 +1,10 @@
 -- What stands at the places of a list.
-use Rattle.gpu_descriptor.proofs.Common.{◌≡◌, ◌≢◌, ℕ, zero, suc, ◌<◌, inl, inr, List, [], ◌∷◌, ◌++◌, length, take, slice_set, Bool, true, false, Some, None, refl, sym, ap, ◌∙◌, arith, drop, ◌+◌, cases_Bool, or_cases, or_from, or_left, or_right, slice_get, list_any, ◌⊎◌, get_or_from_slice_get, slice_get_within, length-take-le, set-get_or}
+use Rattle.gpu_descriptor.proofs.Common.{◌≡◌, ◌≢◌, ℕ, zero, suc, ◌<◌, inl, inr, List, [], ◌∷◌, ◌++◌, length, take, slice_set, Bool, true, false, Option, Some, None, refl, sym, ap, ◌∙◌, arith, drop, ◌+◌, cases_Bool, or_cases, or_from, or_left, or_right, slice_get, list_any, ◌⊎◌, get_or_from_slice_get, slice_get_within, length-take-le, set-get_or}
 use Rattle.std.proofs.Math.Seq.{take-suc}
+
+pub cases_option : {A : Type 0} (o : Option A) → (o ≡ None) ⊎ ((x : A) × (o ≡ Some x))
+cases_option None = inl refl
+cases_option (Some x) = inr (x, refl)
 
 -- ---- tests
 

@@ -18,13 +18,21 @@ counts_of_live counts (n ∷ names) x some =
       | inr other ↦ (let skip = count_by_no (λ z. set_eq z x) y (live_sets counts names) other in counts_of_live counts names x (omega arith))
     ]
 
+-- an entry gave so many sets, and it may have refused
+pub record Became (given : ℕ) (refused : Bool) (e f : Entry) : Type 0 where
+  pub pool : f.pool ≡ e.pool
+  pub capacity : f.capacity ≡ e.capacity
+  pub allocated : f.allocated ≡ e.allocated + given
+  pub room : f.allocated + f.free ≤ e.allocated + e.free
+  pub whole : refused ≡ false → f.allocated + f.free ≡ e.allocated + e.free
+
 -- the pool once sets of the key came out of it, and it may have refused
-pub pool_booked : (k : Key) (pool : Pool) (e f : Entry) (names : List ℕ) (refused : Bool) → IsAsBooked k pool e → f.capacity ≡ e.capacity → f.allocated ≡ e.allocated + length names → f.allocated + f.free ≤ e.allocated + e.free → (refused ≡ false → f.allocated + f.free ≡ e.allocated + e.free) → IsAsBooked k (pool_with (live_sets k.counts names) refused pool) f
-pool_booked k pool e f names refused b same more room whole = record {
+pub pool_booked : (k : Key) (pool : Pool) (e f : Entry) (names : List ℕ) (refused : Bool) → IsAsBooked k pool e → Became (length names) refused e f → IsAsBooked k (pool_with (live_sets k.counts names) refused pool) f
+pool_booked k pool e f names refused b became = record {
   flags = b.flags;
   at_least = b.at_least;
   small = b.small;
-  capacity = same ∙ b.capacity;
+  capacity = became.capacity ∙ b.capacity;
   counts = b.counts;
   sets = λ x some. elim (cases_lt 0 (pool.live x)) [
     | inl was ↦ b.sets x was
@@ -32,16 +40,15 @@ pool_booked k pool e f names refused b same more room whole = record {
   ];
   allocated = ∥∥₁_map b.allocated (λ size. (
     size.0 ++ live_sets k.counts names,
-    (let a = length-append size.0 (live_sets k.counts names) in let n = length-map names (λ (n : ℕ). let s : LiveSet = record { name = n; counts = k.counts } in s) in let was = size.1 in omega arith),
+    (let a = length-append size.0 (live_sets k.counts names) in let n = length-map names (λ (n : ℕ). let s : LiveSet = record { name = n; counts = k.counts } in s) in let was = size.1 in let more = became.allocated in omega arith),
     (λ x. times-append size.0 (live_sets k.counts names) x ∙ ap (λ n. n + times (live_sets k.counts names) x) (size.2 x)),
   ));
-  room = (let r = b.room in omega arith);
-  full = by_test refused whole;
+  room = (let r = b.room in let more = became.room in omega arith);
+  full = λ none. elim (cases_Bool refused) [
+    | inl on ↦ absurd (let some : (if refused then pool.refusals + 1 else pool.refusals) ≡ pool.refusals + 1 = rw on refl in omega arith)
+    | inr off ↦ became.whole off ∙ b.full (let same : (if refused then pool.refusals + 1 else pool.refusals) ≡ pool.refusals = rw off refl in omega arith)
+  ];
 }
-  where
-    by_test : (r : Bool) → (r ≡ false → f.allocated + f.free ≡ e.allocated + e.free) → (if r then pool.refusals + 1 else pool.refusals) ≡ 0 → f.allocated + f.free ≡ pool.capacity
-    by_test true w none = absurd (omega arith)
-    by_test false w none = w refl ∙ b.full none
 
 -- ---- what is live in the pool with a number
 

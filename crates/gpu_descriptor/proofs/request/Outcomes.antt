@@ -19,7 +19,7 @@ use Rattle.gpu_descriptor.specs.Model.Runs.{runs}
 use Rattle.gpu_descriptor.specs.Caller.Sets.{item_of, items_of}
 use Rattle.gpu_descriptor.specs.Caller.States.{Agrees, state_of, table_of, keys_of, outstanding_of, marked_load_of, pool_load_of}
 use Rattle.gpu_descriptor.specs.Inner.Walk.{HasTaken}
-use Rattle.gpu_descriptor.proofs.request.TakenAgrees.{granted_agree, granted_foreign, granted_loses_none, granted_others, granted_outstanding, of_items}
+use Rattle.gpu_descriptor.proofs.request.TakenAgrees.{granted_agree, granted_foreign, granted_loses_none, granted_others, granted_outstanding, granted_own}
 use Rattle.gpu_descriptor.proofs.request.TakenPlaces.{AreMade, made_all, made_front}
 use Rattle.gpu_descriptor.specs.declared.bucket.take.Stop.TheVariants as stop
 use Rattle.gpu_descriptor.proofs.foreign.ForeignPools.{freed_foreign, freed_loses, foreign_through, loses_through}
@@ -90,7 +90,7 @@ module _ {L P S : Type 0} {means : Meaning L P S} {k : Key} {count : ℕ} {sets 
   taken_given u = (let e = taken_out u in omega arith)
 
   pub taken_own : AreOfKey k items
-  taken_own = subst (AreOfKey k) had.came (λ u some. (of_items k had.g.id had.g.parts u some).0)
+  taken_own = subst (AreOfKey k) had.came (granted_own k count had.g s agree had.grant had.made)
 
   pub taken_others : KeepsOtherKeys k s (state_of means.pool_name new after)
   taken_others = subst (KeepsOtherKeys k s) as_granted (granted_others k count had.g s agree had.grant had.made)

@@ -1,7 +1,7 @@
 -- What a request takes keeps books and ledger in agreement, and exactly its sets are outstanding besides.
 use Rattle.gpu_descriptor.proofs.Common.{◌≡◌, ◌≢◌, ℕ, zero, suc, take, drop, ◌+◌, ◌-◌, ◌<◌, ◌≤◌, ◌⊎◌, inl, inr, List, [], ◌∷◌, ◌++◌, length, map, Bool, true, false, ◌==◌, Option, Some, None, refl, sym, ap, ◌∙◌, subst, arith, cases_Bool, cases_lt, eq-eqb, ne_eqb, eqb-true, or_parts, or_from, nil_from_length, length-append, length-map, All, All-append, All-nil, All-cons, sum_by-append, slice_get, slice_get_within, slice_get_past, list_any, option_map, option_map_or, if◌then◌else◌, flags_of, Key, key_eq, Entry, Bucket, Pool, State, Item, LiveSet, live_sets, times, Agree, IsAsBooked, AreOutstanding, entry_at, next_number, live_at, live_in, set_of, count_of, outstanding, pool_counts, item_eq, count_by-append, map-append, times-append, append_assoc, le-ltb, eqb-false, slice_get-map, slice_get-get_or, get_or_from_slice_get, get_or}
 use Rattle.std.proofs.lemmas.List.{get_or-append-add}
-use Rattle.gpu_descriptor.proofs.lists.AtPlaces.{get_drop, none_from}
+use Rattle.gpu_descriptor.proofs.lists.AtPlaces.{cases_option, get_drop, none_from}
 use Rattle.gpu_descriptor_types.specs.Ledger as ledgers
 use Rattle.gpu_descriptor.specs.Inner.Buckets.{IsBookedIn}
 use Rattle.gpu_descriptor.specs.Model.FreshPools.{Fresh, fresh_entry, fresh_portions}
@@ -9,13 +9,13 @@ use Rattle.gpu_descriptor.specs.Model.Grants.{Grant, Part, IsGrantOf, items_in, 
 use Rattle.gpu_descriptor.specs.Model.Shares.{Portion, all_shared, portions_of}
 use Rattle.gpu_descriptor.proofs.table.Exact.{key_exact}
 use Rattle.gpu_descriptor.proofs.release.Fronts.{entry_at-found, entry_at-from}
-use Rattle.gpu_descriptor.proofs.request.KeyAgrees.{pool_booked, count_append, count_of_items, count_elsewhere, place_of_items}
+use Rattle.gpu_descriptor.proofs.request.KeyAgrees.{Became, pool_booked, count_append, count_of_items, count_elsewhere, place_of_items}
 use Rattle.gpu_descriptor.proofs.request.Asks.{none_with}
 use Rattle.gpu_descriptor.proofs.request.Shares.{IsApart, apart_from, not_refused}
 use Rattle.gpu_descriptor.proofs.request.StateAgrees.{at_place, booked_of}
 use Rattle.gpu_descriptor.specs.Model.Foreign.{KeepsForeign, LosesNone}
 use Rattle.gpu_descriptor.specs.Model.Promises.{KeepsOtherKeys}
-use Rattle.gpu_descriptor.proofs.request.TakenPlaces.{AreMade, Became, apart_drop, came_long, fresh_or_past, given_at, new_apart, new_stands, no_fresh, no_share, not_new, taken_named, taken_stands}
+use Rattle.gpu_descriptor.proofs.request.TakenPlaces.{AreMade, apart_drop, came_long, fresh_or_past, given_at, new_apart, new_stands, no_fresh, no_share, not_new, taken_named, taken_stands}
 
 -- ---- the sets that came
 
@@ -31,35 +31,21 @@ placed_append : (b : Bucket) (rows more : List Portion) → ArePlaced b rows →
 placed_append b [] more first last = last
 placed_append b (r ∷ rows) more first last = (first.0, placed_append b rows more first.1 last)
 
-placed_shares : (b : Bucket) (refused : ℕ → Bool) (n number : ℕ) (es : List Entry) → ((j : ℕ) (e : Entry) → slice_get es j ≡ Some e → IsPlaced b (number + j) e.pool) → ArePlaced b (portions_of refused n number es)
+placed_shares : (b : Bucket) (refused : ℕ → Bool) (n number : ℕ) (es : List Entry) → ((j m : ℕ) (e : Entry) → m ≡ number + j → slice_get es j ≡ Some e → IsPlaced b m e.pool) → ArePlaced b (portions_of refused n number es)
 placed_shares b refused n number [] each = tt
-placed_shares b refused n number (e ∷ newer) each =
-    let later : (j : ℕ) (d : Entry) → slice_get newer j ≡ Some d → IsPlaced b (number + 1 + j) d.pool = λ j d at. subst (λ (m : ℕ). IsPlaced b m d.pool) (let m : number + suc j ≡ number + 1 + j = omega arith in m) (each (suc j) d at) in
-    placed_append b (portions_of refused n (number + 1) newer) _ (placed_shares b refused n (number + 1) newer later) (subst (λ (m : ℕ). IsPlaced b m e.pool) (let m : number + 0 ≡ number = omega arith in m) (each 0 e refl), tt)
+placed_shares b refused n number (e ∷ newer) each = placed_append b (portions_of refused n (number + 1) newer) _ (placed_shares b refused n (number + 1) newer (λ j m d is at. each (suc j) m d (omega arith) at)) (each 0 number e (omega arith) refl, tt)
 
-placed_fresh : (b : Bucket) (number : ℕ) (fs : List Fresh) → ((j : ℕ) (f : Fresh) → slice_get fs j ≡ Some f → IsPlaced b (number + j) f.pool) → ArePlaced b (fresh_portions number fs)
+placed_fresh : (b : Bucket) (number : ℕ) (fs : List Fresh) → ((j m : ℕ) (f : Fresh) → m ≡ number + j → slice_get fs j ≡ Some f → IsPlaced b m f.pool) → ArePlaced b (fresh_portions number fs)
 placed_fresh b number [] each = tt
-placed_fresh b number (f ∷ fs) each = (
-  subst (λ (m : ℕ). IsPlaced b m f.pool) (let m : number + 0 ≡ number = omega arith in m) (each 0 f refl),
-  placed_fresh b (number + 1) fs (λ j h at. subst (λ (m : ℕ). IsPlaced b m h.pool) (let m : number + suc j ≡ number + 1 + j = omega arith in m) (each (suc j) h at)),
-)
+placed_fresh b number (f ∷ fs) each = (each 0 number f (omega arith) refl, placed_fresh b (number + 1) fs (λ j m h is at. each (suc j) m h (omega arith) at))
 
--- they have the key and its id
-pub of_items : (k : Key) (id : ℕ) (parts : List Part) (u : Item) → 0 < count_of u (items_in k id parts) → (u.key ≡ k) × (u.id ≡ id)
-of_items k id [] u some = absurd (omega arith)
-of_items k id (p ∷ parts) u some = elim (cases_lt 0 (count_of u (items_at k id p.number p.names))) [
-  | inl here ↦ (let is = place_of_items k id p.number p.names u here in (is.0, is.2))
-  | inr none ↦ (let both = count_append u (items_at k id p.number p.names) (items_in k id parts) in of_items k id parts u (omega arith))
+-- a set that came has the key, its id, and the number of a pool
+of_items : (k : Key) (id : ℕ) (b : Bucket) (parts : List Part) → ArePlaced b (map portion_of parts) → (u : Item) → 0 < count_of u (items_in k id parts) → (u.key ≡ k) × (u.id ≡ id) × (d : Entry) × (entry_at b u.number ≡ Some d)
+of_items k id b [] placed u some = absurd (omega arith)
+of_items k id b (p ∷ parts) placed u some = elim (cases_lt 0 (count_of u (items_at k id p.number p.names))) [
+  | inl here ↦ (let is = place_of_items k id p.number p.names u here in (is.0, is.2, placed.0.0, ap (entry_at b) is.1 ∙ placed.0.1))
+  | inr none ↦ (let both = count_append u (items_at k id p.number p.names) (items_in k id parts) in of_items k id b parts placed.1 u (omega arith))
 ]
-
--- where no pool has the number no set has it
-none_came : (k : Key) (id : ℕ) (b : Bucket) (u : Item) → entry_at b u.number ≡ None → (parts : List Part) → ArePlaced b (map portion_of parts) → count_of u (items_in k id parts) ≡ 0
-none_came k id b u gone [] placed = refl
-none_came k id b u gone (p ∷ parts) placed =
-    let both = count_append u (items_at k id p.number p.names) (items_in k id parts) in
-    let none = count_elsewhere k id p.number p.names u (λ same. (let bad : ◌≡◌ {A = Option Entry} None (Some placed.0.0) = sym gone ∙ ap (entry_at b) same ∙ placed.0.1 in absurd (cc))) in
-    let rest = none_came k id b u gone parts placed.1 in
-    omega arith
 
 -- a set came as often as its name came from the pool that has its number
 all_came : (k : Key) (id : ℕ) (b : Bucket) → ((i j : ℕ) (d e : Entry) → entry_at b i ≡ Some d → entry_at b j ≡ Some e → d.pool ≡ e.pool → i ≡ j) → (u : Item) (f : Entry) → entry_at b u.number ≡ Some f → u.key ≡ k → u.id ≡ id → (parts : List Part) → ArePlaced b (map portion_of parts)
@@ -78,6 +64,9 @@ all_came k id b apart u f at key own (p ∷ parts) placed =
           let sets : times (live_sets k.counts (came (p ∷ parts) f.pool)) (set_of u) ≡ times (live_sets k.counts (came parts f.pool)) (set_of u) = rw off refl in
           omega arith)
     ]
+
+no_choice : (c d : Bool) → ◌≡◌ {A = ℕ} (if c then 0 else 0) (if d then 0 else 0)
+no_choice c d = grind arith
 
 -- as many pools as before, and the new ones
 length_taken : (refused : ℕ → Bool) (n left : ℕ) (es : List Entry) → length (take left es ++ all_shared refused n (drop left es)) ≡ length es
@@ -111,21 +100,18 @@ module _ (k : Key) (n : ℕ) (g : Grant) (s : State) (agree : Agree s) (grant : 
   abbrev rest : List Portion
   rest = fresh_portions (next_number b) g.fresh
 
-  own : t.books k ≡ new
-  own = rw (key_exact.self k) refl
+  abbrev items : List Item
+  items = items_in k g.id g.parts
 
-  other : (l : Key) → key_eq k l ≡ false → t.books l ≡ s.books l
-  other l ne = rw ne refl
+  no_item : (u : Item) → ((0 < count_of u items) → ⊥) → count_of u items ≡ 0
+  no_item u never = elim (cases_lt 0 (count_of u items)) [ inl some ↦ absurd (never some) | inr none ↦ (omega arith) ]
 
   came_is : (q : ℕ) → length (came g.parts q) ≡ given_at q shares + given_at q rest
   came_is q = came_long q g.parts ∙ ap (given_at q) grant.parts ∙ sum_by-append _ shares rest
 
   -- a live pool is no new one
-  was_live : (q : ℕ) (pool : Pool) → s.ledger q ≡ Some pool → after q ≡ Some (pool_with (sets q) (g.refused q) pool)
-  was_live q pool live = ap (option_map (pool_with (sets q) (g.refused q))) (fresh_or_past k q g.fresh (s.ledger q) (not_new s.ledger q pool g.fresh grant.new live) ∙ live)
-
-  live_then : (q : ℕ) (pool : Pool) (x : LiveSet) → after q ≡ Some pool → live_in after q x ≡ pool.live x
-  live_then q pool x is = rw is refl
+  was_live : (q : ℕ) (pool : Pool) → s.ledger q ≡ Some pool → fresh_or k g.fresh q (s.ledger q) ≡ Some pool
+  was_live q pool live = fresh_or_past k q g.fresh (s.ledger q) (not_new s.ledger q pool g.fresh grant.new live) ∙ live
 
   -- a pool that is neither the key's nor new stays
   untouched : (q : ℕ) → IsApart q b.pools → list_any (λ f. f.pool == q) g.fresh ≡ false → after q ≡ s.ledger q
@@ -137,61 +123,49 @@ module _ (k : Key) (n : ℕ) (g : Grant) (s : State) (agree : Agree s) (grant : 
       let still : g.refused q ≡ false = not_refused g.refused n q (drop g.left b.pools) (apart_drop q g.left b.pools apart) grant.refusing in
       rw (nothing, still, fresh_or_past k q g.fresh (s.ledger q) none) (none_with (s.ledger q))
 
-  -- what stands at a place of the key
+  -- an old pool of a key, or a new one, stands at a number
+  abbrev WasAt : Key → ℕ → Entry → Type 0
+  WasAt l m f = (e : Entry) × (entry_at (s.books l) m ≡ Some e) × (f.pool ≡ e.pool)
+
+  abbrev IsFresh : ℕ → Entry → Type 0
+  IsFresh m f = (s.ledger f.pool ≡ None) × (j : ℕ) × (x : Fresh) × (m ≡ next_number b + j) × (slice_get g.fresh j ≡ Some x) × (x.pool ≡ f.pool)
+
   record Stands (m : ℕ) (f : Entry) : Type 0 where
-    origin : ((e : Entry) × (entry_at b m ≡ Some e) × (f.pool ≡ e.pool)) ⊎ ((s.ledger f.pool ≡ None) × (j : ℕ) × (x : Fresh) × (m ≡ next_number b + j) × (slice_get g.fresh j ≡ Some x) × (x.pool ≡ f.pool))
+    origin : WasAt k m f ⊎ IsFresh m f
     booked : IsBookedIn k after f
     live : (x : LiveSet) → live_in after f.pool x ≡ option_map_or (λ e. live_in s.ledger e.pool x) (entry_at b m) 0 + times (sets f.pool) x
 
-  old_stands : (m : ℕ) (e f : Entry) → entry_at b m ≡ Some e → IsBookedIn k s.ledger e → Became (length (came g.parts e.pool)) (g.refused e.pool) e f → Stands m f
-  old_stands m e f at was became =
-      let now = ap after became.pool ∙ was_live e.pool was.pool was.is_live in
+  -- whichever it is, what it gave came out of it
+  stands_so : (m : ℕ) (e f : Entry) (pool : Pool) → WasAt k m f ⊎ IsFresh m f → fresh_or k g.fresh e.pool (s.ledger e.pool) ≡ Some pool → IsAsBooked k pool e → Became (length (came g.parts e.pool)) (g.refused e.pool) e f → ((x : LiveSet) → option_map_or (λ e. live_in s.ledger e.pool x) (entry_at b m) 0 ≡ pool.live x) → Stands m f
+  stands_so m e f pool origin there was became had =
+      let now : after f.pool ≡ Some (pool_with (sets e.pool) (g.refused e.pool) pool) = ap after became.pool ∙ ap (option_map (pool_with (sets e.pool) (g.refused e.pool))) there in
       record {
-        origin = inl (e, at, became.pool);
-        booked = record { pool = pool_with (sets e.pool) (g.refused e.pool) was.pool; is_live = now; booked = pool_booked k was.pool e f (came g.parts e.pool) (g.refused e.pool) was.booked became.capacity became.allocated became.room became.whole };
+        origin = origin;
+        booked = record { pool = pool_with (sets e.pool) (g.refused e.pool) pool; is_live = now; booked = pool_booked k pool e f (came g.parts e.pool) (g.refused e.pool) was became };
         live = λ x. (
-            let is = live_then f.pool (pool_with (sets e.pool) (g.refused e.pool) was.pool) x now in
-            let had : option_map_or (λ (d : Entry). live_in s.ledger d.pool x) (entry_at b m) 0 ≡ was.pool.live x = rw (at, was.is_live) refl in
+            let is : live_in after f.pool x ≡ pool.live x + times (sets e.pool) x = rw now refl in
             let same = ap (λ (q : ℕ). times (sets q) x) became.pool in
+            let before = had x in
             omega arith);
       }
 
-  new_stands_at : (m j : ℕ) (f : Entry) → m ≡ next_number b + j → slice_get (map fresh_entry g.fresh) j ≡ Some f → Stands m f
-  new_stands_at m j f place at =
+  fresh_stands : (m j : ℕ) (f : Entry) → m ≡ next_number b + j → slice_get (map fresh_entry g.fresh) j ≡ Some f → Stands m f
+  fresh_stands m j f place at =
       let x = new_stands k s.ledger (next_number b) g.fresh grant.new made j f at in
       let q : ℕ = x.fresh.pool in
-      let pool : f.pool ≡ q = ap (λ (e : Entry). e.pool) x.is in
+      let size : ℕ = x.fresh.size in
       let apart : IsApart q b.pools = apart_from q b.pools (λ i e there same. (let was = (booked_of s k agree).each i e there in let bad : ◌≡◌ {A = Option Pool} None (Some was.pool) = sym x.none ∙ ap s.ledger (sym same) ∙ was.is_live in absurd (cc))) in
       let many = came_is q in
       let none = no_share g.refused n q (b.first + g.left) (drop g.left b.pools) (apart_drop q g.left b.pools apart) in
-      let size : ℕ = x.fresh.size in
       let given = x.given in
       let fits = x.made in
-      let created : Pool = ledgers.fresh (pool_counts k.counts size) size (flags_of k) in
       let empty : Entry = record { pool = q; capacity = size; allocated = 0; free = size } in
-      let base : IsAsBooked k created empty = record {
-        flags = refl;
-        at_least = fits.0;
-        small = fits.1;
-        capacity = refl;
-        counts = refl;
-        sets = λ y some. absurd (omega arith);
-        allocated = ∣ ([], refl, λ y. refl) ∣₁;
-        room = omega arith;
-        full = λ never. (let e : 0 + size ≡ size = omega arith in e);
-      } in
       let allocated : f.allocated ≡ x.fresh.given = ap (λ (e : Entry). e.allocated) x.is in
       let free : f.free ≡ size - x.fresh.given = ap (λ (e : Entry). e.free) x.is in
-      let now : after f.pool ≡ Some (pool_with (sets q) (g.refused q) created) = ap after pool ∙ ap (option_map (pool_with (sets q) (g.refused q))) (x.there (s.ledger q)) in
-      record {
-        origin = inr (ap s.ledger pool ∙ x.none, j, x.fresh, place, x.at, sym pool);
-        booked = record { pool = pool_with (sets q) (g.refused q) created; is_live = now; booked = pool_booked k created empty f (came g.parts q) (g.refused q) base (ap (λ (e : Entry). e.capacity) x.is) (omega arith) (omega arith) (λ off. omega arith) };
-        live = λ y. (
-            let is = live_then f.pool (pool_with (sets q) (g.refused q) created) y now in
-            let had : option_map_or (λ (d : Entry). live_in s.ledger d.pool y) (entry_at b m) 0 ≡ 0 = rw (le-ltb m b.first (omega arith), slice_get_past b.pools (m - b.first) (omega arith)) refl in
-            let same = ap (λ (q : ℕ). times (sets q) y) pool in
-            omega arith);
-      }
+      stands_so m empty f (ledgers.fresh (pool_counts k.counts size) size (flags_of k)) (inr (ap (λ (e : Entry). s.ledger e.pool) x.is ∙ x.none, j, x.fresh, place, x.at, ap (λ (e : Entry). e.pool) (sym x.is))) (x.there (s.ledger q))
+      (record { flags = refl; at_least = fits.0; small = fits.1; capacity = refl; counts = refl; sets = λ y some. absurd (omega arith); allocated = ∣ ([], refl, λ y. refl) ∣₁; room = omega arith; full = λ never. (let e : 0 + size ≡ size = omega arith in e) })
+      (record { pool = ap (λ (e : Entry). e.pool) x.is; capacity = ap (λ (e : Entry). e.capacity) x.is; allocated = omega arith; room = omega arith; whole = λ off. omega arith })
+      (λ y. rw (le-ltb m b.first (omega arith), slice_get_past b.pools (m - b.first) (omega arith)) refl)
 
   stands : (m : ℕ) (f : Entry) → entry_at new m ≡ Some f → Stands m f
   stands m f at =
@@ -203,18 +177,13 @@ module _ (k : Key) (n : ℕ) (g : Grant) (s : State) (agree : Agree s) (grant : 
             let many = came_is old.0.pool in
             let none = no_fresh old.0.pool (next_number b) g.fresh (not_new s.ledger old.0.pool was.pool g.fresh grant.new was.is_live) in
             let given : given_at old.0.pool shares ≡ length (came g.parts old.0.pool) = omega arith in
-            old_stands m old.0 f (entry_at-from b m old.0 found.0 old.1) was (subst (λ (i : ℕ). Became i (g.refused old.0.pool) old.0 f) given old.2))
-        | inr fresh ↦ (let above = found.0 in let place = fresh.1 in new_stands_at m fresh.0 f (omega arith) fresh.2)
+            let at = entry_at-from b m old.0 found.0 old.1 in
+            let live = was.is_live in
+            stands_so m old.0 f was.pool (inl (old.0, at, old.2.pool)) (was_live old.0.pool was.pool live) was.booked (subst (λ (i : ℕ). Became i (g.refused old.0.pool) old.0 f) given old.2) (λ x. rw (at, live) refl))
+        | inr fresh ↦ (let above = found.0 in let place = fresh.1 in fresh_stands m fresh.0 f (omega arith) fresh.2)
       ]
 
-  -- whose it was
-  abbrev Had : Key → ℕ → Entry → Type 0
-  Had l m f = (e : Entry) × (entry_at (s.books l) m ≡ Some e) × (f.pool ≡ e.pool)
-
-  abbrev Came : ℕ → Entry → Type 0
-  Came m f = (s.ledger f.pool ≡ None) × (j : ℕ) × (x : Fresh) × (m ≡ next_number b + j) × (slice_get g.fresh j ≡ Some x) × (x.pool ≡ f.pool)
-
-  pub origin : (l : Key) (m : ℕ) (f : Entry) → entry_at (t.books l) m ≡ Some f → Had l m f ⊎ ((k ≡ l) × Came m f)
+  origin : (l : Key) (m : ℕ) (f : Entry) → entry_at (t.books l) m ≡ Some f → WasAt l m f ⊎ ((k ≡ l) × IsFresh m f)
   origin l m f at = elim (cases_Bool (key_eq k l)) [
     | inl is ↦ (
         let same = key_exact.same k l is in
@@ -233,9 +202,9 @@ module _ (k : Key) (n : ℕ) (g : Grant) (s : State) (agree : Agree s) (grant : 
   others_stay l m e apart at =
       let was = agree.booked l m e at in
       untouched e.pool (apart_from e.pool b.pools (λ i d there same. (
-          let both = agree.distinct k l (b.first + i) m d e (at_place b i d there) at same in
-          let bad : true ≡ false = sym (key_exact.self k) ∙ ap (key_eq k) both.0 ∙ apart in
-          absurd (cc)))) (not_new s.ledger e.pool was.0 g.fresh grant.new was.1)
+      let both = agree.distinct k l (b.first + i) m d e (at_place b i d there) at same in
+      let bad : true ≡ false = sym (key_exact.self k) ∙ ap (key_eq k) both.0 ∙ apart in
+      absurd (cc)))) (not_new s.ledger e.pool was.0 g.fresh grant.new was.1)
 
   pub granted_agree : Agree t
   granted_agree = record {
@@ -291,79 +260,71 @@ module _ (k : Key) (n : ℕ) (g : Grant) (s : State) (agree : Agree s) (grant : 
   -- each set came from the pool that has its number
   placed : ArePlaced new (map portion_of g.parts)
   placed = subst (ArePlaced new) (sym grant.parts) (placed_append new shares rest
-      (placed_shares new g.refused n (b.first + g.left) (drop g.left b.pools) (λ j e at. old_at (b.first + g.left + j) e (
-      let m : b.first + (g.left + j) ≡ b.first + g.left + j = omega arith in
-      subst (λ (m : ℕ). entry_at b m ≡ Some e) m (at_place b (g.left + j) e (sym (get_drop b.pools g.left j) ∙ at)))))
-      (placed_fresh new (next_number b) g.fresh (λ j f at. (fresh_entry f, fresh_at j f at, refl))))
+      (placed_shares new g.refused n (b.first + g.left) (drop g.left b.pools) (λ j m e is at. old_at m e (entry_at-from b m e (omega arith) (ap (slice_get b.pools) (let i : m - b.first ≡ g.left + j = omega arith in i) ∙ sym (get_drop b.pools g.left j) ∙ at))))
+      (placed_fresh new (next_number b) g.fresh (λ j m f is at. (fresh_entry f, ap (entry_at new) is ∙ fresh_at j f at, refl))))
+
+  pub granted_own : (u : Item) → 0 < count_of u items → u.key ≡ k
+  granted_own u some = (of_items k g.id new g.parts placed u some).0
+
+  -- what is live at a number of the key's now
+  live_now : (u : Item) → k ≡ u.key → g.id ≡ u.id → live_at after new u ≡ live_at s.ledger b u + count_of u items
+  live_now u key own = elim (cases_option (entry_at new u.number)) [
+    | inl gone ↦ (
+        let was : entry_at b u.number ≡ None = elim (cases_option (entry_at b u.number)) [
+          | inl none ↦ none
+          | inr e ↦ absurd (let kept = old_at u.number e.0 e.1 in let bad : ◌≡◌ {A = Option Entry} None (Some kept.0) = sym gone ∙ kept.1 in cc)
+        ] in
+        let left : live_at after new u ≡ 0 = rw gone refl in
+        let right : live_at s.ledger b u ≡ 0 = rw was refl in
+        let none = no_item u (λ some. (let is = of_items k g.id new g.parts placed u some in let bad : ◌≡◌ {A = Option Entry} None (Some is.2) = sym gone ∙ is.3 in absurd (cc))) in
+        omega arith)
+    | inr f ↦ (
+        let left : live_at after new u ≡ live_in after f.0.pool (set_of u) = rw f.1 refl in
+        let more = (stands u.number f.0 f.1).live (set_of u) in
+        let came = all_came k g.id new (λ i j d e at_d at_e same. (granted_agree.distinct k k i j d e (rw (key_exact.self k) at_d) (rw (key_exact.self k) at_e) same).1) u f.0 f.1 (sym key) (sym own) g.parts placed in
+        omega arith)
+  ]
+
+  -- where the key had pools it had the id
+  live_then : (u : Item) → k ≡ u.key → outstanding s u ≡ (if g.id == u.id then live_at s.ledger b u else 0)
+  live_then u key = ap (λ (l : Key). if (s.books l).id == u.id then live_at s.ledger (s.books l) u else 0) (sym key) ∙ elim (cases_option (entry_at b u.number)) [
+    | inl none ↦ (let zero : live_at s.ledger b u ≡ 0 = rw none refl in rw zero (no_choice (b.id == u.id) (g.id == u.id)))
+    | inr e ↦ ap (λ (i : ℕ). if i == u.id then live_at s.ledger b u else 0) (sym (grant.id (let some = slice_get_within b.pools _ e.0 (entry_at-found b u.number e.0 e.1).1 in omega arith)))
+  ]
 
   -- exactly these sets are outstanding besides
-  pub granted_outstanding : (u : Item) → outstanding t u ≡ outstanding s u + count_of u (items_in k g.id g.parts)
+  pub granted_outstanding : (u : Item) → outstanding t u ≡ outstanding s u + count_of u items
   granted_outstanding u = elim (cases_Bool (key_eq k u.key)) [
-    | inl is ↦ own_out (key_exact.same k u.key is)
+    | inl is ↦ (
+        let key = key_exact.same k u.key is in
+        let now : outstanding t u ≡ (if g.id == u.id then live_at after new u else 0) = rw is refl in
+        let was = live_then u key in
+        elim (cases_Bool (g.id == u.id)) [
+          | inl on ↦ (
+              let left : outstanding t u ≡ live_at after new u = now ∙ rw on refl in
+              let right : outstanding s u ≡ live_at s.ledger b u = was ∙ rw on refl in
+              let more = live_now u key (eqb-true g.id u.id on) in
+              omega arith)
+          | inr off ↦ (
+              let left : outstanding t u ≡ 0 = now ∙ rw off refl in
+              let right : outstanding s u ≡ 0 = was ∙ rw off refl in
+              let none = no_item u (λ some. eqb-false g.id u.id off (sym (of_items k g.id new g.parts placed u some).1)) in
+              omega arith)
+        ])
     | inr apart ↦ (
-        let none : count_of u (items_in k g.id g.parts) ≡ 0 = no_item (λ some. (let bad : true ≡ false = sym (key_exact.self k) ∙ ap (key_eq k) (sym (of_items k g.id g.parts u some).0) ∙ apart in absurd (cc))) in
+        let none = no_item u (λ some. (let bad : true ≡ false = sym (key_exact.self k) ∙ ap (key_eq k) (sym (granted_own u some)) ∙ apart in absurd (cc))) in
         let now : outstanding t u ≡ (if (s.books u.key).id == u.id then live_at after (s.books u.key) u else 0) = rw apart refl in
-        let live : live_at after (s.books u.key) u ≡ live_at s.ledger (s.books u.key) u = by_entry (entry_at (s.books u.key) u.number) refl apart in
+        let live : live_at after (s.books u.key) u ≡ live_at s.ledger (s.books u.key) u = elim (cases_option (entry_at (s.books u.key) u.number)) [
+          | inl gone ↦ rw gone refl
+          | inr e ↦ rw (e.1, others_stay u.key u.number e.0 apart e.1) refl
+        ] in
         let same = ap (λ (i : ℕ). if (s.books u.key).id == u.id then i else 0) live in
         omega arith)
   ]
-    where
-      no_item : ((0 < count_of u (items_in k g.id g.parts)) → ⊥) → count_of u (items_in k g.id g.parts) ≡ 0
-      no_item never = elim (cases_lt 0 (count_of u (items_in k g.id g.parts))) [ inl some ↦ absurd (never some) | inr none ↦ (omega arith) ]
-
-      by_entry : (o : Option Entry) → entry_at (s.books u.key) u.number ≡ o → key_eq k u.key ≡ false → option_map_or (λ e. live_in after e.pool (set_of u)) o 0 ≡ option_map_or (λ e. live_in s.ledger e.pool (set_of u)) o 0
-      by_entry None at apart = refl
-      by_entry (Some e) at apart = rw (others_stay u.key u.number e apart at) refl
-
-      -- what is live at its number now
-      live_now : u.key ≡ k → g.id ≡ u.id → (o : Option Entry) → entry_at new u.number ≡ o → option_map_or (λ e. live_in after e.pool (set_of u)) o 0 ≡ live_at s.ledger b u + count_of u (items_in k g.id g.parts)
-      live_now key own None at =
-          let none = none_came k g.id new u at g.parts placed in
-          let gone : entry_at b u.number ≡ None = was_none (entry_at b u.number) refl at in
-          let had : live_at s.ledger b u ≡ 0 = rw gone refl in
-          omega arith
-        where
-          was_none : (o : Option Entry) → entry_at b u.number ≡ o → entry_at new u.number ≡ None → entry_at b u.number ≡ None
-          was_none None is at = is
-          was_none (Some e) is at = absurd (
-              let kept = old_at u.number e is in
-              let bad : ◌≡◌ {A = Option Entry} None (Some kept.0) = sym at ∙ kept.1 in
-              cc)
-      live_now key own (Some f) at =
-          let x = stands u.number f at in
-          let is = x.live (set_of u) in
-          let came = all_came k g.id new (λ i j d e at_d at_e same. (granted_agree.distinct k k i j d e (rw (key_exact.self k) at_d) (rw (key_exact.self k) at_e) same).1) u f at key (sym own) g.parts placed in
-          omega arith
-
-      -- an id that isn't the key's has no pools
-      same_id : (o : Option Entry) → entry_at b u.number ≡ o → ◌≡◌ {A = ℕ} (if b.id == u.id then option_map_or (λ e. live_in s.ledger e.pool (set_of u)) o 0 else 0) (if g.id == u.id then option_map_or (λ e. live_in s.ledger e.pool (set_of u)) o 0 else 0)
-      same_id None at = elim (cases_Bool (b.id == u.id)) [ inl on ↦ rw on (by_id (g.id == u.id)) | inr off ↦ rw off (by_id (g.id == u.id)) ]
-        where
-          by_id : (c : Bool) → ◌≡◌ {A = ℕ} 0 (if c then 0 else 0)
-          by_id true = refl
-          by_id false = refl
-      same_id (Some e) at = ap (λ (i : ℕ). if i == u.id then live_in s.ledger e.pool (set_of u) else 0) (sym (grant.id (let some = slice_get_within b.pools _ e (entry_at-found b u.number e at).1 in omega arith)))
-
-      own_out : k ≡ u.key → outstanding t u ≡ outstanding s u + count_of u (items_in k g.id g.parts)
-      own_out is =
-          let now : outstanding t u ≡ (if g.id == u.id then live_at after new u else 0) = ap (λ (x : Bucket). if x.id == u.id then live_at after x u else 0) (ap t.books (sym is) ∙ own) in
-          let was : outstanding s u ≡ (if g.id == u.id then live_at s.ledger b u else 0) = ap (λ (l : Key). if (s.books l).id == u.id then live_at s.ledger (s.books l) u else 0) (sym is) ∙ same_id (entry_at b u.number) refl in
-          elim (cases_Bool (g.id == u.id)) [
-            | inl on ↦ (
-                let left : outstanding t u ≡ live_at after new u = now ∙ rw on refl in
-                let right : outstanding s u ≡ live_at s.ledger b u = was ∙ rw on refl in
-                let more = live_now (sym is) (eqb-true g.id u.id on) (entry_at new u.number) refl in
-                omega arith)
-            | inr off ↦ (
-                let left : outstanding t u ≡ 0 = now ∙ rw off refl in
-                let right : outstanding s u ≡ 0 = was ∙ rw off refl in
-                let none = no_item (λ some. eqb-false g.id u.id off (sym (of_items k g.id g.parts u some).1)) in
-                omega arith)
-          ]
 
   -- all other keys are untouched
   pub granted_others : KeepsOtherKeys k s t
-  granted_others l apart = record { books = other l apart; pools = λ m e at. others_stay l m e apart at }
+  granted_others l apart = record { books = rw apart refl; pools = λ m e at. others_stay l m e apart at }
 
   -- the live pools of others stay, and don't come into the books
   pub granted_foreign : KeepsForeign s t

@@ -7,6 +7,7 @@ use Rattle.gpu_descriptor.specs.Model.Shares.{Portion, offer, share, shared, all
 use Rattle.gpu_descriptor.specs.Model.FreshPools.IsFreshList.{none as none_fresh, some as some_fresh}
 use Rattle.gpu_descriptor_types.specs.Ledger as ledgers
 use Rattle.gpu_descriptor.proofs.lists.AtPlaces.{none_at}
+use Rattle.gpu_descriptor.proofs.request.KeyAgrees.{Became}
 use Rattle.gpu_descriptor.proofs.request.NextSize.{next_small}
 use Rattle.gpu_descriptor.proofs.request.Shares.{IsApart, apart_from}
 
@@ -46,14 +47,6 @@ no_fresh q number (f ∷ fs) none =
     omega arith
 
 -- ---- the old pools
-
--- an entry gave so many sets, and it may have refused
-pub record Became (given : ℕ) (refused : Bool) (e f : Entry) : Type 0 where
-  pub pool : f.pool ≡ e.pool
-  pub capacity : f.capacity ≡ e.capacity
-  pub allocated : f.allocated ≡ e.allocated + given
-  pub room : f.allocated + f.free ≤ e.allocated + e.free
-  pub whole : refused ≡ false → f.allocated + f.free ≡ e.allocated + e.free
 
 became_shared : (refused : ℕ → Bool) (n : ℕ) (newer : List Entry) (e : Entry) → Became (share refused n newer e) (refused e.pool) e (shared refused n newer e)
 became_shared refused n newer e = record {
