@@ -12,10 +12,7 @@ pub same_counters : (a b : Counters) → a.created ≡ b.created → a.destroyed
 same_counters a b e1 e2 e3 e4 e5 e6 e7 e8 = λ i. record { created = e1 i; destroyed = e2 i; asked = e3 i; released = e4 i; device_memory = e5 i; host_memory = e6 i; fragmentation = e7 i; pool_refused = e8 i }
 
 pub alloc_rise : (error : DeviceAllocationError) (c : Counters) → alloc_refused error c ≡ risen (alloc_refused error no_rise) c
-alloc_rise alloc_error.OutOfDeviceMemory c = same_counters _ _ (omega arith) (omega arith) (omega arith) (omega arith) (omega arith) (omega arith) (omega arith) (omega arith)
-alloc_rise alloc_error.OutOfHostMemory c = same_counters _ _ (omega arith) (omega arith) (omega arith) (omega arith) (omega arith) (omega arith) (omega arith) (omega arith)
-alloc_rise alloc_error.FragmentedPool c = same_counters _ _ (omega arith) (omega arith) (omega arith) (omega arith) (omega arith) (omega arith) (omega arith) (omega arith)
-alloc_rise alloc_error.OutOfPoolMemory c = same_counters _ _ (omega arith) (omega arith) (omega arith) (omega arith) (omega arith) (omega arith) (omega arith) (omega arith)
+alloc_rise error c = same_counters _ _ (grind arith) (grind arith) (grind arith) (grind arith) (grind arith) (grind arith) (grind arith) (grind arith)
 
 -- a pool that nothing came from and that did not refuse
 pub pool_same : (p : Pool) → pool_with [] false p ≡ p
@@ -33,9 +30,7 @@ and_false true = refl
 and_false false = refl
 
 asks_none : (free wanted : ℕ) → min wanted free ≡ 0 → nat_lt 0 free && nat_lt 0 wanted ≡ false
-asks_none zero wanted h = refl
-asks_none (suc free) zero h = and_false (nat_lt 0 (suc free))
-asks_none (suc free) (suc wanted) h = absurd (omega arith)
+asks_none free wanted h = grind arith
 
 on_same : (name : ℕ) (pools : ℕ → Option Pool) → pools ≡ on_pool name (pool_with [] false) pools
 on_same name pools = fun_ext (λ q. at (nat_eq name q) q refl)
@@ -65,10 +60,7 @@ given k wanted names e l m some many is = record {
 }
 
 refused_counters : (error : DeviceAllocationError) (n : Counters) → pool_refusals error ≡ 1 → alloc_refused error n ≡ risen (record no_rise { asked = 1; pool_refused = 1 }) n
-refused_counters alloc_error.OutOfDeviceMemory n h = absurd (omega arith)
-refused_counters alloc_error.OutOfHostMemory n h = absurd (omega arith)
-refused_counters alloc_error.FragmentedPool n h = same_counters _ _ (omega arith) (omega arith) (omega arith) (omega arith) (omega arith) (omega arith) (omega arith) (omega arith)
-refused_counters alloc_error.OutOfPoolMemory n h = same_counters _ _ (omega arith) (omega arith) (omega arith) (omega arith) (omega arith) (omega arith) (omega arith) (omega arith)
+refused_counters error n h = same_counters _ _ (grind arith) (grind arith) (grind arith) (grind arith) (grind arith) (grind arith) (grind arith) (grind arith)
 
 pub refuses : (k : Key) (wanted : ℕ) (error : DeviceAllocationError) (e : Entry) (l m : Ledger) → 0 < min wanted e.free → pool_refusals error ≡ 1 → m ≡ after_no_alloc e.pool error l → IsAsked k wanted [] e (record e { free = 0 }) l m
 refuses k wanted error e l m some pool_error is = record {

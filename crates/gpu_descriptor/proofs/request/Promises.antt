@@ -193,15 +193,10 @@ done_short c d (some_fresh front last parts short sized le given) some =
 
 -- what an error adds to some of the counters
 alloc_creates : (e : DeviceAllocationError) → (alloc_refused e no_rise).created ≡ 0
-alloc_creates alloc_error.OutOfDeviceMemory = refl
-alloc_creates alloc_error.OutOfHostMemory = refl
-alloc_creates alloc_error.FragmentedPool = refl
-alloc_creates alloc_error.OutOfPoolMemory = refl
+alloc_creates e = grind arith
 
 create_creates : (e : CreatePoolError) → (create_refused e no_rise).created ≡ 0
-create_creates create_error.OutOfDeviceMemory = refl
-create_creates create_error.OutOfHostMemory = refl
-create_creates create_error.Fragmentation = refl
+create_creates e = grind arith
 
 -- there was room where it stopped for another reason
 fits : {why : Stop} {one room : ℕ} → (why ≡ Room) ↔ (room < one) → why ≢ Room → one ≤ room

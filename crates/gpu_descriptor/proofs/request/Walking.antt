@@ -112,17 +112,6 @@ get_at [] i h = absurd (omega arith)
 get_at (x ∷ xs) zero h = (x, refl)
 get_at (x ∷ xs) (suc i) h = get_at xs i (omega arith)
 
--- where none are wanting, the older pools are left as they are
-pub walk_skip : (k : Key) (n id first i : ℕ) (items : List Item) (old new : List Entry) (l m : Ledger) → AreBookedIn k l.pools old → i ≤ length old → Walking k n id first i 0 items old new l m → Walking k n id first 0 0 items old new l m
-walk_skip k n id first zero items old new l m booked here s = s
-walk_skip k n id first (suc i) items old new l m booked here s =
-    let at = get_at old i (omega arith) in
-    let e : Entry = at.0 in
-    let is : slice_get new i ≡ Some e = next_was k n id first i 0 items old new l m booked s (omega arith) ∙ at.1 in
-    let next : Walking k n id first i 0 (items ++ []) old (slice_set new i e) l m = walk_more k n id first i 0 items old new l m booked s e e [] m 0 at.1 (skipped k 0 e m (omega arith)) refl in
-    walk_skip k n id first i items old new l m booked (omega arith)
-    (subst (λ (x : List Entry). Walking k n id first i 0 items old x l m) (set_same new i e is) (subst (λ (x : List Item). Walking k n id first i 0 x old (slice_set new i e) l m) (append-nil items) next))
-
 -- older pools that have nothing, or of which nothing is wanted, are left as they are
 pub walk_gap : (k : Key) (n id first wanting : ℕ) (items : List Item) (old new : List Entry) (l m : Ledger) → AreBookedIn k l.pools old → (gap i left : ℕ) → left ≡ gap + i → left ≤ length old → ((j : ℕ) (e : Entry) → i ≤ j → j < left → slice_get new j ≡ Some e → min wanting e.free ≡ 0) → Walking k n id first left wanting items old new l m → Walking k n id first i wanting items old new l m
 walk_gap k n id first wanting items old new l m booked zero i left is here none s = subst (λ (j : ℕ). Walking k n id first j wanting items old new l m) (let e : left ≡ i = omega arith in e) s
