@@ -12,11 +12,11 @@ use Rattle.gpu_descriptor.proofs.allocator.DescriptorAllocator.request.Goals as 
 
 pub returns-then-is_above_limit-clause-declined : goal.returns-then-is_above_limit-clause-declined
 returns-then-is_above_limit-clause-declined g c =
-    declined_by_limit g.D.DescriptorDevice.meaning c.self.view_is (opened c.self.invariant) (rows_apart _ c.self.view_is g.D.DescriptorDevice.meaning.pool_name (opened c.self.invariant)) _ c.args.key c.requires.some c.is_above_limit.ensures c.if-is_above_limit.true
+    declined_by_limit g.D.DescriptorDevice.meaning c.self.view_is (opened c.self.invariant) _ c.args.key c.requires.some c.is_above_limit.ensures c.if-is_above_limit.true
 
 pub returns-then-is_past_bound-clause-declined : goal.returns-then-is_past_bound-clause-declined
 returns-then-is_past_bound-clause-declined g c =
-    declined_by_bound g.D.DescriptorDevice.meaning c.self.view_is (opened c.self.invariant) (rows_apart _ c.self.view_is g.D.DescriptorDevice.meaning.pool_name (opened c.self.invariant)) _ c.args.key c.requires.some c.is_above_limit.ensures c.if-is_above_limit.false
+    declined_by_bound g.D.DescriptorDevice.meaning c.self.view_is (opened c.self.invariant) _ c.args.key c.requires.some c.is_above_limit.ensures c.if-is_above_limit.false
     c.is_past_bound.ensures c.if-is_past_bound.true
 
 pub serve_key-served-requires-clause-booked : goal.serve_key-served-requires-clause-booked
@@ -33,7 +33,7 @@ serve_key-served-requires-clause-bound g c =
 
 pub returns-in-Err-clause-declined : goal.returns-in-Err-clause-declined
 returns-in-Err-clause-declined g c =
-    declined_unserved g.D.DescriptorDevice.meaning c.self.view_is (opened c.self.invariant) (rows_apart _ c.self.view_is g.D.DescriptorDevice.meaning.pool_name (opened c.self.invariant)) _ c.args.key c.requires.some c.is_above_limit.ensures c.if-is_above_limit.false
+    declined_unserved g.D.DescriptorDevice.meaning c.self.view_is (opened c.self.invariant) _ c.args.key c.requires.some c.is_above_limit.ensures c.if-is_above_limit.false
     c.is_past_bound.ensures c.if-is_past_bound.false (seen_again _ c.self.view_is _ c.in-Err.ensures.entries (ap (λ t. t.count) c.in-Err.ensures.looks_stay)) c.in-Err.ensures.ledger c.in-Err.error c.in-Err.ensures.refused
 
 -- the descriptors of what came keep the limit
