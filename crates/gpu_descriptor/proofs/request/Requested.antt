@@ -7,7 +7,7 @@ use Rattle.gpu_descriptor.specs.Model.Load.{bucket_load, descriptors_out, marked
 use Rattle.gpu_descriptor.specs.Model.Outcomes.{Allocates, Stays, IsWithinLimit}
 use Rattle.gpu_descriptor.specs.Model.Outcomes.Allocates.{limit, bound, start}
 use Rattle.gpu_descriptor.specs.Caller.Call.{call_of}
-use Rattle.gpu_descriptor.specs.Inner.Serves.{IsUnserved, ServesKey, Takes}
+use Rattle.gpu_descriptor.specs.Inner.Serves.{IsUnserved, KeepsLimit, ServesKey, Takes}
 use Rattle.gpu_descriptor.specs.Caller.States.{named_row, state_of, table_of, outstanding_of, marked_load_of, pool_load_of}
 use Rattle.gpu_descriptor.specs.Inner.Stored.{IsConsistent, row_of, stored_keys, books_in}
 use Rattle.gpu_descriptor.proofs.table.TableBooks.{rows_are, distinct_rows}
@@ -61,6 +61,11 @@ module _ {P : Type 0} {a : Allocations P} {most looks compared : ℕ} (es : List
 
   pub pool_load_within : {marked room out : ℕ} → IsConsistent most marked room out es → pool_load_of a ≤ a.limit
   pool_load_within counted = subst (λ (x : Allocations P). pool_load_of x ≤ x.limit) is (pools_within counted)
+
+-- the rows of an allocator and its limit
+module _ {P : Type 0} {a : Allocations P} {most looks compared marked room out : ℕ} {es : List (BucketKey × DescriptorBucket P)} (is : seen most looks compared es ≡ a) (counted : IsConsistent most marked room out es) where
+  pub keeps_limit : (name : P → ℕ) → KeepsLimit name a
+  keeps_limit name = record { rows = rows_apart es is name counted; load = load_within es is counted; pool_load = pool_load_within es is counted }
 
 -- what callers see adds up over the books
 module _ {L P S : Type 0} (means : Meaning L P S) (a : Allocations P) (before : Ledger) (distinct : HasDistinctKeys (table_of means.pool_name a)) where

@@ -9,12 +9,18 @@ use Rattle.gpu_descriptor.specs.declared.errors.AllocationError.{AllocationError
 use Rattle.gpu_descriptor.specs.declared.errors.AllocationError.TheVariants.{OutOfHostMemory, Fragmentation}
 use Rattle.gpu_descriptor.specs.declared.set.DescriptorSet.{DescriptorSet}
 use Rattle.gpu_descriptor.specs.declared.bucket.take.Stop.{Stop}
-use Rattle.gpu_descriptor.specs.Model.Books.{Key, key_eq, Bucket, BucketOf, next_number, sum_over}
+use Rattle.gpu_descriptor.specs.Model.Books.{Key, key_eq, Bucket, BucketOf, HasDistinctKeys, next_number, sum_over}
 use Rattle.gpu_descriptor.specs.Caller.Sets.{items_of}
-use Rattle.gpu_descriptor.specs.Caller.States.{outstanding_of, marked_load_of, pool_load_of}
+use Rattle.gpu_descriptor.specs.Caller.States.{outstanding_of, marked_load_of, pool_load_of, table_of}
 use Rattle.gpu_descriptor.specs.Caller.Values.{Allocations}
 use Rattle.gpu_descriptor.specs.Inner.Stored.{books_in}
 use Rattle.gpu_descriptor.specs.Inner.Grow.{IsTaken}
+
+-- no key of an allocator has two rows, and both loads keep its limit
+pub record KeepsLimit {P : Type 0} (name : P → ℕ) (a : Allocations P) : Type 0 where
+  pub rows : HasDistinctKeys (table_of name a)
+  pub load : marked_load_of a ≤ a.limit
+  pub pool_load : pool_load_of a ≤ a.limit
 
 module _ {L P S : Type 0} (means : Meaning L P S) where
   -- a request had these sets of a bucket

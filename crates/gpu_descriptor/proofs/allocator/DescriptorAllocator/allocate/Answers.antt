@@ -45,7 +45,7 @@ returns-in-Err-clause-hands_out g c =
 
 pub returns-in-Err-clause-keeps : goal.returns-in-Err-clause-keeps
 returns-in-Err-clause-keeps g c =
-    keeps_still c.in-Err.ensures.allocator c.in-Err.ensures.ledger c.requires.agree c.in-Err.ensures.load c.in-Err.ensures.pool_load
+    keeps_still c.in-Err.ensures.allocator c.in-Err.ensures.ledger c.requires.agree c.in-Err.ensures.within.load c.in-Err.ensures.within.pool_load
 
 pub returns-in-Ok-taken-clause-hands_out : goal.returns-in-Ok-taken-clause-hands_out
 returns-in-Ok-taken-clause-hands_out g c =
@@ -54,12 +54,12 @@ returns-in-Ok-taken-clause-hands_out g c =
 
 pub returns-in-Ok-taken-clause-keeps : goal.returns-in-Ok-taken-clause-keeps
 returns-in-Ok-taken-clause-keeps g c =
-    keeps_all c.in-Ok.ensures.taken c.requires.agree c.in-Ok.ensures.limit c.in-Ok.ensures.load c.in-Ok.ensures.pool_load
+    keeps_all c.in-Ok.ensures.taken c.requires.agree c.in-Ok.ensures.limit c.in-Ok.ensures.within.load c.in-Ok.ensures.within.pool_load
 
 pub returns-in-Err-taken-clause-hands_out : goal.returns-in-Err-taken-clause-hands_out
 returns-in-Err-taken-clause-hands_out g c =
     let r = (goal.at.returns-in-Err-taken-clause-hands_out g c).In-Ok in
-    rw c.error_of_stop.ensures (hands_back c.in-Ok.served.sets (taken g r) c.requires.agree (rows_apart _ c.self.view_is g.D.DescriptorDevice.meaning.pool_name (opened c.self.invariant)) (gained g r) c.in-Ok.ensures.looks c.in-Ok.ensures.comparisons_stay (some g r) c.in-Ok.ensures.rows c.free_all.ensures.returns c.in-Err-taken.is)
+    rw c.error_of_stop.ensures (hands_back c.in-Ok.served.sets (taken g r) c.requires.agree (rows_apart _ c.self.view_is g.D.DescriptorDevice.meaning.pool_name (opened c.self.invariant)) (gained g r) c.in-Ok.ensures.looks c.in-Ok.ensures.comparisons_stay (some g r) c.in-Ok.ensures.within.rows c.free_all.ensures.returns c.in-Err-taken.is)
 
 pub returns-in-Err-taken-clause-keeps : goal.returns-in-Err-taken-clause-keeps
 returns-in-Err-taken-clause-keeps g c =
