@@ -1,5 +1,5 @@
 -- What every outcome of a request promises.
-use Rattle.gpu_descriptor.proofs.Common.{◌≡◌, ◌≢◌, ℕ, suc, ◌+◌, ◌-◌, ◌*◌, ◌<◌, ◌≤◌, Bool, List, [], ◌∷◌, ◌++◌, map, length, drop, sum_by, inl, inr, Result, Ok, Err, refl, sym, ap, ◌∙◌, subst, arith, length-map, length-append, sum_by-cons, sum_by-append, pool_size_floor, ◌↔◌, min, OnOk, IfErr, Counters, create_refused, alloc_refused, pool_refusals, no_rise, CreatePoolError, DeviceAllocationError, AllocationError, Stop, Item, Key, Entry, Bucket, next_number, cases_lt}
+use Rattle.gpu_descriptor.proofs.Common.{◌≡◌, ◌≢◌, ℕ, suc, ◌+◌, ◌-◌, ◌*◌, ◌<◌, ◌≤◌, Bool, List, [], ◌∷◌, ◌++◌, map, length, drop, sum_by, inl, inr, Result, Ok, Err, refl, sym, ap, ◌∙◌, subst, arith, length-map, length-append, sum_by-cons, sum_by-append, pool_size_floor, ◌↔◌, min, OnOk, IfErr, Counters, create_refused, alloc_refused, pool_refusals, no_rise, CreatePoolError, DeviceAllocationError, AllocationError, Stop, Item, Key, Entry, Bucket, next_number, cases_lt, ◌⊎◌}
 use Rattle.gpu_descriptor_types.proofs.Sizes.{pool_size_some}
 use Rattle.gpu_descriptor_types.specs.declared.errors.CreatePoolError.TheVariants as create_error
 use Rattle.gpu_descriptor_types.specs.declared.errors.DeviceAllocationError.TheVariants as alloc_error
@@ -14,7 +14,7 @@ use Rattle.gpu_descriptor.specs.Model.Promises.{AreBelowTwice, HasCause, IsShort
 use Rattle.gpu_descriptor.specs.Model.Promises.IsFragmentation.{above_limit, past_bound, no_room_left, no_pool_created, new_pool_refused}
 use Rattle.gpu_descriptor.specs.Model.Promises.IsHostMemory.{device_refused, no_memory_at_start, no_memory_for_a_pool}
 use Rattle.gpu_descriptor.specs.Model.Load.{pool_load}
-use Rattle.gpu_descriptor.proofs.request.NextSize.{next_whole, one_fits, some_fit, room_falls}
+use Rattle.gpu_descriptor.proofs.request.NextSize.{next_whole, one_fits, last_fits}
 use Rattle.gpu_descriptor.proofs.request.NewPools.{AreFilled, met, unmet, shares_used, done_filled, front_below, list_below}
 use Rattle.gpu_descriptor.specs.Model.Shares.{Portion, offer, rest, portions_of}
 
@@ -91,48 +91,20 @@ stop_cause c s (New alloc_error.OutOfPoolMemory) is back at = (let n = ap (λ (k
 
 -- ---- pools are created only where the existing ones don't do
 
-times_more : (n m : ℕ) → suc n * m ≡ n * m + m
-times_more n m = grind arith
+-- a pool that was not cut, gave all it has, and didn't do gave the least that a pool holds
+whole_gave : (k : Key) (room total wanted : ℕ) (f : Fresh) → IsNextSize k room total wanted f.size → pool_load k 1 ≤ room - pool_load k f.size → f.given ≡ f.size → f.given < wanted → pool_size_floor k.counts ≤ f.given
+whole_gave k room total wanted f next left full short = (let some = pool_size_some k.counts total wanted f.size (next_whole k room total wanted f.size next left) in omega arith)
 
--- a pool that was not cut, gave all it has, and didn't do
-one_more : (k : Key) (room total wanted : ℕ) (f : Fresh) (pools : List Fresh) → IsNextSize k room total wanted f.size → pool_load k 1 ≤ room - pool_load k f.size → f.given ≡ f.size → f.given < wanted → (more : ℕ) → length pools * pool_size_floor k.counts ≤ more → length (f ∷ pools) * pool_size_floor k.counts ≤ f.given + more
-one_more k room total wanted f pools next left full short more rest =
-    let some = pool_size_some k.counts total wanted f.size (next_whole k room total wanted f.size next left) in
-    let product : length (f ∷ pools) * pool_size_floor k.counts ≡ length pools * pool_size_floor k.counts + pool_size_floor k.counts = times_more (length pools) (pool_size_floor k.counts) in
-    omega arith
-
--- new pools that gave all they have and didn't do, with room left for one more
-front_few : (k : Key) (room total wanted : ℕ) (pools : List Fresh) → AreSized k room total wanted pools → AreFull pools → given_by pools < wanted → pool_load k 1 ≤ room_after k room pools → length pools * pool_size_floor k.counts ≤ given_by pools
-front_few k room total wanted [] sized full short left = omega arith
-front_few k room total wanted (f ∷ pools) sized full short left =
-    let sum = sum_by-cons (λ (g : Fresh). g.given) f pools in
-    let is = full.0 in
-    let falls = room_falls k (room - pool_load k f.size) pools in
-    let more = front_few k (room - pool_load k f.size) (total + f.given) (wanted - f.given) pools sized.1 full.1 (omega arith) left in
-    let all = one_more k room total wanted f pools sized.0 (omega arith) is (omega arith) (given_by pools) more in
-    omega arith
-
--- before a last one
-list_few : (k : Key) (room total wanted : ℕ) (front : List Fresh) (last : Fresh) → AreSized k room total wanted (front ++ last ∷ []) → AreFull front → given_by front < wanted → length front * pool_size_floor k.counts ≤ given_by front
-list_few k room total wanted [] last sized full short = omega arith
-list_few k room total wanted (f ∷ front) last sized full short =
-    let sum = sum_by-cons (λ (g : Fresh). g.given) f front in
-    let is = full.0 in
-    let left = some_fit k (room - pool_load k f.size) (total + f.given) (wanted - f.given) front last sized.1 in
-    let more = list_few k (room - pool_load k f.size) (total + f.given) (wanted - f.given) front last sized.1 full.1 (omega arith) in
-    let all = one_more k room total wanted f front sized.0 left is (omega arith) (given_by front) more in
-    omega arith
-
--- whatever room is left: the last may have been cut
-any_few : (k : Key) (room total wanted : ℕ) (pools : List Fresh) → AreSized k room total wanted pools → AreFull pools → given_by pools < wanted → length pools * pool_size_floor k.counts ≤ given_by pools + pool_size_floor k.counts
-any_few k room total wanted [] sized full short = omega arith
-any_few k room total wanted (f ∷ []) sized full short = (let one = times_more 0 (pool_size_floor k.counts) in omega arith)
-any_few k room total wanted (f ∷ h ∷ pools) sized full short =
+-- new pools that gave all they have and didn't do are few; with room left for one more so are they and that one. The last may have been cut
+few : (k : Key) (room total wanted : ℕ) (pools : List Fresh) → AreSized k room total wanted pools → AreFull pools → given_by pools < wanted → (more : ℕ) → (more ≡ 0) ⊎ ((more ≡ pool_size_floor k.counts) × (pool_load k 1 ≤ room_after k room pools)) → length pools * pool_size_floor k.counts + more ≤ given_by pools + pool_size_floor k.counts
+few k room total wanted [] sized full short more why = elim why [ inl nothing ↦ (omega arith) | inr one ↦ (let is = one.0 in omega arith) ]
+few k room total wanted (f ∷ []) sized full short more why = elim why [ inl nothing ↦ (omega arith) | inr one ↦ (let is = one.0 in let gave = whole_gave k room total wanted f sized.0 one.1 full.0 (omega arith) in omega arith) ]
+few k room total wanted (f ∷ h ∷ pools) sized full short more why =
     let sum = sum_by-cons (λ (g : Fresh). g.given) f (h ∷ pools) in
     let is = full.0 in
     let left = one_fits k (room - pool_load k f.size) (total + f.given) (wanted - f.given) h.size sized.1.0 in
-    let more = any_few k (room - pool_load k f.size) (total + f.given) (wanted - f.given) (h ∷ pools) sized.1 full.1 (omega arith) in
-    let all = one_more k room total wanted f (h ∷ pools) sized.0 left is (omega arith) (given_by (h ∷ pools) + pool_size_floor k.counts) more in
+    let gave = whole_gave k room total wanted f sized.0 left is (omega arith) in
+    let rest = few k (room - pool_load k f.size) (total + f.given) (wanted - f.given) (h ∷ pools) sized.1 full.1 (omega arith) more why in
     omega arith
 
 pools_short : (c : Call) (g : Grant) → 0 < wanting c.request c.old g → AreBelowTwice (out_then c.request c.old g) (wanting c.request c.old g) g.fresh → OnOk c.answer (AreFilled c) → (n : ℕ) → c.after.created ≡ c.before.created + n → n * pool_size_floor c.request.key.counts < wanting c.request c.old g + pool_size_floor c.request.key.counts → IsShort c g
@@ -147,32 +119,14 @@ pools_short c g some below filled n rise few = record {
       subst (λ i. i * m < wanting c.request c.old g + m) (sym same) few);
 }
 
--- how few new pools came before it stopped, with one more or without
-few_any : (c : Call) (g : Grant) (room : ℕ) → IsFreshFront c.request.key room (out_then c.request c.old g) (wanting c.request c.old g) g.fresh → (length g.fresh + 0) * pool_size_floor c.request.key.counts < wanting c.request c.old g + pool_size_floor c.request.key.counts
-few_any c g room front =
-    let m : ℕ = pool_size_floor c.request.key.counts in
-    let short = front.short in
-    let few = any_few c.request.key room (out_then c.request c.old g) (wanting c.request c.old g) g.fresh front.sized front.full short in
-    let same : length g.fresh + 0 ≡ length g.fresh = omega arith in
-    let product : (length g.fresh + 0) * m ≡ length g.fresh * m = ap (λ i. i * m) same in
-    omega arith
-
-few_with_room : (c : Call) (g : Grant) (room : ℕ) → IsFreshFront c.request.key room (out_then c.request c.old g) (wanting c.request c.old g) g.fresh → pool_load c.request.key 1 ≤ room_after c.request.key room g.fresh → (length g.fresh + 1) * pool_size_floor c.request.key.counts < wanting c.request c.old g + pool_size_floor c.request.key.counts
-few_with_room c g room front fits =
-    let m : ℕ = pool_size_floor c.request.key.counts in
-    let short = front.short in
-    let few = front_few c.request.key room (out_then c.request c.old g) (wanting c.request c.old g) g.fresh front.sized front.full short fits in
-    let same : length g.fresh + 1 ≡ suc (length g.fresh) = omega arith in
-    let product : (length g.fresh + 1) * m ≡ length g.fresh * m + m = ap (λ i. i * m) same ∙ times_more (length g.fresh) m in
-    omega arith
-
 -- after a front
 front_short : (c : Call) (s : IsStopped c) (why : Stop) (room : ℕ) → IsBack c s.grant why → IsFreshFront c.request.key room (out_then c.request c.old s.grant) (wanting c.request c.old s.grant) s.grant.fresh
-    → (length s.grant.fresh + (stop_rise why).created) * pool_size_floor c.request.key.counts < wanting c.request c.old s.grant + pool_size_floor c.request.key.counts → IsShort c s.grant
-front_short c s why room back front few =
+    → ((stop_rise why).created * pool_size_floor c.request.key.counts ≡ 0) ⊎ (((stop_rise why).created * pool_size_floor c.request.key.counts ≡ pool_size_floor c.request.key.counts) × (pool_load c.request.key 1 ≤ room_after c.request.key room s.grant.fresh)) → IsShort c s.grant
+front_short c s why room back front more =
     let short = front.short in
     let n = ap (λ (k : Counters). k.created) back.counters in
-    pools_short c s.grant (omega arith) (front_below c.request.key room _ _ s.grant.fresh front.sized front.full front.short) (unmet (AreFilled c) c.answer _ back.answer) (length s.grant.fresh + (stop_rise why).created) (omega arith) few
+    let all = few c.request.key room _ _ s.grant.fresh front.sized front.full short ((stop_rise why).created * pool_size_floor c.request.key.counts) more in
+    pools_short c s.grant (omega arith) (front_below c.request.key room _ _ s.grant.fresh front.sized front.full short) (unmet (AreFilled c) c.answer _ back.answer) (length s.grant.fresh + (stop_rise why).created) (omega arith) (omega arith)
 
 -- a list that gave all
 done_short : (c : Call) (d : IsDone c) → IsFreshList c.request.key (c.request.limit - d.pooled) (out_then c.request c.old d.grant) (wanting c.request c.old d.grant) d.grant.fresh → 0 < length d.grant.fresh → IsShort c d.grant
@@ -181,11 +135,10 @@ done_short c d (some_fresh front last parts short sized le given) some =
     let g : Grant = d.grant in
     let m : ℕ = pool_size_floor c.request.key.counts in
     let whole_sized = subst (AreSized c.request.key (c.request.limit - d.pooled) (out_then c.request c.old g) (wanting c.request c.old g)) parts sized in
-    let few = list_few c.request.key (c.request.limit - d.pooled) (out_then c.request c.old g) (wanting c.request c.old g) front last whole_sized short.full short.short in
+    let all = few c.request.key (c.request.limit - d.pooled) _ _ front short.sized short.full short.short m (inr (refl, last_fits c.request.key _ _ _ front last whole_sized)) in
     let below = subst (AreBelowTwice (out_then c.request c.old g) (wanting c.request c.old g)) (sym parts) (list_below c.request.key (c.request.limit - d.pooled) (out_then c.request c.old g) (wanting c.request c.old g) front last whole_sized short.full short.short) in
     let less = short.short in
     let long = ap length parts ∙ length-append front (last ∷ []) in
-    let product = times_more (length front) m in
     let same : length g.fresh ≡ suc (length front) = omega arith in
     let whole : length g.fresh * m ≡ suc (length front) * m = ap (λ n. n * m) same in
     let created = ap (λ (k : Counters). k.created) d.counters in
@@ -224,10 +177,10 @@ module _ (c : Call) where
       let none = alloc_creates e in
       let f = ap length at.no_fresh in
       absurd (omega arith)
-  stop_short s Room back at more = front_short c s Room _ back at.1 (few_any c s.grant _ at.1)
-  stop_short s Books back at more = front_short c s Books _ back at.1 (few_any c s.grant _ at.1)
-  stop_short s (Create e) back at more = front_short c s (Create e) _ back at.1 (let none = create_creates e in let few = few_any c s.grant _ at.1 in rw none few)
-  stop_short s (New e) back at more = front_short c s (New e) _ back at.1 (few_with_room c s.grant _ at.1 (fits at.2 (λ same. absurd (cc))))
+  stop_short s Room back at more = front_short c s Room _ back at.1 (inl (omega arith))
+  stop_short s Books back at more = front_short c s Books _ back at.1 (inl (omega arith))
+  stop_short s (Create e) back at more = front_short c s (Create e) _ back at.1 (inl (ap (λ n. n * pool_size_floor c.request.key.counts) (create_creates e) ∙ (omega arith)))
+  stop_short s (New e) back at more = front_short c s (New e) _ back at.1 (inr ((omega arith), fits at.2 (λ same. absurd (cc))))
 
   -- a pool is created only where the existing ones don't do
   pub short : (outcome : Allocates c) → CreatesOnlyWhereShort outcome
