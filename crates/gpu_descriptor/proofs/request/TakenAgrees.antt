@@ -15,7 +15,7 @@ use Rattle.gpu_descriptor.proofs.request.Shares.{IsApart, apart_from, not_refuse
 use Rattle.gpu_descriptor.proofs.request.StateAgrees.{at_place, booked_of}
 use Rattle.gpu_descriptor.specs.Model.Foreign.{KeepsForeign, LosesNone}
 use Rattle.gpu_descriptor.specs.Model.Promises.{KeepsOtherKeys}
-use Rattle.gpu_descriptor.proofs.request.TakenPlaces.{AreMade, apart_drop, came_long, fresh_or_past, given_at, new_apart, new_stands, no_fresh, no_share, not_new, taken_named, taken_stands}
+use Rattle.gpu_descriptor.proofs.request.TakenPlaces.{AreMade, apart_drop, came_long, fresh_or_past, given_at, length_taken, new_apart, new_stands, no_fresh, no_share, not_new, taken_named, taken_stands}
 
 -- ---- the sets that came
 
@@ -67,13 +67,6 @@ all_came k id b apart u f at key own (p ∷ parts) placed =
 
 no_choice : (c d : Bool) → ◌≡◌ {A = ℕ} (if c then 0 else 0) (if d then 0 else 0)
 no_choice c d = grind arith
-
--- as many pools as before, and the new ones
-length_taken : (refused : ℕ → Bool) (n left : ℕ) (es : List Entry) → length (take left es ++ all_shared refused n (drop left es)) ≡ length es
-length_taken refused n zero [] = refl
-length_taken refused n zero (e ∷ es) = ap suc (length_taken refused n zero es)
-length_taken refused n (suc left) [] = refl
-length_taken refused n (suc left) (e ∷ es) = ap suc (length_taken refused n left es)
 
 -- ---- books and ledger
 

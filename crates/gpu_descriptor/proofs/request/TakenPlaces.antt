@@ -116,6 +116,13 @@ taken_stands refused n number (suc left) (e ∷ es) fs apart (suc i) f at = elim
   | inr new ↦ (let place = new.1 in inr (new.0, (omega arith), new.2))
 ]
 
+-- there are as many
+pub length_taken : (refused : ℕ → Bool) (n left : ℕ) (es : List Entry) → length (take left es ++ all_shared refused n (drop left es)) ≡ length es
+length_taken refused n zero [] = refl
+length_taken refused n zero (e ∷ es) = ap suc (length_taken refused n zero es)
+length_taken refused n (suc left) [] = refl
+length_taken refused n (suc left) (e ∷ es) = ap suc (length_taken refused n left es)
+
 -- an old pool keeps its place and its name
 shared_named : (refused : ℕ → Bool) (n : ℕ) (es fs : List Entry) (i : ℕ) (e : Entry) → slice_get es i ≡ Some e → (d : Entry) × (slice_get (all_shared refused n es ++ fs) i ≡ Some d) × (d.pool ≡ e.pool)
 shared_named refused n [] fs i e at = absurd (cc)

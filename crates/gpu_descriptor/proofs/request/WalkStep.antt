@@ -2,7 +2,8 @@
 use Rattle.gpu_descriptor.proofs.Common.{◌≡◌, ◌≢◌, ℕ, suc, ◌+◌, ◌-◌, inl, inr, List, [], ◌∷◌, ◌++◌, length, map, take, drop, slice_set, Bool, true, false, cond, ◌&&◌, ◌==◌, nat_eq, nat_lt, Option, Some, None, refl, sym, ap, ◌∙◌, subst, arith, eqb-true, eq-eqb, append_assoc, or_cases, and_parts, and_from, or_left, or_right, eqb-false, fun_ext, map-append, append-nil, sum_by-cons, if◌then◌else◌, option_map, times-append, Key, Entry, Bucket, Item, Pool, Ledger, Counters, live_sets, changed, on_pool, no_rise, LiveSet, times}
 use Rattle.std.proofs.lemmas.Grind.{flat_map-append}
 use Rattle.std.proofs.Math.Seq.{set-append_seam}
-use Rattle.gpu_descriptor.specs.Model.Grants.{Grant, Part, items_in, portion_of, came, pool_with, ledger_with}
+use Rattle.gpu_descriptor.specs.Model.Grants.{Grant, Part, fresh_or, items_at, items_in, portion_of, came, pool_with, ledger_with}
+use Rattle.gpu_descriptor.specs.Model.FreshPools.{Fresh}
 use Rattle.gpu_descriptor.specs.Model.Outcomes.{risen, grant_rise}
 use Rattle.gpu_descriptor.specs.Model.Shares.{offer, rest, is_asked, share, shared, all_shared, asked_count, refused_count, OnlyAskedRefuse, portions_of}
 use Rattle.gpu_descriptor.specs.Inner.Walk.{IsAsked, HasTaken}
@@ -13,8 +14,11 @@ use Rattle.gpu_descriptor.proofs.request.Shares.{IsApart, or_at, or_at_apart, or
 abbrev pub part : ℕ → ℕ → List ℕ → Part
 part number pool names = record { number = number; pool = pool; names = names }
 
+abbrev pub grant_of : ℕ → ℕ → (ℕ → Bool) → List Fresh → List Part → Grant
+grant_of id left refused fresh parts = record { id = id; left = left; refused = refused; fresh = fresh; parts = parts }
+
 abbrev pub so_far : ℕ → ℕ → (ℕ → Bool) → List Part → Grant
-so_far id left refused parts = record { id = id; left = left; refused = refused; fresh = []; parts = parts }
+so_far id left refused parts = grant_of id left refused [] parts
 
 -- the sets that came from a pool
 pub came_more : (parts : List Part) (p : Part) (q : ℕ) → came (parts ++ p ∷ []) q ≡ came parts q ++ (if p.pool == q then p.names else [])
@@ -30,30 +34,24 @@ pool_twice counts a b r p = λ i. record {
   live = fun_ext (λ (x : LiveSet). (let e = ap (λ sets. times sets x) (map-append (λ (n : ℕ). let s : LiveSet = record { name = n; counts = counts } in s) a b) in let f = times-append (live_sets counts a) (live_sets counts b) x in let g : p.live x + times (live_sets counts a) x + times (live_sets counts b) x ≡ p.live x + times (live_sets counts (a ++ b)) x = omega arith in g)) i;
 }
 
--- the ledger after one pool more
-pub ledger_more : (k : Key) (refused : ℕ → Bool) (parts : List Part) (r : Bool) (number name : ℕ) (names : List ℕ) (pools : ℕ → Option Pool) (id left left' : ℕ) → refused name ≡ false
-    → on_pool name (pool_with (live_sets k.counts names) r) (ledger_with k (so_far id left refused parts) pools)
-    ≡ ledger_with k (so_far id left' (or_at r name refused) (parts ++ part number name names ∷ [])) pools
-ledger_more k refused parts r number name names pools id left left' not_yet = fun_ext (λ q. at (nat_eq name q) q refl)
+-- the items of one part more
+pub items_more : (k : Key) (id number pool : ℕ) (names : List ℕ) (parts : List Part) → items_in k id (parts ++ part number pool names ∷ []) ≡ items_in k id parts ++ items_at k id number names
+items_more k id number pool names parts = flat_map-append (λ (p : Part). items_at k id p.number p.names) parts (part number pool names ∷ []) ∙ ap (λ x. items_in k id parts ++ x) (append-nil (items_at k id number names))
+
+-- the ledger after one pool gave more
+pub ledger_more : (k : Key) (refused : ℕ → Bool) (fs : List Fresh) (parts : List Part) (r : Bool) (number name : ℕ) (names : List ℕ) (pools : ℕ → Option Pool) (id left left' : ℕ) → refused name ≡ false
+    → on_pool name (pool_with (live_sets k.counts names) r) (ledger_with k (grant_of id left refused fs parts) pools)
+    ≡ ledger_with k (grant_of id left' (or_at r name refused) fs (parts ++ part number name names ∷ [])) pools
+ledger_more k refused fs parts r number name names pools id left left' not_yet = fun_ext (λ q. at (nat_eq name q) q refl)
   where
     here : (o : Option Pool) → changed (pool_with (live_sets k.counts names) r) (option_map (pool_with (live_sets k.counts (came parts name)) false) o) ≡ option_map (pool_with (live_sets k.counts (came parts name ++ names)) r) o
     here None = refl
     here (Some p) = ap (λ (x : Pool). Some x) (pool_twice k.counts (came parts name) names r p)
 
-    at : (b : Bool) (q : ℕ) → nat_eq name q ≡ b → cond b (changed (pool_with (live_sets k.counts names) r) (option_map (pool_with (live_sets k.counts (came parts name)) (refused name)) (pools name))) (option_map (pool_with (live_sets k.counts (came parts q)) (refused q)) (pools q)) ≡ option_map (pool_with (live_sets k.counts (came (parts ++ part number name names ∷ []) q)) (or_at r name refused q)) (pools q)
-    at true q h =
-        let same : name ≡ q = eqb-true name q h in
-        let got : came (parts ++ part number name names ∷ []) name ≡ came parts name ++ names = came_more parts (part number name names) name ∙ ap (λ (b : Bool). came parts name ++ (if b then names else [])) (eq-eqb name name refl) in
-        subst (λ (q : ℕ). changed (pool_with (live_sets k.counts names) r) (option_map (pool_with (live_sets k.counts (came parts name)) (refused name)) (pools name)) ≡ option_map (pool_with (live_sets k.counts (came (parts ++ part number name names ∷ []) q)) (or_at r name refused q)) (pools q)) same
-        (ap (λ (b : Bool). changed (pool_with (live_sets k.counts names) r) (option_map (pool_with (live_sets k.counts (came parts name)) b) (pools name))) not_yet
-        ∙ here (pools name)
-        ∙ ap (λ (x : List ℕ). option_map (pool_with (live_sets k.counts x) r) (pools name)) (sym got)
-        ∙ ap (λ (b : Bool). option_map (pool_with (live_sets k.counts (came (parts ++ part number name names ∷ []) name)) b) (pools name)) (sym (or_at_here r name refused not_yet)))
-    at false q h =
-        let ne : q ≢ name = λ e. eqb-false name q h (sym e) in
-        let got : came (parts ++ part number name names ∷ []) q ≡ came parts q = came_more parts (part number name names) q ∙ ap (λ (b : Bool). came parts q ++ (if b then names else [])) h ∙ append-nil (came parts q) in
-        ap (λ (x : List ℕ). option_map (pool_with (live_sets k.counts x) (refused q)) (pools q)) (sym got)
-        ∙ ap (λ (b : Bool). option_map (pool_with (live_sets k.counts (came (parts ++ part number name names ∷ []) q)) b) (pools q)) (sym (or_at_apart r name refused q ne))
+    at : (b : Bool) (q : ℕ) → nat_eq name q ≡ b → cond b (changed (pool_with (live_sets k.counts names) r) (option_map (pool_with (live_sets k.counts (came parts name)) (refused name)) (fresh_or k fs name (pools name)))) (option_map (pool_with (live_sets k.counts (came parts q)) (refused q)) (fresh_or k fs q (pools q)))
+        ≡ option_map (pool_with (live_sets k.counts (came (parts ++ part number name names ∷ []) q)) (or_at r name refused q)) (fresh_or k fs q (pools q))
+    at true q h = rw (← eqb-true name q h, or_at_here r name refused not_yet, came_more parts (part number name names) name, eq-eqb name name refl, not_yet) (here (fresh_or k fs name (pools name)))
+    at false q h = rw (or_at_apart r name refused q (λ e. eqb-false name q h (sym e)), came_more parts (part number name names) q, h, append-nil (came parts q)) refl
 
 module _ (id n first i : ℕ) (refused : ℕ → Bool) (parts : List Part) (old : List Entry) (e f : Entry) (names : List ℕ) (k : Key) (l m : Ledger)
     (apart : IsApart e.pool (drop (suc i) old))
@@ -137,7 +135,7 @@ module _ (id n first i : ℕ) (refused : ℕ → Bool) (parts : List Part) (old 
       ∙ sym (append-nil (take i old ++ all_shared now n (drop i old)))
 
   pools_now : (before : Ledger) → l.pools ≡ ledger_with k (so_far id (suc i) refused parts) before.pools → m.pools ≡ ledger_with k (so_far id i now (parts ++ part_now ∷ [])) before.pools
-  pools_now before was = a.pools ∙ ap (on_pool e.pool (pool_with (live_sets k.counts names) a.refused)) was ∙ ledger_more k refused parts a.refused (first + i) e.pool names before.pools id (suc i) i not_yet
+  pools_now before was = a.pools ∙ ap (on_pool e.pool (pool_with (live_sets k.counts names) a.refused)) was ∙ ledger_more k refused [] parts a.refused (first + i) e.pool names before.pools id (suc i) i not_yet
 
   pub taken_more : (before : Ledger) (entries : List Entry) (items given : List Item) → length (take i old) ≡ i → take (suc i) old ≡ take i old ++ e ∷ [] → HasTaken k n (so_far id (suc i) refused parts) items (bucket id first old) (bucket id first entries) before l
       → items_in k id (parts ++ part_now ∷ []) ≡ given → HasTaken k n (so_far id i now (parts ++ part_now ∷ [])) given (bucket id first old) (bucket id first (slice_set entries i f)) before m

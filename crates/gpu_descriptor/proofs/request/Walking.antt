@@ -1,7 +1,6 @@
 -- The walk over a key's pools, as far as it has come.
 use Rattle.gpu_descriptor.proofs.Common.{◌≡◌, ◌≢◌, ℕ, zero, suc, ◌+◌, ◌<◌, ◌≤◌, List, [], ◌∷◌, ◌++◌, length, map, min, take, drop, slice_set, Bool, false, nat_lt, ◌&&◌, Option, Some, None, Err, refl, sym, ap, ◌∙◌, subst, arith, append-nil, drop_all, fun_ext, slice_get, option_map, Key, Entry, Bucket, Item, Pool, Ledger, live_sets, changed, DeviceAllocationError, slice_get_within}
 use Rattle.gpu_descriptor.specs.Inner.SetAt.{set_at}
-use Rattle.std.proofs.lemmas.Grind.{flat_map-append}
 use Rattle.std.proofs.lemmas.Map.{update_apart}
 use Rattle.gpu_descriptor.specs.Caller.Sets.{items_of}
 use Rattle.gpu_descriptor.specs.Model.Grants.{Part, items_at, items_in, pool_with, ledger_with}
@@ -14,7 +13,7 @@ use Rattle.std.proofs.Math.Seq.{take-length}
 use Rattle.gpu_descriptor.proofs.table.Exact.{bucket}
 use Rattle.gpu_descriptor.proofs.request.Asks.{none_with, same_counters, skipped}
 use Rattle.gpu_descriptor.proofs.request.Shares.{IsApart, apart_from, not_refused, or_at}
-use Rattle.gpu_descriptor.proofs.request.WalkStep.{part, so_far, taken_more, rest_now}
+use Rattle.gpu_descriptor.proofs.request.WalkStep.{items_more, part, so_far, taken_more, rest_now}
 use Rattle.gpu_descriptor.proofs.lists.AtPlaces.{drop_at, get_drop, long_take, set_same, split_at, take_get}
 
 pub record Walking (k : Key) (n id first left wanting : ℕ) (items : List Item) (old new : List Entry) (l m : Ledger) : Type 0 where
@@ -53,8 +52,7 @@ module _ (k : Key) (n id first i wanting : ℕ) (items : List Item) (old new : L
         refused = or_at a.refused e.pool s.refused;
         parts = s.parts ++ part (first + i) e.pool more ∷ [];
         wants = (let r = rest_now id n first i s.refused s.parts old e f more k m m' (apart e at) tail not_yet a in let w = s.wants in omega arith);
-        taken = taken_more id n first i s.refused s.parts old e f more k m m' (apart e at) tail not_yet a l new items (items ++ items_at k id (first + i) more) (long_take old i e at) (take_get old i e at) s.taken
-            (flat_map-append (λ (p : Part). items_at k id p.number p.names) s.parts (part (first + i) e.pool more ∷ []) ∙ ap (λ x. items_in k id s.parts ++ x) (append-nil (items_at k id (first + i) more)) ∙ ap (λ x. x ++ items_at k id (first + i) more) s.taken.came);
+        taken = taken_more id n first i s.refused s.parts old e f more k m m' (apart e at) tail not_yet a l new items (items ++ items_at k id (first + i) more) (long_take old i e at) (take_get old i e at) s.taken (items_more k id (first + i) e.pool more s.parts ∙ ap (λ x. x ++ items_at k id (first + i) more) s.taken.came);
         untouched = λ j d lt there.
             let ne : d.pool ≢ e.pool = λ same. (let place = booked.distinct j i d e there at same in absurd (omega arith)) in
             ap (λ (f : ℕ → Option Pool). f d.pool) asked.pools

@@ -9,7 +9,7 @@ use Rattle.gpu_descriptor.specs.Inner.Grow.{IsTaken}
 use Rattle.gpu_descriptor.specs.Inner.Stored.{bucket_of, entry_of, stored_load}
 use Rattle.gpu_descriptor.specs.Inner.Walk.{IsWalked}
 use Rattle.gpu_descriptor.proofs.table.Exact.{bucket}
-use Rattle.gpu_descriptor.proofs.request.Growing.{Growing, grow_start, grow_more, grow_end, grow_stop, grown_long, walked_long, load_more, load_walked}
+use Rattle.gpu_descriptor.proofs.request.Growing.{Growing, grow_start, grow_more, grow_end, grow_stop, taken_long, load_more, load_walked}
 use Rattle.gpu_descriptor.proofs.sums.StoredPools.{allocated_entries, load_entries}
 use Rattle.gpu_descriptor.proofs.request.Walking.{items_of-sets_at}
 use Rattle.gpu_descriptor.proofs.bucket.DescriptorBucket.take.Goals as goal
@@ -31,7 +31,7 @@ loop-wanting-init g c =
     let old : List Entry = map (entry_of name) c.args.self.now.pools.items in
     let new : List Entry = map (entry_of name) c.take_known.new.self.pools.items in
     let start = grow_start key c.args.room.now c.args.request.now.count c.args.self.now.id c.args.self.now.offset c.take_known.new.self.total c.in-Ok.wanting (items_of g.D.DescriptorDevice.meaning.set_name c.take_known.new.sink.sets.items) old new (g.D.DescriptorDevice.ledger c.args.device.now) (g.D.DescriptorDevice.ledger c.take_known.new.device) walked (let out = allocated_entries name c.args.self.now.pools.items in let total = c.args.self.now.counted in let all = known.0 in let more = c.take_known.ensures.total in omega arith) in
-    let long = walked_long key _ _ _ _ _ _ _ walked in
+    let long = taken_long key _ walked.grant _ _ _ _ _ walked.taken in let none = ap length walked.no_fresh in
     record {
       room = known.1;
       given = known.0;
@@ -93,7 +93,7 @@ loop-wanting-preserved g c =
     let some : 0 < c.loop-wanting.wanting = c.loop-wanting-test.true in
     let few : length more ≤ c.loop-wanting.wanting = (let a = grown.many in let b = grown.given in omega arith) in
     let next : Growing key c.args.room.now c.args.request.now.count c.args.self.now.id c.args.self.now.offset c.grow_one.new.room c.grow_one.new.self.total left (put ++ items_at key c.args.self.now.id (c.args.self.now.offset + length old + length inv.growing.fresh) more) old new' l m' = grow_more key c.args.room.now c.args.request.now.count c.args.self.now.id c.args.self.now.offset c.loop-wanting.room c.grow_one.new.room c.loop-wanting.self.total c.loop-wanting.wanting put old new new' l m m' more c.requires.booked inv.growing grown c.grow_one.new.self.total left some (got.4 ∙ ap (λ n. c.loop-wanting.self.total + n) given) (omega arith) in
-    let number : c.loop-wanting.self.offset + length items ≡ c.args.self.now.offset + length old + length inv.growing.fresh = (let a = length-map items (entry_of g.D.DescriptorDevice.meaning.pool_name) in let first = inv.offset in let b = grown_long key c.args.room.now c.args.request.now.count c.args.self.now.id c.args.self.now.offset c.loop-wanting.room c.loop-wanting.self.total c.loop-wanting.wanting put old new l m inv.growing in omega arith) in
+    let number : c.loop-wanting.self.offset + length items ≡ c.args.self.now.offset + length old + length inv.growing.fresh = (let a = length-map items (entry_of g.D.DescriptorDevice.meaning.pool_name) in let first = inv.offset in let b = taken_long key _ _ _ _ _ _ _ inv.growing.taken in omega arith) in
     let fresh : List (DescriptorSet g.row.S.Denot) = map (set_at key c.loop-wanting.self.id (c.loop-wanting.self.offset + length items)) got.0 in
     let seen : items_of g.D.DescriptorDevice.meaning.set_name c.grow_one.new.sink.sets.items ≡ put ++ items_at key c.args.self.now.id (c.args.self.now.offset + length old + length inv.growing.fresh) more =
     ap (items_of g.D.DescriptorDevice.meaning.set_name) got.2 ∙ map-append _ sets fresh
