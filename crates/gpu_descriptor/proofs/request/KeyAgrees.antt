@@ -1,5 +1,5 @@
 -- What a request takes of a key's pools leaves books and ledger of the key in agreement.
-use Rattle.gpu_descriptor.proofs.Common.{◌≡◌, ◌≢◌, ℕ, zero, suc, ◌+◌, ◌-◌, ◌<◌, ◌≤◌, min, ◌==◌, ◌&&◌, ◌||◌, inl, inr, List, [], ◌∷◌, ◌++◌, length, slice_set, Bool, true, false, Option, Some, refl, sym, ap, ◌∙◌, arith, eqb-true, eq-eqb, length-append, cases_Bool, cases_lt, length-map, sum_by-cons, slice_get, list_any, if◌then◌else◌, Pool, Ledger, live_sets, changed, on_pool, LiveSet, set_eq, times, count_by_yes, count_by_no, set_exact, times-append, Key, key_eq, Entry, Item, item_eq, set_of, count_of, IsAsBooked, ∥∥₁_map, live_in, live_at, option_map_or, lt-ltb, le-ltb, count_by-append}
+use Rattle.gpu_descriptor.proofs.Common.{◌≡◌, ◌≢◌, ℕ, zero, suc, ◌+◌, ◌-◌, ◌<◌, ◌≤◌, min, ◌==◌, ◌&&◌, ◌||◌, inl, inr, List, [], ◌∷◌, ◌++◌, length, slice_set, Bool, true, false, Option, Some, refl, sym, ap, ◌∙◌, arith, eqb-true, eq-eqb, length-append, cases_Bool, cases_lt, length-map, sum_by-cons, slice_get, list_any, if◌then◌else◌, Pool, Ledger, live_sets, changed, on_pool, LiveSet, set_eq, times, bool_iff, subst, count_by_yes, count_by_no, set_exact, times-append, Key, key_eq, Entry, Item, item_eq, set_of, count_of, IsAsBooked, ∥∥₁_map, live_in, live_at, option_map_or, lt-ltb, le-ltb, count_by-append}
 use Rattle.std.proofs.lemmas.Map.{update_here}
 use Rattle.gpu_descriptor.specs.Model.Grants.{items_at, pool_with}
 use Rattle.gpu_descriptor.specs.Model.Load.{allocated_in}
@@ -81,33 +81,12 @@ pub count_of_items : (k : Key) (id number : ℕ) (names : List ℕ) (t : Item) �
 count_of_items k id number [] t key at own = refl
 count_of_items k id number (n ∷ names) t key at own =
     let u : Item = record { key = k; id = id; number = number; name = n } in
-    let y : LiveSet = record { name = n; counts = k.counts } in
     let rest = count_of_items k id number names t key at own in
-    let counts : t.key.counts ≡ k.counts = ap (λ (x : Key). x.counts) key in
-    elim (cases_Bool (n == t.name)) [
-      | inl same ↦ (
-          let is : n ≡ t.name = eqb-true n t.name same in
-          let one : item_eq u t ≡ true = item_from u t (sym key) (sym at) is (sym own) in
-          let two : set_eq y (set_of t) ≡ true = set_from n t.name k.counts t.key.counts is (sym counts) in
-          count_by_yes (λ v. item_eq v t) u (items_at k id number names) one ∙ ap suc rest ∙ sym (count_by_yes (λ z. set_eq z (set_of t)) y (live_sets k.counts names) two))
-      | inr other ↦ (
-          let one : item_eq u t ≡ false = item_not u t other in
-          let two : set_eq y (set_of t) ≡ false = set_not n t.name k.counts t.key.counts other in
-          count_by_no (λ v. item_eq v t) u (items_at k id number names) one ∙ rest ∙ sym (count_by_no (λ z. set_eq z (set_of t)) y (live_sets k.counts names) two))
+    let alike : item_eq u t ≡ set_eq (set_of u) (set_of t) = bool_iff _ _ (λ h. subst (λ (v : Item). set_eq (set_of u) (set_of v) ≡ true) (item_exact.same u t h) (set_exact.self (set_of u))) (λ h. item_from u t (sym key) (sym at) (ap (λ (x : LiveSet). x.name) (set_exact.same (set_of u) (set_of t) h)) (sym own)) in
+    elim (cases_Bool (item_eq u t)) [
+      | inl on ↦ count_by_yes (λ v. item_eq v t) u (items_at k id number names) on ∙ ap suc rest ∙ sym (count_by_yes (λ z. set_eq z (set_of t)) (set_of u) (live_sets k.counts names) (sym alike ∙ on))
+      | inr off ↦ count_by_no (λ v. item_eq v t) u (items_at k id number names) off ∙ rest ∙ sym (count_by_no (λ z. set_eq z (set_of t)) (set_of u) (live_sets k.counts names) (sym alike ∙ off))
     ]
-  where
-    set_from : (m n : ℕ) (b c : List ℕ) → m ≡ n → b ≡ c → set_eq (record { name = m; counts = b }) (record { name = n; counts = c }) ≡ true
-    set_from m n b c e f = (let both : ◌≡◌ {A = LiveSet} (record { name = m; counts = b }) (record { name = n; counts = c }) = λ i. record { name = e i; counts = f i } in ap (set_eq (record { name = m; counts = b })) (sym both) ∙ set_exact.self (record { name = m; counts = b }))
-
-    set_not : (m n : ℕ) (b c : List ℕ) → (m == n) ≡ false → set_eq (record { name = m; counts = b }) (record { name = n; counts = c }) ≡ false
-    set_not m n b c e = rw e refl
-
-    and_off : (b : Bool) → b && false ≡ false
-    and_off true = refl
-    and_off false = refl
-
-    item_not : (u t : Item) → (u.name == t.name) ≡ false → item_eq u t ≡ false
-    item_not u t e = rw e (ap (λ b. b && (u.id == t.id)) (and_off (key_eq u.key t.key && (u.number == t.number))))
 
 pub count_elsewhere : (k : Key) (id number : ℕ) (names : List ℕ) (t : Item) → t.number ≢ number → count_of t (items_at k id number names) ≡ 0
 count_elsewhere k id number names t ne = elim (cases_lt 0 (count_of t (items_at k id number names))) [

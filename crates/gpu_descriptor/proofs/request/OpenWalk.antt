@@ -11,7 +11,7 @@ use Rattle.gpu_descriptor.proofs.table.Exact.{bucket}
 use Rattle.gpu_descriptor.proofs.lists.OpenList.{listed_closes, listed_stays}
 use Rattle.gpu_descriptor.proofs.lists.OpenNumbers.{IsNewestOpen, newest_open, open_all_none}
 use Rattle.gpu_descriptor.proofs.request.Walking.{Walking, walk_gap, walk_start, walk_more, walk_stop, next_was, next_booked}
-use Rattle.gpu_descriptor.proofs.lists.AtPlaces.{set_here, set_there}
+use Rattle.gpu_descriptor.proofs.lists.AtPlaces.{cases_option, set_got}
 
 -- so far the pools from a place on were asked as far as they had something, and the list has the open pools
 pub record OpenWalk {P : Type 0} (name : P → ℕ) (k : Key) (n id first wanting : ℕ) (out : List Item) (old : List Entry) (items : List (DescriptorPool P)) (numbers : List ℕ) (l m : Ledger) : Type 0 where
@@ -25,14 +25,13 @@ pub record OpenWalk {P : Type 0} (name : P → ℕ) (k : Key) (n id first wantin
 module _ {P : Type 0} {name : P → ℕ} {k : Key} {n id first wanting : ℕ} {out : List Item} {old : List Entry} {items : List (DescriptorPool P)} {numbers : List ℕ} {l m : Ledger}
     (booked : AreBookedIn k l.pools old) (s : OpenWalk name k n id first wanting out old items numbers l m) where
   free_get : (j : ℕ) (e : Entry) → slice_get (map (entry_of name) items) j ≡ Some e → slice_get (free_in items) j ≡ Some e.free
-  free_get j e at = by_pool (slice_get items j) refl
-    where
-      by_pool : (o : Option (DescriptorPool P)) → slice_get items j ≡ o → slice_get (free_in items) j ≡ Some e.free
-      by_pool None is = (let a = slice_get-map (entry_of name) items j ∙ ap (option_map (entry_of name)) is in absurd (cc))
-      by_pool (Some p) is =
-          let a : Some (entry_of name p) ≡ Some e = sym (slice_get-map (entry_of name) items j ∙ ap (option_map (entry_of name)) is) ∙ at in
-          let b : entry_of name p ≡ e = cc in
-          slice_get-map (λ p. p.available) items j ∙ ap (option_map (λ p. p.available)) is ∙ ap (λ (d : Entry). Some d.free) b
+  free_get j e at = elim (cases_option (slice_get items j)) [
+    | inl none ↦ absurd (let bad : ◌≡◌ {A = Option Entry} None (Some e) = sym (slice_get-map (entry_of name) items j ∙ ap (option_map (entry_of name)) none) ∙ at in cc)
+    | inr p ↦ (
+        let is : Some (entry_of name p.0) ≡ Some e = sym (slice_get-map (entry_of name) items j ∙ ap (option_map (entry_of name)) p.1) ∙ at in
+        let entry : entry_of name p.0 ≡ e = cc in
+        slice_get-map (λ p. p.available) items j ∙ ap (option_map (λ p. p.available)) p.1 ∙ ap (λ (d : Entry). Some d.free) entry)
+  ]
 
   -- where nothing is wanting the older pools are left
   pub walk_sated : wanting ≡ 0 → Walking k n id first 0 wanting out old (map (entry_of name) items) l m
@@ -97,20 +96,13 @@ module _ {P : Type 0} {name : P → ℕ} {k : Key} {n id first wanting : ℕ} {o
 
         pub closed_now : (names : List ℕ) (m' : Ledger) (wanting' : ℕ) → IsAsked k wanting names (entry_of name p) (entry_of name q) m m' → wanting' + length names ≡ wanting
             → (j : ℕ) (e : Entry) → number - first ≤ j → slice_get (map (entry_of name) (slice_set items (number - first) q)) j ≡ Some e → min wanting' e.free ≡ 0
-        closed_now names m' wanting' asked less j e le there = elim (cases_lt (number - first) j) [
-          | inl lt ↦ (
-              let is : slice_get (map (entry_of name) items) j ≡ Some e = sym (ap (λ (x : List Entry). slice_get x j) (map-set (entry_of name) items (number - first) q) ∙ set_there (map (entry_of name) items) (number - first) (entry_of name q) j (λ same. omega arith)) ∙ there in
-              let z = newer j e.free lt (free_get j e is) in
-              omega arith)
-          | inr ge ↦ (
-              let same : j ≡ number - first = omega arith in
-              let here : slice_get (map (entry_of name) (slice_set items (number - first) q)) j ≡ Some (entry_of name q) = ap (λ (x : List Entry). slice_get x j) (map-set (entry_of name) items (number - first) q) ∙ ap (slice_get (slice_set (map (entry_of name) items) (number - first) (entry_of name q))) same ∙ set_here (map (entry_of name) items) (number - first) (entry_of name q) _ (slice_get-get_or (map (entry_of name) items) (number - first) e (let a = length-map items (entry_of name) in let b = inside in omega arith)) in
-              let is : Some (entry_of name q) ≡ Some e = sym here ∙ there in
-              let entry : entry_of name q ≡ e = cc in
-              let free : q.available ≡ e.free = ap (λ (d : Entry). d.free) entry in
+        closed_now names m' wanting' asked less j e le there = elim (set_got (map (entry_of name) items) (number - first) (entry_of name q) j e (ap (λ (x : List Entry). slice_get x j) (sym (map-set (entry_of name) items (number - first) q)) ∙ there)) [
+          | inl here ↦ (
+              let free : e.free ≡ q.available = ap (λ (d : Entry). d.free) here.1 in
               let left_over : q.available ≡ (if asked.refused then 0 else p.available) - length names = ap (λ (d : Entry). d.free) asked.entry in
               let many : length names ≡ min (if asked.refused then 0 else p.available) wanting = asked.many in
               omega arith)
+          | inr other ↦ (let apart = other.0 in let z = newer j e.free (omega arith) (free_get j e other.1) in omega arith)
         ]
 
         -- one look for one pool that was asked

@@ -9,7 +9,7 @@ use Rattle.gpu_descriptor.specs.Model.Shares.{offer, rest, is_asked, share, shar
 use Rattle.gpu_descriptor.specs.Inner.Walk.{IsAsked, HasTaken}
 use Rattle.gpu_descriptor.proofs.request.Asks.{same_counters, same_entry}
 use Rattle.gpu_descriptor.proofs.table.Exact.{bucket}
-use Rattle.gpu_descriptor.proofs.request.Shares.{IsApart, or_at, or_at_apart, or_at_here, sum_same, rest_same, all_same, is_asked_same, count_same, refused_same, rows_same, asks_same}
+use Rattle.gpu_descriptor.proofs.request.Shares.{IsApart, or_at, or_at_apart, or_at_here, AreSame, all_same}
 
 abbrev pub part : ℕ → ℕ → List ℕ → Part
 part number pool names = record { number = number; pool = pool; names = names }
@@ -67,14 +67,17 @@ module _ (id n first i : ℕ) (refused : ℕ → Bool) (parts : List Part) (old 
   abbrev part_now : Part
   part_now = part (first + i) e.pool names
 
+  same : AreSame now refused n newer
+  same = all_same a.refused e.pool refused n newer apart
+
   asked_now : is_asked now n newer e ≡ is_asked refused n newer e
-  asked_now = is_asked_same a.refused e.pool refused n e newer apart
+  asked_now = ap (λ m. nat_lt 0 e.free && nat_lt 0 m) same.rest
 
   offer_now : offer now e ≡ (if a.refused then 0 else e.free)
   offer_now = ap (λ (b : Bool). if b then 0 else e.free) (or_at_here a.refused e.pool refused not_yet)
 
   share_now : share now n newer e ≡ length names
-  share_now = (let o = offer_now in let r = rest_same a.refused e.pool refused n newer apart in let many = a.many in omega arith)
+  share_now = (let o = offer_now in let r = same.rest in let many = a.many in omega arith)
 
   refusing_now : OnlyAskedRefuse refused n newer → OnlyAskedRefuse now n (e ∷ newer)
   refusing_now was name h = elim (or_cases (a.refused && (name == e.pool)) (refused name) h) [
@@ -83,15 +86,15 @@ module _ (id n first i : ℕ) (refused : ℕ → Bool) (parts : List Part) (old 
         let same : name ≡ e.pool = eqb-true name e.pool both.1 in
         let yes_now : is_asked now n newer e ≡ true = asked_now ∙ a.refusing both.0 in
         or_left _ _ (and_from _ _ (eq-eqb e.pool name (sym same)) yes_now))
-    | inr before ↦ or_right _ _ (asks_same a.refused e.pool refused n newer name apart ∙ was name before)
+    | inr before ↦ or_right _ _ (same.asks name ∙ was name before)
   ]
 
   rows_now : (number : ℕ) → portions_of now n number (e ∷ newer) ≡ portions_of refused n (number + 1) newer ++ record { number = number; pool = e.pool; given = length names } ∷ []
-  rows_now number = (let r = rows_same a.refused e.pool refused n (number + 1) newer apart in let s = share_now in cc)
+  rows_now number = (let r = same.rows (number + 1) in let s = share_now in cc)
 
   shared_now : all_shared now n (e ∷ newer) ≡ f ∷ all_shared refused n newer
   shared_now =
-      let r = all_same a.refused e.pool refused n newer apart in
+      let r = same.all in
       let o = offer_now in
       let s = share_now in
       let is : shared now n newer e ≡ f = same_entry _ _ refl refl (let x : e.allocated + share now n newer e ≡ e.allocated + length names = omega arith in x) (let x : offer now e - share now n newer e ≡ (if a.refused then 0 else e.free) - length names = omega arith in x) ∙ sym a.entry in
@@ -99,13 +102,13 @@ module _ (id n first i : ℕ) (refused : ℕ → Bool) (parts : List Part) (old 
 
   count_now : asked_count now n (e ∷ newer) ≡ (if nat_lt 0 e.free && nat_lt 0 (rest refused n newer) then 1 else 0) + asked_count refused n newer
   count_now =
-      let c = count_same a.refused e.pool refused n newer apart in
+      let c = same.asked in
       let b : ◌≡◌ {A = ℕ} (if is_asked now n newer e then 1 else 0) (if is_asked refused n newer e then 1 else 0) = ap (λ (b : Bool). if b then 1 else 0) asked_now in
       omega arith
 
   refused_now : refused_count now (e ∷ newer) ≡ (if a.refused then 1 else 0) + refused_count refused newer
   refused_now =
-      let c = refused_same a.refused e.pool refused n newer apart in
+      let c = same.count in
       let d = sum_by-cons (λ (e : Entry). if now e.pool then 1 else 0) e newer in
       let b : ◌≡◌ {A = ℕ} (if now e.pool then 1 else 0) (if a.refused then 1 else 0) = ap (λ (b : Bool). if b then 1 else 0) (or_at_here a.refused e.pool refused not_yet) in
       omega arith
@@ -153,6 +156,6 @@ module _ (id n first i : ℕ) (refused : ℕ → Bool) (parts : List Part) (old 
       let t : rest now n (drop i old) ≡ rest now n (e ∷ newer) = ap (rest now n) tail in
       let s = sum_by-cons (offer now) e newer in
       let o = offer_now in
-      let r = sum_same a.refused e.pool refused n newer apart in
+      let r = same.sum in
       let many = a.many in
       omega arith
