@@ -1,5 +1,4 @@
 pub mod Asks
-pub mod Granted
 pub mod Growing
 pub mod HandedOut
 pub mod InTable

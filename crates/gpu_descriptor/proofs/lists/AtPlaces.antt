@@ -1,5 +1,5 @@
 -- What stands at the places of a list.
-use Rattle.gpu_descriptor.proofs.Common.{◌≡◌, ◌≢◌, ℕ, zero, suc, ◌<◌, inl, inr, List, [], ◌∷◌, ◌++◌, length, take, slice_set, Bool, true, false, Option, Some, None, refl, sym, ap, ◌∙◌, arith, drop, ◌+◌, cases_Bool, or_cases, or_from, or_left, or_right, slice_get, list_any, ◌⊎◌, get_or_from_slice_get, slice_get_within, length-take-le, set-get_or}
+use Rattle.gpu_descriptor.proofs.Common.{◌≤◌, count_by, count_by_no, count_by_yes, ◌≡◌, ◌≢◌, ℕ, zero, suc, ◌<◌, inl, inr, List, [], ◌∷◌, ◌++◌, length, take, slice_set, Bool, true, false, Option, Some, None, refl, sym, ap, ◌∙◌, arith, drop, ◌+◌, cases_Bool, or_cases, or_from, or_left, or_right, slice_get, list_any, ◌⊎◌, get_or_from_slice_get, slice_get_within, length-take-le, set-get_or}
 use Rattle.std.proofs.Math.Seq.{take-suc}
 
 pub cases_option : {A : Type 0} (o : Option A) → (o ≡ None) ⊎ ((x : A) × (o ≡ Some x))
@@ -31,6 +31,9 @@ none_at p xs i x none at = elim (cases_Bool (p x)) [
 pub none_from : {A : Type 0} (p : A → Bool) (xs : List A) → ((i : ℕ) (x : A) → slice_get xs i ≡ Some x → p x ≡ false) → list_any p xs ≡ false
 none_from p [] each = refl
 none_from p (x ∷ xs) each = or_from (p x) (list_any p xs) (each 0 x refl) (none_from p xs (λ i y at. each (suc i) y at))
+
+pub count_by_more : {A : Type 0} (p : A → Bool) (x : A) (xs : List A) → count_by p xs ≤ count_by p (x ∷ xs)
+count_by_more p x xs = elim (cases_Bool (p x)) [ inl on ↦ (let e = count_by_yes p x xs on in omega arith) | inr off ↦ (let e = count_by_no p x xs off in omega arith) ]
 
 -- ---- a write, and one more at the end
 

@@ -32,11 +32,16 @@ and_false false = refl
 asks_none : (free wanted : ℕ) → min wanted free ≡ 0 → nat_lt 0 free && nat_lt 0 wanted ≡ false
 asks_none free wanted h = grind arith
 
-on_same : (name : ℕ) (pools : ℕ → Option Pool) → pools ≡ on_pool name (pool_with [] false) pools
-on_same name pools = fun_ext (λ q. at (nat_eq name q) q refl)
+-- a change of a pool that changes nothing
+on_id : (name : ℕ) (pools : ℕ → Option Pool) (f : Pool → Pool) → ((p : Pool) → f p ≡ p) → on_pool name f pools ≡ pools
+on_id name pools f same = fun_ext (λ q. at (nat_eq name q) q refl)
   where
-    at : (b : Bool) (q : ℕ) → nat_eq name q ≡ b → pools q ≡ cond b (changed (pool_with [] false) (pools name)) (pools q)
-    at true q h = ap pools (sym (eqb-true name q h)) ∙ sym (none_with (pools name))
+    each : (o : Option Pool) → changed f o ≡ o
+    each None = refl
+    each (Some p) = ap (λ (x : Pool). Some x) (same p)
+
+    at : (b : Bool) (q : ℕ) → nat_eq name q ≡ b → cond b (changed f (pools name)) (pools q) ≡ pools q
+    at true q h = each (pools name) ∙ ap pools (eqb-true name q h)
     at false q h = refl
 
 pub skipped : (k : Key) (wanted : ℕ) (e : Entry) (l : Ledger) → min wanted e.free ≡ 0 → IsAsked k wanted [] e e l l
@@ -45,7 +50,7 @@ skipped k wanted e l h = record {
   refusing = λ r. absurd (cc);
   many = omega arith;
   entry = same_entry _ _ refl refl (let a : e.allocated ≡ e.allocated + 0 = omega arith in a) (let a : e.free ≡ e.free - 0 = omega arith in a);
-  pools = on_same e.pool l.pools;
+  pools = sym (on_id e.pool l.pools (pool_with [] false) pool_same);
   counters = (let t = asks_none e.free wanted h in rw t (let n = l.counters in same_counters _ _ (omega arith) (omega arith) (omega arith) (omega arith) (omega arith) (omega arith) (omega arith) (omega arith)));
 }
 
@@ -73,15 +78,7 @@ refuses k wanted error e l m some pool_error is = record {
 }
 
 no_refusal : (name : ℕ) (error : DeviceAllocationError) (l : Ledger) → pool_refusals error ≡ 0 → (after_no_alloc name error l).pools ≡ l.pools
-no_refusal name error l h = fun_ext (λ q. at (nat_eq name q) q refl)
-  where
-    each : (o : Option Pool) → changed (λ pool. record pool { refusals = pool.refusals + pool_refusals error }) o ≡ o
-    each None = refl
-    each (Some p) = ap (λ (x : Pool). Some x) (λ i. record p { refusals = (let a : p.refusals + pool_refusals error ≡ p.refusals = omega arith in a) i })
-
-    at : (b : Bool) (q : ℕ) → nat_eq name q ≡ b → cond b (changed (λ pool. record pool { refusals = pool.refusals + pool_refusals error }) (l.pools name)) (l.pools q) ≡ l.pools q
-    at true q e = each (l.pools name) ∙ ap l.pools (eqb-true name q e)
-    at false q e = refl
+no_refusal name error l h = on_id name l.pools _ (λ p i. record p { refusals = (let a : p.refusals + pool_refusals error ≡ p.refusals = omega arith in a) i })
 
 pub no_memory : (wanted : ℕ) (error : DeviceAllocationError) (e : Entry) (l m : Ledger) → 0 < min wanted e.free → pool_refusals error ≡ 0 → m ≡ after_no_alloc e.pool error l → IsNoMemory wanted e error l m
 no_memory wanted error e l m some memory is = record {

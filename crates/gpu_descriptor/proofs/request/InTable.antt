@@ -5,6 +5,7 @@ use Rattle.gpu_descriptor.specs.Inner.Stored.{books_in, bucket_of, row_of}
 use Rattle.gpu_descriptor.specs.Inner.Walk.{HasTaken}
 use Rattle.gpu_descriptor.specs.Model.Grants.{Grant, IsGrantOf}
 use Rattle.gpu_descriptor.specs.Inner.Serves.{IsServed, ServesKey}
+use Rattle.std.proofs.lemmas.Map.Steps.{set_value_same}
 use Rattle.gpu_descriptor.proofs.table.Exact.{key_exact}
 use Rattle.gpu_descriptor.proofs.sums.Loads.{IsRow, IsWritten, load_in, sum_set, marked_load-add, rows_out, rows_load}
 use Rattle.gpu_descriptor.proofs.table.TableBooks.{put_books, written, looked_up, row_bucket}
@@ -80,18 +81,8 @@ module _ {L P S : Type 0} {means : Meaning L P S} (k : BucketKey) (w : Descripto
         })
 
 -- a write of what is there
-set_value-same : {P : Type 0} (test : BucketKey → Bool) (es : List (BucketKey × DescriptorBucket P)) (v : DescriptorBucket P) → lookup test es ≡ Some v → set_value test es v ≡ es
-set_value-same test [] v at = refl
-set_value-same {P} test (e ∷ es) v at = elim (cases_Bool (test e.0)) [
-  | inl here ↦ (
-      let found : Some e.1 ≡ Some v = rw here at at in
-      let is : e.1 ≡ v = cc in
-      rw here (ap (λ (b : DescriptorBucket P). (e.0, b) ∷ es) (sym is)))
-  | inr there ↦ (let rest : lookup test es ≡ Some v = rw there at at in rw there (ap (λ (x : List (BucketKey × DescriptorBucket P)). e ∷ x) (set_value-same test es v rest)))
-]
-
 pub written-same : {P : Type 0} {k : Key} {es fs : List (BucketKey × DescriptorBucket P)} {v w : DescriptorBucket P} → IsWritten k es fs v w → w ≡ v → fs ≡ es
-written-same {es = es} {v = v} r same = r.wrote ∙ ap (set_value r.row.test es) same ∙ set_value-same r.row.test es v r.row.at
+written-same {es = es} {v = v} r same = r.wrote ∙ ap (set_value r.row.test es) same ∙ set_value_same r.row.test es v r.row.at
 
 -- a test against what is left of the limit
 pub above-limit : (key : Bool) (left product limit current load count : ℕ) → key ≡ true → left ≡ limit - current → current ≡ load → current ≤ limit → product ≡ count → nat_lt left product ≡ key && nat_lt limit (count + load)

@@ -28,7 +28,6 @@ use Rattle.gpu_descriptor.proofs.release.ReleaseAgrees.{takes}
 use Rattle.gpu_descriptor.proofs.foreign.OthersStay.{others_stay}
 use Rattle.gpu_descriptor.proofs.release.OtherKeys.{release_others, untouched_twice}
 use Rattle.gpu_descriptor.proofs.request.Promises.{grant_many}
-use Rattle.gpu_descriptor.proofs.request.Granted.{is_done, stopped_state}
 use Rattle.gpu_descriptor.proofs.request.Rollback.{give_back_rise, only_key, keys_table, unnamed_key, load_of_items}
 
 -- what a request took, wherever it stopped
@@ -132,8 +131,8 @@ module _ {L P S : Type 0} {means : Meaning L P S} {k : Key} {count : ℕ} {sets 
     Rolls why = (o : Allocates (call (stop_answer why))) × (g : Grant) × (taken_by o ≡ Some g) × (items_in k g.id g.parts ≡ items) × (granted k count g s ≡ state_of means.pool_name new after)
 
     module _ (why : Stop) (g : Grant) (between : Ledger) (taken : HasTaken k count g items (s.books k) t.serves.bucket before between) (refused : IsRefused why between after) where
-      now : (with_bucket k t.serves.bucket after.pools s ≡ granted k count g s) × (after.counters ≡ risen (stop_rise why) (risen (grant_rise count g (s.books k).pools) before.counters))
-      now = stopped_state k count why s t.serves.bucket items before between after refl g taken refused
+      now : state_of means.pool_name new after ≡ granted k count g s
+      now = state ∙ (λ i. with_bucket k (taken.bucket i) ((refused.pools ∙ taken.pools) i) s)
 
       rolls : StopsAt why k room count g (s.books k).pools → Rolls why
       rolls at = (
@@ -146,14 +145,14 @@ module _ {L P S : Type 0} {means : Meaning L P S} {k : Key} {count : ℕ} {sets 
           back = record {
             taken = taken.grant;
             answer = refl;
-            state = back.state ∙ (λ i. released (sym taken.came i) ((state ∙ now.0) i));
-            counters = went (items_in k g.id g.parts) (granted k count g s) taken.came (sym (state ∙ now.0)) ∙ ap (risen (rollback_rise (items_in k g.id g.parts) k (granted k count g s))) now.1;
+            state = back.state ∙ (λ i. released (sym taken.came i) (now i));
+            counters = went (items_in k g.id g.parts) (granted k count g s) taken.came (sym now) ∙ ap (risen (rollback_rise (items_in k g.id g.parts) k (granted k count g s))) (refused.counters ∙ ap (risen (stop_rise why)) taken.counters);
           };
         }),
         g,
         refl,
         taken.came,
-        sym (state ∙ now.0),
+        sym now,
       )
 
     pub went_back : {why : Stop} → ended ≡ Err why → Rolls why
@@ -214,4 +213,16 @@ module _ {L P S : Type 0} {means : Meaning L P S} {k : Key} {count : ℕ} {sets 
       (t.serves.out ∙ ap (λ n. outstanding_of old + n) many, t.serves.load ∙ ap (λ n. marked_load_of old + marked_load k n) many)
 
   pub kept : HasDistinctKeys (table_of means.pool_name old) → 0 < count → {x : Unit {0}} → ended ≡ Ok x → Allocates (call_of means k count (side old before) (side new after) (Ok items))
-  kept distinct some is = done (proceeds distinct some new after _) (is_done _ t.serves.bucket items before after refl refl state refl (pool_load_of old) (pool_load_is means old before distinct) (all_of is) refl)
+  kept distinct some is =
+      let all = all_of is in
+      done (proceeds distinct some new after _) (record {
+        pooled = pool_load_of old;
+        is_pooled = pool_load_is means old before distinct;
+        grant = all.0;
+        taken = all.1.grant;
+        all = all.2;
+        fresh = all.3;
+        answer = ap Ok (sym all.1.came);
+        state = state ∙ (λ i. with_bucket k (all.1.bucket i) (all.1.pools i) s);
+        counters = all.1.counters;
+      })

@@ -94,24 +94,14 @@ module _ (id n first i : ℕ) (refused : ℕ → Bool) (parts : List Part) (old 
 
   shared_now : all_shared now n (e ∷ newer) ≡ f ∷ all_shared refused n newer
   shared_now =
-      let r = same.all in
-      let o = offer_now in
-      let s = share_now in
-      let is : shared now n newer e ≡ f = same_entry _ _ refl refl (let x : e.allocated + share now n newer e ≡ e.allocated + length names = omega arith in x) (let x : offer now e - share now n newer e ≡ (if a.refused then 0 else e.free) - length names = omega arith in x) ∙ sym a.entry in
-      cc
+      let entry : shared now n newer e ≡ f = (λ j. record e { allocated = e.allocated + share_now j; free = offer_now j - share_now j }) ∙ sym a.entry in
+      λ j. entry j ∷ same.all j
 
   count_now : asked_count now n (e ∷ newer) ≡ (if nat_lt 0 e.free && nat_lt 0 (rest refused n newer) then 1 else 0) + asked_count refused n newer
-  count_now =
-      let c = same.asked in
-      let b : ◌≡◌ {A = ℕ} (if is_asked now n newer e then 1 else 0) (if is_asked refused n newer e then 1 else 0) = ap (λ (b : Bool). if b then 1 else 0) asked_now in
-      omega arith
+  count_now = λ j. (if asked_now j then 1 else 0) + same.asked j
 
   refused_now : refused_count now (e ∷ newer) ≡ (if a.refused then 1 else 0) + refused_count refused newer
-  refused_now =
-      let c = same.count in
-      let d = sum_by-cons (λ (e : Entry). if now e.pool then 1 else 0) e newer in
-      let b : ◌≡◌ {A = ℕ} (if now e.pool then 1 else 0) (if a.refused then 1 else 0) = ap (λ (b : Bool). if b then 1 else 0) (or_at_here a.refused e.pool refused not_yet) in
-      omega arith
+  refused_now = sum_by-cons (λ (e : Entry). if now e.pool then 1 else 0) e newer ∙ (λ j. (if or_at_here a.refused e.pool refused not_yet j then 1 else 0) + same.count j)
 
   counters_now : (c : Counters) → l.counters ≡ risen (grant_rise n (so_far id (suc i) refused parts) old) c → m.counters ≡ risen (grant_rise n (so_far id i now (parts ++ part_now ∷ [])) old) c
   counters_now c was =
@@ -122,20 +112,17 @@ module _ (id n first i : ℕ) (refused : ℕ → Bool) (parts : List Part) (old 
 
   parts_now : map portion_of parts ≡ portions_of refused n (first + suc i) newer ++ [] → map portion_of (parts ++ part_now ∷ []) ≡ portions_of now n (first + i) (drop i old) ++ []
   parts_now was =
-      let number : first + i + 1 ≡ first + suc i = omega arith in
+      let number : first + suc i ≡ first + i + 1 = omega arith in
       map-append portion_of parts (part_now ∷ [])
-      ∙ ap (λ x. x ++ portion_of part_now ∷ []) (was ∙ append-nil (portions_of refused n (first + suc i) newer) ∙ ap (λ m. portions_of refused n m newer) (sym number))
-      ∙ sym (rows_now (first + i))
-      ∙ ap (portions_of now n (first + i)) (sym tail)
-      ∙ sym (append-nil (portions_of now n (first + i) (drop i old)))
+      ∙ ap (λ x. x ++ portion_of part_now ∷ []) (was ∙ append-nil (portions_of refused n (first + suc i) newer) ∙ ap (λ m. portions_of refused n m newer) number)
+      ∙ sym (append-nil (portions_of now n (first + i) (drop i old)) ∙ ap (portions_of now n (first + i)) tail ∙ rows_now (first + i))
 
   entries_now : length (take i old) ≡ i → take (suc i) old ≡ take i old ++ e ∷ [] → slice_set (take (suc i) old ++ all_shared refused n newer ++ []) i f ≡ take i old ++ all_shared now n (drop i old) ++ []
   entries_now long more =
       ap (λ x. slice_set x i f) (append-nil (take (suc i) old ++ all_shared refused n newer) ∙ ap (λ x. x ++ all_shared refused n newer) more ∙ append_assoc (take i old) (e ∷ []) (all_shared refused n newer))
       ∙ ap (λ j. slice_set (take i old ++ e ∷ all_shared refused n newer) j f) (sym long)
       ∙ set-append_seam (take i old) e (all_shared refused n newer) f
-      ∙ ap (λ x. take i old ++ x) (sym shared_now ∙ ap (all_shared now n) (sym tail))
-      ∙ sym (append-nil (take i old ++ all_shared now n (drop i old)))
+      ∙ sym (append-nil (take i old ++ all_shared now n (drop i old)) ∙ ap (λ x. take i old ++ x) (ap (all_shared now n) tail ∙ shared_now))
 
   pools_now : (before : Ledger) → l.pools ≡ ledger_with k (so_far id (suc i) refused parts) before.pools → m.pools ≡ ledger_with k (so_far id i now (parts ++ part_now ∷ [])) before.pools
   pools_now before was = a.pools ∙ ap (on_pool e.pool (pool_with (live_sets k.counts names) a.refused)) was ∙ ledger_more k refused [] parts a.refused (first + i) e.pool names before.pools id (suc i) i not_yet
