@@ -1,5 +1,5 @@
 -- What a request takes of one key, in the table of keys.
-use Rattle.gpu_descriptor.proofs.Common.{◌≡◌, ℕ, ◌+◌, ◌≤◌, Bool, true, false, List, [], ◌∷◌, ◌++◌, length, Option, Some, None, is_some, Result, Ok, Err, inl, inr, refl, sym, ap, ◌∙◌, subst, arith, ◌-◌, ◌&&◌, lt-ltb, le-ltb, map, lookup, set_value, option_map_or, nat_lt, sum_by, if◌then◌else◌, cases_Bool, cases_lt, sum_by-append, Meaning, Ledger, Pool, BucketKey, DescriptorSet, DescriptorBucket, Stop, Key, key_eq, Bucket, no_pools, key_of, Item}
+use Rattle.gpu_descriptor.proofs.Common.{bool_iff, ltb-true, ◌≡◌, ℕ, ◌+◌, ◌≤◌, Bool, true, false, List, [], ◌∷◌, ◌++◌, length, Option, Some, None, is_some, Result, Ok, Err, inl, inr, refl, sym, ap, ◌∙◌, subst, arith, ◌-◌, ◌&&◌, lt-ltb, le-ltb, map, lookup, set_value, option_map_or, nat_lt, sum_by, if◌then◌else◌, cases_Bool, cases_lt, sum_by-append, Meaning, Ledger, Pool, BucketKey, DescriptorSet, DescriptorBucket, Stop, Key, key_eq, Bucket, no_pools, key_of, Item}
 use Rattle.gpu_descriptor.specs.Model.Load.{marked_load}
 use Rattle.gpu_descriptor.specs.Inner.Stored.{books_in, bucket_of, row_of}
 use Rattle.gpu_descriptor.specs.Inner.Walk.{HasTaken}
@@ -86,7 +86,4 @@ written-same {es = es} {v = v} r same = r.wrote ∙ ap (set_value r.row.test es)
 
 -- a test against what is left of the limit
 pub above-limit : (key : Bool) (left product limit current load count : ℕ) → key ≡ true → left ≡ limit - current → current ≡ load → current ≤ limit → product ≡ count → nat_lt left product ≡ key && nat_lt limit (count + load)
-above-limit key left product limit current load count on is same within alike = elim (cases_lt left product) [
-  | inl more ↦ lt-ltb left product more ∙ sym (ap (λ (b : Bool). b && nat_lt limit (count + load)) on ∙ lt-ltb limit (count + load) (omega arith))
-  | inr less ↦ le-ltb left product less ∙ sym (ap (λ (b : Bool). b && nat_lt limit (count + load)) on ∙ le-ltb limit (count + load) (omega arith))
-]
+above-limit key left product limit current load count on is same within alike = rw on (bool_iff _ _ (λ h. lt-ltb limit (count + load) (let more = ltb-true left product h in omega arith)) (λ h. lt-ltb left product (let more = ltb-true limit (count + load) h in omega arith)))

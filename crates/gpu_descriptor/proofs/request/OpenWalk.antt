@@ -11,7 +11,8 @@ use Rattle.gpu_descriptor.proofs.table.Exact.{bucket}
 use Rattle.gpu_descriptor.proofs.lists.OpenList.{listed_closes, listed_stays}
 use Rattle.gpu_descriptor.proofs.lists.OpenNumbers.{IsNewestOpen, newest_open, open_all_none}
 use Rattle.gpu_descriptor.proofs.request.Walking.{Walking, walk_gap, walk_start, walk_more, walk_stop, next_was, next_booked}
-use Rattle.gpu_descriptor.proofs.lists.AtPlaces.{cases_option, set_got}
+use Rattle.gpu_descriptor.proofs.lists.AtPlaces.{set_got}
+use Rattle.std.proofs.lemmas.Simd.{map-map}
 
 -- so far the pools from a place on were asked as far as they had something, and the list has the open pools
 pub record OpenWalk {P : Type 0} (name : P → ℕ) (k : Key) (n id first wanting : ℕ) (out : List Item) (old : List Entry) (items : List (DescriptorPool P)) (numbers : List ℕ) (l m : Ledger) : Type 0 where
@@ -25,13 +26,7 @@ pub record OpenWalk {P : Type 0} (name : P → ℕ) (k : Key) (n id first wantin
 module _ {P : Type 0} {name : P → ℕ} {k : Key} {n id first wanting : ℕ} {out : List Item} {old : List Entry} {items : List (DescriptorPool P)} {numbers : List ℕ} {l m : Ledger}
     (booked : AreBookedIn k l.pools old) (s : OpenWalk name k n id first wanting out old items numbers l m) where
   free_get : (j : ℕ) (e : Entry) → slice_get (map (entry_of name) items) j ≡ Some e → slice_get (free_in items) j ≡ Some e.free
-  free_get j e at = elim (cases_option (slice_get items j)) [
-    | inl none ↦ absurd (let bad : ◌≡◌ {A = Option Entry} None (Some e) = sym (slice_get-map (entry_of name) items j ∙ ap (option_map (entry_of name)) none) ∙ at in cc)
-    | inr p ↦ (
-        let is : Some (entry_of name p.0) ≡ Some e = sym (slice_get-map (entry_of name) items j ∙ ap (option_map (entry_of name)) p.1) ∙ at in
-        let entry : entry_of name p.0 ≡ e = cc in
-        slice_get-map (λ p. p.available) items j ∙ ap (option_map (λ p. p.available)) p.1 ∙ ap (λ (d : Entry). Some d.free) entry)
-  ]
+  free_get j e at = ap (λ (free : List ℕ). slice_get free j) (sym (map-map (λ (d : Entry). d.free) (entry_of name) items)) ∙ slice_get-map (λ (d : Entry). d.free) (map (entry_of name) items) j ∙ ap (option_map (λ (d : Entry). d.free)) at
 
   -- where nothing is wanting the older pools are left
   pub walk_sated : wanting ≡ 0 → Walking k n id first 0 wanting out old (map (entry_of name) items) l m
@@ -54,10 +49,6 @@ module _ {P : Type 0} {name : P → ℕ} {k : Key} {n id first wanting : ℕ} {o
     pub inside : number - first < length items
     inside = (let a = slice_get_within (free_in items) newest.place newest.free newest.at in let b = length-map items (λ p. p.available) in let c = place_is in omega arith)
 
-    -- the pool that is looked at
-    pub looked_at : (p : DescriptorPool P) → p ≡ get_or items (number - first) p → slice_get items (number - first) ≡ Some p
-    looked_at p is = slice_get_read items (length items) (number - first) p refl inside is
-
     newer : (j i : ℕ) → number - first < j → slice_get (free_in items) j ≡ Some i → i ≡ 0
     newer j i lt at = newest.newer j i (let c = place_is in omega arith) at
 
@@ -68,11 +59,9 @@ module _ {P : Type 0} {name : P → ℕ} {k : Key} {n id first wanting : ℕ} {o
 
       pub has_free : 0 < p.available
       has_free =
-          let a : slice_get (free_in items) (number - first) ≡ Some p.available = free_get (number - first) (entry_of name p) entry_at_place in
-          let b : slice_get (free_in items) (number - first) ≡ Some newest.free = sym (ap (slice_get (free_in items)) place_is) ∙ newest.at in
-          let same : Some p.available ≡ Some newest.free = sym a ∙ b in
-          let same_free : p.available ≡ newest.free = cc in
-          let c = newest.some in
+          let same : Some p.available ≡ Some newest.free = sym (free_get (number - first) (entry_of name p) entry_at_place) ∙ ap (slice_get (free_in items)) (sym place_is) ∙ newest.at in
+          let free : p.available ≡ newest.free = cc in
+          let some = newest.some in
           omega arith
 
       reached : suc (number - first) ≤ s.left
@@ -107,10 +96,7 @@ module _ {P : Type 0} {name : P → ℕ} {k : Key} {n id first wanting : ℕ} {o
 
         -- one look for one pool that was asked
         pub one_asked : (names : List ℕ) (m' : Ledger) → IsAsked k wanting names (entry_of name p) (entry_of name q) m m' → m'.counters.asked ≡ m.counters.asked + 1
-        one_asked names m' asked =
-            let both : nat_lt 0 p.available && nat_lt 0 wanting ≡ true = ap (λ (b : Bool). b && nat_lt 0 wanting) (lt-ltb 0 p.available has_free) ∙ lt-ltb 0 wanting some in
-            let is : m'.counters.asked ≡ m.counters.asked + (if nat_lt 0 p.available && nat_lt 0 wanting then 1 else 0) = ap (λ (x : Counters). x.asked) asked.counters in
-            is ∙ ap (λ (b : Bool). m.counters.asked + (if b then 1 else 0)) both
+        one_asked names m' asked = ap (λ (x : Counters). x.asked) asked.counters ∙ rw (lt-ltb 0 p.available has_free, lt-ltb 0 wanting some) refl
 
         pub open_walk_more : (numbers' : List ℕ) (names : List ℕ) (m' : Ledger) (wanting' : ℕ) → numbers' ≡ open_numbers first (free_in (slice_set items (number - first) q)) → IsAsked k wanting names (entry_of name p) (entry_of name q) m m' → wanting' + length names ≡ wanting
             → OpenWalk name k n id first wanting' (out ++ items_at k id number names) old (slice_set items (number - first) q) numbers' l m'

@@ -15,7 +15,7 @@ use Rattle.gpu_descriptor.specs.Model.Promises.IsFragmentation.{above_limit, pas
 use Rattle.gpu_descriptor.specs.Model.Promises.IsHostMemory.{device_refused, no_memory_at_start, no_memory_for_a_pool}
 use Rattle.gpu_descriptor.specs.Model.Load.{pool_load}
 use Rattle.gpu_descriptor.proofs.request.NextSize.{next_whole, one_fits, last_fits}
-use Rattle.gpu_descriptor.proofs.request.NewPools.{AreFilled, met, unmet, shares_used, done_filled, front_below, list_below}
+use Rattle.gpu_descriptor.proofs.request.NewPools.{AreFilled, shares_used, done_filled, front_below, list_below}
 use Rattle.gpu_descriptor.specs.Model.Shares.{Portion, offer, rest, portions_of}
 
 -- ---- how many sets
@@ -126,7 +126,7 @@ front_short c s why room back front more =
     let short = front.short in
     let n = ap (λ (k : Counters). k.created) back.counters in
     let all = few c.request.key room _ _ s.grant.fresh front.sized front.full short ((stop_rise why).created * pool_size_floor c.request.key.counts) more in
-    pools_short c s.grant (omega arith) (front_below c.request.key room _ _ s.grant.fresh front.sized front.full short) (unmet (AreFilled c) c.answer _ back.answer) (length s.grant.fresh + (stop_rise why).created) (omega arith) (omega arith)
+    pools_short c s.grant (omega arith) (front_below c.request.key room _ _ s.grant.fresh front.sized front.full short) (rw back.answer tt) (length s.grant.fresh + (stop_rise why).created) (omega arith) (omega arith)
 
 -- a list that gave all
 done_short : (c : Call) (d : IsDone c) → IsFreshList c.request.key (c.request.limit - d.pooled) (out_then c.request c.old d.grant) (wanting c.request c.old d.grant) d.grant.fresh → 0 < length d.grant.fresh → IsShort c d.grant
@@ -142,7 +142,7 @@ done_short c d (some_fresh front last parts short sized le given) some =
     let same : length g.fresh ≡ suc (length front) = omega arith in
     let whole : length g.fresh * m ≡ suc (length front) * m = ap (λ n. n * m) same in
     let created = ap (λ (k : Counters). k.created) d.counters in
-    pools_short c g (omega arith) below (met (AreFilled c) c.answer _ d.answer (done_filled c d some)) (length g.fresh) (omega arith) (omega arith)
+    pools_short c g (omega arith) below (rw d.answer (done_filled c d some)) (length g.fresh) (omega arith) (omega arith)
 
 -- what an error adds to some of the counters
 alloc_creates : (e : DeviceAllocationError) → (alloc_refused e no_rise).created ≡ 0
@@ -159,16 +159,13 @@ module _ (c : Call) where
   answered : (e : AllocationError) → c.answer ≡ Err e → HasCause e c → IfErr c.answer (λ f. HasCause f c)
   answered e is cause = subst (λ (r : Result (List Item) AllocationError). IfErr r (λ f. HasCause f c)) (sym is) cause
 
-  given : (items : List Item) → c.answer ≡ Ok items → IfErr c.answer (λ f. HasCause f c)
-  given items is = subst (λ (r : Result (List Item) AllocationError). IfErr r (λ f. HasCause f c)) (sym is) tt
-
   -- each error has its cause
   pub has_cause : Allocates c → IfErr c.answer (λ e. HasCause e c)
-  has_cause (none zero_count answer stays) = given [] answer
-  has_cause (limit some above answer stays) = answered Fragmentation answer (above_limit above)
-  has_cause (bound some within past answer stays) = answered Fragmentation answer (past_bound past)
-  has_cause (start p answer stays) = answered OutOfHostMemory answer (no_memory_at_start p stays)
-  has_cause (done p d) = given _ d.answer
+  has_cause (none zero_count answer stays) = rw answer tt
+  has_cause (limit some above answer stays) = answered _ answer (above_limit above)
+  has_cause (bound some within past answer stays) = answered _ answer (past_bound past)
+  has_cause (start p answer stays) = answered _ answer (no_memory_at_start p stays)
+  has_cause (done p d) = rw d.answer tt
   has_cause (stopped p s) = answered _ s.back.answer (stop_cause c s s.why refl s.back s.at)
 
   stop_short : (s : IsStopped c) (why : Stop) → IsBack c s.grant why → Stops c why s.grant s.pooled → c.before.created < c.after.created → IsShort c s.grant
