@@ -95,7 +95,7 @@ full_more : (fs : List Fresh) (f : Fresh) → AreFull fs → f.given ≡ f.size 
 full_more [] f all one = (one, tt)
 full_more (h ∷ fs) f all one = (all.0, full_more fs f all.1 one)
 
-module _ (k : Key) (start n id first room left total wanting : ℕ) (items : List Item) (old new new' : List Entry) (l m m' : Ledger) (more : List ℕ)
+module _ {k : Key} {start n id first room left total wanting : ℕ} {items : List Item} {old new new' : List Entry} {l m m' : Ledger} {more : List ℕ}
     (booked : AreBookedIn k l.pools old) (s : Growing k start n id first room total wanting items old new l m) (a : IsGrown k room left total wanting more new new' m m') where
   abbrev f : Fresh
   f = a.pool
@@ -165,10 +165,12 @@ module _ (k : Key) (start n id first room left total wanting : ℕ) (items : Lis
   sized_now : AreSized k start (allocated_in (all_shared s.refused n old)) (rest s.refused n old) fresh_now
   sized_now = (let w = s.wants in sized_more k start _ _ s.fresh f room total wanting s.sized s.room_now s.totals (omega arith) a.size)
 
-  pub grow_more : (total' wanting' : ℕ) → 0 < wanting → total' ≡ total + length more → wanting' + length more ≡ wanting → Growing k start n id first left total' wanting' (items ++ items_at k id (first + length old + length s.fresh) more) old new' l m'
-  grow_more total' wanting' some totals' less =
+  pub grow_more : {total' wanting' number : ℕ} {put : List Item} → 0 < wanting → total' ≡ total + length more → wanting' + length more ≡ wanting → number ≡ first + length new → put ≡ items ++ items_at k id number more → Growing k start n id first left total' wanting' put old new' l m'
+  grow_more some totals' less number_is put_is =
       let all = given_more s.fresh f in
       let g = a.given in
+      let long = taken_long k n _ _ _ _ _ _ s.taken in
+      let place : first + length old + length s.fresh ≡ _ = (omega arith) ∙ sym number_is in
       record {
         refused = s.refused;
         parts = parts_now;
@@ -181,38 +183,41 @@ module _ (k : Key) (start n id first room left total wanting : ℕ) (items : Lis
         list = λ none. grants.some s.fresh f refl (record { sized = s.sized; full = s.full some; short = (let w = s.wants in omega arith) }) sized_now (omega arith) (let w = s.wants in let y = many in omega arith);
         taken = record {
           grant = record { id = λ some. refl; refusing = s.taken.grant.refusing; parts = rows_now; new = new_more l.pools s.fresh f s.taken.grant.new none_before.0 none_before.1 };
-          came = items_more k id (first + length old + length s.fresh) q more s.parts ∙ ap (λ x. x ++ items_at k id (first + length old + length s.fresh) more) s.taken.came;
+          came = items_more k id (first + length old + length s.fresh) q more s.parts ∙ (λ j. s.taken.came j ++ items_at k id (place j) more) ∙ sym put_is;
           bucket = ap (bucket id first) entries_now;
           pools = pools_now;
           counters = counters_now;
         };
       }
 
-pub grow_start : (k : Key) (start n id first total wanting : ℕ) (items : List Item) (old new : List Entry) (l m : Ledger) → IsWalked k n wanting items (bucket id first old) (bucket id first new) l m → total + wanting ≡ allocated_in old + n → Growing k start n id first start total wanting items old new l m
-grow_start k start n id first total wanting items old new l m w totals =
+-- a walk goes before
+pub grow_start : {k : Key} {start n id first own place total wanting : ℕ} {items : List Item} {old new : List Entry} {l m : Ledger} → IsWalked k n wanting items (bucket id first old) (bucket own place new) l m → own ≡ id → place ≡ first → total + wanting ≡ allocated_in old + n → Growing k start n id first start total wanting items old new l m
+grow_start {k} {n = n} {id = id} {first = first} {items = items} {old = old} {new = new} {l = l} {m = m} walked ids places totals =
+    let w : IsWalked k n _ items (bucket id first old) (bucket id first new) l m = rw (ids, places) at walked in
     let g = w.grant in
     let wants = w.wants in
     let named : id ≡ g.id = ap (λ (b : Bucket). b.id) w.taken.bucket in
     let grant : g ≡ all_so_far id g.refused [] g.parts = (λ i. record { id = sym named i; left = w.all i; refused = g.refused; fresh = w.no_fresh i; parts = g.parts }) in
+    let none : given_by [] ≡ 0 = omega arith in
     record {
       refused = g.refused;
       parts = g.parts;
       fresh = [];
-      totals = (let h = allocated_shared g.refused n old in let none : given_by [] ≡ 0 = omega arith in omega arith);
-      wants = (let none : given_by [] ≡ 0 = omega arith in omega arith);
+      totals = (let h = allocated_shared g.refused n old in omega arith);
+      wants = omega arith;
       sized = tt;
       room_now = refl;
       full = λ some. tt;
-      list = λ none. grants.none (omega arith) refl;
+      list = λ over. grants.none (omega arith) refl;
       taken = subst (λ (g : Grant). HasTaken k n g items (bucket id first old) (bucket id first new) l m) grant w.taken;
     }
 
-pub grow_end : (k : Key) (start n id first room total : ℕ) (items : List Item) (old new : List Entry) (l m : Ledger) → Growing k start n id first room total 0 items old new l m → (done : Unit {0}) → IsTaken (Ok done) k start n items (bucket id first old) (bucket id first new) l m
-grow_end k start n id first room total items old new l m s done = (all_so_far id s.refused s.fresh s.parts, s.taken, refl, s.list refl)
+pub grow_end : {k : Key} {start n id first own place room total wanting : ℕ} {items : List Item} {old new : List Entry} {l m : Ledger} → Growing k start n id first room total wanting items old new l m → wanting ≡ 0 → own ≡ id → place ≡ first → (done : Unit {0}) → IsTaken (Ok done) k start n items (bucket id first old) (bucket own place new) l m
+grow_end s end ids places done = rw (ids, places) (all_so_far _ s.refused s.fresh s.parts, s.taken, refl, s.list end)
 
-pub grow_stop : (why : Stop) (k : Key) (start n id first room total wanting : ℕ) (items : List Item) (old new : List Entry) (l m m' : Ledger) → 0 < wanting → Growing k start n id first room total wanting items old new l m → IsRefused why m m' → NoneIsNew why k room → IsTaken (Err why) k start n items (bucket id first old) (bucket id first new) l m'
-grow_stop why k start n id first room total wanting items old new l m m' some s refused in_room = (
-  all_so_far id s.refused s.fresh s.parts,
+pub grow_stop : (why : Stop) {k : Key} {start n id first own place room total wanting : ℕ} {items put : List Item} {old new newer : List Entry} {l m m' : Ledger} → 0 < wanting → Growing k start n id first room total wanting items old new l m → put ≡ items → newer ≡ new → own ≡ id → place ≡ first → IsRefused why m m' → NoneIsNew why k room → IsTaken (Err why) k start n put (bucket id first old) (bucket own place newer) l m'
+grow_stop why {k} {start} {n} {id} {old = old} {m = m} some s same_sets same_pools ids places refused in_room = rw (same_sets, same_pools, ids, places) (
+  all_so_far _ s.refused s.fresh s.parts,
   m,
   s.taken,
   stops_at why (record { sized = s.sized; full = s.full some; short = (let w = s.wants in omega arith) }) (subst (NoneIsNew why k) s.room_now in_room),

@@ -9,12 +9,7 @@ use Rattle.gpu_descriptor.specs.Model.Load.{pool_load}
 
 module _ (k : Key) (room total wanted size : ℕ) (s : IsNextSize k room total wanted size) where
   few : size ≤ s.whole
-  few =
-      let cut = s.cut in
-      elim (cases_Bool k.marked) [
-        | inl on ↦ (let is : size ≡ sets_in_room room (sum k.counts) s.whole = cut ∙ rw on refl in let le = few_in_room room (sum k.counts) s.whole in omega arith)
-        | inr off ↦ (let is : size ≡ s.whole = cut ∙ rw off refl in omega arith)
-      ]
+  few = grind (arith, s.cut, few_in_room room (sum k.counts) s.whole)
 
   pub next_small : size ≤ 2147483648
   next_small = (let a = few in let b = pool_size_small k.counts total wanted s.whole s.is_whole in omega arith)

@@ -70,16 +70,13 @@ walk_start k n id first old l =
     record {
       refused = none_refuse;
       parts = [];
-      wants = (let e : n ≡ rest none_refuse n [] = omega arith in e ∙ ap (rest none_refuse n) (sym none));
+      wants = rw none (let e : n ≡ rest none_refuse n [] = omega arith in e);
       taken = record {
-        grant = record { id = λ some. refl; refusing = λ name h. absurd (cc); parts = ap (λ es. portions_of none_refuse n (first + length old) es ++ []) (sym none); new = tt };
+        grant = record { id = λ some. refl; refusing = λ name h. absurd (cc); parts = rw none refl; new = tt };
         came = refl;
         bucket = ap (bucket id first) (sym (ap (λ es. take (length old) old ++ all_shared none_refuse n es ++ []) none ∙ append-nil (take (length old) old ++ []) ∙ append-nil (take (length old) old) ∙ take-length old));
         pools = ledger_none k id (length old) l.pools;
-        counters =
-            let asked : asked_count none_refuse n (drop (length old) old) ≡ 0 = ap (asked_count none_refuse n) none in
-            let refuse : refused_count none_refuse (drop (length old) old) ≡ 0 = ap (refused_count none_refuse) none in
-            same_counters _ _ (omega arith) (omega arith) (omega arith) (omega arith) (omega arith) (omega arith) (omega arith) (omega arith);
+        counters = rw none (same_counters _ _ (omega arith) (omega arith) (omega arith) (omega arith) (omega arith) (omega arith) (omega arith) (omega arith));
       };
       untouched = λ j e lt at. refl;
     }
