@@ -75,6 +75,9 @@ module _ {P : Type 0} {name : P → ℕ} {k : Key} {n id first wanting : ℕ} {o
           let to = reached in
           walk_gap k n id first wanting out old (map (entry_of name) items) l m booked (s.left - suc (number - first)) (suc (number - first)) s.left (omega arith) s.within (λ j e le lt there. (let z = newer j e.free (omega arith) (free_get j e there) in omega arith)) s.walking
 
+      was : slice_get old (number - first) ≡ Some (entry_of name p)
+      was = sym (next_was k n id first (number - first) wanting out old (map (entry_of name) items) l m booked walk_reaches (let a = inside in let b = s.long in omega arith)) ∙ entry_at_place
+
       -- what stands in the books and the list once it was asked
       module _ (q : DescriptorPool P) where
         pub listed_now_closed : q.available ≡ 0 → front ≡ open_numbers first (free_in (slice_set items (number - first) q))
@@ -98,37 +101,30 @@ module _ {P : Type 0} {name : P → ℕ} {k : Key} {n id first wanting : ℕ} {o
         pub one_asked : (names : List ℕ) (m' : Ledger) → IsAsked k wanting names (entry_of name p) (entry_of name q) m m' → m'.counters.asked ≡ m.counters.asked + 1
         one_asked names m' asked = ap (λ (x : Counters). x.asked) asked.counters ∙ rw (lt-ltb 0 p.available has_free, lt-ltb 0 wanting some) refl
 
-        pub open_walk_more : (numbers' : List ℕ) (names : List ℕ) (m' : Ledger) (wanting' : ℕ) → numbers' ≡ open_numbers first (free_in (slice_set items (number - first) q)) → IsAsked k wanting names (entry_of name p) (entry_of name q) m m' → wanting' + length names ≡ wanting
-            → OpenWalk name k n id first wanting' (out ++ items_at k id number names) old (slice_set items (number - first) q) numbers' l m'
-        open_walk_more numbers' names m' wanting' listed' asked less =
+        pub open_walk_more : {put : List Item} {items' : List (DescriptorPool P)} {numbers' : List ℕ} {own start wanting' : ℕ} {names : List ℕ} {m' : Ledger} → own ≡ id → start ≡ first → put ≡ out ++ items_at k id number names → items' ≡ slice_set items (number - first) q → numbers' ≡ open_numbers first (free_in (slice_set items (number - first) q))
+            → IsAsked k wanting names (entry_of name p) (entry_of name q) m m' → wanting' + length names ≡ wanting → OpenWalk name k n own start wanting' put old items' numbers' l m'
+        open_walk_more {put} {wanting' = wanting'} {names = names} {m' = m'} ids starts put_is items_is listed' asked less =
             let i : ℕ = number - first in
-            let was : slice_get old i ≡ Some (entry_of name p) = sym (next_was k n id first i wanting out old (map (entry_of name) items) l m booked walk_reaches (let a = inside in let b = s.long in omega arith)) ∙ entry_at_place in
             let next = walk_more k n id first i wanting out old (map (entry_of name) items) l m booked walk_reaches (entry_of name p) (entry_of name q) names m' wanting' was asked less in
-            let named : first + i ≡ number = (let a = above in omega arith) in
-            let out' : out ++ items_at k id (first + i) names ≡ out ++ items_at k id number names = ap (λ (j : ℕ). out ++ items_at k id j names) named in
-            record {
+            let named : number ≡ first + i = (let a = above in omega arith) in
+            let now : put ≡ out ++ items_at k id (first + i) names = put_is ∙ ap (λ (j : ℕ). out ++ items_at k id j names) named in
+            rw (ids, starts, items_is) (record {
               long = length-set items i q ∙ s.long;
               listed = listed';
               left = i;
               within = (let a = inside in let b = s.long in omega arith);
               closed = closed_now names m' wanting' asked less;
-              walking = subst (λ (x : List Entry). Walking k n id first i wanting' (out ++ items_at k id number names) old x l m') (sym (map-set (entry_of name) items i q)) (subst (λ (x : List Item). Walking k n id first i wanting' x old (slice_set (map (entry_of name) items) i (entry_of name q)) l m') out' next);
-            }
+              walking = rw (now, map-set (entry_of name) items i q) next;
+            })
 
-        pub open_walk_stop : (room : ℕ) (error : DeviceAllocationError) (m' : Ledger) → entry_of name q ≡ entry_of name p → IsNoMemory wanting (entry_of name p) error m m' → IsTaken (Err (Existing error)) k room n out (bucket id first old) (bucket id first (map (entry_of name) (slice_set items (number - first) q))) l m'
-        open_walk_stop room error m' same none =
-            let i : ℕ = number - first in
-            let was : slice_get old i ≡ Some (entry_of name p) = sym (next_was k n id first i wanting out old (map (entry_of name) items) l m booked walk_reaches (let a = inside in let b = s.long in omega arith)) ∙ entry_at_place in
-            subst (λ (x : List Entry). IsTaken (Err (Existing error)) k room n out (bucket id first old) (bucket id first x) l m') (sym (map-set (entry_of name) items i q)) (walk_stop k room n id first i wanting out old (map (entry_of name) items) l m m' (entry_of name p) (entry_of name q) error walk_reaches was entry_at_place same none)
+        pub open_walk_stop : {own start : ℕ} (room : ℕ) (error : DeviceAllocationError) (m' : Ledger) → id ≡ own → first ≡ start → entry_of name q ≡ entry_of name p → IsNoMemory wanting (entry_of name p) error m m' → IsTaken (Err (Existing error)) k room n out (bucket own start old) (bucket id first (map (entry_of name) (slice_set items (number - first) q))) l m'
+        open_walk_stop room error m' ids starts same none = rw (sym ids, sym starts, map-set (entry_of name) items (number - first) q) (walk_stop k room n id first (number - first) wanting out old (map (entry_of name) items) l m m' (entry_of name p) (entry_of name q) error walk_reaches was entry_at_place same none)
 
         pub listed_now_same : entry_of name q ≡ entry_of name p → numbers ≡ open_numbers first (free_in (slice_set items (number - first) q))
         listed_now_same same = listed_now_open (let a : q.available ≡ p.available = ap (λ (d : Entry). d.free) same in let b = has_free in omega arith)
 
       pub next_is_booked : IsBookedIn k m.pools (entry_of name p)
-      next_is_booked =
-          let i : ℕ = number - first in
-          let was : slice_get old i ≡ Some (entry_of name p) = sym (next_was k n id first i wanting out old (map (entry_of name) items) l m booked walk_reaches (let a = inside in let b = s.long in omega arith)) ∙ entry_at_place in
-          next_booked k n id first i wanting out old (map (entry_of name) items) l m booked walk_reaches (entry_of name p) was
+      next_is_booked = next_booked k n id first (number - first) wanting out old (map (entry_of name) items) l m booked walk_reaches (entry_of name p) was
 
 pub open_walk_start : {P : Type 0} (name : P → ℕ) (k : Key) (n id first : ℕ) (items : List (DescriptorPool P)) (numbers : List ℕ) (l : Ledger) → numbers ≡ open_numbers first (free_in items) → OpenWalk name k n id first n [] (map (entry_of name) items) items numbers l l
 open_walk_start name k n id first items numbers l listed = record {

@@ -81,8 +81,8 @@ walk_start k n id first old l =
       untouched = λ j e lt at. refl;
     }
 
-pub walk_end : (k : Key) (n id first wanting : ℕ) (items : List Item) (old new : List Entry) (l m : Ledger) → Walking k n id first 0 wanting items old new l m → IsWalked k n wanting items (bucket id first old) (bucket id first new) l m
-walk_end k n id first wanting items old new l m s = record { grant = so_far id 0 s.refused s.parts; all = refl; no_fresh = refl; wants = s.wants; taken = s.taken }
+pub walk_end : {k : Key} {n id first own place wanting : ℕ} {items : List Item} {old new : List Entry} {l m : Ledger} → id ≡ own → first ≡ place → Walking k n id first 0 wanting items old new l m → IsWalked k n wanting items (bucket own place old) (bucket id first new) l m
+walk_end ids places s = rw (sym ids, sym places) (record { grant = so_far _ 0 s.refused s.parts; all = refl; no_fresh = refl; wants = s.wants; taken = s.taken })
 
 pub walk_stop : (k : Key) (room n id first i wanting : ℕ) (items : List Item) (old new : List Entry) (l m m' : Ledger) (e f : Entry) (error : DeviceAllocationError) → Walking k n id first (suc i) wanting items old new l m → slice_get old i ≡ Some e → slice_get new i ≡ Some e → f ≡ e → IsNoMemory wanting e error m m' → IsTaken (Err (Existing error)) k room n items (bucket id first old) (bucket id first (slice_set new i f)) l m'
 walk_stop k room n id first i wanting items old new l m m' e f error s was is same none = (
