@@ -47,8 +47,8 @@ taken_new : {k : Key} {n id : ℕ} {g : Grant} {items : List Item} {b : Bucket} 
 taken_new t = record { grant = grant_new t.grant; came = t.came; bucket = t.bucket; pools = t.pools; counters = t.counters }
 
 served_new : {L P S : Type 0} {means : Meaning L P S} {k : Key} {room count id : ℕ} {sets : List (DescriptorSet S)} {ended : Result (Unit {0}) Stop} {b : Bucket} {before after : Ledger} → IsServed means k room count sets ended (record no_pools { id = id }) b before after → IsServed means k room count sets ended no_pools b before after
-served_new {ended = Ok done} s = record { numbers = s.numbers; few = s.few; taken = (s.taken.0, taken_new s.taken.1, s.taken.2, s.taken.3) }
-served_new {ended = Err why} s = record { numbers = s.numbers; few = s.few; taken = (s.taken.0, s.taken.1, taken_new s.taken.2, s.taken.3, s.taken.4) }
+served_new {ended = Ok done} s = record { numbers = s.numbers; few = s.few; all = s.all; taken = (s.taken.0, taken_new s.taken.1, s.taken.2, s.taken.3) }
+served_new {ended = Err why} s = record { numbers = s.numbers; few = s.few; all = s.all; taken = (s.taken.0, s.taken.1, taken_new s.taken.2, s.taken.3, s.taken.4) }
 
 -- what one key gave, in the table
 module _ {L P S : Type 0} {means : Meaning L P S} (k : BucketKey) (w : DescriptorBucket P) {old : Bucket} {room count : ℕ} {sets : List (DescriptorSet S)} {ended : Result (Unit {0}) Stop} {before after : Ledger}

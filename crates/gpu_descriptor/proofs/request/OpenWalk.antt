@@ -40,9 +40,6 @@ module _ {P : Type 0} {name : P → ℕ} {k : Key} {n id first wanting : ℕ} {o
     newest : IsNewestOpen first (free_in items) front number
     newest = newest_open first (free_in items) front number (sym s.listed ∙ last)
 
-    pub above : first ≤ number
-    above = (let e = newest.is in omega arith)
-
     place_is : newest.place ≡ number - first
     place_is = (let e = newest.is in omega arith)
 
@@ -64,15 +61,9 @@ module _ {P : Type 0} {name : P → ℕ} {k : Key} {n id first wanting : ℕ} {o
           let some = newest.some in
           omega arith
 
-      reached : suc (number - first) ≤ s.left
-      reached = elim (cases_lt (number - first) s.left) [
-        | inl lt ↦ omega arith
-        | inr le ↦ (let a = s.closed (number - first) (entry_of name p) le entry_at_place in let b = has_free in absurd (omega arith))
-      ]
-
       pub walk_reaches : Walking k n id first (suc (number - first)) wanting out old (map (entry_of name) items) l m
       walk_reaches =
-          let to = reached in
+          let to : suc (number - first) ≤ s.left = elim (cases_lt (number - first) s.left) [ inl lt ↦ omega arith | inr le ↦ (let a = s.closed (number - first) (entry_of name p) le entry_at_place in let b = has_free in absurd (omega arith)) ] in
           walk_gap k n id first wanting out old (map (entry_of name) items) l m booked (s.left - suc (number - first)) (suc (number - first)) s.left (omega arith) s.within (λ j e le lt there. (let z = newer j e.free (omega arith) (free_get j e there) in omega arith)) s.walking
 
       was : slice_get old (number - first) ≡ Some (entry_of name p)
@@ -106,7 +97,7 @@ module _ {P : Type 0} {name : P → ℕ} {k : Key} {n id first wanting : ℕ} {o
         open_walk_more {put} {wanting' = wanting'} {names = names} {m' = m'} ids starts put_is items_is listed' asked less =
             let i : ℕ = number - first in
             let next = walk_more k n id first i wanting out old (map (entry_of name) items) l m booked walk_reaches (entry_of name p) (entry_of name q) names m' wanting' was asked less in
-            let named : number ≡ first + i = (let a = above in omega arith) in
+            let named : number ≡ first + i = (let e = newest.is in omega arith) in
             let now : put ≡ out ++ items_at k id (first + i) names = put_is ∙ ap (λ (j : ℕ). out ++ items_at k id j names) named in
             rw (ids, starts, items_is) (record {
               long = length-set items i q ∙ s.long;

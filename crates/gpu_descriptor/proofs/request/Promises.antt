@@ -42,29 +42,6 @@ shares_sum refused n number (e ∷ newer) =
     let more = shares_sum refused n (number + 1) newer in
     omega arith
 
-fresh_sum : (number : ℕ) (pools : List Fresh) → sum_given (fresh_portions number pools) ≡ given_by pools
-fresh_sum number [] = refl
-fresh_sum number (f ∷ pools) =
-    let p : Portion = record { number = number; pool = f.pool; given = f.given } in
-    let a = sum_by-cons (λ (q : Portion). q.given) p (fresh_portions (number + 1) pools) in
-    let b = sum_by-cons (λ (g : Fresh). g.given) f pools in
-    let more = fresh_sum (number + 1) pools in
-    omega arith
-
-all_given : (k : Key) (room total wanted : ℕ) (pools : List Fresh) → IsFreshList k room total wanted pools → given_by pools ≡ wanted
-all_given k room total wanted pools (no_fresh zero_wanted empty) = ap given_by empty ∙ sym zero_wanted
-all_given k room total wanted pools (some_fresh front last is short sized le given) = given
-
--- what was had in all is what was asked for
-pub grant_many : (k : Key) (n room total : ℕ) (b : Bucket) (g : Grant) → map portion_of g.parts ≡ portions_of g.refused n (b.first + g.left) (drop g.left b.pools) ++ fresh_portions (next_number b) g.fresh → g.left ≡ 0 → IsFreshList k room total (rest g.refused n b.pools) g.fresh → length (items_in k g.id g.parts) ≡ n
-grant_many k n room total b g parts none_left fresh =
-    let long = length_items k g.id g.parts ∙ ap sum_given parts in
-    let two = sum_by-append (λ (q : Portion). q.given) (portions_of g.refused n (b.first + g.left) (drop g.left b.pools)) (fresh_portions (next_number b) g.fresh) in
-    let new = fresh_sum (next_number b) g.fresh ∙ all_given _ _ _ _ _ fresh in
-    let all : rest g.refused n (drop g.left b.pools) ≡ rest g.refused n b.pools = ap (λ i. rest g.refused n (drop i b.pools)) none_left in
-    let old = shares_sum g.refused n (b.first + g.left) (drop g.left b.pools) in
-    omega arith
-
 -- ---- the causes
 
 -- a memory error of a pool, which the device counted

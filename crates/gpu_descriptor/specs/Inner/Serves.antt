@@ -1,6 +1,6 @@
 -- What a request took of one key, before any of it goes back: in the bucket, in the table, and of an allocator.
 use Rattle.gpu_descriptor_types.specs.Bounds.{greatest_u64}
-use Rattle.std.specs.Prelude.{◌≡◌, ℕ, ◌+◌, ◌-◌, ◌*◌, ◌<◌, ◌≤◌, ◌⊎◌, true, if◌then◌else◌, List, length, sum, Result}
+use Rattle.std.specs.Prelude.{◌≡◌, ℕ, ◌+◌, ◌-◌, ◌*◌, ◌<◌, ◌≤◌, ◌⊎◌, true, if◌then◌else◌, List, length, sum, Result, OnOk}
 use Rattle.gpu_descriptor_types.specs.Ledger.{Ledger}
 use Rattle.gpu_descriptor_types.specs.Meaning.{Meaning}
 use Rattle.gpu_descriptor_types.specs.Side.{Side}
@@ -27,6 +27,7 @@ module _ {L P S : Type 0} (means : Meaning L P S) where
   pub record IsServed (k : Key) (room count : ℕ) (sets : List (DescriptorSet S)) (ended : Result (Unit {0}) Stop) (old new : Bucket) (before after : Ledger) : Type 0 where
     pub numbers : next_number old + count ≤ greatest_u64
     pub few : length sets ≤ count
+    pub all : OnOk ended (length sets ≡ count)
     pub taken : IsTaken ended k room count (items_of means.set_name sets) old new before after
 
   -- and the table has the key's new bucket
