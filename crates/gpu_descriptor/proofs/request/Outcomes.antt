@@ -49,11 +49,6 @@ had_taken (Err why) k room n items old new l m t = record { g = t.0; grant = t.2
     made_before (stop.Create e) at = made_front k t.0.fresh _ _ _ at.1.sized at.1.full
     made_before (stop.New e) at = made_front k t.0.fresh _ _ _ at.1.sized at.1.full
 
--- a request of a key is one of another that is the same
-pub taken_as : {L P S : Type 0} {means : Meaning L P S} {k l : Key} {count : ℕ} {sets : List (DescriptorSet S)} {ended : Result (Unit {0}) Stop} {old new : Allocations P} {before after : Ledger}
-    → k ≡ l → Takes means k count sets ended (side old before) (side new after) → Takes means l count sets ended (side old before) (side new after)
-taken_as same t = rw (sym same) t
-
 module _ {L P S : Type 0} {means : Meaning L P S} {k : Key} {count : ℕ} {sets : List (DescriptorSet S)} {ended : Result (Unit {0}) Stop} {old new : Allocations P} {before after : Ledger}
     (t : Takes means k count sets ended (side old before) (side new after)) (agree : Agrees means.pool_name old before) where
   abbrev s : State

@@ -13,9 +13,6 @@ use Rattle.gpu_descriptor.proofs.request.Asks.{same_counters}
 use Rattle.gpu_descriptor.proofs.request.PlacesFree.{key_with, wide, marked_flags}
 
 -- a pool for a key was created
-pub created_for : (k : Key) (size name : ℕ) (counts : List ℕ) (flags : ℕ) (l m : Ledger) → counts ≡ pool_counts k.counts size → flags ≡ flags_of k → m ≡ after_create counts size flags name l → m ≡ after_create (pool_counts k.counts size) size (flags_of k) name l
-created_for k size name counts flags l m sized marked is = is ∙ ap (λ cs. after_create cs size flags name l) sized ∙ ap (λ b. after_create (pool_counts k.counts size) size b name l) marked
-
 pub created_at : (k : Key) (size name : ℕ) (l m : Ledger) → m ≡ after_create (pool_counts k.counts size) size (flags_of k) name l → m.pools name ≡ Some (fresh (pool_counts k.counts size) size (flags_of k))
 created_at k size name l m is = ap (λ (x : Ledger). x.pools name) is ∙ update_here l.pools name (Some (fresh (pool_counts k.counts size) size (flags_of k)))
 

@@ -119,7 +119,7 @@ walk_gap k n id first wanting items old new l m booked (suc gap) i left is here 
     let nothing = none (gap + i) e (omega arith) (omega arith) there in
     let next : Walking k n id first (gap + i) wanting (items ++ []) old (slice_set new (gap + i) e) l m = walk_more k n id first (gap + i) wanting items old new l m booked from e e [] m wanting at.1 (skipped k wanting e m nothing) (omega arith) in
     walk_gap k n id first wanting items old new l m booked gap i (gap + i) refl (omega arith) (λ j d le lt there. none j d le (omega arith) there)
-    (subst (λ (x : List Entry). Walking k n id first (gap + i) wanting items old x l m) (set_same new (gap + i) e there) (subst (λ (x : List Item). Walking k n id first (gap + i) wanting x old (slice_set new (gap + i) e) l m) (append-nil items) next))
+    (rw (append-nil items, set_same new (gap + i) e there) at next)
 
 -- sets of one pool, as the books see them
 pub items_of-sets_at : {S : Type 0} (name : S → ℕ) (k : Key) (id number : ℕ) (raws : List S) → items_of name (map (set_at k id number) raws) ≡ items_at k id number (map name raws)

@@ -5,8 +5,8 @@ use Rattle.gpu_descriptor.specs.Caller.Call.{call_of, layout_key}
 use Rattle.gpu_descriptor.specs.Caller.Keys.{StayOrGainLast}
 use Rattle.gpu_descriptor.specs.Caller.States.{keys_of}
 use Rattle.gpu_descriptor.specs.Inner.Serves.{Takes}
-use Rattle.gpu_descriptor.proofs.request.Outcomes.{taken_agree, taken_as, taken_given}
-use Rattle.gpu_descriptor.proofs.request.HandedOut.{gained_as, hands_all, hands_back, hands_none, keeps_all, keeps_back}
+use Rattle.gpu_descriptor.proofs.request.Outcomes.{taken_agree, taken_given}
+use Rattle.gpu_descriptor.proofs.request.HandedOut.{hands_all, hands_back, hands_none, keeps_all, keeps_back}
 use Rattle.gpu_descriptor.proofs.callers.Unchanged.{keeps_still}
 use Rattle.gpu_descriptor.proofs.request.Requested.{load_within, pool_load_within, rows_apart}
 use Rattle.gpu_descriptor.proofs.allocator.DescriptorAllocator.allocate.Goals.{After-contains, In-Ok}
@@ -18,11 +18,11 @@ keyed g c = λ i. record { counts = c.requires.counts i; marked = (c.contains.en
 
 -- what the request took, under the layout's key
 taken : (g : _) (c : In-Ok g) → Takes g.D.DescriptorDevice.meaning (layout_key g.D.DescriptorDevice.meaning c.args.layout.now) c.args.count c.in-Ok.served.sets.items c.in-Ok.served.taken (side c.args.self.now (g.D.DescriptorDevice.ledger c.args.device.now)) (side c.request.new.self (g.D.DescriptorDevice.ledger c.request.new.device))
-taken g c = taken_as (λ i. record { counts = c.requires.counts i; marked = (c.contains.ensures tt ∙ c.requires.mark) i }) c.in-Ok.ensures.taken
+taken g c = subst (λ (k : Key). Takes g.D.DescriptorDevice.meaning k c.args.count c.in-Ok.served.sets.items c.in-Ok.served.taken (side c.args.self.now (g.D.DescriptorDevice.ledger c.args.device.now)) (side c.request.new.self (g.D.DescriptorDevice.ledger c.request.new.device))) (keyed g (goal.at-In-Ok g c).After-contains) c.in-Ok.ensures.taken
 
 -- and the keys
 gained : (g : _) (c : In-Ok g) → StayOrGainLast (layout_key g.D.DescriptorDevice.meaning c.args.layout.now) (keys_of c.args.self.now) (keys_of c.request.new.self)
-gained g c = gained_as (λ i. record { counts = c.requires.counts i; marked = (c.contains.ensures tt ∙ c.requires.mark) i }) c.in-Ok.ensures.keys
+gained g c = subst (λ (k : Key). StayOrGainLast k (keys_of c.args.self.now) (keys_of c.request.new.self)) (keyed g (goal.at-In-Ok g c).After-contains) c.in-Ok.ensures.keys
 
 -- some sets were asked for
 some : (g : _) (c : In-Ok g) → 0 < c.args.count
