@@ -53,13 +53,6 @@ overflow_cast-descriptors g c =
     let ranges = c.self.ranges in
     omega arith
 
-pub overflow_add-self : goal.overflow_add-self
-overflow_add-self g c =
-    let given = c.len-given.ensures ∙ c.in-Ok.served.sets.ok.0 in
-    let few = c.in-Ok.ensures.served.served.few in
-    let below = ltb-false greatest_u64 (c.self.inside.outstanding + c.args.count) (sym c.is_past_bound.ensures ∙ c.if-is_past_bound.false) in
-    omega arith
-
 pub overflow_add-self-2 : goal.overflow_add-self-2
 overflow_add-self-2 g c =
     let all = fits g (goal.at.overflow_add-self-2 g c).After-len-given in

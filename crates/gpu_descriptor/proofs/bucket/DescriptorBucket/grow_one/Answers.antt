@@ -56,14 +56,6 @@ destroy_descriptor_pool-requires g c =
     let m' : Ledger = g.D.DescriptorDevice.ledger c.alloc_descriptor_sets.new.self in
     subst (λ (q : ℕ). HasNoSets q m') (sym c.in-Err-alloc_descriptor_sets.ensures.name) (no_sets (key g d) (size g d) (name g d) c.in-Err-alloc_descriptor_sets.error (created g d) m' (at g d) c.in-Err-alloc_descriptor_sets.ensures.err.ledger)
 
-pub push-requires-clause-numbers : goal.push-requires-clause-numbers
-push-requires-clause-numbers g c =
-    let fits = c.requires.numbers in
-    let some = c.requires.some in
-    let first = c.make_room.ensures.offset in
-    let same = ap length c.make_room.ensures.pools in
-    omega arith
-
 pub returns-in-Err-alloc_descriptor_sets-clause-err : goal.returns-in-Err-alloc_descriptor_sets-clause-err
 returns-in-Err-alloc_descriptor_sets-clause-err g c =
     let d = (goal.at.returns-in-Err-alloc_descriptor_sets-clause-err g c).In-Ok in

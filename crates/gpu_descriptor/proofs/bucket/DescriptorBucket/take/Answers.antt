@@ -102,11 +102,3 @@ loop-wanting-preserved g c =
 
 pub returns-in-Err-clause-room : goal.returns-in-Err-clause-room
 returns-in-Err-clause-room g c = ap (λ n. c.args.room.now + n) (stopped_load g.D.DescriptorDevice.meaning.pool_name c.args.self.now.pools.items c.take_known.new.self.pools.items c.in-Err.ensures.stopped)
-
-pub returns-in-Err-grow_one-clause-room : goal.returns-in-Err-grow_one-clause-room
-returns-in-Err-grow_one-clause-room g c =
-    let err = c.in-Err-grow_one.ensures.err in
-    let same = ap (stored_load (key_of c.args.request.now.key)) err.1 in
-    let load = c.loop-wanting.invariant.load in
-    let room = err.3 in
-    omega arith

@@ -49,12 +49,6 @@ returns-clause-stopped g c =
     let at = (goal.at.returns-clause-stopped g c).After-walk-walked in
     IfErr-weaker c.walk-walked.result _ _ (λ error p. stopped_as g.D.DescriptorDevice.meaning.set_name p.0 c.requires.empty p.1 (was_bucket g at) (is_bucket g at) p.2) c.walk-walked.ensures.stopped
 
-pub returns-clause-few : goal.returns-clause-few
-returns-clause-few g c = (let few = c.walk-walked.ensures.given in let none = ap length c.requires.empty in omega arith)
-
-pub invariant_of-self-clause-open : goal.invariant_of-self-clause-open
-invariant_of-self-clause-open g c = c.walk-walked.ensures.listed ∙ ap (λ f. open_numbers f (free_in c.walk-walked.new.view.pools.now.items)) (c.walk-walked.ensures.kept.0 ∙ c.new-view.ensures.offset)
-
 -- as many more are allocated as came
 module _ {S : Type 0} (name : S → ℕ) (was now : List (DescriptorSet S)) (empty : was ≡ []) where
   long : (put : List (DescriptorSet S)) → now ≡ was ++ put → length (items_of name put) ≡ length now

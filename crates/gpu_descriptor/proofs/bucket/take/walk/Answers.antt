@@ -43,9 +43,6 @@ returns-clause-walked g c =
     let over = walk_end inv.kept.4 inv.kept.0 (walk_sated c.requires.booked inv.walk (let none = c.loop-wanting-test.false in omega arith)) in
     (inv.put, inv.sets, inv.room, inv.given, over)
 
-pub newest-requires : goal.newest-requires
-newest-requires g c = record { listed = c.loop-wanting.invariant.walk.listed }
-
 pub ask-requires-clause-booked : goal.ask-requires-clause-booked
 ask-requires-clause-booked g c =
     next_is_booked c.requires.booked c.loop-wanting.invariant.walk c.loop-wanting-test.true _ _ c.in-Some.ensures.last _ c.in-Some.ensures.value
