@@ -77,12 +77,9 @@ refuses k wanted error e l m some pool_error is = record {
   counters = ap (λ (x : Ledger). x.counters) is ∙ (let t = asks_some e.free wanted some in rw t (refused_counters error l.counters pool_error));
 }
 
-no_refusal : (name : ℕ) (error : DeviceAllocationError) (l : Ledger) → pool_refusals error ≡ 0 → (after_no_alloc name error l).pools ≡ l.pools
-no_refusal name error l h = on_id name l.pools _ (λ p i. record p { refusals = (let a : p.refusals + pool_refusals error ≡ p.refusals = omega arith in a) i })
-
 pub no_memory : (wanted : ℕ) (error : DeviceAllocationError) (e : Entry) (l m : Ledger) → 0 < min wanted e.free → pool_refusals error ≡ 0 → m ≡ after_no_alloc e.pool error l → IsNoMemory wanted e error l m
 no_memory wanted error e l m some memory is = record {
   asked = asks_some e.free wanted some;
   memory = memory;
-  refused = record { pools = ap (λ (x : Ledger). x.pools) is ∙ no_refusal e.pool error l memory; counters = ap (λ (x : Ledger). x.counters) is ∙ alloc_rise error l.counters };
+  refused = record { pools = ap (λ (x : Ledger). x.pools) is ∙ on_id e.pool l.pools _ (λ p i. record p { refusals = (let a : p.refusals + pool_refusals error ≡ p.refusals = omega arith in a) i }); counters = ap (λ (x : Ledger). x.counters) is ∙ alloc_rise error l.counters };
 }

@@ -68,9 +68,7 @@ module _ (c : Call) (d : IsDone c) where
           let entries : (c.new.books k).pools ≡ (shares ++ map fresh_entry front) ++ fresh_entry last ∷ [] =
           ap (λ (w : State). (w.books k).pools) d.state
           ∙ granted_entries k c.request.count d.grant c.old d.all
-          ∙ ap (λ fs. shares ++ map fresh_entry fs) is
-          ∙ ap (λ es. shares ++ es) (map-append fresh_entry front (last ∷ []))
-          ∙ sym (append_assoc shares (map fresh_entry front) (fresh_entry last ∷ [])) in
+          ∙ rw (is, map-append fresh_entry front (last ∷ [])) (sym (append_assoc shares (map fresh_entry front) (fresh_entry last ∷ []))) in
           let few = short.short in
           let used = All-append (λ (e : Entry). e.free ≡ 0) shares (map fresh_entry front) (shares_used d.grant.refused c.request.count (c.old.books k).pools (omega arith)) (full_used front short.full) in
           All-same (λ (e : Entry). e.free ≡ 0) _ (shares ++ map fresh_entry front) (ap (λ (es : List Entry). take (length es - 1) es) entries ∙ but_last (shares ++ map fresh_entry front) (fresh_entry last)) used

@@ -37,14 +37,6 @@ pub counted_none : {P : Type 0} (most : ℕ) → IsConsistent {P = P} most 0 mos
 unfolding IsDistinct
 counted_none most = record { distinct = tt; is_load = refl; within = omega arith; is_room = omega arith; is_out = refl }
 
--- the totals keep the limit
-module _ {P : Type 0} {most marked room out : ℕ} {es : List (BucketKey × DescriptorBucket P)} (counted : IsConsistent most marked room out es) where
-  pub rows_within : sum_over descriptors_out (map row_of es) ≤ most
-  rows_within = (let load = counted.is_load in let within = counted.within in omega arith)
-
-  pub pools_within : sum_over bucket_load (map row_of es) ≤ most
-  pools_within = (let room = counted.is_room in omega arith)
-
 module _ {P : Type 0} {a : Allocations P} {most looks compared : ℕ} (es : List (BucketKey × DescriptorBucket P)) (is : seen most looks compared es ≡ a) where
   pub table_is : a.table ≡ map row_of es
   table_is = ap (λ (x : Allocations P). x.table) (sym is)
@@ -57,10 +49,10 @@ module _ {P : Type 0} {a : Allocations P} {most looks compared : ℕ} (es : List
   rows_apart name counted = subst (λ (x : Allocations P). HasDistinctKeys (table_of name x)) is (rows_distinct name es counted.distinct)
 
   pub load_within : {marked room out : ℕ} → IsConsistent most marked room out es → marked_load_of a ≤ a.limit
-  load_within counted = subst (λ (x : Allocations P). marked_load_of x ≤ x.limit) is (rows_within counted)
+  load_within counted = subst (λ (x : Allocations P). marked_load_of x ≤ x.limit) is (let load = counted.is_load in let within = counted.within in omega arith)
 
   pub pool_load_within : {marked room out : ℕ} → IsConsistent most marked room out es → pool_load_of a ≤ a.limit
-  pool_load_within counted = subst (λ (x : Allocations P). pool_load_of x ≤ x.limit) is (pools_within counted)
+  pool_load_within counted = subst (λ (x : Allocations P). pool_load_of x ≤ x.limit) is (let room = counted.is_room in omega arith)
 
 -- the rows of an allocator and its limit
 module _ {P : Type 0} {a : Allocations P} {most looks compared marked room out : ℕ} {es : List (BucketKey × DescriptorBucket P)} (is : seen most looks compared es ≡ a) (counted : IsConsistent most marked room out es) where
