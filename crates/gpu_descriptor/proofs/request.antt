@@ -1,5 +1,4 @@
 pub mod Asks
-pub mod Granted
 pub mod Growing
 pub mod HandedOut
 pub mod InTable
@@ -15,6 +14,7 @@ pub mod Requested
 pub mod Rollback
 pub mod Shares
 pub mod StateAgrees
-pub mod StepsAgree
+pub mod TakenAgrees
+pub mod TakenPlaces
 pub mod WalkStep
 pub mod Walking

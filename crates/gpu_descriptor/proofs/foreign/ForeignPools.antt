@@ -4,14 +4,11 @@ use Rattle.gpu_descriptor.specs.Model.Foreign.{IsForeign, KeepsForeign, LosesNon
 use Rattle.gpu_descriptor.specs.Model.Cleanup.{IsCleaned}
 use Rattle.gpu_descriptor.specs.Model.Release.{given_back, released, bucket_less, entry_less, empty_front, spent_front, in_front, without_front, lies_in, pool_less}
 use Rattle.gpu_descriptor.specs.Caller.Frees.{GivesBack}
-use Rattle.gpu_descriptor.specs.Model.Shares.{all_shared, shared}
 use Rattle.gpu_descriptor.specs.Caller.Sets.{items_of}
 use Rattle.gpu_descriptor.specs.Caller.States.{state_of}
-use Rattle.gpu_descriptor.specs.Inner.Walk.{KeepsKey}
 use Rattle.gpu_descriptor.proofs.table.Exact.{key_exact}
 use Rattle.gpu_descriptor.proofs.release.Fronts.{entry_at-found, entry_at-from}
 use Rattle.gpu_descriptor.proofs.release.ReleaseAgrees.{front_found, none_back}
-use Rattle.gpu_descriptor.proofs.request.StateAgrees.{pool_found}
 use Rattle.gpu_descriptor.proofs.cleanup.Cleaning.{cleaned_cases, was_kept}
 use Rattle.gpu_descriptor.proofs.release.Parts.{names_key, key_any}
 use Rattle.gpu_descriptor.proofs.release.Places.{back, front_of, lies_in-found, entry_at-less, released_books, some_before, was_there}
@@ -130,80 +127,6 @@ foreign_through s t u first second name pool foreign live = (let kept = first na
 
 pub loses_through : (s t u : State) → LosesNone s t → LosesNone t u → LosesNone s u
 loses_through s t u first second = foreign_through u t s second first
-
--- ---- what a request takes
-
-none_named : {name : ℕ} (es : List Entry) → ((i : ℕ) (e : Entry) → slice_get es i ≡ Some e → e.pool ≢ name) → list_any (λ e. e.pool == name) es ≡ false
-none_named [] apart = refl
-none_named {name} (e ∷ es) apart = or_from (e.pool == name) (list_any (λ e. e.pool == name) es) (ne_eqb e.pool name (apart 0 e refl)) (none_named es (λ i c there. apart (suc i) c there))
-
-module _ (k : Key) (items : List Item) (new : Bucket) (s : State) (after : ℕ → Option Pool) (same_first : new.first ≡ (s.books k).first) (h : KeepsKey k items (s.books k) new s.ledger after) where
-  abbrev t : State
-  t = with_bucket k new after s
-
-  -- the key's own pools don't have the name
-  abbrev IsApart : ℕ → Type 0
-  IsApart name = (n : ℕ) (e : Entry) → entry_at (s.books k) n ≡ Some e → e.pool ≢ name
-
-  own_apart : (name : ℕ) (pool : Pool) → IsApart name → s.ledger name ≡ Some pool → (i : ℕ) (e : Entry) → slice_get new.pools i ≡ Some e → e.pool ≢ name
-  own_apart name pool apart live i e at same = elim (h.named i e at) [
-    | inl old ↦ (
-        let found = pool_found e.pool (s.books k).pools old in
-        let b = s.books k in
-        apart (b.first + found.0) found.1 (entry_at-from b (b.first + found.0) found.1 (omega arith) (ap (slice_get b.pools) (let n : b.first + found.0 - b.first ≡ found.0 = omega arith in n) ∙ found.2)) (found.3 ∙ same))
-    | inr none ↦ (let bad : ◌≡◌ {A = Option Pool} None (Some pool) = sym none ∙ ap s.ledger same ∙ live in absurd (cc))
-  ]
-
-  -- a live pool that is none of the key's stays
-  pub taken_apart : (name : ℕ) (pool : Pool) → IsApart name → s.ledger name ≡ Some pool → after name ≡ s.ledger name
-  taken_apart name pool apart live = h.others name (none_named new.pools (own_apart name pool apart live))
-
-  still_foreign : (name : ℕ) (pool : Pool) → IsForeign s name → s.ledger name ≡ Some pool → IsForeign t name
-  still_foreign name pool foreign live l n e at same = grind (arith, own_apart)
-
-  pub taken_foreign : KeepsForeign s t
-  taken_foreign name pool foreign live = (taken_apart name pool (foreign k) live ∙ live, still_foreign name pool foreign live)
-
-  -- a pool of the key keeps its name
-  abbrev pub KeepsNames : Type 0
-  KeepsNames = (i : ℕ) (e : Entry) → slice_get (s.books k).pools i ≡ Some e → (d : Entry) × (slice_get new.pools i ≡ Some d) × (d.pool ≡ e.pool)
-
-  -- the key's books
-  own_books : (l : Key) → key_eq k l ≡ true → t.books l ≡ new
-  own_books l own = rw own refl
-
-  pub taken_loses : KeepsNames → LosesNone s t
-  taken_loses names name pool foreign live = (
-    sym (h.others name (none_named new.pools (λ i e at same. foreign k (new.first + i) e (ap (λ (b : Bucket). entry_at b (new.first + i)) (own_books k (key_exact.self k)) ∙ place i e at) same))) ∙ live,
-    (λ l n e at same. elim (cases_Bool (key_eq k l)) [
-      | inl own ↦ (
-          let b : Bucket = s.books l in
-          let is : k ≡ l = key_exact.same k l own in
-          let found = entry_at-found b n e at in
-          let kept = names (n - b.first) e (ap (λ (x : Key). slice_get (s.books x).pools (n - b.first)) is ∙ found.1) in
-          let first : new.first ≡ b.first = same_first ∙ ap (λ (x : Key). (s.books x).first) is in
-          let above = found.0 in
-          foreign l n kept.0 (ap (λ (x : Bucket). entry_at x n) (own_books l own) ∙ entry_at-from new n kept.0 (omega arith) (ap (λ f. slice_get new.pools (n - f)) first ∙ kept.1)) (kept.2 ∙ same))
-      | inr other ↦ (
-          let here : t.books l ≡ s.books l = rw other refl in
-          foreign l n e (ap (λ (x : Bucket). entry_at x n) here ∙ at) same)
-    ]),
-  )
-    where
-      place : (i : ℕ) (e : Entry) → slice_get new.pools i ≡ Some e → entry_at new (new.first + i) ≡ Some e
-      place i e at = entry_at-from new (new.first + i) e (omega arith) (ap (slice_get new.pools) (let n : new.first + i - new.first ≡ i = omega arith in n) ∙ at)
-
--- pools that a request takes from keep their places and names
-shared_named : (refused : ℕ → Bool) (n : ℕ) (es rest : List Entry) (i : ℕ) (e : Entry) → slice_get es i ≡ Some e → (d : Entry) × (slice_get (all_shared refused n es ++ rest) i ≡ Some d) × (d.pool ≡ e.pool)
-shared_named refused n [] rest i e at = absurd (let bad : ◌≡◌ {A = Option Entry} None (Some e) = at in cc)
-shared_named refused n (x ∷ es) rest zero e at = (let is : x ≡ e = cc in (shared refused n es x, refl, ap (λ (d : Entry). d.pool) is))
-shared_named refused n (x ∷ es) rest (suc i) e at = shared_named refused n es rest i e at
-
-pub entries_named : (left n : ℕ) (refused : ℕ → Bool) (es rest : List Entry) (i : ℕ) (e : Entry) → slice_get es i ≡ Some e → (d : Entry) × (slice_get (take left es ++ all_shared refused n (drop left es) ++ rest) i ≡ Some d) × (d.pool ≡ e.pool)
-entries_named zero n refused es rest i e at = shared_named refused n es rest i e at
-entries_named (suc left) n refused [] rest i e at = absurd (let bad : ◌≡◌ {A = Option Entry} None (Some e) = at in cc)
-entries_named (suc left) n refused (x ∷ es) rest zero e at = (e, at, refl)
-entries_named (suc left) n refused (x ∷ es) rest (suc i) e at = entries_named left n refused es rest i e at
 
 -- ---- as callers see it
 

@@ -1,6 +1,10 @@
 -- What stands at the places of a list.
-use Rattle.gpu_descriptor.proofs.Common.{◌≡◌, ◌≢◌, ℕ, zero, suc, ◌<◌, inl, inr, List, [], ◌∷◌, ◌++◌, length, take, slice_set, Bool, true, false, Some, None, refl, sym, ap, ◌∙◌, arith, drop, ◌+◌, or_cases, or_left, or_right, slice_get, list_any, ◌⊎◌, get_or_from_slice_get, slice_get_within, length-take-le, set-get_or}
+use Rattle.gpu_descriptor.proofs.Common.{◌≡◌, ◌≢◌, ℕ, zero, suc, ◌<◌, inl, inr, List, [], ◌∷◌, ◌++◌, length, take, slice_set, Bool, true, false, Some, None, refl, sym, ap, ◌∙◌, arith, drop, ◌+◌, or_cases, or_left, or_right, slice_get, list_any, ◌⊎◌, get_or_from_slice_get, slice_get_within, length-take-le, set-get_or, ◌≤◌, count_by, count_by_no, count_by_yes, Option, cases_Bool, or_from}
 use Rattle.std.proofs.Math.Seq.{take-suc}
+
+pub cases_option : {A : Type 0} (o : Option A) → (o ≡ None) ⊎ ((x : A) × (o ≡ Some x))
+cases_option None = inl refl
+cases_option (Some x) = inr (x, refl)
 
 -- ---- tests
 
@@ -20,6 +24,13 @@ any_here p (y ∷ xs) (suc i) x at hit = or_right (p y) (list_any p xs) (any_her
 
 pub none_at : {A : Type 0} (p : A → Bool) (xs : List A) (i : ℕ) (x : A) → list_any p xs ≡ false → slice_get xs i ≡ Some x → p x ≡ false
 none_at p xs i x none at = grind (arith, any_here)
+
+pub none_from : {A : Type 0} (p : A → Bool) (xs : List A) → ((i : ℕ) (x : A) → slice_get xs i ≡ Some x → p x ≡ false) → list_any p xs ≡ false
+none_from p [] each = refl
+none_from p (x ∷ xs) each = or_from (p x) (list_any p xs) (each 0 x refl) (none_from p xs (λ i y at. each (suc i) y at))
+
+pub count_by_more : {A : Type 0} (p : A → Bool) (x : A) (xs : List A) → count_by p xs ≤ count_by p (x ∷ xs)
+count_by_more p x xs = elim (cases_Bool (p x)) [ inl on ↦ (let e = count_by_yes p x xs on in omega arith) | inr off ↦ (let e = count_by_no p x xs off in omega arith) ]
 
 -- ---- a write, and one more at the end
 

@@ -1,5 +1,5 @@
 -- What asking one pool does, from what the device did.
-use Rattle.gpu_descriptor.proofs.Common.{◌≡◌, ℕ, zero, suc, ◌+◌, ◌-◌, ◌<◌, min, List, [], length, Bool, true, false, cond, ◌&&◌, Option, Some, None, nat_eq, nat_lt, refl, sym, ap, ◌∙◌, arith, lt-ltb, eqb-true, fun_ext, and_from, Key, Entry, Pool, Ledger, Counters, live_sets, changed, on_pool, after_alloc, after_no_alloc, alloc_refused, pool_refusals, no_rise, LiveSet, DeviceAllocationError}
+use Rattle.gpu_descriptor.proofs.Common.{◌≡◌, ℕ, zero, suc, ◌+◌, ◌-◌, ◌<◌, min, List, [], length, Bool, true, false, cond, ◌&&◌, Option, Some, None, nat_eq, nat_lt, refl, sym, ap, ◌∙◌, arith, lt-ltb, eqb-true, fun_ext, and_from, Key, Entry, Pool, Ledger, Counters, live_sets, changed, on_pool, option_map, after_alloc, after_no_alloc, alloc_refused, pool_refusals, no_rise, LiveSet, DeviceAllocationError}
 use Rattle.gpu_descriptor.specs.Model.Grants.{pool_with}
 use Rattle.gpu_descriptor.specs.Model.Outcomes.{risen}
 use Rattle.gpu_descriptor.specs.Inner.Walk.{IsAsked, IsNoMemory}
@@ -12,14 +12,15 @@ pub same_counters : (a b : Counters) → a.created ≡ b.created → a.destroyed
 same_counters a b e1 e2 e3 e4 e5 e6 e7 e8 = λ i. record { created = e1 i; destroyed = e2 i; asked = e3 i; released = e4 i; device_memory = e5 i; host_memory = e6 i; fragmentation = e7 i; pool_refused = e8 i }
 
 pub alloc_rise : (error : DeviceAllocationError) (c : Counters) → alloc_refused error c ≡ risen (alloc_refused error no_rise) c
-alloc_rise alloc_error.OutOfDeviceMemory c = same_counters _ _ (omega arith) (omega arith) (omega arith) (omega arith) (omega arith) (omega arith) (omega arith) (omega arith)
-alloc_rise alloc_error.OutOfHostMemory c = same_counters _ _ (omega arith) (omega arith) (omega arith) (omega arith) (omega arith) (omega arith) (omega arith) (omega arith)
-alloc_rise alloc_error.FragmentedPool c = same_counters _ _ (omega arith) (omega arith) (omega arith) (omega arith) (omega arith) (omega arith) (omega arith) (omega arith)
-alloc_rise alloc_error.OutOfPoolMemory c = same_counters _ _ (omega arith) (omega arith) (omega arith) (omega arith) (omega arith) (omega arith) (omega arith) (omega arith)
+alloc_rise error c = same_counters _ _ (grind arith) (grind arith) (grind arith) (grind arith) (grind arith) (grind arith) (grind arith) (grind arith)
 
 -- a pool that nothing came from and that did not refuse
 pub pool_same : (p : Pool) → pool_with [] false p ≡ p
 pool_same p = λ i. record p { live = fun_ext (λ (x : LiveSet). (let e : p.live x + 0 ≡ p.live x = omega arith in e)) i }
+
+pub none_with : (o : Option Pool) → option_map (pool_with [] false) o ≡ o
+none_with None = refl
+none_with (Some p) = ap (λ (x : Pool). Some x) (pool_same p)
 
 asks_some : (free wanted : ℕ) → 0 < min wanted free → nat_lt 0 free && nat_lt 0 wanted ≡ true
 asks_some free wanted h = and_from _ _ (lt-ltb 0 free (omega arith)) (lt-ltb 0 wanted (omega arith))
@@ -29,19 +30,18 @@ and_false true = refl
 and_false false = refl
 
 asks_none : (free wanted : ℕ) → min wanted free ≡ 0 → nat_lt 0 free && nat_lt 0 wanted ≡ false
-asks_none zero wanted h = refl
-asks_none (suc free) zero h = and_false (nat_lt 0 (suc free))
-asks_none (suc free) (suc wanted) h = absurd (omega arith)
+asks_none free wanted h = grind arith
 
-on_same : (name : ℕ) (pools : ℕ → Option Pool) → pools ≡ on_pool name (pool_with [] false) pools
-on_same name pools = fun_ext (λ q. at (nat_eq name q) q refl)
+-- a change of a pool that changes nothing
+on_id : (name : ℕ) (pools : ℕ → Option Pool) (f : Pool → Pool) → ((p : Pool) → f p ≡ p) → on_pool name f pools ≡ pools
+on_id name pools f same = fun_ext (λ q. at (nat_eq name q) q refl)
   where
-    each : (o : Option Pool) → o ≡ changed (pool_with [] false) o
+    each : (o : Option Pool) → changed f o ≡ o
     each None = refl
-    each (Some p) = ap (λ (x : Pool). Some x) (sym (pool_same p))
+    each (Some p) = ap (λ (x : Pool). Some x) (same p)
 
-    at : (b : Bool) (q : ℕ) → nat_eq name q ≡ b → pools q ≡ cond b (changed (pool_with [] false) (pools name)) (pools q)
-    at true q h = ap pools (sym (eqb-true name q h)) ∙ each (pools name)
+    at : (b : Bool) (q : ℕ) → nat_eq name q ≡ b → cond b (changed f (pools name)) (pools q) ≡ pools q
+    at true q h = each (pools name) ∙ ap pools (eqb-true name q h)
     at false q h = refl
 
 pub skipped : (k : Key) (wanted : ℕ) (e : Entry) (l : Ledger) → min wanted e.free ≡ 0 → IsAsked k wanted [] e e l l
@@ -50,7 +50,7 @@ skipped k wanted e l h = record {
   refusing = λ r. absurd (cc);
   many = omega arith;
   entry = same_entry _ _ refl refl (let a : e.allocated ≡ e.allocated + 0 = omega arith in a) (let a : e.free ≡ e.free - 0 = omega arith in a);
-  pools = on_same e.pool l.pools;
+  pools = sym (on_id e.pool l.pools (pool_with [] false) pool_same);
   counters = (let t = asks_none e.free wanted h in rw t (let n = l.counters in same_counters _ _ (omega arith) (omega arith) (omega arith) (omega arith) (omega arith) (omega arith) (omega arith) (omega arith)));
 }
 
@@ -65,10 +65,7 @@ given k wanted names e l m some many is = record {
 }
 
 refused_counters : (error : DeviceAllocationError) (n : Counters) → pool_refusals error ≡ 1 → alloc_refused error n ≡ risen (record no_rise { asked = 1; pool_refused = 1 }) n
-refused_counters alloc_error.OutOfDeviceMemory n h = absurd (omega arith)
-refused_counters alloc_error.OutOfHostMemory n h = absurd (omega arith)
-refused_counters alloc_error.FragmentedPool n h = same_counters _ _ (omega arith) (omega arith) (omega arith) (omega arith) (omega arith) (omega arith) (omega arith) (omega arith)
-refused_counters alloc_error.OutOfPoolMemory n h = same_counters _ _ (omega arith) (omega arith) (omega arith) (omega arith) (omega arith) (omega arith) (omega arith) (omega arith)
+refused_counters error n h = same_counters _ _ (grind arith) (grind arith) (grind arith) (grind arith) (grind arith) (grind arith) (grind arith) (grind arith)
 
 pub refuses : (k : Key) (wanted : ℕ) (error : DeviceAllocationError) (e : Entry) (l m : Ledger) → 0 < min wanted e.free → pool_refusals error ≡ 1 → m ≡ after_no_alloc e.pool error l → IsAsked k wanted [] e (record e { free = 0 }) l m
 refuses k wanted error e l m some pool_error is = record {
@@ -80,20 +77,9 @@ refuses k wanted error e l m some pool_error is = record {
   counters = ap (λ (x : Ledger). x.counters) is ∙ (let t = asks_some e.free wanted some in rw t (refused_counters error l.counters pool_error));
 }
 
-no_refusal : (name : ℕ) (error : DeviceAllocationError) (l : Ledger) → pool_refusals error ≡ 0 → (after_no_alloc name error l).pools ≡ l.pools
-no_refusal name error l h = fun_ext (λ q. at (nat_eq name q) q refl)
-  where
-    each : (o : Option Pool) → changed (λ pool. record pool { refusals = pool.refusals + pool_refusals error }) o ≡ o
-    each None = refl
-    each (Some p) = ap (λ (x : Pool). Some x) (λ i. record p { refusals = (let a : p.refusals + pool_refusals error ≡ p.refusals = omega arith in a) i })
-
-    at : (b : Bool) (q : ℕ) → nat_eq name q ≡ b → cond b (changed (λ pool. record pool { refusals = pool.refusals + pool_refusals error }) (l.pools name)) (l.pools q) ≡ l.pools q
-    at true q e = each (l.pools name) ∙ ap l.pools (eqb-true name q e)
-    at false q e = refl
-
 pub no_memory : (wanted : ℕ) (error : DeviceAllocationError) (e : Entry) (l m : Ledger) → 0 < min wanted e.free → pool_refusals error ≡ 0 → m ≡ after_no_alloc e.pool error l → IsNoMemory wanted e error l m
 no_memory wanted error e l m some memory is = record {
   asked = asks_some e.free wanted some;
   memory = memory;
-  refused = record { pools = ap (λ (x : Ledger). x.pools) is ∙ no_refusal e.pool error l memory; counters = ap (λ (x : Ledger). x.counters) is ∙ alloc_rise error l.counters };
+  refused = record { pools = ap (λ (x : Ledger). x.pools) is ∙ on_id e.pool l.pools _ (λ p i. record p { refusals = (let a : p.refusals + pool_refusals error ≡ p.refusals = omega arith in a) i }); counters = ap (λ (x : Ledger). x.counters) is ∙ alloc_rise error l.counters };
 }

@@ -1,8 +1,6 @@
 -- The new pools of a request, as far as it has come.
-use Rattle.gpu_descriptor.proofs.Common.{◌≡◌, ◌≢◌, ℕ, zero, suc, take, drop, ◌+◌, ◌-◌, ◌<◌, inl, inr, List, [], ◌∷◌, ◌++◌, length, map, Bool, true, false, cond, ◌||◌, ◌==◌, nat_eq, Option, Some, None, Ok, Err, refl, sym, ap, ◌∙◌, subst, arith, eqb-true, eq-eqb, append_assoc, length-append, fun_ext, cases_Bool, eqb-false, map-append, append-nil, length-map, sum_by-cons, sum_by-append, list_any, update, if◌then◌else◌, option_map, Item, flags_of, Key, Entry, Bucket, Pool, Ledger, live_sets, changed, no_rise, pool_counts, Stop}
-use Rattle.std.proofs.lemmas.Grind.{flat_map-append}
+use Rattle.gpu_descriptor.proofs.Common.{◌≡◌, ◌≢◌, ℕ, zero, suc, take, drop, ◌+◌, ◌-◌, ◌<◌, inl, inr, List, [], ◌∷◌, ◌++◌, length, map, Bool, true, false, cond, ◌||◌, ◌==◌, nat_eq, Option, Some, None, Ok, Err, refl, sym, ap, ◌∙◌, subst, arith, eqb-true, eq-eqb, append_assoc, length-append, fun_ext, ne_eqb, nil_from_length, eqb-false, map-append, append-nil, length-map, sum_by-cons, sum_by-append, list_any, update, if◌then◌else◌, option_map, Item, flags_of, Key, Entry, Bucket, next_number, Pool, Ledger, live_sets, on_pool, no_rise, cases_Bool, or_from, or_parts, pool_counts, Stop}
 use Rattle.std.proofs.lemmas.List.Folds.{list_any-append}
-use Rattle.std.proofs.lemmas.Map.{update_here}
 use Rattle.gpu_descriptor.specs.Model.FreshPools.{Fresh, fresh_portions, fresh_entry, given_by, IsNextSize, room_after, AreSized, AreFull, AreNew, IsFreshFront, IsFreshList}
 use Rattle.gpu_descriptor.specs.Model.Grants.{Grant, Part, items_at, items_in, portion_of, came, pool_with, ledger_with, fresh_or}
 use Rattle.gpu_descriptor.specs.Inner.Grow.{IsGrown, IsTaken}
@@ -12,18 +10,19 @@ use Rattle.gpu_descriptor.specs.Model.Load.{allocated_in, pool_load, pools_load}
 use Rattle.gpu_descriptor.specs.Model.Outcomes.{risen, grant_rise, NoneIsNew, StopsAt}
 use Rattle.gpu_descriptor.specs.Model.Shares.{offer, rest, share, shared, all_shared, Portion, portions_of}
 use Rattle.gpu_descriptor.specs.Inner.Buckets.{AreBookedIn}
-use Rattle.gpu_descriptor.specs.Inner.Walk.{HasTaken, KeepsKey, IsWalked}
+use Rattle.gpu_descriptor.specs.Inner.Walk.{HasTaken, IsWalked}
 use Rattle.gpu_descriptor_types.specs.Ledger as ledgers
 use Rattle.gpu_descriptor.specs.Model.FreshPools as grants
 use Rattle.gpu_descriptor.proofs.request.NextSize.{room_more}
+use Rattle.gpu_descriptor.proofs.request.Promises.{length_items, shares_sum, sum_given}
 use Rattle.gpu_descriptor.proofs.table.Exact.{bucket}
-use Rattle.gpu_descriptor.proofs.request.StepsAgree.{keeps_grown}
-use Rattle.gpu_descriptor.proofs.request.Asks.{same_counters}
+use Rattle.gpu_descriptor.proofs.request.Asks.{none_with, same_counters}
 use Rattle.gpu_descriptor.proofs.request.Shares.{IsApart, apart_from, not_refused}
-use Rattle.gpu_descriptor.proofs.request.WalkStep.{part, came_more}
+use Rattle.gpu_descriptor.proofs.request.WalkStep.{grant_of, items_more, ledger_more, part}
+use Rattle.gpu_descriptor.proofs.request.TakenPlaces.{came_long, fresh_or_past, given_at, length_taken, no_fresh, no_share}
 
 abbrev pub all_so_far : ℕ → (ℕ → Bool) → List Fresh → List Part → Grant
-all_so_far id refused fresh parts = record { id = id; left = 0; refused = refused; fresh = fresh; parts = parts }
+all_so_far id refused fresh parts = grant_of id 0 refused fresh parts
 
 pub record Growing (k : Key) (start n id first room total wanting : ℕ) (items : List Item) (old new : List Entry) (l m : Ledger) : Type 0 where
   pub refused : ℕ → Bool
@@ -37,16 +36,14 @@ pub record Growing (k : Key) (start n id first room total wanting : ℕ) (items 
   pub list : wanting ≡ 0 → IsFreshList k start (allocated_in (all_shared refused n old)) (rest refused n old) fresh
   pub taken : HasTaken k n (all_so_far id refused fresh parts) items (bucket id first old) (bucket id first new) l m
 
-pub length-all_shared : (refused : ℕ → Bool) (n : ℕ) (es : List Entry) → length (all_shared refused n es) ≡ length es
-length-all_shared refused n [] = refl
-length-all_shared refused n (e ∷ es) = ap suc (length-all_shared refused n es)
-
 -- there is one pool more for each new one
-pub grown_long : (k : Key) (start n id first room total wanting : ℕ) (items : List Item) (old new : List Entry) (l m : Ledger) → (s : Growing k start n id first room total wanting items old new l m) → length new ≡ length old + length s.fresh
-grown_long k start n id first room total wanting items old new l m s =
-    ap (λ (b : Bucket). length b.pools) s.taken.bucket
-    ∙ length-append (all_shared s.refused n old) (map fresh_entry s.fresh)
-    ∙ (let a = length-all_shared s.refused n old in let b = length-map s.fresh fresh_entry in omega arith)
+pub taken_long : (k : Key) (n : ℕ) (g : Grant) (items : List Item) (old new : Bucket) (l m : Ledger) → HasTaken k n g items old new l m → length new.pools ≡ length old.pools + length g.fresh
+taken_long k n g items old new l m taken =
+    let is = ap (λ (b : Bucket). length b.pools) taken.bucket in
+    let all = length-append (take g.left old.pools ++ all_shared g.refused n (drop g.left old.pools)) (map fresh_entry g.fresh) in
+    let had = length_taken g.refused n g.left old.pools in
+    let made = length-map g.fresh fresh_entry in
+    omega arith
 
 -- what is out rises by what was given
 pub allocated_shared : (refused : ℕ → Bool) (n : ℕ) (es : List Entry) → allocated_in (all_shared refused n es) + rest refused n es ≡ allocated_in es + n
@@ -62,50 +59,14 @@ allocated_shared refused n (e ∷ newer) =
 fresh_or_none : (f : Pool → Pool) (k : Key) (q : ℕ) (fs : List Fresh) (o : Option Pool) → option_map f (fresh_or k fs q o) ≡ None → (list_any (λ h. h.pool == q) fs ≡ false) × (o ≡ None)
 fresh_or_none f k q [] None e = (refl, refl)
 fresh_or_none f k q [] (Some p) e = absurd (cc)
-fresh_or_none f k q (h ∷ fs) o e = by_test (h.pool == q) (fresh_or_none f k q fs o) e
-  where
-    by_test : (b : Bool) → (option_map f (fresh_or k fs q o) ≡ None → (list_any (λ h. h.pool == q) fs ≡ false) × (o ≡ None)) → option_map f (if b then Some (ledgers.fresh (pool_counts k.counts h.size) h.size (flags_of k)) else fresh_or k fs q o) ≡ None → (b || list_any (λ h. h.pool == q) fs ≡ false) × (o ≡ None)
-    by_test true ih e = absurd (cc)
-    by_test false ih e = ih e
+fresh_or_none f k q (h ∷ fs) o e = elim (cases_Bool (h.pool == q)) [
+  | inl on ↦ (let bad = rw on at e in absurd (cc))
+  | inr off ↦ (let rest = fresh_or_none f k q fs o (rw off at e) in (or_from _ _ off rest.0, rest.1))
+]
 
 fresh_or_more : (k : Key) (q : ℕ) (fs : List Fresh) (f : Fresh) (o : Option Pool) → fresh_or k (fs ++ f ∷ []) q o ≡ fresh_or k fs q (fresh_or k (f ∷ []) q o)
 fresh_or_more k q [] f o = refl
 fresh_or_more k q (h ∷ fs) f o = ap (λ (x : Option Pool). if h.pool == q then Some (ledgers.fresh (pool_counts k.counts h.size) h.size (flags_of k)) else x) (fresh_or_more k q fs f o)
-
-fresh_or_past : (k : Key) (q : ℕ) (fs : List Fresh) (o : Option Pool) → list_any (λ h. h.pool == q) fs ≡ false → fresh_or k fs q o ≡ o
-fresh_or_past k q [] o none = refl
-fresh_or_past k q (h ∷ fs) o none = by_test (h.pool == q) (fresh_or_past k q fs o) none
-  where
-    by_test : (b : Bool) → (list_any (λ h. h.pool == q) fs ≡ false → fresh_or k fs q o ≡ o) → b || list_any (λ h. h.pool == q) fs ≡ false → (if b then Some (ledgers.fresh (pool_counts k.counts h.size) h.size (flags_of k)) else fresh_or k fs q o) ≡ o
-    by_test true ih none = absurd (cc)
-    by_test false ih none = ih none
-
-came_none : (q : ℕ) (parts : List Part) → list_any (λ (r : Portion). r.pool == q) (map portion_of parts) ≡ false → came parts q ≡ []
-came_none q [] none = refl
-came_none q (p ∷ parts) none = by_test (p.pool == q) (came_none q parts) none
-  where
-    by_test : (b : Bool) → (list_any (λ (r : Portion). r.pool == q) (map portion_of parts) ≡ false → came parts q ≡ []) → b || list_any (λ (r : Portion). r.pool == q) (map portion_of parts) ≡ false → (if b then p.names else []) ++ came parts q ≡ []
-    by_test true ih none = absurd (cc)
-    by_test false ih none = ih none
-
-ne_test : (a b : ℕ) → a ≢ b → (a == b) ≡ false
-ne_test a b ne = elim (cases_Bool (a == b)) [ inl on ↦ absurd (ne (eqb-true a b on)) | inr off ↦ off ]
-
-rows_apart : (refused : ℕ → Bool) (n q number : ℕ) (es : List Entry) → IsApart q es → list_any (λ (r : Portion). r.pool == q) (portions_of refused n number es) ≡ false
-rows_apart refused n q number [] h = refl
-rows_apart refused n q number (e ∷ newer) h =
-    let a = list_any-append (λ (r : Portion). r.pool == q) (portions_of refused n (number + 1) newer) (record { number = number; pool = e.pool; given = share refused n newer e } ∷ []) in
-    let b = rows_apart refused n q (number + 1) newer h.1 in
-    let d = ne_test e.pool q h.0 in
-    a ∙ ap (λ x. x || ((e.pool == q) || false)) b ∙ ap (λ (x : Bool). x || false) d
-
-fresh_rows_apart : (q number : ℕ) (fs : List Fresh) → list_any (λ h. h.pool == q) fs ≡ false → list_any (λ (r : Portion). r.pool == q) (fresh_portions number fs) ≡ false
-fresh_rows_apart q number [] none = refl
-fresh_rows_apart q number (h ∷ fs) none = by_test (h.pool == q) (fresh_rows_apart q (number + 1) fs) none
-  where
-    by_test : (b : Bool) → (list_any (λ h. h.pool == q) fs ≡ false → list_any (λ (r : Portion). r.pool == q) (fresh_portions (number + 1) fs) ≡ false) → b || list_any (λ h. h.pool == q) fs ≡ false → b || list_any (λ (r : Portion). r.pool == q) (fresh_portions (number + 1) fs) ≡ false
-    by_test true ih none = absurd (cc)
-    by_test false ih none = ih none
 
 fresh_rows_more : (number : ℕ) (fs : List Fresh) (f : Fresh) → fresh_portions number (fs ++ f ∷ []) ≡ fresh_portions number fs ++ record { number = number + length fs; pool = f.pool; given = f.given } ∷ []
 fresh_rows_more number [] f = (let e : number ≡ number + 0 = omega arith in λ i. record { number = e i; pool = f.pool; given = f.given } ∷ [])
@@ -115,29 +76,26 @@ fresh_rows_more number (h ∷ fs) f =
 
 new_more : (pools : ℕ → Option Pool) (fs : List Fresh) (f : Fresh) → AreNew pools fs → list_any (λ h. h.pool == f.pool) fs ≡ false → pools f.pool ≡ None → AreNew pools (fs ++ f ∷ [])
 new_more pools [] f new none at = (at, refl, tt)
-new_more pools (h ∷ fs) f new none at = by_test (h.pool == f.pool) refl none (new_more pools fs f new.2)
-  where
-    by_test : (b : Bool) → (h.pool == f.pool) ≡ b → b || list_any (λ x. x.pool == f.pool) fs ≡ false → (list_any (λ x. x.pool == f.pool) fs ≡ false → pools f.pool ≡ None → AreNew pools (fs ++ f ∷ [])) → AreNew pools (h ∷ fs ++ f ∷ [])
-    by_test true same none ih = absurd (cc)
-    by_test false other none ih = (new.0, list_any-append (λ x. x.pool == h.pool) fs (f ∷ []) ∙ ap (λ (x : Bool). x || ((f.pool == h.pool) || false)) new.1 ∙ ap (λ (x : Bool). x || false) (ne_test f.pool h.pool (λ e. eqb-false h.pool f.pool other (sym e))), ih none at)
+new_more pools (h ∷ fs) f new none at =
+    let both = or_parts (h.pool == f.pool) (list_any (λ x. x.pool == f.pool) fs) none in
+    let apart : (f.pool == h.pool) ≡ false = ne_eqb f.pool h.pool (λ e. eqb-false h.pool f.pool both.0 (sym e)) in
+    (new.0, list_any-append (λ x. x.pool == h.pool) fs (f ∷ []) ∙ rw (new.1, apart) refl, new_more pools fs f new.2 both.1 at)
 
 given_more : (fs : List Fresh) (f : Fresh) → given_by (fs ++ f ∷ []) ≡ given_by fs + f.given
 given_more fs f = sum_by-append (λ (f : Fresh). f.given) fs (f ∷ []) ∙ (let one : given_by (f ∷ []) ≡ f.given = omega arith in omega arith)
 
-sized_more : (k : Key) (room t w : ℕ) (fs : List Fresh) (f : Fresh) → AreSized k room t w fs → IsNextSize k (room_after k room fs) (t + given_by fs) (w - given_by fs) f.size → AreSized k room t w (fs ++ f ∷ [])
-sized_more k room t w [] f all one = ((let a : t + given_by [] ≡ t = omega arith in let b : w - given_by [] ≡ w = omega arith in subst (λ (x : ℕ). IsNextSize k room x w f.size) a (subst (λ (x : ℕ). IsNextSize k room (t + given_by []) x f.size) b one)), tt)
-sized_more k room t w (h ∷ fs) f all one =
-    let s = sum_by-cons (λ (f : Fresh). f.given) h fs in
-    let left : ℕ = room_after k (room - pool_load k h.size) fs in
-    let a : t + given_by (h ∷ fs) ≡ t + h.given + given_by fs = omega arith in
-    let b : w - given_by (h ∷ fs) ≡ w - h.given - given_by fs = omega arith in
-    (all.0, sized_more k (room - pool_load k h.size) (t + h.given) (w - h.given) fs f all.1 (subst (λ (x : ℕ). IsNextSize k left x (w - h.given - given_by fs) f.size) a (subst (λ (x : ℕ). IsNextSize k left (t + given_by (h ∷ fs)) x f.size) b one)))
+sized_more : (k : Key) (room t w : ℕ) (fs : List Fresh) (f : Fresh) (left total wanted : ℕ) → AreSized k room t w fs → left ≡ room_after k room fs → total ≡ t + given_by fs → wanted ≡ w - given_by fs → IsNextSize k left total wanted f.size → AreSized k room t w (fs ++ f ∷ [])
+sized_more k room t w [] f left total wanted all room_is total_is wanted_is one =
+    let a : total ≡ t = omega arith in
+    let b : wanted ≡ w = omega arith in
+    (rw (room_is, a, b) at one, tt)
+sized_more k room t w (h ∷ fs) f left total wanted all room_is total_is wanted_is one = (let s = sum_by-cons (λ (f : Fresh). f.given) h fs in (all.0, sized_more k (room - pool_load k h.size) (t + h.given) (w - h.given) fs f left total wanted all.1 room_is (omega arith) (omega arith) one))
 
 full_more : (fs : List Fresh) (f : Fresh) → AreFull fs → f.given ≡ f.size → AreFull (fs ++ f ∷ [])
 full_more [] f all one = (one, tt)
 full_more (h ∷ fs) f all one = (all.0, full_more fs f all.1 one)
 
-module _ (k : Key) (start n id first room left total wanting : ℕ) (items : List Item) (old new new' : List Entry) (l m m' : Ledger) (more : List ℕ)
+module _ {k : Key} {start n id first room left total wanting : ℕ} {items : List Item} {old new new' : List Entry} {l m m' : Ledger} {more : List ℕ}
     (booked : AreBookedIn k l.pools old) (s : Growing k start n id first room total wanting items old new l m) (a : IsGrown k room left total wanting more new new' m m') where
   abbrev f : Fresh
   f = a.pool
@@ -164,11 +122,11 @@ module _ (k : Key) (start n id first room left total wanting : ℕ) (items : Lis
   not_yet = not_refused s.refused n q old apart s.taken.grant.refusing
 
   none_came : came s.parts q ≡ []
-  none_came = came_none q s.parts
-      (ap (list_any (λ (r : Portion). r.pool == q)) s.taken.grant.parts
-      ∙ list_any-append (λ (r : Portion). r.pool == q) (portions_of s.refused n (first + 0) old) (fresh_portions (first + length old) s.fresh)
-      ∙ ap (λ x. x || list_any (λ (r : Portion). r.pool == q) (fresh_portions (first + length old) s.fresh)) (rows_apart s.refused n q (first + 0) old apart)
-      ∙ fresh_rows_apart q (first + length old) s.fresh none_before.0)
+  none_came =
+      let many = came_long q s.parts ∙ ap (given_at q) s.taken.grant.parts ∙ sum_by-append _ (portions_of s.refused n (first + 0) old) (fresh_portions (first + length old) s.fresh) in
+      let old_none = no_share s.refused n q (first + 0) old apart in
+      let fresh_none = no_fresh q (first + length old) s.fresh none_before.0 in
+      nil_from_length (came s.parts q) (omega arith)
 
   many : length more ≡ f.given
   many = a.many
@@ -177,24 +135,12 @@ module _ (k : Key) (start n id first room left total wanting : ℕ) (items : Lis
   made = ledgers.fresh (pool_counts k.counts f.size) f.size (flags_of k)
 
   pools_now : m'.pools ≡ ledger_with k (all_so_far id s.refused fresh_now parts_now) l.pools
-  pools_now = a.pools ∙ fun_ext (λ r. at (nat_eq q r) r refl)
+  pools_now = a.pools ∙ ap (on_pool q (pool_with (live_sets k.counts more) false)) (ap (λ x. update nat_eq x q (Some made)) s.taken.pools ∙ fun_ext (λ r. at (nat_eq q r) r refl)) ∙ ledger_more k s.refused fresh_now s.parts false (first + length old + length s.fresh) q more l.pools id 0 0 not_yet
     where
-      at : (b : Bool) (r : ℕ) → nat_eq q r ≡ b → cond b (changed (pool_with (live_sets k.counts more) false) (update nat_eq m.pools q (Some made) q)) (cond b (Some made) (m.pools r)) ≡ option_map (pool_with (live_sets k.counts (came parts_now r)) (s.refused r)) (fresh_or k fresh_now r (l.pools r))
-      at true r h =
-          let same : q ≡ r = eqb-true q r h in
-          let got : came parts_now q ≡ more = came_more s.parts part_now q ∙ ap (λ x. x ++ (if q == q then more else [])) none_came ∙ ap (λ (b : Bool). if b then more else []) (eq-eqb q q refl) in
-          let there : fresh_or k fresh_now q (l.pools q) ≡ Some made = fresh_or_more k q s.fresh f (l.pools q) ∙ fresh_or_past k q s.fresh (fresh_or k (f ∷ []) q (l.pools q)) none_before.0 ∙ ap (λ (b : Bool). if b then Some made else l.pools q) (eq-eqb q q refl) in
-          subst (λ (r : ℕ). changed (pool_with (live_sets k.counts more) false) (update nat_eq m.pools q (Some made) q) ≡ option_map (pool_with (live_sets k.counts (came parts_now r)) (s.refused r)) (fresh_or k fresh_now r (l.pools r))) same
-          (ap (changed (pool_with (live_sets k.counts more) false)) (update_here m.pools q (Some made))
-          ∙ ap (λ (x : List ℕ). option_map (pool_with (live_sets k.counts x) false) (Some made)) (sym got)
-          ∙ ap (λ (b : Bool). option_map (pool_with (live_sets k.counts (came parts_now q)) b) (Some made)) (sym not_yet)
-          ∙ ap (option_map (pool_with (live_sets k.counts (came parts_now q)) (s.refused q))) (sym there))
-      at false r h =
-          let got : came parts_now r ≡ came s.parts r = came_more s.parts part_now r ∙ ap (λ (b : Bool). came s.parts r ++ (if b then more else [])) h ∙ append-nil (came s.parts r) in
-          let there : fresh_or k fresh_now r (l.pools r) ≡ fresh_or k s.fresh r (l.pools r) = fresh_or_more k r s.fresh f (l.pools r) ∙ ap (λ (b : Bool). fresh_or k s.fresh r (if b then Some made else l.pools r)) h in
-          ap (λ (x : ℕ → Option Pool). x r) s.taken.pools
-          ∙ ap (λ (x : List ℕ). option_map (pool_with (live_sets k.counts x) (s.refused r)) (fresh_or k s.fresh r (l.pools r))) (sym got)
-          ∙ ap (option_map (pool_with (live_sets k.counts (came parts_now r)) (s.refused r))) (sym there)
+      -- the pool was created
+      at : (b : Bool) (r : ℕ) → nat_eq q r ≡ b → cond b (Some made) (ledger_with k (all_so_far id s.refused s.fresh s.parts) l.pools r) ≡ ledger_with k (all_so_far id s.refused fresh_now s.parts) l.pools r
+      at true r h = rw (← eqb-true q r h, none_came, not_yet, fresh_or_more k q s.fresh f (l.pools q), fresh_or_past k q s.fresh (fresh_or k (f ∷ []) q (l.pools q)) none_before.0, eq-eqb q q refl) (sym (none_with (Some made)))
+      at false r h = rw (fresh_or_more k r s.fresh f (l.pools r), h) refl
 
   rows_now : map portion_of parts_now ≡ portions_of s.refused n (first + 0) old ++ fresh_portions (first + length old) fresh_now
   rows_now =
@@ -217,15 +163,14 @@ module _ (k : Key) (start n id first room left total wanting : ℕ) (items : Lis
       a.counters ∙ up ∙ same_counters _ _ (omega arith) (omega arith) (omega arith) (omega arith) (omega arith) (omega arith) (omega arith) (omega arith)
 
   sized_now : AreSized k start (allocated_in (all_shared s.refused n old)) (rest s.refused n old) fresh_now
-  sized_now =
-      let w : wanting ≡ rest s.refused n old - given_by s.fresh = (let x = s.wants in omega arith) in
-      sized_more k start (allocated_in (all_shared s.refused n old)) (rest s.refused n old) s.fresh f s.sized (subst (λ (x : ℕ). IsNextSize k (room_after k start s.fresh) x (rest s.refused n old - given_by s.fresh) f.size) s.totals (subst (λ (x : ℕ). IsNextSize k (room_after k start s.fresh) total x f.size) w (subst (λ (x : ℕ). IsNextSize k x total wanting f.size) s.room_now a.size)))
+  sized_now = (let w = s.wants in sized_more k start _ _ s.fresh f room total wanting s.sized s.room_now s.totals (omega arith) a.size)
 
-  pub grow_more : (total' wanting' : ℕ) → 0 < wanting → total' ≡ total + length more → wanting' + length more ≡ wanting → Growing k start n id first left total' wanting' (items ++ items_at k id (first + length old + length s.fresh) more) old new' l m'
-  grow_more total' wanting' some totals' less =
+  pub grow_more : {total' wanting' number : ℕ} {put : List Item} → 0 < wanting → total' ≡ total + length more → wanting' + length more ≡ wanting → number ≡ first + length new → put ≡ items ++ items_at k id number more → Growing k start n id first left total' wanting' put old new' l m'
+  grow_more some totals' less number_is put_is =
       let all = given_more s.fresh f in
       let g = a.given in
-      let number : first + length new ≡ first + length old + length s.fresh = (let long = grown_long k start n id first room total wanting items old new l m s in omega arith) in
+      let long = taken_long k n _ _ _ _ _ _ s.taken in
+      let place : first + length old + length s.fresh ≡ _ = (omega arith) ∙ sym number_is in
       record {
         refused = s.refused;
         parts = parts_now;
@@ -238,39 +183,41 @@ module _ (k : Key) (start n id first room left total wanting : ℕ) (items : Lis
         list = λ none. grants.some s.fresh f refl (record { sized = s.sized; full = s.full some; short = (let w = s.wants in omega arith) }) sized_now (omega arith) (let w = s.wants in let y = many in omega arith);
         taken = record {
           grant = record { id = λ some. refl; refusing = s.taken.grant.refusing; parts = rows_now; new = new_more l.pools s.fresh f s.taken.grant.new none_before.0 none_before.1 };
-          came = flat_map-append (λ (p : Part). items_at k id p.number p.names) s.parts (part_now ∷ []) ∙ ap (λ x. items_in k id s.parts ++ x) (append-nil (items_at k id (first + length old + length s.fresh) more)) ∙ ap (λ x. x ++ items_at k id (first + length old + length s.fresh) more) s.taken.came;
-          keeps = subst (λ (n : ℕ). KeepsKey k (items ++ items_at k id n more) (bucket id first old) (bucket id first new') l.pools m'.pools) number (keeps_grown k id first room left total wanting items old new new' l.pools more m m' s.taken.keeps a);
+          came = items_more k id (first + length old + length s.fresh) q more s.parts ∙ (λ j. s.taken.came j ++ items_at k id (place j) more) ∙ sym put_is;
           bucket = ap (bucket id first) entries_now;
           pools = pools_now;
           counters = counters_now;
         };
       }
 
-pub grow_start : (k : Key) (start n id first total wanting : ℕ) (items : List Item) (old new : List Entry) (l m : Ledger) → IsWalked k n wanting items (bucket id first old) (bucket id first new) l m → total + wanting ≡ allocated_in old + n → Growing k start n id first start total wanting items old new l m
-grow_start k start n id first total wanting items old new l m w totals =
+-- a walk goes before
+pub grow_start : {k : Key} {start n id first own place total wanting : ℕ} {items : List Item} {old new : List Entry} {l m : Ledger} → IsWalked k n wanting items (bucket id first old) (bucket own place new) l m → own ≡ id → place ≡ first → total + wanting ≡ allocated_in old + n → Growing k start n id first start total wanting items old new l m
+grow_start {k} {n = n} {id = id} {first = first} {items = items} {old = old} {new = new} {l = l} {m = m} walked ids places totals =
+    let w : IsWalked k n _ items (bucket id first old) (bucket id first new) l m = rw (ids, places) at walked in
     let g = w.grant in
     let wants = w.wants in
     let named : id ≡ g.id = ap (λ (b : Bucket). b.id) w.taken.bucket in
     let grant : g ≡ all_so_far id g.refused [] g.parts = (λ i. record { id = sym named i; left = w.all i; refused = g.refused; fresh = w.no_fresh i; parts = g.parts }) in
+    let none : given_by [] ≡ 0 = omega arith in
     record {
       refused = g.refused;
       parts = g.parts;
       fresh = [];
-      totals = (let h = allocated_shared g.refused n old in let none : given_by [] ≡ 0 = omega arith in omega arith);
-      wants = (let none : given_by [] ≡ 0 = omega arith in omega arith);
+      totals = (let h = allocated_shared g.refused n old in omega arith);
+      wants = omega arith;
       sized = tt;
       room_now = refl;
       full = λ some. tt;
-      list = λ none. grants.none (omega arith) refl;
+      list = λ over. grants.none (omega arith) refl;
       taken = subst (λ (g : Grant). HasTaken k n g items (bucket id first old) (bucket id first new) l m) grant w.taken;
     }
 
-pub grow_end : (k : Key) (start n id first room total : ℕ) (items : List Item) (old new : List Entry) (l m : Ledger) → Growing k start n id first room total 0 items old new l m → (done : Unit {0}) → IsTaken (Ok done) k start n items (bucket id first old) (bucket id first new) l m
-grow_end k start n id first room total items old new l m s done = (all_so_far id s.refused s.fresh s.parts, s.taken, refl, s.list refl)
+pub grow_end : {k : Key} {start n id first own place room total wanting : ℕ} {items : List Item} {old new : List Entry} {l m : Ledger} → Growing k start n id first room total wanting items old new l m → wanting ≡ 0 → own ≡ id → place ≡ first → (done : Unit {0}) → IsTaken (Ok done) k start n items (bucket id first old) (bucket own place new) l m
+grow_end s end ids places done = rw (ids, places) (all_so_far _ s.refused s.fresh s.parts, s.taken, refl, s.list end)
 
-pub grow_stop : (why : Stop) (k : Key) (start n id first room total wanting : ℕ) (items : List Item) (old new : List Entry) (l m m' : Ledger) → 0 < wanting → Growing k start n id first room total wanting items old new l m → IsRefused why m m' → NoneIsNew why k room → IsTaken (Err why) k start n items (bucket id first old) (bucket id first new) l m'
-grow_stop why k start n id first room total wanting items old new l m m' some s refused in_room = (
-  all_so_far id s.refused s.fresh s.parts,
+pub grow_stop : (why : Stop) {k : Key} {start n id first own place room total wanting : ℕ} {items put : List Item} {old new newer : List Entry} {l m m' : Ledger} → 0 < wanting → Growing k start n id first room total wanting items old new l m → put ≡ items → newer ≡ new → own ≡ id → place ≡ first → IsRefused why m m' → NoneIsNew why k room → IsTaken (Err why) k start n put (bucket id first old) (bucket own place newer) l m'
+grow_stop why {k} {start} {n} {id} {old = old} {m = m} some s same_sets same_pools ids places refused in_room = rw (same_sets, same_pools, ids, places) (
+  all_so_far _ s.refused s.fresh s.parts,
   m,
   s.taken,
   stops_at why (record { sized = s.sized; full = s.full some; short = (let w = s.wants in omega arith) }) (subst (NoneIsNew why k) s.room_now in_room),
@@ -284,32 +231,18 @@ grow_stop why k start n id first room total wanting items old new l m m' some s 
     stops_at (stop.Create e) front none = (refl, front, none)
     stops_at (stop.New e) front none = (refl, front, none)
 
--- a walk leaves as many pools
-pub walked_long : (k : Key) (n wanting : ℕ) (items : List Item) (old new : Bucket) (l m : Ledger) → IsWalked k n wanting items old new l m → length new.pools ≡ length old.pools
-walked_long k n wanting items old new l m w =
-    let g = w.grant in
-    let shares : List Entry = all_shared g.refused n old.pools in
-    ap (λ (b : Bucket). length b.pools) w.taken.bucket
-    ∙ ap (λ i. length (take i old.pools ++ all_shared g.refused n (drop i old.pools) ++ map fresh_entry g.fresh)) w.all
-    ∙ ap (λ fs. length (shares ++ map fresh_entry fs)) w.no_fresh
-    ∙ ap length (append-nil shares)
-    ∙ length-all_shared g.refused n old.pools
-
 -- ---- the descriptors of a key's pools, as a request goes on
 
 pub load_more : (k : Key) (es : List Entry) (f : Fresh) → pools_load k (es ++ fresh_entry f ∷ []) ≡ pools_load k es + pool_load k f.size
 load_more k es f = sum_by-append (λ (e : Entry). pool_load k e.capacity) es (fresh_entry f ∷ []) ∙ (let one : pools_load k (fresh_entry f ∷ []) ≡ pool_load k f.size = omega arith in omega arith)
 
-load_shared : (k : Key) (refused : ℕ → Bool) (n : ℕ) (es : List Entry) → pools_load k (all_shared refused n es) ≡ pools_load k es
-load_shared k refused n [] = refl
-load_shared k refused n (e ∷ newer) =
+load_split : (k : Key) (refused : ℕ → Bool) (n i : ℕ) (es : List Entry) → pools_load k (take i es ++ all_shared refused n (drop i es)) ≡ pools_load k es
+load_split k refused n zero [] = refl
+load_split k refused n zero (e ∷ newer) =
     let a = sum_by-cons (λ (x : Entry). pool_load k x.capacity) (shared refused n newer e) (all_shared refused n newer) in
     let b = sum_by-cons (λ (x : Entry). pool_load k x.capacity) e newer in
-    let ih = load_shared k refused n newer in
+    let ih = load_split k refused n zero newer in
     omega arith
-
-load_split : (k : Key) (refused : ℕ → Bool) (n i : ℕ) (es : List Entry) → pools_load k (take i es ++ all_shared refused n (drop i es)) ≡ pools_load k es
-load_split k refused n zero es = load_shared k refused n es
 load_split k refused n (suc i) [] = refl
 load_split k refused n (suc i) (e ∷ es) =
     let a = sum_by-cons (λ (x : Entry). pool_load k x.capacity) e (take i es ++ all_shared refused n (drop i es)) in
@@ -317,9 +250,28 @@ load_split k refused n (suc i) (e ∷ es) =
     let ih = load_split k refused n i es in
     omega arith
 
+-- a walk adds no pool
+walked_entries : (k : Key) (n : ℕ) (g : Grant) (old new : Bucket) (l m : Ledger) (items : List Item) → HasTaken k n g items old new l m → g.fresh ≡ [] → new.pools ≡ take g.left old.pools ++ all_shared g.refused n (drop g.left old.pools)
+walked_entries k n g old new l m items taken none = ap (λ (b : Bucket). b.pools) taken.bucket ∙ rw none (append-nil (take g.left old.pools ++ all_shared g.refused n (drop g.left old.pools)))
+
 -- a walk leaves it
 pub load_walked : (k : Key) (n : ℕ) (g : Grant) (old new : Bucket) (l m : Ledger) (items : List Item) → HasTaken k n g items old new l m → g.fresh ≡ [] → pools_load k new.pools ≡ pools_load k old.pools
-load_walked k n g old new l m items taken none =
-    let shares : List Entry = take g.left old.pools ++ all_shared g.refused n (drop g.left old.pools) in
-    let all : new.pools ≡ shares ++ [] = ap (λ (b : Bucket). b.pools) taken.bucket ∙ ap (λ fs. shares ++ map fresh_entry fs) none in
-    ap (pools_load k) (all ∙ append-nil shares) ∙ load_split k g.refused n g.left old.pools
+load_walked k n g old new l m items taken none = ap (pools_load k) (walked_entries k n g old new l m items taken none) ∙ load_split k g.refused n g.left old.pools
+
+-- and as many more are allocated as came
+allocated_split : (refused : ℕ → Bool) (n number i : ℕ) (es : List Entry) → allocated_in (take i es ++ all_shared refused n (drop i es)) ≡ allocated_in es + sum_given (portions_of refused n number (drop i es))
+allocated_split refused n number zero es = (let a = allocated_shared refused n es in let b = shares_sum refused n number es in omega arith)
+allocated_split refused n number (suc i) [] = refl
+allocated_split refused n number (suc i) (e ∷ es) =
+    let a = sum_by-cons (λ (x : Entry). x.allocated) e (take i es ++ all_shared refused n (drop i es)) in
+    let b = sum_by-cons (λ (x : Entry). x.allocated) e es in
+    let ih = allocated_split refused n number i es in
+    omega arith
+
+pub allocated_walked : (k : Key) (n : ℕ) (g : Grant) (old new : Bucket) (l m : Ledger) (items : List Item) → HasTaken k n g items old new l m → g.fresh ≡ [] → allocated_in new.pools ≡ allocated_in old.pools + length items
+allocated_walked k n g old new l m items taken none =
+    let rows : List Portion = portions_of g.refused n (old.first + g.left) (drop g.left old.pools) in
+    let came : map portion_of g.parts ≡ rows = taken.grant.parts ∙ rw none (append-nil rows) in
+    let long = ap length (sym taken.came) ∙ length_items k g.id g.parts ∙ ap sum_given came in
+    let same = ap allocated_in (walked_entries k n g old new l m items taken none) ∙ allocated_split g.refused n (old.first + g.left) g.left old.pools in
+    omega arith

@@ -18,10 +18,6 @@ either : {A : Type 0} {B : Type 0} {C : A → Type 0} (o : Option A) → B → (
 either None none some = none
 either (Some x) none some = some x
 
--- the keys of a request of one key are those of another that is the same
-pub gained_as : {k l : Key} {old new : List Key} → k ≡ l → StayOrGainLast k old new → StayOrGainLast l old new
-gained_as same gained = rw (sym same) gained
-
 module _ {L P S : Type 0} {means : Meaning L P S} {k : Key} {count : ℕ} {sets : List (DescriptorSet S)} {ended : Result (Unit {0}) Stop} {old new : Allocations P} {before after : Ledger}
     (t : Takes means k count sets ended (side old before) (side new after)) (agree : Agrees means.pool_name old before) where
   pub keeps_all : new.limit ≡ old.limit → marked_load_of new ≤ new.limit → pool_load_of new ≤ new.limit → Keeps means (side old before) (side new after)

@@ -1,10 +1,11 @@
 -- What a request takes of one key, in the table of keys.
-use Rattle.gpu_descriptor.proofs.Common.{◌≡◌, ℕ, ◌+◌, ◌≤◌, Bool, true, false, List, [], ◌∷◌, ◌++◌, length, Option, Some, None, is_some, Result, Ok, Err, inl, inr, refl, sym, ap, ◌∙◌, subst, arith, ◌-◌, ◌&&◌, lt-ltb, le-ltb, map, lookup, set_value, option_map_or, nat_lt, sum_by, if◌then◌else◌, cases_Bool, cases_lt, sum_by-append, Meaning, Ledger, Pool, BucketKey, DescriptorSet, DescriptorBucket, Stop, Key, key_eq, Bucket, no_pools, key_of, Item}
+use Rattle.gpu_descriptor.proofs.Common.{bool_iff, ltb-true, ◌≡◌, ℕ, ◌+◌, ◌≤◌, Bool, true, false, List, [], ◌∷◌, ◌++◌, length, Option, Some, None, is_some, Result, Ok, Err, inl, inr, refl, sym, ap, ◌∙◌, subst, arith, ◌-◌, ◌&&◌, lt-ltb, le-ltb, map, lookup, set_value, option_map_or, nat_lt, sum_by, if◌then◌else◌, cases_Bool, cases_lt, sum_by-append, Meaning, Ledger, Pool, BucketKey, DescriptorSet, DescriptorBucket, Stop, Key, key_eq, Bucket, no_pools, key_of, Item}
 use Rattle.gpu_descriptor.specs.Model.Load.{marked_load}
 use Rattle.gpu_descriptor.specs.Inner.Stored.{books_in, bucket_of, row_of}
 use Rattle.gpu_descriptor.specs.Inner.Walk.{HasTaken}
 use Rattle.gpu_descriptor.specs.Model.Grants.{Grant, IsGrantOf}
 use Rattle.gpu_descriptor.specs.Inner.Serves.{IsServed, ServesKey}
+use Rattle.std.proofs.lemmas.Map.Steps.{set_value_same}
 use Rattle.gpu_descriptor.proofs.table.Exact.{key_exact}
 use Rattle.gpu_descriptor.proofs.sums.Loads.{IsRow, IsWritten, load_in, sum_set, marked_load-add, rows_out, rows_load}
 use Rattle.gpu_descriptor.proofs.table.TableBooks.{put_books, written, looked_up, row_bucket}
@@ -43,11 +44,11 @@ grant_new : {n id : ℕ} {ledger : ℕ → Option Pool} {g : Grant} → IsGrantO
 grant_new h = record { id = λ some. absurd (omega arith); refusing = h.refusing; parts = h.parts; new = h.new }
 
 taken_new : {k : Key} {n id : ℕ} {g : Grant} {items : List Item} {b : Bucket} {l m : Ledger} → HasTaken k n g items (record no_pools { id = id }) b l m → HasTaken k n g items no_pools b l m
-taken_new t = record { grant = grant_new t.grant; came = t.came; keeps = record { booked = t.keeps.booked; longer = t.keeps.longer; named = t.keeps.named; others = t.keeps.others; of_key = t.keeps.of_key; out = t.keeps.out; more = t.keeps.more }; bucket = t.bucket; pools = t.pools; counters = t.counters }
+taken_new t = record { grant = grant_new t.grant; came = t.came; bucket = t.bucket; pools = t.pools; counters = t.counters }
 
 served_new : {L P S : Type 0} {means : Meaning L P S} {k : Key} {room count id : ℕ} {sets : List (DescriptorSet S)} {ended : Result (Unit {0}) Stop} {b : Bucket} {before after : Ledger} → IsServed means k room count sets ended (record no_pools { id = id }) b before after → IsServed means k room count sets ended no_pools b before after
-served_new {ended = Ok done} s = record { numbers = s.numbers; few = s.few; taken = (s.taken.0, taken_new s.taken.1, s.taken.2, s.taken.3) }
-served_new {ended = Err why} s = record { numbers = s.numbers; few = s.few; taken = (s.taken.0, s.taken.1, taken_new s.taken.2, s.taken.3, s.taken.4) }
+served_new {ended = Ok done} s = record { numbers = s.numbers; few = s.few; all = s.all; taken = (s.taken.0, taken_new s.taken.1, s.taken.2, s.taken.3) }
+served_new {ended = Err why} s = record { numbers = s.numbers; few = s.few; all = s.all; taken = (s.taken.0, s.taken.1, taken_new s.taken.2, s.taken.3, s.taken.4) }
 
 -- what one key gave, in the table
 module _ {L P S : Type 0} {means : Meaning L P S} (k : BucketKey) (w : DescriptorBucket P) {old : Bucket} {room count : ℕ} {sets : List (DescriptorSet S)} {ended : Result (Unit {0}) Stop} {before after : Ledger}
@@ -80,22 +81,9 @@ module _ {L P S : Type 0} {means : Meaning L P S} (k : BucketKey) (w : Descripto
         })
 
 -- a write of what is there
-set_value-same : {P : Type 0} (test : BucketKey → Bool) (es : List (BucketKey × DescriptorBucket P)) (v : DescriptorBucket P) → lookup test es ≡ Some v → set_value test es v ≡ es
-set_value-same test [] v at = refl
-set_value-same {P} test (e ∷ es) v at = elim (cases_Bool (test e.0)) [
-  | inl here ↦ (
-      let found : Some e.1 ≡ Some v = rw here at at in
-      let is : e.1 ≡ v = cc in
-      rw here (ap (λ (b : DescriptorBucket P). (e.0, b) ∷ es) (sym is)))
-  | inr there ↦ (let rest : lookup test es ≡ Some v = rw there at at in rw there (ap (λ (x : List (BucketKey × DescriptorBucket P)). e ∷ x) (set_value-same test es v rest)))
-]
-
 pub written-same : {P : Type 0} {k : Key} {es fs : List (BucketKey × DescriptorBucket P)} {v w : DescriptorBucket P} → IsWritten k es fs v w → w ≡ v → fs ≡ es
-written-same {es = es} {v = v} r same = r.wrote ∙ ap (set_value r.row.test es) same ∙ set_value-same r.row.test es v r.row.at
+written-same {es = es} {v = v} r same = r.wrote ∙ ap (set_value r.row.test es) same ∙ set_value_same r.row.test es v r.row.at
 
 -- a test against what is left of the limit
 pub above-limit : (key : Bool) (left product limit current load count : ℕ) → key ≡ true → left ≡ limit - current → current ≡ load → current ≤ limit → product ≡ count → nat_lt left product ≡ key && nat_lt limit (count + load)
-above-limit key left product limit current load count on is same within alike = elim (cases_lt left product) [
-  | inl more ↦ lt-ltb left product more ∙ sym (ap (λ (b : Bool). b && nat_lt limit (count + load)) on ∙ lt-ltb limit (count + load) (omega arith))
-  | inr less ↦ le-ltb left product less ∙ sym (ap (λ (b : Bool). b && nat_lt limit (count + load)) on ∙ le-ltb limit (count + load) (omega arith))
-]
+above-limit key left product limit current load count on is same within alike = rw on (bool_iff _ _ (λ h. lt-ltb limit (count + load) (let more = ltb-true left product h in omega arith)) (λ h. lt-ltb left product (let more = ltb-true limit (count + load) h in omega arith)))

@@ -1,5 +1,5 @@
 -- The new pools of a request: their sizes, their numbers, and what the pools before them have left.
-use Rattle.gpu_descriptor.proofs.Common.{◌≡◌, ℕ, ◌+◌, ◌-◌, ◌<◌, Bool, List, [], ◌∷◌, ◌++◌, map, length, take, drop, Result, Ok, Err, sym, ap, ◌∙◌, subst, arith, append_assoc, length-append, All, if◌then◌else◌, OnOk, map-append, take_at, All-nil, All-cons, All-append, All-same, sum_by-cons, AllocationError, State, Item, Key, Entry, Bucket}
+use Rattle.gpu_descriptor.proofs.Common.{◌≡◌, ℕ, ◌+◌, ◌-◌, ◌<◌, Bool, List, [], ◌∷◌, ◌++◌, map, length, take, drop, Result, Ok, Err, refl, sym, ap, ◌∙◌, subst, arith, append_assoc, length-append, All, if◌then◌else◌, OnOk, map-append, take_at, All-nil, All-cons, All-append, All-same, sum_by-cons, AllocationError, State, Item, Key, Entry, Bucket}
 use Rattle.gpu_descriptor.specs.Model.FreshPools.{Fresh, AreSized, AreFull, IsFreshList, given_by, fresh_entry}
 use Rattle.gpu_descriptor.specs.Model.FreshPools.IsFreshList.{none as no_fresh, some as some_fresh}
 use Rattle.gpu_descriptor.specs.Model.Grants.{Grant, granted}
@@ -45,27 +45,14 @@ full_used (f ∷ pools) full =
 but_last : (es : List Entry) (e : Entry) → take (length (es ++ e ∷ []) - 1) (es ++ e ∷ []) ≡ es
 but_last es e = (let long = length-append es (e ∷ []) in take_at es (e ∷ []) (length (es ++ e ∷ []) - 1) (omega arith))
 
-module _ (k : Key) (n : ℕ) (g : Grant) (s : State) (all : g.left ≡ 0) where
-  abbrev pools : List Entry
-  pools = (s.books k).pools
-
-  own : (granted k n g s).books k ≡ record (s.books k) { id = g.id; pools = take g.left pools ++ all_shared g.refused n (drop g.left pools) ++ map fresh_entry g.fresh }
-  own = ap (λ (b : Bool). if b then record (s.books k) { id = g.id; pools = take g.left pools ++ all_shared g.refused n (drop g.left pools) ++ map fresh_entry g.fresh } else s.books k) (key_exact.self k)
-
-  pub granted_entries : ((granted k n g s).books k).pools ≡ all_shared g.refused n pools ++ map fresh_entry g.fresh
-  granted_entries = ap (λ (b : Bucket). b.pools) own ∙ ap (λ i. take i pools ++ all_shared g.refused n (drop i pools) ++ map fresh_entry g.fresh) all
+granted_entries : (k : Key) (n : ℕ) (g : Grant) (s : State) → g.left ≡ 0 → ((granted k n g s).books k).pools ≡ all_shared g.refused n (s.books k).pools ++ map fresh_entry g.fresh
+granted_entries k n g s all = rw (key_exact.self k, all) refl
 
 -- ---- a request that was met
 
 -- no pool of the key but the newest has a known free place left
 abbrev pub AreFilled : Call → Type 0
 AreFilled c = let pools = (c.new.books c.request.key).pools in All (λ e. e.free ≡ 0) (take (length pools - 1) pools)
-
-pub met : (T : Type 0) (r : Result (List Item) AllocationError) (items : List Item) → r ≡ Ok items → T → OnOk r T
-met T r items is t = subst (λ (r : Result (List Item) AllocationError). OnOk r T) (sym is) t
-
-pub unmet : (T : Type 0) (r : Result (List Item) AllocationError) (error : AllocationError) → r ≡ Err error → OnOk r T
-unmet T r error is = subst (λ (r : Result (List Item) AllocationError). OnOk r T) (sym is) tt
 
 module _ (c : Call) (d : IsDone c) where
   abbrev k : Key
@@ -81,9 +68,7 @@ module _ (c : Call) (d : IsDone c) where
           let entries : (c.new.books k).pools ≡ (shares ++ map fresh_entry front) ++ fresh_entry last ∷ [] =
           ap (λ (w : State). (w.books k).pools) d.state
           ∙ granted_entries k c.request.count d.grant c.old d.all
-          ∙ ap (λ fs. shares ++ map fresh_entry fs) is
-          ∙ ap (λ es. shares ++ es) (map-append fresh_entry front (last ∷ []))
-          ∙ sym (append_assoc shares (map fresh_entry front) (fresh_entry last ∷ [])) in
+          ∙ rw (is, map-append fresh_entry front (last ∷ [])) (sym (append_assoc shares (map fresh_entry front) (fresh_entry last ∷ []))) in
           let few = short.short in
           let used = All-append (λ (e : Entry). e.free ≡ 0) shares (map fresh_entry front) (shares_used d.grant.refused c.request.count (c.old.books k).pools (omega arith)) (full_used front short.full) in
           All-same (λ (e : Entry). e.free ≡ 0) _ (shares ++ map fresh_entry front) (ap (λ (es : List Entry). take (length es - 1) es) entries ∙ but_last (shares ++ map fresh_entry front) (fresh_entry last)) used

@@ -1,5 +1,5 @@
 -- What a key's next pool takes of the room, and when its size was cut.
-use Rattle.gpu_descriptor.proofs.Common.{◌≡◌, ℕ, ◌-◌, ◌*◌, ◌<◌, ◌≤◌, max, sum, List, [], ◌∷◌, ◌++◌, inl, inr, refl, sym, ◌∙◌, subst, arith, mul-le-mul_right, cases_Bool, IsPoolSize, sets_in_room, start_size, Key}
+use Rattle.gpu_descriptor.proofs.Common.{◌≡◌, ℕ, ◌+◌, ◌-◌, ◌*◌, ◌<◌, ◌≤◌, max, sum, List, [], ◌∷◌, ◌++◌, inl, inr, refl, sym, ◌∙◌, subst, arith, mul-le-mul_right, cases_Bool, IsPoolSize, sets_in_room, start_size, Key}
 use Rattle.gpu_descriptor_types.proofs.Room.{few_in_room, fits_in_room, whole_in_room}
 use Rattle.gpu_descriptor_types.proofs.Sizes.{pool_size_small, pool_size_below}
 use Rattle.gpu_descriptor.specs.Model.FreshPools.{Fresh, IsNextSize, AreSized, room_after}
@@ -9,12 +9,7 @@ use Rattle.gpu_descriptor.specs.Model.Load.{pool_load}
 
 module _ (k : Key) (room total wanted size : ℕ) (s : IsNextSize k room total wanted size) where
   few : size ≤ s.whole
-  few =
-      let cut = s.cut in
-      elim (cases_Bool k.marked) [
-        | inl on ↦ (let is : size ≡ sets_in_room room (sum k.counts) s.whole = cut ∙ rw on refl in let le = few_in_room room (sum k.counts) s.whole in omega arith)
-        | inr off ↦ (let is : size ≡ s.whole = cut ∙ rw off refl in omega arith)
-      ]
+  few = grind (arith, s.cut, few_in_room room (sum k.counts) s.whole)
 
   pub next_small : size ≤ 2147483648
   next_small = (let a = few in let b = pool_size_small k.counts total wanted s.whole s.is_whole in omega arith)
@@ -53,15 +48,11 @@ module _ (k : Key) (room total wanted size : ℕ) (s : IsNextSize k room total w
 
 -- ---- several, one after another
 
-pub room_falls : (k : Key) (room : ℕ) (pools : List Fresh) → room_after k room pools ≤ room
-room_falls k room [] = omega arith
-room_falls k room (f ∷ pools) = (let rest = room_falls k (room - pool_load k f.size) pools in omega arith)
-
 pub room_more : (k : Key) (room : ℕ) (pools : List Fresh) (f : Fresh) → room_after k room (pools ++ f ∷ []) ≡ room_after k room pools - pool_load k f.size
 room_more k room [] f = refl
 room_more k room (g ∷ pools) f = room_more k (room - pool_load k g.size) pools f
 
--- the first of some has room
-pub some_fit : (k : Key) (room total wanted : ℕ) (pools : List Fresh) (last : Fresh) → AreSized k room total wanted (pools ++ last ∷ []) → pool_load k 1 ≤ room
-some_fit k room total wanted [] last sized = one_fits k room total wanted last.size sized.0
-some_fit k room total wanted (f ∷ pools) last sized = one_fits k room total wanted f.size sized.0
+-- before the last of some there was room for one
+pub last_fits : (k : Key) (room total wanted : ℕ) (front : List Fresh) (last : Fresh) → AreSized k room total wanted (front ++ last ∷ []) → pool_load k 1 ≤ room_after k room front
+last_fits k room total wanted [] last sized = one_fits k room total wanted last.size sized.0
+last_fits k room total wanted (f ∷ front) last sized = last_fits k (room - pool_load k f.size) (total + f.given) (wanted - f.given) front last sized.1

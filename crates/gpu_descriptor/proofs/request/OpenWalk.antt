@@ -11,7 +11,8 @@ use Rattle.gpu_descriptor.proofs.table.Exact.{bucket}
 use Rattle.gpu_descriptor.proofs.lists.OpenList.{listed_closes, listed_stays}
 use Rattle.gpu_descriptor.proofs.lists.OpenNumbers.{IsNewestOpen, newest_open, open_all_none}
 use Rattle.gpu_descriptor.proofs.request.Walking.{Walking, walk_gap, walk_start, walk_more, walk_stop, next_was, next_booked}
-use Rattle.gpu_descriptor.proofs.lists.AtPlaces.{set_here, set_there}
+use Rattle.gpu_descriptor.proofs.lists.AtPlaces.{set_got}
+use Rattle.std.proofs.lemmas.Simd.{map-map}
 
 -- so far the pools from a place on were asked as far as they had something, and the list has the open pools
 pub record OpenWalk {P : Type 0} (name : P → ℕ) (k : Key) (n id first wanting : ℕ) (out : List Item) (old : List Entry) (items : List (DescriptorPool P)) (numbers : List ℕ) (l m : Ledger) : Type 0 where
@@ -25,14 +26,7 @@ pub record OpenWalk {P : Type 0} (name : P → ℕ) (k : Key) (n id first wantin
 module _ {P : Type 0} {name : P → ℕ} {k : Key} {n id first wanting : ℕ} {out : List Item} {old : List Entry} {items : List (DescriptorPool P)} {numbers : List ℕ} {l m : Ledger}
     (booked : AreBookedIn k l.pools old) (s : OpenWalk name k n id first wanting out old items numbers l m) where
   free_get : (j : ℕ) (e : Entry) → slice_get (map (entry_of name) items) j ≡ Some e → slice_get (free_in items) j ≡ Some e.free
-  free_get j e at = by_pool (slice_get items j) refl
-    where
-      by_pool : (o : Option (DescriptorPool P)) → slice_get items j ≡ o → slice_get (free_in items) j ≡ Some e.free
-      by_pool None is = (let a = slice_get-map (entry_of name) items j ∙ ap (option_map (entry_of name)) is in absurd (cc))
-      by_pool (Some p) is =
-          let a : Some (entry_of name p) ≡ Some e = sym (slice_get-map (entry_of name) items j ∙ ap (option_map (entry_of name)) is) ∙ at in
-          let b : entry_of name p ≡ e = cc in
-          slice_get-map (λ p. p.available) items j ∙ ap (option_map (λ p. p.available)) is ∙ ap (λ (d : Entry). Some d.free) b
+  free_get j e at = ap (λ (free : List ℕ). slice_get free j) (sym (map-map (λ (d : Entry). d.free) (entry_of name) items)) ∙ slice_get-map (λ (d : Entry). d.free) (map (entry_of name) items) j ∙ ap (option_map (λ (d : Entry). d.free)) at
 
   -- where nothing is wanting the older pools are left
   pub walk_sated : wanting ≡ 0 → Walking k n id first 0 wanting out old (map (entry_of name) items) l m
@@ -46,18 +40,11 @@ module _ {P : Type 0} {name : P → ℕ} {k : Key} {n id first wanting : ℕ} {o
     newest : IsNewestOpen first (free_in items) front number
     newest = newest_open first (free_in items) front number (sym s.listed ∙ last)
 
-    pub above : first ≤ number
-    above = (let e = newest.is in omega arith)
-
     place_is : newest.place ≡ number - first
     place_is = (let e = newest.is in omega arith)
 
     pub inside : number - first < length items
     inside = (let a = slice_get_within (free_in items) newest.place newest.free newest.at in let b = length-map items (λ p. p.available) in let c = place_is in omega arith)
-
-    -- the pool that is looked at
-    pub looked_at : (p : DescriptorPool P) → p ≡ get_or items (number - first) p → slice_get items (number - first) ≡ Some p
-    looked_at p is = slice_get_read items (length items) (number - first) p refl inside is
 
     newer : (j i : ℕ) → number - first < j → slice_get (free_in items) j ≡ Some i → i ≡ 0
     newer j i lt at = newest.newer j i (let c = place_is in omega arith) at
@@ -69,23 +56,18 @@ module _ {P : Type 0} {name : P → ℕ} {k : Key} {n id first wanting : ℕ} {o
 
       pub has_free : 0 < p.available
       has_free =
-          let a : slice_get (free_in items) (number - first) ≡ Some p.available = free_get (number - first) (entry_of name p) entry_at_place in
-          let b : slice_get (free_in items) (number - first) ≡ Some newest.free = sym (ap (slice_get (free_in items)) place_is) ∙ newest.at in
-          let same : Some p.available ≡ Some newest.free = sym a ∙ b in
-          let same_free : p.available ≡ newest.free = cc in
-          let c = newest.some in
+          let same : Some p.available ≡ Some newest.free = sym (free_get (number - first) (entry_of name p) entry_at_place) ∙ ap (slice_get (free_in items)) (sym place_is) ∙ newest.at in
+          let free : p.available ≡ newest.free = cc in
+          let some = newest.some in
           omega arith
-
-      reached : suc (number - first) ≤ s.left
-      reached = elim (cases_lt (number - first) s.left) [
-        | inl lt ↦ omega arith
-        | inr le ↦ (let a = s.closed (number - first) (entry_of name p) le entry_at_place in let b = has_free in absurd (omega arith))
-      ]
 
       pub walk_reaches : Walking k n id first (suc (number - first)) wanting out old (map (entry_of name) items) l m
       walk_reaches =
-          let to = reached in
+          let to : suc (number - first) ≤ s.left = elim (cases_lt (number - first) s.left) [ inl lt ↦ omega arith | inr le ↦ (let a = s.closed (number - first) (entry_of name p) le entry_at_place in let b = has_free in absurd (omega arith)) ] in
           walk_gap k n id first wanting out old (map (entry_of name) items) l m booked (s.left - suc (number - first)) (suc (number - first)) s.left (omega arith) s.within (λ j e le lt there. (let z = newer j e.free (omega arith) (free_get j e there) in omega arith)) s.walking
+
+      was : slice_get old (number - first) ≡ Some (entry_of name p)
+      was = sym (next_was k n id first (number - first) wanting out old (map (entry_of name) items) l m booked walk_reaches (let a = inside in let b = s.long in omega arith)) ∙ entry_at_place
 
       -- what stands in the books and the list once it was asked
       module _ (q : DescriptorPool P) where
@@ -97,67 +79,50 @@ module _ {P : Type 0} {name : P → ℕ} {k : Key} {n id first wanting : ℕ} {o
 
         pub closed_now : (names : List ℕ) (m' : Ledger) (wanting' : ℕ) → IsAsked k wanting names (entry_of name p) (entry_of name q) m m' → wanting' + length names ≡ wanting
             → (j : ℕ) (e : Entry) → number - first ≤ j → slice_get (map (entry_of name) (slice_set items (number - first) q)) j ≡ Some e → min wanting' e.free ≡ 0
-        closed_now names m' wanting' asked less j e le there = elim (cases_lt (number - first) j) [
-          | inl lt ↦ (
-              let is : slice_get (map (entry_of name) items) j ≡ Some e = sym (ap (λ (x : List Entry). slice_get x j) (map-set (entry_of name) items (number - first) q) ∙ set_there (map (entry_of name) items) (number - first) (entry_of name q) j (λ same. omega arith)) ∙ there in
-              let z = newer j e.free lt (free_get j e is) in
-              omega arith)
-          | inr ge ↦ (
-              let same : j ≡ number - first = omega arith in
-              let here : slice_get (map (entry_of name) (slice_set items (number - first) q)) j ≡ Some (entry_of name q) = ap (λ (x : List Entry). slice_get x j) (map-set (entry_of name) items (number - first) q) ∙ ap (slice_get (slice_set (map (entry_of name) items) (number - first) (entry_of name q))) same ∙ set_here (map (entry_of name) items) (number - first) (entry_of name q) _ (slice_get-get_or (map (entry_of name) items) (number - first) e (let a = length-map items (entry_of name) in let b = inside in omega arith)) in
-              let is : Some (entry_of name q) ≡ Some e = sym here ∙ there in
-              let entry : entry_of name q ≡ e = cc in
-              let free : q.available ≡ e.free = ap (λ (d : Entry). d.free) entry in
+        closed_now names m' wanting' asked less j e le there = elim (set_got (map (entry_of name) items) (number - first) (entry_of name q) j e (ap (λ (x : List Entry). slice_get x j) (sym (map-set (entry_of name) items (number - first) q)) ∙ there)) [
+          | inl here ↦ (
+              let free : e.free ≡ q.available = ap (λ (d : Entry). d.free) here.1 in
               let left_over : q.available ≡ (if asked.refused then 0 else p.available) - length names = ap (λ (d : Entry). d.free) asked.entry in
               let many : length names ≡ min (if asked.refused then 0 else p.available) wanting = asked.many in
               omega arith)
+          | inr other ↦ (let apart = other.0 in let z = newer j e.free (omega arith) (free_get j e other.1) in omega arith)
         ]
 
         -- one look for one pool that was asked
         pub one_asked : (names : List ℕ) (m' : Ledger) → IsAsked k wanting names (entry_of name p) (entry_of name q) m m' → m'.counters.asked ≡ m.counters.asked + 1
-        one_asked names m' asked =
-            let both : nat_lt 0 p.available && nat_lt 0 wanting ≡ true = ap (λ (b : Bool). b && nat_lt 0 wanting) (lt-ltb 0 p.available has_free) ∙ lt-ltb 0 wanting some in
-            let is : m'.counters.asked ≡ m.counters.asked + (if nat_lt 0 p.available && nat_lt 0 wanting then 1 else 0) = ap (λ (x : Counters). x.asked) asked.counters in
-            is ∙ ap (λ (b : Bool). m.counters.asked + (if b then 1 else 0)) both
+        one_asked names m' asked = ap (λ (x : Counters). x.asked) asked.counters ∙ rw (lt-ltb 0 p.available has_free, lt-ltb 0 wanting some) refl
 
-        pub open_walk_more : (numbers' : List ℕ) (names : List ℕ) (m' : Ledger) (wanting' : ℕ) → numbers' ≡ open_numbers first (free_in (slice_set items (number - first) q)) → IsAsked k wanting names (entry_of name p) (entry_of name q) m m' → wanting' + length names ≡ wanting
-            → OpenWalk name k n id first wanting' (out ++ items_at k id number names) old (slice_set items (number - first) q) numbers' l m'
-        open_walk_more numbers' names m' wanting' listed' asked less =
+        pub open_walk_more : {put : List Item} {items' : List (DescriptorPool P)} {numbers' : List ℕ} {own start wanting' : ℕ} {names : List ℕ} {m' : Ledger} → own ≡ id → start ≡ first → put ≡ out ++ items_at k id number names → items' ≡ slice_set items (number - first) q → numbers' ≡ open_numbers first (free_in (slice_set items (number - first) q))
+            → IsAsked k wanting names (entry_of name p) (entry_of name q) m m' → wanting' + length names ≡ wanting → OpenWalk name k n own start wanting' put old items' numbers' l m'
+        open_walk_more {put} {wanting' = wanting'} {names = names} {m' = m'} ids starts put_is items_is listed' asked less =
             let i : ℕ = number - first in
-            let was : slice_get old i ≡ Some (entry_of name p) = sym (next_was k n id first i wanting out old (map (entry_of name) items) l m booked walk_reaches (let a = inside in let b = s.long in omega arith)) ∙ entry_at_place in
             let next = walk_more k n id first i wanting out old (map (entry_of name) items) l m booked walk_reaches (entry_of name p) (entry_of name q) names m' wanting' was asked less in
-            let named : first + i ≡ number = (let a = above in omega arith) in
-            let out' : out ++ items_at k id (first + i) names ≡ out ++ items_at k id number names = ap (λ (j : ℕ). out ++ items_at k id j names) named in
-            record {
+            let named : number ≡ first + i = (let e = newest.is in omega arith) in
+            let now : put ≡ out ++ items_at k id (first + i) names = put_is ∙ ap (λ (j : ℕ). out ++ items_at k id j names) named in
+            rw (ids, starts, items_is) (record {
               long = length-set items i q ∙ s.long;
               listed = listed';
               left = i;
               within = (let a = inside in let b = s.long in omega arith);
               closed = closed_now names m' wanting' asked less;
-              walking = subst (λ (x : List Entry). Walking k n id first i wanting' (out ++ items_at k id number names) old x l m') (sym (map-set (entry_of name) items i q)) (subst (λ (x : List Item). Walking k n id first i wanting' x old (slice_set (map (entry_of name) items) i (entry_of name q)) l m') out' next);
-            }
+              walking = rw (now, map-set (entry_of name) items i q) next;
+            })
 
-        pub open_walk_stop : (room : ℕ) (error : DeviceAllocationError) (m' : Ledger) → entry_of name q ≡ entry_of name p → IsNoMemory wanting (entry_of name p) error m m' → IsTaken (Err (Existing error)) k room n out (bucket id first old) (bucket id first (map (entry_of name) (slice_set items (number - first) q))) l m'
-        open_walk_stop room error m' same none =
-            let i : ℕ = number - first in
-            let was : slice_get old i ≡ Some (entry_of name p) = sym (next_was k n id first i wanting out old (map (entry_of name) items) l m booked walk_reaches (let a = inside in let b = s.long in omega arith)) ∙ entry_at_place in
-            subst (λ (x : List Entry). IsTaken (Err (Existing error)) k room n out (bucket id first old) (bucket id first x) l m') (sym (map-set (entry_of name) items i q)) (walk_stop k room n id first i wanting out old (map (entry_of name) items) l m m' (entry_of name p) (entry_of name q) error walk_reaches was entry_at_place same none)
+        pub open_walk_stop : {own start : ℕ} (room : ℕ) (error : DeviceAllocationError) (m' : Ledger) → id ≡ own → first ≡ start → entry_of name q ≡ entry_of name p → IsNoMemory wanting (entry_of name p) error m m' → IsTaken (Err (Existing error)) k room n out (bucket own start old) (bucket id first (map (entry_of name) (slice_set items (number - first) q))) l m'
+        open_walk_stop room error m' ids starts same none = rw (sym ids, sym starts, map-set (entry_of name) items (number - first) q) (walk_stop k room n id first (number - first) wanting out old (map (entry_of name) items) l m m' (entry_of name p) (entry_of name q) error walk_reaches was entry_at_place same none)
 
         pub listed_now_same : entry_of name q ≡ entry_of name p → numbers ≡ open_numbers first (free_in (slice_set items (number - first) q))
         listed_now_same same = listed_now_open (let a : q.available ≡ p.available = ap (λ (d : Entry). d.free) same in let b = has_free in omega arith)
 
       pub next_is_booked : IsBookedIn k m.pools (entry_of name p)
-      next_is_booked =
-          let i : ℕ = number - first in
-          let was : slice_get old i ≡ Some (entry_of name p) = sym (next_was k n id first i wanting out old (map (entry_of name) items) l m booked walk_reaches (let a = inside in let b = s.long in omega arith)) ∙ entry_at_place in
-          next_booked k n id first i wanting out old (map (entry_of name) items) l m booked walk_reaches (entry_of name p) was
+      next_is_booked = next_booked k n id first (number - first) wanting out old (map (entry_of name) items) l m booked walk_reaches (entry_of name p) was
 
-pub open_walk_start : {P : Type 0} (name : P → ℕ) (k : Key) (n id first : ℕ) (items : List (DescriptorPool P)) (numbers : List ℕ) (l : Ledger) → AreBookedIn k l.pools (map (entry_of name) items) → numbers ≡ open_numbers first (free_in items) → OpenWalk name k n id first n [] (map (entry_of name) items) items numbers l l
-open_walk_start name k n id first items numbers l booked listed = record {
+pub open_walk_start : {P : Type 0} (name : P → ℕ) (k : Key) (n id first : ℕ) (items : List (DescriptorPool P)) (numbers : List ℕ) (l : Ledger) → numbers ≡ open_numbers first (free_in items) → OpenWalk name k n id first n [] (map (entry_of name) items) items numbers l l
+open_walk_start name k n id first items numbers l listed = record {
   long = sym (length-map items (entry_of name));
   listed = listed;
   left = length (map (entry_of name) items);
   within = omega arith;
   closed = λ j e le at. (let a = slice_get_within (map (entry_of name) items) j e at in absurd (omega arith));
-  walking = walk_start k n id first (map (entry_of name) items) l booked;
+  walking = walk_start k n id first (map (entry_of name) items) l;
 }

@@ -1,11 +1,11 @@
 -- A request that took sets is as the definitions say: kept whole, or given back.
 use Rattle.gpu_descriptor.proofs.request.Requested.{load_is, pool_load_is, out_is}
-use Rattle.gpu_descriptor.proofs.Common.{fun_ext, ◌≡◌, ◌≢◌, ℕ, ◌+◌, ◌-◌, ◌<◌, true, false, Some, List, [], ◌∷◌, length, map, slice_get, arith, Result, Ok, Err, refl, sym, ap, ◌∙◌, subst, length-map, side, Meaning, Ledger, no_rise, AllocationError, DescriptorSet, Stop, State, Item, Agree, AreOutstanding, outstanding, with_bucket, Key, key_eq, Entry, Bucket, HasDistinctKeys, entry_at, Allocations}
+use Rattle.gpu_descriptor.proofs.Common.{fun_ext, ◌≡◌, ◌≢◌, ℕ, ◌+◌, ◌-◌, ◌<◌, true, false, Some, List, [], ◌∷◌, length, map, slice_get, arith, Result, Ok, Err, OnOk, refl, sym, ap, ◌∙◌, subst, length-map, side, Meaning, Ledger, no_rise, AllocationError, DescriptorSet, Stop, State, Item, Agree, AreOutstanding, Option, Pool, count_of, outstanding, with_bucket, Key, key_eq, Entry, Bucket, HasDistinctKeys, entry_at, Allocations}
 use Rattle.gpu_descriptor.specs.Model.Foreign.{KeepsForeign, LosesNone}
 use Rattle.gpu_descriptor.specs.Caller.Others.{others_of}
 use Rattle.gpu_descriptor.specs.Model.FreshPools.{fresh_entry}
 use Rattle.gpu_descriptor.specs.Caller.Frees.{GivesBack}
-use Rattle.gpu_descriptor.specs.Model.Grants.{Grant, IsGrantOf, bucket_with, items_in, granted}
+use Rattle.gpu_descriptor.specs.Model.Grants.{Grant, IsGrantOf, bucket_with, items_in, granted, ledger_with}
 use Rattle.gpu_descriptor.specs.Inner.Grow.{IsTaken}
 use Rattle.gpu_descriptor.specs.Inner.Walk.{IsRefused}
 use Rattle.gpu_descriptor.specs.Model.Load.{marked_load}
@@ -18,31 +18,36 @@ use Rattle.gpu_descriptor.specs.Inner.Serves.{Takes}
 use Rattle.gpu_descriptor.specs.Model.Runs.{runs}
 use Rattle.gpu_descriptor.specs.Caller.Sets.{item_of, items_of}
 use Rattle.gpu_descriptor.specs.Caller.States.{Agrees, state_of, table_of, keys_of, outstanding_of, marked_load_of, pool_load_of}
-use Rattle.gpu_descriptor.specs.Inner.Walk.{KeepsKey, HasTaken}
-use Rattle.gpu_descriptor.proofs.request.StateAgrees.{keeps_agree, keeps_given, keeps_outstanding}
-use Rattle.gpu_descriptor.proofs.foreign.ForeignPools.{entries_named, taken_apart, taken_foreign, taken_loses, freed_foreign, freed_loses, foreign_through, loses_through}
+use Rattle.gpu_descriptor.specs.Inner.Walk.{HasTaken}
+use Rattle.gpu_descriptor.proofs.request.TakenAgrees.{granted_agree, granted_foreign, granted_loses_none, granted_others, granted_outstanding, granted_own}
+use Rattle.gpu_descriptor.proofs.request.TakenPlaces.{AreMade, made_all, made_front}
+use Rattle.gpu_descriptor.specs.declared.bucket.take.Stop.TheVariants as stop
+use Rattle.gpu_descriptor.proofs.foreign.ForeignPools.{freed_foreign, freed_loses, foreign_through, loses_through}
 use Rattle.gpu_descriptor.proofs.table.Exact.{key_exact}
 use Rattle.gpu_descriptor.proofs.release.ReleaseAgrees.{takes}
 use Rattle.gpu_descriptor.proofs.foreign.OthersStay.{others_stay}
 use Rattle.gpu_descriptor.proofs.release.OtherKeys.{release_others, untouched_twice}
-use Rattle.gpu_descriptor.proofs.request.Promises.{grant_many}
-use Rattle.gpu_descriptor.proofs.request.Granted.{is_done, stopped_state}
 use Rattle.gpu_descriptor.proofs.request.Rollback.{give_back_rise, only_key, keys_table, unnamed_key, load_of_items}
 
--- what a request took keeps the key's part of the agreement, wherever it stopped
-keeps_taken : (ended : Result (Unit {0}) Stop) (k : Key) (room n : ℕ) (items : List Item) (old new : Bucket) (l m : Ledger) → IsTaken ended k room n items old new l m → KeepsKey k items old new l.pools m.pools
-keeps_taken (Ok x) k room n items old new l m t = t.1.keeps
-keeps_taken (Err why) k room n items old new l m t = subst (KeepsKey k items old new l.pools) (sym t.4.pools) t.2.keeps
+-- what a request took, wherever it stopped
+record Had (k : Key) (n : ℕ) (items : List Item) (old new : Bucket) (l m : ℕ → Option Pool) : Type 0 where
+  g : Grant
+  grant : IsGrantOf n old l g
+  made : AreMade g.fresh
+  came : items_in k g.id g.parts ≡ items
+  bucket : new ≡ bucket_with n g old
+  ledger : m ≡ ledger_with k g l
 
--- what it left of the key's pools
-bucket_taken : (ended : Result (Unit {0}) Stop) (k : Key) (room n : ℕ) (items : List Item) (old new : Bucket) (l m : Ledger) → IsTaken ended k room n items old new l m → (g : Grant) × (new ≡ bucket_with n g old) × IsGrantOf n old l.pools g
-bucket_taken (Ok x) k room n items old new l m t = (t.0, t.1.bucket, t.1.grant)
-bucket_taken (Err why) k room n items old new l m t = (t.0, t.2.bucket, t.2.grant)
-
--- a request of a key is one of another that is the same
-pub taken_as : {L P S : Type 0} {means : Meaning L P S} {k l : Key} {count : ℕ} {sets : List (DescriptorSet S)} {ended : Result (Unit {0}) Stop} {old new : Allocations P} {before after : Ledger}
-    → k ≡ l → Takes means k count sets ended (side old before) (side new after) → Takes means l count sets ended (side old before) (side new after)
-taken_as same t = rw (sym same) t
+had_taken : (ended : Result (Unit {0}) Stop) (k : Key) (room n : ℕ) (items : List Item) (old new : Bucket) (l m : Ledger) → IsTaken ended k room n items old new l m → Had k n items old new l.pools m.pools
+had_taken (Ok x) k room n items old new l m t = record { g = t.0; grant = t.1.grant; made = made_all k t.0.fresh room _ _ t.3; came = t.1.came; bucket = t.1.bucket; ledger = t.1.pools }
+had_taken (Err why) k room n items old new l m t = record { g = t.0; grant = t.2.grant; made = made_before why t.3; came = t.2.came; bucket = t.2.bucket; ledger = t.4.pools ∙ t.2.pools }
+  where
+    made_before : (why : Stop) → StopsAt why k room n t.0 old.pools → AreMade t.0.fresh
+    made_before (stop.Existing e) at = subst AreMade (sym at.no_fresh) tt
+    made_before stop.Room at = made_front k t.0.fresh _ _ _ at.1.sized at.1.full
+    made_before stop.Books at = made_front k t.0.fresh _ _ _ at.1.sized at.1.full
+    made_before (stop.Create e) at = made_front k t.0.fresh _ _ _ at.1.sized at.1.full
+    made_before (stop.New e) at = made_front k t.0.fresh _ _ _ at.1.sized at.1.full
 
 module _ {L P S : Type 0} {means : Meaning L P S} {k : Key} {count : ℕ} {sets : List (DescriptorSet S)} {ended : Result (Unit {0}) Stop} {old new : Allocations P} {before after : Ledger}
     (t : Takes means k count sets ended (side old before) (side new after)) (agree : Agrees means.pool_name old before) where
@@ -59,53 +64,35 @@ module _ {L P S : Type 0} {means : Meaning L P S} {k : Key} {count : ℕ} {sets 
   state : state_of means.pool_name new after ≡ with_bucket k t.serves.bucket after.pools s
   state = λ i. record { books = fun_ext t.serves.books i; ledger = after.pools }
 
-  keeps : KeepsKey k items (s.books k) t.serves.bucket s.ledger after.pools
-  keeps = keeps_taken ended k room count items (s.books k) t.serves.bucket before after t.serves.served.taken
+  had : Had k count items (s.books k) t.serves.bucket s.ledger after.pools
+  had = had_taken ended k room count items (s.books k) t.serves.bucket before after t.serves.served.taken
 
-  left : (g : Grant) × (t.serves.bucket ≡ bucket_with count g (s.books k)) × IsGrantOf count (s.books k) s.ledger g
-  left = bucket_taken ended k room count items (s.books k) t.serves.bucket before after t.serves.served.taken
-
-  same_id : 0 < length (s.books k).pools → t.serves.bucket.id ≡ (s.books k).id
-  same_id some = ap (λ (b : Bucket). b.id) left.1 ∙ left.2.id some
-
-  same_first : t.serves.bucket.first ≡ (s.books k).first
-  same_first = ap (λ (b : Bucket). b.first) left.1
+  as_granted : granted k count had.g s ≡ state_of means.pool_name new after
+  as_granted = sym (state ∙ (λ i. with_bucket k (had.bucket i) (had.ledger i) s))
 
   -- books and ledger agree after it
   pub taken_agree : Agrees means.pool_name new after
-  taken_agree = subst Agree (sym state) (keeps_agree k items t.serves.bucket s after.pools agree same_id same_first keeps)
-
-  -- and the sets may be given back
-  pub taken_given : AreOutstanding items (state_of means.pool_name new after)
-  taken_given = subst (AreOutstanding items) (sym state) (keeps_given k items t.serves.bucket s after.pools agree same_id same_first keeps)
+  taken_agree = subst Agree as_granted (granted_agree k count had.g s agree had.grant had.made)
 
   -- exactly these sets are outstanding besides
   pub taken_out : AreOutBesides items s (state_of means.pool_name new after)
-  taken_out u = ap (λ (w : State). outstanding w u) state ∙ keeps_outstanding k items t.serves.bucket s after.pools agree same_id same_first keeps u
+  taken_out u = ap (λ (w : State). outstanding w u) (sym as_granted) ∙ granted_outstanding k count had.g s agree had.grant had.made u ∙ ap (λ (m : List Item). outstanding s u + count_of u m) had.came
+
+  -- so they may be given back
+  pub taken_given : AreOutstanding items (state_of means.pool_name new after)
+  taken_given u = (let e = taken_out u in omega arith)
 
   pub taken_own : AreOfKey k items
-  taken_own = λ u some. (keeps.of_key u some).0
+  taken_own = subst (AreOfKey k) had.came (granted_own k count had.g s agree had.grant had.made)
 
   pub taken_others : KeepsOtherKeys k s (state_of means.pool_name new after)
-  taken_others l other = record {
-    books = ap (λ (w : State). w.books l) state ∙ rw other refl;
-    pools = λ n e at. (
-        let booked = agree.booked l n e at in
-        let apart : (m : ℕ) (d : Entry) → entry_at (s.books k) m ≡ Some d → d.pool ≢ e.pool = λ m d there same.
-        let bad : true ≡ false = sym (ap (key_eq k) (sym (agree.distinct k l m n d e there at same).0) ∙ key_exact.self k) ∙ other in
-        absurd (cc) in
-        ap (λ (w : State). w.ledger e.pool) state ∙ taken_apart k items t.serves.bucket s after.pools same_first keeps e.pool booked.0 apart booked.1);
-  }
+  taken_others = subst (KeepsOtherKeys k s) as_granted (granted_others k count had.g s agree had.grant had.made)
 
   pub taken_leaves : KeepsForeign s (state_of means.pool_name new after)
-  taken_leaves = subst (KeepsForeign s) (sym state) (taken_foreign k items t.serves.bucket s after.pools same_first keeps)
+  taken_leaves = subst (KeepsForeign s) as_granted (granted_foreign k count had.g s agree had.grant had.made)
 
   pub taken_loses_none : LosesNone s (state_of means.pool_name new after)
-  taken_loses_none =
-      let g = left.0 in
-      subst (LosesNone s) (sym state) (taken_loses k items t.serves.bucket s after.pools same_first keeps (λ i e at.
-      let kept = entries_named g.left count g.refused (s.books k).pools (map fresh_entry g.fresh) i e at in
-      (kept.0, ap (λ (b : Bucket). slice_get b.pools i) left.1 ∙ kept.1, kept.2)))
+  taken_loses_none = subst (LosesNone s) as_granted (granted_loses_none k count had.g s agree had.grant had.made)
 
   pub taken_others_of : others_of means.pool_name new after ≡ others_of means.pool_name old before
   taken_others_of = others_stay means.pool_name old new before after taken_leaves taken_loses_none
@@ -138,8 +125,8 @@ module _ {L P S : Type 0} {means : Meaning L P S} {k : Key} {count : ℕ} {sets 
     Rolls why = (o : Allocates (call (stop_answer why))) × (g : Grant) × (taken_by o ≡ Some g) × (items_in k g.id g.parts ≡ items) × (granted k count g s ≡ state_of means.pool_name new after)
 
     module _ (why : Stop) (g : Grant) (between : Ledger) (taken : HasTaken k count g items (s.books k) t.serves.bucket before between) (refused : IsRefused why between after) where
-      now : (with_bucket k t.serves.bucket after.pools s ≡ granted k count g s) × (after.counters ≡ risen (stop_rise why) (risen (grant_rise count g (s.books k).pools) before.counters))
-      now = stopped_state k count why s t.serves.bucket items before between after refl g taken refused
+      now : state_of means.pool_name new after ≡ granted k count g s
+      now = state ∙ (λ i. with_bucket k (taken.bucket i) ((refused.pools ∙ taken.pools) i) s)
 
       rolls : StopsAt why k room count g (s.books k).pools → Rolls why
       rolls at = (
@@ -152,14 +139,14 @@ module _ {L P S : Type 0} {means : Meaning L P S} {k : Key} {count : ℕ} {sets 
           back = record {
             taken = taken.grant;
             answer = refl;
-            state = back.state ∙ (λ i. released (sym taken.came i) ((state ∙ now.0) i));
-            counters = went (items_in k g.id g.parts) (granted k count g s) taken.came (sym (state ∙ now.0)) ∙ ap (risen (rollback_rise (items_in k g.id g.parts) k (granted k count g s))) now.1;
+            state = back.state ∙ (λ i. released (sym taken.came i) (now i));
+            counters = went (items_in k g.id g.parts) (granted k count g s) taken.came (sym now) ∙ ap (risen (rollback_rise (items_in k g.id g.parts) k (granted k count g s))) (refused.counters ∙ ap (risen (stop_rise why)) taken.counters);
           };
         }),
         g,
         refl,
         taken.came,
-        sym (state ∙ now.0),
+        sym now,
       )
 
     pub went_back : {why : Stop} → ended ≡ Err why → Rolls why
@@ -207,12 +194,7 @@ module _ {L P S : Type 0} {means : Meaning L P S} {k : Key} {count : ℕ} {sets 
   all_of is = subst (λ (r : Result (Unit {0}) Stop). IsTaken r k room count items (s.books k) t.serves.bucket before after) is t.serves.served.taken
 
   pub kept_many : {x : Unit {0}} → ended ≡ Ok x → length sets ≡ count
-  kept_many is =
-      let all = all_of is in
-      let many = grant_many k count _ _ (s.books k) all.0 all.1.grant.parts all.2 all.3 in
-      let same = ap length all.1.came in
-      let long = length-map sets (λ (x : DescriptorSet S). item_of means.set_name x) in
-      omega arith
+  kept_many is = subst (λ (r : Result (Unit {0}) Stop). OnOk r (length sets ≡ count)) is t.serves.served.all
 
   pub kept_totals : {x : Unit {0}} → ended ≡ Ok x → (outstanding_of new ≡ outstanding_of old + count) × (marked_load_of new ≡ marked_load_of old + marked_load k count)
   kept_totals is =
@@ -220,4 +202,16 @@ module _ {L P S : Type 0} {means : Meaning L P S} {k : Key} {count : ℕ} {sets 
       (t.serves.out ∙ ap (λ n. outstanding_of old + n) many, t.serves.load ∙ ap (λ n. marked_load_of old + marked_load k n) many)
 
   pub kept : HasDistinctKeys (table_of means.pool_name old) → 0 < count → {x : Unit {0}} → ended ≡ Ok x → Allocates (call_of means k count (side old before) (side new after) (Ok items))
-  kept distinct some is = done (proceeds distinct some new after _) (is_done _ t.serves.bucket items before after refl refl state refl (pool_load_of old) (pool_load_is means old before distinct) (all_of is) refl)
+  kept distinct some is =
+      let all = all_of is in
+      done (proceeds distinct some new after _) (record {
+        pooled = pool_load_of old;
+        is_pooled = pool_load_is means old before distinct;
+        grant = all.0;
+        taken = all.1.grant;
+        all = all.2;
+        fresh = all.3;
+        answer = ap Ok (sym all.1.came);
+        state = state ∙ (λ i. with_bucket k (all.1.bucket i) (all.1.pools i) s);
+        counters = all.1.counters;
+      })

@@ -1,6 +1,7 @@
 -- Known free places are room on the device.
 use Rattle.gpu_descriptor.proofs.Common.{◌≡◌, ℕ, zero, suc, ◌+◌, ◌*◌, ◌<◌, ◌≤◌, inl, inr, List, [], ◌∷◌, length, map, Bool, true, false, slice_set, slice_index, refl, sym, ap, subst, arith, eqb-true, mul-le-mul_right, cases_Bool, sum_by-cons, IfSome, IsTrue, sum, sum_by, ◌==◌, if◌then◌else◌, flags_of, Key, Entry, count_by_yes, count_by_no, set_exact, IsUpdateAfterBind, Pool, Ledger, HasRoom, IsFiniteLedger, LiveSet, Spells, set_eq, times, pool_counts}
 use Rattle.gpu_descriptor.specs.Inner.Buckets.{IsBookedIn}
+use Rattle.gpu_descriptor.proofs.lists.AtPlaces.{count_by_more}
 use Rattle.gpu_descriptor.proofs.sums.Sized.{listed}
 
 abbrev pub key_with : List ℕ → Bool → Key
@@ -14,14 +15,8 @@ sum_alike counts j (s ∷ sets) h =
     let here : s.counts ≡ counts = h s (omega arith) in
     let one : slice_index s.counts j ≡ slice_index counts j = ap (λ (c : List ℕ). slice_index c j) here in
     let more : sum_by (λ s. slice_index s.counts j) (s ∷ sets) ≡ slice_index s.counts j + sum_by (λ s. slice_index s.counts j) sets = sum_by-cons (λ (s : LiveSet). slice_index s.counts j) s sets in
-    let rest : sum_by (λ s. slice_index s.counts j) sets ≡ length sets * slice_index counts j = sum_alike counts j sets (λ x lt. h x (up x lt)) in
+    let rest : sum_by (λ s. slice_index s.counts j) sets ≡ length sets * slice_index counts j = sum_alike counts j sets (λ x lt. h x (let most = count_by_more (λ y. set_eq y x) s sets in omega arith)) in
     omega arith
-  where
-    up : (x : LiveSet) → 0 < times sets x → 0 < times (s ∷ sets) x
-    up x lt = elim (cases_Bool (set_eq s x)) [
-      | inl on ↦ (let e = count_by_yes (λ y. set_eq y x) s sets on in omega arith)
-      | inr off ↦ (let e = count_by_no (λ y. set_eq y x) s sets off in omega arith)
-    ]
 
 index_le_sum : (j : ℕ) (xs : List ℕ) → slice_index xs j ≤ sum xs
 index_le_sum j [] = omega arith
@@ -35,15 +30,15 @@ scaled c (suc j) (x ∷ xs) = scaled c j xs
 
 -- a pool of c sets has the counts of c sets
 pub wide : (k : Key) (c j : ℕ) → slice_index k.counts j * c ≤ slice_index (pool_counts k.counts c) j
-wide k c j = by_test (sum (map (λ n. n * c) k.counts) == 0) refl
-  where
-    by_test : (b : Bool) → (sum (map (λ n. n * c) k.counts) == 0) ≡ b → slice_index k.counts j * c ≤ slice_index (if b then slice_set (map (λ n. n * c) k.counts) 0 1 else map (λ n. n * c) k.counts) j
-    by_test true e =
-        let none : sum (map (λ n. n * c) k.counts) ≡ 0 = eqb-true (sum (map (λ n. n * c) k.counts)) 0 e in
-        let below = index_le_sum j (map (λ n. n * c) k.counts) in
-        let is = scaled c j k.counts in
-        omega arith
-    by_test false e = (let is = scaled c j k.counts in omega arith)
+wide k c j =
+    let is = scaled c j k.counts in
+    elim (cases_Bool (sum (map (λ n. n * c) k.counts) == 0)) [
+      | inl on ↦ (
+          let none = eqb-true (sum (map (λ n. n * c) k.counts)) 0 on in
+          let below = index_le_sum j (map (λ n. n * c) k.counts) in
+          omega arith)
+      | inr off ↦ rw off (omega arith)
+    ]
 
 pub marked_flags : (counts : List ℕ) (mark : Bool) → IsTrue mark → IsUpdateAfterBind (flags_of (key_with counts mark))
 marked_flags counts true h = refl

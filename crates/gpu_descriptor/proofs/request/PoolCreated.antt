@@ -13,9 +13,6 @@ use Rattle.gpu_descriptor.proofs.request.Asks.{same_counters}
 use Rattle.gpu_descriptor.proofs.request.PlacesFree.{key_with, wide, marked_flags}
 
 -- a pool for a key was created
-pub created_for : (k : Key) (size name : ℕ) (counts : List ℕ) (flags : ℕ) (l m : Ledger) → counts ≡ pool_counts k.counts size → flags ≡ flags_of k → m ≡ after_create counts size flags name l → m ≡ after_create (pool_counts k.counts size) size (flags_of k) name l
-created_for k size name counts flags l m sized marked is = is ∙ ap (λ cs. after_create cs size flags name l) sized ∙ ap (λ b. after_create (pool_counts k.counts size) size b name l) marked
-
 pub created_at : (k : Key) (size name : ℕ) (l m : Ledger) → m ≡ after_create (pool_counts k.counts size) size (flags_of k) name l → m.pools name ≡ Some (fresh (pool_counts k.counts size) size (flags_of k))
 created_at k size name l m is = ap (λ (x : Ledger). x.pools name) is ∙ update_here l.pools name (Some (fresh (pool_counts k.counts size) size (flags_of k)))
 
@@ -53,10 +50,7 @@ grown k room left total wanted size name names old new l m m' sized less many no
 }
 
 fresh_counters : (error : DeviceAllocationError) (n : Counters) → (let made : Counters = record n { created = n.created + 1 } in let asked = alloc_refused error made in record asked { destroyed = asked.destroyed + 1 }) ≡ risen (stop_rise (stop.New error)) n
-fresh_counters alloc_error.OutOfDeviceMemory n = same_counters _ _ (omega arith) (omega arith) (omega arith) (omega arith) (omega arith) (omega arith) (omega arith) (omega arith)
-fresh_counters alloc_error.OutOfHostMemory n = same_counters _ _ (omega arith) (omega arith) (omega arith) (omega arith) (omega arith) (omega arith) (omega arith) (omega arith)
-fresh_counters alloc_error.FragmentedPool n = same_counters _ _ (omega arith) (omega arith) (omega arith) (omega arith) (omega arith) (omega arith) (omega arith) (omega arith)
-fresh_counters alloc_error.OutOfPoolMemory n = same_counters _ _ (omega arith) (omega arith) (omega arith) (omega arith) (omega arith) (omega arith) (omega arith) (omega arith)
+fresh_counters error n = same_counters _ _ (grind arith) (grind arith) (grind arith) (grind arith) (grind arith) (grind arith) (grind arith) (grind arith)
 
 -- a pool that was created, refused and was destroyed has left the ledger's pools as they were
 pub not_grown : (k : Key) (size name : ℕ) (error : DeviceAllocationError) (l m m' m'' : Ledger) → l.pools name ≡ None → m ≡ after_create (pool_counts k.counts size) size (flags_of k) name l → m' ≡ after_no_alloc name error m → m'' ≡ after_destroy name m' → IsRefused (stop.New error) l m''
@@ -74,9 +68,7 @@ not_grown k size name error l m m' m'' none made refused gone = record {
 
 -- no pool was created
 create_counters : (error : CreatePoolError) (n : Counters) → create_refused error n ≡ risen (stop_rise (stop.Create error)) n
-create_counters create_error.OutOfDeviceMemory n = same_counters _ _ (omega arith) (omega arith) (omega arith) (omega arith) (omega arith) (omega arith) (omega arith) (omega arith)
-create_counters create_error.OutOfHostMemory n = same_counters _ _ (omega arith) (omega arith) (omega arith) (omega arith) (omega arith) (omega arith) (omega arith) (omega arith)
-create_counters create_error.Fragmentation n = same_counters _ _ (omega arith) (omega arith) (omega arith) (omega arith) (omega arith) (omega arith) (omega arith) (omega arith)
+create_counters error n = same_counters _ _ (grind arith) (grind arith) (grind arith) (grind arith) (grind arith) (grind arith) (grind arith) (grind arith)
 
 pub not_created : (error : CreatePoolError) (l m : Ledger) → m ≡ after_no_create error l → IsRefused (stop.Create error) l m
 not_created error l m is = record {
@@ -94,12 +86,7 @@ had_room other fits = (λ is. absurd (other is), λ none. absurd (omega arith))
 
 -- how often pools were asked
 pub create_asked : (error : CreatePoolError) (n : Counters) → (create_refused error n).asked ≡ n.asked
-create_asked create_error.OutOfDeviceMemory n = refl
-create_asked create_error.OutOfHostMemory n = refl
-create_asked create_error.Fragmentation n = refl
+create_asked error n = grind arith
 
 pub alloc_asked : (error : DeviceAllocationError) (n : Counters) → (alloc_refused error n).asked ≡ n.asked + 1
-alloc_asked alloc_error.OutOfDeviceMemory n = refl
-alloc_asked alloc_error.OutOfHostMemory n = refl
-alloc_asked alloc_error.FragmentedPool n = refl
-alloc_asked alloc_error.OutOfPoolMemory n = refl
+alloc_asked error n = grind arith

@@ -1,5 +1,5 @@
 -- What every outcome of a request promises.
-use Rattle.gpu_descriptor.proofs.Common.{◌≡◌, ◌≢◌, ℕ, suc, ◌+◌, ◌-◌, ◌*◌, ◌<◌, ◌≤◌, Bool, List, [], ◌∷◌, ◌++◌, map, length, drop, sum_by, inl, inr, Result, Ok, Err, refl, sym, ap, ◌∙◌, subst, arith, length-map, length-append, sum_by-cons, sum_by-append, pool_size_floor, ◌↔◌, min, OnOk, IfErr, Counters, create_refused, alloc_refused, pool_refusals, no_rise, CreatePoolError, DeviceAllocationError, AllocationError, Stop, Item, Key, Entry, Bucket, next_number, cases_lt}
+use Rattle.gpu_descriptor.proofs.Common.{◌≡◌, ◌≢◌, ℕ, suc, ◌+◌, ◌-◌, ◌*◌, ◌<◌, ◌≤◌, Bool, List, [], ◌∷◌, ◌++◌, map, length, drop, sum_by, inl, inr, Result, Ok, Err, refl, sym, ap, ◌∙◌, subst, arith, length-map, length-append, sum_by-cons, sum_by-append, pool_size_floor, ◌↔◌, min, OnOk, IfErr, Counters, create_refused, alloc_refused, pool_refusals, no_rise, CreatePoolError, DeviceAllocationError, AllocationError, Stop, Item, Key, Entry, Bucket, next_number, cases_lt, ◌⊎◌}
 use Rattle.gpu_descriptor_types.proofs.Sizes.{pool_size_some}
 use Rattle.gpu_descriptor_types.specs.declared.errors.CreatePoolError.TheVariants as create_error
 use Rattle.gpu_descriptor_types.specs.declared.errors.DeviceAllocationError.TheVariants as alloc_error
@@ -14,16 +14,16 @@ use Rattle.gpu_descriptor.specs.Model.Promises.{AreBelowTwice, HasCause, IsShort
 use Rattle.gpu_descriptor.specs.Model.Promises.IsFragmentation.{above_limit, past_bound, no_room_left, no_pool_created, new_pool_refused}
 use Rattle.gpu_descriptor.specs.Model.Promises.IsHostMemory.{device_refused, no_memory_at_start, no_memory_for_a_pool}
 use Rattle.gpu_descriptor.specs.Model.Load.{pool_load}
-use Rattle.gpu_descriptor.proofs.request.NextSize.{next_whole, one_fits, some_fit, room_falls}
-use Rattle.gpu_descriptor.proofs.request.NewPools.{AreFilled, met, unmet, shares_used, done_filled, front_below, list_below}
+use Rattle.gpu_descriptor.proofs.request.NextSize.{next_whole, one_fits, last_fits}
+use Rattle.gpu_descriptor.proofs.request.NewPools.{AreFilled, shares_used, done_filled, front_below, list_below}
 use Rattle.gpu_descriptor.specs.Model.Shares.{Portion, offer, rest, portions_of}
 
 -- ---- how many sets
 
-abbrev sum_given : List Portion → ℕ
+abbrev pub sum_given : List Portion → ℕ
 sum_given ps = sum_by (λ p. p.given) ps
 
-length_items : (k : Key) (id : ℕ) (parts : List Part) → length (items_in k id parts) ≡ sum_given (map portion_of parts)
+pub length_items : (k : Key) (id : ℕ) (parts : List Part) → length (items_in k id parts) ≡ sum_given (map portion_of parts)
 length_items k id [] = refl
 length_items k id (p ∷ parts) =
     let a = length-append (items_at k id p.number p.names) (items_in k id parts) in
@@ -32,7 +32,7 @@ length_items k id (p ∷ parts) =
     let more = length_items k id parts in
     omega arith
 
-shares_sum : (refused : ℕ → Bool) (n number : ℕ) (pools : List Entry) → sum_given (portions_of refused n number pools) + rest refused n pools ≡ n
+pub shares_sum : (refused : ℕ → Bool) (n number : ℕ) (pools : List Entry) → sum_given (portions_of refused n number pools) + rest refused n pools ≡ n
 shares_sum refused n number [] = omega arith
 shares_sum refused n number (e ∷ newer) =
     let last : Portion = record { number = number; pool = e.pool; given = min (offer refused e) (rest refused n newer) } in
@@ -40,29 +40,6 @@ shares_sum refused n number (e ∷ newer) =
     let one : sum_given (last ∷ []) ≡ last.given = omega arith in
     let b = sum_by-cons (offer refused) e newer in
     let more = shares_sum refused n (number + 1) newer in
-    omega arith
-
-fresh_sum : (number : ℕ) (pools : List Fresh) → sum_given (fresh_portions number pools) ≡ given_by pools
-fresh_sum number [] = refl
-fresh_sum number (f ∷ pools) =
-    let p : Portion = record { number = number; pool = f.pool; given = f.given } in
-    let a = sum_by-cons (λ (q : Portion). q.given) p (fresh_portions (number + 1) pools) in
-    let b = sum_by-cons (λ (g : Fresh). g.given) f pools in
-    let more = fresh_sum (number + 1) pools in
-    omega arith
-
-all_given : (k : Key) (room total wanted : ℕ) (pools : List Fresh) → IsFreshList k room total wanted pools → given_by pools ≡ wanted
-all_given k room total wanted pools (no_fresh zero_wanted empty) = ap given_by empty ∙ sym zero_wanted
-all_given k room total wanted pools (some_fresh front last is short sized le given) = given
-
--- what was had in all is what was asked for
-pub grant_many : (k : Key) (n room total : ℕ) (b : Bucket) (g : Grant) → map portion_of g.parts ≡ portions_of g.refused n (b.first + g.left) (drop g.left b.pools) ++ fresh_portions (next_number b) g.fresh → g.left ≡ 0 → IsFreshList k room total (rest g.refused n b.pools) g.fresh → length (items_in k g.id g.parts) ≡ n
-grant_many k n room total b g parts none_left fresh =
-    let long = length_items k g.id g.parts ∙ ap sum_given parts in
-    let two = sum_by-append (λ (q : Portion). q.given) (portions_of g.refused n (b.first + g.left) (drop g.left b.pools)) (fresh_portions (next_number b) g.fresh) in
-    let new = fresh_sum (next_number b) g.fresh ∙ all_given _ _ _ _ _ fresh in
-    let all : rest g.refused n (drop g.left b.pools) ≡ rest g.refused n b.pools = ap (λ i. rest g.refused n (drop i b.pools)) none_left in
-    let old = shares_sum g.refused n (b.first + g.left) (drop g.left b.pools) in
     omega arith
 
 -- ---- the causes
@@ -91,48 +68,20 @@ stop_cause c s (New alloc_error.OutOfPoolMemory) is back at = (let n = ap (λ (k
 
 -- ---- pools are created only where the existing ones don't do
 
-times_more : (n m : ℕ) → suc n * m ≡ n * m + m
-times_more n m = grind arith
+-- a pool that was not cut, gave all it has, and didn't do gave the least that a pool holds
+whole_gave : (k : Key) (room total wanted : ℕ) (f : Fresh) → IsNextSize k room total wanted f.size → pool_load k 1 ≤ room - pool_load k f.size → f.given ≡ f.size → f.given < wanted → pool_size_floor k.counts ≤ f.given
+whole_gave k room total wanted f next left full short = (let some = pool_size_some k.counts total wanted f.size (next_whole k room total wanted f.size next left) in omega arith)
 
--- a pool that was not cut, gave all it has, and didn't do
-one_more : (k : Key) (room total wanted : ℕ) (f : Fresh) (pools : List Fresh) → IsNextSize k room total wanted f.size → pool_load k 1 ≤ room - pool_load k f.size → f.given ≡ f.size → f.given < wanted → (more : ℕ) → length pools * pool_size_floor k.counts ≤ more → length (f ∷ pools) * pool_size_floor k.counts ≤ f.given + more
-one_more k room total wanted f pools next left full short more rest =
-    let some = pool_size_some k.counts total wanted f.size (next_whole k room total wanted f.size next left) in
-    let product : length (f ∷ pools) * pool_size_floor k.counts ≡ length pools * pool_size_floor k.counts + pool_size_floor k.counts = times_more (length pools) (pool_size_floor k.counts) in
-    omega arith
-
--- new pools that gave all they have and didn't do, with room left for one more
-front_few : (k : Key) (room total wanted : ℕ) (pools : List Fresh) → AreSized k room total wanted pools → AreFull pools → given_by pools < wanted → pool_load k 1 ≤ room_after k room pools → length pools * pool_size_floor k.counts ≤ given_by pools
-front_few k room total wanted [] sized full short left = omega arith
-front_few k room total wanted (f ∷ pools) sized full short left =
-    let sum = sum_by-cons (λ (g : Fresh). g.given) f pools in
-    let is = full.0 in
-    let falls = room_falls k (room - pool_load k f.size) pools in
-    let more = front_few k (room - pool_load k f.size) (total + f.given) (wanted - f.given) pools sized.1 full.1 (omega arith) left in
-    let all = one_more k room total wanted f pools sized.0 (omega arith) is (omega arith) (given_by pools) more in
-    omega arith
-
--- before a last one
-list_few : (k : Key) (room total wanted : ℕ) (front : List Fresh) (last : Fresh) → AreSized k room total wanted (front ++ last ∷ []) → AreFull front → given_by front < wanted → length front * pool_size_floor k.counts ≤ given_by front
-list_few k room total wanted [] last sized full short = omega arith
-list_few k room total wanted (f ∷ front) last sized full short =
-    let sum = sum_by-cons (λ (g : Fresh). g.given) f front in
-    let is = full.0 in
-    let left = some_fit k (room - pool_load k f.size) (total + f.given) (wanted - f.given) front last sized.1 in
-    let more = list_few k (room - pool_load k f.size) (total + f.given) (wanted - f.given) front last sized.1 full.1 (omega arith) in
-    let all = one_more k room total wanted f front sized.0 left is (omega arith) (given_by front) more in
-    omega arith
-
--- whatever room is left: the last may have been cut
-any_few : (k : Key) (room total wanted : ℕ) (pools : List Fresh) → AreSized k room total wanted pools → AreFull pools → given_by pools < wanted → length pools * pool_size_floor k.counts ≤ given_by pools + pool_size_floor k.counts
-any_few k room total wanted [] sized full short = omega arith
-any_few k room total wanted (f ∷ []) sized full short = (let one = times_more 0 (pool_size_floor k.counts) in omega arith)
-any_few k room total wanted (f ∷ h ∷ pools) sized full short =
+-- new pools that gave all they have and didn't do are few; with room left for one more so are they and that one. The last may have been cut
+few : (k : Key) (room total wanted : ℕ) (pools : List Fresh) → AreSized k room total wanted pools → AreFull pools → given_by pools < wanted → (more : ℕ) → (more ≡ 0) ⊎ ((more ≡ pool_size_floor k.counts) × (pool_load k 1 ≤ room_after k room pools)) → length pools * pool_size_floor k.counts + more ≤ given_by pools + pool_size_floor k.counts
+few k room total wanted [] sized full short more why = elim why [ inl nothing ↦ (omega arith) | inr one ↦ (let is = one.0 in omega arith) ]
+few k room total wanted (f ∷ []) sized full short more why = elim why [ inl nothing ↦ (omega arith) | inr one ↦ (let is = one.0 in let gave = whole_gave k room total wanted f sized.0 one.1 full.0 (omega arith) in omega arith) ]
+few k room total wanted (f ∷ h ∷ pools) sized full short more why =
     let sum = sum_by-cons (λ (g : Fresh). g.given) f (h ∷ pools) in
     let is = full.0 in
     let left = one_fits k (room - pool_load k f.size) (total + f.given) (wanted - f.given) h.size sized.1.0 in
-    let more = any_few k (room - pool_load k f.size) (total + f.given) (wanted - f.given) (h ∷ pools) sized.1 full.1 (omega arith) in
-    let all = one_more k room total wanted f (h ∷ pools) sized.0 left is (omega arith) (given_by (h ∷ pools) + pool_size_floor k.counts) more in
+    let gave = whole_gave k room total wanted f sized.0 left is (omega arith) in
+    let rest = few k (room - pool_load k f.size) (total + f.given) (wanted - f.given) (h ∷ pools) sized.1 full.1 (omega arith) more why in
     omega arith
 
 pools_short : (c : Call) (g : Grant) → 0 < wanting c.request c.old g → AreBelowTwice (out_then c.request c.old g) (wanting c.request c.old g) g.fresh → OnOk c.answer (AreFilled c) → (n : ℕ) → c.after.created ≡ c.before.created + n → n * pool_size_floor c.request.key.counts < wanting c.request c.old g + pool_size_floor c.request.key.counts → IsShort c g
@@ -147,32 +96,14 @@ pools_short c g some below filled n rise few = record {
       subst (λ i. i * m < wanting c.request c.old g + m) (sym same) few);
 }
 
--- how few new pools came before it stopped, with one more or without
-few_any : (c : Call) (g : Grant) (room : ℕ) → IsFreshFront c.request.key room (out_then c.request c.old g) (wanting c.request c.old g) g.fresh → (length g.fresh + 0) * pool_size_floor c.request.key.counts < wanting c.request c.old g + pool_size_floor c.request.key.counts
-few_any c g room front =
-    let m : ℕ = pool_size_floor c.request.key.counts in
-    let short = front.short in
-    let few = any_few c.request.key room (out_then c.request c.old g) (wanting c.request c.old g) g.fresh front.sized front.full short in
-    let same : length g.fresh + 0 ≡ length g.fresh = omega arith in
-    let product : (length g.fresh + 0) * m ≡ length g.fresh * m = ap (λ i. i * m) same in
-    omega arith
-
-few_with_room : (c : Call) (g : Grant) (room : ℕ) → IsFreshFront c.request.key room (out_then c.request c.old g) (wanting c.request c.old g) g.fresh → pool_load c.request.key 1 ≤ room_after c.request.key room g.fresh → (length g.fresh + 1) * pool_size_floor c.request.key.counts < wanting c.request c.old g + pool_size_floor c.request.key.counts
-few_with_room c g room front fits =
-    let m : ℕ = pool_size_floor c.request.key.counts in
-    let short = front.short in
-    let few = front_few c.request.key room (out_then c.request c.old g) (wanting c.request c.old g) g.fresh front.sized front.full short fits in
-    let same : length g.fresh + 1 ≡ suc (length g.fresh) = omega arith in
-    let product : (length g.fresh + 1) * m ≡ length g.fresh * m + m = ap (λ i. i * m) same ∙ times_more (length g.fresh) m in
-    omega arith
-
 -- after a front
 front_short : (c : Call) (s : IsStopped c) (why : Stop) (room : ℕ) → IsBack c s.grant why → IsFreshFront c.request.key room (out_then c.request c.old s.grant) (wanting c.request c.old s.grant) s.grant.fresh
-    → (length s.grant.fresh + (stop_rise why).created) * pool_size_floor c.request.key.counts < wanting c.request c.old s.grant + pool_size_floor c.request.key.counts → IsShort c s.grant
-front_short c s why room back front few =
+    → ((stop_rise why).created * pool_size_floor c.request.key.counts ≡ 0) ⊎ (((stop_rise why).created * pool_size_floor c.request.key.counts ≡ pool_size_floor c.request.key.counts) × (pool_load c.request.key 1 ≤ room_after c.request.key room s.grant.fresh)) → IsShort c s.grant
+front_short c s why room back front more =
     let short = front.short in
     let n = ap (λ (k : Counters). k.created) back.counters in
-    pools_short c s.grant (omega arith) (front_below c.request.key room _ _ s.grant.fresh front.sized front.full front.short) (unmet (AreFilled c) c.answer _ back.answer) (length s.grant.fresh + (stop_rise why).created) (omega arith) few
+    let all = few c.request.key room _ _ s.grant.fresh front.sized front.full short ((stop_rise why).created * pool_size_floor c.request.key.counts) more in
+    pools_short c s.grant (omega arith) (front_below c.request.key room _ _ s.grant.fresh front.sized front.full short) (rw back.answer tt) (length s.grant.fresh + (stop_rise why).created) (omega arith) (omega arith)
 
 -- a list that gave all
 done_short : (c : Call) (d : IsDone c) → IsFreshList c.request.key (c.request.limit - d.pooled) (out_then c.request c.old d.grant) (wanting c.request c.old d.grant) d.grant.fresh → 0 < length d.grant.fresh → IsShort c d.grant
@@ -181,27 +112,21 @@ done_short c d (some_fresh front last parts short sized le given) some =
     let g : Grant = d.grant in
     let m : ℕ = pool_size_floor c.request.key.counts in
     let whole_sized = subst (AreSized c.request.key (c.request.limit - d.pooled) (out_then c.request c.old g) (wanting c.request c.old g)) parts sized in
-    let few = list_few c.request.key (c.request.limit - d.pooled) (out_then c.request c.old g) (wanting c.request c.old g) front last whole_sized short.full short.short in
+    let all = few c.request.key (c.request.limit - d.pooled) _ _ front short.sized short.full short.short m (inr (refl, last_fits c.request.key _ _ _ front last whole_sized)) in
     let below = subst (AreBelowTwice (out_then c.request c.old g) (wanting c.request c.old g)) (sym parts) (list_below c.request.key (c.request.limit - d.pooled) (out_then c.request c.old g) (wanting c.request c.old g) front last whole_sized short.full short.short) in
     let less = short.short in
     let long = ap length parts ∙ length-append front (last ∷ []) in
-    let product = times_more (length front) m in
     let same : length g.fresh ≡ suc (length front) = omega arith in
     let whole : length g.fresh * m ≡ suc (length front) * m = ap (λ n. n * m) same in
     let created = ap (λ (k : Counters). k.created) d.counters in
-    pools_short c g (omega arith) below (met (AreFilled c) c.answer _ d.answer (done_filled c d some)) (length g.fresh) (omega arith) (omega arith)
+    pools_short c g (omega arith) below (rw d.answer (done_filled c d some)) (length g.fresh) (omega arith) (omega arith)
 
 -- what an error adds to some of the counters
 alloc_creates : (e : DeviceAllocationError) → (alloc_refused e no_rise).created ≡ 0
-alloc_creates alloc_error.OutOfDeviceMemory = refl
-alloc_creates alloc_error.OutOfHostMemory = refl
-alloc_creates alloc_error.FragmentedPool = refl
-alloc_creates alloc_error.OutOfPoolMemory = refl
+alloc_creates e = grind arith
 
 create_creates : (e : CreatePoolError) → (create_refused e no_rise).created ≡ 0
-create_creates create_error.OutOfDeviceMemory = refl
-create_creates create_error.OutOfHostMemory = refl
-create_creates create_error.Fragmentation = refl
+create_creates e = grind arith
 
 -- there was room where it stopped for another reason
 fits : {why : Stop} {one room : ℕ} → (why ≡ Room) ↔ (room < one) → why ≢ Room → one ≤ room
@@ -211,16 +136,13 @@ module _ (c : Call) where
   answered : (e : AllocationError) → c.answer ≡ Err e → HasCause e c → IfErr c.answer (λ f. HasCause f c)
   answered e is cause = subst (λ (r : Result (List Item) AllocationError). IfErr r (λ f. HasCause f c)) (sym is) cause
 
-  given : (items : List Item) → c.answer ≡ Ok items → IfErr c.answer (λ f. HasCause f c)
-  given items is = subst (λ (r : Result (List Item) AllocationError). IfErr r (λ f. HasCause f c)) (sym is) tt
-
   -- each error has its cause
   pub has_cause : Allocates c → IfErr c.answer (λ e. HasCause e c)
-  has_cause (none zero_count answer stays) = given [] answer
-  has_cause (limit some above answer stays) = answered Fragmentation answer (above_limit above)
-  has_cause (bound some within past answer stays) = answered Fragmentation answer (past_bound past)
-  has_cause (start p answer stays) = answered OutOfHostMemory answer (no_memory_at_start p stays)
-  has_cause (done p d) = given _ d.answer
+  has_cause (none zero_count answer stays) = rw answer tt
+  has_cause (limit some above answer stays) = answered _ answer (above_limit above)
+  has_cause (bound some within past answer stays) = answered _ answer (past_bound past)
+  has_cause (start p answer stays) = answered _ answer (no_memory_at_start p stays)
+  has_cause (done p d) = rw d.answer tt
   has_cause (stopped p s) = answered _ s.back.answer (stop_cause c s s.why refl s.back s.at)
 
   stop_short : (s : IsStopped c) (why : Stop) → IsBack c s.grant why → Stops c why s.grant s.pooled → c.before.created < c.after.created → IsShort c s.grant
@@ -229,10 +151,10 @@ module _ (c : Call) where
       let none = alloc_creates e in
       let f = ap length at.no_fresh in
       absurd (omega arith)
-  stop_short s Room back at more = front_short c s Room _ back at.1 (few_any c s.grant _ at.1)
-  stop_short s Books back at more = front_short c s Books _ back at.1 (few_any c s.grant _ at.1)
-  stop_short s (Create e) back at more = front_short c s (Create e) _ back at.1 (let none = create_creates e in let few = few_any c s.grant _ at.1 in rw none few)
-  stop_short s (New e) back at more = front_short c s (New e) _ back at.1 (few_with_room c s.grant _ at.1 (fits at.2 (λ same. absurd (cc))))
+  stop_short s Room back at more = front_short c s Room _ back at.1 (inl (omega arith))
+  stop_short s Books back at more = front_short c s Books _ back at.1 (inl (omega arith))
+  stop_short s (Create e) back at more = front_short c s (Create e) _ back at.1 (inl (ap (λ n. n * pool_size_floor c.request.key.counts) (create_creates e) ∙ (omega arith)))
+  stop_short s (New e) back at more = front_short c s (New e) _ back at.1 (inr ((omega arith), fits at.2 (λ same. absurd (cc))))
 
   -- a pool is created only where the existing ones don't do
   pub short : (outcome : Allocates c) → CreatesOnlyWhereShort outcome

@@ -1,5 +1,5 @@
 -- What a request leaves of an allocator: why it is declined before the walk, and what it took.
-use Rattle.gpu_descriptor.proofs.sums.TableSums.{outstanding_of-table, marked_load_of-table, pool_load_of-table}
+use Rattle.gpu_descriptor.proofs.sums.TableSums.{adds_up, outstanding_of-table, marked_load_of-table, pool_load_of-table}
 use Rattle.gpu_descriptor.specs.Model.Books.{AddsUp}
 use Rattle.gpu_descriptor.proofs.Common.{side, Meaning, greatest_u64, [], ◌≡◌, ℕ, ◌+◌, ◌-◌, ◌*◌, ◌<◌, ◌≤◌, ◌&&◌, Bool, true, false, List, map, length, sum, Result, Err, inl, inr, refl, sym, ap, subst, ◌∙◌, arith, mul-le-mul_right, cases_Bool, and_parts, ltb-true, ltb-false, IsDistinct, nat_lt, ◌⊎◌, kinds, Ledger, AllocationError, BucketKey, DescriptorSet, DescriptorBucket, Stop, Key, key_eq, Bucket, BucketOf, HasDistinctKeys, books_of, next_number, sum_over, key_of, Allocations}
 use Rattle.gpu_descriptor.specs.declared.errors.AllocationError.TheVariants.{Fragmentation}
@@ -7,7 +7,7 @@ use Rattle.gpu_descriptor.specs.Model.Load.{bucket_load, descriptors_out, marked
 use Rattle.gpu_descriptor.specs.Model.Outcomes.{Allocates, Stays, IsWithinLimit}
 use Rattle.gpu_descriptor.specs.Model.Outcomes.Allocates.{limit, bound, start}
 use Rattle.gpu_descriptor.specs.Caller.Call.{call_of}
-use Rattle.gpu_descriptor.specs.Inner.Serves.{IsUnserved, ServesKey, Takes}
+use Rattle.gpu_descriptor.specs.Inner.Serves.{IsUnserved, KeepsLimit, ServesKey, Takes}
 use Rattle.gpu_descriptor.specs.Caller.States.{named_row, state_of, table_of, outstanding_of, marked_load_of, pool_load_of}
 use Rattle.gpu_descriptor.specs.Inner.Stored.{IsConsistent, row_of, stored_keys, books_in}
 use Rattle.gpu_descriptor.proofs.table.TableBooks.{rows_are, distinct_rows}
@@ -18,20 +18,11 @@ within_of marked most count off on = ltb-false most count (let seen : (marked &&
 
 -- what a table of the map says of an allocator that has it
 module _ {P : Type 0} (a : Allocations P) (es : List (BucketKey × DescriptorBucket P)) (is : a.table ≡ map row_of es) where
-  pub out_of : outstanding_of a ≡ sum_over sets_out (map row_of es)
-  out_of = ap (sum_over sets_out) is
-
-  pub load_of_rows : marked_load_of a ≡ sum_over descriptors_out (map row_of es)
-  load_of_rows = ap (sum_over descriptors_out) is
-
   pub pool_load_of_rows : pool_load_of a ≡ sum_over bucket_load (map row_of es)
   pool_load_of_rows = ap (sum_over bucket_load) is
 
   pub books_at : (name : P → ℕ) (before : Ledger) (k : Key) → (state_of name a before).books k ≡ books_in name (map row_of es) k
   books_at name before k = ap (λ (t : List (Key × BucketOf P)). books_of (map (named_row name) t) k) is
-
-  pub keys_apart : (name : P → ℕ) → IsDistinct key_eq (stored_keys es) → HasDistinctKeys (table_of name a)
-  keys_apart name distinct = subst HasDistinctKeys (sym (rows_are name es) ∙ ap (map (named_row name)) (sym is)) (distinct_rows name es distinct)
 
 -- the fields of an allocator, as callers see them
 abbrev pub seen : {P : Type 0} → ℕ → ℕ → ℕ → List (BucketKey × DescriptorBucket P) → Allocations P
@@ -46,14 +37,6 @@ pub counted_none : {P : Type 0} (most : ℕ) → IsConsistent {P = P} most 0 mos
 unfolding IsDistinct
 counted_none most = record { distinct = tt; is_load = refl; within = omega arith; is_room = omega arith; is_out = refl }
 
--- the totals keep the limit
-module _ {P : Type 0} {most marked room out : ℕ} {es : List (BucketKey × DescriptorBucket P)} (counted : IsConsistent most marked room out es) where
-  pub rows_within : sum_over descriptors_out (map row_of es) ≤ most
-  rows_within = (let load = counted.is_load in let within = counted.within in omega arith)
-
-  pub pools_within : sum_over bucket_load (map row_of es) ≤ most
-  pools_within = (let room = counted.is_room in omega arith)
-
 module _ {P : Type 0} {a : Allocations P} {most looks compared : ℕ} (es : List (BucketKey × DescriptorBucket P)) (is : seen most looks compared es ≡ a) where
   pub table_is : a.table ≡ map row_of es
   table_is = ap (λ (x : Allocations P). x.table) (sym is)
@@ -63,111 +46,68 @@ module _ {P : Type 0} {a : Allocations P} {most looks compared : ℕ} (es : List
   seen_again fs rows count = (λ i. seen most (count i) compared (rows i)) ∙ is
 
   pub rows_apart : (name : P → ℕ) → {marked room out : ℕ} → IsConsistent most marked room out es → HasDistinctKeys (table_of name a)
-  rows_apart name counted = keys_apart a es table_is name counted.distinct
+  rows_apart name counted = subst (λ (x : Allocations P). HasDistinctKeys (table_of name x)) is (rows_distinct name es counted.distinct)
 
   pub load_within : {marked room out : ℕ} → IsConsistent most marked room out es → marked_load_of a ≤ a.limit
-  load_within counted = subst (λ (x : Allocations P). marked_load_of x ≤ x.limit) is (rows_within counted)
+  load_within counted = subst (λ (x : Allocations P). marked_load_of x ≤ x.limit) is (let load = counted.is_load in let within = counted.within in omega arith)
 
   pub pool_load_within : {marked room out : ℕ} → IsConsistent most marked room out es → pool_load_of a ≤ a.limit
-  pool_load_within counted = subst (λ (x : Allocations P). pool_load_of x ≤ x.limit) is (pools_within counted)
+  pool_load_within counted = subst (λ (x : Allocations P). pool_load_of x ≤ x.limit) is (let room = counted.is_room in omega arith)
 
--- how the totals of the table grow, by so many sets of a key
-module _ {L P S : Type 0} (means : Meaning L P S) (key : BucketKey) (room count : ℕ) (sets : List (DescriptorSet S)) (ended : Result (Unit {0}) Stop) (es fs : List (BucketKey × DescriptorBucket P)) (before after : Ledger)
-    (s : ServesKey means (key_of key) room count sets ended (map row_of es) (map row_of fs) before after) where
-  pub load_below : (most marked left out : ℕ) → IsConsistent most marked left out es → (key.update_after_bind ≡ true → count * sum (kinds key.size) + marked ≤ most) → marked_load (key_of key) (length sets) + marked ≤ most
-  load_below most marked left out counted within = elim (cases_Bool key.update_after_bind) [
-    | inl on ↦ (
-        let few = s.served.few in
-        let all = within on in
-        let is : marked_load (key_of key) (length sets) ≡ length sets * sum (kinds key.size) = rw on refl in
-        let le = mul-le-mul_right (sum (kinds key.size)) few in
-        omega arith)
-    | inr off ↦ (let is : marked_load (key_of key) (length sets) ≡ 0 = rw off refl in let all = counted.within in omega arith)
-  ]
+-- the rows of an allocator and its limit
+module _ {P : Type 0} {a : Allocations P} {most looks compared marked room out : ℕ} {es : List (BucketKey × DescriptorBucket P)} (is : seen most looks compared es ≡ a) (counted : IsConsistent most marked room out es) where
+  pub keeps_limit : (name : P → ℕ) → KeepsLimit name a
+  keeps_limit name = record { rows = rows_apart es is name counted; load = load_within es is counted; pool_load = pool_load_within es is counted }
 
-  pub counted_more : (most marked old left out more many : ℕ) → IsConsistent most marked old out es → more ≡ marked_load (key_of key) (length sets) → many ≡ length sets → more + marked ≤ most → left + sum_over bucket_load (map row_of fs) ≡ old + sum_over bucket_load (map row_of es) → IsDistinct key_eq (stored_keys fs) → IsConsistent most (marked + more) left (out + many) fs
-  counted_more most marked old left out more many counted load given fits pools distinct =
-      let is_room = counted.is_room in
-      let a = counted.is_load in
-      let b = counted.is_out in
-      let c = s.load in
-      let d = s.out in
-      record { distinct = distinct; is_load = omega arith; within = omega arith; is_room = omega arith; is_out = omega arith }
-
+-- what callers see adds up over the books
 module _ {L P S : Type 0} (means : Meaning L P S) (a : Allocations P) (before : Ledger) (distinct : HasDistinctKeys (table_of means.pool_name a)) where
   pub load_is : AddsUp descriptors_out (state_of means.pool_name a before).books (marked_load_of a)
-  load_is = record { table = table_of means.pool_name a; distinct = distinct; keeps = λ k. refl; total = sym (marked_load_of-table means.pool_name a) }
+  load_is = adds_up means.pool_name a descriptors_out distinct (marked_load_of-table means.pool_name a) refl
 
   pub pool_load_is : AddsUp bucket_load (state_of means.pool_name a before).books (pool_load_of a)
-  pool_load_is = record { table = table_of means.pool_name a; distinct = distinct; keeps = λ k. refl; total = sym (pool_load_of-table means.pool_name a) }
+  pool_load_is = adds_up means.pool_name a bucket_load distinct (pool_load_of-table means.pool_name a) refl
 
   pub out_is : AddsUp sets_out (state_of means.pool_name a before).books (outstanding_of a)
-  out_is = record { table = table_of means.pool_name a; distinct = distinct; keeps = λ k. refl; total = sym (outstanding_of-table means.pool_name a) }
-
-  module _ (k : Key) (count : ℕ) (some : 0 < count) (b : Allocations P) (after : Ledger) (same : b ≡ a) (kept : after ≡ before) where
-    stays : (answer : Result _ AllocationError) → Stays (call_of means k count (side a before) (side b after) answer)
-    stays answer = record { state = λ i. state_of means.pool_name (same i) (kept i); counters = λ i. (kept i).counters }
-
-    pub above_limit : k.marked ≡ true → a.limit < count * sum k.counts + marked_load_of a → Allocates (call_of means k count (side a before) (side b after) (Err Fragmentation))
-    above_limit marked above = limit some (record { marked = marked; load = marked_load_of a; is_load = load_is; above = above }) refl (stays _)
-
-    module _ (within : k.marked ≡ true → count * sum k.counts + marked_load_of a ≤ a.limit) where
-      in_limit : (answer : Result _ AllocationError) → IsWithinLimit (call_of means k count (side a before) (side b after) answer)
-      in_limit answer = record { load = marked_load_of a; is_load = load_is; within = within }
-
-      pub past_bound : (greatest_u64 < next_number ((state_of means.pool_name a before).books k) + count) ⊎ (greatest_u64 < outstanding_of a + count) → Allocates (call_of means k count (side a before) (side b after) (Err Fragmentation))
-      past_bound past = bound some (in_limit _) (record { out = outstanding_of a; is_out = out_is; past = past }) refl (stays _)
-
-      pub unserved : outstanding_of a + count ≤ greatest_u64 → (e : AllocationError) → IsUnserved count e ((state_of means.pool_name a before).books k) → Allocates (call_of means k count (side a before) (side b after) (Err e))
-      unserved sets e why = elim why [
-        | inl memory ↦ (rw memory.0 (start (record { some = some; limit = in_limit _; numbers = memory.1; out = outstanding_of a; is_out = out_is; sets = sets }) refl (stays _)))
-        | inr past ↦ (rw past.0 (past_bound (inl past.1)))
-      ]
-
-module _ {L P S : Type 0} (means : Meaning L P S) (most looks_before looks_after compared : ℕ) (es fs : List (BucketKey × DescriptorBucket P)) where
-  abbrev old : Allocations P
-  old = record { limit = most; table = map row_of es; looks = looks_before; comparisons = compared }
-
-  abbrev new : Allocations P
-  new = record { limit = most; table = map row_of fs; looks = looks_after; comparisons = compared }
-
-  pub takes : (key : BucketKey) (room count : ℕ) (sets : List (DescriptorSet S)) (ended : Result (Unit {0}) Stop) (before after : Ledger) → ServesKey means (key_of key) room count sets ended (map row_of es) (map row_of fs) before after → room + sum_over bucket_load (map row_of es) ≡ most
-      → ((key_of key).marked ≡ true → count * sum (key_of key).counts + marked_load_of old ≤ most) → outstanding_of old + count ≤ greatest_u64 → Takes means (key_of key) count sets ended (side old before) (side new after)
-  takes key room count sets ended before after served all within fits = record {
-    within = within;
-    fits = fits;
-    serves = subst (λ (r : ℕ). ServesKey means (key_of key) r count sets ended old.table new.table before after) room_is served;
-  }
-    where
-      room_is : room ≡ most - pool_load_of old
-      room_is = omega arith
+  out_is = adds_up means.pool_name a sets_out distinct (outstanding_of-table means.pool_name a) refl
 
 -- ---- the tests of a request, over the fields of an allocator
 
-module _ {L P S : Type 0} (means : Meaning L P S) {a : Allocations P} {most looks compared marked room out : ℕ} {es : List (BucketKey × DescriptorBucket P)} (is : seen most looks compared es ≡ a) (counted : IsConsistent most marked room out es) (apart : HasDistinctKeys (table_of means.pool_name a)) (before : Ledger)
+module _ {L P S : Type 0} (means : Meaning L P S) {a : Allocations P} {most looks compared marked room out : ℕ} {es : List (BucketKey × DescriptorBucket P)} (is : seen most looks compared es ≡ a) (counted : IsConsistent most marked room out es) (before : Ledger)
     (key : BucketKey) {count : ℕ} (some : 0 < count) {above : Bool} (test : above ≡ (key.update_after_bind && nat_lt a.limit (count * sum (kinds key.size) + marked_load_of a))) where
-  pub declined_by_limit : above ≡ true → Allocates (call_of means (key_of key) count (side a before) (side a before) (Err Fragmentation))
+  abbrev Declines : AllocationError → Type 0
+  Declines error = Allocates (call_of means (key_of key) count (side a before) (side a before) (Err error))
+
+  distinct : HasDistinctKeys (table_of means.pool_name a)
+  distinct = rows_apart es is means.pool_name counted
+
+  pub declined_by_limit : above ≡ true → Declines Fragmentation
   declined_by_limit passed =
       let both = and_parts key.update_after_bind (nat_lt a.limit (count * sum (kinds key.size) + marked_load_of a)) (sym test ∙ passed) in
-      above_limit means a before apart (key_of key) count some a before refl refl both.0 (ltb-true a.limit (count * sum (kinds key.size) + marked_load_of a) both.1)
+      limit some (record { marked = both.0; load = marked_load_of a; is_load = load_is means a before distinct; above = ltb-true a.limit (count * sum (kinds key.size) + marked_load_of a) both.1 }) refl (record { state = refl; counters = refl })
 
   module _ (below : above ≡ false) {past : Bool} (bounded : past ≡ nat_lt greatest_u64 (out + count)) where
-    inside : key.update_after_bind ≡ true → count * sum (kinds key.size) + marked_load_of a ≤ a.limit
-    inside = within_of key.update_after_bind a.limit (count * sum (kinds key.size) + marked_load_of a) (sym test ∙ below)
+    in_limit : (answer : Result _ AllocationError) → IsWithinLimit (call_of means (key_of key) count (side a before) (side a before) answer)
+    in_limit answer = record { load = marked_load_of a; is_load = load_is means a before distinct; within = within_of key.update_after_bind a.limit (count * sum (kinds key.size) + marked_load_of a) (sym test ∙ below) }
 
-    pub declined_by_bound : past ≡ true → Allocates (call_of means (key_of key) count (side a before) (side a before) (Err Fragmentation))
+    past_bound : (greatest_u64 < next_number ((state_of means.pool_name a before).books (key_of key)) + count) ⊎ (greatest_u64 < outstanding_of a + count) → Declines Fragmentation
+    past_bound more = bound some (in_limit _) (record { out = outstanding_of a; is_out = out_is means a before distinct; past = more }) refl (record { state = refl; counters = refl })
+
+    pub declined_by_bound : past ≡ true → Declines Fragmentation
     declined_by_bound passed =
         let more = ltb-true greatest_u64 (out + count) (sym bounded ∙ passed) in
-        let all = out_of a es (table_is es is) in
+        let all = ap outstanding_of is in
         let is_out = counted.is_out in
-        past_bound means a before apart (key_of key) count some a before refl refl inside (inr (omega arith))
+        past_bound (inr (omega arith))
 
     pub declined_unserved : past ≡ false → {b : Allocations P} {after : Ledger} → b ≡ a → after ≡ before → (e : AllocationError) → IsUnserved count e (books_in means.pool_name (map row_of es) (key_of key)) → Allocates (call_of means (key_of key) count (side a before) (side b after) (Err e))
-    declined_unserved kept_in {b} {after} same kept e why =
-        let fits = ltb-false greatest_u64 (out + count) (sym bounded ∙ kept_in) in
-        let all = out_of a es (table_is es is) in
-        let is_out = counted.is_out in
-        unserved means a before apart (key_of key) count some b after same kept inside (omega arith) e (subst (λ (x : Bucket). IsUnserved count e x) (sym (books_at a es (table_is es is) means.pool_name before (key_of key))) why)
+    declined_unserved kept_in same kept e why = rw (same, kept) (elim (subst (λ (b : Bucket). IsUnserved count e b) (sym (books_at a es (table_is es is) means.pool_name before (key_of key))) why) [
+      | inl memory ↦ (
+          let fits = ltb-false greatest_u64 (out + count) (sym bounded ∙ kept_in) in
+          let all = ap outstanding_of is in
+          let is_out = counted.is_out in
+          rw memory.0 (start (record { some = some; limit = in_limit _; numbers = memory.1; out = outstanding_of a; is_out = out_is means a before distinct; sets = omega arith }) refl (record { state = refl; counters = refl })))
+      | inr many ↦ rw many.0 (past_bound (inl many.1))
+    ])
 
 -- a request that passed them, and took what its key has
 module _ {L P S : Type 0} {means : Meaning L P S} {key : BucketKey} {room count : ℕ} {sets : List (DescriptorSet S)} {ended : Result (Unit {0}) Stop} {es : List (BucketKey × DescriptorBucket P)} (fs : List (BucketKey × DescriptorBucket P)) {before after : Ledger}
@@ -178,23 +118,38 @@ module _ {L P S : Type 0} {means : Meaning L P S} {key : BucketKey} {room count 
 
   -- their descriptors keep the limit
   pub given_fits : {given : ℕ} → given ≡ length sets → marked_load (key_of key) given + marked ≤ most
-  given_fits long =
-      let load = load_of_rows a es (table_is es is) in
-      let limit = ap (λ (x : Allocations P). x.limit) is in
-      let is_load = counted.is_load in
-      let fits = load_below means key room count sets ended es fs before after s most marked room out counted (λ on. (let all = sets_within on in omega arith)) in
-      let same = ap (marked_load (key_of key)) long in
-      omega arith
+  given_fits {given} long = elim (cases_Bool key.update_after_bind) [
+    | inl on ↦ (
+        let few = s.served.few in
+        let all = sets_within on in
+        let load = ap marked_load_of is in
+        let limit = ap (λ (x : Allocations P). x.limit) is in
+        let is_load = counted.is_load in
+        let product : marked_load (key_of key) given ≡ given * sum (kinds key.size) = rw on refl in
+        let le : given * sum (kinds key.size) ≤ count * sum (kinds key.size) = mul-le-mul_right (sum (kinds key.size)) (omega arith) in
+        omega arith)
+    | inr off ↦ (let none : marked_load (key_of key) given ≡ 0 = rw off refl in let all = counted.within in omega arith)
+  ]
 
   pub counted_now : {given more left : ℕ} → given ≡ length sets → more ≡ marked_load (key_of key) given → left + sum_over bucket_load (map row_of fs) ≡ room + sum_over bucket_load (map row_of es) → IsDistinct key_eq (stored_keys fs) → IsConsistent most (marked + more) left (out + given) fs
-  counted_now {given} {more} {left} long load moved distinct =
+  counted_now long load moved distinct =
       let fits = given_fits long in
-      counted_more means key room count sets ended es fs before after s most marked room left out more given counted (load ∙ ap (marked_load (key_of key)) long) long (omega arith) moved distinct
+      let same = ap (marked_load (key_of key)) long in
+      let is_room = counted.is_room in
+      let is_load = counted.is_load in
+      let is_out = counted.is_out in
+      let more = s.load in
+      let many = s.out in
+      record { distinct = distinct; is_load = omega arith; within = omega arith; is_room = omega arith; is_out = omega arith }
 
   pub takes_of : {past : Bool} → past ≡ nat_lt greatest_u64 (out + count) → past ≡ false → {looked : ℕ} → Takes means (key_of key) count sets ended (side a before) (side (seen most looked compared fs) after)
   takes_of bounded kept_in {looked} =
       let fits = ltb-false greatest_u64 (out + count) (sym bounded ∙ kept_in) in
-      let all = out_of a es (table_is es is) in
+      let all = ap outstanding_of is in
       let is_out = counted.is_out in
-      subst (λ (x : Allocations P). (key.update_after_bind ≡ true → count * sum (kinds key.size) + marked_load_of x ≤ x.limit) → outstanding_of x + count ≤ greatest_u64 → Takes means (key_of key) count sets ended (side x before) (side (seen most looked compared fs) after)) is
-      (λ w f. takes means most looks looked compared es fs key room count sets ended before after s counted.is_room w f) sets_within (omega arith)
+      let room_is : room ≡ most - sum_over bucket_load (map row_of es) = (let is_room = counted.is_room in omega arith) in
+      record {
+        within = sets_within;
+        fits = omega arith;
+        serves = subst (λ (x : Allocations P). ServesKey means (key_of key) (x.limit - pool_load_of x) count sets ended x.table (map row_of fs) before after) is (subst (λ (r : ℕ). ServesKey means (key_of key) r count sets ended (map row_of es) (map row_of fs) before after) room_is s);
+      }

@@ -5,6 +5,7 @@ use Rattle.gpu_descriptor.specs.Model.Release.{more_released, more_destroyed, gi
 use Rattle.gpu_descriptor.specs.Caller.Frees.{marked_descriptors}
 use Rattle.gpu_descriptor.specs.Model.Outcomes.{risen}
 use Rattle.gpu_descriptor.specs.Caller.States.{named_row}
+use Rattle.gpu_descriptor.proofs.lists.AtPlaces.{count_by_more}
 use Rattle.gpu_descriptor.proofs.request.Asks.{same_counters}
 use Rattle.gpu_descriptor.proofs.table.Exact.{key_exact, item_exact}
 use Rattle.gpu_descriptor.proofs.release.ReleaseAgrees.{none_back}
@@ -87,15 +88,9 @@ load_of_items k (t ∷ m) of_key =
     let own : count_of t (t ∷ m) ≡ suc (count_of t m) = count_by_yes (λ u. item_eq u t) t m (item_exact.self t) in
     let key : t.key ≡ k = of_key t (omega arith) in
     let one : marked_load t.key 1 ≡ marked_load k 1 = ap (λ (l : Key). marked_load l 1) key in
-    let rest = load_of_items k m (λ u some. of_key u (up u some)) in
+    let rest = load_of_items k m (λ u some. of_key u (let most = count_by_more (λ v. item_eq v u) t m in omega arith)) in
     let sum = sum_by-cons (λ (t : Item). marked_load t.key 1) t m in
     let parts = marked_load-add k 1 (length m) in
     let long : 1 + length m ≡ length (t ∷ m) = omega arith in
     let whole = ap (marked_load k) long in
     omega arith
-  where
-    up : (u : Item) → 0 < count_of u m → 0 < count_of u (t ∷ m)
-    up u some = elim (cases_Bool (item_eq t u)) [
-      | inl on ↦ (let e = count_by_yes (λ v. item_eq v u) t m on in omega arith)
-      | inr off ↦ (let e = count_by_no (λ v. item_eq v u) t m off in omega arith)
-    ]

@@ -2,19 +2,23 @@
 use Rattle.gpu_descriptor.proofs.Common.{◌≡◌, ◌≢◌, ℕ, suc, ◌+◌, ◌-◌, inl, inr, List, [], ◌∷◌, ◌++◌, length, map, take, drop, slice_set, Bool, true, false, cond, ◌&&◌, ◌==◌, nat_eq, nat_lt, Option, Some, None, refl, sym, ap, ◌∙◌, subst, arith, eqb-true, eq-eqb, append_assoc, or_cases, and_parts, and_from, or_left, or_right, eqb-false, fun_ext, map-append, append-nil, sum_by-cons, if◌then◌else◌, option_map, times-append, Key, Entry, Bucket, Item, Pool, Ledger, Counters, live_sets, changed, on_pool, no_rise, LiveSet, times}
 use Rattle.std.proofs.lemmas.Grind.{flat_map-append}
 use Rattle.std.proofs.Math.Seq.{set-append_seam}
-use Rattle.gpu_descriptor.specs.Model.Grants.{Grant, Part, items_in, portion_of, came, pool_with, ledger_with}
+use Rattle.gpu_descriptor.specs.Model.Grants.{Grant, Part, fresh_or, items_at, items_in, portion_of, came, pool_with, ledger_with}
+use Rattle.gpu_descriptor.specs.Model.FreshPools.{Fresh}
 use Rattle.gpu_descriptor.specs.Model.Outcomes.{risen, grant_rise}
 use Rattle.gpu_descriptor.specs.Model.Shares.{offer, rest, is_asked, share, shared, all_shared, asked_count, refused_count, OnlyAskedRefuse, portions_of}
-use Rattle.gpu_descriptor.specs.Inner.Walk.{IsAsked, HasTaken, KeepsKey}
+use Rattle.gpu_descriptor.specs.Inner.Walk.{IsAsked, HasTaken}
 use Rattle.gpu_descriptor.proofs.request.Asks.{same_counters, same_entry}
 use Rattle.gpu_descriptor.proofs.table.Exact.{bucket}
-use Rattle.gpu_descriptor.proofs.request.Shares.{IsApart, or_at, or_at_apart, or_at_here, sum_same, rest_same, all_same, is_asked_same, count_same, refused_same, rows_same, asks_same}
+use Rattle.gpu_descriptor.proofs.request.Shares.{IsApart, or_at, or_at_apart, or_at_here, AreSame, all_same}
 
 abbrev pub part : ℕ → ℕ → List ℕ → Part
 part number pool names = record { number = number; pool = pool; names = names }
 
+abbrev pub grant_of : ℕ → ℕ → (ℕ → Bool) → List Fresh → List Part → Grant
+grant_of id left refused fresh parts = record { id = id; left = left; refused = refused; fresh = fresh; parts = parts }
+
 abbrev pub so_far : ℕ → ℕ → (ℕ → Bool) → List Part → Grant
-so_far id left refused parts = record { id = id; left = left; refused = refused; fresh = []; parts = parts }
+so_far id left refused parts = grant_of id left refused [] parts
 
 -- the sets that came from a pool
 pub came_more : (parts : List Part) (p : Part) (q : ℕ) → came (parts ++ p ∷ []) q ≡ came parts q ++ (if p.pool == q then p.names else [])
@@ -30,30 +34,24 @@ pool_twice counts a b r p = λ i. record {
   live = fun_ext (λ (x : LiveSet). (let e = ap (λ sets. times sets x) (map-append (λ (n : ℕ). let s : LiveSet = record { name = n; counts = counts } in s) a b) in let f = times-append (live_sets counts a) (live_sets counts b) x in let g : p.live x + times (live_sets counts a) x + times (live_sets counts b) x ≡ p.live x + times (live_sets counts (a ++ b)) x = omega arith in g)) i;
 }
 
--- the ledger after one pool more
-pub ledger_more : (k : Key) (refused : ℕ → Bool) (parts : List Part) (r : Bool) (number name : ℕ) (names : List ℕ) (pools : ℕ → Option Pool) (id left left' : ℕ) → refused name ≡ false
-    → on_pool name (pool_with (live_sets k.counts names) r) (ledger_with k (so_far id left refused parts) pools)
-    ≡ ledger_with k (so_far id left' (or_at r name refused) (parts ++ part number name names ∷ [])) pools
-ledger_more k refused parts r number name names pools id left left' not_yet = fun_ext (λ q. at (nat_eq name q) q refl)
+-- the items of one part more
+pub items_more : (k : Key) (id number pool : ℕ) (names : List ℕ) (parts : List Part) → items_in k id (parts ++ part number pool names ∷ []) ≡ items_in k id parts ++ items_at k id number names
+items_more k id number pool names parts = flat_map-append (λ (p : Part). items_at k id p.number p.names) parts (part number pool names ∷ []) ∙ ap (λ x. items_in k id parts ++ x) (append-nil (items_at k id number names))
+
+-- the ledger after one pool gave more
+pub ledger_more : (k : Key) (refused : ℕ → Bool) (fs : List Fresh) (parts : List Part) (r : Bool) (number name : ℕ) (names : List ℕ) (pools : ℕ → Option Pool) (id left left' : ℕ) → refused name ≡ false
+    → on_pool name (pool_with (live_sets k.counts names) r) (ledger_with k (grant_of id left refused fs parts) pools)
+    ≡ ledger_with k (grant_of id left' (or_at r name refused) fs (parts ++ part number name names ∷ [])) pools
+ledger_more k refused fs parts r number name names pools id left left' not_yet = fun_ext (λ q. at (nat_eq name q) q refl)
   where
     here : (o : Option Pool) → changed (pool_with (live_sets k.counts names) r) (option_map (pool_with (live_sets k.counts (came parts name)) false) o) ≡ option_map (pool_with (live_sets k.counts (came parts name ++ names)) r) o
     here None = refl
     here (Some p) = ap (λ (x : Pool). Some x) (pool_twice k.counts (came parts name) names r p)
 
-    at : (b : Bool) (q : ℕ) → nat_eq name q ≡ b → cond b (changed (pool_with (live_sets k.counts names) r) (option_map (pool_with (live_sets k.counts (came parts name)) (refused name)) (pools name))) (option_map (pool_with (live_sets k.counts (came parts q)) (refused q)) (pools q)) ≡ option_map (pool_with (live_sets k.counts (came (parts ++ part number name names ∷ []) q)) (or_at r name refused q)) (pools q)
-    at true q h =
-        let same : name ≡ q = eqb-true name q h in
-        let got : came (parts ++ part number name names ∷ []) name ≡ came parts name ++ names = came_more parts (part number name names) name ∙ ap (λ (b : Bool). came parts name ++ (if b then names else [])) (eq-eqb name name refl) in
-        subst (λ (q : ℕ). changed (pool_with (live_sets k.counts names) r) (option_map (pool_with (live_sets k.counts (came parts name)) (refused name)) (pools name)) ≡ option_map (pool_with (live_sets k.counts (came (parts ++ part number name names ∷ []) q)) (or_at r name refused q)) (pools q)) same
-        (ap (λ (b : Bool). changed (pool_with (live_sets k.counts names) r) (option_map (pool_with (live_sets k.counts (came parts name)) b) (pools name))) not_yet
-        ∙ here (pools name)
-        ∙ ap (λ (x : List ℕ). option_map (pool_with (live_sets k.counts x) r) (pools name)) (sym got)
-        ∙ ap (λ (b : Bool). option_map (pool_with (live_sets k.counts (came (parts ++ part number name names ∷ []) name)) b) (pools name)) (sym (or_at_here r name refused not_yet)))
-    at false q h =
-        let ne : q ≢ name = λ e. eqb-false name q h (sym e) in
-        let got : came (parts ++ part number name names ∷ []) q ≡ came parts q = came_more parts (part number name names) q ∙ ap (λ (b : Bool). came parts q ++ (if b then names else [])) h ∙ append-nil (came parts q) in
-        ap (λ (x : List ℕ). option_map (pool_with (live_sets k.counts x) (refused q)) (pools q)) (sym got)
-        ∙ ap (λ (b : Bool). option_map (pool_with (live_sets k.counts (came (parts ++ part number name names ∷ []) q)) b) (pools q)) (sym (or_at_apart r name refused q ne))
+    at : (b : Bool) (q : ℕ) → nat_eq name q ≡ b → cond b (changed (pool_with (live_sets k.counts names) r) (option_map (pool_with (live_sets k.counts (came parts name)) (refused name)) (fresh_or k fs name (pools name)))) (option_map (pool_with (live_sets k.counts (came parts q)) (refused q)) (fresh_or k fs q (pools q)))
+        ≡ option_map (pool_with (live_sets k.counts (came (parts ++ part number name names ∷ []) q)) (or_at r name refused q)) (fresh_or k fs q (pools q))
+    at true q h = rw (← eqb-true name q h, or_at_here r name refused not_yet, came_more parts (part number name names) name, eq-eqb name name refl, not_yet) (here (fresh_or k fs name (pools name)))
+    at false q h = rw (or_at_apart r name refused q (λ e. eqb-false name q h (sym e)), came_more parts (part number name names) q, h, append-nil (came parts q)) refl
 
 module _ (id n first i : ℕ) (refused : ℕ → Bool) (parts : List Part) (old : List Entry) (e f : Entry) (names : List ℕ) (k : Key) (l m : Ledger)
     (apart : IsApart e.pool (drop (suc i) old))
@@ -69,14 +67,17 @@ module _ (id n first i : ℕ) (refused : ℕ → Bool) (parts : List Part) (old 
   abbrev part_now : Part
   part_now = part (first + i) e.pool names
 
+  same : AreSame now refused n newer
+  same = all_same a.refused e.pool refused n newer apart
+
   asked_now : is_asked now n newer e ≡ is_asked refused n newer e
-  asked_now = is_asked_same a.refused e.pool refused n e newer apart
+  asked_now = ap (λ m. nat_lt 0 e.free && nat_lt 0 m) same.rest
 
   offer_now : offer now e ≡ (if a.refused then 0 else e.free)
   offer_now = ap (λ (b : Bool). if b then 0 else e.free) (or_at_here a.refused e.pool refused not_yet)
 
   share_now : share now n newer e ≡ length names
-  share_now = (let o = offer_now in let r = rest_same a.refused e.pool refused n newer apart in let many = a.many in omega arith)
+  share_now = (let o = offer_now in let r = same.rest in let many = a.many in omega arith)
 
   refusing_now : OnlyAskedRefuse refused n newer → OnlyAskedRefuse now n (e ∷ newer)
   refusing_now was name h = elim (or_cases (a.refused && (name == e.pool)) (refused name) h) [
@@ -85,32 +86,22 @@ module _ (id n first i : ℕ) (refused : ℕ → Bool) (parts : List Part) (old 
         let same : name ≡ e.pool = eqb-true name e.pool both.1 in
         let yes_now : is_asked now n newer e ≡ true = asked_now ∙ a.refusing both.0 in
         or_left _ _ (and_from _ _ (eq-eqb e.pool name (sym same)) yes_now))
-    | inr before ↦ or_right _ _ (asks_same a.refused e.pool refused n newer name apart ∙ was name before)
+    | inr before ↦ or_right _ _ (same.asks name ∙ was name before)
   ]
 
   rows_now : (number : ℕ) → portions_of now n number (e ∷ newer) ≡ portions_of refused n (number + 1) newer ++ record { number = number; pool = e.pool; given = length names } ∷ []
-  rows_now number = (let r = rows_same a.refused e.pool refused n (number + 1) newer apart in let s = share_now in cc)
+  rows_now number = (let r = same.rows (number + 1) in let s = share_now in cc)
 
   shared_now : all_shared now n (e ∷ newer) ≡ f ∷ all_shared refused n newer
   shared_now =
-      let r = all_same a.refused e.pool refused n newer apart in
-      let o = offer_now in
-      let s = share_now in
-      let is : shared now n newer e ≡ f = same_entry _ _ refl refl (let x : e.allocated + share now n newer e ≡ e.allocated + length names = omega arith in x) (let x : offer now e - share now n newer e ≡ (if a.refused then 0 else e.free) - length names = omega arith in x) ∙ sym a.entry in
-      cc
+      let entry : shared now n newer e ≡ f = (λ j. record e { allocated = e.allocated + share_now j; free = offer_now j - share_now j }) ∙ sym a.entry in
+      λ j. entry j ∷ same.all j
 
   count_now : asked_count now n (e ∷ newer) ≡ (if nat_lt 0 e.free && nat_lt 0 (rest refused n newer) then 1 else 0) + asked_count refused n newer
-  count_now =
-      let c = count_same a.refused e.pool refused n newer apart in
-      let b : ◌≡◌ {A = ℕ} (if is_asked now n newer e then 1 else 0) (if is_asked refused n newer e then 1 else 0) = ap (λ (b : Bool). if b then 1 else 0) asked_now in
-      omega arith
+  count_now = λ j. (if asked_now j then 1 else 0) + same.asked j
 
   refused_now : refused_count now (e ∷ newer) ≡ (if a.refused then 1 else 0) + refused_count refused newer
-  refused_now =
-      let c = refused_same a.refused e.pool refused n newer apart in
-      let d = sum_by-cons (λ (e : Entry). if now e.pool then 1 else 0) e newer in
-      let b : ◌≡◌ {A = ℕ} (if now e.pool then 1 else 0) (if a.refused then 1 else 0) = ap (λ (b : Bool). if b then 1 else 0) (or_at_here a.refused e.pool refused not_yet) in
-      omega arith
+  refused_now = sum_by-cons (λ (e : Entry). if now e.pool then 1 else 0) e newer ∙ (λ j. (if or_at_here a.refused e.pool refused not_yet j then 1 else 0) + same.count j)
 
   counters_now : (c : Counters) → l.counters ≡ risen (grant_rise n (so_far id (suc i) refused parts) old) c → m.counters ≡ risen (grant_rise n (so_far id i now (parts ++ part_now ∷ [])) old) c
   counters_now c was =
@@ -121,30 +112,26 @@ module _ (id n first i : ℕ) (refused : ℕ → Bool) (parts : List Part) (old 
 
   parts_now : map portion_of parts ≡ portions_of refused n (first + suc i) newer ++ [] → map portion_of (parts ++ part_now ∷ []) ≡ portions_of now n (first + i) (drop i old) ++ []
   parts_now was =
-      let number : first + i + 1 ≡ first + suc i = omega arith in
+      let number : first + suc i ≡ first + i + 1 = omega arith in
       map-append portion_of parts (part_now ∷ [])
-      ∙ ap (λ x. x ++ portion_of part_now ∷ []) (was ∙ append-nil (portions_of refused n (first + suc i) newer) ∙ ap (λ m. portions_of refused n m newer) (sym number))
-      ∙ sym (rows_now (first + i))
-      ∙ ap (portions_of now n (first + i)) (sym tail)
-      ∙ sym (append-nil (portions_of now n (first + i) (drop i old)))
+      ∙ ap (λ x. x ++ portion_of part_now ∷ []) (was ∙ append-nil (portions_of refused n (first + suc i) newer) ∙ ap (λ m. portions_of refused n m newer) number)
+      ∙ sym (append-nil (portions_of now n (first + i) (drop i old)) ∙ ap (portions_of now n (first + i)) tail ∙ rows_now (first + i))
 
   entries_now : length (take i old) ≡ i → take (suc i) old ≡ take i old ++ e ∷ [] → slice_set (take (suc i) old ++ all_shared refused n newer ++ []) i f ≡ take i old ++ all_shared now n (drop i old) ++ []
   entries_now long more =
       ap (λ x. slice_set x i f) (append-nil (take (suc i) old ++ all_shared refused n newer) ∙ ap (λ x. x ++ all_shared refused n newer) more ∙ append_assoc (take i old) (e ∷ []) (all_shared refused n newer))
       ∙ ap (λ j. slice_set (take i old ++ e ∷ all_shared refused n newer) j f) (sym long)
       ∙ set-append_seam (take i old) e (all_shared refused n newer) f
-      ∙ ap (λ x. take i old ++ x) (sym shared_now ∙ ap (all_shared now n) (sym tail))
-      ∙ sym (append-nil (take i old ++ all_shared now n (drop i old)))
+      ∙ sym (append-nil (take i old ++ all_shared now n (drop i old)) ∙ ap (λ x. take i old ++ x) (ap (all_shared now n) tail ∙ shared_now))
 
   pools_now : (before : Ledger) → l.pools ≡ ledger_with k (so_far id (suc i) refused parts) before.pools → m.pools ≡ ledger_with k (so_far id i now (parts ++ part_now ∷ [])) before.pools
-  pools_now before was = a.pools ∙ ap (on_pool e.pool (pool_with (live_sets k.counts names) a.refused)) was ∙ ledger_more k refused parts a.refused (first + i) e.pool names before.pools id (suc i) i not_yet
+  pools_now before was = a.pools ∙ ap (on_pool e.pool (pool_with (live_sets k.counts names) a.refused)) was ∙ ledger_more k refused [] parts a.refused (first + i) e.pool names before.pools id (suc i) i not_yet
 
   pub taken_more : (before : Ledger) (entries : List Entry) (items given : List Item) → length (take i old) ≡ i → take (suc i) old ≡ take i old ++ e ∷ [] → HasTaken k n (so_far id (suc i) refused parts) items (bucket id first old) (bucket id first entries) before l
-      → items_in k id (parts ++ part_now ∷ []) ≡ given → KeepsKey k given (bucket id first old) (bucket id first (slice_set entries i f)) before.pools m.pools → HasTaken k n (so_far id i now (parts ++ part_now ∷ [])) given (bucket id first old) (bucket id first (slice_set entries i f)) before m
-  taken_more before entries items given long more was came keeps = record {
+      → items_in k id (parts ++ part_now ∷ []) ≡ given → HasTaken k n (so_far id i now (parts ++ part_now ∷ [])) given (bucket id first old) (bucket id first (slice_set entries i f)) before m
+  taken_more before entries items given long more was came = record {
     grant = record { id = λ some. refl; refusing = subst (λ (es : List Entry). OnlyAskedRefuse now n es) (sym tail) (refusing_now was.grant.refusing); parts = parts_now was.grant.parts; new = tt };
     came = came;
-    keeps = keeps;
     bucket = ap (bucket id first) (ap (λ (b : Bucket). slice_set b.pools i f) was.bucket ∙ entries_now long more);
     pools = pools_now before was.pools;
     counters = counters_now before.counters was.counters;
@@ -156,6 +143,6 @@ module _ (id n first i : ℕ) (refused : ℕ → Bool) (parts : List Part) (old 
       let t : rest now n (drop i old) ≡ rest now n (e ∷ newer) = ap (rest now n) tail in
       let s = sum_by-cons (offer now) e newer in
       let o = offer_now in
-      let r = sum_same a.refused e.pool refused n newer apart in
+      let r = same.sum in
       let many = a.many in
       omega arith

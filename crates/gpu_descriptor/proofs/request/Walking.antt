@@ -1,7 +1,6 @@
 -- The walk over a key's pools, as far as it has come.
 use Rattle.gpu_descriptor.proofs.Common.{◌≡◌, ◌≢◌, ℕ, zero, suc, ◌+◌, ◌<◌, ◌≤◌, List, [], ◌∷◌, ◌++◌, length, map, min, take, drop, slice_set, Bool, false, nat_lt, ◌&&◌, Option, Some, None, Err, refl, sym, ap, ◌∙◌, subst, arith, append-nil, drop_all, fun_ext, slice_get, option_map, Key, Entry, Bucket, Item, Pool, Ledger, live_sets, changed, DeviceAllocationError, slice_get_within}
 use Rattle.gpu_descriptor.specs.Inner.SetAt.{set_at}
-use Rattle.std.proofs.lemmas.Grind.{flat_map-append}
 use Rattle.std.proofs.lemmas.Map.{update_apart}
 use Rattle.gpu_descriptor.specs.Caller.Sets.{items_of}
 use Rattle.gpu_descriptor.specs.Model.Grants.{Part, items_at, items_in, pool_with, ledger_with}
@@ -12,10 +11,9 @@ use Rattle.gpu_descriptor.specs.Inner.Grow.{IsTaken}
 use Rattle.gpu_descriptor.specs.declared.bucket.take.Stop.TheVariants.{Existing}
 use Rattle.std.proofs.Math.Seq.{take-length}
 use Rattle.gpu_descriptor.proofs.table.Exact.{bucket}
-use Rattle.gpu_descriptor.proofs.request.StepsAgree.{keeps_start, keeps_asked}
-use Rattle.gpu_descriptor.proofs.request.Asks.{pool_same, same_counters, skipped}
+use Rattle.gpu_descriptor.proofs.request.Asks.{none_with, same_counters, skipped}
 use Rattle.gpu_descriptor.proofs.request.Shares.{IsApart, apart_from, not_refused, or_at}
-use Rattle.gpu_descriptor.proofs.request.WalkStep.{part, so_far, taken_more, rest_now}
+use Rattle.gpu_descriptor.proofs.request.WalkStep.{items_more, part, so_far, taken_more, rest_now}
 use Rattle.gpu_descriptor.proofs.lists.AtPlaces.{drop_at, get_drop, long_take, set_same, split_at, take_get}
 
 pub record Walking (k : Key) (n id first left wanting : ℕ) (items : List Item) (old new : List Entry) (l m : Ledger) : Type 0 where
@@ -54,9 +52,7 @@ module _ (k : Key) (n id first i wanting : ℕ) (items : List Item) (old new : L
         refused = or_at a.refused e.pool s.refused;
         parts = s.parts ++ part (first + i) e.pool more ∷ [];
         wants = (let r = rest_now id n first i s.refused s.parts old e f more k m m' (apart e at) tail not_yet a in let w = s.wants in omega arith);
-        taken = taken_more id n first i s.refused s.parts old e f more k m m' (apart e at) tail not_yet a l new items (items ++ items_at k id (first + i) more) (long_take old i e at) (take_get old i e at) s.taken
-            (flat_map-append (λ (p : Part). items_at k id p.number p.names) s.parts (part (first + i) e.pool more ∷ []) ∙ ap (λ x. items_in k id s.parts ++ x) (append-nil (items_at k id (first + i) more)) ∙ ap (λ x. x ++ items_at k id (first + i) more) s.taken.came)
-            (keeps_asked k id first i wanting items old new l.pools more e f m m' s.taken.keeps (next_was (slice_get_within old i e at) ∙ at) asked);
+        taken = taken_more id n first i s.refused s.parts old e f more k m m' (apart e at) tail not_yet a l new items (items ++ items_at k id (first + i) more) (long_take old i e at) (take_get old i e at) s.taken (items_more k id (first + i) e.pool more s.parts ∙ ap (λ x. x ++ items_at k id (first + i) more) s.taken.came);
         untouched = λ j d lt there.
             let ne : d.pool ≢ e.pool = λ same. (let place = booked.distinct j i d e there at same in absurd (omega arith)) in
             ap (λ (f : ℕ → Option Pool). f d.pool) asked.pools
@@ -65,36 +61,28 @@ module _ (k : Key) (n id first i wanting : ℕ) (items : List Item) (old new : L
       }
 
 ledger_none : (k : Key) (id left : ℕ) (pools : ℕ → Option Pool) → pools ≡ ledger_with k (so_far id left (λ _. false) []) pools
-ledger_none k id left pools = fun_ext (λ q. each (pools q))
-  where
-    each : (o : Option Pool) → o ≡ option_map (pool_with [] false) o
-    each None = refl
-    each (Some p) = ap (λ (x : Pool). Some x) (sym (pool_same p))
+ledger_none k id left pools = fun_ext (λ q. sym (none_with (pools q)))
 
-pub walk_start : (k : Key) (n id first : ℕ) (old : List Entry) (l : Ledger) → AreBookedIn k l.pools old → Walking k n id first (length old) n [] old old l l
-walk_start k n id first old l booked =
+pub walk_start : (k : Key) (n id first : ℕ) (old : List Entry) (l : Ledger) → Walking k n id first (length old) n [] old old l l
+walk_start k n id first old l =
     let none : drop (length old) old ≡ [] = drop_all (length old) old (omega arith) in
     let none_refuse : ℕ → Bool = λ _. false in
     record {
       refused = none_refuse;
       parts = [];
-      wants = (let e : n ≡ rest none_refuse n [] = omega arith in e ∙ ap (rest none_refuse n) (sym none));
+      wants = rw none (let e : n ≡ rest none_refuse n [] = omega arith in e);
       taken = record {
-        grant = record { id = λ some. refl; refusing = λ name h. absurd (cc); parts = ap (λ es. portions_of none_refuse n (first + length old) es ++ []) (sym none); new = tt };
+        grant = record { id = λ some. refl; refusing = λ name h. absurd (cc); parts = rw none refl; new = tt };
         came = refl;
-        keeps = keeps_start k id first old l.pools booked;
         bucket = ap (bucket id first) (sym (ap (λ es. take (length old) old ++ all_shared none_refuse n es ++ []) none ∙ append-nil (take (length old) old ++ []) ∙ append-nil (take (length old) old) ∙ take-length old));
         pools = ledger_none k id (length old) l.pools;
-        counters =
-            let asked : asked_count none_refuse n (drop (length old) old) ≡ 0 = ap (asked_count none_refuse n) none in
-            let refuse : refused_count none_refuse (drop (length old) old) ≡ 0 = ap (refused_count none_refuse) none in
-            same_counters _ _ (omega arith) (omega arith) (omega arith) (omega arith) (omega arith) (omega arith) (omega arith) (omega arith);
+        counters = rw none (same_counters _ _ (omega arith) (omega arith) (omega arith) (omega arith) (omega arith) (omega arith) (omega arith) (omega arith));
       };
       untouched = λ j e lt at. refl;
     }
 
-pub walk_end : (k : Key) (n id first wanting : ℕ) (items : List Item) (old new : List Entry) (l m : Ledger) → Walking k n id first 0 wanting items old new l m → IsWalked k n wanting items (bucket id first old) (bucket id first new) l m
-walk_end k n id first wanting items old new l m s = record { grant = so_far id 0 s.refused s.parts; all = refl; no_fresh = refl; wants = s.wants; taken = s.taken }
+pub walk_end : {k : Key} {n id first own place wanting : ℕ} {items : List Item} {old new : List Entry} {l m : Ledger} → id ≡ own → first ≡ place → Walking k n id first 0 wanting items old new l m → IsWalked k n wanting items (bucket own place old) (bucket id first new) l m
+walk_end ids places s = rw (sym ids, sym places) (record { grant = so_far _ 0 s.refused s.parts; all = refl; no_fresh = refl; wants = s.wants; taken = s.taken })
 
 pub walk_stop : (k : Key) (room n id first i wanting : ℕ) (items : List Item) (old new : List Entry) (l m m' : Ledger) (e f : Entry) (error : DeviceAllocationError) → Walking k n id first (suc i) wanting items old new l m → slice_get old i ≡ Some e → slice_get new i ≡ Some e → f ≡ e → IsNoMemory wanting e error m m' → IsTaken (Err (Existing error)) k room n items (bucket id first old) (bucket id first (slice_set new i f)) l m'
 walk_stop k room n id first i wanting items old new l m m' e f error s was is same none = (
@@ -119,17 +107,6 @@ get_at [] i h = absurd (omega arith)
 get_at (x ∷ xs) zero h = (x, refl)
 get_at (x ∷ xs) (suc i) h = get_at xs i (omega arith)
 
--- where none are wanting, the older pools are left as they are
-pub walk_skip : (k : Key) (n id first i : ℕ) (items : List Item) (old new : List Entry) (l m : Ledger) → AreBookedIn k l.pools old → i ≤ length old → Walking k n id first i 0 items old new l m → Walking k n id first 0 0 items old new l m
-walk_skip k n id first zero items old new l m booked here s = s
-walk_skip k n id first (suc i) items old new l m booked here s =
-    let at = get_at old i (omega arith) in
-    let e : Entry = at.0 in
-    let is : slice_get new i ≡ Some e = next_was k n id first i 0 items old new l m booked s (omega arith) ∙ at.1 in
-    let next : Walking k n id first i 0 (items ++ []) old (slice_set new i e) l m = walk_more k n id first i 0 items old new l m booked s e e [] m 0 at.1 (skipped k 0 e m (omega arith)) refl in
-    walk_skip k n id first i items old new l m booked (omega arith)
-    (subst (λ (x : List Entry). Walking k n id first i 0 items old x l m) (set_same new i e is) (subst (λ (x : List Item). Walking k n id first i 0 x old (slice_set new i e) l m) (append-nil items) next))
-
 -- older pools that have nothing, or of which nothing is wanted, are left as they are
 pub walk_gap : (k : Key) (n id first wanting : ℕ) (items : List Item) (old new : List Entry) (l m : Ledger) → AreBookedIn k l.pools old → (gap i left : ℕ) → left ≡ gap + i → left ≤ length old → ((j : ℕ) (e : Entry) → i ≤ j → j < left → slice_get new j ≡ Some e → min wanting e.free ≡ 0) → Walking k n id first left wanting items old new l m → Walking k n id first i wanting items old new l m
 walk_gap k n id first wanting items old new l m booked zero i left is here none s = subst (λ (j : ℕ). Walking k n id first j wanting items old new l m) (let e : left ≡ i = omega arith in e) s
@@ -142,7 +119,7 @@ walk_gap k n id first wanting items old new l m booked (suc gap) i left is here 
     let nothing = none (gap + i) e (omega arith) (omega arith) there in
     let next : Walking k n id first (gap + i) wanting (items ++ []) old (slice_set new (gap + i) e) l m = walk_more k n id first (gap + i) wanting items old new l m booked from e e [] m wanting at.1 (skipped k wanting e m nothing) (omega arith) in
     walk_gap k n id first wanting items old new l m booked gap i (gap + i) refl (omega arith) (λ j d le lt there. none j d le (omega arith) there)
-    (subst (λ (x : List Entry). Walking k n id first (gap + i) wanting items old x l m) (set_same new (gap + i) e there) (subst (λ (x : List Item). Walking k n id first (gap + i) wanting x old (slice_set new (gap + i) e) l m) (append-nil items) next))
+    (rw (append-nil items, set_same new (gap + i) e there) at next)
 
 -- sets of one pool, as the books see them
 pub items_of-sets_at : {S : Type 0} (name : S → ℕ) (k : Key) (id number : ℕ) (raws : List S) → items_of name (map (set_at k id number) raws) ≡ items_at k id number (map name raws)

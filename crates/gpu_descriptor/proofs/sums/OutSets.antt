@@ -7,9 +7,8 @@ use Rattle.gpu_descriptor.specs.Model.Load.{marked_load, descriptors_out, alloca
 use Rattle.gpu_descriptor.specs.Inner.Buckets.{IsBookedIn}
 use Rattle.gpu_descriptor.proofs.table.Exact.{bucket, item_exact, key_exact}
 use Rattle.gpu_descriptor.proofs.callers.HeldSets.{count_of-append}
-use Rattle.gpu_descriptor.proofs.request.KeyAgrees.{place_of_items, count_of_items, count_elsewhere}
+use Rattle.gpu_descriptor.proofs.request.KeyAgrees.{place_of_items, count_append, count_of_items, count_elsewhere, live_of, live_below, live_from}
 use Rattle.gpu_descriptor.proofs.request.StateAgrees.{booked_of}
-use Rattle.gpu_descriptor.proofs.request.StepsAgree.{live_of, live_below, live_from, count_append}
 use Rattle.gpu_descriptor.proofs.request.Rollback.{load_of_items}
 use Rattle.gpu_descriptor.proofs.table.Tables.{first_books, none_behind}
 use Rattle.gpu_descriptor.proofs.release.RunsOfOne.{count_all}

@@ -13,17 +13,6 @@ use Rattle.gpu_descriptor.specs.Model.Shares.{rest}
 use Rattle.gpu_descriptor.specs.Model.Grants.{Grant, IsGrantOf, items_in, bucket_with, ledger_with, pool_with}
 use Rattle.gpu_descriptor.specs.Model.Outcomes.{risen, grant_rise, stop_rise}
 
--- exactly these sets went out of a key's pools, and books and ledger agree on them as before
-pub record KeepsKey (k : Key) (items : List Item) (old new : Bucket) (before after : ℕ → Option Pool) : Type 0 where
-  pub booked : AreBookedIn k after new.pools
-  pub longer : length old.pools ≤ length new.pools
-  -- a pool is an old one, or its name is new
-  pub named : (i : ℕ) (e : Entry) → slice_get new.pools i ≡ Some e → (list_any (λ d. d.pool == e.pool) old.pools ≡ true) ⊎ (before e.pool ≡ None)
-  pub others : (q : ℕ) → list_any (λ e. e.pool == q) new.pools ≡ false → after q ≡ before q
-  pub of_key : (t : Item) → 0 < count_of t items → (t.key ≡ k) × (t.id ≡ new.id)
-  pub out : (t : Item) → t.key ≡ k → t.id ≡ new.id → live_at after new t ≡ live_at before old t + count_of t items
-  pub more : allocated_in new.pools ≡ allocated_in old.pools + length items
-
 -- a pool was asked for what it has of so many sets, or skipped where it has no places or none are wanted
 pub record IsAsked (k : Key) (wanted : ℕ) (names : List ℕ) (old new : Entry) (before after : Ledger) : Type 0 where
   pub refused : Bool
@@ -48,7 +37,6 @@ pub record IsNoMemory (wanted : ℕ) (e : Entry) (error : DeviceAllocationError)
 pub record HasTaken (k : Key) (n : ℕ) (g : Grant) (items : List Item) (old new : Bucket) (before after : Ledger) : Type 0 where
   pub grant : IsGrantOf n old before.pools g
   pub came : items_in k g.id g.parts ≡ items
-  pub keeps : KeepsKey k items old new before.pools after.pools
   pub bucket : new ≡ bucket_with n g old
   pub pools : after.pools ≡ ledger_with k g before.pools
   pub counters : after.counters ≡ risen (grant_rise n g old.pools) before.counters

@@ -5,14 +5,13 @@ ghost use Rattle.gpu_descriptor.specs.Inner.Ids.{rise_below, stored_ids};
 ghost use Rattle.std.specs.Prelude.{map, true, Err, IfOk, IfErr, OnOk, OnErr};
 ghost use Rattle.std.specs.List.{IsDistinct};
 ghost use Rattle.gpu_descriptor_types.specs.Counts.{kinds};
-ghost use Rattle.gpu_descriptor.specs.Model.Books.{HasDistinctKeys, key_eq, sum_over};
+ghost use Rattle.gpu_descriptor.specs.Model.Books.{key_eq, sum_over};
 ghost use Rattle.gpu_descriptor.specs.Caller.Flags.{is_marked};
 ghost use Rattle.gpu_descriptor.specs.Caller.HandsOut.{HandsOut};
 ghost use Rattle.gpu_descriptor.specs.Caller.Keeps.{Keeps};
 ghost use Rattle.gpu_descriptor.specs.Caller.Keys.{StayOrGainLast};
 ghost use Rattle.gpu_descriptor.specs.Caller.KeyOf.{key_of};
-ghost use Rattle.gpu_descriptor.specs.Caller.States.{Agrees, keys_of, marked_load_of, pool_load_of};
-ghost use Rattle.gpu_descriptor.specs.Caller.States.{table_of};
+ghost use Rattle.gpu_descriptor.specs.Caller.States.{Agrees, keys_of, marked_load_of};
 ghost use Rattle.gpu_descriptor.specs.Model.Load.{bucket_load, sets_out};
 ghost use Rattle.gpu_descriptor.specs.Model.Outcomes.{Allocates, error_of_alloc as alloc_answer};
 ghost use Rattle.gpu_descriptor.specs.Model.Outcomes.{stop_answer};
@@ -20,7 +19,7 @@ ghost use Rattle.gpu_descriptor.specs.Caller.Call.{call_of, layout_key};
 ghost use Rattle.gpu_descriptor.specs.Inner.Buckets.{AreBookedIn};
 ghost use Rattle.gpu_descriptor.specs.Inner.OpenPools.{CountsLooks};
 ghost use Rattle.gpu_descriptor.specs.Inner.Stored.{books_in, row_of, stored_keys};
-ghost use Rattle.gpu_descriptor.specs.Inner.Serves.{IsUnserved, ServesKey, Takes};
+ghost use Rattle.gpu_descriptor.specs.Inner.Serves.{IsUnserved, KeepsLimit, ServesKey, Takes};
 
 use super::DescriptorAllocator;
 use crate::bucket::take::{Served, SetRequest, Stop};
@@ -116,9 +115,7 @@ impl<P: Drop, S: Drop> DescriptorAllocator<P, S> {
             (keys_of self.new)) }
         ensures allocator { OnErr result (self.new ≡ self.old) }
         ensures ledger { OnErr result (D.ledger device.new ≡ D.ledger device.old) }
-        ensures rows { HasDistinctKeys (table_of D.meaning.pool_name self.new) }
-        ensures load { marked_load_of self.new ≤ self.new.limit }
-        ensures pool_load { pool_load_of self.new ≤ self.new.limit }
+        ensures within { KeepsLimit D.meaning.pool_name self.new }
         ensures limit { self.new.limit ≡ self.old.limit }
     {
         let outstanding = self.outstanding;

@@ -1,7 +1,7 @@
 //! How a request takes sets from the pools of its key.
 ghost use Rattle.gpu_descriptor.specs.Inner.SetAt.{set_at};
 ghost use Rattle.std.specs.Prelude.{◌≡◌, ◌+◌, ◌<◌, ◌≤◌, ◌++◌, ◌^◌, List, [], length, map};
-ghost use Rattle.std.specs.Prelude.{if◌then◌else◌, IfOk, IfErr, IfSome, IfNone, OnErr, Err, true, false, ◌∷◌};
+ghost use Rattle.std.specs.Prelude.{if◌then◌else◌, IfOk, IfErr, IfSome, IfNone, OnOk, OnErr, Err, true, false, ◌∷◌};
 ghost use Rattle.std.specs.VecDeque.{deque_capacity};
 ghost use Rattle.gpu_descriptor_types.specs.Counts.{kinds};
 ghost use Rattle.gpu_descriptor_types.specs.Flags.{bits};
@@ -281,6 +281,7 @@ impl<P: Drop> DescriptorBucket<P> {
         ensures offset { self.new.offset ≡ self.old.offset }
         ensures total { self.new.total ≡ self.old.total + length sink.new.sets.items }
         ensures few { length sink.new.sets.items ≤ request.now.count }
+        ensures all { OnOk result (length sink.new.sets.items ≡ request.now.count) }
         ensures room { room.new + stored_load (key_of request.now.key) self.new.pools.items
             ≡ room.old + stored_load (key_of request.now.key) self.old.pools.items }
         ensures looks { CountsLooks looks.old.count looks.new.count

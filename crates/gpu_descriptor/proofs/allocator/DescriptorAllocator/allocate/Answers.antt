@@ -5,8 +5,8 @@ use Rattle.gpu_descriptor.specs.Caller.Call.{call_of, layout_key}
 use Rattle.gpu_descriptor.specs.Caller.Keys.{StayOrGainLast}
 use Rattle.gpu_descriptor.specs.Caller.States.{keys_of}
 use Rattle.gpu_descriptor.specs.Inner.Serves.{Takes}
-use Rattle.gpu_descriptor.proofs.request.Outcomes.{taken_agree, taken_as, taken_given}
-use Rattle.gpu_descriptor.proofs.request.HandedOut.{gained_as, hands_all, hands_back, hands_none, keeps_all, keeps_back}
+use Rattle.gpu_descriptor.proofs.request.Outcomes.{taken_agree, taken_given}
+use Rattle.gpu_descriptor.proofs.request.HandedOut.{hands_all, hands_back, hands_none, keeps_all, keeps_back}
 use Rattle.gpu_descriptor.proofs.callers.Unchanged.{keeps_still}
 use Rattle.gpu_descriptor.proofs.request.Requested.{load_within, pool_load_within, rows_apart}
 use Rattle.gpu_descriptor.proofs.allocator.DescriptorAllocator.allocate.Goals.{After-contains, In-Ok}
@@ -18,11 +18,11 @@ keyed g c = λ i. record { counts = c.requires.counts i; marked = (c.contains.en
 
 -- what the request took, under the layout's key
 taken : (g : _) (c : In-Ok g) → Takes g.D.DescriptorDevice.meaning (layout_key g.D.DescriptorDevice.meaning c.args.layout.now) c.args.count c.in-Ok.served.sets.items c.in-Ok.served.taken (side c.args.self.now (g.D.DescriptorDevice.ledger c.args.device.now)) (side c.request.new.self (g.D.DescriptorDevice.ledger c.request.new.device))
-taken g c = taken_as (λ i. record { counts = c.requires.counts i; marked = (c.contains.ensures tt ∙ c.requires.mark) i }) c.in-Ok.ensures.taken
+taken g c = subst (λ (k : Key). Takes g.D.DescriptorDevice.meaning k c.args.count c.in-Ok.served.sets.items c.in-Ok.served.taken (side c.args.self.now (g.D.DescriptorDevice.ledger c.args.device.now)) (side c.request.new.self (g.D.DescriptorDevice.ledger c.request.new.device))) (keyed g (goal.at-In-Ok g c).After-contains) c.in-Ok.ensures.taken
 
 -- and the keys
 gained : (g : _) (c : In-Ok g) → StayOrGainLast (layout_key g.D.DescriptorDevice.meaning c.args.layout.now) (keys_of c.args.self.now) (keys_of c.request.new.self)
-gained g c = gained_as (λ i. record { counts = c.requires.counts i; marked = (c.contains.ensures tt ∙ c.requires.mark) i }) c.in-Ok.ensures.keys
+gained g c = subst (λ (k : Key). StayOrGainLast k (keys_of c.args.self.now) (keys_of c.request.new.self)) (keyed g (goal.at-In-Ok g c).After-contains) c.in-Ok.ensures.keys
 
 -- some sets were asked for
 some : (g : _) (c : In-Ok g) → 0 < c.args.count
@@ -45,7 +45,7 @@ returns-in-Err-clause-hands_out g c =
 
 pub returns-in-Err-clause-keeps : goal.returns-in-Err-clause-keeps
 returns-in-Err-clause-keeps g c =
-    keeps_still c.in-Err.ensures.allocator c.in-Err.ensures.ledger c.requires.agree c.in-Err.ensures.load c.in-Err.ensures.pool_load
+    keeps_still c.in-Err.ensures.allocator c.in-Err.ensures.ledger c.requires.agree c.in-Err.ensures.within.load c.in-Err.ensures.within.pool_load
 
 pub returns-in-Ok-taken-clause-hands_out : goal.returns-in-Ok-taken-clause-hands_out
 returns-in-Ok-taken-clause-hands_out g c =
@@ -54,12 +54,12 @@ returns-in-Ok-taken-clause-hands_out g c =
 
 pub returns-in-Ok-taken-clause-keeps : goal.returns-in-Ok-taken-clause-keeps
 returns-in-Ok-taken-clause-keeps g c =
-    keeps_all c.in-Ok.ensures.taken c.requires.agree c.in-Ok.ensures.limit c.in-Ok.ensures.load c.in-Ok.ensures.pool_load
+    keeps_all c.in-Ok.ensures.taken c.requires.agree c.in-Ok.ensures.limit c.in-Ok.ensures.within.load c.in-Ok.ensures.within.pool_load
 
 pub returns-in-Err-taken-clause-hands_out : goal.returns-in-Err-taken-clause-hands_out
 returns-in-Err-taken-clause-hands_out g c =
     let r = (goal.at.returns-in-Err-taken-clause-hands_out g c).In-Ok in
-    rw c.error_of_stop.ensures (hands_back c.in-Ok.served.sets (taken g r) c.requires.agree (rows_apart _ c.self.view_is g.D.DescriptorDevice.meaning.pool_name (opened c.self.invariant)) (gained g r) c.in-Ok.ensures.looks c.in-Ok.ensures.comparisons_stay (some g r) c.in-Ok.ensures.rows c.free_all.ensures.returns c.in-Err-taken.is)
+    rw c.error_of_stop.ensures (hands_back c.in-Ok.served.sets (taken g r) c.requires.agree (rows_apart _ c.self.view_is g.D.DescriptorDevice.meaning.pool_name (opened c.self.invariant)) (gained g r) c.in-Ok.ensures.looks c.in-Ok.ensures.comparisons_stay (some g r) c.in-Ok.ensures.within.rows c.free_all.ensures.returns c.in-Err-taken.is)
 
 pub returns-in-Err-taken-clause-keeps : goal.returns-in-Err-taken-clause-keeps
 returns-in-Err-taken-clause-keeps g c =

@@ -5,7 +5,7 @@ use Rattle.gpu_descriptor.specs.declared.bucket.take.Stop.TheVariants as stop
 use Rattle.gpu_descriptor.specs.Inner.Stored.{entry_of}
 use Rattle.gpu_descriptor.proofs.request.NextSize.{one_fits}
 use Rattle.gpu_descriptor.proofs.request.Asks.{same_entry}
-use Rattle.gpu_descriptor.proofs.request.PoolCreated.{created_for, created_at, fresh_room, no_sets, grown, not_grown, not_created, none_asked, had_room, create_asked, alloc_asked}
+use Rattle.gpu_descriptor.proofs.request.PoolCreated.{created_at, fresh_room, no_sets, grown, not_grown, not_created, none_asked, had_room, create_asked, alloc_asked}
 use Rattle.gpu_descriptor.proofs.bucket.DescriptorBucket.grow_one.Goals.{In-Ok, In-Ok-alloc_descriptor_sets}
 use Rattle.gpu_descriptor.proofs.bucket.DescriptorBucket.grow_one.Goals as goal
 
@@ -27,7 +27,7 @@ module _ (g : _) (c : In-Ok g) where
   created = g.D.DescriptorDevice.ledger c.create_descriptor_pool.new.self
 
   made : created ≡ after_create (pool_counts key.counts size) size (flags_of key) name before
-  made = created_for key size name _ _ before created c.in-Some.ensures.counts c.pool_flags-flags.ensures c.in-Ok.ensures.ok
+  made = c.in-Ok.ensures.ok ∙ (λ i. after_create (c.in-Some.ensures.counts i) size (c.pool_flags-flags.ensures i) name before)
 
   at : created.pools name ≡ Some (fresh (pool_counts key.counts size) size (flags_of key))
   at = created_at key size name before created made
@@ -41,11 +41,7 @@ kept : (g : _) (c : In-Ok-alloc_descriptor_sets g) → c.alloc_descriptor_sets.n
 kept g c =
     let put = c.in-Ok-alloc_descriptor_sets.ensures.ok in
     let number = c.aim.ensures.number ∙ c.next_number.ensures ∙ (let k = c.make_room.ensures.offset in let same = ap length c.make_room.ensures.pools in let e : c.make_room.new.self.offset + length c.make_room.new.self.pools.items ≡ c.args.self.now.offset + length c.args.self.now.pools.items = omega arith in e) in
-    put.kept
-    ∙ ap (λ l. l ++ map (set_at (key_of c.aim.new.self.key.now) c.aim.new.self.id c.aim.new.self.number) put.sets) c.aim.ensures.sets
-    ∙ ap (λ k. c.args.sink.now.sets.items ++ map (set_at (key_of k) c.aim.new.self.id c.aim.new.self.number) put.sets) c.aim.ensures.key
-    ∙ ap (λ j. c.args.sink.now.sets.items ++ map (set_at (key_of c.args.request.now.key) j c.aim.new.self.number) put.sets) (c.aim.ensures.id ∙ c.make_room.ensures.id)
-    ∙ ap (λ n. c.args.sink.now.sets.items ++ map (set_at (key_of c.args.request.now.key) c.args.self.now.id n) put.sets) number
+    put.kept ∙ (λ i. c.aim.ensures.sets i ++ map (set_at (key_of (c.aim.ensures.key i)) ((c.aim.ensures.id ∙ c.make_room.ensures.id) i) (number i)) put.sets)
 
 pub alloc_descriptor_sets-requires-clause-fits : goal.alloc_descriptor_sets-requires-clause-fits
 alloc_descriptor_sets-requires-clause-fits g c =
@@ -59,14 +55,6 @@ destroy_descriptor_pool-requires g c =
     let d = (goal.at.destroy_descriptor_pool-requires g c).In-Ok in
     let m' : Ledger = g.D.DescriptorDevice.ledger c.alloc_descriptor_sets.new.self in
     subst (λ (q : ℕ). HasNoSets q m') (sym c.in-Err-alloc_descriptor_sets.ensures.name) (no_sets (key g d) (size g d) (name g d) c.in-Err-alloc_descriptor_sets.error (created g d) m' (at g d) c.in-Err-alloc_descriptor_sets.ensures.err.ledger)
-
-pub push-requires-clause-numbers : goal.push-requires-clause-numbers
-push-requires-clause-numbers g c =
-    let fits = c.requires.numbers in
-    let some = c.requires.some in
-    let first = c.make_room.ensures.offset in
-    let same = ap length c.make_room.ensures.pools in
-    omega arith
 
 pub returns-in-Err-alloc_descriptor_sets-clause-err : goal.returns-in-Err-alloc_descriptor_sets-clause-err
 returns-in-Err-alloc_descriptor_sets-clause-err g c =

@@ -17,6 +17,7 @@ returns-clause-served g c =
             let n = c.next_number.ensures in
             omega arith);
         few = c.take-taken.ensures.few;
+        all = c.take-taken.ensures.all;
         taken = c.take-taken.ensures.taken;
       },
       c.take-taken.ensures.total,

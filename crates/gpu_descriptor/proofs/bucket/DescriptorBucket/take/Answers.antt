@@ -9,7 +9,7 @@ use Rattle.gpu_descriptor.specs.Inner.Grow.{IsTaken}
 use Rattle.gpu_descriptor.specs.Inner.Stored.{bucket_of, entry_of, stored_load}
 use Rattle.gpu_descriptor.specs.Inner.Walk.{IsWalked}
 use Rattle.gpu_descriptor.proofs.table.Exact.{bucket}
-use Rattle.gpu_descriptor.proofs.request.Growing.{Growing, grow_start, grow_more, grow_end, grow_stop, grown_long, walked_long, load_more, load_walked}
+use Rattle.gpu_descriptor.proofs.request.Growing.{Growing, grow_start, grow_more, grow_end, grow_stop, taken_long, load_more, load_walked}
 use Rattle.gpu_descriptor.proofs.sums.StoredPools.{allocated_entries, load_entries}
 use Rattle.gpu_descriptor.proofs.request.Walking.{items_of-sets_at}
 use Rattle.gpu_descriptor.proofs.bucket.DescriptorBucket.take.Goals as goal
@@ -26,80 +26,55 @@ pub loop-wanting-init : goal.loop-wanting-init
 loop-wanting-init g c =
     let name = g.D.DescriptorDevice.meaning.pool_name in
     let known = c.in-Ok.ensures.walked in
-    let walked = subst (λ (b : Bucket). IsWalked (key_of c.args.request.now.key) c.args.request.now.count c.in-Ok.wanting (items_of g.D.DescriptorDevice.meaning.set_name c.take_known.new.sink.sets.items) (bucket_of name c.args.self.now) b (g.D.DescriptorDevice.ledger c.args.device.now) (g.D.DescriptorDevice.ledger c.take_known.new.device)) (λ i. bucket (c.take_known.ensures.id i) (c.take_known.ensures.offset i) (map (entry_of name) c.take_known.new.self.pools.items)) known.2 in
-    let key : Key = key_of c.args.request.now.key in
-    let old : List Entry = map (entry_of name) c.args.self.now.pools.items in
-    let new : List Entry = map (entry_of name) c.take_known.new.self.pools.items in
-    let start = grow_start key c.args.room.now c.args.request.now.count c.args.self.now.id c.args.self.now.offset c.take_known.new.self.total c.in-Ok.wanting (items_of g.D.DescriptorDevice.meaning.set_name c.take_known.new.sink.sets.items) old new (g.D.DescriptorDevice.ledger c.args.device.now) (g.D.DescriptorDevice.ledger c.take_known.new.device) walked (let out = allocated_entries name c.args.self.now.pools.items in let total = c.args.self.now.counted in let all = known.0 in let more = c.take_known.ensures.total in omega arith) in
-    let long = walked_long key _ _ _ _ _ _ _ walked in
+    let total = c.take_known.ensures.total in
     record {
       room = known.1;
       given = known.0;
-      total = c.take_known.ensures.total;
+      total = total;
       id = c.take_known.ensures.id;
       offset = c.take_known.ensures.offset;
-      pools = (let was = length-map c.args.self.now.pools.items (entry_of name) in let is = length-map c.take_known.new.self.pools.items (entry_of name) in let all = known.0 in omega arith);
-      growing = start;
-      load = ap (λ n. c.args.room.now + n) (walked_load name c.args.self.now.pools.items c.take_known.new.self.pools.items walked);
+      pools = (
+          let long = taken_long (key_of c.args.request.now.key) _ known.2.grant _ _ _ _ _ known.2.taken in
+          let none = ap length known.2.no_fresh in
+          let was = length-map c.args.self.now.pools.items (entry_of name) in
+          let is = length-map c.take_known.new.self.pools.items (entry_of name) in
+          let all = known.0 in
+          omega arith);
+      growing = grow_start known.2 c.take_known.ensures.id c.take_known.ensures.offset (let out = allocated_entries name c.args.self.now.pools.items in let counted = c.args.self.now.counted in let all = known.0 in omega arith);
+      load = ap (λ n. c.args.room.now + n) (walked_load name c.args.self.now.pools.items c.take_known.new.self.pools.items known.2);
       looks = c.take_known.ensures.looks;
     }
 
 pub returns-clause-taken : goal.returns-clause-taken
-returns-clause-taken g c =
-    let inv = c.loop-wanting.invariant in
-    let key : Key = key_of c.args.request.now.key in
-    let old : List Entry = map (entry_of g.D.DescriptorDevice.meaning.pool_name) c.args.self.now.pools.items in
-    let new : List Entry = map (entry_of g.D.DescriptorDevice.meaning.pool_name) c.loop-wanting.self.pools.items in
-    let l : Ledger = g.D.DescriptorDevice.ledger c.args.device.now in
-    let m : Ledger = g.D.DescriptorDevice.ledger c.loop-wanting.device in
-    let out : List Item = items_of g.D.DescriptorDevice.meaning.set_name c.loop-wanting.sink.sets.items in
-    let end : c.loop-wanting.wanting ≡ 0 = omega arith in
-    subst (λ (b : Bucket). IsTaken (Ok tt) key c.args.room.now c.args.request.now.count out (bucket_of g.D.DescriptorDevice.meaning.pool_name c.args.self.now) b l m) (λ i. bucket (sym inv.id i) (sym inv.offset i) new)
-    (grow_end key c.args.room.now c.args.request.now.count c.args.self.now.id c.args.self.now.offset c.loop-wanting.room c.loop-wanting.self.total out old new l m (subst (λ (w : ℕ). Growing key c.args.room.now c.args.request.now.count c.args.self.now.id c.args.self.now.offset c.loop-wanting.room c.loop-wanting.self.total w out old new l m) end inv.growing) tt)
+returns-clause-taken g c = (let inv = c.loop-wanting.invariant in grow_end inv.growing (let end : c.loop-wanting.wanting ≡ 0 = omega arith in end) inv.id inv.offset tt)
 
 pub returns-in-Err-grow_one-clause-taken : goal.returns-in-Err-grow_one-clause-taken
 returns-in-Err-grow_one-clause-taken g c =
     let inv = c.loop-wanting.invariant in
     let err = c.in-Err-grow_one.ensures.err in
-    let key : Key = key_of c.args.request.now.key in
-    let old : List Entry = map (entry_of g.D.DescriptorDevice.meaning.pool_name) c.args.self.now.pools.items in
-    let l : Ledger = g.D.DescriptorDevice.ledger c.args.device.now in
-    let m : Ledger = g.D.DescriptorDevice.ledger c.loop-wanting.device in
-    let m' : Ledger = g.D.DescriptorDevice.ledger c.grow_one.new.device in
-    let new' : List Entry = map (entry_of g.D.DescriptorDevice.meaning.pool_name) c.grow_one.new.self.pools.items in
-    let put : List Item = items_of g.D.DescriptorDevice.meaning.set_name c.grow_one.new.sink.sets.items in
-    let stays : Growing key c.args.room.now c.args.request.now.count c.args.self.now.id c.args.self.now.offset c.loop-wanting.room c.loop-wanting.self.total c.loop-wanting.wanting put old new' l m = rw (err.0, err.1) inv.growing in
-    subst (λ (b : Bucket). IsTaken (Err c.in-Err-grow_one.why) key c.args.room.now c.args.request.now.count put (bucket_of g.D.DescriptorDevice.meaning.pool_name c.args.self.now) b l m') (λ i. bucket (sym (c.in-Err-grow_one.ensures.id ∙ inv.id) i) (sym (c.in-Err-grow_one.ensures.offset ∙ inv.offset) i) new')
-    (grow_stop c.in-Err-grow_one.why key c.args.room.now c.args.request.now.count c.args.self.now.id c.args.self.now.offset c.loop-wanting.room c.loop-wanting.self.total c.loop-wanting.wanting put old new' l m m' c.loop-wanting-test.true stays err.4 err.5)
+    grow_stop c.in-Err-grow_one.why c.loop-wanting-test.true inv.growing (ap (items_of g.D.DescriptorDevice.meaning.set_name) err.0) (ap (map (entry_of g.D.DescriptorDevice.meaning.pool_name)) err.1) (c.in-Err-grow_one.ensures.id ∙ inv.id) (c.in-Err-grow_one.ensures.offset ∙ inv.offset) err.4 err.5
 
 pub loop-wanting-preserved : goal.loop-wanting-preserved
 loop-wanting-preserved g c =
     let inv = c.loop-wanting.invariant in
     let got = c.in-Ok-grow_one.ensures.grown in
+    let grown = got.5 in
     let key : Key = key_of c.args.request.now.key in
     let items : List (DescriptorPool g.row.P.Denot) = c.loop-wanting.self.pools.items in
-    let old : List Entry = map (entry_of g.D.DescriptorDevice.meaning.pool_name) c.args.self.now.pools.items in
     let new : List Entry = map (entry_of g.D.DescriptorDevice.meaning.pool_name) items in
     let new' : List Entry = map (entry_of g.D.DescriptorDevice.meaning.pool_name) c.grow_one.new.self.pools.items in
-    let l : Ledger = g.D.DescriptorDevice.ledger c.args.device.now in
-    let m : Ledger = g.D.DescriptorDevice.ledger c.loop-wanting.device in
-    let m' : Ledger = g.D.DescriptorDevice.ledger c.grow_one.new.device in
     let sets : List (DescriptorSet g.row.S.Denot) = c.loop-wanting.sink.sets.items in
     let put : List Item = items_of g.D.DescriptorDevice.meaning.set_name sets in
     let more : List ℕ = map g.D.DescriptorDevice.meaning.set_name got.0 in
-    let grown = got.5 in
     let given : c.in-Ok-grow_one.given ≡ length more = sym (length-map got.0 g.D.DescriptorDevice.meaning.set_name ∙ got.1) in
-    let left : ℕ = c.loop-wanting.wanting - c.in-Ok-grow_one.given in
-    let some : 0 < c.loop-wanting.wanting = c.loop-wanting-test.true in
     let few : length more ≤ c.loop-wanting.wanting = (let a = grown.many in let b = grown.given in omega arith) in
-    let next : Growing key c.args.room.now c.args.request.now.count c.args.self.now.id c.args.self.now.offset c.grow_one.new.room c.grow_one.new.self.total left (put ++ items_at key c.args.self.now.id (c.args.self.now.offset + length old + length inv.growing.fresh) more) old new' l m' = grow_more key c.args.room.now c.args.request.now.count c.args.self.now.id c.args.self.now.offset c.loop-wanting.room c.grow_one.new.room c.loop-wanting.self.total c.loop-wanting.wanting put old new new' l m m' more c.requires.booked inv.growing grown c.grow_one.new.self.total left some (got.4 ∙ ap (λ n. c.loop-wanting.self.total + n) given) (omega arith) in
-    let number : c.loop-wanting.self.offset + length items ≡ c.args.self.now.offset + length old + length inv.growing.fresh = (let a = length-map items (entry_of g.D.DescriptorDevice.meaning.pool_name) in let first = inv.offset in let b = grown_long key c.args.room.now c.args.request.now.count c.args.self.now.id c.args.self.now.offset c.loop-wanting.room c.loop-wanting.self.total c.loop-wanting.wanting put old new l m inv.growing in omega arith) in
-    let fresh : List (DescriptorSet g.row.S.Denot) = map (set_at key c.loop-wanting.self.id (c.loop-wanting.self.offset + length items)) got.0 in
-    let seen : items_of g.D.DescriptorDevice.meaning.set_name c.grow_one.new.sink.sets.items ≡ put ++ items_at key c.args.self.now.id (c.args.self.now.offset + length old + length inv.growing.fresh) more =
-    ap (items_of g.D.DescriptorDevice.meaning.set_name) got.2 ∙ map-append _ sets fresh
-    ∙ ap (λ x. put ++ x) (items_of-sets_at g.D.DescriptorDevice.meaning.set_name key c.loop-wanting.self.id (c.loop-wanting.self.offset + length items) got.0 ∙ ap (λ i. items_at key i (c.loop-wanting.self.offset + length items) more) inv.id ∙ ap (λ n. items_at key c.args.self.now.id n more) number) in
+    let number : ℕ = c.loop-wanting.self.offset + length items in
+    let fresh : List (DescriptorSet g.row.S.Denot) = map (set_at key c.loop-wanting.self.id number) got.0 in
+    let seen : items_of g.D.DescriptorDevice.meaning.set_name c.grow_one.new.sink.sets.items ≡ put ++ items_at key c.args.self.now.id number more =
+    ap (items_of g.D.DescriptorDevice.meaning.set_name) got.2 ∙ map-append _ sets fresh ∙ ap (λ x. put ++ x) (items_of-sets_at g.D.DescriptorDevice.meaning.set_name key c.loop-wanting.self.id number got.0 ∙ ap (λ i. items_at key i number more) inv.id) in
     let long = ap length got.2 ∙ length-append sets fresh in
-    let raws = length-map got.0 (λ raw. set_at key c.loop-wanting.self.id (c.loop-wanting.self.offset + length items) raw) in
+    let raws = length-map got.0 (λ raw. set_at key c.loop-wanting.self.id number raw) in
+    let was_long = length-map items (entry_of g.D.DescriptorDevice.meaning.pool_name) in
     record {
       room = (let a = inv.room in let b = got.3 in omega arith);
       given = (let a = inv.given in omega arith);
@@ -108,14 +83,13 @@ loop-wanting-preserved g c =
       offset = c.in-Ok-grow_one.ensures.offset ∙ inv.offset;
       pools = (
           let a = inv.pools in
-          let b = length-map items (entry_of g.D.DescriptorDevice.meaning.pool_name) in
           let d = length-map c.grow_one.new.self.pools.items (entry_of g.D.DescriptorDevice.meaning.pool_name) in
           let one : length new' ≡ length new + 1 = ap length grown.entries ∙ length-append new (fresh_entry grown.pool ∷ []) in
           let gave = grown.given in
           let size = grown.size.some in
           let all = grown.many in
           omega arith);
-      growing = subst (λ (x : List Item). Growing key c.args.room.now c.args.request.now.count c.args.self.now.id c.args.self.now.offset c.grow_one.new.room c.grow_one.new.self.total left x old new' l m') (sym seen) next;
+      growing = grow_more c.requires.booked inv.growing grown c.loop-wanting-test.true (got.4 ∙ ap (λ n. c.loop-wanting.self.total + n) given) (omega arith) (let first = inv.offset in let e : number ≡ c.args.self.now.offset + length new = omega arith in e) seen;
       load = (
           let a = inv.load in
           let b = ap (pools_load key) grown.entries ∙ load_more key new grown.pool in
@@ -128,11 +102,3 @@ loop-wanting-preserved g c =
 
 pub returns-in-Err-clause-room : goal.returns-in-Err-clause-room
 returns-in-Err-clause-room g c = ap (λ n. c.args.room.now + n) (stopped_load g.D.DescriptorDevice.meaning.pool_name c.args.self.now.pools.items c.take_known.new.self.pools.items c.in-Err.ensures.stopped)
-
-pub returns-in-Err-grow_one-clause-room : goal.returns-in-Err-grow_one-clause-room
-returns-in-Err-grow_one-clause-room g c =
-    let err = c.in-Err-grow_one.ensures.err in
-    let same = ap (stored_load (key_of c.args.request.now.key)) err.1 in
-    let load = c.loop-wanting.invariant.load in
-    let room = err.3 in
-    omega arith

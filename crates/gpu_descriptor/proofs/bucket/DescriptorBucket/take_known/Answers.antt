@@ -10,6 +10,7 @@ use Rattle.gpu_descriptor.specs.Inner.OpenNumbers.{free_in, open_numbers}
 use Rattle.gpu_descriptor.specs.Inner.OpenPools.{bucket_in}
 use Rattle.gpu_descriptor.specs.Inner.Stored.{bucket_of, entry_of}
 use Rattle.gpu_descriptor.specs.Inner.Walk.{IsWalked}
+use Rattle.gpu_descriptor.proofs.request.Growing.{allocated_walked}
 use Rattle.gpu_descriptor.proofs.table.Exact.{bucket}
 use Rattle.gpu_descriptor.proofs.sums.StoredPools.{allocated_entries}
 use Rattle.gpu_descriptor.proofs.bucket.DescriptorBucket.take_known.Goals.{After-walk-walked}
@@ -48,12 +49,6 @@ returns-clause-stopped g c =
     let at = (goal.at.returns-clause-stopped g c).After-walk-walked in
     IfErr-weaker c.walk-walked.result _ _ (λ error p. stopped_as g.D.DescriptorDevice.meaning.set_name p.0 c.requires.empty p.1 (was_bucket g at) (is_bucket g at) p.2) c.walk-walked.ensures.stopped
 
-pub returns-clause-few : goal.returns-clause-few
-returns-clause-few g c = (let few = c.walk-walked.ensures.given in let none = ap length c.requires.empty in omega arith)
-
-pub invariant_of-self-clause-open : goal.invariant_of-self-clause-open
-invariant_of-self-clause-open g c = c.walk-walked.ensures.listed ∙ ap (λ f. open_numbers f (free_in c.walk-walked.new.view.pools.now.items)) (c.walk-walked.ensures.kept.0 ∙ c.new-view.ensures.offset)
-
 -- as many more are allocated as came
 module _ {S : Type 0} (name : S → ℕ) (was now : List (DescriptorSet S)) (empty : was ≡ []) where
   long : (put : List (DescriptorSet S)) → now ≡ was ++ put → length (items_of name put) ≡ length now
@@ -64,8 +59,8 @@ module _ {S : Type 0} (name : S → ℕ) (was now : List (DescriptorSet S)) (emp
         → IfOk r (λ w. (put : List (DescriptorSet S)) × (now ≡ was ++ put) × (has + n ≡ had + w) × (length put + w ≡ n) × IsWalked k n w (items_of name put) old new l m)
         → IfErr r (λ e. (put : List (DescriptorSet S)) × (now ≡ was ++ put) × IsTaken (Err (Existing e)) k 0 n (items_of name put) old new l m)
         → allocated_in new.pools ≡ allocated_in old.pools + length now
-    more (Ok w) walked stopped = walked.4.taken.keeps.more ∙ ap (λ j. allocated_in old.pools + j) (long walked.0 walked.1)
-    more (Err e) walked stopped = stopped.2.2.keeps.more ∙ ap (λ j. allocated_in old.pools + j) (long stopped.0 stopped.1)
+    more (Ok w) walked stopped = allocated_walked k n walked.4.grant old new l m _ walked.4.taken walked.4.no_fresh ∙ ap (λ j. allocated_in old.pools + j) (long walked.0 walked.1)
+    more (Err e) walked stopped = allocated_walked k n stopped.2.0 old new l _ _ stopped.2.2 stopped.2.3.no_fresh ∙ ap (λ j. allocated_in old.pools + j) (long stopped.0 stopped.1)
 
 pub invariant_of-self-clause-counted : goal.invariant_of-self-clause-counted
 invariant_of-self-clause-counted g c =

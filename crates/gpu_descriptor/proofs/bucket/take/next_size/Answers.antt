@@ -1,16 +1,13 @@
 use Rattle.gpu_descriptor.proofs.Common.{arith, refl, IfSome, Option, Some, None, key_of}
+use Rattle.std.proofs.lemmas.Option.{IfSome_then}
 use Rattle.gpu_descriptor.proofs.request.NextSize.{next_fits}
 use Rattle.gpu_descriptor.proofs.bucket.take.next_size.Goals as goal
 
-if_some : {T : Type 0} (A B : T → Type 0) (o : Option T) → ((x : T) → A x → B x) → IfSome o A → IfSome o B
-if_some A B (Some x) f a = f x a
-if_some A B None f a = tt
-
 pub returns-then-key-clause-sets : goal.returns-then-key-clause-sets
-returns-then-key-clause-sets c = if_some _ _ c.cut_pool_size.result (λ pool s. record { whole = s.whole; is_whole = s.is_whole; cut = rw c.if-key.true s.cut; some = s.some }) c.cut_pool_size.ensures.sets
+returns-then-key-clause-sets c = IfSome_then c.cut_pool_size.result c.cut_pool_size.ensures.sets (λ pool s. record { whole = s.whole; is_whole = s.is_whole; cut = rw c.if-key.true s.cut; some = s.some })
 
 pub returns-then-key-clause-room : goal.returns-then-key-clause-room
-returns-then-key-clause-room c = if_some _ _ c.cut_pool_size.result (λ pool s. (let fits = next_fits (key_of c.args.key.now) c.args.room c.args.total c.args.wanted pool.1 s in let small = c.ranges.room.fits in (fits, omega arith))) (returns-then-key-clause-sets c)
+returns-then-key-clause-room c = IfSome_then c.cut_pool_size.result (returns-then-key-clause-sets c) (λ pool s. (let fits = next_fits (key_of c.args.key.now) c.args.room c.args.total c.args.wanted pool.1 s in let small = c.ranges.room.fits in (fits, omega arith)))
 
 pub returns-else-key-clause-sets : goal.returns-else-key-clause-sets
 returns-else-key-clause-sets c = record { whole = c.new_pool_size.result.1; is_whole = c.new_pool_size.ensures.sets; cut = rw c.if-key.false refl; some = c.new_pool_size.ensures.some }

@@ -16,24 +16,8 @@ aimed_at : {S : Type 0} {k l : BucketKey} {i j : ℕ} (n : ℕ) (raws : List S) 
 aimed_at {l = l} {i = i} n raws keys ids = ap (λ (k : BucketKey). map (set_at (key_of k) i n) raws) keys ∙ ap (λ i. map (set_at (key_of l) i n) raws) ids
 
 -- what one pool gave stands behind what the others gave
-gave_more : {S : Type 0} (name : S → ℕ) (k : Key) (id number : ℕ) (put : List (DescriptorSet S)) (raws : List S) → items_of name put ++ items_at k id number (map name raws) ≡ items_of name (put ++ map (set_at k id number) raws)
-gave_more name k id number put raws = sym (map-append _ put (map (set_at k id number) raws) ∙ ap (λ x. items_of name put ++ x) (items_of-sets_at name k id number raws))
-
--- as many were given as there are raw sets
-counted : {S : Type 0} (k : Key) (id number given : ℕ) (put : List (DescriptorSet S)) (raws : List S) → length raws ≡ given → length (put ++ map (set_at k id number) raws) ≡ length put + given
-counted {S} k id number given put raws all =
-    let a = length-append put (map (set_at k id number) raws) in
-    let b = length-map raws (λ raw. set_at k id number raw) in
-    omega arith
-
--- a walk over lists that are the same
-closed_walk : {P : Type 0} {name : P → ℕ} {k : Key} {n id own first start wanting : ℕ} {out given : List Item} {old : List Entry} {items now : List (DescriptorPool P)} {numbers listed : List ℕ} {l m : Ledger}
-    → out ≡ given → now ≡ items → listed ≡ numbers → start ≡ first → own ≡ id → OpenWalk name k n id first wanting out old items numbers l m → OpenWalk name k n own start wanting given old now listed l m
-closed_walk gave pools shorter place ids walk = rw (pools, shorter, place, ids, sym gave) walk
-
--- the walk stopped
-stopped_at : {k : Key} {n id own first start : ℕ} {error : DeviceAllocationError} {out : List Item} {old : List Entry} {new : Bucket} {l m : Ledger} → id ≡ own → first ≡ start → IsTaken (Err (Existing error)) k 0 n out (bucket id first old) new l m → IsTaken (Err (Existing error)) k 0 n out (bucket own start old) new l m
-stopped_at ids same stopped = rw (sym ids, sym same) stopped
+gave_more : {S : Type 0} (name : S → ℕ) (k : Key) (id number : ℕ) (put : List (DescriptorSet S)) (raws : List S) → items_of name (put ++ map (set_at k id number) raws) ≡ items_of name put ++ items_at k id number (map name raws)
+gave_more name k id number put raws = map-append _ put (map (set_at k id number) raws) ∙ ap (λ x. items_of name put ++ x) (items_of-sets_at name k id number raws)
 
 pub loop-wanting-init : goal.loop-wanting-init
 loop-wanting-init g c = record {
@@ -42,29 +26,22 @@ loop-wanting-init g c = record {
   room = refl;
   given = omega arith;
   long = refl;
-  walk = open_walk_start g.D.DescriptorDevice.meaning.pool_name (key_of c.args.request.now.key) c.args.request.now.count c.args.view.now.id c.args.view.now.offset c.args.view.now.pools.now.items c.args.view.now.listed.now.items (g.D.DescriptorDevice.ledger c.args.device.now) c.requires.booked c.requires.listed;
+  walk = open_walk_start g.D.DescriptorDevice.meaning.pool_name (key_of c.args.request.now.key) c.args.request.now.count c.args.view.now.id c.args.view.now.offset c.args.view.now.pools.now.items c.args.view.now.listed.now.items (g.D.DescriptorDevice.ledger c.args.device.now) c.requires.listed;
   space = refl;
   kept = (refl, refl, refl, refl, refl);
   looks = refl;
 }
 
--- the walk is over
-whole : {k : Key} {n id own first start wanting : ℕ} {out : List Item} {old new : List Entry} {l m : Ledger} → id ≡ own → first ≡ start → Walking k n id first 0 wanting out old new l m → IsWalked k n wanting out (bucket own start old) (bucket id first new) l m
-whole {k} {n} {id} {own} {first} {start} {wanting} {out} {old} {new} {l} {m} ids same walked = rw (sym ids, sym same) (walk_end k n id first wanting out old new l m walked)
-
 pub returns-in_default-clause-walked : goal.returns-in_default-clause-walked
 returns-in_default-clause-walked g c =
     let inv = c.loop-wanting.invariant in
-    (inv.put, c.newest.ensures.sets ∙ inv.sets, (let room = inv.room in let left = c.newest.ensures.left in omega arith), inv.given, whole inv.kept.4 inv.kept.0 (walk_empty c.requires.booked inv.walk c.in_default.ensures.none))
+    (inv.put, c.newest.ensures.sets ∙ inv.sets, (let room = inv.room in let left = c.newest.ensures.left in omega arith), inv.given, walk_end inv.kept.4 inv.kept.0 (walk_empty c.requires.booked inv.walk c.in_default.ensures.none))
 
 pub returns-clause-walked : goal.returns-clause-walked
 returns-clause-walked g c =
     let inv = c.loop-wanting.invariant in
-    let over = whole inv.kept.4 inv.kept.0 (walk_sated c.requires.booked inv.walk (let none = c.loop-wanting-test.false in omega arith)) in
+    let over = walk_end inv.kept.4 inv.kept.0 (walk_sated c.requires.booked inv.walk (let none = c.loop-wanting-test.false in omega arith)) in
     (inv.put, inv.sets, inv.room, inv.given, over)
-
-pub newest-requires : goal.newest-requires
-newest-requires g c = record { listed = c.loop-wanting.invariant.walk.listed }
 
 pub ask-requires-clause-booked : goal.ask-requires-clause-booked
 ask-requires-clause-booked g c =
@@ -74,8 +51,7 @@ pub returns-in-Err-clause-stopped : goal.returns-in-Err-clause-stopped
 returns-in-Err-clause-stopped g c =
     let inv = c.loop-wanting.invariant in
     let err = c.in-Err.ensures.err in
-    let stopped = open_walk_stop c.requires.booked inv.walk c.loop-wanting-test.true _ _ c.in-Some.ensures.last _ c.in-Some.ensures.value c.ask.new.pool 0 c.in-Err.error _ err.1 err.2 in
-    (inv.put, err.0 ∙ c.newest.ensures.sets ∙ inv.sets, stopped_at inv.kept.4 inv.kept.0 stopped)
+    (inv.put, err.0 ∙ c.newest.ensures.sets ∙ inv.sets, open_walk_stop c.requires.booked inv.walk c.loop-wanting-test.true _ _ c.in-Some.ensures.last _ c.in-Some.ensures.value c.ask.new.pool 0 c.in-Err.error _ inv.kept.4 inv.kept.0 err.1 err.2)
 
 pub returns-in-Err-clause-listed : goal.returns-in-Err-clause-listed
 returns-in-Err-clause-listed g c =
@@ -109,7 +85,14 @@ module _ (g : _) (c : In-Ok g) where
   room = (let a = c.loop-wanting.invariant.room in let b = c.in-Ok.ensures.asked.3 in let d = many in let q = c.newest.ensures.left in let few = less in omega arith)
 
   given : length put + (c.loop-wanting.wanting - c.in-Ok.given) ≡ c.args.request.now.count
-  given = (let a = c.loop-wanting.invariant.given in let b = counted (key_of c.args.request.now.key) c.loop-wanting.view.id c.newest.new.sink.number _ c.loop-wanting.invariant.put raws c.in-Ok.ensures.asked.1 in let d = many in let few = less in omega arith)
+  given =
+      let a = c.loop-wanting.invariant.given in
+      let more = length-append c.loop-wanting.invariant.put (map (set_at (key_of c.args.request.now.key) c.loop-wanting.view.id c.newest.new.sink.number) raws) in
+      let each = length-map raws (set_at (key_of c.args.request.now.key) c.loop-wanting.view.id c.newest.new.sink.number) in
+      let one = c.in-Ok.ensures.asked.1 in
+      let d = many in
+      let few = less in
+      omega arith
 
 pub loop-wanting-preserved : goal.loop-wanting-preserved
 loop-wanting-preserved g c =
@@ -118,7 +101,6 @@ loop-wanting-preserved g c =
     let last = c.in-Some.ensures.last in
     let q = c.ask.new.pool in
     let open_still = listed_now_open c.requires.booked inv.walk c.loop-wanting-test.true _ _ last _ (at g r) q (let a = c.if-pool-eq0.false in omega arith) in
-    let walked = open_walk_more c.requires.booked inv.walk c.loop-wanting-test.true _ _ last _ (at g r) q _ _ _ _ open_still c.in-Ok.ensures.asked.4 (less g r) in
     let asked_one = one_asked c.requires.booked inv.walk c.loop-wanting-test.true _ _ last _ (at g r) q _ _ c.in-Ok.ensures.asked.4 in
     let many = length-set c.loop-wanting.view.pools.now.items (c.newest.new.sink.number - c.loop-wanting.view.offset) q in
     record {
@@ -127,7 +109,7 @@ loop-wanting-preserved g c =
       room = room g r;
       given = given g r;
       long = many ∙ inv.long;
-      walk = closed_walk (gave_more g.D.DescriptorDevice.meaning.set_name (key_of c.args.request.now.key) c.loop-wanting.view.id c.newest.new.sink.number inv.put (raws g r)) refl refl refl refl walked;
+      walk = open_walk_more c.requires.booked inv.walk c.loop-wanting-test.true _ _ last _ (at g r) q refl refl (gave_more g.D.DescriptorDevice.meaning.set_name (key_of c.args.request.now.key) c.loop-wanting.view.id c.newest.new.sink.number inv.put (raws g r)) refl open_still c.in-Ok.ensures.asked.4 (less g r);
       space = inv.space;
       kept = inv.kept;
       looks = (let a = inv.looks in omega arith);
@@ -140,7 +122,6 @@ loop-wanting-preserved-then-pool-eq0 g c =
     let last = c.in-Some.ensures.last in
     let q = c.ask.new.pool in
     let closed = listed_now_closed c.requires.booked inv.walk c.loop-wanting-test.true _ _ last _ (at g r) q c.if-pool-eq0.true in
-    let walked = open_walk_more c.requires.booked inv.walk c.loop-wanting-test.true _ _ last _ (at g r) q _ _ _ _ closed c.in-Ok.ensures.asked.4 (less g r) in
     let asked_one = one_asked c.requires.booked inv.walk c.loop-wanting-test.true _ _ last _ (at g r) q _ _ c.in-Ok.ensures.asked.4 in
     let now = c.close_newest.ensures in
     let pools : c.close_newest.new.self.pools.now.items ≡ slice_set c.loop-wanting.view.pools.now.items (c.newest.new.sink.number - c.loop-wanting.view.offset) q = ap (λ x. x.now.items) now.pools in
@@ -152,7 +133,7 @@ loop-wanting-preserved-then-pool-eq0 g c =
       room = room g r;
       given = given g r;
       long = many ∙ inv.long;
-      walk = closed_walk (gave_more g.D.DescriptorDevice.meaning.set_name (key_of c.args.request.now.key) c.loop-wanting.view.id c.newest.new.sink.number inv.put (raws g r)) pools now.listed now.kept.0 now.kept.4 walked;
+      walk = open_walk_more c.requires.booked inv.walk c.loop-wanting-test.true _ _ last _ (at g r) q now.kept.4 now.kept.0 (gave_more g.D.DescriptorDevice.meaning.set_name (key_of c.args.request.now.key) c.loop-wanting.view.id c.newest.new.sink.number inv.put (raws g r)) pools (now.listed ∙ closed) c.in-Ok.ensures.asked.4 (less g r);
       space = now.capacity ∙ inv.space;
       kept = (now.kept.0 ∙ inv.kept.0, now.kept.1 ∙ inv.kept.1, now.kept.2 ∙ inv.kept.2, now.kept.3 ∙ inv.kept.3, now.kept.4 ∙ inv.kept.4);
       looks = (let a = inv.looks in omega arith);

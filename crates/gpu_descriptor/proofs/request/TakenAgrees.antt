@@ -1,0 +1,340 @@
+-- What a request takes keeps books and ledger in agreement, and exactly its sets are outstanding besides.
+use Rattle.gpu_descriptor.proofs.Common.{◌≡◌, ◌≢◌, ℕ, zero, suc, take, drop, ◌+◌, ◌-◌, ◌<◌, ◌≤◌, ◌⊎◌, inl, inr, List, [], ◌∷◌, ◌++◌, length, map, Bool, true, false, ◌==◌, Option, Some, None, refl, sym, ap, ◌∙◌, subst, arith, cases_Bool, cases_lt, eq-eqb, ne_eqb, eqb-true, or_parts, or_from, nil_from_length, length-append, length-map, All, All-append, All-nil, All-cons, sum_by-append, slice_get, slice_get_within, slice_get_past, list_any, option_map, option_map_or, if◌then◌else◌, flags_of, Key, key_eq, Entry, Bucket, Pool, State, Item, LiveSet, live_sets, times, Agree, IsAsBooked, AreOutstanding, entry_at, next_number, live_at, live_in, set_of, count_of, outstanding, pool_counts, item_eq, count_by-append, map-append, times-append, append_assoc, le-ltb, eqb-false, slice_get-map, slice_get-get_or, get_or_from_slice_get, get_or}
+use Rattle.std.proofs.lemmas.List.{get_or-append-add}
+use Rattle.gpu_descriptor.proofs.lists.AtPlaces.{cases_option, get_drop, none_from}
+use Rattle.gpu_descriptor_types.specs.Ledger as ledgers
+use Rattle.gpu_descriptor.specs.Inner.Buckets.{IsBookedIn}
+use Rattle.gpu_descriptor.specs.Model.FreshPools.{Fresh, fresh_entry, fresh_portions}
+use Rattle.gpu_descriptor.specs.Model.Grants.{Grant, Part, IsGrantOf, items_in, portion_of, came, bucket_with, ledger_with, fresh_or, pool_with, items_at, granted}
+use Rattle.gpu_descriptor.specs.Model.Shares.{Portion, all_shared, portions_of}
+use Rattle.gpu_descriptor.proofs.table.Exact.{key_exact}
+use Rattle.gpu_descriptor.proofs.release.Fronts.{entry_at-found, entry_at-from}
+use Rattle.gpu_descriptor.proofs.request.KeyAgrees.{Became, pool_booked, count_append, count_of_items, count_elsewhere, place_of_items}
+use Rattle.gpu_descriptor.proofs.request.Asks.{none_with}
+use Rattle.gpu_descriptor.proofs.request.Shares.{IsApart, apart_from, not_refused}
+use Rattle.gpu_descriptor.proofs.request.StateAgrees.{at_place, booked_of}
+use Rattle.gpu_descriptor.specs.Model.Foreign.{KeepsForeign, LosesNone}
+use Rattle.gpu_descriptor.specs.Model.Promises.{KeepsOtherKeys}
+use Rattle.gpu_descriptor.proofs.request.TakenPlaces.{AreMade, apart_drop, came_long, fresh_or_past, given_at, length_taken, new_apart, new_stands, no_fresh, no_share, not_new, taken_named, taken_stands}
+
+-- ---- the sets that came
+
+-- a portion came from the pool that has its number
+abbrev IsPlaced : Bucket → ℕ → ℕ → Type 0
+IsPlaced b m q = (d : Entry) × (entry_at b m ≡ Some d) × (d.pool ≡ q)
+
+abbrev ArePlaced : Bucket → List Portion → Type 0
+ArePlaced b [] = Unit {0}
+ArePlaced b (r ∷ rows) = IsPlaced b r.number r.pool × ArePlaced b rows
+
+placed_append : (b : Bucket) (rows more : List Portion) → ArePlaced b rows → ArePlaced b more → ArePlaced b (rows ++ more)
+placed_append b [] more first last = last
+placed_append b (r ∷ rows) more first last = (first.0, placed_append b rows more first.1 last)
+
+placed_shares : (b : Bucket) (refused : ℕ → Bool) (n number : ℕ) (es : List Entry) → ((j m : ℕ) (e : Entry) → m ≡ number + j → slice_get es j ≡ Some e → IsPlaced b m e.pool) → ArePlaced b (portions_of refused n number es)
+placed_shares b refused n number [] each = tt
+placed_shares b refused n number (e ∷ newer) each = placed_append b (portions_of refused n (number + 1) newer) _ (placed_shares b refused n (number + 1) newer (λ j m d is at. each (suc j) m d (omega arith) at)) (each 0 number e (omega arith) refl, tt)
+
+placed_fresh : (b : Bucket) (number : ℕ) (fs : List Fresh) → ((j m : ℕ) (f : Fresh) → m ≡ number + j → slice_get fs j ≡ Some f → IsPlaced b m f.pool) → ArePlaced b (fresh_portions number fs)
+placed_fresh b number [] each = tt
+placed_fresh b number (f ∷ fs) each = (each 0 number f (omega arith) refl, placed_fresh b (number + 1) fs (λ j m h is at. each (suc j) m h (omega arith) at))
+
+-- a set that came has the key, its id, and the number of a pool
+of_items : (k : Key) (id : ℕ) (b : Bucket) (parts : List Part) → ArePlaced b (map portion_of parts) → (u : Item) → 0 < count_of u (items_in k id parts) → (u.key ≡ k) × (u.id ≡ id) × (d : Entry) × (entry_at b u.number ≡ Some d)
+of_items k id b [] placed u some = absurd (omega arith)
+of_items k id b (p ∷ parts) placed u some = elim (cases_lt 0 (count_of u (items_at k id p.number p.names))) [
+  | inl here ↦ (let is = place_of_items k id p.number p.names u here in (is.0, is.2, placed.0.0, ap (entry_at b) is.1 ∙ placed.0.1))
+  | inr none ↦ (let both = count_append u (items_at k id p.number p.names) (items_in k id parts) in of_items k id b parts placed.1 u (omega arith))
+]
+
+-- a set came as often as its name came from the pool that has its number
+all_came : (k : Key) (id : ℕ) (b : Bucket) → ((i j : ℕ) (d e : Entry) → entry_at b i ≡ Some d → entry_at b j ≡ Some e → d.pool ≡ e.pool → i ≡ j) → (u : Item) (f : Entry) → entry_at b u.number ≡ Some f → u.key ≡ k → u.id ≡ id → (parts : List Part) → ArePlaced b (map portion_of parts)
+    → count_of u (items_in k id parts) ≡ times (live_sets k.counts (came parts f.pool)) (set_of u)
+all_came k id b apart u f at key own [] placed = refl
+all_came k id b apart u f at key own (p ∷ parts) placed =
+    let both = count_append u (items_at k id p.number p.names) (items_in k id parts) in
+    let rest = all_came k id b apart u f at key own parts placed.1 in
+    elim (cases_Bool (p.pool == f.pool)) [
+      | inl on ↦ (
+          let one = count_of_items k id p.number p.names u key (sym (apart p.number u.number placed.0.0 f placed.0.1 at (placed.0.2 ∙ eqb-true p.pool f.pool on))) own in
+          let sets : times (live_sets k.counts (came (p ∷ parts) f.pool)) (set_of u) ≡ times (live_sets k.counts p.names) (set_of u) + times (live_sets k.counts (came parts f.pool)) (set_of u) = rw (on, map-append) (times-append (live_sets k.counts p.names) (live_sets k.counts (came parts f.pool)) (set_of u)) in
+          omega arith)
+      | inr off ↦ (
+          let none = count_elsewhere k id p.number p.names u (λ same. eqb-false p.pool f.pool off (let is : Some placed.0.0 ≡ Some f = sym placed.0.1 ∙ ap (entry_at b) (sym same) ∙ at in let entry : placed.0.0 ≡ f = cc in sym placed.0.2 ∙ ap (λ (e : Entry). e.pool) entry)) in
+          let sets : times (live_sets k.counts (came (p ∷ parts) f.pool)) (set_of u) ≡ times (live_sets k.counts (came parts f.pool)) (set_of u) = rw off refl in
+          omega arith)
+    ]
+
+no_choice : (c d : Bool) → ◌≡◌ {A = ℕ} (if c then 0 else 0) (if d then 0 else 0)
+no_choice c d = grind arith
+
+-- ---- books and ledger
+
+module _ (k : Key) (n : ℕ) (g : Grant) (s : State) (agree : Agree s) (grant : IsGrantOf n (s.books k) s.ledger g) (made : AreMade g.fresh) where
+  abbrev b : Bucket
+  b = s.books k
+
+  abbrev new : Bucket
+  new = bucket_with n g b
+
+  abbrev after : ℕ → Option Pool
+  after = ledger_with k g s.ledger
+
+  abbrev t : State
+  t = granted k n g s
+
+  -- the sets of a pool
+  abbrev sets : ℕ → List LiveSet
+  sets q = live_sets k.counts (came g.parts q)
+
+  abbrev shares : List Portion
+  shares = portions_of g.refused n (b.first + g.left) (drop g.left b.pools)
+
+  abbrev rest : List Portion
+  rest = fresh_portions (next_number b) g.fresh
+
+  abbrev items : List Item
+  items = items_in k g.id g.parts
+
+  no_item : (u : Item) → ((0 < count_of u items) → ⊥) → count_of u items ≡ 0
+  no_item u never = elim (cases_lt 0 (count_of u items)) [ inl some ↦ absurd (never some) | inr none ↦ (omega arith) ]
+
+  came_is : (q : ℕ) → length (came g.parts q) ≡ given_at q shares + given_at q rest
+  came_is q = came_long q g.parts ∙ ap (given_at q) grant.parts ∙ sum_by-append _ shares rest
+
+  -- a live pool is no new one
+  was_live : (q : ℕ) (pool : Pool) → s.ledger q ≡ Some pool → fresh_or k g.fresh q (s.ledger q) ≡ Some pool
+  was_live q pool live = fresh_or_past k q g.fresh (s.ledger q) (not_new s.ledger q pool g.fresh grant.new live) ∙ live
+
+  -- a pool that is neither the key's nor new stays
+  untouched : (q : ℕ) → IsApart q b.pools → list_any (λ f. f.pool == q) g.fresh ≡ false → after q ≡ s.ledger q
+  untouched q apart none =
+      let many = came_is q in
+      let a = no_share g.refused n q (b.first + g.left) (drop g.left b.pools) (apart_drop q g.left b.pools apart) in
+      let c = no_fresh q (next_number b) g.fresh none in
+      let nothing : came g.parts q ≡ [] = nil_from_length (came g.parts q) (omega arith) in
+      let still : g.refused q ≡ false = not_refused g.refused n q (drop g.left b.pools) (apart_drop q g.left b.pools apart) grant.refusing in
+      rw (nothing, still, fresh_or_past k q g.fresh (s.ledger q) none) (none_with (s.ledger q))
+
+  -- an old pool of a key, or a new one, stands at a number
+  abbrev WasAt : Key → ℕ → Entry → Type 0
+  WasAt l m f = (e : Entry) × (entry_at (s.books l) m ≡ Some e) × (f.pool ≡ e.pool)
+
+  abbrev IsFresh : ℕ → Entry → Type 0
+  IsFresh m f = (s.ledger f.pool ≡ None) × (j : ℕ) × (x : Fresh) × (m ≡ next_number b + j) × (slice_get g.fresh j ≡ Some x) × (x.pool ≡ f.pool)
+
+  record Stands (m : ℕ) (f : Entry) : Type 0 where
+    origin : WasAt k m f ⊎ IsFresh m f
+    booked : IsBookedIn k after f
+    live : (x : LiveSet) → live_in after f.pool x ≡ option_map_or (λ e. live_in s.ledger e.pool x) (entry_at b m) 0 + times (sets f.pool) x
+
+  -- whichever it is, what it gave came out of it
+  stands_so : (m : ℕ) (e f : Entry) (pool : Pool) → WasAt k m f ⊎ IsFresh m f → fresh_or k g.fresh e.pool (s.ledger e.pool) ≡ Some pool → IsAsBooked k pool e → Became (length (came g.parts e.pool)) (g.refused e.pool) e f → ((x : LiveSet) → option_map_or (λ e. live_in s.ledger e.pool x) (entry_at b m) 0 ≡ pool.live x) → Stands m f
+  stands_so m e f pool origin there was became had =
+      let now : after f.pool ≡ Some (pool_with (sets e.pool) (g.refused e.pool) pool) = ap after became.pool ∙ ap (option_map (pool_with (sets e.pool) (g.refused e.pool))) there in
+      record {
+        origin = origin;
+        booked = record { pool = pool_with (sets e.pool) (g.refused e.pool) pool; is_live = now; booked = pool_booked k pool e f (came g.parts e.pool) (g.refused e.pool) was became };
+        live = λ x. (
+            let is : live_in after f.pool x ≡ pool.live x + times (sets e.pool) x = rw now refl in
+            let same = ap (λ (q : ℕ). times (sets q) x) became.pool in
+            let before = had x in
+            omega arith);
+      }
+
+  fresh_stands : (m j : ℕ) (f : Entry) → m ≡ next_number b + j → slice_get (map fresh_entry g.fresh) j ≡ Some f → Stands m f
+  fresh_stands m j f place at =
+      let x = new_stands k s.ledger (next_number b) g.fresh grant.new made j f at in
+      let q : ℕ = x.fresh.pool in
+      let size : ℕ = x.fresh.size in
+      let apart : IsApart q b.pools = apart_from q b.pools (λ i e there same. (let was = (booked_of s k agree).each i e there in let bad : ◌≡◌ {A = Option Pool} None (Some was.pool) = sym x.none ∙ ap s.ledger (sym same) ∙ was.is_live in absurd (cc))) in
+      let many = came_is q in
+      let none = no_share g.refused n q (b.first + g.left) (drop g.left b.pools) (apart_drop q g.left b.pools apart) in
+      let given = x.given in
+      let fits = x.made in
+      let empty : Entry = record { pool = q; capacity = size; allocated = 0; free = size } in
+      let allocated : f.allocated ≡ x.fresh.given = ap (λ (e : Entry). e.allocated) x.is in
+      let free : f.free ≡ size - x.fresh.given = ap (λ (e : Entry). e.free) x.is in
+      stands_so m empty f (ledgers.fresh (pool_counts k.counts size) size (flags_of k)) (inr (ap (λ (e : Entry). s.ledger e.pool) x.is ∙ x.none, j, x.fresh, place, x.at, ap (λ (e : Entry). e.pool) (sym x.is))) (x.there (s.ledger q))
+      (record { flags = refl; at_least = fits.0; small = fits.1; capacity = refl; counts = refl; sets = λ y some. absurd (omega arith); allocated = ∣ ([], refl, λ y. refl) ∣₁; room = omega arith; full = λ never. (let e : 0 + size ≡ size = omega arith in e) })
+      (record { pool = ap (λ (e : Entry). e.pool) x.is; capacity = ap (λ (e : Entry). e.capacity) x.is; allocated = omega arith; room = omega arith; whole = λ off. omega arith })
+      (λ y. rw (le-ltb m b.first (omega arith), slice_get_past b.pools (m - b.first) (omega arith)) refl)
+
+  stands : (m : ℕ) (f : Entry) → entry_at new m ≡ Some f → Stands m f
+  stands m f at =
+      let found = entry_at-found new m f at in
+      let kept = booked_of s k agree in
+      elim (taken_stands g.refused n (b.first + g.left) g.left b.pools (map fresh_entry g.fresh) kept.distinct (m - b.first) f found.1) [
+        | inl old ↦ (
+            let was = kept.each (m - b.first) old.0 old.1 in
+            let many = came_is old.0.pool in
+            let none = no_fresh old.0.pool (next_number b) g.fresh (not_new s.ledger old.0.pool was.pool g.fresh grant.new was.is_live) in
+            let given : given_at old.0.pool shares ≡ length (came g.parts old.0.pool) = omega arith in
+            let at = entry_at-from b m old.0 found.0 old.1 in
+            let live = was.is_live in
+            stands_so m old.0 f was.pool (inl (old.0, at, old.2.pool)) (was_live old.0.pool was.pool live) was.booked (subst (λ (i : ℕ). Became i (g.refused old.0.pool) old.0 f) given old.2) (λ x. rw (at, live) refl))
+        | inr fresh ↦ (let above = found.0 in let place = fresh.1 in fresh_stands m fresh.0 f (omega arith) fresh.2)
+      ]
+
+  origin : (l : Key) (m : ℕ) (f : Entry) → entry_at (t.books l) m ≡ Some f → WasAt l m f ⊎ ((k ≡ l) × IsFresh m f)
+  origin l m f at = elim (cases_Bool (key_eq k l)) [
+    | inl is ↦ (
+        let same = key_exact.same k l is in
+        elim (stands m f (rw is at at)).origin [
+          | inl old ↦ inl (old.0, subst (λ (x : Key). entry_at (s.books x) m ≡ Some old.0) same old.1, old.2)
+          | inr fresh ↦ inr (same, fresh)
+        ])
+    | inr apart ↦ inl (f, rw apart at at, refl)
+  ]
+
+  was_there : (l : Key) (m : ℕ) (e : Entry) (q : ℕ) → entry_at (s.books l) m ≡ Some e → s.ledger q ≡ None → e.pool ≢ q
+  was_there l m e q at none same = (let was = agree.booked l m e at in let bad : ◌≡◌ {A = Option Pool} None (Some was.0) = sym none ∙ ap s.ledger (sym same) ∙ was.1 in absurd (cc))
+
+  -- another key's pool stays
+  others_stay : (l : Key) (m : ℕ) (e : Entry) → key_eq k l ≡ false → entry_at (s.books l) m ≡ Some e → after e.pool ≡ s.ledger e.pool
+  others_stay l m e apart at =
+      let was = agree.booked l m e at in
+      untouched e.pool (apart_from e.pool b.pools (λ i d there same. (
+      let both = agree.distinct k l (b.first + i) m d e (at_place b i d there) at same in
+      let bad : true ≡ false = sym (key_exact.self k) ∙ ap (key_eq k) both.0 ∙ apart in
+      absurd (cc)))) (not_new s.ledger e.pool was.0 g.fresh grant.new was.1)
+
+  pub granted_agree : Agree t
+  granted_agree = record {
+    distinct = λ a c i j d e at_d at_e same. elim (origin a i d at_d) [
+      | inl p ↦ (elim (origin c j e at_e) [
+        | inl q ↦ agree.distinct a c i j p.0 q.0 p.1 q.1 (sym p.2 ∙ same ∙ q.2)
+        | inr q ↦ absurd (was_there a i p.0 e.pool p.1 q.1.0 (sym p.2 ∙ same))
+      ])
+      | inr p ↦ (elim (origin c j e at_e) [
+        | inl q ↦ absurd (was_there c j q.0 d.pool q.1 p.1.0 (sym q.2 ∙ sym same))
+        | inr q ↦ (
+            let place = new_apart s.ledger g.fresh grant.new p.1.1 q.1.1 p.1.2 q.1.2 p.1.4 q.1.4 (p.1.5 ∙ same ∙ sym q.1.5) in
+            let one = p.1.3 in
+            let two = q.1.3 in
+            (sym p.0 ∙ q.0, (omega arith)))
+      ])
+    ];
+    booked = λ a m e at. elim (cases_Bool (key_eq k a)) [
+      | inl is ↦ (let x = stands m e (rw is at at) in (x.booked.pool, x.booked.is_live, subst (λ (l : Key). IsAsBooked l x.booked.pool e) (key_exact.same k a is) x.booked.booked))
+      | inr apart ↦ (let there = rw apart at at in let was = agree.booked a m e there in (was.0, others_stay a m e apart there ∙ was.1, was.2))
+    ];
+    absent = λ a none. elim (cases_Bool (key_eq k a)) [
+      | inl is ↦ (
+          let empty : new.pools ≡ [] = rw is at none in
+          let long = length_taken g.refused n g.left b.pools in
+          let parts = length-append (take g.left b.pools ++ all_shared g.refused n (drop g.left b.pools)) (map fresh_entry g.fresh) in
+          let short = ap length empty in
+          let first : (t.books a).first ≡ b.first = rw is refl in
+          first ∙ agree.absent k (nil_from_length b.pools (omega arith)))
+      | inr apart ↦ (let here : t.books a ≡ s.books a = rw apart refl in ap (λ (x : Bucket). x.first) here ∙ agree.absent a (ap (λ (x : Bucket). x.pools) (sym here) ∙ none))
+    ];
+  }
+
+  -- the old pools keep their places
+  old_at : (m : ℕ) (e : Entry) → entry_at b m ≡ Some e → (d : Entry) × (entry_at new m ≡ Some d) × (d.pool ≡ e.pool)
+  old_at m e at =
+      let found = entry_at-found b m e at in
+      let kept = taken_named g.left n g.refused b.pools (map fresh_entry g.fresh) (m - b.first) e found.1 in
+      (kept.0, entry_at-from new m kept.0 found.0 kept.1, kept.2)
+
+  -- the new ones stand behind them
+  fresh_at : (j : ℕ) (f : Fresh) → slice_get g.fresh j ≡ Some f → entry_at new (next_number b + j) ≡ Some (fresh_entry f)
+  fresh_at j f at =
+      let shared : List Entry = take g.left b.pools ++ all_shared g.refused n (drop g.left b.pools) in
+      let long = length_taken g.refused n g.left b.pools in
+      let all = length-append shared (map fresh_entry g.fresh) in
+      let there : slice_get (map fresh_entry g.fresh) j ≡ Some (fresh_entry f) = slice_get-map fresh_entry g.fresh j ∙ ap (option_map fresh_entry) at in
+      let within = slice_get_within (map fresh_entry g.fresh) j (fresh_entry f) there in
+      let place : next_number b + j - b.first ≡ length shared + j = omega arith in
+      let same : get_or new.pools (length shared + j) (fresh_entry f) ≡ fresh_entry f = get_or-append-add shared (map fresh_entry g.fresh) j (fresh_entry f) ∙ get_or_from_slice_get (map fresh_entry g.fresh) j (fresh_entry f) (fresh_entry f) there in
+      entry_at-from new (next_number b + j) (fresh_entry f) (omega arith) (ap (slice_get new.pools) place ∙ slice_get-get_or new.pools (length shared + j) (fresh_entry f) (omega arith) ∙ ap (λ (e : Entry). Some e) same)
+
+  -- each set came from the pool that has its number
+  placed : ArePlaced new (map portion_of g.parts)
+  placed = subst (ArePlaced new) (sym grant.parts) (placed_append new shares rest
+      (placed_shares new g.refused n (b.first + g.left) (drop g.left b.pools) (λ j m e is at. old_at m e (entry_at-from b m e (omega arith) (ap (slice_get b.pools) (let i : m - b.first ≡ g.left + j = omega arith in i) ∙ sym (get_drop b.pools g.left j) ∙ at))))
+      (placed_fresh new (next_number b) g.fresh (λ j m f is at. (fresh_entry f, ap (entry_at new) is ∙ fresh_at j f at, refl))))
+
+  pub granted_own : (u : Item) → 0 < count_of u items → u.key ≡ k
+  granted_own u some = (of_items k g.id new g.parts placed u some).0
+
+  -- what is live at a number of the key's now
+  live_now : (u : Item) → k ≡ u.key → g.id ≡ u.id → live_at after new u ≡ live_at s.ledger b u + count_of u items
+  live_now u key own = elim (cases_option (entry_at new u.number)) [
+    | inl gone ↦ (
+        let was : entry_at b u.number ≡ None = elim (cases_option (entry_at b u.number)) [
+          | inl none ↦ none
+          | inr e ↦ absurd (let kept = old_at u.number e.0 e.1 in let bad : ◌≡◌ {A = Option Entry} None (Some kept.0) = sym gone ∙ kept.1 in cc)
+        ] in
+        let left : live_at after new u ≡ 0 = rw gone refl in
+        let right : live_at s.ledger b u ≡ 0 = rw was refl in
+        let none = no_item u (λ some. (let is = of_items k g.id new g.parts placed u some in let bad : ◌≡◌ {A = Option Entry} None (Some is.2) = sym gone ∙ is.3 in absurd (cc))) in
+        omega arith)
+    | inr f ↦ (
+        let left : live_at after new u ≡ live_in after f.0.pool (set_of u) = rw f.1 refl in
+        let more = (stands u.number f.0 f.1).live (set_of u) in
+        let came = all_came k g.id new (λ i j d e at_d at_e same. (granted_agree.distinct k k i j d e (rw (key_exact.self k) at_d) (rw (key_exact.self k) at_e) same).1) u f.0 f.1 (sym key) (sym own) g.parts placed in
+        omega arith)
+  ]
+
+  -- where the key had pools it had the id
+  live_then : (u : Item) → k ≡ u.key → outstanding s u ≡ (if g.id == u.id then live_at s.ledger b u else 0)
+  live_then u key = ap (λ (l : Key). if (s.books l).id == u.id then live_at s.ledger (s.books l) u else 0) (sym key) ∙ elim (cases_option (entry_at b u.number)) [
+    | inl none ↦ (let zero : live_at s.ledger b u ≡ 0 = rw none refl in rw zero (no_choice (b.id == u.id) (g.id == u.id)))
+    | inr e ↦ ap (λ (i : ℕ). if i == u.id then live_at s.ledger b u else 0) (sym (grant.id (let some = slice_get_within b.pools _ e.0 (entry_at-found b u.number e.0 e.1).1 in omega arith)))
+  ]
+
+  -- exactly these sets are outstanding besides
+  pub granted_outstanding : (u : Item) → outstanding t u ≡ outstanding s u + count_of u items
+  granted_outstanding u = elim (cases_Bool (key_eq k u.key)) [
+    | inl is ↦ (
+        let key = key_exact.same k u.key is in
+        let now : outstanding t u ≡ (if g.id == u.id then live_at after new u else 0) = rw is refl in
+        let was = live_then u key in
+        elim (cases_Bool (g.id == u.id)) [
+          | inl on ↦ (
+              let left : outstanding t u ≡ live_at after new u = now ∙ rw on refl in
+              let right : outstanding s u ≡ live_at s.ledger b u = was ∙ rw on refl in
+              let more = live_now u key (eqb-true g.id u.id on) in
+              omega arith)
+          | inr off ↦ (
+              let left : outstanding t u ≡ 0 = now ∙ rw off refl in
+              let right : outstanding s u ≡ 0 = was ∙ rw off refl in
+              let none = no_item u (λ some. eqb-false g.id u.id off (sym (of_items k g.id new g.parts placed u some).1)) in
+              omega arith)
+        ])
+    | inr apart ↦ (
+        let none = no_item u (λ some. (let bad : true ≡ false = sym (key_exact.self k) ∙ ap (key_eq k) (sym (granted_own u some)) ∙ apart in absurd (cc))) in
+        let now : outstanding t u ≡ (if (s.books u.key).id == u.id then live_at after (s.books u.key) u else 0) = rw apart refl in
+        let live : live_at after (s.books u.key) u ≡ live_at s.ledger (s.books u.key) u = elim (cases_option (entry_at (s.books u.key) u.number)) [
+          | inl gone ↦ rw gone refl
+          | inr e ↦ rw (e.1, others_stay u.key u.number e.0 apart e.1) refl
+        ] in
+        let same = ap (λ (i : ℕ). if (s.books u.key).id == u.id then i else 0) live in
+        omega arith)
+  ]
+
+  -- all other keys are untouched
+  pub granted_others : KeepsOtherKeys k s t
+  granted_others l apart = record { books = rw apart refl; pools = λ m e at. others_stay l m e apart at }
+
+  -- the live pools of others stay, and don't come into the books
+  pub granted_foreign : KeepsForeign s t
+  granted_foreign name pool foreign live = (
+    untouched name (apart_from name b.pools (λ i e at. foreign k (b.first + i) e (at_place b i e at))) (not_new s.ledger name pool g.fresh grant.new live) ∙ live,
+    λ l m f at same. elim (origin l m f at) [
+      | inl old ↦ foreign l m old.0 old.1 (sym old.2 ∙ same)
+      | inr fresh ↦ absurd (let bad : ◌≡◌ {A = Option Pool} None (Some pool) = sym fresh.1.0 ∙ ap s.ledger same ∙ live in cc)
+    ],
+  )
+
+  -- and none is lost
+  pub granted_loses_none : LosesNone s t
+  granted_loses_none name pool foreign live = (sym (untouched name (apart_from name b.pools (λ i e at. still k (b.first + i) e (at_place b i e at))) (none_from (λ f. f.pool == name) g.fresh (λ j f at. ne_eqb f.pool name (foreign k (next_number b + j) (fresh_entry f) (rw (key_exact.self k) (fresh_at j f at)))))) ∙ live, still)
+    where
+      still : (l : Key) (m : ℕ) (e : Entry) → entry_at (s.books l) m ≡ Some e → e.pool ≢ name
+      still l m e at same = elim (cases_Bool (key_eq k l)) [
+        | inl is ↦ (let kept = old_at m e (subst (λ (x : Key). entry_at (s.books x) m ≡ Some e) (sym (key_exact.same k l is)) at) in foreign l m kept.0 (rw is kept.1) (kept.2 ∙ same))
+        | inr apart ↦ foreign l m e (rw apart at) same
+      ]
