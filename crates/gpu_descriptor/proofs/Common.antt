@@ -39,3 +39,35 @@ pub use Rattle.gpu_descriptor.specs.Model.Books.{AddsUp, Bucket, BucketOf, Entry
 pub use Rattle.gpu_descriptor.specs.Model.Agreement.{Agree, AreOutstanding, HasSize, IsAsBooked, Item, State, count_of, flags_of, item_eq, live_at, live_in, outstanding, set_of, with_bucket}
 pub use Rattle.gpu_descriptor.specs.Caller.KeyOf.{key_of}
 pub use Rattle.gpu_descriptor.specs.Caller.Values.{Allocations}
+pub use Rattle.gpu_descriptor.specs.Caller.Call.{call_of, layout_key}
+pub use Rattle.gpu_descriptor.specs.Caller.Comparisons.{binary_digits, digits_at, digits_behind, digits_within, open_pools, run_digits}
+pub use Rattle.gpu_descriptor.specs.Caller.Frees.{Frees, GivesBack, Returns, marked_descriptors}
+pub use Rattle.gpu_descriptor.specs.Caller.Keys.{StayOrGainLast, keys_with_pools}
+pub use Rattle.gpu_descriptor.specs.Caller.Others.{is_named}
+pub use Rattle.gpu_descriptor.specs.Caller.Sets.{item_of, items_of}
+pub use Rattle.gpu_descriptor.specs.Caller.States.{Agrees, marked_load_of, named, named_bucket, named_row, outstanding_of, pool_load_of, state_of, table_of}
+pub use Rattle.gpu_descriptor.specs.Inner.Buckets.{AreBookedIn, IsBookedIn, front_but, has_pools, ledger_without, trimmed_bucket, trimmed_ledger}
+pub use Rattle.gpu_descriptor.specs.Inner.Grow.{IsGrown, IsTaken}
+pub use Rattle.gpu_descriptor.specs.Inner.Ids.{is_of, rise_below, stored_ids}
+pub use Rattle.gpu_descriptor.specs.Inner.OpenNumbers.{IsEntered, free_in, open_numbers}
+pub use Rattle.gpu_descriptor.specs.Inner.OpenPools.{CountsLooks, KeepsView, bucket_in, looked_at}
+pub use Rattle.gpu_descriptor.specs.Inner.Releases.{FreesRun, IsTakenAt, RunsInto, bucket_back, names_of}
+pub use Rattle.gpu_descriptor.specs.Inner.RunSteps.{AllPass, CountsFrom, EndsRun, Hands, Looks, RunStep}
+pub use Rattle.gpu_descriptor.specs.Inner.Serves.{IsServed, IsUnserved, KeepsLimit, ServesKey, Takes}
+pub use Rattle.gpu_descriptor.specs.Inner.SetAt.{set_at}
+pub use Rattle.gpu_descriptor.specs.Inner.Stored.{IsConsistent, books_in, bucket_of, entry_of, kept_in, kept_of, row_of, stored_keys, stored_load}
+pub use Rattle.gpu_descriptor.specs.Inner.Walk.{HasTaken, IsAsked, IsNoMemory, IsRefused, IsWalked}
+pub use Rattle.gpu_descriptor.specs.Model.Cleanup.{IsCleaned, cleaned_bucket, pools_cleaned}
+pub use Rattle.gpu_descriptor.specs.Model.Foreign.{IsForeign, IsNamed, KeepsForeign, LosesNone}
+pub use Rattle.gpu_descriptor.specs.Model.FreshPools.{AreFull, AreNew, AreSized, Fresh, IsFreshFront, IsFreshList, IsNextSize, fresh_entry, fresh_portions, given_by, room_after}
+pub use Rattle.gpu_descriptor.specs.Model.Grants.{Grant, IsGrantOf, Part, bucket_with, came, fresh_or, granted, items_at, items_in, ledger_with, pool_with, portion_of}
+pub use Rattle.gpu_descriptor.specs.Model.Load.{allocated_in, bucket_load, descriptors_created, descriptors_out, marked_load, pool_load, pools_load, sets_out}
+pub use Rattle.gpu_descriptor.specs.Model.Outcomes.{Allocates, Call, IsBack, IsDone, IsStopped, IsWithinLimit, NoneIsNew, Proceeds, Stays, StopsAt, error_of_alloc, grant_rise, out_then, risen, rollback_rise, stop_answer, stop_rise, taken_by, wanting}
+pub use Rattle.gpu_descriptor.specs.Model.Promises.{AreBelowTwice, AreOfKey, AreOutBesides, CreatesOnlyWhereShort, HasCause, IsShort, IsUntouched, KeepsOtherKeys, KeepsOutstanding}
+pub use Rattle.gpu_descriptor.specs.Model.Release.{bucket_less, empty_front, entry_less, fronts_gone, given_back, in_front, is_empty, lies_in, more_destroyed, more_released, pool_less, pools_gone, released, released_each, singly, spent_front, without_front}
+pub use Rattle.gpu_descriptor.specs.Model.Runs.{breaks, runs}
+pub use Rattle.gpu_descriptor.specs.Model.Shares.{OnlyAskedRefuse, Portion, all_shared, asked_count, asks, is_asked, offer, portions_of, refused_count, rest, share, shared}
+pub use Rattle.gpu_descriptor.specs.declared.bucket.run.Run.{Run}
+pub use Rattle.std.proofs.lemmas.Grind.{common_steps, flat_map-append}
+pub use Rattle.std.proofs.lemmas.List.Folds.{list_any-append, list_any_more}
+pub use Rattle.std.proofs.lemmas.Map.{update_apart, update_here}

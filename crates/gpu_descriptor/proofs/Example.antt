@@ -1,11 +1,7 @@
 -- The definitions at one state, worked out by the check. A plain key has six pools: two empty ones at the front, one
 -- with a set, an empty one behind it, one with a set, and an empty one at the end. A marked key has two
 -- pools, both empty.
-use Rattle.gpu_descriptor.proofs.Common.{◌++◌, ◌≡◌, ℕ, true, false, List, [], ◌∷◌, None, if◌then◌else◌, map, replicate, refl, sets_in_room, State, Item, Key, key_eq, Entry, Bucket, no_pools}
-use Rattle.gpu_descriptor.specs.Model.Cleanup.{cleaned_bucket}
-use Rattle.gpu_descriptor.specs.Model.Load.{pool_load, bucket_load}
-use Rattle.gpu_descriptor.specs.Model.Release.{released}
-use Rattle.gpu_descriptor.specs.Caller.Comparisons.{binary_digits}
+use Rattle.gpu_descriptor.proofs.Common.{◌++◌, ◌≡◌, ℕ, true, false, List, [], ◌∷◌, None, if◌then◌else◌, map, replicate, refl, sets_in_room, State, Item, Key, key_eq, Entry, Bucket, no_pools, cleaned_bucket, pool_load, bucket_load, released, binary_digits}
 
 -- ---- the state
 

@@ -1,10 +1,6 @@
 -- Which sets of a list are outstanding after a call: for callers that hold sets.
-use Rattle.gpu_descriptor.proofs.Common.{◌≡◌, ℕ, ◌+◌, List, ◌++◌, sym, ap, ◌∙◌, arith, IsPermutation, map-append, count_by-append, DescriptorSet, State, Item, item_eq, Agree, AreOutstanding, count_of, outstanding}
-use Rattle.std.proofs.lemmas.Grind.{common_steps}
+use Rattle.gpu_descriptor.proofs.Common.{◌≡◌, ℕ, ◌+◌, List, ◌++◌, sym, ap, ◌∙◌, arith, IsPermutation, map-append, count_by-append, DescriptorSet, State, Item, item_eq, Agree, AreOutstanding, count_of, outstanding, common_steps, AreOutBesides, KeepsOutstanding, released, item_of, items_of}
 use Rattle.std.proofs.lemmas.List.Sorted.{sum_by-IsPermutation, IsPermutation-map}
-use Rattle.gpu_descriptor.specs.Model.Promises.{AreOutBesides, KeepsOutstanding}
-use Rattle.gpu_descriptor.specs.Model.Release.{released}
-use Rattle.gpu_descriptor.specs.Caller.Sets.{item_of, items_of}
 use Rattle.gpu_descriptor.proofs.release.ReleaseAgrees.{takes}
 
 -- ---- lists of items

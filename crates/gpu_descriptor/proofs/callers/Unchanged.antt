@@ -1,8 +1,7 @@
 -- What calls keep where nothing changed, and one after another.
-use Rattle.gpu_descriptor.proofs.Common.{◌≡◌, ◌≤◌, sym, ap, subst, side, Meaning, Ledger, Agree, Allocations, arith}
+use Rattle.gpu_descriptor.proofs.Common.{◌≡◌, ◌≤◌, sym, ap, subst, side, Meaning, Ledger, Agree, Allocations, arith, Agrees, marked_load_of, pool_load_of, state_of}
 use Rattle.gpu_descriptor.specs.Caller.Keeps.{Keeps}
 use Rattle.gpu_descriptor.specs.Caller.Others.{others_of}
-use Rattle.gpu_descriptor.specs.Caller.States.{Agrees, marked_load_of, pool_load_of, state_of}
 use Rattle.gpu_descriptor.proofs.foreign.ForeignPools.{foreign_same, foreign_through, loses_same, loses_through}
 
 -- nothing changed

@@ -1,8 +1,5 @@
 -- Cleaning up: the whole empty front of each key goes.
-use Rattle.gpu_descriptor.proofs.Common.{if◌then◌else◌, ◌≡◌, ℕ, zero, suc, ◌==◌, ◌+◌, ◌-◌, ◌<◌, ◌≤◌, true, false, List, [], ◌∷◌, length, take, drop, count_by, slice_get, Option, Some, None, ◌⊎◌, inl, inr, refl, sym, ap, ◌∙◌, arith, eq-eqb, ne_eqb, length-drop, ∥∥₁_elim, props, list_any, prefix_len, cases_eq, false_from_ne_true, or_right, prefix_len-le-length, sum_by-cons, set_of, Item, State, live_in, outstanding, HasSize, Agree, live_at, Key, key_eq, Entry, Bucket, entry_at, no_pools, LiveSet, set_eq, set_exact, count_by_yes}
-use Rattle.std.proofs.lemmas.Grind.{common_steps}
-use Rattle.gpu_descriptor.specs.Model.Cleanup.{IsCleaned, cleaned_bucket, pools_cleaned}
-use Rattle.gpu_descriptor.specs.Model.Release.{is_empty, empty_front, without_front, in_front}
+use Rattle.gpu_descriptor.proofs.Common.{if◌then◌else◌, ◌≡◌, ℕ, zero, suc, ◌==◌, ◌+◌, ◌-◌, ◌<◌, ◌≤◌, true, false, List, [], ◌∷◌, length, take, drop, count_by, slice_get, Option, Some, None, ◌⊎◌, inl, inr, refl, sym, ap, ◌∙◌, arith, eq-eqb, ne_eqb, length-drop, ∥∥₁_elim, props, list_any, prefix_len, cases_eq, false_from_ne_true, or_right, prefix_len-le-length, sum_by-cons, set_of, Item, State, live_in, outstanding, HasSize, Agree, live_at, Key, key_eq, Entry, Bucket, entry_at, no_pools, LiveSet, set_eq, set_exact, count_by_yes, common_steps, IsCleaned, cleaned_bucket, pools_cleaned, is_empty, empty_front, without_front, in_front}
 use Rattle.gpu_descriptor.proofs.release.Fronts.{entry_at-found, entry_at-from, entry_at-without, entry_at-kept}
 use Rattle.gpu_descriptor.proofs.release.Places.{live_there_at, outstanding_at, outstanding_found, size_pos}
 use Rattle.gpu_descriptor.proofs.release.ReleaseAgrees.{if_none, front_found, cases_option}

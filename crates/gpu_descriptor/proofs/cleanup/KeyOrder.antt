@@ -1,12 +1,6 @@
 -- In which order keys stay in the table.
-use Rattle.gpu_descriptor.specs.Caller.Keys.{keys_with_pools}
-use Rattle.std.proofs.lemmas.Grind.{common_steps}
-use Rattle.gpu_descriptor.proofs.Common.{◌≡◌, ℕ, suc, ◌==◌, not, Bool, List, [], ◌∷◌, ◌++◌, length, map, filter, slice_get, Some, inl, inr, refl, sym, ap, subst, ◌∙◌, arith, length-drop, set_value, map-append, Ledger, BucketKey, DescriptorBucket, Key, Bucket, HasDistinctKeys, books_of, key_of, Allocations}
-use Rattle.gpu_descriptor.specs.Inner.Buckets.{has_pools, trimmed_bucket}
-use Rattle.gpu_descriptor.specs.Model.Cleanup.{IsCleaned, cleaned_bucket}
-use Rattle.gpu_descriptor.specs.Caller.Keys.{StayOrGainLast}
-use Rattle.gpu_descriptor.specs.Caller.States.{keys_of, named_row, state_of}
-use Rattle.gpu_descriptor.specs.Inner.Stored.{row_of, stored_keys}
+use Rattle.gpu_descriptor.proofs.Common.{◌≡◌, ℕ, suc, ◌==◌, not, Bool, List, [], ◌∷◌, ◌++◌, length, map, filter, slice_get, Some, inl, inr, refl, sym, ap, subst, ◌∙◌, arith, length-drop, set_value, map-append, Ledger, BucketKey, DescriptorBucket, Key, Bucket, HasDistinctKeys, books_of, key_of, Allocations, keys_with_pools, common_steps, has_pools, trimmed_bucket, IsCleaned, cleaned_bucket, StayOrGainLast, named_row, state_of, row_of, stored_keys}
+use Rattle.gpu_descriptor.specs.Caller.States.{keys_of}
 use Rattle.gpu_descriptor.proofs.cleanup.RowsCleaned.{Rows, cleared_row, first_keys, has_row, row_books, rows_left}
 use Rattle.gpu_descriptor.proofs.table.TableBooks.{keys_are, keys_set, rows_are, rows_in}
 

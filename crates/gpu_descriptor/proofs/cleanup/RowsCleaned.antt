@@ -1,13 +1,7 @@
 -- Cleaning up, row by row.
-use Rattle.gpu_descriptor.proofs.Common.{◌≡◌, ℕ, zero, suc, ◌+◌, ◌-◌, ◌<◌, ◌≤◌, Bool, true, false, not, ◌==◌, List, [], ◌∷◌, ◌++◌, length, map, filter, set, take, drop, sum_by, slice_get, Option, Some, None, option_map, inl, inr, refl, sym, ap, subst, ◌∙◌, arith, length-drop, if◌then◌else◌, fun_ext, list_any, IsDistinct, values_of, cases_Bool, false_from_ne_true, append-nil, drop_all, length-map, take_all, sum_by-cons, sum_by_more, get_or_from_slice_get, slice_get-map, slice_get_within, Pool, Ledger, BucketKey, DescriptorPool, DescriptorBucket, State, Agree, Key, key_eq, Bucket, entry_at, no_pools, books_of, HasDistinctKeys, key_of, Allocations}
-use Rattle.std.proofs.lemmas.Grind.{common_steps}
-use Rattle.std.proofs.lemmas.List.Folds.{list_any_more}
+use Rattle.gpu_descriptor.proofs.Common.{◌≡◌, ℕ, zero, suc, ◌+◌, ◌-◌, ◌<◌, ◌≤◌, Bool, true, false, not, ◌==◌, List, [], ◌∷◌, ◌++◌, length, map, filter, set, take, drop, sum_by, slice_get, Option, Some, None, option_map, inl, inr, refl, sym, ap, subst, ◌∙◌, arith, length-drop, if◌then◌else◌, fun_ext, list_any, IsDistinct, values_of, cases_Bool, false_from_ne_true, append-nil, drop_all, length-map, take_all, sum_by-cons, sum_by_more, get_or_from_slice_get, slice_get-map, slice_get_within, Pool, Ledger, BucketKey, DescriptorPool, DescriptorBucket, State, Agree, Key, key_eq, Bucket, entry_at, no_pools, books_of, HasDistinctKeys, key_of, Allocations, common_steps, list_any_more, AreBookedIn, has_pools, trimmed_bucket, trimmed_ledger, more_destroyed, empty_front, in_front, cleaned_bucket, IsCleaned, pools_cleaned, named_row, state_of, row_of, bucket_of, stored_keys, IsConsistent}
 use Rattle.indexmap.specs.Layout.{set_value_at}
-use Rattle.gpu_descriptor.specs.Inner.Buckets.{AreBookedIn, has_pools, trimmed_bucket, trimmed_ledger}
-use Rattle.gpu_descriptor.specs.Model.Release.{more_destroyed, empty_front, in_front}
-use Rattle.gpu_descriptor.specs.Model.Cleanup.{cleaned_bucket, IsCleaned, pools_cleaned}
-use Rattle.gpu_descriptor.specs.Caller.States.{named_row, state_of, keys_of}
-use Rattle.gpu_descriptor.specs.Inner.Stored.{row_of, bucket_of, stored_keys, IsConsistent}
+use Rattle.gpu_descriptor.specs.Caller.States.{keys_of}
 use Rattle.gpu_descriptor.proofs.lists.AtPlaces.{found_before, none_at}
 use Rattle.gpu_descriptor.proofs.table.Exact.{key_exact}
 use Rattle.gpu_descriptor.proofs.release.Fronts.{whole_front, entry_at-from}

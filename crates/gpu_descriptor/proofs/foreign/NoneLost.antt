@@ -1,9 +1,5 @@
 -- What an allocator leaves of the ledger when it is done: nothing of its own.
-use Rattle.gpu_descriptor.proofs.Common.{Allocations, ◌≡◌, ◌≢◌, ◌⊎◌, ℕ, zero, suc, ◌+◌, ◌-◌, ◌==◌, true, false, List, [], ◌∷◌, slice_get, Option, Some, None, inl, inr, refl, sym, ap, ◌∙◌, arith, eqb-true, fun_ext, list_any, cases_Bool, or_cases, Pool, Ledger, State, Item, outstanding, Agree, Key, key_eq, Entry, Bucket, HasDistinctKeys, books_of, entry_at, no_pools}
-use Rattle.std.proofs.lemmas.Grind.{common_steps}
-use Rattle.gpu_descriptor.specs.Model.Cleanup.{IsCleaned}
-use Rattle.gpu_descriptor.specs.Model.Foreign.{IsForeign, IsNamed, LosesNone, KeepsForeign}
-use Rattle.gpu_descriptor.specs.Caller.States.{table_of, state_of}
+use Rattle.gpu_descriptor.proofs.Common.{Allocations, ◌≡◌, ◌≢◌, ◌⊎◌, ℕ, zero, suc, ◌+◌, ◌-◌, ◌==◌, true, false, List, [], ◌∷◌, slice_get, Option, Some, None, inl, inr, refl, sym, ap, ◌∙◌, arith, eqb-true, fun_ext, list_any, cases_Bool, or_cases, Pool, Ledger, State, Item, outstanding, Agree, Key, key_eq, Entry, Bucket, HasDistinctKeys, books_of, entry_at, no_pools, common_steps, IsCleaned, IsForeign, IsNamed, LosesNone, KeepsForeign, table_of, state_of}
 use Rattle.gpu_descriptor.proofs.cleanup.Cleaning.{nothing_left}
 use Rattle.gpu_descriptor.proofs.foreign.ForeignPools.{cleaned_foreign, cleaned_loses, foreign_through, loses_through}
 use Rattle.gpu_descriptor.proofs.release.Fronts.{entry_at-found, entry_at-from}

@@ -1,6 +1,5 @@
 -- Agreement, and what is outstanding, speak of the pools in the books alone.
-use Rattle.gpu_descriptor.proofs.Common.{if◌then◌else◌, ◌≡◌, ◌==◌, ℕ, Option, Some, inl, inr, refl, sym, ap, ◌∙◌, option_map_or, set_of, live_in, State, Agree, outstanding, Item, Key, Entry, Bucket, entry_at, Pool}
-use Rattle.gpu_descriptor.specs.Model.Promises.{IsUntouched}
+use Rattle.gpu_descriptor.proofs.Common.{if◌then◌else◌, ◌≡◌, ◌==◌, ℕ, Option, Some, inl, inr, refl, sym, ap, ◌∙◌, option_map_or, set_of, live_in, State, Agree, outstanding, Item, Key, Entry, Bucket, entry_at, Pool, IsUntouched}
 use Rattle.gpu_descriptor.proofs.release.ReleaseAgrees.{cases_option}
 
 pub own_agrees : (s t : State) → ((k : Key) → IsUntouched k s t) → Agree s → Agree t

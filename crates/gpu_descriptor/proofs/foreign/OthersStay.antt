@@ -1,9 +1,6 @@
 -- The pools that are none of the allocator's are a function of books and ledger, and each call leaves it.
-use Rattle.gpu_descriptor.proofs.Common.{◌≡◌, ℕ, ◌+◌, ◌-◌, ◌==◌, Bool, true, false, List, [], ◌∷◌, slice_get, Option, Some, None, inl, inr, refl, sym, ap, ◌∙◌, arith, fun_ext, list_any, cases_Bool, nil_from_length, ∥∥₁_elim, props, Pool, Ledger, State, Item, Agree, count_of, outstanding, Key, Bucket, HasDistinctKeys, books_of, no_pools, Allocations}
-use Rattle.gpu_descriptor.specs.Model.Cleanup.{IsCleaned}
-use Rattle.gpu_descriptor.specs.Model.Foreign.{IsForeign, IsNamed, KeepsForeign, LosesNone}
-use Rattle.gpu_descriptor.specs.Caller.Others.{is_named, others_of}
-use Rattle.gpu_descriptor.specs.Caller.States.{outstanding_of, state_of, table_of}
+use Rattle.gpu_descriptor.proofs.Common.{◌≡◌, ℕ, ◌+◌, ◌-◌, ◌==◌, Bool, true, false, List, [], ◌∷◌, slice_get, Option, Some, None, inl, inr, refl, sym, ap, ◌∙◌, arith, fun_ext, list_any, cases_Bool, nil_from_length, ∥∥₁_elim, props, Pool, Ledger, State, Item, Agree, count_of, outstanding, Key, Bucket, HasDistinctKeys, books_of, no_pools, Allocations, IsCleaned, IsForeign, IsNamed, KeepsForeign, LosesNone, is_named, outstanding_of, state_of, table_of}
+use Rattle.gpu_descriptor.specs.Caller.Others.{others_of}
 use Rattle.gpu_descriptor.proofs.cleanup.Cleaning.{nothing_left}
 use Rattle.gpu_descriptor.proofs.table.Exact.{key_exact}
 use Rattle.gpu_descriptor.proofs.foreign.ForeignPools.{cleaned_foreign, cleaned_loses}

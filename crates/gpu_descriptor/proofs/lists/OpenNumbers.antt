@@ -1,7 +1,5 @@
 -- How the list of open pools changes with the pools.
-use Rattle.gpu_descriptor.proofs.Common.{ℕ, zero, suc, ◌+◌, ◌<◌, ◌≤◌, ◌≡◌, List, [], ◌∷◌, ◌++◌, length, take, drop, get_or, slice_set, insert, arith, refl, sym, ap, ◌∙◌, subst, slice_get, Some, append-nil, set_split, IsNonDecreasing, IsPartitionPoint, slice_get_within}
-use Rattle.std.proofs.lemmas.Grind.{common_steps}
-use Rattle.gpu_descriptor.specs.Inner.OpenNumbers.{open_numbers}
+use Rattle.gpu_descriptor.proofs.Common.{ℕ, zero, suc, ◌+◌, ◌<◌, ◌≤◌, ◌≡◌, List, [], ◌∷◌, ◌++◌, length, take, drop, get_or, slice_set, insert, arith, refl, sym, ap, ◌∙◌, subst, slice_get, Some, append-nil, set_split, IsNonDecreasing, IsPartitionPoint, slice_get_within, common_steps, open_numbers}
 use Rattle.gpu_descriptor.proofs.lists.AtPlaces.{get_drop, long_take, split_at}
 
 -- pools in two parts

@@ -1,9 +1,5 @@
 -- What comparisons the runs of a list may take: a run more adds the digits at its first set.
-use Rattle.gpu_descriptor.proofs.Common.{◌≡◌, ℕ, zero, suc, ◌+◌, Bool, true, false, List, [], ◌∷◌, ◌++◌, map, length, count_by, refl, sym, ap, ◌∙◌, arith, append_assoc, lt-ltb, append-nil, nat_lt, if◌then◌else◌, count_by_no, count_by_yes, DescriptorPool, State, Item, Entry}
-use Rattle.gpu_descriptor.specs.Caller.Comparisons.{digits_at, digits_behind, run_digits}
-use Rattle.gpu_descriptor.specs.Inner.OpenNumbers.{open_numbers, free_in}
-use Rattle.gpu_descriptor.specs.Model.Runs.{breaks, runs}
-use Rattle.gpu_descriptor.specs.Inner.Stored.{entry_of}
+use Rattle.gpu_descriptor.proofs.Common.{◌≡◌, ℕ, zero, suc, ◌+◌, Bool, true, false, List, [], ◌∷◌, ◌++◌, map, length, count_by, refl, sym, ap, ◌∙◌, arith, append_assoc, lt-ltb, append-nil, nat_lt, if◌then◌else◌, count_by_no, count_by_yes, DescriptorPool, State, Item, Entry, digits_at, digits_behind, run_digits, open_numbers, free_in, breaks, runs, entry_of}
 
 none_of : (b : Bool) → ◌≡◌ {A = ℕ} (if b then 0 else 1) 1 → b ≡ false
 none_of true h = absurd (omega arith)

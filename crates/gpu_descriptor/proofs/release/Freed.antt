@@ -1,16 +1,8 @@
 -- What the loop over the runs keeps.
-use Rattle.gpu_descriptor.proofs.Common.{◌≡◌, ◌≤◌, ℕ, ◌+◌, ◌<◌, true, false, ◌&&◌, ◌==◌, List, [], ◌∷◌, ◌++◌, sum_by, refl, sym, ap, subst, ◌∙◌, arith, append_assoc, append-nil, length-append, eq-eqb, Option, Some, None, MatchOption, OnSome, IfSome, eqb-true, Count, HoldsAlong, IsFinite, IsNearerEnd, MakesProgress, size, Yields, YieldsThen, and_parts, and_from, map-append, sum_by-append, side, Meaning, Counters, Ledger, bool_iff, DescriptorSet, State, Item, AreOutstanding, Agree, count_of, Key, key_eq, Allocations}
-use Rattle.std.proofs.lemmas.Grind.{common_steps}
+use Rattle.gpu_descriptor.proofs.Common.{◌≡◌, ◌≤◌, ℕ, ◌+◌, ◌<◌, true, false, ◌&&◌, ◌==◌, List, [], ◌∷◌, ◌++◌, sum_by, refl, sym, ap, subst, ◌∙◌, arith, append_assoc, append-nil, length-append, eq-eqb, Option, Some, None, MatchOption, OnSome, IfSome, eqb-true, Count, HoldsAlong, IsFinite, IsNearerEnd, MakesProgress, size, Yields, YieldsThen, and_parts, and_from, map-append, sum_by-append, side, Meaning, Counters, Ledger, bool_iff, DescriptorSet, State, Item, AreOutstanding, Agree, count_of, Key, key_eq, Allocations, common_steps, marked_load, more_released, more_destroyed, released, given_back, pools_gone, open_pools, run_digits, binary_digits, GivesBack, Frees, FreesRun, runs, item_of, items_of, AllPass, state_of}
 use Rattle.std.proofs.iter.Next.{Yields-more}
-use Rattle.gpu_descriptor.specs.Model.Load.{marked_load}
-use Rattle.gpu_descriptor.specs.Model.Release.{more_released, more_destroyed, released, given_back, pools_gone}
-use Rattle.gpu_descriptor.specs.Caller.Comparisons.{open_pools, run_digits, binary_digits}
-use Rattle.gpu_descriptor.specs.Caller.Frees.{GivesBack, Frees}
-use Rattle.gpu_descriptor.specs.Inner.Releases.{FreesRun}
-use Rattle.gpu_descriptor.specs.Model.Runs.{runs}
-use Rattle.gpu_descriptor.specs.Caller.Sets.{item_of, items_of}
-use Rattle.gpu_descriptor.specs.Inner.RunSteps.{lies_at, AllPass}
-use Rattle.gpu_descriptor.specs.Caller.States.{state_of, keys_of}
+use Rattle.gpu_descriptor.specs.Inner.RunSteps.{lies_at}
+use Rattle.gpu_descriptor.specs.Caller.States.{keys_of}
 use Rattle.gpu_descriptor.proofs.release.Comparisons.{run_digits_more}
 use Rattle.gpu_descriptor.proofs.cleanup.Counted.{gone}
 use Rattle.gpu_descriptor.proofs.table.Exact.{key_exact}

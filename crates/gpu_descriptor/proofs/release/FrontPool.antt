@@ -1,8 +1,5 @@
 -- One pool leaves the front.
-use Rattle.gpu_descriptor.proofs.Common.{◌≡◌, ◌≢◌, ℕ, suc, ◌+◌, ◌<◌, ◌≤◌, true, List, [], ◌∷◌, length, map, drop, get_or, Option, None, inl, inr, refl, sym, ap, ◌∙◌, arith, eq-eqb, cases_eq, length-map, Pool, Ledger, HasNoSets, after_destroy, DescriptorPool, Key, Entry, Bucket}
-use Rattle.gpu_descriptor.specs.Inner.Buckets.{AreBookedIn, front_but, trimmed_bucket, trimmed_ledger, ledger_without}
-use Rattle.gpu_descriptor.specs.Model.Release.{is_empty}
-use Rattle.gpu_descriptor.specs.Inner.Stored.{entry_of}
+use Rattle.gpu_descriptor.proofs.Common.{◌≡◌, ◌≢◌, ℕ, suc, ◌+◌, ◌<◌, ◌≤◌, true, List, [], ◌∷◌, length, map, drop, get_or, Option, None, inl, inr, refl, sym, ap, ◌∙◌, arith, eq-eqb, cases_eq, length-map, Pool, Ledger, HasNoSets, after_destroy, DescriptorPool, Key, Entry, Bucket, AreBookedIn, front_but, trimmed_bucket, trimmed_ledger, ledger_without, is_empty, entry_of}
 use Rattle.gpu_descriptor.proofs.table.Exact.{bucket}
 use Rattle.gpu_descriptor.proofs.release.Fronts.{trim_yes, trim_short}
 use Rattle.gpu_descriptor.proofs.release.Places.{size_pos}

@@ -1,8 +1,5 @@
 -- The front of a bucket: what giving back does to it, and which places keep their pools when it goes.
-use Rattle.gpu_descriptor.proofs.Common.{◌≡◌, ℕ, zero, suc, ◌+◌, ◌-◌, ◌<◌, ◌≤◌, true, false, min, List, [], ◌∷◌, length, map, drop, slice_get, Some, inl, inr, refl, sym, ap, ◌∙◌, arith, le-ltb, drop-drop, prefix_len, cases_Bool, drop-map, prefix_len-le-length, Entry, Bucket, entry_at}
-use Rattle.std.proofs.lemmas.Grind.{common_steps}
-use Rattle.gpu_descriptor.specs.Inner.Buckets.{front_but, trimmed_bucket}
-use Rattle.gpu_descriptor.specs.Model.Release.{entry_less, bucket_less, is_empty, empty_front, spent_front, without_front}
+use Rattle.gpu_descriptor.proofs.Common.{◌≡◌, ℕ, zero, suc, ◌+◌, ◌-◌, ◌<◌, ◌≤◌, true, false, min, List, [], ◌∷◌, length, map, drop, slice_get, Some, inl, inr, refl, sym, ap, ◌∙◌, arith, le-ltb, drop-drop, prefix_len, cases_Bool, drop-map, prefix_len-le-length, Entry, Bucket, entry_at, common_steps, front_but, trimmed_bucket, entry_less, bucket_less, is_empty, empty_front, spent_front, without_front}
 use Rattle.gpu_descriptor.proofs.lists.AtPlaces.{get_drop}
 
 -- how many pools go from the front of a list, if so many are to stay

@@ -1,13 +1,7 @@
 -- One run through a row that the table lends.
-use Rattle.gpu_descriptor.proofs.Common.{◌≡◌, ℕ, Bool, List, [], ◌∷◌, map, count_by, Option, Some, IsSome, length, refl, sym, ap, subst, ◌∙◌, fun_ext, lookup, set_value, option_map_or, Ledger, live_sets, BucketKey, DescriptorSet, DescriptorBucket, Agree, AreOutstanding, Key, key_eq, Bucket, no_pools, books_of, HasDistinctKeys, key_of, Allocations}
-use Rattle.gpu_descriptor.specs.Inner.Buckets.{AreBookedIn}
-use Rattle.gpu_descriptor.specs.Inner.Releases.{IsTakenAt, RunsInto, names_of, bucket_back}
-use Rattle.gpu_descriptor.specs.Model.Release.{more_destroyed, more_released, given_back, released, pools_gone}
-use Rattle.gpu_descriptor.specs.Caller.Comparisons.{open_pools}
-use Rattle.gpu_descriptor.specs.Caller.Sets.{items_of}
-use Rattle.gpu_descriptor.specs.Caller.States.{named_row, state_of, keys_of}
-use Rattle.gpu_descriptor.specs.Inner.RunSteps.{AllPass, lies_at}
-use Rattle.gpu_descriptor.specs.Inner.Stored.{books_in, row_of, bucket_of}
+use Rattle.gpu_descriptor.proofs.Common.{◌≡◌, ℕ, Bool, List, [], ◌∷◌, map, count_by, Option, Some, IsSome, length, refl, sym, ap, subst, ◌∙◌, fun_ext, lookup, set_value, option_map_or, Ledger, live_sets, BucketKey, DescriptorSet, DescriptorBucket, Agree, AreOutstanding, Key, key_eq, Bucket, no_pools, books_of, HasDistinctKeys, key_of, Allocations, AreBookedIn, IsTakenAt, RunsInto, names_of, bucket_back, more_destroyed, more_released, given_back, released, pools_gone, open_pools, items_of, named_row, state_of, AllPass, books_in, row_of, bucket_of}
+use Rattle.gpu_descriptor.specs.Caller.States.{keys_of}
+use Rattle.gpu_descriptor.specs.Inner.RunSteps.{lies_at}
 use Rattle.gpu_descriptor.proofs.foreign.LedgerPools.{taken_from, release_pools}
 use Rattle.gpu_descriptor.proofs.table.TableBooks.{put_books, rows_in, looked_up, written, key_once, keys_are}
 use Rattle.gpu_descriptor.proofs.request.StateAgrees.{booked_of}

@@ -1,7 +1,6 @@
 -- What one look at the caller's iterator leaves.
-use Rattle.gpu_descriptor.proofs.Common.{◌≡◌, ℕ, ◌+◌, ◌<◌, ◌^◌, Bool, true, false, [], ◌∷◌, length, refl, sym, ◌∙◌, arith, Option, Some, None, Count, IsFinite, size, option_len, DescriptorSet}
-use Rattle.gpu_descriptor.specs.declared.bucket.run.Run.{Run}
-use Rattle.gpu_descriptor.specs.Inner.RunSteps.{at_place, CountsFrom, Looks, RunStep}
+use Rattle.gpu_descriptor.proofs.Common.{◌≡◌, ℕ, ◌+◌, ◌<◌, ◌^◌, Bool, true, false, [], ◌∷◌, length, refl, sym, ◌∙◌, arith, Option, Some, None, Count, IsFinite, size, option_len, DescriptorSet, Run, CountsFrom, Looks, RunStep}
+use Rattle.gpu_descriptor.specs.Inner.RunSteps.{at_place}
 
 module _ {T S : Type 0} (steps : T → Option (DescriptorSet S) → T → Type 0) (k i : ℕ) (s : T) (n : ℕ) where
   pub count_now : CountsFrom steps k i s n → n < 2 ^ 32

@@ -1,9 +1,6 @@
 -- One run: what the device may take of the caller's iterator, and what it took.
-use Rattle.gpu_descriptor.proofs.Common.{◌≡◌, ℕ, ◌+◌, ◌-◌, ◌≤◌, true, List, [], ◌∷◌, length, map, slice_get, refl, sym, ap, subst, ◌∙◌, arith, eq-eqb, Option, Some, None, OnSome, Count, HoldsAlong, IsFinite, IsNearerEnd, Yields, YieldsThen, and_from, length-map, Pool, Ledger, AreLive, live_sets, CanFree, LiveSet, DescriptorSet, live_in, Key, Entry, Bucket}
-use Rattle.gpu_descriptor.specs.declared.bucket.run.Run.{Run}
-use Rattle.gpu_descriptor.specs.Inner.Buckets.{AreBookedIn}
-use Rattle.gpu_descriptor.specs.Inner.Releases.{IsTakenAt, names_of}
-use Rattle.gpu_descriptor.specs.Inner.RunSteps.{at_place, RunStep, CountsFrom, EndsRun, AllPass}
+use Rattle.gpu_descriptor.proofs.Common.{◌≡◌, ℕ, ◌+◌, ◌-◌, ◌≤◌, true, List, [], ◌∷◌, length, map, slice_get, refl, sym, ap, subst, ◌∙◌, arith, eq-eqb, Option, Some, None, OnSome, Count, HoldsAlong, IsFinite, IsNearerEnd, Yields, YieldsThen, and_from, length-map, Pool, Ledger, AreLive, live_sets, CanFree, LiveSet, DescriptorSet, live_in, Key, Entry, Bucket, Run, AreBookedIn, IsTakenAt, names_of, RunStep, CountsFrom, EndsRun, AllPass}
+use Rattle.gpu_descriptor.specs.Inner.RunSteps.{at_place}
 use Rattle.gpu_descriptor.proofs.release.BucketRun.{AreTaken, can_free, can_take, took_these, length_names}
 use Rattle.gpu_descriptor.proofs.release.RunTaken.{Whole, whole, front}
 

@@ -1,7 +1,5 @@
 -- Giving sets back leaves the keys of which none of them is.
-use Rattle.gpu_descriptor.proofs.Common.{◌≡◌, ℕ, ◌+◌, ◌-◌, ◌&&◌, Bool, true, false, List, [], ◌∷◌, count_by, Some, None, option_map, slice_get, refl, sym, ap, ◌∙◌, arith, fun_ext, and_parts, false_from_ne_true, list_any, if◌then◌else◌, LiveSet, set_eq, State, Item, Agree, set_of, Key, key_eq, Bucket, Entry, entry_at}
-use Rattle.gpu_descriptor.specs.Model.Promises.{IsUntouched}
-use Rattle.gpu_descriptor.specs.Model.Release.{given_back, released, spent_front, in_front, lies_in, pool_less}
+use Rattle.gpu_descriptor.proofs.Common.{◌≡◌, ℕ, ◌+◌, ◌-◌, ◌&&◌, Bool, true, false, List, [], ◌∷◌, count_by, Some, None, option_map, slice_get, refl, sym, ap, ◌∙◌, arith, fun_ext, and_parts, false_from_ne_true, list_any, if◌then◌else◌, LiveSet, set_eq, State, Item, Agree, set_of, Key, key_eq, Bucket, Entry, entry_at, IsUntouched, given_back, released, spent_front, in_front, lies_in, pool_less}
 use Rattle.gpu_descriptor.proofs.table.Exact.{key_exact}
 use Rattle.gpu_descriptor.proofs.release.Fronts.{entry_at-from}
 use Rattle.gpu_descriptor.proofs.release.ReleaseAgrees.{front_found, none_back}

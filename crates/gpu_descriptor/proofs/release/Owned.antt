@@ -1,12 +1,7 @@
 -- The row of a set that is out: its key's, and the only one with its id.
-use Rattle.gpu_descriptor.proofs.Common.{◌≡◌, ◌⊎◌, ◌<◌, ℕ, suc, true, false, List, [], ◌∷◌, ◌++◌, slice_get, Option, Some, None, IfSome, inl, inr, refl, sym, ap, subst, ◌∙◌, arith, eq-eqb, eqb-true, map, nat_eq, lookup, option_map_or, HoldsAlong, cases_Bool, and_from, and_parts, false_from_ne_true, Ledger, count_by_yes, BucketKey, DescriptorSet, DescriptorBucket, AreOutstanding, Item, State, item_eq, outstanding, Bucket, Key, entry_at, no_pools, key_of, Allocations}
-use Rattle.std.proofs.lemmas.Grind.{common_steps}
+use Rattle.gpu_descriptor.proofs.Common.{◌≡◌, ◌⊎◌, ◌<◌, ℕ, suc, true, false, List, [], ◌∷◌, ◌++◌, slice_get, Option, Some, None, IfSome, inl, inr, refl, sym, ap, subst, ◌∙◌, arith, eq-eqb, eqb-true, map, nat_eq, lookup, option_map_or, HoldsAlong, cases_Bool, and_from, and_parts, false_from_ne_true, Ledger, count_by_yes, BucketKey, DescriptorSet, DescriptorBucket, AreOutstanding, Item, State, item_eq, outstanding, Bucket, Key, entry_at, no_pools, key_of, Allocations, common_steps, item_of, items_of, state_of, is_of, rise_below, stored_ids, EndsRun, AllPass, bucket_of, row_of}
 use Rattle.std.proofs.iter.Next.{Yields-more}
-use Rattle.gpu_descriptor.specs.Caller.Sets.{item_of, items_of}
-use Rattle.gpu_descriptor.specs.Caller.States.{state_of}
-use Rattle.gpu_descriptor.specs.Inner.Ids.{is_of, rise_below, stored_ids}
-use Rattle.gpu_descriptor.specs.Inner.RunSteps.{EndsRun, AllPass, at_place, lies_at}
-use Rattle.gpu_descriptor.specs.Inner.Stored.{bucket_of, row_of}
+use Rattle.gpu_descriptor.specs.Inner.RunSteps.{at_place, lies_at}
 use Rattle.gpu_descriptor.proofs.table.Exact.{item_exact, key_exact}
 use Rattle.gpu_descriptor.proofs.callers.HeldSets.{out_back}
 use Rattle.gpu_descriptor.proofs.foreign.NoneLost.{none_at}

@@ -1,8 +1,5 @@
 -- Giving back in two parts is giving back at once.
-use Rattle.gpu_descriptor.proofs.Common.{◌≡◌, ℕ, suc, ◌+◌, ◌-◌, ◌<◌, Bool, true, false, ◌&&◌, ◌||◌, ◌==◌, List, [], ◌∷◌, ◌++◌, map, take, drop, slice_get, Option, Some, None, option_map, refl, sym, ap, ◌∙◌, arith, take-add, if◌then◌else◌, fun_ext, list_any, and_parts, and_from, false_from_ne_true, take-map, set_of, State, Item, item_eq, count_of, AreOutstanding, Agree, Key, key_eq, Entry, Bucket, entry_at, Pool, LiveSet, set_eq, count_by-append, count_by_alike, count_by_none, any_from, any_found}
-use Rattle.std.proofs.lemmas.List.Folds.{list_any-append}
-use Rattle.gpu_descriptor.specs.Inner.Buckets.{trimmed_bucket}
-use Rattle.gpu_descriptor.specs.Model.Release.{lies_in, entry_less, bucket_less, pool_less, spent_front, without_front, in_front, released}
+use Rattle.gpu_descriptor.proofs.Common.{◌≡◌, ℕ, suc, ◌+◌, ◌-◌, ◌<◌, Bool, true, false, ◌&&◌, ◌||◌, ◌==◌, List, [], ◌∷◌, ◌++◌, map, take, drop, slice_get, Option, Some, None, option_map, refl, sym, ap, ◌∙◌, arith, take-add, if◌then◌else◌, fun_ext, list_any, and_parts, and_from, false_from_ne_true, take-map, set_of, State, Item, item_eq, count_of, AreOutstanding, Agree, Key, key_eq, Entry, Bucket, entry_at, Pool, LiveSet, set_eq, count_by-append, count_by_alike, count_by_none, any_from, any_found, list_any-append, trimmed_bucket, lies_in, entry_less, bucket_less, pool_less, spent_front, without_front, in_front, released}
 use Rattle.gpu_descriptor.proofs.release.Fronts.{less-less, less-without, one_key, spent_front-less, entry_at-from}
 use Rattle.gpu_descriptor.proofs.table.Exact.{key_exact, item_exact}
 use Rattle.gpu_descriptor.proofs.release.Places.{back, back_named, lies_in-at, lies_in-found, kept}

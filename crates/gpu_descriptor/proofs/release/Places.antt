@@ -1,7 +1,5 @@
 -- Which places of the books keep their pools when sets go back: those that still have a set out.
-use Rattle.gpu_descriptor.proofs.Common.{◌≡◌, ℕ, ◌+◌, ◌-◌, ◌<◌, ◌≤◌, Bool, true, false, cond, ◌&&◌, ◌==◌, List, [], ◌∷◌, length, map, filter, count_by, Option, Some, None, option_map, inl, inr, refl, sym, ap, ◌∙◌, arith, eqb-true, eq-eqb, ne_eqb, option_map_or, list_any, cases_Bool, false_from_ne_true, and_parts, and_from, length-map, length-filter, count_by-le-length, slice_get-map, set_of, State, Item, item_eq, count_of, live_in, outstanding, AreOutstanding, HasSize, Agree, live_at, Key, key_eq, Entry, Bucket, entry_at, no_pools, Pool, LiveSet, set_eq, bool_iff, count_by_alike, count_by_none, set_exact, all_taken_out, ∥∥₁_elim, ∥∥₁_map, props}
-use Rattle.std.proofs.lemmas.Grind.{common_steps}
-use Rattle.gpu_descriptor.specs.Model.Release.{lies_in, entry_less, bucket_less, is_empty, empty_front, spent_front, without_front, released}
+use Rattle.gpu_descriptor.proofs.Common.{◌≡◌, ℕ, ◌+◌, ◌-◌, ◌<◌, ◌≤◌, Bool, true, false, cond, ◌&&◌, ◌==◌, List, [], ◌∷◌, length, map, filter, count_by, Option, Some, None, option_map, inl, inr, refl, sym, ap, ◌∙◌, arith, eqb-true, eq-eqb, ne_eqb, option_map_or, list_any, cases_Bool, false_from_ne_true, and_parts, and_from, length-map, length-filter, count_by-le-length, slice_get-map, set_of, State, Item, item_eq, count_of, live_in, outstanding, AreOutstanding, HasSize, Agree, live_at, Key, key_eq, Entry, Bucket, entry_at, no_pools, Pool, LiveSet, set_eq, bool_iff, count_by_alike, count_by_none, set_exact, all_taken_out, ∥∥₁_elim, ∥∥₁_map, props, common_steps, lies_in, entry_less, bucket_less, is_empty, empty_front, spent_front, without_front, released}
 use Rattle.gpu_descriptor.proofs.release.Fronts.{entry_at-without, entry_at-kept}
 use Rattle.gpu_descriptor.proofs.table.Exact.{item_exact, item_parts, item_from}
 

@@ -1,7 +1,6 @@
 -- What a whole run took of the caller's iterator.
-use Rattle.gpu_descriptor.proofs.Common.{ap, ◌≡◌, ℕ, ◌+◌, ◌≤◌, List, [], ◌∷◌, length, map, Bool, true, false, refl, sym, subst, ◌∙◌, arith, Option, Some, None, MatchOption, MatchBool, Count, IsFinite, size, MakesProgress, Yields, YieldsThen, DescriptorSet}
-use Rattle.gpu_descriptor.specs.declared.bucket.run.Run.{Run}
-use Rattle.gpu_descriptor.specs.Inner.RunSteps.{at_place, AllPass, Looks, Hands, RunStep}
+use Rattle.gpu_descriptor.proofs.Common.{ap, ◌≡◌, ℕ, ◌+◌, ◌≤◌, List, [], ◌∷◌, length, map, Bool, true, false, refl, sym, subst, ◌∙◌, arith, Option, Some, None, MatchOption, MatchBool, Count, IsFinite, size, MakesProgress, Yields, YieldsThen, DescriptorSet, Run, AllPass, Looks, Hands, RunStep}
+use Rattle.gpu_descriptor.specs.Inner.RunSteps.{at_place}
 
 module _ {T S : Type 0} (steps : T → Option (DescriptorSet S) → T → Type 0) (can : T → Type 0) (left : T → Count) where
   -- a step that gave y

@@ -1,16 +1,8 @@
 -- All that is promised of a request, from what it took: kept, given back, declined, or for no sets.
-use Rattle.gpu_descriptor.proofs.Common.{◌≡◌, ◌≤◌, ℕ, ◌+◌, ◌<◌, List, Option, None, Some, MatchOption, Result, Ok, Err, inl, sym, ap, ◌∙◌, subst, arith, Vec, side, Meaning, Ledger, Counters, AllocationError, DescriptorSet, Stop, outstanding, HasDistinctKeys, Key, Allocations}
-use Rattle.gpu_descriptor.specs.Caller.Comparisons.{run_digits}
-use Rattle.gpu_descriptor.specs.Model.Grants.{Grant, granted, items_in}
-use Rattle.gpu_descriptor.specs.Model.Outcomes.{Allocates, stop_answer, taken_by}
-use Rattle.gpu_descriptor.specs.Caller.Call.{call_of}
-use Rattle.gpu_descriptor.specs.Caller.Frees.{Returns}
+use Rattle.gpu_descriptor.proofs.Common.{◌≡◌, ◌≤◌, ℕ, ◌+◌, ◌<◌, List, Option, None, Some, MatchOption, Result, Ok, Err, inl, sym, ap, ◌∙◌, subst, arith, Vec, side, Meaning, Ledger, Counters, AllocationError, DescriptorSet, Stop, outstanding, HasDistinctKeys, Key, Allocations, run_digits, Grant, granted, items_in, Allocates, stop_answer, taken_by, call_of, Returns, StayOrGainLast, items_of, Agrees, marked_load_of, outstanding_of, pool_load_of, state_of, table_of, Takes}
 use Rattle.gpu_descriptor.specs.Caller.HandsOut.{HandsOut}
 use Rattle.gpu_descriptor.specs.Caller.Keeps.{Keeps}
-use Rattle.gpu_descriptor.specs.Caller.Keys.{StayOrGainLast}
-use Rattle.gpu_descriptor.specs.Caller.Sets.{items_of}
-use Rattle.gpu_descriptor.specs.Caller.States.{Agrees, keys_of, marked_load_of, outstanding_of, pool_load_of, state_of, table_of}
-use Rattle.gpu_descriptor.specs.Inner.Serves.{Takes}
+use Rattle.gpu_descriptor.specs.Caller.States.{keys_of}
 use Rattle.gpu_descriptor.proofs.request.Outcomes.{taken_agree, taken_out, taken_own, taken_others, taken_leaves, taken_loses_none, taken_others_of, went_back, back_out, back_leaves, back_loses_none, back_others, back_others_of, back_totals, kept, kept_many, kept_totals}
 use Rattle.gpu_descriptor.proofs.request.Promises.{has_cause, short}
 

@@ -1,9 +1,7 @@
 -- What a key's next pool takes of the room, and when its size was cut.
-use Rattle.gpu_descriptor.proofs.Common.{◌≡◌, ℕ, ◌+◌, ◌-◌, ◌*◌, ◌<◌, ◌≤◌, max, sum, List, [], ◌∷◌, ◌++◌, inl, inr, refl, sym, ◌∙◌, subst, arith, mul-le-mul_right, cases_Bool, IsPoolSize, sets_in_room, start_size, Key}
+use Rattle.gpu_descriptor.proofs.Common.{◌≡◌, ℕ, ◌+◌, ◌-◌, ◌*◌, ◌<◌, ◌≤◌, max, sum, List, [], ◌∷◌, ◌++◌, inl, inr, refl, sym, ◌∙◌, subst, arith, mul-le-mul_right, cases_Bool, IsPoolSize, sets_in_room, start_size, Key, Fresh, IsNextSize, AreSized, room_after, pool_load}
 use Rattle.gpu_descriptor_types.proofs.Room.{few_in_room, fits_in_room, whole_in_room}
 use Rattle.gpu_descriptor_types.proofs.Sizes.{pool_size_small, pool_size_below}
-use Rattle.gpu_descriptor.specs.Model.FreshPools.{Fresh, IsNextSize, AreSized, room_after}
-use Rattle.gpu_descriptor.specs.Model.Load.{pool_load}
 
 -- ---- a key's next pool
 

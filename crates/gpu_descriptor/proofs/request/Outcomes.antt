@@ -1,24 +1,9 @@
 -- A request that took sets is as the definitions say: kept whole, or given back.
 use Rattle.gpu_descriptor.proofs.request.Requested.{load_is, pool_load_is, out_is}
-use Rattle.gpu_descriptor.proofs.Common.{fun_ext, ◌≡◌, ◌≢◌, ℕ, ◌+◌, ◌-◌, ◌<◌, true, false, Some, List, [], ◌∷◌, length, map, slice_get, arith, Result, Ok, Err, OnOk, refl, sym, ap, ◌∙◌, subst, length-map, side, Meaning, Ledger, no_rise, AllocationError, DescriptorSet, Stop, State, Item, Agree, AreOutstanding, Option, Pool, count_of, outstanding, with_bucket, Key, key_eq, Entry, Bucket, HasDistinctKeys, entry_at, Allocations}
-use Rattle.gpu_descriptor.specs.Model.Foreign.{KeepsForeign, LosesNone}
+use Rattle.gpu_descriptor.proofs.Common.{fun_ext, ◌≡◌, ◌≢◌, ℕ, ◌+◌, ◌-◌, ◌<◌, true, false, Some, List, [], ◌∷◌, length, map, slice_get, arith, Result, Ok, Err, OnOk, refl, sym, ap, ◌∙◌, subst, length-map, side, Meaning, Ledger, no_rise, AllocationError, DescriptorSet, Stop, State, Item, Agree, AreOutstanding, Option, Pool, count_of, outstanding, with_bucket, Key, key_eq, Entry, Bucket, HasDistinctKeys, entry_at, Allocations, KeepsForeign, LosesNone, fresh_entry, GivesBack, Grant, IsGrantOf, bucket_with, items_in, granted, ledger_with, IsTaken, IsRefused, marked_load, Allocates, Call, Proceeds, taken_by, risen, grant_rise, rollback_rise, StopsAt, stop_answer, stop_rise, IsUntouched, KeepsOtherKeys, AreOfKey, AreOutBesides, KeepsOutstanding, released, given_back, pools_gone, call_of, Takes, runs, item_of, items_of, Agrees, state_of, table_of, outstanding_of, marked_load_of, pool_load_of, HasTaken}
 use Rattle.gpu_descriptor.specs.Caller.Others.{others_of}
-use Rattle.gpu_descriptor.specs.Model.FreshPools.{fresh_entry}
-use Rattle.gpu_descriptor.specs.Caller.Frees.{GivesBack}
-use Rattle.gpu_descriptor.specs.Model.Grants.{Grant, IsGrantOf, bucket_with, items_in, granted, ledger_with}
-use Rattle.gpu_descriptor.specs.Inner.Grow.{IsTaken}
-use Rattle.gpu_descriptor.specs.Inner.Walk.{IsRefused}
-use Rattle.gpu_descriptor.specs.Model.Load.{marked_load}
-use Rattle.gpu_descriptor.specs.Model.Outcomes.{Allocates, Call, Proceeds, taken_by, risen, grant_rise, rollback_rise, StopsAt, stop_answer, stop_rise}
 use Rattle.gpu_descriptor.specs.Model.Outcomes.Allocates.{done, stopped}
-use Rattle.gpu_descriptor.specs.Model.Promises.{IsUntouched, KeepsOtherKeys, AreOfKey, AreOutBesides, KeepsOutstanding}
-use Rattle.gpu_descriptor.specs.Model.Release.{released, given_back, pools_gone}
-use Rattle.gpu_descriptor.specs.Caller.Call.{call_of}
-use Rattle.gpu_descriptor.specs.Inner.Serves.{Takes}
-use Rattle.gpu_descriptor.specs.Model.Runs.{runs}
-use Rattle.gpu_descriptor.specs.Caller.Sets.{item_of, items_of}
-use Rattle.gpu_descriptor.specs.Caller.States.{Agrees, state_of, table_of, keys_of, outstanding_of, marked_load_of, pool_load_of}
-use Rattle.gpu_descriptor.specs.Inner.Walk.{HasTaken}
+use Rattle.gpu_descriptor.specs.Caller.States.{keys_of}
 use Rattle.gpu_descriptor.proofs.request.TakenAgrees.{granted_agree, granted_foreign, granted_loses_none, granted_others, granted_outstanding, granted_own}
 use Rattle.gpu_descriptor.proofs.request.TakenPlaces.{AreMade, made_all, made_front}
 use Rattle.gpu_descriptor.specs.declared.bucket.take.Stop.TheVariants as stop

@@ -1,22 +1,16 @@
 -- What every outcome of a request promises.
-use Rattle.gpu_descriptor.proofs.Common.{◌≡◌, ◌≢◌, ℕ, suc, ◌+◌, ◌-◌, ◌*◌, ◌<◌, ◌≤◌, Bool, List, [], ◌∷◌, ◌++◌, map, length, drop, sum_by, inl, inr, Result, Ok, Err, refl, sym, ap, ◌∙◌, subst, arith, length-map, length-append, sum_by-cons, sum_by-append, pool_size_floor, ◌↔◌, min, OnOk, IfErr, Counters, create_refused, alloc_refused, pool_refusals, no_rise, CreatePoolError, DeviceAllocationError, AllocationError, Stop, Item, Key, Entry, Bucket, next_number, cases_lt, ◌⊎◌}
+use Rattle.gpu_descriptor.proofs.Common.{◌≡◌, ◌≢◌, ℕ, suc, ◌+◌, ◌-◌, ◌*◌, ◌<◌, ◌≤◌, Bool, List, [], ◌∷◌, ◌++◌, map, length, drop, sum_by, inl, inr, Result, Ok, Err, refl, sym, ap, ◌∙◌, subst, arith, length-map, length-append, sum_by-cons, sum_by-append, pool_size_floor, ◌↔◌, min, OnOk, IfErr, Counters, create_refused, alloc_refused, pool_refusals, no_rise, CreatePoolError, DeviceAllocationError, AllocationError, Stop, Item, Key, Entry, Bucket, next_number, cases_lt, ◌⊎◌, error_of_alloc, Allocates, Call, IsBack, IsDone, IsStopped, StopsAt, out_then, stop_answer, stop_rise, wanting, Fresh, IsFreshFront, IsNextSize, room_after, AreSized, AreFull, IsFreshList, given_by, fresh_portions, Grant, Part, portion_of, items_at, items_in, AreBelowTwice, HasCause, IsShort, CreatesOnlyWhereShort, pool_load, Portion, offer, rest, portions_of}
 use Rattle.gpu_descriptor_types.proofs.Sizes.{pool_size_some}
 use Rattle.gpu_descriptor_types.specs.declared.errors.CreatePoolError.TheVariants as create_error
 use Rattle.gpu_descriptor_types.specs.declared.errors.DeviceAllocationError.TheVariants as alloc_error
 use Rattle.gpu_descriptor.specs.declared.errors.AllocationError.TheVariants.{OutOfHostMemory, Fragmentation}
 use Rattle.gpu_descriptor.specs.declared.bucket.take.Stop.TheVariants.{Existing, Room, Books, Create, New}
-use Rattle.gpu_descriptor.specs.Model.Outcomes.{error_of_alloc, Allocates, Call, IsBack, IsDone, IsStopped, StopsAt, out_then, stop_answer, stop_rise, wanting}
-use Rattle.gpu_descriptor.specs.Model.FreshPools.{Fresh, IsFreshFront, IsNextSize, room_after, AreSized, AreFull, IsFreshList, given_by, fresh_portions}
-use Rattle.gpu_descriptor.specs.Model.Grants.{Grant, Part, portion_of, items_at, items_in}
 use Rattle.gpu_descriptor.specs.Model.Outcomes.Allocates.{none, limit, bound, start, done, stopped}
 use Rattle.gpu_descriptor.specs.Model.FreshPools.IsFreshList.{none as no_fresh, some as some_fresh}
-use Rattle.gpu_descriptor.specs.Model.Promises.{AreBelowTwice, HasCause, IsShort, CreatesOnlyWhereShort}
 use Rattle.gpu_descriptor.specs.Model.Promises.IsFragmentation.{above_limit, past_bound, no_room_left, no_pool_created, new_pool_refused}
 use Rattle.gpu_descriptor.specs.Model.Promises.IsHostMemory.{device_refused, no_memory_at_start, no_memory_for_a_pool}
-use Rattle.gpu_descriptor.specs.Model.Load.{pool_load}
 use Rattle.gpu_descriptor.proofs.request.NextSize.{next_whole, one_fits, last_fits}
 use Rattle.gpu_descriptor.proofs.request.NewPools.{AreFilled, shares_used, done_filled, front_below, list_below}
-use Rattle.gpu_descriptor.specs.Model.Shares.{Portion, offer, rest, portions_of}
 
 -- ---- how many sets
 

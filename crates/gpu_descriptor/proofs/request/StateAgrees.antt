@@ -1,6 +1,5 @@
 -- One key's part of the agreement of books and ledger.
-use Rattle.gpu_descriptor.proofs.Common.{◌≡◌, ℕ, ◌+◌, ◌-◌, Some, ap, ◌∙◌, arith, slice_get, Key, Entry, Bucket, entry_at, State, Agree}
-use Rattle.gpu_descriptor.specs.Inner.Buckets.{AreBookedIn}
+use Rattle.gpu_descriptor.proofs.Common.{◌≡◌, ℕ, ◌+◌, ◌-◌, Some, ap, ◌∙◌, arith, slice_get, Key, Entry, Bucket, entry_at, State, Agree, AreBookedIn}
 use Rattle.gpu_descriptor.proofs.release.Fronts.{entry_at-from}
 
 pub at_place : (b : Bucket) (i : ℕ) (e : Entry) → slice_get b.pools i ≡ Some e → entry_at b (b.first + i) ≡ Some e

@@ -1,20 +1,14 @@
 -- What a request takes keeps books and ledger in agreement, and exactly its sets are outstanding besides.
-use Rattle.gpu_descriptor.proofs.Common.{◌≡◌, ◌≢◌, ℕ, zero, suc, take, drop, ◌+◌, ◌-◌, ◌<◌, ◌≤◌, ◌⊎◌, inl, inr, List, [], ◌∷◌, ◌++◌, length, map, Bool, true, false, ◌==◌, Option, Some, None, refl, sym, ap, ◌∙◌, subst, arith, cases_Bool, cases_lt, eq-eqb, ne_eqb, eqb-true, or_parts, or_from, nil_from_length, length-append, length-map, All, All-append, All-nil, All-cons, sum_by-append, slice_get, slice_get_within, slice_get_past, list_any, option_map, option_map_or, if◌then◌else◌, flags_of, Key, key_eq, Entry, Bucket, Pool, State, Item, LiveSet, live_sets, times, Agree, IsAsBooked, AreOutstanding, entry_at, next_number, live_at, live_in, set_of, count_of, outstanding, pool_counts, item_eq, count_by-append, map-append, times-append, append_assoc, le-ltb, eqb-false, slice_get-map, slice_get-get_or, get_or_from_slice_get, get_or}
+use Rattle.gpu_descriptor.proofs.Common.{◌≡◌, ◌≢◌, ℕ, zero, suc, take, drop, ◌+◌, ◌-◌, ◌<◌, ◌≤◌, ◌⊎◌, inl, inr, List, [], ◌∷◌, ◌++◌, length, map, Bool, true, false, ◌==◌, Option, Some, None, refl, sym, ap, ◌∙◌, subst, arith, cases_Bool, cases_lt, eq-eqb, ne_eqb, eqb-true, or_parts, or_from, nil_from_length, length-append, length-map, All, All-append, All-nil, All-cons, sum_by-append, slice_get, slice_get_within, slice_get_past, list_any, option_map, option_map_or, if◌then◌else◌, flags_of, Key, key_eq, Entry, Bucket, Pool, State, Item, LiveSet, live_sets, times, Agree, IsAsBooked, AreOutstanding, entry_at, next_number, live_at, live_in, set_of, count_of, outstanding, pool_counts, item_eq, count_by-append, map-append, times-append, append_assoc, le-ltb, eqb-false, slice_get-map, slice_get-get_or, get_or_from_slice_get, get_or, IsBookedIn, Fresh, fresh_entry, fresh_portions, Grant, Part, IsGrantOf, items_in, portion_of, came, bucket_with, ledger_with, fresh_or, pool_with, items_at, granted, Portion, all_shared, portions_of, KeepsForeign, LosesNone, KeepsOtherKeys}
 use Rattle.std.proofs.lemmas.List.{get_or-append-add}
 use Rattle.gpu_descriptor.proofs.lists.AtPlaces.{cases_option, get_drop, none_from}
 use Rattle.gpu_descriptor_types.specs.Ledger as ledgers
-use Rattle.gpu_descriptor.specs.Inner.Buckets.{IsBookedIn}
-use Rattle.gpu_descriptor.specs.Model.FreshPools.{Fresh, fresh_entry, fresh_portions}
-use Rattle.gpu_descriptor.specs.Model.Grants.{Grant, Part, IsGrantOf, items_in, portion_of, came, bucket_with, ledger_with, fresh_or, pool_with, items_at, granted}
-use Rattle.gpu_descriptor.specs.Model.Shares.{Portion, all_shared, portions_of}
 use Rattle.gpu_descriptor.proofs.table.Exact.{key_exact}
 use Rattle.gpu_descriptor.proofs.release.Fronts.{entry_at-found, entry_at-from}
 use Rattle.gpu_descriptor.proofs.request.KeyAgrees.{Became, pool_booked, count_append, count_of_items, count_elsewhere, place_of_items}
 use Rattle.gpu_descriptor.proofs.request.Asks.{none_with}
 use Rattle.gpu_descriptor.proofs.request.Shares.{IsApart, apart_from, not_refused}
 use Rattle.gpu_descriptor.proofs.request.StateAgrees.{at_place, booked_of}
-use Rattle.gpu_descriptor.specs.Model.Foreign.{KeepsForeign, LosesNone}
-use Rattle.gpu_descriptor.specs.Model.Promises.{KeepsOtherKeys}
 use Rattle.gpu_descriptor.proofs.request.TakenPlaces.{AreMade, apart_drop, came_long, fresh_or_past, given_at, length_taken, new_apart, new_stands, no_fresh, no_share, not_new, taken_named, taken_stands}
 
 -- ---- the sets that came

@@ -1,13 +1,8 @@
 -- The running totals of a table, and what a run takes from them.
-use Rattle.gpu_descriptor.proofs.Common.{◌≡◌, ℕ, ◌+◌, ◌-◌, ◌≤◌, Bool, true, List, [], ◌∷◌, ◌++◌, length, map, sum_by, Option, Some, None, inl, inr, refl, sym, ap, ◌∙◌, arith, zero, suc, slice_get, lookup, set_value, cases_Bool, sum_by-cons, BucketKey, DescriptorSet, DescriptorBucket, Key, key_eq, sum_over, key_of, Allocations}
-use Rattle.std.proofs.lemmas.Grind.{common_steps}
+use Rattle.gpu_descriptor.proofs.Common.{◌≡◌, ℕ, ◌+◌, ◌-◌, ◌≤◌, Bool, true, List, [], ◌∷◌, ◌++◌, length, map, sum_by, Option, Some, None, inl, inr, refl, sym, ap, ◌∙◌, arith, zero, suc, slice_get, lookup, set_value, cases_Bool, sum_by-cons, BucketKey, DescriptorSet, DescriptorBucket, Key, key_eq, sum_over, key_of, Allocations, common_steps, bucket_load, descriptors_out, marked_load, sets_out, marked_descriptors, items_of, outstanding_of, marked_load_of, AllPass, kept_in, kept_of, row_of, stored_keys, stored_load, IsConsistent}
 use Rattle.indexmap.specs.Layout.{set_value_at}
-use Rattle.gpu_descriptor.specs.Model.Load.{bucket_load, descriptors_out, marked_load, sets_out}
-use Rattle.gpu_descriptor.specs.Caller.Frees.{marked_descriptors}
-use Rattle.gpu_descriptor.specs.Caller.Sets.{items_of}
-use Rattle.gpu_descriptor.specs.Caller.States.{outstanding_of, marked_load_of}
-use Rattle.gpu_descriptor.specs.Inner.RunSteps.{AllPass, lies_at}
-use Rattle.gpu_descriptor.specs.Inner.Stored.{kept_in, kept_of, row_of, stored_keys, stored_load, IsConsistent, IsCounted}
+use Rattle.gpu_descriptor.specs.Inner.RunSteps.{lies_at}
+use Rattle.gpu_descriptor.specs.Inner.Stored.{IsCounted}
 use Rattle.gpu_descriptor.proofs.table.Exact.{key_exact}
 use Rattle.gpu_descriptor.proofs.sums.TableSums.{sum_map}
 use Rattle.gpu_descriptor.proofs.release.WholeRun.{at_parts}

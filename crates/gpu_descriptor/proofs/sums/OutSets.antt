@@ -1,10 +1,5 @@
 -- As many sets are out as are outstanding.
-use Rattle.gpu_descriptor.proofs.Common.{◌≡◌, ℕ, suc, ◌+◌, ◌-◌, ◌<◌, ◌≤◌, ◌==◌, true, false, List, [], ◌∷◌, ◌++◌, length, map, sum_by, slice_get, Option, Some, None, inl, inr, refl, sym, ap, ◌∙◌, arith, length-append, option_map_or, if◌then◌else◌, cases_Bool, cases_eq, cases_lt, length-map, sum_by-append, sum_by-cons, Pool, live_sets, LiveSet, set_eq, times, count_by_yes, count_by_no, counts_alike, set_exact, State, Agree, Item, item_eq, set_of, count_of, live_at, outstanding, Key, key_eq, Entry, Bucket, no_pools, books_of, HasDistinctKeys, sum_over, AddsUp, ∥∥₁_elim, ∥∥₁_map, ∥∥₁_prop, props}
-use Rattle.std.proofs.lemmas.Grind.{common_steps}
-use Rattle.gpu_descriptor.specs.Model.Grants.{items_at}
-use Rattle.gpu_descriptor.specs.Caller.Frees.{marked_descriptors}
-use Rattle.gpu_descriptor.specs.Model.Load.{marked_load, descriptors_out, allocated_in, sets_out}
-use Rattle.gpu_descriptor.specs.Inner.Buckets.{IsBookedIn}
+use Rattle.gpu_descriptor.proofs.Common.{◌≡◌, ℕ, suc, ◌+◌, ◌-◌, ◌<◌, ◌≤◌, ◌==◌, true, false, List, [], ◌∷◌, ◌++◌, length, map, sum_by, slice_get, Option, Some, None, inl, inr, refl, sym, ap, ◌∙◌, arith, length-append, option_map_or, if◌then◌else◌, cases_Bool, cases_eq, cases_lt, length-map, sum_by-append, sum_by-cons, Pool, live_sets, LiveSet, set_eq, times, count_by_yes, count_by_no, counts_alike, set_exact, State, Agree, Item, item_eq, set_of, count_of, live_at, outstanding, Key, key_eq, Entry, Bucket, no_pools, books_of, HasDistinctKeys, sum_over, AddsUp, ∥∥₁_elim, ∥∥₁_map, ∥∥₁_prop, props, common_steps, items_at, marked_descriptors, marked_load, descriptors_out, allocated_in, sets_out, IsBookedIn}
 use Rattle.gpu_descriptor.proofs.table.Exact.{bucket, item_exact, key_exact}
 use Rattle.gpu_descriptor.proofs.callers.HeldSets.{count_of-append}
 use Rattle.gpu_descriptor.proofs.request.KeyAgrees.{place_of_items, count_append, count_of_items, count_elsewhere, live_of, live_below, live_from}

@@ -1,7 +1,6 @@
 -- The descriptors of a marked key's pool are those that the device created it with.
-use Rattle.gpu_descriptor.proofs.Common.{ℕ, ◌≡◌, ◌*◌, max, true, Some, length, refl, sym, ap, ◌∙◌, arith, sum, Pool, IsAsBooked, State, Agree, Key, Entry, entry_at}
+use Rattle.gpu_descriptor.proofs.Common.{ℕ, ◌≡◌, ◌*◌, max, true, Some, length, refl, sym, ap, ◌∙◌, arith, sum, Pool, IsAsBooked, State, Agree, Key, Entry, entry_at, pool_load}
 use Rattle.gpu_descriptor_types.proofs.PoolCounts.{pool_counts_sum}
-use Rattle.gpu_descriptor.specs.Model.Load.{pool_load}
 
 pub booked_load : (k : Key) (pool : Pool) (e : Entry) → length k.counts ≡ 14 → k.marked ≡ true → IsAsBooked k pool e → sum pool.counts ≡ pool_load k e.capacity
 booked_load k pool e long marked booked =

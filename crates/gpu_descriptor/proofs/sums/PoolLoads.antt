@@ -1,8 +1,5 @@
 -- The descriptors of a key's pools, as the code has them.
-use Rattle.gpu_descriptor.proofs.Common.{◌≡◌, ℕ, zero, suc, ◌+◌, ◌<◌, List, [], ◌∷◌, length, drop, get_or, ap, arith, set, sum_by-cons, DescriptorPool, Key}
-use Rattle.std.proofs.lemmas.Grind.{common_steps}
-use Rattle.gpu_descriptor.specs.Model.Load.{pool_load}
-use Rattle.gpu_descriptor.specs.Inner.Stored.{stored_load}
+use Rattle.gpu_descriptor.proofs.Common.{◌≡◌, ℕ, zero, suc, ◌+◌, ◌<◌, List, [], ◌∷◌, length, drop, get_or, ap, arith, set, sum_by-cons, DescriptorPool, Key, common_steps, pool_load, stored_load}
 
 module _ {P : Type 0} (k : Key) where
   cons : (p : DescriptorPool P) (ps : List (DescriptorPool P)) → stored_load k (p ∷ ps) ≡ pool_load k p.capacity + stored_load k ps

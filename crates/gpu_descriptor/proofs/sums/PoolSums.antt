@@ -1,9 +1,5 @@
 -- Over all pools of marked keys: the pool load is what the device created them with, and the marked load is no more.
-use Rattle.gpu_descriptor.proofs.Common.{◌≡◌, ℕ, suc, ◌<◌, ◌≤◌, true, false, List, [], ◌∷◌, length, slice_get, sum, sum_by, Option, Some, inl, inr, refl, ap, ◌∙◌, arith, ◌↔◌, option_map_or, cases_Bool, sum_by-cons, Pool, State, Agree, Key, Entry, Bucket, books_of, HasDistinctKeys, sum_over, AddsUp}
-use Rattle.std.proofs.lemmas.Grind.{common_steps}
-use Rattle.gpu_descriptor.specs.Inner.Buckets.{IsBookedIn}
-use Rattle.gpu_descriptor.specs.Model.Load.{allocated_in, marked_load, pool_load, pools_load, bucket_load, descriptors_out}
-use Rattle.gpu_descriptor.specs.Model.Load.{descriptors_created}
+use Rattle.gpu_descriptor.proofs.Common.{◌≡◌, ℕ, suc, ◌<◌, ◌≤◌, true, false, List, [], ◌∷◌, length, slice_get, sum, sum_by, Option, Some, inl, inr, refl, ap, ◌∙◌, arith, ◌↔◌, option_map_or, cases_Bool, sum_by-cons, Pool, State, Agree, Key, Entry, Bucket, books_of, HasDistinctKeys, sum_over, AddsUp, common_steps, IsBookedIn, allocated_in, marked_load, pool_load, pools_load, bucket_load, descriptors_out, descriptors_created}
 use Rattle.gpu_descriptor.proofs.request.StateAgrees.{booked_of}
 use Rattle.gpu_descriptor.proofs.sums.Loads.{marked_load-none, marked_load-add, marked_load-le}
 use Rattle.gpu_descriptor.proofs.sums.PoolCounts.{booked_load}

@@ -1,7 +1,5 @@
 -- The totals that callers see are sums over the table of the books, and naming the pools keeps what readers see.
-use Rattle.gpu_descriptor.proofs.Common.{◌≡◌, ℕ, ◌+◌, List, [], ◌∷◌, length, map, sum_by, inl, inr, refl, ap, ◌∙◌, sym, cases_Bool, length-map, sum_by-cons, slice_get-map, Key, key_eq, BucketOf, Bucket, AddsUp, HasDistinctKeys, books_of, sum_over, Allocations, arith}
-use Rattle.gpu_descriptor.specs.Model.Load.{marked_load, bucket_load, sets_out, descriptors_out}
-use Rattle.gpu_descriptor.specs.Caller.States.{named, named_bucket, named_row, table_of, outstanding_of, marked_load_of, pool_load_of}
+use Rattle.gpu_descriptor.proofs.Common.{◌≡◌, ℕ, ◌+◌, List, [], ◌∷◌, length, map, sum_by, inl, inr, refl, ap, ◌∙◌, sym, cases_Bool, length-map, sum_by-cons, slice_get-map, Key, key_eq, BucketOf, Bucket, AddsUp, HasDistinctKeys, books_of, sum_over, Allocations, arith, marked_load, bucket_load, sets_out, descriptors_out, named, named_bucket, named_row, table_of, outstanding_of, marked_load_of, pool_load_of}
 use Rattle.gpu_descriptor.specs.Caller.Views.{view_in}
 
 -- a sum over a list whose items are mapped

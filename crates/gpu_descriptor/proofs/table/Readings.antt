@@ -1,6 +1,5 @@
 -- What readers see of a key is what the map has at it.
-use Rattle.gpu_descriptor.proofs.Common.{◌≡◌, Bool, List, [], ◌∷◌, map, Option, inl, inr, refl, sym, ap, ◌∙◌, lookup, option_map_or, cases_Bool, BucketKey, DescriptorBucket, Key, key_eq, BucketOf, books_of, no_pools, key_of, Allocations}
-use Rattle.gpu_descriptor.specs.Inner.Stored.{kept_in, row_of}
+use Rattle.gpu_descriptor.proofs.Common.{◌≡◌, Bool, List, [], ◌∷◌, map, Option, inl, inr, refl, sym, ap, ◌∙◌, lookup, option_map_or, cases_Bool, BucketKey, DescriptorBucket, Key, key_eq, BucketOf, books_of, no_pools, key_of, Allocations, kept_in, row_of}
 use Rattle.gpu_descriptor.proofs.table.Tables.{key_eq_symm}
 
 module _ {P : Type 0} (test : BucketKey → Bool) (k : Key) (same : (l : BucketKey) → test l ≡ key_eq k (key_of l)) where

@@ -1,9 +1,7 @@
 -- The ids of a table's keys: they rise, so one place has each, and one key.
-use Rattle.gpu_descriptor.proofs.Common.{◌≡◌, ◌+◌, ◌<◌, ℕ, zero, suc, Bool, true, false, ◌++◌, ◌∷◌, [], List, length, filter, slice_get, Option, Some, None, inl, inr, refl, sym, ap, subst, ◌∙◌, arith, slice_index_or, nat_lt, list_all, IsNonDecreasingBy, IsPartitionPoint, IsPartitionedBy, lookup, values_of, cases_Bool, cases_lt, and_parts, and_from, lt-ltb, ltb-true, ltb-false, BucketKey, DescriptorBucket, Key, key_eq, key_of}
-use Rattle.std.proofs.lemmas.Grind.{common_steps}
+use Rattle.gpu_descriptor.proofs.Common.{◌≡◌, ◌+◌, ◌<◌, ℕ, zero, suc, Bool, true, false, ◌++◌, ◌∷◌, [], List, length, filter, slice_get, Option, Some, None, inl, inr, refl, sym, ap, subst, ◌∙◌, arith, slice_index_or, nat_lt, list_all, IsNonDecreasingBy, IsPartitionPoint, IsPartitionedBy, lookup, values_of, cases_Bool, cases_lt, and_parts, and_from, lt-ltb, ltb-true, ltb-false, BucketKey, DescriptorBucket, Key, key_eq, key_of, common_steps, rise_below, stored_ids}
 use Rattle.std.proofs.lemmas.List.Sorted.{IsPartitionedBy-ltb}
 use Rattle.indexmap.specs.Layout.{set_value_at}
-use Rattle.gpu_descriptor.specs.Inner.Ids.{rise_below, stored_ids}
 use Rattle.gpu_descriptor.proofs.table.Exact.{key_exact}
 
 pub inside : {A : Type 0} (x y : A) → Some x ≡ Some y → x ≡ y

@@ -1,9 +1,6 @@
 -- The row at a place of the table is the row of its key.
-use Rattle.gpu_descriptor.proofs.Common.{◌≡◌, ℕ, zero, suc, Bool, false, List, [], ◌∷◌, slice_get, Option, Some, None, refl, ap, ◌∙◌, IsDistinct, AllByRecursion, lookup, set_value, values_of, BucketKey, DescriptorBucket, Key, key_eq, key_of, arith}
-use Rattle.std.proofs.lemmas.Grind.{common_steps}
+use Rattle.gpu_descriptor.proofs.Common.{◌≡◌, ℕ, zero, suc, Bool, false, List, [], ◌∷◌, slice_get, Option, Some, None, refl, ap, ◌∙◌, IsDistinct, AllByRecursion, lookup, set_value, values_of, BucketKey, DescriptorBucket, Key, key_eq, key_of, arith, common_steps, is_of, stored_keys}
 use Rattle.indexmap.specs.Layout.{set_value_at}
-use Rattle.gpu_descriptor.specs.Inner.Ids.{is_of}
-use Rattle.gpu_descriptor.specs.Inner.Stored.{stored_keys}
 use Rattle.gpu_descriptor.proofs.table.Exact.{key_exact}
 use Rattle.gpu_descriptor.proofs.sums.Loads.{IsRow, IsWritten}
 

@@ -1,6 +1,5 @@
 -- Sums over a table depend on the books that it keeps, and not on its order.
-use Rattle.gpu_descriptor.proofs.Common.{◌≡◌, ℕ, ◌+◌, ◌≤◌, true, false, cond, List, [], ◌∷◌, inl, inr, refl, sym, ap, ◌∙◌, subst, arith, list_any, cases_Bool, sum_by-append, Key, key_eq, Bucket, no_pools, books_of, HasDistinctKeys, sum_over}
-use Rattle.std.proofs.lemmas.Grind.{common_steps}
+use Rattle.gpu_descriptor.proofs.Common.{◌≡◌, ℕ, ◌+◌, ◌≤◌, true, false, cond, List, [], ◌∷◌, inl, inr, refl, sym, ap, ◌∙◌, subst, arith, list_any, cases_Bool, sum_by-append, Key, key_eq, Bucket, no_pools, books_of, HasDistinctKeys, sum_over, common_steps}
 use Rattle.gpu_descriptor.proofs.table.Exact.{key_exact}
 
 sum_more : (f : Key → Bucket → ℕ) (row : Key × Bucket) (t : List (Key × Bucket)) → sum_over f (row ∷ t) ≡ f row.0 row.1 + sum_over f t

@@ -1,6 +1,5 @@
-use Rattle.gpu_descriptor.proofs.Common.{map, ap, books_of}
+use Rattle.gpu_descriptor.proofs.Common.{map, ap, books_of, named_row}
 use Rattle.gpu_descriptor.proofs.foreign.ForeignPools.{loses_through}
-use Rattle.gpu_descriptor.specs.Caller.States.{named_row}
 use Rattle.gpu_descriptor.proofs.foreign.OthersStay.{all_others}
 use Rattle.gpu_descriptor.proofs.foreign.NoneLost.{named_or_foreign, restores}
 use Rattle.gpu_descriptor.proofs.laws.no_pool_is_lost.Goals as goal

@@ -1,5 +1,4 @@
-use Rattle.gpu_descriptor.proofs.Common.{refl, sym}
-use Rattle.gpu_descriptor.specs.Caller.States.{table_of}
+use Rattle.gpu_descriptor.proofs.Common.{refl, sym, table_of}
 use Rattle.gpu_descriptor.proofs.sums.TableSums.{outstanding_of-table, marked_load_of-table, pool_load_of-table}
 use Rattle.gpu_descriptor.proofs.laws.rows_add_up.Goals as goal
 

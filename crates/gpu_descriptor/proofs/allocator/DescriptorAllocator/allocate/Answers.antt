@@ -1,10 +1,6 @@
 use Rattle.gpu_descriptor.proofs.sums.Loads.{opened}
-use Rattle.gpu_descriptor.proofs.Common.{◌≡◌, ◌<◌, refl, arith, ◌∙◌, subst, Err, side, Key, key_of}
-use Rattle.gpu_descriptor.specs.Model.Outcomes.{Allocates}
-use Rattle.gpu_descriptor.specs.Caller.Call.{call_of, layout_key}
-use Rattle.gpu_descriptor.specs.Caller.Keys.{StayOrGainLast}
+use Rattle.gpu_descriptor.proofs.Common.{◌≡◌, ◌<◌, refl, arith, ◌∙◌, subst, Err, side, Key, key_of, Allocates, call_of, layout_key, StayOrGainLast, Takes}
 use Rattle.gpu_descriptor.specs.Caller.States.{keys_of}
-use Rattle.gpu_descriptor.specs.Inner.Serves.{Takes}
 use Rattle.gpu_descriptor.proofs.request.Outcomes.{taken_agree, taken_given}
 use Rattle.gpu_descriptor.proofs.request.HandedOut.{hands_all, hands_back, hands_none, keeps_all, keeps_back}
 use Rattle.gpu_descriptor.proofs.callers.Unchanged.{keeps_still}

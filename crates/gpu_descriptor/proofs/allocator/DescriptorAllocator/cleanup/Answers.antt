@@ -1,12 +1,8 @@
-use Rattle.gpu_descriptor.proofs.Common.{◌≡◌, ◌≤◌, ◌+◌, ℕ, List, Some, suc, slice_get, option_map, rules, refl, sym, ap, subst, ◌∙◌, arith, length, map, length-map, take_all, Ledger, Bucket, HasDistinctKeys, key_of, Allocations}
+use Rattle.gpu_descriptor.proofs.Common.{◌≡◌, ◌≤◌, ◌+◌, ℕ, List, Some, suc, slice_get, option_map, rules, refl, sym, ap, subst, ◌∙◌, arith, length, map, length-map, take_all, Ledger, Bucket, HasDistinctKeys, key_of, Allocations, AreBookedIn, has_pools, rise_below, stored_ids, outstanding_of, marked_load_of, named_row, bucket_of, row_of}
 use Rattle.indexmap.proofs.CallerLemmas.{filter-RetainsPairs}
 use Rattle.indexmap.specs.Layout.{length-set_value_at}
 use Rattle.std.specs.Map.Iter.{deref_pair}
-use Rattle.gpu_descriptor.specs.Inner.Buckets.{AreBookedIn, has_pools}
-use Rattle.gpu_descriptor.specs.Inner.Ids.{rise_below, stored_ids}
 use Rattle.gpu_descriptor.proofs.table.Rising.{ids_put, rise_left}
-use Rattle.gpu_descriptor.specs.Caller.States.{outstanding_of, marked_load_of, named_row}
-use Rattle.gpu_descriptor.specs.Inner.Stored.{bucket_of, row_of}
 use Rattle.gpu_descriptor.proofs.cleanup.Cleaning.{clean_agrees, takes_none}
 use Rattle.gpu_descriptor.proofs.foreign.ForeignPools.{cleaned_foreign, cleaned_loses}
 use Rattle.gpu_descriptor.proofs.sums.Loads.{rows_pool_load, stored_load_in, sum_put, opened, closed}

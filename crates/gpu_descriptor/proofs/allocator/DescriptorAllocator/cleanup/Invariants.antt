@@ -1,5 +1,4 @@
-use Rattle.gpu_descriptor.proofs.Common.{◌≡◌, length, take}
-use Rattle.gpu_descriptor.specs.Inner.Stored.{IsConsistent}
+use Rattle.gpu_descriptor.proofs.Common.{◌≡◌, length, take, IsConsistent}
 use Rattle.gpu_descriptor.proofs.cleanup.RowsCleaned.{cleared, ledger_less}
 use Rattle.gpu_descriptor.proofs.table.TableBooks.{rows_in}
 use Rattle.gpu_descriptor.proofs.allocator.DescriptorAllocator.cleanup.Given as goal

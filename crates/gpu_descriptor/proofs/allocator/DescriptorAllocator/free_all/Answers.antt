@@ -1,9 +1,7 @@
-use Rattle.gpu_descriptor.proofs.Common.{◌≡◌, sym, ◌∙◌, subst, side}
+use Rattle.gpu_descriptor.proofs.Common.{◌≡◌, sym, ◌∙◌, subst, side, Returns, state_of}
 use Rattle.std.proofs.IntoIterSteps.{All-taken}
 use Rattle.std.specs.Vec.Iter.{into_iter_items}
 use Rattle.gpu_descriptor_types.proofs.Drained.{taken_front}
-use Rattle.gpu_descriptor.specs.Caller.Frees.{Returns}
-use Rattle.gpu_descriptor.specs.Caller.States.{state_of}
 use Rattle.gpu_descriptor.proofs.callers.HeldSets.{out_front}
 use Rattle.gpu_descriptor.proofs.allocator.DescriptorAllocator.free_all.Goals as goal
 

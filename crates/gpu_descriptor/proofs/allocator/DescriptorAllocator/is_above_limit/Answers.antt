@@ -1,6 +1,5 @@
 use Rattle.gpu_descriptor.proofs.sums.Loads.{opened}
-use Rattle.gpu_descriptor.proofs.Common.{◌≡◌, ◌*◌, ◌-◌, ap, ◌∙◌, arith, sum, kinds, Allocations}
-use Rattle.gpu_descriptor.specs.Caller.States.{marked_load_of}
+use Rattle.gpu_descriptor.proofs.Common.{◌≡◌, ◌*◌, ◌-◌, ap, ◌∙◌, arith, sum, kinds, Allocations, marked_load_of}
 use Rattle.gpu_descriptor.proofs.request.InTable.{above-limit}
 use Rattle.gpu_descriptor.proofs.allocator.DescriptorAllocator.is_above_limit.Goals as goal
 

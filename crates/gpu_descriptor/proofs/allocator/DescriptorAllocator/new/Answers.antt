@@ -1,7 +1,5 @@
 use Rattle.gpu_descriptor.proofs.sums.Loads.{closed}
-use Rattle.gpu_descriptor.proofs.Common.{sym, subst, ap}
-use Rattle.gpu_descriptor.specs.Inner.Ids.{rise_below, stored_ids}
-use Rattle.gpu_descriptor.specs.Inner.Stored.{IsConsistent}
+use Rattle.gpu_descriptor.proofs.Common.{sym, subst, ap, rise_below, stored_ids, IsConsistent}
 use Rattle.gpu_descriptor.proofs.request.Requested.{counted_none}
 use Rattle.gpu_descriptor.proofs.allocator.DescriptorAllocator.new.Goals as goal
 

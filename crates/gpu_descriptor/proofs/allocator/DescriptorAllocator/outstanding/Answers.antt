@@ -1,7 +1,5 @@
 use Rattle.gpu_descriptor.proofs.sums.Loads.{opened}
-use Rattle.gpu_descriptor.proofs.Common.{ℕ, sym, ap, ◌∙◌, HasDistinctKeys, Allocations}
-use Rattle.gpu_descriptor.specs.Caller.States.{outstanding_of, table_of}
-use Rattle.gpu_descriptor.specs.Model.Load.{sets_out}
+use Rattle.gpu_descriptor.proofs.Common.{ℕ, sym, ap, ◌∙◌, HasDistinctKeys, Allocations, outstanding_of, table_of, sets_out}
 use Rattle.gpu_descriptor.proofs.request.Requested.{rows_apart}
 use Rattle.gpu_descriptor.proofs.sums.TableSums.{adds_up, outstanding_of-table}
 use Rattle.gpu_descriptor.proofs.allocator.DescriptorAllocator.outstanding.Goals as goal

@@ -1,5 +1,4 @@
-use Rattle.gpu_descriptor.proofs.Common.{length, sym, ap, ◌∙◌, rules, length-map, Key, BucketOf, key_of, Allocations}
-use Rattle.gpu_descriptor.specs.Inner.Stored.{kept_of}
+use Rattle.gpu_descriptor.proofs.Common.{length, sym, ap, ◌∙◌, rules, length-map, Key, BucketOf, key_of, Allocations, kept_of}
 use Rattle.gpu_descriptor.proofs.table.Readings.{seen_at}
 use Rattle.gpu_descriptor.proofs.sums.TableSums.{pools_of-table}
 use Rattle.gpu_descriptor.proofs.allocator.DescriptorAllocator.pool_count.Goals as goal

@@ -1,12 +1,6 @@
-use Rattle.gpu_descriptor.proofs.Common.{◌≡◌, ◌+◌, ◌-◌, ℕ, arith, refl, sym, ap, ◌∙◌, List, [], ◌∷◌, Some, option_map, slice_get, subst, Bucket, Key, key_of, Allocations, DescriptorSet}
+use Rattle.gpu_descriptor.proofs.Common.{◌≡◌, ◌+◌, ◌-◌, ℕ, arith, refl, sym, ap, ◌∙◌, List, [], ◌∷◌, Some, option_map, slice_get, subst, Bucket, Key, key_of, Allocations, DescriptorSet, items_of, state_of, binary_digits, rise_below, stored_ids, stored_load, marked_load}
 use Rattle.indexmap.specs.Layout.{set_value_at}
 use Rattle.std.specs.Map.Iter.{deref_pair}
-use Rattle.gpu_descriptor.specs.Caller.Sets.{items_of}
-use Rattle.gpu_descriptor.specs.Caller.States.{state_of}
-use Rattle.gpu_descriptor.specs.Caller.Comparisons.{binary_digits}
-use Rattle.gpu_descriptor.specs.Inner.Ids.{rise_below, stored_ids}
-use Rattle.gpu_descriptor.specs.Inner.Stored.{stored_load}
-use Rattle.gpu_descriptor.specs.Model.Load.{marked_load}
 use Rattle.gpu_descriptor.proofs.callers.HeldSets.{out_back, out_less}
 use Rattle.gpu_descriptor.proofs.release.LentRow.{row_open, row_stored, row_taken, row_ran, row_counted}
 use Rattle.gpu_descriptor.proofs.sums.Loads.{IsRow, IsWritten, Taken, taken, load_fits, counted_after, out_after, load_after, run_load, pools_present, pools_set, opened, closed}

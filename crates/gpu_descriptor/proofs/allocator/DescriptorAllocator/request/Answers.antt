@@ -1,9 +1,5 @@
 use Rattle.gpu_descriptor.proofs.sums.Loads.{opened, closed}
-use Rattle.gpu_descriptor.proofs.Common.{greatest_u64, ◌+◌, ◌≤◌, arith, refl, ap, subst, sym, ◌∙◌, ltb-false, Ledger, Bucket, key_of}
-use Rattle.gpu_descriptor.specs.Model.Load.{marked_load}
-use Rattle.gpu_descriptor.specs.Caller.States.{state_of}
-use Rattle.gpu_descriptor.specs.Inner.Stored.{IsConsistent}
-use Rattle.gpu_descriptor.specs.Inner.Buckets.{AreBookedIn}
+use Rattle.gpu_descriptor.proofs.Common.{greatest_u64, ◌+◌, ◌≤◌, arith, refl, ap, subst, sym, ◌∙◌, ltb-false, Ledger, Bucket, key_of, marked_load, state_of, IsConsistent, AreBookedIn}
 use Rattle.gpu_descriptor.proofs.request.StateAgrees.{booked_of}
 use Rattle.gpu_descriptor.proofs.cleanup.KeyOrder.{keys_seen}
 use Rattle.gpu_descriptor.proofs.request.Requested.{keeps_limit, seen, seen_again, table_is, books_at, declined_by_limit, declined_by_bound, declined_unserved, given_fits, counted_now, takes_of}

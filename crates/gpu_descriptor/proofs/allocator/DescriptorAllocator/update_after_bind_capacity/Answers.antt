@@ -1,7 +1,5 @@
 use Rattle.gpu_descriptor.proofs.sums.Loads.{opened}
-use Rattle.gpu_descriptor.proofs.Common.{◌≡◌, ◌-◌, sym, ap, arith, Allocations}
-use Rattle.gpu_descriptor.specs.Caller.States.{pool_load_of}
-use Rattle.gpu_descriptor.specs.Model.Load.{bucket_load}
+use Rattle.gpu_descriptor.proofs.Common.{◌≡◌, ◌-◌, sym, ap, arith, Allocations, pool_load_of, bucket_load}
 use Rattle.gpu_descriptor.proofs.request.Requested.{rows_apart, pool_load_of_rows}
 use Rattle.gpu_descriptor.proofs.sums.TableSums.{adds_up, pool_load_of-table}
 use Rattle.gpu_descriptor.proofs.allocator.DescriptorAllocator.update_after_bind_capacity.Goals as goal

@@ -1,7 +1,5 @@
 use Rattle.gpu_descriptor.proofs.sums.Loads.{opened}
-use Rattle.gpu_descriptor.proofs.Common.{◌≤◌, sym, ap, subst, ◌∙◌, Allocations}
-use Rattle.gpu_descriptor.specs.Caller.States.{marked_load_of}
-use Rattle.gpu_descriptor.specs.Model.Load.{descriptors_out}
+use Rattle.gpu_descriptor.proofs.Common.{◌≤◌, sym, ap, subst, ◌∙◌, Allocations, marked_load_of, descriptors_out}
 use Rattle.gpu_descriptor.proofs.request.Requested.{rows_apart}
 use Rattle.gpu_descriptor.proofs.sums.TableSums.{adds_up, marked_load_of-table}
 use Rattle.gpu_descriptor.proofs.allocator.DescriptorAllocator.update_after_bind_descriptors.Goals as goal

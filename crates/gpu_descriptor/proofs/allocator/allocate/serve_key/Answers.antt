@@ -1,14 +1,10 @@
-use Rattle.gpu_descriptor.proofs.Common.{ℕ, List, lookup, BucketKey, DescriptorBucket, map-append, greatest_u64, ◌≡◌, ◌+◌, ◌≤◌, ◌++◌, ◌∷◌, [], Bool, Result, Ok, Err, None, inl, refl, sym, ap, ◌∙◌, subst, arith, rules, map, IsDistinct, OnOk, Bucket, key_eq, no_pools, next_number, key_of}
-use Rattle.gpu_descriptor.specs.Inner.Ids.{is_of, rise_below, stored_ids}
+use Rattle.gpu_descriptor.proofs.Common.{ℕ, List, lookup, BucketKey, DescriptorBucket, map-append, greatest_u64, ◌≡◌, ◌+◌, ◌≤◌, ◌++◌, ◌∷◌, [], Bool, Result, Ok, Err, None, inl, refl, sym, ap, ◌∙◌, subst, arith, rules, map, IsDistinct, OnOk, Bucket, key_eq, no_pools, next_number, key_of, is_of, rise_below, stored_ids, AreBookedIn, books_in, entry_of, stored_keys, stored_load, row_of, IsUnserved}
 use Rattle.gpu_descriptor.proofs.table.Rising.{ids_put, one_more}
 use Rattle.gpu_descriptor.proofs.table.RowAt.{IsAt, is_at, keys_at, lookup_same, row_at, written_at}
 use Rattle.indexmap.specs.Layout.{set_value_at}
 use Rattle.std.proofs.lemmas.Result.{IfErr-weaker, IfOk-weaker, on_err_weaker}
 use Rattle.indexmap.specs.IndexMap.{IndexMap, insert_entry}
 use Rattle.indexmap.proofs.CallerLemmas.{insert_entry-new}
-use Rattle.gpu_descriptor.specs.Inner.Buckets.{AreBookedIn}
-use Rattle.gpu_descriptor.specs.Inner.Stored.{books_in, entry_of, stored_keys, stored_load, row_of}
-use Rattle.gpu_descriptor.specs.Inner.Serves.{IsUnserved}
 use Rattle.gpu_descriptor.proofs.cleanup.KeyOrder.{keys_put, keys_written}
 use Rattle.gpu_descriptor.proofs.sums.Loads.{IsRow, IsWritten, total_present, pools_set, pools_end}
 use Rattle.gpu_descriptor.proofs.request.InTable.{present, missing, serves_present, serves_new, written-same}

@@ -1,6 +1,4 @@
-use Rattle.gpu_descriptor.proofs.Common.{◌≡◌, ◌+◌, length, Key, key_of}
-use Rattle.gpu_descriptor.specs.Inner.Buckets.{AreBookedIn, trimmed_bucket, trimmed_ledger}
-use Rattle.gpu_descriptor.specs.Inner.Stored.{bucket_of, stored_load}
+use Rattle.gpu_descriptor.proofs.Common.{◌≡◌, ◌+◌, length, Key, key_of, AreBookedIn, trimmed_bucket, trimmed_ledger, bucket_of, stored_load}
 use Rattle.gpu_descriptor.proofs.bucket.DescriptorBucket.drop_front.Given as goal
 
 -- what is left to drop is what there was to drop

@@ -1,8 +1,5 @@
-use Rattle.gpu_descriptor.proofs.Common.{◌≡◌, ℕ, ◌+◌, ◌-◌, ◌≤◌, ◌++◌, List, [], ◌∷◌, length, map, min, refl, sym, ap, ◌∙◌, subst, arith, length-map, map-append, Some, Ledger, after_alloc, after_create, after_destroy, live_sets, HasNoSets, fresh, pool_counts, DescriptorPool, Entry, Key, flags_of, key_of}
-use Rattle.gpu_descriptor.specs.Inner.SetAt.{set_at}
-use Rattle.gpu_descriptor.specs.Model.Load.{pool_load}
+use Rattle.gpu_descriptor.proofs.Common.{◌≡◌, ℕ, ◌+◌, ◌-◌, ◌≤◌, ◌++◌, List, [], ◌∷◌, length, map, min, refl, sym, ap, ◌∙◌, subst, arith, length-map, map-append, Some, Ledger, after_alloc, after_create, after_destroy, live_sets, HasNoSets, fresh, pool_counts, DescriptorPool, Entry, Key, flags_of, key_of, set_at, pool_load, entry_of}
 use Rattle.gpu_descriptor.specs.declared.bucket.take.Stop.TheVariants as stop
-use Rattle.gpu_descriptor.specs.Inner.Stored.{entry_of}
 use Rattle.gpu_descriptor.proofs.request.NextSize.{one_fits}
 use Rattle.gpu_descriptor.proofs.request.Asks.{same_entry}
 use Rattle.gpu_descriptor.proofs.request.PoolCreated.{created_at, fresh_room, no_sets, grown, not_grown, not_created, none_asked, had_room, create_asked, alloc_asked}

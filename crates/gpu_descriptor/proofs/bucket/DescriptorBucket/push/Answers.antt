@@ -1,5 +1,4 @@
-use Rattle.gpu_descriptor.proofs.Common.{◌≡◌, ◌++◌, ◌∷◌, [], ℕ, List, length, length-append, sum_by, arith, ap, sym, ◌∙◌, inl, inr, lt-ltb, le-ltb, cases_lt, sum_by-append, DescriptorPool}
-use Rattle.gpu_descriptor.specs.Inner.OpenNumbers.{free_in, open_numbers}
+use Rattle.gpu_descriptor.proofs.Common.{◌≡◌, ◌++◌, ◌∷◌, [], ℕ, List, length, length-append, sum_by, arith, ap, sym, ◌∙◌, inl, inr, lt-ltb, le-ltb, cases_lt, sum_by-append, DescriptorPool, free_in, open_numbers}
 use Rattle.gpu_descriptor.proofs.lists.OpenList.{few_listed, listed_push_open, listed_push_closed}
 use Rattle.gpu_descriptor.proofs.bucket.DescriptorBucket.push.Goals as goal
 

@@ -1,13 +1,7 @@
-use Rattle.gpu_descriptor.proofs.Common.{key_of, ◌≡◌, ℕ, List, set, ◌+◌, ◌<◌, ◌≤◌, ◌-◌, rules, arith, sym, refl, ◌∙◌, ap, subst, length, map, slice_get, [], ◌∷◌, Some, length-set, eqb-true, length-map, slice_get_read, DescriptorPool, Ledger, after_release, LiveSet, DescriptorSet, live_in, Entry, IsNonDecreasing}
-use Rattle.gpu_descriptor.specs.Inner.Buckets.{AreBookedIn, trimmed_bucket, trimmed_ledger}
-use Rattle.gpu_descriptor.specs.Inner.Releases.{IsTakenAt, names_of}
-use Rattle.gpu_descriptor.specs.Inner.OpenNumbers.{free_in}
+use Rattle.gpu_descriptor.proofs.Common.{key_of, ◌≡◌, ℕ, List, set, ◌+◌, ◌<◌, ◌≤◌, ◌-◌, rules, arith, sym, refl, ◌∙◌, ap, subst, length, map, slice_get, [], ◌∷◌, Some, length-set, eqb-true, length-map, slice_get_read, DescriptorPool, Ledger, after_release, LiveSet, DescriptorSet, live_in, Entry, IsNonDecreasing, AreBookedIn, trimmed_bucket, trimmed_ledger, IsTakenAt, names_of, free_in, entry_less, bucket_of, entry_of, binary_digits}
 use Rattle.gpu_descriptor.proofs.sums.PoolLoads.{stored_put}
 use Rattle.gpu_descriptor.proofs.lists.OpenNumbers.{open_rises}
 use Rattle.gpu_descriptor.proofs.lists.OpenList.{listed_again, fewer_listed}
-use Rattle.gpu_descriptor.specs.Model.Release.{entry_less}
-use Rattle.gpu_descriptor.specs.Inner.Stored.{bucket_of, entry_of}
-use Rattle.gpu_descriptor.specs.Caller.Comparisons.{binary_digits}
 use Rattle.gpu_descriptor.proofs.release.Comparisons.{listed_count}
 use Rattle.gpu_descriptor.proofs.release.BucketRun.{AreTaken, are_taken, is_within, read_first, changed_at, stored_after, total_less, place_room}
 use Rattle.gpu_descriptor.proofs.foreign.LedgerPools.{taken_from, release_pools}

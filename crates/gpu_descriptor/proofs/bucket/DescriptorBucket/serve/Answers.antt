@@ -1,6 +1,4 @@
-use Rattle.gpu_descriptor.proofs.Common.{greatest_u64, ◌≡◌, ◌≤◌, ◌+◌, List, length, arith, sym, ◌∙◌, subst, ltb-false, length-map, Ledger, DescriptorSet, Key, key_of}
-use Rattle.gpu_descriptor.specs.Inner.Stored.{bucket_of, entry_of}
-use Rattle.gpu_descriptor.specs.Inner.Serves.{IsServed}
+use Rattle.gpu_descriptor.proofs.Common.{greatest_u64, ◌≡◌, ◌≤◌, ◌+◌, List, length, arith, sym, ◌∙◌, subst, ltb-false, length-map, Ledger, DescriptorSet, Key, key_of, bucket_of, entry_of, IsServed}
 use Rattle.gpu_descriptor.proofs.bucket.DescriptorBucket.serve.Goals as goal
 
 pub returns-clause-served : goal.returns-clause-served

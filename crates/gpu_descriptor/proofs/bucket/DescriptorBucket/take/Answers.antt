@@ -1,13 +1,5 @@
-use Rattle.gpu_descriptor.proofs.Common.{◌≡◌, ℕ, ◌+◌, ◌-◌, ◌<◌, ◌≤◌, ◌++◌, List, length, map, sym, ap, ◌∙◌, subst, arith, length-append, [], ◌∷◌, Ok, Err, length-map, map-append, Ledger, DeviceAllocationError, DescriptorPool, DescriptorSet, Item, Bucket, Entry, Key, key_of}
-use Rattle.gpu_descriptor.specs.Inner.SetAt.{set_at}
+use Rattle.gpu_descriptor.proofs.Common.{◌≡◌, ℕ, ◌+◌, ◌-◌, ◌<◌, ◌≤◌, ◌++◌, List, length, map, sym, ap, ◌∙◌, subst, arith, length-append, [], ◌∷◌, Ok, Err, length-map, map-append, Ledger, DeviceAllocationError, DescriptorPool, DescriptorSet, Item, Bucket, Entry, Key, key_of, set_at, fresh_entry, items_at, pools_load, items_of, IsTaken, bucket_of, entry_of, stored_load, IsWalked}
 use Rattle.gpu_descriptor.specs.declared.bucket.take.Stop.TheVariants.{Existing}
-use Rattle.gpu_descriptor.specs.Model.FreshPools.{fresh_entry}
-use Rattle.gpu_descriptor.specs.Model.Grants.{items_at}
-use Rattle.gpu_descriptor.specs.Model.Load.{pools_load}
-use Rattle.gpu_descriptor.specs.Caller.Sets.{items_of}
-use Rattle.gpu_descriptor.specs.Inner.Grow.{IsTaken}
-use Rattle.gpu_descriptor.specs.Inner.Stored.{bucket_of, entry_of, stored_load}
-use Rattle.gpu_descriptor.specs.Inner.Walk.{IsWalked}
 use Rattle.gpu_descriptor.proofs.table.Exact.{bucket}
 use Rattle.gpu_descriptor.proofs.request.Growing.{Growing, grow_start, grow_more, grow_end, grow_stop, taken_long, load_more, load_walked}
 use Rattle.gpu_descriptor.proofs.sums.StoredPools.{allocated_entries, load_entries}

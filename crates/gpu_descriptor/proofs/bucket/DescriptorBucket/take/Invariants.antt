@@ -1,8 +1,5 @@
 -- So many sets are still wanting, and the new pools gave what the others lacked.
-use Rattle.gpu_descriptor.proofs.Common.{◌≡◌, ◌+◌, ◌≤◌, length, map, key_of}
-use Rattle.gpu_descriptor.specs.Caller.Sets.{items_of}
-use Rattle.gpu_descriptor.specs.Inner.OpenPools.{CountsLooks}
-use Rattle.gpu_descriptor.specs.Inner.Stored.{stored_load, entry_of}
+use Rattle.gpu_descriptor.proofs.Common.{◌≡◌, ◌+◌, ◌≤◌, length, map, key_of, items_of, CountsLooks, stored_load, entry_of}
 use Rattle.gpu_descriptor.proofs.request.Growing.{Growing}
 use Rattle.gpu_descriptor.proofs.bucket.DescriptorBucket.take.Given as goal
 

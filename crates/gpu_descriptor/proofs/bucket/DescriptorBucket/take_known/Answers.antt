@@ -1,15 +1,7 @@
-use Rattle.gpu_descriptor.proofs.Common.{◌≡◌, ℕ, Global, ◌+◌, [], ◌++◌, arith, length, sum_by, List, Result, Ok, Err, sym, ap, ◌∙◌, subst, map, IfOk, IfErr, length-map, Ledger, DeviceAllocationError, DescriptorSet, DescriptorPool, Bucket, Key, key_of}
+use Rattle.gpu_descriptor.proofs.Common.{◌≡◌, ℕ, Global, ◌+◌, [], ◌++◌, arith, length, sum_by, List, Result, Ok, Err, sym, ap, ◌∙◌, subst, map, IfOk, IfErr, length-map, Ledger, DeviceAllocationError, DescriptorSet, DescriptorPool, Bucket, Key, key_of, allocated_in, items_of, item_of, AreBookedIn, IsTaken, free_in, open_numbers, bucket_in, bucket_of, entry_of, IsWalked}
 use Rattle.std.specs.declared.collections.VecDeque.{VecDeque}
 use Rattle.std.proofs.lemmas.Result.{IfErr-weaker, IfOk-weaker}
 use Rattle.gpu_descriptor.specs.declared.bucket.take.Stop.TheVariants.{Existing}
-use Rattle.gpu_descriptor.specs.Model.Load.{allocated_in}
-use Rattle.gpu_descriptor.specs.Caller.Sets.{items_of, item_of}
-use Rattle.gpu_descriptor.specs.Inner.Buckets.{AreBookedIn}
-use Rattle.gpu_descriptor.specs.Inner.Grow.{IsTaken}
-use Rattle.gpu_descriptor.specs.Inner.OpenNumbers.{free_in, open_numbers}
-use Rattle.gpu_descriptor.specs.Inner.OpenPools.{bucket_in}
-use Rattle.gpu_descriptor.specs.Inner.Stored.{bucket_of, entry_of}
-use Rattle.gpu_descriptor.specs.Inner.Walk.{IsWalked}
 use Rattle.gpu_descriptor.proofs.request.Growing.{allocated_walked}
 use Rattle.gpu_descriptor.proofs.table.Exact.{bucket}
 use Rattle.gpu_descriptor.proofs.sums.StoredPools.{allocated_entries}

@@ -1,7 +1,4 @@
-use Rattle.gpu_descriptor.proofs.Common.{◌≡◌, ℕ, ◌+◌, ◌-◌, ◌<◌, ◌≤◌, List, [], length, map, refl, sym, ap, ◌∙◌, subst, arith, min, length-map, append-nil, if◌then◌else◌, Ledger, after_alloc, live_sets, pool_refusals, Entry, Key, key_of}
-use Rattle.gpu_descriptor.specs.Inner.Stored.{entry_of}
-use Rattle.gpu_descriptor.specs.Inner.Buckets.{IsBookedIn}
-use Rattle.gpu_descriptor.specs.Inner.Walk.{IsAsked}
+use Rattle.gpu_descriptor.proofs.Common.{◌≡◌, ℕ, ◌+◌, ◌-◌, ◌<◌, ◌≤◌, List, [], length, map, refl, sym, ap, ◌∙◌, subst, arith, min, length-map, append-nil, if◌then◌else◌, Ledger, after_alloc, live_sets, pool_refusals, Entry, Key, key_of, entry_of, IsBookedIn, IsAsked}
 use Rattle.gpu_descriptor.proofs.request.PlacesFree.{has_room}
 use Rattle.gpu_descriptor.proofs.request.Asks.{same_entry, skipped, given, refuses}
 use Rattle.gpu_descriptor.proofs.bucket.take.ask.Goals as goal

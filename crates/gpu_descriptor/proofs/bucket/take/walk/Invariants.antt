@@ -1,8 +1,5 @@
 -- What came stands behind what was there, and each pool that was asked was looked at once.
-use Rattle.gpu_descriptor.proofs.Common.{◌≡◌, ◌+◌, ◌++◌, List, length, map, deque_capacity, DescriptorSet, key_of}
-use Rattle.gpu_descriptor.specs.Inner.Stored.{entry_of}
-use Rattle.gpu_descriptor.specs.Inner.OpenPools.{CountsLooks, KeepsView}
-use Rattle.gpu_descriptor.specs.Caller.Sets.{items_of}
+use Rattle.gpu_descriptor.proofs.Common.{◌≡◌, ◌+◌, ◌++◌, List, length, map, deque_capacity, DescriptorSet, key_of, entry_of, CountsLooks, KeepsView, items_of}
 use Rattle.gpu_descriptor.proofs.request.OpenWalk.{OpenWalk}
 use Rattle.gpu_descriptor.proofs.bucket.take.walk.Given as goal
 

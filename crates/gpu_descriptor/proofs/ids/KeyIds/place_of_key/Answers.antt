@@ -1,8 +1,6 @@
-use Rattle.gpu_descriptor.proofs.Common.{◌≡◌, ◌<◌, ℕ, zero, suc, Bool, true, List, [], ◌∷◌, Some, None, length, get_or, slice_get, rules, sym, ap, ◌∙◌, arith, position, keys_of, lookup, BucketKey, DescriptorBucket, Key, key_eq, key_of}
+use Rattle.gpu_descriptor.proofs.Common.{◌≡◌, ◌<◌, ℕ, zero, suc, Bool, true, List, [], ◌∷◌, Some, None, length, get_or, slice_get, rules, sym, ap, ◌∙◌, arith, position, keys_of, lookup, BucketKey, DescriptorBucket, Key, key_eq, key_of, is_of, stored_keys}
 use Rattle.indexmap.proofs.MapLemmas.{Missing-position}
-use Rattle.gpu_descriptor.specs.Inner.Ids.{is_of}
 use Rattle.std.proofs.lemmas.List.Quantifiers.{position-Some}
-use Rattle.gpu_descriptor.specs.Inner.Stored.{stored_keys}
 use Rattle.gpu_descriptor.proofs.table.Exact.{key_exact}
 use Rattle.gpu_descriptor.proofs.table.RowAt.{lookup_same}
 use Rattle.gpu_descriptor.proofs.ids.KeyIds.place_of_key.Goals as goal

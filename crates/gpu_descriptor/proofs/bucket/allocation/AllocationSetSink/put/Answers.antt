@@ -1,5 +1,4 @@
-use Rattle.gpu_descriptor.proofs.Common.{◌∙◌, ap, [], ◌∷◌, ◌++◌, Key}
-use Rattle.gpu_descriptor.specs.Inner.SetAt.{set_at}
+use Rattle.gpu_descriptor.proofs.Common.{◌∙◌, ap, [], ◌∷◌, ◌++◌, Key, set_at}
 use Rattle.gpu_descriptor.proofs.bucket.allocation.AllocationSetSink.put.Goals as goal
 
 pub returns-clause-kept : goal.returns-clause-kept

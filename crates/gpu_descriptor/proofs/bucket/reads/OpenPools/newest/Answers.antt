@@ -1,8 +1,6 @@
-use Rattle.gpu_descriptor.proofs.Common.{◌≡◌, ◌+◌, ◌-◌, ◌<◌, ◌++◌, ◌∷◌, [], inl, refl, ℕ, length, take, slice_get, arith, ap, sym, ◌∙◌, length-map, slice_get_read, slice_get_within}
+use Rattle.gpu_descriptor.proofs.Common.{◌≡◌, ◌+◌, ◌-◌, ◌<◌, ◌++◌, ◌∷◌, [], inl, refl, ℕ, length, take, slice_get, arith, ap, sym, ◌∙◌, length-map, slice_get_read, slice_get_within, free_in, looked_at}
 use Rattle.gpu_descriptor_types.specs.declared.counter.Tally.{Tally}
 use Rattle.gpu_descriptor.specs.declared.bucket.reads.OpenPools.{OpenPools}
-use Rattle.gpu_descriptor.specs.Inner.OpenNumbers.{free_in}
-use Rattle.gpu_descriptor.specs.Inner.OpenPools.{looked_at}
 use Rattle.gpu_descriptor.proofs.lists.OpenNumbers.{IsNewestOpen, newest_open}
 use Rattle.gpu_descriptor.proofs.bucket.reads.OpenPools.newest.Goals.{In-Some}
 use Rattle.gpu_descriptor.proofs.bucket.reads.OpenPools.newest.Goals as goal

@@ -1,5 +1,4 @@
-use Rattle.gpu_descriptor.proofs.Common.{true, rules, ◌≡◌, ◌+◌, ◌<◌, arith, sym, ◌∙◌, refl, IsFinite, size, option_len}
-use Rattle.gpu_descriptor.specs.Inner.RunSteps.{CountsFrom}
+use Rattle.gpu_descriptor.proofs.Common.{true, rules, ◌≡◌, ◌+◌, ◌<◌, arith, sym, ◌∙◌, refl, IsFinite, size, option_len, CountsFrom}
 use Rattle.gpu_descriptor.proofs.release.OneLook.{Looked, looked, count_as, Came, at_start, hands_it, hands_none}
 use Rattle.gpu_descriptor.proofs.bucket.run.RunIterator.next.Goals.{in-Some, in-None+in_ok-set-in-None, After-is_at}
 use Rattle.gpu_descriptor.proofs.bucket.run.RunIterator.next.Goals as goal
