@@ -53,7 +53,7 @@ pub use Rattle.gpu_descriptor.specs.Inner.OpenNumbers.{IsEntered, free_in, open_
 pub use Rattle.gpu_descriptor.specs.Inner.OpenPools.{CountsLooks, KeepsView, bucket_in, looked_at}
 pub use Rattle.gpu_descriptor.specs.Inner.Releases.{FreesRun, IsTakenAt, RunsInto, bucket_back, names_of}
 pub use Rattle.gpu_descriptor.specs.Inner.RunSteps.{AllPass, CountsFrom, EndsRun, Hands, Looks, RunStep}
-pub use Rattle.gpu_descriptor.specs.Inner.Serves.{IsServed, IsUnserved, KeepsLimit, ServesKey, Takes}
+pub use Rattle.gpu_descriptor.specs.Inner.Serves.{IsServed, IsUnserved, IsSound, ServesKey, Takes}
 pub use Rattle.gpu_descriptor.specs.Inner.SetAt.{set_at}
 pub use Rattle.gpu_descriptor.specs.Inner.Stored.{IsConsistent, books_in, bucket_of, entry_of, kept_in, kept_of, row_of, stored_keys, stored_load}
 pub use Rattle.gpu_descriptor.specs.Inner.Walk.{HasTaken, IsAsked, IsNoMemory, IsRefused, IsWalked}

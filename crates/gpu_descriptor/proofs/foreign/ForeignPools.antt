@@ -1,6 +1,5 @@
 -- What requests, frees and cleaning up leave of pools that aren't the allocator's.
-use Rattle.gpu_descriptor.proofs.Common.{◌≡◌, ◌≢◌, ℕ, zero, suc, ◌+◌, ◌-◌, ◌<◌, ◌==◌, ◌&&◌, Bool, true, false, List, [], ◌∷◌, ◌++◌, take, drop, count_by, Option, Some, None, option_map, slice_get, inl, inr, refl, sym, ap, ◌∙◌, subst, arith, ne_eqb, fun_ext, cases_Bool, cases_lt, or_from, or_right, false_from_ne_true, slice_get_within, list_any, if◌then◌else◌, side, Meaning, Pool, Ledger, LiveSet, set_eq, State, Item, set_of, with_bucket, Key, key_eq, Entry, Bucket, entry_at, DescriptorSet, Allocations, IsForeign, KeepsForeign, LosesNone, IsCleaned, given_back, released, bucket_less, entry_less, empty_front, spent_front, in_front, without_front, lies_in, pool_less, GivesBack, items_of, state_of}
-use Rattle.gpu_descriptor.proofs.table.Exact.{key_exact}
+use Rattle.gpu_descriptor.proofs.Common.{◌≡◌, ℕ, zero, suc, ◌+◌, ◌-◌, ◌<◌, ◌==◌, ◌&&◌, Bool, true, false, List, [], ◌∷◌, take, count_by, Option, Some, None, option_map, slice_get, inl, inr, refl, sym, ap, ◌∙◌, subst, arith, fun_ext, cases_Bool, cases_lt, or_from, or_right, false_from_ne_true, slice_get_within, list_any, if◌then◌else◌, side, Meaning, Pool, Ledger, LiveSet, set_eq, State, Item, set_of, Key, Entry, Bucket, entry_at, DescriptorSet, Allocations, IsForeign, KeepsForeign, LosesNone, IsCleaned, given_back, released, bucket_less, entry_less, empty_front, spent_front, in_front, without_front, lies_in, pool_less, GivesBack, items_of, state_of}
 use Rattle.gpu_descriptor.proofs.release.Fronts.{entry_at-found, entry_at-from}
 use Rattle.gpu_descriptor.proofs.release.ReleaseAgrees.{front_found, none_back}
 use Rattle.gpu_descriptor.proofs.cleanup.Cleaning.{cleaned_cases, was_kept}

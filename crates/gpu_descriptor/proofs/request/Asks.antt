@@ -1,6 +1,5 @@
 -- What asking one pool does, from what the device did.
-use Rattle.gpu_descriptor.proofs.Common.{◌≡◌, ℕ, zero, suc, ◌+◌, ◌-◌, ◌<◌, min, List, [], length, Bool, true, false, cond, ◌&&◌, Option, Some, None, nat_eq, nat_lt, refl, sym, ap, ◌∙◌, arith, lt-ltb, eqb-true, fun_ext, and_from, Key, Entry, Pool, Ledger, Counters, live_sets, changed, on_pool, option_map, after_alloc, after_no_alloc, alloc_refused, pool_refusals, no_rise, LiveSet, DeviceAllocationError, pool_with, risen, IsAsked, IsNoMemory}
-use Rattle.gpu_descriptor_types.specs.declared.errors.DeviceAllocationError.TheVariants as alloc_error
+use Rattle.gpu_descriptor.proofs.Common.{◌≡◌, ℕ, ◌+◌, ◌-◌, ◌<◌, min, List, [], length, Bool, true, false, cond, ◌&&◌, Option, Some, None, nat_eq, nat_lt, refl, sym, ap, ◌∙◌, arith, lt-ltb, eqb-true, fun_ext, and_from, Key, Entry, Pool, Ledger, Counters, live_sets, changed, on_pool, option_map, after_alloc, after_no_alloc, alloc_refused, pool_refusals, no_rise, LiveSet, DeviceAllocationError, pool_with, risen, IsAsked, IsNoMemory}
 
 pub same_entry : (a b : Entry) → a.pool ≡ b.pool → a.capacity ≡ b.capacity → a.allocated ≡ b.allocated → a.free ≡ b.free → a ≡ b
 same_entry a b pool capacity allocated free = λ i. record { pool = pool i; capacity = capacity i; allocated = allocated i; free = free i }

@@ -1,5 +1,5 @@
 -- The new pools of a request, as far as it has come.
-use Rattle.gpu_descriptor.proofs.Common.{◌≡◌, ◌≢◌, ℕ, zero, suc, take, drop, ◌+◌, ◌-◌, ◌<◌, inl, inr, List, [], ◌∷◌, ◌++◌, length, map, Bool, true, false, cond, ◌||◌, ◌==◌, nat_eq, Option, Some, None, Ok, Err, refl, sym, ap, ◌∙◌, subst, arith, eqb-true, eq-eqb, append_assoc, length-append, fun_ext, ne_eqb, nil_from_length, eqb-false, map-append, append-nil, length-map, sum_by-cons, sum_by-append, list_any, update, if◌then◌else◌, option_map, Item, flags_of, Key, Entry, Bucket, next_number, Pool, Ledger, live_sets, on_pool, no_rise, cases_Bool, or_from, or_parts, pool_counts, Stop, list_any-append, Fresh, fresh_portions, fresh_entry, given_by, IsNextSize, room_after, AreSized, AreFull, AreNew, IsFreshFront, IsFreshList, Grant, Part, items_at, items_in, portion_of, came, pool_with, ledger_with, fresh_or, IsGrown, IsTaken, IsRefused, allocated_in, pool_load, pools_load, risen, grant_rise, NoneIsNew, StopsAt, offer, rest, share, shared, all_shared, Portion, portions_of, AreBookedIn, HasTaken, IsWalked}
+use Rattle.gpu_descriptor.proofs.Common.{◌≡◌, ℕ, zero, suc, take, drop, ◌+◌, ◌-◌, ◌<◌, inl, inr, List, [], ◌∷◌, ◌++◌, length, map, Bool, true, false, cond, ◌==◌, nat_eq, Option, Some, None, Ok, Err, refl, sym, ap, ◌∙◌, subst, arith, eqb-true, eq-eqb, append_assoc, length-append, fun_ext, ne_eqb, nil_from_length, eqb-false, map-append, append-nil, length-map, sum_by-cons, sum_by-append, list_any, update, if◌then◌else◌, option_map, Item, flags_of, Key, Entry, Bucket, Pool, Ledger, live_sets, on_pool, no_rise, cases_Bool, or_from, or_parts, pool_counts, Stop, list_any-append, Fresh, fresh_portions, fresh_entry, given_by, IsNextSize, room_after, AreSized, AreFull, AreNew, IsFreshFront, IsFreshList, Grant, Part, items_at, portion_of, came, pool_with, ledger_with, fresh_or, IsGrown, IsTaken, IsRefused, allocated_in, pool_load, pools_load, risen, grant_rise, NoneIsNew, StopsAt, offer, rest, shared, all_shared, Portion, portions_of, AreBookedIn, HasTaken, IsWalked}
 use Rattle.gpu_descriptor.specs.declared.bucket.take.Stop.TheVariants as stop
 use Rattle.gpu_descriptor_types.specs.Ledger as ledgers
 use Rattle.gpu_descriptor.specs.Model.FreshPools as grants

@@ -1,6 +1,5 @@
 -- What a request takes of a key's pools leaves books and ledger of the key in agreement.
-use Rattle.gpu_descriptor.proofs.Common.{◌≡◌, ◌≢◌, ℕ, zero, suc, ◌+◌, ◌-◌, ◌<◌, ◌≤◌, min, ◌==◌, ◌&&◌, ◌||◌, inl, inr, List, [], ◌∷◌, ◌++◌, length, slice_set, Bool, true, false, Option, Some, refl, sym, ap, ◌∙◌, arith, eqb-true, eq-eqb, length-append, cases_Bool, cases_lt, length-map, sum_by-cons, slice_get, list_any, if◌then◌else◌, Pool, Ledger, live_sets, changed, on_pool, LiveSet, set_eq, times, bool_iff, subst, count_by_yes, count_by_no, set_exact, times-append, Key, key_eq, Entry, Item, item_eq, set_of, count_of, IsAsBooked, ∥∥₁_map, live_in, live_at, option_map_or, lt-ltb, le-ltb, count_by-append, update_here, items_at, pool_with, allocated_in, IsBookedIn, IsAsked}
-use Rattle.gpu_descriptor.proofs.lists.AtPlaces.{none_at}
+use Rattle.gpu_descriptor.proofs.Common.{◌≡◌, ◌≢◌, ℕ, suc, ◌+◌, ◌-◌, ◌<◌, ◌≤◌, inl, inr, List, [], ◌∷◌, ◌++◌, length, Bool, true, false, Option, refl, sym, ap, ◌∙◌, arith, length-append, cases_Bool, cases_lt, length-map, slice_get, if◌then◌else◌, Pool, live_sets, LiveSet, set_eq, times, bool_iff, subst, count_by_yes, count_by_no, set_exact, times-append, Key, Entry, Item, item_eq, set_of, count_of, IsAsBooked, ∥∥₁_map, live_in, live_at, option_map_or, lt-ltb, le-ltb, count_by-append, items_at, pool_with}
 use Rattle.gpu_descriptor.proofs.table.Exact.{bucket, item_exact, item_from}
 
 -- a set that stands among sets of these counts has them

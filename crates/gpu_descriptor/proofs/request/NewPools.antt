@@ -1,5 +1,5 @@
 -- The new pools of a request: their sizes, their numbers, and what the pools before them have left.
-use Rattle.gpu_descriptor.proofs.Common.{◌≡◌, ℕ, ◌+◌, ◌-◌, ◌<◌, Bool, List, [], ◌∷◌, ◌++◌, map, length, take, drop, Result, Ok, Err, refl, sym, ap, ◌∙◌, subst, arith, append_assoc, length-append, All, if◌then◌else◌, OnOk, map-append, take_at, All-nil, All-cons, All-append, All-same, sum_by-cons, AllocationError, State, Item, Key, Entry, Bucket, Fresh, AreSized, AreFull, IsFreshList, given_by, fresh_entry, Grant, granted, pool_load, Call, IsDone, out_then, wanting, AreBelowTwice, offer, rest, shared, all_shared}
+use Rattle.gpu_descriptor.proofs.Common.{◌≡◌, ℕ, ◌+◌, ◌-◌, ◌<◌, Bool, List, [], ◌∷◌, ◌++◌, map, length, take, refl, sym, ap, ◌∙◌, arith, append_assoc, length-append, All, map-append, take_at, All-nil, All-cons, All-append, All-same, sum_by-cons, State, Key, Entry, Fresh, AreSized, AreFull, IsFreshList, given_by, fresh_entry, Grant, granted, pool_load, Call, IsDone, out_then, wanting, AreBelowTwice, offer, rest, shared, all_shared}
 use Rattle.gpu_descriptor.specs.Model.FreshPools.IsFreshList.{none as no_fresh, some as some_fresh}
 use Rattle.gpu_descriptor.proofs.table.Exact.{key_exact}
 use Rattle.gpu_descriptor.proofs.request.NextSize.{next_below}

@@ -1,5 +1,5 @@
 -- The walk over the open pools: the pools between them have nothing to give.
-use Rattle.gpu_descriptor.proofs.Common.{◌≡◌, ℕ, suc, ◌+◌, ◌-◌, ◌<◌, ◌≤◌, List, [], ◌∷◌, ◌++◌, length, get_or, min, slice_set, nat_lt, true, Bool, ◌&&◌, if◌then◌else◌, Option, Some, None, Err, refl, sym, ap, ◌∙◌, subst, arith, inl, inr, map, length-map, map-set, length-set, slice_get-map, slice_get_read, slice_get_within, slice_get-get_or, lt-ltb, cases_lt, slice_get, option_map, Ledger, Counters, DescriptorPool, Item, Key, Entry, DeviceAllocationError, AreBookedIn, IsBookedIn, free_in, open_numbers, entry_of, IsAsked, IsNoMemory, IsTaken, items_at}
+use Rattle.gpu_descriptor.proofs.Common.{◌≡◌, ℕ, suc, ◌+◌, ◌-◌, ◌<◌, ◌≤◌, List, [], ◌∷◌, ◌++◌, length, min, slice_set, if◌then◌else◌, Some, Err, refl, sym, ap, ◌∙◌, arith, inl, inr, map, length-map, map-set, length-set, slice_get-map, slice_get_within, lt-ltb, cases_lt, slice_get, option_map, Ledger, Counters, DescriptorPool, Item, Key, Entry, DeviceAllocationError, AreBookedIn, IsBookedIn, free_in, open_numbers, entry_of, IsAsked, IsNoMemory, IsTaken, items_at}
 use Rattle.gpu_descriptor.specs.declared.bucket.take.Stop.TheVariants.{Existing}
 use Rattle.gpu_descriptor.proofs.table.Exact.{bucket}
 use Rattle.gpu_descriptor.proofs.lists.OpenList.{listed_closes, listed_stays}

@@ -1,5 +1,5 @@
 -- Known free places are room on the device.
-use Rattle.gpu_descriptor.proofs.Common.{◌≡◌, ℕ, zero, suc, ◌+◌, ◌*◌, ◌<◌, ◌≤◌, inl, inr, List, [], ◌∷◌, length, map, Bool, true, false, slice_set, slice_index, refl, sym, ap, subst, arith, eqb-true, mul-le-mul_right, cases_Bool, sum_by-cons, IfSome, IsTrue, sum, sum_by, ◌==◌, if◌then◌else◌, flags_of, Key, Entry, count_by_yes, count_by_no, set_exact, IsUpdateAfterBind, Pool, Ledger, HasRoom, IsFiniteLedger, LiveSet, Spells, set_eq, times, pool_counts, IsBookedIn}
+use Rattle.gpu_descriptor.proofs.Common.{◌≡◌, ℕ, zero, suc, ◌+◌, ◌*◌, ◌<◌, ◌≤◌, inl, inr, List, [], ◌∷◌, length, map, Bool, true, false, slice_index, refl, sym, ap, subst, arith, eqb-true, mul-le-mul_right, cases_Bool, sum_by-cons, IfSome, IsTrue, sum, sum_by, ◌==◌, flags_of, Key, Entry, count_by_yes, set_exact, IsUpdateAfterBind, Pool, Ledger, HasRoom, IsFiniteLedger, LiveSet, Spells, set_eq, times, pool_counts, IsBookedIn}
 use Rattle.gpu_descriptor.proofs.lists.AtPlaces.{count_by_more}
 use Rattle.gpu_descriptor.proofs.sums.Sized.{listed}
 

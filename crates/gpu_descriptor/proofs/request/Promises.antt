@@ -1,9 +1,8 @@
 -- What every outcome of a request promises.
-use Rattle.gpu_descriptor.proofs.Common.{◌≡◌, ◌≢◌, ℕ, suc, ◌+◌, ◌-◌, ◌*◌, ◌<◌, ◌≤◌, Bool, List, [], ◌∷◌, ◌++◌, map, length, drop, sum_by, inl, inr, Result, Ok, Err, refl, sym, ap, ◌∙◌, subst, arith, length-map, length-append, sum_by-cons, sum_by-append, pool_size_floor, ◌↔◌, min, OnOk, IfErr, Counters, create_refused, alloc_refused, pool_refusals, no_rise, CreatePoolError, DeviceAllocationError, AllocationError, Stop, Item, Key, Entry, Bucket, next_number, cases_lt, ◌⊎◌, error_of_alloc, Allocates, Call, IsBack, IsDone, IsStopped, StopsAt, out_then, stop_answer, stop_rise, wanting, Fresh, IsFreshFront, IsNextSize, room_after, AreSized, AreFull, IsFreshList, given_by, fresh_portions, Grant, Part, portion_of, items_at, items_in, AreBelowTwice, HasCause, IsShort, CreatesOnlyWhereShort, pool_load, Portion, offer, rest, portions_of}
+use Rattle.gpu_descriptor.proofs.Common.{◌≡◌, ◌≢◌, ℕ, suc, ◌+◌, ◌-◌, ◌*◌, ◌<◌, ◌≤◌, Bool, List, [], ◌∷◌, map, length, sum_by, inl, inr, Result, Err, refl, sym, ap, ◌∙◌, subst, arith, length-map, length-append, sum_by-cons, sum_by-append, pool_size_floor, ◌↔◌, min, OnOk, IfErr, Counters, create_refused, alloc_refused, pool_refusals, no_rise, CreatePoolError, DeviceAllocationError, AllocationError, Stop, Item, Key, Entry, cases_lt, ◌⊎◌, error_of_alloc, Allocates, Call, IsBack, IsDone, IsStopped, StopsAt, out_then, stop_answer, stop_rise, wanting, Fresh, IsFreshFront, IsNextSize, room_after, AreSized, AreFull, IsFreshList, given_by, Grant, Part, portion_of, items_at, items_in, AreBelowTwice, HasCause, IsShort, CreatesOnlyWhereShort, pool_load, Portion, offer, rest, portions_of}
 use Rattle.gpu_descriptor_types.proofs.Sizes.{pool_size_some}
 use Rattle.gpu_descriptor_types.specs.declared.errors.CreatePoolError.TheVariants as create_error
 use Rattle.gpu_descriptor_types.specs.declared.errors.DeviceAllocationError.TheVariants as alloc_error
-use Rattle.gpu_descriptor.specs.declared.errors.AllocationError.TheVariants.{OutOfHostMemory, Fragmentation}
 use Rattle.gpu_descriptor.specs.declared.bucket.take.Stop.TheVariants.{Existing, Room, Books, Create, New}
 use Rattle.gpu_descriptor.specs.Model.Outcomes.Allocates.{none, limit, bound, start, done, stopped}
 use Rattle.gpu_descriptor.specs.Model.FreshPools.IsFreshList.{none as no_fresh, some as some_fresh}

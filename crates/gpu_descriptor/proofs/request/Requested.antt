@@ -1,7 +1,7 @@
 -- What a request leaves of an allocator: why it is declined before the walk, and what it took.
 use Rattle.gpu_descriptor.proofs.sums.TableSums.{adds_up, outstanding_of-table, marked_load_of-table, pool_load_of-table}
 use Rattle.gpu_descriptor.specs.Model.Books.{AddsUp}
-use Rattle.gpu_descriptor.proofs.Common.{side, Meaning, greatest_u64, [], ◌≡◌, ℕ, ◌+◌, ◌-◌, ◌*◌, ◌<◌, ◌≤◌, ◌&&◌, Bool, true, false, List, map, length, sum, Result, Err, inl, inr, refl, sym, ap, subst, ◌∙◌, arith, mul-le-mul_right, cases_Bool, and_parts, ltb-true, ltb-false, IsDistinct, nat_lt, ◌⊎◌, kinds, Ledger, AllocationError, BucketKey, DescriptorSet, DescriptorBucket, Stop, Key, key_eq, Bucket, BucketOf, HasDistinctKeys, books_of, next_number, sum_over, key_of, Allocations, bucket_load, descriptors_out, marked_load, sets_out, Allocates, Stays, IsWithinLimit, call_of, IsUnserved, KeepsLimit, ServesKey, Takes, named_row, state_of, table_of, outstanding_of, marked_load_of, pool_load_of, IsConsistent, row_of, stored_keys, books_in}
+use Rattle.gpu_descriptor.proofs.Common.{side, Meaning, greatest_u64, [], ◌≡◌, ℕ, ◌+◌, ◌-◌, ◌*◌, ◌<◌, ◌≤◌, ◌&&◌, Bool, true, false, List, map, length, sum, Result, Err, inl, inr, refl, sym, ap, subst, ◌∙◌, arith, mul-le-mul_right, cases_Bool, and_parts, ltb-true, ltb-false, IsDistinct, nat_lt, ◌⊎◌, kinds, Ledger, AllocationError, BucketKey, DescriptorSet, DescriptorBucket, Stop, Key, key_eq, Bucket, BucketOf, HasDistinctKeys, books_of, next_number, sum_over, key_of, Allocations, bucket_load, descriptors_out, marked_load, sets_out, Allocates, IsWithinLimit, call_of, IsUnserved, IsSound, ServesKey, Takes, named_row, state_of, table_of, outstanding_of, marked_load_of, pool_load_of, IsConsistent, row_of, stored_keys, books_in}
 use Rattle.gpu_descriptor.specs.declared.errors.AllocationError.TheVariants.{Fragmentation}
 use Rattle.gpu_descriptor.specs.Model.Outcomes.Allocates.{limit, bound, start}
 use Rattle.gpu_descriptor.proofs.table.TableBooks.{rows_are, distinct_rows}
@@ -50,7 +50,7 @@ module _ {P : Type 0} {a : Allocations P} {most looks compared : ℕ} (es : List
 
 -- the rows of an allocator and its limit
 module _ {P : Type 0} {a : Allocations P} {most looks compared marked room out : ℕ} {es : List (BucketKey × DescriptorBucket P)} (is : seen most looks compared es ≡ a) (counted : IsConsistent most marked room out es) where
-  pub keeps_limit : (name : P → ℕ) → KeepsLimit name a
+  pub keeps_limit : (name : P → ℕ) → IsSound name a
   keeps_limit name = record { rows = rows_apart es is name counted; load = load_within es is counted; pool_load = pool_load_within es is counted }
 
 -- what callers see adds up over the books

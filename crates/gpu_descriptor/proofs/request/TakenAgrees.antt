@@ -1,5 +1,5 @@
 -- What a request takes keeps books and ledger in agreement, and exactly its sets are outstanding besides.
-use Rattle.gpu_descriptor.proofs.Common.{◌≡◌, ◌≢◌, ℕ, zero, suc, take, drop, ◌+◌, ◌-◌, ◌<◌, ◌≤◌, ◌⊎◌, inl, inr, List, [], ◌∷◌, ◌++◌, length, map, Bool, true, false, ◌==◌, Option, Some, None, refl, sym, ap, ◌∙◌, subst, arith, cases_Bool, cases_lt, eq-eqb, ne_eqb, eqb-true, or_parts, or_from, nil_from_length, length-append, length-map, All, All-append, All-nil, All-cons, sum_by-append, slice_get, slice_get_within, slice_get_past, list_any, option_map, option_map_or, if◌then◌else◌, flags_of, Key, key_eq, Entry, Bucket, Pool, State, Item, LiveSet, live_sets, times, Agree, IsAsBooked, AreOutstanding, entry_at, next_number, live_at, live_in, set_of, count_of, outstanding, pool_counts, item_eq, count_by-append, map-append, times-append, append_assoc, le-ltb, eqb-false, slice_get-map, slice_get-get_or, get_or_from_slice_get, get_or, IsBookedIn, Fresh, fresh_entry, fresh_portions, Grant, Part, IsGrantOf, items_in, portion_of, came, bucket_with, ledger_with, fresh_or, pool_with, items_at, granted, Portion, all_shared, portions_of, KeepsForeign, LosesNone, KeepsOtherKeys}
+use Rattle.gpu_descriptor.proofs.Common.{◌≡◌, ◌≢◌, ℕ, suc, take, drop, ◌+◌, ◌-◌, ◌<◌, ◌⊎◌, inl, inr, List, [], ◌∷◌, ◌++◌, length, map, Bool, true, false, ◌==◌, Option, Some, None, refl, sym, ap, ◌∙◌, subst, arith, cases_Bool, cases_lt, ne_eqb, eqb-true, nil_from_length, length-append, sum_by-append, slice_get, slice_get_within, slice_get_past, list_any, option_map, option_map_or, if◌then◌else◌, flags_of, Key, key_eq, Entry, Bucket, Pool, State, Item, LiveSet, live_sets, times, Agree, IsAsBooked, entry_at, next_number, live_at, live_in, set_of, count_of, outstanding, pool_counts, map-append, times-append, le-ltb, eqb-false, slice_get-map, slice_get-get_or, get_or_from_slice_get, get_or, IsBookedIn, Fresh, fresh_entry, fresh_portions, Grant, Part, IsGrantOf, items_in, portion_of, came, bucket_with, ledger_with, fresh_or, pool_with, items_at, granted, Portion, all_shared, portions_of, KeepsForeign, LosesNone, KeepsOtherKeys}
 use Rattle.std.proofs.lemmas.List.{get_or-append-add}
 use Rattle.gpu_descriptor.proofs.lists.AtPlaces.{cases_option, get_drop, none_from}
 use Rattle.gpu_descriptor_types.specs.Ledger as ledgers

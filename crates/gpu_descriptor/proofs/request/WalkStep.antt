@@ -1,7 +1,7 @@
 -- One step of the walk over a key's pools.
-use Rattle.gpu_descriptor.proofs.Common.{◌≡◌, ◌≢◌, ℕ, suc, ◌+◌, ◌-◌, inl, inr, List, [], ◌∷◌, ◌++◌, length, map, take, drop, slice_set, Bool, true, false, cond, ◌&&◌, ◌==◌, nat_eq, nat_lt, Option, Some, None, refl, sym, ap, ◌∙◌, subst, arith, eqb-true, eq-eqb, append_assoc, or_cases, and_parts, and_from, or_left, or_right, eqb-false, fun_ext, map-append, append-nil, sum_by-cons, if◌then◌else◌, option_map, times-append, Key, Entry, Bucket, Item, Pool, Ledger, Counters, live_sets, changed, on_pool, no_rise, LiveSet, times, flat_map-append, Grant, Part, fresh_or, items_at, items_in, portion_of, came, pool_with, ledger_with, Fresh, risen, grant_rise, offer, rest, is_asked, share, shared, all_shared, asked_count, refused_count, OnlyAskedRefuse, portions_of, IsAsked, HasTaken}
+use Rattle.gpu_descriptor.proofs.Common.{◌≡◌, ℕ, suc, ◌+◌, ◌-◌, inl, inr, List, [], ◌∷◌, ◌++◌, length, map, take, drop, slice_set, Bool, true, false, cond, ◌&&◌, ◌==◌, nat_eq, nat_lt, Option, Some, None, refl, sym, ap, ◌∙◌, subst, arith, eqb-true, eq-eqb, append_assoc, or_cases, and_parts, and_from, or_left, or_right, eqb-false, fun_ext, map-append, append-nil, sum_by-cons, if◌then◌else◌, option_map, times-append, Key, Entry, Bucket, Item, Pool, Ledger, Counters, live_sets, changed, on_pool, no_rise, LiveSet, times, flat_map-append, Grant, Part, fresh_or, items_at, items_in, portion_of, came, pool_with, ledger_with, Fresh, risen, grant_rise, offer, rest, is_asked, share, shared, all_shared, asked_count, refused_count, OnlyAskedRefuse, portions_of, IsAsked, HasTaken}
 use Rattle.std.proofs.Math.Seq.{set-append_seam}
-use Rattle.gpu_descriptor.proofs.request.Asks.{same_counters, same_entry}
+use Rattle.gpu_descriptor.proofs.request.Asks.{same_counters}
 use Rattle.gpu_descriptor.proofs.table.Exact.{bucket}
 use Rattle.gpu_descriptor.proofs.request.Shares.{IsApart, or_at, or_at_apart, or_at_here, AreSame, all_same}
 

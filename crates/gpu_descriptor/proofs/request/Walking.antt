@@ -1,5 +1,5 @@
 -- The walk over a key's pools, as far as it has come.
-use Rattle.gpu_descriptor.proofs.Common.{◌≡◌, ◌≢◌, ℕ, zero, suc, ◌+◌, ◌<◌, ◌≤◌, List, [], ◌∷◌, ◌++◌, length, map, min, take, drop, slice_set, Bool, false, nat_lt, ◌&&◌, Option, Some, None, Err, refl, sym, ap, ◌∙◌, subst, arith, append-nil, drop_all, fun_ext, slice_get, option_map, Key, Entry, Bucket, Item, Pool, Ledger, live_sets, changed, DeviceAllocationError, slice_get_within, set_at, update_apart, items_of, Part, items_at, items_in, pool_with, ledger_with, rest, all_shared, portions_of, asked_count, refused_count, IsBookedIn, AreBookedIn, IsAsked, IsNoMemory, HasTaken, IsWalked, IsTaken}
+use Rattle.gpu_descriptor.proofs.Common.{◌≡◌, ◌≢◌, ℕ, zero, suc, ◌+◌, ◌<◌, ◌≤◌, List, [], ◌∷◌, ◌++◌, length, map, min, take, drop, slice_set, Bool, false, nat_lt, ◌&&◌, Option, Some, Err, refl, sym, ap, ◌∙◌, subst, arith, append-nil, drop_all, fun_ext, slice_get, Key, Entry, Bucket, Item, Pool, Ledger, live_sets, changed, DeviceAllocationError, set_at, update_apart, items_of, Part, items_at, pool_with, ledger_with, rest, all_shared, IsBookedIn, AreBookedIn, IsAsked, IsNoMemory, HasTaken, IsWalked, IsTaken}
 use Rattle.gpu_descriptor.specs.declared.bucket.take.Stop.TheVariants.{Existing}
 use Rattle.std.proofs.Math.Seq.{take-length}
 use Rattle.gpu_descriptor.proofs.table.Exact.{bucket}

@@ -17,7 +17,7 @@ use Rattle.gpu_descriptor.specs.Inner.Stored.{books_in}
 use Rattle.gpu_descriptor.specs.Inner.Grow.{IsTaken}
 
 -- no key of an allocator has two rows, and both loads keep its limit
-pub record KeepsLimit {P : Type 0} (name : P → ℕ) (a : Allocations P) : Type 0 where
+pub record IsSound {P : Type 0} (name : P → ℕ) (a : Allocations P) : Type 0 where
   pub rows : HasDistinctKeys (table_of name a)
   pub load : marked_load_of a ≤ a.limit
   pub pool_load : pool_load_of a ≤ a.limit

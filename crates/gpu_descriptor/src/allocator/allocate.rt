@@ -19,7 +19,7 @@ ghost use Rattle.gpu_descriptor.specs.Caller.Call.{call_of, layout_key};
 ghost use Rattle.gpu_descriptor.specs.Inner.Buckets.{AreBookedIn};
 ghost use Rattle.gpu_descriptor.specs.Inner.OpenPools.{CountsLooks};
 ghost use Rattle.gpu_descriptor.specs.Inner.Stored.{books_in, row_of, stored_keys};
-ghost use Rattle.gpu_descriptor.specs.Inner.Serves.{IsUnserved, KeepsLimit, ServesKey, Takes};
+ghost use Rattle.gpu_descriptor.specs.Inner.Serves.{IsUnserved, IsSound, ServesKey, Takes};
 
 use super::DescriptorAllocator;
 use crate::bucket::take::{Served, SetRequest, Stop};
@@ -115,7 +115,7 @@ impl<P: Drop, S: Drop> DescriptorAllocator<P, S> {
             (keys_of self.new)) }
         ensures allocator { OnErr result (self.new ≡ self.old) }
         ensures ledger { OnErr result (D.ledger device.new ≡ D.ledger device.old) }
-        ensures within { KeepsLimit D.meaning.pool_name self.new }
+        ensures within { IsSound D.meaning.pool_name self.new }
         ensures limit { self.new.limit ≡ self.old.limit }
     {
         let outstanding = self.outstanding;

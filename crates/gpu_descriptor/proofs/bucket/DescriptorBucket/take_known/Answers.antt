@@ -1,4 +1,4 @@
-use Rattle.gpu_descriptor.proofs.Common.{◌≡◌, ℕ, Global, ◌+◌, [], ◌++◌, arith, length, sum_by, List, Result, Ok, Err, sym, ap, ◌∙◌, subst, map, IfOk, IfErr, length-map, Ledger, DeviceAllocationError, DescriptorSet, DescriptorPool, Bucket, Key, key_of, allocated_in, items_of, item_of, AreBookedIn, IsTaken, free_in, open_numbers, bucket_in, bucket_of, entry_of, IsWalked}
+use Rattle.gpu_descriptor.proofs.Common.{◌≡◌, ℕ, Global, ◌+◌, [], ◌++◌, arith, length, sum_by, List, Result, Ok, Err, sym, ap, ◌∙◌, subst, map, IfOk, IfErr, length-map, Ledger, DeviceAllocationError, DescriptorSet, DescriptorPool, Bucket, Key, key_of, allocated_in, items_of, item_of, AreBookedIn, IsTaken, bucket_in, bucket_of, entry_of, IsWalked}
 use Rattle.std.specs.declared.collections.VecDeque.{VecDeque}
 use Rattle.std.proofs.lemmas.Result.{IfErr-weaker, IfOk-weaker}
 use Rattle.gpu_descriptor.specs.declared.bucket.take.Stop.TheVariants.{Existing}

@@ -1,4 +1,4 @@
-use Rattle.gpu_descriptor.proofs.Common.{arith, refl, IfSome, Option, Some, None, key_of}
+use Rattle.gpu_descriptor.proofs.Common.{arith, refl, key_of}
 use Rattle.std.proofs.lemmas.Option.{IfSome_then}
 use Rattle.gpu_descriptor.proofs.request.NextSize.{next_fits}
 use Rattle.gpu_descriptor.proofs.bucket.take.next_size.Goals as goal

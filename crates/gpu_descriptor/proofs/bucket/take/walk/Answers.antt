@@ -1,8 +1,6 @@
-use Rattle.gpu_descriptor.proofs.Common.{◌≡◌, ℕ, ◌+◌, ◌-◌, ◌++◌, List, [], length, map, slice_get, slice_set, Some, Err, refl, sym, ap, ◌∙◌, arith, append_assoc, length-append, length-map, append-nil, map-append, length-set, Ledger, DescriptorPool, DeviceAllocationError, BucketKey, DescriptorSet, Item, Bucket, Entry, Key, key_of, set_at, items_at, items_of, IsWalked, IsTaken}
-use Rattle.gpu_descriptor.specs.declared.bucket.take.Stop.TheVariants.{Existing}
-use Rattle.gpu_descriptor.proofs.table.Exact.{bucket}
-use Rattle.gpu_descriptor.proofs.request.OpenWalk.{OpenWalk, open_walk_start, open_walk_more, open_walk_stop, walk_sated, walk_empty, next_is_booked, listed_now_closed, listed_now_open, listed_now_same, one_asked}
-use Rattle.gpu_descriptor.proofs.request.Walking.{Walking, walk_end, items_of-sets_at}
+use Rattle.gpu_descriptor.proofs.Common.{◌≡◌, ℕ, ◌+◌, ◌-◌, ◌++◌, List, [], length, map, slice_get, slice_set, Some, refl, sym, ap, ◌∙◌, arith, append_assoc, length-append, length-map, append-nil, map-append, length-set, BucketKey, DescriptorSet, Key, key_of, set_at, items_at, items_of}
+use Rattle.gpu_descriptor.proofs.request.OpenWalk.{open_walk_start, open_walk_more, open_walk_stop, walk_sated, walk_empty, next_is_booked, listed_now_closed, listed_now_open, listed_now_same, one_asked}
+use Rattle.gpu_descriptor.proofs.request.Walking.{walk_end, items_of-sets_at}
 use Rattle.gpu_descriptor.proofs.bucket.take.walk.Goals.{In-Ok}
 use Rattle.gpu_descriptor.proofs.bucket.take.walk.Goals as goal
 
