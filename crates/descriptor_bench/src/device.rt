@@ -103,7 +103,7 @@ fn take_each<I: Iterator<Item = u64>>(owed: &mut Owed, pool: u64, sum: &mut u64,
 }
 
 impl DescriptorDevice<Layout, u64, u64> for CountingDevice {
-    ghost use Rattle.descriptor_bench.specs.Device.{device_is_finite, ledger_of, name_of};
+    ghost use Rattle.descriptor_bench.specs.Device.{ledger_of, name_of};
     ghost use Rattle.gpu_descriptor_types.specs.Ledger.{HasRoom, Puts, PutsNone};
 
     ghost meaning = { record {
@@ -114,8 +114,6 @@ impl DescriptorDevice<Layout, u64, u64> for CountingDevice {
     } };
 
     ghost ledger = { ledger_of };
-
-    ghost finite = { device_is_finite };
 
     fn create_descriptor_pool(
         &mut self,

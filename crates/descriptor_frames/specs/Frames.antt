@@ -52,13 +52,6 @@ module _ {P S : Type 0} where
       pub record AreRetiredOut (m : FrameManager P S) (l : Ledger) : Type 0 where
         pub out : AreOutstanding (retired_items set_name m) (state_in m l)
 
-      -- the list, its room and the greatest frame stay, and retired sets that were outstanding still are
-      pub record KeepsRetired (old new : FrameManager P S) (before after : Ledger) : Type 0 where
-        pub list : retired_of new ≡ retired_of old
-        pub room : room_of new ≡ room_of old
-        pub greatest : greatest_of new ≡ greatest_of old
-        pub outstanding : AreRetiredOut old before → AreRetiredOut new after
-
       -- how often a set is in use: outstanding, and not retired
       abbrev pub in_use : FrameManager P S → Ledger → Item → ℕ
       in_use m l t = outstanding (state_in m l) t - count_of t (retired_items set_name m)
@@ -67,19 +60,27 @@ module _ {P S : Type 0} where
       pub record AreInUse (items : List Item) (m : FrameManager P S) (l : Ledger) : Type 0 where
         pub used : (t : Item) → count_of t items ≤ in_use m l t
 
-      -- the same sets are in use
-      abbrev pub KeepsInUse : FrameManager P S → FrameManager P S → Ledger → Ledger → Type 0
-      KeepsInUse old new before after = (t : Item) → in_use new after t ≡ in_use old before t
+      module _ (old new : FrameManager P S) (before after : Ledger) where
+        -- the list, its room and the greatest frame stay, and retired sets that were outstanding still are
+        pub record KeepsRetired : Type 0 where
+          pub list : retired_of new ≡ retired_of old
+          pub room : room_of new ≡ room_of old
+          pub greatest : greatest_of new ≡ greatest_of old
+          pub outstanding : AreRetiredOut old before → AreRetiredOut new after
 
-      -- exactly these sets came into use
-      abbrev pub BringsIntoUse : List Item → FrameManager P S → FrameManager P S → Ledger → Ledger → Type 0
-      BringsIntoUse items old new before after = (t : Item) → in_use new after t ≡ in_use old before t + count_of t items
+        -- the same sets are in use
+        abbrev pub KeepsInUse : Type 0
+        KeepsInUse = (t : Item) → in_use new after t ≡ in_use old before t
 
-      -- exactly these sets are in use no longer
-      abbrev pub LeavesUse : List Item → FrameManager P S → FrameManager P S → Ledger → Ledger → Type 0
-      LeavesUse items old new before after = (t : Item) → in_use new after t + count_of t items ≡ in_use old before t
+        -- exactly these sets came into use
+        abbrev pub BringsIntoUse : List Item → Type 0
+        BringsIntoUse items = (t : Item) → in_use new after t ≡ in_use old before t + count_of t items
+
+        -- exactly these sets are in use no longer
+        abbrev pub LeavesUse : List Item → Type 0
+        LeavesUse items = (t : Item) → in_use new after t + count_of t items ≡ in_use old before t
 
       -- these sets were retired: they are in use no longer, and all retired sets are outstanding
       pub record Retires (items : List Item) (old new : FrameManager P S) (l : Ledger) : Type 0 where
         pub retired : AreRetiredOut new l
-        pub used : LeavesUse items old new l l
+        pub used : LeavesUse old new l l items

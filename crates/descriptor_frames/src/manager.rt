@@ -4,6 +4,7 @@ ghost use Rattle.gpu_descriptor_types.specs.Ledger.{Ledger};
 ghost use Rattle.gpu_descriptor.specs.Model.Books.{AddsUp, HasDistinctKeys, books_of};
 ghost use Rattle.gpu_descriptor.specs.Model.Load.{sets_out};
 ghost use Rattle.gpu_descriptor.specs.Caller.States.{Agrees, outstanding_of, table_of};
+ghost use Rattle.gpu_descriptor.specs.Caller.Values.{without_keys};
 ghost use Rattle.descriptor_frames.specs.Retired.{AreInOrder};
 
 mod allocate;
@@ -39,8 +40,7 @@ impl<P, S> FrameManager<P, S> {
     /// A manager without sets, whose allocator has this limit on update-after-bind descriptors. It
     /// takes no memory.
     pub fn new(alloc: Global, max: u32) -> Self
-        ensures allocator { allocator_of result
-            ≡ record { limit = max; table = []; looks = 0; comparisons = 0 } }
+        ensures allocator { allocator_of result ≡ without_keys max }
         ensures list { retired_of result ≡ [] }
 
         // On any device.

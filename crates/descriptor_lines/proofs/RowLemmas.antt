@@ -216,7 +216,7 @@ no_layout_refusal : (layouts : Layouts) (has_begun : Bool) (name count : List �
 no_layout_refusal layouts has_begun name count fault is none (inl (heard, unknown, same)) = absurd (unknown keyword.Alloc refl)
 no_layout_refusal layouts has_begun name count fault is none (inr (word, same, wrong)) =
     let alloc = one_keyword word keyword.Alloc (sym same) in
-    no_layout layouts name (WritesNumberWithin 1000000 count) fault is none (subst (λ k. IsRefusalOfWords layouts k has_begun (name ∷ count ∷ []) (faulty fault)) alloc wrong)
+    no_layout layouts name (WritesNumberWithin 1000000 count) fault is none (subst (λ k. IsRefusalOfWords layouts has_begun k (name ∷ count ∷ []) (faulty fault)) alloc wrong)
 
 no_layout_command : (layouts : Layouts) (name count : List ℕ) (command : Command) → layout_named layouts name ≡ None → IsCommandOf layouts (codes "alloc" ∷ name ∷ count ∷ []) command → ⊥
 no_layout_command layouts name count command none (word, same, gives) =

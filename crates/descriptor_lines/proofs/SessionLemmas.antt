@@ -7,8 +7,7 @@ use Rattle.gpu_descriptor.specs.Caller.Flags.{is_marked}
 use Rattle.gpu_descriptor.specs.Caller.States.{state_of}
 use Rattle.gpu_descriptor.proofs.release.Places.{empty_agrees, none_out}
 use Rattle.descriptor_script.specs.Scripted.Raw.{pool_id, script_meaning}
-use Rattle.descriptor_script.specs.Sessions.Ready.{IsScriptReady}
-use Rattle.descriptor_script.specs.Sessions.Session.{AreMeant, allocator_of, layouts_of, sets_of}
+use Rattle.descriptor_script.specs.Sessions.Session.{AreMeant, IsReady, allocator_of, layouts_of, sets_of}
 use Rattle.descriptor_script.specs.Sessions.SessionRun.{RunsTo}
 use Rattle.descriptor_script.specs.Sessions.Steps.{IsAsBefore, StepsTo}
 use Rattle.descriptor_script.specs.declared.answer.Answer.{Answer}
@@ -28,7 +27,7 @@ use Rattle.descriptor_lines.specs.declared.layouts.Layouts.{Layouts}
 use Rattle.gpu_descriptor_types.specs.Side.{Side, side}
 
 -- a new session can make a step on any device
-pub new_is_ready : (s : LineSession) (l : Ledger) (max : ℕ) → allocator_of s ≡ record { limit = max; table = []; looks = 0; comparisons = 0 } → layouts_of s ≡ [] → sets_of s ≡ [] → IsScriptReady (side s l)
+pub new_is_ready : (s : LineSession) (l : Ledger) (max : ℕ) → allocator_of s ≡ record { limit = max; table = []; looks = 0; comparisons = 0 } → layouts_of s ≡ [] → sets_of s ≡ [] → IsReady script_meaning (side s l)
 new_is_ready s l max allocator layouts sets = record {
   agree = rw allocator (empty_agrees l.pools);
   held = rw (allocator, sets) (λ t. none_out (state_of pool_id (record { limit = max; table = []; looks = 0; comparisons = 0 }) l) t refl);
@@ -36,7 +35,7 @@ new_is_ready s l max allocator layouts sets = record {
 }
 
 -- after a step the program can run the next line
-pub still_runs : (p : LineState) (s : LineSession) (script : List Answer) (l : Ledger) → CanRun p → IsScriptReady (side s l) → layouts_of s ≡ layouts_of p.session → CanRun (record p { session = s; script = script; ledger = l })
+pub still_runs : (p : LineState) (s : LineSession) (script : List Answer) (l : Ledger) → CanRun p → IsReady script_meaning (side s l) → layouts_of s ≡ layouts_of p.session → CanRun (record p { session = s; script = script; ledger = l })
 still_runs p s script l can ready layouts = record {
   ready = ready;
   layouts = rw layouts can.layouts;
@@ -44,7 +43,7 @@ still_runs p s script l can ready layouts = record {
 }
 
 -- a session with the same books and sets is ready as well
-pub same_is_ready : (s t : LineSession) (l : Ledger) → IsScriptReady (side s l) → allocator_of t ≡ allocator_of s → sets_of t ≡ sets_of s → AreMeant script_meaning (layouts_of t) → IsScriptReady (side t l)
+pub same_is_ready : (s t : LineSession) (l : Ledger) → IsReady script_meaning (side s l) → allocator_of t ≡ allocator_of s → sets_of t ≡ sets_of s → AreMeant script_meaning (layouts_of t) → IsReady script_meaning (side t l)
 same_is_ready s t l ready allocator sets meant = record {
   agree = rw allocator ready.agree;
   held = rw (allocator, sets) ready.held;

@@ -24,18 +24,18 @@ slice_get-enumerate_from n (x ∷ xs) zero = ap (λ k. Some (k, x)) (omega arith
 slice_get-enumerate_from n (x ∷ xs) (suc i) =
     slice_get-enumerate_from (n + 1) xs i ∙ ap (λ k. option_map (λ y. (k, y)) (slice_get xs i)) (omega arith)
 
-seen_at : (first i : ℕ) (pool : Option (EntryOf RawPool)) → option_map view_of (option_map (λ p. (first + i, p)) pool) ≡ option_map (λ p. record { number = first + i; allocated = p.allocated; available = p.free }) pool
+seen_at : (first i : ℕ) (pool : Option (EntryOf RawPool)) → option_map view_of (option_map (λ p. (first + i, p)) pool) ≡ option_map (λ p. record { number = first + i; allocated = p.allocated; available = p.available }) pool
 seen_at first i None = refl
 seen_at first i (Some pool) = refl
 
 -- the pools are as the readers see them
 views_are_seen : (rows : List (Key × BucketOf RawPool)) (key : Key) (i : ℕ) → slice_get (views_of rows key) i ≡ view_in (books_of rows key) i
 views_are_seen rows key i =
-    slice_get-map view_of (enumerate_from (books_of rows key).first (books_of rows key).pools) i ∙ ap (option_map view_of) (slice_get-enumerate_from (books_of rows key).first (books_of rows key).pools i) ∙ seen_at (books_of rows key).first i (slice_get (books_of rows key).pools i)
+    slice_get-map view_of (enumerate_from (books_of rows key).offset (books_of rows key).pools) i ∙ ap (option_map view_of) (slice_get-enumerate_from (books_of rows key).offset (books_of rows key).pools i) ∙ seen_at (books_of rows key).offset i (slice_get (books_of rows key).pools i)
 
 length_of_views : (rows : List (Key × BucketOf RawPool)) (key : Key) → length (views_of rows key) ≡ length (books_of rows key).pools
 length_of_views rows key =
-    length-map (enumerate_from (books_of rows key).first (books_of rows key).pools) view_of ∙ length-enumerate_from (books_of rows key).first (books_of rows key).pools
+    length-map (enumerate_from (books_of rows key).offset (books_of rows key).pools) view_of ∙ length-enumerate_from (books_of rows key).offset (books_of rows key).pools
 
 -- the lines of the first n pools for a layout's sets
 unfoldable pub pools_so_far : ℕ → List (Key × BucketOf RawPool) → List ℕ × Layout → List ℕ

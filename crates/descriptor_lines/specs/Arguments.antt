@@ -44,56 +44,59 @@ abbrev pub IsMarkWord : List ℕ → Type 0
 IsMarkWord word = (mark : Bool) × (word ≡ word_of_mark mark)
 
 module _ (layouts : Layouts) where
-  -- what is wrong with the name of a layout, or else with numbers behind it
-  abbrev pub IsFaultOfUse : List ℕ → Type 0 → Fault → Type 0
-  IsFaultOfUse name Numbers BadName = ¬ IsName name
-  IsFaultOfUse name Numbers NoSuchLayout = IsName name × (layout_named layouts name ≡ None)
-  IsFaultOfUse name Numbers BadNumber = IsName name × IsSome (layout_named layouts name) × ¬ Numbers
-  IsFaultOfUse name Numbers _ = ⊥
+  module _ (name : List ℕ) (Numbers : Type 0) where
+    -- what is wrong with the name of a layout, or else with numbers behind it
+    abbrev pub IsFaultOfUse : Fault → Type 0
+    IsFaultOfUse BadName = ¬ IsName name
+    IsFaultOfUse NoSuchLayout = IsName name × (layout_named layouts name ≡ None)
+    IsFaultOfUse BadNumber = IsName name × IsSome (layout_named layouts name) × ¬ Numbers
+    IsFaultOfUse _ = ⊥
 
   -- a name that no layout has
   pub record IsNew (name : List ℕ) : Type 0 where
     pub is_name : IsName name
     pub absent : layout_named layouts name ≡ None
 
-  -- what is wrong with a new name, a mark and the words behind them
-  abbrev pub IsFaultOfNew : List ℕ → List ℕ → List (List ℕ) → Fault → Type 0
-  IsFaultOfNew name mark words BadName = ¬ IsName name
-  IsFaultOfNew name mark words NameIsTaken = IsName name × IsSome (layout_named layouts name)
-  IsFaultOfNew name mark words BadMark = IsNew name × ¬ IsMarkWord mark
-  IsFaultOfNew name mark words TooManyLayouts =
-      IsNew name × IsMarkWord mark × AreKinds words × most_layouts ≤ layout_count layouts
-  IsFaultOfNew name mark words fault = IsNew name × IsMarkWord mark × IsFaultOfKinds words fault
+  module _ (name mark : List ℕ) (words : List (List ℕ)) where
+    -- what is wrong with a new name, a mark and the words behind them
+    abbrev pub IsFaultOfNew : Fault → Type 0
+    IsFaultOfNew BadName = ¬ IsName name
+    IsFaultOfNew NameIsTaken = IsName name × IsSome (layout_named layouts name)
+    IsFaultOfNew BadMark = IsNew name × ¬ IsMarkWord mark
+    IsFaultOfNew TooManyLayouts =
+        IsNew name × IsMarkWord mark × AreKinds words × most_layouts ≤ layout_count layouts
+    IsFaultOfNew fault = IsNew name × IsMarkWord mark × IsFaultOfKinds words fault
 
-  -- what is wrong with the words behind that of a command, of which `limit` may come only where no line had one: memory can be wanting for `script` and `free` alone
-  abbrev pub IsRefusalOfWords : Keyword → Bool → List (List ℕ) → Refusal → Type 0
-  IsRefusalOfWords keyword.Limit has_begun words reason = IsFaultAnd reason (IsFaultOfLimit has_begun words)
-  IsRefusalOfWords keyword.Layout has_begun (name ∷ mark ∷ words) reason =
-      IsFaultAnd reason (IsFaultOfNew name mark words)
-  IsRefusalOfWords keyword.Size has_begun (name ∷ total ∷ wanted ∷ []) reason =
-      IsFaultAnd reason (IsFaultOfUse name (WriteSize total wanted))
-  IsRefusalOfWords keyword.Script has_begun words reason = IfFault reason (IsFaultOfScript words)
-  IsRefusalOfWords keyword.Alloc has_begun (name ∷ count ∷ []) reason =
-      IsFaultAnd reason (IsFaultOfUse name (WritesNumberWithin most_sets count))
-  IsRefusalOfWords keyword.Free has_begun words reason = IfFault reason (IsFaultOfFree words)
-  IsRefusalOfWords keyword.Cleanup has_begun words reason = (reason ≡ faulty BadWordCount) × (words ≢ [])
-  IsRefusalOfWords keyword.Show has_begun words reason = (reason ≡ faulty BadWordCount) × (words ≢ [])
-  IsRefusalOfWords keyword has_begun words reason = reason ≡ faulty BadWordCount
+    -- the words of `layout` give this new layout
+    pub record GiveLayout (layout : Layout) : Type 0 where
+      pub new : IsNew name
+      pub fits : layout_count layouts < most_layouts
+      pub mark_is : mark ≡ word_of_mark layout.mark
+      pub kinds_are : AreKinds words
+      pub counts_are : GiveCounts words (kinds layout.counts)
 
-  -- why a line of these words is refused: its first word is no command, or the others are wrong
-  abbrev pub IsRefusalOf : Bool → List (List ℕ) → Refusal → Type 0
-  IsRefusalOf has_begun [] reason = ⊥
-  IsRefusalOf has_begun (word ∷ words) reason =
-      ((slice_index word 0 ≢ 35) × IsNoKeyword word × (reason ≡ faulty UnknownCommand))
-      ⊎ ((keyword : Keyword) × (word ≡ word_of_keyword keyword) × IsRefusalOfWords keyword has_begun words reason)
+  module _ (has_begun : Bool) where
+    -- what is wrong with the words behind that of a command, of which `limit` may come only where no line had one: memory can be wanting for `script` and `free` alone
+    abbrev pub IsRefusalOfWords : Keyword → List (List ℕ) → Refusal → Type 0
+    IsRefusalOfWords keyword.Limit words reason = IsFaultAnd reason (IsFaultOfLimit has_begun words)
+    IsRefusalOfWords keyword.Layout (name ∷ mark ∷ words) reason =
+        IsFaultAnd reason (IsFaultOfNew name mark words)
+    IsRefusalOfWords keyword.Size (name ∷ total ∷ wanted ∷ []) reason =
+        IsFaultAnd reason (IsFaultOfUse name (WriteSize total wanted))
+    IsRefusalOfWords keyword.Script words reason = IfFault reason (IsFaultOfScript words)
+    IsRefusalOfWords keyword.Alloc (name ∷ count ∷ []) reason =
+        IsFaultAnd reason (IsFaultOfUse name (WritesNumberWithin most_sets count))
+    IsRefusalOfWords keyword.Free words reason = IfFault reason (IsFaultOfFree words)
+    IsRefusalOfWords keyword.Cleanup words reason = (reason ≡ faulty BadWordCount) × (words ≢ [])
+    IsRefusalOfWords keyword.Show words reason = (reason ≡ faulty BadWordCount) × (words ≢ [])
+    IsRefusalOfWords keyword words reason = reason ≡ faulty BadWordCount
 
-  -- the words of `layout` give this new layout
-  pub record GiveLayout (name mark : List ℕ) (words : List (List ℕ)) (layout : Layout) : Type 0 where
-    pub new : IsNew name
-    pub fits : layout_count layouts < most_layouts
-    pub mark_is : mark ≡ word_of_mark layout.mark
-    pub kinds_are : AreKinds words
-    pub counts_are : GiveCounts words (kinds layout.counts)
+    -- why a line of these words is refused: its first word is no command, or the others are wrong
+    abbrev pub IsRefusalOf : List (List ℕ) → Refusal → Type 0
+    IsRefusalOf [] reason = ⊥
+    IsRefusalOf (word ∷ words) reason =
+        ((slice_index word 0 ≢ 35) × IsNoKeyword word × (reason ≡ faulty UnknownCommand))
+        ⊎ ((keyword : Keyword) × (word ≡ word_of_keyword keyword) × IsRefusalOfWords keyword words reason)
 
   -- the words of `size` give the counts of a layout and these numbers
   pub record GiveSize (name total wanted : List ℕ) (counts : DescriptorTotalCount) (all sets : ℕ) : Type 0 where

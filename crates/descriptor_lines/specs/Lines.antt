@@ -23,8 +23,7 @@ after_end bytes = after_first (is_byte 10) bytes
 abbrev pub without_empty_last : List (List ℕ) → List (List ℕ)
 without_empty_last [] = []
 without_empty_last ([] ∷ []) = []
-without_empty_last ((byte ∷ bytes) ∷ []) = (byte ∷ bytes) ∷ []
-without_empty_last (piece ∷ next ∷ pieces) = piece ∷ without_empty_last (next ∷ pieces)
+without_empty_last (piece ∷ pieces) = piece ∷ without_empty_last pieces
 
 -- the lines of the bytes: what stands before each end of a line, and what is left behind the last, where that is not empty
 unfoldable pub lines_of : List ℕ → List (List ℕ)

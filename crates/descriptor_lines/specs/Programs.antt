@@ -2,11 +2,11 @@
 use Rattle.std.specs.Prelude.{◌≡◌, ◌⊎◌, ◌++◌, ◌∷◌, [], ℕ, List, length, map, sum, true, IsTrue, IsFalse}
 use Rattle.gpu_descriptor_types.specs.Bounds.{greatest_u32}
 use Rattle.gpu_descriptor_types.specs.Counts.{kinds}
+use Rattle.gpu_descriptor.specs.Caller.Values.{without_keys}
 use Rattle.descriptor_script.specs.Scripted.Device.{empty_ledger}
 use Rattle.descriptor_script.specs.Scripted.Raw.{script_meaning}
-use Rattle.descriptor_script.specs.Sessions.Ready.{IsScriptReady}
-use Rattle.descriptor_script.specs.Sessions.Session.{KeepsSession, allocator_of, layouts_of, sets_of}
-use Rattle.descriptor_script.specs.Sessions.Steps.{StepsTo}
+use Rattle.descriptor_script.specs.Sessions.Session.{IsReady, KeepsSession, allocator_of, layouts_of, sets_of}
+use Rattle.descriptor_script.specs.Sessions.Steps.{IsAsBefore, StepsTo}
 use Rattle.descriptor_script.specs.declared.command.Command.{Command}
 use Rattle.descriptor_script.specs.declared.command.Command.TheVariants.{Allocate, Free, Cleanup}
 use Rattle.descriptor_script.specs.declared.command.Reply.{Reply}
@@ -34,7 +34,7 @@ scripted layout = record { counts = layout.counts; mark = layout.mark }
 -- the program can run a line
 pub record CanRun (p : LineState) : Type 0 where
   -- the session can make a step on the device
-  pub ready : IsScriptReady (side p.session p.ledger)
+  pub ready : IsReady script_meaning (side p.session p.ledger)
   -- the session has the layouts of the lines, in their order
   pub layouts : map (λ k. k.layout) (layouts_of p.session) ≡ map (λ l. scripted l.1) (layouts_in p.layouts)
   -- before the first command there is no layout
@@ -44,7 +44,7 @@ pub record CanRun (p : LineState) : Type 0 where
 pub record IsFresh (p : LineState) : Type 0 where
   pub layouts : layouts_in p.layouts ≡ []
   pub begun : IsFalse p.has_begun
-  pub allocator : allocator_of p.session ≡ record { limit = greatest_u32; table = []; looks = 0; comparisons = 0 }
+  pub allocator : allocator_of p.session ≡ without_keys greatest_u32
   pub known : layouts_of p.session ≡ []
   pub sets : sets_of p.session ≡ []
   pub script : p.script ≡ []
@@ -58,14 +58,11 @@ pub record KeepsDevice (old new : LineState) : Type 0 where
 -- layouts, books, sets and ledger are as before
 pub record IsUnchanged (old new : LineState) : Type 0 where
   pub layouts : SameLayouts old.layouts new.layouts
-  pub known : layouts_of new.session ≡ layouts_of old.session
-  pub allocator : allocator_of new.session ≡ allocator_of old.session
-  pub sets : sets_of new.session ≡ sets_of old.session
-  pub ledger : new.ledger ≡ old.ledger
+  pub session : IsAsBefore (side old.session old.ledger) (side new.session new.ledger)
 
 -- the session is a new one with this limit
 pub record Begins (max : ℕ) (old new : LineState) : Type 0 where
-  pub allocator : allocator_of new.session ≡ record { limit = max; table = []; looks = 0; comparisons = 0 }
+  pub allocator : allocator_of new.session ≡ without_keys max
   pub known : layouts_of new.session ≡ []
   pub sets : sets_of new.session ≡ []
   pub layouts : SameLayouts old.layouts new.layouts

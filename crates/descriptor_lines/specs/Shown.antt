@@ -16,11 +16,11 @@ use Rattle.descriptor_lines.specs.declared.layouts.Layout.{Layout}
 
 -- a pool with its number, as readers see it
 abbrev pub view_of : ℕ × EntryOf RawPool → PoolView
-view_of (number, pool) = record { number = number; allocated = pool.allocated; available = pool.free }
+view_of (number, pool) = record { number = number; allocated = pool.allocated; available = pool.available }
 
 -- the pools of a key, oldest first
 abbrev pub views_of : List (Key × BucketOf RawPool) → Key → List PoolView
-views_of rows key = map view_of (enumerate_from (books_of rows key).first (books_of rows key).pools)
+views_of rows key = map view_of (enumerate_from (books_of rows key).offset (books_of rows key).pools)
 
 -- the lines of the pools for a layout's sets, under the layout's name
 unfoldable pub pools_answer : List (Key × BucketOf RawPool) → List ℕ × Layout → List ℕ

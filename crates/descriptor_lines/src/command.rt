@@ -105,7 +105,7 @@ fn parse_words<'a>(
     has_begun: bool,
 ) -> Result<Command<'a>, Refusal>
     requires fresh { IsFalse has_begun → layout_count layouts.now ≡ 0 }
-    ensures refusal { IfErr result (IsRefusalOfWords layouts.now keyword has_begun
+    ensures refusal { IfErr result (IsRefusalOfWords layouts.now has_begun keyword
         (words_left words.entry)) }
     ensures command { IfOk result (GiveCommand layouts.now keyword (words_left words.entry)) }
     ensures in_time { IfOk result (IsInTime has_begun) }
@@ -156,8 +156,8 @@ fn parse_limit(mut words: Words<'_>, has_begun: bool) -> Result<u32, Refusal>
 
 /// `size NAME TOTAL WANTED`.
 fn parse_size<'a>(mut words: Words<'a>, layouts: &Layouts) -> Result<Command<'a>, Refusal>
-    ensures fault { (has_begun : Bool) → IfErr result (IsRefusalOfWords layouts.now Keyword.Size
-        has_begun (words_left words.entry)) }
+    ensures fault { (has_begun : Bool) → IfErr result (IsRefusalOfWords layouts.now has_begun
+        Keyword.Size (words_left words.entry)) }
     ensures value { IfOk result (GiveCommand layouts.now Keyword.Size (words_left words.entry)) }
     ensures runnable { IfOk result (IsRunnable layouts.now) }
 {
@@ -182,8 +182,8 @@ fn parse_size<'a>(mut words: Words<'a>, layouts: &Layouts) -> Result<Command<'a>
 
 /// `alloc NAME N`.
 fn parse_alloc<'a>(mut words: Words<'a>, layouts: &Layouts) -> Result<Command<'a>, Refusal>
-    ensures fault { (has_begun : Bool) → IfErr result (IsRefusalOfWords layouts.now Keyword.Alloc
-        has_begun (words_left words.entry)) }
+    ensures fault { (has_begun : Bool) → IfErr result (IsRefusalOfWords layouts.now has_begun
+        Keyword.Alloc (words_left words.entry)) }
     ensures value { IfOk result (GiveCommand layouts.now Keyword.Alloc (words_left words.entry)) }
     ensures runnable { IfOk result (IsRunnable layouts.now) }
 {

@@ -7,7 +7,7 @@ use Rattle.std.proofs.lemmas.Bool.{cases_Bool}
 use Rattle.std.proofs.lemmas.List.{map-append}
 use Rattle.indexmap.specs.IndexMap.{IndexMap, get, WritesThrough}
 use Rattle.gpu_descriptor_types.specs.Counts.{kinds}
-use Rattle.gpu_descriptor_types.specs.Ledger.{Pool, changed, on_pool, live_sets}
+use Rattle.gpu_descriptor_types.specs.Ledger.{Pool, on_pool, live_sets}
 use Rattle.gpu_descriptor_types.specs.Multiset.{times, set_eq}
 use Rattle.gpu_descriptor_types.specs.declared.counts.DescriptorTotalCount.{DescriptorTotalCount}
 use Rattle.gpu_descriptor_types.proofs.Counting.{count_by-append}
@@ -57,7 +57,7 @@ module _ {S : Type 0} {m n : IndexMap ℕ LivePool S} {name : ℕ} {old new : Li
 
   -- the ledger's pool is changed so, and the others stay
   pub on_written : (f : Pool → Pool) → seen new ≡ f (seen old) → pools_in n ≡ on_pool name f (pools_in m)
-  on_written f is = fun_ext (λ q. ap (option_map seen) (h.now q) ∙ chosen (nat_eq name q) (get nat_eq m q) ∙ ap (λ o. cond (nat_eq name q) o (pools_in m q)) (ap (λ p. Some p) is ∙ sym (ap (changed f) seen_was)))
+  on_written f is = fun_ext (λ q. ap (option_map seen) (h.now q) ∙ chosen (nat_eq name q) (get nat_eq m q) ∙ ap (λ o. cond (nat_eq name q) o (pools_in m q)) (ap (λ p. Some p) is ∙ sym (ap (option_map f) seen_was)))
     where
       chosen : (b : Bool) (o : Option LivePool) → option_map seen (cond b (Some new) o) ≡ cond b (Some (seen new)) (option_map seen o)
       chosen true o = refl

@@ -1,5 +1,4 @@
 -- The scripted device: its raw values, its words, and what it owes.
 pub mod Device
-pub mod Finite
 pub mod Raw
 pub mod Script

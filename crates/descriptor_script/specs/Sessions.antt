@@ -1,6 +1,5 @@
 -- Sessions: what one keeps, what a command does to it, runs, and the parts of the headline.
 pub mod Headline
-pub mod Ready
 pub mod Session
 pub mod SessionRun
 pub mod Steps

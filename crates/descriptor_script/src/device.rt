@@ -1,5 +1,5 @@
 //! The scripted device.
-ghost use Rattle.std.specs.Prelude.{◌≡◌, ℕ, ◌+◌, ◌-◌, ◌<◌, ◌≤◌, ◌^◌, ◌++◌, min, map, None, IfOk};
+ghost use Rattle.std.specs.Prelude.{◌≡◌, ◌+◌, ◌-◌, ◌<◌, ◌≤◌, ◌^◌, ◌++◌, min, map, None, IfOk};
 ghost use Rattle.std.specs.Prelude.{IfErr, OnOk, OnErr};
 ghost use Rattle.std.specs.Iterator.{IsFinite, HoldsAlong};
 ghost use Rattle.gpu_descriptor_types.specs.Counts.{kinds};
@@ -107,13 +107,10 @@ impl ScriptedDevice {
 
 impl DescriptorDevice<ScriptLayout, RawPool, RawSet> for ScriptedDevice {
     ghost use Rattle.descriptor_script.specs.Scripted.Device.{ledger_of, names_given, script_of};
-    ghost use Rattle.descriptor_script.specs.Scripted.Finite.{scripted_finite};
 
     ghost meaning = { script_meaning };
 
     ghost ledger = { ledger_of };
-
-    ghost finite = { scripted_finite };
 
     fn create_descriptor_pool(
         &mut self,

@@ -2,6 +2,7 @@
 ghost use Rattle.std.specs.Prelude.{◌≡◌, ◌≤◌, ◌++◌, [], ◌∷◌, length, IfOk, IfErr, OnOk, OnErr};
 ghost use Rattle.std.specs.Option.{option_copied};
 ghost use Rattle.gpu_descriptor.specs.Caller.States.{marked_load_of, pool_load_of, outstanding_of};
+ghost use Rattle.gpu_descriptor.specs.Caller.Values.{without_keys};
 ghost use Rattle.descriptor_script.specs.Sessions.Tickets.{held_sets, set_at};
 
 mod run;
@@ -41,12 +42,7 @@ impl<L, P, S> Session<L, P, S> {
     /// A session without layouts and sets, whose allocator has this limit on update-after-bind
     /// descriptors. It takes no memory.
     pub fn new(alloc: Global, max: u32) -> Self
-        ensures allocator { allocator_of result ≡ record {
-          limit = max;
-          table = [];
-          looks = 0;
-          comparisons = 0;
-        } }
+        ensures allocator { allocator_of result ≡ without_keys max }
         ensures layouts { layouts_of result ≡ [] }
         ensures sets { sets_of result ≡ [] }
     {

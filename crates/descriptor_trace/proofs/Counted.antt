@@ -3,7 +3,8 @@ use Rattle.std.proofs.Common.{◌≡◌, ℕ, ◌-◌, ◌≤◌, List, [], leng
 use Rattle.std.specs.Prelude.{IfSome}
 use Rattle.std.proofs.lemmas.List.{length-map}
 use Rattle.std.proofs.lemmas.Map.{update_here}
-use Rattle.gpu_descriptor_types.specs.Ledger.{Ledger, Pool, AreLive, Releases, changed}
+use Rattle.std.specs.Option.{option_map}
+use Rattle.gpu_descriptor_types.specs.Ledger.{Ledger, Pool, AreLive, Releases}
 use Rattle.gpu_descriptor_types.specs.Multiset.{LiveSet, times, AreIn}
 use Rattle.gpu_descriptor.specs.Model.Agreement.{HasSize}
 use Rattle.gpu_descriptor.proofs.foreign.LedgerPools.{size_minus}
@@ -17,7 +18,7 @@ release_counted steps set_name name other before after old new l m r none same h
     let gone : List LiveSet = r.gone in
     let live = none.is_live in
     let less : Pool → Pool = λ p. record p { live = λ x. p.live x - times gone x } in
-    let here : m.pools other ≡ Some (less pool) = ap m.pools same ∙ ap (λ (x : Ledger). x.pools name) r.ledger ∙ update_here l.pools name (changed less (l.pools name)) ∙ ap (changed less) live in
+    let here : m.pools other ≡ Some (less pool) = ap m.pools same ∙ ap (λ (x : Ledger). x.pools name) r.ledger ∙ update_here l.pools name (option_map less (l.pools name)) ∙ ap (option_map less) live in
     let was : HasSize pool.live before = subst (λ o. IfSome o (λ (p : Pool). HasSize p.live before)) live had in
     let is : HasSize (less pool).live after = subst (λ o. IfSome o (λ (p : Pool). HasSize p.live after)) here left in
     let fewer = size_minus pool.live before gone was (subst (λ o. IfSome o (λ (p : Pool). AreIn gone p.live)) live r.live) in

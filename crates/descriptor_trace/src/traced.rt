@@ -82,14 +82,11 @@ impl<W: Write> Traced<W> {
 }
 
 impl<W: Write> DescriptorDevice<ScriptLayout, RawPool, RawSet> for Traced<W> {
-    ghost use Rattle.descriptor_script.specs.Scripted.Finite.{scripted_finite};
     ghost use Rattle.descriptor_script.specs.Scripted.Device.{ledger_of, names_given, script_of};
 
     ghost meaning = { script_meaning };
 
     ghost ledger = { λ d. ledger_of d.device };
-
-    ghost finite = { λ d. scripted_finite d.device };
 
     fn create_descriptor_pool(
         &mut self,

@@ -12,15 +12,14 @@ use Rattle.gpu_descriptor.specs.declared.set.DescriptorSet.{DescriptorSet}
 use Rattle.gpu_descriptor.proofs.foreign.NoneLost.{none_at}
 use Rattle.gpu_descriptor.proofs.foreign.Others.{own_agrees, own_outstanding}
 use Rattle.gpu_descriptor.proofs.release.Places.{empty_agrees, none_out}
-use Rattle.descriptor_script.specs.Scripted.Raw.{pool_id, set_id}
-use Rattle.descriptor_script.specs.Sessions.Session.{allocator_of}
+use Rattle.descriptor_script.specs.Scripted.Raw.{pool_id, script_meaning, set_id}
+use Rattle.descriptor_script.specs.Sessions.Session.{IsReady, allocator_of}
 use Rattle.descriptor_script.specs.Sessions.Tickets.{held_sets}
 use Rattle.descriptor_script.specs.declared.raw.RawPool.{RawPool}
 use Rattle.descriptor_script.specs.declared.raw.RawSet.{RawSet}
 use Rattle.descriptor_script.specs.declared.raw.ScriptLayout.{ScriptLayout}
 use Rattle.descriptor_script.specs.declared.session.Session.{Session}
 use Rattle.descriptor_trials.specs.Pairs.{AreApart, ArePaired, IsNewSession, session_state}
-use Rattle.descriptor_script.specs.Sessions.Ready.{IsScriptReady}
 use Rattle.gpu_descriptor_types.specs.Side.{side}
 
 abbrev Held : Type 0
@@ -38,7 +37,7 @@ module _ (x x' y : Held) (l m : Ledger) (foreign : KeepsForeign (session_state x
   keeps k = record { books = refl; pools = λ n e at. (not_touched k n e at).0 }
 
   -- after a step of one session both can make the next, and no pool stands in both books
-  pub stepped : IsScriptReady (side x' m) → ArePaired x' y m
+  pub stepped : IsReady script_meaning (side x' m) → ArePaired x' y m
   stepped ready = record {
     one = ready;
     other = record {
@@ -63,7 +62,7 @@ none_shared x y l limit empty k j m n d e there at same =
     none_at m d (ap (λ (b : Bucket). entry_at b m) (sym no_books) ∙ there)
 
 -- a session without keys and sets can make a step on any device
-pub new_ready : (s : Held) (l : Ledger) → IsNewSession s → IsScriptReady (side s l)
+pub new_ready : (s : Held) (l : Ledger) → IsNewSession s → IsReady script_meaning (side s l)
 new_ready s l new = record {
   agree = subst (λ (a : Allocations RawPool). Agrees pool_id a l) (sym new.allocator) (empty_agrees l.pools);
   held = λ t.

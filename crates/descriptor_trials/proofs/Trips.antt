@@ -6,14 +6,15 @@ use Rattle.std.proofs.lemmas.List.Sorted.{sum_by-IsPermutation}
 use Rattle.std.proofs.lemmas.List.Sums.{sum_by-cons, sum_by-append}
 use Rattle.std.specs.List.Sorted.{IsPermutation}
 use Rattle.std.proofs.lemmas.Map.{update_here}
-use Rattle.gpu_descriptor_types.specs.Ledger.{Ledger, Pool, HasRoom, HasNoSets, AreLive, Releases, fresh, changed, on_pool, live_sets, after_create, after_alloc, after_no_alloc, pool_refusals}
+use Rattle.std.specs.Option.{option_map}
+use Rattle.gpu_descriptor_types.specs.Ledger.{Ledger, Pool, HasRoom, HasNoSets, AreLive, Releases, fresh, on_pool, live_sets, after_create, after_alloc, after_no_alloc, pool_refusals}
 use Rattle.gpu_descriptor_types.specs.Multiset.{LiveSet, set_eq, times, AreIn}
 use Rattle.gpu_descriptor_types.specs.declared.errors.DeviceAllocationError.{DeviceAllocationError}
-use Rattle.gpu_descriptor_types.proofs.Counting.{set_exact, all_taken_out}
+use Rattle.gpu_descriptor_types.proofs.Counting.{set_exact, all_taken_out, none_spelled}
 
 -- a pool at its own name
 on_here : (name : ℕ) (f : Pool → Pool) (pools : ℕ → Option Pool) (pool : Pool) → pools name ≡ Some pool → on_pool name f pools name ≡ Some (f pool)
-on_here name f pools pool h = update_here pools name (changed f (pools name)) ∙ ap (changed f) h
+on_here name f pools pool h = update_here pools name (option_map f (pools name)) ∙ ap (option_map f) h
 
 -- a pool that was created is live
 pub made : (l0 l1 : Ledger) (counts : List ℕ) (capacity flags name : ℕ) → l1 ≡ after_create counts capacity flags name l0 → l1.pools name ≡ Some (fresh counts capacity flags)
@@ -26,10 +27,8 @@ has_room l1 counts capacity flags name n layout mark live plain few h = record {
   pool = fresh counts capacity flags;
   is_live = live;
   marked = λ t. absurd (let k : false ≡ true = sym plain ∙ t in cc);
-  sets = [];
-  spelled = λ x. refl;
-  places = omega arith;
-  each_kind = λ k. let hk = h k in omega arith;
+  places = λ sets spelled. rw (none_spelled sets spelled) (omega arith);
+  each_kind = λ sets spelled k. rw (none_spelled sets spelled) (let hk = h k in omega arith);
 }
 
 named_sets : (c ns : List ℕ) → map (λ (s : LiveSet). s.name) (live_sets c ns) ≡ ns

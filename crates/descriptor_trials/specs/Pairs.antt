@@ -3,12 +3,12 @@ use Rattle.std.specs.Prelude.{◌≡◌, ◌≢◌, ℕ, [], Some}
 use Rattle.std.proofs.Props.{props}
 use Rattle.gpu_descriptor.proofs.callers.OneAgreement.{Agree-prop}
 use Rattle.gpu_descriptor_types.specs.Ledger.{Ledger}
+use Rattle.gpu_descriptor.specs.Caller.Values.{without_keys}
 use Rattle.gpu_descriptor.specs.Model.Agreement.{State}
 use Rattle.gpu_descriptor.specs.Model.Books.{Key, Entry, entry_at}
 use Rattle.gpu_descriptor.specs.Caller.States.{state_of}
 use Rattle.descriptor_script.specs.Scripted.Raw.{pool_id, script_meaning}
-use Rattle.descriptor_script.specs.Sessions.Ready.{IsScriptReady}
-use Rattle.descriptor_script.specs.Sessions.Session.{AreMeant, allocator_of, layouts_of, sets_of}
+use Rattle.descriptor_script.specs.Sessions.Session.{AreMeant, IsReady, allocator_of, layouts_of, sets_of}
 use Rattle.descriptor_script.specs.declared.raw.RawPool.{RawPool}
 use Rattle.descriptor_script.specs.declared.raw.RawSet.{RawSet}
 use Rattle.descriptor_script.specs.declared.raw.ScriptLayout.{ScriptLayout}
@@ -22,7 +22,7 @@ session_state s l = state_of pool_id (allocator_of s) l
 -- no key came, and no set is held
 pub record IsNewSession (s : Session ScriptLayout RawPool RawSet) : Type 0 where
   pub limit : ℕ
-  pub allocator : allocator_of s ≡ record { limit = limit; table = []; looks = 0; comparisons = 0 }
+  pub allocator : allocator_of s ≡ without_keys limit
   pub sets : sets_of s ≡ []
   pub meant : AreMeant script_meaning (layouts_of s)
 
@@ -32,8 +32,8 @@ AreApart s t = (k l : Key) (m n : ℕ) (d e : Entry) → entry_at (s.books k) m 
 
 -- each of two sessions on one device can make a step
 pub record ArePaired (x y : Session ScriptLayout RawPool RawSet) (l : Ledger) : Type 0 where
-  pub one : IsScriptReady (side x l)
-  pub other : IsScriptReady (side y l)
+  pub one : IsReady script_meaning (side x l)
+  pub other : IsReady script_meaning (side y l)
   pub apart : AreApart (session_state x l) (session_state y l)
 
 pub paired-prop : (x y : Session ScriptLayout RawPool RawSet) (l : Ledger) → IsProp (ArePaired x y l)

@@ -49,7 +49,6 @@ impl Budget {
 }
 
 impl DescriptorDevice<ScriptLayout, SizedPool, RawSet> for Budget {
-    ghost use Rattle.descriptor_script.specs.Scripted.Finite.{scripted_finite};
     ghost use Rattle.descriptor_trials.specs.Budgets.{budget_ledger, sized_id};
 
     ghost meaning = { record {
@@ -60,8 +59,6 @@ impl DescriptorDevice<ScriptLayout, SizedPool, RawSet> for Budget {
     } };
 
     ghost ledger = { budget_ledger };
-
-    ghost finite = { λ d. scripted_finite d.device };
 
     fn create_descriptor_pool(
         &mut self,

@@ -3,9 +3,8 @@
 ghost use Rattle.std.specs.Prelude.{OnOk};
 ghost use Rattle.gpu_descriptor_types.specs.Side.{side};
 ghost use Rattle.gpu_descriptor.specs.Caller.States.{state_of};
-ghost use Rattle.descriptor_script.specs.Scripted.Raw.{pool_id};
-ghost use Rattle.descriptor_script.specs.Sessions.Ready.{IsScriptReady};
-ghost use Rattle.descriptor_script.specs.Sessions.Session.{HasNoPools, allocator_of};
+ghost use Rattle.descriptor_script.specs.Scripted.Raw.{pool_id, script_meaning};
+ghost use Rattle.descriptor_script.specs.Sessions.Session.{HasNoPools, IsReady, allocator_of};
 ghost use Rattle.descriptor_uses.specs.Logged.{ledger_logged};
 
 use crate::acts::expect_calls;
@@ -39,10 +38,10 @@ fn expect_visit(
     commands: &[Command],
     replies: &[Reply],
 ) -> Result<(), Fail>
-    requires ready { IsScriptReady (side session.old (ledger_logged device.old)) }
+    requires ready { IsReady script_meaning (side session.old (ledger_logged device.old)) }
     requires began { HasNoPools (state_of pool_id (allocator_of session.old)
         (ledger_logged device.old)) }
-    ensures ready { IsScriptReady (side session.new (ledger_logged device.new)) }
+    ensures ready { IsReady script_meaning (side session.new (ledger_logged device.new)) }
     ensures ended { OnOk result (HasNoPools (state_of pool_id (allocator_of session.new)
         (ledger_logged device.new))) }
 {
@@ -61,7 +60,7 @@ fn expect_visits(
     session: &mut Session<ScriptLayout, RawPool, RawSet>,
     device: &mut LogDevice,
 ) -> Result<(), Fail>
-    requires ready { IsScriptReady (side session.old (ledger_logged device.old)) }
+    requires ready { IsReady script_meaning (side session.old (ledger_logged device.old)) }
     requires began { HasNoPools (state_of pool_id (allocator_of session.old)
         (ledger_logged device.old)) }
 {

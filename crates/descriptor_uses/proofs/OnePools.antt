@@ -5,7 +5,8 @@ use Rattle.std.proofs.lemmas.Map.{update_apart}
 use Rattle.std.specs.Map.{update}
 use Rattle.std.specs.Prelude.{IfSome, is_some, nat_eq}
 use Rattle.gpu_descriptor_types.proofs.Counting.{count_by_yes, set_exact}
-use Rattle.gpu_descriptor_types.specs.Ledger.{AreLive, Pool, changed, on_pool}
+use Rattle.std.specs.Option.{option_map}
+use Rattle.gpu_descriptor_types.specs.Ledger.{AreLive, Pool, on_pool}
 use Rattle.gpu_descriptor_types.specs.Multiset.{AreIn, LiveSet, set_eq, times}
 use Rattle.descriptor_uses.specs.OwnDevice.{as_created, only, owed_of}
 use Rattle.descriptor_uses.specs.declared.own_device.OnePool.{OnePool}
@@ -35,20 +36,20 @@ only_updated pool other = fun_ext each
         update_apart (only pool) 0 other (suc name) apart ∙ old ∙ sym new
 
 -- a change that changes nothing of a pool as it was created
-pub on_only : (f : Pool → Pool) (o : Option OnlyPool) (name : ℕ) (p : Pool) → only (as_created o) name ≡ Some p → changed f (as_created o) ≡ as_created o → on_pool name f (only (as_created o)) ≡ only (as_created o)
+pub on_only : (f : Pool → Pool) (o : Option OnlyPool) (name : ℕ) (p : Pool) → only (as_created o) name ≡ Some p → option_map f (as_created o) ≡ as_created o → on_pool name f (only (as_created o)) ≡ only (as_created o)
 on_only f o name p live same =
     let named = only_named (as_created o) name p live in
-    ap (λ k. on_pool k f (only (as_created o))) named ∙ only_updated (as_created o) (changed f (as_created o)) ∙ ap only same
+    ap (λ k. on_pool k f (only (as_created o))) named ∙ only_updated (as_created o) (option_map f (as_created o)) ∙ ap only same
 
 pub no_pool : (o : Option OnlyPool) → is_some o ≡ false → as_created o ≡ None
 no_pool None none = refl
 no_pool (Some p) none = absurd (let bad : true ≡ false = none in cc)
 
-pub refused_none : (o : Option OnlyPool) → changed (λ pool. record pool { refusals = pool.refusals + 0 }) (as_created o) ≡ as_created o
+pub refused_none : (o : Option OnlyPool) → option_map (λ (pool : Pool). record pool { refusals = pool.refusals + 0 }) (as_created o) ≡ as_created o
 refused_none None = refl
 refused_none (Some p) = refl
 
-pub released_none : (o : Option OnlyPool) → changed (λ pool. record pool { live = λ x. pool.live x - times [] x }) (as_created o) ≡ as_created o
+pub released_none : (o : Option OnlyPool) → option_map (λ (pool : Pool). record pool { live = λ x. pool.live x - times [] x }) (as_created o) ≡ as_created o
 released_none None = refl
 released_none (Some p) = refl
 

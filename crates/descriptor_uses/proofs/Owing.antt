@@ -5,7 +5,8 @@ use Rattle.std.specs.Map.{lookup, update}
 use Rattle.std.proofs.lemmas.Bool.{cases_Bool, cases_eq}
 use Rattle.std.proofs.lemmas.List.{length-map}
 use Rattle.std.proofs.lemmas.Map.{update_here, update_apart}
-use Rattle.gpu_descriptor_types.specs.Ledger.{Ledger, Pool, HasNoSets, changed, on_pool, fresh, AreLive, Releases, after_create, after_destroy, after_alloc, after_release}
+use Rattle.std.specs.Option.{option_map}
+use Rattle.gpu_descriptor_types.specs.Ledger.{Ledger, Pool, HasNoSets, on_pool, fresh, AreLive, Releases, after_create, after_destroy, after_alloc, after_release}
 use Rattle.gpu_descriptor_types.specs.Multiset.{LiveSet, times, AreIn}
 use Rattle.gpu_descriptor_types.proofs.Counting.{times-append}
 use Rattle.gpu_descriptor.specs.Model.Agreement.{HasSize}
@@ -113,7 +114,7 @@ changed_owed l m n k name size f pool o live is has more =
     let own = without_own name had.0 o.rows had.1 in
     let enough = o.enough in
     let grows = more had.0 had.2 in
-    put l m n k name size (f pool) o (is ∙ ap (λ (x : Option Pool). update nat_eq l.pools name (changed f x)) live) has (omega arith)
+    put l m n k name size (f pool) o (is ∙ ap (λ (x : Option Pool). update nat_eq l.pools name (option_map f x)) live) has (omega arith)
 
 pub allocated : (l : Ledger) (n name : ℕ) (pool : Pool) (sets : List LiveSet) → l.pools name ≡ Some pool → IsOwed l n → IsOwed (after_alloc name sets l) (n + length sets)
 allocated l n name pool sets live o =
@@ -162,7 +163,7 @@ release_counted steps set_name name other before after old new l m r none same h
     let gone : List LiveSet = r.gone in
     let live = none.is_live in
     let less : Pool → Pool = λ p. record p { live = λ x. p.live x - times gone x } in
-    let here : m.pools other ≡ Some (less pool) = ap m.pools same ∙ ap (λ (x : Ledger). x.pools name) r.ledger ∙ update_here l.pools name (changed less (l.pools name)) ∙ ap (changed less) live in
+    let here : m.pools other ≡ Some (less pool) = ap m.pools same ∙ ap (λ (x : Ledger). x.pools name) r.ledger ∙ update_here l.pools name (option_map less (l.pools name)) ∙ ap (option_map less) live in
     let facts = released l name before after pool gone live (subst (λ o. IfSome o (λ (p : Pool). AreIn gone p.live)) live r.live) (subst (λ o. IfSome o (λ (p : Pool). HasSize p.live before)) live had) (subst (λ o. IfSome o (λ (p : Pool). HasSize p.live after)) here left) in
     let few = facts.0 in
     let many : before - after ≡ length gone = omega arith in (

@@ -9,14 +9,15 @@ use Rattle.gpu_descriptor.specs.Model.Promises.{AreOfKey}
 use Rattle.gpu_descriptor.specs.declared.set.DescriptorSet.{DescriptorSet}
 use Rattle.descriptor_uses.specs.declared.layout.SetLayout.{SetLayout}
 
--- its counts and its mark are those that the device gives to the layout
-pub record IsMeant {L P S : Type 0} (means : Meaning L P S) (l : SetLayout L) : Type 0 where
-  pub counted : kinds l.counts ≡ means.counts l.layout
-  pub marked : is_marked l.flags ≡ means.mark l.layout
+module _ {L P S : Type 0} (means : Meaning L P S) where
+  -- its counts and its mark are those that the device gives to the layout
+  pub record IsMeant (l : SetLayout L) : Type 0 where
+    pub counted : kinds l.counts ≡ means.counts l.layout
+    pub marked : is_marked l.flags ≡ means.mark l.layout
 
--- so many sets of the layout's key were put behind those of a list
-pub record Adds {L P S : Type 0} (means : Meaning L P S) (layout : L) (count : ℕ) (old new : List (DescriptorSet S)) : Type 0 where
-  pub sets : List (DescriptorSet S)
-  pub many : length sets ≡ count
-  pub own : AreOfKey (layout_key means layout) (items_of means.set_name sets)
-  pub behind : new ≡ old ++ sets
+  -- so many sets of the layout's key were put behind those of a list
+  pub record Adds (layout : L) (count : ℕ) (old new : List (DescriptorSet S)) : Type 0 where
+    pub sets : List (DescriptorSet S)
+    pub many : length sets ≡ count
+    pub own : AreOfKey (layout_key means layout) (items_of means.set_name sets)
+    pub behind : new ≡ old ++ sets

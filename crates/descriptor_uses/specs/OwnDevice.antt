@@ -1,10 +1,8 @@
 -- A device with memory for one pool, and for no set: what it owes.
-use Rattle.std.proofs.Common.{◌≡◌, ◌≤◌, ℕ, zero, suc, List, [], Option, None, Some, refl, arith}
-use Rattle.std.specs.Prelude.{IfSome}
+use Rattle.std.specs.Prelude.{ℕ, zero, suc, Option, None, Some}
 use Rattle.gpu_descriptor_types.specs.Counts.{kinds}
 use Rattle.gpu_descriptor_types.specs.Flags.{bits}
-use Rattle.gpu_descriptor_types.specs.Ledger.{Pool, Ledger, IsFiniteLedger, fresh}
-use Rattle.gpu_descriptor_types.specs.Multiset.{LiveSet, Spells}
+use Rattle.gpu_descriptor_types.specs.Ledger.{Pool, Ledger, fresh, no_rise}
 use Rattle.descriptor_uses.specs.declared.own_device.OnePool.{OnePool}
 use Rattle.descriptor_uses.specs.declared.own_device.OnlyPool.{OnlyPool}
 
@@ -21,17 +19,5 @@ only pool (suc name) = None
 abbrev pub owed_of : OnePool → Ledger
 owed_of d = record {
   pools = only (as_created d.pool);
-  counters = record { created = d.created.count; destroyed = d.destroyed.count; asked = d.asked.count; released = d.released.count; device_memory = d.refused.count; host_memory = 0; fragmentation = 0; pool_refused = 0 };
+  counters = record no_rise { created = d.created.count; destroyed = d.destroyed.count; asked = d.asked.count; released = d.released.count; device_memory = d.refused.count };
 }
-
-pub owed_is_finite : (d : OnePool) → IsFiniteLedger (owed_of d)
-owed_is_finite d = record { bound = 1; above = above (as_created d.pool); spelled = spelled d.pool }
-  where
-    above : (pool : Option Pool) (q : ℕ) → 1 ≤ q → only pool q ≡ None
-    above pool zero h = absurd (omega arith)
-    above pool (suc q) h = refl
-
-    spelled : (pool : Option OnlyPool) (q : ℕ) → IfSome (only (as_created pool) q) (λ p. (sets : List LiveSet) × Spells sets p.live)
-    spelled None zero = tt
-    spelled (Some p) zero = ([], λ x. refl)
-    spelled pool (suc q) = tt

@@ -39,14 +39,11 @@ impl<const MOST: u32> FewPools<MOST> {
 }
 
 impl<const MOST: u32> DescriptorDevice<ScriptLayout, RawPool, RawSet> for FewPools<MOST> {
-    ghost use Rattle.descriptor_script.specs.Scripted.Finite.{scripted_finite};
     ghost use Rattle.descriptor_uses.specs.FewPools.{few_ledger};
 
     ghost meaning = { script_meaning };
 
     ghost ledger = { few_ledger };
-
-    ghost finite = { λ d. scripted_finite d.device };
 
     fn create_descriptor_pool(
         &mut self,

@@ -102,15 +102,12 @@ impl LogDevice {
 }
 
 impl DescriptorDevice<ScriptLayout, RawPool, RawSet> for LogDevice {
-    ghost use Rattle.descriptor_script.specs.Scripted.Finite.{scripted_finite};
     ghost use Rattle.descriptor_uses.specs.Logged.{IsErrorOfCall, calls_of, ledger_logged};
     ghost use Rattle.descriptor_uses.specs.Logged.{next_pool, script_logged};
 
     ghost meaning = { script_meaning };
 
     ghost ledger = { ledger_logged };
-
-    ghost finite = { λ d. scripted_finite d.device };
 
     fn create_descriptor_pool(
         &mut self,

@@ -50,7 +50,7 @@ impl OnePool {
 }
 
 impl DescriptorDevice<DescriptorTotalCount, u64, u64> for OnePool {
-    ghost use Rattle.descriptor_uses.specs.OwnDevice.{owed_is_finite, owed_of};
+    ghost use Rattle.descriptor_uses.specs.OwnDevice.{owed_of};
 
     ghost meaning = { record {
       pool_name = λ pool. pool;
@@ -60,8 +60,6 @@ impl DescriptorDevice<DescriptorTotalCount, u64, u64> for OnePool {
     } };
 
     ghost ledger = { owed_of };
-
-    ghost finite = { owed_is_finite };
 
     fn create_descriptor_pool(
         &mut self,

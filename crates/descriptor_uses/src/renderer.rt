@@ -1,9 +1,10 @@
 //! A struct that owns its device and its allocator, which always agree.
-ghost use Rattle.std.specs.Prelude.{◌≡◌, [], IfOk, OnErr};
+ghost use Rattle.std.specs.Prelude.{◌≡◌, IfOk, OnErr};
 ghost use Rattle.gpu_descriptor.specs.Model.Agreement.{AreOutstanding};
 ghost use Rattle.gpu_descriptor.specs.Model.Promises.{AreOutBesides, KeepsOutstanding};
 ghost use Rattle.gpu_descriptor.specs.Caller.Sets.{items_of};
 ghost use Rattle.gpu_descriptor.specs.Caller.States.{Agrees, state_of};
+ghost use Rattle.gpu_descriptor.specs.Caller.Values.{without_keys};
 ghost use Rattle.gpu_descriptor.proofs.callers.OneAgreement.{Agree-prop};
 ghost use Rattle.descriptor_uses.specs.Layouts.{IsMeant};
 
@@ -25,8 +26,7 @@ impl<L, P: Drop, S: Drop, D: DescriptorDevice<L, P, S>> Renderer<L, P, S, D> {
     /// A renderer without sets, under a limit on update-after-bind descriptors.
     pub fn new(alloc: Global, device: D, limit: u32) -> Self
         ensures device { result.device ≡ device }
-        ensures allocator { result.allocator
-            ≡ record { limit = limit; table = []; looks = 0; comparisons = 0 } }
+        ensures allocator { result.allocator ≡ without_keys limit }
     {
         laws::books_alone();
         Renderer {

@@ -1,7 +1,7 @@
 -- The definitions at one state, worked out by the check. A plain key has six pools: two empty ones at the front, one
 -- with a set, an empty one behind it, one with a set, and an empty one at the end. A marked key has two
 -- pools, both empty.
-use Rattle.gpu_descriptor.proofs.Common.{◌++◌, ◌≡◌, ℕ, true, false, List, [], ◌∷◌, None, if◌then◌else◌, map, replicate, refl, sets_in_room, State, Item, Key, key_eq, Entry, Bucket, no_pools, cleaned_bucket, pool_load, bucket_load, released, binary_digits}
+use Rattle.gpu_descriptor.proofs.Common.{◌++◌, ◌≡◌, ℕ, true, false, List, [], ◌∷◌, None, if◌then◌else◌, map, replicate, refl, sets_in_room, State, Item, Key, key_eq, Entry, Bucket, no_pools, cleaned_bucket, pool_descriptors, bucket_load, released, binary_digits}
 
 -- ---- the state
 
@@ -15,14 +15,14 @@ marked = record { counts = replicate 2 0 ++ 3 ∷ replicate 11 0; marked = true 
 
 -- a pool without sets, and one with one
 abbrev unused : ℕ → Entry
-unused pool = record { pool = pool; capacity = 64; allocated = 0; free = 64 }
+unused pool = record { pool = pool; capacity = 64; allocated = 0; available = 64 }
 
 abbrev used : ℕ → Entry
-used pool = record { pool = pool; capacity = 64; allocated = 1; free = 63 }
+used pool = record { pool = pool; capacity = 64; allocated = 1; available = 63 }
 
 -- pools of a key from this number on
 abbrev from : ℕ → List Entry → Bucket
-from first pools = record { id = 0; first = first; pools = pools }
+from first pools = record { id = 0; offset = first; pools = pools }
 
 abbrev plain_pools : Bucket
 plain_pools = from 7 (unused 10 ∷ unused 11 ∷ used 12 ∷ unused 13 ∷ used 14 ∷ unused 15 ∷ [])
@@ -47,7 +47,7 @@ set_104 = record { key = plain; id = 0; number = 11; name = 104 }
 marked_pools_load : bucket_load marked marked_pools ≡ 384
 marked_pools_load = refl
 
-bare_load : pool_load (record { counts = replicate 14 0; marked = true }) 64 ≡ 1
+bare_load : pool_descriptors (record { counts = replicate 14 0; marked = true }) 64 ≡ 1
 bare_load = refl
 
 -- where room is left for 10, the next pool holds 3 sets of three, and none where it is left for 2

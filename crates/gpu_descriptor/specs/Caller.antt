@@ -7,7 +7,6 @@ pub mod Flags
 pub mod Frees
 pub mod HandsOut
 pub mod Keeps
-pub mod KeyOf
 pub mod Keys
 pub mod Others
 pub mod SetLends

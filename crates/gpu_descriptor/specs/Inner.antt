@@ -2,6 +2,7 @@
 pub mod Buckets
 pub mod Grow
 pub mod Ids
+pub mod KeyOf
 pub mod OpenNumbers
 pub mod OpenPools
 pub mod Releases

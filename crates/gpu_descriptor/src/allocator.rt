@@ -1,5 +1,6 @@
 //! The allocator: a table from keys to their pools.
-ghost use Rattle.std.specs.Prelude.{◌≡◌, [], true};
+ghost use Rattle.std.specs.Prelude.{◌≡◌, true};
+ghost use Rattle.gpu_descriptor.specs.Caller.Values.{without_keys};
 ghost use Rattle.gpu_descriptor.specs.Inner.Ids.{rise_below, stored_ids};
 
 mod allocate;
@@ -39,11 +40,9 @@ pub struct DescriptorAllocator<P, S> {
 }
 
 impl<P, S> Model for DescriptorAllocator<P, S> {
-    ghost use Rattle.gpu_descriptor.specs.Caller.Values.{Allocations, allocations_code};
+    ghost use Rattle.gpu_descriptor.specs.Caller.Values.{Allocations};
 
     ghost Value = { Allocations P };
-
-    ghost coded = { allocations_code P.code };
 
     ghost use Rattle.std.specs.Prelude.{map};
     ghost use Rattle.gpu_descriptor.specs.Inner.Stored.{row_of, IsCounted};
@@ -64,13 +63,7 @@ impl<P, S> DescriptorAllocator<P, S> {
     /// An allocator without keys, under a limit on the update-after-bind descriptors of all
     /// outstanding sets, and of all pools for such sets. It takes no memory.
     pub fn new(alloc: Global, max_update_after_bind_descriptors_in_all_pools: u32) -> Self
-        ensures { result ≡ record {
-          limit = max_update_after_bind_descriptors_in_all_pools;
-          table =
-              [];
-          looks = 0;
-          comparisons = 0;
-        } }
+        ensures { result ≡ without_keys max_update_after_bind_descriptors_in_all_pools }
     {
         DescriptorAllocator {
             alloc,

@@ -14,8 +14,8 @@ pub enum AllocationError {
     /// the device is given up.
     OutOfDeviceMemory,
 
-    /// The host has no memory left: the device said so, or the allocator found none. A later
-    /// request may succeed once some of it is given up.
+    /// The host has no memory left: the device said so, or the allocator found none, or no id for a
+    /// new key. A later request may succeed once some of it is given up.
     OutOfHostMemory,
 
     /// The sets, or a new pool for them, would pass the limit on update-after-bind descriptors, or

@@ -2,7 +2,7 @@
 //! nothing rests on the hints.
 ghost use Rattle.std.specs.Prelude.{◌≡◌, ℕ, IsTrue, MatchOption, None, Some, slice_get, true};
 ghost use Rattle.std.specs.Map.{lookup};
-ghost use Rattle.gpu_descriptor.specs.Caller.KeyOf.{key_of};
+ghost use Rattle.gpu_descriptor.specs.Inner.KeyOf.{key_of};
 ghost use Rattle.gpu_descriptor.specs.Inner.Ids.{is_of, rise_below, stored_ids};
 ghost use Rattle.gpu_descriptor.specs.Inner.Stored.{stored_keys};
 

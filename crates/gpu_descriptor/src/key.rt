@@ -2,7 +2,6 @@
 ghost use Rattle.std.specs.Prelude.{◌≡◌};
 ghost use Rattle.std.specs.Borrow.{ftrue};
 ghost use Rattle.gpu_descriptor.specs.Model.Books.{Key};
-ghost use Rattle.gpu_descriptor.specs.Caller.Values.{key_code};
 
 use crate::set::BucketKey;
 use std::marker::Model;
@@ -10,7 +9,7 @@ use std::marker::Model;
 /// The key under which a set went out, which only proofs read. It takes no memory.
 #[derive(Debug, Drop)]
 pub(crate) struct SetKey {
-    pub(crate) ghost is: { Key } by { key_code },
+    pub(crate) ghost is: { Key },
 }
 
 impl Model for SetKey {
@@ -18,7 +17,7 @@ impl Model for SetKey {
 }
 
 impl SetKey {
-    ghost use Rattle.gpu_descriptor.specs.Caller.KeyOf.{key_of};
+    ghost use Rattle.gpu_descriptor.specs.Inner.KeyOf.{key_of};
 
     pub(crate) fn of(_key: &BucketKey) -> SetKey
         ensures { result.is ≡ key_of _key.now }

@@ -15,7 +15,7 @@ ghost use Rattle.gpu_descriptor.specs.Model.Books.{HasDistinctKeys, Key, key_eq,
 ghost use Rattle.gpu_descriptor.specs.Model.Books.{Entry, books_of, entry_at, no_pools, sum_over};
 ghost use Rattle.gpu_descriptor.specs.Model.Cleanup.{IsCleaned, pools_cleaned};
 ghost use Rattle.gpu_descriptor.specs.Model.Foreign.{IsForeign, IsNamed, KeepsForeign, LosesNone};
-ghost use Rattle.gpu_descriptor.specs.Model.Load.{pool_load, sets_out, descriptors_out, bucket_load};
+ghost use Rattle.gpu_descriptor.specs.Model.Load.{pool_descriptors, sets_out, descriptors_out, bucket_load};
 ghost use Rattle.gpu_descriptor.specs.Model.Load.{descriptors_created};
 ghost use Rattle.gpu_descriptor.specs.Model.Promises.{IsUntouched};
 ghost use Rattle.gpu_descriptor.specs.Model.Release.{given_back, pools_gone, released};
@@ -110,8 +110,7 @@ pub fn books_alone()
 /// That books and ledger agree has one proof at most, so a struct that owns an allocator and its
 /// device can keep it as a ghost field, with `Agree-prop` of `proofs.callers.OneAgreement` after
 /// `by`.
-/// Every list that spells a pool's live sets, as `finite` of the device gives one, has as many sets
-/// as the books say.
+/// Every list that spells a pool's live sets has as many sets as the books say.
 pub fn agreement_is_one()
     ensures one { (s : State) → IsProp (Agree s) }
     ensures listed { (k : Key) (pool : Pool) (e : Entry) → IsAsBooked k pool e
@@ -135,7 +134,7 @@ pub fn rows_add_up<P>()
 pub fn pools_have_their_load()
     ensures each { (s : State) (k : Key) (n : ℕ) (e : Entry) (pool : Pool) → Agree s → length
         k.counts ≡ 14 → k.marked ≡ true → entry_at (s.books k) n ≡ Some e → s.ledger e.pool ≡ Some
-        pool → sum pool.counts ≡ pool_load k e.capacity }
+        pool → sum pool.counts ≡ pool_descriptors k e.capacity }
     ensures created { (s : State) (n : ℕ) → Agree s → ((k : Key) → 0 < length (s.books k).pools
         → length k.counts ≡ 14) → AddsUp bucket_load s.books n ↔ AddsUp
         (descriptors_created s.ledger) s.books n }

@@ -1,8 +1,8 @@
 //! Sets that were handed out, and the keys under which they went.
 ghost use Rattle.std.specs.Prelude.{◌≡◌, ◌<◌, ◌^◌, ◌↔◌, IsTrue};
 ghost use Rattle.std.specs.Borrow.{sem};
-ghost use Rattle.gpu_descriptor.specs.Model.Load.{marked_load, pool_load};
-ghost use Rattle.gpu_descriptor.specs.Caller.KeyOf.{key_of};
+ghost use Rattle.gpu_descriptor.specs.Model.Load.{marked_load, pool_descriptors};
+ghost use Rattle.gpu_descriptor.specs.Inner.KeyOf.{key_of};
 ghost use Rattle.gpu_descriptor.specs.Caller.SetLends.{LendsRaw};
 ghost use Rattle.gpu_descriptor.specs.Inner.RunSteps.{at_place};
 ghost use Rattle.gpu_descriptor.specs.Caller.Sets.{raw_of};
@@ -34,8 +34,8 @@ impl BucketKey {
     /// How many descriptors a pool of so many sets has, if the key is marked, and else 0. A pool
     /// for sets without descriptors has one.
     pub(crate) fn descriptors_of_pool(&self, sets: u32) -> u32
-        requires { pool_load (key_of self.now) sets < 2 ^ 32 }
-        ensures { result ≡ pool_load (key_of self.now) sets }
+        requires { pool_descriptors (key_of self.now) sets < 2 ^ 32 }
+        ensures { result ≡ pool_descriptors (key_of self.now) sets }
     {
         if self.update_after_bind {
             (u64::from(sets) * self.size.total()).max(1) as u32

@@ -36,6 +36,11 @@ set_exact = record {
 pub count_by_yes : {A : Type 0} (p : A → Bool) (x : A) (xs : List A) → p x ≡ true → count_by p (x ∷ xs) ≡ suc (count_by p xs)
 count_by_yes p x xs h = sym (length-filter p (x ∷ xs)) ∙ rw h (ap suc (length-filter p xs))
 
+-- a list without any set is empty
+pub none_spelled : (sets : List LiveSet) → ((x : LiveSet) → times sets x ≡ 0) → sets ≡ []
+none_spelled [] none = refl
+none_spelled (s ∷ sets) none = absurd (let one : times (s ∷ sets) s ≡ suc (times sets s) = count_by_yes (λ y. set_eq y s) s sets (set_exact.self s) in let is = none s in omega arith)
+
 pub count_by_no : {A : Type 0} (p : A → Bool) (x : A) (xs : List A) → p x ≡ false → count_by p (x ∷ xs) ≡ count_by p xs
 count_by_no p x xs h = sym (length-filter p (x ∷ xs)) ∙ rw h (length-filter p xs)
 

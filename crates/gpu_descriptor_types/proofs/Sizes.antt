@@ -1,12 +1,12 @@
 -- What the size of a new pool keeps.
 use Rattle.std.proofs.Common.{◌≡◌, ℕ, ◌*◌, ◌/◌, ◌^◌, ◌<◌, ◌≤◌, max, min, List, length, map, slice_index_or, sym, ap, subst, ◌∙◌, arith}
-use Rattle.std.specs.Prelude.{if◌then◌else◌, nat_le}
+use Rattle.std.specs.Prelude.{fold, if◌then◌else◌, nat_le}
 use Rattle.std.proofs.Math.Nat.{mul-div-le, div-mul-le_self, mul-le-mul_left, mul-le-mul_right}
 use Rattle.std.proofs.lemmas.Nat.{le-div}
 use Rattle.std.proofs.lemmas.List.{get_or-map, length-map}
 use Rattle.gpu_descriptor_types.specs.Counts.{greatest}
-use Rattle.gpu_descriptor_types.specs.PoolSize.{IsLeastPower, IsPoolSize, IsRounded, least_of, pool_size_floor, sets_of_kind, start_size}
-use Rattle.gpu_descriptor_types.proofs.Least.{least_of-le, least_of-le-first, le-least_of, greatest-ge}
+use Rattle.gpu_descriptor_types.specs.PoolSize.{IsLeastPower, IsPoolSize, IsRounded, pool_size_floor, sets_of_kind, start_size}
+use Rattle.gpu_descriptor_types.proofs.Least.{fold_min-le, fold_min-le-first, le-fold_min, greatest-ge}
 use Rattle.gpu_descriptor_types.proofs.Powers.{rounded_some, rounded_below, rounded_above}
 
 -- so many sets keep the count of a kind within 32 bits
@@ -18,17 +18,17 @@ kind_fits count sets few =
     omega arith
 
 -- every count of a pool of the size fits
-pub pool_fits : (counts : List ℕ) (start : ℕ) (k d : ℕ) → k < length counts → slice_index_or counts k d * least_of start (map sets_of_kind counts) < 2 ^ 32
+pub pool_fits : (counts : List ℕ) (start : ℕ) (k d : ℕ) → k < length counts → slice_index_or counts k d * fold min start (map sets_of_kind counts) < 2 ^ 32
 pool_fits counts start k d within =
-    let below = least_of-le start (map sets_of_kind counts) k 0 (simp length-map within) in
+    let below = fold_min-le start (map sets_of_kind counts) k 0 (simp length-map within) in
     let is = get_or-map sets_of_kind counts k d 0 within in
-    kind_fits (slice_index_or counts k d) (least_of start (map sets_of_kind counts)) (omega arith)
+    kind_fits (slice_index_or counts k d) (fold min start (map sets_of_kind counts)) (omega arith)
 
 -- a new pool has at most 2147483648 sets
 pub pool_size_small : (counts : List ℕ) (total wanted sets : ℕ) → IsPoolSize counts total wanted sets → sets ≤ 2147483648
 pool_size_small counts total wanted sets s =
     let start = rounded_some (start_size total wanted) s.start (omega arith) s.rounded in
-    let below = least_of-le-first s.start (map sets_of_kind counts) in
+    let below = fold_min-le-first s.start (map sets_of_kind counts) in
     let is = s.is_least in
     let small = start.1 in
     omega arith
@@ -37,7 +37,7 @@ pool_size_small counts total wanted sets s =
 pub pool_size_below : (counts : List ℕ) (total wanted sets : ℕ) → IsPoolSize counts total wanted sets → sets < 2 * start_size total wanted
 pool_size_below counts total wanted sets s =
     let start = rounded_below (start_size total wanted) s.start (omega arith) s.rounded in
-    let below = least_of-le-first s.start (map sets_of_kind counts) in
+    let below = fold_min-le-first s.start (map sets_of_kind counts) in
     let is = s.is_least in
     omega arith
 
@@ -62,7 +62,7 @@ pool_size_some counts total wanted sets s =
     let below = greatest-ge 0 counts k 0 (omega arith) in
     let allows = kind_allows (slice_index_or counts k 0) (greatest counts) below in
     omega arith in
-    let le = le-least_of m s.start (map sets_of_kind counts) (omega arith) each in
+    let le = le-fold_min m s.start (map sets_of_kind counts) (omega arith) each in
     omega arith
 
 -- ---- there is one size
@@ -79,4 +79,4 @@ rounded_once : (start m n : ℕ) → IsRounded start m → IsRounded start n →
 rounded_once start m n a b = a.fits ∙ ap (λ power. if nat_le power 4294967295 then power else 2147483647) (power_once start a.power b.power a.rounded b.rounded) ∙ sym b.fits
 
 pub pool_size_once : (counts : List ℕ) (total wanted m n : ℕ) → IsPoolSize counts total wanted m → IsPoolSize counts total wanted n → m ≡ n
-pool_size_once counts total wanted m n a b = a.is_least ∙ ap (λ start. least_of start (map sets_of_kind counts)) (rounded_once (start_size total wanted) a.start b.start a.rounded b.rounded) ∙ sym b.is_least
+pool_size_once counts total wanted m n a b = a.is_least ∙ ap (λ start. fold min start (map sets_of_kind counts)) (rounded_once (start_size total wanted) a.start b.start a.rounded b.rounded) ∙ sym b.is_least

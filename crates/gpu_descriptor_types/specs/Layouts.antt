@@ -3,14 +3,15 @@ use Rattle.std.specs.Prelude.{ℕ, List, replicate}
 use Rattle.std.specs.Borrow.{Bor}
 use Rattle.gpu_descriptor_types.specs.declared.layouts.Layouts.{Layouts}
 
--- the layout
-abbrev pub layout : {L : Type 0} → Layouts L → L
-layout layouts = layouts.layout.now
+module _ {L : Type 0} where
+  -- the layout
+  abbrev pub layout : Layouts L → L
+  layout layouts = layouts.layout.now
 
--- how often it is still to come
-abbrev pub left : {L : Type 0} → Layouts L → ℕ
-left layouts = layouts.left
+  -- how often it is still to come
+  abbrev pub left : Layouts L → ℕ
+  left layouts = layouts.left
 
--- the references that are still to come
-abbrev pub to_come : {L : Type 0} → Layouts L → List (Bor L)
-to_come layouts = replicate layouts.left layouts.layout
+  -- the references that are still to come
+  abbrev pub to_come : Layouts L → List (Bor L)
+  to_come layouts = replicate layouts.left layouts.layout

@@ -2,6 +2,7 @@
 -- each call asks of the ledger, and what it leaves.
 use Rattle.std.specs.Prelude.{◌≡◌, ℕ, ◌+◌, ◌-◌, ◌*◌, ◌≤◌, List, ◌++◌, map, length, Bool, IsTrue, Option, Some, None, nat_eq, slice_index, sum_by, IfSome}
 use Rattle.std.specs.Map.{update}
+use Rattle.std.specs.Option.{option_map}
 use Rattle.std.specs.Iterator.{YieldsThen}
 use Rattle.gpu_descriptor_types.specs.declared.errors.CreatePoolError.{CreatePoolError}
 use Rattle.gpu_descriptor_types.specs.declared.errors.CreatePoolError.TheVariants.{OutOfDeviceMemory, OutOfHostMemory, Fragmentation}
@@ -40,13 +41,9 @@ pub record Ledger : Type 0 where
 
 -- ---- what each call leaves
 
--- the pool of this name, changed by f, if it is live
-abbrev pub changed : (Pool → Pool) → Option Pool → Option Pool
-changed f None = None
-changed f (Some pool) = Some (f pool)
-
+-- the pool of this name is changed by f, if it is live
 abbrev pub on_pool : ℕ → (Pool → Pool) → (ℕ → Option Pool) → ℕ → Option Pool
-on_pool name f pools = update nat_eq pools name (changed f (pools name))
+on_pool name f pools = update nat_eq pools name (option_map f (pools name))
 
 -- a pool that was just created
 abbrev pub fresh : List ℕ → ℕ → ℕ → Pool
@@ -121,11 +118,9 @@ pub record HasRoom (name n : ℕ) (counts : List ℕ) (mark : Bool) (l : Ledger)
   pub pool : Pool
   pub is_live : l.pools name ≡ Some pool
   pub marked : IsTrue mark → IsUpdateAfterBind pool.flags
-  -- the live sets, in some order
-  pub sets : List LiveSet
-  pub spelled : Spells sets pool.live
-  pub places : length sets + n ≤ pool.capacity
-  pub each_kind : (k : ℕ) → sum_by (λ s. slice_index s.counts k) sets + n * slice_index counts k ≤ slice_index pool.counts k
+  -- whatever list spells the live sets; where none does, nothing is asked
+  pub places : (sets : List LiveSet) → Spells sets pool.live → length sets + n ≤ pool.capacity
+  pub each_kind : (sets : List LiveSet) → Spells sets pool.live → (k : ℕ) → sum_by (λ s. slice_index s.counts k) sets + n * slice_index counts k ≤ slice_index pool.counts k
 
 -- sets of these names are live in the pool, and may be released
 pub record AreLive (name : ℕ) (names : List ℕ) (l : Ledger) : Type 0 where
@@ -145,21 +140,22 @@ pub record Sink (K S X : Type 0) : Type 0 where
   pub kept_as : K → S → X
   pub room_left : K → ℕ
 
--- exactly n sets were put, and are live in the pool with these counts
-pub record Puts {K S X : Type 0} (sink : Sink K S X) (set_name : S → ℕ) (name n : ℕ) (counts : List ℕ) (old new : K) (before after : Ledger) : Type 0 where
-  pub sets : List S
-  pub many : length sets ≡ n
-  pub kept : sink.kept new ≡ sink.kept old ++ map (sink.kept_as old) sets
-  pub alike : sink.kept_as new ≡ sink.kept_as old
-  pub room : sink.room_left new + n ≡ sink.room_left old
-  pub ledger : after ≡ after_alloc name (live_sets counts (map set_name sets)) before
+module _ {K S X : Type 0} (sink : Sink K S X) where
+  -- exactly n sets were put, and are live in the pool with these counts
+  pub record Puts (set_name : S → ℕ) (name n : ℕ) (counts : List ℕ) (old new : K) (before after : Ledger) : Type 0 where
+    pub sets : List S
+    pub many : length sets ≡ n
+    pub kept : sink.kept new ≡ sink.kept old ++ map (sink.kept_as old) sets
+    pub alike : sink.kept_as new ≡ sink.kept_as old
+    pub room : sink.room_left new + n ≡ sink.room_left old
+    pub ledger : after ≡ after_alloc name (live_sets counts (map set_name sets)) before
 
--- nothing was put, and the error was counted
-pub record PutsNone {K S X : Type 0} (sink : Sink K S X) (name : ℕ) (e : DeviceAllocationError) (old new : K) (before after : Ledger) : Type 0 where
-  pub kept : sink.kept new ≡ sink.kept old
-  pub alike : sink.kept_as new ≡ sink.kept_as old
-  pub room : sink.room_left new ≡ sink.room_left old
-  pub ledger : after ≡ after_no_alloc name e before
+  -- nothing was put, and the error was counted
+  pub record PutsNone (name : ℕ) (e : DeviceAllocationError) (old new : K) (before after : Ledger) : Type 0 where
+    pub kept : sink.kept new ≡ sink.kept old
+    pub alike : sink.kept_as new ≡ sink.kept_as old
+    pub room : sink.room_left new ≡ sink.room_left old
+    pub ledger : after ≡ after_no_alloc name e before
 
 -- the iterator gave its items, up to its end, and these have left the pool
 pub record Releases {I S : Type 0} (steps : I → Option S → I → Type 0) (set_name : S → ℕ) (name : ℕ) (old new : I) (before after : Ledger) : Type 0 where
@@ -169,11 +165,3 @@ pub record Releases {I S : Type 0} (steps : I → Option S → I → Type 0) (se
   pub named : map (λ s. s.name) gone ≡ map set_name items
   pub live : IfSome (before.pools name) (λ pool. AreIn gone pool.live)
   pub ledger : after ≡ after_release name gone before
-
--- ---- no ledger is endless
-
--- the names of live pools have an end, and the live sets of each are those of a list
-pub record IsFiniteLedger (l : Ledger) : Type 0 where
-  pub bound : ℕ
-  pub above : (q : ℕ) → bound ≤ q → l.pools q ≡ None
-  pub spelled : (q : ℕ) → IfSome (l.pools q) (λ pool. (sets : List LiveSet) × Spells sets pool.live)

@@ -24,15 +24,11 @@ pub record IsRounded (start size : ℕ) : Type 0 where
 abbrev pub sets_of_kind : ℕ → ℕ
 sets_of_kind count = greatest_u32 / max 1 count
 
--- the least of a number and a list
-abbrev pub least_of : ℕ → List ℕ → ℕ
-least_of n others = fold min n others
-
 -- how many sets a new pool of these counts holds, where total sets are outstanding and wanted are wanting
 pub record IsPoolSize (counts : List ℕ) (total wanted sets : ℕ) : Type 0 where
   pub start : ℕ
   pub rounded : IsRounded (start_size total wanted) start
-  pub is_least : sets ≡ least_of start (map sets_of_kind counts)
+  pub is_least : sets ≡ fold min start (map sets_of_kind counts)
 
 -- how many of so many sets a pool may hold where room is left for so many descriptors, of which each set has as many as each says. Sets without descriptors all fit, if there is room for one descriptor
 abbrev pub sets_in_room : (room each sets : ℕ) → ℕ

@@ -7,7 +7,7 @@ ghost use Rattle.gpu_descriptor_types.specs.Layouts.{layout, left};
 ghost use Rattle.gpu_descriptor_types.specs.Ledger.{Ledger, after_create, after_no_create};
 ghost use Rattle.gpu_descriptor_types.specs.Ledger.{after_destroy, HasNoSets, HasRoom, AreLive};
 ghost use Rattle.gpu_descriptor_types.specs.Meaning.{Meaning};
-ghost use Rattle.gpu_descriptor_types.specs.Ledger.{Puts, PutsNone, Releases, IsFiniteLedger};
+ghost use Rattle.gpu_descriptor_types.specs.Ledger.{Puts, PutsNone, Releases};
 
 use crate::counts::DescriptorTotalCount;
 use crate::errors::{CreatePoolError, DeviceAllocationError};
@@ -72,7 +72,4 @@ pub trait DescriptorDevice<L, P, S> {
         ensures name { meaning.pool_name pool.new ≡ meaning.pool_name pool.old }
         ensures released { Releases I.next_gives meaning.set_name (meaning.pool_name pool.old)
             sets.old sets.new (ledger self.old) (ledger self.new) };
-
-    /// The ledger is of finitely many pools, each with finitely many sets.
-    ghost finite: { (d : Self) → IsFiniteLedger (ledger d) };
 }

@@ -1,8 +1,8 @@
 //! The size of a new pool.
 ghost use Rattle.std.specs.Prelude.{◌≡◌, ℕ, ◌*◌, ◌<◌, ◌≤◌, ◌^◌, All, IfSome, IfNone, min, max, sum};
-ghost use Rattle.std.specs.Prelude.{map, length};
+ghost use Rattle.std.specs.Prelude.{fold, map};
 ghost use Rattle.gpu_descriptor_types.specs.Counts.{kinds as kinds_of};
-ghost use Rattle.gpu_descriptor_types.specs.PoolSize.{IsCutSize, IsPoolSize, IsRounded, least_of};
+ghost use Rattle.gpu_descriptor_types.specs.PoolSize.{IsCutSize, IsPoolSize, IsRounded};
 ghost use Rattle.gpu_descriptor_types.specs.PoolSize.{pool_counts, pool_size_floor};
 ghost use Rattle.gpu_descriptor_types.specs.PoolSize.{sets_in_room as sets_in_room_of};
 ghost use Rattle.gpu_descriptor_types.specs.PoolSize.{sets_of_kind, start_size as start_size_of};
@@ -113,7 +113,7 @@ fn rounded_up(start: u32) -> u32
 /// The least of `start` and what each kind allows.
 fn set_count(kinds: &[u32; 14], start: u32) -> u32
     requires { 1 ≤ start }
-    ensures least { result ≡ least_of start (map sets_of_kind kinds.now) }
+    ensures least { result ≡ fold min start (map sets_of_kind kinds.now) }
     ensures some { 1 ≤ result }
 {
     let mut sets = start;

@@ -44,8 +44,8 @@ impl<P: Drop, S: Drop> FrameManager<P, S> {
             (D.ledger device.old) (D.ledger device.new) }
         ensures in_use { AreRetiredOut D.meaning.pool_name D.meaning.set_name self.old
             (D.ledger device.old) → IfOk result (λ sets. BringsIntoUse D.meaning.pool_name
-            D.meaning.set_name (items_of D.meaning.set_name sets.items) self.old self.new
-            (D.ledger device.old) (D.ledger device.new)) }
+            D.meaning.set_name self.old self.new (D.ledger device.old) (D.ledger device.new)
+            (items_of D.meaning.set_name sets.items)) }
 
         // What was in use before and the answer are in use together.
         ensures together { AreRetiredOut D.meaning.pool_name D.meaning.set_name self.old

@@ -32,9 +32,8 @@ impl<P, S: Drop> FrameManager<P, S> {
 
         ensures retired { KeepsRetired D.meaning.pool_name D.meaning.set_name self.old self.new
             (D.ledger device.old) (D.ledger device.new) }
-        ensures in_use { LeavesUse D.meaning.pool_name D.meaning.set_name
-            (items_of D.meaning.set_name sets.items) self.old self.new (D.ledger device.old)
-            (D.ledger device.new) }
+        ensures in_use { LeavesUse D.meaning.pool_name D.meaning.set_name self.old self.new
+            (D.ledger device.old) (D.ledger device.new) (items_of D.meaning.set_name sets.items) }
     {
         self.allocator.free_all(device, sets);
     }

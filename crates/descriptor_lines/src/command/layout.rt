@@ -10,8 +10,8 @@ use descriptor_words::{Fault, Keyword, Refusal, Words, parse_counts};
 
 /// `layout NAME plain` or `mark`, and the kinds with their counts.
 pub fn parse_layout<'a>(mut words: Words<'a>, layouts: &Layouts) -> Result<Command<'a>, Refusal>
-    ensures fault { (has_begun : Bool) → IfErr result (IsRefusalOfWords layouts.now Keyword.Layout
-        has_begun (words_left words.entry)) }
+    ensures fault { (has_begun : Bool) → IfErr result (IsRefusalOfWords layouts.now has_begun
+        Keyword.Layout (words_left words.entry)) }
     ensures value { IfOk result (GiveCommand layouts.now Keyword.Layout (words_left words.entry)) }
     ensures runnable { IfOk result (IsRunnable layouts.now) }
 {

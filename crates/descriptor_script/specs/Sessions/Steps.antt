@@ -2,8 +2,7 @@
 use Rattle.std.specs.Prelude.{◌≡◌, ℕ, ◌<◌, ◌≤◌, List, ◌++◌, length, map, slice_get, None, Some, Result, Ok, Err}
 use Rattle.gpu_descriptor_types.specs.Meaning.{Meaning}
 use Rattle.gpu_descriptor_types.specs.Side.{Side}
-use Rattle.gpu_descriptor.specs.Model.Release.{more_destroyed}
-use Rattle.gpu_descriptor.specs.Model.Cleanup.{IsCleaned, pools_cleaned}
+use Rattle.gpu_descriptor.specs.Caller.CleansUp.{CleansUp}
 use Rattle.gpu_descriptor.specs.Caller.Frees.{GivesBack}
 use Rattle.gpu_descriptor.specs.Model.Agreement.{Item}
 use Rattle.gpu_descriptor.specs.Model.Outcomes.{Allocates, Call}
@@ -11,10 +10,9 @@ use Rattle.gpu_descriptor.specs.Model.Promises.{HasCause}
 use Rattle.gpu_descriptor.specs.Caller.Call.{call_of, layout_key}
 use Rattle.gpu_descriptor.specs.Model.Runs.{runs}
 use Rattle.gpu_descriptor.specs.Caller.Sets.{items_of}
-use Rattle.gpu_descriptor.specs.Caller.States.{keys_of}
 use Rattle.gpu_descriptor.specs.declared.errors.AllocationError.{AllocationError}
 use Rattle.gpu_descriptor.specs.declared.set.DescriptorSet.{DescriptorSet}
-use Rattle.descriptor_script.specs.Sessions.Session.{allocator_of, allocator_on, layouts_of, sets_of, state_on}
+use Rattle.descriptor_script.specs.Sessions.Session.{allocator_of, allocator_on, layouts_of, sets_of}
 use Rattle.descriptor_script.specs.Sessions.Tickets.{AreHeldOnce, emptied, set_at}
 use Rattle.descriptor_script.specs.declared.command.Command.{Command}
 use Rattle.descriptor_script.specs.declared.command.Command.TheVariants.{Allocate, Free, Cleanup}
@@ -86,9 +84,7 @@ module _ {L P S : Type 0} (means : Meaning L P S) where
   module _ (old new : Side (Session L P S)) where
     -- the empty pools at the front of each key are gone, and the sets stay
     pub record Cleans : Type 0 where
-      pub cleaned : IsCleaned (state_on means old) (state_on means new)
-      -- all other counters stay
-      pub counters : new.ledger.counters ≡ more_destroyed (pools_cleaned (keys_of (allocator_of old.value)) (state_on means old)) old.ledger.counters
+      pub cleans_up : CleansUp means (allocator_on old) (allocator_on new)
       pub sets : sets_of new.value ≡ sets_of old.value
 
   -- what a command may reply, and what it leaves

@@ -13,7 +13,7 @@ behind_front [] = refl
 behind_front (x ∷ es) = grind (arith, front_yes, (behind_front es))
 
 -- what is cleaned is the bucket without pools, or the one without its front
-pub cleaned_cases : (b : Bucket) → ((empty_front b ≡ length b.pools) × (cleaned_bucket b ≡ record { id = 0; first = 0; pools = [] })) ⊎ ((empty_front b < length b.pools) × (cleaned_bucket b ≡ without_front (empty_front b) b))
+pub cleaned_cases : (b : Bucket) → ((empty_front b ≡ length b.pools) × (cleaned_bucket b ≡ record { id = 0; offset = 0; pools = [] })) ⊎ ((empty_front b < length b.pools) × (cleaned_bucket b ≡ without_front (empty_front b) b))
 cleaned_cases b = grind (arith, prefix_len-le-length)
 
 front_cleaned : (b : Bucket) → empty_front (cleaned_bucket b) ≡ 0
@@ -48,14 +48,14 @@ whole_front : (s : State) → Agree s → ((i : Item) → outstanding s i ≡ 0)
 whole_front s agree nothing k =
     let b = s.books k in
     all_front b.pools (λ i e at.
-    let place : b.first + i - b.first ≡ i = omega arith in
-    let here : entry_at b (b.first + i) ≡ Some e = entry_at-from b (b.first + i) e (omega arith) (rw place at) in
-    let booked = agree.booked k (b.first + i) e here in
+    let place : b.offset + i - b.offset ≡ i = omega arith in
+    let here : entry_at b (b.offset + i) ≡ Some e = entry_at-from b (b.offset + i) e (omega arith) (rw place at) in
+    let booked = agree.booked k (b.offset + i) e here in
     let zero_live : (x : LiveSet) → booked.0.live x ≡ 0 = λ x. elim (cases_eq 0 (booked.0.live x)) [
       | inl none ↦ sym none
       | inr some ↦ (
           let counts = booked.2.sets x (omega arith) in
-          let t : Item = record { key = k; id = b.id; number = b.first + i; name = x.name } in
+          let t : Item = record { key = k; id = b.id; number = b.offset + i; name = x.name } in
           let one : set_of t ≡ x = λ j. record { name = x.name; counts = sym counts j } in
           ap booked.0.live (sym one) ∙ sym (outstanding_at s t e booked.0 refl here booked.1) ∙ nothing t)
     ] in
@@ -74,10 +74,10 @@ pub all_gone : (s t : State) → Agree s → ((i : Item) → outstanding s i ≡
 all_gone s t agree nothing clean k n e at =
     let b = s.books k in
     let found = entry_at-found b n e at in
-    clean.gone k e.pool (ap (λ (m : ℕ). in_front m b e.pool) (whole_front s agree nothing k) ∙ among_all b.pools (n - b.first) e found.1)
+    clean.gone k e.pool (ap (λ (m : ℕ). in_front m b e.pool) (whole_front s agree nothing k) ∙ among_all b.pools (n - b.offset) e found.1)
 
 -- what has a number afterwards had it before
-pub was_kept : (b : Bucket) (i : ℕ) (e : Entry) → entry_at (cleaned_bucket b) i ≡ Some e → (b.first + empty_front b ≤ i) × (entry_at b i ≡ Some e)
+pub was_kept : (b : Bucket) (i : ℕ) (e : Entry) → entry_at (cleaned_bucket b) i ≡ Some e → (b.offset + empty_front b ≤ i) × (entry_at b i ≡ Some e)
 was_kept b i e h = grind (arith, entry_at-without)
 
 -- a pool with sets keeps its number
@@ -92,8 +92,8 @@ clean_stays s t agree clean k i e h = clean.kept e.pool (λ l. false_from_ne_tru
     let b = s.books l in
     let found = front_found b.pools (empty_front b) e.pool gone in
     let j = found.0 in
-    let place : b.first + j - b.first ≡ j = omega arith in
-    let there : entry_at b (b.first + j) ≡ Some found.1 = entry_at-from b (b.first + j) found.1 (omega arith) (rw place found.3) in
+    let place : b.offset + j - b.offset ≡ j = omega arith in
+    let there : entry_at b (b.offset + j) ≡ Some found.1 = entry_at-from b (b.offset + j) found.1 (omega arith) (rw place found.3) in
     grind (arith, common_steps, was_kept)))
 
 pub clean_agrees : (s t : State) → Agree s → IsCleaned s t → Agree t
@@ -106,7 +106,7 @@ clean_agrees s t agree clean =
           let booked = agree.booked k i e (was k i e at) in
           (booked.0, clean_stays s t agree clean k i e at ∙ booked.1, booked.2);
       absent = λ k no_pools. elim (cleaned_cases (s.books k)) [
-        | inl whole ↦ ap (λ (b : Bucket). b.first) (clean.books k ∙ whole.1)
+        | inl whole ↦ ap (λ (b : Bucket). b.offset) (clean.books k ∙ whole.1)
         | inr some ↦ (
             let b = s.books k in
             let dropped : drop (empty_front b) b.pools ≡ [] = ap (λ (x : Bucket). x.pools) (sym (clean.books k ∙ some.1)) ∙ no_pools in

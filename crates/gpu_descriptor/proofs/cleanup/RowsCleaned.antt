@@ -104,11 +104,11 @@ next_stored rows pools i r distinct agree at =
           let q = found.1 in
           let other : books_of rows q.0 ≡ q.1 = row_books rows found.0 q distinct found.3 in
           let inside = front_found q.1.pools (empty_front q.1) e.pool found.4 in
-          let a : q.1.first + inside.0 - q.1.first ≡ inside.0 = omega arith in
-          let b : r.1.first + j - r.1.first ≡ j = omega arith in
-          let there : entry_at q.1 (q.1.first + inside.0) ≡ Some inside.1 = entry_at-from q.1 (q.1.first + inside.0) inside.1 (omega arith) (rw a inside.3) in
-          let mine : entry_at r.1 (r.1.first + j) ≡ Some e = entry_at-from r.1 (r.1.first + j) e (omega arith) (rw b here) in
-          let same = (agree.distinct q.0 r.0 (q.1.first + inside.0) (r.1.first + j) inside.1 e (ap (λ (x : Bucket). entry_at x (q.1.first + inside.0)) other ∙ there) (ap (λ (x : Bucket). entry_at x (r.1.first + j)) own ∙ mine) inside.4).0 in
+          let a : q.1.offset + inside.0 - q.1.offset ≡ inside.0 = omega arith in
+          let b : r.1.offset + j - r.1.offset ≡ j = omega arith in
+          let there : entry_at q.1 (q.1.offset + inside.0) ≡ Some inside.1 = entry_at-from q.1 (q.1.offset + inside.0) inside.1 (omega arith) (rw a inside.3) in
+          let mine : entry_at r.1 (r.1.offset + j) ≡ Some e = entry_at-from r.1 (r.1.offset + j) e (omega arith) (rw b here) in
+          let same = (agree.distinct q.0 r.0 (q.1.offset + inside.0) (r.1.offset + j) inside.1 e (ap (λ (x : Bucket). entry_at x (q.1.offset + inside.0)) other ∙ there) (ap (λ (x : Bucket). entry_at x (r.1.offset + j)) own ∙ mine) inside.4).0 in
           apart rows found.0 i q r distinct found.2 found.3 at same) in
           grind (arith, common_steps);
     }

@@ -30,9 +30,9 @@ released_same m s name foreign =
     let behind : (t : Item) → (let b = (given_back m s).books t.key in in_front (spent_front b) b name) ≡ false = λ t. false_from_ne_true _ (λ front.
     let b = (given_back m s).books t.key in
     let f = front_found b.pools (spent_front b) name front in
-    let at : entry_at b (b.first + f.0) ≡ Some f.1 = entry_at-from b (b.first + f.0) f.1 (omega arith) (ap (slice_get b.pools) (let n : b.first + f.0 - b.first ≡ f.0 = omega arith in n) ∙ f.3) in
-    let d = some_before _ (entry_at (s.books t.key) (b.first + f.0)) f.1 (sym (entry_at-less (back m s) (s.books t.key) (b.first + f.0)) ∙ at) in
-    foreign t.key (b.first + f.0) d.0 d.1 (ap (λ (e : Entry). e.pool) d.2 ∙ f.4)) in
+    let at : entry_at b (b.offset + f.0) ≡ Some f.1 = entry_at-from b (b.offset + f.0) f.1 (omega arith) (ap (slice_get b.pools) (let n : b.offset + f.0 - b.offset ≡ f.0 = omega arith in n) ∙ f.3) in
+    let d = some_before _ (entry_at (s.books t.key) (b.offset + f.0)) f.1 (sym (entry_at-less (back m s) (s.books t.key) (b.offset + f.0)) ∙ at) in
+    foreign t.key (b.offset + f.0) d.0 d.1 (ap (λ (e : Entry). e.pool) d.2 ∙ f.4)) in
     ap (λ (b : Bool). if b then None else (given_back m s).ledger name) (any_none _ behind m)
     ∙ ap (λ (f : LiveSet → ℕ). option_map (pool_less f) (s.ledger name)) kept
     ∙ ap (λ (w : State). w.ledger name) (none_back s)
@@ -48,10 +48,10 @@ released_named m s name pool foreign live k n e at same =
     let less : Entry = entry_less (back m s e.pool) e in
     let there : entry_at c n ≡ Some less = entry_at-less (back m s) (s.books k) n ∙ ap (option_map (λ (d : Entry). entry_less (back m s d.pool) d)) at in
     let found = entry_at-found c n less there in
-    elim (cases_lt (n - c.first) (front_of m s k)) [
+    elim (cases_lt (n - c.offset) (front_of m s k)) [
       | inl lt ↦ (
-          let f = front_named m s k (n - c.first) lt in
-          let front : in_front (spent_front c) c less.pool ≡ true = among_front c.pools (spent_front c) (n - c.first) less found.1 f.1 in
+          let f = front_named m s k (n - c.offset) lt in
+          let front : in_front (spent_front c) c less.pool ≡ true = among_front c.pools (spent_front c) (n - c.offset) less found.1 f.1 in
           let named : in_front (spent_front c) c name ≡ true = ap (in_front (spent_front c) c) (sym same) ∙ front in
           let any : list_any (λ t. let b = (given_back m s).books t.key in in_front (spent_front b) b name) m ≡ true =
           key_any (λ l. let b = (given_back m s).books l in in_front (spent_front b) b name) m k (rw (f.0, named) refl) in
@@ -59,8 +59,8 @@ released_named m s name pool foreign live k n e at same =
           let bad : ◌≡◌ {A = Option Pool} None (Some pool) = sym gone ∙ live in cc)
       | inr ge ↦ (
           let f = front_of m s k in
-          let place : f + (n - (c.first + f)) ≡ n - c.first = omega (arith, found.0, ge) in
-          let kept : entry_at (without_front f c) n ≡ Some less = entry_at-from (without_front f c) n less (omega (arith, found.0, ge)) (get_drop c.pools f (n - (c.first + f)) ∙ rw place found.1) in
+          let place : f + (n - (c.offset + f)) ≡ n - c.offset = omega (arith, found.0, ge) in
+          let kept : entry_at (without_front f c) n ≡ Some less = entry_at-from (without_front f c) n less (omega (arith, found.0, ge)) (get_drop c.pools f (n - (c.offset + f)) ∙ rw place found.1) in
           foreign k n less (ap (λ (b : Bucket). entry_at b n) (released_books m s k) ∙ kept) same)
     ]
   where
@@ -79,7 +79,7 @@ outside_front : (s : State) (name : ℕ) → IsForeign s name → (k : Key) → 
 outside_front s name foreign k = false_from_ne_true _ (λ front.
     let b = s.books k in
     let f = front_found b.pools (empty_front b) name front in
-    foreign k (b.first + f.0) f.1 (entry_at-from b (b.first + f.0) f.1 (omega arith) (ap (slice_get b.pools) (let n : b.first + f.0 - b.first ≡ f.0 = omega arith in n) ∙ f.3)) f.4)
+    foreign k (b.offset + f.0) f.1 (entry_at-from b (b.offset + f.0) f.1 (omega arith) (ap (slice_get b.pools) (let n : b.offset + f.0 - b.offset ≡ f.0 = omega arith in n) ∙ f.3)) f.4)
 
 -- cleaning up leaves them
 pub cleaned_foreign : (s t : State) → IsCleaned s t → KeepsForeign s t
@@ -90,16 +90,16 @@ cleaned_named s t clean name pool foreign live k n e at same =
     let b = s.books k in
     let f = empty_front b in
     let found = entry_at-found b n e at in
-    let is_gone : n - b.first < f → ⊥ = λ lt.
-    let gone = clean.gone k name (ap (in_front f b) (sym same) ∙ among_front b.pools f (n - b.first) e found.1 lt) in
+    let is_gone : n - b.offset < f → ⊥ = λ lt.
+    let gone = clean.gone k name (ap (in_front f b) (sym same) ∙ among_front b.pools f (n - b.offset) e found.1 lt) in
     let bad : ◌≡◌ {A = Option Pool} None (Some pool) = sym gone ∙ live in cc in
-    elim (cases_lt (n - b.first) f) [
+    elim (cases_lt (n - b.offset) f) [
       | inl lt ↦ is_gone lt
       | inr ge ↦ elim (cleaned_cases b) [
-        | inl all ↦ (let within = slice_get_within b.pools (n - b.first) e found.1 in let whole = all.0 in is_gone (omega arith))
+        | inl all ↦ (let within = slice_get_within b.pools (n - b.offset) e found.1 in let whole = all.0 in is_gone (omega arith))
         | inr some ↦ (
-            let place : f + (n - (b.first + f)) ≡ n - b.first = omega (arith, found.0, ge) in
-            let kept : entry_at (without_front f b) n ≡ Some e = entry_at-from (without_front f b) n e (omega (arith, found.0, ge)) (get_drop b.pools f (n - (b.first + f)) ∙ rw place found.1) in
+            let place : f + (n - (b.offset + f)) ≡ n - b.offset = omega (arith, found.0, ge) in
+            let kept : entry_at (without_front f b) n ≡ Some e = entry_at-from (without_front f b) n e (omega (arith, found.0, ge)) (get_drop b.pools f (n - (b.offset + f)) ∙ rw place found.1) in
             foreign k n e (ap (λ (x : Bucket). entry_at x n) (clean.books k ∙ some.1) ∙ kept) same)
       ]
     ]

@@ -44,7 +44,7 @@ in_table l (row ∷ rows) distinct name = elim (cases_Bool (list_any (λ e. e.po
   | inl own ↦ (
       let f = found_in row.1.pools name own in
       let b = row.1 in
-      inl (row.0, b.first + f.0, f.1, ap (λ (x : Bucket). entry_at x (b.first + f.0)) (first_books row rows) ∙ entry_at-from b (b.first + f.0) f.1 (omega arith) (ap (slice_get b.pools) (let n : b.first + f.0 - b.first ≡ f.0 = omega arith in n) ∙ f.2), f.3))
+      inl (row.0, b.offset + f.0, f.1, ap (λ (x : Bucket). entry_at x (b.offset + f.0)) (first_books row rows) ∙ entry_at-from b (b.offset + f.0) f.1 (omega arith) (ap (slice_get b.pools) (let n : b.offset + f.0 - b.offset ≡ f.0 = omega arith in n) ∙ f.2), f.3))
   | inr none ↦ elim (in_table l rows distinct.1 name) [
     | inl later ↦ elim (cases_Bool (key_eq row.0 later.0)) [
       | inl at ↦ absurd (none_at later.1 later.2 (ap (λ (x : Bucket). entry_at x later.1) (sym (none_behind row rows distinct later.0 at)) ∙ later.3))

@@ -11,7 +11,7 @@ own_agrees s t same agree =
       booked = λ k n e at.
           let booked = agree.booked k n e (was k n e at) in
           (booked.0, (same k).pools n e (was k n e at) ∙ booked.1, booked.2);
-      absent = λ k none. ap (λ (b : Bucket). b.first) ((same k).books) ∙ agree.absent k (ap (λ (b : Bucket). b.pools) (sym (same k).books) ∙ none);
+      absent = λ k none. ap (λ (b : Bucket). b.offset) ((same k).books) ∙ agree.absent k (ap (λ (b : Bucket). b.pools) (sym (same k).books) ∙ none);
     }
 
 pub own_outstanding : (s t : State) → ((k : Key) → IsUntouched k s t) → (i : Item) → outstanding t i ≡ outstanding s i

@@ -20,8 +20,8 @@ module _ (table : List (Key × Bucket)) (l : ℕ → Option Pool) (pool : ℕ) w
       let row = found_row (λ row. list_any (λ e. e.pool == pool) (books_of table row.0).pools) table any in
       let b : Bucket = books_of table row.0.0 in
       let f = found_in b.pools pool row.1 in
-      let at : slice_get b.pools (b.first + f.0 - b.first) ≡ Some f.1 = ap (slice_get b.pools) (let n : b.first + f.0 - b.first ≡ f.0 = omega arith in n) ∙ f.2 in
-      (row.0.0, b.first + f.0, f.1, entry_at-from b (b.first + f.0) f.1 (omega arith) at, f.3)
+      let at : slice_get b.pools (b.offset + f.0 - b.offset) ≡ Some f.1 = ap (slice_get b.pools) (let n : b.offset + f.0 - b.offset ≡ f.0 = omega arith in n) ∙ f.2 in
+      (row.0.0, b.offset + f.0, f.1, entry_at-from b (b.offset + f.0) f.1 (omega arith) at, f.3)
 
   pub unnamed : is_named table pool ≡ false → IsForeign (record { books = books_of table; ledger = l }) pool
   unnamed none k n e at same = grind (arith, absent, found_row, key_exact, none_in)

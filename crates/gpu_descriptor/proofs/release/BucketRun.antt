@@ -13,7 +13,7 @@ read_at name items i q lt is = slice_get-map (entry_of name) items i ∙ ap (opt
 pub changed_at : {P : Type 0} (name : P → ℕ) (items : List (DescriptorPool P)) (i : ℕ) (q : DescriptorPool P) (raw : P) (m n : ℕ) → name raw ≡ name q.raw → m ≡ n
     → map (entry_of name) (set items i (record { raw = raw; capacity = q.capacity; allocated = q.allocated - m; available = q.available + m })) ≡ set (map (entry_of name) items) i (entry_less n (entry_of name q))
 changed_at name [] i q raw m n same e = refl
-changed_at name (x ∷ items) zero q raw m n same e = λ j. record { pool = same j; capacity = q.capacity; allocated = q.allocated - e j; free = q.available + e j } ∷ map (entry_of name) items
+changed_at name (x ∷ items) zero q raw m n same e = λ j. record { pool = same j; capacity = q.capacity; allocated = q.allocated - e j; available = q.available + e j } ∷ map (entry_of name) items
 changed_at name (x ∷ items) (suc i) q raw m n same e = ap (λ (l : List Entry). entry_of name x ∷ l) (changed_at name items i q raw m n same e)
 
 -- what a run may take of the place
@@ -21,7 +21,7 @@ pub record CanTake (k : Key) (names : List ℕ) (pools : ℕ → Option Pool) (e
   pub fits : length names ≤ e.allocated
   pub live : (x : LiveSet) → times (live_sets k.counts names) x ≤ live_in pools e.pool x
 
-pub can_take : (k : Key) (number : ℕ) (names : List ℕ) (b : Bucket) (pools : ℕ → Option Pool) (e : Entry) → IsTakenAt k number names b pools → slice_get b.pools (number - b.first) ≡ Some e → CanTake k names pools e
+pub can_take : (k : Key) (number : ℕ) (names : List ℕ) (b : Bucket) (pools : ℕ → Option Pool) (e : Entry) → IsTakenAt k number names b pools → slice_get b.pools (number - b.offset) ≡ Some e → CanTake k names pools e
 can_take k number names b pools e t at = grind arith
 
 pub is_within : {P : Type 0} (name : P → ℕ) (k : Key) (number : ℕ) (names : List ℕ) (id first : ℕ) (items : List (DescriptorPool P)) (pools : ℕ → Option Pool) → IsTakenAt k number names (bucket id first (map (entry_of name) items)) pools → number - first < length items
@@ -95,7 +95,7 @@ stored_after k first es pools i e ls stored at within =
 pub read_first : {P : Type 0} (name : P → ℕ) (k : Key) (number : ℕ) (names : List ℕ) (id first : ℕ) (items : List (DescriptorPool P)) (pools : ℕ → Option Pool) (q : DescriptorPool P) → IsTakenAt k number names (bucket id first (map (entry_of name) items)) pools → q ≡ get_or items (number - first) q → slice_get (map (entry_of name) items) (number - first) ≡ Some (entry_of name q)
 read_first name k number names id first items pools q t is = read_at name items (number - first) q (is_within name k number names id first items pools t) is
 
-pub place_room : (k : Key) (b : Bucket) (pools : ℕ → Option Pool) (i : ℕ) (e : Entry) → AreBookedIn k pools b.pools → slice_get b.pools i ≡ Some e → e.allocated + e.free ≤ 2147483648
+pub place_room : (k : Key) (b : Bucket) (pools : ℕ → Option Pool) (i : ℕ) (e : Entry) → AreBookedIn k pools b.pools → slice_get b.pools i ≡ Some e → e.allocated + e.available ≤ 2147483648
 place_room k b pools i e stored at =
     let booked = (stored.each i e at).booked in
     grind (arith, common_steps)

@@ -25,11 +25,11 @@ module _ (state : State) where
 -- ---- the list of open pools is as long as there are open pools
 
 abbrev is_open : Entry → Bool
-is_open e = nat_lt 0 e.free
+is_open e = nat_lt 0 e.available
 
-one_listed : (first n : ℕ) (free : List ℕ) (e : Entry) (es : List Entry) → e.free ≡ n → ((next : ℕ) → length (open_numbers next free) ≡ count_by is_open es) → length (open_numbers first (n ∷ free)) ≡ count_by is_open (e ∷ es)
+one_listed : (first n : ℕ) (free : List ℕ) (e : Entry) (es : List Entry) → e.available ≡ n → ((next : ℕ) → length (open_numbers next free) ≡ count_by is_open es) → length (open_numbers first (n ∷ free)) ≡ count_by is_open (e ∷ es)
 one_listed first zero free e es is rest = rest (suc first) ∙ sym (count_by_no is_open e es (ap (nat_lt 0) is))
-one_listed first (suc n) free e es is rest = ap suc (rest (suc first)) ∙ sym (count_by_yes is_open e es (lt-ltb 0 e.free (omega (arith, is))))
+one_listed first (suc n) free e es is rest = ap suc (rest (suc first)) ∙ sym (count_by_yes is_open e es (lt-ltb 0 e.available (omega (arith, is))))
 
 pub listed_count : {P : Type 0} (name : P → ℕ) (first : ℕ) (pools : List (DescriptorPool P)) → length (open_numbers first (free_in pools)) ≡ count_by is_open (map (entry_of name) pools)
 listed_count name first [] = refl

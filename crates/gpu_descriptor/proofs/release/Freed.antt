@@ -200,5 +200,5 @@ module _ {L P S : Type 0} (means : Meaning L P S) where
         begin (Some y) step goes = ((rest, step, refl), (λ zs. let e : runs (items (y ∷ zs)) ≡ 0 + runs (items (y ∷ zs)) = omega arith in e), goes.keeps, (goes.on finite).1)
 
     -- at the end all sets of the iterator have gone back
-    pub freed_all : (first : T) (old : Allocations P) (before : Ledger) (new : Allocations P) (after : Ledger) (end : T) → new.looks ≡ old.looks → Freed first old before new after None end → Frees steps means first end (side old before) (side new after)
+    pub freed_all : (first : T) (old : Allocations P) (before : Ledger) (new : Allocations P) (after : Ledger) (end : T) → new.looks ≡ old.looks → Freed first old before new after None end → Frees means steps first end (side old before) (side new after)
     freed_all first old before new after end looks r = grind arith

@@ -39,14 +39,14 @@ front_empty (x ∷ es) zero e at lt = grind arith
 front_empty (x ∷ es) (suc i) e at lt = grind (arith, (front_empty es i e at))
 
 -- a place of the books, by its number
-pub entry_at-found : (b : Bucket) (n : ℕ) (e : Entry) → entry_at b n ≡ Some e → (b.first ≤ n) × (slice_get b.pools (n - b.first) ≡ Some e)
+pub entry_at-found : (b : Bucket) (n : ℕ) (e : Entry) → entry_at b n ≡ Some e → (b.offset ≤ n) × (slice_get b.pools (n - b.offset) ≡ Some e)
 entry_at-found b n e h = grind arith
 
-pub entry_at-from : (b : Bucket) (n : ℕ) (e : Entry) → b.first ≤ n → slice_get b.pools (n - b.first) ≡ Some e → entry_at b n ≡ Some e
-entry_at-from b n e le h = rw (le-ltb n b.first le) h
+pub entry_at-from : (b : Bucket) (n : ℕ) (e : Entry) → b.offset ≤ n → slice_get b.pools (n - b.offset) ≡ Some e → entry_at b n ≡ Some e
+entry_at-from b n e le h = rw (le-ltb n b.offset le) h
 
 -- what has a number after the front is gone had it before
-pub entry_at-without : (f : ℕ) (b : Bucket) (n : ℕ) (e : Entry) → entry_at (without_front f b) n ≡ Some e → (b.first + f ≤ n) × (entry_at b n ≡ Some e)
+pub entry_at-without : (f : ℕ) (b : Bucket) (n : ℕ) (e : Entry) → entry_at (without_front f b) n ≡ Some e → (b.offset + f ≤ n) × (entry_at b n ≡ Some e)
 entry_at-without f b n e h = grind (arith, get_drop)
 
 -- a pool with sets keeps its number when the front goes
@@ -64,7 +64,7 @@ less-less f g b = λ i. record b { pools = each b.pools i }
     each (e ∷ es) = λ i. entry_less-less (f e.pool) (g e.pool) e i ∷ each es i
 
 pub less-without : (g : ℕ → ℕ) (n : ℕ) (b : Bucket) → bucket_less g (without_front n b) ≡ without_front n (bucket_less g b)
-less-without g n b = λ i. record b { first = b.first + n; pools = sym (drop-map (λ (e : Entry). entry_less (g e.pool) e) n b.pools) i }
+less-without g n b = λ i. record b { offset = b.offset + n; pools = sym (drop-map (λ (e : Entry). entry_less (g e.pool) e) n b.pools) i }
 
 pub without-without : (m n : ℕ) (b : Bucket) → without_front n (without_front m b) ≡ without_front (m + n) b
 without-without m n b = grind (arith, drop-drop)

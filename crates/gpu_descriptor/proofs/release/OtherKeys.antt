@@ -27,9 +27,9 @@ other_pool m s agree k none n e at =
     let front : (t : Item) → (let b = (given_back m s).books t.key in in_front (spent_front b) b e.pool) ≡ true → key_eq t.key k ≡ true = λ t on.
     let b : Bucket = (given_back m s).books t.key in
     let f = front_found b.pools (spent_front b) e.pool on in
-    let here : entry_at b (b.first + f.0) ≡ Some f.1 = entry_at-from b (b.first + f.0) f.1 (omega arith) (ap (slice_get b.pools) (let i : b.first + f.0 - b.first ≡ f.0 = omega arith in i) ∙ f.3) in
-    let d = some_before _ (entry_at (s.books t.key) (b.first + f.0)) f.1 (sym (entry_at-less (back m s) (s.books t.key) (b.first + f.0)) ∙ here) in
-    own t.key (b.first + f.0) d.0 d.1 (ap (λ (x : Entry). x.pool) d.2 ∙ f.4) in
+    let here : entry_at b (b.offset + f.0) ≡ Some f.1 = entry_at-from b (b.offset + f.0) f.1 (omega arith) (ap (slice_get b.pools) (let i : b.offset + f.0 - b.offset ≡ f.0 = omega arith in i) ∙ f.3) in
+    let d = some_before _ (entry_at (s.books t.key) (b.offset + f.0)) f.1 (sym (entry_at-less (back m s) (s.books t.key) (b.offset + f.0)) ∙ here) in
+    own t.key (b.offset + f.0) d.0 d.1 (ap (λ (x : Entry). x.pool) d.2 ∙ f.4) in
     let kept : (λ (x : LiveSet). count_by (λ t. lies_in s.books e.pool t && set_eq (set_of t) x) m) ≡ (λ x. 0) = fun_ext (λ x. count_off (λ t. lies_in s.books e.pool t && set_eq (set_of t) x) (λ t. key_eq t.key k) (lies x) m none) in
     ap (λ (b : Bool). if b then None else (given_back m s).ledger e.pool) (any_off (λ t. let b = (given_back m s).books t.key in in_front (spent_front b) b e.pool) (λ t. key_eq t.key k) front m none)
     ∙ ap (λ (f : LiveSet → ℕ). option_map (pool_less f) (s.ledger e.pool)) kept

@@ -100,9 +100,9 @@ quiet_key m n s agree k none =
     let b = s.books k in
     let pools : map (λ e. entry_less (back m s e.pool + back n s e.pool) e) b.pools ≡ map (λ e. entry_less (back m s e.pool) e) b.pools =
     each_alike (λ e. entry_less (back m s e.pool + back n s e.pool) e) (λ e. entry_less (back m s e.pool) e) b.pools (λ i e at.
-    let place : b.first + i - b.first ≡ i = omega arith in
-    let here : entry_at b (b.first + i) ≡ Some e = entry_at-from b (b.first + i) e (omega arith) (rw place at) in
-    let zero_more : back n s e.pool ≡ 0 = untouched n s agree k none (b.first + i) e here in
+    let place : b.offset + i - b.offset ≡ i = omega arith in
+    let here : entry_at b (b.offset + i) ≡ Some e = entry_at-from b (b.offset + i) e (omega arith) (rw place at) in
+    let zero_more : back n s e.pool ≡ 0 = untouched n s agree k none (b.offset + i) e here in
     let same : back m s e.pool + back n s e.pool ≡ back m s e.pool = omega arith in
     ap (λ (x : ℕ). entry_less x e) same) in
     λ i. record b { pools = pools i }

@@ -124,7 +124,7 @@ pub front_of-le : (m : List Item) (s : State) (k : Key) → front_of m s k ≤ e
 front_of-le m s k = grind arith
 
 -- what has a number afterwards had it before, in the same pool
-pub was_there : (m : List Item) (s : State) (k : Key) (i : ℕ) (e : Entry) → entry_at ((released m s).books k) i ≡ Some e → (d : Entry) × (entry_at (s.books k) i ≡ Some d) × (entry_less (back m s d.pool) d ≡ e) × ((s.books k).first + front_of m s k ≤ i)
+pub was_there : (m : List Item) (s : State) (k : Key) (i : ℕ) (e : Entry) → entry_at ((released m s).books k) i ≡ Some e → (d : Entry) × (entry_at (s.books k) i ≡ Some d) × (entry_less (back m s d.pool) d ≡ e) × ((s.books k).offset + front_of m s k ≤ i)
 was_there m s k i e h =
     let same = released_books m s k in
     let here : entry_at (without_front (front_of m s k) (bucket_less (back m s) (s.books k))) i ≡ Some e = ap (λ (b : Bucket). entry_at b i) (sym same) ∙ h in

@@ -19,12 +19,12 @@ stays m s agree k i e h = false_from_ne_true (list_any (λ t. goes (bucket_less 
     let c = bucket_less (back m s) (s.books l) in
     let found = front_found c.pools (spent_front c) e.pool both.1 in
     let j = found.0 in
-    let place : c.first + j - c.first ≡ j = omega arith in
-    let there : entry_at c (c.first + j) ≡ Some found.1 = entry_at-from c (c.first + j) found.1 (omega arith) (rw place found.3) in
-    let before = some_before (λ e. entry_less (back m s e.pool) e) (entry_at (s.books l) (c.first + j)) found.1 (sym (entry_at-less (back m s) (s.books l) (c.first + j)) ∙ there) in
+    let place : c.offset + j - c.offset ≡ j = omega arith in
+    let there : entry_at c (c.offset + j) ≡ Some found.1 = entry_at-from c (c.offset + j) found.1 (omega arith) (rw place found.3) in
+    let before = some_before (λ e. entry_less (back m s e.pool) e) (entry_at (s.books l) (c.offset + j)) found.1 (sym (entry_at-less (back m s) (s.books l) (c.offset + j)) ∙ there) in
     let was = was_there m s k i e h in
     let name : before.0.pool ≡ was.0.pool = ap (λ (x : Entry). x.pool) before.2 ∙ found.4 ∙ sym (ap (λ (x : Entry). x.pool) was.2) in
-    let same = agree.distinct l k (c.first + j) i before.0 was.0 before.1 was.1 name in
+    let same = agree.distinct l k (c.offset + j) i before.0 was.0 before.1 was.1 name in
     let named : names_key m k ≡ true = ap (names_key m) (sym same.0) ∙ both.0 in
     let front : front_of m s k ≡ spent_front (bucket_less (back m s) (s.books k)) = rw named refl in
     let fronts : spent_front c ≡ spent_front (bucket_less (back m s) (s.books k)) = ap (λ (x : Key). spent_front (bucket_less (back m s) (s.books x))) same.0 in
@@ -75,9 +75,9 @@ agrees m s agree out = record {
       let long : length (bucket_less (back m s) b).pools ≡ length b.pools = length-map b.pools (λ (e : Entry). entry_less (back m s e.pool) e) in
       let size : 0 ≡ length b.pools - f = sym (ap length dropped) ∙ length-drop f (bucket_less (back m s) b).pools ∙ ap (λ (n : ℕ). n - f) long in
       let last = front_of-last m s k in
-      let first : b.first ≡ 0 = agree.absent k (no_length b.pools (omega arith)) in
+      let first : b.offset ≡ 0 = agree.absent k (no_length b.pools (omega arith)) in
       let zero_front : f ≡ 0 = omega arith in
-      ap (λ (x : Bucket). x.first) same ∙ (let e : b.first + f ≡ 0 = omega arith in e);
+      ap (λ (x : Bucket). x.offset) same ∙ (let e : b.offset + f ≡ 0 = omega arith in e);
 }
 
 pub cases_option : (o : Option Entry) → (o ≡ None) ⊎ ((e : Entry) × (o ≡ Some e))

@@ -55,10 +55,10 @@ less_at n (x ∷ es) (suc j) e distinct at =
 pub distinct_names : (s : State) → Agree s → (k : Key) → HasDistinctNames (s.books k).pools
 distinct_names s agree k i j d e at at' same =
     let b = s.books k in
-    let p : b.first + i - b.first ≡ i = omega arith in
-    let q : b.first + j - b.first ≡ j = omega arith in
+    let p : b.offset + i - b.offset ≡ i = omega arith in
+    let q : b.offset + j - b.offset ≡ j = omega arith in
     grind (arith, common_steps, entry_at-from)
 
 -- THE BOOKS AFTER A RUN: one entry of one key
-pub run_books : (k : Key) (i : ℕ) (m : List Item) (s : State) (e : Entry) → Agree s → IsRun k i m → entry_at (s.books k) i ≡ Some e → slice_get (s.books k).pools (i - (s.books k).first) ≡ Some e → (given_back m s).books k ≡ record (s.books k) { pools = set (s.books k).pools (i - (s.books k).first) (entry_less (length m) e) }
+pub run_books : (k : Key) (i : ℕ) (m : List Item) (s : State) (e : Entry) → Agree s → IsRun k i m → entry_at (s.books k) i ≡ Some e → slice_get (s.books k).pools (i - (s.books k).offset) ≡ Some e → (given_back m s).books k ≡ record (s.books k) { pools = set (s.books k).pools (i - (s.books k).offset) (entry_less (length m) e) }
 run_books k i m s e agree run at place = grind (arith, distinct_names, less_at, run_back)

@@ -110,8 +110,8 @@ module _ {S : Type 0} (name : S → ℕ) where
             ap (λ (f : ℕ → ℕ). map (λ (d : Entry). entry_less (f d.pool) d) (s.books l).pools) (fun_ext (run_back k n m s e run at))
             ∙ untouched_rest (length m) e.pool (s.books l).pools (λ i d got same.
             let bl = s.books l in
-            let spot : bl.first + i - bl.first ≡ i = omega arith in
-            let keys = (agree.distinct k l n (bl.first + i) e d at (entry_at-from bl (bl.first + i) d (omega arith) (rw spot got)) same).0 in
+            let spot : bl.offset + i - bl.offset ≡ i = omega arith in
+            let keys = (agree.distinct k l n (bl.offset + i) e d at (entry_at-from bl (bl.offset + i) d (omega arith) (rw spot got)) same).0 in
             let bad : true ≡ false = sym (ap (key_eq k) (sym keys) ∙ key_exact.self k) ∙ other in cc) in
             let whole : (given_back m s).books l ≡ s.books l = λ i. record (s.books l) { pools = pools i } in
             whole ∙ sym here)

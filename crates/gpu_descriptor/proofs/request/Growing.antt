@@ -1,5 +1,6 @@
 -- The new pools of a request, as far as it has come.
-use Rattle.gpu_descriptor.proofs.Common.{◌≡◌, ℕ, zero, suc, take, drop, ◌+◌, ◌-◌, ◌<◌, inl, inr, List, [], ◌∷◌, ◌++◌, length, map, Bool, true, false, cond, ◌==◌, nat_eq, Option, Some, None, Ok, Err, refl, sym, ap, ◌∙◌, subst, arith, eqb-true, eq-eqb, append_assoc, length-append, fun_ext, ne_eqb, nil_from_length, eqb-false, map-append, append-nil, length-map, sum_by-cons, sum_by-append, list_any, update, if◌then◌else◌, option_map, Item, flags_of, Key, Entry, Bucket, Pool, Ledger, live_sets, on_pool, no_rise, cases_Bool, or_from, or_parts, pool_counts, Stop, list_any-append, Fresh, fresh_portions, fresh_entry, given_by, IsNextSize, room_after, AreSized, AreFull, AreNew, IsFreshFront, IsFreshList, Grant, Part, items_at, portion_of, came, pool_with, ledger_with, fresh_or, IsGrown, IsTaken, IsRefused, allocated_in, pool_load, pools_load, risen, grant_rise, NoneIsNew, StopsAt, offer, rest, shared, all_shared, Portion, portions_of, AreBookedIn, HasTaken, IsWalked}
+use Rattle.gpu_descriptor.proofs.Common.{◌≡◌, ℕ, zero, suc, take, drop, ◌+◌, ◌-◌, ◌<◌, inl, inr, List, [], ◌∷◌, ◌++◌, length, map, Bool, true, false, cond, ◌==◌, nat_eq, Option, Some, None, Ok, Err, refl, sym, ap, ◌∙◌, subst, arith, eqb-true, eq-eqb, append_assoc, length-append, fun_ext, ne_eqb, nil_from_length, eqb-false, map-append, append-nil, length-map, sum_by-cons, sum_by-append, list_any, update, if◌then◌else◌, option_map, Item, flags_of, Key, Entry, Bucket, Pool, Ledger, live_sets, on_pool, no_rise, cases_Bool, or_from, or_parts, pool_counts, Stop, list_any-append, Fresh, fresh_portions, fresh_entry, given_by, IsNextSize, room_after, AreSized, AreFull, AreNew, IsFreshFront, IsFreshList, Grant, Part, items_at, portion_of, came, pool_with, ledger_with, fresh_or, IsGrown, IsTaken, IsRefused, allocated_in, pool_descriptors, risen, grant_rise, NoneIsNew, StopsAt, offer, rest, shared, all_shared, Portion, portions_of, AreBookedIn, HasTaken, IsWalked}
+use Rattle.gpu_descriptor.proofs.sums.PoolsLoad.{pools_load}
 use Rattle.gpu_descriptor.specs.declared.bucket.take.Stop.TheVariants as stop
 use Rattle.gpu_descriptor_types.specs.Ledger as ledgers
 use Rattle.gpu_descriptor.specs.Model.FreshPools as grants
@@ -30,8 +31,8 @@ pub record Growing (k : Key) (start n id first room total wanting : ℕ) (items 
 pub taken_long : (k : Key) (n : ℕ) (g : Grant) (items : List Item) (old new : Bucket) (l m : Ledger) → HasTaken k n g items old new l m → length new.pools ≡ length old.pools + length g.fresh
 taken_long k n g items old new l m taken =
     let is = ap (λ (b : Bucket). length b.pools) taken.bucket in
-    let all = length-append (take g.left old.pools ++ all_shared g.refused n (drop g.left old.pools)) (map fresh_entry g.fresh) in
-    let had = length_taken g.refused n g.left old.pools in
+    let all = length-append (take g.skipped old.pools ++ all_shared g.refused n (drop g.skipped old.pools)) (map fresh_entry g.fresh) in
+    let had = length_taken g.refused n g.skipped old.pools in
     let made = length-map g.fresh fresh_entry in
     omega arith
 
@@ -79,7 +80,7 @@ sized_more k room t w [] f left total wanted all room_is total_is wanted_is one 
     let a : total ≡ t = omega arith in
     let b : wanted ≡ w = omega arith in
     (rw (room_is, a, b) at one, tt)
-sized_more k room t w (h ∷ fs) f left total wanted all room_is total_is wanted_is one = (let s = sum_by-cons (λ (f : Fresh). f.given) h fs in (all.0, sized_more k (room - pool_load k h.size) (t + h.given) (w - h.given) fs f left total wanted all.1 room_is (omega arith) (omega arith) one))
+sized_more k room t w (h ∷ fs) f left total wanted all room_is total_is wanted_is one = (let s = sum_by-cons (λ (f : Fresh). f.given) h fs in (all.0, sized_more k (room - pool_descriptors k h.size) (t + h.given) (w - h.given) fs f left total wanted all.1 room_is (omega arith) (omega arith) one))
 
 full_more : (fs : List Fresh) (f : Fresh) → AreFull fs → f.given ≡ f.size → AreFull (fs ++ f ∷ [])
 full_more [] f all one = (one, tt)
@@ -139,7 +140,7 @@ module _ {k : Key} {start n id first room left total wanting : ℕ} {items : Lis
       ∙ append_assoc (portions_of s.refused n (first + 0) old) (fresh_portions (first + length old) s.fresh) (portion_of part_now ∷ [])
       ∙ ap (λ x. portions_of s.refused n (first + 0) old ++ x) (ap (λ g. fresh_portions (first + length old) s.fresh ++ record { number = first + length old + length s.fresh; pool = q; given = g } ∷ []) many ∙ sym (fresh_rows_more (first + length old) s.fresh f))
 
-  entries_now : new' ≡ take (all_so_far id s.refused fresh_now parts_now).left old ++ all_shared (all_so_far id s.refused fresh_now parts_now).refused n (drop (all_so_far id s.refused fresh_now parts_now).left old) ++ map fresh_entry (all_so_far id s.refused fresh_now parts_now).fresh
+  entries_now : new' ≡ take (all_so_far id s.refused fresh_now parts_now).skipped old ++ all_shared (all_so_far id s.refused fresh_now parts_now).refused n (drop (all_so_far id s.refused fresh_now parts_now).skipped old) ++ map fresh_entry (all_so_far id s.refused fresh_now parts_now).fresh
   entries_now =
       a.entries
       ∙ ap (λ (b : Bucket). b.pools ++ fresh_entry f ∷ []) s.taken.bucket
@@ -187,7 +188,7 @@ grow_start {k} {n = n} {id = id} {first = first} {items = items} {old = old} {ne
     let g = w.grant in
     let wants = w.wants in
     let named : id ≡ g.id = ap (λ (b : Bucket). b.id) w.taken.bucket in
-    let grant : g ≡ all_so_far id g.refused [] g.parts = (λ i. record { id = sym named i; left = w.all i; refused = g.refused; fresh = w.no_fresh i; parts = g.parts }) in
+    let grant : g ≡ all_so_far id g.refused [] g.parts = (λ i. record { id = sym named i; skipped = w.all i; refused = g.refused; fresh = w.no_fresh i; parts = g.parts }) in
     let none : given_by [] ≡ 0 = omega arith in
     record {
       refused = g.refused;
@@ -223,30 +224,30 @@ grow_stop why {k} {start} {n} {id} {old = old} {m = m} some s same_sets same_poo
 
 -- ---- the descriptors of a key's pools, as a request goes on
 
-pub load_more : (k : Key) (es : List Entry) (f : Fresh) → pools_load k (es ++ fresh_entry f ∷ []) ≡ pools_load k es + pool_load k f.size
-load_more k es f = sum_by-append (λ (e : Entry). pool_load k e.capacity) es (fresh_entry f ∷ []) ∙ (let one : pools_load k (fresh_entry f ∷ []) ≡ pool_load k f.size = omega arith in omega arith)
+pub load_more : (k : Key) (es : List Entry) (f : Fresh) → pools_load k (es ++ fresh_entry f ∷ []) ≡ pools_load k es + pool_descriptors k f.size
+load_more k es f = sum_by-append (λ (e : Entry). pool_descriptors k e.capacity) es (fresh_entry f ∷ []) ∙ (let one : pools_load k (fresh_entry f ∷ []) ≡ pool_descriptors k f.size = omega arith in omega arith)
 
 load_split : (k : Key) (refused : ℕ → Bool) (n i : ℕ) (es : List Entry) → pools_load k (take i es ++ all_shared refused n (drop i es)) ≡ pools_load k es
 load_split k refused n zero [] = refl
 load_split k refused n zero (e ∷ newer) =
-    let a = sum_by-cons (λ (x : Entry). pool_load k x.capacity) (shared refused n newer e) (all_shared refused n newer) in
-    let b = sum_by-cons (λ (x : Entry). pool_load k x.capacity) e newer in
+    let a = sum_by-cons (λ (x : Entry). pool_descriptors k x.capacity) (shared refused n newer e) (all_shared refused n newer) in
+    let b = sum_by-cons (λ (x : Entry). pool_descriptors k x.capacity) e newer in
     let ih = load_split k refused n zero newer in
     omega arith
 load_split k refused n (suc i) [] = refl
 load_split k refused n (suc i) (e ∷ es) =
-    let a = sum_by-cons (λ (x : Entry). pool_load k x.capacity) e (take i es ++ all_shared refused n (drop i es)) in
-    let b = sum_by-cons (λ (x : Entry). pool_load k x.capacity) e es in
+    let a = sum_by-cons (λ (x : Entry). pool_descriptors k x.capacity) e (take i es ++ all_shared refused n (drop i es)) in
+    let b = sum_by-cons (λ (x : Entry). pool_descriptors k x.capacity) e es in
     let ih = load_split k refused n i es in
     omega arith
 
 -- a walk adds no pool
-walked_entries : (k : Key) (n : ℕ) (g : Grant) (old new : Bucket) (l m : Ledger) (items : List Item) → HasTaken k n g items old new l m → g.fresh ≡ [] → new.pools ≡ take g.left old.pools ++ all_shared g.refused n (drop g.left old.pools)
-walked_entries k n g old new l m items taken none = ap (λ (b : Bucket). b.pools) taken.bucket ∙ rw none (append-nil (take g.left old.pools ++ all_shared g.refused n (drop g.left old.pools)))
+walked_entries : (k : Key) (n : ℕ) (g : Grant) (old new : Bucket) (l m : Ledger) (items : List Item) → HasTaken k n g items old new l m → g.fresh ≡ [] → new.pools ≡ take g.skipped old.pools ++ all_shared g.refused n (drop g.skipped old.pools)
+walked_entries k n g old new l m items taken none = ap (λ (b : Bucket). b.pools) taken.bucket ∙ rw none (append-nil (take g.skipped old.pools ++ all_shared g.refused n (drop g.skipped old.pools)))
 
 -- a walk leaves it
 pub load_walked : (k : Key) (n : ℕ) (g : Grant) (old new : Bucket) (l m : Ledger) (items : List Item) → HasTaken k n g items old new l m → g.fresh ≡ [] → pools_load k new.pools ≡ pools_load k old.pools
-load_walked k n g old new l m items taken none = ap (pools_load k) (walked_entries k n g old new l m items taken none) ∙ load_split k g.refused n g.left old.pools
+load_walked k n g old new l m items taken none = ap (pools_load k) (walked_entries k n g old new l m items taken none) ∙ load_split k g.refused n g.skipped old.pools
 
 -- and as many more are allocated as came
 allocated_split : (refused : ℕ → Bool) (n number i : ℕ) (es : List Entry) → allocated_in (take i es ++ all_shared refused n (drop i es)) ≡ allocated_in es + sum_given (portions_of refused n number (drop i es))
@@ -260,8 +261,8 @@ allocated_split refused n number (suc i) (e ∷ es) =
 
 pub allocated_walked : (k : Key) (n : ℕ) (g : Grant) (old new : Bucket) (l m : Ledger) (items : List Item) → HasTaken k n g items old new l m → g.fresh ≡ [] → allocated_in new.pools ≡ allocated_in old.pools + length items
 allocated_walked k n g old new l m items taken none =
-    let rows : List Portion = portions_of g.refused n (old.first + g.left) (drop g.left old.pools) in
+    let rows : List Portion = portions_of g.refused n (old.offset + g.skipped) (drop g.skipped old.pools) in
     let came : map portion_of g.parts ≡ rows = taken.grant.parts ∙ rw none (append-nil rows) in
     let long = ap length (sym taken.came) ∙ length_items k g.id g.parts ∙ ap sum_given came in
-    let same = ap allocated_in (walked_entries k n g old new l m items taken none) ∙ allocated_split g.refused n (old.first + g.left) g.left old.pools in
+    let same = ap allocated_in (walked_entries k n g old new l m items taken none) ∙ allocated_split g.refused n (old.offset + g.skipped) g.skipped old.pools in
     omega arith

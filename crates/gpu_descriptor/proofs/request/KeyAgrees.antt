@@ -17,8 +17,8 @@ pub record Became (given : ℕ) (refused : Bool) (e f : Entry) : Type 0 where
   pub pool : f.pool ≡ e.pool
   pub capacity : f.capacity ≡ e.capacity
   pub allocated : f.allocated ≡ e.allocated + given
-  pub room : f.allocated + f.free ≤ e.allocated + e.free
-  pub whole : refused ≡ false → f.allocated + f.free ≡ e.allocated + e.free
+  pub room : f.allocated + f.available ≤ e.allocated + e.available
+  pub whole : refused ≡ false → f.allocated + f.available ≡ e.allocated + e.available
 
 -- the pool once sets of the key came out of it, and it may have refused
 pub pool_booked : (k : Key) (pool : Pool) (e f : Entry) (names : List ℕ) (refused : Bool) → IsAsBooked k pool e → Became (length names) refused e f → IsAsBooked k (pool_with (live_sets k.counts names) refused pool) f

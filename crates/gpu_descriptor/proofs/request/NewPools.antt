@@ -1,5 +1,5 @@
 -- The new pools of a request: their sizes, their numbers, and what the pools before them have left.
-use Rattle.gpu_descriptor.proofs.Common.{◌≡◌, ℕ, ◌+◌, ◌-◌, ◌<◌, Bool, List, [], ◌∷◌, ◌++◌, map, length, take, refl, sym, ap, ◌∙◌, arith, append_assoc, length-append, All, map-append, take_at, All-nil, All-cons, All-append, All-same, sum_by-cons, State, Key, Entry, Fresh, AreSized, AreFull, IsFreshList, given_by, fresh_entry, Grant, granted, pool_load, Call, IsDone, out_then, wanting, AreBelowTwice, offer, rest, shared, all_shared}
+use Rattle.gpu_descriptor.proofs.Common.{◌≡◌, ℕ, ◌+◌, ◌-◌, ◌<◌, Bool, List, [], ◌∷◌, ◌++◌, map, length, take, refl, sym, ap, ◌∙◌, arith, append_assoc, length-append, All, map-append, take_at, All-nil, All-cons, All-append, All-same, sum_by-cons, State, Key, Entry, Fresh, AreSized, AreFull, IsFreshList, given_by, fresh_entry, Grant, granted, pool_descriptors, Call, IsDone, out_then, wanting, AreBelowTwice, offer, rest, shared, all_shared}
 use Rattle.gpu_descriptor.specs.Model.FreshPools.IsFreshList.{none as no_fresh, some as some_fresh}
 use Rattle.gpu_descriptor.proofs.table.Exact.{key_exact}
 use Rattle.gpu_descriptor.proofs.request.NextSize.{next_below}
@@ -10,59 +10,59 @@ pub front_below : (k : Key) (room total wanted : ℕ) (pools : List Fresh) → A
 front_below k room total wanted [] sized full short = tt
 front_below k room total wanted (f ∷ pools) sized full short =
     let sum = sum_by-cons (λ (g : Fresh). g.given) f pools in
-    (omega arith, next_below k room total wanted f.size sized.0, front_below k (room - pool_load k f.size) (total + f.given) (wanted - f.given) pools sized.1 full.1 (omega arith))
+    (omega arith, next_below k room total wanted f.size sized.0, front_below k (room - pool_descriptors k f.size) (total + f.given) (wanted - f.given) pools sized.1 full.1 (omega arith))
 
 pub list_below : (k : Key) (room total wanted : ℕ) (front : List Fresh) (last : Fresh) → AreSized k room total wanted (front ++ last ∷ []) → AreFull front → given_by front < wanted → AreBelowTwice total wanted (front ++ last ∷ [])
 list_below k room total wanted [] last sized full short = (omega arith, next_below k room total wanted last.size sized.0, tt)
 list_below k room total wanted (f ∷ front) last sized full short =
     let sum = sum_by-cons (λ (g : Fresh). g.given) f front in
-    (omega arith, next_below k room total wanted f.size sized.0, list_below k (room - pool_load k f.size) (total + f.given) (wanted - f.given) front last sized.1 full.1 (omega arith))
+    (omega arith, next_below k room total wanted f.size sized.0, list_below k (room - pool_descriptors k f.size) (total + f.given) (wanted - f.given) front last sized.1 full.1 (omega arith))
 
 -- ---- known free places
 
 -- where more are wanted than the pools have, none is left
-pub shares_used : (refused : ℕ → Bool) (n : ℕ) (es : List Entry) → 0 < rest refused n es → All (λ e. e.free ≡ 0) (all_shared refused n es)
-shares_used refused n [] some = All-nil (λ (e : Entry). e.free ≡ 0)
+pub shares_used : (refused : ℕ → Bool) (n : ℕ) (es : List Entry) → 0 < rest refused n es → All (λ e. e.available ≡ 0) (all_shared refused n es)
+shares_used refused n [] some = All-nil (λ (e : Entry). e.available ≡ 0)
 shares_used refused n (e ∷ newer) some =
     let sum = sum_by-cons (offer refused) e newer in
-    let here : (shared refused n newer e).free ≡ 0 = omega arith in
-    All-cons (λ (x : Entry). x.free ≡ 0) (shared refused n newer e) (all_shared refused n newer) here (shares_used refused n newer (omega arith))
+    let here : (shared refused n newer e).available ≡ 0 = omega arith in
+    All-cons (λ (x : Entry). x.available ≡ 0) (shared refused n newer e) (all_shared refused n newer) here (shares_used refused n newer (omega arith))
 
-full_used : (pools : List Fresh) → AreFull pools → All (λ e. e.free ≡ 0) (map fresh_entry pools)
-full_used [] full = All-nil (λ (e : Entry). e.free ≡ 0)
+full_used : (pools : List Fresh) → AreFull pools → All (λ e. e.available ≡ 0) (map fresh_entry pools)
+full_used [] full = All-nil (λ (e : Entry). e.available ≡ 0)
 full_used (f ∷ pools) full =
     let is = full.0 in
-    let here : (fresh_entry f).free ≡ 0 = omega arith in
-    All-cons (λ (e : Entry). e.free ≡ 0) (fresh_entry f) (map fresh_entry pools) here (full_used pools full.1)
+    let here : (fresh_entry f).available ≡ 0 = omega arith in
+    All-cons (λ (e : Entry). e.available ≡ 0) (fresh_entry f) (map fresh_entry pools) here (full_used pools full.1)
 
 -- all but the last entry
 but_last : (es : List Entry) (e : Entry) → take (length (es ++ e ∷ []) - 1) (es ++ e ∷ []) ≡ es
 but_last es e = (let long = length-append es (e ∷ []) in take_at es (e ∷ []) (length (es ++ e ∷ []) - 1) (omega arith))
 
-granted_entries : (k : Key) (n : ℕ) (g : Grant) (s : State) → g.left ≡ 0 → ((granted k n g s).books k).pools ≡ all_shared g.refused n (s.books k).pools ++ map fresh_entry g.fresh
+granted_entries : (k : Key) (n : ℕ) (g : Grant) (s : State) → g.skipped ≡ 0 → ((granted k n g s).books k).pools ≡ all_shared g.refused n (s.books k).pools ++ map fresh_entry g.fresh
 granted_entries k n g s all = rw (key_exact.self k, all) refl
 
 -- ---- a request that was met
 
 -- no pool of the key but the newest has a known free place left
 abbrev pub AreFilled : Call → Type 0
-AreFilled c = let pools = (c.new.books c.request.key).pools in All (λ e. e.free ≡ 0) (take (length pools - 1) pools)
+AreFilled c = let pools = (c.new.books c.key).pools in All (λ e. e.available ≡ 0) (take (length pools - 1) pools)
 
 module _ (c : Call) (d : IsDone c) where
   abbrev k : Key
-  k = c.request.key
+  k = c.key
 
   pub done_filled : 0 < length d.grant.fresh → AreFilled c
   done_filled more = by_list d.fresh
     where
-      by_list : IsFreshList k (c.request.limit - d.pooled) (out_then c.request c.old d.grant) (wanting c.request c.old d.grant) d.grant.fresh → AreFilled c
+      by_list : IsFreshList k (c.limit - d.pooled) (out_then c d.grant) (wanting c d.grant) d.grant.fresh → AreFilled c
       by_list (no_fresh zero_wanted empty) = (let e = ap length empty in absurd (omega arith))
       by_list (some_fresh front last is short sized le given) =
-          let shares : List Entry = all_shared d.grant.refused c.request.count (c.old.books k).pools in
+          let shares : List Entry = all_shared d.grant.refused c.count (c.old.books k).pools in
           let entries : (c.new.books k).pools ≡ (shares ++ map fresh_entry front) ++ fresh_entry last ∷ [] =
           ap (λ (w : State). (w.books k).pools) d.state
-          ∙ granted_entries k c.request.count d.grant c.old d.all
+          ∙ granted_entries k c.count d.grant c.old d.all
           ∙ rw (is, map-append fresh_entry front (last ∷ [])) (sym (append_assoc shares (map fresh_entry front) (fresh_entry last ∷ []))) in
           let few = short.short in
-          let used = All-append (λ (e : Entry). e.free ≡ 0) shares (map fresh_entry front) (shares_used d.grant.refused c.request.count (c.old.books k).pools (omega arith)) (full_used front short.full) in
-          All-same (λ (e : Entry). e.free ≡ 0) _ (shares ++ map fresh_entry front) (ap (λ (es : List Entry). take (length es - 1) es) entries ∙ but_last (shares ++ map fresh_entry front) (fresh_entry last)) used
+          let used = All-append (λ (e : Entry). e.available ≡ 0) shares (map fresh_entry front) (shares_used d.grant.refused c.count (c.old.books k).pools (omega arith)) (full_used front short.full) in
+          All-same (λ (e : Entry). e.available ≡ 0) _ (shares ++ map fresh_entry front) (ap (λ (es : List Entry). take (length es - 1) es) entries ∙ but_last (shares ++ map fresh_entry front) (fresh_entry last)) used

@@ -1,5 +1,5 @@
 -- What a key's next pool takes of the room, and when its size was cut.
-use Rattle.gpu_descriptor.proofs.Common.{◌≡◌, ℕ, ◌+◌, ◌-◌, ◌*◌, ◌<◌, ◌≤◌, max, sum, List, [], ◌∷◌, ◌++◌, inl, inr, refl, sym, ◌∙◌, subst, arith, mul-le-mul_right, cases_Bool, IsPoolSize, sets_in_room, start_size, Key, Fresh, IsNextSize, AreSized, room_after, pool_load}
+use Rattle.gpu_descriptor.proofs.Common.{◌≡◌, ℕ, ◌+◌, ◌-◌, ◌*◌, ◌<◌, ◌≤◌, max, sum, List, [], ◌∷◌, ◌++◌, inl, inr, refl, sym, ◌∙◌, subst, arith, mul-le-mul_right, cases_Bool, IsPoolSize, sets_in_room, start_size, Key, Fresh, IsNextSize, AreSized, room_after, pool_descriptors}
 use Rattle.gpu_descriptor_types.proofs.Room.{few_in_room, fits_in_room, whole_in_room}
 use Rattle.gpu_descriptor_types.proofs.Sizes.{pool_size_small, pool_size_below}
 
@@ -16,14 +16,14 @@ module _ (k : Key) (room total wanted size : ℕ) (s : IsNextSize k room total w
   next_below = (let a = few in let b = pool_size_below k.counts total wanted s.whole s.is_whole in omega arith)
 
   -- it fits
-  pub next_fits : pool_load k size ≤ room
+  pub next_fits : pool_descriptors k size ≤ room
   next_fits = elim (cases_Bool k.marked) [
     | inl on ↦ (let is : size ≡ sets_in_room room (sum k.counts) s.whole = s.cut ∙ rw on refl in rw on (fits_in_room room (sum k.counts) s.whole size is s.some))
     | inr off ↦ rw off (omega arith)
   ]
 
   -- so does a pool of one set
-  pub one_fits : pool_load k 1 ≤ room
+  pub one_fits : pool_descriptors k 1 ≤ room
   one_fits = (
       let all = next_fits in
       elim (cases_Bool k.marked) [
@@ -35,7 +35,7 @@ module _ (k : Key) (room total wanted size : ℕ) (s : IsNextSize k room total w
       ])
 
   -- where it leaves room for another, it was not cut
-  pub next_whole : pool_load k 1 ≤ room - pool_load k size → IsPoolSize k.counts total wanted size
+  pub next_whole : pool_descriptors k 1 ≤ room - pool_descriptors k size → IsPoolSize k.counts total wanted size
   next_whole left = subst (λ n. IsPoolSize k.counts total wanted n) (sym is) s.is_whole
     where
       is : size ≡ s.whole
@@ -46,11 +46,11 @@ module _ (k : Key) (room total wanted size : ℕ) (s : IsNextSize k room total w
 
 -- ---- several, one after another
 
-pub room_more : (k : Key) (room : ℕ) (pools : List Fresh) (f : Fresh) → room_after k room (pools ++ f ∷ []) ≡ room_after k room pools - pool_load k f.size
+pub room_more : (k : Key) (room : ℕ) (pools : List Fresh) (f : Fresh) → room_after k room (pools ++ f ∷ []) ≡ room_after k room pools - pool_descriptors k f.size
 room_more k room [] f = refl
-room_more k room (g ∷ pools) f = room_more k (room - pool_load k g.size) pools f
+room_more k room (g ∷ pools) f = room_more k (room - pool_descriptors k g.size) pools f
 
 -- before the last of some there was room for one
-pub last_fits : (k : Key) (room total wanted : ℕ) (front : List Fresh) (last : Fresh) → AreSized k room total wanted (front ++ last ∷ []) → pool_load k 1 ≤ room_after k room front
+pub last_fits : (k : Key) (room total wanted : ℕ) (front : List Fresh) (last : Fresh) → AreSized k room total wanted (front ++ last ∷ []) → pool_descriptors k 1 ≤ room_after k room front
 last_fits k room total wanted [] last sized = one_fits k room total wanted last.size sized.0
-last_fits k room total wanted (f ∷ front) last sized = last_fits k (room - pool_load k f.size) (total + f.given) (wanted - f.given) front last sized.1
+last_fits k room total wanted (f ∷ front) last sized = last_fits k (room - pool_descriptors k f.size) (total + f.given) (wanted - f.given) front last sized.1

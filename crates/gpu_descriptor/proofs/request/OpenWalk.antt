@@ -14,13 +14,13 @@ pub record OpenWalk {P : Type 0} (name : P → ℕ) (k : Key) (n id first wantin
   pub listed : numbers ≡ open_numbers first (free_in items)
   pub left : ℕ
   pub within : left ≤ length old
-  pub closed : (j : ℕ) (e : Entry) → left ≤ j → slice_get (map (entry_of name) items) j ≡ Some e → min wanting e.free ≡ 0
+  pub closed : (j : ℕ) (e : Entry) → left ≤ j → slice_get (map (entry_of name) items) j ≡ Some e → min wanting e.available ≡ 0
   pub walking : Walking k n id first left wanting out old (map (entry_of name) items) l m
 
 module _ {P : Type 0} {name : P → ℕ} {k : Key} {n id first wanting : ℕ} {out : List Item} {old : List Entry} {items : List (DescriptorPool P)} {numbers : List ℕ} {l m : Ledger}
     (booked : AreBookedIn k l.pools old) (s : OpenWalk name k n id first wanting out old items numbers l m) where
-  free_get : (j : ℕ) (e : Entry) → slice_get (map (entry_of name) items) j ≡ Some e → slice_get (free_in items) j ≡ Some e.free
-  free_get j e at = ap (λ (free : List ℕ). slice_get free j) (sym (map-map (λ (d : Entry). d.free) (entry_of name) items)) ∙ slice_get-map (λ (d : Entry). d.free) (map (entry_of name) items) j ∙ ap (option_map (λ (d : Entry). d.free)) at
+  free_get : (j : ℕ) (e : Entry) → slice_get (map (entry_of name) items) j ≡ Some e → slice_get (free_in items) j ≡ Some e.available
+  free_get j e at = ap (λ (free : List ℕ). slice_get free j) (sym (map-map (λ (d : Entry). d.available) (entry_of name) items)) ∙ slice_get-map (λ (d : Entry). d.available) (map (entry_of name) items) j ∙ ap (option_map (λ (d : Entry). d.available)) at
 
   -- where nothing is wanting the older pools are left
   pub walk_sated : wanting ≡ 0 → Walking k n id first 0 wanting out old (map (entry_of name) items) l m
@@ -28,7 +28,7 @@ module _ {P : Type 0} {name : P → ℕ} {k : Key} {n id first wanting : ℕ} {o
 
   -- where no pool is open they have nothing
   pub walk_empty : numbers ≡ [] → Walking k n id first 0 wanting out old (map (entry_of name) items) l m
-  walk_empty none = walk_gap k n id first wanting out old (map (entry_of name) items) l m booked s.left 0 s.left (omega arith) s.within (λ j e le lt at. (let z = open_all_none first (free_in items) (sym s.listed ∙ none) j e.free (free_get j e at) in omega arith)) s.walking
+  walk_empty none = walk_gap k n id first wanting out old (map (entry_of name) items) l m booked s.left 0 s.left (omega arith) s.within (λ j e le lt at. (let z = open_all_none first (free_in items) (sym s.listed ∙ none) j e.available (free_get j e at) in omega arith)) s.walking
 
   module _ (some : 0 < wanting) (front : List ℕ) (number : ℕ) (last : numbers ≡ front ++ number ∷ []) where
     newest : IsNewestOpen first (free_in items) front number
@@ -58,7 +58,7 @@ module _ {P : Type 0} {name : P → ℕ} {k : Key} {n id first wanting : ℕ} {o
       pub walk_reaches : Walking k n id first (suc (number - first)) wanting out old (map (entry_of name) items) l m
       walk_reaches =
           let to : suc (number - first) ≤ s.left = elim (cases_lt (number - first) s.left) [ inl lt ↦ omega arith | inr le ↦ (let a = s.closed (number - first) (entry_of name p) le entry_at_place in let b = has_free in absurd (omega arith)) ] in
-          walk_gap k n id first wanting out old (map (entry_of name) items) l m booked (s.left - suc (number - first)) (suc (number - first)) s.left (omega arith) s.within (λ j e le lt there. (let z = newer j e.free (omega arith) (free_get j e there) in omega arith)) s.walking
+          walk_gap k n id first wanting out old (map (entry_of name) items) l m booked (s.left - suc (number - first)) (suc (number - first)) s.left (omega arith) s.within (λ j e le lt there. (let z = newer j e.available (omega arith) (free_get j e there) in omega arith)) s.walking
 
       was : slice_get old (number - first) ≡ Some (entry_of name p)
       was = sym (next_was k n id first (number - first) wanting out old (map (entry_of name) items) l m booked walk_reaches (let a = inside in let b = s.long in omega arith)) ∙ entry_at_place
@@ -72,14 +72,14 @@ module _ {P : Type 0} {name : P → ℕ} {k : Key} {n id first wanting : ℕ} {o
         listed_now_open has = listed_stays first items numbers s.listed (number - first) p q at has_free has
 
         pub closed_now : (names : List ℕ) (m' : Ledger) (wanting' : ℕ) → IsAsked k wanting names (entry_of name p) (entry_of name q) m m' → wanting' + length names ≡ wanting
-            → (j : ℕ) (e : Entry) → number - first ≤ j → slice_get (map (entry_of name) (slice_set items (number - first) q)) j ≡ Some e → min wanting' e.free ≡ 0
+            → (j : ℕ) (e : Entry) → number - first ≤ j → slice_get (map (entry_of name) (slice_set items (number - first) q)) j ≡ Some e → min wanting' e.available ≡ 0
         closed_now names m' wanting' asked less j e le there = elim (set_got (map (entry_of name) items) (number - first) (entry_of name q) j e (ap (λ (x : List Entry). slice_get x j) (sym (map-set (entry_of name) items (number - first) q)) ∙ there)) [
           | inl here ↦ (
-              let free : e.free ≡ q.available = ap (λ (d : Entry). d.free) here.1 in
-              let left_over : q.available ≡ (if asked.refused then 0 else p.available) - length names = ap (λ (d : Entry). d.free) asked.entry in
+              let free : e.available ≡ q.available = ap (λ (d : Entry). d.available) here.1 in
+              let left_over : q.available ≡ (if asked.refused then 0 else p.available) - length names = ap (λ (d : Entry). d.available) asked.entry in
               let many : length names ≡ min (if asked.refused then 0 else p.available) wanting = asked.many in
               omega arith)
-          | inr other ↦ (let apart = other.0 in let z = newer j e.free (omega arith) (free_get j e other.1) in omega arith)
+          | inr other ↦ (let apart = other.0 in let z = newer j e.available (omega arith) (free_get j e other.1) in omega arith)
         ]
 
         -- one look for one pool that was asked
@@ -106,7 +106,7 @@ module _ {P : Type 0} {name : P → ℕ} {k : Key} {n id first wanting : ℕ} {o
         open_walk_stop room error m' ids starts same none = rw (sym ids, sym starts, map-set (entry_of name) items (number - first) q) (walk_stop k room n id first (number - first) wanting out old (map (entry_of name) items) l m m' (entry_of name p) (entry_of name q) error walk_reaches was entry_at_place same none)
 
         pub listed_now_same : entry_of name q ≡ entry_of name p → numbers ≡ open_numbers first (free_in (slice_set items (number - first) q))
-        listed_now_same same = listed_now_open (let a : q.available ≡ p.available = ap (λ (d : Entry). d.free) same in let b = has_free in omega arith)
+        listed_now_same same = listed_now_open (let a : q.available ≡ p.available = ap (λ (d : Entry). d.available) same in let b = has_free in omega arith)
 
       pub next_is_booked : IsBookedIn k m.pools (entry_of name p)
       next_is_booked = next_booked k n id first (number - first) wanting out old (map (entry_of name) items) l m booked walk_reaches (entry_of name p) was

@@ -1,6 +1,6 @@
 -- A request that took sets is as the definitions say: kept whole, or given back.
 use Rattle.gpu_descriptor.proofs.request.Requested.{load_is, pool_load_is, out_is}
-use Rattle.gpu_descriptor.proofs.Common.{fun_ext, ◌≡◌, ℕ, ◌+◌, ◌-◌, ◌<◌, Some, List, [], ◌∷◌, length, arith, Result, Ok, Err, OnOk, refl, sym, ap, ◌∙◌, subst, length-map, side, Meaning, Ledger, no_rise, AllocationError, DescriptorSet, Stop, State, Item, Agree, AreOutstanding, Option, Pool, count_of, outstanding, with_bucket, Key, Bucket, HasDistinctKeys, Allocations, KeepsForeign, LosesNone, GivesBack, Grant, IsGrantOf, bucket_with, items_in, granted, ledger_with, IsTaken, IsRefused, marked_load, Allocates, Call, Proceeds, taken_by, risen, rollback_rise, StopsAt, stop_answer, stop_rise, IsUntouched, KeepsOtherKeys, AreOfKey, AreOutBesides, KeepsOutstanding, released, given_back, pools_gone, call_of, Takes, runs, item_of, items_of, Agrees, state_of, table_of, outstanding_of, marked_load_of, pool_load_of, HasTaken}
+use Rattle.gpu_descriptor.proofs.Common.{fun_ext, ◌≡◌, ℕ, ◌+◌, ◌-◌, ◌<◌, Some, List, [], ◌∷◌, length, arith, Result, Ok, Err, OnOk, refl, sym, ap, ◌∙◌, subst, length-map, side, Meaning, Ledger, no_rise, AllocationError, DescriptorSet, Stop, State, Item, Agree, AreOutstanding, Option, Pool, count_of, outstanding, key_eq, if◌then◌else◌, Key, Bucket, HasDistinctKeys, Allocations, KeepsForeign, LosesNone, GivesBack, Grant, IsGrantOf, bucket_with, items_in, granted, ledger_with, IsTaken, IsRefused, marked_load, Allocates, Call, Proceeds, taken_by, risen, rollback_rise, StopsAt, stop_answer, stop_rise, IsUntouched, KeepsOtherKeys, AreOfKey, AreOutBesides, KeepsOutstanding, released, given_back, pools_gone, call_of, Takes, runs, item_of, items_of, Agrees, state_of, table_of, outstanding_of, marked_load_of, pool_load_of, HasTaken}
 use Rattle.gpu_descriptor.specs.Caller.Others.{others_of}
 use Rattle.gpu_descriptor.specs.Model.Outcomes.Allocates.{done, stopped}
 use Rattle.gpu_descriptor.specs.Caller.States.{keys_of}
@@ -12,6 +12,10 @@ use Rattle.gpu_descriptor.proofs.release.ReleaseAgrees.{takes}
 use Rattle.gpu_descriptor.proofs.foreign.OthersStay.{others_stay}
 use Rattle.gpu_descriptor.proofs.release.OtherKeys.{release_others, untouched_twice}
 use Rattle.gpu_descriptor.proofs.request.Rollback.{give_back_rise, only_key, keys_table, unnamed_key, load_of_items}
+
+-- the state with another bucket of a key, and another ledger
+abbrev with_bucket : Key → Bucket → (ℕ → Option Pool) → State → State
+with_bucket k b ledger s = record { books = λ l. if key_eq k l then b else s.books l; ledger = ledger }
 
 -- what a request took, wherever it stopped
 record Had (k : Key) (n : ℕ) (items : List Item) (old new : Bucket) (l m : ℕ → Option Pool) : Type 0 where

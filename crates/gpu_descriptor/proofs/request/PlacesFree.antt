@@ -1,5 +1,5 @@
 -- Known free places are room on the device.
-use Rattle.gpu_descriptor.proofs.Common.{◌≡◌, ℕ, zero, suc, ◌+◌, ◌*◌, ◌<◌, ◌≤◌, inl, inr, List, [], ◌∷◌, length, map, Bool, true, false, slice_index, refl, sym, ap, subst, arith, eqb-true, mul-le-mul_right, cases_Bool, sum_by-cons, IfSome, IsTrue, sum, sum_by, ◌==◌, flags_of, Key, Entry, count_by_yes, set_exact, IsUpdateAfterBind, Pool, Ledger, HasRoom, IsFiniteLedger, LiveSet, Spells, set_eq, times, pool_counts, IsBookedIn}
+use Rattle.gpu_descriptor.proofs.Common.{◌≡◌, ℕ, zero, suc, ◌+◌, ◌*◌, ◌<◌, ◌≤◌, inl, inr, List, [], ◌∷◌, length, map, Bool, true, false, slice_index, refl, sym, ap, subst, arith, eqb-true, mul-le-mul_right, cases_Bool, sum_by-cons, IsTrue, sum, sum_by, ◌==◌, flags_of, Key, Entry, count_by_yes, set_exact, IsUpdateAfterBind, Ledger, HasRoom, LiveSet, set_eq, times, pool_counts, IsBookedIn}
 use Rattle.gpu_descriptor.proofs.lists.AtPlaces.{count_by_more}
 use Rattle.gpu_descriptor.proofs.sums.Sized.{listed}
 
@@ -43,20 +43,15 @@ pub marked_flags : (counts : List ℕ) (mark : Bool) → IsTrue mark → IsUpdat
 marked_flags counts true h = refl
 marked_flags counts false h = absurd (cc)
 
-pub has_room : (counts : List ℕ) (mark : Bool) (e : Entry) (n : ℕ) (l : Ledger) → IsFiniteLedger l → IsBookedIn (key_with counts mark) l.pools e → n ≤ e.free → HasRoom e.pool n counts mark l
-has_room counts mark e n l finite b few =
-    let spelling = subst (λ o. IfSome o (λ (p : Pool). (sets : List LiveSet) × Spells sets p.live)) b.is_live (finite.spelled e.pool) in
-    let sets : List LiveSet = spelling.0 in
-    let spelled = spelling.1 in
-    let long = listed (key_with counts mark) b.pool e b.booked sets spelled in
+pub has_room : (counts : List ℕ) (mark : Bool) (e : Entry) (n : ℕ) (l : Ledger) → IsBookedIn (key_with counts mark) l.pools e → n ≤ e.available → HasRoom e.pool n counts mark l
+has_room counts mark e n l b few =
     record {
       pool = b.pool;
       is_live = b.is_live;
       marked = λ h. subst (λ (f : ℕ). IsUpdateAfterBind f) (sym b.booked.flags) (marked_flags counts mark h);
-      sets = sets;
-      spelled = spelled;
-      places = let room = b.booked.room in omega arith;
-      each_kind = λ j.
+      places = λ sets spelled. (let long = listed (key_with counts mark) b.pool e b.booked sets spelled in let room = b.booked.room in omega arith);
+      each_kind = λ sets spelled j.
+          let long = listed (key_with counts mark) b.pool e b.booked sets spelled in
           let all : sum_by (λ s. slice_index s.counts j) sets ≡ length sets * slice_index counts j = sum_alike counts j sets (λ x lt. b.booked.sets x (let is = spelled x in omega arith)) in
           let product : (length sets + n) * slice_index counts j ≤ b.pool.capacity * slice_index counts j = mul-le-mul_right (slice_index counts j) (let room = b.booked.room in omega arith) in
           let has = wide (key_with counts mark) b.pool.capacity j in

@@ -1,6 +1,7 @@
 -- What a new pool does to the ledger.
-use Rattle.gpu_descriptor.proofs.Common.{◌↔◌, ◌≡◌, ◌≢◌, ◌<◌, ℕ, ◌+◌, ◌-◌, ◌≤◌, min, List, [], ◌∷◌, ◌++◌, length, Bool, true, false, cond, nat_eq, Some, None, slice_index, refl, sym, ap, ◌∙◌, arith, eqb-true, mul-le-mul_right, fun_ext, update, flags_of, Key, Entry, Pool, Ledger, Counters, HasRoom, HasNoSets, live_sets, changed, fresh, after_create, after_no_create, after_alloc, after_no_alloc, after_destroy, create_refused, alloc_refused, pool_refusals, no_rise, CreatePoolError, pool_counts, DeviceAllocationError, Stop, update_here, IsNextSize, pool_load, IsGrown, IsRefused, risen, stop_rise}
+use Rattle.gpu_descriptor.proofs.Common.{◌↔◌, ◌≡◌, ◌≢◌, ◌<◌, ℕ, ◌+◌, ◌-◌, ◌≤◌, min, List, [], ◌∷◌, ◌++◌, length, Bool, true, false, cond, nat_eq, Some, None, slice_index, refl, sym, ap, ◌∙◌, arith, eqb-true, mul-le-mul_right, fun_ext, update, flags_of, Key, Entry, Pool, Ledger, Counters, HasRoom, HasNoSets, live_sets, fresh, after_create, after_no_create, after_alloc, after_no_alloc, after_destroy, create_refused, alloc_refused, pool_refusals, no_rise, CreatePoolError, pool_counts, DeviceAllocationError, Stop, update_here, IsNextSize, pool_descriptors, IsGrown, IsRefused, risen, stop_rise, option_map}
 use Rattle.gpu_descriptor.specs.declared.bucket.take.Stop.TheVariants as stop
+use Rattle.gpu_descriptor_types.proofs.Counting.{none_spelled}
 use Rattle.gpu_descriptor.proofs.request.Asks.{same_counters}
 use Rattle.gpu_descriptor.proofs.request.PlacesFree.{key_with, wide, marked_flags}
 
@@ -13,10 +14,8 @@ fresh_room counts mark size name n m is few = record {
   pool = fresh (pool_counts counts size) size (flags_of (key_with counts mark));
   is_live = is;
   marked = marked_flags counts mark;
-  sets = [];
-  spelled = λ x. refl;
-  places = omega arith;
-  each_kind = λ j. (let has = wide (key_with counts mark) size j in let some = mul-le-mul_right (slice_index counts j) few in omega arith);
+  places = λ sets spelled. rw (none_spelled sets spelled) (omega arith);
+  each_kind = λ sets spelled j. rw (none_spelled sets spelled) (let has = wide (key_with counts mark) size j in let some = mul-le-mul_right (slice_index counts j) few in omega arith);
 }
 
 pub no_sets : (k : Key) (size name : ℕ) (error : DeviceAllocationError) (m m' : Ledger) → m.pools name ≡ Some (fresh (pool_counts k.counts size) size (flags_of k)) → m' ≡ after_no_alloc name error m → HasNoSets name m'
@@ -24,11 +23,11 @@ no_sets k size name error m m' at is =
     let pool : Pool = fresh (pool_counts k.counts size) size (flags_of k) in
     record {
       pool = record pool { refusals = pool.refusals + pool_refusals error };
-      is_live = ap (λ (x : Ledger). x.pools name) is ∙ update_here m.pools name (changed (λ (pool : Pool). record pool { refusals = pool.refusals + pool_refusals error }) (m.pools name)) ∙ ap (changed (λ (pool : Pool). record pool { refusals = pool.refusals + pool_refusals error })) at;
+      is_live = ap (λ (x : Ledger). x.pools name) is ∙ update_here m.pools name (option_map (λ (pool : Pool). record pool { refusals = pool.refusals + pool_refusals error }) (m.pools name)) ∙ ap (option_map (λ (pool : Pool). record pool { refusals = pool.refusals + pool_refusals error })) at;
       empty = λ x. refl;
     }
 
-pub grown : (k : Key) (room left total wanted size name : ℕ) (names : List ℕ) (old new : List Entry) (l m m' : Ledger) → IsNextSize k room total wanted size → left + pool_load k size ≡ room → length names ≡ min size wanted → l.pools name ≡ None → m ≡ after_create (pool_counts k.counts size) size (flags_of k) name l → m' ≡ after_alloc name (live_sets k.counts names) m → new ≡ old ++ record { pool = name; capacity = size; allocated = min size wanted; free = size - min size wanted } ∷ [] → IsGrown k room left total wanted names old new l m'
+pub grown : (k : Key) (room left total wanted size name : ℕ) (names : List ℕ) (old new : List Entry) (l m m' : Ledger) → IsNextSize k room total wanted size → left + pool_descriptors k size ≡ room → length names ≡ min size wanted → l.pools name ≡ None → m ≡ after_create (pool_counts k.counts size) size (flags_of k) name l → m' ≡ after_alloc name (live_sets k.counts names) m → new ≡ old ++ record { pool = name; capacity = size; allocated = min size wanted; available = size - min size wanted } ∷ [] → IsGrown k room left total wanted names old new l m'
 grown k room left total wanted size name names old new l m m' sized less many none made is now = record {
   pool = record { pool = name; size = size; given = min size wanted };
   size = sized;
@@ -54,7 +53,7 @@ not_grown k size name error l m m' m'' none made refused gone = record {
     all : m'' ≡ after_destroy name (after_no_alloc name error (after_create (pool_counts k.counts size) size (flags_of k) name l))
     all = gone ∙ ap (after_destroy name) (refused ∙ ap (after_no_alloc name error) made)
 
-    at : (b : Bool) (q : ℕ) → nat_eq name q ≡ b → cond b None (cond b (changed (λ (pool : Pool). record pool { refusals = pool.refusals + pool_refusals error }) (update nat_eq l.pools name (Some (fresh (pool_counts k.counts size) size (flags_of k))) name)) (cond b (Some (fresh (pool_counts k.counts size) size (flags_of k))) (l.pools q))) ≡ l.pools q
+    at : (b : Bool) (q : ℕ) → nat_eq name q ≡ b → cond b None (cond b (option_map (λ (pool : Pool). record pool { refusals = pool.refusals + pool_refusals error }) (update nat_eq l.pools name (Some (fresh (pool_counts k.counts size) size (flags_of k))) name)) (cond b (Some (fresh (pool_counts k.counts size) size (flags_of k))) (l.pools q))) ≡ l.pools q
     at true q h = sym none ∙ ap l.pools (eqb-true name q h)
     at false q h = refl
 

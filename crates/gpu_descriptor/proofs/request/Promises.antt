@@ -1,5 +1,5 @@
 -- What every outcome of a request promises.
-use Rattle.gpu_descriptor.proofs.Common.{◌≡◌, ◌≢◌, ℕ, suc, ◌+◌, ◌-◌, ◌*◌, ◌<◌, ◌≤◌, Bool, List, [], ◌∷◌, map, length, sum_by, inl, inr, Result, Err, refl, sym, ap, ◌∙◌, subst, arith, length-map, length-append, sum_by-cons, sum_by-append, pool_size_floor, ◌↔◌, min, OnOk, IfErr, Counters, create_refused, alloc_refused, pool_refusals, no_rise, CreatePoolError, DeviceAllocationError, AllocationError, Stop, Item, Key, Entry, cases_lt, ◌⊎◌, error_of_alloc, Allocates, Call, IsBack, IsDone, IsStopped, StopsAt, out_then, stop_answer, stop_rise, wanting, Fresh, IsFreshFront, IsNextSize, room_after, AreSized, AreFull, IsFreshList, given_by, Grant, Part, portion_of, items_at, items_in, AreBelowTwice, HasCause, IsShort, CreatesOnlyWhereShort, pool_load, Portion, offer, rest, portions_of}
+use Rattle.gpu_descriptor.proofs.Common.{◌≡◌, ◌≢◌, ℕ, suc, ◌+◌, ◌-◌, ◌*◌, ◌<◌, ◌≤◌, Bool, List, [], ◌∷◌, map, length, sum_by, inl, inr, Result, Err, refl, sym, ap, ◌∙◌, subst, arith, length-map, length-append, sum_by-cons, sum_by-append, pool_size_floor, ◌↔◌, min, OnOk, IfErr, Counters, create_refused, alloc_refused, pool_refusals, no_rise, CreatePoolError, DeviceAllocationError, AllocationError, Stop, Item, Key, Entry, cases_lt, ◌⊎◌, error_of_alloc, Allocates, Call, IsBack, IsDone, IsStopped, StopsAt, out_then, stop_answer, stop_rise, wanting, Fresh, IsFreshFront, IsNextSize, room_after, AreSized, AreFull, IsFreshList, given_by, Grant, Part, portion_of, items_at, items_in, AreBelowTwice, HasCause, IsShort, CreatesOnlyWhereShort, pool_descriptors, Portion, offer, rest, portions_of}
 use Rattle.gpu_descriptor_types.proofs.Sizes.{pool_size_some}
 use Rattle.gpu_descriptor_types.specs.declared.errors.CreatePoolError.TheVariants as create_error
 use Rattle.gpu_descriptor_types.specs.declared.errors.DeviceAllocationError.TheVariants as alloc_error
@@ -45,7 +45,7 @@ memory_cause c g why back alloc_error.FragmentedPool memory device host = absurd
 memory_cause c g why back alloc_error.OutOfPoolMemory memory device host = absurd (omega arith)
 
 abbrev Stops : Call → Stop → Grant → ℕ → Type 0
-Stops c why g pooled = StopsAt why c.request.key (c.request.limit - pooled) c.request.count g (c.old.books c.request.key).pools
+Stops c why g pooled = StopsAt why c.key (c.limit - pooled) c.count g (c.old.books c.key).pools
 
 stop_cause : (c : Call) (s : IsStopped c) (why : Stop) → s.why ≡ why → IsBack c s.grant why → Stops c why s.grant s.pooled → HasCause (stop_answer why) c
 stop_cause c s (Existing e) is back at = memory_cause c s.grant (Existing e) back e at.memory refl refl
@@ -62,51 +62,51 @@ stop_cause c s (New alloc_error.OutOfPoolMemory) is back at = (let n = ap (λ (k
 -- ---- pools are created only where the existing ones don't do
 
 -- a pool that was not cut, gave all it has, and didn't do gave the least that a pool holds
-whole_gave : (k : Key) (room total wanted : ℕ) (f : Fresh) → IsNextSize k room total wanted f.size → pool_load k 1 ≤ room - pool_load k f.size → f.given ≡ f.size → f.given < wanted → pool_size_floor k.counts ≤ f.given
+whole_gave : (k : Key) (room total wanted : ℕ) (f : Fresh) → IsNextSize k room total wanted f.size → pool_descriptors k 1 ≤ room - pool_descriptors k f.size → f.given ≡ f.size → f.given < wanted → pool_size_floor k.counts ≤ f.given
 whole_gave k room total wanted f next left full short = (let some = pool_size_some k.counts total wanted f.size (next_whole k room total wanted f.size next left) in omega arith)
 
 -- new pools that gave all they have and didn't do are few; with room left for one more so are they and that one. The last may have been cut
-few : (k : Key) (room total wanted : ℕ) (pools : List Fresh) → AreSized k room total wanted pools → AreFull pools → given_by pools < wanted → (more : ℕ) → (more ≡ 0) ⊎ ((more ≡ pool_size_floor k.counts) × (pool_load k 1 ≤ room_after k room pools)) → length pools * pool_size_floor k.counts + more ≤ given_by pools + pool_size_floor k.counts
+few : (k : Key) (room total wanted : ℕ) (pools : List Fresh) → AreSized k room total wanted pools → AreFull pools → given_by pools < wanted → (more : ℕ) → (more ≡ 0) ⊎ ((more ≡ pool_size_floor k.counts) × (pool_descriptors k 1 ≤ room_after k room pools)) → length pools * pool_size_floor k.counts + more ≤ given_by pools + pool_size_floor k.counts
 few k room total wanted [] sized full short more why = elim why [ inl nothing ↦ (omega arith) | inr one ↦ (let is = one.0 in omega arith) ]
 few k room total wanted (f ∷ []) sized full short more why = elim why [ inl nothing ↦ (omega arith) | inr one ↦ (let is = one.0 in let gave = whole_gave k room total wanted f sized.0 one.1 full.0 (omega arith) in omega arith) ]
 few k room total wanted (f ∷ h ∷ pools) sized full short more why =
     let sum = sum_by-cons (λ (g : Fresh). g.given) f (h ∷ pools) in
     let is = full.0 in
-    let left = one_fits k (room - pool_load k f.size) (total + f.given) (wanted - f.given) h.size sized.1.0 in
+    let left = one_fits k (room - pool_descriptors k f.size) (total + f.given) (wanted - f.given) h.size sized.1.0 in
     let gave = whole_gave k room total wanted f sized.0 left is (omega arith) in
-    let rest = few k (room - pool_load k f.size) (total + f.given) (wanted - f.given) (h ∷ pools) sized.1 full.1 (omega arith) more why in
+    let rest = few k (room - pool_descriptors k f.size) (total + f.given) (wanted - f.given) (h ∷ pools) sized.1 full.1 (omega arith) more why in
     omega arith
 
-pools_short : (c : Call) (g : Grant) → 0 < wanting c.request c.old g → AreBelowTwice (out_then c.request c.old g) (wanting c.request c.old g) g.fresh → OnOk c.answer (AreFilled c) → (n : ℕ) → c.after.created ≡ c.before.created + n → n * pool_size_floor c.request.key.counts < wanting c.request c.old g + pool_size_floor c.request.key.counts → IsShort c g
+pools_short : (c : Call) (g : Grant) → 0 < wanting c g → AreBelowTwice (out_then c g) (wanting c g) g.fresh → OnOk c.answer (AreFilled c) → (n : ℕ) → c.after.created ≡ c.before.created + n → n * pool_size_floor c.key.counts < wanting c g + pool_size_floor c.key.counts → IsShort c g
 pools_short c g some below filled n rise few = record {
   short = omega arith;
-  used_up = shares_used g.refused c.request.count (c.old.books c.request.key).pools some;
+  used_up = shares_used g.refused c.count (c.old.books c.key).pools some;
   filled = filled;
   below_twice = below;
   few = (
-      let m = pool_size_floor c.request.key.counts in
+      let m = pool_size_floor c.key.counts in
       let same : c.after.created - c.before.created ≡ n = omega arith in
-      subst (λ i. i * m < wanting c.request c.old g + m) (sym same) few);
+      subst (λ i. i * m < wanting c g + m) (sym same) few);
 }
 
 -- after a front
-front_short : (c : Call) (s : IsStopped c) (why : Stop) (room : ℕ) → IsBack c s.grant why → IsFreshFront c.request.key room (out_then c.request c.old s.grant) (wanting c.request c.old s.grant) s.grant.fresh
-    → ((stop_rise why).created * pool_size_floor c.request.key.counts ≡ 0) ⊎ (((stop_rise why).created * pool_size_floor c.request.key.counts ≡ pool_size_floor c.request.key.counts) × (pool_load c.request.key 1 ≤ room_after c.request.key room s.grant.fresh)) → IsShort c s.grant
+front_short : (c : Call) (s : IsStopped c) (why : Stop) (room : ℕ) → IsBack c s.grant why → IsFreshFront c.key room (out_then c s.grant) (wanting c s.grant) s.grant.fresh
+    → ((stop_rise why).created * pool_size_floor c.key.counts ≡ 0) ⊎ (((stop_rise why).created * pool_size_floor c.key.counts ≡ pool_size_floor c.key.counts) × (pool_descriptors c.key 1 ≤ room_after c.key room s.grant.fresh)) → IsShort c s.grant
 front_short c s why room back front more =
     let short = front.short in
     let n = ap (λ (k : Counters). k.created) back.counters in
-    let all = few c.request.key room _ _ s.grant.fresh front.sized front.full short ((stop_rise why).created * pool_size_floor c.request.key.counts) more in
-    pools_short c s.grant (omega arith) (front_below c.request.key room _ _ s.grant.fresh front.sized front.full short) (rw back.answer tt) (length s.grant.fresh + (stop_rise why).created) (omega arith) (omega arith)
+    let all = few c.key room _ _ s.grant.fresh front.sized front.full short ((stop_rise why).created * pool_size_floor c.key.counts) more in
+    pools_short c s.grant (omega arith) (front_below c.key room _ _ s.grant.fresh front.sized front.full short) (rw back.answer tt) (length s.grant.fresh + (stop_rise why).created) (omega arith) (omega arith)
 
 -- a list that gave all
-done_short : (c : Call) (d : IsDone c) → IsFreshList c.request.key (c.request.limit - d.pooled) (out_then c.request c.old d.grant) (wanting c.request c.old d.grant) d.grant.fresh → 0 < length d.grant.fresh → IsShort c d.grant
+done_short : (c : Call) (d : IsDone c) → IsFreshList c.key (c.limit - d.pooled) (out_then c d.grant) (wanting c d.grant) d.grant.fresh → 0 < length d.grant.fresh → IsShort c d.grant
 done_short c d (no_fresh zero_wanted empty) some = (let e = ap length empty in absurd (omega arith))
 done_short c d (some_fresh front last parts short sized le given) some =
     let g : Grant = d.grant in
-    let m : ℕ = pool_size_floor c.request.key.counts in
-    let whole_sized = subst (AreSized c.request.key (c.request.limit - d.pooled) (out_then c.request c.old g) (wanting c.request c.old g)) parts sized in
-    let all = few c.request.key (c.request.limit - d.pooled) _ _ front short.sized short.full short.short m (inr (refl, last_fits c.request.key _ _ _ front last whole_sized)) in
-    let below = subst (AreBelowTwice (out_then c.request c.old g) (wanting c.request c.old g)) (sym parts) (list_below c.request.key (c.request.limit - d.pooled) (out_then c.request c.old g) (wanting c.request c.old g) front last whole_sized short.full short.short) in
+    let m : ℕ = pool_size_floor c.key.counts in
+    let whole_sized = subst (AreSized c.key (c.limit - d.pooled) (out_then c g) (wanting c g)) parts sized in
+    let all = few c.key (c.limit - d.pooled) _ _ front short.sized short.full short.short m (inr (refl, last_fits c.key _ _ _ front last whole_sized)) in
+    let below = subst (AreBelowTwice (out_then c g) (wanting c g)) (sym parts) (list_below c.key (c.limit - d.pooled) (out_then c g) (wanting c g) front last whole_sized short.full short.short) in
     let less = short.short in
     let long = ap length parts ∙ length-append front (last ∷ []) in
     let same : length g.fresh ≡ suc (length front) = omega arith in
@@ -146,7 +146,7 @@ module _ (c : Call) where
       absurd (omega arith)
   stop_short s Room back at more = front_short c s Room _ back at.1 (inl (omega arith))
   stop_short s Books back at more = front_short c s Books _ back at.1 (inl (omega arith))
-  stop_short s (Create e) back at more = front_short c s (Create e) _ back at.1 (inl (ap (λ n. n * pool_size_floor c.request.key.counts) (create_creates e) ∙ (omega arith)))
+  stop_short s (Create e) back at more = front_short c s (Create e) _ back at.1 (inl (ap (λ n. n * pool_size_floor c.key.counts) (create_creates e) ∙ (omega arith)))
   stop_short s (New e) back at more = front_short c s (New e) _ back at.1 (inr ((omega arith), fits at.2 (λ same. absurd (cc))))
 
   -- a pool is created only where the existing ones don't do

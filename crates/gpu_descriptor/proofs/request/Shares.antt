@@ -32,16 +32,16 @@ all_same r name refused n (e ∷ es) h =
     let now : ℕ → Bool = or_at r name refused in
     let later = all_same r name refused n es h.1 in
     let same = or_at_apart r name refused e.pool h.0 in
-    let offers : offer now e ≡ offer refused e = ap (λ (b : Bool). if b then 0 else e.free) same in
+    let offers : offer now e ≡ offer refused e = ap (λ (b : Bool). if b then 0 else e.available) same in
     let a = sum_by-cons (offer now) e es in
     let b = sum_by-cons (offer refused) e es in
     let sum : sum_by (offer now) (e ∷ es) ≡ sum_by (offer refused) (e ∷ es) = (let s = later.sum in omega arith) in
     let gives : share now n es e ≡ share refused n es e = (let s = later.rest in omega arith) in
-    let asked : is_asked now n es e ≡ is_asked refused n es e = ap (λ m. nat_lt 0 e.free && nat_lt 0 m) later.rest in
+    let asked : is_asked now n es e ≡ is_asked refused n es e = ap (λ m. nat_lt 0 e.available && nat_lt 0 m) later.rest in
     record {
       sum = sum;
       rest = ap (λ s. n - s) sum;
-      all = (let one : shared now n es e ≡ shared refused n es e = (λ i. record e { allocated = e.allocated + gives i; free = offers i - gives i }) in let all = later.all in cc);
+      all = (let one : shared now n es e ≡ shared refused n es e = (λ i. record e { allocated = e.allocated + gives i; available = offers i - gives i }) in let all = later.all in cc);
       asked = (λ i. (if asked i then 1 else 0) + later.asked i);
       count = sum_by-cons (λ (e : Entry). if now e.pool then 1 else 0) e es ∙ (λ i. (if same i then 1 else 0) + later.count i) ∙ sym (sum_by-cons (λ (e : Entry). if refused e.pool then 1 else 0) e es);
       rows = λ number i. later.rows (number + 1) i ++ record { number = number; pool = e.pool; given = gives i } ∷ [];

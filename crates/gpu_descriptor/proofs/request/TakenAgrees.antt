@@ -82,7 +82,7 @@ module _ (k : Key) (n : ℕ) (g : Grant) (s : State) (agree : Agree s) (grant : 
   sets q = live_sets k.counts (came g.parts q)
 
   abbrev shares : List Portion
-  shares = portions_of g.refused n (b.first + g.left) (drop g.left b.pools)
+  shares = portions_of g.refused n (b.offset + g.skipped) (drop g.skipped b.pools)
 
   abbrev rest : List Portion
   rest = fresh_portions (next_number b) g.fresh
@@ -104,10 +104,10 @@ module _ (k : Key) (n : ℕ) (g : Grant) (s : State) (agree : Agree s) (grant : 
   untouched : (q : ℕ) → IsApart q b.pools → list_any (λ f. f.pool == q) g.fresh ≡ false → after q ≡ s.ledger q
   untouched q apart none =
       let many = came_is q in
-      let a = no_share g.refused n q (b.first + g.left) (drop g.left b.pools) (apart_drop q g.left b.pools apart) in
+      let a = no_share g.refused n q (b.offset + g.skipped) (drop g.skipped b.pools) (apart_drop q g.skipped b.pools apart) in
       let c = no_fresh q (next_number b) g.fresh none in
       let nothing : came g.parts q ≡ [] = nil_from_length (came g.parts q) (omega arith) in
-      let still : g.refused q ≡ false = not_refused g.refused n q (drop g.left b.pools) (apart_drop q g.left b.pools apart) grant.refusing in
+      let still : g.refused q ≡ false = not_refused g.refused n q (drop g.skipped b.pools) (apart_drop q g.skipped b.pools apart) grant.refusing in
       rw (nothing, still, fresh_or_past k q g.fresh (s.ledger q) none) (none_with (s.ledger q))
 
   -- an old pool of a key, or a new one, stands at a number
@@ -143,24 +143,24 @@ module _ (k : Key) (n : ℕ) (g : Grant) (s : State) (agree : Agree s) (grant : 
       let size : ℕ = x.fresh.size in
       let apart : IsApart q b.pools = apart_from q b.pools (λ i e there same. (let was = (booked_of s k agree).each i e there in let bad : ◌≡◌ {A = Option Pool} None (Some was.pool) = sym x.none ∙ ap s.ledger (sym same) ∙ was.is_live in absurd (cc))) in
       let many = came_is q in
-      let none = no_share g.refused n q (b.first + g.left) (drop g.left b.pools) (apart_drop q g.left b.pools apart) in
+      let none = no_share g.refused n q (b.offset + g.skipped) (drop g.skipped b.pools) (apart_drop q g.skipped b.pools apart) in
       let given = x.given in
       let fits = x.made in
-      let empty : Entry = record { pool = q; capacity = size; allocated = 0; free = size } in
+      let empty : Entry = record { pool = q; capacity = size; allocated = 0; available = size } in
       let allocated : f.allocated ≡ x.fresh.given = ap (λ (e : Entry). e.allocated) x.is in
-      let free : f.free ≡ size - x.fresh.given = ap (λ (e : Entry). e.free) x.is in
+      let free : f.available ≡ size - x.fresh.given = ap (λ (e : Entry). e.available) x.is in
       stands_so m empty f (ledgers.fresh (pool_counts k.counts size) size (flags_of k)) (inr (ap (λ (e : Entry). s.ledger e.pool) x.is ∙ x.none, j, x.fresh, place, x.at, ap (λ (e : Entry). e.pool) (sym x.is))) (x.there (s.ledger q))
       (record { flags = refl; at_least = fits.0; small = fits.1; capacity = refl; counts = refl; sets = λ y some. absurd (omega arith); allocated = ∣ ([], refl, λ y. refl) ∣₁; room = omega arith; full = λ never. (let e : 0 + size ≡ size = omega arith in e) })
       (record { pool = ap (λ (e : Entry). e.pool) x.is; capacity = ap (λ (e : Entry). e.capacity) x.is; allocated = omega arith; room = omega arith; whole = λ off. omega arith })
-      (λ y. rw (le-ltb m b.first (omega arith), slice_get_past b.pools (m - b.first) (omega arith)) refl)
+      (λ y. rw (le-ltb m b.offset (omega arith), slice_get_past b.pools (m - b.offset) (omega arith)) refl)
 
   stands : (m : ℕ) (f : Entry) → entry_at new m ≡ Some f → Stands m f
   stands m f at =
       let found = entry_at-found new m f at in
       let kept = booked_of s k agree in
-      elim (taken_stands g.refused n (b.first + g.left) g.left b.pools (map fresh_entry g.fresh) kept.distinct (m - b.first) f found.1) [
+      elim (taken_stands g.refused n (b.offset + g.skipped) g.skipped b.pools (map fresh_entry g.fresh) kept.distinct (m - b.offset) f found.1) [
         | inl old ↦ (
-            let was = kept.each (m - b.first) old.0 old.1 in
+            let was = kept.each (m - b.offset) old.0 old.1 in
             let many = came_is old.0.pool in
             let none = no_fresh old.0.pool (next_number b) g.fresh (not_new s.ledger old.0.pool was.pool g.fresh grant.new was.is_live) in
             let given : given_at old.0.pool shares ≡ length (came g.parts old.0.pool) = omega arith in
@@ -189,7 +189,7 @@ module _ (k : Key) (n : ℕ) (g : Grant) (s : State) (agree : Agree s) (grant : 
   others_stay l m e apart at =
       let was = agree.booked l m e at in
       untouched e.pool (apart_from e.pool b.pools (λ i d there same. (
-      let both = agree.distinct k l (b.first + i) m d e (at_place b i d there) at same in
+      let both = agree.distinct k l (b.offset + i) m d e (at_place b i d there) at same in
       let bad : true ≡ false = sym (key_exact.self k) ∙ ap (key_eq k) both.0 ∙ apart in
       absurd (cc)))) (not_new s.ledger e.pool was.0 g.fresh grant.new was.1)
 
@@ -216,12 +216,12 @@ module _ (k : Key) (n : ℕ) (g : Grant) (s : State) (agree : Agree s) (grant : 
     absent = λ a none. elim (cases_Bool (key_eq k a)) [
       | inl is ↦ (
           let empty : new.pools ≡ [] = rw is at none in
-          let long = length_taken g.refused n g.left b.pools in
-          let parts = length-append (take g.left b.pools ++ all_shared g.refused n (drop g.left b.pools)) (map fresh_entry g.fresh) in
+          let long = length_taken g.refused n g.skipped b.pools in
+          let parts = length-append (take g.skipped b.pools ++ all_shared g.refused n (drop g.skipped b.pools)) (map fresh_entry g.fresh) in
           let short = ap length empty in
-          let first : (t.books a).first ≡ b.first = rw is refl in
+          let first : (t.books a).offset ≡ b.offset = rw is refl in
           first ∙ agree.absent k (nil_from_length b.pools (omega arith)))
-      | inr apart ↦ (let here : t.books a ≡ s.books a = rw apart refl in ap (λ (x : Bucket). x.first) here ∙ agree.absent a (ap (λ (x : Bucket). x.pools) (sym here) ∙ none))
+      | inr apart ↦ (let here : t.books a ≡ s.books a = rw apart refl in ap (λ (x : Bucket). x.offset) here ∙ agree.absent a (ap (λ (x : Bucket). x.pools) (sym here) ∙ none))
     ];
   }
 
@@ -229,25 +229,25 @@ module _ (k : Key) (n : ℕ) (g : Grant) (s : State) (agree : Agree s) (grant : 
   old_at : (m : ℕ) (e : Entry) → entry_at b m ≡ Some e → (d : Entry) × (entry_at new m ≡ Some d) × (d.pool ≡ e.pool)
   old_at m e at =
       let found = entry_at-found b m e at in
-      let kept = taken_named g.left n g.refused b.pools (map fresh_entry g.fresh) (m - b.first) e found.1 in
+      let kept = taken_named g.skipped n g.refused b.pools (map fresh_entry g.fresh) (m - b.offset) e found.1 in
       (kept.0, entry_at-from new m kept.0 found.0 kept.1, kept.2)
 
   -- the new ones stand behind them
   fresh_at : (j : ℕ) (f : Fresh) → slice_get g.fresh j ≡ Some f → entry_at new (next_number b + j) ≡ Some (fresh_entry f)
   fresh_at j f at =
-      let shared : List Entry = take g.left b.pools ++ all_shared g.refused n (drop g.left b.pools) in
-      let long = length_taken g.refused n g.left b.pools in
+      let shared : List Entry = take g.skipped b.pools ++ all_shared g.refused n (drop g.skipped b.pools) in
+      let long = length_taken g.refused n g.skipped b.pools in
       let all = length-append shared (map fresh_entry g.fresh) in
       let there : slice_get (map fresh_entry g.fresh) j ≡ Some (fresh_entry f) = slice_get-map fresh_entry g.fresh j ∙ ap (option_map fresh_entry) at in
       let within = slice_get_within (map fresh_entry g.fresh) j (fresh_entry f) there in
-      let place : next_number b + j - b.first ≡ length shared + j = omega arith in
+      let place : next_number b + j - b.offset ≡ length shared + j = omega arith in
       let same : get_or new.pools (length shared + j) (fresh_entry f) ≡ fresh_entry f = get_or-append-add shared (map fresh_entry g.fresh) j (fresh_entry f) ∙ get_or_from_slice_get (map fresh_entry g.fresh) j (fresh_entry f) (fresh_entry f) there in
       entry_at-from new (next_number b + j) (fresh_entry f) (omega arith) (ap (slice_get new.pools) place ∙ slice_get-get_or new.pools (length shared + j) (fresh_entry f) (omega arith) ∙ ap (λ (e : Entry). Some e) same)
 
   -- each set came from the pool that has its number
   placed : ArePlaced new (map portion_of g.parts)
   placed = subst (ArePlaced new) (sym grant.parts) (placed_append new shares rest
-      (placed_shares new g.refused n (b.first + g.left) (drop g.left b.pools) (λ j m e is at. old_at m e (entry_at-from b m e (omega arith) (ap (slice_get b.pools) (let i : m - b.first ≡ g.left + j = omega arith in i) ∙ sym (get_drop b.pools g.left j) ∙ at))))
+      (placed_shares new g.refused n (b.offset + g.skipped) (drop g.skipped b.pools) (λ j m e is at. old_at m e (entry_at-from b m e (omega arith) (ap (slice_get b.pools) (let i : m - b.offset ≡ g.skipped + j = omega arith in i) ∙ sym (get_drop b.pools g.skipped j) ∙ at))))
       (placed_fresh new (next_number b) g.fresh (λ j m f is at. (fresh_entry f, ap (entry_at new) is ∙ fresh_at j f at, refl))))
 
   pub granted_own : (u : Item) → 0 < count_of u items → u.key ≡ k
@@ -316,7 +316,7 @@ module _ (k : Key) (n : ℕ) (g : Grant) (s : State) (agree : Agree s) (grant : 
   -- the live pools of others stay, and don't come into the books
   pub granted_foreign : KeepsForeign s t
   granted_foreign name pool foreign live = (
-    untouched name (apart_from name b.pools (λ i e at. foreign k (b.first + i) e (at_place b i e at))) (not_new s.ledger name pool g.fresh grant.new live) ∙ live,
+    untouched name (apart_from name b.pools (λ i e at. foreign k (b.offset + i) e (at_place b i e at))) (not_new s.ledger name pool g.fresh grant.new live) ∙ live,
     λ l m f at same. elim (origin l m f at) [
       | inl old ↦ foreign l m old.0 old.1 (sym old.2 ∙ same)
       | inr fresh ↦ absurd (let bad : ◌≡◌ {A = Option Pool} None (Some pool) = sym fresh.1.0 ∙ ap s.ledger same ∙ live in cc)
@@ -325,7 +325,7 @@ module _ (k : Key) (n : ℕ) (g : Grant) (s : State) (agree : Agree s) (grant : 
 
   -- and none is lost
   pub granted_loses_none : LosesNone s t
-  granted_loses_none name pool foreign live = (sym (untouched name (apart_from name b.pools (λ i e at. still k (b.first + i) e (at_place b i e at))) (none_from (λ f. f.pool == name) g.fresh (λ j f at. ne_eqb f.pool name (foreign k (next_number b + j) (fresh_entry f) (rw (key_exact.self k) (fresh_at j f at)))))) ∙ live, still)
+  granted_loses_none name pool foreign live = (sym (untouched name (apart_from name b.pools (λ i e at. still k (b.offset + i) e (at_place b i e at))) (none_from (λ f. f.pool == name) g.fresh (λ j f at. ne_eqb f.pool name (foreign k (next_number b + j) (fresh_entry f) (rw (key_exact.self k) (fresh_at j f at)))))) ∙ live, still)
     where
       still : (l : Key) (m : ℕ) (e : Entry) → entry_at (s.books l) m ≡ Some e → e.pool ≢ name
       still l m e at same = elim (cases_Bool (key_eq k l)) [

@@ -49,8 +49,8 @@ became_shared refused n newer e = record {
   pool = refl;
   capacity = refl;
   allocated = refl;
-  room = (let few : offer refused e ≤ e.free = elim (cases_Bool (refused e.pool)) [ inl on ↦ rw on (omega arith) | inr off ↦ rw off (omega arith) ] in omega arith);
-  whole = λ off. (let all : offer refused e ≡ e.free = rw off refl in omega arith);
+  room = (let few : offer refused e ≤ e.available = elim (cases_Bool (refused e.pool)) [ inl on ↦ rw on (omega arith) | inr off ↦ rw off (omega arith) ] in omega arith);
+  whole = λ off. (let all : offer refused e ≡ e.available = rw off refl in omega arith);
 }
 
 -- no two places have one name

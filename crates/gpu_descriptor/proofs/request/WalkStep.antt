@@ -1,5 +1,5 @@
 -- One step of the walk over a key's pools.
-use Rattle.gpu_descriptor.proofs.Common.{◌≡◌, ℕ, suc, ◌+◌, ◌-◌, inl, inr, List, [], ◌∷◌, ◌++◌, length, map, take, drop, slice_set, Bool, true, false, cond, ◌&&◌, ◌==◌, nat_eq, nat_lt, Option, Some, None, refl, sym, ap, ◌∙◌, subst, arith, eqb-true, eq-eqb, append_assoc, or_cases, and_parts, and_from, or_left, or_right, eqb-false, fun_ext, map-append, append-nil, sum_by-cons, if◌then◌else◌, option_map, times-append, Key, Entry, Bucket, Item, Pool, Ledger, Counters, live_sets, changed, on_pool, no_rise, LiveSet, times, flat_map-append, Grant, Part, fresh_or, items_at, items_in, portion_of, came, pool_with, ledger_with, Fresh, risen, grant_rise, offer, rest, is_asked, share, shared, all_shared, asked_count, refused_count, OnlyAskedRefuse, portions_of, IsAsked, HasTaken}
+use Rattle.gpu_descriptor.proofs.Common.{◌≡◌, ℕ, suc, ◌+◌, ◌-◌, inl, inr, List, [], ◌∷◌, ◌++◌, length, map, take, drop, slice_set, Bool, true, false, cond, ◌&&◌, ◌==◌, nat_eq, nat_lt, Option, Some, None, refl, sym, ap, ◌∙◌, subst, arith, eqb-true, eq-eqb, append_assoc, or_cases, and_parts, and_from, or_left, or_right, eqb-false, fun_ext, map-append, append-nil, sum_by-cons, if◌then◌else◌, option_map, times-append, Key, Entry, Bucket, Item, Pool, Ledger, Counters, live_sets, on_pool, no_rise, LiveSet, times, flat_map-append, Grant, Part, fresh_or, items_at, items_in, portion_of, came, pool_with, ledger_with, Fresh, risen, grant_rise, offer, rest, is_asked, share, shared, all_shared, asked_count, refused_count, OnlyAskedRefuse, portions_of, IsAsked, HasTaken}
 use Rattle.std.proofs.Math.Seq.{set-append_seam}
 use Rattle.gpu_descriptor.proofs.request.Asks.{same_counters}
 use Rattle.gpu_descriptor.proofs.table.Exact.{bucket}
@@ -9,7 +9,7 @@ abbrev pub part : ℕ → ℕ → List ℕ → Part
 part number pool names = record { number = number; pool = pool; names = names }
 
 abbrev pub grant_of : ℕ → ℕ → (ℕ → Bool) → List Fresh → List Part → Grant
-grant_of id left refused fresh parts = record { id = id; left = left; refused = refused; fresh = fresh; parts = parts }
+grant_of id left refused fresh parts = record { id = id; skipped = left; refused = refused; fresh = fresh; parts = parts }
 
 abbrev pub so_far : ℕ → ℕ → (ℕ → Bool) → List Part → Grant
 so_far id left refused parts = grant_of id left refused [] parts
@@ -38,11 +38,11 @@ pub ledger_more : (k : Key) (refused : ℕ → Bool) (fs : List Fresh) (parts : 
     ≡ ledger_with k (grant_of id left' (or_at r name refused) fs (parts ++ part number name names ∷ [])) pools
 ledger_more k refused fs parts r number name names pools id left left' not_yet = fun_ext (λ q. at (nat_eq name q) q refl)
   where
-    here : (o : Option Pool) → changed (pool_with (live_sets k.counts names) r) (option_map (pool_with (live_sets k.counts (came parts name)) false) o) ≡ option_map (pool_with (live_sets k.counts (came parts name ++ names)) r) o
+    here : (o : Option Pool) → option_map (pool_with (live_sets k.counts names) r) (option_map (pool_with (live_sets k.counts (came parts name)) false) o) ≡ option_map (pool_with (live_sets k.counts (came parts name ++ names)) r) o
     here None = refl
     here (Some p) = ap (λ (x : Pool). Some x) (pool_twice k.counts (came parts name) names r p)
 
-    at : (b : Bool) (q : ℕ) → nat_eq name q ≡ b → cond b (changed (pool_with (live_sets k.counts names) r) (option_map (pool_with (live_sets k.counts (came parts name)) (refused name)) (fresh_or k fs name (pools name)))) (option_map (pool_with (live_sets k.counts (came parts q)) (refused q)) (fresh_or k fs q (pools q)))
+    at : (b : Bool) (q : ℕ) → nat_eq name q ≡ b → cond b (option_map (pool_with (live_sets k.counts names) r) (option_map (pool_with (live_sets k.counts (came parts name)) (refused name)) (fresh_or k fs name (pools name)))) (option_map (pool_with (live_sets k.counts (came parts q)) (refused q)) (fresh_or k fs q (pools q)))
         ≡ option_map (pool_with (live_sets k.counts (came (parts ++ part number name names ∷ []) q)) (or_at r name refused q)) (fresh_or k fs q (pools q))
     at true q h = rw (← eqb-true name q h, or_at_here r name refused not_yet, came_more parts (part number name names) name, eq-eqb name name refl, not_yet) (here (fresh_or k fs name (pools name)))
     at false q h = rw (or_at_apart r name refused q (λ e. eqb-false name q h (sym e)), came_more parts (part number name names) q, h, append-nil (came parts q)) refl
@@ -65,10 +65,10 @@ module _ (id n first i : ℕ) (refused : ℕ → Bool) (parts : List Part) (old 
   same = all_same a.refused e.pool refused n newer apart
 
   asked_now : is_asked now n newer e ≡ is_asked refused n newer e
-  asked_now = ap (λ m. nat_lt 0 e.free && nat_lt 0 m) same.rest
+  asked_now = ap (λ m. nat_lt 0 e.available && nat_lt 0 m) same.rest
 
-  offer_now : offer now e ≡ (if a.refused then 0 else e.free)
-  offer_now = ap (λ (b : Bool). if b then 0 else e.free) (or_at_here a.refused e.pool refused not_yet)
+  offer_now : offer now e ≡ (if a.refused then 0 else e.available)
+  offer_now = ap (λ (b : Bool). if b then 0 else e.available) (or_at_here a.refused e.pool refused not_yet)
 
   share_now : share now n newer e ≡ length names
   share_now = (let o = offer_now in let r = same.rest in let many = a.many in omega arith)
@@ -88,10 +88,10 @@ module _ (id n first i : ℕ) (refused : ℕ → Bool) (parts : List Part) (old 
 
   shared_now : all_shared now n (e ∷ newer) ≡ f ∷ all_shared refused n newer
   shared_now =
-      let entry : shared now n newer e ≡ f = (λ j. record e { allocated = e.allocated + share_now j; free = offer_now j - share_now j }) ∙ sym a.entry in
+      let entry : shared now n newer e ≡ f = (λ j. record e { allocated = e.allocated + share_now j; available = offer_now j - share_now j }) ∙ sym a.entry in
       λ j. entry j ∷ same.all j
 
-  count_now : asked_count now n (e ∷ newer) ≡ (if nat_lt 0 e.free && nat_lt 0 (rest refused n newer) then 1 else 0) + asked_count refused n newer
+  count_now : asked_count now n (e ∷ newer) ≡ (if nat_lt 0 e.available && nat_lt 0 (rest refused n newer) then 1 else 0) + asked_count refused n newer
   count_now = λ j. (if asked_now j then 1 else 0) + same.asked j
 
   refused_now : refused_count now (e ∷ newer) ≡ (if a.refused then 1 else 0) + refused_count refused newer
@@ -99,9 +99,9 @@ module _ (id n first i : ℕ) (refused : ℕ → Bool) (parts : List Part) (old 
 
   counters_now : (c : Counters) → l.counters ≡ risen (grant_rise n (so_far id (suc i) refused parts) old) c → m.counters ≡ risen (grant_rise n (so_far id i now (parts ++ part_now ∷ [])) old) c
   counters_now c was =
-      let asked : asked_count now n (drop i old) ≡ (if nat_lt 0 e.free && nat_lt 0 (rest refused n newer) then 1 else 0) + asked_count refused n newer = ap (asked_count now n) tail ∙ count_now in
+      let asked : asked_count now n (drop i old) ≡ (if nat_lt 0 e.available && nat_lt 0 (rest refused n newer) then 1 else 0) + asked_count refused n newer = ap (asked_count now n) tail ∙ count_now in
       let refuse : refused_count now (drop i old) ≡ (if a.refused then 1 else 0) + refused_count refused newer = ap (refused_count now) tail ∙ refused_now in
-      let up = ap (risen (record no_rise { asked = if nat_lt 0 e.free && nat_lt 0 (rest refused n newer) then 1 else 0; pool_refused = if a.refused then 1 else 0 })) was in
+      let up = ap (risen (record no_rise { asked = if nat_lt 0 e.available && nat_lt 0 (rest refused n newer) then 1 else 0; pool_refused = if a.refused then 1 else 0 })) was in
       a.counters ∙ up ∙ same_counters _ _ (omega arith) (omega arith) (omega arith) (omega arith) (omega arith) (omega arith) (omega arith) (omega arith)
 
   parts_now : map portion_of parts ≡ portions_of refused n (first + suc i) newer ++ [] → map portion_of (parts ++ part_now ∷ []) ≡ portions_of now n (first + i) (drop i old) ++ []

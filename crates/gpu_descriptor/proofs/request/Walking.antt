@@ -1,5 +1,5 @@
 -- The walk over a key's pools, as far as it has come.
-use Rattle.gpu_descriptor.proofs.Common.{◌≡◌, ◌≢◌, ℕ, zero, suc, ◌+◌, ◌<◌, ◌≤◌, List, [], ◌∷◌, ◌++◌, length, map, min, take, drop, slice_set, Bool, false, nat_lt, ◌&&◌, Option, Some, Err, refl, sym, ap, ◌∙◌, subst, arith, append-nil, drop_all, fun_ext, slice_get, Key, Entry, Bucket, Item, Pool, Ledger, live_sets, changed, DeviceAllocationError, set_at, update_apart, items_of, Part, items_at, pool_with, ledger_with, rest, all_shared, IsBookedIn, AreBookedIn, IsAsked, IsNoMemory, HasTaken, IsWalked, IsTaken}
+use Rattle.gpu_descriptor.proofs.Common.{◌≡◌, ◌≢◌, ℕ, zero, suc, ◌+◌, ◌<◌, ◌≤◌, List, [], ◌∷◌, ◌++◌, length, map, min, take, drop, slice_set, Bool, false, nat_lt, ◌&&◌, Option, Some, Err, refl, sym, ap, ◌∙◌, subst, arith, append-nil, drop_all, fun_ext, slice_get, Key, Entry, Bucket, Item, Pool, Ledger, live_sets, DeviceAllocationError, set_at, update_apart, items_of, Part, items_at, pool_with, ledger_with, rest, all_shared, IsBookedIn, AreBookedIn, IsAsked, IsNoMemory, HasTaken, IsWalked, IsTaken, option_map}
 use Rattle.gpu_descriptor.specs.declared.bucket.take.Stop.TheVariants.{Existing}
 use Rattle.std.proofs.Math.Seq.{take-length}
 use Rattle.gpu_descriptor.proofs.table.Exact.{bucket}
@@ -48,7 +48,7 @@ module _ (k : Key) (n id first i wanting : ℕ) (items : List Item) (old new : L
         untouched = λ j d lt there.
             let ne : d.pool ≢ e.pool = λ same. (let place = booked.distinct j i d e there at same in absurd (omega arith)) in
             ap (λ (f : ℕ → Option Pool). f d.pool) asked.pools
-            ∙ update_apart m.pools e.pool (changed (pool_with (live_sets k.counts more) asked.refused) (m.pools e.pool)) d.pool ne
+            ∙ update_apart m.pools e.pool (option_map (pool_with (live_sets k.counts more) asked.refused) (m.pools e.pool)) d.pool ne
             ∙ s.untouched j d (omega arith) there;
       }
 
@@ -88,7 +88,7 @@ walk_stop k room n id first i wanting items old new l m m' e f error s was is sa
     here = split_at old i e was;
     left = (let long = long_take old i e was in omega arith);
     no_fresh = refl;
-    asked = ap (λ w. nat_lt 0 e.free && nat_lt 0 w) (sym s.wants) ∙ none.asked;
+    asked = ap (λ w. nat_lt 0 e.available && nat_lt 0 w) (sym s.wants) ∙ none.asked;
     memory = none.memory;
   },
   none.refused,
@@ -100,7 +100,7 @@ get_at (x ∷ xs) zero h = (x, refl)
 get_at (x ∷ xs) (suc i) h = get_at xs i (omega arith)
 
 -- older pools that have nothing, or of which nothing is wanted, are left as they are
-pub walk_gap : (k : Key) (n id first wanting : ℕ) (items : List Item) (old new : List Entry) (l m : Ledger) → AreBookedIn k l.pools old → (gap i left : ℕ) → left ≡ gap + i → left ≤ length old → ((j : ℕ) (e : Entry) → i ≤ j → j < left → slice_get new j ≡ Some e → min wanting e.free ≡ 0) → Walking k n id first left wanting items old new l m → Walking k n id first i wanting items old new l m
+pub walk_gap : (k : Key) (n id first wanting : ℕ) (items : List Item) (old new : List Entry) (l m : Ledger) → AreBookedIn k l.pools old → (gap i left : ℕ) → left ≡ gap + i → left ≤ length old → ((j : ℕ) (e : Entry) → i ≤ j → j < left → slice_get new j ≡ Some e → min wanting e.available ≡ 0) → Walking k n id first left wanting items old new l m → Walking k n id first i wanting items old new l m
 walk_gap k n id first wanting items old new l m booked zero i left is here none s = subst (λ (j : ℕ). Walking k n id first j wanting items old new l m) (let e : left ≡ i = omega arith in e) s
 walk_gap k n id first wanting items old new l m booked (suc gap) i left is here none s =
     let one : left ≡ suc (gap + i) = omega arith in

@@ -100,7 +100,7 @@ OutOfAll ledger table = (items : List Item) × (length items ≡ sum_over sets_o
 table_out : (ledger : ℕ → Option Pool) (table : List (Key × Bucket)) → HasDistinctKeys table → ((k : Key) (i : ℕ) (e : Entry) → slice_get (books_of table k).pools i ≡ Some e → IsBookedIn k ledger e) → ∥ OutOfAll ledger table ∥₁
 table_out ledger [] distinct booked = ∣ ([], refl, (λ t. sym (out_of_none ledger t)), refl) ∣₁
 table_out ledger (row ∷ table) distinct booked =
-    ∥∥₁_elim (key_out row.0 row.1.id row.1.first row.1.pools ledger (λ i e at. booked row.0 i e (ap (λ (b : Bucket). slice_get b.pools i) (first_books row table) ∙ at))) ∥∥₁_prop (λ here.
+    ∥∥₁_elim (key_out row.0 row.1.id row.1.offset row.1.pools ledger (λ i e at. booked row.0 i e (ap (λ (b : Bucket). slice_get b.pools i) (first_books row table) ∙ at))) ∥∥₁_prop (λ here.
     ∥∥₁_map (table_out ledger table distinct.1 (λ k i e at. booked k i e (behind k i e at))) (λ rest. (
       here.items ++ rest.0,
       (let both = length-append here.items rest.0 in let whole = sum_by-cons (λ (r : Key × Bucket). sets_out r.0 r.1) row table in omega arith),

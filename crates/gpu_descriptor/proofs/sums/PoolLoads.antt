@@ -1,14 +1,14 @@
 -- The descriptors of a key's pools, as the code has them.
-use Rattle.gpu_descriptor.proofs.Common.{◌≡◌, ℕ, zero, suc, ◌+◌, ◌<◌, List, [], ◌∷◌, length, drop, get_or, ap, arith, set, sum_by-cons, DescriptorPool, Key, common_steps, pool_load, stored_load}
+use Rattle.gpu_descriptor.proofs.Common.{◌≡◌, ℕ, zero, suc, ◌+◌, ◌<◌, List, [], ◌∷◌, length, drop, get_or, ap, arith, set, sum_by-cons, DescriptorPool, Key, common_steps, pool_descriptors, stored_load}
 
 module _ {P : Type 0} (k : Key) where
-  cons : (p : DescriptorPool P) (ps : List (DescriptorPool P)) → stored_load k (p ∷ ps) ≡ pool_load k p.capacity + stored_load k ps
-  cons p ps = sum_by-cons (λ (q : DescriptorPool P). pool_load k q.capacity) p ps
+  cons : (p : DescriptorPool P) (ps : List (DescriptorPool P)) → stored_load k (p ∷ ps) ≡ pool_descriptors k p.capacity + stored_load k ps
+  cons p ps = sum_by-cons (λ (q : DescriptorPool P). pool_descriptors k q.capacity) p ps
 
   -- the first goes
-  pub stored_first : (items : List (DescriptorPool P)) (p : DescriptorPool P) → 0 < length items → p ≡ get_or items 0 p → stored_load k items ≡ pool_load k p.capacity + stored_load k (drop 1 items)
+  pub stored_first : (items : List (DescriptorPool P)) (p : DescriptorPool P) → 0 < length items → p ≡ get_or items 0 p → stored_load k items ≡ pool_descriptors k p.capacity + stored_load k (drop 1 items)
   stored_first [] p some is = absurd (omega arith)
-  stored_first (x ∷ items) p some is = (let same : pool_load k p.capacity ≡ pool_load k x.capacity = ap (λ (y : DescriptorPool P). pool_load k y.capacity) is in let all = cons x items in omega arith)
+  stored_first (x ∷ items) p some is = (let same : pool_descriptors k p.capacity ≡ pool_descriptors k x.capacity = ap (λ (y : DescriptorPool P). pool_descriptors k y.capacity) is in let all = cons x items in omega arith)
 
   -- counts move
   pub stored_put : (items : List (DescriptorPool P)) (i : ℕ) (q : DescriptorPool P) (raw : P) (allocated available : ℕ) → i < length items → q ≡ get_or items i q

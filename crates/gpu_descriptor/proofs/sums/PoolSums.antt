@@ -1,5 +1,6 @@
 -- Over all pools of marked keys: the pool load is what the device created them with, and the marked load is no more.
-use Rattle.gpu_descriptor.proofs.Common.{◌≡◌, ℕ, suc, ◌<◌, ◌≤◌, true, false, List, [], ◌∷◌, length, slice_get, sum, sum_by, Option, Some, inl, inr, refl, ap, ◌∙◌, arith, ◌↔◌, option_map_or, cases_Bool, sum_by-cons, Pool, State, Agree, Key, Entry, Bucket, books_of, HasDistinctKeys, sum_over, AddsUp, common_steps, IsBookedIn, allocated_in, marked_load, pool_load, pools_load, bucket_load, descriptors_out, descriptors_created}
+use Rattle.gpu_descriptor.proofs.Common.{◌≡◌, ℕ, suc, ◌<◌, ◌≤◌, true, false, List, [], ◌∷◌, length, slice_get, sum, sum_by, Option, Some, inl, inr, refl, ap, ◌∙◌, arith, ◌↔◌, option_map_or, cases_Bool, sum_by-cons, Pool, State, Agree, Key, Entry, Bucket, books_of, HasDistinctKeys, sum_over, AddsUp, common_steps, IsBookedIn, allocated_in, marked_load, pool_descriptors, bucket_load, descriptors_out, descriptors_created}
+use Rattle.gpu_descriptor.proofs.sums.PoolsLoad.{pools_load}
 use Rattle.gpu_descriptor.proofs.request.StateAgrees.{booked_of}
 use Rattle.gpu_descriptor.proofs.sums.Loads.{marked_load-none, marked_load-add, marked_load-le}
 use Rattle.gpu_descriptor.proofs.sums.PoolCounts.{booked_load}
@@ -10,7 +11,7 @@ AllBooked k ledger es = (i : ℕ) (e : Entry) → slice_get es i ≡ Some e → 
 
 -- ---- a marked key's pools
 
-created_entry : (k : Key) (ledger : ℕ → Option Pool) (e : Entry) → length k.counts ≡ 14 → k.marked ≡ true → IsBookedIn k ledger e → option_map_or (λ p. sum p.counts) (ledger e.pool) 0 ≡ pool_load k e.capacity
+created_entry : (k : Key) (ledger : ℕ → Option Pool) (e : Entry) → length k.counts ≡ 14 → k.marked ≡ true → IsBookedIn k ledger e → option_map_or (λ p. sum p.counts) (ledger e.pool) 0 ≡ pool_descriptors k e.capacity
 created_entry k ledger e long marked own = ap (λ (o : Option Pool). option_map_or (λ (p : Pool). sum p.counts) o 0) own.is_live ∙ booked_load k own.pool e long marked own.booked
 
 created_entries : (k : Key) (ledger : ℕ → Option Pool) (es : List Entry) → length k.counts ≡ 14 → k.marked ≡ true → AllBooked k ledger es → sum_by (λ e. option_map_or (λ p. sum p.counts) (ledger e.pool) 0) es ≡ pools_load k es
@@ -27,7 +28,7 @@ plain_entries k (e ∷ es) plain = grind (arith, (plain_entries k es plain))
 
 -- ---- what is out of a key's pools
 
-out_of_entry : (k : Key) (n : ℕ) → marked_load k n ≤ pool_load k n
+out_of_entry : (k : Key) (n : ℕ) → marked_load k n ≤ pool_descriptors k n
 out_of_entry k n = elim (cases_Bool k.marked) [ inl on ↦ rw on (omega arith) | inr off ↦ rw off (omega arith) ]
 
 out_of_entries : (k : Key) (ledger : ℕ → Option Pool) (es : List Entry) → AllBooked k ledger es → marked_load k (allocated_in es) ≤ pools_load k es

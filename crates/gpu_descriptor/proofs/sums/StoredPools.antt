@@ -1,5 +1,6 @@
 -- Sums over a key's pools, as the code has them and as the books do.
-use Rattle.gpu_descriptor.proofs.Common.{◌≡◌, ℕ, List, sum_by, refl, map, DescriptorPool, Key, allocated_in, pools_load, entry_of, stored_load}
+use Rattle.gpu_descriptor.proofs.Common.{◌≡◌, ℕ, List, sum_by, refl, map, DescriptorPool, Key, allocated_in, entry_of, stored_load}
+use Rattle.gpu_descriptor.proofs.sums.PoolsLoad.{pools_load}
 use Rattle.gpu_descriptor.proofs.sums.TableSums.{sum_map}
 
 module _ {P : Type 0} (name : P → ℕ) where

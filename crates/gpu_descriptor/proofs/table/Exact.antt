@@ -35,4 +35,4 @@ item_exact = record {
 
 -- the pools of a key, with its id and the number of the first
 abbrev pub bucket : ℕ → ℕ → List Entry → Bucket
-bucket id first es = record { id = id; first = first; pools = es }
+bucket id first es = record { id = id; offset = first; pools = es }

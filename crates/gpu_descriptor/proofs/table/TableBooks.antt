@@ -29,7 +29,7 @@ module _ {P : Type 0} (name : P → ℕ) where
   rows_in es = map (λ e. (key_of e.0, bucket_of name e.1)) es
 
   pub row_bucket : (r : BucketKey × DescriptorBucket P) → (named_row name (row_of r)).1 ≡ bucket_of name r.1
-  row_bucket r = λ i. record { id = r.1.id; first = r.1.offset; pools = entries r.1.pools.items i }
+  row_bucket r = λ i. record { id = r.1.id; offset = r.1.offset; pools = entries r.1.pools.items i }
 
   head_books : (r : BucketKey × DescriptorBucket P) (es : List (BucketKey × DescriptorBucket P)) (l : Key) → books_in name (map row_of (r ∷ es)) l ≡ (if key_eq (key_of r.0) l then bucket_of name r.1 else books_in name (map row_of es) l)
   head_books r es l = ap (λ (b : Bucket). if key_eq (key_of r.0) l then b else books_in name (map row_of es) l) (row_bucket r)

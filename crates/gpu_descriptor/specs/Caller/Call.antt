@@ -21,7 +21,9 @@ module _ {L P S : Type 0} (means : Meaning L P S) where
   -- a request of so many sets of a key, and what it left
   abbrev pub call_of : Key → ℕ → Side (Allocations P) → Side (Allocations P) → Result (List Item) AllocationError → Call
   call_of k count old new answer = record {
-    request = record { key = k; count = count; limit = old.value.limit };
+    key = k;
+    count = count;
+    limit = old.value.limit;
     old = state_of means.pool_name old.value old.ledger;
     new = state_of means.pool_name new.value new.ledger;
     before = old.ledger.counters;

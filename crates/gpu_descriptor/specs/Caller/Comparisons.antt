@@ -17,7 +17,7 @@ binary_digits n = digits_within n n
 
 -- how many pools of a key are open: have known free places
 abbrev pub open_pools : Bucket → ℕ
-open_pools b = count_by (λ e. nat_lt 0 e.free) b.pools
+open_pools b = count_by (λ e. nat_lt 0 e.available) b.pools
 
 module _ (s : State) where
   -- the binary digits of the number of open pools of t's key, once the sets before t have gone back

@@ -3,13 +3,14 @@ use Rattle.std.specs.Prelude.{ℕ, List, map}
 use Rattle.gpu_descriptor.specs.declared.set.DescriptorSet.{DescriptorSet}
 use Rattle.gpu_descriptor.specs.Model.Agreement.{Item}
 
--- the raw set
-abbrev pub raw_of : {S : Type 0} → DescriptorSet S → S
-raw_of x = x.raw
+module _ {S : Type 0} where
+  -- the raw set
+  abbrev pub raw_of : DescriptorSet S → S
+  raw_of x = x.raw
 
--- the set as the books see it
-abbrev pub item_of : {S : Type 0} → (S → ℕ) → DescriptorSet S → Item
-item_of name x = record { key = x.key.is; id = x.id; number = x.number; name = name x.raw }
+  -- the set as the books see it
+  abbrev pub item_of : (S → ℕ) → DescriptorSet S → Item
+  item_of name x = record { key = x.key.is; id = x.id; number = x.number; name = name x.raw }
 
-abbrev pub items_of : {S : Type 0} → (S → ℕ) → List (DescriptorSet S) → List Item
-items_of name xs = map (λ x. item_of name x) xs
+  abbrev pub items_of : (S → ℕ) → List (DescriptorSet S) → List Item
+  items_of name xs = map (item_of name) xs

@@ -9,10 +9,10 @@ use Rattle.gpu_descriptor.specs.Caller.Values.{Allocations}
 module _ {P : Type 0} (name : P → ℕ) where
   -- a pool in the books, under the name that the device gives it
   abbrev pub named : EntryOf P → Entry
-  named e = record { pool = name e.pool; capacity = e.capacity; allocated = e.allocated; free = e.free }
+  named e = record { pool = name e.pool; capacity = e.capacity; allocated = e.allocated; available = e.available }
 
   abbrev pub named_bucket : BucketOf P → Bucket
-  named_bucket b = record { id = b.id; first = b.first; pools = map named b.pools }
+  named_bucket b = record { id = b.id; offset = b.offset; pools = map named b.pools }
 
   abbrev pub named_row : Key × BucketOf P → Key × Bucket
   named_row r = (r.0, named_bucket r.1)
@@ -29,11 +29,11 @@ module _ {P : Type 0} (name : P → ℕ) where
   abbrev pub Agrees : Allocations P → Ledger → Type 0
   Agrees a l = Agree (state_of a l)
 
--- the keys of an allocator, in the order in which they came
-abbrev pub keys_of : {P : Type 0} → Allocations P → List Key
-keys_of a = map (λ r. r.0) a.table
-
 module _ {P : Type 0} where
+  -- the keys of an allocator, in the order in which they came
+  abbrev pub keys_of : Allocations P → List Key
+  keys_of a = map (λ r. r.0) a.table
+
   -- how many sets are out
   abbrev pub outstanding_of : Allocations P → ℕ
   outstanding_of a = sum_over sets_out a.table

@@ -5,4 +5,4 @@ use Rattle.gpu_descriptor.specs.Model.Books.{BucketOf}
 
 -- what the books of a key say of the pool at this place
 abbrev pub view_in : {P : Type 0} → BucketOf P → ℕ → Option PoolView
-view_in b i = option_map (λ e. record { number = b.first + i; allocated = e.allocated; available = e.free }) (slice_get b.pools i)
+view_in b i = option_map (λ e. record { number = b.offset + i; allocated = e.allocated; available = e.available }) (slice_get b.pools i)

@@ -7,7 +7,7 @@ use Rattle.gpu_descriptor.specs.declared.bucket.take.Stop.{Stop}
 use Rattle.gpu_descriptor.specs.Model.Outcomes.{risen, StopsAt}
 use Rattle.gpu_descriptor.specs.Model.Books.{Key, Entry, Bucket}
 use Rattle.gpu_descriptor.specs.Model.Agreement.{Item, flags_of}
-use Rattle.gpu_descriptor.specs.Model.Load.{allocated_in, pool_load}
+use Rattle.gpu_descriptor.specs.Model.Load.{allocated_in, pool_descriptors}
 use Rattle.gpu_descriptor.specs.Model.Shares.{rest, all_shared}
 use Rattle.gpu_descriptor.specs.Model.FreshPools.{Fresh, fresh_entry, IsNextSize, IsFreshList}
 use Rattle.gpu_descriptor.specs.Model.Grants.{Grant, pool_with}
@@ -17,7 +17,7 @@ use Rattle.gpu_descriptor.specs.Inner.Walk.{HasTaken, IsRefused}
 pub record IsGrown (k : Key) (room left total wanted : ℕ) (names : List ℕ) (old new : List Entry) (before after : Ledger) : Type 0 where
   pub pool : Fresh
   pub size : IsNextSize k room total wanted pool.size
-  pub less : left + pool_load k pool.size ≡ room
+  pub less : left + pool_descriptors k pool.size ≡ room
   pub given : pool.given ≡ min pool.size wanted
   pub many : length names ≡ pool.given
   pub is_new : before.pools pool.pool ≡ None
@@ -27,5 +27,5 @@ pub record IsGrown (k : Key) (room left total wanted : ℕ) (names : List ℕ) (
 
 -- what was taken of a key's pools: all that was asked for, or what had come when the request stopped
 abbrev pub IsTaken : Result (Unit {0}) Stop → Key → (room n : ℕ) → List Item → (old new : Bucket) → (before after : Ledger) → Type 0
-IsTaken (Ok done) k room n items old new before after = (g : Grant) × HasTaken k n g items old new before after × (g.left ≡ 0) × IsFreshList k room (allocated_in (all_shared g.refused n old.pools)) (rest g.refused n old.pools) g.fresh
+IsTaken (Ok done) k room n items old new before after = (g : Grant) × HasTaken k n g items old new before after × (g.skipped ≡ 0) × IsFreshList k room (allocated_in (all_shared g.refused n old.pools)) (rest g.refused n old.pools) g.fresh
 IsTaken (Err why) k room n items old new before after = (g : Grant) × (between : Ledger) × HasTaken k n g items old new before between × StopsAt why k room n g old.pools × IsRefused why between after

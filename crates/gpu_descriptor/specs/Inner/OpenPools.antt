@@ -23,7 +23,7 @@ module _ {P : Type 0} where
 
   -- the key's pools, as the view has them
   abbrev pub bucket_in : (P → ℕ) → OpenPools P → Bucket
-  bucket_in name v = record { id = v.id; first = v.offset; pools = map (entry_of name) v.pools.now.items }
+  bucket_in name v = record { id = v.id; offset = v.offset; pools = map (entry_of name) v.pools.now.items }
 
   -- the numbers start where they did, and the view is over the same values
   abbrev pub KeepsView : OpenPools P → OpenPools P → Type 0

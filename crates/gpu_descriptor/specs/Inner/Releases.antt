@@ -22,7 +22,7 @@ pub record IsTakenAt (k : Key) (number : ℕ) (names : List ℕ) (b : Bucket) (p
 
 -- the bucket once n sets of the pool with the number came back
 abbrev pub bucket_back : Bucket → ℕ → ℕ → Entry → Bucket
-bucket_back b number n e = record b { pools = set b.pools (number - b.first) (entry_less n e) }
+bucket_back b number n e = record b { pools = set b.pools (number - b.offset) (entry_less n e) }
 
 -- giving back sets of these names takes a bucket and the ledger to these
 pub record RunsInto (k : Key) (number : ℕ) (names : List ℕ) (old : Bucket) (before : Ledger) (new : Bucket) (after : Ledger) : Type 0 where

@@ -6,38 +6,40 @@ use Rattle.std.specs.Bool.{MatchBool}
 use Rattle.std.specs.Iterator.{Count, HoldsAlong, MakesProgress, YieldsThen}
 use Rattle.gpu_descriptor.specs.declared.bucket.run.Run.{Run}
 
--- the set lies under the key with the id in the pool with the number
-unfoldable pub at_place : {S : Type 0} → ℕ → ℕ → DescriptorSet S → Bool
-at_place id n x = nat_eq x.id id && nat_eq x.number n
+module _ {S : Type 0} where
+  -- the set lies under the key with the id in the pool with the number
+  unfoldable pub at_place : ℕ → ℕ → DescriptorSet S → Bool
+  at_place id n x = nat_eq x.id id && nat_eq x.number n
 
--- the same by the key, which the code does not see
-unfoldable pub lies_at : {S : Type 0} → Key → ℕ → DescriptorSet S → Bool
-lies_at k n x = key_eq x.key.is k && nat_eq x.number n
+  -- the same by the key, which the code does not see
+  unfoldable pub lies_at : Key → ℕ → DescriptorSet S → Bool
+  lies_at k n x = key_eq x.key.is k && nat_eq x.number n
 
--- each set passes
-abbrev pub AllPass : {S : Type 0} → (DescriptorSet S → Bool) → List (DescriptorSet S) → Type 0
-AllPass test [] = Unit {0}
-AllPass test (x ∷ xs) = (test x ≡ true) × AllPass test xs
+  -- each set passes
+  abbrev pub AllPass : (DescriptorSet S → Bool) → List (DescriptorSet S) → Type 0
+  AllPass test [] = Unit {0}
+  AllPass test (x ∷ xs) = (test x ≡ true) × AllPass test xs
 
--- n, and one for each set of the place that calls from s may give, stays below 2 ^ 32
-abbrev pub CountsFrom : {T S : Type 0} → (T → Option (DescriptorSet S) → T → Type 0) → ℕ → ℕ → T → ℕ → Type 0
-CountsFrom steps id number s n = HoldsAlong steps s (λ xs. AllPass (at_place id number) xs → n + length xs < 2 ^ 32)
+module _ {T S : Type 0} (steps : T → Option (DescriptorSet S) → T → Type 0) where
+  -- n, and one for each set of the place that calls from s may give, stays below 2 ^ 32
+  abbrev pub CountsFrom : ℕ → ℕ → T → ℕ → Type 0
+  CountsFrom id number s n = HoldsAlong steps s (λ xs. AllPass (at_place id number) xs → n + length xs < 2 ^ 32)
 
--- calls from s gave xs, which pass, and then nothing, or a set that doesn't
-abbrev pub EndsRun : {T S : Type 0} → (T → Option (DescriptorSet S) → T → Type 0) → (DescriptorSet S → Bool) → T → List (DescriptorSet S) → Option (DescriptorSet S) → T → Type 0
-EndsRun steps test s xs r t = AllPass test xs × YieldsThen steps s xs r t × IfSome r (λ y. test y ≡ false)
+  -- calls from s gave xs, which pass, and then nothing, or a set that doesn't
+  abbrev pub EndsRun : (DescriptorSet S → Bool) → T → List (DescriptorSet S) → Option (DescriptorSet S) → T → Type 0
+  EndsRun test s xs r t = AllPass test xs × YieldsThen steps s xs r t × IfSome r (λ y. test y ≡ false)
 
-module _ {T S : Type 0} (steps : T → Option (DescriptorSet S) → T → Type 0) (can : T → Type 0) (left : T → Count) where
-  -- o is the set ahead, and where there is none the answer of the source
-  abbrev pub Looks : T → Option (DescriptorSet S) → Option (DescriptorSet S) → T → Type 0
-  Looks s ahead o t = MatchOption ahead (steps s o t × MakesProgress can left s o t) (λ x. (o ≡ Some x) × (t ≡ s))
+  module _ (can : T → Type 0) (left : T → Count) where
+    -- o is the set ahead, and where there is none the answer of the source
+    abbrev pub Looks : T → Option (DescriptorSet S) → Option (DescriptorSet S) → T → Type 0
+    Looks s ahead o t = MatchOption ahead (steps s o t × MakesProgress can left s o t) (λ x. (o ≡ Some x) × (t ≡ s))
 
-  -- of the set o, one of the run's place comes and is counted, and one of another place stays ahead
-  abbrev pub Hands : Run T S → Option (DescriptorSet S) → Option S → Run T S → Type 0
-  Hands s o r t = MatchOption o ((r ≡ None) × (t.ahead.now ≡ None) × (t.count ≡ s.count))
-      (λ x. MatchBool (at_place s.id s.number x) ((r ≡ Some x.raw) × (t.ahead.now ≡ None) × (t.count ≡ s.count + 1))
-      ((r ≡ None) × (t.ahead.now ≡ Some x) × (t.count ≡ s.count)))
+    -- of the set o, one of the run's place comes and is counted, and one of another place stays ahead
+    abbrev pub Hands : Run T S → Option (DescriptorSet S) → Option S → Run T S → Type 0
+    Hands s o r t = MatchOption o ((r ≡ None) × (t.ahead.now ≡ None) × (t.count ≡ s.count))
+        (λ x. MatchBool (at_place s.id s.number x) ((r ≡ Some x.raw) × (t.ahead.now ≡ None) × (t.count ≡ s.count + 1))
+        ((r ≡ None) × (t.ahead.now ≡ Some x) × (t.count ≡ s.count)))
 
-  abbrev pub RunStep : Run T S → Option S → Run T S → Type 0
-  RunStep s r t = (t.id ≡ s.id) × (t.number ≡ s.number) × (t.source.ghost_name ≡ s.source.ghost_name) × (t.ahead.ghost_name ≡ s.ahead.ghost_name)
-      × ((o : Option (DescriptorSet S)) × Looks s.source.now s.ahead.now o t.source.now × Hands s o r t)
+    abbrev pub RunStep : Run T S → Option S → Run T S → Type 0
+    RunStep s r t = (t.id ≡ s.id) × (t.number ≡ s.number) × (t.source.ghost_name ≡ s.source.ghost_name) × (t.ahead.ghost_name ≡ s.ahead.ghost_name)
+        × ((o : Option (DescriptorSet S)) × Looks s.source.now s.ahead.now o t.source.now × Hands s o r t)

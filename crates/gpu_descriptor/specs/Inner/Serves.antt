@@ -23,20 +23,21 @@ pub record IsSound {P : Type 0} (name : P → ℕ) (a : Allocations P) : Type 0 
   pub pool_load : pool_load_of a ≤ a.limit
 
 module _ {L P S : Type 0} (means : Meaning L P S) where
-  -- a request had these sets of a bucket
-  pub record IsServed (k : Key) (room count : ℕ) (sets : List (DescriptorSet S)) (ended : Result (Unit {0}) Stop) (old new : Bucket) (before after : Ledger) : Type 0 where
-    pub numbers : next_number old + count ≤ greatest_u64
-    pub few : length sets ≤ count
-    pub all : OnOk ended (length sets ≡ count)
-    pub taken : IsTaken ended k room count (items_of means.set_name sets) old new before after
+  module _ (k : Key) (room count : ℕ) (sets : List (DescriptorSet S)) (ended : Result (Unit {0}) Stop) where
+    -- a request had these sets of a bucket
+    pub record IsServed (old new : Bucket) (before after : Ledger) : Type 0 where
+      pub numbers : next_number old + count ≤ greatest_u64
+      pub few : length sets ≤ count
+      pub all : OnOk ended (length sets ≡ count)
+      pub taken : IsTaken ended k room count (items_of means.set_name sets) old new before after
 
-  -- and the table has the key's new bucket
-  pub record ServesKey (k : Key) (room count : ℕ) (sets : List (DescriptorSet S)) (ended : Result (Unit {0}) Stop) (old new : List (Key × BucketOf P)) (before after : Ledger) : Type 0 where
-    pub bucket : Bucket
-    pub served : IsServed k room count sets ended (books_in means.pool_name old k) bucket before after
-    pub books : (l : Key) → books_in means.pool_name new l ≡ (if key_eq k l then bucket else books_in means.pool_name old l)
-    pub out : sum_over sets_out new ≡ sum_over sets_out old + length sets
-    pub load : sum_over descriptors_out new ≡ sum_over descriptors_out old + marked_load k (length sets)
+    -- and the table has the key's new bucket
+    pub record ServesKey (old new : List (Key × BucketOf P)) (before after : Ledger) : Type 0 where
+      pub bucket : Bucket
+      pub served : IsServed (books_in means.pool_name old k) bucket before after
+      pub books : (l : Key) → books_in means.pool_name new l ≡ (if key_eq k l then bucket else books_in means.pool_name old l)
+      pub out : sum_over sets_out new ≡ sum_over sets_out old + length sets
+      pub load : sum_over descriptors_out new ≡ sum_over descriptors_out old + marked_load k (length sets)
 
   -- after the tests that come before
   pub record Takes (k : Key) (count : ℕ) (sets : List (DescriptorSet S)) (ended : Result (Unit {0}) Stop) (old new : Side (Allocations P)) : Type 0 where

@@ -5,16 +5,16 @@ use Rattle.gpu_descriptor.specs.declared.set.BucketKey.{BucketKey}
 use Rattle.gpu_descriptor.specs.declared.bucket.DescriptorPool.{DescriptorPool}
 use Rattle.gpu_descriptor.specs.declared.bucket.DescriptorBucket.{DescriptorBucket}
 use Rattle.gpu_descriptor.specs.Model.Books.{Key, key_eq, EntryOf, BucketOf, Entry, Bucket, books_of, sum_over}
-use Rattle.gpu_descriptor.specs.Model.Load.{bucket_load, descriptors_out, pool_load, sets_out}
+use Rattle.gpu_descriptor.specs.Model.Load.{bucket_load, descriptors_out, pool_descriptors, sets_out}
 use Rattle.gpu_descriptor.specs.Caller.States.{named, named_row}
-use Rattle.gpu_descriptor.specs.Caller.KeyOf.{key_of}
+use Rattle.gpu_descriptor.specs.Inner.KeyOf.{key_of}
 
 module _ {P : Type 0} where
   abbrev pub kept_of : DescriptorPool P → EntryOf P
-  kept_of p = record { pool = p.raw; capacity = p.capacity; allocated = p.allocated; free = p.available }
+  kept_of p = record { pool = p.raw; capacity = p.capacity; allocated = p.allocated; available = p.available }
 
   abbrev pub kept_in : DescriptorBucket P → BucketOf P
-  kept_in b = record { id = b.id; first = b.offset; pools = map kept_of b.pools.items }
+  kept_in b = record { id = b.id; offset = b.offset; pools = map kept_of b.pools.items }
 
   abbrev pub row_of : BucketKey × DescriptorBucket P → Key × BucketOf P
   row_of r = (key_of r.0, kept_in r.1)
@@ -25,7 +25,7 @@ module _ {P : Type 0} where
 
   -- the descriptors of these pools of a key, if it is marked
   abbrev pub stored_load : Key → List (DescriptorPool P) → ℕ
-  stored_load k pools = sum_by (λ p. pool_load k p.capacity) pools
+  stored_load k pools = sum_by (λ p. pool_descriptors k p.capacity) pools
 
   -- no key stands twice, the running totals are those of the table, the marked descriptors keep
   -- the limit, and room is what those of the pools leave of it
@@ -45,7 +45,7 @@ module _ {P : Type 0} where
     entry_of p = named name (kept_of p)
 
     abbrev pub bucket_of : DescriptorBucket P → Bucket
-    bucket_of b = record { id = b.id; first = b.offset; pools = map entry_of b.pools.items }
+    bucket_of b = record { id = b.id; offset = b.offset; pools = map entry_of b.pools.items }
 
 -- the books of a table, under the names of its pools
 abbrev pub books_in : {P : Type 0} → (P → ℕ) → List (Key × BucketOf P) → Key → Bucket

@@ -13,11 +13,11 @@ use Rattle.gpu_descriptor.specs.Model.Outcomes.{risen, grant_rise, stop_rise}
 -- a pool was asked for what it has of so many sets, or skipped where it has no places or none are wanted
 pub record IsAsked (k : Key) (wanted : ℕ) (names : List ℕ) (old new : Entry) (before after : Ledger) : Type 0 where
   pub refused : Bool
-  pub refusing : refused ≡ true → nat_lt 0 old.free && nat_lt 0 wanted ≡ true
-  pub many : length names ≡ min (if refused then 0 else old.free) wanted
-  pub entry : new ≡ record old { allocated = old.allocated + length names; free = (if refused then 0 else old.free) - length names }
+  pub refusing : refused ≡ true → nat_lt 0 old.available && nat_lt 0 wanted ≡ true
+  pub many : length names ≡ min (if refused then 0 else old.available) wanted
+  pub entry : new ≡ record old { allocated = old.allocated + length names; available = (if refused then 0 else old.available) - length names }
   pub pools : after.pools ≡ on_pool old.pool (pool_with (live_sets k.counts names) refused) before.pools
-  pub counters : after.counters ≡ risen (record no_rise { asked = if nat_lt 0 old.free && nat_lt 0 wanted then 1 else 0; pool_refused = if refused then 1 else 0 }) before.counters
+  pub counters : after.counters ≡ risen (record no_rise { asked = if nat_lt 0 old.available && nat_lt 0 wanted then 1 else 0; pool_refused = if refused then 1 else 0 }) before.counters
 
 -- no set came, for this reason, and the ledger's pools are as before
 pub record IsRefused (why : Stop) (before after : Ledger) : Type 0 where
@@ -26,7 +26,7 @@ pub record IsRefused (why : Stop) (before after : Ledger) : Type 0 where
 
 -- a pool that was asked answered want of memory
 pub record IsNoMemory (wanted : ℕ) (e : Entry) (error : DeviceAllocationError) (before after : Ledger) : Type 0 where
-  pub asked : nat_lt 0 e.free && nat_lt 0 wanted ≡ true
+  pub asked : nat_lt 0 e.available && nat_lt 0 wanted ≡ true
   pub memory : pool_refusals error ≡ 0
   pub refused : IsRefused (Existing error) before after
 
@@ -41,7 +41,7 @@ pub record HasTaken (k : Key) (n : ℕ) (g : Grant) (items : List Item) (old new
 -- all existing pools were asked, and so many sets are still wanting
 pub record IsWalked (k : Key) (n wanting : ℕ) (items : List Item) (old new : Bucket) (before after : Ledger) : Type 0 where
   pub grant : Grant
-  pub all : grant.left ≡ 0
+  pub all : grant.skipped ≡ 0
   pub no_fresh : grant.fresh ≡ []
   pub wants : wanting ≡ rest grant.refused n old.pools
   pub taken : HasTaken k n grant items old new before after

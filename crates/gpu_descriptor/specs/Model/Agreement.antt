@@ -11,10 +11,6 @@ pub record State : Type 0 where
   pub books : Key → Bucket
   pub ledger : ℕ → Option Pool
 
--- the state with another bucket of a key, and another ledger
-abbrev pub with_bucket : Key → Bucket → (ℕ → Option Pool) → State → State
-with_bucket k b ledger s = record { books = λ l. if key_eq k l then b else s.books l; ledger = ledger }
-
 -- ---- sets that were handed out
 
 -- a set that was handed out: its key and the id of that, the number of its pool, and its name
@@ -71,8 +67,8 @@ pub record IsAsBooked (k : Key) (pool : Pool) (e : Entry) : Type 0 where
   pub sets : (x : LiveSet) → 0 < pool.live x → x.counts ≡ k.counts
   -- only that there is a list: so there is one proof at most that books and ledger agree
   pub allocated : ∥ HasSize pool.live e.allocated ∥₁
-  pub room : e.allocated + e.free ≤ pool.capacity
-  pub full : pool.refusals ≡ 0 → e.allocated + e.free ≡ pool.capacity
+  pub room : e.allocated + e.available ≤ pool.capacity
+  pub full : pool.refusals ≡ 0 → e.allocated + e.available ≡ pool.capacity
 
 -- books and ledger agree
 pub record Agree (s : State) : Type 0 where
@@ -80,4 +76,4 @@ pub record Agree (s : State) : Type 0 where
   pub distinct : (k l : Key) (m n : ℕ) (d e : Entry) → entry_at (s.books k) m ≡ Some d → entry_at (s.books l) n ≡ Some e → d.pool ≡ e.pool → (k ≡ l) × (m ≡ n)
   pub booked : (k : Key) (n : ℕ) (e : Entry) → entry_at (s.books k) n ≡ Some e → (pool : Pool) × (s.ledger e.pool ≡ Some pool) × IsAsBooked k pool e
   -- a key without pools is as one that never came
-  pub absent : (k : Key) → (s.books k).pools ≡ [] → (s.books k).first ≡ 0
+  pub absent : (k : Key) → (s.books k).pools ≡ [] → (s.books k).offset ≡ 0

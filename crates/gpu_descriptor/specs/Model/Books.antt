@@ -17,12 +17,12 @@ pub record EntryOf (X : Type 0) : Type 0 where
   pub pool : X
   pub capacity : ℕ
   pub allocated : ℕ
-  pub free : ℕ
+  pub available : ℕ
 
--- the pools of a key, oldest first. The one at place i has the number first + i. The id is the key's, which no other has
+-- the pools of a key, oldest first. The one at place i has the number offset + i. The id is the key's, which no other has
 pub record BucketOf (X : Type 0) : Type 0 where
   pub id : ℕ
-  pub first : ℕ
+  pub offset : ℕ
   pub pools : List (EntryOf X)
 
 -- as the device names the pools
@@ -34,31 +34,32 @@ Bucket = BucketOf ℕ
 
 -- the pool that has the number
 abbrev pub entry_at : Bucket → ℕ → Option Entry
-entry_at b n = if nat_lt n b.first then None else slice_get b.pools (n - b.first)
+entry_at b n = if nat_lt n b.offset then None else slice_get b.pools (n - b.offset)
 
 -- the number of the key's next pool
 abbrev pub next_number : Bucket → ℕ
-next_number b = b.first + length b.pools
-
--- what a key has that never came
-abbrev pub no_pools : {X : Type 0} → BucketOf X
-no_pools = record { id = 0; first = 0; pools = [] }
+next_number b = b.offset + length b.pools
 
 -- ---- the books of all keys, and a table that keeps them in some order
 
--- the books that a table keeps, whatever its order
-abbrev pub books_of : {X : Type 0} → List (Key × BucketOf X) → Key → BucketOf X
-books_of [] k = no_pools
-books_of (row ∷ table) k = if key_eq row.0 k then row.1 else books_of table k
+module _ {X : Type 0} where
+  -- what a key has that never came
+  abbrev pub no_pools : BucketOf X
+  no_pools = record { id = 0; offset = 0; pools = [] }
 
--- no key has two rows
-abbrev pub HasDistinctKeys : {X : Type 0} → List (Key × BucketOf X) → Type 0
-HasDistinctKeys [] = Unit {0}
-HasDistinctKeys (row ∷ table) = (list_any (λ other. key_eq other.0 row.0) table ≡ false) × HasDistinctKeys table
+  -- the books that a table keeps, whatever its order
+  abbrev pub books_of : List (Key × BucketOf X) → Key → BucketOf X
+  books_of [] k = no_pools
+  books_of (row ∷ table) k = if key_eq row.0 k then row.1 else books_of table k
 
--- the sum of what is counted in each bucket
-abbrev pub sum_over : {X : Type 0} → (Key → BucketOf X → ℕ) → List (Key × BucketOf X) → ℕ
-sum_over f table = sum_by (λ row. f row.0 row.1) table
+  -- no key has two rows
+  abbrev pub HasDistinctKeys : List (Key × BucketOf X) → Type 0
+  HasDistinctKeys [] = Unit {0}
+  HasDistinctKeys (row ∷ table) = (list_any (λ other. key_eq other.0 row.0) table ≡ false) × HasDistinctKeys table
+
+  -- the sum of what is counted in each bucket
+  abbrev pub sum_over : (Key → BucketOf X → ℕ) → List (Key × BucketOf X) → ℕ
+  sum_over f table = sum_by (λ row. f row.0 row.1) table
 
 -- f of each key's bucket adds up to n over all keys. A table has each key that has pools
 pub record AddsUp (f : Key → Bucket → ℕ) (books : Key → Bucket) (n : ℕ) : Type 0 where

@@ -4,7 +4,7 @@ use Rattle.std.specs.List.{list_any}
 use Rattle.gpu_descriptor_types.specs.Ledger.{Pool}
 use Rattle.gpu_descriptor_types.specs.PoolSize.{IsPoolSize, sets_in_room}
 use Rattle.gpu_descriptor.specs.Model.Books.{Key, Entry}
-use Rattle.gpu_descriptor.specs.Model.Load.{pool_load}
+use Rattle.gpu_descriptor.specs.Model.Load.{pool_descriptors}
 use Rattle.gpu_descriptor.specs.Model.Shares.{Portion}
 
 -- a new pool: its name, its size, and how many sets it gave
@@ -26,12 +26,12 @@ pub record IsNextSize (k : Key) (room total wanted size : ℕ) : Type 0 where
 -- each has the size of the key's next pool at that moment
 abbrev pub AreSized : Key → (room total wanted : ℕ) → List Fresh → Type 0
 AreSized k room total wanted [] = Unit {0}
-AreSized k room total wanted (f ∷ pools) = IsNextSize k room total wanted f.size × AreSized k (room - pool_load k f.size) (total + f.given) (wanted - f.given) pools
+AreSized k room total wanted (f ∷ pools) = IsNextSize k room total wanted f.size × AreSized k (room - pool_descriptors k f.size) (total + f.given) (wanted - f.given) pools
 
 -- the room that new pools leave
 abbrev pub room_after : Key → ℕ → List Fresh → ℕ
 room_after k room [] = room
-room_after k room (f ∷ pools) = room_after k (room - pool_load k f.size) pools
+room_after k room (f ∷ pools) = room_after k (room - pool_descriptors k f.size) pools
 
 abbrev pub AreFull : List Fresh → Type 0
 AreFull [] = Unit {0}
@@ -42,16 +42,17 @@ abbrev pub AreNew : (ℕ → Option Pool) → List Fresh → Type 0
 AreNew ledger [] = Unit {0}
 AreNew ledger (f ∷ pools) = (ledger f.pool ≡ None) × (list_any (λ h. h.pool == f.pool) pools ≡ false) × AreNew ledger pools
 
--- new pools that gave all they have, and sets are still wanting
-pub record IsFreshFront (k : Key) (room total wanted : ℕ) (pools : List Fresh) : Type 0 where
-  pub sized : AreSized k room total wanted pools
-  pub full : AreFull pools
-  pub short : given_by pools < wanted
+module _ (k : Key) (room total wanted : ℕ) where
+  -- new pools that gave all they have, and sets are still wanting
+  pub record IsFreshFront (pools : List Fresh) : Type 0 where
+    pub sized : AreSized k room total wanted pools
+    pub full : AreFull pools
+    pub short : given_by pools < wanted
 
--- new pools that gave all that was wanting: none, or a front and one more that has the rest
-pub data IsFreshList (k : Key) (room total wanted : ℕ) (pools : List Fresh) : Type 0 where
-  none : wanted ≡ 0 → pools ≡ [] → IsFreshList k room total wanted pools
-  some : (front : List Fresh) (last : Fresh) → pools ≡ front ++ last ∷ [] → IsFreshFront k room total wanted front → AreSized k room total wanted pools → last.given ≤ last.size → given_by pools ≡ wanted → IsFreshList k room total wanted pools
+  -- new pools that gave all that was wanting: none, or a front and one more that has the rest
+  pub data IsFreshList (pools : List Fresh) : Type 0 where
+    none : wanted ≡ 0 → pools ≡ [] → IsFreshList pools
+    some : (front : List Fresh) (last : Fresh) → pools ≡ front ++ last ∷ [] → IsFreshFront front → AreSized k room total wanted pools → last.given ≤ last.size → given_by pools ≡ wanted → IsFreshList pools
 
 -- what new pools gave, in order
 abbrev pub fresh_portions : ℕ → List Fresh → List Portion
@@ -60,4 +61,4 @@ fresh_portions number (f ∷ pools) = record { number = number; pool = f.pool; g
 
 -- the entry of a new pool
 abbrev pub fresh_entry : Fresh → Entry
-fresh_entry f = record { pool = f.pool; capacity = f.size; allocated = f.given; free = f.size - f.given }
+fresh_entry f = record { pool = f.pool; capacity = f.size; allocated = f.given; available = f.size - f.given }

@@ -3,8 +3,8 @@ use Rattle.std.specs.Prelude.{◌≡◌, ℕ, ◌+◌, ◌<◌, Bool, ◌==◌, 
 use Rattle.gpu_descriptor_types.specs.Ledger.{Pool, live_sets, fresh}
 use Rattle.gpu_descriptor_types.specs.Multiset.{LiveSet, times}
 use Rattle.gpu_descriptor_types.specs.PoolSize.{pool_counts}
-use Rattle.gpu_descriptor.specs.Model.Books.{Key, Bucket, next_number}
-use Rattle.gpu_descriptor.specs.Model.Agreement.{State, Item, flags_of, with_bucket}
+use Rattle.gpu_descriptor.specs.Model.Books.{Key, Bucket, key_eq, next_number}
+use Rattle.gpu_descriptor.specs.Model.Agreement.{State, Item, flags_of}
 use Rattle.gpu_descriptor.specs.Model.Shares.{all_shared, Portion, OnlyAskedRefuse, portions_of}
 use Rattle.gpu_descriptor.specs.Model.FreshPools.{Fresh, fresh_entry, AreNew, fresh_portions}
 
@@ -21,7 +21,7 @@ portion_of p = record { number = p.number; pool = p.pool; given = length p.names
 pub record Grant : Type 0 where
   -- the id of the key from then on
   pub id : ℕ
-  pub left : ℕ
+  pub skipped : ℕ
   pub refused : ℕ → Bool
   pub fresh : List Fresh
   pub parts : List Part
@@ -30,8 +30,8 @@ pub record Grant : Type 0 where
 pub record IsGrantOf (n : ℕ) (b : Bucket) (ledger : ℕ → Option Pool) (g : Grant) : Type 0 where
   -- a key that has pools keeps its id
   pub id : 0 < length b.pools → g.id ≡ b.id
-  pub refusing : OnlyAskedRefuse g.refused n (drop g.left b.pools)
-  pub parts : map portion_of g.parts ≡ portions_of g.refused n (b.first + g.left) (drop g.left b.pools) ++ fresh_portions (next_number b) g.fresh
+  pub refusing : OnlyAskedRefuse g.refused n (drop g.skipped b.pools)
+  pub parts : map portion_of g.parts ≡ portions_of g.refused n (b.offset + g.skipped) (drop g.skipped b.pools) ++ fresh_portions (next_number b) g.fresh
   pub new : AreNew ledger g.fresh
 
 -- sets of a key's pool under these names
@@ -48,7 +48,7 @@ came parts pool = flat_map (λ p. if p.pool == pool then p.names else []) parts
 
 -- the pools of the key: the oldest left alone, the others with their shares given, the new ones last
 abbrev pub bucket_with : ℕ → Grant → Bucket → Bucket
-bucket_with n g b = record b { id = g.id; pools = take g.left b.pools ++ all_shared g.refused n (drop g.left b.pools) ++ map fresh_entry g.fresh }
+bucket_with n g b = record b { id = g.id; pools = take g.skipped b.pools ++ all_shared g.refused n (drop g.skipped b.pools) ++ map fresh_entry g.fresh }
 
 -- the ledger's pool of this name, with the new ones
 abbrev pub fresh_or : Key → List Fresh → ℕ → Option Pool → Option Pool
@@ -64,4 +64,4 @@ ledger_with k g ledger name = option_map (pool_with (live_sets k.counts (came g.
 
 -- books and ledger with what a request of n sets took
 abbrev pub granted : Key → ℕ → Grant → State → State
-granted k n g s = with_bucket k (bucket_with n g (s.books k)) (ledger_with k g s.ledger) s
+granted k n g s = record { books = λ l. if key_eq k l then bucket_with n g (s.books k) else s.books l; ledger = ledger_with k g s.ledger }

@@ -4,32 +4,28 @@ use Rattle.gpu_descriptor_types.specs.Ledger.{Pool}
 use Rattle.std.specs.Prelude.{ℕ, ◌*◌, max, if◌then◌else◌, List, Option, sum, sum_by}
 use Rattle.gpu_descriptor.specs.Model.Books.{Key, EntryOf, BucketOf, Bucket}
 
--- how many sets are out of these pools
-abbrev pub allocated_in : {X : Type 0} → List (EntryOf X) → ℕ
-allocated_in pools = sum_by (λ e. e.allocated) pools
-
 -- how many descriptors so many sets of a key have, if it is marked
 abbrev pub marked_load : Key → ℕ → ℕ
 marked_load k sets = if k.marked then sets * sum k.counts else 0
 
 -- the descriptors of a pool of so many sets of a key, if it is marked. Without descriptors it has one
-abbrev pub pool_load : Key → ℕ → ℕ
-pool_load k sets = if k.marked then max 1 (sets * sum k.counts) else 0
+abbrev pub pool_descriptors : Key → ℕ → ℕ
+pool_descriptors k sets = if k.marked then max 1 (sets * sum k.counts) else 0
 
--- the descriptors of these pools of a key, if it is marked
-abbrev pub pools_load : {X : Type 0} → Key → List (EntryOf X) → ℕ
-pools_load k pools = sum_by (λ e. pool_load k e.capacity) pools
+module _ {X : Type 0} where
+  -- how many sets are out of these pools
+  abbrev pub allocated_in : List (EntryOf X) → ℕ
+  allocated_in pools = sum_by (λ e. e.allocated) pools
 
--- ---- over all keys: what a key with its bucket adds to each of the three sums
+  -- over all keys: what a key with its bucket adds to each of the three sums
+  abbrev pub sets_out : Key → BucketOf X → ℕ
+  sets_out k b = allocated_in b.pools
 
-abbrev pub sets_out : {X : Type 0} → Key → BucketOf X → ℕ
-sets_out k b = allocated_in b.pools
+  abbrev pub descriptors_out : Key → BucketOf X → ℕ
+  descriptors_out k b = marked_load k (allocated_in b.pools)
 
-abbrev pub descriptors_out : {X : Type 0} → Key → BucketOf X → ℕ
-descriptors_out k b = marked_load k (allocated_in b.pools)
-
-abbrev pub bucket_load : {X : Type 0} → Key → BucketOf X → ℕ
-bucket_load k b = pools_load k b.pools
+  abbrev pub bucket_load : Key → BucketOf X → ℕ
+  bucket_load k b = sum_by (λ e. pool_descriptors k e.capacity) b.pools
 
 -- the descriptors that the device created a marked key's pools with
 abbrev pub descriptors_created : (ℕ → Option Pool) → Key → Bucket → ℕ

@@ -11,7 +11,7 @@ use Rattle.gpu_descriptor.specs.declared.bucket.take.Stop.TheVariants.{Existing,
 use Rattle.gpu_descriptor.specs.Model.Books.{Key, Entry, next_number, AddsUp}
 use Rattle.gpu_descriptor.specs.Model.Agreement.{State, Item}
 use Rattle.gpu_descriptor.specs.Model.Release.{given_back, released, pools_gone}
-use Rattle.gpu_descriptor.specs.Model.Load.{allocated_in, pool_load, sets_out, descriptors_out, bucket_load}
+use Rattle.gpu_descriptor.specs.Model.Load.{allocated_in, pool_descriptors, sets_out, descriptors_out, bucket_load}
 use Rattle.gpu_descriptor.specs.Model.Runs.{runs}
 use Rattle.gpu_descriptor.specs.Model.Shares.{rest, is_asked, all_shared, asked_count, refused_count}
 use Rattle.gpu_descriptor.specs.Model.FreshPools.{IsFreshFront, IsFreshList, room_after}
@@ -32,12 +32,6 @@ error_of_alloc alloc_error.OutOfHostMemory = OutOfHostMemory
 error_of_alloc alloc_error.FragmentedPool = Fragmentation
 error_of_alloc alloc_error.OutOfPoolMemory = Fragmentation
 
-pub record Request : Type 0 where
-  pub key : Key
-  pub count : ℕ
-  -- the most descriptors that the marked sets which are out may have, and the most that the pools of marked keys may have
-  pub limit : ℕ
-
 -- ---- counters
 
 abbrev pub risen : Counters → Counters → Counters
@@ -54,7 +48,7 @@ risen by n = record {
 
 -- by asking the existing pools, and by new ones
 abbrev pub grant_rise : ℕ → Grant → List Entry → Counters
-grant_rise n g pools = let asked = drop g.left pools in record no_rise {
+grant_rise n g pools = let asked = drop g.skipped pools in record no_rise {
   created = length g.fresh;
   asked = asked_count g.refused n asked + length g.fresh;
   pool_refused = refused_count g.refused asked;
@@ -64,72 +58,19 @@ grant_rise n g pools = let asked = drop g.left pools in record no_rise {
 abbrev pub rollback_rise : List Item → Key → State → Counters
 rollback_rise items k t = record no_rise { released = runs items; destroyed = pools_gone (k ∷ []) items (given_back items t) }
 
--- ---- what is taken
+-- ---- the call
 
--- what the request could take so
-abbrev pub IsGrant : Request → State → Grant → Type 0
-IsGrant r s g = IsGrantOf r.count (s.books r.key) s.ledger g
-
--- what is wanting after the existing pools, and what is out of the key's pools then
-abbrev pub wanting : Request → State → Grant → ℕ
-wanting r s g = rest g.refused r.count (s.books r.key).pools
-
-abbrev pub out_then : Request → State → Grant → ℕ
-out_then r s g = allocated_in (all_shared g.refused r.count (s.books r.key).pools)
-
--- ---- the outcomes
-
--- what holds before and after a call
+-- a request of so many sets of a key, and what holds before and after it
 pub record Call : Type 0 where
-  pub request : Request
+  pub key : Key
+  pub count : ℕ
+  -- the most descriptors that the marked sets which are out may have, and the most that the pools of marked keys may have
+  pub limit : ℕ
   pub old : State
   pub new : State
   pub before : Counters
   pub after : Counters
   pub answer : Result (List Item) AllocationError
-
--- nothing changed
-pub record Stays (c : Call) : Type 0 where
-  pub state : c.new ≡ c.old
-  pub counters : c.after ≡ c.before
-
-pub record IsAboveLimit (c : Call) : Type 0 where
-  pub marked : c.request.key.marked ≡ true
-  pub load : ℕ
-  pub is_load : AddsUp descriptors_out c.old.books load
-  pub above : c.request.limit < c.request.count * sum c.request.key.counts + load
-
-pub record IsWithinLimit (c : Call) : Type 0 where
-  pub load : ℕ
-  pub is_load : AddsUp descriptors_out c.old.books load
-  pub within : c.request.key.marked ≡ true → c.request.count * sum c.request.key.counts + load ≤ c.request.limit
-
--- pool numbers, or the number of sets that are out, would pass 64 bits
-pub record IsPastBound (c : Call) : Type 0 where
-  pub out : ℕ
-  pub is_out : AddsUp sets_out c.old.books out
-  pub past : (greatest_u64 < next_number (c.old.books c.request.key) + c.request.count) ⊎ (greatest_u64 < out + c.request.count)
-
--- the tests before the walk are passed
-pub record Proceeds (c : Call) : Type 0 where
-  pub some : 0 < c.request.count
-  pub limit : IsWithinLimit c
-  pub numbers : next_number (c.old.books c.request.key) + c.request.count ≤ greatest_u64
-  pub out : ℕ
-  pub is_out : AddsUp sets_out c.old.books out
-  pub sets : out + c.request.count ≤ greatest_u64
-
--- all sets were had
-pub record IsDone (c : Call) : Type 0 where
-  pub grant : Grant
-  pub taken : IsGrant c.request c.old grant
-  pub all : grant.left ≡ 0
-  pub pooled : ℕ
-  pub is_pooled : AddsUp bucket_load c.old.books pooled
-  pub fresh : IsFreshList c.request.key (c.request.limit - pooled) (out_then c.request c.old grant) (wanting c.request c.old grant) grant.fresh
-  pub answer : c.answer ≡ Ok (items_in c.request.key grant.id grant.parts)
-  pub state : c.new ≡ granted c.request.key c.request.count grant c.old
-  pub counters : c.after ≡ risen (grant_rise c.request.count grant (c.old.books c.request.key).pools) c.before
 
 -- ---- why a request stops
 
@@ -149,20 +90,13 @@ stop_rise Books = no_rise
 stop_rise (Create e) = create_refused e no_rise
 stop_rise (New e) = let asked = alloc_refused e no_rise in record asked { created = 1; destroyed = 1 }
 
--- a request stopped when it had taken so much: the sets went back
-pub record IsBack (c : Call) (grant : Grant) (why : Stop) : Type 0 where
-  pub taken : IsGrant c.request c.old grant
-  pub answer : c.answer ≡ Err (stop_answer why)
-  pub state : c.new ≡ released (items_in c.request.key grant.id grant.parts) (granted c.request.key c.request.count grant c.old)
-  pub counters : c.after ≡ risen (rollback_rise (items_in c.request.key grant.id grant.parts) c.request.key (granted c.request.key c.request.count grant c.old)) (risen (stop_rise why) (risen (grant_rise c.request.count grant (c.old.books c.request.key).pools) c.before))
-
 -- what a request of n sets took of these pools ends at one that was asked and answered a memory error. The newer ones were asked before it, where they had places
 pub record EndsAtPool (n : ℕ) (pools : List Entry) (error : DeviceAllocationError) (g : Grant) : Type 0 where
   pub older : List Entry
   pub pool : Entry
   pub newer : List Entry
   pub here : pools ≡ older ++ pool ∷ newer
-  pub left : g.left ≡ length older + 1
+  pub left : g.skipped ≡ length older + 1
   pub no_fresh : g.fresh ≡ []
   pub asked : is_asked g.refused n newer pool ≡ true
   pub memory : pool_refusals error ≡ 0
@@ -170,30 +104,94 @@ pub record EndsAtPool (n : ℕ) (pools : List Entry) (error : DeviceAllocationEr
 -- no new pool came: for want of room exactly where not even one of one set fits
 abbrev pub NoneIsNew : Stop → Key → ℕ → Type 0
 NoneIsNew (Existing e) k room = ⊥
-NoneIsNew why k room = (why ≡ Room) ↔ (room < pool_load k 1)
+NoneIsNew why k room = (why ≡ Room) ↔ (room < pool_descriptors k 1)
 
 -- what had been taken then: of the existing pools, or of all these and a front of new ones
 abbrev pub StopsAt : Stop → Key → (room n : ℕ) → Grant → List Entry → Type 0
 StopsAt (Existing e) k room n g old = EndsAtPool n old e g
-StopsAt why k room n g old = (g.left ≡ 0) × IsFreshFront k room (allocated_in (all_shared g.refused n old)) (rest g.refused n old) g.fresh × NoneIsNew why k (room_after k room g.fresh)
+StopsAt why k room n g old = (g.skipped ≡ 0) × IsFreshFront k room (allocated_in (all_shared g.refused n old)) (rest g.refused n old) g.fresh × NoneIsNew why k (room_after k room g.fresh)
 
--- it stopped, for this reason
-pub record IsStopped (c : Call) : Type 0 where
-  pub why : Stop
-  pub grant : Grant
-  -- the pool load before
-  pub pooled : ℕ
-  pub is_pooled : AddsUp bucket_load c.old.books pooled
-  pub at : StopsAt why c.request.key (c.request.limit - pooled) c.request.count grant (c.old.books c.request.key).pools
-  pub back : IsBack c grant why
+-- ---- the outcomes
 
-pub data Allocates (c : Call) : Type 0 where
-  none : c.request.count ≡ 0 → c.answer ≡ Ok [] → Stays c → Allocates c
-  limit : 0 < c.request.count → IsAboveLimit c → c.answer ≡ Err Fragmentation → Stays c → Allocates c
-  bound : 0 < c.request.count → IsWithinLimit c → IsPastBound c → c.answer ≡ Err Fragmentation → Stays c → Allocates c
-  start : Proceeds c → c.answer ≡ Err OutOfHostMemory → Stays c → Allocates c
-  done : Proceeds c → IsDone c → Allocates c
-  stopped : Proceeds c → IsStopped c → Allocates c
+module _ (c : Call) where
+  -- what the request could take so
+  abbrev pub IsGrant : Grant → Type 0
+  IsGrant g = IsGrantOf c.count (c.old.books c.key) c.old.ledger g
+
+  -- what is wanting after the existing pools, and what is out of the key's pools then
+  abbrev pub wanting : Grant → ℕ
+  wanting g = rest g.refused c.count (c.old.books c.key).pools
+
+  abbrev pub out_then : Grant → ℕ
+  out_then g = allocated_in (all_shared g.refused c.count (c.old.books c.key).pools)
+
+  -- nothing changed
+  pub record Stays : Type 0 where
+    pub state : c.new ≡ c.old
+    pub counters : c.after ≡ c.before
+
+  pub record IsAboveLimit : Type 0 where
+    pub marked : c.key.marked ≡ true
+    pub load : ℕ
+    pub is_load : AddsUp descriptors_out c.old.books load
+    pub above : c.limit < c.count * sum c.key.counts + load
+
+  pub record IsWithinLimit : Type 0 where
+    pub load : ℕ
+    pub is_load : AddsUp descriptors_out c.old.books load
+    pub within : c.key.marked ≡ true → c.count * sum c.key.counts + load ≤ c.limit
+
+  -- pool numbers, or the number of sets that are out, would pass 64 bits
+  pub record IsPastBound : Type 0 where
+    pub out : ℕ
+    pub is_out : AddsUp sets_out c.old.books out
+    pub past : (greatest_u64 < next_number (c.old.books c.key) + c.count) ⊎ (greatest_u64 < out + c.count)
+
+  -- the tests before the walk are passed
+  pub record Proceeds : Type 0 where
+    pub some : 0 < c.count
+    pub limit : IsWithinLimit
+    pub numbers : next_number (c.old.books c.key) + c.count ≤ greatest_u64
+    pub out : ℕ
+    pub is_out : AddsUp sets_out c.old.books out
+    pub sets : out + c.count ≤ greatest_u64
+
+  -- all sets were had
+  pub record IsDone : Type 0 where
+    pub grant : Grant
+    pub taken : IsGrant grant
+    pub all : grant.skipped ≡ 0
+    pub pooled : ℕ
+    pub is_pooled : AddsUp bucket_load c.old.books pooled
+    pub fresh : IsFreshList c.key (c.limit - pooled) (out_then grant) (wanting grant) grant.fresh
+    pub answer : c.answer ≡ Ok (items_in c.key grant.id grant.parts)
+    pub state : c.new ≡ granted c.key c.count grant c.old
+    pub counters : c.after ≡ risen (grant_rise c.count grant (c.old.books c.key).pools) c.before
+
+  -- a request stopped when it had taken so much: the sets went back
+  pub record IsBack (grant : Grant) (why : Stop) : Type 0 where
+    pub taken : IsGrant grant
+    pub answer : c.answer ≡ Err (stop_answer why)
+    pub state : c.new ≡ released (items_in c.key grant.id grant.parts) (granted c.key c.count grant c.old)
+    pub counters : c.after ≡ risen (rollback_rise (items_in c.key grant.id grant.parts) c.key (granted c.key c.count grant c.old)) (risen (stop_rise why) (risen (grant_rise c.count grant (c.old.books c.key).pools) c.before))
+
+  -- it stopped, for this reason
+  pub record IsStopped : Type 0 where
+    pub why : Stop
+    pub grant : Grant
+    -- the pool load before
+    pub pooled : ℕ
+    pub is_pooled : AddsUp bucket_load c.old.books pooled
+    pub at : StopsAt why c.key (c.limit - pooled) c.count grant (c.old.books c.key).pools
+    pub back : IsBack grant why
+
+  pub data Allocates : Type 0 where
+    none : c.count ≡ 0 → c.answer ≡ Ok [] → Stays → Allocates
+    limit : 0 < c.count → IsAboveLimit → c.answer ≡ Err Fragmentation → Stays → Allocates
+    bound : 0 < c.count → IsWithinLimit → IsPastBound → c.answer ≡ Err Fragmentation → Stays → Allocates
+    start : Proceeds → c.answer ≡ Err OutOfHostMemory → Stays → Allocates
+    done : Proceeds → IsDone → Allocates
+    stopped : Proceeds → IsStopped → Allocates
 
 -- what a request took: nothing where none are asked for, or where it was refused before
 abbrev pub taken_by : {c : Call} → Allocates c → Option Grant

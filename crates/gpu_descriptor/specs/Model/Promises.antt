@@ -26,43 +26,44 @@ KeepsOutstanding old new = (t : Item) → outstanding new t ≡ outstanding old 
 abbrev pub AreOfKey : Key → List Item → Type 0
 AreOfKey k items = (t : Item) → 0 < count_of t items → t.key ≡ k
 
--- the five causes of Fragmentation
-pub data IsFragmentation (c : Call) : Type 0 where
-  above_limit : IsAboveLimit c → IsFragmentation c
-  past_bound : IsPastBound c → IsFragmentation c
-  no_room_left : (s : IsStopped c) → s.why ≡ Room → IsFragmentation c
-  no_pool_created : (s : IsStopped c) → s.why ≡ Create create_error.Fragmentation → c.before.fragmentation < c.after.fragmentation → IsFragmentation c
-  new_pool_refused : (s : IsStopped c) (e : DeviceAllocationError) → s.why ≡ New e → pool_refusals e ≡ 1 → c.before.pool_refused < c.after.pool_refused → IsFragmentation c
+-- new pools, one after another, the first where out sets of the key are out and wanted are wanting. Each comes only where some are wanting, and has fewer sets than twice what a pool is to hold at that moment
+abbrev pub AreBelowTwice : (out wanted : ℕ) → List Fresh → Type 0
+AreBelowTwice out wanted [] = Unit {0}
+AreBelowTwice out wanted (f ∷ later) = (0 < wanted) × (f.size < 2 * start_size out wanted) × AreBelowTwice (out + f.given) (wanted - f.given) later
 
--- the three causes of OutOfHostMemory: the device said so, or a growth was refused, which no counter shows
-pub data IsHostMemory (c : Call) : Type 0 where
-  device_refused : c.before.host_memory < c.after.host_memory → IsHostMemory c
-  -- for the answer, or for the key: nothing changed
-  no_memory_at_start : Proceeds c → Stays c → IsHostMemory c
-  -- for the books of a new pool
-  no_memory_for_a_pool : (s : IsStopped c) → s.why ≡ Books → IsHostMemory c
+module _ (c : Call) where
+  -- the five causes of Fragmentation
+  pub data IsFragmentation : Type 0 where
+    above_limit : IsAboveLimit c → IsFragmentation
+    past_bound : IsPastBound c → IsFragmentation
+    no_room_left : (s : IsStopped c) → s.why ≡ Room → IsFragmentation
+    no_pool_created : (s : IsStopped c) → s.why ≡ Create create_error.Fragmentation → c.before.fragmentation < c.after.fragmentation → IsFragmentation
+    new_pool_refused : (s : IsStopped c) (e : DeviceAllocationError) → s.why ≡ New e → pool_refusals e ≡ 1 → c.before.pool_refused < c.after.pool_refused → IsFragmentation
+
+  -- the three causes of OutOfHostMemory: the device said so, or a growth was refused or no id left, which no counter shows
+  pub data IsHostMemory : Type 0 where
+    device_refused : c.before.host_memory < c.after.host_memory → IsHostMemory
+    -- for the answer, or for the key: nothing changed
+    no_memory_at_start : Proceeds c → Stays c → IsHostMemory
+    -- for the books of a new pool
+    no_memory_for_a_pool : (s : IsStopped c) → s.why ≡ Books → IsHostMemory
+
+  -- the existing pools don't do: those that refused aside, they have fewer free places than are wanted. The new pools are those of the grant: one that refused was destroyed at once and took no number
+  pub record IsShort (g : Grant) : Type 0 where
+    pub short : sum_by (offer g.refused) (c.old.books c.key).pools < c.count
+    -- so they have no known free place left when the first new one comes
+    pub used_up : All (λ e. e.available ≡ 0) (all_shared g.refused c.count (c.old.books c.key).pools)
+    -- and if the request was met, no pool of the key but the newest has one
+    pub filled : OnOk c.answer (let pools = (c.new.books c.key).pools in All (λ e. e.available ≡ 0) (take (length pools - 1) pools))
+    pub below_twice : AreBelowTwice (out_then c g) (wanting c g) g.fresh
+    -- at most as many new pools as what is wanting divided by the floor of a pool's size, rounded up
+    pub few : let floor = pool_size_floor c.key.counts in (c.after.created - c.before.created) * floor < wanting c g + floor
 
 -- what each error says of the call
 abbrev pub HasCause : AllocationError → Call → Type 0
 HasCause OutOfDeviceMemory c = c.before.device_memory < c.after.device_memory
 HasCause OutOfHostMemory c = IsHostMemory c
 HasCause Fragmentation c = IsFragmentation c
-
--- new pools, one after another, the first where out sets of the key are out and wanted are wanting. Each comes only where some are wanting, and has fewer sets than twice what a pool is to hold at that moment
-abbrev pub AreBelowTwice : (out wanted : ℕ) → List Fresh → Type 0
-AreBelowTwice out wanted [] = Unit {0}
-AreBelowTwice out wanted (f ∷ later) = (0 < wanted) × (f.size < 2 * start_size out wanted) × AreBelowTwice (out + f.given) (wanted - f.given) later
-
--- the existing pools don't do: those that refused aside, they have fewer free places than are wanted. The new pools are those of the grant: one that refused was destroyed at once and took no number
-pub record IsShort (c : Call) (g : Grant) : Type 0 where
-  pub short : sum_by (offer g.refused) (c.old.books c.request.key).pools < c.request.count
-  -- so they have no known free place left when the first new one comes
-  pub used_up : All (λ e. e.free ≡ 0) (all_shared g.refused c.request.count (c.old.books c.request.key).pools)
-  -- and if the request was met, no pool of the key but the newest has one
-  pub filled : OnOk c.answer (let pools = (c.new.books c.request.key).pools in All (λ e. e.free ≡ 0) (take (length pools - 1) pools))
-  pub below_twice : AreBelowTwice (out_then c.request c.old g) (wanting c.request c.old g) g.fresh
-  -- at most as many new pools as what is wanting divided by the floor of a pool's size, rounded up
-  pub few : let floor = pool_size_floor c.request.key.counts in (c.after.created - c.before.created) * floor < wanting c.request c.old g + floor
 
 -- a pool is created only where the key's existing pools don't do
 abbrev pub CreatesOnlyWhereShort : {c : Call} → Allocates c → Type 0

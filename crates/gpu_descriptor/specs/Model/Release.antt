@@ -13,7 +13,7 @@ lies_in books pool t = option_map_or (λ e. e.pool == pool) (entry_at (books t.k
 
 -- the entry after n sets came back
 abbrev pub entry_less : ℕ → Entry → Entry
-entry_less n e = record e { allocated = e.allocated - n; free = e.free + n }
+entry_less n e = record e { allocated = e.allocated - n; available = e.available + n }
 
 -- the bucket after as many sets came back as back says of each pool
 abbrev pub bucket_less : (ℕ → ℕ) → Bucket → Bucket
@@ -43,7 +43,7 @@ spent_front b = min (empty_front b) (length b.pools - 1)
 
 -- the bucket without its first n pools. The others keep their numbers
 abbrev pub without_front : ℕ → Bucket → Bucket
-without_front n b = record b { first = b.first + n; pools = drop n b.pools }
+without_front n b = record b { offset = b.offset + n; pools = drop n b.pools }
 
 -- whether a pool is among the first n
 abbrev pub in_front : ℕ → Bucket → ℕ → Bool

@@ -10,7 +10,7 @@ ghost use Rattle.gpu_descriptor.specs.Caller.Flags.{is_marked};
 ghost use Rattle.gpu_descriptor.specs.Caller.HandsOut.{HandsOut};
 ghost use Rattle.gpu_descriptor.specs.Caller.Keeps.{Keeps};
 ghost use Rattle.gpu_descriptor.specs.Caller.Keys.{StayOrGainLast};
-ghost use Rattle.gpu_descriptor.specs.Caller.KeyOf.{key_of};
+ghost use Rattle.gpu_descriptor.specs.Inner.KeyOf.{key_of};
 ghost use Rattle.gpu_descriptor.specs.Caller.States.{Agrees, keys_of, marked_load_of};
 ghost use Rattle.gpu_descriptor.specs.Model.Load.{bucket_load, sets_out};
 ghost use Rattle.gpu_descriptor.specs.Model.Outcomes.{Allocates, error_of_alloc as alloc_answer};
@@ -47,10 +47,12 @@ impl<P: Drop, S: Drop> DescriptorAllocator<P, S> {
     /// never its last pool. The errors:
     ///
     /// - `Fragmentation`: the sets of a marked layout would pass the limit, the limit leaves no
-    ///   room for a new pool of a marked layout, a number would pass 64 bits, the device refused a
-    ///   new pool so, or a new pool refused for its own sake;
+    ///   room for a new pool of a marked layout, the number of a pool or of the sets that are out
+    ///   would pass 64 bits, the device refused a new pool so, or a new pool refused for its own
+    ///   sake;
     /// - `OutOfDeviceMemory`: the device said so, at an existing or a new pool;
-    /// - `OutOfHostMemory`: the device said so, or there was no memory for the answer or the books.
+    /// - `OutOfHostMemory`: the device said so, there was no memory for the answer or the books, or
+    ///   no id is left for a new key.
     ///
     /// `flags` and `layout_descriptor_count` must be those of the layout, and `device` that of all
     /// other calls. In the original the product that is held against the limit is taken in 32 bits;

@@ -1,5 +1,5 @@
 //! Giving sets back.
-ghost use Rattle.std.specs.Prelude.{◌≡◌, ◌+◌, ◌<◌, ◌≤◌, ◌^◌, ◌∷◌, OnSome};
+ghost use Rattle.std.specs.Prelude.{◌≡◌, ◌+◌, ◌<◌, ◌≤◌, ◌∷◌, OnSome};
 ghost use Rattle.std.specs.Iterator.{HoldsAlong, IsFinite, IsNearerEnd};
 ghost use Rattle.gpu_descriptor_types.specs.Side.{side};
 ghost use Rattle.gpu_descriptor.specs.Model.Agreement.{AreOutstanding};
@@ -36,7 +36,7 @@ impl<P, S> DescriptorAllocator<P, S> {
             I.IntoIter.next_gives iter (λ xs. AreOutstanding (items_of D.meaning.set_name xs)
             (state_of D.meaning.pool_name self.old (D.ledger device.old))) }
         ensures frees { (iter : I.IntoIter) × (left : I.IntoIter) × I.into_iter_gives sets iter ×
-            Frees I.IntoIter.next_gives D.meaning iter left (side self.old (D.ledger device.old))
+            Frees D.meaning I.IntoIter.next_gives iter left (side self.old (D.ledger device.old))
             (side self.new (D.ledger device.new)) }
         ensures keeps { Keeps D.meaning (side self.old (D.ledger device.old))
             (side self.new (D.ledger device.new)) }
@@ -57,7 +57,7 @@ impl<P, S> DescriptorAllocator<P, S> {
         requires outstanding { HoldsAlong I.next_gives sets.old (λ xs. AreOutstanding
             (items_of D.meaning.set_name xs)
             (state_of D.meaning.pool_name self.old (D.ledger device.old))) }
-        ensures frees { Frees I.next_gives D.meaning sets.old sets.new
+        ensures frees { Frees D.meaning I.next_gives sets.old sets.new
             (side self.old (D.ledger device.old)) (side self.new (D.ledger device.new)) }
         ensures keeps { Keeps D.meaning (side self.old (D.ledger device.old))
             (side self.new (D.ledger device.new)) }

@@ -67,7 +67,7 @@ impl<'k, S> Allocation<'k, S> {
 }
 
 impl<S> SetSink<S> for Allocation<'_, S> {
-    ghost use Rattle.gpu_descriptor.specs.Caller.KeyOf.{key_of};
+    ghost use Rattle.gpu_descriptor.specs.Inner.KeyOf.{key_of};
     ghost use Rattle.gpu_descriptor.specs.Inner.SetAt.{set_at};
 
     type Kept = DescriptorSet<S>;

@@ -4,7 +4,7 @@ ghost use Rattle.std.specs.Iterator.{HoldsAlong, IsFinite, IsNearerEnd};
 ghost use Rattle.gpu_descriptor.specs.Inner.Buckets.{AreBookedIn};
 ghost use Rattle.gpu_descriptor.specs.Inner.Releases.{IsTakenAt, RunsInto, names_of};
 ghost use Rattle.gpu_descriptor.specs.Caller.Comparisons.{open_pools, binary_digits};
-ghost use Rattle.gpu_descriptor.specs.Caller.KeyOf.{key_of};
+ghost use Rattle.gpu_descriptor.specs.Inner.KeyOf.{key_of};
 ghost use Rattle.gpu_descriptor.specs.Inner.RunSteps.{AllPass, EndsRun, at_place};
 ghost use Rattle.gpu_descriptor.specs.Inner.Stored.{bucket_of, stored_load};
 

@@ -8,8 +8,8 @@ ghost use Rattle.gpu_descriptor_types.specs.Flags.{bits};
 ghost use Rattle.gpu_descriptor_types.specs.Ledger.{pool_refusals};
 ghost use Rattle.gpu_descriptor_types.specs.PoolSize.{pool_counts as pool_counts_of};
 ghost use Rattle.gpu_descriptor.specs.declared.set.DescriptorSet.{DescriptorSet};
-ghost use Rattle.gpu_descriptor.specs.Model.Load.{pool_load};
-ghost use Rattle.gpu_descriptor.specs.Caller.KeyOf.{key_of};
+ghost use Rattle.gpu_descriptor.specs.Model.Load.{pool_descriptors};
+ghost use Rattle.gpu_descriptor.specs.Inner.KeyOf.{key_of};
 ghost use Rattle.gpu_descriptor.specs.Caller.Sets.{items_of};
 ghost use Rattle.gpu_descriptor.specs.Inner.Stored.{bucket_of, entry_of, stored_load};
 ghost use Rattle.gpu_descriptor.specs.Model.Books.{next_number};
@@ -204,9 +204,9 @@ fn next_size(
     ensures counts { IfSome result (λ pool. kinds pool.0 ≡ pool_counts_of (kinds key.now.size)
         pool.1) }
     ensures at_most { IfSome result (λ pool. pool.1 ≤ 2147483648) }
-    ensures room { IfSome result (λ pool. (pool_load (key_of key.now) pool.1 ≤ room)
-        × (pool_load (key_of key.now) pool.1 < 2 ^ 32)) }
-    ensures none { IfNone result (room < pool_load (key_of key.now) 1) }
+    ensures room { IfSome result (λ pool. (pool_descriptors (key_of key.now) pool.1 ≤ room)
+        × (pool_descriptors (key_of key.now) pool.1 < 2 ^ 32)) }
+    ensures none { IfNone result (room < pool_descriptors (key_of key.now) 1) }
 {
     if key.update_after_bind {
         cut_pool_size(&key.size, total, wanted, room)

@@ -9,7 +9,7 @@ use Rattle.descriptor_words.proofs.TicketLemmas.{count_more}
 use Rattle.descriptor_words.proofs.WordLemmas.{at_next}
 use Rattle.descriptor_words.specs.Fault.{faulty}
 use Rattle.descriptor_words.specs.declared.fault.Fault.TheVariants.{TooManyTickets}
-use Rattle.descriptor_words.specs.Tickets.{AreTickets, IsFaultOfFree, WritesTickets, first_side, last_side, most_tickets, tickets_between, tickets_of}
+use Rattle.descriptor_words.specs.Tickets.{AreTickets, IsFaultOfFree, WritesTickets, most_tickets, tickets_of}
 use Rattle.descriptor_words.specs.Words.{words_left}
 use Rattle.descriptor_words.proofs.tickets.parse_free.Goals as goal
 

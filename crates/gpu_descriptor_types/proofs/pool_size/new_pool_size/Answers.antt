@@ -2,7 +2,7 @@ use Rattle.std.proofs.Common.{arith, map}
 use Rattle.gpu_descriptor_types.specs.Counts.{kinds as kinds_of}
 use Rattle.gpu_descriptor_types.specs.PoolSize.{sets_of_kind}
 use Rattle.gpu_descriptor_types.proofs.Sizes.{pool_fits, pool_size_below, pool_size_some}
-use Rattle.gpu_descriptor_types.proofs.Least.{least_of-le-first}
+use Rattle.gpu_descriptor_types.proofs.Least.{fold_min-le-first}
 use Rattle.gpu_descriptor_types.proofs.pool_size.new_pool_size.Goals as goal
 
 pub counts_of_sets-requires : goal.counts_of_sets-requires
@@ -20,7 +20,7 @@ returns-clause-sets c = record {
 
 pub returns-clause-at_most : goal.returns-clause-at_most
 returns-clause-at_most c =
-    let first = least_of-le-first c.rounded_up.result (map sets_of_kind c.to_array-kinds.result) in
+    let first = fold_min-le-first c.rounded_up.result (map sets_of_kind c.to_array-kinds.result) in
     let is = c.set_count-sets.ensures.least in
     let small = c.rounded_up.ensures.at_most in
     omega arith

@@ -36,7 +36,7 @@ returns-in-NoMemory-clause-err g c =
     let runs = subst (λ m. RunsTo m (c.args.command ∷ []) c.in_ok-replies.replies.items (side old before) (side new after)) g.met.D.ScriptedMeaning.scripted c.in_ok-replies.ensures.runs in
     let step = step_of_one c.args.command c.in_ok-replies.replies.items c.index.result.now old new before after runs c.index.ensures in
     let same = no_memory_changes_nothing c.args.command old new before after (rw c.in-NoMemory.is at step) in
-    record { layouts = refl; known = c.run.ensures.keeps.layouts; allocator = same.allocator; sets = same.sets; ledger = same.ledger }
+    record { layouts = refl; session = same }
 
 pub reply_answer-requires : goal.reply_answer-requires
 reply_answer-requires g c =

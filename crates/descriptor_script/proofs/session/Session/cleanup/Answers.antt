@@ -3,8 +3,7 @@ use Rattle.descriptor_script.proofs.session.Session.cleanup.Goals as goal
 
 pub returns-clause-cleans : goal.returns-clause-cleans
 returns-clause-cleans g c = record {
-  cleaned = c.cleanup.ensures.cleans_up.cleaned;
-  counters = c.cleanup.ensures.cleans_up.destroyed;
+  cleans_up = c.cleanup.ensures.cleans_up;
   sets = search rules;
 }
 

@@ -22,7 +22,7 @@ returns-in_err-pool g c =
     ] in
     let here = seen_at _ k (λ l. search rules) c.args.self.now c.self.inside.buckets.entries (ap (λ (a : Allocations _). a.table) c.self.view_is) (sym c.get.ensures.value ∙ ap option_copied c.in_ok-bucket.was) in
     let past = slice_get_past (map kept_of q.items) c.args.index (let e = length-map q.items kept_of in omega arith) in
-    let view = c.from_residual-in_err-pool.ensures ∙ sym (ap (λ (b : BucketOf _). view_in b c.args.index) here ∙ ap (option_map (λ (e : EntryOf _). record { number = c.in_ok-bucket.bucket.now.offset + c.args.index; allocated = e.allocated; available = e.free })) past) in
+    let view = c.from_residual-in_err-pool.ensures ∙ sym (ap (λ (b : BucketOf _). view_in b c.args.index) here ∙ ap (option_map (λ (e : EntryOf _). record { number = c.in_ok-bucket.bucket.now.offset + c.args.index; allocated = e.allocated; available = e.available })) past) in
     record { view = view; books = λ name. view ∙ view_of-table name c.args.self.now k c.args.index }
 
 pub overflow_add-result : goal.overflow_add-result
@@ -37,5 +37,5 @@ returns g c =
     let b = c.in_ok-bucket.bucket.now in
     let here = seen_at _ k (λ l. search rules) c.args.self.now c.self.inside.buckets.entries (ap (λ (a : Allocations _). a.table) c.self.view_is) (sym c.get.ensures.value ∙ ap option_copied c.in_ok-bucket.was) in
     let there = slice_get-map kept_of b.pools.items c.args.index ∙ ap (option_map kept_of) (slice_get_read b.pools.items (length b.pools.items) c.args.index c.in_ok-pool.pool.now refl lt c.in_ok-pool.ensures.lookup) in
-    let view = sym (ap (λ (r : BucketOf _). view_in r c.args.index) here ∙ ap (option_map (λ (e : EntryOf _). record { number = b.offset + c.args.index; allocated = e.allocated; available = e.free })) there) in
+    let view = sym (ap (λ (r : BucketOf _). view_in r c.args.index) here ∙ ap (option_map (λ (e : EntryOf _). record { number = b.offset + c.args.index; allocated = e.allocated; available = e.available })) there) in
     record { view = view; books = λ name. view ∙ view_of-table name c.args.self.now k c.args.index }

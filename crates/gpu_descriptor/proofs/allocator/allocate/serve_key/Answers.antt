@@ -78,7 +78,7 @@ pub returns-in-Err-clause-refused : goal.returns-in-Err-clause-refused
 returns-in-Err-clause-refused g c =
     let is = absent g (goal.at.returns-in-Err-clause-refused g c).In-None in
     let given : Bucket → Bucket = λ b. record b { id = c.place_of_key.new.self.next } in
-    let empty : given no_pools ≡ record { id = c.place_of_key.new.self.next; first = 0; pools = map (entry_of g.D.DescriptorDevice.meaning.pool_name) c.new.result.items } = λ i. record { id = c.place_of_key.new.self.next; first = 0; pools = map (entry_of g.D.DescriptorDevice.meaning.pool_name) (sym c.new.ensures.items i) } in
+    let empty : given no_pools ≡ record { id = c.place_of_key.new.self.next; offset = 0; pools = map (entry_of g.D.DescriptorDevice.meaning.pool_name) c.new.result.items } = λ i. record { id = c.place_of_key.new.self.next; offset = 0; pools = map (entry_of g.D.DescriptorDevice.meaning.pool_name) (sym c.new.ensures.items i) } in
     subst (λ (b : Bucket). IsUnserved c.args.request.now.count c.in-Err.error b) (sym (ap given is ∙ empty)) c.in-Err.ensures.refused
 
 -- the new key goes last
@@ -89,7 +89,7 @@ put g c =
 
 pub returns-clause-served : goal.returns-clause-served
 returns-clause-served g c =
-    serves_new c.args.request.now.key c.serve-2.new.self c.in-Ok.ensures.served.0 c.in-Ok.ensures.served.1 c.args.buckets.now.entries (is_of (key_of c.args.request.now.key)) (λ k. search rules) (c.in-None.ensures.place) (put g (goal.at.returns-clause-served g c).In-Ok-insert) (λ i. record { id = c.place_of_key.new.self.next; first = 0; pools = map (entry_of g.D.DescriptorDevice.meaning.pool_name) (c.new.ensures.items i) }) refl
+    serves_new c.args.request.now.key c.serve-2.new.self c.in-Ok.ensures.served.0 c.in-Ok.ensures.served.1 c.args.buckets.now.entries (is_of (key_of c.args.request.now.key)) (λ k. search rules) (c.in-None.ensures.place) (put g (goal.at.returns-clause-served g c).In-Ok-insert) (λ i. record { id = c.place_of_key.new.self.next; offset = 0; pools = map (entry_of g.D.DescriptorDevice.meaning.pool_name) (c.new.ensures.items i) }) refl
 
 pub returns-clause-room : goal.returns-clause-room
 returns-clause-room g c =

@@ -1,4 +1,4 @@
-use Rattle.gpu_descriptor.proofs.Common.{◌≡◌, ◌+◌, drop, ◌<◌, ◌≤◌, ◌∙◌, sym, ap, arith, length, get_or, Some, key_of, front_but, pool_load, bucket_of, stored_load}
+use Rattle.gpu_descriptor.proofs.Common.{◌≡◌, ◌+◌, drop, ◌<◌, ◌≤◌, ◌∙◌, sym, ap, arith, length, get_or, Some, key_of, front_but, pool_descriptors, bucket_of, stored_load}
 use Rattle.gpu_descriptor.proofs.sums.PoolLoads.{stored_first}
 use Rattle.gpu_descriptor.proofs.release.FrontPool.{IsFront, is_front, turn_unused, turn, stop_full, stop_short, still}
 use Rattle.gpu_descriptor.proofs.bucket.DescriptorBucket.drop_front.Goals.{After-unwrap-front}
@@ -13,7 +13,7 @@ front g c =
     let is : c.unwrap-front.result ≡ get_or items 0 c.unwrap-front.result = cc (some, was) in
     is_front g.D.DescriptorDevice.meaning.pool_name c.args.keep items c.unwrap-front.result c.index.result.now many is c.index.ensures c.if-index-eq0.true
 
-first_load : (g : _) (c : After-unwrap-front g) → stored_load (key_of c.args.key.now) c.loop-self.self.pools.items ≡ pool_load (key_of c.args.key.now) c.unwrap-front.result.capacity + stored_load (key_of c.args.key.now) (drop 1 c.loop-self.self.pools.items)
+first_load : (g : _) (c : After-unwrap-front g) → stored_load (key_of c.args.key.now) c.loop-self.self.pools.items ≡ pool_descriptors (key_of c.args.key.now) c.unwrap-front.result.capacity + stored_load (key_of c.args.key.now) (drop 1 c.loop-self.self.pools.items)
 first_load g c = (let first = front g c in let some = first.long in stored_first (key_of c.args.key.now) c.loop-self.self.pools.items c.unwrap-front.result (omega arith) first.is)
 
 pub descriptors_of_pool-requires : goal.descriptors_of_pool-requires

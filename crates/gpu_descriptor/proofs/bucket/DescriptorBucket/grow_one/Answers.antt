@@ -1,4 +1,4 @@
-use Rattle.gpu_descriptor.proofs.Common.{◌≡◌, ℕ, ◌+◌, ◌-◌, ◌≤◌, ◌++◌, List, [], ◌∷◌, length, map, min, refl, sym, ap, ◌∙◌, subst, arith, length-map, map-append, Some, Ledger, after_alloc, after_create, after_destroy, live_sets, HasNoSets, fresh, pool_counts, DescriptorPool, Entry, Key, flags_of, key_of, set_at, pool_load, entry_of}
+use Rattle.gpu_descriptor.proofs.Common.{◌≡◌, ℕ, ◌+◌, ◌-◌, ◌≤◌, ◌++◌, List, [], ◌∷◌, length, map, min, refl, sym, ap, ◌∙◌, subst, arith, length-map, map-append, Some, Ledger, after_alloc, after_create, after_destroy, live_sets, HasNoSets, fresh, pool_counts, DescriptorPool, Entry, Key, flags_of, key_of, set_at, pool_descriptors, entry_of}
 use Rattle.gpu_descriptor.specs.declared.bucket.take.Stop.TheVariants as stop
 use Rattle.gpu_descriptor.proofs.request.NextSize.{one_fits}
 use Rattle.gpu_descriptor.proofs.request.Asks.{same_entry}
@@ -30,7 +30,7 @@ module _ (g : _) (c : In-Ok g) where
   at = created_at key size name before created made
 
   -- a pool of one set fits
-  fits : pool_load key 1 ≤ c.args.room.now
+  fits : pool_descriptors key 1 ≤ c.args.room.now
   fits = one_fits key c.args.room.now c.args.self.now.total c.args.wanted size c.in-Some.ensures.sets
 
 -- what came stands behind what was there
@@ -75,7 +75,7 @@ returns-in-Ok-alloc_descriptor_sets-clause-grown g c =
     let old : List Entry = map (entry_of g.D.DescriptorDevice.meaning.pool_name) c.args.self.now.pools.items in
     let new : List Entry = map (entry_of g.D.DescriptorDevice.meaning.pool_name) c.push.new.self.pools.items in
     let value : DescriptorPool g.row.P.Denot = record { raw = c.alloc_descriptor_sets.new.pool; capacity = c.in-Some.size; allocated = c.min-given.result; available = c.in-Some.size - c.min-given.result } in
-    let now : new ≡ old ++ record { pool = name g d; capacity = size g d; allocated = min (size g d) c.args.wanted; free = size g d - min (size g d) c.args.wanted } ∷ [] =
+    let now : new ≡ old ++ record { pool = name g d; capacity = size g d; allocated = min (size g d) c.args.wanted; available = size g d - min (size g d) c.args.wanted } ∷ [] =
     ap (map (entry_of g.D.DescriptorDevice.meaning.pool_name)) (c.push.ensures.pools ∙ ap (λ x. x ++ value ∷ []) c.make_room.ensures.pools)
     ∙ map-append (entry_of g.D.DescriptorDevice.meaning.pool_name) c.args.self.now.pools.items (value ∷ [])
     ∙ ap (λ (e : Entry). old ++ e ∷ []) (same_entry (entry_of g.D.DescriptorDevice.meaning.pool_name value) _ c.in-Ok-alloc_descriptor_sets.ensures.name refl count (ap (λ n. c.in-Some.size - n) count)) in

@@ -14,7 +14,7 @@ alloc_descriptor_sets-requires-clause-fits g c =
     let e : Entry = entry_of g.D.DescriptorDevice.meaning.pool_name c.args.pool.now in
     let l : Ledger = g.D.DescriptorDevice.ledger c.args.device.now in
     let booked = subst (λ (k : Key). IsBookedIn k l.pools e) c.requires.same c.requires.booked in
-    rw (c.new.ensures.left, c.new.ensures.layout) (has_room (g.D.DescriptorDevice.meaning.counts c.args.layout.now) (g.D.DescriptorDevice.meaning.mark c.args.layout.now) e c.min-count.result l (g.met.D.DescriptorDevice.finite c.args.device.now) booked few)
+    rw (c.new.ensures.left, c.new.ensures.layout) (has_room (g.D.DescriptorDevice.meaning.counts c.args.layout.now) (g.D.DescriptorDevice.meaning.mark c.args.layout.now) e c.min-count.result l booked few)
 
 pub returns-in-Ok-clause-asked : goal.returns-in-Ok-clause-asked
 returns-in-Ok-clause-asked g c =
@@ -26,12 +26,12 @@ returns-in-Ok-clause-asked g c =
     let m : Ledger = g.D.DescriptorDevice.ledger c.alloc_descriptor_sets.new.self in
     let names : List ℕ = map g.D.DescriptorDevice.meaning.set_name put.sets in
     let many : length put.sets ≡ c.min-count.result = put.many ∙ c.new.ensures.left in
-    let long : length names ≡ min c.args.wanted e.free = length-map put.sets g.D.DescriptorDevice.meaning.set_name ∙ many ∙ count in
-    let some : 0 < min c.args.wanted e.free = (let ne = c.if-count-eq0.false in omega arith) in
+    let long : length names ≡ min c.args.wanted e.available = length-map put.sets g.D.DescriptorDevice.meaning.set_name ∙ many ∙ count in
+    let some : 0 < min c.args.wanted e.available = (let ne = c.if-count-eq0.false in omega arith) in
     let counts : g.D.DescriptorDevice.meaning.counts c.args.layout.now ≡ key.counts = sym (ap (λ (k : Key). k.counts) c.requires.same) in
     let is : m ≡ after_alloc e.pool (live_sets key.counts names) l = put.ledger ∙ ap (λ cs. after_alloc e.pool (live_sets cs names) l) (ap g.D.DescriptorDevice.meaning.counts c.new.ensures.layout ∙ counts) in
     let was = given key c.args.wanted names e l m some long is in
-    let now : record e { allocated = e.allocated + min c.args.wanted e.free; free = e.free - min c.args.wanted e.free } ≡ entry_of g.D.DescriptorDevice.meaning.pool_name (record { raw = c.alloc_descriptor_sets.new.pool; capacity = c.args.pool.now.capacity; allocated = c.args.pool.now.allocated + c.min-count.result; available = c.args.pool.now.available - c.min-count.result }) = same_entry _ _ (sym c.in-Ok.ensures.name) refl (omega arith) (omega arith) in
+    let now : record e { allocated = e.allocated + min c.args.wanted e.available; available = e.available - min c.args.wanted e.available } ≡ entry_of g.D.DescriptorDevice.meaning.pool_name (record { raw = c.alloc_descriptor_sets.new.pool; capacity = c.args.pool.now.capacity; allocated = c.args.pool.now.allocated + c.min-count.result; available = c.args.pool.now.available - c.min-count.result }) = same_entry _ _ (sym c.in-Ok.ensures.name) refl (omega arith) (omega arith) in
     let room : c.alloc_descriptor_sets.new.sets.left + c.min-count.result ≡ c.args.sink.now.left = (let r = put.room in let n = c.new.ensures.left in omega arith) in
     (put.sets, many, put.kept, room, subst (λ (f : Entry). IsAsked key c.args.wanted names e f l m) now was)
 
@@ -43,8 +43,8 @@ returns-then-is_of_pool-clause-asked g c =
     let e : Entry = entry_of g.D.DescriptorDevice.meaning.pool_name c.args.pool.now in
     let l : Ledger = g.D.DescriptorDevice.ledger c.args.device.now in
     let m : Ledger = g.D.DescriptorDevice.ledger c.alloc_descriptor_sets.new.self in
-    let some : 0 < min c.args.wanted e.free = (let ne = c.if-count-eq0.false in omega arith) in
+    let some : 0 < min c.args.wanted e.available = (let ne = c.if-count-eq0.false in omega arith) in
     let of_pool : pool_refusals c.in-Err.error ≡ 1 = c.is_of_pool.ensures ∙ ap (λ b. if b then 1 else 0) c.if-is_of_pool.true in
     let was = refuses key c.args.wanted c.in-Err.error e l m some of_pool err.ledger in
-    let now : record e { free = 0 } ≡ entry_of g.D.DescriptorDevice.meaning.pool_name (record { raw = c.alloc_descriptor_sets.new.pool; capacity = c.args.pool.now.capacity; allocated = c.args.pool.now.allocated; available = 0 }) = same_entry _ _ (sym c.in-Err.ensures.name) refl refl refl in
+    let now : record e { available = 0 } ≡ entry_of g.D.DescriptorDevice.meaning.pool_name (record { raw = c.alloc_descriptor_sets.new.pool; capacity = c.args.pool.now.capacity; allocated = c.args.pool.now.allocated; available = 0 }) = same_entry _ _ (sym c.in-Err.ensures.name) refl refl refl in
     ([], refl, err.kept ∙ sym (append-nil c.args.sink.now.sets.items), (let room = err.room in omega arith), subst (λ (f : Entry). IsAsked key c.args.wanted [] e f l m) now was)
