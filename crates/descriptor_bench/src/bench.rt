@@ -4,12 +4,12 @@ ghost use Rattle.gpu_descriptor.specs.Model.Agreement.{AreOutstanding};
 ghost use Rattle.gpu_descriptor.specs.Model.Promises.{AreOutBesides, KeepsOutstanding};
 ghost use Rattle.gpu_descriptor.specs.Caller.Sets.{items_of};
 ghost use Rattle.gpu_descriptor.specs.Caller.States.{Agrees, state_of};
-ghost use Rattle.gpu_descriptor.proofs.callers.OneAgreement.{Agree-prop};
+ghost use Rattle.gpu_descriptor.proofs.callers.OneAgreement.{Agrees-prop};
 ghost use Rattle.descriptor_bench.specs.Device.{ledger_of, name_of};
 
 use crate::device::CountingDevice;
 use crate::layout::Layout;
-use gpu_descriptor::{AllocationError, DescriptorAllocator, DescriptorSet, laws};
+use gpu_descriptor::{AllocationError, DescriptorAllocator, DescriptorSet};
 use std::alloc::Global;
 
 /// An allocator and its device, which always agree.
@@ -17,8 +17,8 @@ use std::alloc::Global;
 pub struct Bench {
     pub allocator: DescriptorAllocator<u64, u64>,
     pub device: CountingDevice,
-    ghost agree: { Agrees name_of allocator (ledger_of device) } by { Agree-prop
-        (state_of name_of allocator (ledger_of device)) },
+    ghost agree: { Agrees name_of allocator (ledger_of device) } by { Agrees-prop
+        name_of allocator (ledger_of device) },
 }
 
 impl Bench {
@@ -27,7 +27,6 @@ impl Bench {
     /// An allocator without keys, under the greatest limit, and a device with memory for so many
     /// pools.
     pub fn new(alloc: Global, most_pools: u64) -> Self {
-        laws::books_alone();
         Bench {
             allocator: DescriptorAllocator::new(alloc, u32::MAX),
             device: CountingDevice::new(most_pools),

@@ -1,9 +1,7 @@
 //! The manager: an allocator, and the sets that wait for the end of their frame.
 ghost use Rattle.std.specs.Prelude.{◌≡◌, ℕ, [], length};
 ghost use Rattle.gpu_descriptor_types.specs.Ledger.{Ledger};
-ghost use Rattle.gpu_descriptor.specs.Model.Books.{AddsUp, HasDistinctKeys, books_of};
-ghost use Rattle.gpu_descriptor.specs.Model.Load.{sets_out};
-ghost use Rattle.gpu_descriptor.specs.Caller.States.{Agrees, outstanding_of, table_of};
+ghost use Rattle.gpu_descriptor.specs.Caller.States.{Agrees, outstanding_of};
 ghost use Rattle.gpu_descriptor.specs.Caller.Values.{without_keys};
 ghost use Rattle.descriptor_frames.specs.Retired.{AreInOrder};
 
@@ -15,7 +13,7 @@ mod retire;
 mod retire_all;
 
 use crate::retired::Retired;
-use gpu_descriptor::{DescriptorAllocator, laws};
+use gpu_descriptor::DescriptorAllocator;
 use std::alloc::Global;
 use std::collections::VecDeque;
 
@@ -51,7 +49,6 @@ impl<P, S> FrameManager<P, S> {
 
         ensures greatest { greatest_of result ≡ 0 }
     {
-        laws::books_alone();
         FrameManager {
             allocator: DescriptorAllocator::new(alloc, max),
             retired: VecDeque::new(alloc),
@@ -61,10 +58,7 @@ impl<P, S> FrameManager<P, S> {
 
     /// How many sets are in use or retired.
     pub fn outstanding(&self) -> u64
-        ensures total { result ≡ outstanding_of (allocator_of self.now) }
-        ensures books { (name : P → ℕ) → AddsUp sets_out
-            (books_of (table_of name (allocator_of self.now))) result }
-        ensures rows { (name : P → ℕ) → HasDistinctKeys (table_of name (allocator_of self.now)) }
+        ensures { result ≡ outstanding_of (allocator_of self.now) }
     {
         self.allocator.outstanding()
     }

@@ -5,7 +5,8 @@ use Rattle.gpu_descriptor_types.specs.Counts.{kinds}
 use Rattle.gpu_descriptor_types.specs.Ledger.{Ledger}
 use Rattle.gpu_descriptor.specs.Caller.Flags.{is_marked}
 use Rattle.gpu_descriptor.specs.Caller.States.{state_of}
-use Rattle.gpu_descriptor.proofs.release.Places.{empty_agrees, none_out}
+use Rattle.gpu_descriptor.proofs.callers.NewAllocators.{new_agrees}
+use Rattle.gpu_descriptor.proofs.release.Places.{none_out}
 use Rattle.descriptor_script.specs.Scripted.Raw.{pool_id, script_meaning}
 use Rattle.descriptor_script.specs.Sessions.Session.{AreMeant, IsReady, allocator_of, layouts_of, sets_of}
 use Rattle.descriptor_script.specs.Sessions.SessionRun.{RunsTo}
@@ -29,7 +30,7 @@ use Rattle.gpu_descriptor_types.specs.Side.{Side, side}
 -- a new session can make a step on any device
 pub new_is_ready : (s : LineSession) (l : Ledger) (max : ℕ) → allocator_of s ≡ record { limit = max; table = []; looks = 0; comparisons = 0 } → layouts_of s ≡ [] → sets_of s ≡ [] → IsReady script_meaning (side s l)
 new_is_ready s l max allocator layouts sets = record {
-  agree = rw allocator (empty_agrees l.pools);
+  agree = new_agrees allocator script_meaning.pool_name l;
   held = rw (allocator, sets) (λ t. none_out (state_of pool_id (record { limit = max; table = []; looks = 0; comparisons = 0 }) l) t refl);
   meant = rw layouts (λ i k at. (cc));
 }

@@ -5,6 +5,7 @@ mod Entries
 mod Filling
 mod Given
 mod Held
+mod Owing
 mod Promised
 mod Running
 mod Written

@@ -2,9 +2,9 @@
 use Rattle.std.proofs.Props.{props}
 use Rattle.gpu_descriptor_types.specs.Meaning.{Meaning}
 use Rattle.gpu_descriptor_types.specs.Side.{Side}
-use Rattle.gpu_descriptor.proofs.callers.OneAgreement.{Agree-prop}
+use Rattle.gpu_descriptor.proofs.callers.OneAgreement.{Agrees-prop}
 use Rattle.descriptor_script.specs.Sessions.Session.{IsReady}
 use Rattle.descriptor_script.specs.declared.session.Session.{Session}
 
 pub IsReady-prop : {L P S : Type 0} (means : Meaning L P S) (s : Side (Session L P S)) → IsProp (IsReady means s)
-IsReady-prop means s = Prim.hlevel (Agree-prop, props)
+IsReady-prop means s = Prim.hlevel (Agrees-prop, props)

@@ -80,8 +80,8 @@ module _ {L P S : Type 0} (means : Meaning L P S) where
       go (Free tickets) (Freed n) h =
           let start = state_of means.pool_name (allocator_of old.value) old.ledger in
           let out = listed_out means.set_name (sets_of old.value) tickets.items h.given start h.good h.each ready.held in (
-            (h.given, h.each, (λ order alike. h.back.state ∙ sym (one_by_one (items_of means.set_name h.given) order start ready.agree out alike))),
-            (h.given, h.each, ap (λ (c : Counters). c.released) h.back.counters),
+            (h.given, h.each, (λ order alike. h.back.back.state ∙ sym (one_by_one (items_of means.set_name h.given) order start ready.agree.books out alike))),
+            (h.given, h.each, ap (λ (c : Counters). c.released) h.back.back.counters),
           )
       go (Free tickets) (Sets first many) h = (tt, tt)
       go (Free tickets) (Refused e) h = (tt, tt)
@@ -114,10 +114,9 @@ module _ {L P S : Type 0} (means : Meaning L P S) where
 
   pub keeps_all : IsKept (KeepsAll means)
   keeps_all command reply old new ready step keeps = record {
-    exactly = holds_exactly command reply old new ready step keeps;
     handed_out = holds_what_is_out command reply old new ready step keeps;
     one_by_one = frees_one_by_one command reply old new ready step keeps;
     one_call_a_run = calls_once_a_run command reply old new ready step keeps;
-    limit = keeps_limit command reply old new ready step keeps;
     cause = fails_for_cause command reply old new ready step keeps;
+    keeps = keeps;
   }

@@ -7,7 +7,7 @@ ghost use Rattle.gpu_descriptor_types.specs.Counts.{kinds};
 ghost use Rattle.gpu_descriptor_types.specs.Flags.{bits};
 ghost use Rattle.gpu_descriptor_types.specs.Layouts.{layout, left};
 ghost use Rattle.gpu_descriptor_types.specs.Ledger.{fresh as fresh_pool, on_pool, pool_refusals};
-ghost use Rattle.gpu_descriptor.specs.Model.Agreement.{HasSize};
+ghost use Rattle.gpu_descriptor_types.specs.Multiset.{HasSize};
 ghost use Rattle.descriptor_script.specs.Scripted.Raw.{raw_sets, set_id};
 ghost use Rattle.descriptor_script.specs.Inner.Table.{PoolsAreBelow, SetsAreBelow};
 

@@ -1,7 +1,9 @@
 //! A session: commands on an allocator, whose sets are named by tickets.
-ghost use Rattle.std.specs.Prelude.{◌≡◌, ◌≤◌, ◌++◌, [], ◌∷◌, length, IfOk, IfErr, OnOk, OnErr};
+ghost use Rattle.std.specs.Prelude.{◌≡◌, ℕ, ◌≤◌, ◌++◌, [], ◌∷◌, length, IfOk, IfErr, OnOk, OnErr};
 ghost use Rattle.std.specs.Option.{option_copied};
-ghost use Rattle.gpu_descriptor.specs.Caller.States.{marked_load_of, pool_load_of, outstanding_of};
+ghost use Rattle.gpu_descriptor_types.specs.Ledger.{Ledger};
+ghost use Rattle.gpu_descriptor.specs.Caller.States.{Agrees, marked_load_of, outstanding_of};
+ghost use Rattle.gpu_descriptor.specs.Caller.States.{pool_load_of};
 ghost use Rattle.gpu_descriptor.specs.Caller.Values.{without_keys};
 ghost use Rattle.descriptor_script.specs.Sessions.Tickets.{held_sets, set_at};
 
@@ -40,9 +42,11 @@ impl<L, P, S> Session<L, P, S> {
     ghost use Rattle.descriptor_script.specs.Sessions.Session.{allocator_of, layouts_of, sets_of};
 
     /// A session without layouts and sets, whose allocator has this limit on update-after-bind
-    /// descriptors. It takes no memory.
+    /// descriptors, and agrees with every device. It takes no memory.
     pub fn new(alloc: Global, max: u32) -> Self
         ensures allocator { allocator_of result ≡ without_keys max }
+        ensures agree { (name : P → ℕ) (ledger : Ledger)
+            → Agrees name (allocator_of result) ledger }
         ensures layouts { layouts_of result ≡ [] }
         ensures sets { sets_of result ≡ [] }
     {

@@ -3,7 +3,8 @@
 ghost use Rattle.std.specs.Prelude.{◌≡◌, [], IfOk};
 ghost use Rattle.gpu_descriptor_types.specs.Side.{side};
 ghost use Rattle.gpu_descriptor.specs.Caller.States.{Agrees, state_of};
-ghost use Rattle.descriptor_script.specs.Sessions.Session.{AreAllHeld, AreMeant, HasNoPools};
+ghost use Rattle.descriptor_script.specs.Sessions.Session.{AreAllHeld, AreMeant};
+ghost use Rattle.gpu_descriptor.specs.Model.Agreement.{HasNoPools};
 ghost use Rattle.descriptor_script.specs.Sessions.Session.{KeepsSession, allocator_of};
 ghost use Rattle.descriptor_script.specs.Sessions.Session.{layouts_of, sets_of};
 ghost use Rattle.descriptor_script.specs.Sessions.SessionRun.{VisitsTo};
@@ -13,7 +14,7 @@ use crate::{Command, Reply, Session};
 use gpu_descriptor::{DescriptorDevice, laws};
 use std::alloc::AllocError;
 
-/// Runs commands, as `Session::run` does, on a session without pools, and then cleans up. If no set
+/// Runs commands, as `Session::run` does, on a session whose books are as new, and then cleans up. If no set
 /// is held then, the device has exactly the pools that it had before, whatever it refused in
 /// between, and the session may visit it again.
 ///

@@ -5,8 +5,7 @@ use Rattle.std.proofs.lemmas.List.{length-map}
 use Rattle.std.proofs.lemmas.Map.{update_here}
 use Rattle.std.specs.Option.{option_map}
 use Rattle.gpu_descriptor_types.specs.Ledger.{Ledger, Pool, AreLive, Releases}
-use Rattle.gpu_descriptor_types.specs.Multiset.{LiveSet, times, AreIn}
-use Rattle.gpu_descriptor.specs.Model.Agreement.{HasSize}
+use Rattle.gpu_descriptor_types.specs.Multiset.{AreIn, HasSize, LiveSet, times}
 use Rattle.gpu_descriptor.proofs.foreign.LedgerPools.{size_minus}
 use Rattle.gpu_descriptor.proofs.sums.Sized.{size_one}
 

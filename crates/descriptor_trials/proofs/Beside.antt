@@ -1,17 +1,18 @@
 -- Two sessions on one device: what a step of one leaves of the other.
-use Rattle.std.proofs.Common.{◌≡◌, ℕ, List, [], Option, Some, refl, sym, ap, ◌∙◌, subst}
+use Rattle.std.proofs.Common.{◌≡◌, ℕ, List, [], Option, Some, refl, sym, ap, ◌∙◌}
 use Rattle.gpu_descriptor_types.specs.Ledger.{Ledger}
 use Rattle.gpu_descriptor.specs.Model.Promises.{IsUntouched}
 use Rattle.gpu_descriptor.specs.Model.Agreement.{count_of, outstanding}
 use Rattle.gpu_descriptor.specs.Model.Books.{Key, Entry, Bucket, entry_at, no_pools}
 use Rattle.gpu_descriptor.specs.Model.Foreign.{IsForeign, KeepsForeign}
 use Rattle.gpu_descriptor.specs.Caller.Sets.{items_of}
-use Rattle.gpu_descriptor.specs.Caller.States.{Agrees, state_of}
+use Rattle.gpu_descriptor.specs.Caller.States.{state_of}
 use Rattle.gpu_descriptor.specs.Caller.Values.{Allocations}
 use Rattle.gpu_descriptor.specs.declared.set.DescriptorSet.{DescriptorSet}
 use Rattle.gpu_descriptor.proofs.foreign.NoneLost.{none_at}
 use Rattle.gpu_descriptor.proofs.foreign.Others.{own_agrees, own_outstanding}
-use Rattle.gpu_descriptor.proofs.release.Places.{empty_agrees, none_out}
+use Rattle.gpu_descriptor.proofs.callers.NewAllocators.{new_agrees}
+use Rattle.gpu_descriptor.proofs.release.Places.{none_out}
 use Rattle.descriptor_script.specs.Scripted.Raw.{pool_id, script_meaning, set_id}
 use Rattle.descriptor_script.specs.Sessions.Session.{IsReady, allocator_of}
 use Rattle.descriptor_script.specs.Sessions.Tickets.{held_sets}
@@ -29,7 +30,7 @@ Held = Session ScriptLayout RawPool RawSet
 module _ (x x' y : Held) (l m : Ledger) (foreign : KeepsForeign (session_state x l) (session_state x' m)) (pair : ArePaired x y l) where
   not_touched : (k : Key) (n : ℕ) (e : Entry) → entry_at ((session_state y l).books k) n ≡ Some e → (m.pools e.pool ≡ l.pools e.pool) × IsForeign (session_state x' m) e.pool
   not_touched k n e at =
-      let b = pair.other.agree.booked k n e at in
+      let b = pair.other.agree.books.booked k n e at in
       let after = foreign e.pool b.0 (λ j i d there. pair.apart j k i n d e there at) b.1 in
       (after.0 ∙ sym b.1, after.1)
 
@@ -41,7 +42,7 @@ module _ (x x' y : Held) (l m : Ledger) (foreign : KeepsForeign (session_state x
   stepped ready = record {
     one = ready;
     other = record {
-      agree = own_agrees (session_state y l) (session_state y m) keeps pair.other.agree;
+      agree = record { rows = pair.other.agree.rows; books = own_agrees (session_state y l) (session_state y m) keeps pair.other.agree.books };
       held = λ t. own_outstanding (session_state y l) (session_state y m) keeps t ∙ pair.other.held t;
       meant = pair.other.meant;
     };
@@ -64,7 +65,7 @@ none_shared x y l limit empty k j m n d e there at same =
 -- a session without keys and sets can make a step on any device
 pub new_ready : (s : Held) (l : Ledger) → IsNewSession s → IsReady script_meaning (side s l)
 new_ready s l new = record {
-  agree = subst (λ (a : Allocations RawPool). Agrees pool_id a l) (sym new.allocator) (empty_agrees l.pools);
+  agree = new_agrees new.allocator pool_id l;
   held = λ t.
       ap (λ (a : Allocations RawPool). outstanding (state_of pool_id a l) t) new.allocator
       ∙ none_out (state_of pool_id (record { limit = new.limit; table = []; looks = 0; comparisons = 0 }) l) t refl

@@ -1,7 +1,7 @@
 -- Sessions that can make a step on a device, alone and two on one device.
 use Rattle.std.specs.Prelude.{◌≡◌, ◌≢◌, ℕ, [], Some}
 use Rattle.std.proofs.Props.{props}
-use Rattle.gpu_descriptor.proofs.callers.OneAgreement.{Agree-prop}
+use Rattle.gpu_descriptor.proofs.callers.OneAgreement.{Agrees-prop}
 use Rattle.gpu_descriptor_types.specs.Ledger.{Ledger}
 use Rattle.gpu_descriptor.specs.Caller.Values.{without_keys}
 use Rattle.gpu_descriptor.specs.Model.Agreement.{State}
@@ -37,4 +37,4 @@ pub record ArePaired (x y : Session ScriptLayout RawPool RawSet) (l : Ledger) : 
   pub apart : AreApart (session_state x l) (session_state y l)
 
 pub paired-prop : (x y : Session ScriptLayout RawPool RawSet) (l : Ledger) → IsProp (ArePaired x y l)
-paired-prop x y l = Prim.hlevel (Agree-prop, props)
+paired-prop x y l = Prim.hlevel (Agrees-prop, props)

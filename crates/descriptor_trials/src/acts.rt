@@ -1,8 +1,7 @@
 //! Tests of a session as lists of acts at a bench, whose device answers by a script and lists its
 //! calls.
 use crate::bench::{Bench, expect_pools, expect_same, layout_of};
-use descriptor_script::{Answer, Command, Reply, ScriptLayout};
-use descriptor_uses::{Call, LogDevice};
+use descriptor_script::{Answer, Call, Command, LogDevice, Reply, ScriptLayout};
 use std::alloc::{AllocError, Global};
 use std::process::Abort;
 use std::test::Fail;

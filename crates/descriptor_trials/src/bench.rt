@@ -34,7 +34,6 @@ pub fn layout_of(samplers: u32, mark: bool) -> ScriptLayout {
 impl<D: DescriptorDevice<ScriptLayout, RawPool, RawSet>> Bench<D> {
     /// A session without layouts.
     pub fn new(alloc: Global, limit: u32, device: D) -> Self {
-        gpu_descriptor::laws::books_alone();
         Bench {
             session: Session::new(alloc, limit),
             device,

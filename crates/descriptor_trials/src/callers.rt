@@ -5,17 +5,17 @@ ghost use Rattle.gpu_descriptor.specs.Caller.States.{Agrees};
 ghost use Rattle.descriptor_script.specs.Scripted.Raw.{pool_id};
 ghost use Rattle.descriptor_script.specs.Scripted.Raw.{script_meaning};
 ghost use Rattle.descriptor_uses.specs.Layouts.{IsMeant};
-ghost use Rattle.descriptor_uses.specs.Logged.{ledger_logged};
+ghost use Rattle.descriptor_script.specs.Scripted.Logged.{ledger_logged};
 
 use crate::acts::expect_calls;
 use crate::bench::{expect_same, layout_of};
-use descriptor_script::{RawPool, RawSet, ScriptLayout};
+use descriptor_script::{Call, LogDevice, RawPool, RawSet, ScriptLayout};
+use descriptor_uses::SetLayout;
 use descriptor_uses::batches::free_both;
 use descriptor_uses::drawing::{render, render_one};
 use descriptor_uses::one_layout::draw_once;
 use descriptor_uses::proper_use::flags_of;
 use descriptor_uses::renderer::Renderer;
-use descriptor_uses::{Call, LogDevice, SetLayout};
 use gpu_descriptor::{
     AllocationError, DescriptorAllocator, DescriptorDevice, DescriptorPoolCreateFlags,
 };
@@ -101,7 +101,6 @@ fn lend_two_batches(
 #[test]
 fn batches_go_back_one_after_the_other(rt: HostRuntime) -> Result<(), Fail> {
     let mut device = LogDevice::new(rt.alloc());
-    gpu_descriptor::laws::books_alone();
     let mut allocator = DescriptorAllocator::new(rt.alloc(), 0);
     lend_two_batches(&mut allocator, &mut device, &layout_of(1, false))?;
     expect_same(&rt, allocator.outstanding(), 0);

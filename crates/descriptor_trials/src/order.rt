@@ -3,8 +3,7 @@
 use crate::acts::Act::{Allocate, Calls, Free, Names, Next, Pools};
 use crate::acts::play_new;
 use crate::bench::{layout_of, sets};
-use descriptor_script::{Answer, Reply};
-use descriptor_uses::Call;
+use descriptor_script::{Answer, Call, Reply};
 use gpu_descriptor::AllocationError;
 use std::test::Fail;
 

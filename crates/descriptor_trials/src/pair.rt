@@ -1,11 +1,10 @@
 //! Two sessions on one device, which take turns.
 ghost use Rattle.std.specs.Prelude.{IfOk};
-ghost use Rattle.descriptor_uses.specs.Logged.{ledger_logged};
+ghost use Rattle.descriptor_script.specs.Scripted.Logged.{ledger_logged};
 ghost use Rattle.descriptor_trials.specs.Pairs.{ArePaired, IsNewSession, paired-prop};
 
 use crate::bench::layout_of;
-use descriptor_script::{Command, RawPool, RawSet, Reply, ScriptLayout, Session};
-use descriptor_uses::LogDevice;
+use descriptor_script::{Command, LogDevice, RawPool, RawSet, Reply, ScriptLayout, Session};
 use descriptor_uses::proper_use::flags_of;
 use std::alloc::Global;
 use std::test::Fail;

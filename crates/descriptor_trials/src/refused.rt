@@ -1,8 +1,7 @@
 //! Whole runs of a session in which growths are refused: one alone, or each from one on. In a plain
 //! run every growth is granted; `tools/refuse-memory` refuses them in turn.
 use crate::bench::{Bench, expect_same, layout_of, sets};
-use descriptor_script::{Command, Reply, ScriptLayout};
-use descriptor_uses::LogDevice;
+use descriptor_script::{Command, LogDevice, Reply, ScriptLayout};
 use gpu_descriptor::AllocationError;
 use std::alloc::{AllocError, Global};
 use std::process::Abort;

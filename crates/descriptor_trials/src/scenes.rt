@@ -2,8 +2,7 @@
 //! leaves. No clause says that memory is there.
 use crate::bench::expect_same;
 use crate::callers::plain_layout;
-use descriptor_script::{Answer, RawPool, RawSet, ScriptLayout};
-use descriptor_uses::LogDevice;
+use descriptor_script::{Answer, LogDevice, RawPool, RawSet, ScriptLayout};
 use descriptor_uses::frame_renderer::FrameRenderer;
 use descriptor_uses::scene::Scene;
 use gpu_descriptor::AllocationError;

@@ -3,11 +3,10 @@
 //! there is a debug text.
 ghost use Rattle.gpu_descriptor.specs.Caller.States.{Agrees};
 ghost use Rattle.descriptor_script.specs.Scripted.Raw.{pool_id};
-ghost use Rattle.descriptor_uses.specs.Logged.{ledger_logged};
+ghost use Rattle.descriptor_script.specs.Scripted.Logged.{ledger_logged};
 
 use crate::bench::{expect_same, layout_of};
-use descriptor_script::{RawPool, RawSet, ScriptLayout};
-use descriptor_uses::LogDevice;
+use descriptor_script::{LogDevice, RawPool, RawSet, ScriptLayout};
 use descriptor_uses::proper_use::{borrow_pool, borrow_set, borrow_sets, flags_of};
 use gpu_descriptor::{AllocationError, DescriptorAllocator, DescriptorSet};
 use std::alloc::Global;
@@ -17,7 +16,6 @@ use std::test::Fail;
 /// Two sets, of an allocator that is gone.
 fn two_sets(alloc: Global) -> Result<Vec<DescriptorSet<RawSet>>, AllocationError> {
     let mut device = LogDevice::new(alloc);
-    gpu_descriptor::laws::books_alone();
     let mut allocator = DescriptorAllocator::new(alloc, 0);
     let layout = layout_of(1, false);
     let flags = flags_of(layout.mark);
@@ -107,7 +105,6 @@ fn expect_all_lent(
 #[test]
 fn sets_are_lent_and_come_back(rt: HostRuntime) -> Result<(), Fail> {
     let mut device = LogDevice::new(rt.alloc());
-    gpu_descriptor::laws::books_alone();
     let mut allocator = DescriptorAllocator::new(rt.alloc(), 10);
     expect_all_lent(&rt, &mut allocator, &mut device)
 }

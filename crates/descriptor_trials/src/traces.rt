@@ -3,10 +3,9 @@ use crate::acts::Act::{Allocate, Calls, Cleanup, Free, FreeEach, Held, Loads, Po
 use crate::acts::{Act, expect_calls, play_new};
 use crate::bench::{expect_pools, expect_same, layout_of, sets};
 use crate::pair::Pair;
-use descriptor_script::{Command, Reply};
+use descriptor_script::{Call, Command, LogDevice, Reply};
 use descriptor_uses::own_device::OnePool;
 use descriptor_uses::proper_use::flags_of;
-use descriptor_uses::{Call, LogDevice};
 use gpu_descriptor::{AllocationError, DescriptorAllocator};
 use std::alloc::{AllocError, Global};
 use std::process::Abort;
@@ -222,7 +221,6 @@ fn expect_left<'a>(
 #[test]
 fn device_without_memory_for_sets_refuses(rt: HostRuntime) {
     let mut device = OnePool::new();
-    gpu_descriptor::laws::books_alone();
     let mut allocator: DescriptorAllocator<u64, u64> = DescriptorAllocator::new(rt.alloc(), 0);
     let layout = layout_of(1, false).counts;
     let error = match allocator.allocate(&mut device, &layout, flags_of(false), &layout, 1) {

@@ -4,15 +4,15 @@ ghost use Rattle.std.specs.Prelude.{OnOk};
 ghost use Rattle.gpu_descriptor_types.specs.Side.{side};
 ghost use Rattle.gpu_descriptor.specs.Caller.States.{state_of};
 ghost use Rattle.descriptor_script.specs.Scripted.Raw.{pool_id, script_meaning};
-ghost use Rattle.descriptor_script.specs.Sessions.Session.{HasNoPools, IsReady, allocator_of};
-ghost use Rattle.descriptor_uses.specs.Logged.{ledger_logged};
+ghost use Rattle.descriptor_script.specs.Sessions.Session.{IsReady, allocator_of};
+ghost use Rattle.gpu_descriptor.specs.Model.Agreement.{HasNoPools};
+ghost use Rattle.descriptor_script.specs.Scripted.Logged.{ledger_logged};
 
 use crate::acts::expect_calls;
 use crate::bench::sets;
 use crate::pair::one_layout;
 use descriptor_script::visit::visit;
-use descriptor_script::{Command, RawPool, RawSet, Reply, ScriptLayout, Session};
-use descriptor_uses::{Call, LogDevice};
+use descriptor_script::{Call, Command, LogDevice, RawPool, RawSet, Reply, ScriptLayout, Session};
 use std::alloc::{AllocError, Global};
 use std::process::Abort;
 use std::test::Fail;
@@ -89,7 +89,6 @@ fn expect_seen(rt: &impl Abort, device: &LogDevice) {
 fn session_visits_twice(rt: HostRuntime) -> Result<(), Fail> {
     let mut device = LogDevice::new(rt.alloc());
     let mut session = one_layout(rt.alloc())?;
-    gpu_descriptor::laws::books_alone();
     expect_visits(&rt, rt.alloc(), &mut session, &mut device)?;
     expect_seen(&rt, &device);
     Ok(())

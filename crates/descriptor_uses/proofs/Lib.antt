@@ -1,3 +1,2 @@
 mod OnePools
-mod Owing
 mod Used

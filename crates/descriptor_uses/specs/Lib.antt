@@ -3,9 +3,5 @@ pub mod FewPools
 pub mod FrameRenderers
 pub mod FrameSets
 pub mod Layouts
-pub mod Log
-pub mod Logged
-pub mod Owed
 pub mod OwnDevice
-pub mod Released
 pub mod Scenes

@@ -4,7 +4,7 @@ ghost use Rattle.std.specs.Prelude.{◌≡◌, ℕ, ◌+◌, ◌<◌, ◌≤◌,
 ghost use Rattle.std.specs.Prelude.{vec_capacity, IsTrue, OnErr, OnOk};
 ghost use Rattle.gpu_descriptor.specs.Caller.Sets.{items_of};
 ghost use Rattle.gpu_descriptor.specs.Caller.States.{Agrees, state_of};
-ghost use Rattle.gpu_descriptor.proofs.callers.OneAgreement.{Agree-prop};
+ghost use Rattle.gpu_descriptor.proofs.callers.OneAgreement.{Agrees-prop};
 ghost use Rattle.descriptor_frames.specs.Frames.{AreInUse, AreRetiredOut, allocator_of};
 ghost use Rattle.descriptor_frames.specs.Frames.{greatest_of, retired_of, room_of};
 ghost use Rattle.descriptor_frames.specs.Retired.{at_frame, later};
@@ -26,8 +26,8 @@ pub struct Frames<L, P, S, D: DescriptorDevice<L, P, S>> {
     in_use: Vec<DescriptorSet<S>>,
     layouts: PhantomData<L>,
     ghost agree: { Agrees D.meaning.pool_name (allocator_of manager)
-        (D.ledger device) } by { Agree-prop
-            (state_of D.meaning.pool_name (allocator_of manager) (D.ledger device)) },
+        (D.ledger device) } by { Agrees-prop
+            D.meaning.pool_name (allocator_of manager) (D.ledger device) },
     ghost retired: { AreRetiredOut D.meaning.pool_name D.meaning.set_name manager
         (D.ledger device) },
     ghost used: { AreInUse D.meaning.pool_name D.meaning.set_name
@@ -39,7 +39,7 @@ impl<L, P: Drop, S: Drop, D: DescriptorDevice<L, P, S>> Frames<L, P, S, D> {
     ghost use Rattle.descriptor_uses.specs.FrameSets.{others_in, retired_in, used_of};
 
     /// Frames without sets.
-    #[tactic(auto, using(descriptor_frames::proofs::NewManagers::new_agrees))]
+    #[tactic(auto, using(gpu_descriptor::proofs::callers::NewAllocators::new_agrees))]
     pub fn new(alloc: Global, device: D) -> Self
         ensures in_use { used_of result ≡ [] }
         ensures retired { retired_in result ≡ [] }

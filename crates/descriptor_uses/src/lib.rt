@@ -8,8 +8,6 @@ pub mod few_pools;
 pub mod frame_renderer;
 pub mod frames;
 mod layout;
-mod log;
-mod log_device;
 pub mod one_layout;
 pub mod own_device;
 pub mod proper_use;
@@ -18,5 +16,3 @@ pub mod scene;
 pub mod two_layouts;
 
 pub use layout::SetLayout;
-pub use log::Call;
-pub use log_device::LogDevice;

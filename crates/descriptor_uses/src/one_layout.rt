@@ -22,7 +22,6 @@ pub fn draw_once<L, P: Drop, S: Drop, D: DescriptorDevice<L, P, S>>(
     requires mark { is_marked flags ≡ D.meaning.mark layout.now }
     ensures pools { (D.ledger device.new).pools ≡ (D.ledger device.old).pools }
 {
-    laws::books_alone();
     laws::no_pool_is_lost::<P>();
     let mut allocator = DescriptorAllocator::new(alloc, u32::MAX);
     match allocator.allocate(device, layout, flags, counts, 3) {

@@ -3,11 +3,10 @@ ghost use Rattle.std.specs.Prelude.{◌≡◌, ◌+◌, IfOk, OnOk};
 ghost use Rattle.gpu_descriptor.specs.Caller.Flags.{is_marked};
 ghost use Rattle.gpu_descriptor.specs.Caller.States.{Agrees};
 ghost use Rattle.descriptor_script.specs.Scripted.Raw.{pool_id};
-ghost use Rattle.descriptor_uses.specs.Logged.{ledger_logged, next_pool};
+ghost use Rattle.descriptor_script.specs.Scripted.Logged.{ledger_logged, next_pool};
 
-use crate::log_device::LogDevice;
 use bitflags::Flags;
-use descriptor_script::{RawPool, RawSet, ScriptLayout};
+use descriptor_script::{LogDevice, RawPool, RawSet, ScriptLayout};
 use gpu_descriptor::{
     AllocationError, CreatePoolError, DescriptorAllocator, DescriptorDevice,
     DescriptorPoolCreateFlags, DescriptorSetLayoutCreateFlags, DescriptorTotalCount,

@@ -5,11 +5,11 @@ ghost use Rattle.gpu_descriptor.specs.Model.Promises.{AreOutBesides, KeepsOutsta
 ghost use Rattle.gpu_descriptor.specs.Caller.Sets.{items_of};
 ghost use Rattle.gpu_descriptor.specs.Caller.States.{Agrees, state_of};
 ghost use Rattle.gpu_descriptor.specs.Caller.Values.{without_keys};
-ghost use Rattle.gpu_descriptor.proofs.callers.OneAgreement.{Agree-prop};
+ghost use Rattle.gpu_descriptor.proofs.callers.OneAgreement.{Agrees-prop};
 ghost use Rattle.descriptor_uses.specs.Layouts.{IsMeant};
 
 use crate::layout::SetLayout;
-use gpu_descriptor::{AllocationError, DescriptorAllocator, DescriptorDevice, DescriptorSet, laws};
+use gpu_descriptor::{AllocationError, DescriptorAllocator, DescriptorDevice, DescriptorSet};
 use std::alloc::Global;
 use std::marker::PhantomData;
 
@@ -18,8 +18,8 @@ pub struct Renderer<L, P, S, D: DescriptorDevice<L, P, S>> {
     pub device: D,
     pub allocator: DescriptorAllocator<P, S>,
     pub layouts: PhantomData<L>,
-    ghost agree: { Agrees D.meaning.pool_name allocator (D.ledger device) } by { Agree-prop
-        (state_of D.meaning.pool_name allocator (D.ledger device)) },
+    ghost agree: { Agrees D.meaning.pool_name allocator (D.ledger device) } by { Agrees-prop
+        D.meaning.pool_name allocator (D.ledger device) },
 }
 
 impl<L, P: Drop, S: Drop, D: DescriptorDevice<L, P, S>> Renderer<L, P, S, D> {
@@ -28,7 +28,6 @@ impl<L, P: Drop, S: Drop, D: DescriptorDevice<L, P, S>> Renderer<L, P, S, D> {
         ensures device { result.device ≡ device }
         ensures allocator { result.allocator ≡ without_keys limit }
     {
-        laws::books_alone();
         Renderer {
             device,
             allocator: DescriptorAllocator::new(alloc, limit),

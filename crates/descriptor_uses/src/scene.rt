@@ -3,11 +3,11 @@ ghost use Rattle.std.specs.Prelude.{◌≡◌, [], length, OnErr, OnOk};
 ghost use Rattle.gpu_descriptor.specs.Model.Agreement.{AreOutstanding};
 ghost use Rattle.gpu_descriptor.specs.Caller.Sets.{items_of};
 ghost use Rattle.gpu_descriptor.specs.Caller.States.{Agrees, outstanding_of, state_of};
-ghost use Rattle.gpu_descriptor.proofs.callers.OneAgreement.{Agree-prop};
+ghost use Rattle.gpu_descriptor.proofs.callers.OneAgreement.{Agrees-prop};
 ghost use Rattle.descriptor_uses.specs.Layouts.{Adds, IsMeant};
 
 use crate::layout::SetLayout;
-use gpu_descriptor::{AllocationError, DescriptorAllocator, DescriptorDevice, DescriptorSet, laws};
+use gpu_descriptor::{AllocationError, DescriptorAllocator, DescriptorDevice, DescriptorSet};
 use std::alloc::Global;
 use std::marker::PhantomData;
 use std::mem;
@@ -22,8 +22,8 @@ pub struct Scene<L, P, S, D: DescriptorDevice<L, P, S>> {
     allocator: DescriptorAllocator<P, S>,
     sets: Vec<DescriptorSet<S>>,
     layouts: PhantomData<L>,
-    ghost agree: { Agrees D.meaning.pool_name allocator (D.ledger device) } by { Agree-prop
-        (state_of D.meaning.pool_name allocator (D.ledger device)) },
+    ghost agree: { Agrees D.meaning.pool_name allocator (D.ledger device) } by { Agrees-prop
+        D.meaning.pool_name allocator (D.ledger device) },
     ghost held: { AreOutstanding (items_of D.meaning.set_name sets.items)
         (state_of D.meaning.pool_name allocator (D.ledger device)) },
     ghost all: { outstanding_of allocator ≡ length sets.items },
@@ -36,7 +36,6 @@ impl<L, P: Drop, S: Drop, D: DescriptorDevice<L, P, S>> Scene<L, P, S, D> {
     pub fn new(alloc: Global, device: D) -> Self
         ensures { held_of result ≡ [] }
     {
-        laws::books_alone();
         Scene {
             alloc,
             device,

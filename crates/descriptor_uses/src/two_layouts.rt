@@ -20,7 +20,6 @@ pub fn draw_once<L, P: Drop, S: Drop, D: DescriptorDevice<L, P, S>>(
     requires second { IsMeant D.meaning second.now }
     ensures pools { (D.ledger device.new).pools ≡ (D.ledger device.old).pools }
 {
-    laws::books_alone();
     laws::no_pool_is_lost::<P>();
     let mut allocator = DescriptorAllocator::new(alloc, u32::MAX);
     let answer = borrow_sets(&mut allocator, device, first, second);

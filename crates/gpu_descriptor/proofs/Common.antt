@@ -23,7 +23,7 @@ pub use Rattle.gpu_descriptor_types.specs.Counts.{kinds}
 pub use Rattle.gpu_descriptor_types.specs.Flags.{CanFree, IsUpdateAfterBind}
 pub use Rattle.gpu_descriptor_types.specs.Ledger.{AreLive, Counters, HasNoSets, HasRoom, Ledger, Pool, after_alloc, after_create, after_destroy, after_no_alloc, after_no_create, after_release, alloc_refused, create_refused, fresh, live_sets, no_rise, on_pool, pool_refusals}
 pub use Rattle.gpu_descriptor_types.specs.Meaning.{Meaning}
-pub use Rattle.gpu_descriptor_types.specs.Multiset.{AreIn, LiveSet, Spells, set_eq, times}
+pub use Rattle.gpu_descriptor_types.specs.Multiset.{AreIn, HasSize, LiveSet, Spells, set_eq, times}
 pub use Rattle.gpu_descriptor_types.specs.PoolSize.{IsPoolSize, pool_counts, pool_size_floor, sets_in_room, start_size}
 pub use Rattle.gpu_descriptor_types.specs.Side.{side}
 pub use Rattle.gpu_descriptor_types.proofs.Counting.{IsExact, all_taken_out, any_found, any_from, bool_iff, count_by-append, count_by_alike, count_by_no, count_by_none, count_by_yes, counts_alike, list_any-count_by, set_exact, times-append}
@@ -36,7 +36,7 @@ pub use Rattle.gpu_descriptor.specs.declared.bucket.DescriptorBucket.{Descriptor
 pub use Rattle.gpu_descriptor.specs.declared.bucket.DescriptorPool.{DescriptorPool}
 pub use Rattle.gpu_descriptor.specs.declared.bucket.take.Stop.{Stop}
 pub use Rattle.gpu_descriptor.specs.Model.Books.{AddsUp, Bucket, BucketOf, Entry, EntryOf, HasDistinctKeys, Key, books_of, entry_at, key_eq, next_number, no_pools, sum_over}
-pub use Rattle.gpu_descriptor.specs.Model.Agreement.{Agree, AreOutstanding, HasSize, IsAsBooked, Item, State, count_of, flags_of, item_eq, live_at, live_in, outstanding, set_of}
+pub use Rattle.gpu_descriptor.specs.Model.Agreement.{Agree, AreOutstanding, IsAsBooked, Item, State, count_of, flags_of, item_eq, live_at, live_in, outstanding, set_of}
 pub use Rattle.gpu_descriptor.specs.Inner.KeyOf.{key_of}
 pub use Rattle.gpu_descriptor.specs.Caller.Values.{Allocations}
 pub use Rattle.gpu_descriptor.specs.Caller.Call.{call_of, layout_key}
@@ -61,8 +61,8 @@ pub use Rattle.gpu_descriptor.specs.Model.Cleanup.{IsCleaned, cleaned_bucket, po
 pub use Rattle.gpu_descriptor.specs.Model.Foreign.{IsForeign, IsNamed, KeepsForeign, LosesNone}
 pub use Rattle.gpu_descriptor.specs.Model.FreshPools.{AreFull, AreNew, AreSized, Fresh, IsFreshFront, IsFreshList, IsNextSize, fresh_entry, fresh_portions, given_by, room_after}
 pub use Rattle.gpu_descriptor.specs.Model.Grants.{Grant, IsGrantOf, Part, bucket_with, came, fresh_or, granted, items_at, items_in, ledger_with, pool_with, portion_of}
-pub use Rattle.gpu_descriptor.specs.Model.Load.{allocated_in, bucket_load, descriptors_created, descriptors_out, marked_load, pool_descriptors, sets_out}
-pub use Rattle.gpu_descriptor.specs.Model.Outcomes.{Allocates, Call, IsBack, IsDone, IsStopped, IsWithinLimit, NoneIsNew, Proceeds, Stays, StopsAt, error_of_alloc, grant_rise, out_then, risen, rollback_rise, stop_answer, stop_rise, taken_by, wanting}
+pub use Rattle.gpu_descriptor.specs.Model.Load.{allocated_in, bucket_load, descriptors_created, descriptors_out, set_descriptors, pool_descriptors, sets_out}
+pub use Rattle.gpu_descriptor.specs.Model.Outcomes.{Allocates, Call, IsBack, IsDone, IsStopped, IsWithinLimit, StopsAtNew, Proceeds, Stays, StopsAt, error_of_alloc, grant_rise, out_then, risen, rollback_rise, stop_answer, stop_rise, taken_by, wanting}
 pub use Rattle.gpu_descriptor.specs.Model.Promises.{AreBelowTwice, AreOfKey, AreOutBesides, CreatesOnlyWhereShort, HasCause, IsShort, IsUntouched, KeepsOtherKeys, KeepsOutstanding}
 pub use Rattle.gpu_descriptor.specs.Model.Release.{bucket_less, empty_front, entry_less, fronts_gone, given_back, in_front, is_empty, lies_in, more_destroyed, more_released, pool_less, pools_gone, released, released_each, singly, spent_front, without_front}
 pub use Rattle.gpu_descriptor.specs.Model.Runs.{breaks, runs}

@@ -1,3 +1,4 @@
 pub mod HeldSets
+pub mod NewAllocators
 pub mod OneAgreement
 pub mod Unchanged

@@ -1,5 +1,7 @@
 //! The allocator: a table from keys to their pools.
-ghost use Rattle.std.specs.Prelude.{◌≡◌, true};
+ghost use Rattle.std.specs.Prelude.{◌≡◌, ℕ, true};
+ghost use Rattle.gpu_descriptor_types.specs.Ledger.{Ledger};
+ghost use Rattle.gpu_descriptor.specs.Caller.States.{Agrees};
 ghost use Rattle.gpu_descriptor.specs.Caller.Values.{without_keys};
 ghost use Rattle.gpu_descriptor.specs.Inner.Ids.{rise_below, stored_ids};
 
@@ -61,9 +63,11 @@ impl<P, S> Model for DescriptorAllocator<P, S> {
 
 impl<P, S> DescriptorAllocator<P, S> {
     /// An allocator without keys, under a limit on the update-after-bind descriptors of all
-    /// outstanding sets, and of all pools for such sets. It takes no memory.
+    /// outstanding sets, and of all pools for such sets. It agrees with every device, and takes no
+    /// memory.
     pub fn new(alloc: Global, max_update_after_bind_descriptors_in_all_pools: u32) -> Self
-        ensures { result ≡ without_keys max_update_after_bind_descriptors_in_all_pools }
+        ensures value { result ≡ without_keys max_update_after_bind_descriptors_in_all_pools }
+        ensures agree { (name : P → ℕ) (ledger : Ledger) → Agrees name result ledger }
     {
         DescriptorAllocator {
             alloc,

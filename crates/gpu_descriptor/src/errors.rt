@@ -1,5 +1,5 @@
 //! Why a request is refused.
-ghost use Rattle.std.specs.Prelude.{◌≡◌, Some, codes};
+ghost use Rattle.std.specs.Prelude.{◌≡◌, Some};
 ghost use Rattle.gpu_descriptor.specs.Model.Outcomes.{error_of_create};
 ghost use Rattle.gpu_descriptor.specs.Caller.Errors.{error_text};
 

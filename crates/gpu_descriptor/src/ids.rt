@@ -13,7 +13,7 @@ use indexmap::IndexMap;
 /// The id of the next key, and where the key of the next call is likely to stand.
 #[derive(Debug, Drop)]
 pub(crate) struct KeyIds {
-    /// It never goes back, so no two keys ever have one id.
+    /// It never goes back, so no two keys ever share one.
     pub(crate) next: u64,
 
     /// The place of the last call's key.

@@ -1,16 +1,18 @@
 //! Laws of giving sets back and of cleaning up, over the books of an allocator and the ledger of a
 //! device, and of the types, which their derives keep. The functions do nothing: their contracts
 //! are the laws.
-ghost use Rattle.std.specs.Prelude.{◌≡◌, ◌↔◌, ℕ, [], IsTrue, List, None, Option, Some, false};
+ghost use Rattle.std.specs.Prelude.{◌≡◌, ◌↔◌, ℕ, [], IsTrue, List, None, Some, false};
 ghost use Rattle.std.specs.Prelude.{flat_map, length, sum, true, ◌++◌, ◌+◌, ◌<◌, ◌≤◌, ◌⊎◌};
 ghost use Rattle.gpu_descriptor.specs.Caller.Flags.{layout_bits};
 ghost use Rattle.gpu_descriptor.specs.Caller.Frees.{marked_descriptors};
 ghost use Rattle.gpu_descriptor.specs.Caller.Others.{others_of};
-ghost use Rattle.gpu_descriptor.specs.Caller.States.{marked_load_of, outstanding_of};
-ghost use Rattle.gpu_descriptor.specs.Caller.States.{pool_load_of, state_of, table_of};
+ghost use Rattle.gpu_descriptor.specs.Caller.States.{marked_load_of, named_bucket};
+ghost use Rattle.gpu_descriptor.specs.Caller.States.{outstanding_of, pool_load_of, state_of};
+ghost use Rattle.gpu_descriptor.specs.Caller.States.{table_of};
 ghost use Rattle.gpu_descriptor.specs.Caller.Values.{Allocations};
 ghost use Rattle.gpu_descriptor.specs.Model.Agreement.{Item, item_eq, Agree, AreOutstanding};
-ghost use Rattle.gpu_descriptor.specs.Model.Agreement.{IsAsBooked, State, count_of, outstanding};
+ghost use Rattle.gpu_descriptor.specs.Model.Agreement.{HasNoPools, IsAsBooked, State, count_of};
+ghost use Rattle.gpu_descriptor.specs.Model.Agreement.{outstanding};
 ghost use Rattle.gpu_descriptor.specs.Model.Books.{HasDistinctKeys, Key, key_eq, AddsUp, Bucket};
 ghost use Rattle.gpu_descriptor.specs.Model.Books.{Entry, books_of, entry_at, no_pools, sum_over};
 ghost use Rattle.gpu_descriptor.specs.Model.Cleanup.{IsCleaned, pools_cleaned};
@@ -18,8 +20,8 @@ ghost use Rattle.gpu_descriptor.specs.Model.Foreign.{IsForeign, IsNamed, KeepsFo
 ghost use Rattle.gpu_descriptor.specs.Model.Load.{pool_descriptors, sets_out, descriptors_out, bucket_load};
 ghost use Rattle.gpu_descriptor.specs.Model.Load.{descriptors_created};
 ghost use Rattle.gpu_descriptor.specs.Model.Promises.{IsUntouched};
-ghost use Rattle.gpu_descriptor.specs.Model.Release.{given_back, pools_gone, released};
-ghost use Rattle.gpu_descriptor.specs.Model.Release.{released_each, singly};
+ghost use Rattle.gpu_descriptor.specs.Model.Release.{pools_gone, released, released_each};
+ghost use Rattle.gpu_descriptor.specs.Model.Release.{singly};
 ghost use Rattle.gpu_descriptor_types.specs.Ledger.{Ledger, Pool};
 ghost use Rattle.gpu_descriptor_types.specs.Multiset.{LiveSet, Spells};
 ghost use Rattle.std.specs.List.{list_any};
@@ -47,8 +49,7 @@ pub fn release_parts()
 
     // As many pools go in two parts as at once.
     ensures pools_gone { (keys : List Key) (m n : List Item) (s : State) → Agree s → AreOutstanding
-        (m ++ n) s → pools_gone keys m (given_back m s) + pools_gone keys n
-        (given_back n (released m s)) ≡ pools_gone keys (m ++ n) (given_back (m ++ n) s) }
+        (m ++ n) s → pools_gone keys m s + pools_gone keys n (released m s) ≡ pools_gone keys (m ++ n) s }
 
     ensures agrees { (m : List Item) (s : State) → Agree s → AreOutstanding m s → Agree
         (released m s) }
@@ -67,7 +68,7 @@ pub fn clean_again()
     ensures again_none { (keys : List Key) (s t : State) → IsCleaned s t → pools_cleaned keys t
         ≡ 0 }
     ensures all { (s t : State) → Agree s → ((i : Item) → outstanding s i ≡ 0) → IsCleaned s t
-        → (k : Key) → t.books k ≡ no_pools }
+        → HasNoPools t }
     ensures all_gone { (s t : State) → Agree s → ((i : Item) → outstanding s i ≡ 0) → IsCleaned s t
         → (k : Key) (n : ℕ) (e : Entry) → entry_at (s.books k) n ≡ Some e → t.ledger e.pool ≡ None }
     ensures one_result { (keys : List Key) (s t u : State) → ((k : Key) → list_any (λ l. key_eq l k)
@@ -85,9 +86,8 @@ pub fn clean_again()
 /// is as it was: for the books of an allocator are always one or the other.
 pub fn no_pool_is_lost<P>()
     ensures in_turn { (s t u : State) → LosesNone s t → LosesNone t u → LosesNone s u }
-    ensures restores { (s t u : State) → ((k : Key) → s.books k ≡ no_pools) → KeepsForeign s t
-        → LosesNone s t → Agree t → ((i : Item) → outstanding t i ≡ 0) → IsCleaned t u → u.ledger
-        ≡ s.ledger }
+    ensures restores { (s t u : State) → HasNoPools s → KeepsForeign s t → LosesNone s t → Agree t
+        → ((i : Item) → outstanding t i ≡ 0) → IsCleaned t u → u.ledger ≡ s.ledger }
     ensures one_or_other { (name : P → ℕ) (a : Allocations P) (l : Ledger) → HasDistinctKeys
         (table_of name a) → (pool : ℕ) → IsNamed (state_of name a l) pool ⊎ IsForeign
         (state_of name a l) pool }
@@ -97,20 +97,16 @@ pub fn no_pool_is_lost<P>()
         name a l ≡ l.pools }
 {}
 
-/// An allocator without keys agrees with every ledger, and sums over all keys depend on the books
-/// alone.
+/// Sums over all keys depend on the books alone.
 pub fn books_alone()
-    ensures empty { (ledger : ℕ → Option Pool) → Agree
-        (record { books = λ _. no_pools; ledger = ledger }) }
     ensures sums { (f : Key → Bucket → ℕ) (t u : List (Key × Bucket))
         → ((k : Key) → f k no_pools ≡ 0) → HasDistinctKeys t → HasDistinctKeys u
         → ((k : Key) → books_of t k ≡ books_of u k) → sum_over f t ≡ sum_over f u }
 {}
 
 /// That books and ledger agree has one proof at most, so a struct that owns an allocator and its
-/// device can keep it as a ghost field, with `Agree-prop` of `proofs.callers.OneAgreement` after
-/// `by`.
-/// Every list that spells a pool's live sets has as many sets as the books say.
+/// device can keep it as a ghost field, with `Agrees-prop` of `proofs.callers.OneAgreement` after
+/// `by`. Every list that spells a pool's live sets has as many sets as the books say.
 pub fn agreement_is_one()
     ensures one { (s : State) → IsProp (Agree s) }
     ensures listed { (k : Key) (pool : Pool) (e : Entry) → IsAsBooked k pool e
@@ -118,7 +114,9 @@ pub fn agreement_is_one()
 {}
 
 /// Where no key has two rows, the sets, the marked descriptors and the descriptors of marked keys'
-/// pools that an allocator's rows add up to are those of its books.
+/// pools that an allocator's rows add up to are those of its books. Its books are its rows with
+/// the device's names for the pools, so readers say how many pools a key's books have, and what
+/// these say of each.
 pub fn rows_add_up<P>()
     ensures out { (name : P → ℕ) (a : Allocations P) (l : Ledger) → HasDistinctKeys
         (table_of name a) → AddsUp sets_out (state_of name a l).books (outstanding_of a) }
@@ -126,6 +124,8 @@ pub fn rows_add_up<P>()
         (table_of name a) → AddsUp descriptors_out (state_of name a l).books (marked_load_of a) }
     ensures pool_load { (name : P → ℕ) (a : Allocations P) (l : Ledger) → HasDistinctKeys
         (table_of name a) → AddsUp bucket_load (state_of name a l).books (pool_load_of a) }
+    ensures books { (name : P → ℕ) (a : Allocations P) (k : Key) → books_of (table_of name a) k
+        ≡ named_bucket name (books_of a.table k) }
 {}
 
 /// Where books and ledger agree, the descriptors that count towards the limit for a marked key's

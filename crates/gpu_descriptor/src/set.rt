@@ -1,7 +1,7 @@
 //! Sets that were handed out, and the keys under which they went.
-ghost use Rattle.std.specs.Prelude.{◌≡◌, ◌<◌, ◌^◌, ◌↔◌, IsTrue};
+ghost use Rattle.std.specs.Prelude.{◌≡◌, ◌<◌, ◌^◌};
 ghost use Rattle.std.specs.Borrow.{sem};
-ghost use Rattle.gpu_descriptor.specs.Model.Load.{marked_load, pool_descriptors};
+ghost use Rattle.gpu_descriptor.specs.Model.Load.{set_descriptors, pool_descriptors};
 ghost use Rattle.gpu_descriptor.specs.Inner.KeyOf.{key_of};
 ghost use Rattle.gpu_descriptor.specs.Caller.SetLends.{LendsRaw};
 ghost use Rattle.gpu_descriptor.specs.Inner.RunSteps.{at_place};
@@ -21,8 +21,8 @@ pub(crate) struct BucketKey {
 impl BucketKey {
     /// How many descriptors so many sets have, if the key is marked, and else 0.
     pub(crate) fn descriptors_of_sets(&self, sets: u64) -> u64
-        requires { marked_load (key_of self.now) sets < 2 ^ 64 }
-        ensures { result ≡ marked_load (key_of self.now) sets }
+        requires { set_descriptors (key_of self.now) sets < 2 ^ 64 }
+        ensures { result ≡ set_descriptors (key_of self.now) sets }
     {
         if self.update_after_bind {
             sets * self.size.total()
@@ -54,7 +54,7 @@ pub struct DescriptorSet<S> {
     /// The number of its pool among those of its key.
     pub(crate) number: u64,
 
-    /// The id of its key. No two keys of an allocator ever have one.
+    /// The id of its key. No two keys of an allocator ever share one.
     pub(crate) id: u64,
     pub(crate) key: SetKey,
 }

@@ -11,7 +11,7 @@ use Rattle.gpu_descriptor_types.specs.declared.errors.DeviceAllocationError.TheV
 use Rattle.gpu_descriptor_types.specs.Flags.{CanFree, IsUpdateAfterBind}
 use Rattle.gpu_descriptor_types.specs.Multiset.{LiveSet, times, Spells, AreIn}
 
--- a live pool. live says how often each set is live in it, refusals how often it refused to allocate
+-- a live pool. live says how often each set is live in it, refusals how often it refused for its own sake
 pub record Pool : Type 0 where
   pub counts : List ℕ
   pub capacity : ℕ

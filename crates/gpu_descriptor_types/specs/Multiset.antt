@@ -1,5 +1,5 @@
 -- Live sets, and multisets of them: how often each is live.
-use Rattle.std.specs.Prelude.{◌≡◌, ℕ, ◌≤◌, ◌==◌, ◌&&◌, List, Bool, nat_eq, count_by}
+use Rattle.std.specs.Prelude.{◌≡◌, ℕ, ◌≤◌, ◌==◌, ◌&&◌, List, Bool, length, nat_eq, count_by}
 use lib.Pointwise.{pointwise}
 
 -- a live set: its name, and the counts of its layout
@@ -17,6 +17,10 @@ times sets x = count_by (λ y. set_eq y x) sets
 -- the list spells the multiset: it has each set as often as it is live
 abbrev pub Spells : List LiveSet → (LiveSet → ℕ) → Type 0
 Spells sets live = (x : LiveSet) → times sets x ≡ live x
+
+-- how many sets are live in all: as many as a list has that spells them
+abbrev pub HasSize : (LiveSet → ℕ) → ℕ → Type 0
+HasSize live n = (sets : List LiveSet) × (length sets ≡ n) × Spells sets live
 
 -- each set of the list is live, as often as it stands there
 abbrev pub AreIn : List LiveSet → (LiveSet → ℕ) → Type 0

@@ -3,7 +3,7 @@ use Rattle.gpu_descriptor_types.specs.Bounds.{greatest_i32, greatest_u32}
 use Rattle.gpu_descriptor_types.specs.Counts.{greatest}
 use Rattle.std.specs.Prelude.{◌≡◌, ℕ, ◌*◌, ◌/◌, ◌^◌, ◌≤◌, ◌==◌, max, min, List, map, sum, fold, slice_set, if◌then◌else◌, nat_le}
 
--- how many sets a pool is to hold, whatever is counted: 64, what is wanting, or what is outstanding up to 512
+-- how many sets a pool is to hold, before it is rounded up and cut: the greatest of 64, what is wanting, and what is outstanding up to 512
 abbrev pub start_size : ℕ → ℕ → ℕ
 start_size total wanted = max (max 64 wanted) (min 512 total)
 
@@ -41,7 +41,7 @@ pub record IsCutSize (counts : List ℕ) (room total wanted sets : ℕ) : Type 0
   pub cut : sets ≡ sets_in_room room (sum counts) whole
   pub some : 1 ≤ sets
 
--- how many sets a new pool holds at least, unless fewer are wanting
+-- how many sets a pool holds at least that is not cut to the room, unless fewer are wanting
 abbrev pub pool_size_floor : List ℕ → ℕ
 pool_size_floor counts = min greatest_i32 (sets_of_kind (greatest counts))
 

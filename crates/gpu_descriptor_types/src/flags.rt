@@ -1,5 +1,5 @@
 //! How a pool is created.
-ghost use Rattle.std.specs.Prelude.{⊤, ℕ, [], ◌∷◌, codes};
+ghost use Rattle.std.specs.Prelude.{⊤, [], ◌∷◌, codes};
 
 use bitflags::{Flag, Flags, bitflag_items};
 

@@ -8,7 +8,7 @@ use Rattle.gpu_descriptor.specs.Model.Runs.{runs}
 use Rattle.gpu_descriptor.specs.Caller.Sets.{items_of}
 use Rattle.gpu_descriptor.specs.Caller.States.{marked_load_of, pool_load_of, outstanding_of}
 use Rattle.gpu_descriptor.specs.declared.set.DescriptorSet.{DescriptorSet}
-use Rattle.descriptor_script.specs.Sessions.Session.{AreAllHeld, allocator_of, sets_of, state_on}
+use Rattle.descriptor_script.specs.Sessions.Session.{AreAllHeld, KeepsSession, allocator_of, sets_of, state_on}
 use Rattle.descriptor_script.specs.Sessions.Steps.{OfStep, Refuses}
 use Rattle.descriptor_script.specs.Sessions.Tickets.{emptied, held_sets, set_at}
 use Rattle.descriptor_script.specs.declared.command.Command.{Command}
@@ -58,9 +58,9 @@ module _ {L P S : Type 0} where
 
     -- all parts of the headline, at one step
     pub record KeepsAll (command : Command) (reply : Reply) (old new : Side (Session L P S)) : Type 0 where
-      pub exactly : HoldsExactly command reply old new
       pub handed_out : HoldsWhatIsOut command reply old new
       pub one_by_one : FreesOneByOne command reply old new
       pub one_call_a_run : CallsOnceARun command reply old new
-      pub limit : KeepsLimit command reply old new
       pub cause : FailsForCause command reply old new
+      -- the sets that are held are exactly those outstanding, the limit is kept, and the next command may be run
+      pub keeps : KeepsSession means old new

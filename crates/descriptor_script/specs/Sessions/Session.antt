@@ -2,7 +2,6 @@
 use Rattle.std.specs.Prelude.{◌≡◌, ℕ, List, length, slice_get, Option, Some}
 use Rattle.gpu_descriptor_types.specs.Counts.{kinds}
 use Rattle.gpu_descriptor.specs.Model.Agreement.{Item, State, count_of, outstanding}
-use Rattle.gpu_descriptor.specs.Model.Books.{Key, no_pools}
 use Rattle.gpu_descriptor_types.specs.Meaning.{Meaning}
 use Rattle.gpu_descriptor_types.specs.Side.{Side, side}
 use Rattle.gpu_descriptor.specs.Caller.Flags.{is_marked}
@@ -30,10 +29,6 @@ module _ {L P S : Type 0} where
   -- a slot for each ticket that was given, with its set if that is held. The next ticket is their number
   abbrev pub sets_of : Session L P S → List (Option (DescriptorSet S))
   sets_of s = slots_of s.slots
-
--- the allocator has no pools
-abbrev pub HasNoPools : State → Type 0
-HasNoPools s = (k : Key) → s.books k ≡ no_pools
 
 -- the held sets are exactly the outstanding sets
 abbrev pub AreAllHeld : {S : Type 0} → (S → ℕ) → List (Option (DescriptorSet S)) → State → Type 0

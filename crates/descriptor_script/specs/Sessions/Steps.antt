@@ -3,12 +3,11 @@ use Rattle.std.specs.Prelude.{◌≡◌, ℕ, ◌<◌, ◌≤◌, List, ◌++◌
 use Rattle.gpu_descriptor_types.specs.Meaning.{Meaning}
 use Rattle.gpu_descriptor_types.specs.Side.{Side}
 use Rattle.gpu_descriptor.specs.Caller.CleansUp.{CleansUp}
-use Rattle.gpu_descriptor.specs.Caller.Frees.{GivesBack}
+use Rattle.gpu_descriptor.specs.Caller.Frees.{Returns}
 use Rattle.gpu_descriptor.specs.Model.Agreement.{Item}
 use Rattle.gpu_descriptor.specs.Model.Outcomes.{Allocates, Call}
 use Rattle.gpu_descriptor.specs.Model.Promises.{HasCause}
 use Rattle.gpu_descriptor.specs.Caller.Call.{call_of, layout_key}
-use Rattle.gpu_descriptor.specs.Model.Runs.{runs}
 use Rattle.gpu_descriptor.specs.Caller.Sets.{items_of}
 use Rattle.gpu_descriptor.specs.declared.errors.AllocationError.{AllocationError}
 use Rattle.gpu_descriptor.specs.declared.set.DescriptorSet.{DescriptorSet}
@@ -72,7 +71,7 @@ module _ {L P S : Type 0} (means : Meaning L P S) where
       pub all : many ≡ length tickets
       pub given : List (DescriptorSet S)
       pub each : map Some given ≡ map (set_at (sets_of old.value)) tickets
-      pub back : GivesBack means given (runs (items_of means.set_name given)) (allocator_on old) (allocator_on new)
+      pub back : Returns means given (allocator_on old) (allocator_on new)
       pub sets : sets_of new.value ≡ emptied (sets_of old.value) tickets
 
     -- what a free of these tickets may reply: that one is bad exactly where one isn't held or stands twice

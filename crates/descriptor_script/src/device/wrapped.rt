@@ -1,7 +1,7 @@
 //! What a device needs that wraps a scripted one: to see what is live, and to refuse by itself.
 ghost use Rattle.std.specs.Prelude.{◌≡◌, None, IfSome};
 ghost use Rattle.gpu_descriptor_types.specs.Ledger.{after_no_alloc, after_no_create};
-ghost use Rattle.gpu_descriptor.specs.Model.Agreement.{HasSize};
+ghost use Rattle.gpu_descriptor_types.specs.Multiset.{HasSize};
 ghost use Rattle.descriptor_script.specs.Scripted.Raw.{pool_id};
 
 use super::ScriptedDevice;

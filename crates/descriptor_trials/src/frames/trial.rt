@@ -1,7 +1,7 @@
 //! A manager over a scripted device that grants all, and the sets that are in use.
 ghost use Rattle.gpu_descriptor.specs.Caller.Sets.{items_of};
 ghost use Rattle.gpu_descriptor.specs.Caller.States.{Agrees, state_of};
-ghost use Rattle.gpu_descriptor.proofs.callers.OneAgreement.{Agree-prop};
+ghost use Rattle.gpu_descriptor.proofs.callers.OneAgreement.{Agrees-prop};
 ghost use Rattle.descriptor_script.specs.Scripted.Device.{ledger_of};
 ghost use Rattle.descriptor_script.specs.Scripted.Raw.{pool_id, set_id};
 ghost use Rattle.descriptor_frames.specs.Frames.{AreInUse, AreRetiredOut, allocator_of};
@@ -10,7 +10,7 @@ use bitflags::Flags;
 use descriptor_frames::{FrameManager, RetireError};
 use descriptor_script::{RawPool, RawSet, ScriptLayout, ScriptedDevice};
 use gpu_descriptor::{
-    AllocationError, DescriptorSet, DescriptorSetLayoutCreateFlags, DescriptorTotalCount, laws,
+    AllocationError, DescriptorSet, DescriptorSetLayoutCreateFlags, DescriptorTotalCount,
 };
 use std::alloc::Global;
 use std::collections::VecDeque;
@@ -28,8 +28,8 @@ pub struct Trial {
     pub manager: FrameManager<RawPool, RawSet>,
     pub in_use: VecDeque<DescriptorSet<RawSet>>,
     pub counts: DescriptorTotalCount,
-    ghost agree: { Agrees pool_id (allocator_of manager) (ledger_of device) } by { Agree-prop
-        (state_of pool_id (allocator_of manager) (ledger_of device)) },
+    ghost agree: { Agrees pool_id (allocator_of manager) (ledger_of device) } by { Agrees-prop
+        pool_id (allocator_of manager) (ledger_of device) },
     ghost retired: { AreRetiredOut pool_id set_id manager (ledger_of device) },
     ghost used: { AreInUse pool_id set_id (items_of set_id in_use.items) manager
         (ledger_of device) },
@@ -46,7 +46,6 @@ pub enum Outcome {
 impl Trial {
     /// So many sets with one sampler each are in use, under the greatest limit.
     pub fn new(alloc: Global, count: u32) -> Result<Self, AllocationError> {
-        laws::books_alone();
         let mut counts = DescriptorTotalCount::default();
         counts.set_kind(0, 1);
         let layout = ScriptLayout {

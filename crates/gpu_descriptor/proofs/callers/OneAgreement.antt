@@ -1,5 +1,5 @@
 -- That books and ledger agree has one proof at most.
-use Rattle.gpu_descriptor.proofs.Common.{◌≡◌, Option, Some, sym, ◌∙◌, props, Pool, Key, Entry, State, Agree, IsAsBooked}
+use Rattle.gpu_descriptor.proofs.Common.{◌≡◌, ℕ, List, [], ◌∷◌, Option, Some, sym, ◌∙◌, props, Pool, Ledger, Key, Bucket, Entry, State, Agree, Agrees, Allocations, HasDistinctKeys, IsAsBooked}
 use mathlib.Core.HLevel.{is_prop→PathP}
 
 booked_prop : (k : Key) (pool : Pool) (e : Entry) → IsProp (IsAsBooked k pool e)
@@ -16,3 +16,10 @@ found_prop k o e x y =
 
 pub Agree-prop : (s : State) → IsProp (Agree s)
 Agree-prop s = Prim.hlevel (found_prop, props)
+
+distinct_prop : (rows : List (Key × Bucket)) → IsProp (HasDistinctKeys rows)
+distinct_prop [] = Prim.hlevel props
+distinct_prop (row ∷ rows) = Prim.hlevel (distinct_prop rows, props)
+
+pub Agrees-prop : {P : Type 0} (name : P → ℕ) (a : Allocations P) (l : Ledger) → IsProp (Agrees name a l)
+Agrees-prop name a l = Prim.hlevel (distinct_prop, Agree-prop, props)

@@ -1,5 +1,5 @@
 -- What calls keep where nothing changed, and one after another.
-use Rattle.gpu_descriptor.proofs.Common.{◌≡◌, ◌≤◌, sym, ap, subst, side, Meaning, Ledger, Agree, Allocations, arith, Agrees, marked_load_of, pool_load_of, state_of}
+use Rattle.gpu_descriptor.proofs.Common.{◌≡◌, ◌≤◌, sym, ap, subst, side, Meaning, Ledger, Allocations, arith, Agrees, marked_load_of, pool_load_of, state_of}
 use Rattle.gpu_descriptor.specs.Caller.Keeps.{Keeps}
 use Rattle.gpu_descriptor.specs.Caller.Others.{others_of}
 use Rattle.gpu_descriptor.proofs.foreign.ForeignPools.{foreign_same, foreign_through, loses_same, loses_through}
@@ -8,7 +8,7 @@ use Rattle.gpu_descriptor.proofs.foreign.ForeignPools.{foreign_same, foreign_thr
 module _ {L P S : Type 0} {means : Meaning L P S} {old new : Allocations P} {before after : Ledger} (same : new ≡ old) (ledger : after ≡ before) where
   pub keeps_still : Agrees means.pool_name old before → marked_load_of new ≤ new.limit → pool_load_of new ≤ new.limit → Keeps means (side old before) (side new after)
   keeps_still agree load pool_load = record {
-    agree = subst Agree (λ i. state_of means.pool_name (sym same i) (sym ledger i)) agree;
+    agree = subst (λ (x : Allocations P × Ledger). Agrees means.pool_name x.0 x.1) (λ i. (sym same i, sym ledger i)) agree;
     limit = ap (λ (a : Allocations P). a.limit) same;
     load = load;
     pool_load = pool_load;

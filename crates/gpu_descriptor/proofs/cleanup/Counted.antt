@@ -15,7 +15,7 @@ sum_both : (f g h : Key → ℕ) → ((k : Key) → f k + g k ≡ h k) → (keys
 sum_both f g h each [] = omega arith
 sum_both f g h each (k ∷ keys) = grind (arith, common_steps, (sum_both f g h each keys))
 
-pub gone : (keys : List Key) (m n : List Item) (s : State) → Agree s → AreOutstanding (m ++ n) s → pools_gone keys m (given_back m s) + pools_gone keys n (given_back n (released m s)) ≡ pools_gone keys (m ++ n) (given_back (m ++ n) s)
+pub gone : (keys : List Key) (m n : List Item) (s : State) → Agree s → AreOutstanding (m ++ n) s → pools_gone keys m s + pools_gone keys n (released m s) ≡ pools_gone keys (m ++ n) s
 gone keys m n s agree out =
     let u = released m s in
     let counts : back n u ≡ back n s = back_still m n s agree out in

@@ -7,7 +7,7 @@ use Rattle.gpu_descriptor.proofs.table.Exact.{key_exact}
 use Rattle.gpu_descriptor.proofs.release.Fronts.{whole_front, entry_at-from}
 use Rattle.gpu_descriptor.proofs.release.ReleaseAgrees.{front_found}
 use Rattle.gpu_descriptor.proofs.foreign.LedgerPools.{destroyed_both}
-use Rattle.gpu_descriptor.proofs.sums.Loads.{marked_load-none, rows_load, rows_out, rows_pool_load, stored_load_in, sum_put}
+use Rattle.gpu_descriptor.proofs.sums.Loads.{set_descriptors-none, rows_load, rows_out, rows_pool_load, stored_load_in, sum_put}
 use Rattle.gpu_descriptor.proofs.table.RowAt.{keys_at}
 use Rattle.gpu_descriptor.proofs.table.TableBooks.{rows_in, rows_are, keys_are}
 use Rattle.gpu_descriptor.proofs.table.Tables.{key_eq_symm, absent}
@@ -224,4 +224,4 @@ module _ {P : Type 0} where
   counted_put limit marked room left out es i k v w at same moved counted = grind (arith, keys_at, rows_load, rows_out, rows_pool_load, sum_put)
 
   pub counted_filter : (limit marked room out : ℕ) (es fs : List (BucketKey × DescriptorBucket P)) → fs ≡ filter (λ e. has_pools e.1) es → IsDistinct key_eq (stored_keys fs) → IsConsistent limit marked room out es → IsConsistent limit marked room out fs
-  counted_filter limit marked room out es fs kept distinct counted = grind (arith, common_steps, marked_load-none, rows_load, rows_out, rows_pool_load, stored_load_in, sum_filter)
+  counted_filter limit marked room out es fs kept distinct counted = grind (arith, common_steps, set_descriptors-none, rows_load, rows_out, rows_pool_load, stored_load_in, sum_filter)

@@ -1,5 +1,5 @@
 -- What the loop over the runs keeps.
-use Rattle.gpu_descriptor.proofs.Common.{◌≡◌, ◌≤◌, ℕ, ◌+◌, ◌<◌, true, false, ◌&&◌, ◌==◌, List, [], ◌∷◌, ◌++◌, sum_by, refl, sym, ap, subst, ◌∙◌, arith, append_assoc, append-nil, length-append, eq-eqb, Option, Some, None, MatchOption, OnSome, IfSome, eqb-true, Count, HoldsAlong, IsFinite, IsNearerEnd, MakesProgress, size, Yields, YieldsThen, and_parts, and_from, map-append, sum_by-append, side, Meaning, Counters, Ledger, bool_iff, DescriptorSet, State, Item, AreOutstanding, Agree, count_of, Key, key_eq, Allocations, common_steps, marked_load, more_released, more_destroyed, released, given_back, pools_gone, open_pools, run_digits, binary_digits, GivesBack, Frees, FreesRun, runs, item_of, items_of, AllPass, state_of}
+use Rattle.gpu_descriptor.proofs.Common.{◌≡◌, ◌≤◌, ℕ, ◌+◌, ◌<◌, true, false, ◌&&◌, ◌==◌, List, [], ◌∷◌, ◌++◌, sum_by, refl, sym, ap, subst, ◌∙◌, arith, append_assoc, append-nil, length-append, eq-eqb, Option, Some, None, MatchOption, OnSome, IfSome, eqb-true, Count, HoldsAlong, IsFinite, IsNearerEnd, MakesProgress, size, Yields, YieldsThen, and_parts, and_from, map-append, sum_by-append, side, Meaning, Counters, Ledger, bool_iff, DescriptorSet, State, Item, AreOutstanding, Agree, count_of, Key, key_eq, Allocations, common_steps, set_descriptors, more_released, more_destroyed, released, given_back, pools_gone, open_pools, run_digits, binary_digits, GivesBack, Frees, FreesRun, runs, item_of, items_of, AllPass, state_of}
 use Rattle.std.proofs.iter.Next.{Yields-more}
 use Rattle.gpu_descriptor.specs.Inner.RunSteps.{lies_at}
 use Rattle.gpu_descriptor.specs.Caller.States.{keys_of}
@@ -71,13 +71,13 @@ module _ {L P S : Type 0} (means : Meaning L P S) where
       let s = state_of means.pool_name old before in
       let whole = items-append xs ys in
       let first = one.counters in
-      let second : after.counters ≡ more_destroyed (pools_gone (keys_of old) (items ys) (given_back (items ys) (released (items xs) s))) (more_released n mid.counters) =
-      two.counters ∙ ap (λ (ks : List Key). more_destroyed (pools_gone ks (items ys) (given_back (items ys) (state_of means.pool_name now mid))) (more_released n mid.counters)) keys
-      ∙ ap (λ (t : State). more_destroyed (pools_gone (keys_of old) (items ys) (given_back (items ys) t)) (more_released n mid.counters)) one.state in
-      let sum : pools_gone (keys_of old) (items xs) (given_back (items xs) s) + pools_gone (keys_of old) (items ys) (given_back (items ys) (released (items xs) s)) ≡ pools_gone (keys_of old) (items (xs ++ ys)) (given_back (items (xs ++ ys)) s) =
-      gone (keys_of old) (items xs) (items ys) s agree out ∙ ap (λ (l : List Item). pools_gone (keys_of old) l (given_back l s)) (sym whole) in
+      let second : after.counters ≡ more_destroyed (pools_gone (keys_of old) (items ys) (released (items xs) s)) (more_released n mid.counters) =
+      two.counters ∙ ap (λ (ks : List Key). more_destroyed (pools_gone ks (items ys) (state_of means.pool_name now mid)) (more_released n mid.counters)) keys
+      ∙ ap (λ (t : State). more_destroyed (pools_gone (keys_of old) (items ys) t) (more_released n mid.counters)) one.state in
+      let sum : pools_gone (keys_of old) (items xs) s + pools_gone (keys_of old) (items ys) (released (items xs) s) ≡ pools_gone (keys_of old) (items (xs ++ ys)) s =
+      gone (keys_of old) (items xs) (items ys) s agree out ∙ ap (λ (l : List Item). pools_gone (keys_of old) l s) (sym whole) in
       let long = length-append xs ys in
-      let load = ap (sum_by (λ (t : Item). marked_load t.key 1)) whole ∙ sum_by-append (λ (t : Item). marked_load t.key 1) (items xs) (items ys) in
+      let load = ap (sum_by (λ (t : Item). set_descriptors t.key 1)) whole ∙ sum_by-append (λ (t : Item). set_descriptors t.key 1) (items xs) (items ys) in
       let a = one.outstanding in
       let b = two.outstanding in
       let c = one.marked in
@@ -85,8 +85,8 @@ module _ {L P S : Type 0} (means : Meaning L P S) where
       record {
         state = two.state ∙ ap (released (items ys)) one.state ∙ parts (items xs) (items ys) s agree out ∙ ap (λ (l : List Item). released l s) (sym whole);
         counters = second
-            ∙ ap (λ (k : Counters). more_destroyed (pools_gone (keys_of old) (items ys) (given_back (items ys) (released (items xs) s))) (more_released n k)) first
-            ∙ counters_both (pools_gone (keys_of old) (items xs) (given_back (items xs) s)) m (pools_gone (keys_of old) (items ys) (given_back (items ys) (released (items xs) s))) n before.counters
+            ∙ ap (λ (k : Counters). more_destroyed (pools_gone (keys_of old) (items ys) (released (items xs) s)) (more_released n k)) first
+            ∙ counters_both (pools_gone (keys_of old) (items xs) s) m (pools_gone (keys_of old) (items ys) (released (items xs) s)) n before.counters
             ∙ ap (λ (g : ℕ). more_destroyed g (more_released (m + n) before.counters)) sum;
         outstanding = omega arith;
         marked = omega arith;

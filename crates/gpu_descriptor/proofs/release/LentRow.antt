@@ -42,7 +42,7 @@ module _ {P S : Type 0} (name : P → ℕ) (set_name : S → ℕ) (a : Allocatio
           let left : state_of name new after ≡ record { books = put_books s.books k (bucket_of name w); ledger = after.pools } = λ i. record { books = books i; ledger = after.pools } in
           left ∙ whole_run set_name s agree x xs have into.entry into.at (bucket_of name w) after.pools into.books pools
 
-      pub row_counted : HasDistinctKeys (rows_in name es) → after.counters ≡ more_destroyed (pools_gone (keys_of a) (items_of set_name (x ∷ xs)) (given_back (items_of set_name (x ∷ xs)) (state_of name a l))) (more_released 1 l.counters)
+      pub row_counted : HasDistinctKeys (rows_in name es) → after.counters ≡ more_destroyed (pools_gone (keys_of a) (items_of set_name (x ∷ xs)) (state_of name a l)) (more_released 1 l.counters)
       row_counted distinct =
           let into = here in
           let there : count_by (key_eq x.key.is) (keys_of a) ≡ 1 = ap (count_by (key_eq x.key.is)) (keys_are a es is) ∙ key_once name test x.key.is same es bucket distinct found in

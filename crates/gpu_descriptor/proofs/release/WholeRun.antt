@@ -185,7 +185,7 @@ module _ {S : Type 0} (name : S → ℕ) where
 
   -- THE POOLS THAT GO are those of the run's key
   pub gone_run : (s : State) → Agree s → (x : DescriptorSet S) (xs : List (DescriptorSet S)) → AllPass (lies_at x.key.is x.number) xs → (e : Entry) → entry_at (s.books x.key.is) x.number ≡ Some e
-      → (keys : List Key) → count_by (key_eq x.key.is) keys ≡ 1 → pools_gone keys (items_of name (x ∷ xs)) (given_back (items_of name (x ∷ xs)) s) ≡ spent_front (bucket_back (s.books x.key.is) x.number (length (names_of name (x ∷ xs))) e)
+      → (keys : List Key) → count_by (key_eq x.key.is) keys ≡ 1 → pools_gone keys (items_of name (x ∷ xs)) s ≡ spent_front (bucket_back (s.books x.key.is) x.number (length (names_of name (x ∷ xs))) e)
   gone_run s agree x xs have e at keys there =
       let k = x.key.is in
       let m = items_of name (x ∷ xs) in

@@ -1,5 +1,5 @@
 -- The new pools of a request, as far as it has come.
-use Rattle.gpu_descriptor.proofs.Common.{◌≡◌, ℕ, zero, suc, take, drop, ◌+◌, ◌-◌, ◌<◌, inl, inr, List, [], ◌∷◌, ◌++◌, length, map, Bool, true, false, cond, ◌==◌, nat_eq, Option, Some, None, Ok, Err, refl, sym, ap, ◌∙◌, subst, arith, eqb-true, eq-eqb, append_assoc, length-append, fun_ext, ne_eqb, nil_from_length, eqb-false, map-append, append-nil, length-map, sum_by-cons, sum_by-append, list_any, update, if◌then◌else◌, option_map, Item, flags_of, Key, Entry, Bucket, Pool, Ledger, live_sets, on_pool, no_rise, cases_Bool, or_from, or_parts, pool_counts, Stop, list_any-append, Fresh, fresh_portions, fresh_entry, given_by, IsNextSize, room_after, AreSized, AreFull, AreNew, IsFreshFront, IsFreshList, Grant, Part, items_at, portion_of, came, pool_with, ledger_with, fresh_or, IsGrown, IsTaken, IsRefused, allocated_in, pool_descriptors, risen, grant_rise, NoneIsNew, StopsAt, offer, rest, shared, all_shared, Portion, portions_of, AreBookedIn, HasTaken, IsWalked}
+use Rattle.gpu_descriptor.proofs.Common.{◌≡◌, ℕ, zero, suc, take, drop, ◌+◌, ◌-◌, ◌<◌, inl, inr, List, [], ◌∷◌, ◌++◌, length, map, Bool, true, false, cond, ◌==◌, nat_eq, Option, Some, None, Ok, Err, refl, sym, ap, ◌∙◌, subst, arith, eqb-true, eq-eqb, append_assoc, length-append, fun_ext, ne_eqb, nil_from_length, eqb-false, map-append, append-nil, length-map, sum_by-cons, sum_by-append, list_any, update, if◌then◌else◌, option_map, Item, flags_of, Key, Entry, Bucket, Pool, Ledger, live_sets, on_pool, no_rise, cases_Bool, or_from, or_parts, pool_counts, Stop, list_any-append, Fresh, fresh_portions, fresh_entry, given_by, IsNextSize, room_after, AreSized, AreFull, AreNew, IsFreshFront, IsFreshList, Grant, Part, items_at, portion_of, came, pool_with, ledger_with, fresh_or, IsGrown, IsTaken, IsRefused, allocated_in, pool_descriptors, risen, grant_rise, StopsAtNew, StopsAt, offer, rest, shared, all_shared, Portion, portions_of, AreBookedIn, HasTaken, IsWalked}
 use Rattle.gpu_descriptor.proofs.sums.PoolsLoad.{pools_load}
 use Rattle.gpu_descriptor.specs.declared.bucket.take.Stop.TheVariants as stop
 use Rattle.gpu_descriptor_types.specs.Ledger as ledgers
@@ -206,16 +206,16 @@ grow_start {k} {n = n} {id = id} {first = first} {items = items} {old = old} {ne
 pub grow_end : {k : Key} {start n id first own place room total wanting : ℕ} {items : List Item} {old new : List Entry} {l m : Ledger} → Growing k start n id first room total wanting items old new l m → wanting ≡ 0 → own ≡ id → place ≡ first → (done : Unit {0}) → IsTaken (Ok done) k start n items (bucket id first old) (bucket own place new) l m
 grow_end s end ids places done = rw (ids, places) (all_so_far _ s.refused s.fresh s.parts, s.taken, refl, s.list end)
 
-pub grow_stop : (why : Stop) {k : Key} {start n id first own place room total wanting : ℕ} {items put : List Item} {old new newer : List Entry} {l m m' : Ledger} → 0 < wanting → Growing k start n id first room total wanting items old new l m → put ≡ items → newer ≡ new → own ≡ id → place ≡ first → IsRefused why m m' → NoneIsNew why k room → IsTaken (Err why) k start n put (bucket id first old) (bucket own place newer) l m'
+pub grow_stop : (why : Stop) {k : Key} {start n id first own place room total wanting : ℕ} {items put : List Item} {old new newer : List Entry} {l m m' : Ledger} → 0 < wanting → Growing k start n id first room total wanting items old new l m → put ≡ items → newer ≡ new → own ≡ id → place ≡ first → IsRefused why m m' → StopsAtNew why k room → IsTaken (Err why) k start n put (bucket id first old) (bucket own place newer) l m'
 grow_stop why {k} {start} {n} {id} {old = old} {m = m} some s same_sets same_pools ids places refused in_room = rw (same_sets, same_pools, ids, places) (
   all_so_far _ s.refused s.fresh s.parts,
   m,
   s.taken,
-  stops_at why (record { sized = s.sized; full = s.full some; short = (let w = s.wants in omega arith) }) (subst (NoneIsNew why k) s.room_now in_room),
+  stops_at why (record { sized = s.sized; full = s.full some; short = (let w = s.wants in omega arith) }) (subst (StopsAtNew why k) s.room_now in_room),
   refused,
 )
   where
-    stops_at : (why : Stop) → IsFreshFront k start (allocated_in (all_shared s.refused n old)) (rest s.refused n old) s.fresh → NoneIsNew why k (room_after k start s.fresh) → StopsAt why k start n (all_so_far id s.refused s.fresh s.parts) old
+    stops_at : (why : Stop) → IsFreshFront k start (allocated_in (all_shared s.refused n old)) (rest s.refused n old) s.fresh → StopsAtNew why k (room_after k start s.fresh) → StopsAt why k start n (all_so_far id s.refused s.fresh s.parts) old
     stops_at (stop.Existing e) front none = absurd none
     stops_at stop.Room front none = (refl, front, none)
     stops_at stop.Books front none = (refl, front, none)

@@ -1,5 +1,5 @@
 -- All that is promised of a request, from what it took: kept, given back, declined, or for no sets.
-use Rattle.gpu_descriptor.proofs.Common.{◌≡◌, ◌≤◌, ℕ, ◌+◌, ◌<◌, List, Option, None, Some, MatchOption, Result, Ok, Err, inl, sym, ap, ◌∙◌, subst, arith, Vec, side, Meaning, Ledger, Counters, AllocationError, DescriptorSet, Stop, outstanding, HasDistinctKeys, Key, Allocations, run_digits, Grant, granted, items_in, Allocates, stop_answer, taken_by, call_of, Returns, StayOrGainLast, items_of, Agrees, marked_load_of, outstanding_of, pool_load_of, state_of, table_of, Takes}
+use Rattle.gpu_descriptor.proofs.Common.{◌≡◌, ◌≤◌, ℕ, ◌+◌, ◌<◌, List, Option, None, Some, MatchOption, Result, Ok, Err, inl, sym, ap, ◌∙◌, subst, arith, Vec, side, Meaning, Ledger, Counters, AllocationError, DescriptorSet, Stop, Agree, outstanding, HasDistinctKeys, Key, Allocations, run_digits, Grant, granted, items_in, Allocates, stop_answer, taken_by, call_of, Returns, StayOrGainLast, items_of, Agrees, marked_load_of, outstanding_of, pool_load_of, state_of, table_of, Takes}
 use Rattle.gpu_descriptor.specs.Caller.HandsOut.{HandsOut}
 use Rattle.gpu_descriptor.specs.Caller.Keeps.{Keeps}
 use Rattle.gpu_descriptor.specs.Caller.States.{keys_of}
@@ -11,11 +11,11 @@ either None none some = none
 either (Some x) none some = some x
 
 module _ {L P S : Type 0} {means : Meaning L P S} {k : Key} {count : ℕ} {sets : List (DescriptorSet S)} {ended : Result (Unit {0}) Stop} {old new : Allocations P} {before after : Ledger}
-    (t : Takes means k count sets ended (side old before) (side new after)) (agree : Agrees means.pool_name old before) where
-  pub keeps_all : new.limit ≡ old.limit → marked_load_of new ≤ new.limit → pool_load_of new ≤ new.limit → Keeps means (side old before) (side new after)
-  keeps_all limit load pool_load =
+    (t : Takes means k count sets ended (side old before) (side new after)) (agree : Agree (state_of means.pool_name old before)) where
+  pub keeps_all : HasDistinctKeys (table_of means.pool_name new) → new.limit ≡ old.limit → marked_load_of new ≤ new.limit → pool_load_of new ≤ new.limit → Keeps means (side old before) (side new after)
+  keeps_all rows limit load pool_load =
       record {
-        agree = taken_agree t agree;
+        agree = record { rows = rows; books = taken_agree t agree };
         limit = limit;
         load = load;
         pool_load = pool_load;
@@ -37,23 +37,23 @@ module _ {L P S : Type 0} {means : Meaning L P S} {k : Key} {count : ℕ} {sets 
       }
 
 module _ {L P S : Type 0} {means : Meaning L P S} {k : Key} {count : ℕ} (sets : Vec (DescriptorSet S)) {ended : Result (Unit {0}) Stop} {old new : Allocations P} {before after : Ledger}
-    (t : Takes means k count sets.items ended (side old before) (side new after)) (agree : Agrees means.pool_name old before) (distinct : HasDistinctKeys (table_of means.pool_name old)) (keys : StayOrGainLast k (keys_of old) (keys_of new))
+    (t : Takes means k count sets.items ended (side old before) (side new after)) (agree : Agrees means.pool_name old before) (keys : StayOrGainLast k (keys_of old) (keys_of new))
     (looks : new.looks + before.counters.asked ≡ old.looks + after.counters.asked) (comparisons : new.comparisons ≡ old.comparisons) (some : 0 < count) where
   pub hands_all : {x : Unit {0}} → ended ≡ Ok x → HandsOut means k count (Ok sets) (side old before) (side new after)
   hands_all is =
-      let outcome = kept t agree distinct some is in
+      let outcome = kept t agree.books agree.rows some is in
       record {
         outcome = outcome;
         nothing = λ zero. absurd (omega arith);
-        many = kept_many t agree is;
-        given = taken_out t agree;
-        own = taken_own t agree;
-        totals = kept_totals t agree is;
+        many = kept_many t agree.books is;
+        given = taken_out t agree.books;
+        own = taken_own t agree.books;
+        totals = kept_totals t agree.books is;
         totals_stay = tt;
         back = tt;
         cause = tt;
         creates = short _ outcome;
-        other_keys = taken_others t agree;
+        other_keys = taken_others t agree.books;
         keys = keys;
         looks = looks;
         declined = tt;
@@ -65,7 +65,7 @@ module _ {L P S : Type 0} {means : Meaning L P S} {k : Key} {count : ℕ} (sets 
   -- the sets went back
   pub hands_back : {last : Allocations P} {final : Ledger} → HasDistinctKeys (table_of means.pool_name new) → Returns means sets.items (side new after) (side last final) → {why : Stop} → ended ≡ Err why → HandsOut means k count (Err (stop_answer why)) (side old before) (side last final)
   hands_back still r is =
-      let went = went_back t agree distinct still some r.back is in
+      let went = went_back t agree.books agree.rows still some r.back is in
       let outcome = went.0 in
       let asked = ap (λ (c : Counters). c.asked) r.back.counters in
       let gone : run_digits (granted k count went.1 (state_of means.pool_name old before)) (items_in k went.1.id went.1.parts) ≡ run_digits (state_of means.pool_name new after) (items_of means.set_name sets.items) = λ i. run_digits (went.4 i) (went.3 i) in
@@ -76,11 +76,11 @@ module _ {L P S : Type 0} {means : Meaning L P S} {k : Key} {count : ℕ} (sets 
         given = tt;
         own = tt;
         totals = tt;
-        totals_stay = back_totals t agree r.back;
-        back = back_out t agree r.back;
+        totals_stay = back_totals t agree.books r.back;
+        back = back_out t agree.books r.back;
         cause = has_cause _ outcome;
         creates = short _ outcome;
-        other_keys = back_others t agree r.back;
+        other_keys = back_others t agree.books r.back;
         keys = subst (StayOrGainLast k (keys_of old)) (sym r.keys) keys;
         looks = (let stay = r.looks_stay in omega arith);
         declined = λ none. absurd (let bad : ◌≡◌ {A = Option Grant} None (Some went.1) = sym none ∙ went.2 in cc);

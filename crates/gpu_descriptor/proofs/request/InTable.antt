@@ -1,8 +1,8 @@
 -- What a request takes of one key, in the table of keys.
-use Rattle.gpu_descriptor.proofs.Common.{bool_iff, ltb-true, ◌≡◌, ℕ, ◌+◌, ◌≤◌, Bool, true, false, List, [], ◌∷◌, ◌++◌, length, Option, Some, None, is_some, Result, Ok, Err, inl, inr, refl, sym, ap, ◌∙◌, subst, arith, ◌-◌, ◌&&◌, lt-ltb, map, lookup, set_value, option_map_or, nat_lt, sum_by, if◌then◌else◌, cases_Bool, sum_by-append, Meaning, Ledger, Pool, BucketKey, DescriptorSet, DescriptorBucket, Stop, Key, key_eq, Bucket, no_pools, key_of, Item, marked_load, books_in, bucket_of, row_of, HasTaken, Grant, IsGrantOf, IsServed, ServesKey}
+use Rattle.gpu_descriptor.proofs.Common.{bool_iff, ltb-true, ◌≡◌, ℕ, ◌+◌, ◌≤◌, Bool, true, false, List, [], ◌∷◌, ◌++◌, length, Option, Some, None, is_some, Result, Ok, Err, inl, inr, refl, sym, ap, ◌∙◌, subst, arith, ◌-◌, ◌&&◌, lt-ltb, map, lookup, set_value, option_map_or, nat_lt, sum_by, if◌then◌else◌, cases_Bool, sum_by-append, Meaning, Ledger, Pool, BucketKey, DescriptorSet, DescriptorBucket, Stop, Key, key_eq, Bucket, no_pools, key_of, Item, set_descriptors, books_in, bucket_of, row_of, HasTaken, Grant, IsGrantOf, IsServed, ServesKey}
 use Rattle.std.proofs.lemmas.Map.Steps.{set_value_same}
 use Rattle.gpu_descriptor.proofs.table.Exact.{key_exact}
-use Rattle.gpu_descriptor.proofs.sums.Loads.{IsRow, IsWritten, load_in, sum_set, marked_load-add, rows_out, rows_load}
+use Rattle.gpu_descriptor.proofs.sums.Loads.{IsRow, IsWritten, load_in, sum_set, set_descriptors-add, rows_out, rows_load}
 use Rattle.gpu_descriptor.proofs.table.TableBooks.{put_books, written, looked_up, row_bucket}
 
 -- a new key goes last
@@ -30,9 +30,9 @@ present {P} name {k} {es} row = looked_up name row.test k row.same es ∙ ap (λ
 pub missing : {P : Type 0} (name : P → ℕ) (k : Key) (es : List (BucketKey × DescriptorBucket P)) (test : BucketKey → Bool) → ((l : BucketKey) → test l ≡ key_eq k (key_of l)) → lookup test es ≡ None → books_in name (map row_of es) k ≡ no_pools
 missing {P} name k es test same at = looked_up name test k same es ∙ ap (λ (o : Option (DescriptorBucket P)). option_map_or (bucket_of name) o no_pools) at
 
-load_grows : {P : Type 0} (k l : BucketKey) (v w : DescriptorBucket P) (n : ℕ) → key_of l ≡ key_of k → w.total ≡ v.total + n → load_in (l, w) ≡ load_in (l, v) + marked_load (key_of k) n
+load_grows : {P : Type 0} (k l : BucketKey) (v w : DescriptorBucket P) (n : ℕ) → key_of l ≡ key_of k → w.total ≡ v.total + n → load_in (l, w) ≡ load_in (l, v) + set_descriptors (key_of k) n
 load_grows k l v w n is more =
-    ap (λ (x : Key). marked_load x w.total) is ∙ ap (marked_load (key_of k)) more ∙ marked_load-add (key_of k) v.total n ∙ ap (λ (x : Key). marked_load x v.total + marked_load (key_of k) n) (sym is)
+    ap (λ (x : Key). set_descriptors x w.total) is ∙ ap (set_descriptors (key_of k)) more ∙ set_descriptors-add (key_of k) v.total n ∙ ap (λ (x : Key). set_descriptors x v.total + set_descriptors (key_of k) n) (sym is)
 
 -- a key without pools may get any id
 grant_new : {n id : ℕ} {ledger : ℕ → Option Pool} {g : Grant} → IsGrantOf n (record no_pools { id = id }) ledger g → IsGrantOf n no_pools ledger g
@@ -72,7 +72,7 @@ module _ {L P S : Type 0} {means : Meaning L P S} (k : BucketKey) (w : Descripto
           served = subst (λ (b : Bucket). IsServed means (key_of k) room count sets ended b (bucket_of means.pool_name w) before after) (sym gone) (served_new (subst (λ (b : Bucket). IsServed means (key_of k) room count sets ended b (bucket_of means.pool_name w) before after) empty s));
           books = books_end means.pool_name k w test same es at;
           out = (let was = rows_out es in let is = rows_out (es ++ (k, w) ∷ []) in let a = sum_by-append (λ (r : BucketKey × DescriptorBucket P). r.1.total) es ((k, w) ∷ []) in let one : sum_by (λ (r : BucketKey × DescriptorBucket P). r.1.total) ((k, w) ∷ []) ≡ w.total = omega arith in omega arith);
-          load = (let was = rows_load es in let is = rows_load (es ++ (k, w) ∷ []) in let a = sum_by-append load_in es ((k, w) ∷ []) in let one : sum_by load_in ((k, w) ∷ []) ≡ marked_load (key_of k) w.total = omega arith in let n : w.total ≡ length sets = omega arith in let e = ap (marked_load (key_of k)) n in omega arith);
+          load = (let was = rows_load es in let is = rows_load (es ++ (k, w) ∷ []) in let a = sum_by-append load_in es ((k, w) ∷ []) in let one : sum_by load_in ((k, w) ∷ []) ≡ set_descriptors (key_of k) w.total = omega arith in let n : w.total ≡ length sets = omega arith in let e = ap (set_descriptors (key_of k)) n in omega arith);
         })
 
 -- a write of what is there

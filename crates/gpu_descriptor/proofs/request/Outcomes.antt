@@ -1,6 +1,6 @@
 -- A request that took sets is as the definitions say: kept whole, or given back.
 use Rattle.gpu_descriptor.proofs.request.Requested.{load_is, pool_load_is, out_is}
-use Rattle.gpu_descriptor.proofs.Common.{fun_ext, ◌≡◌, ℕ, ◌+◌, ◌-◌, ◌<◌, Some, List, [], ◌∷◌, length, arith, Result, Ok, Err, OnOk, refl, sym, ap, ◌∙◌, subst, length-map, side, Meaning, Ledger, no_rise, AllocationError, DescriptorSet, Stop, State, Item, Agree, AreOutstanding, Option, Pool, count_of, outstanding, key_eq, if◌then◌else◌, Key, Bucket, HasDistinctKeys, Allocations, KeepsForeign, LosesNone, GivesBack, Grant, IsGrantOf, bucket_with, items_in, granted, ledger_with, IsTaken, IsRefused, marked_load, Allocates, Call, Proceeds, taken_by, risen, rollback_rise, StopsAt, stop_answer, stop_rise, IsUntouched, KeepsOtherKeys, AreOfKey, AreOutBesides, KeepsOutstanding, released, given_back, pools_gone, call_of, Takes, runs, item_of, items_of, Agrees, state_of, table_of, outstanding_of, marked_load_of, pool_load_of, HasTaken}
+use Rattle.gpu_descriptor.proofs.Common.{fun_ext, ◌≡◌, ℕ, ◌+◌, ◌-◌, ◌<◌, Some, List, [], ◌∷◌, length, arith, Result, Ok, Err, OnOk, refl, sym, ap, ◌∙◌, subst, length-map, side, Meaning, Ledger, no_rise, AllocationError, DescriptorSet, Stop, State, Item, Agree, AreOutstanding, Option, Pool, count_of, outstanding, key_eq, if◌then◌else◌, Key, Bucket, HasDistinctKeys, Allocations, KeepsForeign, LosesNone, GivesBack, Grant, IsGrantOf, bucket_with, items_in, granted, ledger_with, IsTaken, IsRefused, set_descriptors, Allocates, Call, Proceeds, taken_by, risen, rollback_rise, StopsAt, stop_answer, stop_rise, IsUntouched, KeepsOtherKeys, AreOfKey, AreOutBesides, KeepsOutstanding, released, given_back, pools_gone, call_of, Takes, runs, item_of, items_of, state_of, table_of, outstanding_of, marked_load_of, pool_load_of, HasTaken}
 use Rattle.gpu_descriptor.specs.Caller.Others.{others_of}
 use Rattle.gpu_descriptor.specs.Model.Outcomes.Allocates.{done, stopped}
 use Rattle.gpu_descriptor.specs.Caller.States.{keys_of}
@@ -38,7 +38,7 @@ had_taken (Err why) k room n items old new l m t = record { g = t.0; grant = t.2
     made_before (stop.New e) at = made_front k t.0.fresh _ _ _ at.1.sized at.1.full
 
 module _ {L P S : Type 0} {means : Meaning L P S} {k : Key} {count : ℕ} {sets : List (DescriptorSet S)} {ended : Result (Unit {0}) Stop} {old new : Allocations P} {before after : Ledger}
-    (t : Takes means k count sets ended (side old before) (side new after)) (agree : Agrees means.pool_name old before) where
+    (t : Takes means k count sets ended (side old before) (side new after)) (agree : Agree (state_of means.pool_name old before)) where
   abbrev s : State
   s = state_of means.pool_name old before
 
@@ -59,7 +59,7 @@ module _ {L P S : Type 0} {means : Meaning L P S} {k : Key} {count : ℕ} {sets 
   as_granted = sym (state ∙ (λ i. with_bucket k (had.bucket i) (had.ledger i) s))
 
   -- books and ledger agree after it
-  pub taken_agree : Agrees means.pool_name new after
+  pub taken_agree : Agree (state_of means.pool_name new after)
   taken_agree = subst Agree as_granted (granted_agree k count had.g s agree had.grant had.made)
 
   -- exactly these sets are outstanding besides
@@ -99,11 +99,11 @@ module _ {L P S : Type 0} {means : Meaning L P S} {k : Key} {count : ℕ} {sets 
 
   module _ (distinct : HasDistinctKeys (table_of means.pool_name old)) (still : HasDistinctKeys (table_of means.pool_name new)) (some : 0 < count) {last : Allocations P} {final : Ledger} (back : GivesBack means sets (runs items) (side new after) (side last final)) where
     -- which of the new allocator's pools go
-    gone : pools_gone (keys_of new) items (given_back items (state_of means.pool_name new after)) ≡ pools_gone (k ∷ []) items (given_back items (state_of means.pool_name new after))
-    gone = ap (λ (keys : List Key). pools_gone keys items (given_back items (state_of means.pool_name new after))) (keys_table means.pool_name new.table) ∙ only_key k items (state_of means.pool_name new after) (table_of means.pool_name new) still (λ l. refl) taken_own
+    gone : pools_gone (keys_of new) items (state_of means.pool_name new after) ≡ pools_gone (k ∷ []) items (state_of means.pool_name new after)
+    gone = ap (λ (keys : List Key). pools_gone keys items (state_of means.pool_name new after)) (keys_table means.pool_name new.table) ∙ only_key k items (state_of means.pool_name new after) (table_of means.pool_name new) still (λ l. refl) taken_own
 
     went : (m : List Item) (u : State) → m ≡ items → u ≡ state_of means.pool_name new after → final.counters ≡ risen (rollback_rise m k u) after.counters
-    went m u is same = back.counters ∙ give_back_rise _ (runs items) after.counters ∙ (λ i. risen (record no_rise { released = runs (sym is i); destroyed = (gone ∙ (λ j. pools_gone (k ∷ []) (sym is j) (given_back (sym is j) (sym same j)))) i }) after.counters)
+    went m u is same = back.counters ∙ give_back_rise _ (runs items) after.counters ∙ (λ i. risen (record no_rise { released = runs (sym is i); destroyed = (gone ∙ (λ j. pools_gone (k ∷ []) (sym is j) (sym same j))) i }) after.counters)
 
     abbrev call : AllocationError → Call
     call error = call_of means k count (side old before) (side last final) (Err error)
@@ -164,7 +164,7 @@ module _ {L P S : Type 0} {means : Meaning L P S} {k : Key} {count : ℕ} {sets 
         let total = t.serves.out in
         let more = t.serves.load in
         let load = load_of_items k items taken_own in
-        let long = ap (marked_load k) (length-map sets (λ (x : DescriptorSet S). item_of means.set_name x)) in
+        let long = ap (set_descriptors k) (length-map sets (λ (x : DescriptorSet S). item_of means.set_name x)) in
         ((let e : outstanding_of last ≡ outstanding_of old = omega arith in e), (let e : marked_load_of last ≡ marked_load_of old = omega arith in e))
 
     pub back_leaves : KeepsForeign s (state_of means.pool_name last final)
@@ -184,10 +184,10 @@ module _ {L P S : Type 0} {means : Meaning L P S} {k : Key} {count : ℕ} {sets 
   pub kept_many : {x : Unit {0}} → ended ≡ Ok x → length sets ≡ count
   kept_many is = subst (λ (r : Result (Unit {0}) Stop). OnOk r (length sets ≡ count)) is t.serves.served.all
 
-  pub kept_totals : {x : Unit {0}} → ended ≡ Ok x → (outstanding_of new ≡ outstanding_of old + count) × (marked_load_of new ≡ marked_load_of old + marked_load k count)
+  pub kept_totals : {x : Unit {0}} → ended ≡ Ok x → (outstanding_of new ≡ outstanding_of old + count) × (marked_load_of new ≡ marked_load_of old + set_descriptors k count)
   kept_totals is =
       let many = kept_many is in
-      (t.serves.out ∙ ap (λ n. outstanding_of old + n) many, t.serves.load ∙ ap (λ n. marked_load_of old + marked_load k n) many)
+      (t.serves.out ∙ ap (λ n. outstanding_of old + n) many, t.serves.load ∙ ap (λ n. marked_load_of old + set_descriptors k n) many)
 
   pub kept : HasDistinctKeys (table_of means.pool_name old) → 0 < count → {x : Unit {0}} → ended ≡ Ok x → Allocates (call_of means k count (side old before) (side new after) (Ok items))
   kept distinct some is =

@@ -1,7 +1,7 @@
 -- What a request leaves of an allocator: why it is declined before the walk, and what it took.
 use Rattle.gpu_descriptor.proofs.sums.TableSums.{adds_up, outstanding_of-table, marked_load_of-table, pool_load_of-table}
 use Rattle.gpu_descriptor.specs.Model.Books.{AddsUp}
-use Rattle.gpu_descriptor.proofs.Common.{side, Meaning, greatest_u64, [], ◌≡◌, ℕ, ◌+◌, ◌-◌, ◌*◌, ◌<◌, ◌≤◌, ◌&&◌, Bool, true, false, List, map, length, sum, Result, Err, inl, inr, refl, sym, ap, subst, ◌∙◌, arith, mul-le-mul_right, cases_Bool, and_parts, ltb-true, ltb-false, IsDistinct, nat_lt, ◌⊎◌, kinds, Ledger, AllocationError, BucketKey, DescriptorSet, DescriptorBucket, Stop, Key, key_eq, Bucket, BucketOf, HasDistinctKeys, books_of, next_number, sum_over, key_of, Allocations, bucket_load, descriptors_out, marked_load, sets_out, Allocates, IsWithinLimit, call_of, IsUnserved, IsSound, ServesKey, Takes, named_row, state_of, table_of, outstanding_of, marked_load_of, pool_load_of, IsConsistent, row_of, stored_keys, books_in}
+use Rattle.gpu_descriptor.proofs.Common.{side, Meaning, greatest_u64, [], ◌≡◌, ℕ, ◌+◌, ◌-◌, ◌*◌, ◌<◌, ◌≤◌, ◌&&◌, Bool, true, false, List, map, length, sum, Result, Err, inl, inr, refl, sym, ap, subst, ◌∙◌, arith, mul-le-mul_right, cases_Bool, and_parts, ltb-true, ltb-false, IsDistinct, nat_lt, ◌⊎◌, kinds, Ledger, AllocationError, BucketKey, DescriptorSet, DescriptorBucket, Stop, Key, key_eq, Bucket, BucketOf, HasDistinctKeys, books_of, next_number, sum_over, key_of, Allocations, bucket_load, descriptors_out, set_descriptors, sets_out, Allocates, IsWithinLimit, call_of, IsUnserved, IsSound, ServesKey, Takes, named_row, state_of, table_of, outstanding_of, marked_load_of, pool_load_of, IsConsistent, row_of, stored_keys, books_in}
 use Rattle.gpu_descriptor.specs.declared.errors.AllocationError.TheVariants.{Fragmentation}
 use Rattle.gpu_descriptor.specs.Model.Outcomes.Allocates.{limit, bound, start}
 use Rattle.gpu_descriptor.proofs.table.TableBooks.{rows_are, distinct_rows}
@@ -56,13 +56,13 @@ module _ {P : Type 0} {a : Allocations P} {most looks compared marked room out :
 -- what callers see adds up over the books
 module _ {L P S : Type 0} (means : Meaning L P S) (a : Allocations P) (before : Ledger) (distinct : HasDistinctKeys (table_of means.pool_name a)) where
   pub load_is : AddsUp descriptors_out (state_of means.pool_name a before).books (marked_load_of a)
-  load_is = adds_up means.pool_name a descriptors_out distinct (marked_load_of-table means.pool_name a) refl
+  load_is = adds_up means.pool_name a descriptors_out distinct (marked_load_of-table means.pool_name a)
 
   pub pool_load_is : AddsUp bucket_load (state_of means.pool_name a before).books (pool_load_of a)
-  pool_load_is = adds_up means.pool_name a bucket_load distinct (pool_load_of-table means.pool_name a) refl
+  pool_load_is = adds_up means.pool_name a bucket_load distinct (pool_load_of-table means.pool_name a)
 
   pub out_is : AddsUp sets_out (state_of means.pool_name a before).books (outstanding_of a)
-  out_is = adds_up means.pool_name a sets_out distinct (outstanding_of-table means.pool_name a) refl
+  out_is = adds_up means.pool_name a sets_out distinct (outstanding_of-table means.pool_name a)
 
 -- ---- the tests of a request, over the fields of an allocator
 
@@ -111,7 +111,7 @@ module _ {L P S : Type 0} {means : Meaning L P S} {key : BucketKey} {room count 
   sets_within = within_of key.update_after_bind a.limit (count * sum (kinds key.size) + marked_load_of a) (sym test ∙ below)
 
   -- their descriptors keep the limit
-  pub given_fits : {given : ℕ} → given ≡ length sets → marked_load (key_of key) given + marked ≤ most
+  pub given_fits : {given : ℕ} → given ≡ length sets → set_descriptors (key_of key) given + marked ≤ most
   given_fits {given} long = elim (cases_Bool key.update_after_bind) [
     | inl on ↦ (
         let few = s.served.few in
@@ -119,16 +119,16 @@ module _ {L P S : Type 0} {means : Meaning L P S} {key : BucketKey} {room count 
         let load = ap marked_load_of is in
         let limit = ap (λ (x : Allocations P). x.limit) is in
         let is_load = counted.is_load in
-        let product : marked_load (key_of key) given ≡ given * sum (kinds key.size) = rw on refl in
+        let product : set_descriptors (key_of key) given ≡ given * sum (kinds key.size) = rw on refl in
         let le : given * sum (kinds key.size) ≤ count * sum (kinds key.size) = mul-le-mul_right (sum (kinds key.size)) (omega arith) in
         omega arith)
-    | inr off ↦ (let none : marked_load (key_of key) given ≡ 0 = rw off refl in let all = counted.within in omega arith)
+    | inr off ↦ (let none : set_descriptors (key_of key) given ≡ 0 = rw off refl in let all = counted.within in omega arith)
   ]
 
-  pub counted_now : {given more left : ℕ} → given ≡ length sets → more ≡ marked_load (key_of key) given → left + sum_over bucket_load (map row_of fs) ≡ room + sum_over bucket_load (map row_of es) → IsDistinct key_eq (stored_keys fs) → IsConsistent most (marked + more) left (out + given) fs
+  pub counted_now : {given more left : ℕ} → given ≡ length sets → more ≡ set_descriptors (key_of key) given → left + sum_over bucket_load (map row_of fs) ≡ room + sum_over bucket_load (map row_of es) → IsDistinct key_eq (stored_keys fs) → IsConsistent most (marked + more) left (out + given) fs
   counted_now long load moved distinct =
       let fits = given_fits long in
-      let same = ap (marked_load (key_of key)) long in
+      let same = ap (set_descriptors (key_of key)) long in
       let is_room = counted.is_room in
       let is_load = counted.is_load in
       let is_out = counted.is_out in

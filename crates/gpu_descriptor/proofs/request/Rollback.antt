@@ -1,10 +1,10 @@
 -- What giving the sets of a request back leaves, and how it raises the counters.
-use Rattle.gpu_descriptor.proofs.Common.{◌+◌, ◌≡◌, ℕ, ◌<◌, true, false, List, [], ◌∷◌, map, sum_by, inl, inr, refl, sym, ap, ◌∙◌, arith, suc, length, fun_ext, cases_Bool, or_parts, false_from_ne_true, sum_by-cons, list_any, if◌then◌else◌, any_found, count_by_yes, Counters, no_rise, State, Item, item_eq, count_of, Agree, Key, key_eq, Bucket, BucketOf, books_of, no_pools, HasDistinctKeys, marked_load, more_released, more_destroyed, given_back, released, pools_gone, spent_front, bucket_less, marked_descriptors, risen, named_row}
+use Rattle.gpu_descriptor.proofs.Common.{◌+◌, ◌≡◌, ℕ, ◌<◌, true, false, List, [], ◌∷◌, map, sum_by, inl, inr, refl, sym, ap, ◌∙◌, arith, suc, length, fun_ext, cases_Bool, or_parts, false_from_ne_true, sum_by-cons, list_any, if◌then◌else◌, any_found, count_by_yes, Counters, no_rise, State, Item, item_eq, count_of, Agree, Key, key_eq, Bucket, BucketOf, books_of, no_pools, HasDistinctKeys, set_descriptors, more_released, more_destroyed, given_back, released, pools_gone, spent_front, bucket_less, marked_descriptors, risen, named_row}
 use Rattle.gpu_descriptor.proofs.lists.AtPlaces.{count_by_more}
 use Rattle.gpu_descriptor.proofs.request.Asks.{same_counters}
 use Rattle.gpu_descriptor.proofs.table.Exact.{key_exact, item_exact}
 use Rattle.gpu_descriptor.proofs.release.ReleaseAgrees.{none_back}
-use Rattle.gpu_descriptor.proofs.sums.Loads.{marked_load-none, marked_load-add}
+use Rattle.gpu_descriptor.proofs.sums.Loads.{set_descriptors-none, set_descriptors-add}
 use Rattle.gpu_descriptor.proofs.release.Parts.{names_key, quiet_key}
 use Rattle.gpu_descriptor.proofs.release.Places.{back}
 use Rattle.gpu_descriptor.proofs.table.Tables.{key_eq_symm}
@@ -58,7 +58,7 @@ other_key m s agree k none =
     here ∙ ap (λ (f : ℕ → ℕ). bucket_less f (s.books k)) (fun_ext zero) ∙ quiet_key [] m s agree k none ∙ ap (λ (w : State). w.books k) (none_back s)
 
 -- the pools that go are the key's
-pub only_key : (k : Key) (m : List Item) (s : State) (t : List (Key × Bucket)) → HasDistinctKeys t → ((l : Key) → books_of t l ≡ s.books l) → ((u : Item) → 0 < count_of u m → u.key ≡ k) → pools_gone (map (λ row. row.0) t) m (given_back m s) ≡ pools_gone (k ∷ []) m (given_back m s)
+pub only_key : (k : Key) (m : List Item) (s : State) (t : List (Key × Bucket)) → HasDistinctKeys t → ((l : Key) → books_of t l ≡ s.books l) → ((u : Item) → 0 < count_of u m → u.key ≡ k) → pools_gone (map (λ row. row.0) t) m s ≡ pools_gone (k ∷ []) m s
 only_key k m s t distinct keeps of_key =
     let f : Key → ℕ = λ l. if names_key m l then spent_front ((given_back m s).books l) else 0 in
     let only : (l : Key) → key_eq k l ≡ false → f l ≡ 0 = λ l other. (let unnamed = unnamed_key k m of_key l other in rw unnamed refl) in
@@ -77,15 +77,15 @@ keys_table name (r ∷ rows) = ap (λ (l : List Key). r.0 ∷ l) (keys_table nam
 -- ---- totals
 
 -- sets of one key have as many descriptors as their number says
-pub load_of_items : (k : Key) (m : List Item) → ((u : Item) → 0 < count_of u m → u.key ≡ k) → marked_descriptors m ≡ marked_load k (length m)
-load_of_items k [] of_key = sym (marked_load-none k)
+pub load_of_items : (k : Key) (m : List Item) → ((u : Item) → 0 < count_of u m → u.key ≡ k) → marked_descriptors m ≡ set_descriptors k (length m)
+load_of_items k [] of_key = sym (set_descriptors-none k)
 load_of_items k (t ∷ m) of_key =
     let own : count_of t (t ∷ m) ≡ suc (count_of t m) = count_by_yes (λ u. item_eq u t) t m (item_exact.self t) in
     let key : t.key ≡ k = of_key t (omega arith) in
-    let one : marked_load t.key 1 ≡ marked_load k 1 = ap (λ (l : Key). marked_load l 1) key in
+    let one : set_descriptors t.key 1 ≡ set_descriptors k 1 = ap (λ (l : Key). set_descriptors l 1) key in
     let rest = load_of_items k m (λ u some. of_key u (let most = count_by_more (λ v. item_eq v u) t m in omega arith)) in
-    let sum = sum_by-cons (λ (t : Item). marked_load t.key 1) t m in
-    let parts = marked_load-add k 1 (length m) in
+    let sum = sum_by-cons (λ (t : Item). set_descriptors t.key 1) t m in
+    let parts = set_descriptors-add k 1 (length m) in
     let long : 1 + length m ≡ length (t ∷ m) = omega arith in
-    let whole = ap (marked_load k) long in
+    let whole = ap (set_descriptors k) long in
     omega arith

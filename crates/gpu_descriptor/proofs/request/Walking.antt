@@ -86,7 +86,7 @@ walk_stop k room n id first i wanting items old new l m m' e f error s was is sa
     pool = e;
     newer = drop (suc i) old;
     here = split_at old i e was;
-    left = (let long = long_take old i e was in omega arith);
+    skipped = (let long = long_take old i e was in omega arith);
     no_fresh = refl;
     asked = ap (λ w. nat_lt 0 e.available && nat_lt 0 w) (sym s.wants) ∙ none.asked;
     memory = none.memory;

@@ -1,5 +1,5 @@
 -- The running totals of a table, and what a run takes from them.
-use Rattle.gpu_descriptor.proofs.Common.{◌≡◌, ℕ, ◌+◌, ◌-◌, ◌≤◌, Bool, true, List, [], ◌∷◌, ◌++◌, length, map, sum_by, Option, Some, None, inl, inr, refl, sym, ap, ◌∙◌, arith, zero, suc, slice_get, lookup, set_value, cases_Bool, sum_by-cons, BucketKey, DescriptorSet, DescriptorBucket, Key, key_eq, sum_over, key_of, Allocations, common_steps, bucket_load, descriptors_out, marked_load, sets_out, marked_descriptors, items_of, outstanding_of, marked_load_of, AllPass, kept_in, kept_of, row_of, stored_keys, stored_load, IsConsistent}
+use Rattle.gpu_descriptor.proofs.Common.{◌≡◌, ℕ, ◌+◌, ◌-◌, ◌≤◌, Bool, true, List, [], ◌∷◌, ◌++◌, length, map, sum_by, Option, Some, None, inl, inr, refl, sym, ap, ◌∙◌, arith, zero, suc, slice_get, lookup, set_value, cases_Bool, sum_by-cons, BucketKey, DescriptorSet, DescriptorBucket, Key, key_eq, sum_over, key_of, Allocations, common_steps, bucket_load, descriptors_out, set_descriptors, sets_out, marked_descriptors, items_of, outstanding_of, marked_load_of, AllPass, kept_in, kept_of, row_of, stored_keys, stored_load, IsConsistent}
 use Rattle.indexmap.specs.Layout.{set_value_at}
 use Rattle.gpu_descriptor.specs.Inner.RunSteps.{lies_at}
 use Rattle.gpu_descriptor.specs.Inner.Stored.{IsCounted}
@@ -7,14 +7,14 @@ use Rattle.gpu_descriptor.proofs.table.Exact.{key_exact}
 use Rattle.gpu_descriptor.proofs.sums.TableSums.{sum_map}
 use Rattle.gpu_descriptor.proofs.release.WholeRun.{at_parts}
 
-pub marked_load-none : (k : Key) → marked_load k 0 ≡ 0
-marked_load-none k = elim (cases_Bool k.marked) [ inl on ↦ rw on (omega arith) | inr off ↦ rw off refl ]
+pub set_descriptors-none : (k : Key) → set_descriptors k 0 ≡ 0
+set_descriptors-none k = elim (cases_Bool k.marked) [ inl on ↦ rw on (omega arith) | inr off ↦ rw off refl ]
 
-pub marked_load-add : (k : Key) (m n : ℕ) → marked_load k (m + n) ≡ marked_load k m + marked_load k n
-marked_load-add k m n = elim (cases_Bool k.marked) [ inl on ↦ rw on (grind arith) | inr off ↦ rw off refl ]
+pub set_descriptors-add : (k : Key) (m n : ℕ) → set_descriptors k (m + n) ≡ set_descriptors k m + set_descriptors k n
+set_descriptors-add k m n = elim (cases_Bool k.marked) [ inl on ↦ rw on (grind arith) | inr off ↦ rw off refl ]
 
-pub marked_load-le : (k : Key) (m n : ℕ) → m ≤ n → marked_load k m ≤ marked_load k n
-marked_load-le k m n le = grind arith
+pub set_descriptors-le : (k : Key) (m n : ℕ) → m ≤ n → set_descriptors k m ≤ set_descriptors k n
+set_descriptors-le k m n le = grind arith
 
 -- the allocator's invariant, opened and closed
 module _ {P : Type 0} {limit marked room out : ℕ} {es : List (BucketKey × DescriptorBucket P)} where
@@ -63,7 +63,7 @@ module _ {P : Type 0} where
 
   -- the descriptors of a marked key's sets
   abbrev pub load_in : BucketKey × DescriptorBucket P → ℕ
-  load_in r = marked_load (key_of r.0) r.1.total
+  load_in r = set_descriptors (key_of r.0) r.1.total
 
   -- the descriptors of a marked key's pools
   abbrev pub stored_load_in : BucketKey × DescriptorBucket P → ℕ
@@ -76,14 +76,14 @@ module _ {P : Type 0} where
   rows_out = sum_map _ row_of _ pools_out
 
   pub rows_load : (es : List (BucketKey × DescriptorBucket P)) → sum_over descriptors_out (map row_of es) ≡ sum_by load_in es
-  rows_load = sum_map _ row_of _ (λ r. ap (marked_load (key_of r.0)) (pools_out r))
+  rows_load = sum_map _ row_of _ (λ r. ap (set_descriptors (key_of r.0)) (pools_out r))
 
   pub rows_pool_load : (es : List (BucketKey × DescriptorBucket P)) → sum_over bucket_load (map row_of es) ≡ sum_by stored_load_in es
   rows_pool_load = sum_map _ row_of _ (λ r. sum_map _ kept_of _ (λ p. refl) r.1.pools.items)
 
 -- the descriptors of a run
-pub run_load : {S : Type 0} (name : S → ℕ) (k : Key) (n : ℕ) (xs : List (DescriptorSet S)) → AllPass (lies_at k n) xs → marked_descriptors (items_of name xs) ≡ marked_load k (length xs)
-run_load name k n [] have = sym (marked_load-none k)
+pub run_load : {S : Type 0} (name : S → ℕ) (k : Key) (n : ℕ) (xs : List (DescriptorSet S)) → AllPass (lies_at k n) xs → marked_descriptors (items_of name xs) ≡ set_descriptors k (length xs)
+run_load name k n [] have = sym (set_descriptors-none k)
 run_load name k n (x ∷ xs) have = grind (arith, common_steps, at_parts, (run_load name k n xs have.1))
 
 pub pools_end : {P : Type 0} (k : BucketKey) (es : List (BucketKey × DescriptorBucket P)) (w : DescriptorBucket P) (left room : ℕ) → left + stored_load (key_of k) w.pools.items ≡ room → left + sum_over bucket_load (map row_of (es ++ (k, w) ∷ [])) ≡ room + sum_over bucket_load (map row_of es)
@@ -92,7 +92,7 @@ pools_end {P} k es w left room moved = grind (arith, common_steps)
 -- what a run takes from the totals
 pub record Taken {P : Type 0} (k : Key) (n : ℕ) (es fs : List (BucketKey × DescriptorBucket P)) : Type 0 where
   pub out : sum_over sets_out (map row_of fs) + n ≡ sum_over sets_out (map row_of es)
-  pub load : sum_over descriptors_out (map row_of fs) + marked_load k n ≡ sum_over descriptors_out (map row_of es)
+  pub load : sum_over descriptors_out (map row_of fs) + set_descriptors k n ≡ sum_over descriptors_out (map row_of es)
 
 module _ {P : Type 0} {k : Key} {es : List (BucketKey × DescriptorBucket P)} {v : DescriptorBucket P} (row : IsRow k es v) where
   -- its sets are of the table's
@@ -116,26 +116,26 @@ module _ {P : Type 0} {k : Key} {es fs : List (BucketKey × DescriptorBucket P)}
   taken_out : (n : ℕ) → w.total + n ≡ v.total → sum_over sets_out (map row_of (set_value r.row.test es w)) + n ≡ sum_over sets_out (map row_of es)
   taken_out n total = (let moved = (sum_set (λ (b : BucketKey × DescriptorBucket P). b.1.total) r.row.test es v w r.row.at).3 in let was = rows_out es in let is = rows_out (set_value r.row.test es w) in omega arith)
 
-  taken_load : (n : ℕ) → w.total + n ≡ v.total → sum_over descriptors_out (map row_of (set_value r.row.test es w)) + marked_load k n ≡ sum_over descriptors_out (map row_of es)
+  taken_load : (n : ℕ) → w.total + n ≡ v.total → sum_over descriptors_out (map row_of (set_value r.row.test es w)) + set_descriptors k n ≡ sum_over descriptors_out (map row_of es)
   taken_load n total =
       let a = sum_set (load_in {P = P}) r.row.test es v w r.row.at in
       let is : k ≡ key_of a.0 = key_exact.same k (key_of a.0) (sym (r.row.same a.0) ∙ a.1) in
-      grind (arith, common_steps, marked_load-add, rows_load)
+      grind (arith, common_steps, set_descriptors-add, rows_load)
 
   pub taken : {n : ℕ} → w.total + n ≡ v.total → Taken k n es fs
   taken {n} total = rw r.wrote (record { out = taken_out n total; load = taken_load n total })
 
 module _ {P : Type 0} {k : Key} {n : ℕ} {es fs : List (BucketKey × DescriptorBucket P)} (t : Taken k n es fs) where
   -- what goes was there
-  pub load_fits : {limit marked room out : ℕ} → IsConsistent limit marked room out es → marked_load k n ≤ marked
+  pub load_fits : {limit marked room out : ℕ} → IsConsistent limit marked room out es → set_descriptors k n ≤ marked
   load_fits counted = (let is = counted.is_load in let load = t.load in omega arith)
 
-  pub counted_after : {limit marked room left out less : ℕ} → IsConsistent limit marked room out es → less ≡ marked_load k n → left + sum_over bucket_load (map row_of fs) ≡ room + sum_over bucket_load (map row_of es) → stored_keys fs ≡ stored_keys es → IsConsistent limit (marked - less) left (out - n) fs
+  pub counted_after : {limit marked room left out less : ℕ} → IsConsistent limit marked room out es → less ≡ set_descriptors k n → left + sum_over bucket_load (map row_of fs) ≡ room + sum_over bucket_load (map row_of es) → stored_keys fs ≡ stored_keys es → IsConsistent limit (marked - less) left (out - n) fs
   counted_after counted load pools keys = grind arith
 
   module _ (old : Allocations P) (is : old.table ≡ map row_of es) where
     pub out_after : sum_over sets_out (map row_of fs) + n ≡ outstanding_of old
     out_after = grind arith
 
-    pub load_after : (m : ℕ) → m ≡ marked_load k n → sum_over descriptors_out (map row_of fs) + m ≡ marked_load_of old
+    pub load_after : (m : ℕ) → m ≡ set_descriptors k n → sum_over descriptors_out (map row_of fs) + m ≡ marked_load_of old
     load_after m same = grind arith

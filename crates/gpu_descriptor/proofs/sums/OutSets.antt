@@ -1,5 +1,5 @@
 -- As many sets are out as are outstanding.
-use Rattle.gpu_descriptor.proofs.Common.{◌≡◌, ℕ, suc, ◌+◌, ◌-◌, ◌<◌, ◌≤◌, ◌==◌, true, false, List, [], ◌∷◌, ◌++◌, length, map, sum_by, slice_get, Option, Some, None, inl, inr, refl, sym, ap, ◌∙◌, arith, length-append, option_map_or, if◌then◌else◌, cases_Bool, cases_eq, cases_lt, length-map, sum_by-append, sum_by-cons, Pool, live_sets, LiveSet, set_eq, times, count_by_yes, count_by_no, counts_alike, set_exact, State, Agree, Item, item_eq, set_of, count_of, live_at, outstanding, Key, key_eq, Entry, Bucket, no_pools, books_of, HasDistinctKeys, sum_over, AddsUp, ∥∥₁_elim, ∥∥₁_map, ∥∥₁_prop, props, common_steps, items_at, marked_descriptors, marked_load, descriptors_out, allocated_in, sets_out, IsBookedIn}
+use Rattle.gpu_descriptor.proofs.Common.{◌≡◌, ℕ, suc, ◌+◌, ◌-◌, ◌<◌, ◌≤◌, ◌==◌, true, false, List, [], ◌∷◌, ◌++◌, length, map, sum_by, slice_get, Option, Some, None, inl, inr, refl, sym, ap, ◌∙◌, arith, length-append, option_map_or, if◌then◌else◌, cases_Bool, cases_eq, cases_lt, length-map, sum_by-append, sum_by-cons, Pool, live_sets, LiveSet, set_eq, times, count_by_yes, count_by_no, counts_alike, set_exact, State, Agree, Item, item_eq, set_of, count_of, live_at, outstanding, Key, key_eq, Entry, Bucket, no_pools, books_of, HasDistinctKeys, sum_over, AddsUp, ∥∥₁_elim, ∥∥₁_map, ∥∥₁_prop, props, common_steps, items_at, marked_descriptors, set_descriptors, descriptors_out, allocated_in, sets_out, IsBookedIn}
 use Rattle.gpu_descriptor.proofs.table.Exact.{bucket, item_exact, key_exact}
 use Rattle.gpu_descriptor.proofs.callers.HeldSets.{count_of-append}
 use Rattle.gpu_descriptor.proofs.request.KeyAgrees.{place_of_items, count_append, count_of_items, count_elsewhere, live_of, live_below, live_from}
@@ -120,8 +120,8 @@ table_out ledger (row ∷ table) distinct booked =
                   | inr none ↦ omega arith
                 ])
           ]),
-      (let both = sum_by-append (λ (t : Item). marked_load t.key 1) here.items rest.0 in
-          let first : marked_descriptors here.items ≡ descriptors_out row.0 row.1 = load_of_items row.0 here.items (λ t some. (here.of_key t some).0) ∙ ap (marked_load row.0) here.many in
+      (let both = sum_by-append (λ (t : Item). set_descriptors t.key 1) here.items rest.0 in
+          let first : marked_descriptors here.items ≡ descriptors_out row.0 row.1 = load_of_items row.0 here.items (λ t some. (here.of_key t some).0) ∙ ap (set_descriptors row.0) here.many in
           let whole = sum_by-cons (λ (r : Key × Bucket). descriptors_out r.0 r.1) row table in
           omega arith),
     )))
@@ -179,4 +179,4 @@ sums_alike f (t ∷ m) n alike =
 
 pub load_is_descriptors : (s : State) (n : ℕ) → Agree s → AddsUp descriptors_out s.books n → (items : List Item) → ((t : Item) → count_of t items ≡ outstanding s t) → marked_descriptors items ≡ n
 load_is_descriptors s n agree load items alike = ∥∥₁_elim (all_out s descriptors_out n agree load) (search props) (λ all.
-    sums_alike (λ (t : Item). marked_load t.key 1) items all.0 (λ t. alike t ∙ sym (all.2 t ∙ ap (λ (b : Bucket). out_at s.ledger b t) (load.keeps t.key))) ∙ all.3 ∙ load.total)
+    sums_alike (λ (t : Item). set_descriptors t.key 1) items all.0 (λ t. alike t ∙ sym (all.2 t ∙ ap (λ (b : Bucket). out_at s.ledger b t) (load.keeps t.key))) ∙ all.3 ∙ load.total)

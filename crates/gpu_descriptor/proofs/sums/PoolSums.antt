@@ -1,8 +1,8 @@
 -- Over all pools of marked keys: the pool load is what the device created them with, and the marked load is no more.
-use Rattle.gpu_descriptor.proofs.Common.{◌≡◌, ℕ, suc, ◌<◌, ◌≤◌, true, false, List, [], ◌∷◌, length, slice_get, sum, sum_by, Option, Some, inl, inr, refl, ap, ◌∙◌, arith, ◌↔◌, option_map_or, cases_Bool, sum_by-cons, Pool, State, Agree, Key, Entry, Bucket, books_of, HasDistinctKeys, sum_over, AddsUp, common_steps, IsBookedIn, allocated_in, marked_load, pool_descriptors, bucket_load, descriptors_out, descriptors_created}
+use Rattle.gpu_descriptor.proofs.Common.{◌≡◌, ℕ, suc, ◌<◌, ◌≤◌, true, false, List, [], ◌∷◌, length, slice_get, sum, sum_by, Option, Some, inl, inr, refl, ap, ◌∙◌, arith, ◌↔◌, option_map_or, cases_Bool, sum_by-cons, Pool, State, Agree, Key, Entry, Bucket, books_of, HasDistinctKeys, sum_over, AddsUp, common_steps, IsBookedIn, allocated_in, set_descriptors, pool_descriptors, bucket_load, descriptors_out, descriptors_created}
 use Rattle.gpu_descriptor.proofs.sums.PoolsLoad.{pools_load}
 use Rattle.gpu_descriptor.proofs.request.StateAgrees.{booked_of}
-use Rattle.gpu_descriptor.proofs.sums.Loads.{marked_load-none, marked_load-add, marked_load-le}
+use Rattle.gpu_descriptor.proofs.sums.Loads.{set_descriptors-none, set_descriptors-add, set_descriptors-le}
 use Rattle.gpu_descriptor.proofs.sums.PoolCounts.{booked_load}
 use Rattle.gpu_descriptor.proofs.table.Tables.{sum_over_below, sum_by_books}
 
@@ -28,16 +28,16 @@ plain_entries k (e ∷ es) plain = grind (arith, (plain_entries k es plain))
 
 -- ---- what is out of a key's pools
 
-out_of_entry : (k : Key) (n : ℕ) → marked_load k n ≤ pool_descriptors k n
+out_of_entry : (k : Key) (n : ℕ) → set_descriptors k n ≤ pool_descriptors k n
 out_of_entry k n = elim (cases_Bool k.marked) [ inl on ↦ rw on (omega arith) | inr off ↦ rw off (omega arith) ]
 
-out_of_entries : (k : Key) (ledger : ℕ → Option Pool) (es : List Entry) → AllBooked k ledger es → marked_load k (allocated_in es) ≤ pools_load k es
-out_of_entries k ledger [] booked = (let none = marked_load-none k in omega arith)
+out_of_entries : (k : Key) (ledger : ℕ → Option Pool) (es : List Entry) → AllBooked k ledger es → set_descriptors k (allocated_in es) ≤ pools_load k es
+out_of_entries k ledger [] booked = (let none = set_descriptors-none k in omega arith)
 out_of_entries k ledger (e ∷ es) booked =
     let own = (booked 0 e refl).booked in
-    let first = marked_load-le k e.allocated e.capacity (omega arith) in
+    let first = set_descriptors-le k e.allocated e.capacity (omega arith) in
     let rest = out_of_entries k ledger es (λ i. booked (suc i)) in
-    grind (arith, common_steps, marked_load-add, out_of_entry, sum_by-cons)
+    grind (arith, common_steps, set_descriptors-add, out_of_entry, sum_by-cons)
 
 -- ---- all keys
 

@@ -1,6 +1,5 @@
--- The totals that callers see are sums over the table of the books, and naming the pools keeps what readers see.
-use Rattle.gpu_descriptor.proofs.Common.{◌≡◌, ℕ, ◌+◌, List, [], ◌∷◌, length, map, sum_by, inl, inr, refl, ap, ◌∙◌, sym, cases_Bool, length-map, sum_by-cons, slice_get-map, Key, key_eq, BucketOf, Bucket, AddsUp, HasDistinctKeys, books_of, sum_over, Allocations, arith, marked_load, bucket_load, sets_out, descriptors_out, named, named_bucket, named_row, table_of, outstanding_of, marked_load_of, pool_load_of}
-use Rattle.gpu_descriptor.specs.Caller.Views.{view_in}
+-- The totals that callers see are sums over the table of the books.
+use Rattle.gpu_descriptor.proofs.Common.{◌≡◌, ℕ, ◌+◌, List, [], ◌∷◌, map, sum_by, inl, inr, refl, ap, ◌∙◌, sym, cases_Bool, sum_by-cons, Key, key_eq, BucketOf, Bucket, AddsUp, HasDistinctKeys, books_of, sum_over, Allocations, set_descriptors, bucket_load, sets_out, descriptors_out, named, named_bucket, named_row, table_of, outstanding_of, marked_load_of, pool_load_of}
 
 -- a sum over a list whose items are mapped
 pub sum_map : {A B : Type 0} (f : B → ℕ) (g : A → B) (h : A → ℕ) → ((x : A) → f (g x) ≡ h x) → (xs : List A) → sum_by f (map g xs) ≡ sum_by h xs
@@ -19,23 +18,16 @@ module _ {P : Type 0} (name : P → ℕ) where
   outstanding_of-table = over_named sets_out sets_out out_named
 
   pub marked_load_of-table : (a : Allocations P) → marked_load_of a ≡ sum_over descriptors_out (table_of name a)
-  marked_load_of-table = over_named descriptors_out descriptors_out (λ k b. ap (marked_load k) (out_named k b))
+  marked_load_of-table = over_named descriptors_out descriptors_out (λ k b. ap (set_descriptors k) (out_named k b))
 
   pub pool_load_of-table : (a : Allocations P) → pool_load_of a ≡ sum_over bucket_load (table_of name a)
   pool_load_of-table = over_named bucket_load bucket_load (λ k b. sum_map _ (named name) _ (λ e. refl) b.pools)
 
   -- so each adds up over the books
-  pub adds_up : (a : Allocations P) (f : Key → Bucket → ℕ) {all n : ℕ} → HasDistinctKeys (table_of name a) → all ≡ sum_over f (table_of name a) → n ≡ all → AddsUp f (books_of (table_of name a)) n
-  adds_up a f distinct sum is = record { table = table_of name a; distinct = distinct; keeps = λ k. refl; total = sym sum ∙ sym is }
+  pub adds_up : (a : Allocations P) (f : Key → Bucket → ℕ) {n : ℕ} → HasDistinctKeys (table_of name a) → n ≡ sum_over f (table_of name a) → AddsUp f (books_of (table_of name a)) n
+  adds_up a f distinct sum = record { table = table_of name a; distinct = distinct; keeps = λ k. refl; total = sym sum }
 
   -- a key's books are those that callers see, with the pools named
   pub books_named : (rows : List (Key × BucketOf P)) (k : Key) → books_of (map (named_row name) rows) k ≡ named_bucket name (books_of rows k)
   books_named [] k = refl
   books_named (r ∷ rows) k = elim (cases_Bool (key_eq r.0 k)) [ inl at ↦ rw at refl | inr at ↦ rw at (books_named rows k) ]
-
-  -- so are their number, and what readers see of each
-  pub pools_of-table : (a : Allocations P) (k : Key) → length (books_of a.table k).pools ≡ length (books_of (table_of name a) k).pools
-  pools_of-table a k = sym (ap (λ (b : Bucket). length b.pools) (books_named a.table k) ∙ length-map (books_of a.table k).pools (named name))
-
-  pub view_of-table : (a : Allocations P) (k : Key) (i : ℕ) → view_in (books_of a.table k) i ≡ view_in (books_of (table_of name a) k) i
-  view_of-table a k i = grind (arith, books_named, slice_get-map)

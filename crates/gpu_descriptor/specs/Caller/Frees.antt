@@ -6,8 +6,8 @@ use Rattle.gpu_descriptor_types.specs.Side.{Side}
 use Rattle.gpu_descriptor.specs.declared.set.DescriptorSet.{DescriptorSet}
 use Rattle.gpu_descriptor.specs.Model.Agreement.{Item}
 use Rattle.gpu_descriptor.specs.Caller.Comparisons.{run_digits}
-use Rattle.gpu_descriptor.specs.Model.Load.{marked_load}
-use Rattle.gpu_descriptor.specs.Model.Release.{more_released, more_destroyed, given_back, released, pools_gone}
+use Rattle.gpu_descriptor.specs.Model.Load.{set_descriptors}
+use Rattle.gpu_descriptor.specs.Model.Release.{more_released, more_destroyed, released, pools_gone}
 use Rattle.gpu_descriptor.specs.Model.Promises.{AreOutBesides}
 use Rattle.gpu_descriptor.specs.Model.Runs.{runs}
 use Rattle.gpu_descriptor.specs.Caller.Sets.{items_of}
@@ -16,14 +16,14 @@ use Rattle.gpu_descriptor.specs.Caller.Values.{Allocations}
 
 -- the descriptors of the marked sets of a list
 abbrev pub marked_descriptors : List Item → ℕ
-marked_descriptors m = sum_by (λ t. marked_load t.key 1) m
+marked_descriptors m = sum_by (λ t. set_descriptors t.key 1) m
 
 module _ {L P S : Type 0} (means : Meaning L P S) where
   -- these sets have gone back, in so many release calls
   pub record GivesBack (sets : List (DescriptorSet S)) (calls : ℕ) (old new : Side (Allocations P)) : Type 0 where
     pub state : state_of means.pool_name new.value new.ledger ≡ released (items_of means.set_name sets) (state_of means.pool_name old.value old.ledger)
     -- all other counters stay
-    pub counters : new.ledger.counters ≡ more_destroyed (pools_gone (keys_of old.value) (items_of means.set_name sets) (given_back (items_of means.set_name sets) (state_of means.pool_name old.value old.ledger))) (more_released calls old.ledger.counters)
+    pub counters : new.ledger.counters ≡ more_destroyed (pools_gone (keys_of old.value) (items_of means.set_name sets) (state_of means.pool_name old.value old.ledger)) (more_released calls old.ledger.counters)
     pub outstanding : outstanding_of new.value + length sets ≡ outstanding_of old.value
     pub marked : marked_load_of new.value + marked_descriptors (items_of means.set_name sets) ≡ marked_load_of old.value
     -- exactly these were outstanding besides those that still are

@@ -7,7 +7,7 @@ use Rattle.gpu_descriptor_types.specs.Side.{Side}
 use Rattle.gpu_descriptor.specs.declared.errors.AllocationError.{AllocationError}
 use Rattle.gpu_descriptor.specs.declared.set.DescriptorSet.{DescriptorSet}
 use Rattle.gpu_descriptor.specs.Model.Books.{Key}
-use Rattle.gpu_descriptor.specs.Model.Load.{marked_load}
+use Rattle.gpu_descriptor.specs.Model.Load.{set_descriptors}
 use Rattle.gpu_descriptor.specs.Model.Outcomes.{Allocates, taken_by}
 use Rattle.gpu_descriptor.specs.Model.Promises.{AreOfKey, AreOutBesides, CreatesOnlyWhereShort, HasCause, KeepsOtherKeys, KeepsOutstanding}
 use Rattle.gpu_descriptor.specs.Caller.Call.{answer_of, call_of}
@@ -27,7 +27,7 @@ pub record HandsOut {L P S : Type 0} (means : Meaning L P S) (k : Key) (count : 
   -- exactly the sets of the answer are outstanding besides those before
   pub given : IfOk answer (λ sets. AreOutBesides (items_of means.set_name sets.items) (state_of means.pool_name old.value old.ledger) (state_of means.pool_name new.value new.ledger))
   pub own : IfOk answer (λ sets. AreOfKey k (items_of means.set_name sets.items))
-  pub totals : IfOk answer (λ sets. (outstanding_of new.value ≡ outstanding_of old.value + count) × (marked_load_of new.value ≡ marked_load_of old.value + marked_load k count))
+  pub totals : IfOk answer (λ sets. (outstanding_of new.value ≡ outstanding_of old.value + count) × (marked_load_of new.value ≡ marked_load_of old.value + set_descriptors k count))
   -- a refusal gives back what it took
   pub totals_stay : OnErr answer ((outstanding_of new.value ≡ outstanding_of old.value) × (marked_load_of new.value ≡ marked_load_of old.value))
   pub back : OnErr answer (KeepsOutstanding (state_of means.pool_name old.value old.ledger) (state_of means.pool_name new.value new.ledger))
@@ -37,7 +37,7 @@ pub record HandsOut {L P S : Type 0} (means : Meaning L P S) (k : Key) (count : 
   pub keys : StayOrGainLast k (keys_of old.value) (keys_of new.value)
   -- a look for each call that asks a pool
   pub looks : new.value.looks + old.ledger.counters.asked ≡ old.value.looks + new.ledger.counters.asked
-  -- a request that was refused before it took anything changes nothing
+  -- a request that ended before the walk changes nothing
   pub declined : OnErr answer (taken_by outcome ≡ None → (new.value ≡ old.value) × (new.ledger ≡ old.ledger))
   -- a rollback compares no more than a release of its sets, and no other request compares
   pub searches : OnErr answer (MatchOption (taken_by outcome) (new.value.comparisons ≡ old.value.comparisons) (λ g. new.value.comparisons ≤ old.value.comparisons + run_digits (granted k count g (state_of means.pool_name old.value old.ledger)) (items_in k g.id g.parts)))

@@ -1,7 +1,7 @@
 -- Books and ledger of an allocator over a device.
 use Rattle.std.specs.Prelude.{ℕ, map, List}
 use Rattle.gpu_descriptor_types.specs.Ledger.{Ledger}
-use Rattle.gpu_descriptor.specs.Model.Books.{Key, EntryOf, BucketOf, Entry, Bucket, books_of, sum_over}
+use Rattle.gpu_descriptor.specs.Model.Books.{Key, EntryOf, BucketOf, Entry, Bucket, HasDistinctKeys, books_of, sum_over}
 use Rattle.gpu_descriptor.specs.Model.Agreement.{State, Agree}
 use Rattle.gpu_descriptor.specs.Model.Load.{sets_out, descriptors_out, bucket_load}
 use Rattle.gpu_descriptor.specs.Caller.Values.{Allocations}
@@ -25,9 +25,10 @@ module _ {P : Type 0} (name : P → ℕ) where
   abbrev pub state_of : Allocations P → Ledger → State
   state_of a l = record { books = books_of (table_of a); ledger = l.pools }
 
-  -- books and ledger agree
-  abbrev pub Agrees : Allocations P → Ledger → Type 0
-  Agrees a l = Agree (state_of a l)
+  -- no key has two rows, and books and ledger agree
+  pub record Agrees (a : Allocations P) (l : Ledger) : Type 0 where
+    pub rows : HasDistinctKeys (table_of a)
+    pub books : Agree (state_of a l)
 
 module _ {P : Type 0} where
   -- the keys of an allocator, in the order in which they came

@@ -4,7 +4,7 @@ use Rattle.std.specs.Prelude.{◌≡◌, ℕ, ◌+◌, ◌-◌, ◌*◌, ◌<◌
 use Rattle.gpu_descriptor_types.specs.Ledger.{Ledger}
 use Rattle.gpu_descriptor_types.specs.Meaning.{Meaning}
 use Rattle.gpu_descriptor_types.specs.Side.{Side}
-use Rattle.gpu_descriptor.specs.Model.Load.{descriptors_out, marked_load, sets_out}
+use Rattle.gpu_descriptor.specs.Model.Load.{descriptors_out, set_descriptors, sets_out}
 use Rattle.gpu_descriptor.specs.declared.errors.AllocationError.{AllocationError}
 use Rattle.gpu_descriptor.specs.declared.errors.AllocationError.TheVariants.{OutOfHostMemory, Fragmentation}
 use Rattle.gpu_descriptor.specs.declared.set.DescriptorSet.{DescriptorSet}
@@ -37,7 +37,7 @@ module _ {L P S : Type 0} (means : Meaning L P S) where
       pub served : IsServed (books_in means.pool_name old k) bucket before after
       pub books : (l : Key) → books_in means.pool_name new l ≡ (if key_eq k l then bucket else books_in means.pool_name old l)
       pub out : sum_over sets_out new ≡ sum_over sets_out old + length sets
-      pub load : sum_over descriptors_out new ≡ sum_over descriptors_out old + marked_load k (length sets)
+      pub load : sum_over descriptors_out new ≡ sum_over descriptors_out old + set_descriptors k (length sets)
 
   -- after the tests that come before
   pub record Takes (k : Key) (count : ℕ) (sets : List (DescriptorSet S)) (ended : Result (Unit {0}) Stop) (old new : Side (Allocations P)) : Type 0 where

@@ -1,15 +1,19 @@
 -- Books and ledger side by side: how the two agree, and which sets are outstanding.
-use Rattle.std.specs.Prelude.{◌<◌, ◌≡◌, ℕ, ◌+◌, ◌≤◌, Bool, ◌==◌, ◌&&◌, if◌then◌else◌, List, [], length, count_by, Option, Some}
+use Rattle.std.specs.Prelude.{◌<◌, ◌≡◌, ℕ, ◌+◌, ◌≤◌, Bool, ◌==◌, ◌&&◌, if◌then◌else◌, List, [], count_by, Option, Some}
 use Rattle.std.specs.Option.{option_map_or}
 use Rattle.gpu_descriptor_types.specs.Ledger.{Pool}
-use Rattle.gpu_descriptor_types.specs.Multiset.{LiveSet, Spells}
+use Rattle.gpu_descriptor_types.specs.Multiset.{HasSize, LiveSet}
 use Rattle.gpu_descriptor_types.specs.PoolSize.{pool_counts}
-use Rattle.gpu_descriptor.specs.Model.Books.{Key, key_eq, Entry, Bucket, entry_at}
+use Rattle.gpu_descriptor.specs.Model.Books.{Key, key_eq, Entry, Bucket, entry_at, no_pools}
 
--- the books by key, and the ledger's pools by name
+-- the books by key, and the ledger's pools by name: of the ledger no counters
 pub record State : Type 0 where
   pub books : Key → Bucket
   pub ledger : ℕ → Option Pool
+
+-- the books are as if no key ever came
+abbrev pub HasNoPools : State → Type 0
+HasNoPools s = (k : Key) → s.books k ≡ no_pools
 
 -- ---- sets that were handed out
 
@@ -49,10 +53,6 @@ AreOutstanding m s = (t : Item) → count_of t m ≤ outstanding s t
 
 -- ---- agreement
 
--- how many sets are live in all: as many as a list has that spells them
-abbrev pub HasSize : (LiveSet → ℕ) → ℕ → Type 0
-HasSize live n = (sets : List LiveSet) × (length sets ≡ n) × Spells sets live
-
 -- sets go back singly, and UPDATE_AFTER_BIND stands exactly for a marked key
 abbrev pub flags_of : Key → ℕ
 flags_of k = if k.marked then 3 else 1
@@ -75,5 +75,5 @@ pub record Agree (s : State) : Type 0 where
   -- no two places of the books name one pool
   pub distinct : (k l : Key) (m n : ℕ) (d e : Entry) → entry_at (s.books k) m ≡ Some d → entry_at (s.books l) n ≡ Some e → d.pool ≡ e.pool → (k ≡ l) × (m ≡ n)
   pub booked : (k : Key) (n : ℕ) (e : Entry) → entry_at (s.books k) n ≡ Some e → (pool : Pool) × (s.ledger e.pool ≡ Some pool) × IsAsBooked k pool e
-  -- a key without pools is as one that never came
+  -- a key without pools has the first number 0
   pub absent : (k : Key) → (s.books k).pools ≡ [] → (s.books k).offset ≡ 0

@@ -12,14 +12,14 @@ pub record Key : Type 0 where
 abbrev pub key_eq : Key → Key → Bool
 key_eq k l = pointwise nat_eq k.counts l.counts && beq k.marked l.marked
 
--- a pool in the books, how many sets it holds, how many of these are allocated, how many free places are known
+-- a pool in the books: its capacity in sets, how many sets are allocated, how many free places are known
 pub record EntryOf (X : Type 0) : Type 0 where
   pub pool : X
   pub capacity : ℕ
   pub allocated : ℕ
   pub available : ℕ
 
--- the pools of a key, oldest first. The one at place i has the number offset + i. The id is the key's, which no other has
+-- the pools of a key, oldest first. The one at place i has the number offset + i. Sets of the key have its id
 pub record BucketOf (X : Type 0) : Type 0 where
   pub id : ℕ
   pub offset : ℕ

@@ -5,8 +5,8 @@ use Rattle.std.specs.Prelude.{ℕ, ◌*◌, max, if◌then◌else◌, List, Opti
 use Rattle.gpu_descriptor.specs.Model.Books.{Key, EntryOf, BucketOf, Bucket}
 
 -- how many descriptors so many sets of a key have, if it is marked
-abbrev pub marked_load : Key → ℕ → ℕ
-marked_load k sets = if k.marked then sets * sum k.counts else 0
+abbrev pub set_descriptors : Key → ℕ → ℕ
+set_descriptors k sets = if k.marked then sets * sum k.counts else 0
 
 -- the descriptors of a pool of so many sets of a key, if it is marked. Without descriptors it has one
 abbrev pub pool_descriptors : Key → ℕ → ℕ
@@ -22,7 +22,7 @@ module _ {X : Type 0} where
   sets_out k b = allocated_in b.pools
 
   abbrev pub descriptors_out : Key → BucketOf X → ℕ
-  descriptors_out k b = marked_load k (allocated_in b.pools)
+  descriptors_out k b = set_descriptors k (allocated_in b.pools)
 
   abbrev pub bucket_load : Key → BucketOf X → ℕ
   bucket_load k b = sum_by (λ e. pool_descriptors k e.capacity) b.pools

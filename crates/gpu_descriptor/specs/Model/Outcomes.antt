@@ -10,7 +10,7 @@ use Rattle.gpu_descriptor.specs.declared.bucket.take.Stop.{Stop}
 use Rattle.gpu_descriptor.specs.declared.bucket.take.Stop.TheVariants.{Existing, Room, Books, Create, New}
 use Rattle.gpu_descriptor.specs.Model.Books.{Key, Entry, next_number, AddsUp}
 use Rattle.gpu_descriptor.specs.Model.Agreement.{State, Item}
-use Rattle.gpu_descriptor.specs.Model.Release.{given_back, released, pools_gone}
+use Rattle.gpu_descriptor.specs.Model.Release.{released, pools_gone}
 use Rattle.gpu_descriptor.specs.Model.Load.{allocated_in, pool_descriptors, sets_out, descriptors_out, bucket_load}
 use Rattle.gpu_descriptor.specs.Model.Runs.{runs}
 use Rattle.gpu_descriptor.specs.Model.Shares.{rest, is_asked, all_shared, asked_count, refused_count}
@@ -56,7 +56,7 @@ grant_rise n g pools = let asked = drop g.skipped pools in record no_rise {
 
 -- by giving the sets of a request back
 abbrev pub rollback_rise : List Item → Key → State → Counters
-rollback_rise items k t = record no_rise { released = runs items; destroyed = pools_gone (k ∷ []) items (given_back items t) }
+rollback_rise items k t = record no_rise { released = runs items; destroyed = pools_gone (k ∷ []) items t }
 
 -- ---- the call
 
@@ -96,20 +96,20 @@ pub record EndsAtPool (n : ℕ) (pools : List Entry) (error : DeviceAllocationEr
   pub pool : Entry
   pub newer : List Entry
   pub here : pools ≡ older ++ pool ∷ newer
-  pub left : g.skipped ≡ length older + 1
+  pub skipped : g.skipped ≡ length older + 1
   pub no_fresh : g.fresh ≡ []
   pub asked : is_asked g.refused n newer pool ≡ true
   pub memory : pool_refusals error ≡ 0
 
 -- no new pool came: for want of room exactly where not even one of one set fits
-abbrev pub NoneIsNew : Stop → Key → ℕ → Type 0
-NoneIsNew (Existing e) k room = ⊥
-NoneIsNew why k room = (why ≡ Room) ↔ (room < pool_descriptors k 1)
+abbrev pub StopsAtNew : Stop → Key → ℕ → Type 0
+StopsAtNew (Existing e) k room = ⊥
+StopsAtNew why k room = (why ≡ Room) ↔ (room < pool_descriptors k 1)
 
 -- what had been taken then: of the existing pools, or of all these and a front of new ones
 abbrev pub StopsAt : Stop → Key → (room n : ℕ) → Grant → List Entry → Type 0
 StopsAt (Existing e) k room n g old = EndsAtPool n old e g
-StopsAt why k room n g old = (g.skipped ≡ 0) × IsFreshFront k room (allocated_in (all_shared g.refused n old)) (rest g.refused n old) g.fresh × NoneIsNew why k (room_after k room g.fresh)
+StopsAt why k room n g old = (g.skipped ≡ 0) × IsFreshFront k room (allocated_in (all_shared g.refused n old)) (rest g.refused n old) g.fresh × StopsAtNew why k (room_after k room g.fresh)
 
 -- ---- the outcomes
 
@@ -193,7 +193,7 @@ module _ (c : Call) where
     done : Proceeds → IsDone → Allocates
     stopped : Proceeds → IsStopped → Allocates
 
--- what a request took: nothing where none are asked for, or where it was refused before
+-- what a request took, if it came to the walk
 abbrev pub taken_by : {c : Call} → Allocates c → Option Grant
 taken_by (done goes is) = Some is.grant
 taken_by (stopped goes is) = Some is.grant

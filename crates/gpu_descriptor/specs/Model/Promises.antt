@@ -26,7 +26,7 @@ KeepsOutstanding old new = (t : Item) → outstanding new t ≡ outstanding old 
 abbrev pub AreOfKey : Key → List Item → Type 0
 AreOfKey k items = (t : Item) → 0 < count_of t items → t.key ≡ k
 
--- new pools, one after another, the first where out sets of the key are out and wanted are wanting. Each comes only where some are wanting, and has fewer sets than twice what a pool is to hold at that moment
+-- new pools in order. At the first, out sets of the key are out, and wanted are wanting. Each comes only where some are wanting, and has fewer sets than twice the start size of its moment
 abbrev pub AreBelowTwice : (out wanted : ℕ) → List Fresh → Type 0
 AreBelowTwice out wanted [] = Unit {0}
 AreBelowTwice out wanted (f ∷ later) = (0 < wanted) × (f.size < 2 * start_size out wanted) × AreBelowTwice (out + f.given) (wanted - f.given) later
@@ -43,12 +43,12 @@ module _ (c : Call) where
   -- the three causes of OutOfHostMemory: the device said so, or a growth was refused or no id left, which no counter shows
   pub data IsHostMemory : Type 0 where
     device_refused : c.before.host_memory < c.after.host_memory → IsHostMemory
-    -- for the answer, or for the key: nothing changed
+    -- no memory for the answer or the key, or no id left: nothing changed
     no_memory_at_start : Proceeds c → Stays c → IsHostMemory
     -- for the books of a new pool
     no_memory_for_a_pool : (s : IsStopped c) → s.why ≡ Books → IsHostMemory
 
-  -- the existing pools don't do: those that refused aside, they have fewer free places than are wanted. The new pools are those of the grant: one that refused was destroyed at once and took no number
+  -- the existing pools don't do: those that refused aside, they have fewer known free places than are wanted. A new pool that refused was destroyed at once: few counts it, below_twice does not
   pub record IsShort (g : Grant) : Type 0 where
     pub short : sum_by (offer g.refused) (c.old.books c.key).pools < c.count
     -- so they have no known free place left when the first new one comes

@@ -69,9 +69,9 @@ released_each (m ∷ ms) s = released_each ms (released m s)
 abbrev pub singly : List Item → List (List Item)
 singly m = map (λ t. t ∷ []) m
 
--- how many pools of these keys go
+-- how many pools of these keys go when the list goes back
 abbrev pub pools_gone : List Key → List Item → State → ℕ
-pools_gone keys m s = sum_by (λ k. if list_any (λ t. key_eq t.key k) m then spent_front (s.books k) else 0) keys
+pools_gone keys m s = sum_by (λ k. if list_any (λ t. key_eq t.key k) m then spent_front ((given_back m s).books k) else 0) keys
 
 -- the counters after so many release calls more
 abbrev pub more_released : ℕ → Counters → Counters

@@ -1,5 +1,5 @@
 //! Handing sets out, whole or not at all.
-ghost use Rattle.std.specs.Prelude.{◌≡◌, ◌+◌, ◌*◌, ◌^◌, ◌<◌, ◌≤◌, ◌&&◌, nat_lt, length, sum};
+ghost use Rattle.std.specs.Prelude.{◌≡◌, ◌+◌, ◌*◌, ◌^◌, ◌<◌, ◌&&◌, nat_lt, sum};
 ghost use Rattle.gpu_descriptor_types.specs.Side.{side};
 ghost use Rattle.gpu_descriptor.specs.Inner.Ids.{rise_below, stored_ids};
 ghost use Rattle.std.specs.Prelude.{map, true, Err, IfOk, IfErr, OnOk, OnErr};

@@ -2,7 +2,7 @@
 ghost use Rattle.std.specs.Prelude.{◌≡◌, ◌+◌, ◌<◌, ◌≤◌, ◌∷◌, OnSome};
 ghost use Rattle.std.specs.Iterator.{HoldsAlong, IsFinite, IsNearerEnd};
 ghost use Rattle.gpu_descriptor_types.specs.Side.{side};
-ghost use Rattle.gpu_descriptor.specs.Model.Agreement.{AreOutstanding};
+ghost use Rattle.gpu_descriptor.specs.Model.Agreement.{Agree, AreOutstanding};
 ghost use Rattle.gpu_descriptor.specs.Caller.Comparisons.{open_pools, binary_digits};
 ghost use Rattle.gpu_descriptor.specs.Caller.Keeps.{Keeps};
 ghost use Rattle.gpu_descriptor.specs.Caller.Frees.{Frees, Returns};
@@ -84,7 +84,7 @@ impl<P, S> DescriptorAllocator<P, S> {
     ) -> Option<DescriptorSet<S>>
         requires can { I.can_next sets.old }
         requires ends { IsFinite (I.remaining sets.old) }
-        requires agree { Agrees D.meaning.pool_name self.old (D.ledger device.old) }
+        requires agree { Agree (state_of D.meaning.pool_name self.old (D.ledger device.old)) }
         requires outstanding { HoldsAlong I.next_gives sets.old (λ xs. AreOutstanding
             (items_of D.meaning.set_name (first ∷ xs))
             (state_of D.meaning.pool_name self.old (D.ledger device.old))) }

@@ -1,10 +1,8 @@
 //! What the allocator tells of itself. The readers take no memory.
-ghost use Rattle.std.specs.Prelude.{◌≡◌, ℕ, ◌≤◌, length};
+ghost use Rattle.std.specs.Prelude.{◌≡◌, ◌≤◌, length};
 ghost use Rattle.gpu_descriptor_types.specs.Counts.{kinds};
-ghost use Rattle.gpu_descriptor.specs.Model.Books.{AddsUp, HasDistinctKeys, books_of};
-ghost use Rattle.gpu_descriptor.specs.Model.Load.{descriptors_out, bucket_load, sets_out};
+ghost use Rattle.gpu_descriptor.specs.Model.Books.{books_of};
 ghost use Rattle.gpu_descriptor.specs.Caller.States.{marked_load_of, outstanding_of, pool_load_of};
-ghost use Rattle.gpu_descriptor.specs.Caller.States.{table_of};
 ghost use Rattle.gpu_descriptor.specs.Caller.Views.{view_in};
 
 use super::DescriptorAllocator;
@@ -16,9 +14,6 @@ impl<P, S> DescriptorAllocator<P, S> {
     /// How many sets are outstanding.
     pub fn outstanding(&self) -> u64
         ensures total { result ≡ outstanding_of self.now }
-        ensures books { (name : P → ℕ) → AddsUp sets_out (books_of (table_of name self.now))
-            result }
-        ensures rows { (name : P → ℕ) → HasDistinctKeys (table_of name self.now) }
     {
         self.outstanding
     }
@@ -27,8 +22,6 @@ impl<P, S> DescriptorAllocator<P, S> {
     /// update-after-bind.
     pub fn update_after_bind_descriptors(&self) -> u32
         ensures sum { result ≡ marked_load_of self.now }
-        ensures books { (name : P → ℕ) → AddsUp descriptors_out (books_of (table_of name self.now))
-            result }
         ensures within { result ≤ self.now.limit }
     {
         self.current_update_after_bind_descriptors_in_all_pools
@@ -39,8 +32,6 @@ impl<P, S> DescriptorAllocator<P, S> {
     /// has no such reader.
     pub fn update_after_bind_capacity(&self) -> u32
         ensures sum { result ≡ pool_load_of self.now }
-        ensures books { (name : P → ℕ) → AddsUp bucket_load (books_of (table_of name self.now))
-            result }
         ensures within { result ≤ self.now.limit }
     {
         self.max_update_after_bind_descriptors_in_all_pools - self.update_after_bind_room
@@ -49,8 +40,6 @@ impl<P, S> DescriptorAllocator<P, S> {
     /// How many pools there are for sets of layouts with these counts and this mark.
     pub fn pool_count(&self, size: &DescriptorTotalCount, update_after_bind: bool) -> usize
         ensures count { result ≡ length (books_of self.now.table
-            (record { counts = kinds size.now; marked = update_after_bind })).pools }
-        ensures books { (name : P → ℕ) → result ≡ length (books_of (table_of name self.now)
             (record { counts = kinds size.now; marked = update_after_bind })).pools }
     {
         let key = BucketKey {
@@ -72,8 +61,6 @@ impl<P, S> DescriptorAllocator<P, S> {
         index: usize,
     ) -> Option<PoolView>
         ensures view { result ≡ view_in (books_of self.now.table
-            (record { counts = kinds size.now; marked = update_after_bind })) index }
-        ensures books { (name : P → ℕ) → result ≡ view_in (books_of (table_of name self.now)
             (record { counts = kinds size.now; marked = update_after_bind })) index }
     {
         let key = BucketKey {

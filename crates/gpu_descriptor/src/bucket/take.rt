@@ -21,7 +21,7 @@ ghost use Rattle.gpu_descriptor.specs.Inner.Walk.{IsRefused, IsWalked};
 ghost use Rattle.gpu_descriptor.specs.Caller.Call.{layout_key};
 ghost use Rattle.gpu_descriptor.specs.declared.bucket.take.Stop.TheVariants.{Existing};
 ghost use Rattle.gpu_descriptor.specs.Inner.Grow.{IsGrown, IsTaken};
-ghost use Rattle.gpu_descriptor.specs.Model.Outcomes.{NoneIsNew};
+ghost use Rattle.gpu_descriptor.specs.Model.Outcomes.{StopsAtNew};
 ghost use Rattle.gpu_descriptor.specs.Inner.Serves.{IsServed, IsUnserved};
 
 use crate::bucket::allocation::Allocation;
@@ -375,7 +375,7 @@ impl<P: Drop> DescriptorBucket<P> {
             × (self.new.total ≡ self.old.total)
             × (room.new ≡ room.old)
             × IsRefused why (D.ledger device.old) (D.ledger device.new)
-            × NoneIsNew why (key_of request.now.key) room.old) }
+            × StopsAtNew why (key_of request.now.key) room.old) }
         ensures id { self.new.id ≡ self.old.id }
         ensures offset { self.new.offset ≡ self.old.offset }
         ensures looks { CountsLooks looks.old.count looks.new.count

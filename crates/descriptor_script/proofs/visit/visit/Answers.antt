@@ -53,14 +53,14 @@ returns-clause-pools g c none =
     let t : State = state_of name (allocator_of c.run-replies.new.self) (ledger c.run-replies.new.device) in
     let u : State = state_of name (allocator_of c.step-clean.new.self) (ledger c.step-clean.new.device) in
     let at = (goal.at.returns-clause-pools g c).After-step-clean in
-    c.no_pool_is_lost.ensures.restores s t u c.requires.began c.run-replies.ensures.keeps.allocator.foreign c.run-replies.ensures.keeps.allocator.accounted c.run-replies.ensures.keeps.ready.agree (nothing g at none) (done g at).cleans_up.cleaned
+    c.no_pool_is_lost.ensures.restores s t u c.requires.began c.run-replies.ensures.keeps.allocator.foreign c.run-replies.ensures.keeps.allocator.accounted c.run-replies.ensures.keeps.ready.agree.books (nothing g at none) (done g at).cleans_up.cleaned
 
 pub returns-clause-ended : goal.returns-clause-ended
 returns-clause-ended g c none =
     let name = g.D.DescriptorDevice.meaning.pool_name in
     let ledger = g.D.DescriptorDevice.ledger in
     let at = (goal.at.returns-clause-ended g c).After-step-clean in
-    c.clean_again.ensures.all (state_of name (allocator_of c.run-replies.new.self) (ledger c.run-replies.new.device)) _ c.run-replies.ensures.keeps.ready.agree (nothing g at none) (done g at).cleans_up.cleaned
+    c.clean_again.ensures.all (state_of name (allocator_of c.run-replies.new.self) (ledger c.run-replies.new.device)) _ c.run-replies.ensures.keeps.ready.agree.books (nothing g at none) (done g at).cleans_up.cleaned
 
 pub returns-clause-keeps : goal.returns-clause-keeps
 returns-clause-keeps g c = session_through _ c.run-replies.ensures.keeps c.step-clean.ensures.keeps

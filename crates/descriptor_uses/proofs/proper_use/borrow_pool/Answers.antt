@@ -1,6 +1,6 @@
 use Rattle.gpu_descriptor_types.specs.Counts.{kinds}
 use Rattle.gpu_descriptor_types.specs.Flags.{bits}
-use Rattle.descriptor_uses.specs.Logged.{ledger_logged}
+use Rattle.descriptor_script.specs.Scripted.Logged.{ledger_logged}
 use Rattle.descriptor_uses.proofs.Used.{came_and_went, empty_pool}
 use Rattle.descriptor_uses.proofs.proper_use.borrow_pool.Goals as goal
 

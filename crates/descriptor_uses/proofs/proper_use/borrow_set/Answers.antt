@@ -6,7 +6,7 @@ use Rattle.gpu_descriptor.specs.Caller.Sets.{items_of}
 use Rattle.gpu_descriptor.specs.Caller.States.{state_of}
 use Rattle.descriptor_script.specs.Scripted.Raw.{pool_id, set_id}
 use Rattle.gpu_descriptor.proofs.callers.HeldSets.{came_out, out_front}
-use Rattle.descriptor_uses.specs.Logged.{ledger_logged}
+use Rattle.descriptor_script.specs.Scripted.Logged.{ledger_logged}
 use Rattle.descriptor_uses.proofs.proper_use.borrow_set.Goals as goal
 
 pub free-requires-clause-outstanding : goal.free-requires-clause-outstanding

@@ -40,7 +40,7 @@ returns-clause-step g c =
       all = search rules;
       given = frees.sets;
       each = each_taken frees.sets s drained.0 drained.1 drained.2.0 ∙ ap (λ l. map (set_at l) (iter_rest s.tickets)) (slots_are g d) ∙ ap (map (set_at (slots_of c.args.self.now.slots))) c.iter.ensures.rest;
-      back = frees.returns.back;
+      back = frees.returns;
       sets = drained.2.2 ∙ all_emptied frees.sets s drained.0 drained.1 drained.2.0 ∙ ap (λ l. emptied l (iter_rest s.tickets)) (slots_are g d) ∙ ap (emptied (slots_of c.args.self.now.slots)) c.iter.ensures.rest;
     }
 

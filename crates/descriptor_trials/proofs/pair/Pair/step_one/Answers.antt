@@ -1,4 +1,4 @@
-use Rattle.descriptor_uses.specs.Logged.{ledger_logged}
+use Rattle.descriptor_script.specs.Scripted.Logged.{ledger_logged}
 use Rattle.descriptor_trials.proofs.Beside.{stepped}
 use Rattle.descriptor_trials.proofs.pair.Pair.step_one.Goals as goal
 

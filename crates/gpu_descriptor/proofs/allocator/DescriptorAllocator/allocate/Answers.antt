@@ -4,7 +4,7 @@ use Rattle.gpu_descriptor.specs.Caller.States.{keys_of}
 use Rattle.gpu_descriptor.proofs.request.Outcomes.{taken_agree, taken_given}
 use Rattle.gpu_descriptor.proofs.request.HandedOut.{hands_all, hands_back, hands_none, keeps_all, keeps_back}
 use Rattle.gpu_descriptor.proofs.callers.Unchanged.{keeps_still}
-use Rattle.gpu_descriptor.proofs.request.Requested.{load_within, pool_load_within, rows_apart}
+use Rattle.gpu_descriptor.proofs.request.Requested.{load_within, pool_load_within}
 use Rattle.gpu_descriptor.proofs.allocator.DescriptorAllocator.allocate.Goals.{After-contains, In-Ok}
 use Rattle.gpu_descriptor.proofs.allocator.DescriptorAllocator.allocate.Goals as goal
 
@@ -25,10 +25,10 @@ some : (g : _) (c : In-Ok g) → 0 < c.args.count
 some g c = (let n = c.if-count-eq0.false in omega arith)
 
 pub free_all-requires-clause-agree : goal.free_all-requires-clause-agree
-free_all-requires-clause-agree g c = taken_agree c.in-Ok.ensures.taken c.requires.agree
+free_all-requires-clause-agree g c = record { rows = c.in-Ok.ensures.within.rows; books = taken_agree c.in-Ok.ensures.taken c.requires.agree.books }
 
 pub free_all-requires-clause-outstanding : goal.free_all-requires-clause-outstanding
-free_all-requires-clause-outstanding g c = taken_given c.in-Ok.ensures.taken c.requires.agree
+free_all-requires-clause-outstanding g c = taken_given c.in-Ok.ensures.taken c.requires.agree.books
 
 pub returns-then-count-eq0-clause-keeps : goal.returns-then-count-eq0-clause-keeps
 returns-then-count-eq0-clause-keeps g c =
@@ -46,17 +46,17 @@ returns-in-Err-clause-keeps g c =
 pub returns-in-Ok-taken-clause-hands_out : goal.returns-in-Ok-taken-clause-hands_out
 returns-in-Ok-taken-clause-hands_out g c =
     let r = (goal.at.returns-in-Ok-taken-clause-hands_out g c).In-Ok in
-    hands_all c.in-Ok.served.sets (taken g r) c.requires.agree (rows_apart _ c.self.view_is g.D.DescriptorDevice.meaning.pool_name (opened c.self.invariant)) (gained g r) c.in-Ok.ensures.looks c.in-Ok.ensures.comparisons_stay (some g r) c.in-Ok-taken.is
+    hands_all c.in-Ok.served.sets (taken g r) c.requires.agree (gained g r) c.in-Ok.ensures.looks c.in-Ok.ensures.comparisons_stay (some g r) c.in-Ok-taken.is
 
 pub returns-in-Ok-taken-clause-keeps : goal.returns-in-Ok-taken-clause-keeps
 returns-in-Ok-taken-clause-keeps g c =
-    keeps_all c.in-Ok.ensures.taken c.requires.agree c.in-Ok.ensures.limit c.in-Ok.ensures.within.load c.in-Ok.ensures.within.pool_load
+    keeps_all c.in-Ok.ensures.taken c.requires.agree.books c.in-Ok.ensures.within.rows c.in-Ok.ensures.limit c.in-Ok.ensures.within.load c.in-Ok.ensures.within.pool_load
 
 pub returns-in-Err-taken-clause-hands_out : goal.returns-in-Err-taken-clause-hands_out
 returns-in-Err-taken-clause-hands_out g c =
     let r = (goal.at.returns-in-Err-taken-clause-hands_out g c).In-Ok in
-    rw c.error_of_stop.ensures (hands_back c.in-Ok.served.sets (taken g r) c.requires.agree (rows_apart _ c.self.view_is g.D.DescriptorDevice.meaning.pool_name (opened c.self.invariant)) (gained g r) c.in-Ok.ensures.looks c.in-Ok.ensures.comparisons_stay (some g r) c.in-Ok.ensures.within.rows c.free_all.ensures.returns c.in-Err-taken.is)
+    rw c.error_of_stop.ensures (hands_back c.in-Ok.served.sets (taken g r) c.requires.agree (gained g r) c.in-Ok.ensures.looks c.in-Ok.ensures.comparisons_stay (some g r) c.in-Ok.ensures.within.rows c.free_all.ensures.returns c.in-Err-taken.is)
 
 pub returns-in-Err-taken-clause-keeps : goal.returns-in-Err-taken-clause-keeps
 returns-in-Err-taken-clause-keeps g c =
-    keeps_back c.in-Ok.ensures.taken c.requires.agree c.free_all.ensures.returns c.in-Ok.ensures.limit c.free_all.ensures.keeps
+    keeps_back c.in-Ok.ensures.taken c.requires.agree.books c.free_all.ensures.returns c.in-Ok.ensures.limit c.free_all.ensures.keeps

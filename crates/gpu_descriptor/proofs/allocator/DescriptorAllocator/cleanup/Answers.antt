@@ -1,4 +1,4 @@
-use Rattle.gpu_descriptor.proofs.Common.{◌≡◌, ◌≤◌, ◌+◌, ℕ, List, Some, suc, slice_get, option_map, rules, refl, sym, ap, subst, ◌∙◌, arith, length, map, length-map, take_all, Ledger, Bucket, HasDistinctKeys, key_of, Allocations, AreBookedIn, has_pools, rise_below, stored_ids, outstanding_of, marked_load_of, named_row, bucket_of, row_of}
+use Rattle.gpu_descriptor.proofs.Common.{◌≡◌, ◌≤◌, ◌+◌, ℕ, List, Some, suc, slice_get, option_map, rules, refl, sym, ap, subst, ◌∙◌, arith, length, map, length-map, take_all, Ledger, Bucket, key_of, Allocations, AreBookedIn, has_pools, rise_below, stored_ids, outstanding_of, marked_load_of, bucket_of, row_of}
 use Rattle.indexmap.proofs.CallerLemmas.{filter-RetainsPairs}
 use Rattle.indexmap.specs.Layout.{length-set_value_at}
 use Rattle.std.specs.Map.Iter.{deref_pair}
@@ -9,7 +9,8 @@ use Rattle.gpu_descriptor.proofs.sums.Loads.{rows_pool_load, stored_load_in, sum
 use Rattle.gpu_descriptor.proofs.cleanup.KeyOrder.{keys_cleaned}
 use Rattle.gpu_descriptor.proofs.cleanup.RowsCleaned.{all_cleared, agree_is, cleared, counted_filter, counted_put, entry_there, ledger_less, next, next_stored, step_less, step_rows, whole_clean, whole_count}
 use Rattle.gpu_descriptor.proofs.foreign.OthersStay.{emptied, others_stay}
-use Rattle.gpu_descriptor.proofs.table.TableBooks.{rows_are, rows_in, distinct_rows, distinct_stored}
+use Rattle.gpu_descriptor.proofs.request.Requested.{rows_distinct}
+use Rattle.gpu_descriptor.proofs.table.TableBooks.{rows_in, distinct_rows, distinct_stored}
 use Rattle.gpu_descriptor.proofs.allocator.DescriptorAllocator.cleanup.Goals.{After-index_mut-bucket}
 use Rattle.gpu_descriptor.proofs.allocator.DescriptorAllocator.cleanup.Goals as goal
 
@@ -25,7 +26,7 @@ drop_front-requires-clause-stored g c =
     let es = c.self.inside.buckets.entries in
     let k = (deref_pair c.unwrap.result).0 in
     let at = next name c.loop-place.place c.loop-place.self-inside.buckets.entries (rows_in name es) k c.index_mut-bucket.result.now h.rows (at_place g (goal.at.drop_front-requires-clause-stored g c).After-index_mut-bucket) in
-    let agree = agree_is name c.args.self.now (ledger c.args.device.now) es (ap (λ (a : Allocations _). a.table) (sym c.self.view_is)) c.requires.agree in
+    let agree = agree_is name c.args.self.now (ledger c.args.device.now) es (ap (λ (a : Allocations _). a.table) (sym c.self.view_is)) c.requires.agree.books in
     let there = next_stored (rows_in name es) (ledger c.args.device.now).pools c.loop-place.place (key_of k, bucket_of name c.index_mut-bucket.result.now) (distinct_rows name es (opened c.self.invariant).distinct) agree at in
     (key_of k, subst (λ (l : Ledger). AreBookedIn (key_of k) l.pools (bucket_of name c.index_mut-bucket.result.now).pools) (sym h.ledger) there)
 
@@ -90,7 +91,6 @@ returns g c =
     let counted = counted_filter _ _ _ _ _ _ kept (distinct_stored _ (λ k l. search rules) _ c.retain.ensures.unique) h.counted in
     let now : Allocations _ = record { limit = c.loop-place.self-inside.max_update_after_bind_descriptors_in_all_pools; table = map row_of c.retain.new.self.entries; looks = c.loop-place.self-inside.looks.count; comparisons = c.loop-place.self-inside.comparisons.count } in
     let clean = whole_clean name c.args.self.now (ledger c.args.device.now) (ledger c.loop-place.device) es c.loop-place.self-inside.buckets.entries _ c.loop-place.self-inside.max_update_after_bind_descriptors_in_all_pools was distinct rows less kept in
-    let rows_before = subst HasDistinctKeys (sym (ap (map (named_row name)) was ∙ rows_are name es)) distinct in
     let foreign = cleaned_foreign _ _ clean in
     let accounted = cleaned_loses _ _ clean in
     record {
@@ -98,16 +98,16 @@ returns g c =
         cleaned = clean;
         destroyed = whole_count name c.args.self.now (ledger c.args.device.now) (ledger c.loop-place.device) es was distinct less;
         keys = keys_cleaned name c.args.self.now now (ledger c.args.device.now) (ledger c.loop-place.device) es c.loop-place.self-inside.buckets.entries c.retain.new.self.entries was refl distinct rows kept clean;
-        outstanding_stay = takes_none _ _ c.requires.agree clean;
+        outstanding_stay = takes_none _ _ c.requires.agree.books clean;
         totals_stay = (
           sym counted.is_out ∙ h.out ∙ (opened c.self.invariant).is_out ∙ ap outstanding_of c.self.view_is,
           sym counted.is_load ∙ h.marked ∙ (opened c.self.invariant).is_load ∙ ap marked_load_of c.self.view_is,
         );
-        emptied = emptied name c.args.self.now now (ledger c.args.device.now) (ledger c.loop-place.device) rows_before c.requires.agree clean;
+        emptied = emptied name c.args.self.now now (ledger c.args.device.now) (ledger c.loop-place.device) c.requires.agree.rows c.requires.agree.books clean;
         counts_stay = (h.looks ∙ ap (λ (a : Allocations _). a.looks) c.self.view_is, h.comparisons ∙ ap (λ (a : Allocations _). a.comparisons) c.self.view_is);
       };
       keeps = record {
-        agree = clean_agrees _ _ c.requires.agree clean;
+        agree = record { rows = rows_distinct name c.retain.new.self.entries counted.distinct; books = clean_agrees _ _ c.requires.agree.books clean };
         limit = h.limit ∙ ap (λ (a : Allocations _). a.limit) c.self.view_is;
         load = (omega arith);
         pool_load = (omega arith);

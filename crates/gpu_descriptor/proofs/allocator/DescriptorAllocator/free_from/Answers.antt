@@ -3,14 +3,14 @@ use Rattle.gpu_descriptor.proofs.sums.Loads.{opened}
 use Rattle.gpu_descriptor.proofs.Common.{◌∙◌, Some}
 use Rattle.gpu_descriptor.proofs.foreign.OthersStay.{others_stay}
 use Rattle.gpu_descriptor.proofs.foreign.ForeignPools.{freed_foreign, freed_loses}
-use Rattle.gpu_descriptor.proofs.request.Requested.{load_within, pool_load_within}
+use Rattle.gpu_descriptor.proofs.request.Requested.{load_within, pool_load_within, rows_apart}
 use Rattle.gpu_descriptor.proofs.release.Freed.{Freed, freed_none, call_out, freed_more, freed_all, less}
 use Rattle.gpu_descriptor.proofs.allocator.DescriptorAllocator.free_from.Goals.{In-Some}
 use Rattle.gpu_descriptor.proofs.allocator.DescriptorAllocator.free_from.Goals as goal
 
 pub loop-ahead-init : goal.loop-ahead-init
 loop-ahead-init g c = record {
-  freed = freed_none g.D.DescriptorDevice.meaning g.I.Iterator.next_gives g.I.Iterator.can_next g.I.Iterator.remaining c.args.sets.now c.args.self.now (g.D.DescriptorDevice.ledger c.args.device.now) c.next-ahead.result c.next-ahead.new.self c.requires.agree c.requires.ends c.next-ahead.ensures.steps c.next-ahead.ensures.goes;
+  freed = freed_none g.D.DescriptorDevice.meaning g.I.Iterator.next_gives g.I.Iterator.can_next g.I.Iterator.remaining c.args.sets.now c.args.self.now (g.D.DescriptorDevice.ledger c.args.device.now) c.next-ahead.result c.next-ahead.new.self c.requires.agree.books c.requires.ends c.next-ahead.ensures.steps c.next-ahead.ensures.goes;
   limit = λ i. c.args.self.now.limit;
   looks = λ i. c.args.self.now.looks;
 }
@@ -22,14 +22,14 @@ in_hand g c = rw c.in-Some.is at c.loop-ahead.invariant.freed
 pub release_run-ahead-requires-clause-outstanding : goal.release_run-ahead-requires-clause-outstanding
 release_run-ahead-requires-clause-outstanding g c =
     call_out g.D.DescriptorDevice.meaning g.I.Iterator.next_gives g.I.Iterator.can_next g.I.Iterator.remaining c.args.sets.now c.args.self.now (g.D.DescriptorDevice.ledger c.args.device.now) c.loop-ahead.self (g.D.DescriptorDevice.ledger c.loop-ahead.device) c.in-Some.first c.loop-ahead.sets
-    c.requires.agree c.requires.outstanding (in_hand g (goal.at.release_run-ahead-requires-clause-outstanding g c).In-Some)
+    c.requires.agree.books c.requires.outstanding (in_hand g (goal.at.release_run-ahead-requires-clause-outstanding g c).In-Some)
 
 pub loop-ahead-preserved : goal.loop-ahead-preserved
 loop-ahead-preserved g c =
     let r = in_hand g (goal.at.loop-ahead-preserved g c).In-Some in
     record {
       freed = freed_more g.D.DescriptorDevice.meaning g.I.Iterator.next_gives g.I.Iterator.can_next g.I.Iterator.remaining c.args.sets.now c.args.self.now (g.D.DescriptorDevice.ledger c.args.device.now) c.loop-ahead.self (g.D.DescriptorDevice.ledger c.loop-ahead.device) c.in-Some.first c.loop-ahead.sets
-          c.requires.agree c.requires.outstanding r _ _ _ _ c.release_run-ahead.ensures.ran c.release_run-ahead.ensures.keys c.release_run-ahead.ensures.goes c.release_run-ahead.ensures.rises c.release_run-ahead.ensures.few;
+          c.requires.agree.books c.requires.outstanding r _ _ _ _ c.release_run-ahead.ensures.ran c.release_run-ahead.ensures.keys c.release_run-ahead.ensures.goes c.release_run-ahead.ensures.rises c.release_run-ahead.ensures.few;
       limit = c.release_run-ahead.ensures.limit ∙ c.loop-ahead.invariant.limit;
       looks = c.release_run-ahead.ensures.looks_stay ∙ c.loop-ahead.invariant.looks;
     }
@@ -50,7 +50,7 @@ returns-clause-keeps g c =
     let foreign = freed_foreign g.D.DescriptorDevice.meaning r.sets _ c.args.self.now c.loop-ahead.self before after r.back in
     let accounted = freed_loses g.D.DescriptorDevice.meaning r.sets _ c.args.self.now c.loop-ahead.self before after r.back in
     record {
-      agree = r.agree;
+      agree = record { rows = rows_apart _ c.self.view_is name (opened c.self.invariant); books = r.agree };
       limit = c.loop-ahead.invariant.limit;
       load = load_within _ c.self.view_is (opened c.self.invariant);
       pool_load = pool_load_within _ c.self.view_is (opened c.self.invariant);

@@ -1,18 +1,15 @@
 use Rattle.gpu_descriptor.proofs.Common.{length, sym, ap, ◌∙◌, rules, length-map, Key, BucketOf, key_of, Allocations, kept_of}
 use Rattle.gpu_descriptor.proofs.table.Readings.{seen_at}
-use Rattle.gpu_descriptor.proofs.sums.TableSums.{pools_of-table}
 use Rattle.gpu_descriptor.proofs.allocator.DescriptorAllocator.pool_count.Goals as goal
 
 pub returns-in-Some : goal.returns-in-Some
 returns-in-Some g c =
     let k : Key = key_of (record { size = c.args.size.now; update_after_bind = c.args.update_after_bind }) in
     let here = seen_at _ k (λ l. search rules) c.args.self.now c.self.inside.buckets.entries (ap (λ (a : Allocations _). a.table) c.self.view_is) (sym c.in-Some.ensures.value) in
-    let count = c.len.ensures ∙ c.in-Some.bucket.now.pools.ok.0 ∙ sym (length-map c.in-Some.bucket.now.pools.items kept_of) ∙ ap (λ (b : BucketOf _). length b.pools) (sym here) in
-    record { count = count; books = λ name. count ∙ pools_of-table name c.args.self.now k }
+    record { count = c.len.ensures ∙ c.in-Some.bucket.now.pools.ok.0 ∙ sym (length-map c.in-Some.bucket.now.pools.items kept_of) ∙ ap (λ (b : BucketOf _). length b.pools) (sym here) }
 
 pub returns-in-None : goal.returns-in-None
 returns-in-None g c =
     let k : Key = key_of (record { size = c.args.size.now; update_after_bind = c.args.update_after_bind }) in
     let here = seen_at _ k (λ l. search rules) c.args.self.now c.self.inside.buckets.entries (ap (λ (a : Allocations _). a.table) c.self.view_is) (sym c.in-None.ensures.value) in
-    let count = ap (λ (b : BucketOf _). length b.pools) (sym here) in
-    record { count = count; books = λ name. count ∙ pools_of-table name c.args.self.now k }
+    record { count = ap (λ (b : BucketOf _). length b.pools) (sym here) }

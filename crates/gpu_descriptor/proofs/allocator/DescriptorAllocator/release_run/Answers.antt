@@ -1,4 +1,4 @@
-use Rattle.gpu_descriptor.proofs.Common.{◌≡◌, ◌+◌, ◌-◌, ℕ, arith, refl, sym, ap, ◌∙◌, List, [], ◌∷◌, Some, option_map, slice_get, subst, Bucket, Key, key_of, Allocations, DescriptorSet, items_of, state_of, binary_digits, rise_below, stored_ids, stored_load, marked_load}
+use Rattle.gpu_descriptor.proofs.Common.{◌≡◌, ◌+◌, ◌-◌, ℕ, arith, refl, sym, ap, ◌∙◌, List, [], ◌∷◌, Some, option_map, slice_get, subst, Bucket, Key, key_of, Allocations, DescriptorSet, items_of, state_of, binary_digits, rise_below, stored_ids, stored_load, set_descriptors}
 use Rattle.indexmap.specs.Layout.{set_value_at}
 use Rattle.std.specs.Map.Iter.{deref_pair}
 use Rattle.gpu_descriptor.proofs.callers.HeldSets.{out_back, out_less}
@@ -97,21 +97,21 @@ pub descriptors_of_sets-descriptors-requires : goal.descriptors_of_sets-descript
 descriptors_of_sets-descriptors-requires g c =
     let at = goal.at.descriptors_of_sets-descriptors-requires g c in
     let fits = load_fits (run_taken g at.After-release_run-ahead (there g at.After-index_mut-bucket (entry g at.After-unwrap) (own g at.After-unwrap))) (opened c.self.invariant) in
-    let same = ap (λ (k : Key). marked_load k (c.index_mut-bucket.result.now.total - c.release_run-ahead.new.self.total)) (own g at.After-unwrap) in
+    let same = ap (λ (k : Key). set_descriptors k (c.index_mut-bucket.result.now.total - c.release_run-ahead.new.self.total)) (own g at.After-unwrap) in
     omega arith
 
 pub overflow_cast-descriptors : goal.overflow_cast-descriptors
 overflow_cast-descriptors g c =
     let at = goal.at.overflow_cast-descriptors g c in
     let fits = load_fits (run_taken g at.After-release_run-ahead (there g at.After-index_mut-bucket (entry g at.After-unwrap) (own g at.After-unwrap))) (opened c.self.invariant) in
-    let same = ap (λ (k : Key). marked_load k (c.index_mut-bucket.result.now.total - c.release_run-ahead.new.self.total)) (own g at.After-unwrap) in
+    let same = ap (λ (k : Key). set_descriptors k (c.index_mut-bucket.result.now.total - c.release_run-ahead.new.self.total)) (own g at.After-unwrap) in
     omega arith
 
 pub overflow_sub-self-2 : goal.overflow_sub-self-2
 overflow_sub-self-2 g c =
     let at = goal.at.overflow_sub-self-2 g c in
     let fits = load_fits (run_taken g at.After-release_run-ahead (there g at.After-index_mut-bucket (entry g at.After-unwrap) (own g at.After-unwrap))) (opened c.self.invariant) in
-    let same = ap (λ (k : Key). marked_load k (c.index_mut-bucket.result.now.total - c.release_run-ahead.new.self.total)) (own g at.After-unwrap) in
+    let same = ap (λ (k : Key). set_descriptors k (c.index_mut-bucket.result.now.total - c.release_run-ahead.new.self.total)) (own g at.After-unwrap) in
     omega arith
 
 pub invariant_of-self-inside : goal.invariant_of-self-inside
@@ -124,7 +124,7 @@ pub invariant_of-self : goal.invariant_of-self
 invariant_of-self g c =
     let at = goal.at.invariant_of-self g c in
     let here = there g at.After-index_mut-bucket (entry g at.After-unwrap) (own g at.After-unwrap) in
-    closed (counted_after (run_taken g at.After-release_run-ahead here) (opened c.self.invariant) (c.descriptors_of_sets-descriptors.ensures ∙ ap (λ (k : Key). marked_load k (c.index_mut-bucket.result.now.total - c.release_run-ahead.new.self.total)) (own g at.After-unwrap))
+    closed (counted_after (run_taken g at.After-release_run-ahead here) (opened c.self.invariant) (c.descriptors_of_sets-descriptors.ensures ∙ ap (λ (k : Key). set_descriptors k (c.index_mut-bucket.result.now.total - c.release_run-ahead.new.self.total)) (own g at.After-unwrap))
     (pools_set (written g at.After-release_run-ahead here) _ _ (subst (λ (k : Key). c.release_run-ahead.new.room + stored_load k c.release_run-ahead.new.self.pools.items ≡ c.self.inside.update_after_bind_room + stored_load k c.index_mut-bucket.result.now.pools.items) (own g at.After-unwrap) c.release_run-ahead.ensures.room))
     (keys_at c.self.inside.buckets.entries c.place_of_id-place.result c.release_run-ahead.new.self))
 

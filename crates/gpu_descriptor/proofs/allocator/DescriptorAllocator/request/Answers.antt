@@ -1,5 +1,5 @@
 use Rattle.gpu_descriptor.proofs.sums.Loads.{opened, closed}
-use Rattle.gpu_descriptor.proofs.Common.{greatest_u64, ◌+◌, ◌≤◌, arith, refl, ap, subst, sym, ◌∙◌, ltb-false, Ledger, Bucket, key_of, marked_load, state_of, IsConsistent, AreBookedIn}
+use Rattle.gpu_descriptor.proofs.Common.{greatest_u64, ◌+◌, ◌≤◌, arith, refl, ap, subst, sym, ◌∙◌, ltb-false, Ledger, Bucket, key_of, set_descriptors, state_of, IsConsistent, AreBookedIn}
 use Rattle.gpu_descriptor.proofs.request.StateAgrees.{booked_of}
 use Rattle.gpu_descriptor.proofs.cleanup.KeyOrder.{keys_seen}
 use Rattle.gpu_descriptor.proofs.request.Requested.{keeps_limit, seen, seen_again, table_is, books_at, declined_by_limit, declined_by_bound, declined_unserved, given_fits, counted_now, takes_of}
@@ -19,7 +19,7 @@ pub serve_key-served-requires-clause-booked : goal.serve_key-served-requires-cla
 serve_key-served-requires-clause-booked g c =
     let l : Ledger = g.D.DescriptorDevice.ledger c.args.device.now in
     let is = books_at c.args.self.now c.self.inside.buckets.entries (table_is _ c.self.view_is) g.D.DescriptorDevice.meaning.pool_name l (key_of c.args.key) in
-    subst (λ (b : Bucket). AreBookedIn (key_of c.args.key) l.pools b.pools) is (booked_of (state_of g.D.DescriptorDevice.meaning.pool_name c.args.self.now l) (key_of c.args.key) c.requires.agree)
+    subst (λ (b : Bucket). AreBookedIn (key_of c.args.key) l.pools b.pools) is (booked_of (state_of g.D.DescriptorDevice.meaning.pool_name c.args.self.now l) (key_of c.args.key) c.requires.agree.books)
 
 pub serve_key-served-requires-clause-bound : goal.serve_key-served-requires-clause-bound
 serve_key-served-requires-clause-bound g c =
@@ -33,7 +33,7 @@ returns-in-Err-clause-declined g c =
     c.is_past_bound.ensures c.if-is_past_bound.false (seen_again _ c.self.view_is _ c.in-Err.ensures.entries (ap (λ t. t.count) c.in-Err.ensures.looks_stay)) c.in-Err.ensures.ledger c.in-Err.error c.in-Err.ensures.refused
 
 -- the descriptors of what came keep the limit
-fits : (g : _) (c : After-len-given g) → marked_load (key_of c.args.key) c.len-given.result + c.self.inside.current_update_after_bind_descriptors_in_all_pools ≤ c.self.inside.max_update_after_bind_descriptors_in_all_pools
+fits : (g : _) (c : After-len-given g) → set_descriptors (key_of c.args.key) c.len-given.result + c.self.inside.current_update_after_bind_descriptors_in_all_pools ≤ c.self.inside.max_update_after_bind_descriptors_in_all_pools
 fits g c = given_fits c.serve_key-served.new.buckets.entries c.in-Ok.ensures.served c.self.view_is (opened c.self.invariant) c.is_above_limit.ensures c.if-is_above_limit.false (c.len-given.ensures ∙ c.in-Ok.served.sets.ok.0)
 
 pub descriptors_of_sets-descriptors-requires : goal.descriptors_of_sets-descriptors-requires

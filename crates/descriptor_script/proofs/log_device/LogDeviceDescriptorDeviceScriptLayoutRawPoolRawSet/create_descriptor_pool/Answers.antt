@@ -4,8 +4,8 @@ use Rattle.gpu_descriptor_types.specs.Counts.{kinds}
 use Rattle.gpu_descriptor_types.specs.Flags.{bits}
 use Rattle.gpu_descriptor_types.specs.Ledger.{Ledger}
 use Rattle.descriptor_script.specs.Scripted.Device.{ledger_of}
-use Rattle.descriptor_uses.proofs.Owing.{created, moved, still_owed}
-use Rattle.descriptor_uses.proofs.log_device.LogDeviceDescriptorDeviceScriptLayoutRawPoolRawSet.create_descriptor_pool.Goals as goal
+use Rattle.descriptor_script.proofs.Owing.{created, moved, still_owed}
+use Rattle.descriptor_script.proofs.log_device.LogDeviceDescriptorDeviceScriptLayoutRawPoolRawSet.create_descriptor_pool.Goals as goal
 
 pub invariant_of-self : goal.invariant_of-self
 invariant_of-self c =

@@ -2,8 +2,8 @@ use Rattle.std.proofs.Common.{ap}
 use Rattle.std.proofs.lemmas.Grind.{merely}
 use Rattle.gpu_descriptor_types.specs.Ledger.{Ledger}
 use Rattle.descriptor_script.specs.Scripted.Device.{ledger_of}
-use Rattle.descriptor_uses.proofs.Owing.{nothing_owed}
-use Rattle.descriptor_uses.proofs.log_device.LogDevice.with_script.Goals as goal
+use Rattle.descriptor_script.proofs.Owing.{nothing_owed}
+use Rattle.descriptor_script.proofs.log_device.LogDevice.with_script.Goals as goal
 
 pub invariant_of-result : goal.invariant_of-result
 invariant_of-result c =

@@ -1,11 +1,13 @@
 -- What a logging device owes, the calls that it listed, its next name, and its script.
-use Rattle.std.specs.Prelude.{◌≡◌, ◌⊎◌, ℕ, List}
+use Rattle.std.specs.Prelude.{◌≡◌, ◌⊎◌, ℕ, zero, suc, List, [], ◌∷◌, ◌++◌, length, Option, None}
+use Rattle.std.specs.Iterator.{YieldsThen}
 use Rattle.gpu_descriptor_types.specs.Ledger.{Ledger}
 use Rattle.descriptor_script.specs.Scripted.Device.{ledger_of, names_given, script_of}
 use Rattle.descriptor_script.specs.Scripted.Script.{next_word, rest_words}
 use Rattle.descriptor_script.specs.declared.answer.Answer.{Answer}
-use Rattle.descriptor_uses.specs.declared.log.Call.{Call}
-use Rattle.descriptor_uses.specs.declared.log_device.LogDevice.{LogDevice}
+use Rattle.descriptor_script.specs.declared.log.Call.{Call}
+use Rattle.descriptor_script.specs.declared.log.Call.TheVariants.{Release}
+use Rattle.descriptor_script.specs.declared.log_device.LogDevice.{LogDevice}
 
 abbrev pub ledger_logged : LogDevice → Ledger
 ledger_logged d = ledger_of d.device
@@ -27,3 +29,14 @@ abbrev pub IsErrorOfCall : {E : Type 0} → (Answer → E) → E → E → List 
 IsErrorOfCall error_of no_room error old new =
     ((error ≡ error_of (next_word old)) × (new ≡ rest_words old))
     ⊎ ((error ≡ no_room) × (new ≡ old))
+
+-- a release of no set is not listed
+abbrev pub release_of : ℕ → ℕ → List Call
+release_of pool zero = []
+release_of pool (suc n) = Release pool (suc n) ∷ []
+
+-- the iterator gave its items, up to its end, and their number is listed
+pub record ListsRelease {I S : Type 0} (steps : I → Option S → I → Type 0) (pool : ℕ) (old new : I) (before after : List Call) : Type 0 where
+  pub items : List S
+  pub drained : YieldsThen steps old items None new
+  pub calls : after ≡ before ++ release_of pool (length items)

@@ -1,6 +1,6 @@
 -- Room for calls to come.
 use Rattle.std.specs.Prelude.{ℕ, ◌+◌, ◌≤◌, vec_len, vec_capacity}
-use Rattle.descriptor_uses.specs.declared.log.Log.{Log}
+use Rattle.descriptor_script.specs.declared.log.Log.{Log}
 
 -- besides those that are owed, so many calls have room
 abbrev pub HasLogRoom : ℕ → Log → Type 0

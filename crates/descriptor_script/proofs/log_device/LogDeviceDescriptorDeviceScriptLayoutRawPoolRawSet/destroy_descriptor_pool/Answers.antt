@@ -2,8 +2,8 @@ use Rattle.std.proofs.Common.{◌≡◌, ◌-◌, arith}
 use Rattle.std.proofs.Math.Bridge.{le_prop}
 use Rattle.std.proofs.Math.Logic.{∥∥₁_elim, ∥∥₁_map}
 use Rattle.descriptor_script.specs.Scripted.Device.{ledger_of}
-use Rattle.descriptor_uses.proofs.Owing.{destroyed, moved}
-use Rattle.descriptor_uses.proofs.log_device.LogDeviceDescriptorDeviceScriptLayoutRawPoolRawSet.destroy_descriptor_pool.Goals as goal
+use Rattle.descriptor_script.proofs.Owing.{destroyed, moved}
+use Rattle.descriptor_script.proofs.log_device.LogDeviceDescriptorDeviceScriptLayoutRawPoolRawSet.destroy_descriptor_pool.Goals as goal
 
 pub settle-requires-clause-owed : goal.settle-requires-clause-owed
 settle-requires-clause-owed c =

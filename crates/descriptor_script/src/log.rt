@@ -31,7 +31,7 @@ pub(crate) struct Log {
 }
 
 impl Log {
-    ghost use Rattle.descriptor_uses.specs.Log.{HasLogRoom};
+    ghost use Rattle.descriptor_script.specs.Inner.Log.{HasLogRoom};
 
     pub(crate) fn new(alloc: Global) -> Self
         ensures calls { result.calls.items ≡ [] }

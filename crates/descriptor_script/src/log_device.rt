@@ -13,12 +13,13 @@ ghost use Rattle.descriptor_script.specs.Scripted.Device.{script_of};
 ghost use Rattle.descriptor_script.specs.Scripted.Raw.{pool_id, script_meaning, set_id};
 ghost use Rattle.descriptor_script.specs.Scripted.Script.{alloc_error, create_error, next_word};
 ghost use Rattle.descriptor_script.specs.Scripted.Script.{rest_words};
-ghost use Rattle.descriptor_uses.specs.Owed.{IsOwed, ReleasesMany};
-ghost use Rattle.descriptor_uses.specs.Released.{ListsRelease};
+ghost use Rattle.descriptor_script.specs.Inner.Owed.{IsOwed, ReleasesMany};
 
+use crate::answer::Answer;
+use crate::device::ScriptedDevice;
 use crate::log::{Call, Log};
-use descriptor_script::{Answer, RawPool, RawSet, ScriptLayout, ScriptedDevice};
-use gpu_descriptor::{
+use crate::raw::{RawPool, RawSet, ScriptLayout};
+use gpu_descriptor_types::{
     CreatePoolError, DescriptorDevice, DescriptorPoolCreateFlags, DescriptorTotalCount,
     DeviceAllocationError, Layouts, SetSink,
 };
@@ -39,8 +40,8 @@ pub struct LogDevice {
 }
 
 impl LogDevice {
-    ghost use Rattle.descriptor_uses.specs.Logged.{calls_of, ledger_logged, next_pool};
-    ghost use Rattle.descriptor_uses.specs.Logged.{script_logged};
+    ghost use Rattle.descriptor_script.specs.Scripted.Logged.{calls_of, ledger_logged, next_pool};
+    ghost use Rattle.descriptor_script.specs.Scripted.Logged.{script_logged};
 
     /// A device without pools, which grants all that its memory allows.
     pub fn new(alloc: Global) -> Self
@@ -102,8 +103,9 @@ impl LogDevice {
 }
 
 impl DescriptorDevice<ScriptLayout, RawPool, RawSet> for LogDevice {
-    ghost use Rattle.descriptor_uses.specs.Logged.{IsErrorOfCall, calls_of, ledger_logged};
-    ghost use Rattle.descriptor_uses.specs.Logged.{next_pool, script_logged};
+    ghost use Rattle.descriptor_script.specs.Scripted.Logged.{IsErrorOfCall, ListsRelease, calls_of};
+    ghost use Rattle.descriptor_script.specs.Scripted.Logged.{ledger_logged, next_pool};
+    ghost use Rattle.descriptor_script.specs.Scripted.Logged.{script_logged};
 
     ghost meaning = { script_meaning };
 

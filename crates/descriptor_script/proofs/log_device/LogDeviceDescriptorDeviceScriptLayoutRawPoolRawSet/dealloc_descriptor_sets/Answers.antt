@@ -1,11 +1,11 @@
 use Rattle.std.proofs.Common.{◌≡◌, ℕ, ◌-◌, [], ◌∷◌, ◌++◌, append-nil, length, refl, sym, ap, ◌∙◌, arith}
 use Rattle.std.proofs.Math.Bridge.{le_prop}
 use Rattle.std.proofs.Math.Logic.{∥∥₁_elim, ∥∥₁_map}
-use Rattle.descriptor_uses.specs.Logged.{calls_of}
-use Rattle.descriptor_uses.specs.Released.{release_of}
-use Rattle.descriptor_uses.specs.declared.log.Call.TheVariants.{Release}
-use Rattle.descriptor_uses.proofs.Owing.{moved, release_some}
-use Rattle.descriptor_uses.proofs.log_device.LogDeviceDescriptorDeviceScriptLayoutRawPoolRawSet.dealloc_descriptor_sets.Goals as goal
+use Rattle.descriptor_script.specs.Scripted.Logged.{calls_of}
+use Rattle.descriptor_script.specs.Scripted.Logged.{release_of}
+use Rattle.descriptor_script.specs.declared.log.Call.TheVariants.{Release}
+use Rattle.descriptor_script.proofs.Owing.{moved, release_some}
+use Rattle.descriptor_script.proofs.log_device.LogDeviceDescriptorDeviceScriptLayoutRawPoolRawSet.dealloc_descriptor_sets.Goals as goal
 
 pub settle-requires-clause-owed : goal.settle-requires-clause-owed
 settle-requires-clause-owed g c =

@@ -7,8 +7,8 @@ use Rattle.gpu_descriptor_types.specs.Ledger.{Ledger, live_sets, pool_refusals}
 use Rattle.gpu_descriptor_types.specs.Multiset.{LiveSet}
 use Rattle.descriptor_script.specs.Scripted.Device.{ledger_of}
 use Rattle.descriptor_script.specs.Scripted.Raw.{set_id}
-use Rattle.descriptor_uses.proofs.Owing.{allocated, moved, refused}
-use Rattle.descriptor_uses.proofs.log_device.LogDeviceDescriptorDeviceScriptLayoutRawPoolRawSet.alloc_descriptor_sets.Goals as goal
+use Rattle.descriptor_script.proofs.Owing.{allocated, moved, refused}
+use Rattle.descriptor_script.proofs.log_device.LogDeviceDescriptorDeviceScriptLayoutRawPoolRawSet.alloc_descriptor_sets.Goals as goal
 
 pub invariant_of-self : goal.invariant_of-self
 invariant_of-self g c =

@@ -7,14 +7,13 @@ use Rattle.std.proofs.lemmas.List.{length-map}
 use Rattle.std.proofs.lemmas.Map.{update_here, update_apart}
 use Rattle.std.specs.Option.{option_map}
 use Rattle.gpu_descriptor_types.specs.Ledger.{Ledger, Pool, HasNoSets, on_pool, fresh, AreLive, Releases, after_create, after_destroy, after_alloc, after_release}
-use Rattle.gpu_descriptor_types.specs.Multiset.{LiveSet, times, AreIn}
+use Rattle.gpu_descriptor_types.specs.Multiset.{AreIn, HasSize, LiveSet, times}
 use Rattle.gpu_descriptor_types.proofs.Counting.{times-append}
-use Rattle.gpu_descriptor.specs.Model.Agreement.{HasSize}
 use Rattle.gpu_descriptor.proofs.foreign.LedgerPools.{size_minus}
 use Rattle.gpu_descriptor.proofs.sums.Sized.{size_one}
-use Rattle.descriptor_uses.specs.Owed.{IsOwed, ReleasesMany, owed_by}
-use Rattle.descriptor_uses.specs.Released.{release_of}
-use Rattle.descriptor_uses.specs.declared.log.Call.TheVariants.{Release}
+use Rattle.descriptor_script.specs.Inner.Owed.{IsOwed, ReleasesMany, owed_by}
+use Rattle.descriptor_script.specs.Scripted.Logged.{release_of}
+use Rattle.descriptor_script.specs.declared.log.Call.TheVariants.{Release}
 
 -- the rows but for those of a name
 abbrev without : ℕ → List (ℕ × ℕ) → List (ℕ × ℕ)

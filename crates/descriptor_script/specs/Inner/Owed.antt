@@ -2,7 +2,7 @@
 use Rattle.std.specs.Prelude.{◌≡◌, ℕ, ◌+◌, ◌-◌, ◌≤◌, List, [], ◌∷◌, length, nat_eq, Option, Some}
 use Rattle.std.specs.Map.{lookup}
 use Rattle.gpu_descriptor_types.specs.Ledger.{Ledger, Pool, Releases}
-use Rattle.gpu_descriptor.specs.Model.Agreement.{HasSize}
+use Rattle.gpu_descriptor_types.specs.Multiset.{HasSize}
 
 -- one for each pool of the list, and one for each of its sets
 abbrev pub owed_by : List (ℕ × ℕ) → ℕ
