@@ -1,5 +1,5 @@
 //! How often a device did each thing.
-ghost use Rattle.std.specs.Prelude.{◌≡◌, ◌+◌};
+ghost use Rattle.std.specs.Prelude.{◌≡◌};
 ghost use Rattle.gpu_descriptor_types.specs.Ledger.{alloc_refused, create_refused, no_rise};
 ghost use Rattle.descriptor_script.specs.Inner.Counters.{counters_of};
 

@@ -1,5 +1,5 @@
 //! The live pools of a device, by name.
-ghost use Rattle.std.specs.Prelude.{◌≡◌, ℕ, ◌+◌, ◌-◌, ◌<◌, ◌≤◌, ◌^◌, ◌++◌, map, Some, None};
+ghost use Rattle.std.specs.Prelude.{◌≡◌, ◌+◌, ◌-◌, ◌<◌, ◌≤◌, ◌^◌, ◌++◌, map, Some, None};
 ghost use Rattle.std.specs.Prelude.{IfOk, IfSome, IsSome, OnOk, OnErr, nat_eq};
 ghost use Rattle.std.specs.Iterator.{IsFinite, HoldsAlong};
 ghost use Rattle.std.specs.Map.{update};

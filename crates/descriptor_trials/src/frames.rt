@@ -1,5 +1,4 @@
 //! The frame manager over the scripted device.
-mod errors;
 mod memory;
 mod refused;
 mod rows;

@@ -1,6 +1,5 @@
-//! Sets in a caller's hands: that they stand in an answer as they came, that a raw set is read and
-//! written in its place, that each goes back, by an iterator which the caller keeps too, and that
-//! there is a debug text.
+//! Sets in a caller's hands: that they stand in an answer as they came, and that each goes back, by
+//! an iterator which the caller keeps too.
 ghost use Rattle.gpu_descriptor.specs.Caller.States.{Agrees};
 ghost use Rattle.descriptor_script.specs.Scripted.Raw.{pool_id};
 ghost use Rattle.descriptor_script.specs.Scripted.Logged.{ledger_logged};
@@ -9,18 +8,8 @@ use crate::bench::{expect_same, layout_of};
 use descriptor_script::{LogDevice, RawPool, RawSet, ScriptLayout};
 use descriptor_uses::proper_use::{borrow_pool, borrow_set, borrow_sets, flags_of};
 use gpu_descriptor::{AllocationError, DescriptorAllocator, DescriptorSet};
-use std::alloc::Global;
 use std::process::Abort;
 use std::test::Fail;
-
-/// Two sets, of an allocator that is gone.
-fn two_sets(alloc: Global) -> Result<Vec<DescriptorSet<RawSet>>, AllocationError> {
-    let mut device = LogDevice::new(alloc);
-    let mut allocator = DescriptorAllocator::new(alloc, 0);
-    let layout = layout_of(1, false);
-    let flags = flags_of(layout.mark);
-    allocator.allocate(&mut device, &layout, flags, &layout.counts, 2)
-}
 
 /// Compares the names of the sets.
 fn expect_names(rt: &impl Abort, sets: &[DescriptorSet<RawSet>], names: &[u64]) {
@@ -28,24 +17,6 @@ fn expect_names(rt: &impl Abort, sets: &[DescriptorSet<RawSet>], names: &[u64]) 
     for (set, name) in sets.iter().zip(names) {
         expect_same(rt, set.raw().id(), *name);
     }
-}
-
-/// Changes the raw sets of the first two.
-fn swap_raw(sets: &mut [DescriptorSet<RawSet>]) {
-    if let [first, second, ..] = sets {
-        std::mem::swap(first.raw_mut(), second.raw_mut());
-    }
-}
-
-#[test]
-fn raw_sets_are_read_and_written(rt: HostRuntime) -> Result<(), Fail> {
-    let mut sets = two_sets(rt.alloc())?;
-    expect_names(&rt, &sets, &[0, 1]);
-    swap_raw(&mut sets);
-    expect_names(&rt, &sets, &[1, 0]);
-    let text = format!(in rt.alloc(); "{sets:?}")?;
-    assert!(rt; text.as_str().starts_with("[DescriptorSet"), "{text}");
-    Ok(())
 }
 
 /// Allocates three sets, compares their names in the order of the answer, and gives them back.

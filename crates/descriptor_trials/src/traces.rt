@@ -4,9 +4,6 @@ use crate::acts::{Act, expect_calls, play_new};
 use crate::bench::{expect_pools, expect_same, layout_of, sets};
 use crate::pair::Pair;
 use descriptor_script::{Call, Command, LogDevice, Reply};
-use descriptor_uses::own_device::OnePool;
-use descriptor_uses::proper_use::flags_of;
-use gpu_descriptor::{AllocationError, DescriptorAllocator};
 use std::alloc::{AllocError, Global};
 use std::process::Abort;
 use std::test::Fail;
@@ -216,18 +213,4 @@ fn expect_left<'a>(
         play_new(rt, alloc, 0, &layouts, &[], &acts)?;
     }
     Ok(())
-}
-
-#[test]
-fn device_without_memory_for_sets_refuses(rt: HostRuntime) {
-    let mut device = OnePool::new();
-    let mut allocator: DescriptorAllocator<u64, u64> = DescriptorAllocator::new(rt.alloc(), 0);
-    let layout = layout_of(1, false).counts;
-    let error = match allocator.allocate(&mut device, &layout, flags_of(false), &layout, 1) {
-        Ok(_) => None,
-        Err(error) => Some(error),
-    };
-    expect_same(&rt, error, Some(AllocationError::OutOfDeviceMemory));
-    expect_same(&rt, allocator.outstanding(), 0);
-    expect_same(&rt, allocator.pool_count(&layout, false), 0);
 }

@@ -1,5 +1,4 @@
 //! The values that callers of the allocator and of the device interface see.
 mod counts;
-mod derives;
 mod flags;
 mod sets;

@@ -3,7 +3,7 @@ ghost use Rattle.std.specs.Prelude.{◌≡◌, ◌+◌, ◌≤◌, ◌++◌, ◌
 ghost use Rattle.std.specs.Prelude.{IfOk, IsFalse, IsTrue, Ok, OnErr, OnOk};
 ghost use Rattle.std.specs.VecDeque.{deque_capacity};
 ghost use Rattle.gpu_descriptor.specs.Caller.Sets.{items_of};
-ghost use Rattle.gpu_descriptor.specs.Caller.States.{Agrees, state_of};
+ghost use Rattle.gpu_descriptor.specs.Caller.States.{Agrees};
 ghost use Rattle.gpu_descriptor.proofs.callers.OneAgreement.{Agrees-prop};
 ghost use Rattle.descriptor_frames.specs.Frames.{AreInUse, AreRetiredOut, allocator_of};
 ghost use Rattle.descriptor_frames.specs.Retired.{at_frame, later};

@@ -1,5 +1,4 @@
 //! Cleaning up.
-ghost use Rattle.std.specs.Prelude.{◌≡◌};
 ghost use Rattle.gpu_descriptor_types.specs.Side.{side};
 ghost use Rattle.gpu_descriptor.specs.Caller.CleansUp.{CleansUp};
 ghost use Rattle.gpu_descriptor.specs.Caller.Keeps.{Keeps};

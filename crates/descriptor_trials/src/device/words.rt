@@ -1,5 +1,5 @@
 //! The scripted device alone: that calls succeed where memory is there, which no clause says.
-ghost use Rattle.std.specs.Prelude.{◌≡◌, ◌+◌, ◌∷◌, replicate, IfOk, OnOk};
+ghost use Rattle.std.specs.Prelude.{◌≡◌, ◌∷◌, replicate};
 ghost use Rattle.gpu_descriptor_types.specs.Counts.{kinds};
 ghost use Rattle.descriptor_script.specs.Scripted.Device.{ledger_of};
 

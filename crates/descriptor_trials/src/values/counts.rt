@@ -1,6 +1,6 @@
 //! The greatest counts, as a caller hands them in: no clause says that the words of the contracts
 //! mean these numbers.
-use gpu_descriptor_types::{DescriptorTotalCount, Layouts, cut_pool_size, new_pool_size};
+use gpu_descriptor_types::{DescriptorTotalCount, cut_pool_size, new_pool_size};
 
 /// The same count for each kind.
 fn of_each(count: u32) -> DescriptorTotalCount {
@@ -39,13 +39,4 @@ fn no_counts(rt: HostRuntime) {
     assert_eq!(rt; none.total(), 0);
     assert_eq!(rt; new_pool_size(&none, 0, u32::MAX), (one, 2_147_483_647));
     assert_eq!(rt; cut_pool_size(&none, 0, 1, 1), Some((one, 64)));
-}
-
-#[test]
-fn layouts_give_one_for_each_set(rt: HostRuntime) {
-    let mut layouts = Layouts::new(&7, 2);
-    assert_eq!(rt; layouts.len(), 2);
-    assert_eq!(rt; layouts.next(), Some(&7));
-    assert_eq!(rt; layouts.next(), Some(&7));
-    assert_eq!(rt; layouts.next(), None);
 }

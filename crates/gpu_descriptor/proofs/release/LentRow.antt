@@ -1,5 +1,5 @@
 -- One run through a row that the table lends.
-use Rattle.gpu_descriptor.proofs.Common.{◌≡◌, ℕ, Bool, List, ◌∷◌, map, count_by, Option, Some, IsSome, length, refl, sym, ap, subst, ◌∙◌, fun_ext, lookup, set_value, option_map_or, Ledger, live_sets, BucketKey, DescriptorSet, DescriptorBucket, Agree, AreOutstanding, Key, key_eq, Bucket, no_pools, books_of, HasDistinctKeys, key_of, Allocations, AreBookedIn, IsTakenAt, RunsInto, names_of, bucket_back, more_destroyed, more_released, given_back, released, pools_gone, open_pools, items_of, named_row, state_of, AllPass, books_in, row_of, bucket_of}
+use Rattle.gpu_descriptor.proofs.Common.{◌≡◌, ℕ, Bool, List, ◌∷◌, map, count_by, Option, Some, IsSome, length, refl, sym, ap, subst, ◌∙◌, fun_ext, lookup, set_value, option_map_or, Ledger, live_sets, BucketKey, DescriptorSet, DescriptorBucket, Agree, AreOutstanding, Key, key_eq, Bucket, no_pools, books_of, HasDistinctKeys, key_of, Allocations, AreBookedIn, IsTakenAt, RunsInto, names_of, bucket_back, more_destroyed, more_released, released, pools_gone, open_pools, items_of, named_row, state_of, AllPass, books_in, row_of, bucket_of}
 use Rattle.gpu_descriptor.specs.Caller.States.{keys_of}
 use Rattle.gpu_descriptor.specs.Inner.RunSteps.{lies_at}
 use Rattle.gpu_descriptor.proofs.foreign.LedgerPools.{taken_from, release_pools}

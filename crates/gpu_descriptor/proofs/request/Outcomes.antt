@@ -1,6 +1,6 @@
 -- A request that took sets is as the definitions say: kept whole, or given back.
 use Rattle.gpu_descriptor.proofs.request.Requested.{load_is, pool_load_is, out_is}
-use Rattle.gpu_descriptor.proofs.Common.{fun_ext, ◌≡◌, ℕ, ◌+◌, ◌-◌, ◌<◌, Some, List, [], ◌∷◌, length, arith, Result, Ok, Err, OnOk, refl, sym, ap, ◌∙◌, subst, length-map, side, Meaning, Ledger, no_rise, AllocationError, DescriptorSet, Stop, State, Item, Agree, AreOutstanding, Option, Pool, count_of, outstanding, key_eq, if◌then◌else◌, Key, Bucket, HasDistinctKeys, Allocations, KeepsForeign, LosesNone, GivesBack, Grant, IsGrantOf, bucket_with, items_in, granted, ledger_with, IsTaken, IsRefused, set_descriptors, Allocates, Call, Proceeds, taken_by, risen, rollback_rise, StopsAt, stop_answer, stop_rise, IsUntouched, KeepsOtherKeys, AreOfKey, AreOutBesides, KeepsOutstanding, released, given_back, pools_gone, call_of, Takes, runs, item_of, items_of, state_of, table_of, outstanding_of, marked_load_of, pool_load_of, HasTaken}
+use Rattle.gpu_descriptor.proofs.Common.{fun_ext, ◌≡◌, ℕ, ◌+◌, ◌-◌, ◌<◌, Some, List, [], ◌∷◌, length, arith, Result, Ok, Err, OnOk, refl, sym, ap, ◌∙◌, subst, length-map, side, Meaning, Ledger, no_rise, AllocationError, DescriptorSet, Stop, State, Item, Agree, AreOutstanding, Option, Pool, count_of, outstanding, key_eq, if◌then◌else◌, Key, Bucket, HasDistinctKeys, Allocations, KeepsForeign, LosesNone, GivesBack, Grant, IsGrantOf, bucket_with, items_in, granted, ledger_with, IsTaken, IsRefused, set_descriptors, Allocates, Call, Proceeds, taken_by, risen, rollback_rise, StopsAt, stop_answer, stop_rise, IsUntouched, KeepsOtherKeys, AreOfKey, AreOutBesides, KeepsOutstanding, released, pools_gone, call_of, Takes, runs, item_of, items_of, state_of, table_of, outstanding_of, marked_load_of, pool_load_of, HasTaken}
 use Rattle.gpu_descriptor.specs.Caller.Others.{others_of}
 use Rattle.gpu_descriptor.specs.Model.Outcomes.Allocates.{done, stopped}
 use Rattle.gpu_descriptor.specs.Caller.States.{keys_of}
