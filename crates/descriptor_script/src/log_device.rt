@@ -103,8 +103,8 @@ impl LogDevice {
 }
 
 impl DescriptorDevice<ScriptLayout, RawPool, RawSet> for LogDevice {
-    ghost use Rattle.descriptor_script.specs.Scripted.Logged.{IsErrorOfCall, ListsRelease, calls_of};
-    ghost use Rattle.descriptor_script.specs.Scripted.Logged.{ledger_logged, next_pool};
+    ghost use Rattle.descriptor_script.specs.Scripted.Logged.{IsErrorOfCall, ListsRelease};
+    ghost use Rattle.descriptor_script.specs.Scripted.Logged.{calls_of, ledger_logged, next_pool};
     ghost use Rattle.descriptor_script.specs.Scripted.Logged.{script_logged};
 
     ghost meaning = { script_meaning };

@@ -14,9 +14,9 @@ use crate::{Command, Reply, Session};
 use gpu_descriptor::{DescriptorDevice, laws};
 use std::alloc::AllocError;
 
-/// Runs commands, as `Session::run` does, on a session whose books are as new, and then cleans up. If no set
-/// is held then, the device has exactly the pools that it had before, whatever it refused in
-/// between, and the session may visit it again.
+/// Runs commands, as `Session::run` does, on a session whose books are as new, and then cleans up.
+/// If no set is held then, the device has exactly the pools that it had before, whatever it refused
+/// in between, and the session may visit it again.
 ///
 /// A session that was just made meets the conditions, with layouts as the device means them.
 pub fn visit<L, P: Drop, S: Drop, D: DescriptorDevice<L, P, S>>(

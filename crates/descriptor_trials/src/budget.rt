@@ -3,7 +3,8 @@ ghost use Rattle.std.specs.Prelude.{◌≡◌, ◌≤◌, OnOk, IfErr};
 ghost use Rattle.gpu_descriptor_types.specs.Counts.{kinds};
 ghost use Rattle.gpu_descriptor_types.specs.Layouts.{layout, left};
 ghost use Rattle.gpu_descriptor_types.specs.Ledger.{HasRoom, Puts, PutsNone};
-ghost use Rattle.descriptor_script.specs.Scripted.Raw.{set_id};
+ghost use Rattle.descriptor_script.specs.Scripted.Device.{ledger_of};
+ghost use Rattle.descriptor_script.specs.Scripted.Raw.{pool_id, set_id};
 
 use descriptor_script::{RawPool, RawSet, ScriptLayout, ScriptedDevice};
 use gpu_descriptor::{
@@ -49,16 +50,14 @@ impl Budget {
 }
 
 impl DescriptorDevice<ScriptLayout, SizedPool, RawSet> for Budget {
-    ghost use Rattle.descriptor_trials.specs.Budgets.{budget_ledger, sized_id};
-
     ghost meaning = { record {
-      pool_name = sized_id;
+      pool_name = λ p. pool_id p.raw;
       set_name = set_id;
       counts = λ l. kinds l.counts;
       mark = λ l. l.mark;
     } };
 
-    ghost ledger = { budget_ledger };
+    ghost ledger = { λ d. ledger_of d.device };
 
     fn create_descriptor_pool(
         &mut self,
@@ -91,15 +90,15 @@ impl DescriptorDevice<ScriptLayout, SizedPool, RawSet> for Budget {
         layouts: Layouts<'_, ScriptLayout>,
         sets: &mut K,
     ) -> Result<(), DeviceAllocationError>
-        requires fits { HasRoom (sized_id pool.old) (left layouts) (kinds (layout layouts).counts)
-            (layout layouts).mark (budget_ledger self.old) }
+        requires fits { HasRoom (pool_id pool.old.raw) (left layouts)
+            (kinds (layout layouts).counts) (layout layouts).mark (ledger_of self.old.device) }
         requires room { left layouts ≤ K.sink.room_left sets.old }
-        ensures name { sized_id pool.new ≡ sized_id pool.old }
-        ensures ok { OnOk result (Puts K.sink set_id (sized_id pool.old) (left layouts.entry)
-            (kinds (layout layouts.entry).counts) sets.old sets.new (budget_ledger self.old)
-            (budget_ledger self.new)) }
-        ensures err { IfErr result (λ e. PutsNone K.sink (sized_id pool.old) e sets.old sets.new
-            (budget_ledger self.old) (budget_ledger self.new)) }
+        ensures name { pool_id pool.new.raw ≡ pool_id pool.old.raw }
+        ensures ok { OnOk result (Puts K.sink set_id (pool_id pool.old.raw) (left layouts.entry)
+            (kinds (layout layouts.entry).counts) sets.old sets.new (ledger_of self.old.device)
+            (ledger_of self.new.device)) }
+        ensures err { IfErr result (λ e. PutsNone K.sink (pool_id pool.old.raw) e sets.old sets.new
+            (ledger_of self.old.device) (ledger_of self.new.device)) }
     {
         self.device
             .alloc_descriptor_sets(&mut pool.raw, layouts, sets)

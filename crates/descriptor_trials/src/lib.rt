@@ -6,7 +6,8 @@
 mod acts;
 #[cfg(test)]
 mod bench;
-pub mod budget;
+#[cfg(test)]
+mod budget;
 #[cfg(test)]
 mod callers;
 #[cfg(test)]

@@ -49,7 +49,8 @@ pub fn release_parts()
 
     // As many pools go in two parts as at once.
     ensures pools_gone { (keys : List Key) (m n : List Item) (s : State) → Agree s → AreOutstanding
-        (m ++ n) s → pools_gone keys m s + pools_gone keys n (released m s) ≡ pools_gone keys (m ++ n) s }
+        (m ++ n) s → pools_gone keys m s + pools_gone keys n (released m s)
+        ≡ pools_gone keys (m ++ n) s }
 
     ensures agrees { (m : List Item) (s : State) → Agree s → AreOutstanding m s → Agree
         (released m s) }
