@@ -42,7 +42,7 @@ pub use Rattle.gpu_descriptor.specs.Caller.Values.{Allocations}
 pub use Rattle.gpu_descriptor.specs.Caller.Call.{call_of, layout_key}
 pub use Rattle.gpu_descriptor.specs.Caller.Comparisons.{binary_digits, digits_at, digits_behind, digits_within, open_pools, run_digits}
 pub use Rattle.gpu_descriptor.specs.Caller.Frees.{Frees, GivesBack, Returns, marked_descriptors}
-pub use Rattle.gpu_descriptor.specs.Caller.Keys.{StayOrGainLast, keys_with_pools}
+pub use Rattle.gpu_descriptor.specs.Caller.Keys.{keys_with_pools, with_key}
 pub use Rattle.gpu_descriptor.specs.Caller.Others.{is_named}
 pub use Rattle.gpu_descriptor.specs.Caller.Sets.{item_of, items_of}
 pub use Rattle.gpu_descriptor.specs.Caller.States.{Agrees, marked_load_of, named, named_bucket, named_row, outstanding_of, pool_load_of, state_of, table_of}
@@ -53,7 +53,7 @@ pub use Rattle.gpu_descriptor.specs.Inner.OpenNumbers.{IsEntered, free_in, open_
 pub use Rattle.gpu_descriptor.specs.Inner.OpenPools.{CountsLooks, KeepsView, bucket_in, looked_at}
 pub use Rattle.gpu_descriptor.specs.Inner.Releases.{FreesRun, IsTakenAt, RunsInto, bucket_back, names_of}
 pub use Rattle.gpu_descriptor.specs.Inner.RunSteps.{AllPass, CountsFrom, EndsRun, Hands, Looks, RunStep}
-pub use Rattle.gpu_descriptor.specs.Inner.Serves.{IsServed, IsUnserved, IsSound, ServesKey, Takes}
+pub use Rattle.gpu_descriptor.specs.Inner.Serves.{IsDeclined, IsServed, IsUnserved, IsSound, ServesKey, Takes}
 pub use Rattle.gpu_descriptor.specs.Inner.SetAt.{set_at}
 pub use Rattle.gpu_descriptor.specs.Inner.Stored.{IsConsistent, books_in, bucket_of, entry_of, kept_in, kept_of, row_of, stored_keys, stored_load}
 pub use Rattle.gpu_descriptor.specs.Inner.Walk.{HasTaken, IsAsked, IsNoMemory, IsRefused, IsWalked}

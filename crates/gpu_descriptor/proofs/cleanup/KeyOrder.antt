@@ -1,23 +1,37 @@
 -- In which order keys stay in the table.
-use Rattle.gpu_descriptor.proofs.Common.{◌≡◌, ℕ, suc, ◌==◌, not, Bool, List, [], ◌∷◌, ◌++◌, length, map, filter, slice_get, Some, inl, inr, refl, sym, ap, subst, ◌∙◌, arith, length-drop, set_value, map-append, Ledger, BucketKey, DescriptorBucket, Key, Bucket, HasDistinctKeys, books_of, key_of, Allocations, keys_with_pools, common_steps, has_pools, trimmed_bucket, IsCleaned, cleaned_bucket, StayOrGainLast, named_row, state_of, row_of, stored_keys}
+use Rattle.gpu_descriptor.proofs.Common.{◌≡◌, ℕ, zero, suc, ◌==◌, not, Bool, List, [], ◌∷◌, ◌++◌, length, map, filter, slice_get, Option, Some, None, true, false, inl, inr, refl, sym, ap, ◌∙◌, arith, length-drop, list_any, lookup, cases_Bool, map-append, Ledger, BucketKey, DescriptorBucket, Key, Bucket, HasDistinctKeys, books_of, key_of, Allocations, keys_with_pools, common_steps, has_pools, trimmed_bucket, IsCleaned, cleaned_bucket, with_key, key_eq, is_of, named_row, state_of, row_of, stored_keys}
 use Rattle.gpu_descriptor.specs.Caller.States.{keys_of}
 use Rattle.gpu_descriptor.proofs.cleanup.RowsCleaned.{Rows, cleared_row, first_keys, has_row, row_books, rows_left}
-use Rattle.gpu_descriptor.proofs.table.TableBooks.{keys_are, keys_set, rows_are, rows_in}
+use Rattle.gpu_descriptor.proofs.table.TableBooks.{keys_are, rows_are, rows_in}
+use Rattle.gpu_descriptor.proofs.table.Exact.{key_exact}
 
 -- ---- a request
 
-module _ {P : Type 0} (k : Key) where
-  -- a write through the map leaves them
-  pub keys_written : (test : BucketKey → Bool) (es fs : List (BucketKey × DescriptorBucket P)) (w : DescriptorBucket P) → fs ≡ set_value test es w → StayOrGainLast k (stored_keys es) (stored_keys fs)
-  keys_written test es fs w wrote = inl (ap stored_keys wrote ∙ keys_set test es w)
+module _ (k : Key) where
+  stands : (keys : List Key) (i : ℕ) → slice_get keys i ≡ Some k → list_any (key_eq k) keys ≡ true
+  stands [] i at = absurd (let bad : ◌≡◌ {A = Option Key} None (Some k) = at in cc)
+  stands (l ∷ keys) zero at = (let self = key_exact.self k in grind arith)
+  stands (l ∷ keys) (suc i) at = (let later = stands keys i at in grind arith)
 
-  -- a key that is put comes last
-  pub keys_put : (key : BucketKey) (es fs : List (BucketKey × DescriptorBucket P)) (w : DescriptorBucket P) → key_of key ≡ k → fs ≡ es ++ (key, w) ∷ [] → StayOrGainLast k (stored_keys es) (stored_keys fs)
-  keys_put key es fs w is put = inr (ap stored_keys put ∙ map-append (λ (e : BucketKey × DescriptorBucket P). key_of e.0) es ((key, w) ∷ []) ∙ ap (λ (l : Key). stored_keys es ++ l ∷ []) is)
+  -- a key that has a place stays there
+  pub keys_stay : (keys : List Key) (i : ℕ) → slice_get keys i ≡ Some k → keys ≡ with_key k keys
+  keys_stay keys i at = rw (stands keys i at) refl
+
+module _ {P : Type 0} (k : Key) where
+  lacks : (es : List (BucketKey × DescriptorBucket P)) → lookup (is_of k) es ≡ None → list_any (key_eq k) (stored_keys es) ≡ false
+  lacks [] none = refl
+  lacks (e ∷ es) none = elim (cases_Bool (is_of k e.0)) [
+    | inl here ↦ absurd (let bad : ◌≡◌ {A = Option (DescriptorBucket P)} (Some e.1) None = rw here at none in cc)
+    | inr other ↦ (let later = lacks es (rw other at none) in grind arith)
+  ]
+
+  -- one that was absent comes last
+  pub keys_put : (key : BucketKey) (es fs : List (BucketKey × DescriptorBucket P)) (w : DescriptorBucket P) → key_of key ≡ k → lookup (is_of k) es ≡ None → fs ≡ es ++ (key, w) ∷ [] → stored_keys fs ≡ with_key k (stored_keys es)
+  keys_put key es fs w is none put = rw (lacks es none) (ap stored_keys put ∙ map-append (λ (e : BucketKey × DescriptorBucket P). key_of e.0) es ((key, w) ∷ []) ∙ ap (λ (l : Key). stored_keys es ++ l ∷ []) is)
 
   -- as callers see it
-  pub keys_seen : (a b : Allocations P) (es fs : List (BucketKey × DescriptorBucket P)) → a.table ≡ map row_of es → b.table ≡ map row_of fs → StayOrGainLast k (stored_keys es) (stored_keys fs) → StayOrGainLast k (keys_of a) (keys_of b)
-  keys_seen a b es fs was is kept = subst (λ l. StayOrGainLast k l (keys_of b)) (sym (keys_are a es was)) (subst (λ l. StayOrGainLast k (stored_keys es) l) (sym (keys_are b fs is)) kept)
+  pub keys_seen : (a b : Allocations P) (es fs : List (BucketKey × DescriptorBucket P)) → a.table ≡ map row_of es → b.table ≡ map row_of fs → stored_keys fs ≡ with_key k (stored_keys es) → keys_of b ≡ with_key k (keys_of a)
+  keys_seen a b es fs was is kept = keys_are b fs is ∙ kept ∙ ap (with_key k) (sym (keys_are a es was))
 
 -- ---- cleaning up
 

@@ -1,14 +1,10 @@
 -- All that is promised of a request, from what it took: kept, given back, declined, or for no sets.
-use Rattle.gpu_descriptor.proofs.Common.{◌≡◌, ◌≤◌, ℕ, ◌+◌, ◌<◌, List, Option, None, Some, MatchOption, Result, Ok, Err, inl, sym, ap, ◌∙◌, subst, arith, Vec, side, Meaning, Ledger, Counters, AllocationError, DescriptorSet, Stop, Agree, outstanding, HasDistinctKeys, Key, Allocations, run_digits, Grant, granted, items_in, Allocates, stop_answer, taken_by, call_of, Returns, StayOrGainLast, items_of, Agrees, marked_load_of, outstanding_of, pool_load_of, state_of, table_of, Takes}
+use Rattle.gpu_descriptor.proofs.Common.{◌≡◌, ◌≤◌, ℕ, ◌+◌, ◌<◌, List, Option, None, Some, Result, Ok, Err, sym, ap, ◌∙◌, arith, Vec, side, Meaning, Ledger, Counters, AllocationError, DescriptorSet, Stop, Agree, outstanding, HasDistinctKeys, Key, Allocations, run_digits, Grant, granted, items_in, stop_answer, call_of, Returns, with_key, items_of, Agrees, marked_load_of, outstanding_of, pool_load_of, state_of, table_of, IsDeclined, Takes}
 use Rattle.gpu_descriptor.specs.Caller.HandsOut.{HandsOut}
 use Rattle.gpu_descriptor.specs.Caller.Keeps.{Keeps}
 use Rattle.gpu_descriptor.specs.Caller.States.{keys_of}
 use Rattle.gpu_descriptor.proofs.request.Outcomes.{taken_agree, taken_out, taken_own, taken_others, taken_leaves, taken_loses_none, taken_others_of, went_back, back_out, back_leaves, back_loses_none, back_others, back_others_of, back_totals, kept, kept_many, kept_totals}
 use Rattle.gpu_descriptor.proofs.request.Promises.{has_cause, short}
-
-either : {A : Type 0} {B : Type 0} {C : A → Type 0} (o : Option A) → B → ((x : A) → C x) → MatchOption o B C
-either None none some = none
-either (Some x) none some = some x
 
 module _ {L P S : Type 0} {means : Meaning L P S} {k : Key} {count : ℕ} {sets : List (DescriptorSet S)} {ended : Result (Unit {0}) Stop} {old new : Allocations P} {before after : Ledger}
     (t : Takes means k count sets ended (side old before) (side new after)) (agree : Agree (state_of means.pool_name old before)) where
@@ -37,11 +33,12 @@ module _ {L P S : Type 0} {means : Meaning L P S} {k : Key} {count : ℕ} {sets 
       }
 
 module _ {L P S : Type 0} {means : Meaning L P S} {k : Key} {count : ℕ} (sets : Vec (DescriptorSet S)) {ended : Result (Unit {0}) Stop} {old new : Allocations P} {before after : Ledger}
-    (t : Takes means k count sets.items ended (side old before) (side new after)) (agree : Agrees means.pool_name old before) (keys : StayOrGainLast k (keys_of old) (keys_of new))
+    (t : Takes means k count sets.items ended (side old before) (side new after)) (agree : Agrees means.pool_name old before) (keys : keys_of new ≡ with_key k (keys_of old))
     (looks : new.looks + before.counters.asked ≡ old.looks + after.counters.asked) (comparisons : new.comparisons ≡ old.comparisons) (some : 0 < count) where
   pub hands_all : {x : Unit {0}} → ended ≡ Ok x → HandsOut means k count (Ok sets) (side old before) (side new after)
   hands_all is =
-      let outcome = kept t agree.books agree.rows some is in
+      let all = kept t agree.books agree.rows some is in
+      let outcome = all.0 in
       record {
         outcome = outcome;
         nothing = λ zero. absurd (omega arith);
@@ -54,7 +51,7 @@ module _ {L P S : Type 0} {means : Meaning L P S} {k : Key} {count : ℕ} (sets 
         cause = tt;
         creates = short _ outcome;
         other_keys = taken_others t agree.books;
-        keys = keys;
+        keys = rw all.1 keys;
         looks = looks;
         declined = tt;
         searches = tt;
@@ -81,7 +78,7 @@ module _ {L P S : Type 0} {means : Meaning L P S} {k : Key} {count : ℕ} (sets 
         cause = has_cause _ outcome;
         creates = short _ outcome;
         other_keys = back_others t agree.books r.back;
-        keys = subst (StayOrGainLast k (keys_of old)) (sym r.keys) keys;
+        keys = rw went.2 (r.keys ∙ keys);
         looks = (let stay = r.looks_stay in omega arith);
         declined = λ none. absurd (let bad : ◌≡◌ {A = Option Grant} None (Some went.1) = sym none ∙ went.2 in cc);
         searches = rw went.2 (let few = r.comparisons in omega arith);
@@ -91,8 +88,8 @@ module _ {L P S : Type 0} {means : Meaning L P S} {k : Key} {count : ℕ} (sets 
 
 -- the request was declined, and nothing changed
 module _ {L P S : Type 0} {means : Meaning L P S} {k : Key} {count : ℕ} {old new : Allocations P} {before after : Ledger} (same : new ≡ old) (ledger : after ≡ before) where
-  pub hands_none : (error : AllocationError) → 0 < count → Allocates (call_of means k count (side old before) (side new after) (Err error)) → HandsOut means k count (Err error) (side old before) (side new after)
-  hands_none error some outcome = record {
+  pub hands_none : (error : AllocationError) → 0 < count → IsDeclined (call_of means k count (side old before) (side new after) (Err error)) → HandsOut means k count (Err error) (side old before) (side new after)
+  hands_none error some declined = let outcome = declined.0 in record {
     outcome = outcome;
     nothing = λ zero. absurd (omega arith);
     many = tt;
@@ -104,10 +101,10 @@ module _ {L P S : Type 0} {means : Meaning L P S} {k : Key} {count : ℕ} {old n
     cause = has_cause _ outcome;
     creates = short _ outcome;
     other_keys = λ l other. record { books = λ i. (state_of means.pool_name (same i) (ledger i)).books l; pools = λ n e at i. (state_of means.pool_name (same i) (ledger i)).ledger e.pool };
-    keys = inl (ap keys_of same);
+    keys = rw declined.1 (ap keys_of same);
     looks = (let a = ap (λ (a : Allocations P). a.looks) same in let l = ap (λ (l : Ledger). l.counters.asked) ledger in omega arith);
     declined = λ none. (same, ledger);
-    searches = either (taken_by outcome) (let a = ap (λ (a : Allocations P). a.comparisons) same in omega arith) (λ g. (let a = ap (λ (a : Allocations P). a.comparisons) same in omega arith));
+    searches = rw declined.1 (ap (λ (a : Allocations P). a.comparisons) same);
     comparisons_stay = tt;
     compared = (let a = ap (λ (a : Allocations P). a.comparisons) same in omega arith);
   }

@@ -97,8 +97,3 @@ module _ {P : Type 0} where
   -- the keys that callers see are those of the map
   pub keys_are : (a : Allocations P) (es : List (BucketKey × DescriptorBucket P)) → a.table ≡ map row_of es → keys_of a ≡ map (λ e. key_of e.0) es
   keys_are a es is = ap (map (λ r. r.0)) is ∙ row_keys es
-
-  -- a write through the map keeps its keys
-  pub keys_set : (test : BucketKey → Bool) (es : List (BucketKey × DescriptorBucket P)) (w : DescriptorBucket P) → map (λ (e : BucketKey × DescriptorBucket P). key_of e.0) (set_value test es w) ≡ map (λ (e : BucketKey × DescriptorBucket P). key_of e.0) es
-  keys_set test [] w = refl
-  keys_set test (e ∷ es) w = grind (arith, (keys_set test es w))

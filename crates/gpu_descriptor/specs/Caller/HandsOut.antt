@@ -1,6 +1,6 @@
 -- What a request for sets leaves of an allocator and of the ledger.
 use Rattle.gpu_descriptor.specs.Model.Grants.{granted, items_in}
-use Rattle.std.specs.Prelude.{◌≡◌, ℕ, ◌+◌, ◌≤◌, length, IfOk, IfErr, MatchOption, None, OnOk, OnErr, Result}
+use Rattle.std.specs.Prelude.{◌≡◌, ℕ, ◌+◌, ◌≤◌, length, IfOk, IfErr, MatchOption, None, OnOk, OnErr, Result, if◌then◌else◌, is_some}
 use Rattle.std.specs.Global.{Vec}
 use Rattle.gpu_descriptor_types.specs.Meaning.{Meaning}
 use Rattle.gpu_descriptor_types.specs.Side.{Side}
@@ -12,7 +12,7 @@ use Rattle.gpu_descriptor.specs.Model.Outcomes.{Allocates, taken_by}
 use Rattle.gpu_descriptor.specs.Model.Promises.{AreOfKey, AreOutBesides, CreatesOnlyWhereShort, HasCause, KeepsOtherKeys, KeepsOutstanding}
 use Rattle.gpu_descriptor.specs.Caller.Call.{answer_of, call_of}
 use Rattle.gpu_descriptor.specs.Caller.Comparisons.{run_digits}
-use Rattle.gpu_descriptor.specs.Caller.Keys.{StayOrGainLast}
+use Rattle.gpu_descriptor.specs.Caller.Keys.{with_key}
 use Rattle.gpu_descriptor.specs.Caller.Sets.{items_of}
 use Rattle.gpu_descriptor.specs.Caller.States.{keys_of, marked_load_of, outstanding_of, state_of}
 use Rattle.gpu_descriptor.specs.Caller.Values.{Allocations}
@@ -34,7 +34,8 @@ pub record HandsOut {L P S : Type 0} (means : Meaning L P S) (k : Key) (count : 
   pub cause : IfErr answer (λ e. HasCause e (call_of means k count old new (answer_of means.set_name answer)))
   pub creates : CreatesOnlyWhereShort outcome
   pub other_keys : KeepsOtherKeys k (state_of means.pool_name old.value old.ledger) (state_of means.pool_name new.value new.ledger)
-  pub keys : StayOrGainLast k (keys_of old.value) (keys_of new.value)
+  -- one that came to the walk has its key, even if it stopped, and no other brings one
+  pub keys : keys_of new.value ≡ (if is_some (taken_by outcome) then with_key k (keys_of old.value) else keys_of old.value)
   -- a look for each call that asks a pool
   pub looks : new.value.looks + old.ledger.counters.asked ≡ old.value.looks + new.ledger.counters.asked
   -- a request that ended before the walk changes nothing

@@ -1,6 +1,6 @@
 -- What a request took of one key, before any of it goes back: in the bucket, in the table, and of an allocator.
 use Rattle.gpu_descriptor_types.specs.Bounds.{greatest_u64}
-use Rattle.std.specs.Prelude.{◌≡◌, ℕ, ◌+◌, ◌-◌, ◌*◌, ◌<◌, ◌≤◌, ◌⊎◌, true, if◌then◌else◌, List, length, sum, Result, OnOk}
+use Rattle.std.specs.Prelude.{◌≡◌, ℕ, ◌+◌, ◌-◌, ◌*◌, ◌<◌, ◌≤◌, ◌⊎◌, true, if◌then◌else◌, List, length, sum, Result, OnOk, None}
 use Rattle.gpu_descriptor_types.specs.Ledger.{Ledger}
 use Rattle.gpu_descriptor_types.specs.Meaning.{Meaning}
 use Rattle.gpu_descriptor_types.specs.Side.{Side}
@@ -10,6 +10,7 @@ use Rattle.gpu_descriptor.specs.declared.errors.AllocationError.TheVariants.{Out
 use Rattle.gpu_descriptor.specs.declared.set.DescriptorSet.{DescriptorSet}
 use Rattle.gpu_descriptor.specs.declared.bucket.take.Stop.{Stop}
 use Rattle.gpu_descriptor.specs.Model.Books.{Key, key_eq, Bucket, BucketOf, HasDistinctKeys, next_number, sum_over}
+use Rattle.gpu_descriptor.specs.Model.Outcomes.{Call, Allocates, taken_by}
 use Rattle.gpu_descriptor.specs.Caller.Sets.{items_of}
 use Rattle.gpu_descriptor.specs.Caller.States.{outstanding_of, marked_load_of, pool_load_of, table_of}
 use Rattle.gpu_descriptor.specs.Caller.Values.{Allocations}
@@ -44,6 +45,10 @@ module _ {L P S : Type 0} (means : Meaning L P S) where
     pub within : k.marked ≡ true → count * sum k.counts + marked_load_of old.value ≤ old.value.limit
     pub fits : outstanding_of old.value + count ≤ greatest_u64
     pub serves : ServesKey k (old.value.limit - pool_load_of old.value) count sets ended old.value.table new.value.table old.ledger new.ledger
+
+-- a request ended before the walk
+abbrev pub IsDeclined : Call → Type 0
+IsDeclined c = (outcome : Allocates c) × (taken_by outcome ≡ None)
 
 -- nothing was taken: memory was wanting, or the numbers of the key's pools would pass 64 bits
 abbrev pub IsUnserved : ℕ → AllocationError → Bucket → Type 0

@@ -9,17 +9,17 @@ ghost use Rattle.gpu_descriptor.specs.Model.Books.{key_eq, sum_over};
 ghost use Rattle.gpu_descriptor.specs.Caller.Flags.{is_marked};
 ghost use Rattle.gpu_descriptor.specs.Caller.HandsOut.{HandsOut};
 ghost use Rattle.gpu_descriptor.specs.Caller.Keeps.{Keeps};
-ghost use Rattle.gpu_descriptor.specs.Caller.Keys.{StayOrGainLast};
+ghost use Rattle.gpu_descriptor.specs.Caller.Keys.{with_key};
 ghost use Rattle.gpu_descriptor.specs.Inner.KeyOf.{key_of};
 ghost use Rattle.gpu_descriptor.specs.Caller.States.{Agrees, keys_of, marked_load_of};
 ghost use Rattle.gpu_descriptor.specs.Model.Load.{bucket_load, sets_out};
-ghost use Rattle.gpu_descriptor.specs.Model.Outcomes.{Allocates, error_of_alloc as alloc_answer};
+ghost use Rattle.gpu_descriptor.specs.Model.Outcomes.{error_of_alloc as alloc_answer};
 ghost use Rattle.gpu_descriptor.specs.Model.Outcomes.{stop_answer};
 ghost use Rattle.gpu_descriptor.specs.Caller.Call.{call_of, layout_key};
 ghost use Rattle.gpu_descriptor.specs.Inner.Buckets.{AreBookedIn};
 ghost use Rattle.gpu_descriptor.specs.Inner.OpenPools.{CountsLooks};
 ghost use Rattle.gpu_descriptor.specs.Inner.Stored.{books_in, row_of, stored_keys};
-ghost use Rattle.gpu_descriptor.specs.Inner.Serves.{IsUnserved, IsSound, ServesKey, Takes};
+ghost use Rattle.gpu_descriptor.specs.Inner.Serves.{IsDeclined, IsSound, IsUnserved, ServesKey, Takes};
 
 use super::DescriptorAllocator;
 use crate::bucket::take::{Served, SetRequest, Stop};
@@ -108,13 +108,12 @@ impl<P: Drop, S: Drop> DescriptorAllocator<P, S> {
         requires agree { Agrees D.meaning.pool_name self.old (D.ledger device.old) }
         ensures taken { IfOk result (λ r. Takes D.meaning (key_of key) count r.sets.items r.taken
             (side self.old (D.ledger device.old)) (side self.new (D.ledger device.new))) }
-        ensures declined { IfErr result (λ e. Allocates (call_of D.meaning (key_of key) count
+        ensures declined { IfErr result (λ e. IsDeclined (call_of D.meaning (key_of key) count
             (side self.old (D.ledger device.old)) (side self.new (D.ledger device.new)) (Err e))) }
         ensures looks { CountsLooks self.old.looks self.new.looks
             (D.ledger device.old) (D.ledger device.new) }
         ensures comparisons_stay { self.new.comparisons ≡ self.old.comparisons }
-        ensures keys { OnOk result (StayOrGainLast (key_of key) (keys_of self.old)
-            (keys_of self.new)) }
+        ensures keys { OnOk result (keys_of self.new ≡ with_key (key_of key) (keys_of self.old)) }
         ensures allocator { OnErr result (self.new ≡ self.old) }
         ensures ledger { OnErr result (D.ledger device.new ≡ D.ledger device.old) }
         ensures within { IsSound D.meaning.pool_name self.new }
@@ -186,8 +185,8 @@ fn serve_key<L, P: Drop, S: Drop, D: DescriptorDevice<L, P, S>>(
     ensures looks_stay { OnErr result (looks.new ≡ looks.old) }
     ensures room { room.new + sum_over bucket_load (map row_of buckets.new.entries)
         ≡ room.old + sum_over bucket_load (map row_of buckets.old.entries) }
-    ensures keys { OnOk result (StayOrGainLast (key_of request.now.key)
-        (stored_keys buckets.old.entries) (stored_keys buckets.new.entries)) }
+    ensures keys { OnOk result (stored_keys buckets.new.entries
+        ≡ with_key (key_of request.now.key) (stored_keys buckets.old.entries)) }
     ensures distinct { OnOk result (IsDistinct key_eq (stored_keys buckets.new.entries)) }
     ensures rising { rise_below ids.new.next (stored_ids buckets.new.entries) ≡ true }
     ensures entries { OnErr result (buckets.new.entries ≡ buckets.old.entries) }

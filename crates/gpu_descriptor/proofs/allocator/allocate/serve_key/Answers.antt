@@ -5,7 +5,7 @@ use Rattle.indexmap.specs.Layout.{set_value_at}
 use Rattle.std.proofs.lemmas.Result.{IfErr-weaker, IfOk-weaker, on_err_weaker}
 use Rattle.indexmap.specs.IndexMap.{IndexMap, insert_entry}
 use Rattle.indexmap.proofs.CallerLemmas.{insert_entry-new}
-use Rattle.gpu_descriptor.proofs.cleanup.KeyOrder.{keys_put, keys_written}
+use Rattle.gpu_descriptor.proofs.cleanup.KeyOrder.{keys_put, keys_stay}
 use Rattle.gpu_descriptor.proofs.sums.Loads.{IsRow, IsWritten, total_present, pools_set, pools_end}
 use Rattle.gpu_descriptor.proofs.request.InTable.{present, missing, serves_present, serves_new, written-same}
 use Rattle.gpu_descriptor.proofs.table.TableBooks.{distinct_stored}
@@ -58,7 +58,7 @@ pub returns-in-Some-clause-room : goal.returns-in-Some-clause-room
 returns-in-Some-clause-room g c = pools_set (left g (goal.at.returns-in-Some-clause-room g c).After-serve) _ _ c.serve.ensures.room
 
 pub returns-in-Some-clause-keys : goal.returns-in-Some-clause-keys
-returns-in-Some-clause-keys g c = on_ok c.serve.result (let r = left g (goal.at.returns-in-Some-clause-keys g c).After-serve in keys_written (key_of c.args.request.now.key) r.row.test c.args.buckets.now.entries _ c.serve.new.self r.wrote)
+returns-in-Some-clause-keys g c = on_ok c.serve.result (keys_at c.args.buckets.now.entries c.in-Some.place c.serve.new.self ∙ keys_stay (key_of c.args.request.now.key) (stored_keys c.args.buckets.now.entries) c.in-Some.place c.in-Some.ensures.place)
 
 -- a key that the table lacks has no pools
 absent : (g : _) (c : In-None g) → books_in g.D.DescriptorDevice.meaning.pool_name (map row_of c.args.buckets.now.entries) (key_of c.args.request.now.key) ≡ no_pools
@@ -98,7 +98,7 @@ returns-clause-room g c =
     rw (put g (goal.at.returns-clause-room g c).In-Ok-insert) (pools_end c.args.request.now.key c.args.buckets.now.entries c.serve-2.new.self c.serve-2.new.room c.args.room.now (omega arith))
 
 pub returns-clause-keys : goal.returns-clause-keys
-returns-clause-keys g c = keys_put (key_of c.args.request.now.key) c.args.request.now.key c.args.buckets.now.entries c.insert.new.self.entries c.serve-2.new.self refl (put g (goal.at.returns-clause-keys g c).In-Ok-insert)
+returns-clause-keys g c = keys_put (key_of c.args.request.now.key) c.args.request.now.key c.args.buckets.now.entries c.insert.new.self.entries c.serve-2.new.self refl c.in-None.ensures.place (put g (goal.at.returns-clause-keys g c).In-Ok-insert)
 
 pub returns-in-Some-clause-distinct : goal.returns-in-Some-clause-distinct
 returns-in-Some-clause-distinct g c = on_ok c.serve.result (subst (IsDistinct key_eq) (sym (keys_at c.args.buckets.now.entries c.in-Some.place c.serve.new.self)) c.requires.distinct)
