@@ -31,30 +31,27 @@ module _ {P : Type 0} (name : P → ℕ) where
   pub row_bucket : (r : BucketKey × DescriptorBucket P) → (named_row name (row_of r)).1 ≡ bucket_of name r.1
   row_bucket r = λ i. record { id = r.1.id; offset = r.1.offset; pools = entries r.1.pools.items i }
 
-  head_books : (r : BucketKey × DescriptorBucket P) (es : List (BucketKey × DescriptorBucket P)) (l : Key) → books_in name (map row_of (r ∷ es)) l ≡ (if key_eq (key_of r.0) l then bucket_of name r.1 else books_in name (map row_of es) l)
-  head_books r es l = ap (λ (b : Bucket). if key_eq (key_of r.0) l then b else books_in name (map row_of es) l) (row_bucket r)
-
   -- a look-up in the map is what the books have
   pub looked_up : (test : BucketKey → Bool) (k : Key) → ((l : BucketKey) → test l ≡ key_eq k (key_of l)) → (es : List (BucketKey × DescriptorBucket P)) → books_in name (map row_of es) k ≡ option_map_or (bucket_of name) (lookup test es) no_pools
   looked_up test k same [] = refl
   looked_up test k same (e ∷ es) =
       let here : key_eq (key_of e.0) k ≡ test e.0 = key_eq_symm (key_of e.0) k ∙ sym (same e.0) in
-      grind (arith, head_books, (looked_up test k same es))
-
-  no_bad : (A : Type 0) → true ≡ false → A
-  no_bad A h = absurd (let bad : true ≡ false = h in cc)
+      elim (cases_Bool (test e.0)) [
+        | inl hit ↦ rw (hit, here ∙ hit) (row_bucket e)
+        | inr miss ↦ rw (miss, here ∙ miss) (looked_up test k same es)
+      ]
 
   -- a write through the map is a write to the books
   pub written : (test : BucketKey → Bool) (k : Key) → ((l : BucketKey) → test l ≡ key_eq k (key_of l)) → (es : List (BucketKey × DescriptorBucket P)) (w : DescriptorBucket P) → IsSome (lookup test es) → (l : Key) → books_in name (map row_of (set_value test es w)) l ≡ put_books (books_in name (map row_of es)) k (bucket_of name w) l
   written test k same [] w some l = absurd (let bad : false ≡ true = some in cc)
   written test k same (e ∷ es) w some l = elim (cases_Bool (test e.0)) [
     | inl h ↦ (
-        let is : k ≡ key_of e.0 = key_exact.same k (key_of e.0) (sym (same e.0) ∙ h) in
-        let left : books_in name (map row_of (set_value test (e ∷ es) w)) l ≡ (if key_eq (key_of e.0) l then bucket_of name w else books_in name (map row_of es) l) = rw h (head_books (e.0, w) es l) in
-        grind (arith, common_steps))
-    | inr h ↦ (
-        let left : books_in name (map row_of (set_value test (e ∷ es) w)) l ≡ (if key_eq (key_of e.0) l then bucket_of name e.1 else books_in name (map row_of (set_value test es w)) l) = rw h (head_books e (set_value test es w) l) in
-        grind (arith, common_steps, key_exact, no_bad, row_bucket, (written test k same es w)))
+        let is : key_eq k l ≡ key_eq (key_of e.0) l = ap (λ (m : Key). key_eq m l) (key_exact.same k (key_of e.0) (sym (same e.0) ∙ h)) in
+        rw h (elim (cases_Bool (key_eq (key_of e.0) l)) [ inl at ↦ rw (at, is ∙ at) (row_bucket (e.0, w)) | inr other ↦ rw (other, is ∙ other) refl ]))
+    | inr h ↦ rw h (elim (cases_Bool (key_eq (key_of e.0) l)) [
+      | inl at ↦ rw (at, ap (key_eq k) (sym (key_exact.same (key_of e.0) l at)) ∙ sym (same e.0) ∙ h) refl
+      | inr other ↦ rw other (written test k same es w (rw h at some) l)
+    ])
   ]
 
   pub rows_are : (es : List (BucketKey × DescriptorBucket P)) → map (named_row name) (map row_of es) ≡ rows_in es
