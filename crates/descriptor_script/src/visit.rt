@@ -1,6 +1,6 @@
 //! A visit to a device: of an allocator that is made, used and cleaned up nothing is left there,
 //! once all its sets are free.
-ghost use Rattle.std.specs.Prelude.{◌≡◌, [], IfOk};
+ghost use Rattle.std.specs.Prelude.{◌≡◌, [], IfOk, OnErr};
 ghost use Rattle.gpu_descriptor_types.specs.Side.{side};
 ghost use Rattle.gpu_descriptor.specs.Caller.States.{Agrees, state_of};
 ghost use Rattle.descriptor_script.specs.Sessions.Session.{AreAllHeld, AreMeant};
@@ -8,6 +8,7 @@ ghost use Rattle.gpu_descriptor.specs.Model.Agreement.{HasNoPools};
 ghost use Rattle.descriptor_script.specs.Sessions.Session.{KeepsSession, allocator_of};
 ghost use Rattle.descriptor_script.specs.Sessions.Session.{layouts_of, sets_of};
 ghost use Rattle.descriptor_script.specs.Sessions.SessionRun.{VisitsTo};
+ghost use Rattle.descriptor_script.specs.Sessions.Steps.{Cleans};
 ghost use Rattle.descriptor_script.specs.Sessions.Tickets.{held_sets};
 
 use crate::{Command, Reply, Session};
@@ -16,7 +17,8 @@ use std::alloc::AllocError;
 
 /// Runs commands, as `Session::run` does, on a session whose books are as new, and then cleans up.
 /// If no set is held then, the device has exactly the pools that it had before, whatever it refused
-/// in between, and the session may visit it again.
+/// in between, and the session may visit it again. Without memory for the replies it only cleans
+/// up.
 ///
 /// A session that was just made meets the conditions, with layouts as the device means them.
 pub fn visit<L, P: Drop, S: Drop, D: DescriptorDevice<L, P, S>>(
@@ -32,6 +34,8 @@ pub fn visit<L, P: Drop, S: Drop, D: DescriptorDevice<L, P, S>>(
     requires meant { AreMeant D.meaning (layouts_of session.old) }
     ensures runs { IfOk result (λ replies. VisitsTo D.meaning commands.now replies.items
         (side session.old (D.ledger device.old)) (side session.new (D.ledger device.new))) }
+    ensures cleans { OnErr result (Cleans D.meaning (side session.old (D.ledger device.old))
+        (side session.new (D.ledger device.new))) }
     ensures pools { held_sets (sets_of session.new) ≡ [] → (D.ledger device.new).pools
         ≡ (D.ledger device.old).pools }
     ensures ended { held_sets (sets_of session.new) ≡ [] → HasNoPools (state_of D.meaning.pool_name

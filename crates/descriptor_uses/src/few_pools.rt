@@ -93,6 +93,8 @@ impl<const MOST: u32> DescriptorDevice<ScriptLayout, RawPool, RawSet> for FewPoo
             (few_ledger self.new)) }
         ensures err { IfErr result (λ e. PutsNone K.sink (pool_id pool.old) e sets.old sets.new
             (few_ledger self.old) (few_ledger self.new)) }
+
+        ensures refused { IfErr result (λ e. e ≡ DeviceAllocationError.OutOfHostMemory) }
     {
         self.device.alloc_descriptor_sets(pool, layouts, sets)
     }

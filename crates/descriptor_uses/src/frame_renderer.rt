@@ -1,11 +1,12 @@
 //! A struct over a frame manager: a set is in use for a frame, and goes back when that is done.
 ghost use Rattle.std.specs.Prelude.{◌≡◌, ◌+◌, ◌≤◌, ◌++◌, ◌↔◌, [], drop, length, map, take, true};
-ghost use Rattle.std.specs.Prelude.{IfOk, IsFalse, IsTrue, Ok, OnErr, OnOk};
+ghost use Rattle.std.specs.Prelude.{IfOk, IsFalse, IsTrue, Ok, OnErr, OnOk, false};
 ghost use Rattle.std.specs.VecDeque.{deque_capacity};
 ghost use Rattle.gpu_descriptor.specs.Caller.Sets.{items_of};
-ghost use Rattle.gpu_descriptor.specs.Caller.States.{Agrees};
+ghost use Rattle.gpu_descriptor.specs.Caller.States.{Agrees, outstanding_of};
 ghost use Rattle.gpu_descriptor.proofs.callers.OneAgreement.{Agrees-prop};
 ghost use Rattle.descriptor_frames.specs.Frames.{AreInUse, AreRetiredOut, allocator_of};
+ghost use Rattle.descriptor_frames.specs.Frames.{retired_of};
 ghost use Rattle.descriptor_frames.specs.Retired.{at_frame, later};
 ghost use Rattle.descriptor_uses.specs.Layouts.{Adds, IsMeant};
 
@@ -19,7 +20,7 @@ use std::marker::PhantomData;
 /// A device with a frame manager, and the sets that are in use, in the order in which they came.
 ///
 /// Its ghost fields are what the manager's calls ask, so only `begin` and `add` ask something: of
-/// the layout.
+/// the layout. By `all` no set is out besides those in use and the retired.
 #[derive(Drop)]
 pub struct FrameRenderer<L, P, S, D: DescriptorDevice<L, P, S>> {
     device: D,
@@ -33,6 +34,8 @@ pub struct FrameRenderer<L, P, S, D: DescriptorDevice<L, P, S>> {
         (D.ledger device) },
     ghost used: { AreInUse D.meaning.pool_name D.meaning.set_name
         (items_of D.meaning.set_name in_use.items) manager (D.ledger device) },
+    ghost all: { outstanding_of (allocator_of manager) ≡ length in_use.items
+        + length (retired_of manager) },
 }
 
 impl<L, P: Drop, S: Drop, D: DescriptorDevice<L, P, S>> FrameRenderer<L, P, S, D> {
@@ -58,6 +61,7 @@ impl<L, P: Drop, S: Drop, D: DescriptorDevice<L, P, S>> FrameRenderer<L, P, S, D
         requires { IsMeant D.meaning layout.now }
         ensures begins { result ≡ Ok true → length (used_of self.new) ≡ count }
         ensures waits { IfOk result (λ began. IsTrue began ↔ (used_of self.old ≡ [])) }
+        ensures busy { ¬ (used_of self.old ≡ []) → result ≡ Ok false }
         ensures stay { ¬ (result ≡ Ok true) → used_of self.new ≡ used_of self.old }
         ensures retired { retired_in self.new ≡ retired_in self.old }
     {

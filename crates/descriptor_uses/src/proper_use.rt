@@ -1,7 +1,7 @@
 //! Sets and pools as they are to be used: each while it is out, and each goes back once.
 ghost use Rattle.std.specs.Prelude.{◌≡◌, ◌+◌, IfOk, OnOk};
 ghost use Rattle.gpu_descriptor.specs.Caller.Flags.{is_marked};
-ghost use Rattle.gpu_descriptor.specs.Caller.States.{Agrees};
+ghost use Rattle.gpu_descriptor.specs.Caller.States.{Agrees, outstanding_of};
 ghost use Rattle.descriptor_script.specs.Scripted.Raw.{pool_id};
 ghost use Rattle.descriptor_script.specs.Scripted.Logged.{ledger_logged, next_pool};
 
@@ -28,7 +28,8 @@ pub fn borrow_set(
     layout: &ScriptLayout,
 ) -> Result<u64, AllocationError>
     requires { Agrees pool_id allocator.old (ledger_logged device.old) }
-    ensures { Agrees pool_id allocator.new (ledger_logged device.new) }
+    ensures agree { Agrees pool_id allocator.new (ledger_logged device.new) }
+    ensures outstanding { outstanding_of allocator.new ≡ outstanding_of allocator.old }
 {
     let flags = flags_of(layout.mark);
     match allocator.allocate(device, layout, flags, &layout.counts, 1) {
@@ -50,7 +51,8 @@ pub fn borrow_sets(
     count: u32,
 ) -> Result<bool, AllocationError>
     requires { Agrees pool_id allocator.old (ledger_logged device.old) }
-    ensures { Agrees pool_id allocator.new (ledger_logged device.new) }
+    ensures agree { Agrees pool_id allocator.new (ledger_logged device.new) }
+    ensures outstanding { outstanding_of allocator.new ≡ outstanding_of allocator.old }
 {
     let flags = flags_of(layout.mark);
     match allocator.allocate(device, layout, flags, &layout.counts, count) {

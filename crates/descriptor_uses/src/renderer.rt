@@ -1,7 +1,11 @@
 //! A struct that owns its device and its allocator, which always agree.
-ghost use Rattle.std.specs.Prelude.{◌≡◌, IfOk, OnErr};
+ghost use Rattle.std.specs.Prelude.{◌≡◌, length, IfOk, OnErr};
+ghost use Rattle.gpu_descriptor_types.specs.Side.{side};
 ghost use Rattle.gpu_descriptor.specs.Model.Agreement.{AreOutstanding};
-ghost use Rattle.gpu_descriptor.specs.Model.Promises.{AreOutBesides, KeepsOutstanding};
+ghost use Rattle.gpu_descriptor.specs.Model.Promises.{AreOfKey, AreOutBesides};
+ghost use Rattle.gpu_descriptor.specs.Model.Promises.{KeepsOutstanding};
+ghost use Rattle.gpu_descriptor.specs.Caller.Call.{layout_key};
+ghost use Rattle.gpu_descriptor.specs.Caller.CleansUp.{CleansUp};
 ghost use Rattle.gpu_descriptor.specs.Caller.Sets.{items_of};
 ghost use Rattle.gpu_descriptor.specs.Caller.States.{Agrees, state_of};
 ghost use Rattle.gpu_descriptor.specs.Caller.Values.{without_keys};
@@ -42,6 +46,9 @@ impl<L, P: Drop, S: Drop, D: DescriptorDevice<L, P, S>> Renderer<L, P, S, D> {
         count: u32,
     ) -> Result<Vec<DescriptorSet<S>>, AllocationError>
         requires { IsMeant D.meaning layout.now }
+        ensures many { IfOk result (λ sets. length sets.items ≡ count) }
+        ensures own { IfOk result (λ sets. AreOfKey (layout_key D.meaning layout.now.layout)
+            (items_of D.meaning.set_name sets.items)) }
         ensures given { IfOk result (λ sets. AreOutBesides (items_of D.meaning.set_name sets.items)
             (state_of D.meaning.pool_name self.old.allocator (D.ledger self.old.device)) (state_of
             D.meaning.pool_name self.new.allocator (D.ledger self.new.device))) }
@@ -71,9 +78,8 @@ impl<L, P: Drop, S: Drop, D: DescriptorDevice<L, P, S>> Renderer<L, P, S, D> {
 
     /// Destroys the pools without sets.
     pub fn clean(&mut self)
-        ensures { KeepsOutstanding (state_of D.meaning.pool_name self.old.allocator
-            (D.ledger self.old.device)) (state_of D.meaning.pool_name self.new.allocator
-            (D.ledger self.new.device)) }
+        ensures { CleansUp D.meaning (side self.old.allocator (D.ledger self.old.device))
+            (side self.new.allocator (D.ledger self.new.device)) }
     {
         self.allocator.cleanup(&mut self.device);
     }

@@ -7,7 +7,7 @@ ghost use Rattle.gpu_descriptor.proofs.callers.OneAgreement.{Agrees-prop};
 ghost use Rattle.descriptor_uses.specs.Layouts.{Adds, IsMeant};
 
 use crate::layout::SetLayout;
-use gpu_descriptor::{AllocationError, DescriptorAllocator, DescriptorDevice, DescriptorSet};
+use gpu_descriptor::{AllocationError, DescriptorAllocator, DescriptorDevice, DescriptorSet, laws};
 use std::alloc::Global;
 use std::marker::PhantomData;
 use std::mem;
@@ -34,8 +34,10 @@ impl<L, P: Drop, S: Drop, D: DescriptorDevice<L, P, S>> Scene<L, P, S, D> {
 
     /// A scene without sets.
     pub fn new(alloc: Global, device: D) -> Self
-        ensures { held_of result ≡ [] }
+        ensures held { held_of result ≡ [] }
+        ensures others { others_in result ≡ (D.ledger device).pools }
     {
+        laws::no_pool_is_lost::<P>();
         Scene {
             alloc,
             device,
@@ -51,6 +53,7 @@ impl<L, P: Drop, S: Drop, D: DescriptorDevice<L, P, S>> Scene<L, P, S, D> {
         ensures added { OnOk result (Adds D.meaning layout.now.layout count (held_of self.old)
             (held_of self.new)) }
         ensures held { OnErr result (held_of self.new ≡ held_of self.old) }
+        ensures others { others_in self.new ≡ others_in self.old }
     {
         let mut sets = self.allocator.allocate(
             &mut self.device,
@@ -70,6 +73,7 @@ impl<L, P: Drop, S: Drop, D: DescriptorDevice<L, P, S>> Scene<L, P, S, D> {
     pub fn clear(&mut self)
         ensures held { held_of self.new ≡ [] }
         ensures pools { pools_of self.new ≡ others_in self.old }
+        ensures others { others_in self.new ≡ others_in self.old }
     {
         let sets = mem::replace(&mut self.sets, Vec::new(self.alloc));
         self.allocator.free_all(&mut self.device, sets);

@@ -191,15 +191,17 @@ module _ {L P S : Type 0} {means : Meaning L P S} {k : Key} {count : ℕ} {sets 
 
   pub kept : HasDistinctKeys (table_of means.pool_name old) → 0 < count → {x : Unit {0}} → ended ≡ Ok x → (o : Allocates (call_of means k count (side old before) (side new after) (Ok items))) × (is_some (taken_by o) ≡ true)
   kept distinct some is =
-      let all = all_of is in
-      (done (proceeds distinct some new after _) (record {
-        pooled = pool_load_of old;
-        is_pooled = pool_load_is means old before distinct;
-        grant = all.0;
-        taken = all.1.grant;
-        all = all.2;
-        fresh = all.3;
-        answer = ap Ok (sym all.1.came);
-        state = state ∙ (λ i. with_bucket k (all.1.bucket i) (all.1.pools i) s);
-        counters = all.1.counters;
-      }), refl)
+      let all = all_of is in (
+        done (proceeds distinct some new after _) (record {
+          pooled = pool_load_of old;
+          is_pooled = pool_load_is means old before distinct;
+          grant = all.0;
+          taken = all.1.grant;
+          all = all.2;
+          fresh = all.3;
+          answer = ap Ok (sym all.1.came);
+          state = state ∙ (λ i. with_bucket k (all.1.bucket i) (all.1.pools i) s);
+          counters = all.1.counters;
+        }),
+        refl,
+      )

@@ -1,5 +1,6 @@
-use Rattle.std.proofs.Common.{◌≡◌, [], sym, ap, ◌∙◌}
+use Rattle.std.proofs.Common.{◌≡◌, [], sym, ap, subst, ◌∙◌}
 use Rattle.std.proofs.lemmas.Result.{IfOk-weaker}
+use Rattle.std.specs.Prelude.{Result, Ok, Err, OnErr}
 use Rattle.gpu_descriptor_types.specs.Meaning.{Meaning}
 use Rattle.gpu_descriptor_types.specs.Side.{Side, side}
 use Rattle.gpu_descriptor.specs.Model.Agreement.{Item, State, count_of, outstanding}
@@ -40,6 +41,15 @@ pub returns-clause-runs : goal.returns-clause-runs
 returns-clause-runs g c =
     let at = (goal.at.returns-clause-runs g c).After-step-clean in
     IfOk-weaker c.run-replies.result _ _ (λ replies ran. (used g at, ran, done g at)) c.run-replies.ensures.runs
+
+both : {T E A B C : Type 0} (r : Result T E) → (A → B → C) → OnErr r A → OnErr r B → OnErr r C
+both (Ok x) then a b = tt
+both (Err e) then a b = then a b
+
+pub returns-clause-cleans : goal.returns-clause-cleans
+returns-clause-cleans g c =
+    let at = (goal.at.returns-clause-cleans g c).After-step-clean in
+    both c.run-replies.result (λ session ledger. subst (λ old. Cleans g.D.DescriptorDevice.meaning old (left g at)) (λ i. side (session i) (ledger i)) (done g at)) c.run-replies.ensures.session c.run-replies.ensures.ledger
 
 -- with no set held afterwards none was outstanding
 nothing : (g : _) (c : After-step-clean g) → held_sets (sets_of c.step-clean.new.self) ≡ [] → (i : Item) → outstanding (state_of g.D.DescriptorDevice.meaning.pool_name (allocator_of c.run-replies.new.self) (g.D.DescriptorDevice.ledger c.run-replies.new.device)) i ≡ 0
