@@ -9,15 +9,21 @@ use std::test::Fail;
 
 #[test]
 fn tickets_have_the_sets_as_they_came(rt: HostRuntime) -> Result<(), Fail> {
+    let mut names = [None; 103];
+    for (ticket, name) in names.iter_mut().enumerate() {
+        *name = Some(ticket as u64);
+    }
+    names[1] = None;
+    // The second request takes 62 sets of the first pool, and 38 of another.
     let acts = [
         Allocate(0, 3, sets(0, 3)),
         Next(3),
         Names(&[Some(0), Some(1), Some(2)]),
         Free(&[1], Reply::Freed(1)),
-        Allocate(0, 3, sets(3, 3)),
-        Next(6),
-        Names(&[Some(0), None, Some(2), Some(3), Some(4), Some(5)]),
-        Pools(1, &[(0, 5, 59)]),
+        Allocate(0, 100, sets(3, 100)),
+        Next(103),
+        Names(&names),
+        Pools(1, &[(0, 64, 0), (1, 38, 26)]),
     ];
     play_new(&rt, rt.alloc(), 0, &[layout_of(1, false)], &[], &acts)
 }

@@ -1,4 +1,5 @@
 //! The values that callers of the allocator and of the device interface see.
 mod counts;
+mod errors;
 mod flags;
 mod sets;

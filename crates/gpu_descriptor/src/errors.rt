@@ -26,12 +26,13 @@ pub enum AllocationError {
 
 impl fmt::Display for AllocationError {
     ghost output = { λ error. Some (error_text error) };
+    ghost styled_output = { λ error _. Some (error_text error) };
 
     fn fmt<W: fmt::Write>(&self, f: &mut fmt::Formatter<W>) -> fmt::Result {
         match self {
-            AllocationError::OutOfDeviceMemory => write!(f, "Device memory exhausted"),
-            AllocationError::OutOfHostMemory => write!(f, "Host memory exhausted"),
-            AllocationError::Fragmentation => write!(f, "Fragmentation"),
+            AllocationError::OutOfDeviceMemory => f.write_str("Device memory exhausted"),
+            AllocationError::OutOfHostMemory => f.write_str("Host memory exhausted"),
+            AllocationError::Fragmentation => f.write_str("Fragmentation"),
         }
     }
 }
