@@ -1,5 +1,5 @@
 //! A struct over a frame manager: a set is in use for a frame, and goes back when that is done.
-ghost use Rattle.std.specs.Prelude.{◌≡◌, ◌+◌, ◌≤◌, ◌++◌, ◌↔◌, [], drop, length, map, take, true};
+ghost use Rattle.std.specs.Prelude.{◌≡◌, ◌+◌, ◌≤◌, ◌++◌, [], drop, length, map, take, true};
 ghost use Rattle.std.specs.Prelude.{IfOk, IsFalse, IsTrue, Ok, OnErr, OnOk, false};
 ghost use Rattle.std.specs.VecDeque.{deque_capacity};
 ghost use Rattle.gpu_descriptor.specs.Caller.Sets.{items_of};
@@ -19,8 +19,8 @@ use std::marker::PhantomData;
 
 /// A device with a frame manager, and the sets that are in use, in the order in which they came.
 ///
-/// Its ghost fields are what the manager's calls ask, so only `begin` and `add` ask something: of
-/// the layout. By `all` no set is out besides those in use and the retired.
+/// Its first three ghost fields are what the manager's calls take, so only `begin` and `add` ask
+/// something: of the layout. By the fourth, `all`, each set that is out is in use or retired.
 #[derive(Drop)]
 pub struct FrameRenderer<L, P, S, D: DescriptorDevice<L, P, S>> {
     device: D,
@@ -60,7 +60,7 @@ impl<L, P: Drop, S: Drop, D: DescriptorDevice<L, P, S>> FrameRenderer<L, P, S, D
     pub fn begin(&mut self, layout: &SetLayout<L>, count: u32) -> Result<bool, AllocationError>
         requires { IsMeant D.meaning layout.now }
         ensures begins { result ≡ Ok true → length (used_of self.new) ≡ count }
-        ensures waits { IfOk result (λ began. IsTrue began ↔ (used_of self.old ≡ [])) }
+        ensures waits { used_of self.old ≡ [] → IfOk result IsTrue }
         ensures busy { ¬ (used_of self.old ≡ []) → result ≡ Ok false }
         ensures stay { ¬ (result ≡ Ok true) → used_of self.new ≡ used_of self.old }
         ensures retired { retired_in self.new ≡ retired_in self.old }

@@ -76,7 +76,7 @@ impl<L, P: Drop, S: Drop, D: DescriptorDevice<L, P, S>> Renderer<L, P, S, D> {
         self.allocator.free_all(&mut self.device, sets);
     }
 
-    /// Destroys the pools without sets.
+    /// Destroys the empty pools at the front of each key.
     pub fn clean(&mut self)
         ensures { CleansUp D.meaning (side self.old.allocator (D.ledger self.old.device))
             (side self.new.allocator (D.ledger self.new.device)) }

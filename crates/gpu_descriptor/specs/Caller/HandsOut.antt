@@ -34,7 +34,7 @@ pub record HandsOut {L P S : Type 0} (means : Meaning L P S) (k : Key) (count : 
   pub cause : IfErr answer (λ e. HasCause e (call_of means k count old new (answer_of means.set_name answer)))
   pub creates : CreatesOnlyWhereShort outcome
   pub other_keys : KeepsOtherKeys k (state_of means.pool_name old.value old.ledger) (state_of means.pool_name new.value new.ledger)
-  -- one that came to the walk has its key, even if it stopped, and no other brings one
+  -- a request that came to the walk has its key there, even if it stopped; any other leaves the keys
   pub keys : keys_of new.value ≡ (if is_some (taken_by outcome) then with_key k (keys_of old.value) else keys_of old.value)
   -- a look for each call that asks a pool
   pub looks : new.value.looks + old.ledger.counters.asked ≡ old.value.looks + new.ledger.counters.asked
