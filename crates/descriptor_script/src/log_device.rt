@@ -1,6 +1,6 @@
 //! A device that answers by a script and keeps a list of the calls that it granted.
 ghost use Rattle.std.specs.Prelude.{◌≡◌, ◌+◌, ◌-◌, ◌<◌, ◌≤◌, ◌^◌, ◌++◌, [], ◌∷◌, min, map, None};
-ghost use Rattle.std.specs.Prelude.{IfOk, IfErr, OnOk, OnErr};
+ghost use Rattle.std.specs.Prelude.{ℕ, IfOk, IfErr, OnOk, OnErr};
 ghost use Rattle.std.specs.Iterator.{IsFinite, HoldsAlong};
 ghost use Rattle.gpu_descriptor_types.specs.Counts.{kinds};
 ghost use Rattle.gpu_descriptor_types.specs.Flags.{bits};
@@ -10,7 +10,7 @@ ghost use Rattle.gpu_descriptor_types.specs.Ledger.{Releases, after_create, afte
 ghost use Rattle.gpu_descriptor_types.specs.Ledger.{after_no_create};
 ghost use Rattle.descriptor_script.specs.Scripted.Device.{empty_ledger, ledger_of, names_given};
 ghost use Rattle.descriptor_script.specs.Scripted.Device.{script_of};
-ghost use Rattle.descriptor_script.specs.Scripted.Raw.{pool_id, script_meaning, set_id};
+ghost use Rattle.descriptor_script.specs.Scripted.Raw.{pool_id, raw_sets, script_meaning, set_id};
 ghost use Rattle.descriptor_script.specs.Scripted.Script.{alloc_error, create_error, next_word};
 ghost use Rattle.descriptor_script.specs.Scripted.Script.{rest_words};
 ghost use Rattle.descriptor_script.specs.Inner.Owed.{IsOwed, ReleasesMany};
@@ -197,6 +197,11 @@ impl DescriptorDevice<ScriptLayout, RawPool, RawSet> for LogDevice {
         // Where no word is left only memory or names can be wanting.
         ensures at_end { script_logged self.old ≡ []
             → IfErr result (λ e. e ≡ DeviceAllocationError.OutOfHostMemory) }
+
+        // The sets have names in a row, and name their pool.
+        ensures sets { OnOk result ((first : ℕ) × (K.sink.kept sets.new ≡ K.sink.kept sets.old
+            ++ map (K.sink.kept_as sets.old)
+            (raw_sets (pool_id pool.old) first (left layouts.entry)))) }
 
         ensures next_pool { next_pool self.new ≡ next_pool self.old }
         ensures listed { OnOk result (calls_of self.new ≡ calls_of self.old

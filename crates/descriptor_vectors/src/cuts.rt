@@ -67,6 +67,9 @@ fn read_that_fails_anywhere(rt: HostRuntime) -> Result<(), Fail> {
         ErrorKind::Other,
         ErrorKind::Interrupted,
         ErrorKind::UnexpectedEof,
+        ErrorKind::WouldBlock,
+        ErrorKind::TimedOut,
+        ErrorKind::BrokenPipe,
     ];
     for dialogue in DIALOGUES {
         for kind in kinds {
@@ -154,7 +157,13 @@ fn expect_write_fault(
 
 #[test]
 fn write_that_stops_anywhere(rt: HostRuntime) -> Result<(), Fail> {
-    let failures = [Some(ErrorKind::Other), Some(ErrorKind::Interrupted), None];
+    let failures = [
+        Some(ErrorKind::Other),
+        Some(ErrorKind::Interrupted),
+        Some(ErrorKind::WouldBlock),
+        Some(ErrorKind::BrokenPipe),
+        None,
+    ];
     for dialogue in DIALOGUES {
         for failure in failures {
             expect_write_fault(&rt, rt.alloc(), dialogue, failure)?;

@@ -41,6 +41,21 @@ impl Read for OneLetter {
     }
 }
 
+/// Gives empty lines, as many bytes a call as it is asked for.
+#[derive(Drop)]
+struct EmptyLines {
+    bytes_left: u64,
+}
+
+impl Read for EmptyLines {
+    fn read(&mut self, buf: &mut [u8]) -> io::Result<usize> {
+        buf.fill(b'\n');
+        let count = self.bytes_left.min(buf.len() as u64);
+        self.bytes_left -= count;
+        Ok(count as usize)
+    }
+}
+
 #[test]
 fn line_without_an_end(rt: HostRuntime) {
     let mut output = empty_writer(rt.alloc());
@@ -59,5 +74,17 @@ fn as_many_calls_as_may_be(rt: HostRuntime) {
     let ended = run_lines(rt.alloc(), &mut input, &mut output);
     assert_eq!(rt; ended, Exit::ReadFault);
     assert_eq!(rt; input.calls, MOST_CALLS);
+    assert!(rt; output.text.is_empty());
+}
+
+#[test]
+fn more_bytes_than_calls(rt: HostRuntime) {
+    let mut input = EmptyLines {
+        bytes_left: MOST_CALLS + 1,
+    };
+    let mut output = empty_writer(rt.alloc());
+    let ended = run_lines(rt.alloc(), &mut input, &mut output);
+    assert_eq!(rt; ended, Exit::Done);
+    assert_eq!(rt; input.bytes_left, 0);
     assert!(rt; output.text.is_empty());
 }

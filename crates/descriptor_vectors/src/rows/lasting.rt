@@ -3,12 +3,20 @@
 use super::{Row, expect_rows};
 use std::test::Fail;
 
-const ROWS: [Row; 4] = [
+const ROWS: [Row; 5] = [
     (
         "script_lasts_over_two_requests",
         "layout s plain sampler=1; script ok ok pool; alloc s 1; alloc s 1; show",
         "layout s total 1; script 3; sets 0-0: 0*1; sets 1-1: 1*1; pool s 0 1/0; pool s 1 1/63; \
          device created 2 destroyed 0 asked 3 released 0; held 2 marked 0",
+    ),
+    (
+        "script_lasts_over_other_lines",
+        "layout s plain sampler=1; alloc s 1; script device; free 0; cleanup; show; size s 0 1; \
+         # script; alloc s 0; layout t plain; alloc s 1",
+        "layout s total 1; sets 0-0: 0*1; script 1; freed 1; clean; \
+         device created 1 destroyed 1 asked 1 released 1; held 0 marked 0; size 64 sampler=64; \
+         sets none; layout t total 0; refused: Device memory exhausted",
     ),
     (
         "layout_after_a_request",
