@@ -26,6 +26,7 @@ pub enum AllocationError {
 
 impl fmt::Display for AllocationError {
     ghost output = { λ error. Some (error_text error) };
+
     ghost styled_output = { λ error _. Some (error_text error) };
 
     fn fmt<W: fmt::Write>(&self, f: &mut fmt::Formatter<W>) -> fmt::Result {
