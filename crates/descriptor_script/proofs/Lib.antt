@@ -5,7 +5,7 @@ mod Entries
 mod Filling
 mod Given
 mod Held
-mod Owing
+pub mod Owing
 mod Promised
 mod Running
 mod Written

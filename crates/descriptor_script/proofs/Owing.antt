@@ -132,7 +132,7 @@ refused l n name refusals pool m live is o =
     changed_owed l m n n name had.0 _ pool o live is had.2 (λ was has. let same = size_one pool.live had.0 was had.2 has in omega arith)
 
 -- sets of a live pool went: as many as it has fewer
-released : (l : Ledger) (name before after : ℕ) (pool : Pool) (gone : List LiveSet) → l.pools name ≡ Some pool → AreIn gone pool.live → HasSize pool.live before → HasSize (λ x. pool.live x - times gone x) after
+pub released : (l : Ledger) (name before after : ℕ) (pool : Pool) (gone : List LiveSet) → l.pools name ≡ Some pool → AreIn gone pool.live → HasSize pool.live before → HasSize (λ x. pool.live x - times gone x) after
     → (before ≡ after + length gone) × ((n : ℕ) → IsOwed l n → (length gone ≤ n) × IsOwed (after_release name gone l) (n - length gone))
 released l name before after pool gone live inside was left =
     let less = size_minus pool.live before gone was inside in

@@ -1,6 +1,7 @@
 //! A session: commands on an allocator, whose sets are named by tickets.
-ghost use Rattle.std.specs.Prelude.{◌≡◌, ℕ, ◌≤◌, ◌++◌, [], ◌∷◌, length, IfOk, IfErr, OnOk, OnErr};
-ghost use Rattle.std.specs.Option.{option_copied};
+ghost use Rattle.std.specs.Prelude.{◌≡◌, ℕ, ◌≤◌, ◌++◌, [], ◌∷◌, length, slice_get, IfOk, IfErr, OnOk};
+ghost use Rattle.std.specs.Prelude.{OnErr};
+ghost use Rattle.std.specs.Option.{option_copied, option_map};
 ghost use Rattle.gpu_descriptor_types.specs.Ledger.{Ledger};
 ghost use Rattle.gpu_descriptor.specs.Caller.States.{Agrees, marked_load_of, outstanding_of};
 ghost use Rattle.gpu_descriptor.specs.Caller.States.{pool_load_of};
@@ -88,6 +89,17 @@ impl<L, P, S> Session<L, P, S> {
                 } = failed.value;
                 Err(layout)
             }
+        }
+    }
+
+    /// The layout at a place.
+    pub fn layout(&self, place: usize) -> Option<&L>
+        ensures { option_copied result ≡ option_map (λ k. k.layout)
+            (slice_get (layouts_of self.now) place) }
+    {
+        match self.layouts.get(place) {
+            Some(known) => Some(&known.layout),
+            None => None,
         }
     }
 

@@ -8,6 +8,7 @@ ghost use Rattle.gpu_descriptor.specs.Inner.Ids.{rise_below, stored_ids};
 mod allocate;
 mod cleanup;
 mod free;
+pub(crate) mod plan;
 mod readers;
 
 use crate::bucket::DescriptorBucket;

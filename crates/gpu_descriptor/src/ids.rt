@@ -61,6 +61,22 @@ impl KeyIds {
         }
     }
 
+    /// The same for who may not write the hints.
+    pub(crate) fn likely_place<P>(
+        &self,
+        buckets: &IndexMap<BucketKey, DescriptorBucket<P>>,
+        key: &BucketKey,
+    ) -> Option<usize> {
+        if has_key(buckets, self.last, key) {
+            return Some(self.last);
+        }
+        let likely = self.likely();
+        if has_key(buckets, likely, key) {
+            return Some(likely);
+        }
+        buckets.get_index_of(key)
+    }
+
     /// The place of the key with an id. Where neither hint is right it is found by halves, since
     /// the ids rise along the table.
     pub(crate) fn place_of_id<P>(

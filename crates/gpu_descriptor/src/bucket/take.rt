@@ -181,7 +181,7 @@ fn walk<'k, L, P, S, D: DescriptorDevice<L, P, S>>(
 }
 
 /// The flags of a new pool: sets go back singly, and it takes marked sets if its key is marked.
-fn pool_flags(update_after_bind: bool) -> DescriptorPoolCreateFlags
+pub(crate) fn pool_flags(update_after_bind: bool) -> DescriptorPoolCreateFlags
     ensures { bits result ≡ (if update_after_bind then 3 else 1) }
 {
     let mut flags = DescriptorPoolCreateFlags::FREE_DESCRIPTOR_SET;
@@ -194,7 +194,7 @@ fn pool_flags(update_after_bind: bool) -> DescriptorPoolCreateFlags
 
 /// The counts of a key's next pool, and how many sets it holds; `None` where the limit leaves no
 /// room for one.
-fn next_size(
+pub(crate) fn next_size(
     key: &BucketKey,
     total: u64,
     wanted: u32,
