@@ -1,0 +1,9 @@
+mod Balances
+mod CleanReplies
+mod Layouts
+mod Ledgers
+mod Queues
+mod PointerSteps
+mod Rooms
+mod Rows
+mod Values

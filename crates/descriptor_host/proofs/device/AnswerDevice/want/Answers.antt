@@ -1,0 +1,15 @@
+use Rattle.std.proofs.Common.{◌≡◌, ap, arith}
+use Rattle.descriptor_host.specs.Calls.{things_in}
+use Rattle.descriptor_host.specs.History.{Log}
+use Rattle.descriptor_host.specs.Room.{ledger_after, things_wanted}
+use Rattle.descriptor_host.proofs.Rooms.{ends_moved}
+use Rattle.descriptor_host.proofs.device.AnswerDevice.want.Goals as goal
+
+pub invariant_of-self-2-clause-ends : goal.invariant_of-self-2-clause-ends
+invariant_of-self-2-clause-ends c =
+    let old = c.unwant.new.self in
+    let log = c.reserve-2.ensures.log in
+    let room = c.in_ok-reserve-2.ensures.room in
+    let granted = ap (λ (l : Log). things_in l.granted) log in
+    let wanted : things_wanted old.wanted ≡ 0 = ap things_wanted c.unwant.ensures.wanted in
+    ends_moved _ _ old.log.owed.log.granted _ old.wanted _ old.log.room _ (ap (λ (l : Log). ledger_after l.history) log) (omega arith) old.ends

@@ -1,0 +1,48 @@
+-- `into_loose`, a walk by hand.
+use Rattle.std.proofs.Common.{◌≡◌, List, [], ◌∷◌, ◌++◌, refl, sym, subst}
+use Rattle.std.specs.Prelude.{Some, true}
+use Rattle.std.specs.Option.{is_some}
+use Rattle.descriptor_host.specs.declared.host.Host.{Host}
+use Rattle.descriptor_host.proofs.PointerSteps.{some_of}
+use mir.Val.{Val, vptr}
+use base.Logic.{SProp, ent, emp, id⊢}
+use prog.Wp.{WpFn}
+use types.Kit.{‵, raw, ◌⊛◌, ◌$◌, ◌∵◌, !, qed, by, move, keep, split, fsplit, fjoin, suffices, use0}
+use types.Run.{stop, fld, of_opd, no_more, and_then, returns, enter}
+use types.ByLocal.{alloc_all, pass_all, free_all, look_at, get, get_in, sets}
+use types.Part.{agg, sub, whole}
+use contract.Monad.{fact, fact_i}
+use contract.Running.{tables}
+use denote.Exit.{yes}
+use denote.RattleType.{owns}
+use denote.Signature.{types_at, plain}
+use denote.RawPtr.{block_ptr}
+use denote.Steps.{nothing, heard}
+use denote.Triple.Entry.{alive}
+use denote.Triple.Walked.{Stays, stay_dropped, walk_of, Goes-dropped}
+use Rattle.core.proofs.alloc.Calls.{handle_tells}
+use Rattle.std.specs.contracts.impls.GlobalAllocator.TheImpl.{ghosts}
+use Rattle.std.proofs.raw_atomic.Walks.{proved_at, leaves}
+use Rattle.descriptor_host.proofs.Values.{both, loose_good, loose_in}
+use Rattle.descriptor_host.proofs.PointerSteps.{R, Z, LZ, Hd, al, one, handle_out}
+use Rattle.descriptor_host.specs.contracts.pointer.HostPointer.into_loose.{ended, clauses}
+use Rattle.descriptor_host.specs.contracts.pointer.HostPointer.into_loose.Key.{name as #self}
+use Rattle.descriptor_host.proofs.pointer.HostPointer.into_loose.Statement.{statement}
+use Rattle.descriptor_host.proofs.pointer.HostPointer.into_loose.Code as code
+
+pub into_loose_spec : {M : Type 1} → statement M
+into_loose_spec 𝓤 𝓛 𝓜 𝓡 wired =
+    let H = 𝓛.H in let 𝓣 = tables 𝓤 H 𝓜 𝓡 𝓡.env in let c = clauses 𝓛 𝓜.mem 𝓡.returns in let fn = code.function in
+    let hs : Stays ended.signature.params ended.kept = (stay_dropped (plain (λ _. Hd)) yes, (stay_dropped (plain (λ _. Z)) yes, tt)) in
+    proved_at 𝓛 ended hs c 𝓜 𝓡 (Goes-dropped 𝓛 0 (plain (λ _. Hd)) yes (λ κs x f. refl), (Goes-dropped 𝓛 0 (plain (λ _. Z)) yes (λ κs x f. refl), tt)) #self fn (code.unfolded 𝓤 H 𝓜 𝓡 wired) (λ z are.
+    let κs = z.0.0 in let qs = z.0.1 in let v = z.0.3.0 in let a = z.0.3.1.0 in let Post : Val → SProp 𝓤 = (walk_of 𝓛 ended hs c).post z in let Run : List Val → SProp 𝓤 = λ ws. WpFn 𝓤 H 𝓣.C 𝓣.Λ fn ws Post in
+    let toks = raw (alive 𝓛 ended.signature κs qs) in let asked = raw (fact 𝓤 (is_some v.host ≡ true)) in
+    qed 𝓛 ((toks ⊛ ‵ (owns (types_at ended.signature.params κs) z.0.3 z.0.4)) ∷ asked ∷ []) ∵ move ! (1 ∷ []) $ heard ! (is_some v.host ≡ true) (λ some. let x : Host = (some_of v.host some).0 in let is : v.host ≡ Some x = (some_of v.host some).1 in split ! $ move ! (1 ∷ []) $ fsplit ! $ handle_out ! v z.0.4.0 x is (λ a' b o ws.
+    move ! (1 ∷ []) $ fsplit ! $ handle_tells al ! a z.0.4.1.0 (λ h ea fits. move ! (2 ∷ 0 ∷ []) $
+    let w : Val = both (vptr b o) h in let w₀ : Val = one (vptr b o) in let typed = loose_good R Z LZ ghosts b o h fits in
+    suffices ! (Run (w₀ ∷ h ∷ [])) (subst (λ (us : List Val). ent 𝓤 (Run (w₀ ∷ h ∷ [])) (Run us)) (sym (λ i. ws i ++ (ea i ++ []))) (id⊢ 𝓤 (Run (w₀ ∷ h ∷ [])))) $
+    enter ! 𝓣.C 𝓣.Λ fn (w₀ ∷ h ∷ []) Post $ alloc_all ! (λ l. pass_all ! refl ((tt, (tt, tt)), (fits, tt)) $
+    sets ! (of_opd ! (get_in ! (fld ! refl (stop !)) (sub ! 0 refl (whole !)))) refl (tt, tt) $
+    sets ! (of_opd ! (get ! refl)) refl (tt, tt) $ sets ! (agg ! (and_then ! (get ! refl) (and_then ! (get ! refl) (no_more !)))) refl typed $ loose_in R Z LZ ghosts ! b o h a x $
+    use0 𝓛 (raw (fact 𝓤 (v.host ≡ Some x))) (fact_i 𝓤 (v.host ≡ Some x) (emp 𝓤) is) $ nothing ! $ nothing ! $ fjoin ! $ nothing ! $ fjoin ! $
+    returns ! (look_at ! 0 refl) $ free_all ! refl $ keep ! (4 ∷ 0 ∷ 2 ∷ 1 ∷ []) $ by ! (leaves 𝓛 ended hs c z w (record { at = block_ptr b o; alloc = a; value = x }) (tt, (tt, tt)) (tt, (tt, tt))))))))

@@ -1,0 +1,14 @@
+pub mod Acts
+pub mod Answers
+pub mod Calls
+pub mod Device
+pub mod HandsOver
+pub mod History
+pub mod Handles
+pub mod Hosts
+pub mod Opens
+pub mod Pools
+pub mod Refusals
+pub mod Replies
+pub mod Room
+pub mod Ties

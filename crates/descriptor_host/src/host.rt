@@ -1,0 +1,214 @@
+//! A session on the host's driver.
+ghost use Rattle.std.specs.Prelude.{◌≡◌, [], None, Some};
+ghost use Rattle.std.specs.Prelude.{IfOk, IfErr, IfSome, OnOk, OnErr};
+ghost use Rattle.gpu_descriptor_types.specs.Side.{side};
+ghost use Rattle.descriptor_script.proofs.OneReady.{IsReady-prop};
+ghost use Rattle.descriptor_script.specs.Sessions.Session.{IsReady};
+ghost use Rattle.descriptor_host.specs.Device.{host_meaning, ledger_of};
+
+use crate::call_queue::CallHead;
+use crate::device::AnswerDevice;
+use crate::device_call::DeviceCall;
+use crate::error::HostError;
+use crate::layout::HostLayout;
+use crate::pool::HostPool;
+use crate::refusal::Refusal;
+use descriptor_script::{Command, Reply, Session};
+use gpu_descriptor::{Plan, PlannedAnswer, PlannedCall};
+use std::alloc::Global;
+
+/// A request on its way: what is asked for, and which calls it makes.
+#[derive(Drop)]
+pub(crate) struct Request {
+    pub(crate) layout: usize,
+
+    /// The driver's handle of the layout.
+    handle: u64,
+    pub(crate) count: u32,
+    plan: Plan,
+
+    /// The driver's handle of the pool that was created last.
+    created: u64,
+}
+
+/// An allocator, the layouts and sets that it knows, and the driver's answers.
+#[derive(Drop)]
+pub struct Host {
+    pub(crate) session: Session<HostLayout, HostPool, u64>,
+    pub(crate) device: AnswerDevice,
+    pub(crate) request: Option<Request>,
+    ghost ready: { IsReady host_meaning (side session (ledger_of device)) } by { IsReady-prop
+        host_meaning (side session (ledger_of device)) },
+}
+
+impl Host {
+    ghost use Rattle.gpu_descriptor.specs.Caller.Values.{without_keys};
+    ghost use Rattle.descriptor_script.specs.Sessions.Session.{allocator_of, layouts_of, sets_of};
+    ghost use Rattle.descriptor_host.specs.Acts.{waiting_of};
+    ghost use Rattle.descriptor_host.specs.History.{no_log};
+    ghost use Rattle.descriptor_host.specs.Hosts.{AddsLayout, BeginsNot, EndsRequest, HearsGrant};
+    ghost use Rattle.descriptor_host.specs.Hosts.{HearsNot, HearsRefusal, answers_on, asks_for};
+    ghost use Rattle.descriptor_host.specs.Hosts.{KeepsSets, NamesCall, log_on, named_call};
+    ghost use Rattle.descriptor_host.specs.Hosts.{request_of, session_of};
+
+    /// An allocator under a limit on the descriptors of update-after-bind pools, without layouts.
+    pub fn new(alloc: Global, limit: u32) -> Self
+        ensures allocator { allocator_of (session_of result) ≡ without_keys limit }
+        ensures layouts { layouts_of (session_of result) ≡ [] }
+        ensures sets { sets_of (session_of result) ≡ [] }
+        ensures log { log_on result ≡ no_log }
+        ensures request { request_of result ≡ None }
+    {
+        Host {
+            session: Session::new(alloc, limit),
+            device: AnswerDevice::new(alloc),
+            request: None,
+        }
+    }
+
+    /// Ends the request on its way. What the driver granted for it is listed to go back.
+    pub(crate) fn end_request(&mut self)
+        ensures ends { EndsRequest self.old self.new }
+        ensures request { request_of self.new ≡ None }
+        ensures named { named_call self.new ≡ None }
+    {
+        self.request = None;
+        self.device.end_answers();
+    }
+
+    /// Puts a layout last, and answers its place.
+    pub fn add_layout(&mut self, layout: HostLayout) -> Result<usize, HostError>
+        ensures added { IfOk result (λ place. AddsLayout layout place self.old self.new) }
+        ensures layouts { OnErr result (layouts_of (session_of self.new)
+            ≡ layouts_of (session_of self.old)) }
+        ensures keeps { KeepsSets self.old self.new }
+        ensures memory { IfErr result (λ e. e ≡ HostError.NoMemory) }
+    {
+        self.end_request();
+        let flags = layout.flags();
+        match self.session.add_layout(layout, layout.counts, flags) {
+            Ok(place) => Ok(place),
+            Err(_) => Err(HostError::NoMemory),
+        }
+    }
+
+    /// Begins a request for so many sets of the layout at a place, and names its first call.
+    pub fn begin(&mut self, layout: usize, count: u32) -> Result<DeviceCall, HostError>
+        ensures ends { EndsRequest self.old self.new }
+        ensures begun { OnOk result (request_of self.new ≡ Some (layout, count)) }
+        ensures handed { OnOk result (waiting_of (log_on self.new) ≡ []) }
+        ensures named { IfOk result (λ call. NamesCall call (named_call self.new)) }
+        ensures none { OnErr result (request_of self.new ≡ None) }
+        ensures why { IfErr result (λ e. BeginsNot layout e self.new) }
+    {
+        self.end_request();
+        if self.device.has_calls() {
+            return Err(HostError::CallsWait);
+        }
+        let Some(known) = self.session.layout(layout) else {
+            return Err(HostError::BadLayout);
+        };
+        let request = Request {
+            layout,
+            handle: known.handle,
+            count,
+            plan: self
+                .session
+                .allocator()
+                .plan(&known.counts, known.mark, count),
+            created: 0,
+        };
+        Ok(self.go_on(request))
+    }
+
+    /// The call that a request makes next, and what it may bring.
+    fn planned_call(&self, request: &Request) -> Option<(DeviceCall, CallHead)>
+        ensures { IfSome result (λ named. NamesCall named.0 (Some named.1)) }
+    {
+        let call = match self.session.allocator().planned_call(&request.plan)? {
+            PlannedCall::Create {
+                counts,
+                max_sets,
+                flags,
+            } => DeviceCall::create_pool(&counts, max_sets, flags),
+            PlannedCall::Allocate { pool, count } => {
+                DeviceCall::allocate_sets(pool.handle, request.handle, count)
+            }
+            PlannedCall::AllocateFromNew { count } => {
+                DeviceCall::allocate_sets(request.created, request.handle, count)
+            }
+        };
+        let head = call.head()?;
+        Some((call, head))
+    }
+
+    /// Goes on with a request, and names its next call. Where there is no room for what the call may
+    /// bring, none is named, and the request is refused when it is made.
+    fn go_on(&mut self, request: Request) -> DeviceCall
+        requires { named_call self.old ≡ None }
+        ensures session { session_of self.new ≡ session_of self.old }
+        ensures log { log_on self.new ≡ log_on self.old }
+        ensures answers { answers_on self.new ≡ answers_on self.old }
+        ensures request { request_of self.new ≡ Some (asks_for request) }
+        ensures named { NamesCall result (named_call self.new) }
+    {
+        let planned = self.planned_call(&request);
+        self.request = Some(request);
+        let Some((call, head)) = planned else {
+            return DeviceCall::none();
+        };
+        match self.device.want(head) {
+            Ok(()) => call,
+            Err(_) => DeviceCall::none(),
+        }
+    }
+
+    /// Hears that the driver granted the named call, and names the next one.
+    pub fn granted(&mut self, handles: &[u64]) -> Result<DeviceCall, HostError>
+        ensures heard { OnOk result (HearsGrant handles.now self.old self.new) }
+        ensures named { IfOk result (λ call. NamesCall call (named_call self.new)) }
+        ensures kept { OnErr result (self.new ≡ self.old) }
+        ensures why { IfErr result (λ e. HearsNot e self.old) }
+    {
+        let Some(mut request) = self.request.take() else {
+            return Err(HostError::NoRequest);
+        };
+        let Some(head) = self.device.wanted() else {
+            self.request = Some(request);
+            return Err(HostError::BadAnswer);
+        };
+        if handles.len() != head.things() {
+            self.request = Some(request);
+            return Err(HostError::BadAnswer);
+        }
+        self.device.hear_granted(&head, handles);
+        if head.sets == 0 {
+            request.created = handles[0];
+        }
+        self.session
+            .allocator()
+            .go_on(&mut request.plan, PlannedAnswer::Granted);
+        Ok(self.go_on(request))
+    }
+
+    /// Hears that the driver refused the named call, and names the next one.
+    pub fn refused(&mut self, why: Refusal) -> Result<DeviceCall, HostError>
+        ensures heard { OnOk result (HearsRefusal why self.old self.new) }
+        ensures named { IfOk result (λ call. NamesCall call (named_call self.new)) }
+        ensures kept { OnErr result (self.new ≡ self.old) }
+        ensures why { IfErr result (λ e. HearsNot e self.old) }
+    {
+        let Some(mut request) = self.request.take() else {
+            return Err(HostError::NoRequest);
+        };
+        let Some(head) = self.device.wanted() else {
+            self.request = Some(request);
+            return Err(HostError::BadAnswer);
+        };
+        self.device.hear_refused(&head, why);
+        self.session
+            .allocator()
+            .go_on(&mut request.plan, why.planned());
+        Ok(self.go_on(request))
+    }
+}
