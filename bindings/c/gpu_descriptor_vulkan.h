@@ -1,0 +1,399 @@
+/*
+ * gpu_descriptor_vulkan.h: the allocator of gpu_descriptor.h on a VkDevice. Header only, for C11
+ * and C++17.
+ *
+ *     gdv_allocator allocator = {0};
+ *     gdv_open(&allocator, device, limit, NULL);
+ *     gdv_layout(&allocator, layout, &layout_info, &place);
+ *     gdv_allocate(&allocator, place, 2, sets, names);
+ *     gdv_free(&allocator, names, 2);
+ *     gdv_cleanup(&allocator);
+ *     gdv_close(&allocator);
+ *
+ * Each function makes all calls on the device that the library names or lists, before it returns.
+ * Each answers a gd_status; gdv_result turns that into a VkResult.
+ *
+ * Of the functions of gpu_descriptor.h call only gd_held and gd_layout, with '&allocator.books'.
+ * For the calls that the others list there may be no scratch memory here.
+ *
+ * The header calls four functions of Vulkan by their names: vkCreateDescriptorPool,
+ * vkDestroyDescriptorPool, vkAllocateDescriptorSets and vkFreeDescriptorSets. If your loader
+ * defines these names, as volk does, include the loader's header first.
+ *
+ * Threads: all calls on one gdv_allocator are made on one thread, one at a time, as
+ * gpu_descriptor.h says. Its pools need no lock: nobody else has them.
+ */
+#ifndef GPU_DESCRIPTOR_VULKAN_H
+#define GPU_DESCRIPTOR_VULKAN_H
+
+#include "gpu_descriptor.h"
+
+#include <assert.h>
+#include <stdint.h>
+#include <stdlib.h>
+#include <string.h>
+#include <vulkan/vulkan.h>
+
+#ifndef VK_VERSION_1_3
+#error "gpu_descriptor_vulkan.h needs the headers of Vulkan 1.3; the device may be older"
+#endif
+
+static_assert(sizeof(void *) == 8, "the library is built for 64 bits");
+static_assert(sizeof(VkDescriptorPool) == 8 && sizeof(VkDescriptorSet) == 8 &&
+                  sizeof(VkDescriptorSetLayout) == 8,
+              "handles have 64 bits");
+static_assert((int)GD_FREE_DESCRIPTOR_SET ==
+                      (int)VK_DESCRIPTOR_POOL_CREATE_FREE_DESCRIPTOR_SET_BIT &&
+                  (int)GD_UPDATE_AFTER_BIND == (int)VK_DESCRIPTOR_POOL_CREATE_UPDATE_AFTER_BIND_BIT,
+              "the flags of a pool are Vulkan's");
+
+/* For so many sets there is scratch memory from the start. */
+enum { GDV_FIRST_ROOM = 64 };
+
+/* An allocator on a device. Zero it before gdv_open. The fields are for the functions below. */
+typedef struct gdv_allocator {
+    gd_allocator books;
+    VkDevice device;
+    VkAllocationCallbacks callbacks;
+    uint32_t has_callbacks;
+
+    /* Scratch memory, which only grows. */
+    size_t room;     /* for so many sets; 0 while the allocator is closed */
+    uint64_t *words; /* room + 2: a release is a pool, a number, and the sets */
+    VkDescriptorSet *sets;
+    VkDescriptorSetLayout *layouts;
+} gdv_allocator;
+
+/* ---- what answers mean ---- */
+
+/* The reason for gd_refused where the driver answered so. */
+static inline uint32_t gdv_reason(VkResult result) {
+    switch (result) {
+    case VK_ERROR_OUT_OF_DEVICE_MEMORY:
+        return GD_OUT_OF_DEVICE_MEMORY;
+    case VK_ERROR_FRAGMENTED_POOL:
+    case VK_ERROR_FRAGMENTATION:
+        return GD_FRAGMENTATION;
+    case VK_ERROR_OUT_OF_POOL_MEMORY:
+        return GD_OUT_OF_POOL_MEMORY;
+    default: /* whatever else it is, the request ends */
+        return GD_OUT_OF_HOST_MEMORY;
+    }
+}
+
+/* A status as a VkResult. A mistake in a call, as GD_BAD_SET, is VK_ERROR_UNKNOWN. */
+static inline VkResult gdv_result(gd_status status) {
+    switch (status) {
+    case GD_OK:
+        return VK_SUCCESS;
+    case GD_OUT_OF_DEVICE_MEMORY:
+        return VK_ERROR_OUT_OF_DEVICE_MEMORY;
+    case GD_OUT_OF_HOST_MEMORY:
+    case GD_NO_MEMORY:
+        return VK_ERROR_OUT_OF_HOST_MEMORY;
+    case GD_FRAGMENTATION:
+        return VK_ERROR_FRAGMENTATION;
+    case GD_OUT_OF_POOL_MEMORY:
+        return VK_ERROR_OUT_OF_POOL_MEMORY;
+    default:
+        return VK_ERROR_UNKNOWN;
+    }
+}
+
+/* ---- scratch memory ---- */
+
+static inline void gdv_drop_scratch(gdv_allocator *allocator) {
+    free(allocator->words);
+    free(allocator->sets);
+    free(allocator->layouts);
+    allocator->words = NULL;
+    allocator->sets = NULL;
+    allocator->layouts = NULL;
+    allocator->room = 0;
+}
+
+/* Takes scratch memory for 'room' sets. Where there is none, that of before stays. */
+static inline gd_status gdv_grow(gdv_allocator *allocator, size_t room) {
+    uint64_t *words = (uint64_t *)malloc((room + 2) * sizeof *words);
+    VkDescriptorSet *sets = (VkDescriptorSet *)malloc(room * sizeof *sets);
+    VkDescriptorSetLayout *layouts = (VkDescriptorSetLayout *)malloc(room * sizeof *layouts);
+    if (words == NULL || sets == NULL || layouts == NULL) {
+        free(words);
+        free(sets);
+        free(layouts);
+        return GD_NO_MEMORY;
+    }
+    gdv_drop_scratch(allocator);
+    allocator->words = words;
+    allocator->sets = sets;
+    allocator->layouts = layouts;
+    allocator->room = room;
+    return GD_OK;
+}
+
+/*
+ * Takes scratch memory for a request of 'count' sets, or for a free of 'count' sets. gdv_allocate
+ * and gdv_free call this function themselves. Scratch memory stays until the allocator is closed.
+ * So a free of n sets never lacks it once there was a request of n sets, or this call with n.
+ *
+ * GD_NO_MEMORY, GD_CLOSED.
+ */
+static inline gd_status gdv_reserve(gdv_allocator *allocator, size_t count) {
+    if (allocator->room == 0)
+        return GD_CLOSED;
+    if (count <= allocator->room)
+        return GD_OK;
+    if (count > SIZE_MAX / (4 * sizeof(uint64_t)))
+        return GD_NO_MEMORY;
+    size_t twice = 2 * allocator->room;
+    return gdv_grow(allocator, count > twice ? count : twice);
+}
+
+/* ---- calls on the device ---- */
+
+static inline const VkAllocationCallbacks *gdv_callbacks(const gdv_allocator *allocator) {
+    return allocator->has_callbacks ? &allocator->callbacks : NULL;
+}
+
+/* The type that is counted at this place. The number of inline uniform blocks has no type. */
+static inline VkDescriptorType gdv_type(uint32_t kind) {
+    if (kind == GD_ACCELERATION_STRUCTURE)
+        return VK_DESCRIPTOR_TYPE_ACCELERATION_STRUCTURE_KHR;
+    if (kind == GD_INLINE_UNIFORM_BLOCK_BYTES)
+        return VK_DESCRIPTOR_TYPE_INLINE_UNIFORM_BLOCK;
+    return (VkDescriptorType)kind; /* the first eleven have Vulkan's numbers */
+}
+
+/* The place at which a type is counted; GD_KINDS where the library doesn't count the type. */
+static inline uint32_t gdv_kind(VkDescriptorType type) {
+    for (uint32_t kind = 0; kind < GD_INLINE_UNIFORM_BLOCK_BINDINGS; kind++)
+        if (gdv_type(kind) == type)
+            return kind;
+    return GD_KINDS;
+}
+
+/* Creates the pool of a call. Its handle is then the first of the words. */
+static inline VkResult gdv_create_pool(gdv_allocator *allocator, const gd_call *call) {
+    VkDescriptorPoolSize sizes[GD_KINDS];
+    uint32_t size_count = 0;
+    for (uint32_t kind = 0; kind < GD_INLINE_UNIFORM_BLOCK_BINDINGS; kind++) {
+        if (call->counts[kind] == 0)
+            continue;
+        sizes[size_count].type = gdv_type(kind);
+        sizes[size_count].descriptorCount = call->counts[kind];
+        size_count++;
+    }
+    VkDescriptorPoolInlineUniformBlockCreateInfo blocks;
+    memset(&blocks, 0, sizeof blocks);
+    blocks.sType = VK_STRUCTURE_TYPE_DESCRIPTOR_POOL_INLINE_UNIFORM_BLOCK_CREATE_INFO;
+    blocks.maxInlineUniformBlockBindings = call->counts[GD_INLINE_UNIFORM_BLOCK_BINDINGS];
+    VkDescriptorPoolCreateInfo info;
+    memset(&info, 0, sizeof info);
+    info.sType = VK_STRUCTURE_TYPE_DESCRIPTOR_POOL_CREATE_INFO;
+    info.pNext = blocks.maxInlineUniformBlockBindings == 0 ? NULL : &blocks;
+    info.flags = call->flags;
+    info.maxSets = call->count;
+    info.poolSizeCount = size_count;
+    info.pPoolSizes = sizes;
+    VkDescriptorPool pool = VK_NULL_HANDLE;
+    VkResult result =
+        vkCreateDescriptorPool(allocator->device, &info, gdv_callbacks(allocator), &pool);
+    allocator->words[0] = (uint64_t)pool;
+    return result;
+}
+
+/* Allocates the sets of a call. Their handles are then the first of the words. */
+static inline VkResult gdv_allocate_sets(gdv_allocator *allocator, const gd_call *call) {
+    for (uint32_t place = 0; place < call->count; place++)
+        allocator->layouts[place] = (VkDescriptorSetLayout)(uintptr_t)call->layout;
+    VkDescriptorSetAllocateInfo info;
+    memset(&info, 0, sizeof info);
+    info.sType = VK_STRUCTURE_TYPE_DESCRIPTOR_SET_ALLOCATE_INFO;
+    info.descriptorPool = (VkDescriptorPool)(uintptr_t)call->pool;
+    info.descriptorSetCount = call->count;
+    info.pSetLayouts = allocator->layouts;
+    VkResult result = vkAllocateDescriptorSets(allocator->device, &info, allocator->sets);
+    if (result != VK_SUCCESS)
+        return result;
+    for (uint32_t place = 0; place < call->count; place++)
+        allocator->words[place] = (uint64_t)allocator->sets[place];
+    return VK_SUCCESS;
+}
+
+/* Makes the call that is named, and tells the library the answer. Then 'call' is the next one. */
+static inline gd_status gdv_make_call(gdv_allocator *allocator, gd_call *call) {
+    int is_pool = call->kind == GD_CREATE_POOL;
+    VkResult result =
+        is_pool ? gdv_create_pool(allocator, call) : gdv_allocate_sets(allocator, call);
+    if (result != VK_SUCCESS)
+        return gd_refused(&allocator->books, gdv_reason(result), call);
+    return gd_granted(&allocator->books, allocator->words, is_pool ? 1 : call->count, call);
+}
+
+/* Frees the sets of a pool whose handles are these words. */
+static inline void gdv_free_sets(gdv_allocator *allocator, VkDescriptorPool pool,
+                                 const uint64_t *words, size_t count) {
+    for (size_t place = 0; place < count; place++)
+        allocator->sets[place] = (VkDescriptorSet)(uintptr_t)words[place];
+    /* Vulkan has no other answer than VK_SUCCESS. */
+    (void)vkFreeDescriptorSets(allocator->device, pool, (uint32_t)count, allocator->sets);
+}
+
+/*
+ * Makes the calls that wait. A release has no more sets than the request or the free from which it
+ * comes, and for so many scratch memory was taken. So gd_calls never finds the words too short.
+ */
+static inline void gdv_make_waiting_calls(gdv_allocator *allocator) {
+    const uint64_t *words = allocator->words;
+    size_t written = 0;
+    while (gd_calls(&allocator->books, allocator->words, allocator->room + 2, &written) == GD_OK &&
+           written > 0) {
+        for (size_t at = 0; at < written; at += 2 + (size_t)words[at + 1]) {
+            VkDescriptorPool pool = (VkDescriptorPool)(uintptr_t)words[at];
+            if (words[at + 1] == 0)
+                vkDestroyDescriptorPool(allocator->device, pool, gdv_callbacks(allocator));
+            else
+                gdv_free_sets(allocator, pool, &words[at + 2], (size_t)words[at + 1]);
+        }
+    }
+}
+
+/* ---- what a renderer calls ---- */
+
+/*
+ * Opens a zeroed allocator on a device. 'limit' is the device's
+ * maxUpdateAfterBindDescriptorsInAllPools, UINT32_MAX at most. 'callbacks' may be NULL.
+ * They are copied, and given to the driver with each pool. Books and scratch memory don't come from
+ * them.
+ *
+ * GD_IS_OPEN, GD_NO_MEMORY.
+ */
+static inline gd_status gdv_open(gdv_allocator *allocator, VkDevice device, uint32_t limit,
+                                 const VkAllocationCallbacks *callbacks) {
+    gd_status status = gd_open(&allocator->books, limit);
+    if (status != GD_OK)
+        return status;
+    status = gdv_grow(allocator, GDV_FIRST_ROOM);
+    if (status != GD_OK) {
+        (void)gd_close(&allocator->books);
+        return status;
+    }
+    allocator->device = device;
+    allocator->has_callbacks = callbacks != NULL;
+    if (callbacks != NULL)
+        allocator->callbacks = *callbacks;
+    return GD_OK;
+}
+
+/* Adds a binding to counts. The descriptorCount of an inline uniform block is its bytes. */
+static inline gd_status gdv_count(const VkDescriptorSetLayoutBinding *binding, uint32_t *counts) {
+    uint32_t kind = gdv_kind(binding->descriptorType);
+    if (binding->descriptorCount == 0)
+        return GD_OK;
+    if (kind == GD_KINDS || binding->descriptorCount > UINT32_MAX - counts[kind])
+        return GD_BAD_COUNTS;
+    counts[kind] += binding->descriptorCount;
+    if (kind == GD_INLINE_UNIFORM_BLOCK_BYTES)
+        counts[GD_INLINE_UNIFORM_BLOCK_BINDINGS] += 1;
+    return GD_OK;
+}
+
+/*
+ * Makes a layout known. 'info' is what the layout was created from: its bindings and flags are
+ * counted, and not kept. gdv_allocate takes 'place' for the layout.
+ *
+ * The layout must be one of ordinary sets: not for push descriptors, for descriptor buffers or for
+ * the host alone, and without a binding of a variable count. For a sampler with YCbCr conversion a
+ * driver may need several descriptors. Then call gd_layout with counts of your own.
+ *
+ * GD_BAD_COUNTS where the library doesn't count the type of a binding, or a count passes 32 bits.
+ * GD_NO_MEMORY, GD_CLOSED.
+ */
+static inline gd_status gdv_layout(gdv_allocator *allocator, VkDescriptorSetLayout layout,
+                                   const VkDescriptorSetLayoutCreateInfo *info, uint64_t *place) {
+    uint32_t counts[GD_KINDS];
+    memset(counts, 0, sizeof counts);
+    for (uint32_t number = 0; number < info->bindingCount; number++) {
+        gd_status status = gdv_count(&info->pBindings[number], counts);
+        if (status != GD_OK)
+            return status;
+    }
+    uint32_t mark = (info->flags & VK_DESCRIPTOR_SET_LAYOUT_CREATE_UPDATE_AFTER_BIND_POOL_BIT) != 0;
+    return gd_layout(&allocator->books, (uint64_t)layout, counts, GD_KINDS, mark, place);
+}
+
+/*
+ * Allocates 'count' sets of the layout with this place. Each gets a name, under which gdv_free
+ * takes the set back. Both arrays have room for 'count' elements. Where the request is refused no
+ * set stays allocated, and each element of 'sets' is VK_NULL_HANDLE, as after
+ * vkAllocateDescriptorSets.
+ *
+ * GD_OUT_OF_DEVICE_MEMORY, GD_OUT_OF_HOST_MEMORY, GD_FRAGMENTATION; GD_NO_MEMORY where the books or
+ * the scratch memory can't grow; GD_BAD_LAYOUT, GD_CLOSED.
+ */
+static inline gd_status gdv_allocate(gdv_allocator *allocator, uint64_t layout, uint32_t count,
+                                     VkDescriptorSet *sets, uint64_t *names) {
+    for (uint32_t place = 0; place < count; place++)
+        sets[place] = VK_NULL_HANDLE;
+    /* Scratch memory is taken before the driver grants anything: from here on none is needed. */
+    gd_status status = gdv_reserve(allocator, count);
+    if (status != GD_OK)
+        return status;
+    gd_call call;
+    status = gd_begin(&allocator->books, layout, count, &call);
+    while (status == GD_OK && call.kind != GD_NO_CALL)
+        status = gdv_make_call(allocator, &call);
+    if (status == GD_OK)
+        status = gd_commit(&allocator->books, allocator->words, count, names, count);
+    for (uint32_t place = 0; status == GD_OK && place < count; place++)
+        sets[place] = (VkDescriptorSet)(uintptr_t)allocator->words[place];
+    gdv_make_waiting_calls(allocator);
+    return status;
+}
+
+/*
+ * Gives the sets of these names back, in any order. The device must be done with them: no command
+ * buffer that uses one of them is executed any more.
+ *
+ * GD_BAD_SET, GD_NO_MEMORY, where no set goes back; GD_CLOSED.
+ */
+static inline gd_status gdv_free(gdv_allocator *allocator, const uint64_t *names, size_t count) {
+    gd_status status = gdv_reserve(allocator, count);
+    if (status != GD_OK)
+        return status;
+    status = gd_free(&allocator->books, names, count);
+    gdv_make_waiting_calls(allocator);
+    return status;
+}
+
+/*
+ * Destroys the empty pools that stand before the first pool with sets, as gd_cleanup lists them.
+ * With no set held, none is left.
+ *
+ * GD_CLOSED.
+ */
+static inline gd_status gdv_cleanup(gdv_allocator *allocator) {
+    gd_status status = gd_cleanup(&allocator->books);
+    if (status == GD_OK)
+        gdv_make_waiting_calls(allocator);
+    return status;
+}
+
+/*
+ * Cleans up, and closes the allocator if no set is held. Then it is zeroed, and may be opened
+ * again. Close it before you destroy the device.
+ *
+ * GD_STILL_OUT where a set is held: then the allocator stays open. GD_CLOSED.
+ */
+static inline gd_status gdv_close(gdv_allocator *allocator) {
+    gd_status status = gdv_cleanup(allocator);
+    if (status == GD_OK)
+        status = gd_close(&allocator->books);
+    if (status != GD_OK)
+        return status;
+    gdv_drop_scratch(allocator);
+    memset(allocator, 0, sizeof *allocator);
+    return GD_OK;
+}
+
+#endif

@@ -1,0 +1,183 @@
+#include "driver.h"
+#include "host.h"
+#include <string.h>
+
+// Some have the same counts, and then share pools where both are marked or neither is. Some have no
+// descriptors. Of one a set has so many that a pool holds 21.
+const struct driver_layout driver_layouts[DRIVER_LAYOUTS] = {
+    {"plain uniform_buffer=1 storage_image=2",
+     false,
+     {[GD_UNIFORM_BUFFER] = 1, [GD_STORAGE_IMAGE] = 2}},
+    {"plain sampler=3 storage_image=1", false, {[GD_SAMPLER] = 3, [GD_STORAGE_IMAGE] = 1}},
+    {"mark sampler=2 uniform_buffer=3", true, {[GD_SAMPLER] = 2, [GD_UNIFORM_BUFFER] = 3}},
+    {"plain", false, {0}},
+    {"plain uniform_buffer=1 storage_image=2",
+     false,
+     {[GD_UNIFORM_BUFFER] = 1, [GD_STORAGE_IMAGE] = 2}},
+    {"mark uniform_buffer=1 storage_image=2",
+     true,
+     {[GD_UNIFORM_BUFFER] = 1, [GD_STORAGE_IMAGE] = 2}},
+    {"plain sampler=200000000", false, {[GD_SAMPLER] = 200000000}},
+    {"plain inline_uniform_block_bytes=64 inline_uniform_block_bindings=2",
+     false,
+     {[GD_INLINE_UNIFORM_BLOCK_BYTES] = 64, [GD_INLINE_UNIFORM_BLOCK_BINDINGS] = 2}},
+    {"mark", true, {0}},
+};
+
+struct driver driver;
+
+struct pool {
+    uint32_t counts[GD_KINDS], used[GD_KINDS];
+    uint32_t capacity, sets, flags;
+    bool is_alive;
+};
+
+struct set {
+    uint64_t pool;
+    uint32_t layout;
+    bool is_alive;
+};
+
+static struct pool *pools;
+static struct set *sets;
+static size_t pool_count, set_count, pool_room, set_room;
+
+// Handles are no numbers that count from 0, so that a number in the place of a handle shows.
+static const uint64_t FIRST_LAYOUT = 0x1a0000, FIRST_POOL = 0x9000000, FIRST_SET = 1;
+
+uint64_t driver_layout_handle(uint32_t layout) {
+    return FIRST_LAYOUT + 16 * (uint64_t)layout;
+}
+
+uint64_t driver_descriptors(uint32_t layout) {
+    uint64_t sum = 0;
+    for (int kind = 0; kind < GD_KINDS; kind++)
+        sum += driver_layouts[layout].counts[kind];
+    return sum;
+}
+
+uint64_t driver_pool_number(uint64_t pool) {
+    CHECK(pool >= FIRST_POOL && (pool - FIRST_POOL) % 8 == 0);
+    CHECK((pool - FIRST_POOL) / 8 < pool_count);
+    return (pool - FIRST_POOL) / 8;
+}
+
+static struct pool *pool_of(uint64_t handle) {
+    struct pool *pool = &pools[driver_pool_number(handle)];
+    CHECK(pool->is_alive);
+    return pool;
+}
+
+static struct set *set_of(uint64_t handle) {
+    CHECK(handle >= FIRST_SET && (handle - FIRST_SET) % 2 == 0);
+    CHECK((handle - FIRST_SET) / 2 < set_count);
+    return &sets[(handle - FIRST_SET) / 2];
+}
+
+bool driver_is_alive(uint64_t set) {
+    return set_of(set)->is_alive;
+}
+
+// GD_OK, or why the next call is refused.
+static uint32_t refusal(void) {
+    static const uint32_t REASONS[] = {GD_OUT_OF_DEVICE_MEMORY, GD_OUT_OF_HOST_MEMORY,
+                                       GD_FRAGMENTATION, GD_OUT_OF_POOL_MEMORY};
+    if (driver.refuses_one_in == 0 || !one_in(driver.refuses_one_in))
+        return GD_OK;
+    driver.refused++;
+    return REASONS[random_below(4)];
+}
+
+// How many descriptors of a marked pool count against the limit.
+static uint64_t load_of(const struct pool *pool) {
+    uint64_t sum = 0;
+    for (int kind = 0; kind < GD_KINDS; kind++)
+        sum += pool->counts[kind];
+    return pool->flags & GD_UPDATE_AFTER_BIND ? sum : 0;
+}
+
+static uint32_t create_pool(const gd_call *call, uint64_t *handles) {
+    CHECK(call->count >= 1 && call->pool == 0 && call->layout == 0);
+    CHECK((call->flags | GD_UPDATE_AFTER_BIND) == (GD_FREE_DESCRIPTOR_SET | GD_UPDATE_AFTER_BIND));
+    struct pool pool = {.capacity = call->count, .flags = call->flags, .is_alive = true};
+    memcpy(pool.counts, call->counts, sizeof pool.counts);
+    CHECK(driver.marked + load_of(&pool) <= driver.limit);
+    uint32_t why = refusal();
+    if (why != GD_OK)
+        return why;
+    pools = grown(pools, &pool_room, pool_count + 1, sizeof *pools);
+    pools[pool_count] = pool;
+    handles[0] = FIRST_POOL + 8 * pool_count;
+    pool_count++;
+    driver.created++;
+    driver.pools++;
+    driver.marked += load_of(&pool);
+    return GD_OK;
+}
+
+// The pool takes such sets, and has room for them by number and by kind.
+static void check_room(const struct pool *pool, uint32_t layout, uint32_t count) {
+    CHECK(count <= pool->capacity - pool->sets);
+    CHECK(!driver_layouts[layout].is_marked == !(pool->flags & GD_UPDATE_AFTER_BIND));
+    for (int kind = 0; kind < GD_KINDS; kind++) {
+        uint64_t wanted = (uint64_t)count * driver_layouts[layout].counts[kind];
+        CHECK(wanted <= pool->counts[kind] - pool->used[kind]);
+    }
+}
+
+static uint32_t allocate_sets(const gd_call *call, uint64_t *handles) {
+    struct pool *pool = pool_of(call->pool);
+    uint64_t layout = (call->layout - FIRST_LAYOUT) / 16;
+    CHECK(layout < DRIVER_LAYOUTS && driver_layout_handle((uint32_t)layout) == call->layout);
+    CHECK(call->count >= 1 && call->flags == 0);
+    check_room(pool, (uint32_t)layout, call->count);
+    driver.asked++;
+    uint32_t why = refusal();
+    if (why != GD_OK)
+        return why;
+    for (int kind = 0; kind < GD_KINDS; kind++)
+        pool->used[kind] += call->count * driver_layouts[layout].counts[kind];
+    pool->sets += call->count;
+    driver.sets += call->count;
+    sets = grown(sets, &set_room, set_count + call->count, sizeof *sets);
+    for (uint32_t place = 0; place < call->count; place++) {
+        sets[set_count] = (struct set){call->pool, (uint32_t)layout, true};
+        handles[place] = FIRST_SET + 2 * set_count;
+        set_count++;
+    }
+    return GD_OK;
+}
+
+uint32_t driver_make(const gd_call *call, uint64_t *handles) {
+    CHECK(call->kind == GD_CREATE_POOL || call->kind == GD_ALLOCATE_SETS);
+    CHECK(call->reserved == 0);
+    return call->kind == GD_CREATE_POOL ? create_pool(call, handles) : allocate_sets(call, handles);
+}
+
+void driver_free_sets(uint64_t pool_handle, const uint64_t *handles, size_t count) {
+    struct pool *pool = pool_of(pool_handle);
+    for (size_t place = 0; place < count; place++) {
+        struct set *set = set_of(handles[place]);
+        CHECK(set->is_alive && set->pool == pool_handle);
+        set->is_alive = false;
+        for (int kind = 0; kind < GD_KINDS; kind++)
+            pool->used[kind] -= driver_layouts[set->layout].counts[kind];
+    }
+    pool->sets -= (uint32_t)count;
+    driver.sets -= count;
+    driver.released++;
+}
+
+void driver_destroy_pool(uint64_t handle) {
+    struct pool *pool = pool_of(handle);
+    CHECK(pool->sets == 0);
+    pool->is_alive = false;
+    driver.destroyed++;
+    driver.pools--;
+    driver.marked -= load_of(pool);
+}
+
+void driver_end(void) {
+    free(pools);
+    free(sets);
+}

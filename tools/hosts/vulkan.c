@@ -1,0 +1,464 @@
+// Random requests on a Vulkan driver through gpu_descriptor_vulkan.h, under the validation layer,
+// which must say nothing.
+//
+// One of the header's calls in twelve isn't made, and an error is answered in its place: the driver
+// in software refuses none. The header's and the library's memory is refused as well, once in
+// fifty, and once in four while an allocator is opened, which a new one is every few hundred
+// operations. On a device of 1.3 there are marked layouts and inline uniform blocks; on one of 1.0
+// there are none, and there the layer says where a pool is asked for more than it has left.
+//
+// It ends with 3 where there is no layer or no driver.
+//
+// usage: vulkan OPERATIONS SEED [1.0]
+#include "host.h"
+#include "layer.h"
+#include "memory.h"
+#include <string.h>
+
+// What stands before the driver's four calls.
+static VkResult create_pool(VkDevice device, const VkDescriptorPoolCreateInfo *info,
+                            const VkAllocationCallbacks *callbacks, VkDescriptorPool *pool);
+static void destroy_pool(VkDevice device, VkDescriptorPool pool,
+                         const VkAllocationCallbacks *callbacks);
+static VkResult allocate_sets(VkDevice device, const VkDescriptorSetAllocateInfo *info,
+                              VkDescriptorSet *sets);
+static VkResult free_sets(VkDevice device, VkDescriptorPool pool, uint32_t count,
+                          const VkDescriptorSet *sets);
+
+#define vkCreateDescriptorPool create_pool
+#define vkDestroyDescriptorPool destroy_pool
+#define vkAllocateDescriptorSets allocate_sets
+#define vkFreeDescriptorSets free_sets
+#include "gpu_descriptor_vulkan.h"
+#undef vkCreateDescriptorPool
+#undef vkDestroyDescriptorPool
+#undef vkAllocateDescriptorSets
+#undef vkFreeDescriptorSets
+
+enum { MOST_BINDINGS = 5, MOST_SETS = 200, MOST_FREED = 300, ROUND = 300 };
+
+// How rarely the driver and the memory refuse.
+enum { DRIVER_ONE_IN = 12, MEMORY_ONE_IN = 50, MEMORY_AT_OPEN_ONE_IN = 4 };
+
+// A layout: its bindings, and what a set of it must count.
+struct layout {
+    bool is_marked, is_new; // marked; not on a device of 1.0
+    uint32_t binding_count;
+    struct {
+        VkDescriptorType type;
+        uint32_t count;
+    } bindings[MOST_BINDINGS];
+    uint32_t counts[GD_KINDS];
+    VkDescriptorSetLayout handle;
+    uint64_t place;
+};
+
+static struct layout layouts[] = {
+    {.binding_count = 2,
+     .bindings = {{VK_DESCRIPTOR_TYPE_SAMPLER, 1}, {VK_DESCRIPTOR_TYPE_UNIFORM_BUFFER, 2}},
+     .counts = {[GD_SAMPLER] = 1, [GD_UNIFORM_BUFFER] = 2}},
+    {.binding_count = 3,
+     .bindings = {{VK_DESCRIPTOR_TYPE_SAMPLER, 2},
+                  {VK_DESCRIPTOR_TYPE_COMBINED_IMAGE_SAMPLER, 3},
+                  {VK_DESCRIPTOR_TYPE_SAMPLER, 2}},
+     .counts = {[GD_SAMPLER] = 4, [GD_COMBINED_IMAGE_SAMPLER] = 3}},
+    {.binding_count = 5,
+     .bindings = {{VK_DESCRIPTOR_TYPE_UNIFORM_BUFFER_DYNAMIC, 1},
+                  {VK_DESCRIPTOR_TYPE_STORAGE_BUFFER_DYNAMIC, 2},
+                  {VK_DESCRIPTOR_TYPE_INPUT_ATTACHMENT, 1},
+                  {VK_DESCRIPTOR_TYPE_UNIFORM_TEXEL_BUFFER, 3},
+                  {VK_DESCRIPTOR_TYPE_STORAGE_TEXEL_BUFFER, 4}},
+     .counts = {[GD_UNIFORM_BUFFER_DYNAMIC] = 1,
+                [GD_STORAGE_BUFFER_DYNAMIC] = 2,
+                [GD_INPUT_ATTACHMENT] = 1,
+                [GD_UNIFORM_TEXEL_BUFFER] = 3,
+                [GD_STORAGE_TEXEL_BUFFER] = 4}},
+    {.binding_count = 3,
+     .bindings = {{VK_DESCRIPTOR_TYPE_STORAGE_BUFFER, 2},
+                  {VK_DESCRIPTOR_TYPE_STORAGE_IMAGE, 1},
+                  {VK_DESCRIPTOR_TYPE_SAMPLED_IMAGE, 0}},
+     .counts = {[GD_STORAGE_BUFFER] = 2, [GD_STORAGE_IMAGE] = 1}},
+    {.binding_count = 0},
+    {.is_new = true,
+     .is_marked = true,
+     .binding_count = 1,
+     .bindings = {{VK_DESCRIPTOR_TYPE_SAMPLED_IMAGE, 4}},
+     .counts = {[GD_SAMPLED_IMAGE] = 4}},
+    {.is_new = true,
+     .binding_count = 3,
+     .bindings = {{VK_DESCRIPTOR_TYPE_INLINE_UNIFORM_BLOCK, 16},
+                  {VK_DESCRIPTOR_TYPE_UNIFORM_BUFFER, 1},
+                  {VK_DESCRIPTOR_TYPE_INLINE_UNIFORM_BLOCK, 8}},
+     .counts = {[GD_INLINE_UNIFORM_BLOCK_BYTES] = 24,
+                [GD_INLINE_UNIFORM_BLOCK_BINDINGS] = 2,
+                [GD_UNIFORM_BUFFER] = 1}},
+};
+
+struct held {
+    uint64_t name;
+    VkDescriptorSet set;
+};
+
+static gdv_allocator allocator;
+static struct layout *asked_layout; // that of the request on its way
+static uint32_t layout_count;
+static struct held *held;
+static size_t held_count, held_room;
+static VkSampler sampler;
+static uint64_t live_pools, live_sets, live_blocks, pools_created, calls_refused, asked_count;
+static uint64_t statuses[GD_BAD_COUNTS + 1];
+
+// ---- what stands before the driver ----
+
+// VK_SUCCESS, or an error that is answered in the place of the call.
+static VkResult refusal(void) {
+    static const VkResult ERRORS[] = {
+        VK_ERROR_OUT_OF_DEVICE_MEMORY, VK_ERROR_OUT_OF_HOST_MEMORY, VK_ERROR_FRAGMENTED_POOL,
+        VK_ERROR_FRAGMENTATION,        VK_ERROR_OUT_OF_POOL_MEMORY, VK_ERROR_UNKNOWN,
+    };
+    if (!one_in(DRIVER_ONE_IN))
+        return VK_SUCCESS;
+    calls_refused++;
+    return ERRORS[random_below(6)];
+}
+
+// A pool has what its sets take, by kind, and no more; one of sets without descriptors has a
+// sampler.
+static void check_pool(const VkDescriptorPoolCreateInfo *info) {
+    uint32_t counts[GD_KINDS] = {0}, sum = 0;
+    for (uint32_t place = 0; place < info->poolSizeCount; place++) {
+        CHECK(info->pPoolSizes[place].descriptorCount > 0);
+        uint32_t kind = gdv_kind(info->pPoolSizes[place].type);
+        CHECK(kind < GD_KINDS && counts[kind] == 0);
+        counts[kind] = info->pPoolSizes[place].descriptorCount;
+    }
+    const VkDescriptorPoolInlineUniformBlockCreateInfo *blocks = info->pNext;
+    CHECK((blocks != NULL) == (counts[GD_INLINE_UNIFORM_BLOCK_BYTES] > 0));
+    if (blocks != NULL)
+        counts[GD_INLINE_UNIFORM_BLOCK_BINDINGS] = blocks->maxInlineUniformBlockBindings;
+    for (int kind = 0; kind < GD_KINDS; kind++)
+        sum += asked_layout->counts[kind];
+    for (int kind = 0; kind < GD_KINDS; kind++)
+        CHECK(counts[kind] == (sum == 0 ? kind == 0 : asked_layout->counts[kind] * info->maxSets));
+    CHECK(info->flags == (asked_layout->is_marked ? 3u : 1u));
+}
+
+static VkResult create_pool(VkDevice device, const VkDescriptorPoolCreateInfo *info,
+                            const VkAllocationCallbacks *callbacks, VkDescriptorPool *pool) {
+    check_pool(info);
+    VkResult why = refusal();
+    if (why != VK_SUCCESS)
+        return why;
+    why = vkCreateDescriptorPool(device, info, callbacks, pool);
+    CHECK(why == VK_SUCCESS);
+    pools_created++;
+    live_pools++;
+    return why;
+}
+
+static void destroy_pool(VkDevice device, VkDescriptorPool pool,
+                         const VkAllocationCallbacks *callbacks) {
+    vkDestroyDescriptorPool(device, pool, callbacks);
+    live_pools--;
+}
+
+static VkResult allocate_sets(VkDevice device, const VkDescriptorSetAllocateInfo *info,
+                              VkDescriptorSet *sets) {
+    VkResult why = refusal();
+    asked_count++;
+    if (why != VK_SUCCESS)
+        return why;
+    why = vkAllocateDescriptorSets(device, info, sets);
+    CHECK(why == VK_SUCCESS);
+    live_sets += info->descriptorSetCount;
+    return why;
+}
+
+static VkResult free_sets(VkDevice device, VkDescriptorPool pool, uint32_t count,
+                          const VkDescriptorSet *sets) {
+    CHECK(count > 0);
+    live_sets -= count;
+    return vkFreeDescriptorSets(device, pool, count, sets);
+}
+
+// ---- the driver's memory for pools ----
+
+static void *allocate_block(void *user, size_t size, size_t alignment,
+                            VkSystemAllocationScope scope) {
+    (void)scope;
+    CHECK(user == &live_blocks);
+    live_blocks++;
+    return aligned_alloc(alignment, (size + alignment - 1) / alignment * alignment);
+}
+
+static void free_block(void *user, void *block) {
+    CHECK(user == &live_blocks);
+    live_blocks -= block != NULL;
+    memory_free_other(block);
+}
+
+// No driver needs it for a pool; the standard has no realloc that aligns.
+static void *grow_block(void *user, void *block, size_t size, size_t alignment,
+                        VkSystemAllocationScope scope) {
+    (void)user, (void)block, (void)size, (void)alignment, (void)scope;
+    return NULL;
+}
+
+// ---- layouts ----
+
+static void make_layout_known(struct layout *layout, const VkDescriptorSetLayoutCreateInfo *info) {
+    gd_status status;
+    do
+        status = LIBRARY(gdv_layout(&allocator, layout->handle, info, &layout->place));
+    while (status == GD_NO_MEMORY);
+    CHECK(status == GD_OK);
+}
+
+// Makes a layout known, which is created on the device if it isn't there yet.
+static void make_layout(struct layout *layout) {
+    VkDescriptorSetLayoutBinding bindings[MOST_BINDINGS] = {0};
+    VkDescriptorBindingFlags flags[MOST_BINDINGS] = {0};
+    for (uint32_t place = 0; place < layout->binding_count; place++) {
+        bindings[place].binding = place;
+        bindings[place].descriptorType = layout->bindings[place].type;
+        bindings[place].descriptorCount = layout->bindings[place].count;
+        bindings[place].stageFlags = VK_SHADER_STAGE_FRAGMENT_BIT;
+        if (layout->is_marked && layer.features.descriptorBindingSampledImageUpdateAfterBind)
+            flags[place] = VK_DESCRIPTOR_BINDING_UPDATE_AFTER_BIND_BIT;
+    }
+    VkDescriptorSetLayoutBindingFlagsCreateInfo flagged = {
+        .sType = VK_STRUCTURE_TYPE_DESCRIPTOR_SET_LAYOUT_BINDING_FLAGS_CREATE_INFO,
+        .bindingCount = layout->binding_count,
+        .pBindingFlags = flags,
+    };
+    VkDescriptorSetLayoutCreateInfo info = {
+        .sType = VK_STRUCTURE_TYPE_DESCRIPTOR_SET_LAYOUT_CREATE_INFO,
+        .pNext = layout->is_marked ? &flagged : NULL,
+        .flags = layout->is_marked ? VK_DESCRIPTOR_SET_LAYOUT_CREATE_UPDATE_AFTER_BIND_POOL_BIT : 0,
+        .bindingCount = layout->binding_count,
+        .pBindings = bindings,
+    };
+    if (layout->handle == VK_NULL_HANDLE)
+        CHECK(vkCreateDescriptorSetLayout(layer.device, &info, NULL, &layout->handle) ==
+              VK_SUCCESS);
+    make_layout_known(layout, &info);
+}
+
+// Layouts that the header must refuse: a type that isn't counted, and counts past 32 bits.
+static void make_wrong_layouts(void) {
+    VkDescriptorSetLayoutBinding bindings[2] = {
+        {.descriptorType = VK_DESCRIPTOR_TYPE_SAMPLER, .descriptorCount = UINT32_MAX},
+        {.binding = 1, .descriptorType = VK_DESCRIPTOR_TYPE_SAMPLER, .descriptorCount = 1}};
+    VkDescriptorSetLayoutCreateInfo info = {.bindingCount = 2, .pBindings = bindings};
+    uint64_t place = UINT64_MAX;
+    CHECK(LIBRARY(gdv_layout(&allocator, layouts[0].handle, &info, &place)) == GD_BAD_COUNTS);
+    bindings[0].descriptorType = VK_DESCRIPTOR_TYPE_MAX_ENUM;
+    CHECK(LIBRARY(gdv_layout(&allocator, layouts[0].handle, &info, &place)) == GD_BAD_COUNTS);
+    CHECK(place == UINT64_MAX);
+}
+
+// ---- requests ----
+
+// Writes to a set, so that the layer sees whether it is one of this layout.
+static void write_sampler(VkDescriptorSet set) {
+    VkDescriptorImageInfo image = {.sampler = sampler};
+    VkWriteDescriptorSet write = {
+        .sType = VK_STRUCTURE_TYPE_WRITE_DESCRIPTOR_SET,
+        .dstSet = set,
+        .descriptorCount = 1,
+        .descriptorType = VK_DESCRIPTOR_TYPE_SAMPLER,
+        .pImageInfo = &image,
+    };
+    vkUpdateDescriptorSets(layer.device, 1, &write, 0, NULL);
+}
+
+// In every other round requests are small, and several in a row are for one layout: so more sets of
+// a pool may go back at once than were ever asked for at once.
+static void allocate(void) {
+    VkDescriptorSet sets[MOST_SETS];
+    uint64_t names[MOST_SETS];
+    bool is_small = operation / ROUND % 2 == 0;
+    uint32_t count = 1 + random_below(one_in(10) && !is_small ? MOST_SETS : 8);
+    if (asked_layout == NULL || !is_small || one_in(60))
+        asked_layout = &layouts[random_below(layout_count)];
+    struct layout *layout = asked_layout;
+    memset(sets, 1, sizeof sets);
+    gd_status status = LIBRARY(gdv_allocate(&allocator, layout->place, count, sets, names));
+    CHECK(status <= GD_FRAGMENTATION || status == GD_NO_MEMORY);
+    statuses[status]++;
+    if (status == GD_OK)
+        held = grown(held, &held_room, held_count + count, sizeof *held);
+    for (uint32_t place = 0; place < count; place++) {
+        CHECK((sets[place] != VK_NULL_HANDLE) == (status == GD_OK));
+        if (status != GD_OK)
+            continue;
+        held[held_count++] = (struct held){names[place], sets[place]};
+        if (layout->counts[GD_SAMPLER] > 0)
+            write_sampler(sets[place]);
+    }
+}
+
+// Some names of sets that are held, the last ones or any, leave the list.
+static uint32_t draw(uint64_t *names) {
+    uint32_t count = 1 + random_below(one_in(5) ? MOST_FREED : 12);
+    bool is_any = one_in(2);
+    if (count > held_count)
+        count = (uint32_t)held_count;
+    for (uint32_t place = 0; place < count; place++) {
+        size_t at = is_any ? random_below((uint32_t)held_count) : held_count - 1;
+        names[place] = held[at].name;
+        held[at] = held[--held_count];
+    }
+    return count;
+}
+
+static void free_some(void) {
+    uint64_t names[MOST_FREED];
+    uint32_t count = draw(names);
+    gd_status status;
+    do {
+        status = LIBRARY(gdv_free(&allocator, names, count));
+        CHECK(status == GD_OK || status == GD_NO_MEMORY);
+    } while (status != GD_OK);
+    if (count == 0)
+        return;
+    status = LIBRARY(gdv_free(&allocator, names, 1));
+    CHECK(status == GD_BAD_SET || status == GD_NO_MEMORY);
+}
+
+static void make_mistakes(void) {
+    VkDescriptorSet set;
+    uint64_t name;
+    CHECK(LIBRARY(gdv_open(&allocator, layer.device, 0, NULL)) == GD_IS_OPEN);
+    CHECK(LIBRARY(gdv_allocate(&allocator, layout_count, 1, &set, &name)) == GD_BAD_LAYOUT);
+    make_wrong_layouts();
+    if (held_count > 0)
+        CHECK(LIBRARY(gdv_close(&allocator)) == GD_STILL_OUT);
+}
+
+// More is asked for in two thirds of a round, and more goes back in the rest.
+static void act(void) {
+    uint32_t dice = random_below(100), asks = operation % ROUND < 2 * ROUND / 3 ? 85 : 30;
+    if (dice < asks)
+        allocate();
+    else if (dice < 98)
+        free_some();
+    else if (dice < 99)
+        CHECK(LIBRARY(gdv_cleanup(&allocator)) == GD_OK);
+    else
+        make_mistakes();
+    CHECK(live_sets == held_count);
+}
+
+// What the header makes of the driver's errors and of the library's statuses.
+static void check_mappings(void) {
+    static const struct {
+        VkResult result;
+        uint32_t reason;
+    } REASONS[] = {
+        {VK_ERROR_OUT_OF_DEVICE_MEMORY, GD_OUT_OF_DEVICE_MEMORY},
+        {VK_ERROR_OUT_OF_HOST_MEMORY, GD_OUT_OF_HOST_MEMORY},
+        {VK_ERROR_FRAGMENTED_POOL, GD_FRAGMENTATION},
+        {VK_ERROR_FRAGMENTATION, GD_FRAGMENTATION},
+        {VK_ERROR_OUT_OF_POOL_MEMORY, GD_OUT_OF_POOL_MEMORY},
+        {VK_ERROR_UNKNOWN, GD_OUT_OF_HOST_MEMORY},
+        {VK_ERROR_DEVICE_LOST, GD_OUT_OF_HOST_MEMORY},
+    };
+    for (size_t place = 0; place < sizeof REASONS / sizeof *REASONS; place++)
+        CHECK(gdv_reason(REASONS[place].result) == REASONS[place].reason);
+    CHECK(gdv_result(GD_OK) == VK_SUCCESS);
+    CHECK(gdv_result(GD_OUT_OF_DEVICE_MEMORY) == VK_ERROR_OUT_OF_DEVICE_MEMORY);
+    CHECK(gdv_result(GD_OUT_OF_HOST_MEMORY) == VK_ERROR_OUT_OF_HOST_MEMORY);
+    CHECK(gdv_result(GD_NO_MEMORY) == VK_ERROR_OUT_OF_HOST_MEMORY);
+    CHECK(gdv_result(GD_FRAGMENTATION) == VK_ERROR_FRAGMENTATION);
+    CHECK(gdv_result(GD_OUT_OF_POOL_MEMORY) == VK_ERROR_OUT_OF_POOL_MEMORY);
+    for (gd_status status = GD_BAD_SET; status <= GD_BAD_COUNTS; status++)
+        CHECK(status == GD_NO_MEMORY || gdv_result(status) == VK_ERROR_UNKNOWN);
+}
+
+// ---- the run ----
+
+static void open_allocator(bool is_old) {
+    VkAllocationCallbacks callbacks = {
+        .pUserData = &live_blocks,
+        .pfnAllocation = allocate_block,
+        .pfnReallocation = grow_block,
+        .pfnFree = free_block,
+    };
+    gd_status status;
+    memory_refused_one_in = MEMORY_AT_OPEN_ONE_IN;
+    do {
+        status = LIBRARY(gdv_open(&allocator, layer.device, is_old ? 0 : layer.limit, &callbacks));
+        CHECK(status == GD_OK || (status == GD_NO_MEMORY && memory_blocks == 0));
+    } while (status != GD_OK);
+    for (uint32_t place = 0; place < layout_count; place++)
+        make_layout(&layouts[place]);
+    if (operation / ROUND % 2 != 0)
+        (void)LIBRARY(gdv_reserve(&allocator, 1 + random_below(MOST_SETS)));
+    memory_refused_one_in = MEMORY_ONE_IN;
+}
+
+static void close_allocator(void) {
+    while (held_count > 0)
+        free_some();
+    CHECK(LIBRARY(gdv_close(&allocator)) == GD_OK);
+    CHECK(live_pools == 0 && live_sets == 0);
+    CHECK(live_blocks == 0 && memory_blocks == 0);
+}
+
+static void check_closed(void) {
+    VkDescriptorSet set = VK_NULL_HANDLE;
+    VkDescriptorSetLayoutCreateInfo info = {0};
+    uint64_t name = 0;
+    CHECK(gdv_layout(&allocator, VK_NULL_HANDLE, &info, &name) == GD_CLOSED);
+    CHECK(gdv_reserve(&allocator, 1) == GD_CLOSED);
+    CHECK(gdv_allocate(&allocator, 0, 1, &set, &name) == GD_CLOSED);
+    CHECK(gdv_free(&allocator, &name, 1) == GD_CLOSED);
+    CHECK(gdv_cleanup(&allocator) == GD_CLOSED);
+    CHECK(gdv_close(&allocator) == GD_CLOSED);
+}
+
+static void open_device(bool is_old) {
+    VkSamplerCreateInfo info = {.sType = VK_STRUCTURE_TYPE_SAMPLER_CREATE_INFO};
+    layer_open(is_old ? VK_API_VERSION_1_0 : VK_API_VERSION_1_3);
+    CHECK(vkCreateSampler(layer.device, &info, NULL, &sampler) == VK_SUCCESS);
+    layout_count = sizeof layouts / sizeof *layouts;
+    while (is_old && layouts[layout_count - 1].is_new)
+        layout_count--;
+}
+
+static void close_device(void) {
+    vkDestroySampler(layer.device, sampler, NULL);
+    for (uint32_t place = 0; place < layout_count; place++)
+        vkDestroyDescriptorSetLayout(layer.device, layouts[place].handle, NULL);
+    layer_close();
+    free(held);
+}
+
+static void tell(void) {
+    printf("%" PRIu64 " operations; requests met %" PRIu64, operation, statuses[GD_OK]);
+    printf(", refused %" PRIu64, statuses[GD_OUT_OF_DEVICE_MEMORY]);
+    printf("+%" PRIu64 "+%" PRIu64, statuses[GD_OUT_OF_HOST_MEMORY], statuses[GD_FRAGMENTATION]);
+    printf("+%" PRIu64 "; pools %" PRIu64, statuses[GD_NO_MEMORY], pools_created);
+    printf(", calls for sets %" PRIu64 "; calls refused %" PRIu64, asked_count, calls_refused);
+    printf(", memory refused %" PRIu64 "; messages %" PRIu64 "\n", memory_refusals, layer.messages);
+}
+
+int main(int words, char **word) {
+    uint64_t operations = number_at(words, word, 1, 10000);
+    bool is_old = words > 3 && strcmp(word[3], "1.0") == 0;
+    seed = number_at(words, word, 2, 1);
+    check_closed();
+    check_mappings();
+    open_device(is_old);
+    while (operation < operations) {
+        open_allocator(is_old);
+        for (int left = ROUND; left > 0 && operation < operations; left--, operation++)
+            act();
+        close_allocator();
+    }
+    check_closed();
+    close_device();
+    tell();
+    return layer.messages > 0;
+}
