@@ -13,7 +13,7 @@ use Rattle.descriptor_script.specs.declared.session.Session.{Session}
 use Rattle.descriptor_script.proofs.Emptied.{none_at}
 
 module _ {X : Type 0} where
-  emptied_length : (slots : List (Option X)) (tickets : List ℕ) → length (emptied slots tickets) ≡ length slots
+  pub emptied_length : (slots : List (Option X)) (tickets : List ℕ) → length (emptied slots tickets) ≡ length slots
   emptied_length slots [] = refl
   emptied_length slots (n ∷ ns) = emptied_length (set slots n None) ns ∙ length-set slots n None
 
@@ -23,7 +23,7 @@ module _ {X : Type 0} where
     | inr other ↦ get_or-set_other slots n m None None other ∙ none
   ]
 
-  emptied_none : (slots : List (Option X)) (tickets : List ℕ) (m : ℕ) → get_or slots m None ≡ None → get_or (emptied slots tickets) m None ≡ None
+  pub emptied_none : (slots : List (Option X)) (tickets : List ℕ) (m : ℕ) → get_or slots m None ≡ None → get_or (emptied slots tickets) m None ≡ None
   emptied_none slots [] m none = none
   emptied_none slots (n ∷ ns) m none = emptied_none (set slots n None) ns m (none_set slots n m none)
 

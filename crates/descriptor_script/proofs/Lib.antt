@@ -5,6 +5,7 @@ mod Entries
 mod Filling
 mod Given
 mod Held
+pub mod Naming
 pub mod Owing
 mod Promised
 mod Running

@@ -1,5 +1,5 @@
 -- The parts of the headline hold at each step of a run.
-use Rattle.std.proofs.Common.{List, [], ◌∷◌, sym, ap, ◌∙◌}
+use Rattle.std.proofs.Common.{ℕ, List, [], ◌∷◌, sym, ap, ◌∙◌}
 use Rattle.std.specs.Prelude.{IfOk, Result, Ok, Err}
 use Rattle.gpu_descriptor_types.specs.Ledger.{Counters}
 use Rattle.gpu_descriptor_types.specs.Meaning.{Meaning}
@@ -7,10 +7,10 @@ use Rattle.gpu_descriptor_types.specs.Side.{Side}
 use Rattle.gpu_descriptor.specs.Caller.Sets.{items_of}
 use Rattle.gpu_descriptor.specs.Caller.States.{state_of}
 use Rattle.gpu_descriptor.proofs.release.ReleaseAgrees.{one_by_one}
-use Rattle.descriptor_script.specs.Sessions.Headline.{CallsOnceARun, FailsForCause, FreesOneByOne, HoldsExactly, HoldsWhatIsOut, KeepsAll, KeepsLimit}
+use Rattle.descriptor_script.specs.Sessions.Headline.{CallsOnceARun, FailsForCause, FreesOneByOne, GoBackInRuns, GoBackOneByOne, HoldsExactly, HoldsWhatIsOut, KeepsAll, KeepsLimit}
 use Rattle.descriptor_script.specs.Sessions.Session.{IsReady, KeepsSession, allocator_of, sets_of}
 use Rattle.descriptor_script.specs.Sessions.SessionRun.{RunsKeeping, RunsTo}
-use Rattle.descriptor_script.specs.Sessions.Steps.{OfStep, StepsTo}
+use Rattle.descriptor_script.specs.Sessions.Steps.{GivesUp, OfStep, StepsTo}
 use Rattle.descriptor_script.specs.declared.command.Command.{Command}
 use Rattle.descriptor_script.specs.declared.command.Command.TheVariants.{Allocate, Free, Cleanup}
 use Rattle.descriptor_script.specs.declared.command.Reply.{Reply}
@@ -72,17 +72,21 @@ module _ {L P S : Type 0} (means : Meaning L P S) where
       go Cleanup NoMemory h = absurd h
       go Cleanup Clean h = h.sets
 
+  pub going_one_by_one : (tickets : List ℕ) (many : ℕ) (old new : Side (Session L P S)) → IsReady means old → GivesUp means tickets old new many → GoBackOneByOne means tickets old new
+  going_one_by_one tickets many old new ready h =
+      let start = state_of means.pool_name (allocator_of old.value) old.ledger in
+      let out = listed_out means.set_name (sets_of old.value) tickets h.given start h.good h.each ready.held in
+      (h.given, h.each, (λ order alike. h.back.back.state ∙ sym (one_by_one (items_of means.set_name h.given) order start ready.agree.books out alike)))
+
+  pub going_in_runs : (tickets : List ℕ) (many : ℕ) (old new : Side (Session L P S)) → GivesUp means tickets old new many → GoBackInRuns means tickets old new
+  going_in_runs tickets many old new h = (h.given, h.each, ap (λ (c : Counters). c.released) h.back.back.counters)
+
   -- what is promised of sets that go back, and of nothing else
   frees_in_runs : IsKept (λ command reply old new. FreesOneByOne means command reply old new × CallsOnceARun means command reply old new)
   frees_in_runs command reply old new ready step keeps = go command reply step
     where
       go : (command : Command) (reply : Reply) → Steps command reply old new → FreesOneByOne means command reply old new × CallsOnceARun means command reply old new
-      go (Free tickets) (Freed n) h =
-          let start = state_of means.pool_name (allocator_of old.value) old.ledger in
-          let out = listed_out means.set_name (sets_of old.value) tickets.items h.given start h.good h.each ready.held in (
-            (h.given, h.each, (λ order alike. h.back.back.state ∙ sym (one_by_one (items_of means.set_name h.given) order start ready.agree.books out alike))),
-            (h.given, h.each, ap (λ (c : Counters). c.released) h.back.back.counters),
-          )
+      go (Free tickets) (Freed n) h = (going_one_by_one tickets.items n old new ready h, going_in_runs tickets.items n old new h)
       go (Free tickets) (Sets first many) h = (tt, tt)
       go (Free tickets) (Refused e) h = (tt, tt)
       go (Free tickets) BadTicket h = (tt, tt)

@@ -4,6 +4,7 @@ pub mod Live
 pub mod Log
 pub mod Marks
 pub mod Owed
+pub mod Places
 pub mod Pools
 pub mod Slots
 pub mod Table

@@ -8,6 +8,7 @@ ghost use Rattle.gpu_descriptor.specs.Caller.States.{pool_load_of};
 ghost use Rattle.gpu_descriptor.specs.Caller.Values.{without_keys};
 ghost use Rattle.descriptor_script.specs.Sessions.Tickets.{held_sets, set_at};
 
+mod named;
 mod run;
 mod step;
 
@@ -34,6 +35,9 @@ pub struct Session<L, P, S> {
     pub(crate) allocator: DescriptorAllocator<P, S>,
     pub(crate) layouts: Vec<KnownLayout<L>>,
     pub(crate) slots: Slots<S>,
+
+    /// Room for the places of a list of names.
+    pub(crate) places: Vec<usize>,
     ghost counted: { slots.held ≡ outstanding_of allocator },
     ghost within: { marked_load_of allocator ≤ allocator.limit },
     ghost in_room: { pool_load_of allocator ≤ allocator.limit },
@@ -55,6 +59,7 @@ impl<L, P, S> Session<L, P, S> {
             allocator: DescriptorAllocator::new(alloc, max),
             layouts: Vec::new(alloc),
             slots: Slots::new(alloc),
+            places: Vec::new(alloc),
         }
     }
 

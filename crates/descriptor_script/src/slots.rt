@@ -20,6 +20,12 @@ pub(crate) struct Slots<S> {
 
     /// How many slots have a set.
     pub(crate) held: u64,
+
+    /// The generation of each place, the first at places behind the list.
+    pub(crate) generations: Vec<u32>,
+
+    /// Places of which some may be used again.
+    pub(crate) spare: Vec<usize>,
     ghost as_long: { vec_len listed ≡ vec_len sets },
     ghost clear: { AreClear listed.items },
     ghost counted: { held ≡ length (held_sets sets.items) },
@@ -37,6 +43,8 @@ impl<S> Slots<S> {
             sets: Vec::new(alloc),
             listed: Vec::new(alloc),
             held: 0,
+            generations: Vec::new(alloc),
+            spare: Vec::new(alloc),
         }
     }
 
@@ -69,6 +77,7 @@ impl<S> Slots<S> {
         ensures room { OnOk result (HasSpareSlots count self.new) }
         ensures some { OnErr result (0 < count) }
         ensures sets { slots_of self.new ≡ slots_of self.old }
+        ensures generations { self.new.generations ≡ self.old.generations }
     {
         self.sets.reserve(count as usize)?;
         self.listed.reserve(count as usize)
@@ -87,13 +96,14 @@ impl<S> Slots<S> {
     }
 
     /// Puts a set under the next ticket, over room that was taken.
-    fn push(&mut self, set: DescriptorSet<S>)
+    pub(crate) fn push(&mut self, set: DescriptorSet<S>)
         requires { HasSpareSlots 1 self.old }
         ensures sets { slots_of self.new ≡ slots_of self.old ++ Some set ∷ [] }
         ensures room { (vec_len self.new.sets ≡ vec_len self.old.sets + 1)
             × (vec_capacity self.new.sets ≡ vec_capacity self.old.sets) }
         ensures marks { (vec_len self.new.listed ≡ vec_len self.old.listed + 1)
             × (vec_capacity self.new.listed ≡ vec_capacity self.old.listed) }
+        ensures generations { self.new.generations ≡ self.old.generations }
     {
         self.sets.push_reserved(Some(set));
         self.listed.push_reserved(false);
@@ -105,6 +115,7 @@ impl<S> Slots<S> {
         requires { IsSome (set_at (slots_of self.old) ticket) }
         ensures set { result ≡ set_at (slots_of self.old) ticket }
         ensures sets { slots_of self.new ≡ slice_set (slots_of self.old) ticket None }
+        ensures generations { self.new.generations ≡ self.old.generations }
     {
         let set = self.sets[ticket].take();
         self.held -= 1;
@@ -115,6 +126,7 @@ impl<S> Slots<S> {
     pub(crate) fn are_held_once(&mut self, tickets: &[usize]) -> bool
         ensures answer { IsTrue result ↔ AreHeldOnce (slots_of self.old) tickets.now }
         ensures sets { slots_of self.new ≡ slots_of self.old }
+        ensures generations { self.new.generations ≡ self.old.generations }
     {
         let good = mark_each(&self.sets, &mut self.listed, tickets);
         clear_each(&mut self.listed, tickets);

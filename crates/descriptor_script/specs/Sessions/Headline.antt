@@ -1,5 +1,5 @@
 -- The parts of the headline: what holds after each command of a run.
-use Rattle.std.specs.Prelude.{◌≡◌, ◌+◌, ◌≤◌, List, ◌++◌, length, map, Some}
+use Rattle.std.specs.Prelude.{◌≡◌, ℕ, ◌+◌, ◌≤◌, List, ◌++◌, length, map, Some}
 use Rattle.gpu_descriptor_types.specs.Meaning.{Meaning}
 use Rattle.gpu_descriptor_types.specs.Side.{Side}
 use Rattle.gpu_descriptor.specs.Model.Agreement.{Item, count_of}
@@ -34,21 +34,28 @@ module _ {L P S : Type 0} where
       (marked_load_of after ≤ after.limit) × (pool_load_of after ≤ after.limit) × (after.limit ≡ before.limit)
 
   module _ (means : Meaning L P S) where
+    -- the sets of these tickets go back with one call of the device for each run
+    abbrev pub GoBackInRuns : List ℕ → Side (Session L P S) → Side (Session L P S) → Type 0
+    GoBackInRuns tickets old new =
+        (sets : List (DescriptorSet S)) × (map Some sets ≡ map (set_at (sets_of old.value)) tickets) × (new.ledger.counters.released ≡ old.ledger.counters.released + runs (items_of means.set_name sets))
+
     -- a free calls the device once for each run of its sets
     abbrev pub CallsOnceARun : OfStep L P S
-    CallsOnceARun (Free tickets) (Freed many) old new =
-        (sets : List (DescriptorSet S)) × (map Some sets ≡ map (set_at (sets_of old.value)) tickets.items) × (new.ledger.counters.released ≡ old.ledger.counters.released + runs (items_of means.set_name sets))
+    CallsOnceARun (Free tickets) (Freed many) old new = GoBackInRuns tickets.items old new
     CallsOnceARun _ _ old new = Unit {0}
 
     -- the sets that are outstanding are exactly those that are held, and the allocator counts as many
     abbrev pub HoldsExactly : OfStep L P S
     HoldsExactly _ _ old new = AreAllHeld means.set_name (sets_of new.value) (state_on means new) × (length (held_sets (sets_of new.value)) ≡ outstanding_of (allocator_of new.value))
 
-    -- a free leaves what freeing its sets one by one leaves, in whatever order
-    abbrev pub FreesOneByOne : OfStep L P S
-    FreesOneByOne (Free tickets) (Freed many) old new =
-        (sets : List (DescriptorSet S)) × (map Some sets ≡ map (set_at (sets_of old.value)) tickets.items)
+    -- what is left is what freeing the sets of these tickets one by one leaves, in whatever order
+    abbrev pub GoBackOneByOne : List ℕ → Side (Session L P S) → Side (Session L P S) → Type 0
+    GoBackOneByOne tickets old new =
+        (sets : List (DescriptorSet S)) × (map Some sets ≡ map (set_at (sets_of old.value)) tickets)
         × ((order : List Item) → ((t : Item) → count_of t order ≡ count_of t (items_of means.set_name sets)) → state_on means new ≡ released_each (singly order) (state_on means old))
+
+    abbrev pub FreesOneByOne : OfStep L P S
+    FreesOneByOne (Free tickets) (Freed many) old new = GoBackOneByOne tickets.items old new
     FreesOneByOne _ _ old new = Unit {0}
 
     -- a request that the allocator refused has a named cause

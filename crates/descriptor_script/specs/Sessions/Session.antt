@@ -1,5 +1,5 @@
 -- What a session keeps.
-use Rattle.std.specs.Prelude.{◌≡◌, ℕ, List, length, slice_get, Option, Some}
+use Rattle.std.specs.Prelude.{◌≡◌, ℕ, ◌≤◌, List, length, slice_get, Option, Some, vec_capacity}
 use Rattle.gpu_descriptor_types.specs.Counts.{kinds}
 use Rattle.gpu_descriptor.specs.Model.Agreement.{Item, State, count_of, outstanding}
 use Rattle.gpu_descriptor_types.specs.Meaning.{Meaning}
@@ -10,7 +10,9 @@ use Rattle.gpu_descriptor.specs.Caller.States.{Agrees, outstanding_of, state_of}
 use Rattle.gpu_descriptor.specs.Caller.Sets.{items_of}
 use Rattle.gpu_descriptor.specs.Caller.Values.{Allocations}
 use Rattle.gpu_descriptor.specs.declared.set.DescriptorSet.{DescriptorSet}
+use Rattle.descriptor_script.specs.Inner.Places.{named_in}
 use Rattle.descriptor_script.specs.Inner.Slots.{slots_of}
+use Rattle.descriptor_script.specs.Sessions.Names.{Named}
 use Rattle.descriptor_script.specs.Sessions.Tickets.{held_sets}
 use Rattle.descriptor_script.specs.declared.session.KnownLayout.{KnownLayout}
 use Rattle.descriptor_script.specs.declared.session.Session.{Session}
@@ -29,6 +31,18 @@ module _ {L P S : Type 0} where
   -- a slot for each ticket that was given, with its set if that is held. The next ticket is their number
   abbrev pub sets_of : Session L P S → List (Option (DescriptorSet S))
   sets_of s = slots_of s.slots
+
+  -- the same by name
+  abbrev pub named_of : Session L P S → Named (DescriptorSet S)
+  named_of s = named_in s.slots
+
+  -- so many sets can go back by their names at once without memory
+  abbrev pub room_to_free : Session L P S → ℕ
+  room_to_free s = vec_capacity s.places
+
+  -- so all that are held can
+  abbrev pub HasRoomToFree : Session L P S → Type 0
+  HasRoomToFree s = length (held_sets (sets_of s)) ≤ room_to_free s
 
 -- the held sets are exactly the outstanding sets
 abbrev pub AreAllHeld : {S : Type 0} → (S → ℕ) → List (Option (DescriptorSet S)) → State → Type 0

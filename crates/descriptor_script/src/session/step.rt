@@ -1,9 +1,10 @@
 //! One command of a session.
-ghost use Rattle.std.specs.Prelude.{◌≡◌};
+ghost use Rattle.std.specs.Prelude.{◌≡◌, length};
 ghost use Rattle.gpu_descriptor_types.specs.Side.{side};
-ghost use Rattle.descriptor_script.specs.Sessions.Session.{IsReady, KeepsSession};
-ghost use Rattle.descriptor_script.specs.Sessions.Steps.{AllocatesTo, Cleans, FreesTo};
+ghost use Rattle.descriptor_script.specs.Sessions.Session.{IsReady, KeepsSession, sets_of};
+ghost use Rattle.descriptor_script.specs.Sessions.Steps.{AllocatesTo, Cleans, FreesTo, GivesUp};
 ghost use Rattle.descriptor_script.specs.Sessions.Steps.{KeepsTickets, StepsTo};
+ghost use Rattle.descriptor_script.specs.Sessions.Tickets.{AreHeldOnce};
 
 use super::Session;
 use crate::command::{Command, Reply};
@@ -74,6 +75,25 @@ impl<L, P: Drop, S: Drop> Session<L, P, S> {
         if !self.slots.are_held_once(tickets) {
             return Reply::BadTicket;
         }
+        self.give_back(device, tickets);
+        Reply::Freed(tickets.len())
+    }
+
+    /// Gives back the sets of these tickets, which are held.
+    pub(super) fn give_back<D: DescriptorDevice<L, P, S>>(
+        &mut self,
+        device: &mut D,
+        tickets: &[usize],
+    )
+        requires ready { IsReady D.meaning (side self.old (D.ledger device.old)) }
+        requires good { AreHeldOnce (sets_of self.old) tickets.now }
+        ensures back { GivesUp D.meaning tickets.now (side self.old (D.ledger device.old))
+            (side self.new (D.ledger device.new)) (length tickets.now) }
+        ensures generations { self.new.slots.generations ≡ self.old.slots.generations }
+        ensures places { self.new.places ≡ self.old.places }
+        ensures keeps { KeepsSession D.meaning (side self.old (D.ledger device.old))
+            (side self.new (D.ledger device.new)) }
+    {
         // The iterator owns the slots while the allocator reads it.
         let none = Slots::new(self.slots.alloc);
         let slots = mem::replace(&mut self.slots, none);
@@ -84,7 +104,6 @@ impl<L, P: Drop, S: Drop> Session<L, P, S> {
         self.allocator.free_from(device, &mut sets);
         let Taking { slots, tickets: _ } = sets;
         self.slots = slots;
-        Reply::Freed(tickets.len())
     }
 
     /// Destroys the empty pools at the front of each key.

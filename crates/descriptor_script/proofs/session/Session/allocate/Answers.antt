@@ -1,15 +1,11 @@
-use Rattle.std.proofs.Common.{◌≡◌, ◌++◌, map, Some, OnOk, Result, Ok, Err, is_err, true, false, length, slice_get, refl, rules, sym, ap, ◌∙◌, arith}
+use Rattle.std.proofs.Common.{◌≡◌, ◌++◌, map, Some, length, slice_get, refl, rules, sym, ap, ◌∙◌, arith}
 use Rattle.std.proofs.lemmas.Option.{slice_get_read}
 use Rattle.gpu_descriptor.specs.Caller.States.{state_of}
 use Rattle.descriptor_script.specs.Inner.Slots.{HasSpareSlots}
 use Rattle.descriptor_script.specs.Sessions.Tickets.{held_sets}
-use Rattle.descriptor_script.proofs.Held.{all_held_more, held_sum}
+use Rattle.descriptor_script.proofs.Held.{all_held_more, held_sum, is_ok_then}
 use Rattle.descriptor_script.proofs.session.Session.allocate.Goals.{In-Some}
 use Rattle.descriptor_script.proofs.session.Session.allocate.Goals as goal
-
-is_ok_then : {T E : Type 0} (r : Result T E) (P : Type 0) → is_err r ≡ false → OnOk r P → P
-is_ok_then (Ok x) P fine h = h
-is_ok_then (Err e) P fine h = absurd (let bad : true ≡ false = fine in cc)
 
 at : (g : _) (c : In-Some g) → slice_get c.args.self.now.layouts.items c.args.layout ≡ Some c.in-Some.known.now
 at g c =
