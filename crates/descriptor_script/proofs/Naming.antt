@@ -77,18 +77,20 @@ module _ {X : Type 0} where
     pub generation : generation_of name ≡ new.generation place
     pub generations : (q : ℕ) → q ≢ place → new.generation q ≡ old.generation q
     pub rises : old.generation place ≤ new.generation place
+    pub first : 0 < generation_of name
     pub fresh : place < length old.sets → old.generation place < generation_of name
     pub held : (p : X → Bool) → count_by p (held_sets new.sets) ≡ count_by p (held_sets old.sets) + count_by p (x ∷ [])
 
   holds_at : (name : ℕ) (x : X) (old new : Named X) → ComesTo (place_of name) name x old new → Holds name x old new
   holds_at name x old new c = record {
-    fresh = λ given. (let later = c.fresh given.0 in let was = given.1 in omega arith);
-    given = (c.within, (let same = c.generation in omega arith));
+    fresh = λ given. (let later = c.fresh given.0 in let was = given.2 in omega arith);
+    given = (c.within, c.first, (let same = c.generation in omega arith));
     stay = λ n given. (
       (let inside = given.0 in let long = c.long in omega arith),
+      given.1,
       elim (cases_eq (place_of n) (place_of name)) [
-        | inl same ↦ (let was = given.1 in let a = ap old.generation same in let b = ap new.generation same in let rises = c.rises in omega arith)
-        | inr other ↦ (let is = c.generations (place_of n) other in let was = given.1 in omega arith)
+        | inl same ↦ (let was = given.2 in let a = ap old.generation same in let b = ap new.generation same in let rises = c.rises in omega arith)
+        | inr other ↦ (let is = c.generations (place_of n) other in let was = given.2 in omega arith)
       ],
     );
     set = named_here new name c.generation ∙ c.here;
@@ -235,7 +237,7 @@ module _ {X : Type 0} where
   -- a name whose set went back is never held again
   pub freeing_keeps_names : (old new : Named X) (places : List ℕ) → new.sets ≡ emptied old.sets places → ((place : ℕ) → new.generation place ≡ old.generation place) → KeepsNames old new
   freeing_keeps_names old new places sets generation = record {
-    given = λ n given. ((let same = ap length sets in let long = emptied_length old.sets places in let inside = given.0 in omega arith), (let same = generation (place_of n) in let was = given.1 in omega arith));
+    given = λ n given. ((let same = ap length sets in let long = emptied_length old.sets places in let inside = given.0 in omega arith), given.1, (let same = generation (place_of n) in let was = given.2 in omega arith));
     freed = λ n given none. elim (cases_eq (generation_of n) (old.generation (place_of n))) [
       | inl same ↦ named_empty new n (ap (λ l. set_at l (place_of n)) sets ∙ emptied_none old.sets places (place_of n) (sym (named_here old n same) ∙ none))
       | inr other ↦ named_not new n (λ same. other (same ∙ generation (place_of n)))

@@ -14,13 +14,13 @@ use gpu_descriptor::DescriptorSet;
 use std::alloc::AllocError;
 
 impl<S> Slots<S> {
-    /// The generation of a place.
-    fn generation(&self, place: usize) -> u32
+    /// How many sets were at a place, with the one that is or was there last.
+    fn generation(&self, place: usize) -> u64
         ensures { result ≡ generation_in self.now place }
     {
-        match self.generations.get(place) {
-            Some(generation) => *generation,
-            None => 0,
+        match self.before.get(place) {
+            Some(before) => u64::from(*before) + 1,
+            None => 1,
         }
     }
 
@@ -30,8 +30,8 @@ impl<S> Slots<S> {
     {
         place < self.sets.len()
             && self.sets[place].is_none()
-            && place < self.generations.len()
-            && self.generations[place] < LAST_GENERATION
+            && place < self.before.len()
+            && self.generation(place) < LAST_GENERATION
     }
 
     /// A place that is used again.
@@ -39,7 +39,7 @@ impl<S> Slots<S> {
         ensures usable { IfSome result (λ place. IsUsable place self.new) }
         ensures sets { self.new.sets ≡ self.old.sets }
         ensures listed { self.new.listed ≡ self.old.listed }
-        ensures generations { self.new.generations ≡ self.old.generations }
+        ensures before { self.new.before ≡ self.old.before }
     {
         while let Some(place) = self.spare.pop() {
             if self.is_usable(place) {
@@ -58,14 +58,14 @@ impl<S> Slots<S> {
             × (vec_capacity self.new.sets ≡ vec_capacity self.old.sets) }
         ensures listed { self.new.listed ≡ self.old.listed }
     {
-        let generation = self.generation(place) + 1;
+        let before = self.generation(place);
         match self.sets[place].replace(set) {
             None => {}
             Some(_) => unreachable!(),
         }
         self.held += 1;
-        self.generations[place] = generation;
-        name_at(place, generation)
+        self.before[place] = before as u32;
+        name_at(place, before + 1)
     }
 
     /// Holds a set at a new place, over room that was taken. It answers the set's name.
@@ -78,9 +78,8 @@ impl<S> Slots<S> {
             × (vec_capacity self.new.listed ≡ vec_capacity self.old.listed) }
     {
         let place = self.next();
-        let generation = self.generation(place);
         self.push(set);
-        name_at(place, generation)
+        name_at(place, 1)
     }
 }
 
@@ -111,20 +110,20 @@ impl<S> Slots<S> {
         if slots as u64 + u64::from(count) > PLACES {
             return Err(AllocError);
         }
-        self.write_generations()?;
+        self.write_before()?;
         self.spare
             .reserve(slots.saturating_sub(self.spare.len()) + count as usize)
     }
 
-    /// Writes down the generation of each slot.
+    /// Writes down for each slot how many sets were there before.
     #[tactic(auto, using(crate::proofs::Naming::one_more_none))]
-    fn write_generations(&mut self) -> Result<(), AllocError>
+    fn write_before(&mut self) -> Result<(), AllocError>
         ensures named { NamesStay self.old self.new }
         ensures sets { self.new.sets ≡ self.old.sets }
         ensures listed { self.new.listed ≡ self.old.listed }
     {
-        for _place in self.generations.len()..self.sets.len() {
-            self.generations.push(0)?;
+        while self.before.len() < self.sets.len() {
+            self.before.push(0)?;
         }
         Ok(())
     }

@@ -8,7 +8,7 @@ use Rattle.descriptor_script.specs.declared.slots.Slots.{Slots}
 
 module _ {S : Type 0} where
   abbrev pub generation_in : Slots S → ℕ → ℕ
-  generation_in s place = slice_index_or s.generations.items place 0
+  generation_in s place = slice_index_or s.before.items place 0 + 1
 
   abbrev pub named_in : Slots S → Named (DescriptorSet S)
   named_in s = record { sets = slots_of s; generation = generation_in s }
@@ -27,7 +27,7 @@ module _ {S : Type 0} where
   pub record IsUsable (place : ℕ) (s : Slots S) : Type 0 where
     pub within : place < length (slots_of s)
     pub empty : set_at (slots_of s) place ≡ None
-    pub counted : place < length s.generations.items
+    pub counted : place < length s.before.items
     pub next : generation_in s place + 1 < 4294967296
 
   -- the place of a name, where no later name was given to it

@@ -3,14 +3,14 @@ use Rattle.std.specs.Prelude.{◌≡◌, ◌≢◌, ℕ, ◌+◌, ◌/◌, ◌%�
 use Rattle.std.specs.List.{count_by}
 use Rattle.descriptor_script.specs.Sessions.Tickets.{held_sets, set_at}
 
--- a name has a place in its lower 32 bits, and above them how many sets were there before
+-- a name has a place in its lower 32 bits, and above them how many sets were there, with its own
 abbrev pub place_of : ℕ → ℕ
 place_of name = name % 4294967296
 
 abbrev pub generation_of : ℕ → ℕ
 generation_of name = name / 4294967296
 
--- the slots by place, and how many sets were at a place before the one that is or was there last
+-- the slots by place, and how many sets were at a place, with the one that is or was there last
 pub record Named (X : Type 0) : Type 0 where
   pub sets : List (Option X)
   pub generation : ℕ → ℕ
@@ -18,7 +18,7 @@ pub record Named (X : Type 0) : Type 0 where
 module _ {X : Type 0} where
   -- the name was given, whether its set is held or not
   abbrev pub IsGiven : Named X → ℕ → Type 0
-  IsGiven t name = (place_of name < length t.sets) × (generation_of name ≤ t.generation (place_of name))
+  IsGiven t name = (place_of name < length t.sets) × (0 < generation_of name) × (generation_of name ≤ t.generation (place_of name))
 
   -- the held set of the name
   abbrev pub set_named : Named X → ℕ → Option X

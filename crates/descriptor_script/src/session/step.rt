@@ -89,7 +89,7 @@ impl<L, P: Drop, S: Drop> Session<L, P, S> {
         requires good { AreHeldOnce (sets_of self.old) tickets.now }
         ensures back { GivesUp D.meaning tickets.now (side self.old (D.ledger device.old))
             (side self.new (D.ledger device.new)) (length tickets.now) }
-        ensures generations { self.new.slots.generations ≡ self.old.slots.generations }
+        ensures before { self.new.slots.before ≡ self.old.slots.before }
         ensures places { self.new.places ≡ self.old.places }
         ensures keeps { KeepsSession D.meaning (side self.old (D.ledger device.old))
             (side self.new (D.ledger device.new)) }

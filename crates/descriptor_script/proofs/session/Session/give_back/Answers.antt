@@ -6,7 +6,7 @@ use Rattle.descriptor_script.specs.Inner.Slots.{slots_of}
 use Rattle.std.specs.Slice.Iter.{iter_rest}
 use Rattle.descriptor_script.specs.Sessions.Tickets.{AreHeldOnce, emptied, held_sets, set_at}
 use Rattle.descriptor_script.specs.declared.taking.Taking.{Taking}
-use Rattle.descriptor_script.proofs.Emptied.{all_emptied, all_held_less, all_out, each_taken, fewer_held, generations_stay, held_as}
+use Rattle.descriptor_script.proofs.Emptied.{all_emptied, all_held_less, all_out, each_taken, fewer_held, before_stays, held_as}
 use Rattle.descriptor_script.proofs.session.Session.give_back.Goals.{After-iter}
 use Rattle.descriptor_script.proofs.session.Session.give_back.Goals as goal
 
@@ -44,11 +44,11 @@ returns-clause-back g c =
       sets = drained.2.2 ∙ all_emptied frees.sets s drained.0 drained.1 drained.2.0 ∙ ap (λ l. emptied l (iter_rest s.tickets)) (slots_are g d) ∙ ap (emptied (slots_of c.args.self.now.slots)) c.iter.ensures.rest;
     }
 
-pub returns-clause-generations : goal.returns-clause-generations
-returns-clause-generations g c =
+pub returns-clause-before : goal.returns-clause-before
+returns-clause-before g c =
     let s : Taking g.row.S.Denot = record { slots = c.replace-slots.result; tickets = c.iter.result } in
     let drained = c.free_from.ensures.frees.drained in
-    drained.2.3 ∙ generations_stay c.free_from.ensures.frees.sets s drained.0 drained.1 ∙ ap (λ s. s.generations) c.replace-slots.ensures.value
+    drained.2.3 ∙ before_stays c.free_from.ensures.frees.sets s drained.0 drained.1 ∙ ap (λ s. s.before) c.replace-slots.ensures.value
 
 pub returns-clause-keeps : goal.returns-clause-keeps
 returns-clause-keeps g c =

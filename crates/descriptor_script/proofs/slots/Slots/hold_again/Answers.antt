@@ -20,6 +20,7 @@ invariant_of-self g c =
     let usable = c.requires.usable in
     record {
       as_long = s.as_long;
+      few = s.few;
       clear = s.clear;
       counted = (let more = held_put (λ _. true) s.sets.items c.args.place c.args.set usable.within usable.empty in
           let before = count_all (held_sets s.sets.items) in
@@ -35,9 +36,9 @@ returns-clause-held g c =
     let usable = c.requires.usable in
     let place = c.args.place in
     let sets = s.sets.items in
-    let gens = s.generations.items in
-    let next = c.generation-generation.result + 1 in
-    let was : next ≡ get_or gens place 0 + 1 = ap (λ n. n + 1) c.generation-generation.ensures in
+    let gens = s.before.items in
+    let next = c.generation-before.result in
+    let was : next ≡ get_or gens place 0 + 1 = c.generation-before.ensures in
     let here : get_or (set gens place next) place 0 ≡ next = get_or-set_same gens place next 0 usable.counted in
     holds_there place c.name_at.result c.args.set (named_in s) _ (record {
       at = c.name_at.ensures.place;
@@ -46,9 +47,10 @@ returns-clause-held g c =
       elsewhere = λ q other. get_or-set_other sets place q c.replace.new.self None other;
       within = (let long = length-set sets place c.replace.new.self in let inside = usable.within in omega arith);
       long = (let long = length-set sets place c.replace.new.self in omega arith);
-      generation = c.name_at.ensures.generation ∙ sym here;
-      generations = λ q other. get_or-set_other gens place q next 0 other;
+      generation = c.name_at.ensures.generation ∙ ap (λ n. n + 1) (sym here);
+      generations = λ q other. ap (λ n. n + 1) (get_or-set_other gens place q next 0 other);
       rises = omega arith;
+      first = (let e = c.name_at.ensures.generation in omega arith);
       fresh = λ inside. (let e = c.name_at.ensures.generation in omega arith);
       held = λ p. ap (λ o. count_by p (held_sets (set sets place o))) c.replace.ensures.after ∙ held_put p sets place c.args.set usable.within usable.empty;
     })

@@ -1,4 +1,4 @@
-use Rattle.std.proofs.Common.{◌≡◌, ◌∷◌, ◌++◌, [], None, Some, count_by, get_or, length, length-append, ap, ◌∙◌, rules, arith}
+use Rattle.std.proofs.Common.{◌≡◌, ℕ, ◌+◌, ◌∷◌, ◌++◌, [], None, Some, count_by, get_or, length, length-append, sym, ap, ◌∙◌, arith}
 use Rattle.descriptor_script.specs.Inner.Places.{named_in}
 use Rattle.descriptor_script.specs.Sessions.Tickets.{held_sets}
 use Rattle.descriptor_script.proofs.Naming.{held_last, holds_there, last_set, others_stay}
@@ -14,7 +14,8 @@ returns-clause-held g c =
     let new = c.push.new.self.sets.items in
     let became : new ≡ sets ++ Some c.args.set ∷ [] = c.push.ensures.sets in
     let longer = ap length became ∙ length-append sets (Some c.args.set ∷ []) in
-    let gens = ap (λ v. get_or v.items) c.push.ensures.generations in
+    let none : get_or s.before.items place 0 ≡ 0 = get_or-eq_default s.before.items 0 (let few = s.few in omega arith) in
+    let stay = λ (q : ℕ). ap (λ v. get_or v.items q 0 + 1) c.push.ensures.before in
     holds_there place c.name_at.result c.args.set (named_in s) _ (record {
       at = c.name_at.ensures.place;
       empty = get_or-eq_default sets None (omega arith);
@@ -22,9 +23,10 @@ returns-clause-held g c =
       elsewhere = λ q other. ap (λ l. get_or l q None) became ∙ others_stay sets c.args.set place is q other;
       within = omega arith;
       long = omega arith;
-      generation = search rules;
-      generations = λ q other. ap (λ v. get_or v.items q 0) c.push.ensures.generations;
-      rises = search rules;
+      generation = c.name_at.ensures.generation ∙ ap (λ n. n + 1) (sym none) ∙ sym (stay place);
+      generations = λ q other. stay q;
+      rises = (let same = stay place in omega arith);
+      first = (let e = c.name_at.ensures.generation in omega arith);
       fresh = λ inside. absurd (omega arith);
       held = λ p. ap (λ l. count_by p (held_sets l)) became ∙ held_last p sets c.args.set;
     })

@@ -6,7 +6,7 @@ abbrev pub invariant-loop-place : goal.invariant-loop-place
 invariant-loop-place g l = record {
   sets : l.self.sets ≡ l.fn.self.sets;
   listed : l.self.listed ≡ l.fn.self.listed;
-  generations : l.self.generations ≡ l.fn.self.generations;
+  before : l.self.before ≡ l.fn.self.before;
 }
 
 abbrev pub decreases-loop-place : goal.decreases-loop-place

@@ -1,4 +1,4 @@
-use Rattle.std.proofs.Common.{◌≡◌, map, get_or, true, false, sym, subst, ap, ◌∙◌, rules}
+use Rattle.std.proofs.Common.{◌≡◌, ◌+◌, map, get_or, true, false, sym, subst, ap, ◌∙◌, rules}
 use Rattle.std.proofs.lemmas.List.{length-map}
 use Rattle.descriptor_script.specs.Inner.Places.{named_in}
 use Rattle.descriptor_script.specs.Inner.Slots.{slots_of}
@@ -18,7 +18,7 @@ returns-then-not-are_held_once-clause-step g c =
           absurd (cc)),
       record {
         before = record { allocator = search rules; layouts = search rules; sets = c.are_held_once.ensures.sets; ledger = search rules };
-        named = λ i. record { sets = c.are_held_once.ensures.sets i; generation = λ place. get_or (c.are_held_once.ensures.generations i).items place 0 };
+        named = λ i. record { sets = c.are_held_once.ensures.sets i; generation = λ place. get_or (c.are_held_once.ensures.before i).items place 0 + 1 };
       },
     )
 
@@ -42,7 +42,7 @@ returns-clause-step g c =
         back = b.back;
         sets = c.spare_each.ensures.named.sets ∙ b.sets ∙ (λ i. emptied (sets i) (tickets i));
       };
-      generation = λ place. c.spare_each.ensures.named.generation place ∙ ap (λ v. get_or v.items place 0) (c.give_back.ensures.generations ∙ c.are_held_once.ensures.generations);
+      generation = λ place. c.spare_each.ensures.named.generation place ∙ ap (λ v. get_or v.items place 0 + 1) (c.give_back.ensures.before ∙ c.are_held_once.ensures.before);
     }
 
 pub returns-clause-one_by_one : goal.returns-clause-one_by_one
@@ -52,4 +52,4 @@ pub returns-clause-names : goal.returns-clause-names
 returns-clause-names g c =
     let sets = c.are_held_once.ensures.sets in
     let b = c.give_back.ensures.back in
-    freeing_keeps_names _ _ c.deref-2.result.now (c.spare_each.ensures.named.sets ∙ b.sets ∙ ap (λ l. emptied l c.deref-2.result.now) sets) (λ place. c.spare_each.ensures.named.generation place ∙ ap (λ v. get_or v.items place 0) (c.give_back.ensures.generations ∙ c.are_held_once.ensures.generations))
+    freeing_keeps_names _ _ c.deref-2.result.now (c.spare_each.ensures.named.sets ∙ b.sets ∙ ap (λ l. emptied l c.deref-2.result.now) sets) (λ place. c.spare_each.ensures.named.generation place ∙ ap (λ v. get_or v.items place 0 + 1) (c.give_back.ensures.before ∙ c.are_held_once.ensures.before))
