@@ -44,7 +44,8 @@ pub struct Session<L, P, S> {
 }
 
 impl<L, P, S> Session<L, P, S> {
-    ghost use Rattle.descriptor_script.specs.Sessions.Session.{allocator_of, layouts_of, sets_of};
+    ghost use Rattle.descriptor_script.specs.Sessions.Session.{allocator_of, layouts_of};
+    ghost use Rattle.descriptor_script.specs.Sessions.Session.{named_of, room_to_free, sets_of};
 
     /// A session without layouts and sets, whose allocator has this limit on update-after-bind
     /// descriptors, and agrees with every device. It takes no memory.
@@ -77,6 +78,8 @@ impl<L, P, S> Session<L, P, S> {
         ensures layouts { OnErr result (layouts_of self.new ≡ layouts_of self.old) }
         ensures allocator { allocator_of self.new ≡ allocator_of self.old }
         ensures sets { sets_of self.new ≡ sets_of self.old }
+        ensures named { named_of self.new ≡ named_of self.old }
+        ensures room { room_to_free self.new ≡ room_to_free self.old }
     {
         let place = self.layouts.len();
         let known = KnownLayout {

@@ -1,5 +1,5 @@
 //! Requests and frees of sets that have names, in places that are used again.
-ghost use Rattle.std.specs.Prelude.{◌≡◌, ◌+◌, ◌<◌, ◌≤◌, OnErr, OnOk, drop, length, take, vec_capacity};
+ghost use Rattle.std.specs.Prelude.{◌≡◌, ◌≢◌, Err, ◌+◌, ◌<◌, ◌≤◌, OnErr, OnOk, drop, length, take, vec_capacity};
 ghost use Rattle.gpu_descriptor_types.specs.Side.{side};
 ghost use Rattle.descriptor_script.specs.Sessions.Names.{KeepsNames};
 ghost use Rattle.descriptor_script.specs.Sessions.NamedSets.{names_of, places_of};
@@ -76,6 +76,7 @@ impl<L, P: Drop> Session<L, P, u64> {
             (side self.old (D.ledger device.old)) (side self.new (D.ledger device.new))) }
         ensures one_call_a_run { OnOk result (GoBackInRuns D.meaning (places_of sets.now)
             (side self.old (D.ledger device.old)) (side self.new (D.ledger device.new))) }
+        ensures memory { HasRoomToFree self.old → result ≢ Err Reply.NoMemory }
         ensures names { KeepsNames (named_of self.old) (named_of self.new) }
         ensures room { HasRoomToFree self.old → HasRoomToFree self.new }
         ensures keeps { KeepsSession D.meaning (side self.old (D.ledger device.old))

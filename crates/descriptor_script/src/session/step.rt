@@ -1,7 +1,8 @@
 //! One command of a session.
 ghost use Rattle.std.specs.Prelude.{◌≡◌, length};
 ghost use Rattle.gpu_descriptor_types.specs.Side.{side};
-ghost use Rattle.descriptor_script.specs.Sessions.Session.{IsReady, KeepsSession, sets_of};
+ghost use Rattle.descriptor_script.specs.Sessions.Session.{IsReady, KeepsSession};
+ghost use Rattle.descriptor_script.specs.Sessions.Session.{named_of, room_to_free, sets_of};
 ghost use Rattle.descriptor_script.specs.Sessions.Steps.{AllocatesTo, Cleans, FreesTo, GivesUp};
 ghost use Rattle.descriptor_script.specs.Sessions.Steps.{KeepsTickets, StepsTo};
 ghost use Rattle.descriptor_script.specs.Sessions.Tickets.{AreHeldOnce};
@@ -28,7 +29,10 @@ impl<L, P: Drop, S: Drop> Session<L, P, S> {
         match command {
             Command::Allocate { layout, count } => self.allocate(device, *layout, *count),
             Command::Free { tickets } => self.free(device, tickets),
-            Command::Cleanup => self.cleanup(device),
+            Command::Cleanup => {
+                self.cleanup(device);
+                Reply::Clean
+            }
         }
     }
 
@@ -107,15 +111,15 @@ impl<L, P: Drop, S: Drop> Session<L, P, S> {
     }
 
     /// Destroys the empty pools at the front of each key.
-    fn cleanup<D: DescriptorDevice<L, P, S>>(&mut self, device: &mut D) -> Reply
+    pub fn cleanup<D: DescriptorDevice<L, P, S>>(&mut self, device: &mut D)
         requires ready { IsReady D.meaning (side self.old (D.ledger device.old)) }
-        ensures clean { result ≡ Reply.Clean }
         ensures cleans { Cleans D.meaning (side self.old (D.ledger device.old))
             (side self.new (D.ledger device.new)) }
+        ensures named { named_of self.new ≡ named_of self.old }
+        ensures room { room_to_free self.new ≡ room_to_free self.old }
         ensures keeps { KeepsSession D.meaning (side self.old (D.ledger device.old))
             (side self.new (D.ledger device.new)) }
     {
         self.allocator.cleanup(device);
-        Reply::Clean
     }
 }
