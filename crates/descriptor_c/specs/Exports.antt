@@ -1,16 +1,19 @@
 -- What an export of the library does, and its status.
-use Rattle.std.specs.Prelude.{◌≡◌, ◌⊎◌, ℕ, ◌<◌, ◌≤◌, List, [], ◌∷◌, length, map, take, true, false, Option, None, Some, Result, Ok, Err, slice_index_or}
+use Rattle.std.specs.Prelude.{◌≡◌, ◌≢◌, ◌⊎◌, ℕ, ◌<◌, List, [], ◌∷◌, length, map, true, false, Option, None, Some, Result, Ok, Err, IfOk, slice_index_or}
 use Rattle.gpu_descriptor_types.specs.Counts.{kinds}
 use Rattle.gpu_descriptor.specs.Caller.Values.{without_keys}
+use Rattle.descriptor_script.specs.Sessions.NamedSets.{names_of}
 use Rattle.descriptor_script.specs.Sessions.Session.{allocator_of, layouts_of, sets_of}
 use Rattle.descriptor_script.specs.Sessions.Tickets.{held_sets}
-use Rattle.descriptor_host.specs.Acts.{waiting_of}
 use Rattle.descriptor_host.specs.History.{no_log}
-use Rattle.descriptor_host.specs.Hosts.{AddsLayout, BeginsNot, CleansUp, CommitsTo, EndsRequest, Frees, HearsGrant, HearsNot, HearsRefusal, KeepsSets, NamesCall, TakesCalls, ledger_on, log_on, named_call, request_of, session_of}
+use Rattle.descriptor_host.specs.Hosts.{AddsLayout, CleansUp, Frees, HandsOut, IsOver, KeepsSets, log_on, request_of, session_of}
 use Rattle.descriptor_host.specs.Replies.{status_of}
+use Rattle.descriptor_host.specs.Requests.{Begins, GoesOnGranted, GoesOnRefused}
 use Rattle.descriptor_host.specs.declared.device_call.DeviceCall.{DeviceCall}
 use Rattle.descriptor_host.specs.declared.error.HostError.{HostError}
-use Rattle.descriptor_host.specs.declared.error.HostError.TheVariants.{BadCounts, Closed, IsOpen, NoMemory, StillOut, TooShort}
+use Rattle.descriptor_host.specs.declared.error.HostError.TheVariants.{BadAnswer, BadCounts, Closed, IsOpen, NoMemory, StillOut}
+use Rattle.descriptor_host.specs.declared.handed.Handed.{Handed}
+use Rattle.descriptor_script.specs.declared.named_set.NamedSet.{NamedSet}
 use Rattle.descriptor_host.specs.declared.host.Host.{Host}
 use Rattle.descriptor_host.specs.declared.layout.HostLayout.{HostLayout}
 use Rattle.descriptor_host.specs.declared.refusal.Refusal.{Refusal}
@@ -39,10 +42,10 @@ abbrev pub Opens : ℕ → Option Host → Option Host → ℕ → Type 0
 Opens limit None new status = ((h : Host) × (new ≡ Some h) × IsNew limit h × (status ≡ 0)) ⊎ ((new ≡ None) × (status ≡ status_of NoMemory))
 Opens limit (Some old) new status = (new ≡ Some old) × (status ≡ status_of IsOpen)
 
--- a handle was closed of which no pool is left. Else it stays as it is
+-- a handle was closed of which nothing is left. Else it stays as it is
 abbrev pub Closes : Option Host → Option Host → ℕ → Type 0
 Closes None new status = (new ≡ None) × (status ≡ status_of Closed)
-Closes (Some old) new status = ((new ≡ None) × (status ≡ 0) × ((name : ℕ) → (ledger_on old).pools name ≡ None) × (waiting_of (log_on old) ≡ [])) ⊎ ((new ≡ Some old) × (status ≡ status_of StillOut))
+Closes (Some old) new status = ((new ≡ None) × (status ≡ 0) × IsOver old) ⊎ ((new ≡ Some old) × (status ≡ status_of StillOut) × ¬ IsOver old)
 
 -- the counts of fourteen kinds, of which the first are given
 abbrev pub first_counts : List ℕ → List ℕ
@@ -60,13 +63,15 @@ AddsTo handle given mark place status old new = ((status ≡ 0) × KeepsSets old
     ⊎ ((status ≡ status_of NoMemory) × KeepsSets old new × (layouts_of (session_of new) ≡ layouts_of (session_of old)))
     ⊎ ((status ≡ status_of BadCounts) × (new ≡ old) × (14 < length given))
 
--- a request was begun, and its first call named, or not for the reason that is told. One on its way was ended
-pub record BeginsTo (layout count : ℕ) (call : DeviceCall) (status : ℕ) (old new : Host) : Type 0 where
-  pub ends : EndsRequest old new
-  pub done : ((status ≡ 0) × (request_of new ≡ Some (layout, count)) × (waiting_of (log_on new) ≡ []) × NamesCall call (named_call new)) ⊎ ((e : HostError) × (status ≡ status_of e) × BeginsNot layout e new × (request_of new ≡ None))
+-- the status tells the error. Where there is none the call is told
+abbrev pub IsTold : Result DeviceCall HostError → DeviceCall → ℕ → Type 0
+IsTold result call status = (status ≡ result_status result) × IfOk result (λ next. call ≡ next)
 
-abbrev pub HearsGrantTo : List ℕ → DeviceCall → ℕ → Host → Host → Type 0
-HearsGrantTo handles call status old new = ((status ≡ 0) × HearsGrant handles old new × NamesCall call (named_call new)) ⊎ ((e : HostError) × (status ≡ status_of e) × HearsNot e old × (new ≡ old))
+abbrev pub BeginsTo : (layout count : ℕ) → List NamedSet → DeviceCall → ℕ → Host → Host → Type 0
+BeginsTo layout count sets call status old new = (result : Result DeviceCall HostError) × IsTold result call status × Begins layout count result sets old new
+
+abbrev pub GrantsTo : (handles : List ℕ) → List NamedSet → DeviceCall → ℕ → Host → Host → Type 0
+GrantsTo handles sets call status old new = (result : Result DeviceCall HostError) × IsTold result call status × GoesOnGranted handles result sets old new
 
 -- the reasons of refusals by their numbers
 abbrev pub why_status : Refusal → ℕ
@@ -75,21 +80,24 @@ why_status OutOfHostMemory = 11
 why_status Fragmentation = 12
 why_status OutOfPoolMemory = 13
 
-abbrev pub HearsRefusalTo : ℕ → DeviceCall → ℕ → Host → Host → Type 0
-HearsRefusalTo why call status old new = ((status ≡ 0) × ((r : Refusal) × (why ≡ why_status r) × HearsRefusal r old new) × NamesCall call (named_call new)) ⊎ ((e : HostError) × (status ≡ status_of e) × HearsNot e old × (new ≡ old))
+-- the number is no reason
+abbrev pub IsNoReason : ℕ → Type 0
+IsNoReason why = (r : Refusal) → why ≢ why_status r
 
-abbrev pub Commits : (sets_long names_long : ℕ) → (sets names : List ℕ) → ℕ → Host → Host → Type 0
-Commits sets_long names_long sets names status old new = (result : Result (Unit {0}) HostError) × (status ≡ result_status result) × CommitsTo result sets_long names_long sets names old new
+-- the refusal of this number was heard. Where it has none nothing changed
+abbrev pub RefusesTo : (why : ℕ) → List NamedSet → DeviceCall → ℕ → Host → Host → Type 0
+RefusesTo why sets call status old new = ((r : Refusal) × (why ≡ why_status r) × (result : Result DeviceCall HostError) × IsTold result call status × GoesOnRefused r result sets old new)
+    ⊎ (IsNoReason why × (status ≡ status_of BadAnswer) × (new ≡ old))
 
-abbrev pub FreesTo : List ℕ → ℕ → Host → Host → Type 0
-FreesTo names status old new = (result : Result (Unit {0}) HostError) × (status ≡ result_status result) × Frees names result old new
+-- the sets went back, or none did for the reason that is told. Then the calls that wait were handed over
+abbrev pub FreesTo : List NamedSet → Handed → (words : List ℕ) → ℕ → Host → Host → Type 0
+FreesTo sets handed words status old new = (middle : Host) × ((result : Result (Unit {0}) HostError) × (status ≡ result_status result) × Frees (names_of sets) result old middle) × HandsOut handed words middle new
 
-abbrev pub CleansUpTo : ℕ → Host → Host → Type 0
-CleansUpTo status old new = (status ≡ 0) × CleansUp old new
+abbrev pub CleansUpTo : Handed → (words : List ℕ) → ℕ → Host → Host → Type 0
+CleansUpTo handed words status old new = (status ≡ 0) × ((middle : Host) × CleansUp old middle × HandsOut handed words middle new)
 
--- whole calls were handed over, none where none waits, or the first doesn't fit and its length is told
-abbrev pub TakesCallsTo : List ℕ → ℕ → ℕ → Host → Host → Type 0
-TakesCallsTo words written status old new = ((status ≡ 0) × TakesCalls (take written words) old new × (written ≤ length words) × (written ≡ 0 → waiting_of (log_on new) ≡ [])) ⊎ ((status ≡ status_of TooShort) × TakesCalls [] old new × (length words < written))
+abbrev pub TakesCallsTo : Handed → (words : List ℕ) → ℕ → Host → Host → Type 0
+TakesCallsTo handed words status old new = (status ≡ 0) × HandsOut handed words old new
 
 abbrev pub HasHeld : ℕ → ℕ → Host → Host → Type 0
 HasHeld sets status old new = (status ≡ 0) × (new ≡ old) × (sets ≡ length (held_sets (sets_of (session_of old))))

@@ -1,15 +1,16 @@
 //! The allocator as a static library: what `bindings/c/gpu_descriptor.h` declares.
 #![tactic(auto)]
 
-ghost use Rattle.std.specs.Prelude.{◌≡◌, ◌<◌, IfSome, false, length, slice_index_or, true};
+ghost use Rattle.std.specs.Prelude.{◌≡◌, ◌<◌, IfNone, IfSome, false, slice_index_or, true};
 ghost use Rattle.gpu_descriptor_types.specs.Counts.{kinds};
 ghost use Rattle.descriptor_host.specs.Opens.{host_in};
-ghost use Rattle.descriptor_c.specs.Exports.{AddsTo, BeginsTo, CleansUpTo, Closes, Commits};
-ghost use Rattle.descriptor_c.specs.Exports.{FreesTo, HasHeld, HearsGrantTo, HearsRefusalTo};
-ghost use Rattle.descriptor_c.specs.Exports.{OnHost, Opens, TakesCallsTo, result_status};
-ghost use Rattle.descriptor_c.specs.Exports.{first_counts, why_status};
+ghost use Rattle.descriptor_c.specs.Exports.{AddsTo, BeginsTo, CleansUpTo, Closes, FreesTo};
+ghost use Rattle.descriptor_c.specs.Exports.{GrantsTo, HasHeld, IsNoReason, IsTold, OnHost};
+ghost use Rattle.descriptor_c.specs.Exports.{Opens, RefusesTo, TakesCallsTo, first_counts};
+ghost use Rattle.descriptor_c.specs.Exports.{result_status, why_status};
 
-use descriptor_host::{DeviceCall, Handle, Host, HostError, HostLayout, Refusal};
+use descriptor_host::{DeviceCall, Handed, Handle, Host, HostError, HostLayout, Refusal};
+use descriptor_script::NamedSet;
 use gpu_descriptor_types::DescriptorTotalCount;
 use std::alloc::Global;
 
@@ -25,6 +26,19 @@ fn told(outcome: Result<(), HostError>) -> u32
 {
     match outcome {
         Ok(()) => OK,
+        Err(error) => error.status(),
+    }
+}
+
+/// The status of a call that names a device call, which is told where there is one.
+fn told_call(named: Result<DeviceCall, HostError>, call: &mut DeviceCall) -> u32
+    ensures { IsTold named call.new result }
+{
+    match named {
+        Ok(next) => {
+            *call = next;
+            OK
+        }
         Err(error) => error.status(),
     }
 }
@@ -71,7 +85,8 @@ fn is_marked(update_after_bind: u32) -> bool
 
 /// Why the driver refused, by its number.
 fn refusal_of(why: u32) -> Option<Refusal>
-    ensures { IfSome result (λ refusal. why ≡ why_status refusal) }
+    ensures reason { IfSome result (λ refusal. why ≡ why_status refusal) }
+    ensures none { IfNone result (IsNoReason why) }
 {
     match why {
         10 => Some(Refusal::OutOfDeviceMemory),
@@ -152,23 +167,18 @@ pub extern "C" fn gd_begin(
     handle: &mut Handle,
     layout: u64,
     count: u32,
+    sets: &mut [NamedSet],
     call: &mut DeviceCall,
 ) -> u32
     ensures { OnHost (host_in handle.old) (host_in handle.new) result
-        (BeginsTo layout count call.new) }
+        (BeginsTo layout count sets.new call.new) }
 {
     let Some(mut host) = handle.take(alloc) else {
         return HostError::Closed.status();
     };
-    let named = host.begin(layout as usize, count);
+    let named = host.begin(layout as usize, count, sets);
     *handle = Handle::of(host);
-    match named {
-        Ok(next) => {
-            *call = next;
-            OK
-        }
-        Err(error) => error.status(),
-    }
+    told_call(named, call)
 }
 
 #[unsafe(no_mangle)]
@@ -176,23 +186,18 @@ pub extern "C" fn gd_granted(
     alloc: Global,
     handle: &mut Handle,
     handles: &[u64],
+    sets: &mut [NamedSet],
     call: &mut DeviceCall,
 ) -> u32
     ensures { OnHost (host_in handle.old) (host_in handle.new) result
-        (HearsGrantTo handles.now call.new) }
+        (GrantsTo handles.now sets.new call.new) }
 {
     let Some(mut host) = handle.take(alloc) else {
         return HostError::Closed.status();
     };
-    let named = host.granted(handles);
+    let named = host.granted(handles, sets);
     *handle = Handle::of(host);
-    match named {
-        Ok(next) => {
-            *call = next;
-            OK
-        }
-        Err(error) => error.status(),
-    }
+    told_call(named, call)
 }
 
 #[unsafe(no_mangle)]
@@ -200,10 +205,11 @@ pub extern "C" fn gd_refused(
     alloc: Global,
     handle: &mut Handle,
     why: u32,
+    sets: &mut [NamedSet],
     call: &mut DeviceCall,
 ) -> u32
     ensures { OnHost (host_in handle.old) (host_in handle.new) result
-        (HearsRefusalTo why call.new) }
+        (RefusesTo why sets.new call.new) }
 {
     let Some(mut host) = handle.take(alloc) else {
         return HostError::Closed.status();
@@ -212,55 +218,46 @@ pub extern "C" fn gd_refused(
         *handle = Handle::of(host);
         return HostError::BadAnswer.status();
     };
-    let named = host.refused(refusal);
+    let named = host.refused(refusal, sets);
     *handle = Handle::of(host);
-    match named {
-        Ok(next) => {
-            *call = next;
-            OK
-        }
-        Err(error) => error.status(),
-    }
+    told_call(named, call)
 }
 
 #[unsafe(no_mangle)]
-pub extern "C" fn gd_commit(
+pub extern "C" fn gd_free(
     alloc: Global,
     handle: &mut Handle,
-    sets: &mut [u64],
-    names: &mut [u64],
+    sets: &[NamedSet],
+    words: &mut [u64],
+    handed: &mut Handed,
 ) -> u32
-    ensures { OnHost (host_in handle.old) (host_in handle.new) result (Commits (length sets.old)
-        (length names.old) sets.new names.new) }
+    ensures { OnHost (host_in handle.old) (host_in handle.new) result
+        (FreesTo sets.now handed.new words.new) }
 {
     let Some(mut host) = handle.take(alloc) else {
         return HostError::Closed.status();
     };
-    let made = host.commit(sets, names);
-    *handle = Handle::of(host);
-    told(made)
-}
-
-#[unsafe(no_mangle)]
-pub extern "C" fn gd_free(alloc: Global, handle: &mut Handle, names: &[u64]) -> u32
-    ensures { OnHost (host_in handle.old) (host_in handle.new) result (FreesTo names.now) }
-{
-    let Some(mut host) = handle.take(alloc) else {
-        return HostError::Closed.status();
-    };
-    let freed = host.free(alloc, names);
+    let freed = host.free(sets);
+    *handed = host.take_calls(words);
     *handle = Handle::of(host);
     told(freed)
 }
 
 #[unsafe(no_mangle)]
-pub extern "C" fn gd_cleanup(alloc: Global, handle: &mut Handle) -> u32
-    ensures { OnHost (host_in handle.old) (host_in handle.new) result CleansUpTo }
+pub extern "C" fn gd_cleanup(
+    alloc: Global,
+    handle: &mut Handle,
+    words: &mut [u64],
+    handed: &mut Handed,
+) -> u32
+    ensures { OnHost (host_in handle.old) (host_in handle.new) result
+        (CleansUpTo handed.new words.new) }
 {
     let Some(mut host) = handle.take(alloc) else {
         return HostError::Closed.status();
     };
     host.cleanup();
+    *handed = host.take_calls(words);
     *handle = Handle::of(host);
     OK
 }
@@ -270,26 +267,17 @@ pub extern "C" fn gd_calls(
     alloc: Global,
     handle: &mut Handle,
     words: &mut [u64],
-    written: &mut usize,
+    handed: &mut Handed,
 ) -> u32
     ensures { OnHost (host_in handle.old) (host_in handle.new) result
-        (TakesCallsTo words.new written.new) }
+        (TakesCallsTo handed.new words.new) }
 {
     let Some(mut host) = handle.take(alloc) else {
         return HostError::Closed.status();
     };
-    let taken = host.take_calls(words);
+    *handed = host.take_calls(words);
     *handle = Handle::of(host);
-    match taken {
-        Ok(count) => {
-            *written = count;
-            OK
-        }
-        Err(needed) => {
-            *written = needed;
-            HostError::TooShort.status()
-        }
-    }
+    OK
 }
 
 #[unsafe(no_mangle)]

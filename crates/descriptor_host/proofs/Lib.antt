@@ -1,5 +1,4 @@
 mod Balances
-mod CleanReplies
 mod Layouts
 mod Ledgers
 mod Queues

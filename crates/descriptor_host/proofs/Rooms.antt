@@ -1,40 +1,91 @@
 -- The room that a device has taken, as it goes on.
-use Rattle.std.proofs.Common.{◌≡◌, ℕ, ◌+◌, ◌-◌, ◌<◌, ◌≤◌, List, [], ◌∷◌, drop, length, nat_eq, Option, None, Some, refl, sym, ap, ◌∙◌, subst, arith}
-use Rattle.std.proofs.Math.Bridge.{le_prop}
-use Rattle.std.proofs.Math.Logic.{∥∥₁_elim, ∥∥₁_map}
-use Rattle.std.proofs.lemmas.Grind.{merely}
-use Rattle.std.proofs.lemmas.List.{length-map}
-use Rattle.std.specs.Map.{lookup}
+use Rattle.std.proofs.Common.{◌≡◌, ◌≢◌, ℕ, zero, suc, ◌+◌, ◌*◌, ◌<◌, ◌≤◌, true, false, nat_eq, List, [], ◌∷◌, ◌++◌, count_by, drop, length, Option, None, Some, inl, inr, refl, sym, ap, ◌∙◌, arith, eqb-true, eq-eqb, ne_eqb, lt_of_not-le}
+use Rattle.std.specs.Prelude.{is_some}
 use Rattle.std.specs.Option.{option_map}
+use Rattle.std.proofs.lemmas.Bool.{cases_Bool}
+use Rattle.std.proofs.lemmas.List.{length-append, length-map}
 use Rattle.gpu_descriptor_types.specs.Counts.{kinds}
-use Rattle.gpu_descriptor_types.specs.Flags.{bits}
-use Rattle.gpu_descriptor_types.specs.Ledger.{AreLive, HasNoSets, Ledger, Pool, live_sets, pool_refusals}
-use Rattle.gpu_descriptor_types.specs.Multiset.{AreIn, HasSize, LiveSet, times}
+use Rattle.gpu_descriptor_types.specs.Ledger.{AreLive, HasNoSets, Pool, live_sets, pool_refusals}
+use Rattle.gpu_descriptor_types.specs.Multiset.{LiveSet}
 use Rattle.gpu_descriptor_types.specs.declared.counts.DescriptorTotalCount.{DescriptorTotalCount}
-use Rattle.gpu_descriptor_types.specs.declared.errors.CreatePoolError.{CreatePoolError}
 use Rattle.gpu_descriptor_types.specs.declared.errors.DeviceAllocationError.{DeviceAllocationError}
-use Rattle.gpu_descriptor_types.specs.declared.flags.DescriptorPoolCreateFlags.{DescriptorPoolCreateFlags}
-use Rattle.descriptor_script.specs.Inner.Owed.{IsOwed, owed_by}
-use Rattle.descriptor_script.proofs.Owing.{allocated, created, destroyed, moved, nothing_owed, refused, released, still_owed}
+use Rattle.gpu_descriptor_types.proofs.Counting.{count_by_yes, none_spelled}
 use Rattle.descriptor_host.specs.Acts.{first_sets}
 use Rattle.descriptor_host.specs.Calls.{DriverCall, things_in, things_of}
 use Rattle.descriptor_host.specs.History.{Entry}
-use Rattle.descriptor_host.specs.Pools.{none_named, pool_name, pool_owed, pools_owed}
-use Rattle.descriptor_host.specs.Room.{EndsAll, ledger_after, things_wanted}
+use Rattle.descriptor_host.specs.Pools.{AreBelow, OwedPool, none_named, pool_name, pool_owed, row_at, rows_after, rows_of}
+use Rattle.descriptor_host.specs.Room.{EndsAll, ledger_after, things_below, things_left, things_wanted}
 use Rattle.descriptor_host.specs.Ties.{IsNext}
-use Rattle.descriptor_host.specs.declared.act.Act.TheVariants.{Create, NoCreate, Put, NoPut, Release, Destroy}
+use Rattle.descriptor_host.specs.declared.act.Act.TheVariants.{Put, NoPut, Release, Destroy}
 use Rattle.descriptor_host.specs.declared.call_queue.CallHead.{CallHead}
 use Rattle.descriptor_host.specs.declared.pool.HostPool.{HostPool}
-use Rattle.descriptor_host.proofs.Ledgers.{goes, ledger_create, ledger_destroy, ledger_no_create, ledger_no_put, ledger_put}
-use Rattle.descriptor_host.proofs.Rows.{all_named, no_rows, taken_in, taken_less}
+use Rattle.descriptor_host.proofs.Ledgers.{goes, pools_after}
+use Rattle.descriptor_host.proofs.Rows.{AreTaken, all_named, live_row}
 
--- the same things are live, and what there is room for besides changes as the room does
-pub ends_moved : (l m : Ledger) (g h : List DriverCall) (v w : Option CallHead) (room now : ℕ) → m ≡ l → things_in h + things_wanted w + room ≤ things_in g + things_wanted v + now → ∥ EndsAll l g v room ∥₁ → ∥ EndsAll m h w now ∥₁
-ends_moved l m g h v w room now same fits e = ∥∥₁_map e (λ (a : EndsAll l g v room). record {
-  live = a.live;
-  owed = moved l m a.live a.live same refl a.owed;
-  enough = (let n = a.enough in omega arith);
-})
+-- ---- what is left of all pools
+
+-- a pool of a name above the bound is not among them
+row_apart : (rows : List (ℕ × Option OwedPool)) (name bound : ℕ) (o : Option OwedPool) → bound ≤ name → things_below ((name, o) ∷ rows) bound ≡ things_below rows bound
+unfolding things_below
+row_apart rows name zero o above = refl
+row_apart rows name (suc b) o above =
+    let apart : nat_eq name b ≡ false = ne_eqb name b (λ same. (let e = same in omega arith)) in
+    rw apart (ap (λ n. things_left (row_at rows b) + n) (row_apart rows name b o (omega arith)))
+
+-- what becomes of one of them counts in place of what it was
+row_more : (rows : List (ℕ × Option OwedPool)) (name bound : ℕ) (o : Option OwedPool) → name < bound → things_below ((name, o) ∷ rows) bound + things_left (row_at rows name) ≡ things_left o + things_below rows bound
+unfolding things_below
+row_more rows name zero o below = absurd (omega arith)
+row_more rows name (suc b) o below = elim (cases_Bool (nat_eq name b)) [
+  | inl same ↦ (
+      let at : name ≡ b = eqb-true name b same in
+      let rest = row_apart rows name b o (omega arith) in
+      let was : things_left (row_at rows name) ≡ things_left (row_at rows b) = ap (λ q. things_left (row_at rows q)) at in
+      rw same (omega arith))
+  | inr other ↦ (
+      let apart : name ≢ b = (λ same. let bad : false ≡ true = sym other ∙ eq-eqb name b same in cc) in
+      let rest = row_more rows name b o (omega arith) in
+      rw other (omega arith))
+]
+
+-- of a pool among them no more is left than of all
+row_within : (rows : List (ℕ × Option OwedPool)) (name bound : ℕ) → name < bound → things_left (row_at rows name) ≤ things_below rows bound
+row_within rows name bound below = (let e = row_more rows name bound None below in omega arith)
+
+none_left : (o : Option OwedPool) → is_some o ≡ false → things_left o ≡ 0
+none_left None none = refl
+none_left (Some r) none = absurd (cc)
+
+-- where no pool above the bound is live, a higher bound counts no more
+names_more : (rows : List (ℕ × Option OwedPool)) (bound more : ℕ) → ((q : ℕ) → bound ≤ q → is_some (row_at rows q) ≡ false) → things_below rows (bound + more) ≡ things_below rows bound
+unfolding things_below
+names_more rows bound zero above = ap (things_below rows) (let e : bound + 0 ≡ bound = omega arith in e)
+names_more rows bound (suc m) above =
+    let next : things_below rows (bound + suc m) ≡ things_left (row_at rows (bound + m)) + things_below rows (bound + m) = ap (things_below rows) (let e : bound + suc m ≡ suc (bound + m) = omega arith in e) in
+    let none = none_left (row_at rows (bound + m)) (above (bound + m) (omega arith)) in
+    let rest = names_more rows bound m above in
+    omega arith
+
+-- where no pool is live nothing is left
+all_none : (rows : List (ℕ × Option OwedPool)) (bound : ℕ) → ((q : ℕ) → is_some (row_at rows q) ≡ false) → things_below rows bound ≡ 0
+unfolding things_below
+all_none rows zero none = refl
+all_none rows (suc b) none = (let here = none_left (row_at rows b) (none b) in let rest = all_none rows b none in omega arith)
+
+-- a live pool is named below the next number
+live_below : (rows : List (ℕ × Option OwedPool)) (next name : ℕ) (r : OwedPool) → AreBelow rows next → row_at rows name ≡ Some r → name < next * 18446744073709551616
+live_below rows next name r below at = lt_of_not-le (λ above. let bad : true ≡ false = ap is_some (sym at) ∙ below name above in cc)
+
+-- what is left of a live pool changed
+changed : (rows more : List (ℕ × Option OwedPool)) (next name : ℕ) (r : OwedPool) (f : OwedPool → OwedPool) → AreBelow rows next → row_at rows name ≡ Some r → more ≡ (name, option_map f (row_at rows name)) ∷ rows
+    → things_below more (next * 18446744073709551616) + length r.live ≡ length (f r).live + things_below rows (next * 18446744073709551616)
+changed rows more next name r f below at is =
+    let bound : ℕ = next * 18446744073709551616 in
+    let is_more = ap (λ (rs : List (ℕ × Option OwedPool)). things_below rs bound) is in
+    let row = row_more rows name bound (option_map f (row_at rows name)) (live_below rows next name r below at) in
+    let was : things_left (row_at rows name) ≡ length r.live + 1 = ap things_left at in
+    let now : things_left (option_map f (row_at rows name)) ≡ length (f r).live + 1 = ap (λ o. things_left (option_map f o)) at in
+    omega arith
 
 -- the first grant was used
 next_things : (h : CallHead) (g rest : List DriverCall) → IsNext h g → rest ≡ drop 1 g → things_in g ≡ things_of h + things_in rest
@@ -42,98 +93,146 @@ next_things h g rest n is = ap things_in n.first ∙ (λ i. things_of (n.head i)
 
 -- ---- by the steps
 
-pub ends_created : (h : List Entry) (g rest : List DriverCall) (w : Option CallHead) (room : ℕ) (pool : HostPool) (counts : DescriptorTotalCount) (max_sets : ℕ) (flags : DescriptorPoolCreateFlags) → IsNext (record { pool = pool.handle; sets = 0 }) g → rest ≡ drop 1 g → ∥ EndsAll (ledger_after h) g w room ∥₁ → ∥ EndsAll (ledger_after (record { act = Create pool counts max_sets flags; sets = [] } ∷ h)) rest w room ∥₁
-ends_created h g rest w room pool counts max_sets flags n is e = ∥∥₁_map e (λ (a : EndsAll (ledger_after h) g w room). record {
-  live = a.live + 1;
-  owed = moved _ _ (a.live + 1) (a.live + 1) (ledger_create h pool counts max_sets flags) refl (created (ledger_after h) a.live (pool_name pool) max_sets (bits flags) (kinds counts) a.owed);
-  enough = (let fewer = next_things (record { pool = pool.handle; sets = 0 }) g rest n is in let m = a.enough in omega arith);
-})
+-- the same things are live, and what there is room for besides changes as the room does
+pub ends_moved : (rows more : List (ℕ × Option OwedPool)) (next : ℕ) (g h : List DriverCall) (v w : Option CallHead) (room now : ℕ) → more ≡ rows → things_in h + things_wanted w + room ≡ things_in g + things_wanted v + now → EndsAll rows next g v room → EndsAll more next h w now
+ends_moved rows more next g h v w room now same fits ends = (let is = ap (λ (rs : List (ℕ × Option OwedPool)). things_below rs (next * 18446744073709551616)) same in let had = ends.exactly in record { exactly = omega arith })
 
-pub ends_put : (h : List Entry) (g rest : List DriverCall) (w : Option CallHead) (room many : ℕ) (pool : HostPool) (counts : DescriptorTotalCount) (row : Pool) → (ledger_after h).pools (pool_name pool) ≡ Some row → 0 < many → IsNext (record { pool = pool.handle; sets = many }) g → rest ≡ drop 1 g → ∥ EndsAll (ledger_after h) g w room ∥₁ → ∥ EndsAll (ledger_after (record { act = Put pool counts; sets = first_sets g } ∷ h)) rest w room ∥₁
-ends_put h g rest w room many pool counts row live some n is e =
-    let sets : List LiveSet = live_sets (kinds counts) (first_sets g) in
-    let long : length sets ≡ many = length-map (first_sets g) (λ (k : ℕ). record { name = k; counts = kinds counts }) ∙ ap (λ cs. length (first_sets cs)) n.first ∙ ap (λ (c : CallHead). c.sets) n.head in
-    let fewer = next_things (record { pool = pool.handle; sets = many }) g rest n is in
-    ∥∥₁_map e (λ (a : EndsAll (ledger_after h) g w room). record {
-      live = a.live + length sets;
-      owed = moved _ _ (a.live + length sets) (a.live + length sets) (ledger_put h pool counts (first_sets g)) refl (allocated (ledger_after h) a.live (pool_name pool) row sets live a.owed);
-      enough = (let m = a.enough in omega arith);
-    })
+pub ends_created : (rows more : List (ℕ × Option OwedPool)) (next handle : ℕ) (made : OwedPool) (g rest : List DriverCall) (w : Option CallHead) (room now : ℕ) → AreBelow rows next → handle < 18446744073709551616 → length made.live ≡ 0 → more ≡ (next * 18446744073709551616 + handle, Some made) ∷ rows
+    → IsNext (record { pool = handle; sets = 0 }) g → rest ≡ drop 1 g → now ≡ room → EndsAll rows next g w room → EndsAll more (next + 1) rest w now
+ends_created rows more next handle made g rest w room now below small empty is n used same ends =
+    let name : ℕ = next * 18446744073709551616 + handle in
+    let bound : ℕ = next * 18446744073709551616 + 18446744073709551616 in
+    let above : (next + 1) * 18446744073709551616 ≡ bound = omega arith in
+    let is_more : things_below more ((next + 1) * 18446744073709551616) ≡ things_below ((name, Some made) ∷ rows) bound = (λ i. things_below (is i) (above i)) in
+    let row = row_more rows name bound (Some made) (omega arith) in
+    let was = none_left (row_at rows name) (below name (omega arith)) in
+    let names = names_more rows (next * 18446744073709551616) 18446744073709551616 below in
+    let fewer = next_things (record { pool = handle; sets = 0 }) g rest n used in
+    let had = ends.exactly in
+    record { exactly = omega arith }
 
-pub ends_no_put : (h : List Entry) (g : List DriverCall) (w : Option CallHead) (room : ℕ) (pool : HostPool) (error : DeviceAllocationError) (row : Pool) → (ledger_after h).pools (pool_name pool) ≡ Some row → ∥ EndsAll (ledger_after h) g w room ∥₁ → ∥ EndsAll (ledger_after (record { act = NoPut pool error; sets = [] } ∷ h)) g w room ∥₁
-ends_no_put h g w room pool error row live e = ∥∥₁_map e (λ (a : EndsAll (ledger_after h) g w room). record {
-  live = a.live;
-  owed = refused (ledger_after h) a.live (pool_name pool) (pool_refusals error) row _ live (ap (λ (l : Ledger). l.pools) (ledger_no_put h pool error)) a.owed;
-  enough = a.enough;
-})
+pub ends_put : (h : List Entry) (more : List (ℕ × Option OwedPool)) (next many : ℕ) (pool : HostPool) (counts : DescriptorTotalCount) (live : Pool) (g rest : List DriverCall) (w : Option CallHead) (room now : ℕ) → AreBelow (rows_of h) next → (ledger_after h).pools (pool_name pool) ≡ Some live → more ≡ rows_after (Put pool counts) (first_sets g) (rows_of h)
+    → 0 < many → IsNext (record { pool = pool.handle; sets = many }) g → rest ≡ drop 1 g → now ≡ room → EndsAll (rows_of h) next g w room → EndsAll more next rest w now
+ends_put h more next many pool counts live g rest w room now below at is some n used same ends =
+    let put : List LiveSet = live_sets (kinds counts) (first_sets g) in
+    let row = live_row (rows_of h) (pool_name pool) live (ap (λ (f : ℕ → Option Pool). f (pool_name pool)) (sym (pools_after h)) ∙ at) in
+    let long : length put ≡ many = length-map (first_sets g) (λ (k : ℕ). record { name = k; counts = kinds counts }) ∙ ap (λ cs. length (first_sets cs)) n.first ∙ ap (λ (c : CallHead). c.sets) n.head in
+    let live_more = changed (rows_of h) more next (pool_name pool) row.0 (λ (r : OwedPool). record r { live = r.live ++ put }) below row.1 is in
+    let longer = length-append row.0.live put in
+    let fewer = next_things (record { pool = pool.handle; sets = many }) g rest n used in
+    let had = ends.exactly in
+    record { exactly = omega arith }
 
-pub ends_no_create : (h : List Entry) (g : List DriverCall) (w : Option CallHead) (room : ℕ) (error : CreatePoolError) → ∥ EndsAll (ledger_after h) g w room ∥₁ → ∥ EndsAll (ledger_after (record { act = NoCreate error; sets = [] } ∷ h)) g w room ∥₁
-ends_no_create h g w room error e = ∥∥₁_map e (λ (a : EndsAll (ledger_after h) g w room). record {
-  live = a.live;
-  owed = still_owed (ledger_after h) _ a.live (ap (λ (l : Ledger). l.pools) (ledger_no_create h error)) a.owed;
-  enough = a.enough;
-})
+pub ends_no_put : (h : List Entry) (more : List (ℕ × Option OwedPool)) (next : ℕ) (pool : HostPool) (error : DeviceAllocationError) (live : Pool) (g rest : List DriverCall) (w : Option CallHead) (room now : ℕ) → AreBelow (rows_of h) next → (ledger_after h).pools (pool_name pool) ≡ Some live → more ≡ rows_after (NoPut pool error) [] (rows_of h)
+    → rest ≡ g → now ≡ room → EndsAll (rows_of h) next g w room → EndsAll more next rest w now
+ends_no_put h more next pool error live g rest w room now below at is used same ends =
+    let row = live_row (rows_of h) (pool_name pool) live (ap (λ (f : ℕ → Option Pool). f (pool_name pool)) (sym (pools_after h)) ∙ at) in
+    let live_same = changed (rows_of h) more next (pool_name pool) row.0 (λ (r : OwedPool). record r { refusals = r.refusals + pool_refusals error }) below row.1 is in
+    let granted = ap things_in used in
+    let had = ends.exactly in
+    record { exactly = omega arith }
+
+-- ---- what goes
+
+-- the row of a pool without sets
+empty_row : (h : List Entry) (name : ℕ) → HasNoSets name (ledger_after h) → (r : OwedPool) × (row_at (rows_of h) name ≡ Some r) × (length r.live ≡ 0)
+empty_row h name none =
+    let row = live_row (rows_of h) name none.pool (ap (λ (f : ℕ → Option Pool). f name) (sym (pools_after h)) ∙ none.is_live) in
+    (row.0, row.1, ap length (none_spelled row.0.live (λ x. ap (λ (p : Pool). p.live x) row.2 ∙ none.empty x)))
 
 -- a live pool has room for its end
-pub room_destroy : (h : List Entry) (g : List DriverCall) (w : Option CallHead) (room : ℕ) (pool : HostPool) → HasNoSets (pool_name pool) (ledger_after h) → ∥ EndsAll (ledger_after h) g w room ∥₁ → 1 ≤ room
-room_destroy h g w room pool none e = ∥∥₁_elim e le_prop (λ (a : EndsAll (ledger_after h) g w room). (let d = (destroyed (ledger_after h) a.live (pool_name pool) none a.owed).0 in let m = a.enough in omega arith))
+pub room_destroy : (h : List Entry) (next : ℕ) (g : List DriverCall) (w : Option CallHead) (room : ℕ) (pool : HostPool) → AreBelow (rows_of h) next → HasNoSets (pool_name pool) (ledger_after h) → EndsAll (rows_of h) next g w room → 1 ≤ room
+room_destroy h next g w room pool below none ends =
+    let row = empty_row h (pool_name pool) none in
+    let within = row_within (rows_of h) (pool_name pool) (next * 18446744073709551616) (live_below (rows_of h) next (pool_name pool) row.0 below row.1) in
+    let left : things_left (row_at (rows_of h) (pool_name pool)) ≡ length row.0.live + 1 = ap things_left row.1 in
+    let had = ends.exactly in
+    omega arith
 
-pub ends_destroy : (h : List Entry) (g : List DriverCall) (w : Option CallHead) (room now : ℕ) (pool : HostPool) → HasNoSets (pool_name pool) (ledger_after h) → now + 1 ≡ room → ∥ EndsAll (ledger_after h) g w room ∥₁ → ∥ EndsAll (ledger_after (record { act = Destroy pool; sets = [] } ∷ h)) g w now ∥₁
-ends_destroy h g w room now pool none less e = ∥∥₁_map e (λ (a : EndsAll (ledger_after h) g w room). (let d = destroyed (ledger_after h) a.live (pool_name pool) none a.owed in record {
-  live = a.live - 1;
-  owed = moved _ _ (a.live - 1) (a.live - 1) (ledger_destroy h pool) refl d.1;
-  enough = (let one = d.0 in let m = a.enough in omega arith);
-}))
+pub ends_destroy : (h : List Entry) (more : List (ℕ × Option OwedPool)) (next : ℕ) (pool : HostPool) (g rest : List DriverCall) (w : Option CallHead) (room now : ℕ) → AreBelow (rows_of h) next → HasNoSets (pool_name pool) (ledger_after h) → more ≡ rows_after (Destroy pool) [] (rows_of h)
+    → rest ≡ g → now + 1 ≡ room → EndsAll (rows_of h) next g w room → EndsAll more next rest w now
+ends_destroy h more next pool g rest w room now below none is used less ends =
+    let bound : ℕ = next * 18446744073709551616 in
+    let row = empty_row h (pool_name pool) none in
+    let is_more = ap (λ (rs : List (ℕ × Option OwedPool)). things_below rs bound) is in
+    let gone = row_more (rows_of h) (pool_name pool) bound None (live_below (rows_of h) next (pool_name pool) row.0 below row.1) in
+    let left : things_left (row_at (rows_of h) (pool_name pool)) ≡ length row.0.live + 1 = ap things_left row.1 in
+    let empty = row.2 in
+    let granted = ap things_in used in
+    let had = ends.exactly in
+    record { exactly = omega arith }
 
--- sets that go, by the number of those that are live
-pub record Leaves (h : List Entry) (pool : HostPool) (names : List ℕ) (live : ℕ) : Type 0 where
-  pub fits : length names ≤ live
-  pub owed : IsOwed (ledger_after (record { act = Release pool; sets = names } ∷ h)) (live - length names)
+all_counted : (sets : List LiveSet) → count_by (λ _. true) sets ≡ length sets
+all_counted [] = refl
+all_counted (s ∷ ss) = count_by_yes (λ _. true) s ss refl ∙ ap suc (all_counted ss)
 
-pub leaves : (h : List Entry) (pool : HostPool) (names : List ℕ) (live : ℕ) → AreLive (pool_name pool) names (ledger_after h) → IsOwed (ledger_after h) live → Leaves h pool names live
-unfolding ledger_after
-leaves h pool names live are o =
-    let g = goes h pool names are in
-    let row : Pool = pool_owed g.row in
-    let at : (ledger_after h).pools (pool_name pool) ≡ Some row = ap (option_map pool_owed) g.at in
-    let inside : AreIn g.gone row.live = subst (λ (s : List LiveSet). AreIn s row.live) (sym g.is_gone) (taken_in names g.row.live g.are) in
-    let left : HasSize (λ x. row.live x - times g.gone x) (length (none_named names g.row.live)) = (none_named names g.row.live, refl, λ x. ap (λ (f : LiveSet → ℕ). f x) (taken_less names g.row.live g.are ∙ (λ i y. times g.row.live y - times (sym g.is_gone i) y))) in
-    let r = released (ledger_after h) (pool_name pool) (length g.row.live) (length (none_named names g.row.live)) row g.gone at inside (g.row.live, refl, λ x. refl) left in
-    let long : length g.gone ≡ length names = ap length g.is_gone ∙ sym (length-map (all_named names g.row.live) (λ (s : LiveSet). s.name)) ∙ ap length g.are.named in
-    let both = r.1 live o in
-    record {
-      fits = (let f = both.0 in omega arith);
-      owed = moved _ _ (live - length g.gone) (live - length names) g.ledger (ap (λ n. live - n) (sym long)) both.1;
-    }
+-- sets that are taken out by their names are as many fewer
+pub length_taken : (names : List ℕ) (sets : List LiveSet) → AreTaken names sets → length names + length (none_named names sets) ≡ length sets
+length_taken names sets t =
+    let named : length (all_named names sets) ≡ length names = sym (length-map (all_named names sets) (λ (s : LiveSet). s.name)) ∙ ap length t.named in
+    let counts = t.counts (λ _. true) in
+    let taken = all_counted (all_named names sets) in
+    let rest = all_counted (none_named names sets) in
+    let all = all_counted sets in
+    omega arith
 
 -- sets that are live have room to go
-pub room_release : (h : List Entry) (g : List DriverCall) (w : Option CallHead) (room : ℕ) (pool : HostPool) (names : List ℕ) → AreLive (pool_name pool) names (ledger_after h) → ∥ EndsAll (ledger_after h) g w room ∥₁ → length names ≤ room
-room_release h g w room pool names are e = ∥∥₁_elim e le_prop (λ (a : EndsAll (ledger_after h) g w room). (let l = (leaves h pool names a.live are a.owed).fits in let m = a.enough in omega arith))
+pub room_release : (h : List Entry) (next : ℕ) (g : List DriverCall) (w : Option CallHead) (room : ℕ) (pool : HostPool) (names : List ℕ) → AreBelow (rows_of h) next → AreLive (pool_name pool) names (ledger_after h) → EndsAll (rows_of h) next g w room → length names ≤ room
+room_release h next g w room pool names below are ends =
+    let out = goes h pool names are in
+    let within = row_within (rows_of h) (pool_name pool) (next * 18446744073709551616) (live_below (rows_of h) next (pool_name pool) out.row below out.at) in
+    let left : things_left (row_at (rows_of h) (pool_name pool)) ≡ length out.row.live + 1 = ap things_left out.at in
+    let taken = length_taken names out.row.live out.are in
+    let had = ends.exactly in
+    omega arith
 
-pub ends_release : (h : List Entry) (g : List DriverCall) (w : Option CallHead) (room now : ℕ) (pool : HostPool) (names : List ℕ) → AreLive (pool_name pool) names (ledger_after h) → now + length names ≡ room → ∥ EndsAll (ledger_after h) g w room ∥₁ → ∥ EndsAll (ledger_after (record { act = Release pool; sets = names } ∷ h)) g w now ∥₁
-ends_release h g w room now pool names are less e = ∥∥₁_map e (λ (a : EndsAll (ledger_after h) g w room). (let l = leaves h pool names a.live are a.owed in record {
-  live = a.live - length names;
-  owed = l.owed;
-  enough = (let f = l.fits in let m = a.enough in omega arith);
-}))
+pub ends_release : (h : List Entry) (more : List (ℕ × Option OwedPool)) (next : ℕ) (pool : HostPool) (names : List ℕ) (g rest : List DriverCall) (w : Option CallHead) (room now : ℕ) → AreBelow (rows_of h) next → AreLive (pool_name pool) names (ledger_after h) → more ≡ rows_after (Release pool) names (rows_of h)
+    → rest ≡ g → now + length names ≡ room → EndsAll (rows_of h) next g w room → EndsAll more next rest w now
+ends_release h more next pool names g rest w room now below are is used less ends =
+    let out = goes h pool names are in
+    let live_less = changed (rows_of h) more next (pool_name pool) out.row (λ (r : OwedPool). record r { live = none_named names r.live }) below out.at is in
+    let taken = length_taken names out.row.live out.are in
+    let granted = ap things_in used in
+    let had = ends.exactly in
+    record { exactly = omega arith }
 
 -- at first nothing is live
-pub ends_nothing : ∥ EndsAll (ledger_after []) [] None 0 ∥₁
-unfolding ledger_after
-ends_nothing = merely (record {
-  live = 0;
-  owed = nothing_owed (ledger_after []) 0 (ap pools_owed no_rows);
-  enough = omega arith;
-})
+pub ends_nothing : EndsAll [] 0 [] None 0
+unfolding things_below
+ends_nothing = record { exactly = refl }
 
--- where there is room for nothing, no pool is live
-pub nothing_live : (h : List Entry) (g : List DriverCall) (w : Option CallHead) (room : ℕ) → room ≡ 0 → ∥ EndsAll (ledger_after h) g w room ∥₁ → (q : ℕ) → (ledger_after h).pools q ≡ None
-nothing_live h g w room none e q = by ((ledger_after h).pools q) refl
+-- ---- room for nothing
+
+-- where there is room for nothing no pool is live
+pub nothing_live : (h : List Entry) (next : ℕ) (g : List DriverCall) (w : Option CallHead) → AreBelow (rows_of h) next → EndsAll (rows_of h) next g w 0 → (name : ℕ) → (ledger_after h).pools name ≡ None
+nothing_live h next g w below ends name = ap (λ (f : ℕ → Option Pool). f name) (pools_after h) ∙ by (row_at (rows_of h) name) refl
   where
-    no_rows_owed : (rows : List (ℕ × ℕ)) (size : ℕ) → owed_by rows ≤ 0 → lookup (nat_eq q) rows ≡ Some size → ⊥
-    no_rows_owed [] size few at = (let bad : ◌≡◌ {A = Option ℕ} None (Some size) = at in cc)
-    no_rows_owed (r ∷ rs) size few at = absurd (omega arith)
+    by : (o : Option OwedPool) → row_at (rows_of h) name ≡ o → option_map pool_owed (row_at (rows_of h) name) ≡ None
+    by None is = ap (option_map pool_owed) is
+    by (Some r) is = absurd (
+        let within = row_within (rows_of h) name (next * 18446744073709551616) (live_below (rows_of h) next name r below is) in
+        let left : things_left (row_at (rows_of h) name) ≡ length r.live + 1 = ap things_left is in
+        let had = ends.exactly in
+        omega arith)
 
-    by : (o : Option Pool) → (ledger_after h).pools q ≡ o → (ledger_after h).pools q ≡ None
-    by None is = is
-    by (Some p) is = absurd (∥∥₁_elim e (λ (a b : ⊥). absurd a) (λ (a : EndsAll (ledger_after h) g w room). (let had = a.owed.listed q p is in no_rows_owed a.owed.rows had.0 (let m = a.enough in let f = a.owed.enough in omega arith) had.1)))
+-- and nothing was granted or named
+pub nothing_granted : (rows : List (ℕ × Option OwedPool)) (next : ℕ) (g : List DriverCall) (w : Option CallHead) → EndsAll rows next g w 0 → g ≡ []
+nothing_granted rows next [] w ends = refl
+nothing_granted rows next (c ∷ cs) w ends = absurd (let had = ends.exactly in omega arith)
+
+pub nothing_named : (rows : List (ℕ × Option OwedPool)) (next : ℕ) (g : List DriverCall) (w : Option CallHead) → EndsAll rows next g w 0 → w ≡ None
+nothing_named rows next g None ends = refl
+nothing_named rows next g (Some h) ends = absurd (let had = ends.exactly in omega arith)
+
+-- where nothing is left there is room for nothing
+pub no_room : (h : List Entry) (next : ℕ) (g : List DriverCall) (w : Option CallHead) (room : ℕ) → ((name : ℕ) → (ledger_after h).pools name ≡ None) → g ≡ [] → w ≡ None → EndsAll (rows_of h) next g w room → room ≡ 0
+no_room h next g w room none granted named ends =
+    let live = all_none (rows_of h) (next * 18446744073709551616) (λ name. by (row_at (rows_of h) name) (ap (λ (f : ℕ → Option Pool). f name) (sym (pools_after h)) ∙ none name)) in
+    let grants = ap things_in granted in
+    let wanted = ap things_wanted named in
+    let had = ends.exactly in
+    omega arith
+  where
+    by : (o : Option OwedPool) → option_map pool_owed o ≡ None → is_some o ≡ false
+    by None is = refl
+    by (Some r) is = absurd (cc)

@@ -1,5 +1,5 @@
 -- What a device owes that plays the host's answers back.
-use Rattle.std.specs.Prelude.{ℕ, List}
+use Rattle.std.specs.Prelude.{◌≡◌, ℕ, List, [], None}
 use Rattle.gpu_descriptor_types.specs.Counts.{kinds}
 use Rattle.gpu_descriptor_types.specs.Ledger.{Ledger}
 use Rattle.gpu_descriptor_types.specs.Meaning.{Meaning}
@@ -25,6 +25,12 @@ grants_of d = (log_of d).granted
 
 abbrev pub answers_of : AnswerDevice → List Outcome
 answers_of d = d.outcomes.items
+
+-- no pool is live, no grant is unused, and no named call lacks its answer
+pub record OwesNothing (d : AnswerDevice) : Type 0 where
+  pub pools : (name : ℕ) → (ledger_of d).pools name ≡ None
+  pub granted : grants_of d ≡ []
+  pub named : d.wanted ≡ None
 
 -- a set is named by the driver's handle
 abbrev pub set_name : ℕ → ℕ

@@ -6,9 +6,11 @@ pub mod HandsOver
 pub mod History
 pub mod Handles
 pub mod Hosts
+pub mod Moves
 pub mod Opens
 pub mod Pools
 pub mod Refusals
 pub mod Replies
+pub mod Requests
 pub mod Room
 pub mod Ties

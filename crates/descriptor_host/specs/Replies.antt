@@ -15,6 +15,11 @@ result_of reply.BadTicket = Err BadSet
 result_of reply.BadLayout = Err BadLayout
 result_of reply.NoMemory = Err NoMemory
 
+-- how a request or a free ended
+abbrev pub told_of : Result (Unit {0}) Reply → Result (Unit {0}) HostError
+told_of (Ok done) = Ok tt
+told_of (Err reply) = result_of reply
+
 -- the statuses of the library for C
 abbrev pub status_of : HostError → ℕ
 status_of (Refused OutOfDeviceMemory) = 10

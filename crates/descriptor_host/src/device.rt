@@ -1,16 +1,16 @@
 //! A device that plays back what the host's driver answered, and lists what can't be refused.
-ghost use Rattle.std.specs.Prelude.{◌≡◌, ◌+◌, ◌^◌, ◌<◌, ◌≤◌, ◌++◌, ◌∷◌, List, [], ℕ, length, map, None, OnOk};
-ghost use Rattle.std.specs.Prelude.{IfOk, IfErr, IfNone, IfSome, IsFalse, IsTrue, OnErr, take, ◌≢◌};
+ghost use Rattle.std.specs.Prelude.{◌≡◌, ◌+◌, ◌^◌, ◌<◌, ◌≤◌, ◌↔◌, ◌++◌, ◌∷◌, List, [], ℕ, length, map};
+ghost use Rattle.std.specs.Prelude.{None, OnOk, IfOk, IfErr, IsFalse, IsTrue, OnErr, take, ◌≢◌};
 ghost use Rattle.std.specs.Iterator.{IsFinite, HoldsAlong, YieldsThen};
 ghost use Rattle.gpu_descriptor_types.specs.Counts.{kinds};
 ghost use Rattle.gpu_descriptor_types.specs.Layouts.{layout, left};
-ghost use Rattle.descriptor_host.specs.HandsOver.{HandsOver, IsTooLong};
+ghost use Rattle.descriptor_host.specs.HandsOver.{HandsOver, IsTooLong, first_words};
 ghost use Rattle.descriptor_host.specs.declared.call_queue.CallHead.{CallHead};
 ghost use Rattle.descriptor_host.specs.History.{no_log};
 ghost use Rattle.descriptor_host.specs.Pools.{AreBelow, rows_of};
 ghost use Rattle.descriptor_host.specs.Answers.{CanHear, IsErrorOf, granting};
 ghost use Rattle.descriptor_host.specs.Refusals.{alloc_error_of, create_error_of};
-ghost use Rattle.descriptor_host.specs.Room.{EndsAll, ledger_after};
+ghost use Rattle.descriptor_host.specs.Room.{EndsAll};
 ghost use Rattle.descriptor_host.specs.Acts.{first_sets, waiting_of};
 ghost use Rattle.descriptor_host.specs.Calls.{things_of};
 ghost use Rattle.descriptor_host.specs.Ties.{IsNext, ReturnsAll};
@@ -55,12 +55,13 @@ pub struct AnswerDevice {
     ghost told: { log.owed.log.given ≡ [] },
     ghost whole: { log.owed.log.taken ≡ [] },
     ghost hears: { CanHear wanted outcomes log.granted },
-    ghost ends: { ∥ EndsAll (ledger_after log.owed.log.history) log.owed.log.granted wanted
-        log.room ∥₁ },
+    ghost ends: { EndsAll (rows_of log.owed.log.history) next_number log.owed.log.granted wanted
+        log.room },
 }
 
 impl AnswerDevice {
-    ghost use Rattle.descriptor_host.specs.Device.{answers_of, grants_of, ledger_of, log_of};
+    ghost use Rattle.descriptor_host.specs.Device.{OwesNothing, answers_of, grants_of, ledger_of};
+    ghost use Rattle.descriptor_host.specs.Device.{log_of};
 
     /// A device without pools.
     pub fn new(alloc: Global) -> Self
@@ -137,21 +138,19 @@ impl AnswerDevice {
         self.log.hand_over(out)
     }
 
-    /// How many words the call has that waits first; `None` where none waits.
-    pub(crate) fn next_words(&self) -> Option<usize>
-        ensures next { IfSome result (λ words. (h : CallHead)
-            × IsNext h (waiting_of (log_of self.now)) × (words ≡ h.sets + 2)) }
-        ensures none { IfNone result (waiting_of (log_of self.now) ≡ []) }
+    /// How many words the call has that waits first, 0 where none waits.
+    pub(crate) fn next_words(&self) -> usize
+        ensures { result ≡ first_words (waiting_of (log_of self.now)) }
     {
         match self.log.next_call() {
-            Some(head) => Some(head.sets + HEAD_WORDS),
-            None => None,
+            Some(head) => head.sets + HEAD_WORDS,
+            None => 0,
         }
     }
 
-    /// Whether nothing is live, granted or named.
+    /// Whether no pool is live, no grant is unused, and no named call lacks its answer.
     pub(crate) fn is_over(&self) -> bool
-        ensures { IsTrue result → (name : ℕ) → (ledger_of self.now).pools name ≡ None }
+        ensures { IsTrue result ↔ OwesNothing self.now }
     {
         self.log.room == 0
     }

@@ -1,5 +1,5 @@
 //! A device call that the host is to make now.
-ghost use Rattle.std.specs.Prelude.{◌≡◌, IfSome, Some};
+ghost use Rattle.std.specs.Prelude.{◌≡◌, ◌≢◌, ◌↔◌, IfSome, IsTrue, Some};
 ghost use Rattle.gpu_descriptor_types.specs.Counts.{kinds};
 ghost use Rattle.gpu_descriptor_types.specs.Flags.{bits};
 
@@ -7,7 +7,7 @@ use crate::call_queue::CallHead;
 use bitflags::Flags;
 use gpu_descriptor::{DescriptorPoolCreateFlags, DescriptorTotalCount};
 
-/// No call: the request is to be made.
+/// No call: the request is met.
 const NO_CALL: u32 = 0;
 
 /// A pool is to be created.
@@ -91,6 +91,13 @@ impl DeviceCall {
             layout,
             ..DeviceCall::none()
         }
+    }
+
+    /// Whether there is a call to make.
+    pub(crate) fn is_some(&self) -> bool
+        ensures { IsTrue result ↔ (self.now.kind ≢ 0) }
+    {
+        self.kind != NO_CALL
     }
 
     /// What the call may bring; `None` where there is nothing to make.

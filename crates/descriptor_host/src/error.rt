@@ -1,6 +1,6 @@
 //! Why a call of a host is not done.
 ghost use Rattle.std.specs.Prelude.{◌≡◌};
-ghost use Rattle.descriptor_host.specs.Replies.{result_of, status_of};
+ghost use Rattle.descriptor_host.specs.Replies.{result_of, status_of, told_of};
 
 use descriptor_script::Reply;
 use gpu_descriptor::AllocationError;
@@ -32,7 +32,7 @@ pub enum HostError {
     /// The answer doesn't fit the named call, or none was named.
     BadAnswer,
 
-    /// A slice is too short for what is to be written.
+    /// A slice is too short for the sets of the request.
     TooShort,
 
     /// Calls wait that weren't handed over.
@@ -68,8 +68,18 @@ impl HostError {
         }
     }
 
+    /// How a request or a free of a session ended.
+    pub(crate) fn of(outcome: Result<(), Reply>) -> Result<(), HostError>
+        ensures { result ≡ told_of outcome }
+    {
+        match outcome {
+            Ok(()) => Ok(()),
+            Err(reply) => HostError::of_reply(reply),
+        }
+    }
+
     /// What a session replied.
-    pub(crate) fn of_reply(reply: Reply) -> Result<(), HostError>
+    fn of_reply(reply: Reply) -> Result<(), HostError>
         ensures { result ≡ result_of reply }
     {
         match reply {

@@ -23,6 +23,7 @@ pub struct Handle {
 }
 
 impl Handle {
+    ghost use Rattle.descriptor_host.specs.Moves.{HandleMoves};
     ghost use Rattle.descriptor_host.specs.Opens.{host_in};
 
     /// A closed handle.
@@ -66,4 +67,15 @@ impl Handle {
         } = mem::replace(self, Handle::closed());
         Some(pointer.into_box(alloc))
     }
+
+    /// A law, and no work: a handle may move to another thread, and its host with it.
+    #[tactic(auto, using(crate::proofs::handle::Handle::TheSendSync::the_send))]
+    pub fn may_move()
+        ensures { HandleMoves }
+    {
+        is_send::<Handle>();
+    }
 }
+
+/// It takes only a type that may move to another thread.
+fn is_send<T: Send>() {}

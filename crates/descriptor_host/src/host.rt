@@ -1,9 +1,10 @@
 //! A session on the host's driver.
-ghost use Rattle.std.specs.Prelude.{◌≡◌, [], None, Some};
-ghost use Rattle.std.specs.Prelude.{IfOk, IfErr, IfSome, OnOk, OnErr};
+ghost use Rattle.std.specs.Prelude.{◌≡◌, [], None, Some, length};
+ghost use Rattle.std.specs.Prelude.{IfOk, IfErr, IfSome, IsSome, OnOk, OnErr};
+ghost use Rattle.descriptor_host.specs.Calls.{things_of};
 ghost use Rattle.gpu_descriptor_types.specs.Side.{side};
 ghost use Rattle.descriptor_script.proofs.OneReady.{IsReady-prop};
-ghost use Rattle.descriptor_script.specs.Sessions.Session.{IsReady};
+ghost use Rattle.descriptor_script.specs.Sessions.Session.{HasRoomToFree, IsReady};
 ghost use Rattle.descriptor_host.specs.Device.{host_meaning, ledger_of};
 
 use crate::call_queue::CallHead;
@@ -13,7 +14,7 @@ use crate::error::HostError;
 use crate::layout::HostLayout;
 use crate::pool::HostPool;
 use crate::refusal::Refusal;
-use descriptor_script::{Command, Reply, Session};
+use descriptor_script::Session;
 use gpu_descriptor::{Plan, PlannedAnswer, PlannedCall};
 use std::alloc::Global;
 
@@ -39,17 +40,18 @@ pub struct Host {
     pub(crate) request: Option<Request>,
     ghost ready: { IsReady host_meaning (side session (ledger_of device)) } by { IsReady-prop
         host_meaning (side session (ledger_of device)) },
+    ghost roomy: { HasRoomToFree session },
 }
 
 impl Host {
     ghost use Rattle.gpu_descriptor.specs.Caller.Values.{without_keys};
     ghost use Rattle.descriptor_script.specs.Sessions.Session.{allocator_of, layouts_of, sets_of};
-    ghost use Rattle.descriptor_host.specs.Acts.{waiting_of};
     ghost use Rattle.descriptor_host.specs.History.{no_log};
-    ghost use Rattle.descriptor_host.specs.Hosts.{AddsLayout, BeginsNot, EndsRequest, HearsGrant};
-    ghost use Rattle.descriptor_host.specs.Hosts.{HearsNot, HearsRefusal, answers_on, asks_for};
-    ghost use Rattle.descriptor_host.specs.Hosts.{KeepsSets, NamesCall, log_on, named_call};
+    ghost use Rattle.descriptor_host.specs.Hosts.{AddsLayout, EndsRequest, KeepsSets, NamesCall};
+    ghost use Rattle.descriptor_host.specs.Hosts.{answers_on, asks_for, log_on, named_call};
     ghost use Rattle.descriptor_host.specs.Hosts.{request_of, session_of};
+    ghost use Rattle.descriptor_host.specs.Requests.{HasRequest, HearsGrant, HearsNone};
+    ghost use Rattle.descriptor_host.specs.Requests.{HearsRefusal, Starts, StartsNot};
 
     /// An allocator under a limit on the descriptors of update-after-bind pools, without layouts.
     pub fn new(alloc: Global, limit: u32) -> Self
@@ -92,14 +94,18 @@ impl Host {
         }
     }
 
-    /// Begins a request for so many sets of the layout at a place, and names its first call.
-    pub fn begin(&mut self, layout: usize, count: u32) -> Result<DeviceCall, HostError>
-        ensures ends { EndsRequest self.old self.new }
-        ensures begun { OnOk result (request_of self.new ≡ Some (layout, count)) }
-        ensures handed { OnOk result (waiting_of (log_on self.new) ≡ []) }
+    /// Starts a request for so many sets of the layout at a place, and names its first call. It ends
+    /// a request on its way, whether another is started or not.
+    pub(crate) fn start(
+        &mut self,
+        layout: usize,
+        count: u32,
+        room: usize,
+    ) -> Result<DeviceCall, HostError>
+        ensures started { OnOk result (Starts layout count self.old self.new) }
+        ensures fits { OnOk result (HasRequest room self.new) }
         ensures named { IfOk result (λ call. NamesCall call (named_call self.new)) }
-        ensures none { OnErr result (request_of self.new ≡ None) }
-        ensures why { IfErr result (λ e. BeginsNot layout e self.new) }
+        ensures why { IfErr result (λ e. StartsNot layout count room e self.old self.new) }
     {
         self.end_request();
         if self.device.has_calls() {
@@ -108,7 +114,10 @@ impl Host {
         let Some(known) = self.session.layout(layout) else {
             return Err(HostError::BadLayout);
         };
-        let request = Request {
+        if room < count as usize {
+            return Err(HostError::TooShort);
+        }
+        self.request = Some(Request {
             layout,
             handle: known.handle,
             count,
@@ -117,14 +126,15 @@ impl Host {
                 .allocator()
                 .plan(&known.counts, known.mark, count),
             created: 0,
-        };
-        Ok(self.go_on(request))
+        });
+        Ok(self.go_on())
     }
 
-    /// The call that a request makes next, and what it may bring.
-    fn planned_call(&self, request: &Request) -> Option<(DeviceCall, CallHead)>
+    /// The call that the request on its way makes next, and what it may bring.
+    fn planned_call(&self) -> Option<(DeviceCall, CallHead)>
         ensures { IfSome result (λ named. NamesCall named.0 (Some named.1)) }
     {
+        let request = self.request.as_ref()?;
         let call = match self.session.allocator().planned_call(&request.plan)? {
             PlannedCall::Create {
                 counts,
@@ -142,19 +152,17 @@ impl Host {
         Some((call, head))
     }
 
-    /// Goes on with a request, and names its next call. Where there is no room for what the call may
-    /// bring, none is named, and the request is refused when it is made.
-    fn go_on(&mut self, request: Request) -> DeviceCall
+    /// Goes on with the request on its way, and names its next call. Where there is no room for what
+    /// the call may bring, none is named, and the request is refused when it is made.
+    fn go_on(&mut self) -> DeviceCall
         requires { named_call self.old ≡ None }
         ensures session { session_of self.new ≡ session_of self.old }
         ensures log { log_on self.new ≡ log_on self.old }
         ensures answers { answers_on self.new ≡ answers_on self.old }
-        ensures request { request_of self.new ≡ Some (asks_for request) }
+        ensures request { request_of self.new ≡ request_of self.old }
         ensures named { NamesCall result (named_call self.new) }
     {
-        let planned = self.planned_call(&request);
-        self.request = Some(request);
-        let Some((call, head)) = planned else {
+        let Some((call, head)) = self.planned_call() else {
             return DeviceCall::none();
         };
         match self.device.want(head) {
@@ -163,52 +171,57 @@ impl Host {
         }
     }
 
-    /// Hears that the driver granted the named call, and names the next one.
-    pub fn granted(&mut self, handles: &[u64]) -> Result<DeviceCall, HostError>
-        ensures heard { OnOk result (HearsGrant handles.now self.old self.new) }
-        ensures named { IfOk result (λ call. NamesCall call (named_call self.new)) }
-        ensures kept { OnErr result (self.new ≡ self.old) }
-        ensures why { IfErr result (λ e. HearsNot e self.old) }
+    /// The named call, which wants an answer, where there is room for the sets of its request.
+    pub(crate) fn answered_call(&self, room: usize) -> Result<CallHead, HostError>
+        ensures named { IfOk result (λ head. named_call self.now ≡ Some head) }
+        ensures fits { OnOk result (HasRequest room self.now) }
+        ensures why { IfErr result (λ e. HearsNone room e self.now) }
     {
-        let Some(mut request) = self.request.take() else {
+        let Some(request) = &self.request else {
             return Err(HostError::NoRequest);
         };
-        let Some(head) = self.device.wanted() else {
-            self.request = Some(request);
-            return Err(HostError::BadAnswer);
-        };
-        if handles.len() != head.things() {
-            self.request = Some(request);
-            return Err(HostError::BadAnswer);
+        if room < request.count as usize {
+            return Err(HostError::TooShort);
         }
-        self.device.hear_granted(&head, handles);
-        if head.sets == 0 {
-            request.created = handles[0];
+        match self.device.wanted() {
+            Some(head) => Ok(head),
+            None => Err(HostError::BadAnswer),
         }
-        self.session
-            .allocator()
-            .go_on(&mut request.plan, PlannedAnswer::Granted);
-        Ok(self.go_on(request))
+    }
+
+    /// Hears that the driver granted the named call, and names the next one.
+    pub(crate) fn hear_granted(&mut self, head: &CallHead, handles: &[u64]) -> DeviceCall
+        requires request { IsSome (request_of self.old) }
+        requires named { named_call self.old ≡ Some head.now }
+        requires fit { length handles.now ≡ things_of head.now }
+        ensures heard { HearsGrant handles.now self.old self.new }
+        ensures named { NamesCall result (named_call self.new) }
+    {
+        self.device.hear_granted(head, handles);
+        if let Some(request) = &mut self.request {
+            if head.sets == 0 {
+                request.created = handles[0];
+            }
+            self.session
+                .allocator()
+                .go_on(&mut request.plan, PlannedAnswer::Granted);
+        }
+        self.go_on()
     }
 
     /// Hears that the driver refused the named call, and names the next one.
-    pub fn refused(&mut self, why: Refusal) -> Result<DeviceCall, HostError>
-        ensures heard { OnOk result (HearsRefusal why self.old self.new) }
-        ensures named { IfOk result (λ call. NamesCall call (named_call self.new)) }
-        ensures kept { OnErr result (self.new ≡ self.old) }
-        ensures why { IfErr result (λ e. HearsNot e self.old) }
+    pub(crate) fn hear_refused(&mut self, head: &CallHead, why: Refusal) -> DeviceCall
+        requires request { IsSome (request_of self.old) }
+        requires named { named_call self.old ≡ Some head.now }
+        ensures heard { HearsRefusal why self.old self.new }
+        ensures named { NamesCall result (named_call self.new) }
     {
-        let Some(mut request) = self.request.take() else {
-            return Err(HostError::NoRequest);
-        };
-        let Some(head) = self.device.wanted() else {
-            self.request = Some(request);
-            return Err(HostError::BadAnswer);
-        };
-        self.device.hear_refused(&head, why);
-        self.session
-            .allocator()
-            .go_on(&mut request.plan, why.planned());
-        Ok(self.go_on(request))
+        self.device.hear_refused(head, why);
+        if let Some(request) = &mut self.request {
+            self.session
+                .allocator()
+                .go_on(&mut request.plan, why.planned());
+        }
+        self.go_on()
     }
 }

@@ -24,6 +24,8 @@ impl Model for HostPointer {
     ghost also_owns = { λ p. owned p.at p.host };
 }
 
+unsafe impl Send for HostPointer {}
+
 impl HostPointer {
     /// It has no host, wherever it points.
     pub(crate) fn empty(at: *mut u8) -> HostPointer

@@ -2,7 +2,6 @@ use Rattle.std.proofs.Common.{ap, arith}
 use Rattle.descriptor_host.specs.Calls.{things_in}
 use Rattle.descriptor_host.specs.History.{Log}
 use Rattle.descriptor_host.specs.Pools.{rows_of}
-use Rattle.descriptor_host.specs.Room.{ledger_after}
 use Rattle.descriptor_host.proofs.Ledgers.{below_by}
 use Rattle.descriptor_host.proofs.Rooms.{ends_moved}
 use Rattle.descriptor_host.proofs.device.AnswerDevice.hand_over.Goals as goal
@@ -16,4 +15,4 @@ invariant_of-self-clause-ends c =
     let log = c.hand_over.ensures.handed.log in
     let room = c.hand_over.ensures.room in
     let granted = ap (λ (l : Log). things_in l.granted) log in
-    ends_moved _ _ old.log.owed.log.granted _ old.wanted _ old.log.room _ (ap (λ (l : Log). ledger_after l.history) log) (omega arith) old.ends
+    ends_moved (rows_of old.log.owed.log.history) _ old.next_number old.log.owed.log.granted _ old.wanted _ old.log.room _ (ap (λ (l : Log). rows_of l.history) log) (omega arith) old.ends

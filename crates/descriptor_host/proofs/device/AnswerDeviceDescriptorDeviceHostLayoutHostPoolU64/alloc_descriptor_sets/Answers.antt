@@ -1,8 +1,8 @@
-use Rattle.std.proofs.Common.{◌≡◌, ℕ, [], List, drop, length, map, refl, sym, ap, ◌∙◌, subst, arith}
+use Rattle.std.proofs.Common.{◌≡◌, ℕ, [], List, length, map, refl, ap, ◌∙◌, arith}
 use Rattle.gpu_descriptor_types.specs.Counts.{kinds}
 use Rattle.descriptor_host.specs.History.{Log}
 use Rattle.descriptor_host.specs.Pools.{pool_name, rows_of}
-use Rattle.descriptor_host.specs.Room.{EndsAll, ledger_after}
+use Rattle.descriptor_host.specs.Room.{ledger_after}
 use Rattle.descriptor_host.specs.declared.act.Act.TheVariants.{Put, NoPut}
 use Rattle.gpu_descriptor_types.specs.Layouts.{layout, left}
 use Rattle.gpu_descriptor_types.specs.Ledger.{Ledger, after_alloc, after_no_alloc, live_sets}
@@ -21,11 +21,14 @@ invariant_of-self-clause-below g c =
 pub invariant_of-self-clause-ends : goal.invariant_of-self-clause-ends
 invariant_of-self-clause-ends g c =
     let mid = c.next_sets.new.self in
+    let history = mid.log.owed.log.history in
+    let granted = mid.log.owed.log.granted in
     let pool = c.args.pool.now in
+    let counts = c.counts_of-counts.result in
     let live = ap (λ (l : Ledger). l.pools (pool_name pool)) c.next_sets.ensures.ledger ∙ c.requires.fits.is_live in
-    let granted = c.in-Ok.ensures.granted in
-    let made = ends_put mid.log.owed.log.history mid.log.owed.log.granted (drop 1 mid.log.owed.log.granted) mid.wanted mid.log.room c.len-many.result pool c.counts_of-counts.result c.requires.fits.pool live granted.0 granted.1 refl mid.ends in
-    subst (λ (n : ℕ). ∥ EndsAll (ledger_after c.put.new.self.owed.log.history) c.put.new.self.owed.log.granted mid.wanted n ∥₁) (sym c.put.ensures.room) (subst (λ (l : Log). ∥ EndsAll (ledger_after l.history) l.granted mid.wanted mid.log.room ∥₁) (sym c.put.ensures.log) made)
+    let next = c.in-Ok.ensures.granted in
+    let log = c.put.ensures.log in
+    ends_put history _ mid.next_number c.len-many.result pool counts c.requires.fits.pool granted _ mid.wanted mid.log.room _ mid.below live (ap (λ (l : Log). rows_of l.history) log ∙ rows_more (Put pool counts) (first_sets granted) history) next.0 next.1 (ap (λ (l : Log). l.granted) log) c.put.ensures.room mid.ends
 
 pub invariant_of-self-in-Err-clause-below : goal.invariant_of-self-in-Err-clause-below
 invariant_of-self-in-Err-clause-below g c =
@@ -35,10 +38,11 @@ invariant_of-self-in-Err-clause-below g c =
 pub invariant_of-self-in-Err-clause-ends : goal.invariant_of-self-in-Err-clause-ends
 invariant_of-self-in-Err-clause-ends g c =
     let mid = c.next_sets.new.self in
+    let history = mid.log.owed.log.history in
     let pool = c.args.pool.now in
     let live = ap (λ (l : Ledger). l.pools (pool_name pool)) c.next_sets.ensures.ledger ∙ c.requires.fits.is_live in
-    let made = ends_no_put mid.log.owed.log.history mid.log.owed.log.granted mid.wanted mid.log.room pool c.in-Err.error c.requires.fits.pool live mid.ends in
-    subst (λ (n : ℕ). ∥ EndsAll (ledger_after c.refuse_sets.new.self.owed.log.history) c.refuse_sets.new.self.owed.log.granted mid.wanted n ∥₁) (sym c.refuse_sets.ensures.room) (subst (λ (l : Log). ∥ EndsAll (ledger_after l.history) l.granted mid.wanted mid.log.room ∥₁) (sym c.refuse_sets.ensures.log) made)
+    let log = c.refuse_sets.ensures.log in
+    ends_no_put history _ mid.next_number pool c.in-Err.error c.requires.fits.pool mid.log.owed.log.granted _ mid.wanted mid.log.room _ mid.below live (ap (λ (l : Log). rows_of l.history) log ∙ rows_more (NoPut pool c.in-Err.error) [] history) (ap (λ (l : Log). l.granted) log) c.refuse_sets.ensures.room mid.ends
 
 pub returns-in-Ok-clause-ok : goal.returns-in-Ok-clause-ok
 returns-in-Ok-clause-ok g c =

@@ -1,14 +1,15 @@
-use Rattle.std.proofs.Common.{◌≡◌, ℕ, ◌+◌, [], drop, refl, sym, ap, ◌∙◌, subst, arith}
+use Rattle.std.proofs.Common.{◌≡◌, ℕ, ◌+◌, [], refl, ap, ◌∙◌, subst, arith}
 use Rattle.gpu_descriptor_types.specs.Counts.{kinds}
 use Rattle.gpu_descriptor_types.specs.Flags.{bits}
 use Rattle.gpu_descriptor_types.specs.Ledger.{after_create, after_no_create}
 use Rattle.descriptor_host.specs.declared.pool.HostPool.{HostPool}
+use Rattle.descriptor_host.specs.Calls.{things_in}
 use Rattle.descriptor_host.specs.History.{Log}
-use Rattle.descriptor_host.specs.Pools.{pool_name, rows_of}
+use Rattle.descriptor_host.specs.Pools.{AreBelow, OwedPool, pool_name, rows_of}
 use Rattle.descriptor_host.specs.Room.{EndsAll, ledger_after}
 use Rattle.descriptor_host.specs.declared.act.Act.TheVariants.{Create, NoCreate}
 use Rattle.descriptor_host.proofs.Ledgers.{below_by, ledger_create, ledger_no_create, none_at}
-use Rattle.descriptor_host.proofs.Rooms.{ends_created, ends_no_create}
+use Rattle.descriptor_host.proofs.Rooms.{ends_created, ends_moved}
 use Rattle.descriptor_host.proofs.Rows.{new_below, rows_more}
 use Rattle.descriptor_host.proofs.device.AnswerDeviceDescriptorDeviceHostLayoutHostPoolU64.create_descriptor_pool.Goals as goal
 
@@ -24,9 +25,16 @@ invariant_of-self-clause-below c =
 pub invariant_of-self-clause-ends : goal.invariant_of-self-clause-ends
 invariant_of-self-clause-ends c =
     let mid = c.next_pool.new.self in
+    let history = mid.log.owed.log.history in
     let pool : HostPool = record { number = c.args.self.now.next_number; handle = c.in-Ok.handle } in
-    let made = ends_created mid.log.owed.log.history mid.log.owed.log.granted (drop 1 mid.log.owed.log.granted) mid.wanted mid.log.room pool c.args.counts.now c.args.max_sets c.args.flags c.in-Ok.ensures.granted refl mid.ends in
-    subst (λ (n : ℕ). ∥ EndsAll (ledger_after c.create.new.self.owed.log.history) c.create.new.self.owed.log.granted mid.wanted n ∥₁) (sym c.create.ensures.room) (subst (λ (l : Log). ∥ EndsAll (ledger_after l.history) l.granted mid.wanted mid.log.room ∥₁) (sym c.create.ensures.log) made)
+    let made : OwedPool = record { counts = kinds c.args.counts.now; capacity = c.args.max_sets; flags = bits c.args.flags; refusals = 0; live = [] } in
+    let log = c.create.ensures.log in
+    let is = ap (λ (l : Log). rows_of l.history) log ∙ rows_more (Create pool c.args.counts.now c.args.max_sets c.args.flags) [] history in
+    let old = c.args.self.now in
+    let number : mid.next_number ≡ old.next_number = c.next_pool.ensures.number in
+    let ends : EndsAll (rows_of history) old.next_number mid.log.owed.log.granted mid.wanted mid.log.room = subst (λ (n : ℕ). EndsAll (rows_of history) n mid.log.owed.log.granted mid.wanted mid.log.room) number mid.ends in
+    let below = subst (AreBelow (rows_of history)) number mid.below in
+    ends_created (rows_of history) _ old.next_number c.in-Ok.handle made mid.log.owed.log.granted _ mid.wanted mid.log.room _ below c.in-Ok.ensures.small refl is c.in-Ok.ensures.granted (ap (λ (l : Log). l.granted) log) c.create.ensures.room ends
 
 pub invariant_of-self-in-Err-clause-below : goal.invariant_of-self-in-Err-clause-below
 invariant_of-self-in-Err-clause-below c =
@@ -36,8 +44,11 @@ invariant_of-self-in-Err-clause-below c =
 pub invariant_of-self-in-Err-clause-ends : goal.invariant_of-self-in-Err-clause-ends
 invariant_of-self-in-Err-clause-ends c =
     let mid = c.next_pool.new.self in
-    let made = ends_no_create mid.log.owed.log.history mid.log.owed.log.granted mid.wanted mid.log.room c.in-Err.error mid.ends in
-    subst (λ (n : ℕ). ∥ EndsAll (ledger_after c.refuse_pool.new.self.owed.log.history) c.refuse_pool.new.self.owed.log.granted mid.wanted n ∥₁) (sym c.refuse_pool.ensures.room) (subst (λ (l : Log). ∥ EndsAll (ledger_after l.history) l.granted mid.wanted mid.log.room ∥₁) (sym c.refuse_pool.ensures.log) made)
+    let history = mid.log.owed.log.history in
+    let log = c.refuse_pool.ensures.log in
+    let room = c.refuse_pool.ensures.room in
+    let granted = ap (λ (l : Log). things_in l.granted) log in
+    ends_moved (rows_of history) _ mid.next_number mid.log.owed.log.granted _ mid.wanted _ mid.log.room _ (ap (λ (l : Log). rows_of l.history) log ∙ rows_more (NoCreate c.in-Err.error) [] history) (omega arith) mid.ends
 
 pub returns-in-Ok-clause-new_name : goal.returns-in-Ok-clause-new_name
 returns-in-Ok-clause-new_name c = none_at c.args.self.now.log.owed.log.history c.args.self.now.next_number _ c.args.self.now.below (omega arith)

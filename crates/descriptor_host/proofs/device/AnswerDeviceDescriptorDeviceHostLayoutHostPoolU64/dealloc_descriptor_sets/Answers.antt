@@ -3,7 +3,7 @@ use Rattle.std.specs.Prelude.{Some}
 use Rattle.descriptor_host.specs.declared.pool.HostPool.{HostPool}
 use Rattle.descriptor_host.specs.History.{Log}
 use Rattle.descriptor_host.specs.Pools.{pool_name, pool_owed, rows_of}
-use Rattle.descriptor_host.specs.Room.{EndsAll, ledger_after}
+use Rattle.descriptor_host.specs.Room.{ledger_after}
 use Rattle.descriptor_host.specs.declared.act.Act.TheVariants.{Release}
 use Rattle.gpu_descriptor_types.specs.Ledger.{AreLive, Ledger, Pool, after_release}
 use Rattle.gpu_descriptor_types.specs.Multiset.{AreIn, LiveSet, times}
@@ -22,7 +22,7 @@ still_live l m pool xs same live = subst (λ (k : Ledger). AreLive (pool_name po
 pub take_each-many-requires-clause-room : goal.take_each-many-requires-clause-room
 take_each-many-requires-clause-room g c = (λ xs t steps.
     let mid = c.end_answers.new.self in
-    room_release mid.log.owed.log.history mid.log.owed.log.granted mid.wanted mid.log.room c.args.pool.now xs (still_live _ _ c.args.pool.now xs c.end_answers.ensures.ledger (c.requires.live xs t steps)) mid.ends)
+    room_release mid.log.owed.log.history mid.next_number mid.log.owed.log.granted mid.wanted mid.log.room c.args.pool.now xs mid.below (still_live _ _ c.args.pool.now xs c.end_answers.ensures.ledger (c.requires.live xs t steps)) mid.ends)
 
 pub invariant_of-self-clause-below : goal.invariant_of-self-clause-below
 invariant_of-self-clause-below g c =
@@ -39,7 +39,8 @@ invariant_of-self-clause-ends g c =
     let pool = c.args.pool.now in
     let after = c.release.ensures.log ∙ ap (log_after (Release pool)) t.2 in
     let less : c.release.new.self.room + length t.0 ≡ mid.log.room = ap (λ (n : ℕ). n + length t.0) c.release.ensures.room ∙ t.3 in
-    subst (λ (l : Log). ∥ EndsAll (ledger_after l.history) l.granted mid.wanted c.release.new.self.room ∥₁) (sym after) (ends_release mid.log.owed.log.history mid.log.owed.log.granted mid.wanted mid.log.room c.release.new.self.room pool t.0 (still_live _ _ pool t.0 c.end_answers.ensures.ledger (c.requires.live t.0 t.1.0 t.1.1)) less mid.ends)
+    let history = mid.log.owed.log.history in
+    ends_release history _ mid.next_number pool t.0 mid.log.owed.log.granted _ mid.wanted mid.log.room _ mid.below (still_live _ _ pool t.0 c.end_answers.ensures.ledger (c.requires.live t.0 t.1.0 t.1.1)) (ap (λ (l : Log). rows_of l.history) after ∙ rows_more (Release pool) t.0 history) (ap (λ (l : Log). l.granted) after) less mid.ends
 
 pub returns-clause-released : goal.returns-clause-released
 returns-clause-released g c =

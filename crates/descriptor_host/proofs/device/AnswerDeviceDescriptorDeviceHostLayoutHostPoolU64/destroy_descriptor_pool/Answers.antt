@@ -1,7 +1,7 @@
 use Rattle.std.proofs.Common.{[], sym, ap, ◌∙◌, subst, arith}
 use Rattle.descriptor_host.specs.History.{Log}
 use Rattle.descriptor_host.specs.Pools.{pool_name, rows_of}
-use Rattle.descriptor_host.specs.Room.{EndsAll, ledger_after}
+use Rattle.descriptor_host.specs.Room.{ledger_after}
 use Rattle.descriptor_host.specs.declared.act.Act.TheVariants.{Destroy}
 use Rattle.gpu_descriptor_types.specs.Ledger.{HasNoSets, Ledger, after_destroy}
 use Rattle.descriptor_host.proofs.Ledgers.{below_by, ledger_destroy}
@@ -13,7 +13,7 @@ pub destroy-requires-clause-room : goal.destroy-requires-clause-room
 destroy-requires-clause-room c =
     let mid = c.end_answers.new.self in
     let none : HasNoSets (pool_name c.args.pool) (ledger_after mid.log.owed.log.history) = subst (λ (l : Ledger). HasNoSets (pool_name c.args.pool) l) (sym c.end_answers.ensures.ledger) c.requires in
-    let room = room_destroy mid.log.owed.log.history mid.log.owed.log.granted mid.wanted mid.log.room c.args.pool none mid.ends in
+    let room = room_destroy mid.log.owed.log.history mid.next_number mid.log.owed.log.granted mid.wanted mid.log.room c.args.pool mid.below none mid.ends in
     omega arith
 
 pub invariant_of-self-clause-below : goal.invariant_of-self-clause-below
@@ -25,7 +25,9 @@ pub invariant_of-self-clause-ends : goal.invariant_of-self-clause-ends
 invariant_of-self-clause-ends c =
     let mid = c.end_answers.new.self in
     let none : HasNoSets (pool_name c.args.pool) (ledger_after mid.log.owed.log.history) = subst (λ (l : Ledger). HasNoSets (pool_name c.args.pool) l) (sym c.end_answers.ensures.ledger) c.requires in
-    subst (λ (l : Log). ∥ EndsAll (ledger_after l.history) l.granted mid.wanted c.destroy.new.self.room ∥₁) (sym c.destroy.ensures.log) (ends_destroy mid.log.owed.log.history mid.log.owed.log.granted mid.wanted mid.log.room c.destroy.new.self.room c.args.pool none c.destroy.ensures.room mid.ends)
+    let history = mid.log.owed.log.history in
+    let log = c.destroy.ensures.log in
+    ends_destroy history _ mid.next_number c.args.pool mid.log.owed.log.granted _ mid.wanted mid.log.room _ mid.below none (ap (λ (l : Log). rows_of l.history) log ∙ rows_more (Destroy c.args.pool) [] history) (ap (λ (l : Log). l.granted) log) c.destroy.ensures.room mid.ends
 
 pub returns : goal.returns
 returns c = ap (λ (l : Log). ledger_after l.history) c.destroy.ensures.log ∙ ledger_destroy c.end_answers.new.self.log.owed.log.history c.args.pool ∙ ap (after_destroy (pool_name c.args.pool)) c.end_answers.ensures.ledger

@@ -1,18 +1,23 @@
-use Rattle.std.proofs.Common.{refl, inl, inr, ◌∙◌}
+use Rattle.std.proofs.Common.{subst}
+use Rattle.descriptor_script.specs.Sessions.Names.{KeepsNames}
+use Rattle.descriptor_script.specs.Sessions.Session.{named_of}
 use Rattle.descriptor_host.proofs.host.Host.free.Goals as goal
 
-pub returns-in_default : goal.returns-in_default
-returns-in_default c = record {
-  middle = c.end_request.new.self;
-  ends = c.end_request.ensures.ends;
-  runs = inr (refl, refl);
-  ended = c.end_request.ensures.request;
-}
-
 pub returns : goal.returns
-returns c = record {
-  middle = c.end_request.new.self;
-  ends = c.end_request.ensures.ends;
-  runs = inl (c.in-Ok.tickets, c.in-Ok.ensures, record { reply = c.run-reply.result; step = c.run-reply.ensures.step; told = c.of_reply.ensures; used = c.run-reply.ensures.used });
-  ended = c.run-reply.ensures.request ∙ c.end_request.ensures.request;
-}
+returns c =
+    let middle = c.end_request.new.self in
+    let ends = c.end_request.ensures.ends in
+    let freed = c.free_named-freed in
+    record {
+      middle = middle;
+      ends = ends;
+      outcome = freed.result;
+      step = rw c.end_answers.ensures.ledger freed.ensures.step;
+      one_by_one = rw c.end_answers.ensures.ledger freed.ensures.one_by_one;
+      one_call_a_run = rw c.end_answers.ensures.ledger freed.ensures.one_call_a_run;
+      told = c.of.ensures;
+      memory = freed.ensures.memory middle.roomy;
+      names_stay = subst (λ s. KeepsNames (named_of s) (named_of freed.new.self)) ends.session freed.ensures.names;
+      granted = c.end_answers.ensures.returned.granted;
+      ended = c.end_request.ensures.request;
+    }
