@@ -6,16 +6,18 @@
  * the answers:
  *
  *     gd_call call;
- *     gd_status status = gd_begin(&allocator, layout, count, &call);
+ *     gd_status status = gd_begin(&allocator, layout, count, sets, count, &call);
  *     while (status == GD_OK && call.kind != GD_NO_CALL) {
  *         // make the call on the driver, and then one of:
- *         status = gd_granted(&allocator, handles, how_many, &call);
- *         status = gd_refused(&allocator, GD_OUT_OF_POOL_MEMORY, &call);
+ *         status = gd_granted(&allocator, handles, how_many, sets, count, &call);
+ *         status = gd_refused(&allocator, GD_OUT_OF_POOL_MEMORY, sets, count, &call);
  *     }
- *     if (status == GD_OK) status = gd_commit(&allocator, sets, count, names, count);
+ *     // where status is GD_OK the request is met, and 'sets' has its sets;
+ *     // else make the calls that gd_calls hands over
  *
- * Calls that a driver can't refuse, which free sets and destroy pools, are listed. After gd_commit,
- * gd_free and gd_cleanup, and before the next gd_begin, ask gd_calls for them and make them.
+ * Calls that a driver can't refuse, which free sets and destroy pools, are listed and handed over:
+ * gd_free and gd_cleanup hand them over at once, gd_calls does whenever it is asked. Make the calls
+ * that were handed over before the next gd_begin.
  *
  * gpu_descriptor_vulkan.h does all of this on a VkDevice.
  *
@@ -26,12 +28,14 @@
  * Ownership: a gd_allocator owns the memory of its books. Don't copy it, and close it once. Pools
  * and sets are the driver's: a pool is destroyed when the library lists its end.
  *
- * Threads: all calls on one allocator are made on one thread, one at a time. A lock is not enough:
- * that an allocator may move to another thread is not proved.
+ * Threads: calls on one allocator are made one at a time. An open allocator may move to another
+ * thread: that is proved of its type. Order each move by a lock, by a thread's start or join, or by
+ * a SeqCst atomic (memory_order_seq_cst). A lock that is held during each call is enough for both
+ * rules. Make no call from a signal handler.
  *
- * A request on its way ends with gd_commit. gd_begin, gd_free, gd_cleanup and gd_calls end it too,
- * whatever they answer, and so does gd_layout, unless it answers GD_BAD_COUNTS. What the driver had
- * granted for an ended request is listed to go back.
+ * A request on its way ends when it is met or refused. gd_begin, gd_free, gd_cleanup and gd_calls
+ * end it too, whatever they answer, and so does gd_layout, unless it answers GD_BAD_COUNTS. What
+ * the driver had granted for an ended request is listed to go back.
  *
  * Every function answers a gd_status. Whatever is not GD_OK leaves the allocator as it was, but for
  * an ended request and what the function says, and writes nothing that a pointer leads to, but for
@@ -62,10 +66,11 @@ enum {
 
     /*
      * Why a request was refused. No set of the request is held: the sets that the driver granted
-     * are listed to go back. Where gd_commit answers one of these, new pools may stay, empty.
+     * are listed to go back. New pools may stay, empty.
      */
     GD_OUT_OF_DEVICE_MEMORY = 10, /* the driver said so */
-    GD_OUT_OF_HOST_MEMORY = 11,   /* the driver said so, or the library has no memory */
+    GD_OUT_OF_HOST_MEMORY = 11,   /* the driver said so, or the library has no memory for what a call
+                                     would bring */
     GD_FRAGMENTATION = 12,        /* the limit, a new pool refused as fragmented or for want of pool
                                      memory, or a new pool that gave no sets; docs/BINDINGS.md says
                                      what helps */
@@ -84,9 +89,9 @@ enum {
     GD_CLOSED = 23,     /* the allocator is not open */
     GD_IS_OPEN = 24,    /* gd_open on an open allocator */
     GD_NO_REQUEST = 25, /* no request is on its way */
-    GD_BAD_ANSWER = 26, /* the answer doesn't fit the call that was named, or none was */
-    GD_TOO_SHORT = 27,  /* the array is too short for what is to be written */
-    GD_CALLS_WAIT = 28, /* calls are listed that gd_calls has not handed over */
+    GD_BAD_ANSWER = 26, /* the answer doesn't fit the call that was named */
+    GD_TOO_SHORT = 27,  /* the array is too short for the sets of the request */
+    GD_CALLS_WAIT = 28, /* calls are listed that were not handed over */
     GD_STILL_OUT = 29,  /* gd_close while sets, pools or calls are left */
     GD_BAD_COUNTS = 30  /* gd_layout with more than 14 counts */
 };
@@ -112,7 +117,7 @@ enum {
 
 /* What a call asks of the driver. */
 enum {
-    GD_NO_CALL = 0,     /* nothing: commit the request */
+    GD_NO_CALL = 0,     /* nothing: the request is met */
     GD_CREATE_POOL = 1, /* a pool for 'count' sets, with 'counts' descriptors in all, and 'flags' */
     GD_ALLOCATE_SETS = 2 /* 'count' sets of 'layout' from 'pool' */
 };
@@ -135,6 +140,23 @@ typedef struct gd_call {
 } gd_call;
 
 /*
+ * A set: the driver's handle, and the library's name of it. A name has a place in its lower 32 bits,
+ * which is used again once the set is freed, and above them how often the place was used, this time
+ * counted. So no name is 0, and none comes twice while the allocator is open. Two allocators may
+ * give the same name.
+ */
+typedef struct gd_set {
+    uint64_t handle;
+    uint64_t name;
+} gd_set;
+
+/* What was handed over: how many words, and how many the next call has that waits; 0 for none. */
+typedef struct gd_handed {
+    uint64_t words;
+    uint64_t next;
+} gd_handed;
+
+/*
  * Opens a zeroed allocator. At most 'limit' descriptors of update-after-bind pools exist at once
  * (Vulkan: maxUpdateAfterBindDescriptorsInAllPools); UINT32_MAX is the highest limit.
  *
@@ -144,8 +166,8 @@ gd_status gd_open(gd_allocator *allocator, uint32_t limit);
 
 /*
  * Closes an allocator of which nothing is left: no set is held, all pools are gone, no call waits,
- * and no named call lacks its answer. So free all sets, call gd_cleanup, and make the calls of
- * gd_calls first. Then the allocator may be opened again.
+ * and no request is on its way. So free all sets, call gd_cleanup, which also ends a request, and
+ * make the calls that it hands over. Then the allocator may be opened again.
  *
  * GD_STILL_OUT, GD_CLOSED.
  */
@@ -162,77 +184,79 @@ gd_status gd_layout(gd_allocator *allocator, uint64_t layout, const uint32_t *co
                     uint32_t update_after_bind, uint64_t *place);
 
 /*
- * Begins a request for 'count' sets of a layout, and names the first call to make: none for 0 sets,
- * which gd_commit then answers with GD_OK. Calls that wait
- * must be made before: so gd_begin answers GD_CALLS_WAIT where it ended a request with grants.
+ * Begins a request for 'count' sets of a layout, and names the first call to make. Where no call is
+ * needed the request ends at once: a request for 0 sets is met, and a request that the limit forbids
+ * is refused. Calls that wait must be made before: so gd_begin answers GD_CALLS_WAIT where it ended
+ * a request with grants.
  *
- * GD_BAD_LAYOUT, GD_CALLS_WAIT, GD_CLOSED.
+ * 'sets' has room for 'room' sets, at least 'count'. Where the request is met it gets them.
+ *
+ * GD_OUT_OF_DEVICE_MEMORY, GD_OUT_OF_HOST_MEMORY, GD_FRAGMENTATION, GD_NO_MEMORY, where the request
+ * is refused; GD_TOO_SHORT, GD_BAD_LAYOUT, GD_CALLS_WAIT, where none begins; GD_CLOSED.
  */
-gd_status gd_begin(gd_allocator *allocator, uint64_t layout, uint32_t count, gd_call *call);
+gd_status gd_begin(gd_allocator *allocator, uint64_t layout, uint32_t count, gd_set *sets,
+                   size_t room, gd_call *call);
 
 /*
  * Tells that the driver granted the call: 'handles' has the pool, or the sets in their order. Names
- * the next call.
+ * the next call. Where none is left, GD_NO_CALL, the request is met: 'sets' gets its sets, in the
+ * order in which the driver gave them, each with the name under which gd_free takes it back.
  *
- * GD_BAD_ANSWER where there are not as many handles as the call asks for (1 for a pool), or no call
- * was named. GD_NO_REQUEST, GD_CLOSED.
+ * GD_OUT_OF_DEVICE_MEMORY, GD_OUT_OF_HOST_MEMORY, GD_FRAGMENTATION, GD_NO_MEMORY, where the request
+ * is refused, and has ended.
+ *
+ * GD_BAD_ANSWER where there are not as many handles as the call asks for (1 for a pool), GD_TOO_SHORT
+ * where 'sets' has no room for the sets of the request: then the call still wants its answer.
+ * GD_NO_REQUEST, GD_CLOSED.
  */
-gd_status gd_granted(gd_allocator *allocator, const uint64_t *handles, size_t count, gd_call *call);
+gd_status gd_granted(gd_allocator *allocator, const uint64_t *handles, size_t count, gd_set *sets,
+                     size_t room, gd_call *call);
 
 /*
  * Tells that the driver refused the call, and why: GD_OUT_OF_DEVICE_MEMORY, GD_OUT_OF_HOST_MEMORY,
- * GD_FRAGMENTATION, or GD_OUT_OF_POOL_MEMORY. Names the next call.
+ * GD_FRAGMENTATION, or GD_OUT_OF_POOL_MEMORY. Goes on as gd_granted does.
  *
- * GD_BAD_ANSWER for another reason, or where no call was named. GD_NO_REQUEST, GD_CLOSED.
+ * GD_BAD_ANSWER for another reason, where the call still wants its answer. Else as gd_granted.
  */
-gd_status gd_refused(gd_allocator *allocator, uint32_t why, gd_call *call);
+gd_status gd_refused(gd_allocator *allocator, uint32_t why, gd_set *sets, size_t room,
+                     gd_call *call);
 
 /*
- * Makes the request. Where it is met, 'sets' gets the driver's handles of its sets, in the order in
- * which the driver gave them, and 'names' the names under which gd_free takes them back. Each array
- * has room for so many of them, at least as many as were asked for.
+ * Gives these sets back, in any order, by their names; their handles are not read. The device must
+ * be done with them. Then the calls that wait are handed over, as by gd_calls, whatever the status
+ * is but GD_CLOSED. A free takes no memory.
  *
- * A call that was named and not answered counts as refused for want of host memory, so a request
- * can be given up by committing it early. What the driver had granted is listed to go back then.
- *
- * GD_OUT_OF_DEVICE_MEMORY, GD_OUT_OF_HOST_MEMORY, GD_FRAGMENTATION, GD_NO_MEMORY, where the request
- * has ended; GD_TOO_SHORT, where it stays on its way; GD_NO_REQUEST, GD_CLOSED.
+ * GD_BAD_SET, where no set goes back; GD_CLOSED.
  */
-gd_status gd_commit(gd_allocator *allocator, uint64_t *sets, size_t sets_room, uint64_t *names,
-                    size_t names_room);
-
-/*
- * Gives the sets of these names back, in any order. The device must be done with them.
- *
- * GD_BAD_SET, where no set goes back; GD_NO_MEMORY, GD_CLOSED.
- */
-gd_status gd_free(gd_allocator *allocator, const uint64_t *names, size_t count);
+gd_status gd_free(gd_allocator *allocator, const gd_set *sets, size_t count, uint64_t *words,
+                  size_t room, gd_handed *handed);
 
 /*
  * Lists the ends of empty pools: those that stand before the first pool with sets. Layouts with
- * equal counts and mark share their pools, oldest first. With no set held, no pool is left.
+ * equal counts and mark share their pools, oldest first. With no set held, no pool is left. Then
+ * the calls that wait are handed over, as by gd_calls.
  *
  * GD_CLOSED.
  */
-gd_status gd_cleanup(gd_allocator *allocator);
+gd_status gd_cleanup(gd_allocator *allocator, uint64_t *words, size_t room, gd_handed *handed);
 
 /*
- * Hands over the calls that wait, in order, as many as fit whole into 'words'. Make them in this
- * order. Each is a pool, a number n, and n sets:
+ * Hands over the calls that wait, in order, as many as fit whole into 'words', which has room for
+ * 'room' words. Make them in this order. Each is a pool, a number n, and n sets:
  *
- *     for (size_t i = 0; i < written; i += 2 + words[i + 1]) {
+ *     for (size_t i = 0; i < handed.words; i += 2 + words[i + 1]) {
  *         // words[i] is the pool
  *         if (words[i + 1] == 0) destroy(words[i]);
  *         else free_sets(words[i], words[i + 1], &words[i + 2]);
  *     }
  *
- * Call it again until it writes 0 words. An array of two words more than the most sets of a request
- * or of a gd_free is long enough for each call.
+ * Where 'handed.next' is not 0 a call still waits, which has so many words: call gd_calls again,
+ * with room for them. An array of two words more than the largest pool has sets is long enough for
+ * each call; so is one of two words more than the most sets of a request or of a gd_free.
  *
- * GD_TOO_SHORT where not even the first call fits: then 'written' is how many words that call has,
- * and nothing was handed over. GD_CLOSED.
+ * GD_CLOSED.
  */
-gd_status gd_calls(gd_allocator *allocator, uint64_t *words, size_t room, size_t *written);
+gd_status gd_calls(gd_allocator *allocator, uint64_t *words, size_t room, gd_handed *handed);
 
 /* How many sets are held. GD_CLOSED. */
 gd_status gd_held(gd_allocator *allocator, uint64_t *sets);

@@ -5,8 +5,9 @@
  *     gdv_allocator allocator = {0};
  *     gdv_open(&allocator, device, limit, NULL);
  *     gdv_layout(&allocator, layout, &layout_info, &place);
- *     gdv_allocate(&allocator, place, 2, sets, names);
- *     gdv_free(&allocator, names, 2);
+ *     gdv_allocate(&allocator, place, 2, sets);
+ *     VkDescriptorSet first = gdv_handle(sets[0]);
+ *     gdv_free(&allocator, sets, 2);
  *     gdv_cleanup(&allocator);
  *     gdv_close(&allocator);
  *
@@ -14,7 +15,7 @@
  * Each answers a gd_status; gdv_result turns that into a VkResult.
  *
  * Of the functions of gpu_descriptor.h call only gd_held and gd_layout, with '&allocator.books'.
- * For the calls that the others list there may be no scratch memory here.
+ * The others name calls or hand them over, and nobody would make these calls.
  *
  * The header calls four functions of Vulkan by their names: vkCreateDescriptorPool,
  * vkDestroyDescriptorPool, vkAllocateDescriptorSets and vkFreeDescriptorSets. If your loader
@@ -47,8 +48,11 @@ static_assert((int)GD_FREE_DESCRIPTOR_SET ==
                   (int)GD_UPDATE_AFTER_BIND == (int)VK_DESCRIPTOR_POOL_CREATE_UPDATE_AFTER_BIND_BIT,
               "the flags of a pool are Vulkan's");
 
-/* For so many sets there is scratch memory from the start. */
+/* For so many sets there is scratch memory from the start; most pools have no more. */
 enum { GDV_FIRST_ROOM = 64 };
+
+/* The name in a set of a refused request. No set that is held has it. */
+#define GDV_NO_NAME UINT64_MAX
 
 /* An allocator on a device. Zero it before gdv_open. The fields are for the functions below. */
 typedef struct gdv_allocator {
@@ -57,11 +61,13 @@ typedef struct gdv_allocator {
     VkAllocationCallbacks callbacks;
     uint32_t has_callbacks;
 
-    /* Scratch memory, which only grows. */
+    /*
+     * Scratch memory, which only grows: for as many sets as the largest pool has. A call allocates
+     * sets from one pool, or frees sets of one pool, so no call has more.
+     */
     size_t room;     /* for so many sets; 0 while the allocator is closed */
-    uint64_t *words; /* room + 2: a release is a pool, a number, and the sets */
-    VkDescriptorSet *sets;
-    VkDescriptorSetLayout *layouts;
+    uint64_t *words; /* room + 2: a call that frees is a pool, a number, and the sets */
+    VkDescriptorSetLayout *layouts; /* room */
 } gdv_allocator;
 
 /* ---- what answers mean ---- */
@@ -100,53 +106,57 @@ static inline VkResult gdv_result(gd_status status) {
     }
 }
 
+/* The driver's handle of a set. */
+static inline VkDescriptorSet gdv_handle(gd_set set) {
+    return (VkDescriptorSet)(uintptr_t)set.handle;
+}
+
 /* ---- scratch memory ---- */
 
 static inline void gdv_drop_scratch(gdv_allocator *allocator) {
     free(allocator->words);
-    free(allocator->sets);
     free(allocator->layouts);
     allocator->words = NULL;
-    allocator->sets = NULL;
     allocator->layouts = NULL;
     allocator->room = 0;
 }
 
-/* Takes scratch memory for 'room' sets. Where there is none, that of before stays. */
+/* Takes scratch memory for 'room' sets, unless it is there. Without memory what is there stays. */
 static inline gd_status gdv_grow(gdv_allocator *allocator, size_t room) {
+    if (room <= allocator->room)
+        return GD_OK;
+    if (room > SIZE_MAX / (2 * sizeof(uint64_t)))
+        return GD_NO_MEMORY;
     uint64_t *words = (uint64_t *)malloc((room + 2) * sizeof *words);
-    VkDescriptorSet *sets = (VkDescriptorSet *)malloc(room * sizeof *sets);
     VkDescriptorSetLayout *layouts = (VkDescriptorSetLayout *)malloc(room * sizeof *layouts);
-    if (words == NULL || sets == NULL || layouts == NULL) {
+    if (words == NULL || layouts == NULL) {
         free(words);
-        free(sets);
         free(layouts);
         return GD_NO_MEMORY;
     }
     gdv_drop_scratch(allocator);
     allocator->words = words;
-    allocator->sets = sets;
     allocator->layouts = layouts;
     allocator->room = room;
     return GD_OK;
 }
 
-/*
- * Takes scratch memory for a request of 'count' sets, or for a free of 'count' sets. gdv_allocate
- * and gdv_free call this function themselves. Scratch memory stays until the allocator is closed.
- * So a free of n sets never lacks it once there was a request of n sets, or this call with n.
- *
- * GD_NO_MEMORY, GD_CLOSED.
- */
-static inline gd_status gdv_reserve(gdv_allocator *allocator, size_t count) {
-    if (allocator->room == 0)
-        return GD_CLOSED;
-    if (count <= allocator->room)
-        return GD_OK;
-    if (count > SIZE_MAX / (4 * sizeof(uint64_t)))
-        return GD_NO_MEMORY;
-    size_t twice = 2 * allocator->room;
-    return gdv_grow(allocator, count > twice ? count : twice);
+/* Makes words to handles of sets, in the same memory. */
+static inline VkDescriptorSet *gdv_sets_of(uint64_t *words, size_t count) {
+    for (size_t place = 0; place < count; place++) {
+        VkDescriptorSet set = (VkDescriptorSet)(uintptr_t)words[place];
+        memcpy(&words[place], &set, sizeof set);
+    }
+    return (VkDescriptorSet *)(void *)words;
+}
+
+/* Makes handles of sets to words, in the same memory. */
+static inline void gdv_words_of(uint64_t *words, size_t count) {
+    for (size_t place = 0; place < count; place++) {
+        VkDescriptorSet set;
+        memcpy(&set, &words[place], sizeof set);
+        words[place] = (uint64_t)set;
+    }
 }
 
 /* ---- calls on the device ---- */
@@ -212,50 +222,64 @@ static inline VkResult gdv_allocate_sets(gdv_allocator *allocator, const gd_call
     info.descriptorPool = (VkDescriptorPool)(uintptr_t)call->pool;
     info.descriptorSetCount = call->count;
     info.pSetLayouts = allocator->layouts;
-    VkResult result = vkAllocateDescriptorSets(allocator->device, &info, allocator->sets);
-    if (result != VK_SUCCESS)
-        return result;
-    for (uint32_t place = 0; place < call->count; place++)
-        allocator->words[place] = (uint64_t)allocator->sets[place];
-    return VK_SUCCESS;
-}
-
-/* Makes the call that is named, and tells the library the answer. Then 'call' is the next one. */
-static inline gd_status gdv_make_call(gdv_allocator *allocator, gd_call *call) {
-    int is_pool = call->kind == GD_CREATE_POOL;
-    VkResult result =
-        is_pool ? gdv_create_pool(allocator, call) : gdv_allocate_sets(allocator, call);
-    if (result != VK_SUCCESS)
-        return gd_refused(&allocator->books, gdv_reason(result), call);
-    return gd_granted(&allocator->books, allocator->words, is_pool ? 1 : call->count, call);
-}
-
-/* Frees the sets of a pool whose handles are these words. */
-static inline void gdv_free_sets(gdv_allocator *allocator, VkDescriptorPool pool,
-                                 const uint64_t *words, size_t count) {
-    for (size_t place = 0; place < count; place++)
-        allocator->sets[place] = (VkDescriptorSet)(uintptr_t)words[place];
-    /* Vulkan has no other answer than VK_SUCCESS. */
-    (void)vkFreeDescriptorSets(allocator->device, pool, (uint32_t)count, allocator->sets);
+    VkResult result = vkAllocateDescriptorSets(allocator->device, &info,
+                                               (VkDescriptorSet *)(void *)allocator->words);
+    if (result == VK_SUCCESS)
+        gdv_words_of(allocator->words, call->count);
+    return result;
 }
 
 /*
- * Makes the calls that wait. A release has no more sets than the request or the free from which it
- * comes, and for so many scratch memory was taken. So gd_calls never finds the words too short.
+ * Makes a call on the device. Scratch memory for the sets of a pool is taken before the pool is
+ * created: so what is done with the pool later never lacks it.
  */
-static inline void gdv_make_waiting_calls(gdv_allocator *allocator) {
-    const uint64_t *words = allocator->words;
-    size_t written = 0;
-    while (gd_calls(&allocator->books, allocator->words, allocator->room + 2, &written) == GD_OK &&
-           written > 0) {
-        for (size_t at = 0; at < written; at += 2 + (size_t)words[at + 1]) {
-            VkDescriptorPool pool = (VkDescriptorPool)(uintptr_t)words[at];
-            if (words[at + 1] == 0)
-                vkDestroyDescriptorPool(allocator->device, pool, gdv_callbacks(allocator));
-            else
-                gdv_free_sets(allocator, pool, &words[at + 2], (size_t)words[at + 1]);
+static inline VkResult gdv_make_call(gdv_allocator *allocator, const gd_call *call) {
+    if (gdv_grow(allocator, call->count) != GD_OK)
+        return VK_ERROR_OUT_OF_HOST_MEMORY;
+    if (call->kind == GD_CREATE_POOL)
+        return gdv_create_pool(allocator, call);
+    return gdv_allocate_sets(allocator, call);
+}
+
+/* Makes the call that is named, and tells the library the answer. Then 'call' is the next one. */
+static inline gd_status gdv_answer(gdv_allocator *allocator, gd_set *sets, size_t room,
+                                   gd_call *call) {
+    VkResult result = gdv_make_call(allocator, call);
+    if (result != VK_SUCCESS)
+        return gd_refused(&allocator->books, gdv_reason(result), sets, room, call);
+    size_t count = call->kind == GD_CREATE_POOL ? 1 : call->count;
+    return gd_granted(&allocator->books, allocator->words, count, sets, room, call);
+}
+
+/* Makes a call of the words: it destroys a pool, or frees sets of it. */
+static inline void gdv_make_handed_call(const gdv_allocator *allocator, uint64_t *words) {
+    VkDescriptorPool pool = (VkDescriptorPool)(uintptr_t)words[0];
+    size_t count = (size_t)words[1];
+    if (count == 0)
+        vkDestroyDescriptorPool(allocator->device, pool, gdv_callbacks(allocator));
+    else /* Vulkan has no other answer than VK_SUCCESS. */
+        (void)vkFreeDescriptorSets(allocator->device, pool, (uint32_t)count,
+                                   gdv_sets_of(&words[2], count));
+}
+
+/* Makes the calls that were handed over, and those that still wait. Each fits into the words. */
+static inline void gdv_make_calls(gdv_allocator *allocator, gd_handed handed) {
+    while (handed.words > 0) {
+        for (size_t at = 0, next; at < handed.words; at = next) {
+            next = at + 2 + (size_t)allocator->words[at + 1];
+            gdv_make_handed_call(allocator, &allocator->words[at]);
         }
+        if (handed.next == 0 ||
+            gd_calls(&allocator->books, allocator->words, allocator->room + 2, &handed) != GD_OK)
+            return;
     }
+}
+
+/* Makes the calls that wait. */
+static inline void gdv_make_waiting_calls(gdv_allocator *allocator) {
+    gd_handed handed;
+    if (gd_calls(&allocator->books, allocator->words, allocator->room + 2, &handed) == GD_OK)
+        gdv_make_calls(allocator, handed);
 }
 
 /* ---- what a renderer calls ---- */
@@ -323,46 +347,42 @@ static inline gd_status gdv_layout(gdv_allocator *allocator, VkDescriptorSetLayo
 }
 
 /*
- * Allocates 'count' sets of the layout with this place. Each gets a name, under which gdv_free
- * takes the set back. Both arrays have room for 'count' elements. Where the request is refused no
- * set stays allocated, and each element of 'sets' is VK_NULL_HANDLE, as after
- * vkAllocateDescriptorSets.
+ * Allocates 'count' sets of the layout with this place. 'sets' has room for them; gdv_handle has
+ * the handle of each, and gdv_free takes them back. Where the request is refused no set stays
+ * allocated, and each handle is VK_NULL_HANDLE, as after vkAllocateDescriptorSets.
  *
- * GD_OUT_OF_DEVICE_MEMORY, GD_OUT_OF_HOST_MEMORY, GD_FRAGMENTATION; GD_NO_MEMORY where the books or
- * the scratch memory can't grow; GD_BAD_LAYOUT, GD_CLOSED.
+ * GD_OUT_OF_DEVICE_MEMORY, GD_OUT_OF_HOST_MEMORY, also where the scratch memory can't grow,
+ * GD_FRAGMENTATION; GD_NO_MEMORY where the books can't grow; GD_BAD_LAYOUT, GD_CLOSED.
  */
 static inline gd_status gdv_allocate(gdv_allocator *allocator, uint64_t layout, uint32_t count,
-                                     VkDescriptorSet *sets, uint64_t *names) {
-    for (uint32_t place = 0; place < count; place++)
-        sets[place] = VK_NULL_HANDLE;
-    /* Scratch memory is taken before the driver grants anything: from here on none is needed. */
-    gd_status status = gdv_reserve(allocator, count);
-    if (status != GD_OK)
-        return status;
+                                     gd_set *sets) {
+    for (uint32_t place = 0; place < count; place++) {
+        sets[place].handle = 0; /* VK_NULL_HANDLE */
+        sets[place].name = GDV_NO_NAME;
+    }
     gd_call call;
-    status = gd_begin(&allocator->books, layout, count, &call);
+    gd_status status = gd_begin(&allocator->books, layout, count, sets, count, &call);
     while (status == GD_OK && call.kind != GD_NO_CALL)
-        status = gdv_make_call(allocator, &call);
-    if (status == GD_OK)
-        status = gd_commit(&allocator->books, allocator->words, count, names, count);
-    for (uint32_t place = 0; status == GD_OK && place < count; place++)
-        sets[place] = (VkDescriptorSet)(uintptr_t)allocator->words[place];
-    gdv_make_waiting_calls(allocator);
+        status = gdv_answer(allocator, sets, count, &call);
+    if (status != GD_OK && status != GD_CLOSED)
+        gdv_make_waiting_calls(allocator);
     return status;
 }
 
 /*
- * Gives the sets of these names back, in any order. The device must be done with them: no command
- * buffer that uses one of them is executed any more.
+ * Gives sets back, in any order. The device must be done with them: no command buffer that uses one
+ * of them is executed any more. Only the names of the sets are read. It takes no memory.
  *
- * GD_BAD_SET, GD_NO_MEMORY, where no set goes back; GD_CLOSED.
+ * GD_BAD_SET, where no set goes back; GD_CLOSED.
  */
-static inline gd_status gdv_free(gdv_allocator *allocator, const uint64_t *names, size_t count) {
-    gd_status status = gdv_reserve(allocator, count);
-    if (status != GD_OK)
-        return status;
-    status = gd_free(&allocator->books, names, count);
-    gdv_make_waiting_calls(allocator);
+static inline gd_status gdv_free(gdv_allocator *allocator, const gd_set *sets, size_t count) {
+    gd_handed handed;
+    if (allocator->room == 0)
+        return GD_CLOSED;
+    gd_status status =
+        gd_free(&allocator->books, sets, count, allocator->words, allocator->room + 2, &handed);
+    if (status != GD_CLOSED)
+        gdv_make_calls(allocator, handed);
     return status;
 }
 
@@ -373,9 +393,13 @@ static inline gd_status gdv_free(gdv_allocator *allocator, const uint64_t *names
  * GD_CLOSED.
  */
 static inline gd_status gdv_cleanup(gdv_allocator *allocator) {
-    gd_status status = gd_cleanup(&allocator->books);
+    gd_handed handed;
+    if (allocator->room == 0)
+        return GD_CLOSED;
+    gd_status status =
+        gd_cleanup(&allocator->books, allocator->words, allocator->room + 2, &handed);
     if (status == GD_OK)
-        gdv_make_waiting_calls(allocator);
+        gdv_make_calls(allocator, handed);
     return status;
 }
 

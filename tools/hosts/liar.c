@@ -1,16 +1,22 @@
 // A host that calls in any order and answers garbage: wrong numbers of handles, answers without a
-// call, unknown reasons, one handle twice, names that aren't held, names twice, arrays too short by
-// one, requests given up half way by each other call, and calls on a closed allocator.
+// call, unknown reasons, one handle twice, names that aren't held, freed names, names of another
+// allocator, names twice, arrays too short by one, requests given up half way by each other call,
+// and calls on a closed allocator.
 //
-// Each status is compared with what gpu_descriptor.h says, as far as a host can know that. Handles
-// are counted. At the end each was listed as often as it was granted, and no set while it was held.
+// Each status is compared with what gpu_descriptor.h says, as far as a host can know that, and what
+// a call must not write stays as it was. Handles are counted. At the end each was listed as often
+// as it was granted, and no set while it was held.
 //
 // usage: liar OPERATIONS SEED
 #include "gpu_descriptor.h"
 #include "host.h"
+#include "names.h"
 #include <string.h>
 
-enum { LAYOUTS = 3, MOST_SETS = 100, HUGE_COUNT = 1 << 22, MOST_LAYOUTS = 40, ROUND = 2000 };
+enum { LAYOUTS = 3, MOST_SETS = 100, HUGE_COUNT = 1 << 17, MOST_LAYOUTS = 40, ROUND = 2000 };
+
+// The other allocator holds so many sets, and so many words are long enough for its calls.
+enum { OTHER_SETS = 40, OTHER_ROUNDS = 3, OTHER_WORDS = 400 };
 
 // What the host knows of a fact.
 enum { NO, PERHAPS, YES };
@@ -26,13 +32,19 @@ struct held {
     uint64_t name, set;
 };
 
-static gd_allocator allocator;
+static gd_allocator allocator, other;
 static struct handle *pools, *sets;
 static struct held *held;
-static size_t pool_count, set_count, held_count, pool_room, set_room, held_room;
+static uint64_t *freed; // names
+static size_t pool_count, set_count, held_count, freed_count;
+static size_t pool_room, set_room, held_room, freed_room;
+static struct names names, other_names;
+static gd_set other_sets[OTHER_SETS];
 static uint64_t layouts, live_pools, live_sets;
 static int waits;        // whether calls wait
+static uint64_t next;    // how many words the first of them has; 0 where the host wasn't told
 static bool is_given_up; // the last call gave a request up
+static uint64_t tries_of_places; // how often a freed name was tried whose place was used again
 static uint64_t statuses[GD_BAD_COUNTS + 1];
 
 // The request that is on its way.
@@ -69,19 +81,62 @@ static size_t draw(struct handle **list, size_t *count, size_t *room) {
 
 // ---- arrays of an exact length ----
 
-static const uint64_t GUARD = 0x6c6f6e6765722121;
+// What stands where nothing may be written: in arrays, and behind them.
+static const uint64_t UNTOUCHED = 0x6c6f6e6765722121;
+
+// Of longer arrays of sets only the first FEW sets and the end are looked at.
+enum { FEW = 2 * MOST_SETS };
+
+static gd_set long_array[HUGE_COUNT + 4];
 
 // An array of so many words, with a guard behind it.
 static uint64_t *array_of(size_t count) {
     uint64_t *array = malloc((count + 1) * sizeof *array);
     CHECK(array != NULL);
-    array[count] = GUARD;
+    for (size_t place = 0; place <= count; place++)
+        array[place] = UNTOUCHED;
     return array;
 }
 
 static void drop_array(uint64_t *array, size_t count) {
-    CHECK(array[count] == GUARD);
+    CHECK(array[count] == UNTOUCHED);
     free(array);
+}
+
+static void check_words(const uint64_t *array, size_t from, size_t count) {
+    for (size_t place = from; place < count; place++)
+        CHECK(array[place] == UNTOUCHED);
+}
+
+// An array of so many sets, with a guard behind it.
+static gd_set *sets_of(size_t count) {
+    CHECK(count < HUGE_COUNT + 4);
+    gd_set *array = count > FEW ? long_array : malloc((count + 1) * sizeof *array);
+    CHECK(array != NULL);
+    for (size_t place = 0; place <= count && place < FEW; place++)
+        array[place] = (gd_set){UNTOUCHED, UNTOUCHED};
+    array[count] = (gd_set){UNTOUCHED, UNTOUCHED};
+    return array;
+}
+
+// Drops an array of sets, of which only the first may have been written to.
+static void drop_sets(gd_set *array, size_t written, size_t count) {
+    for (size_t place = written; place <= count && place < FEW; place++)
+        CHECK(array[place].handle == UNTOUCHED && array[place].name == UNTOUCHED);
+    CHECK(array[count].handle == UNTOUCHED && array[count].name == UNTOUCHED);
+    if (array != long_array)
+        free(array);
+}
+
+static gd_call untouched_call(void) {
+    gd_call call;
+    memset(&call, 0x21, sizeof call);
+    return call;
+}
+
+static void check_untouched_call(const gd_call *call) {
+    gd_call untouched = untouched_call();
+    CHECK(memcmp(call, &untouched, sizeof untouched) == 0);
 }
 
 // ---- what must become of calls ----
@@ -100,12 +155,8 @@ static void give_up(void) {
     request.is_on = false;
 }
 
-// How the request ends if it is committed now.
+// Why the request is refused, if it is refused now.
 static gd_status end_of_request(void) {
-    if (request.call.kind != GD_NO_CALL)
-        return GD_OUT_OF_HOST_MEMORY;
-    if (request.granted == request.count)
-        return GD_OK;
     if (request.last == GD_OUT_OF_DEVICE_MEMORY || request.last == GD_OUT_OF_HOST_MEMORY)
         return request.last;
     return GD_FRAGMENTATION;
@@ -117,39 +168,91 @@ static void check_call(void) {
     const gd_call *call = &request.call;
     CHECK(call->kind <= GD_ALLOCATE_SETS && call->reserved == 0);
     CHECK((call->kind == GD_NO_CALL) == (call->count == 0));
+    CHECK((call->kind == GD_NO_CALL) == (request.granted == request.count));
     CHECK(call->kind != GD_ALLOCATE_SETS || call->count <= request.count - request.granted);
     CHECK(call->kind != GD_CREATE_POOL || (call->flags & GD_FREE_DESCRIPTOR_SET) != 0);
     if (call->kind == GD_ALLOCATE_SETS)
         CHECK(pools[place_of(call->pool, pool_count)].live > 0);
 }
 
+// Holds the sets of a request that was met, which are those that were granted.
+static void hold(const gd_set *got) {
+    held = grown(held, &held_room, held_count + request.count, sizeof *held);
+    for (uint32_t place = 0; place < request.count; place++) {
+        CHECK(got[place].handle == request.sets[place]);
+        names_give(&names, got[place].name);
+        held[held_count++] = (struct held){got[place].name, got[place].handle};
+        sets[place_of(got[place].handle, set_count)].held++;
+    }
+}
+
+// The request goes on with a call, is met or is refused. How many sets were written.
+static size_t go_on(gd_status status, const gd_set *got, const gd_call *call) {
+    if (status != GD_OK) {
+        CHECK(status == end_of_request() && request.granted < request.count);
+        check_untouched_call(call);
+        request.is_on = false;
+        waits = request.has_grants ? YES : waits;
+        return 0;
+    }
+    request.call = *call;
+    check_call();
+    if (call->kind != GD_NO_CALL)
+        return 0;
+    request.is_on = false;
+    hold(got);
+    return request.count;
+}
+
+// Room for so many sets, or for one less, or for a few more.
+static size_t draw_room(uint32_t count) {
+    if (!one_in(4))
+        return count;
+    return count > 0 && one_in(2) ? count - 1 : count + random_below(3);
+}
+
+static bool is_begun(uint64_t layout, bool has_room, gd_status status) {
+    if (layout < layouts && has_room && status != GD_CALLS_WAIT) {
+        CHECK(waits != YES);
+        return true;
+    }
+    if (status == GD_CALLS_WAIT) {
+        CHECK(waits != NO);
+        waits = YES;
+    } else {
+        CHECK(status == GD_BAD_LAYOUT ? layout >= layouts : status == GD_TOO_SHORT && !has_room);
+    }
+    return false;
+}
+
 static void begin(void) {
     uint64_t layout = one_in(8) ? layouts + random_below(3) : random_below((uint32_t)layouts);
     uint32_t count = one_in(50) ? HUGE_COUNT : random_below(one_in(3) ? MOST_SETS : 5);
-    gd_call call;
+    size_t room = draw_room(count), written = 0;
+    gd_set *got = sets_of(room);
+    gd_call call = untouched_call();
     give_up();
-    gd_status status = counted(gd_begin(&allocator, layout, count, &call));
-    if (layout >= layouts)
-        CHECK(status == GD_BAD_LAYOUT || (status == GD_CALLS_WAIT && waits != NO));
-    else
-        CHECK(status == GD_CALLS_WAIT ? waits != NO : status == GD_OK && waits != YES);
-    if (status == GD_CALLS_WAIT)
-        waits = YES;
-    if (status != GD_OK)
-        return;
-    waits = NO;
-    memset(&request, 0, sizeof request);
-    request.is_on = true;
-    request.count = count;
-    request.call = call;
-    check_call();
+    gd_status status = counted(gd_begin(&allocator, layout, count, got, room, &call));
+    if (is_begun(layout, room >= count, status)) {
+        waits = NO;
+        memset(&request, 0, sizeof request);
+        request.is_on = true;
+        request.count = count;
+        written = go_on(status, got, &call);
+    } else {
+        check_untouched_call(&call);
+    }
+    drop_sets(got, written, room);
 }
 
-// What must become of an answer, which fits the call that is named or doesn't.
-static gd_status status_of_answer(bool fits) {
-    if (!request.is_on)
-        return GD_NO_REQUEST;
-    return fits && request.call.kind != GD_NO_CALL ? GD_OK : GD_BAD_ANSWER;
+// Whether an answer is taken, which fits the call that is named or doesn't, and comes with room for
+// the sets or without. If it isn't, the status says why.
+static bool is_taken(gd_status status, bool fits, bool has_room) {
+    if (request.is_on && fits && has_room)
+        return true;
+    CHECK((status == GD_NO_REQUEST && !request.is_on) || (status == GD_BAD_ANSWER && !fits) ||
+          (status == GD_TOO_SHORT && request.is_on && !has_room));
+    return false;
 }
 
 // Counts what the driver gave.
@@ -175,25 +278,28 @@ static void note_grant(const size_t *places, size_t count) {
 static void grant(void) {
     bool is_pool = request.call.kind == GD_CREATE_POOL;
     size_t wanted = is_pool ? 1 : request.call.count, places[MOST_SETS + 1];
-    size_t count = request.is_on && request.call.kind != GD_NO_CALL ? wanted : random_below(3);
+    size_t count = request.is_on ? wanted : random_below(3);
     if (one_in(8))
         count = one_in(2) ? count + 1 : random_below(MOST_SETS);
     if (count > MOST_SETS - request.granted)
         count = 0;
+    size_t room = draw_room(request.is_on ? request.count : random_below(5)), written = 0;
     uint64_t *handles = array_of(count);
-    gd_call call;
+    gd_set *got = sets_of(room);
+    gd_call call = untouched_call();
     for (size_t place = 0; place < count; place++) {
         places[place] =
             is_pool ? draw(&pools, &pool_count, &pool_room) : draw(&sets, &set_count, &set_room);
         handles[place] = handle_at(places[place]);
     }
-    gd_status status = counted(gd_granted(&allocator, handles, count, &call));
-    CHECK(status == status_of_answer(count == wanted));
-    if (status == GD_OK) {
+    gd_status status = counted(gd_granted(&allocator, handles, count, got, room, &call));
+    if (is_taken(status, !request.is_on || count == wanted, room >= request.count)) {
         note_grant(places, count);
-        request.call = call;
-        check_call();
+        written = go_on(status, got, &call);
+    } else {
+        check_untouched_call(&call);
     }
+    drop_sets(got, written, room);
     drop_array(handles, count);
 }
 
@@ -201,114 +307,21 @@ static void grant(void) {
 static void refuse(void) {
     static const uint32_t STRANGE[] = {GD_OK,        9,          14,      GD_BAD_SET,
                                        GD_NO_MEMORY, UINT32_MAX, 1u << 31};
-    bool is_reason = !one_in(4);
+    bool is_reason = !one_in(4), is_pool = request.call.kind == GD_CREATE_POOL;
     uint32_t why = is_reason ? GD_OUT_OF_DEVICE_MEMORY + random_below(4) : STRANGE[random_below(7)];
-    gd_call call;
-    gd_status status = counted(gd_refused(&allocator, why, &call));
-    CHECK(status == status_of_answer(is_reason) || (status == GD_BAD_ANSWER && !is_reason));
-    if (status != GD_OK)
-        return;
-    if (why == GD_OUT_OF_DEVICE_MEMORY || why == GD_OUT_OF_HOST_MEMORY)
-        CHECK(call.kind == GD_NO_CALL);
-    request.last = why;
-    request.call = call;
-    check_call();
-}
-
-static bool is_held(uint64_t name) {
-    for (size_t place = 0; place < held_count; place++)
-        if (held[place].name == name)
-            return true;
-    return false;
-}
-
-// Holds the sets of a request that was met, which are those that were granted.
-static void hold(const uint64_t *given, const uint64_t *names) {
-    held = grown(held, &held_room, held_count + request.count, sizeof *held);
-    for (uint32_t place = 0; place < request.count; place++) {
-        CHECK(given[place] == request.sets[place]);
-        CHECK(!is_held(names[place]));
-        held[held_count++] = (struct held){names[place], given[place]};
-        sets[place_of(given[place], set_count)].held++;
+    size_t room = draw_room(request.is_on ? request.count : random_below(5)), written = 0;
+    gd_set *got = sets_of(room);
+    gd_call call = untouched_call();
+    gd_status status = counted(gd_refused(&allocator, why, got, room, &call));
+    if (is_taken(status, is_reason, room >= request.count)) {
+        if (is_pool || why == GD_OUT_OF_DEVICE_MEMORY || why == GD_OUT_OF_HOST_MEMORY)
+            CHECK(status != GD_OK);
+        request.last = why;
+        written = go_on(status, got, &call);
+    } else {
+        check_untouched_call(&call);
     }
-}
-
-// As many as were asked for, or one less, or a few more.
-static size_t draw_room(void) {
-    size_t room = request.is_on && request.count <= MOST_SETS ? request.count : random_below(5);
-    if (!one_in(8))
-        return room;
-    return room > 0 && one_in(2) ? room - 1 : room + random_below(3);
-}
-
-static void commit(void) {
-    size_t given_room = draw_room(), name_room = draw_room();
-    uint64_t *given = array_of(given_room), *names = array_of(name_room);
-    gd_status status = counted(gd_commit(&allocator, given, given_room, names, name_room));
-    if (!request.is_on)
-        CHECK(status == GD_NO_REQUEST);
-    else if (given_room < request.count || name_room < request.count)
-        CHECK(status == GD_TOO_SHORT);
-    else {
-        CHECK(status == end_of_request());
-        request.is_on = false;
-        if (status == GD_OK)
-            hold(given, names);
-        else if (request.has_grants)
-            waits = YES;
-    }
-    drop_array(given, given_room);
-    drop_array(names, name_room);
-}
-
-// ---- giving back ----
-
-static void forget_held(size_t place) {
-    sets[place_of(held[place].set, set_count)].held--;
-    held[place] = held[--held_count];
-}
-
-// Gives some sets back, all of which are held, each once.
-static void free_some(void) {
-    size_t count = random_below(one_in(3) ? 40 : 4);
-    if (count > held_count)
-        count = held_count;
-    uint64_t *names = array_of(count);
-    for (size_t place = 0; place < count; place++) {
-        size_t at = random_below((uint32_t)held_count);
-        names[place] = held[at].name;
-        forget_held(at);
-    }
-    give_up();
-    CHECK(counted(gd_free(&allocator, names, count)) == GD_OK);
-    if (count > 0)
-        waits = YES;
-    if (count > 0 && one_in(3))
-        CHECK(counted(gd_free(&allocator, names, count)) == GD_BAD_SET);
-    drop_array(names, count);
-}
-
-// Gives sets back of which one isn't held or stands twice, so none goes.
-static void free_wrongly(void) {
-    uint64_t names[3], strange = one_in(2) ? UINT64_MAX - random_below(9) : random_below(1000);
-    size_t bad = random_below(3);
-    for (size_t place = 0; place < 3; place++)
-        names[place] = held_count > 0 ? held[random_below((uint32_t)held_count)].name : strange;
-    if (one_in(2))
-        names[bad] = names[(bad + 1) % 3];
-    else if (!is_held(strange))
-        names[bad] = strange;
-    else
-        return;
-    give_up();
-    CHECK(counted(gd_free(&allocator, names, 3)) == GD_BAD_SET);
-}
-
-static void clean_up(void) {
-    give_up();
-    CHECK(counted(gd_cleanup(&allocator)) == GD_OK);
-    if (waits == NO)
-        waits = PERHAPS;
+    drop_sets(got, written, room);
 }
 
 // ---- what is listed ----
@@ -333,64 +346,175 @@ static void make_call(const uint64_t *words) {
     }
 }
 
-// Takes calls that wait into so many words, and makes them. It answers how many words were written.
-// Where not even the first call fits, that is 0, and `first` is how many words that call has.
-static size_t take_calls(size_t room, size_t *first) {
-    uint64_t *words = array_of(room);
-    size_t written = SIZE_MAX;
-    give_up();
-    gd_status status = counted(gd_calls(&allocator, words, room, &written));
-    *first = 0;
-    if (status == GD_TOO_SHORT) {
-        CHECK(waits != NO && written > room);
-        *first = written;
-        written = 0;
-        waits = YES;
-    } else {
-        CHECK(status == GD_OK && written <= room);
-        CHECK(written == 0 ? waits != YES : waits != NO);
-        waits = written == 0 ? NO : PERHAPS;
-    }
-    for (size_t at = 0; at < written; at += 2 + words[at + 1]) {
-        CHECK(at + 2 <= written && words[at + 1] <= written - at - 2);
+// Makes the calls that were handed over into so many words. As many were handed over as fit. What
+// the host was told before of the first one is true, and what it is told now of the next one is
+// seen when that one is handed over.
+static void take(const uint64_t *words, size_t room, gd_handed handed) {
+    CHECK(handed.words <= room);
+    CHECK(handed.words + handed.next > 0 ? waits != NO : waits != YES);
+    CHECK(handed.next == 0 || (handed.next >= 2 && handed.next > room - handed.words));
+    if (next > 0 && next <= room)
+        CHECK(handed.words >= next && 2 + words[1] == next);
+    else if (next > 0)
+        CHECK(handed.words == 0 && handed.next == next);
+    for (size_t at = 0; at < handed.words; at += 2 + words[at + 1]) {
+        CHECK(at + 2 <= handed.words && words[at + 1] <= handed.words - at - 2);
         make_call(&words[at]);
     }
-    drop_array(words, room);
-    return written;
+    check_words(words, handed.words, room);
+    next = handed.next;
+    waits = next > 0 ? YES : NO;
 }
 
-// Takes calls. Where the first doesn't fit, its words less one are too short as well, and exactly
-// its words take it alone.
+// Takes calls that wait into so many words, and makes them. How many words were written.
+static size_t take_calls(size_t room) {
+    uint64_t *words = array_of(room);
+    gd_handed handed = {UNTOUCHED, UNTOUCHED};
+    give_up();
+    CHECK(counted(gd_calls(&allocator, words, room, &handed)) == GD_OK);
+    take(words, room, handed);
+    drop_array(words, room);
+    return handed.words;
+}
+
+// Takes calls. For the next one its words less one are too short, and exactly its words take it
+// alone.
 static void take_some_calls(void) {
-    size_t first, again;
-    take_calls(random_below(one_in(2) ? 4 : 200), &first);
+    take_calls(random_below(one_in(2) ? 4 : 200));
+    uint64_t first = next;
     if (first == 0)
         return;
-    CHECK(take_calls(first - 1, &again) == 0 && again == first);
-    CHECK(take_calls(first, &again) == first);
+    CHECK(take_calls(first - 1) == 0 && next == first);
+    CHECK(take_calls(first) == first);
 }
 
 static void take_all_calls(void) {
-    size_t room = 2, first;
-    while (take_calls(room, &first) > 0 || first > 0)
-        room = first > 0 ? first : room;
+    take_calls(0);
+    while (next > 0)
+        take_calls(next);
+}
+
+// ---- giving back ----
+
+static void forget_held(size_t place) {
+    sets[place_of(held[place].set, set_count)].held--;
+    names_free(&names, held[place].name);
+    freed = grown(freed, &freed_room, freed_count + 1, sizeof *freed);
+    freed[freed_count++] = held[place].name;
+    held[place] = held[--held_count];
+}
+
+// Frees these sets, whose handles are not read, and takes the calls into a few words.
+static gd_status give_back(const gd_set *back, size_t count) {
+    size_t room = random_below(one_in(2) ? 4 : 100);
+    uint64_t *words = array_of(room);
+    gd_handed handed = {UNTOUCHED, UNTOUCHED};
+    gd_status status = counted(gd_free(&allocator, back, count, words, room, &handed));
+    if (status == GD_OK && count > 0)
+        waits = YES;
+    take(words, room, handed);
+    drop_array(words, room);
+    return status;
+}
+
+// Gives some sets back, all of which are held, each once.
+static void free_some(void) {
+    size_t count = random_below(one_in(3) ? 40 : 4);
+    if (count > held_count)
+        count = held_count;
+    gd_set *back = sets_of(count);
+    for (size_t place = 0; place < count; place++) {
+        size_t at = random_below((uint32_t)held_count);
+        back[place] = (gd_set){one_in(2) ? held[at].set : random_below(100), held[at].name};
+        forget_held(at);
+    }
+    give_up();
+    CHECK(give_back(back, count) == GD_OK);
+    if (count > 0 && one_in(3))
+        CHECK(give_back(back, count) == GD_BAD_SET);
+    drop_sets(back, count, count);
+}
+
+// A freed name, of which the place is used again if a few tries find one.
+static uint64_t draw_freed(void) {
+    uint64_t name = UINT64_MAX;
+    for (int tries = 0; tries < 8 && freed_count > 0; tries++) {
+        name = freed[random_below((uint32_t)freed_count)];
+        if (names_place_held_again(&names, name)) {
+            tries_of_places++;
+            break;
+        }
+    }
+    return name;
+}
+
+// A name that is mostly not held: any number, one that was freed, one of another allocator, one of
+// a held set but used once more or once less, or of a place that nobody has.
+static uint64_t draw_strange(uint64_t good) {
+    static const uint64_t ONE_USE = (uint64_t)1 << 32;
+    switch (random_below(6)) {
+    case 0:
+        return one_in(2) ? UINT64_MAX - random_below(9) : random_below(1000);
+    case 1:
+        return other_sets[random_below(OTHER_SETS)].name;
+    case 2:
+        return good + ONE_USE;
+    case 3:
+        return good - ONE_USE;
+    case 4:
+        return good + (1u << 24);
+    default:
+        return draw_freed();
+    }
+}
+
+// Gives sets back of which one isn't held or stands twice, so none goes.
+static void free_wrongly(void) {
+    gd_set back[3];
+    size_t bad = random_below(3);
+    for (size_t place = 0; place < 3; place++) {
+        struct held any = {draw_freed(), 0};
+        if (held_count > 0)
+            any = held[random_below((uint32_t)held_count)];
+        back[place] = (gd_set){any.set, any.name};
+    }
+    if (one_in(3))
+        back[bad] = back[(bad + 1) % 3];
+    else
+        back[bad].name = draw_strange(back[bad].name);
+    if (names_held(&names, back[bad].name) && back[bad].name != back[(bad + 1) % 3].name)
+        return;
+    give_up();
+    CHECK(give_back(back, 3) == GD_BAD_SET);
+}
+
+static void clean_up(void) {
+    size_t room = random_below(10);
+    uint64_t *words = array_of(room);
+    gd_handed handed = {UNTOUCHED, UNTOUCHED};
+    give_up();
+    CHECK(counted(gd_cleanup(&allocator, words, room, &handed)) == GD_OK);
+    if (waits == NO)
+        waits = PERHAPS;
+    take(words, room, handed);
+    drop_array(words, room);
 }
 
 // ---- other calls ----
 
-// Too many counts are given only where no request is on its way: gpu_descriptor.h doesn't say
-// whether a request ends then.
+// Makes a layout known. Where too many counts are given, a request goes on.
 static void add_layout(void) {
     uint32_t counts[GD_KINDS + 1] = {(uint32_t)layouts % 3, 1, 0, 2};
     size_t kinds = one_in(4) ? GD_KINDS + 1 : random_below(GD_KINDS + 1);
     uint64_t place = UINT64_MAX;
-    if (layouts == MOST_LAYOUTS || (kinds > GD_KINDS && request.is_on))
+    if (layouts == MOST_LAYOUTS)
         return;
-    give_up();
+    if (kinds <= GD_KINDS)
+        give_up();
     gd_status status = counted(gd_layout(&allocator, 7, counts, kinds, layouts % 3 == 2, &place));
     CHECK(status == (kinds > GD_KINDS ? GD_BAD_COUNTS : GD_OK));
-    if (status == GD_OK)
-        CHECK(place == layouts++);
+    CHECK(place == (status == GD_OK ? layouts : UINT64_MAX));
+    layouts += status == GD_OK;
 }
 
 // Asks how many sets are held, opens once more, and closes while pools are left. None of these ends
@@ -403,32 +527,102 @@ static void look(void) {
         CHECK(counted(gd_close(&allocator)) == GD_STILL_OUT);
 }
 
+// ---- the other allocator ----
+
+// Gives the other allocator all that it asks for.
+static void fill_other(void) {
+    static uint64_t handle;
+    uint64_t handles[OTHER_SETS];
+    gd_call call;
+    gd_status status = gd_begin(&other, 0, OTHER_SETS, other_sets, OTHER_SETS, &call);
+    while (status == GD_OK && call.kind != GD_NO_CALL) {
+        uint32_t count = call.kind == GD_CREATE_POOL ? 1 : call.count;
+        for (uint32_t place = 0; place < count; place++)
+            handles[place] = handle++;
+        status = gd_granted(&other, handles, count, other_sets, OTHER_SETS, &call);
+    }
+    CHECK(status == GD_OK);
+    for (uint32_t place = 0; place < OTHER_SETS; place++)
+        names_give(&other_names, other_sets[place].name);
+}
+
+static void empty_other(void) {
+    uint64_t words[OTHER_WORDS];
+    gd_handed handed;
+    CHECK(gd_free(&other, other_sets, OTHER_SETS, words, OTHER_WORDS, &handed) == GD_OK);
+    CHECK(handed.words >= OTHER_SETS + 2 && handed.next == 0);
+    for (uint32_t place = 0; place < OTHER_SETS; place++)
+        names_free(&other_names, other_sets[place].name);
+}
+
+static void open_other(void) {
+    uint32_t counts[1] = {1};
+    uint64_t place;
+    CHECK(gd_open(&other, UINT32_MAX) == GD_OK);
+    CHECK(gd_layout(&other, 1, counts, 1, 0, &place) == GD_OK);
+    fill_other();
+    for (int left = OTHER_ROUNDS; left > 0; left--) {
+        empty_other();
+        fill_other();
+    }
+}
+
+// Frees a set of the allocator, or one that it freed, in the other one.
+static void free_in_other(void) {
+    uint64_t words[OTHER_WORDS], count;
+    gd_handed handed;
+    gd_set back = {0, held_count > 0 && one_in(2) ? held[held_count - 1].name : draw_freed()};
+    if (names_held(&other_names, back.name))
+        return;
+    CHECK(gd_free(&other, &back, 1, words, OTHER_WORDS, &handed) == GD_BAD_SET);
+    CHECK(handed.words == 0 && handed.next == 0);
+    CHECK(gd_held(&other, &count) == GD_OK && count == OTHER_SETS);
+}
+
+static void close_other(void) {
+    uint64_t words[OTHER_WORDS];
+    gd_handed handed;
+    empty_other();
+    CHECK(gd_cleanup(&other, words, OTHER_WORDS, &handed) == GD_OK);
+    CHECK(gd_close(&other) == GD_OK);
+    names_end(&other_names);
+}
+
+// ---- opening and closing ----
+
 static void open_all(void) {
     allocator = (gd_allocator){0};
     CHECK(counted(gd_open(&allocator, 5000)) == GD_OK);
     CHECK(counted(gd_open(&allocator, 5000)) == GD_IS_OPEN);
     request.is_on = false;
     waits = NO;
+    next = 0;
+    freed_count = 0;
     layouts = 0;
     while (layouts < LAYOUTS)
         add_layout();
+    open_other();
 }
 
 static void call_a_closed_one(void) {
-    uint64_t word[2] = {0, 0};
+    uint64_t words[2] = {UNTOUCHED, UNTOUCHED};
     uint32_t counts[1] = {1};
-    size_t written;
-    gd_call call;
+    gd_set *got = sets_of(1);
+    gd_handed handed = {UNTOUCHED, UNTOUCHED};
+    gd_call call = untouched_call();
     CHECK(counted(gd_close(&allocator)) == GD_CLOSED);
-    CHECK(counted(gd_layout(&allocator, 1, counts, 1, 0, word)) == GD_CLOSED);
-    CHECK(counted(gd_begin(&allocator, 0, 1, &call)) == GD_CLOSED);
-    CHECK(counted(gd_granted(&allocator, word, 1, &call)) == GD_CLOSED);
-    CHECK(counted(gd_refused(&allocator, GD_FRAGMENTATION, &call)) == GD_CLOSED);
-    CHECK(counted(gd_commit(&allocator, word, 1, word + 1, 1)) == GD_CLOSED);
-    CHECK(counted(gd_free(&allocator, word, 1)) == GD_CLOSED);
-    CHECK(counted(gd_cleanup(&allocator)) == GD_CLOSED);
-    CHECK(counted(gd_calls(&allocator, word, 2, &written)) == GD_CLOSED);
-    CHECK(counted(gd_held(&allocator, word)) == GD_CLOSED);
+    CHECK(counted(gd_layout(&allocator, 1, counts, 1, 0, words)) == GD_CLOSED);
+    CHECK(counted(gd_begin(&allocator, 0, 1, got, 1, &call)) == GD_CLOSED);
+    CHECK(counted(gd_granted(&allocator, words, 1, got, 1, &call)) == GD_CLOSED);
+    CHECK(counted(gd_refused(&allocator, GD_FRAGMENTATION, got, 1, &call)) == GD_CLOSED);
+    CHECK(counted(gd_free(&allocator, got, 1, words, 2, &handed)) == GD_CLOSED);
+    CHECK(counted(gd_cleanup(&allocator, words, 2, &handed)) == GD_CLOSED);
+    CHECK(counted(gd_calls(&allocator, words, 2, &handed)) == GD_CLOSED);
+    CHECK(counted(gd_held(&allocator, words)) == GD_CLOSED);
+    check_words(words, 0, 2);
+    check_untouched_call(&call);
+    CHECK(handed.words == UNTOUCHED && handed.next == UNTOUCHED);
+    drop_sets(got, 0, 1);
 }
 
 // Gives all sets back, and closes. Each handle was then listed as often as it was granted.
@@ -446,26 +640,30 @@ static void close_all(void) {
     CHECK(live_pools == 0 && live_sets == 0);
     CHECK(counted(gd_close(&allocator)) == GD_OK);
     call_a_closed_one();
+    close_other();
+    names_end(&names);
 }
 
 // ---- the run ----
 
 static void (*const ANY[])(void) = {
-    grant,    refuse,          commit,         free_some,  free_wrongly, begin,
-    clean_up, take_some_calls, take_all_calls, add_layout, look,
+    grant,    refuse,          free_some,      free_wrongly, begin, free_in_other,
+    clean_up, take_some_calls, take_all_calls, add_layout,   look,
 };
 
 // A call that only a request takes, behind one that gave the request up.
-static void go_on(void) {
-    static void (*const GO_ON[])(void) = {grant, refuse, commit};
+static void answer_late(void) {
     is_given_up = false;
-    GO_ON[random_below(3)]();
+    if (one_in(2))
+        grant();
+    else
+        refuse();
 }
 
 // The next call: mostly one that a request wants, else any.
 static void act(void) {
     if (is_given_up && !request.is_on && one_in(2))
-        go_on();
+        answer_late();
     else if (one_in(12))
         ANY[random_below(sizeof ANY / sizeof *ANY)]();
     else if (!request.is_on && waits != NO)
@@ -474,8 +672,6 @@ static void act(void) {
         free_some();
     else if (!request.is_on)
         begin();
-    else if (request.call.kind == GD_NO_CALL)
-        commit();
     else if (one_in(6) || request.call.count > MOST_SETS - request.granted)
         refuse();
     else
@@ -495,8 +691,9 @@ int main(int words, char **word) {
         granted_pools += pool_count;
         pool_count = set_count = 0;
     }
-    printf("%" PRIu64 " operations, %" PRIu64 " handles of sets, %" PRIu64 " of pools; statuses",
-           operation, granted_sets, granted_pools);
+    printf("%" PRIu64 " operations, %" PRIu64 " handles of sets, %" PRIu64 " of pools", operation,
+           granted_sets, granted_pools);
+    printf("; names tried of places that were used again %" PRIu64 "; statuses", tries_of_places);
     for (gd_status status = 0; status <= GD_BAD_COUNTS; status++)
         if (statuses[status] > 0)
             printf(" %u:%" PRIu64, status, statuses[status]);
@@ -504,5 +701,6 @@ int main(int words, char **word) {
     free(pools);
     free(sets);
     free(held);
+    free(freed);
     return 0;
 }

@@ -4,6 +4,7 @@
 uint32_t memory_refused_one_in;
 uint64_t memory_refusals;
 uint64_t memory_blocks;
+uint64_t memory_takings;
 
 static bool is_inside;
 
@@ -23,7 +24,9 @@ gd_status memory_leave(gd_status status) {
     return status;
 }
 
+// Whether memory that is asked for is refused.
 static bool is_refused(void) {
+    memory_takings += is_inside;
     if (!is_inside || memory_refused_one_in == 0 || !one_in(memory_refused_one_in))
         return false;
     memory_refusals++;

@@ -7,7 +7,8 @@
 
 extern uint32_t memory_refused_one_in; // 0: none
 extern uint64_t memory_refusals;
-extern uint64_t memory_blocks; // that the library has
+extern uint64_t memory_blocks;  // that the library has
+extern uint64_t memory_takings; // how often it asked for memory
 
 void memory_enter(void);
 

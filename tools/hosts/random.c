@@ -4,18 +4,23 @@
 // answers that this program must give. descriptor_run has the same allocator over a scripted
 // device, so the answers agree in the pool of each set, in each refusal, and in the number of
 // calls. The host counts the sets that were handed out, and writes these numbers as tickets: so
-// nothing rests on what the library's names are.
+// the lines don't rest on what the library's names are.
 //
-// Where the library's own memory is refused, one block in so many, the lines are worth nothing.
+// Where no lines are written, requests are also given up half way, which no line says. Where the
+// library's own memory is refused, one block in so many, the lines are worth nothing. gd_free asks
+// for no memory at all.
 //
 // usage: random OPERATIONS SEED LIMIT DRIVER_REFUSES_ONE_IN MEMORY_REFUSED_ONE_IN [LINES ANSWERS]
 #include "driver.h"
 #include "gpu_descriptor.h"
 #include "host.h"
 #include "memory.h"
+#include "names.h"
 #include <string.h>
 
 enum { MOST_SETS = 1600, MOST_FREED = 400, MOST_HELD = 20000, WORDS = 40 };
+
+static const uint64_t UNTOUCHED = 0x756e746f75636864;
 
 // A set that was handed out, at the place that is its ticket.
 struct given {
@@ -29,6 +34,7 @@ struct request {
     uint32_t layout, count;
     uint64_t sets[MOST_SETS], pools[MOST_SETS];
     size_t granted, calls;
+    bool is_given_up;
 };
 
 static gd_allocator allocator;
@@ -36,7 +42,10 @@ static FILE *lines, *answers;
 static struct given *given;
 static size_t *held; // tickets
 static size_t given_count, held_count, given_room, held_room;
+static struct names names;
+static bool gives_up;                       // whether requests are given up half way
 static uint64_t requests[GD_NO_MEMORY + 1]; // how many ended so
+static uint64_t given_up;
 
 // Whether a call may be answered so, since the library's memory is refused.
 static bool is_for_memory(gd_status status) {
@@ -45,30 +54,61 @@ static bool is_for_memory(gd_status status) {
 
 // ---- what the library lists ----
 
-// Makes the calls that wait, and answers how many sets they release. It takes WORDS words at a
-// time, and more where a call is longer.
-static size_t make_waiting_calls(void) {
-    static uint64_t words[MOST_SETS + 2];
-    size_t room = WORDS, written = 0, released = 0;
-    for (;;) {
-        gd_status status = LIBRARY(gd_calls(&allocator, words, room, &written));
-        if (status == GD_TOO_SHORT) {
-            CHECK(written > room && written <= MOST_SETS + 2);
-            room = written;
-            continue;
-        }
-        CHECK(status == GD_OK && written <= room);
-        if (written == 0)
-            return released;
-        for (size_t at = 0; at < written; at += 2 + words[at + 1]) {
-            CHECK(at + 2 <= written && words[at + 1] <= written - at - 2);
-            if (words[at + 1] == 0)
-                driver_destroy_pool(words[at]);
-            else
-                driver_free_sets(words[at], &words[at + 2], words[at + 1]);
-            released += words[at + 1];
-        }
+static uint64_t listed[MOST_SETS + 2];
+
+// Makes the calls that were handed over into so many words, and answers how many sets they release.
+// As many were handed over as fit, and `next` is how many words the next one has.
+static size_t make_handed_calls(size_t room, gd_handed handed) {
+    size_t released = 0;
+    CHECK(handed.words <= room);
+    CHECK(handed.next == 0 || (handed.next >= 2 && handed.next > room - handed.words));
+    for (size_t at = 0; at < handed.words; at += 2 + listed[at + 1]) {
+        CHECK(at + 2 <= handed.words && listed[at + 1] <= handed.words - at - 2);
+        if (listed[at + 1] == 0)
+            driver_destroy_pool(listed[at]);
+        else
+            driver_free_sets(listed[at], &listed[at + 2], listed[at + 1]);
+        released += listed[at + 1];
     }
+    return released;
+}
+
+// Makes the calls that were handed over and those that still wait, as many as fit into WORDS words
+// at a time, or the next one where it is longer. It answers how many sets they release.
+static size_t make_calls(gd_handed handed) {
+    size_t released = make_handed_calls(WORDS, handed);
+    while (handed.next > 0) {
+        uint64_t next = handed.next;
+        CHECK(next <= MOST_SETS + 2);
+        size_t room = next > WORDS ? next : WORDS;
+        CHECK(LIBRARY(gd_calls(&allocator, listed, room, &handed)) == GD_OK);
+        CHECK(next > WORDS ? handed.words == next : handed.words >= next);
+        CHECK(2 + listed[1] == next);
+        released += make_handed_calls(room, handed);
+    }
+    return released;
+}
+
+static size_t make_waiting_calls(void) {
+    gd_handed handed;
+    CHECK(LIBRARY(gd_calls(&allocator, listed, WORDS, &handed)) == GD_OK);
+    return make_calls(handed);
+}
+
+// Gives sets back and makes the calls, which release so many sets. It asks for no memory.
+static gd_status give_back(const gd_set *sets, size_t count, size_t *released) {
+    gd_handed handed;
+    uint64_t takings = memory_takings;
+    gd_status status = LIBRARY(gd_free(&allocator, sets, count, listed, WORDS, &handed));
+    CHECK(memory_takings == takings);
+    *released = make_calls(handed);
+    return status;
+}
+
+static size_t clean_up_now(void) {
+    gd_handed handed;
+    CHECK(LIBRARY(gd_cleanup(&allocator, listed, WORDS, &handed)) == GD_OK);
+    return make_calls(handed);
 }
 
 // ---- requests ----
@@ -88,33 +128,56 @@ static const char *word_of(uint32_t why) {
     }
 }
 
-// Makes the calls of a request until none is named. Now and then a refusal for want of host memory
-// isn't told, and the request is committed as it is: the library must take that for the refusal.
-static void make_calls(struct request *request) {
+// Makes a call of a request and tells the answer.
+static gd_status answer(struct request *request, gd_set *sets, gd_call *call) {
+    uint64_t *handles = &request->sets[request->granted];
+    uint64_t pool;
+    bool is_pool = call->kind == GD_CREATE_POOL;
+    CHECK(is_pool || call->count <= request->count - request->granted);
+    uint32_t why = driver_make(call, is_pool ? &pool : handles);
+    fprintf(lines, " %s", word_of(why));
+    request->calls++;
+    if (why != GD_OK)
+        return LIBRARY(gd_refused(&allocator, why, sets, request->count, call));
+    uint32_t count = is_pool ? 1 : call->count;
+    for (uint32_t place = 0; !is_pool && place < count; place++)
+        request->pools[request->granted++] = driver_pool_number(call->pool);
+    return LIBRARY(
+        gd_granted(&allocator, is_pool ? &pool : handles, count, sets, request->count, call));
+}
+
+// Gives a request up, by a call that ends it. What was granted goes back.
+static void give_up(void) {
+    uint32_t way = random_below(4);
+    gd_set none;
     gd_call call;
-    gd_status status = LIBRARY(gd_begin(&allocator, request->layout, request->count, &call));
-    CHECK(status == GD_OK);
-    while (call.kind != GD_NO_CALL) {
-        uint64_t *handles = &request->sets[request->granted];
-        uint64_t pool;
-        bool is_pool = call.kind == GD_CREATE_POOL;
-        CHECK(is_pool || call.count <= request->count - request->granted);
-        uint32_t why = driver_make(&call, is_pool ? &pool : handles);
-        fprintf(lines, " %s", word_of(why));
-        request->calls++;
-        if (why == GD_OUT_OF_HOST_MEMORY && one_in(2))
-            return;
-        if (why == GD_OK && !is_pool)
-            for (uint32_t place = 0; place < call.count; place++)
-                request->pools[request->granted++] = driver_pool_number(call.pool);
-        uint64_t *granted = is_pool ? &pool : handles;
-        size_t count = is_pool ? 1 : call.count;
-        if (why == GD_OK)
-            status = LIBRARY(gd_granted(&allocator, granted, count, &call));
-        else
-            status = LIBRARY(gd_refused(&allocator, why, &call));
-        CHECK(status == GD_OK);
+    size_t released;
+    if (way == 0)
+        CHECK(give_back(&none, 0, &released) == GD_OK);
+    else if (way == 1)
+        (void)clean_up_now();
+    else if (way == 2)
+        CHECK(LIBRARY(gd_begin(&allocator, DRIVER_LAYOUTS, 0, &none, 0, &call)) != GD_OK);
+    (void)make_waiting_calls();
+    CHECK(LIBRARY(gd_refused(&allocator, GD_FRAGMENTATION, &none, 0, &call)) == GD_NO_REQUEST);
+    given_up++;
+}
+
+// Makes the calls of a request until it is met or refused, or is given up.
+static gd_status ask(struct request *request, gd_set *sets) {
+    gd_call call;
+    gd_status status =
+        LIBRARY(gd_begin(&allocator, request->layout, request->count, sets, request->count, &call));
+    while (status == GD_OK && call.kind != GD_NO_CALL) {
+        CHECK(sets[0].handle == UNTOUCHED);
+        request->is_given_up = gives_up && one_in(20);
+        if (request->is_given_up) {
+            give_up();
+            return GD_OK;
+        }
+        status = answer(request, sets, &call);
     }
+    return status;
 }
 
 static void write_sets(const struct request *request) {
@@ -129,15 +192,17 @@ static void write_sets(const struct request *request) {
 }
 
 // Holds the sets of a request that was met: exactly those that the driver gave, in its order.
-static void hold(const struct request *request, const uint64_t *sets, const uint64_t *names) {
+static void hold(const struct request *request, const gd_set *sets) {
     uint32_t count = request->count;
     CHECK(request->granted == count);
-    CHECK(memcmp(sets, request->sets, count * sizeof *sets) == 0);
     write_sets(request);
     given = grown(given, &given_room, given_count + count, sizeof *given);
     held = grown(held, &held_room, held_count + count, sizeof *held);
     for (uint32_t place = 0; place < count; place++) {
-        given[given_count] = (struct given){names[place], sets[place], request->layout, true};
+        CHECK(sets[place].handle == request->sets[place]);
+        names_give(&names, sets[place].name);
+        given[given_count] =
+            (struct given){sets[place].name, sets[place].handle, request->layout, true};
         held[held_count++] = given_count++;
     }
 }
@@ -168,50 +233,64 @@ static void draw_request(struct request *request) {
         request->count = 1 + request->count % 64;
     request->granted = 0;
     request->calls = 0;
+    request->is_given_up = false;
 }
 
+static void check_untouched(const gd_set *sets, uint32_t count) {
+    for (uint32_t place = 0; place < count; place++)
+        CHECK(sets[place].handle == UNTOUCHED && sets[place].name == UNTOUCHED);
+}
+
+// A request that is met lists no calls. One that isn't releases what it was granted.
 static void allocate(void) {
-    static uint64_t sets[MOST_SETS], names[MOST_SETS];
+    static gd_set sets[MOST_SETS];
     static struct request request;
-    uint64_t before = driver.sets;
+    uint64_t before = driver.sets, pools_before = driver.pools;
+    gd_handed handed;
     draw_request(&request);
+    for (uint32_t place = 0; place < request.count; place++)
+        sets[place] = (gd_set){UNTOUCHED, UNTOUCHED};
     fprintf(lines, "script");
-    make_calls(&request);
+    gd_status status = ask(&request, sets);
     fprintf(lines, "\nalloc l%u %u\n", request.layout, request.count);
     fprintf(answers, "script %zu\n", request.calls);
-    uint32_t count = request.count;
-    gd_status status = LIBRARY(gd_commit(&allocator, sets, count, names, count));
-    size_t released = make_waiting_calls();
-    CHECK(status <= GD_NO_MEMORY);
-    requests[status]++;
-    if (status == GD_OK) {
-        CHECK(released == 0);
-        hold(&request, sets, names);
+    CHECK(status <= GD_FRAGMENTATION || is_for_memory(status));
+    if (!request.is_given_up)
+        requests[status]++;
+    if (status == GD_OK && !request.is_given_up) {
+        CHECK(LIBRARY(gd_calls(&allocator, listed, 0, &handed)) == GD_OK);
+        CHECK(handed.words == 0 && handed.next == 0);
+        hold(&request, sets);
+        return;
+    }
+    check_untouched(sets, request.count);
+    if (request.is_given_up) {
+        CHECK(driver.pools <= pools_before);
     } else {
-        CHECK(released == request.granted && driver.sets == before);
+        CHECK(make_waiting_calls() == request.granted);
         write_refusal(status);
     }
+    CHECK(driver.sets == before);
 }
 
 // ---- giving back ----
 
 // Gives sets back, which have left the list of those that are held.
 static void free_tickets(const size_t *tickets, uint32_t count) {
-    uint64_t names[MOST_FREED];
-    gd_status status;
+    gd_set sets[MOST_FREED];
+    size_t released;
     fprintf(lines, "free");
     for (uint32_t place = 0; place < count; place++) {
-        names[place] = given[tickets[place]].name;
-        given[tickets[place]].is_held = false;
+        struct given *set = &given[tickets[place]];
+        sets[place] = (gd_set){set->set, set->name};
+        set->is_held = false;
+        names_free(&names, set->name);
         fprintf(lines, " %zu", tickets[place]);
     }
     fprintf(lines, "\n");
     fprintf(answers, "freed %u\n", count);
-    do {
-        status = LIBRARY(gd_free(&allocator, names, count));
-        CHECK(status == GD_OK || is_for_memory(status));
-    } while (status != GD_OK);
-    CHECK(make_waiting_calls() == count);
+    CHECK(give_back(sets, count, &released) == GD_OK);
+    CHECK(released == count);
     for (uint32_t place = 0; place < count; place++)
         CHECK(!driver_is_alive(given[tickets[place]].set));
 }
@@ -245,33 +324,25 @@ static void free_some(void) {
         free_tickets(tickets, count);
 }
 
-static bool is_held(uint64_t name) {
-    for (size_t place = 0; place < held_count; place++)
-        if (given[held[place]].name == name)
-            return true;
-    return false;
-}
-
-// Gives two sets back of which one isn't held, or one set twice. None may go.
+// Gives two sets back of which one isn't held any more, or one set twice. None may go. The place of
+// the freed one is mostly used again.
 static void free_wrongly(void) {
     if (held_count == 0 || given_count < 2)
         return;
-    size_t good = held[random_below((uint32_t)held_count)];
+    size_t good = held[random_below((uint32_t)held_count)], released;
     size_t bad = one_in(2) ? good : random_below((uint32_t)given_count);
-    uint64_t names[2] = {given[good].name, given[bad].name};
-    if (bad != good && is_held(names[1]))
+    if (bad != good && given[bad].is_held)
         return;
+    gd_set sets[2] = {{given[good].set, given[good].name}, {given[bad].set, given[bad].name}};
     fprintf(lines, "free %zu %zu\n", good, bad);
     fprintf(answers, "bad ticket\n");
-    gd_status status = LIBRARY(gd_free(&allocator, names, 2));
-    CHECK(status == GD_BAD_SET || is_for_memory(status));
-    CHECK(make_waiting_calls() == 0);
-    CHECK(driver_is_alive(given[good].set));
+    CHECK(bad == good || !names_held(&names, sets[1].name));
+    CHECK(give_back(sets, 2, &released) == GD_BAD_SET);
+    CHECK(released == 0 && driver_is_alive(given[good].set));
 }
 
 static void clean_up(void) {
-    CHECK(LIBRARY(gd_cleanup(&allocator)) == GD_OK);
-    CHECK(make_waiting_calls() == 0);
+    CHECK(clean_up_now() == 0);
     fprintf(lines, "cleanup\n");
     fprintf(answers, "clean\n");
 }
@@ -363,6 +434,7 @@ static void close_all(void) {
     CHECK(fclose(lines) == 0 && fclose(answers) == 0);
     free(given);
     free(held);
+    names_end(&names);
     driver_end();
 }
 
@@ -373,6 +445,7 @@ static void tell(void) {
     printf(", host memory %" PRIu64 "+%" PRIu64, requests[GD_OUT_OF_HOST_MEMORY],
            requests[GD_NO_MEMORY]);
     printf(", fragmentation %" PRIu64, requests[GD_FRAGMENTATION]);
+    printf(", given up %" PRIu64, given_up);
     printf("; pools %" PRIu64 ", calls refused %" PRIu64, driver.created, driver.refused);
     printf(", memory refused %" PRIu64 "\n", memory_refusals);
 }
@@ -387,6 +460,7 @@ int main(int words, char **word) {
     lines = fopen(words > 7 ? word[6] : "/dev/null", "w");
     answers = fopen(words > 7 ? word[7] : "/dev/null", "w");
     CHECK(lines != NULL && answers != NULL);
+    gives_up = words <= 7;
     open_all(limit);
     for (operation = 0; operation < operations; operation++)
         act();

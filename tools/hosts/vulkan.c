@@ -4,8 +4,9 @@
 // One of the header's calls in twelve isn't made, and an error is answered in its place: the driver
 // in software refuses none. The header's and the library's memory is refused as well, once in
 // fifty, and once in four while an allocator is opened, which a new one is every few hundred
-// operations. On a device of 1.3 there are marked layouts and inline uniform blocks; on one of 1.0
-// there are none, and there the layer says where a pool is asked for more than it has left.
+// operations. A free asks for no memory. On a device of 1.3 there are marked layouts and inline
+// uniform blocks; on one of 1.0 there are none, and there the layer says where a pool is asked for
+// more than it has left.
 //
 // It ends with 3 where there is no layer or no driver.
 //
@@ -13,6 +14,7 @@
 #include "host.h"
 #include "layer.h"
 #include "memory.h"
+#include "names.h"
 #include <string.h>
 
 // What stands before the driver's four calls.
@@ -94,16 +96,13 @@ static struct layout layouts[] = {
                 [GD_UNIFORM_BUFFER] = 1}},
 };
 
-struct held {
-    uint64_t name;
-    VkDescriptorSet set;
-};
-
 static gdv_allocator allocator;
 static struct layout *asked_layout; // that of the request on its way
 static uint32_t layout_count;
-static struct held *held;
+static gd_set *held;
 static size_t held_count, held_room;
+static struct names names;
+static gd_set freed; // any set that was freed
 static VkSampler sampler;
 static uint64_t live_pools, live_sets, live_blocks, pools_created, calls_refused, asked_count;
 static uint64_t statuses[GD_BAD_COUNTS + 1];
@@ -275,62 +274,74 @@ static void write_sampler(VkDescriptorSet set) {
 // In every other round requests are small, and several in a row are for one layout: so more sets of
 // a pool may go back at once than were ever asked for at once.
 static void allocate(void) {
-    VkDescriptorSet sets[MOST_SETS];
-    uint64_t names[MOST_SETS];
+    gd_set sets[MOST_SETS];
     bool is_small = operation / ROUND % 2 == 0;
     uint32_t count = 1 + random_below(one_in(10) && !is_small ? MOST_SETS : 8);
     if (asked_layout == NULL || !is_small || one_in(60))
         asked_layout = &layouts[random_below(layout_count)];
     struct layout *layout = asked_layout;
     memset(sets, 1, sizeof sets);
-    gd_status status = LIBRARY(gdv_allocate(&allocator, layout->place, count, sets, names));
+    gd_status status = LIBRARY(gdv_allocate(&allocator, layout->place, count, sets));
     CHECK(status <= GD_FRAGMENTATION || status == GD_NO_MEMORY);
     statuses[status]++;
     if (status == GD_OK)
         held = grown(held, &held_room, held_count + count, sizeof *held);
     for (uint32_t place = 0; place < count; place++) {
-        CHECK((sets[place] != VK_NULL_HANDLE) == (status == GD_OK));
+        VkDescriptorSet set = gdv_handle(sets[place]);
+        CHECK((set != VK_NULL_HANDLE) == (status == GD_OK));
+        CHECK((sets[place].name != GDV_NO_NAME) == (status == GD_OK));
         if (status != GD_OK)
             continue;
-        held[held_count++] = (struct held){names[place], sets[place]};
+        names_give(&names, sets[place].name);
+        held[held_count++] = sets[place];
         if (layout->counts[GD_SAMPLER] > 0)
-            write_sampler(sets[place]);
+            write_sampler(set);
     }
 }
 
-// Some names of sets that are held, the last ones or any, leave the list.
-static uint32_t draw(uint64_t *names) {
+// Some sets that are held, the last ones or any, leave the list.
+static uint32_t draw(gd_set *sets) {
     uint32_t count = 1 + random_below(one_in(5) ? MOST_FREED : 12);
     bool is_any = one_in(2);
     if (count > held_count)
         count = (uint32_t)held_count;
     for (uint32_t place = 0; place < count; place++) {
         size_t at = is_any ? random_below((uint32_t)held_count) : held_count - 1;
-        names[place] = held[at].name;
+        sets[place] = held[at];
+        names_free(&names, held[at].name);
         held[at] = held[--held_count];
     }
     return count;
 }
 
+// Gives sets back, for which no memory is asked.
+static gd_status give_back(const gd_set *sets, size_t count) {
+    uint64_t takings = memory_takings;
+    gd_status status = LIBRARY(gdv_free(&allocator, sets, count));
+    CHECK(memory_takings == takings);
+    return status;
+}
+
+// Gives sets back. They can't be given back again, nor can one that was freed before, whose place
+// may be used again.
 static void free_some(void) {
-    uint64_t names[MOST_FREED];
-    uint32_t count = draw(names);
-    gd_status status;
-    do {
-        status = LIBRARY(gdv_free(&allocator, names, count));
-        CHECK(status == GD_OK || status == GD_NO_MEMORY);
-    } while (status != GD_OK);
+    gd_set sets[MOST_FREED] = {{0, 0}};
+    uint32_t count = draw(sets);
+    CHECK(give_back(sets, count) == GD_OK);
     if (count == 0)
         return;
-    status = LIBRARY(gdv_free(&allocator, names, 1));
-    CHECK(status == GD_BAD_SET || status == GD_NO_MEMORY);
+    CHECK(give_back(sets, 1) == GD_BAD_SET);
+    if (!names_held(&names, freed.name))
+        CHECK(give_back(&freed, 1) == GD_BAD_SET);
+    if (one_in(4))
+        freed = sets[0];
 }
 
 static void make_mistakes(void) {
-    VkDescriptorSet set;
-    uint64_t name;
+    gd_set set;
     CHECK(LIBRARY(gdv_open(&allocator, layer.device, 0, NULL)) == GD_IS_OPEN);
-    CHECK(LIBRARY(gdv_allocate(&allocator, layout_count, 1, &set, &name)) == GD_BAD_LAYOUT);
+    CHECK(LIBRARY(gdv_allocate(&allocator, layout_count, 1, &set)) == GD_BAD_LAYOUT);
+    CHECK(gdv_handle(set) == VK_NULL_HANDLE && give_back(&set, 1) == GD_BAD_SET);
     make_wrong_layouts();
     if (held_count > 0)
         CHECK(LIBRARY(gdv_close(&allocator)) == GD_STILL_OUT);
@@ -393,8 +404,6 @@ static void open_allocator(bool is_old) {
     } while (status != GD_OK);
     for (uint32_t place = 0; place < layout_count; place++)
         make_layout(&layouts[place]);
-    if (operation / ROUND % 2 != 0)
-        (void)LIBRARY(gdv_reserve(&allocator, 1 + random_below(MOST_SETS)));
     memory_refused_one_in = MEMORY_ONE_IN;
 }
 
@@ -404,16 +413,18 @@ static void close_allocator(void) {
     CHECK(LIBRARY(gdv_close(&allocator)) == GD_OK);
     CHECK(live_pools == 0 && live_sets == 0);
     CHECK(live_blocks == 0 && memory_blocks == 0);
+    names_end(&names);
+    freed.name = GDV_NO_NAME;
 }
 
 static void check_closed(void) {
-    VkDescriptorSet set = VK_NULL_HANDLE;
     VkDescriptorSetLayoutCreateInfo info = {0};
-    uint64_t name = 0;
-    CHECK(gdv_layout(&allocator, VK_NULL_HANDLE, &info, &name) == GD_CLOSED);
-    CHECK(gdv_reserve(&allocator, 1) == GD_CLOSED);
-    CHECK(gdv_allocate(&allocator, 0, 1, &set, &name) == GD_CLOSED);
-    CHECK(gdv_free(&allocator, &name, 1) == GD_CLOSED);
+    uint64_t place = 0;
+    gd_set set;
+    CHECK(gdv_layout(&allocator, VK_NULL_HANDLE, &info, &place) == GD_CLOSED);
+    CHECK(gdv_allocate(&allocator, 0, 1, &set) == GD_CLOSED);
+    CHECK(gdv_handle(set) == VK_NULL_HANDLE);
+    CHECK(gdv_free(&allocator, &set, 1) == GD_CLOSED);
     CHECK(gdv_cleanup(&allocator) == GD_CLOSED);
     CHECK(gdv_close(&allocator) == GD_CLOSED);
 }

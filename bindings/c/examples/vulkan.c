@@ -112,21 +112,25 @@ static VkDescriptorSetLayout create_layout(gdv_allocator *allocator, uint64_t *p
 
 int main(void) {
     gdv_allocator allocator = {0};
-    VkDescriptorSet sets[SETS_PER_FRAME];
-    uint64_t names[FRAMES][SETS_PER_FRAME], place, held;
+    gd_set sets[FRAMES][SETS_PER_FRAME];
+    uint64_t place, held;
     VkPhysicalDevice physical = make_instance();
     make_device(physical);
     must(gdv_open(&allocator, device, limit_of(physical), NULL), "gdv_open");
     VkDescriptorSetLayout layout = create_layout(&allocator, &place);
     for (int frame = 0; frame < FRAMES; frame++)
-        must(gdv_allocate(&allocator, place, SETS_PER_FRAME, sets, names[frame]), "gdv_allocate");
+        must(gdv_allocate(&allocator, place, SETS_PER_FRAME, sets[frame]), "gdv_allocate");
     must(gd_held(&allocator.books, &held), "gd_held");
     printf("%u sets are held\n", (unsigned)held);
+
+    /* A renderer writes to the sets and binds them by their handles. */
+    if (gdv_handle(sets[0][0]) == VK_NULL_HANDLE)
+        return 1;
 
     /* A renderer frees the sets of a frame when its fence says that the device is done with them.
      */
     for (int frame = 0; frame < FRAMES; frame++)
-        must(gdv_free(&allocator, names[frame], SETS_PER_FRAME), "gdv_free");
+        must(gdv_free(&allocator, sets[frame], SETS_PER_FRAME), "gdv_free");
     must(gdv_cleanup(&allocator), "gdv_cleanup");
     must(gd_held(&allocator.books, &held), "gd_held");
     printf("%u sets are held\n", (unsigned)held);

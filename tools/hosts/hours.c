@@ -1,0 +1,249 @@
+// A long run in little room. Requests of a few sets and frees of any sets, of which about a
+// thousand are out at most, until so many sets were allocated. The driver refuses few calls, and
+// gives the handles of freed sets and destroyed pools again, as real drivers do.
+//
+// The resident size is printed at ten points. At the last one it may be little more than at the
+// first. No name comes twice, and names have few places.
+//
+// usage: hours SETS SEED
+#include "gpu_descriptor.h"
+#include "host.h"
+#include <string.h>
+
+enum {
+    MOST_HELD = 1000,
+    MOST_SETS = 40,
+    WORDS = MOST_SETS + 2,
+    LAYOUTS = 3,
+    PLACES = 4 * MOST_HELD, // for more no name needs to be
+    HANDLES = 4 * MOST_HELD,
+    REFUSES_ONE_IN = 100,
+    POINTS = 10,
+    MOST_KILOBYTES = 1024 // by which the resident size may grow from the first point on
+};
+
+// What the driver gave under a handle: a pool, or a set of a pool.
+struct given {
+    bool is_alive;
+    uint64_t pool; // of a set
+    uint32_t sets; // of a pool: how many are alive
+};
+
+// Handles of one kind, of which those that are free are given again.
+struct handles {
+    struct given given[HANDLES + 1];
+    uint32_t freed[HANDLES];
+    uint32_t freed_count, count;
+};
+
+static gd_allocator allocator;
+static struct handles pools, sets;
+static gd_set held[MOST_HELD];
+static uint32_t held_count;
+static uint32_t uses[PLACES];  // how often a place was used
+static uint64_t strange_names; // that have none of these places
+static uint64_t met, refused, calls, most_held;
+
+// ---- the driver ----
+
+static uint64_t draw_handle(struct handles *kind) {
+    CHECK(kind->freed_count > 0 || kind->count < HANDLES);
+    uint32_t handle = kind->freed_count > 0 ? kind->freed[--kind->freed_count] : ++kind->count;
+    kind->given[handle] = (struct given){true, 0, 0};
+    return handle;
+}
+
+static struct given *alive(struct handles *kind, uint64_t handle) {
+    CHECK(handle <= kind->count && kind->given[handle].is_alive);
+    return &kind->given[handle];
+}
+
+static void drop_handle(struct handles *kind, uint64_t handle) {
+    alive(kind, handle)->is_alive = false;
+    kind->freed[kind->freed_count++] = (uint32_t)handle;
+}
+
+// Grants a call, and answers how many handles it gave.
+static uint32_t grant(const gd_call *call, uint64_t *handles) {
+    if (call->kind == GD_CREATE_POOL) {
+        handles[0] = draw_handle(&pools);
+        return 1;
+    }
+    alive(&pools, call->pool)->sets += call->count;
+    for (uint32_t place = 0; place < call->count; place++) {
+        handles[place] = draw_handle(&sets);
+        alive(&sets, handles[place])->pool = call->pool;
+    }
+    return call->count;
+}
+
+// Makes a call that was handed over.
+static void make_call(const uint64_t *words) {
+    struct given *pool = alive(&pools, words[0]);
+    calls++;
+    if (words[1] == 0) {
+        CHECK(pool->sets == 0);
+        drop_handle(&pools, words[0]);
+    }
+    pool->sets -= (uint32_t)words[1];
+    for (uint64_t place = 0; place < words[1]; place++) {
+        CHECK(alive(&sets, words[2 + place])->pool == words[0]);
+        drop_handle(&sets, words[2 + place]);
+    }
+}
+
+// ---- requests and frees ----
+
+static void make_calls(uint64_t *words, gd_handed handed) {
+    for (;;) {
+        for (size_t at = 0; at < handed.words; at += 2 + words[at + 1])
+            make_call(&words[at]);
+        if (handed.next == 0)
+            return;
+        CHECK(handed.next <= WORDS);
+        CHECK(gd_calls(&allocator, words, WORDS, &handed) == GD_OK);
+    }
+}
+
+static void make_waiting_calls(void) {
+    uint64_t words[WORDS];
+    gd_handed handed;
+    CHECK(gd_calls(&allocator, words, WORDS, &handed) == GD_OK);
+    make_calls(words, handed);
+}
+
+// A name that was never given before: its place was used as often as the name says.
+static void note_name(uint64_t name) {
+    uint64_t place = name & UINT32_MAX;
+    if (place >= PLACES) {
+        strange_names++;
+        return;
+    }
+    uses[place]++;
+    CHECK(name >> 32 == uses[place]);
+}
+
+static gd_status answer(gd_set *got, uint32_t count, gd_call *call) {
+    uint64_t handles[MOST_SETS];
+    calls++;
+    if (one_in(REFUSES_ONE_IN))
+        return gd_refused(&allocator, GD_OUT_OF_DEVICE_MEMORY + random_below(4), got, count, call);
+    CHECK(call->kind == GD_CREATE_POOL || call->count <= count);
+    return gd_granted(&allocator, handles, grant(call, handles), got, count, call);
+}
+
+// Asks for some sets, and answers how many it got.
+static uint32_t allocate(uint32_t count) {
+    gd_set *got = &held[held_count];
+    gd_call call;
+    gd_status status = gd_begin(&allocator, random_below(LAYOUTS), count, got, count, &call);
+    while (status == GD_OK && call.kind != GD_NO_CALL)
+        status = answer(got, count, &call);
+    CHECK(status <= GD_FRAGMENTATION);
+    if (status != GD_OK) {
+        make_waiting_calls();
+        refused++;
+        return 0;
+    }
+    for (uint32_t place = 0; place < count; place++) {
+        CHECK(alive(&sets, got[place].handle));
+        note_name(got[place].name);
+    }
+    met++;
+    held_count += count;
+    most_held = held_count > most_held ? held_count : most_held;
+    return count;
+}
+
+// Gives some of the held sets back, in random order.
+static void free_some(uint32_t count) {
+    gd_set back[MOST_SETS] = {{0, 0}};
+    uint64_t words[WORDS];
+    gd_handed handed;
+    for (uint32_t place = 0; place < count; place++) {
+        uint32_t at = random_below(held_count);
+        back[place] = held[at];
+        held[at] = held[--held_count];
+    }
+    CHECK(gd_free(&allocator, back, count, words, WORDS, &handed) == GD_OK);
+    make_calls(words, handed);
+    for (uint32_t place = 0; place < count; place++)
+        CHECK(!sets.given[back[place].handle].is_alive);
+}
+
+static void clean_up(void) {
+    uint64_t words[WORDS];
+    gd_handed handed;
+    CHECK(gd_cleanup(&allocator, words, WORDS, &handed) == GD_OK);
+    make_calls(words, handed);
+}
+
+// ---- the run ----
+
+// The resident size, in kilobytes.
+static uint64_t resident(void) {
+    static char line[256];
+    uint64_t size = 0;
+    FILE *status = fopen("/proc/self/status", "r");
+    CHECK(status != NULL);
+    while (size == 0 && fgets(line, sizeof line, status) != NULL)
+        if (strncmp(line, "VmRSS:", 6) == 0)
+            size = strtoull(line + 6, NULL, 10);
+    CHECK(fclose(status) == 0 && size > 0);
+    return size;
+}
+
+static void open_all(void) {
+    uint64_t place;
+    CHECK(gd_open(&allocator, 200000) == GD_OK);
+    for (uint32_t layout = 0; layout < LAYOUTS; layout++) {
+        uint32_t counts[GD_KINDS] = {[GD_SAMPLER] = layout, [GD_UNIFORM_BUFFER] = 1};
+        CHECK(gd_layout(&allocator, layout, counts, GD_KINDS, layout == 2, &place) == GD_OK);
+    }
+}
+
+static void close_all(void) {
+    while (held_count > 0)
+        free_some(held_count < MOST_SETS ? held_count : MOST_SETS);
+    clean_up();
+    CHECK(pools.freed_count == pools.count && sets.freed_count == sets.count);
+    CHECK(gd_close(&allocator) == GD_OK);
+}
+
+// Mostly asks until a thousand sets are out, then mostly gives back until few are.
+static void act(void) {
+    static bool fills;
+    uint32_t lot = 1 + random_below(MOST_SETS);
+    if (held_count < MOST_SETS || held_count > MOST_HELD - MOST_SETS)
+        fills = held_count < MOST_SETS;
+    if (one_in(4) == fills || held_count + lot > MOST_HELD)
+        free_some(lot < held_count ? lot : held_count);
+    else
+        operation += allocate(lot);
+    if (one_in(10000))
+        clean_up();
+}
+
+int main(int words, char **word) {
+    uint64_t count = number_at(words, word, 1, 10000000), first = 0, last = 0;
+    seed = number_at(words, word, 2, 1);
+    open_all();
+    printf("resident, in kilobytes:");
+    for (uint64_t point = 1; point <= POINTS; point++) {
+        while (operation < count / POINTS * point)
+            act();
+        last = resident();
+        first = point == 1 ? last : first;
+        printf(" %" PRIu64, last);
+    }
+    printf("\n");
+    CHECK(last <= first + MOST_KILOBYTES);
+    CHECK(strange_names == 0);
+    close_all();
+    printf("%" PRIu64 " sets allocated and freed, %" PRIu64 " held at most; requests met %" PRIu64,
+           operation, most_held, met);
+    printf(", refused %" PRIu64 "; calls %" PRIu64, refused, calls);
+    printf("; resident %" PRIu64 " kilobytes, at the first of ten points %" PRIu64 "\n", last,
+           first);
+    return 0;
+}
