@@ -1,0 +1,146 @@
+//! Random programs: a seed gives the same one each time.
+
+use crate::device::{Answer, Kind};
+use crate::subject::Subject;
+
+/// Limits on marked descriptors: most programs have the greatest.
+const LIMITS: [u32; 6] = [u32::MAX, u32::MAX, u32::MAX, 100_000, 3000, 128];
+
+/// How many descriptors of a kind sets have. Of the greatest few go to a pool.
+const COUNTS: [u32; 8] = [0, 1, 2, 6, 100, u32::MAX / 100, u32::MAX / 3, u32::MAX];
+
+/// So many of them are few: of these marked layouts are made, which the limit counts.
+const FEW: usize = 5;
+
+const ANSWERS: [Answer; 8] = [
+    Answer::Granted,
+    Answer::Granted,
+    Answer::Granted,
+    Answer::Device,
+    Answer::Host,
+    Answer::Fragmented,
+    Answer::Full,
+    Answer::Full,
+];
+
+/// Numbers that look random.
+struct Random(u64);
+
+impl Random {
+    fn below(&mut self, end: usize) -> usize {
+        self.0 = self
+            .0
+            .wrapping_mul(6364136223846793005)
+            .wrapping_add(1442695040888963407);
+        (self.0 >> 33) as usize % end
+    }
+
+    fn one_of<T: Copy>(&mut self, items: &[T]) -> T {
+        items[self.below(items.len())]
+    }
+}
+
+struct Program<S: Subject> {
+    random: Random,
+    subject: S,
+    layouts: Vec<S::Layout>,
+
+    /// The held sets, by the place of their layout.
+    held: Vec<Vec<S::Set>>,
+
+    is_scripted: bool,
+}
+
+/// The transcript of a program.
+pub fn run<S: Subject>(seed: u64) -> Vec<String> {
+    let mut random = Random(seed);
+    // Neighbouring seeds begin alike.
+    random.below(1);
+    random.0 ^= seed << 20;
+    let subject = S::with_limit(random.one_of(&LIMITS));
+    let mut program = Program {
+        is_scripted: random.below(2) == 0,
+        random,
+        subject,
+        layouts: Vec::new(),
+        held: Vec::new(),
+    };
+    program.layout();
+    for _ in 0..10 + program.random.below(50) {
+        program.step();
+    }
+    program.finish()
+}
+
+impl<S: Subject> Program<S> {
+    fn step(&mut self) {
+        match self.random.below(20) {
+            0 => self.layout(),
+            1..=9 => self.take(),
+            10..=16 => self.free(),
+            17..=18 if self.is_scripted => self.script(),
+            _ => self.subject.clean_up(),
+        }
+    }
+
+    fn layout(&mut self) {
+        let is_marked = self.random.below(3) == 0;
+        let most = if is_marked { FEW } else { COUNTS.len() };
+        let mut counts = [0; 14];
+        counts[self.random.below(14)] = self.random.one_of(&COUNTS[..most]);
+        counts[self.random.below(14)] = self.random.one_of(&COUNTS[..FEW]);
+        self.layouts
+            .push(self.subject.layout(&Kind { counts, is_marked }));
+        self.held.push(Vec::new());
+    }
+
+    fn take(&mut self) {
+        let place = self.random.below(self.layouts.len());
+        let most = self.random.one_of(&[2, 10, 70, 700]);
+        let count = self.random.below(most) as u32;
+        let sets = self.subject.take(&self.layouts[place], count);
+        self.held[place].extend(sets);
+    }
+
+    /// Gives back sets of one layout, and now and then of a second one.
+    fn free(&mut self) {
+        let mut sets = self.some_sets();
+        if self.random.below(8) == 0 {
+            sets.extend(self.some_sets());
+        }
+        if self.random.below(3) == 0 {
+            self.shuffle(&mut sets);
+        }
+        self.subject.free(sets);
+    }
+
+    fn some_sets(&mut self) -> Vec<S::Set> {
+        let place = self.random.below(self.layouts.len());
+        let held = &mut self.held[place];
+        let first = self.random.below(held.len() + 1);
+        let last = first + self.random.below(held.len() - first + 1);
+        held.drain(first..last).collect()
+    }
+
+    fn shuffle(&mut self, sets: &mut [S::Set]) {
+        for place in (1..sets.len()).rev() {
+            sets.swap(place, self.random.below(place + 1));
+        }
+    }
+
+    fn script(&mut self) {
+        let count = self.random.below(6);
+        let script = (0..count).map(|_| self.random.one_of(&ANSWERS)).collect();
+        self.subject.device().script = script;
+    }
+
+    /// Gives all back, and sees that no pool is left.
+    fn finish(mut self) -> Vec<String> {
+        self.subject.device().script.clear();
+        for sets in std::mem::take(&mut self.held) {
+            self.subject.free(sets);
+        }
+        self.subject.clean_up();
+        std::mem::take(&mut self.subject.device().transcript)
+    }
+}
