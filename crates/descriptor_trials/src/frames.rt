@@ -1,4 +1,5 @@
 //! The frame manager over the scripted device.
+mod errors;
 mod memory;
 mod refused;
 mod rows;

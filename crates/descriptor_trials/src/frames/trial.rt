@@ -7,7 +7,7 @@ ghost use Rattle.descriptor_script.specs.Scripted.Raw.{pool_id, set_id};
 ghost use Rattle.descriptor_frames.specs.Frames.{AreInUse, AreRetiredOut, allocator_of};
 
 use bitflags::Flags;
-use descriptor_frames::{FrameManager, RetireError};
+use descriptor_frames::{FrameManager, RetireAllError, RetireError};
 use descriptor_script::{RawPool, RawSet, ScriptLayout, ScriptedDevice};
 use gpu_descriptor::{
     AllocationError, DescriptorSet, DescriptorSetLayoutCreateFlags, DescriptorTotalCount,
@@ -90,11 +90,11 @@ impl Trial {
         let sets = mem::replace(&mut self.in_use, VecDeque::new(self.alloc));
         match self.manager.retire_all(frame, Vec::from(sets)) {
             Ok(()) => Outcome::Retired,
-            Err(RetireError::FrameBack(sets)) => {
+            Err(RetireAllError::FrameBack(sets)) => {
                 self.in_use = VecDeque::from(sets);
                 Outcome::FrameBack(self.first())
             }
-            Err(RetireError::Memory(sets)) => {
+            Err(RetireAllError::Memory(sets)) => {
                 self.in_use = VecDeque::from(sets);
                 Outcome::Memory(self.first())
             }
