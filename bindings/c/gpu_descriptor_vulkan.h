@@ -21,7 +21,7 @@
  * vkDestroyDescriptorPool, vkAllocateDescriptorSets and vkFreeDescriptorSets. If your loader
  * defines these names, as volk does, include the loader's header first.
  *
- * Threads: all calls on one gdv_allocator are made on one thread, one at a time, as
+ * Threads: calls on one gdv_allocator are made one at a time. It may move to another thread, as
  * gpu_descriptor.h says. Its pools need no lock: nobody else has them.
  */
 #ifndef GPU_DESCRIPTOR_VULKAN_H
@@ -52,7 +52,7 @@ static_assert((int)GD_FREE_DESCRIPTOR_SET ==
 enum { GDV_FIRST_ROOM = 64 };
 
 /* The name in a set of a refused request. No set that is held has it. */
-#define GDV_NO_NAME UINT64_MAX
+#define GDV_NO_NAME UINT64_C(0)
 
 /* An allocator on a device. Zero it before gdv_open. The fields are for the functions below. */
 typedef struct gdv_allocator {
