@@ -3,3 +3,4 @@ pub mod Bench
 pub mod Device
 pub mod Log
 pub mod Pools
+pub mod Sets

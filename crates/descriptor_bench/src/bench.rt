@@ -2,11 +2,13 @@
 ghost use Rattle.std.specs.Prelude.{IfOk, IfErr};
 ghost use Rattle.gpu_descriptor.specs.Model.Agreement.{AreOutstanding};
 ghost use Rattle.gpu_descriptor.specs.Model.Promises.{AreOutBesides, KeepsOutstanding};
-ghost use Rattle.gpu_descriptor.specs.Caller.Sets.{items_of};
+ghost use Rattle.gpu_descriptor.specs.Caller.Sets.{AreOfLayout, items_of};
 ghost use Rattle.gpu_descriptor.specs.Caller.States.{Agrees};
 ghost use Rattle.gpu_descriptor.proofs.callers.OneAgreement.{Agrees-prop};
-ghost use Rattle.descriptor_bench.specs.Device.{ledger_of, name_of};
+ghost use Rattle.descriptor_bench.specs.Device.{bench_meaning, ledger_of, name_of};
+ghost use Rattle.descriptor_bench.specs.Sets.{set_name};
 
+use crate::counted_set::CountedSet;
 use crate::device::CountingDevice;
 use crate::layout::Layout;
 use gpu_descriptor::{AllocationError, DescriptorAllocator, DescriptorSet};
@@ -15,7 +17,7 @@ use std::alloc::Global;
 /// An allocator and its device, which always agree.
 #[derive(Drop)]
 pub struct Bench {
-    pub allocator: DescriptorAllocator<u64, u64>,
+    pub allocator: DescriptorAllocator<u64, CountedSet>,
     pub device: CountingDevice,
     ghost agree: { Agrees name_of allocator (ledger_of device) } by { Agrees-prop
         name_of allocator (ledger_of device) },
@@ -38,8 +40,9 @@ impl Bench {
         &mut self,
         layout: &Layout,
         count: u32,
-    ) -> Result<Vec<DescriptorSet<u64>>, AllocationError>
-        ensures given { IfOk result (λ sets. AreOutBesides (items_of name_of sets.items)
+    ) -> Result<Vec<DescriptorSet<CountedSet>>, AllocationError>
+        ensures own { IfOk result (λ sets. AreOfLayout bench_meaning layout.now sets.items) }
+        ensures given { IfOk result (λ sets. AreOutBesides (items_of set_name sets.items)
             (bench_state self.old) (bench_state self.new)) }
         ensures back { IfErr result (λ _. KeepsOutstanding (bench_state self.old)
             (bench_state self.new)) }
@@ -54,9 +57,9 @@ impl Bench {
     }
 
     /// Gives sets back.
-    pub fn give_back(&mut self, sets: Vec<DescriptorSet<u64>>)
-        requires { AreOutstanding (items_of name_of sets.items) (bench_state self.old) }
-        ensures { AreOutBesides (items_of name_of sets.items) (bench_state self.new)
+    pub fn give_back(&mut self, sets: Vec<DescriptorSet<CountedSet>>)
+        requires { AreOutstanding (items_of set_name sets.items) (bench_state self.old) }
+        ensures { AreOutBesides (items_of set_name sets.items) (bench_state self.new)
             (bench_state self.old) }
     {
         self.allocator.free_all(&mut self.device, sets);

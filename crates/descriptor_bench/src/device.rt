@@ -1,13 +1,15 @@
 //! A device that only counts, so that what is timed is the allocator.
-ghost use Rattle.std.specs.Prelude.{◌≡◌, ◌+◌, ◌<◌, ◌≤◌, ◌^◌, List, [], ◌++◌, map, ℕ, None, OnOk};
+ghost use Rattle.std.specs.Prelude.{◌≡◌, ◌+◌, ◌<◌, ◌≤◌, ◌^◌, List, [], ◌++◌, map, None, OnOk};
 ghost use Rattle.std.specs.Prelude.{IfErr};
-ghost use Rattle.std.specs.List.{range_with_len};
 ghost use Rattle.std.specs.Iterator.{IsFinite, YieldsThen};
 ghost use Rattle.gpu_descriptor_types.specs.Counts.{kinds};
 ghost use Rattle.gpu_descriptor_types.specs.Layouts.{layout, left};
+ghost use Rattle.descriptor_bench.specs.Sets.{counted_sets, set_name};
+ghost use Rattle.descriptor_bench.specs.declared.counted_set.CountedSet.{CountedSet};
 ghost use Rattle.descriptor_bench.specs.Pools.{AreBelow};
 
 use crate::act::Act;
+use crate::counted_set::{CountedSet, Made};
 use crate::layout::Layout;
 use crate::owed::Owed;
 use gpu_descriptor::{
@@ -65,53 +67,59 @@ impl CountingDevice {
     }
 }
 
-/// The counts of a layout that is to come.
-fn counts_of(mut layouts: Layouts<'_, Layout>) -> DescriptorTotalCount
-    ensures { 0 < left layouts.entry → kinds result ≡ kinds (layout layouts.entry).counts }
+/// The layout that is to come.
+fn layout_of(mut layouts: Layouts<'_, Layout>) -> Layout
+    ensures { 0 < left layouts.entry → result ≡ layout layouts.entry }
 {
     match layouts.next() {
-        Some(layout) => layout.counts,
-        None => DescriptorTotalCount::default(),
+        Some(layout) => *layout,
+        None => Layout::of_samplers(0),
     }
 }
 
-/// Puts so many sets.
-fn fill<K: SetSink<u64>>(first: u64, many: u32, sink: &mut K)
+/// Puts so many sets of a layout.
+fn fill<K: SetSink<CountedSet>>(first: u64, many: u32, layout: &Layout, sink: &mut K)
     requires names { first + many < 2 ^ 64 }
     requires room { many ≤ K.sink.room_left sink.old }
     ensures kept { K.sink.kept sink.new ≡ K.sink.kept sink.old
-        ++ map (K.sink.kept_as sink.old) (range_with_len first many) }
+        ++ map (K.sink.kept_as sink.old) (counted_sets layout.now.number first many) }
     ensures alike { K.sink.kept_as sink.new ≡ K.sink.kept_as sink.old }
     ensures room { K.sink.room_left sink.new + many ≡ K.sink.room_left sink.old }
 {
     for name in first..first + u64::from(many) {
-        sink.put(name);
+        sink.put(CountedSet {
+            name,
+            made: Made::of(layout),
+        });
     }
 }
 
 /// Takes each set that the iterator gives.
-fn take_each<I: Iterator<Item = u64>>(owed: &mut Owed, pool: u64, sum: &mut u64, sets: &mut I)
+fn take_each<I: Iterator<Item = CountedSet>>(
+    owed: &mut Owed,
+    pool: u64,
+    sum: &mut u64,
+    sets: &mut I,
+)
     requires can { I.can_next sets.old }
     requires ends { IsFinite (I.remaining sets.old) }
-    ensures { (items : List ℕ) × YieldsThen I.next_gives sets.old items None sets.new
-        × (owed.new.log ≡ record owed.old.log { taken = owed.old.log.taken ++ items }) }
+    ensures { (items : List CountedSet) × YieldsThen I.next_gives sets.old items None sets.new
+        × (owed.new.log ≡ record owed.old.log {
+          taken = owed.old.log.taken
+              ++ map set_name items;
+        }) }
 {
     while let Some(set) = sets.next() {
-        *sum = sum.wrapping_add(set ^ pool);
-        owed.note(Act::Take { set });
+        *sum = sum.wrapping_add(set.name ^ pool);
+        owed.note(Act::Take { set: set.name });
     }
 }
 
-impl DescriptorDevice<Layout, u64, u64> for CountingDevice {
-    ghost use Rattle.descriptor_bench.specs.Device.{ledger_of, name_of};
+impl DescriptorDevice<Layout, u64, CountedSet> for CountingDevice {
+    ghost use Rattle.descriptor_bench.specs.Device.{bench_meaning, ledger_of};
     ghost use Rattle.gpu_descriptor_types.specs.Ledger.{HasRoom, Puts, PutsNone};
 
-    ghost meaning = { record {
-      pool_name = name_of;
-      set_name = name_of;
-      counts = λ l. kinds l.counts;
-      mark = λ l. l.mark;
-    } };
+    ghost meaning = { bench_meaning };
 
     ghost ledger = { ledger_of };
 
@@ -145,7 +153,7 @@ impl DescriptorDevice<Layout, u64, u64> for CountingDevice {
         self.owed.note(Act::Destroy { pool });
     }
 
-    fn alloc_descriptor_sets<K: SetSink<u64>>(
+    fn alloc_descriptor_sets<K: SetSink<CountedSet>>(
         &mut self,
         pool: &mut u64,
         layouts: Layouts<'_, Layout>,
@@ -155,32 +163,35 @@ impl DescriptorDevice<Layout, u64, u64> for CountingDevice {
             (layout layouts).mark (ledger_of self.old) }
         requires room { left layouts ≤ K.sink.room_left sets.old }
         ensures name { pool.new ≡ pool.old }
-        ensures ok { OnOk result (Puts K.sink name_of pool.old (left layouts.entry)
-            (kinds (layout layouts.entry).counts) sets.old sets.new (ledger_of self.old)
-            (ledger_of self.new)) }
+        ensures ok { OnOk result (Puts K.sink bench_meaning (layout layouts.entry) pool.old
+            (left layouts.entry) sets.old sets.new (ledger_of self.old) (ledger_of self.new)) }
         ensures err { IfErr result (λ e. PutsNone K.sink pool.old e sets.old sets.new
             (ledger_of self.old) (ledger_of self.new)) }
     {
         let many = layouts.len();
-        let counts = counts_of(layouts);
+        let layout = layout_of(layouts);
         let first = if u64::MAX - self.next_set < u64::from(many) {
             0
         } else {
             self.next_set
         };
-        fill(first, many, sets);
+        fill(first, many, &layout, sets);
         self.next_set = first + u64::from(many);
         self.asked = Tally::next(&self.asked);
         self.owed.note(Act::Put {
             pool: *pool,
             first,
             many,
-            counts,
+            counts: layout.counts,
         });
         Ok(())
     }
 
-    fn dealloc_descriptor_sets<I: Iterator<Item = u64>>(&mut self, pool: &mut u64, sets: &mut I) {
+    fn dealloc_descriptor_sets<I: Iterator<Item = CountedSet>>(
+        &mut self,
+        pool: &mut u64,
+        sets: &mut I,
+    ) {
         let mut owed = std::mem::replace(&mut self.owed, Owed::none());
         take_each(&mut owed, *pool, &mut self.sum, sets);
         owed.note(Act::Release { pool: *pool });

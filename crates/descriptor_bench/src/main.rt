@@ -7,11 +7,14 @@
 
 mod act;
 mod bench;
+mod counted_set;
 mod device;
 mod layout;
 mod mix;
 mod owed;
 mod rounds;
+#[cfg(test)]
+mod two_layouts;
 mod workload;
 mod workloads;
 

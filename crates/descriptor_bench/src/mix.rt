@@ -2,6 +2,7 @@
 ghost use Rattle.std.specs.Prelude.{◌<◌};
 ghost use Rattle.std.specs.List.Sorted.{IsPermutation};
 
+use crate::counted_set::CountedSet;
 use gpu_descriptor::DescriptorSet;
 
 /// A place below the end, from the upper bits of a random number.
@@ -13,7 +14,7 @@ fn place_below(random: u64, end: usize) -> usize
 }
 
 /// Shuffles sets, the same way each time.
-pub fn shuffle(held: &mut Vec<DescriptorSet<u64>>)
+pub fn shuffle(held: &mut Vec<DescriptorSet<CountedSet>>)
     ensures { IsPermutation held.old.items held.new.items }
 {
     let mut random: u64 = 1;

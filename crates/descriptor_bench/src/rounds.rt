@@ -1,12 +1,14 @@
 //! Moves that are made again and again.
-ghost use Rattle.std.specs.Prelude.{◌≡◌, ◌<◌, ◌++◌, ℕ, List, length, OnOk};
+ghost use Rattle.std.specs.Prelude.{◌≡◌, ◌<◌, ◌++◌, List, length, OnOk};
 ghost use Rattle.gpu_descriptor.specs.declared.set.DescriptorSet.{DescriptorSet as GivenSet};
 ghost use Rattle.gpu_descriptor.specs.Model.Promises.{AreOutBesides, KeepsOutstanding};
 ghost use Rattle.gpu_descriptor.specs.Caller.Sets.{items_of};
 ghost use Rattle.descriptor_bench.specs.Bench.{bench_state};
-ghost use Rattle.descriptor_bench.specs.Device.{name_of};
+ghost use Rattle.descriptor_bench.specs.Sets.{set_name};
+ghost use Rattle.descriptor_bench.specs.declared.counted_set.CountedSet.{CountedSet};
 
 use crate::bench::Bench;
+use crate::counted_set::CountedSet;
 use crate::layout::Layout;
 use anyhow::anyhow;
 use gpu_descriptor::{AllocationError, DescriptorSet};
@@ -58,11 +60,11 @@ impl Bench {
         layout: &Layout,
         count: u32,
         times: u32,
-        held: &mut Vec<DescriptorSet<u64>>,
+        held: &mut Vec<DescriptorSet<CountedSet>>,
     ) -> Result<(), AllocationError>
-        ensures { OnOk result ((taken : List (GivenSet ℕ)) × (held.new.items
+        ensures { OnOk result ((taken : List (GivenSet CountedSet)) × (held.new.items
             ≡ held.old.items ++ taken)
-            × AreOutBesides (items_of name_of taken)
+            × AreOutBesides (items_of set_name taken)
             (bench_state self.old) (bench_state self.new)) }
     {
         for _ in 0..times {

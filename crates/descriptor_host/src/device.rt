@@ -274,18 +274,13 @@ impl AnswerDevice {
 
 impl DescriptorDevice<HostLayout, HostPool, u64> for AnswerDevice {
     ghost use Rattle.descriptor_host.specs.Device.{answers_of, grants_of, ledger_of, log_of};
-    ghost use Rattle.descriptor_host.specs.Device.{set_name};
+    ghost use Rattle.descriptor_host.specs.Device.{host_meaning};
     ghost use Rattle.descriptor_host.specs.Pools.{pool_name};
     ghost use Rattle.gpu_descriptor_types.specs.Flags.{bits};
     ghost use Rattle.gpu_descriptor_types.specs.Ledger.{HasRoom, Puts, PutsNone};
     ghost use Rattle.gpu_descriptor_types.specs.Ledger.{after_create, after_no_create};
 
-    ghost meaning = { record {
-      pool_name = pool_name;
-      set_name = set_name;
-      counts = λ l. kinds l.counts;
-      mark = λ l. l.mark;
-    } };
+    ghost meaning = { host_meaning };
 
     ghost ledger = { ledger_of };
 
@@ -338,9 +333,9 @@ impl DescriptorDevice<HostLayout, HostPool, u64> for AnswerDevice {
             (layout layouts).mark (ledger_of self.old) }
         requires room { left layouts ≤ K.sink.room_left sets.old }
         ensures name { pool_name pool.new ≡ pool_name pool.old }
-        ensures ok { OnOk result (Puts K.sink set_name (pool_name pool.old)
-            (left layouts.entry) (kinds (layout layouts.entry).counts) sets.old sets.new
-            (ledger_of self.old) (ledger_of self.new)) }
+        ensures ok { OnOk result (Puts K.sink host_meaning (layout layouts.entry)
+            (pool_name pool.old) (left layouts.entry) sets.old sets.new (ledger_of self.old)
+            (ledger_of self.new)) }
         ensures err { IfErr result (λ e. PutsNone K.sink (pool_name pool.old) e sets.old sets.new
             (ledger_of self.old) (ledger_of self.new)) }
 

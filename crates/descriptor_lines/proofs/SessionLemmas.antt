@@ -1,6 +1,7 @@
 -- Sessions that are ready, and the replies of their steps.
-use Rattle.std.proofs.Common.{◌≡◌, ◌≢◌, ℕ, zero, suc, zero-le, ◌+◌, ◌-◌, ◌<◌, ◌≤◌, ◌^◌, List, [], ◌∷◌, ◌++◌, length, length-append, map, get_or, slice_index_or, Option, None, Some, IsSome, subst, refl, sym, ap, ◌∙◌, arith}
+use Rattle.std.proofs.Common.{All, ◌≡◌, ◌≢◌, ℕ, zero, suc, zero-le, ◌+◌, ◌-◌, ◌<◌, ◌≤◌, ◌^◌, List, [], ◌∷◌, ◌++◌, length, length-append, map, get_or, slice_index_or, Option, None, Some, IsSome, subst, refl, sym, ap, ◌∙◌, arith}
 use Rattle.std.proofs.lemmas.List.{get_or-append_right, length-map}
+use Rattle.std.proofs.lemmas.List.Elements.{All-cons, All-nil}
 use Rattle.gpu_descriptor_types.specs.Counts.{kinds}
 use Rattle.gpu_descriptor_types.specs.Ledger.{Ledger}
 use Rattle.gpu_descriptor.specs.Caller.Flags.{is_marked}
@@ -10,7 +11,7 @@ use Rattle.gpu_descriptor.proofs.release.Places.{none_out}
 use Rattle.descriptor_script.specs.Scripted.Raw.{pool_id, script_meaning}
 use Rattle.descriptor_script.specs.Sessions.Session.{AreMeant, IsReady, allocator_of, layouts_of, sets_of}
 use Rattle.descriptor_script.specs.Sessions.SessionRun.{RunsTo}
-use Rattle.descriptor_script.specs.Sessions.Steps.{IsAsBefore, StepsTo}
+use Rattle.descriptor_script.specs.Sessions.Steps.{IsAsBefore, IsTurnedAway, StepsTo}
 use Rattle.descriptor_script.specs.declared.answer.Answer.{Answer}
 use Rattle.descriptor_script.specs.declared.command.Command.{Command}
 use Rattle.descriptor_script.specs.declared.command.Command.TheVariants.{Allocate, Free, Cleanup}
@@ -78,6 +79,12 @@ pub step_of_one : (command : Command) (replies : List Reply) (reply : Reply) (ol
 step_of_one command [] reply old new before after run is = absurd run
 step_of_one command (r ∷ []) reply old new before after run is = subst (λ (s : Side LineSession). StepsTo script_meaning command reply (side old before) s) (sym run.3) (rw is run.1)
 step_of_one command (r ∷ s ∷ rest) reply old new before after run is = absurd run.3
+
+-- so all replies of the run are turned away where its reply is
+pub all_turned_away : (command : Command) (replies : List Reply) (reply : Reply) (old new : LineSession) (before after : Ledger) → RunsTo script_meaning (command ∷ []) replies (side old before) (side new after) → reply ≡ slice_index_or replies 0 reply → IsTurnedAway reply → All IsTurnedAway replies
+all_turned_away command [] reply old new before after run is away = absurd run
+all_turned_away command (r ∷ []) reply old new before after run is away = All-cons IsTurnedAway r [] (rw (← is) away) (All-nil IsTurnedAway)
+all_turned_away command (r ∷ s ∷ rest) reply old new before after run is away = absurd run.3
 
 -- a reply that memory is wanting changes nothing
 pub no_memory_changes_nothing : (command : Command) (old new : LineSession) (before after : Ledger) → Steps command NoMemory old new before after → IsAsBefore (side old before) (side new after)

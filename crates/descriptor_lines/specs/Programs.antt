@@ -6,7 +6,7 @@ use Rattle.gpu_descriptor.specs.Caller.Values.{without_keys}
 use Rattle.descriptor_script.specs.Scripted.Device.{empty_ledger}
 use Rattle.descriptor_script.specs.Scripted.Raw.{script_meaning}
 use Rattle.descriptor_script.specs.Sessions.Session.{IsReady, KeepsSession, allocator_of, layouts_of, sets_of}
-use Rattle.descriptor_script.specs.Sessions.Steps.{IsAsBefore, StepsTo}
+use Rattle.descriptor_script.specs.Sessions.Steps.{IsAsBefore, IsTurnedAway, StepsTo}
 use Rattle.descriptor_script.specs.declared.command.Command.{Command}
 use Rattle.descriptor_script.specs.declared.command.Command.TheVariants.{Allocate, Free, Cleanup}
 use Rattle.descriptor_script.specs.declared.command.Reply.{Reply}
@@ -55,10 +55,11 @@ pub record KeepsDevice (old new : LineState) : Type 0 where
   pub script : new.script ≡ old.script
   pub ledger : new.ledger ≡ old.ledger
 
--- layouts, books, sets and ledger are as before
+-- layouts, books, sets, ledger and script are as before
 pub record IsUnchanged (old new : LineState) : Type 0 where
   pub layouts : SameLayouts old.layouts new.layouts
   pub session : IsAsBefore (side old.session old.ledger) (side new.session new.ledger)
+  pub script : new.script ≡ old.script
 
 -- the session is a new one with this limit
 pub record Begins (max : ℕ) (old new : LineState) : Type 0 where
@@ -80,6 +81,8 @@ pub record Does (command : Command) (text : List ℕ) (old new : LineState) : Ty
   pub reply : Reply
   pub said : text ≡ text_of_reply (sets_of new.session) reply
   pub step : StepsTo script_meaning command reply (side old.session old.ledger) (side new.session new.ledger)
+  -- no word is read where the device is not asked
+  pub turned_away : IsTurnedAway reply → new.script ≡ old.script
   -- limit and layouts stay
   pub keeps : KeepsSession script_meaning (side old.session old.ledger) (side new.session new.ledger)
   pub layouts : SameLayouts old.layouts new.layouts

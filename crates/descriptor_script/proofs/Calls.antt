@@ -1,27 +1,30 @@
 -- What a call leaves of the ledger, from what it leaves of the pools and the counters.
-use Rattle.std.proofs.Common.{◌≡◌, ℕ, ◌+◌, List, ◌++◌, map, ap, ◌∙◌}
+use Rattle.std.proofs.Common.{◌≡◌, ℕ, ◌+◌, List, ◌++◌, map, refl, ap, ◌∙◌}
 use Rattle.std.proofs.lemmas.List.FromFn.{length-map-range_with_len}
+use Rattle.gpu_descriptor_types.specs.Counts.{kinds}
 use Rattle.gpu_descriptor_types.specs.Ledger.{Ledger, Sink, Puts, PutsNone, live_sets, on_pool, alloc_refused, pool_refusals}
 use Rattle.gpu_descriptor_types.specs.Multiset.{times}
 use Rattle.gpu_descriptor_types.specs.declared.errors.DeviceAllocationError.{DeviceAllocationError}
 use Rattle.descriptor_script.specs.Inner.Counters.{counters_of}
 use Rattle.descriptor_script.specs.Scripted.Device.{ledger_of}
 use Rattle.descriptor_script.specs.Inner.Pools.{pools_of, next_names}
-use Rattle.descriptor_script.specs.Scripted.Raw.{raw_set, raw_sets, set_id}
+use Rattle.descriptor_script.specs.Scripted.Raw.{raw_set, raw_sets, script_meaning, set_id}
 use Rattle.descriptor_script.specs.declared.device.ScriptedDevice.{ScriptedDevice}
 use Rattle.descriptor_script.specs.declared.raw.RawSet.{RawSet}
+use Rattle.descriptor_script.specs.declared.raw.ScriptLayout.{ScriptLayout}
 
 pub same_ledger : (a b : Ledger) → a.pools ≡ b.pools → a.counters ≡ b.counters → a ≡ b
 same_ledger a b pools counters = λ i. record { pools = pools i; counters = counters i }
 
 module _ {K X : Type 0} (sink : Sink K RawSet X) (before after : K) where
   -- pools that grant, and a call counted as asked
-  pub puts : (old new : ScriptedDevice) (name many : ℕ) (counts : List ℕ) → sink.kept after ≡ sink.kept before ++ map (sink.kept_as before) (raw_sets name (next_names old.pools).sets many) → sink.kept_as after ≡ sink.kept_as before → sink.room_left after + many ≡ sink.room_left before
-      → pools_of new.pools ≡ on_pool name (λ pool. record pool { live = λ x. pool.live x + times (live_sets counts (map set_id (raw_sets name (next_names old.pools).sets many))) x }) (pools_of old.pools)
-      → counters_of new.counters ≡ record (counters_of old.counters) { asked = (counters_of old.counters).asked + 1 } → Puts sink set_id name many counts before after (ledger_of old) (ledger_of new)
-  puts old new name many counts kept alike room pools asked = record {
+  pub puts : (old new : ScriptedDevice) (layout : ScriptLayout) (name many : ℕ) → sink.kept after ≡ sink.kept before ++ map (sink.kept_as before) (raw_sets name (next_names old.pools).sets many) → sink.kept_as after ≡ sink.kept_as before → sink.room_left after + many ≡ sink.room_left before
+      → pools_of new.pools ≡ on_pool name (λ pool. record pool { live = λ x. pool.live x + times (live_sets (kinds layout.counts) (map set_id (raw_sets name (next_names old.pools).sets many))) x }) (pools_of old.pools)
+      → counters_of new.counters ≡ record (counters_of old.counters) { asked = (counters_of old.counters).asked + 1 } → Puts sink script_meaning layout name many before after (ledger_of old) (ledger_of new)
+  puts old new layout name many kept alike room pools asked = record {
     sets = raw_sets name (next_names old.pools).sets many;
     many = length-map-range_with_len (raw_set name) (next_names old.pools).sets many;
+    own = λ k d lt. refl;
     kept = kept;
     alike = alike;
     room = room;

@@ -181,8 +181,8 @@ impl DescriptorDevice<ScriptLayout, RawPool, RawSet> for LogDevice {
             (layout layouts).mark (ledger_logged self.old) }
         requires room { left layouts ≤ K.sink.room_left sets.old }
         ensures name { pool_id pool.new ≡ pool_id pool.old }
-        ensures ok { OnOk result (Puts K.sink set_id (pool_id pool.old) (left layouts.entry)
-            (kinds (layout layouts.entry).counts) sets.old sets.new (ledger_logged self.old)
+        ensures ok { OnOk result (Puts K.sink script_meaning (layout layouts.entry)
+            (pool_id pool.old) (left layouts.entry) sets.old sets.new (ledger_logged self.old)
             (ledger_logged self.new)) }
         ensures err { IfErr result (λ e. PutsNone K.sink (pool_id pool.old) e sets.old sets.new
             (ledger_logged self.old) (ledger_logged self.new)) }

@@ -4,7 +4,7 @@ ghost use Rattle.std.specs.Prelude.{◌≡◌, [], IfOk, OnErr};
 ghost use Rattle.gpu_descriptor_types.specs.Side.{side};
 ghost use Rattle.gpu_descriptor.specs.Caller.States.{Agrees, state_of};
 ghost use Rattle.descriptor_script.specs.Sessions.Session.{AreAllHeld, AreMeant};
-ghost use Rattle.gpu_descriptor.specs.Model.Agreement.{HasNoPools};
+ghost use Rattle.gpu_descriptor.specs.Model.Agreement.{HasNoKeys, HasNoPools};
 ghost use Rattle.descriptor_script.specs.Sessions.Session.{KeepsSession, allocator_of};
 ghost use Rattle.descriptor_script.specs.Sessions.Session.{layouts_of, sets_of};
 ghost use Rattle.descriptor_script.specs.Sessions.SessionRun.{VisitsTo};
@@ -15,12 +15,13 @@ use crate::{Command, Reply, Session};
 use gpu_descriptor::{DescriptorDevice, laws};
 use std::alloc::AllocError;
 
-/// Runs commands, as `Session::run` does, on a session whose books are as new, and then cleans up.
-/// If no set is held then, the device has exactly the pools that it had before, whatever it refused
-/// in between, and the session may visit it again. Without memory for the replies it only cleans
-/// up.
+/// Runs commands, as `Session::run` does, on a session that has no pools, and then cleans up. If no
+/// set is held then, the device has exactly the pools that it had before, whatever it refused in
+/// between, the session's books are as new, and it may visit the device again. Without memory for
+/// the replies it only cleans up.
 ///
-/// A session that was just made meets the conditions, with layouts as the device means them.
+/// A session that was just made meets the conditions, with layouts as the device means them. So
+/// does a session without sets whose requests were refused before a pool came.
 pub fn visit<L, P: Drop, S: Drop, D: DescriptorDevice<L, P, S>>(
     session: &mut Session<L, P, S>,
     device: &mut D,
@@ -38,7 +39,7 @@ pub fn visit<L, P: Drop, S: Drop, D: DescriptorDevice<L, P, S>>(
         (side session.new (D.ledger device.new))) }
     ensures pools { held_sets (sets_of session.new) ≡ [] → (D.ledger device.new).pools
         ≡ (D.ledger device.old).pools }
-    ensures ended { held_sets (sets_of session.new) ≡ [] → HasNoPools (state_of D.meaning.pool_name
+    ensures ended { held_sets (sets_of session.new) ≡ [] → HasNoKeys (state_of D.meaning.pool_name
         (allocator_of session.new) (D.ledger device.new)) }
     ensures keeps { KeepsSession D.meaning (side session.old (D.ledger device.old))
         (side session.new (D.ledger device.new)) }

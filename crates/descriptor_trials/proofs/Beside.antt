@@ -3,7 +3,7 @@ use Rattle.std.proofs.Common.{◌≡◌, ℕ, List, [], Option, Some, refl, sym,
 use Rattle.gpu_descriptor_types.specs.Ledger.{Ledger}
 use Rattle.gpu_descriptor.specs.Model.Promises.{IsUntouched}
 use Rattle.gpu_descriptor.specs.Model.Agreement.{count_of, outstanding}
-use Rattle.gpu_descriptor.specs.Model.Books.{Key, Entry, Bucket, entry_at, no_pools}
+use Rattle.gpu_descriptor.specs.Model.Books.{Key, Entry, entry_at}
 use Rattle.gpu_descriptor.specs.Model.Foreign.{IsForeign, KeepsForeign}
 use Rattle.gpu_descriptor.specs.Caller.Sets.{items_of}
 use Rattle.gpu_descriptor.specs.Caller.States.{state_of}
@@ -59,8 +59,7 @@ turned x y l pair = record {
 -- an allocator without keys shares no pool
 pub none_shared : (x y : Held) (l : Ledger) (limit : ℕ) → allocator_of x ≡ record { limit = limit; table = []; looks = 0; comparisons = 0 } → AreApart (session_state x l) (session_state y l)
 none_shared x y l limit empty k j m n d e there at same =
-    let no_books : (session_state x l).books k ≡ no_pools = ap (λ (a : Allocations RawPool). (state_of pool_id a l).books k) empty in
-    none_at m d (ap (λ (b : Bucket). entry_at b m) (sym no_books) ∙ there)
+    none_at ((session_state x l).books k) m d (ap (λ (a : Allocations RawPool). ((state_of pool_id a l).books k).pools) empty) there
 
 -- a session without keys and sets can make a step on any device
 pub new_ready : (s : Held) (l : Ledger) → IsNewSession s → IsReady script_meaning (side s l)

@@ -4,7 +4,7 @@ ghost use Rattle.gpu_descriptor_types.specs.Counts.{kinds};
 ghost use Rattle.gpu_descriptor_types.specs.Layouts.{layout, left};
 ghost use Rattle.gpu_descriptor_types.specs.Ledger.{HasRoom, Puts, PutsNone};
 ghost use Rattle.descriptor_script.specs.Scripted.Device.{ledger_of};
-ghost use Rattle.descriptor_script.specs.Scripted.Raw.{pool_id, set_id};
+ghost use Rattle.descriptor_script.specs.Scripted.Raw.{pool_id};
 
 use descriptor_script::{RawPool, RawSet, ScriptLayout, ScriptedDevice};
 use gpu_descriptor::{
@@ -50,12 +50,10 @@ impl Budget {
 }
 
 impl DescriptorDevice<ScriptLayout, SizedPool, RawSet> for Budget {
-    ghost meaning = { record {
-      pool_name = λ p. pool_id p.raw;
-      set_name = set_id;
-      counts = λ l. kinds l.counts;
-      mark = λ l. l.mark;
-    } };
+    ghost use Rattle.descriptor_trials.specs.Budgets.{with_pools};
+    ghost use Rattle.descriptor_trials.specs.declared.budget.SizedPool.{SizedPool};
+
+    ghost meaning = { with_pools (λ (pool : SizedPool). pool_id pool.raw) };
 
     ghost ledger = { λ d. ledger_of d.device };
 
@@ -94,9 +92,9 @@ impl DescriptorDevice<ScriptLayout, SizedPool, RawSet> for Budget {
             (kinds (layout layouts).counts) (layout layouts).mark (ledger_of self.old.device) }
         requires room { left layouts ≤ K.sink.room_left sets.old }
         ensures name { pool_id pool.new.raw ≡ pool_id pool.old.raw }
-        ensures ok { OnOk result (Puts K.sink set_id (pool_id pool.old.raw) (left layouts.entry)
-            (kinds (layout layouts.entry).counts) sets.old sets.new (ledger_of self.old.device)
-            (ledger_of self.new.device)) }
+        ensures ok { OnOk result (Puts K.sink (with_pools (λ (pool : SizedPool). pool_id pool.raw))
+            (layout layouts.entry) (pool_id pool.old.raw) (left layouts.entry) sets.old sets.new
+            (ledger_of self.old.device) (ledger_of self.new.device)) }
         ensures err { IfErr result (λ e. PutsNone K.sink (pool_id pool.old.raw) e sets.old sets.new
             (ledger_of self.old.device) (ledger_of self.new.device)) }
     {

@@ -31,6 +31,8 @@ mod refusals;
 #[cfg(test)]
 mod refused;
 #[cfg(test)]
+mod refused_first;
+#[cfg(test)]
 mod scenes;
 #[cfg(test)]
 mod sets;

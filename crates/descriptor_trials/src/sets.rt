@@ -2,10 +2,11 @@
 //! an iterator which the caller keeps too.
 ghost use Rattle.gpu_descriptor.specs.Caller.States.{Agrees};
 ghost use Rattle.descriptor_script.specs.Scripted.Raw.{pool_id};
+ghost use Rattle.descriptor_script.specs.Scripted.Device.{ledger_of};
 ghost use Rattle.descriptor_script.specs.Scripted.Logged.{ledger_logged};
 
 use crate::bench::{expect_same, layout_of};
-use descriptor_script::{LogDevice, RawPool, RawSet, ScriptLayout};
+use descriptor_script::{LogDevice, RawPool, RawSet, ScriptLayout, ScriptedDevice};
 use descriptor_uses::proper_use::{borrow_pool, borrow_set, borrow_sets, flags_of};
 use gpu_descriptor::{AllocationError, DescriptorAllocator, DescriptorSet};
 use std::process::Abort;
@@ -71,6 +72,39 @@ fn expect_all_lent(
     let is_at_end = borrow_sets(allocator, device, &layout_of(3, true), 3)?;
     expect_same(rt, (is_at_end, allocator.outstanding()), (true, 0));
     Ok(())
+}
+
+/// Allocates so many sets of a new device, and compares their names, which a new device gives from 0
+/// up.
+fn expect_in_order(
+    rt: &impl Abort,
+    allocator: &mut DescriptorAllocator<RawPool, RawSet>,
+    device: &mut ScriptedDevice,
+    layout: &ScriptLayout,
+    count: u32,
+) -> Result<(), AllocationError>
+    requires { Agrees pool_id allocator.old (ledger_of device.old) }
+{
+    let flags = flags_of(layout.mark);
+    let sets = allocator.allocate(device, layout, flags, &layout.counts, count)?;
+    expect_same(rt, sets.len(), count as usize);
+    for (name, set) in (0u64..).zip(&sets) {
+        expect_same(rt, set.raw().id(), name);
+    }
+    Ok(())
+}
+
+#[test]
+fn sets_of_a_large_answer_stand_as_they_came(rt: HostRuntime) -> Result<(), AllocationError> {
+    let mut device = ScriptedDevice::new(rt.alloc(), Vec::new(rt.alloc()));
+    let mut allocator = DescriptorAllocator::new(rt.alloc(), 0);
+    expect_in_order(
+        &rt,
+        &mut allocator,
+        &mut device,
+        &layout_of(1, false),
+        100_000,
+    )
 }
 
 #[test]

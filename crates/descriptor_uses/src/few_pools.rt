@@ -88,8 +88,8 @@ impl<const MOST: u32> DescriptorDevice<ScriptLayout, RawPool, RawSet> for FewPoo
             (layout layouts).mark (few_ledger self.old) }
         requires room { left layouts ≤ K.sink.room_left sets.old }
         ensures name { pool_id pool.new ≡ pool_id pool.old }
-        ensures ok { OnOk result (Puts K.sink set_id (pool_id pool.old) (left layouts.entry)
-            (kinds (layout layouts.entry).counts) sets.old sets.new (few_ledger self.old)
+        ensures ok { OnOk result (Puts K.sink script_meaning (layout layouts.entry)
+            (pool_id pool.old) (left layouts.entry) sets.old sets.new (few_ledger self.old)
             (few_ledger self.new)) }
         ensures err { IfErr result (λ e. PutsNone K.sink (pool_id pool.old) e sets.old sets.new
             (few_ledger self.old) (few_ledger self.new)) }

@@ -50,14 +50,9 @@ impl OnePool {
 }
 
 impl DescriptorDevice<DescriptorTotalCount, u64, u64> for OnePool {
-    ghost use Rattle.descriptor_uses.specs.OwnDevice.{owed_of};
+    ghost use Rattle.descriptor_uses.specs.OwnDevice.{one_meaning, owed_of};
 
-    ghost meaning = { record {
-      pool_name = λ pool. pool;
-      set_name = λ set. set;
-      counts = kinds;
-      mark = λ layout. false;
-    } };
+    ghost meaning = { one_meaning };
 
     ghost ledger = { owed_of };
 
@@ -103,9 +98,8 @@ impl DescriptorDevice<DescriptorTotalCount, u64, u64> for OnePool {
             (owed_of self.old) }
         requires room { left layouts ≤ K.sink.room_left sets.old }
         ensures name { pool.new ≡ pool.old }
-        ensures ok { OnOk result (Puts K.sink (λ set. set) pool.old (left layouts.entry)
-            (kinds (layout layouts.entry)) sets.old sets.new (owed_of self.old)
-            (owed_of self.new)) }
+        ensures ok { OnOk result (Puts K.sink one_meaning (layout layouts.entry) pool.old
+            (left layouts.entry) sets.old sets.new (owed_of self.old) (owed_of self.new)) }
         ensures err { IfErr result (λ e. PutsNone K.sink pool.old e sets.old sets.new
             (owed_of self.old) (owed_of self.new)) }
     {

@@ -6,7 +6,7 @@ ghost use Rattle.gpu_descriptor.specs.Model.Promises.{AreOfKey, AreOutBesides};
 ghost use Rattle.gpu_descriptor.specs.Model.Promises.{KeepsOutstanding};
 ghost use Rattle.gpu_descriptor.specs.Caller.Call.{layout_key};
 ghost use Rattle.gpu_descriptor.specs.Caller.CleansUp.{CleansUp};
-ghost use Rattle.gpu_descriptor.specs.Caller.Sets.{items_of};
+ghost use Rattle.gpu_descriptor.specs.Caller.Sets.{AreOfLayout, items_of};
 ghost use Rattle.gpu_descriptor.specs.Caller.States.{Agrees, state_of};
 ghost use Rattle.gpu_descriptor.specs.Caller.Values.{without_keys};
 ghost use Rattle.gpu_descriptor.proofs.callers.OneAgreement.{Agrees-prop};
@@ -47,7 +47,8 @@ impl<L, P: Drop, S: Drop, D: DescriptorDevice<L, P, S>> Renderer<L, P, S, D> {
     ) -> Result<Vec<DescriptorSet<S>>, AllocationError>
         requires { IsMeant D.meaning layout.now }
         ensures many { IfOk result (λ sets. length sets.items ≡ count) }
-        ensures own { IfOk result (λ sets. AreOfKey (layout_key D.meaning layout.now.layout)
+        ensures own { IfOk result (λ sets. AreOfLayout D.meaning layout.now.layout sets.items) }
+        ensures of_key { IfOk result (λ sets. AreOfKey (layout_key D.meaning layout.now.layout)
             (items_of D.meaning.set_name sets.items)) }
         ensures given { IfOk result (λ sets. AreOutBesides (items_of D.meaning.set_name sets.items)
             (state_of D.meaning.pool_name self.old.allocator (D.ledger self.old.device)) (state_of

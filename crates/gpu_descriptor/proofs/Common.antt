@@ -22,7 +22,7 @@ pub use Rattle.gpu_descriptor_types.specs.Bounds.{greatest_u64}
 pub use Rattle.gpu_descriptor_types.specs.Counts.{kinds}
 pub use Rattle.gpu_descriptor_types.specs.Flags.{CanFree, IsUpdateAfterBind}
 pub use Rattle.gpu_descriptor_types.specs.Ledger.{AreLive, Counters, HasNoSets, HasRoom, Ledger, Pool, after_alloc, after_create, after_destroy, after_no_alloc, after_no_create, after_release, alloc_refused, create_refused, fresh, live_sets, no_rise, on_pool, pool_refusals}
-pub use Rattle.gpu_descriptor_types.specs.Meaning.{Meaning}
+pub use Rattle.gpu_descriptor_types.specs.Meaning.{IsOfLayout, Meaning}
 pub use Rattle.gpu_descriptor_types.specs.Multiset.{AreIn, HasSize, LiveSet, Spells, set_eq, times}
 pub use Rattle.gpu_descriptor_types.specs.PoolSize.{IsPoolSize, pool_counts, pool_size_floor, sets_in_room, start_size}
 pub use Rattle.gpu_descriptor_types.specs.Side.{side}
@@ -36,7 +36,7 @@ pub use Rattle.gpu_descriptor.specs.declared.bucket.DescriptorBucket.{Descriptor
 pub use Rattle.gpu_descriptor.specs.declared.bucket.DescriptorPool.{DescriptorPool}
 pub use Rattle.gpu_descriptor.specs.declared.bucket.take.Stop.{Stop}
 pub use Rattle.gpu_descriptor.specs.Model.Books.{AddsUp, Bucket, BucketOf, Entry, EntryOf, HasDistinctKeys, Key, books_of, entry_at, key_eq, next_number, no_pools, sum_over}
-pub use Rattle.gpu_descriptor.specs.Model.Agreement.{Agree, AreOutstanding, IsAsBooked, Item, State, count_of, flags_of, item_eq, live_at, live_in, outstanding, set_of}
+pub use Rattle.gpu_descriptor.specs.Model.Agreement.{Agree, AreOutstanding, HasNoPools, IsAsBooked, Item, State, count_of, flags_of, item_eq, live_at, live_in, outstanding, set_of}
 pub use Rattle.gpu_descriptor.specs.Inner.KeyOf.{key_of}
 pub use Rattle.gpu_descriptor.specs.Caller.Values.{Allocations}
 pub use Rattle.gpu_descriptor.specs.Caller.Call.{call_of, layout_key}
@@ -44,7 +44,7 @@ pub use Rattle.gpu_descriptor.specs.Caller.Comparisons.{binary_digits, digits_at
 pub use Rattle.gpu_descriptor.specs.Caller.Frees.{Frees, GivesBack, Returns, marked_descriptors}
 pub use Rattle.gpu_descriptor.specs.Caller.Keys.{keys_with_pools, with_key}
 pub use Rattle.gpu_descriptor.specs.Caller.Others.{is_named}
-pub use Rattle.gpu_descriptor.specs.Caller.Sets.{item_of, items_of}
+pub use Rattle.gpu_descriptor.specs.Caller.Sets.{AreOfLayout, item_of, items_of}
 pub use Rattle.gpu_descriptor.specs.Caller.States.{Agrees, marked_load_of, named, named_bucket, named_row, outstanding_of, pool_load_of, state_of, table_of}
 pub use Rattle.gpu_descriptor.specs.Inner.Buckets.{AreBookedIn, IsBookedIn, front_but, has_pools, ledger_without, trimmed_bucket, trimmed_ledger}
 pub use Rattle.gpu_descriptor.specs.Inner.Grow.{IsGrown, IsTaken}

@@ -7,6 +7,7 @@ pub mod NewPools
 pub mod NextSize
 pub mod OpenWalk
 pub mod Outcomes
+pub mod OwnLayout
 pub mod PlacesFree
 pub mod PoolCreated
 pub mod Promises

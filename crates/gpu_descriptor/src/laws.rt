@@ -11,8 +11,8 @@ ghost use Rattle.gpu_descriptor.specs.Caller.States.{outstanding_of, pool_load_o
 ghost use Rattle.gpu_descriptor.specs.Caller.States.{table_of};
 ghost use Rattle.gpu_descriptor.specs.Caller.Values.{Allocations};
 ghost use Rattle.gpu_descriptor.specs.Model.Agreement.{Item, item_eq, Agree, AreOutstanding};
-ghost use Rattle.gpu_descriptor.specs.Model.Agreement.{HasNoPools, IsAsBooked, State, count_of};
-ghost use Rattle.gpu_descriptor.specs.Model.Agreement.{outstanding};
+ghost use Rattle.gpu_descriptor.specs.Model.Agreement.{HasNoKeys, HasNoPools, IsAsBooked};
+ghost use Rattle.gpu_descriptor.specs.Model.Agreement.{State, count_of, outstanding};
 ghost use Rattle.gpu_descriptor.specs.Model.Books.{HasDistinctKeys, Key, key_eq, AddsUp, Bucket};
 ghost use Rattle.gpu_descriptor.specs.Model.Books.{Entry, books_of, entry_at, no_pools, sum_over};
 ghost use Rattle.gpu_descriptor.specs.Model.Cleanup.{IsCleaned, pools_cleaned};
@@ -69,7 +69,7 @@ pub fn clean_again()
     ensures again_none { (keys : List Key) (s t : State) → IsCleaned s t → pools_cleaned keys t
         ≡ 0 }
     ensures all { (s t : State) → Agree s → ((i : Item) → outstanding s i ≡ 0) → IsCleaned s t
-        → HasNoPools t }
+        → HasNoKeys t }
     ensures all_gone { (s t : State) → Agree s → ((i : Item) → outstanding s i ≡ 0) → IsCleaned s t
         → (k : Key) (n : ℕ) (e : Entry) → entry_at (s.books k) n ≡ Some e → t.ledger e.pool ≡ None }
     ensures one_result { (keys : List Key) (s t u : State) → ((k : Key) → list_any (λ l. key_eq l k)
@@ -80,8 +80,10 @@ pub fn clean_again()
         ≡ outstanding s i }
 {}
 
-/// No pool is lost over calls one after another, if each loses none. So an allocator that is made,
-/// used, and cleaned up once all its sets are free leaves the ledger's pools exactly as they were.
+/// No pool is lost over calls one after another, if each loses none. So an allocator that has no
+/// pools, is used, and is cleaned up once all its sets are free leaves the ledger's pools exactly
+/// as they were. A new allocator has no pools; neither has one whose requests were refused before a
+/// pool came.
 ///
 /// That none is lost says of each live pool that the books name it, or that it is another's, which
 /// is as it was: for the books of an allocator are always one or the other.
@@ -93,9 +95,11 @@ pub fn no_pool_is_lost<P>()
         (table_of name a) → (pool : ℕ) → IsNamed (state_of name a l) pool ⊎ IsForeign
         (state_of name a l) pool }
 
-    // All pools are others' where the allocator has no keys.
+    // All pools are others' where the allocator has no pools, as where it has no keys.
     ensures all_others { (name : P → ℕ) (a : Allocations P) (l : Ledger) → a.table ≡ [] → others_of
         name a l ≡ l.pools }
+    ensures no_pools { (name : P → ℕ) (a : Allocations P) (l : Ledger) → HasNoPools
+        (state_of name a l) → others_of name a l ≡ l.pools }
 {}
 
 /// Sums over all keys depend on the books alone.

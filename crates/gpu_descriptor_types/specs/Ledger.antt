@@ -1,6 +1,6 @@
 -- What a device owes: its live pools with their live sets, and how often each thing was done. What
 -- each call asks of the ledger, and what it leaves.
-use Rattle.std.specs.Prelude.{◌≡◌, ℕ, ◌+◌, ◌-◌, ◌*◌, ◌≤◌, List, ◌++◌, map, length, Bool, IsTrue, Option, Some, None, nat_eq, slice_index, sum_by, IfSome}
+use Rattle.std.specs.Prelude.{◌≡◌, ℕ, ◌+◌, ◌-◌, ◌*◌, ◌≤◌, List, ◌++◌, map, length, Bool, IsTrue, Option, Some, None, nat_eq, slice_index, sum_by, IfSome, All}
 use Rattle.std.specs.Map.{update}
 use Rattle.std.specs.Option.{option_map}
 use Rattle.std.specs.Iterator.{YieldsThen}
@@ -9,6 +9,7 @@ use Rattle.gpu_descriptor_types.specs.declared.errors.CreatePoolError.TheVariant
 use Rattle.gpu_descriptor_types.specs.declared.errors.DeviceAllocationError.{DeviceAllocationError}
 use Rattle.gpu_descriptor_types.specs.declared.errors.DeviceAllocationError.TheVariants as alloc_error
 use Rattle.gpu_descriptor_types.specs.Flags.{CanFree, IsUpdateAfterBind}
+use Rattle.gpu_descriptor_types.specs.Meaning.{Meaning, IsOfLayout}
 use Rattle.gpu_descriptor_types.specs.Multiset.{LiveSet, times, Spells, AreIn}
 
 -- a live pool. live says how often each set is live in it, refusals how often it refused for its own sake
@@ -141,14 +142,15 @@ pub record Sink (K S X : Type 0) : Type 0 where
   pub room_left : K → ℕ
 
 module _ {K S X : Type 0} (sink : Sink K S X) where
-  -- exactly n sets were put, and are live in the pool with these counts
-  pub record Puts (set_name : S → ℕ) (name n : ℕ) (counts : List ℕ) (old new : K) (before after : Ledger) : Type 0 where
+  -- exactly n sets of the layout were put, and are live in the pool
+  pub record Puts {L P : Type 0} (means : Meaning L P S) (layout : L) (name n : ℕ) (old new : K) (before after : Ledger) : Type 0 where
     pub sets : List S
     pub many : length sets ≡ n
+    pub own : All (IsOfLayout means layout) sets
     pub kept : sink.kept new ≡ sink.kept old ++ map (sink.kept_as old) sets
     pub alike : sink.kept_as new ≡ sink.kept_as old
     pub room : sink.room_left new + n ≡ sink.room_left old
-    pub ledger : after ≡ after_alloc name (live_sets counts (map set_name sets)) before
+    pub ledger : after ≡ after_alloc name (live_sets (means.counts layout) (map means.set_name sets)) before
 
   -- nothing was put, and the error was counted
   pub record PutsNone (name : ℕ) (e : DeviceAllocationError) (old new : K) (before after : Ledger) : Type 0 where

@@ -17,8 +17,8 @@ use crate::sink::SetSink;
 
 /// A device with layouts `L`, raw pools `P` and raw sets `S`.
 ///
-/// An implementation says what its values mean: names of pools and sets, counts and marks of
-/// layouts, and a ledger of its live pools and of what was done. Each call says by one equation on
+/// An implementation says what its values mean: names of pools, sets and layouts, counts and marks
+/// of layouts, the layout of a set, and a ledger of its live pools and of what was done. Each call says by one equation on
 /// the ledger what it leaves, so whatever it does not name stays. Refusals are free: each call that
 /// answers a `Result` may refuse whenever it likes.
 pub trait DescriptorDevice<L, P, S> {
@@ -57,9 +57,8 @@ pub trait DescriptorDevice<L, P, S> {
             layouts)) (meaning.mark (layout layouts)) (ledger self.old) }
         requires room { left layouts ≤ K.sink.room_left sets.old }
         ensures name { meaning.pool_name pool.new ≡ meaning.pool_name pool.old }
-        ensures ok { OnOk result (Puts K.sink meaning.set_name (meaning.pool_name pool.old) (left
-            layouts.entry) (meaning.counts (layout layouts.entry)) sets.old sets.new (ledger
-            self.old) (ledger self.new)) }
+        ensures ok { OnOk result (Puts K.sink meaning (layout layouts.entry) (meaning.pool_name
+            pool.old) (left layouts.entry) sets.old sets.new (ledger self.old) (ledger self.new)) }
         ensures err { IfErr result (λ e. PutsNone K.sink (meaning.pool_name pool.old) e sets.old
             sets.new (ledger self.old) (ledger self.new)) };
 

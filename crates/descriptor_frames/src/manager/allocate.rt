@@ -6,7 +6,7 @@ ghost use Rattle.gpu_descriptor.specs.Caller.HandsOut.{HandsOut};
 ghost use Rattle.gpu_descriptor.specs.Caller.Keeps.{Keeps};
 ghost use Rattle.gpu_descriptor.specs.Caller.Flags.{is_marked};
 ghost use Rattle.gpu_descriptor.specs.Caller.Call.{layout_key};
-ghost use Rattle.gpu_descriptor.specs.Caller.Sets.{items_of};
+ghost use Rattle.gpu_descriptor.specs.Caller.Sets.{AreOfLayout, items_of};
 ghost use Rattle.gpu_descriptor.specs.Caller.States.{Agrees};
 
 use super::FrameManager;
@@ -36,6 +36,7 @@ impl<P: Drop, S: Drop> FrameManager<P, S> {
         ensures hands_out { HandsOut D.meaning (layout_key D.meaning layout.now) count result
             (side (allocator_of self.old) (D.ledger device.old))
             (side (allocator_of self.new) (D.ledger device.new)) }
+        ensures own { IfOk result (λ sets. AreOfLayout D.meaning layout.now sets.items) }
         ensures keeps { Keeps D.meaning (side (allocator_of self.old) (D.ledger device.old))
             (side (allocator_of self.new) (D.ledger device.new)) }
 

@@ -10,7 +10,7 @@ ghost use Rattle.descriptor_lines.specs.Commands.{IsKnown, IsRunnable};
 ghost use Rattle.descriptor_lines.specs.LayoutTable.{layout_count, layout_named};
 ghost use Rattle.descriptor_lines.specs.LineStates.{line_state};
 ghost use Rattle.descriptor_lines.specs.Programs.{AddsLayout, Begins, CanRun, Does, DoesCommand};
-ghost use Rattle.descriptor_lines.specs.Programs.{IsUnchanged, KeepsDevice};
+ghost use Rattle.descriptor_lines.specs.Programs.{IsUnchanged};
 
 use super::Program;
 use crate::answer;
@@ -68,8 +68,6 @@ impl<D: LineDevice> Program<D> {
             (line_state D.ledger D.script self.new)) }
         ensures answered { OnOk result (string_bytes answer.new ≡ string_bytes answer.old
             ++ limit_answer_of max) }
-        ensures device { OnErr result (KeepsDevice (line_state D.ledger D.script self.old)
-            (line_state D.ledger D.script self.new)) }
         ensures err { OnErr result (IsUnchanged (line_state D.ledger D.script self.old)
             (line_state D.ledger D.script self.new)) }
         ensures begun { self.new.has_begun ≡ self.old.has_begun }
@@ -92,8 +90,6 @@ impl<D: LineDevice> Program<D> {
         ensures ready { CanRun (line_state D.ledger D.script self.new) }
         ensures adds { OnOk result (AddsLayout name.now layout
             (line_state D.ledger D.script self.old) (line_state D.ledger D.script self.new)) }
-        ensures device { OnErr result (KeepsDevice (line_state D.ledger D.script self.old)
-            (line_state D.ledger D.script self.new)) }
         ensures answered { OnOk result (string_bytes answer.new ≡ string_bytes answer.old
             ++ layout_answer_of name.now (sum (kinds layout.counts))) }
         ensures err { OnErr result (IsUnchanged (line_state D.ledger D.script self.old)
@@ -122,8 +118,6 @@ impl<D: LineDevice> Program<D> {
             ≡ record (line_state D.ledger D.script self.old) { script = script.items }) }
         ensures answered { OnOk result (string_bytes answer.new ≡ string_bytes answer.old
             ++ script_answer_of (length script.items)) }
-        ensures device { OnErr result (KeepsDevice (line_state D.ledger D.script self.old)
-            (line_state D.ledger D.script self.new)) }
         ensures err { OnErr result (IsUnchanged (line_state D.ledger D.script self.old)
             (line_state D.ledger D.script self.new)) }
         ensures begun { self.new.has_begun ≡ self.old.has_begun }

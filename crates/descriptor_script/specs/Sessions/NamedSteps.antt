@@ -3,7 +3,7 @@ use Rattle.std.specs.Prelude.{◌≡◌, ℕ, ◌<◌, ◌≤◌, List, length, 
 use Rattle.gpu_descriptor_types.specs.Meaning.{Meaning}
 use Rattle.gpu_descriptor_types.specs.Side.{Side}
 use Rattle.gpu_descriptor.specs.Model.Outcomes.{Allocates}
-use Rattle.gpu_descriptor.specs.Caller.Sets.{items_of, raw_of}
+use Rattle.gpu_descriptor.specs.Caller.Sets.{AreOfLayout, items_of, raw_of}
 use Rattle.gpu_descriptor.specs.declared.set.DescriptorSet.{DescriptorSet}
 use Rattle.descriptor_script.specs.Sessions.Names.{AreNamedOnce, HoldsEach, place_of}
 use Rattle.descriptor_script.specs.Sessions.NamedSets.{handles_of, names_of}
@@ -29,6 +29,7 @@ module _ {L P : Type 0} (means : Meaning L P ℕ) (old new : Side (Session L P �
       pub given : List (DescriptorSet ℕ)
       pub outcome : Allocates (request_of means layout count old new known (Ok (items_of means.set_name given)))
       pub all_given : length given ≡ count
+      pub own : AreOfLayout means known.layout given
       pub held : HoldsEach (names_of shown) given (named_of old.value) (named_of new.value)
       pub handles : handles_of shown ≡ map raw_of given
 

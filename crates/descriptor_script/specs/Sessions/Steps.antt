@@ -8,7 +8,7 @@ use Rattle.gpu_descriptor.specs.Model.Agreement.{Item}
 use Rattle.gpu_descriptor.specs.Model.Outcomes.{Allocates, Call}
 use Rattle.gpu_descriptor.specs.Model.Promises.{HasCause}
 use Rattle.gpu_descriptor.specs.Caller.Call.{call_of, layout_key}
-use Rattle.gpu_descriptor.specs.Caller.Sets.{items_of}
+use Rattle.gpu_descriptor.specs.Caller.Sets.{AreOfLayout, items_of}
 use Rattle.gpu_descriptor.specs.declared.errors.AllocationError.{AllocationError}
 use Rattle.gpu_descriptor.specs.declared.set.DescriptorSet.{DescriptorSet}
 use Rattle.descriptor_script.specs.Sessions.Session.{allocator_of, allocator_on, layouts_of, sets_of}
@@ -26,6 +26,13 @@ pub record IsAsBefore {L P S : Type 0} (old new : Side (Session L P S)) : Type 0
   pub layouts : layouts_of new.value ≡ layouts_of old.value
   pub sets : sets_of new.value ≡ sets_of old.value
   pub ledger : new.ledger ≡ old.ledger
+
+-- the reply of a command that was turned away before the device was asked
+abbrev pub IsTurnedAway : Reply → Type 0
+IsTurnedAway BadTicket = Unit {0}
+IsTurnedAway BadLayout = Unit {0}
+IsTurnedAway NoMemory = Unit {0}
+IsTurnedAway _ = ⊥
 
 -- what may be said of a command, its reply, and the session before it and after it
 abbrev pub OfStep : (L P S : Type 0) → Type 1
@@ -45,6 +52,7 @@ module _ {L P S : Type 0} (means : Meaning L P S) where
       pub outcome : Allocates (request_of known (Ok (items_of means.set_name given)))
       pub asked : many ≡ count
       pub all_given : length given ≡ count
+      pub own : AreOfLayout means known.layout given
       pub first : next ≡ length (sets_of old.value)
       pub sets : sets_of new.value ≡ sets_of old.value ++ map Some given
 

@@ -1,5 +1,5 @@
 //! Requests and frees of sets that have names, in places that are used again.
-ghost use Rattle.std.specs.Prelude.{◌≡◌, ◌≢◌, Err, ◌+◌, ◌<◌, ◌≤◌, OnErr, OnOk, drop, length, take, vec_capacity};
+ghost use Rattle.std.specs.Prelude.{◌≡◌, ◌≢◌, Err, ◌+◌, ◌<◌, ◌≤◌, IfErr, OnErr, OnOk, drop, length, take, vec_capacity};
 ghost use Rattle.gpu_descriptor_types.specs.Side.{side};
 ghost use Rattle.descriptor_script.specs.Sessions.Names.{KeepsNames};
 ghost use Rattle.descriptor_script.specs.Sessions.NamedSets.{names_of, places_of};
@@ -7,6 +7,7 @@ ghost use Rattle.descriptor_script.specs.Sessions.Headline.{GoBackInRuns, GoBack
 ghost use Rattle.descriptor_script.specs.Sessions.NamedSteps.{AllocatesNamed, FreesAt, FreesNamed};
 ghost use Rattle.descriptor_script.specs.Sessions.Session.{IsReady, KeepsSession, named_of};
 ghost use Rattle.descriptor_script.specs.Sessions.Session.{HasRoomToFree};
+ghost use Rattle.descriptor_script.specs.Sessions.Steps.{IsTurnedAway};
 
 use super::Session;
 use crate::command::Reply;
@@ -32,6 +33,7 @@ impl<L, P: Drop> Session<L, P, u64> {
         requires long { count ≤ length shown.old }
         ensures step { AllocatesNamed D.meaning (side self.old (D.ledger device.old))
             (side self.new (D.ledger device.new)) layout count (take count shown.new) result }
+        ensures device { IfErr result (λ reply. IsTurnedAway reply → device.new ≡ device.old) }
         ensures names { KeepsNames (named_of self.old) (named_of self.new) }
         ensures room { HasRoomToFree self.old → HasRoomToFree self.new }
         ensures others { drop count shown.new ≡ drop count shown.old }
@@ -72,6 +74,7 @@ impl<L, P: Drop> Session<L, P, u64> {
         requires ready { IsReady D.meaning (side self.old (D.ledger device.old)) }
         ensures step { FreesNamed D.meaning (side self.old (D.ledger device.old))
             (side self.new (D.ledger device.new)) (names_of sets.now) result }
+        ensures device { IfErr result (λ reply. IsTurnedAway reply → device.new ≡ device.old) }
         ensures one_by_one { OnOk result (GoBackOneByOne D.meaning (places_of sets.now)
             (side self.old (D.ledger device.old)) (side self.new (D.ledger device.new))) }
         ensures one_call_a_run { OnOk result (GoBackInRuns D.meaning (places_of sets.now)
@@ -103,6 +106,7 @@ impl<L, P: Drop> Session<L, P, u64> {
         ensures step { FreesAt D.meaning (side self.old (D.ledger device.old))
             (side self.new (D.ledger device.new)) (names_of sets.now) (vec_capacity places.old)
             result }
+        ensures device { IfErr result (λ reply. IsTurnedAway reply → device.new ≡ device.old) }
         ensures one_by_one { OnOk result (GoBackOneByOne D.meaning (places_of sets.now)
             (side self.old (D.ledger device.old)) (side self.new (D.ledger device.new))) }
         ensures names { KeepsNames (named_of self.old) (named_of self.new) }

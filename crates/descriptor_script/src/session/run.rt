@@ -1,8 +1,9 @@
 //! Commands, one after another.
-ghost use Rattle.std.specs.Prelude.{◌≡◌, IfOk, OnErr};
+ghost use Rattle.std.specs.Prelude.{◌≡◌, All, IfOk, OnErr};
 ghost use Rattle.gpu_descriptor_types.specs.Side.{side};
 ghost use Rattle.descriptor_script.specs.Sessions.Session.{IsReady, KeepsSession};
 ghost use Rattle.descriptor_script.specs.Sessions.SessionRun.{RunsTo};
+ghost use Rattle.descriptor_script.specs.Sessions.Steps.{IsTurnedAway};
 
 use super::Session;
 use crate::command::{Command, Reply};
@@ -20,7 +21,9 @@ impl<L, P: Drop, S: Drop> Session<L, P, S> {
         ensures runs { IfOk result (λ replies. RunsTo D.meaning commands.now replies.items
             (side self.old (D.ledger device.old)) (side self.new (D.ledger device.new))) }
         ensures session { OnErr result (self.new ≡ self.old) }
-        ensures ledger { OnErr result (D.ledger device.new ≡ D.ledger device.old) }
+        ensures device { OnErr result (device.new ≡ device.old) }
+        ensures turned_away { IfOk result (λ replies. All IsTurnedAway replies.items
+            → device.new ≡ device.old) }
         ensures keeps { KeepsSession D.meaning (side self.old (D.ledger device.old))
             (side self.new (D.ledger device.new)) }
     {

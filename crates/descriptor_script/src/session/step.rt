@@ -4,7 +4,7 @@ ghost use Rattle.gpu_descriptor_types.specs.Side.{side};
 ghost use Rattle.descriptor_script.specs.Sessions.Session.{IsReady, KeepsSession};
 ghost use Rattle.descriptor_script.specs.Sessions.Session.{named_of, room_to_free, sets_of};
 ghost use Rattle.descriptor_script.specs.Sessions.Steps.{AllocatesTo, Cleans, FreesTo, GivesUp};
-ghost use Rattle.descriptor_script.specs.Sessions.Steps.{KeepsTickets, StepsTo};
+ghost use Rattle.descriptor_script.specs.Sessions.Steps.{IsTurnedAway, KeepsTickets, StepsTo};
 ghost use Rattle.descriptor_script.specs.Sessions.Tickets.{AreHeldOnce};
 
 use super::Session;
@@ -17,12 +17,14 @@ use std::mem;
 impl<L, P: Drop, S: Drop> Session<L, P, S> {
     /// Does what a command says. `Free` and `Cleanup` take no memory.
     ///
-    /// A reply of `BadTicket`, `BadLayout` or `NoMemory` says that nothing changed.
+    /// A reply of `BadTicket`, `BadLayout` or `NoMemory` says that nothing changed, and that the
+    /// device was not asked.
     pub fn step<D: DescriptorDevice<L, P, S>>(&mut self, device: &mut D, command: &Command) -> Reply
         requires ready { IsReady D.meaning (side self.old (D.ledger device.old)) }
         ensures step { StepsTo D.meaning command.now result (side self.old (D.ledger device.old))
             (side self.new (D.ledger device.new)) }
         ensures tickets { KeepsTickets self.old self.new }
+        ensures device { IsTurnedAway result → device.new ≡ device.old }
         ensures keeps { KeepsSession D.meaning (side self.old (D.ledger device.old))
             (side self.new (D.ledger device.new)) }
     {
@@ -46,6 +48,7 @@ impl<L, P: Drop, S: Drop> Session<L, P, S> {
         requires ready { IsReady D.meaning (side self.old (D.ledger device.old)) }
         ensures step { AllocatesTo D.meaning layout count (side self.old (D.ledger device.old))
             (side self.new (D.ledger device.new)) result }
+        ensures device { IsTurnedAway result → device.new ≡ device.old }
         ensures keeps { KeepsSession D.meaning (side self.old (D.ledger device.old))
             (side self.new (D.ledger device.new)) }
     {
@@ -73,6 +76,7 @@ impl<L, P: Drop, S: Drop> Session<L, P, S> {
         requires ready { IsReady D.meaning (side self.old (D.ledger device.old)) }
         ensures step { FreesTo D.meaning tickets.now (side self.old (D.ledger device.old))
             (side self.new (D.ledger device.new)) result }
+        ensures device { IsTurnedAway result → device.new ≡ device.old }
         ensures keeps { KeepsSession D.meaning (side self.old (D.ledger device.old))
             (side self.new (D.ledger device.new)) }
     {

@@ -1,5 +1,5 @@
 -- Cleaning up: the whole empty front of each key goes.
-use Rattle.gpu_descriptor.proofs.Common.{if◌then◌else◌, ◌≡◌, ℕ, zero, suc, ◌==◌, ◌+◌, ◌-◌, ◌<◌, ◌≤◌, true, false, List, [], ◌∷◌, length, take, drop, count_by, slice_get, Option, Some, None, ◌⊎◌, inl, inr, refl, sym, ap, ◌∙◌, arith, eq-eqb, ne_eqb, length-drop, ∥∥₁_elim, props, list_any, prefix_len, cases_eq, false_from_ne_true, or_right, prefix_len-le-length, sum_by-cons, set_of, Item, State, live_in, outstanding, HasSize, Agree, live_at, Key, key_eq, Entry, Bucket, entry_at, no_pools, LiveSet, set_eq, set_exact, count_by_yes, common_steps, IsCleaned, cleaned_bucket, pools_cleaned, is_empty, empty_front, without_front, in_front}
+use Rattle.gpu_descriptor.proofs.Common.{if◌then◌else◌, ◌≡◌, ℕ, zero, suc, ◌==◌, ◌+◌, ◌-◌, ◌<◌, ◌≤◌, true, false, List, [], ◌∷◌, length, take, drop, count_by, slice_get, Option, Some, None, ◌⊎◌, inl, inr, refl, sym, ap, ◌∙◌, arith, eq-eqb, ne_eqb, length-drop, ∥∥₁_elim, props, list_any, prefix_len, cases_eq, false_from_ne_true, or_right, prefix_len-le-length, sum_by-cons, set_of, Item, State, live_in, outstanding, HasSize, Agree, HasNoPools, live_at, Key, key_eq, Entry, Bucket, entry_at, no_pools, LiveSet, set_eq, set_exact, count_by_yes, common_steps, IsCleaned, cleaned_bucket, pools_cleaned, is_empty, empty_front, without_front, in_front}
 use Rattle.gpu_descriptor.proofs.release.Fronts.{entry_at-found, entry_at-from, entry_at-without, entry_at-kept}
 use Rattle.gpu_descriptor.proofs.release.Places.{live_there_at, outstanding_at, outstanding_found, size_pos}
 use Rattle.gpu_descriptor.proofs.release.ReleaseAgrees.{if_none, front_found, cases_option}
@@ -63,6 +63,9 @@ whole_front s agree nothing k =
 
 pub nothing_left : (s t : State) → Agree s → ((i : Item) → outstanding s i ≡ 0) → IsCleaned s t → (k : Key) → t.books k ≡ no_pools
 nothing_left s t agree nothing clean k = grind (arith, whole_front)
+
+pub no_pool_left : (s t : State) → Agree s → ((i : Item) → outstanding s i ≡ 0) → IsCleaned s t → HasNoPools t
+no_pool_left s t agree nothing clean k = ap (λ (b : Bucket). b.pools) (nothing_left s t agree nothing clean k)
 
 -- a pool of the list is among them all
 among_all : (es : List Entry) (i : ℕ) (e : Entry) → slice_get es i ≡ Some e → list_any (λ d. d.pool == e.pool) (take (length es) es) ≡ true

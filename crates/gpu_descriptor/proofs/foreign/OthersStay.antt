@@ -1,11 +1,11 @@
 -- The pools that are none of the allocator's are a function of books and ledger, and each call leaves it.
-use Rattle.gpu_descriptor.proofs.Common.{◌≡◌, ℕ, ◌+◌, ◌-◌, ◌==◌, Bool, true, false, List, [], ◌∷◌, slice_get, Option, Some, None, inl, inr, refl, sym, ap, ◌∙◌, arith, fun_ext, list_any, cases_Bool, nil_from_length, ∥∥₁_elim, props, Pool, Ledger, State, Item, Agree, count_of, outstanding, Key, Bucket, HasDistinctKeys, books_of, no_pools, Allocations, IsCleaned, IsForeign, IsNamed, KeepsForeign, LosesNone, is_named, outstanding_of, state_of, table_of}
+use Rattle.gpu_descriptor.proofs.Common.{◌≡◌, ℕ, ◌+◌, ◌-◌, ◌==◌, Bool, true, false, List, [], ◌∷◌, slice_get, Option, Some, None, inl, inr, refl, sym, ap, ◌∙◌, arith, fun_ext, list_any, cases_Bool, nil_from_length, ∥∥₁_elim, props, Pool, Ledger, State, Item, Agree, HasNoPools, count_of, outstanding, Key, Bucket, HasDistinctKeys, books_of, Allocations, IsCleaned, IsForeign, IsNamed, KeepsForeign, LosesNone, is_named, outstanding_of, state_of, table_of}
 use Rattle.gpu_descriptor.specs.Caller.Others.{others_of}
-use Rattle.gpu_descriptor.proofs.cleanup.Cleaning.{nothing_left}
+use Rattle.gpu_descriptor.proofs.cleanup.Cleaning.{no_pool_left}
 use Rattle.gpu_descriptor.proofs.table.Exact.{key_exact}
 use Rattle.gpu_descriptor.proofs.foreign.ForeignPools.{cleaned_foreign, cleaned_loses}
 use Rattle.gpu_descriptor.proofs.release.Fronts.{entry_at-from}
-use Rattle.gpu_descriptor.proofs.foreign.NoneLost.{found_in, no_keys, none_in}
+use Rattle.gpu_descriptor.proofs.foreign.NoneLost.{all_foreign, found_in, none_in}
 use Rattle.gpu_descriptor.proofs.sums.OutSets.{out_is_size}
 use Rattle.gpu_descriptor.proofs.table.Tables.{absent}
 use Rattle.gpu_descriptor.proofs.sums.TableSums.{outstanding_of-table}
@@ -54,10 +54,10 @@ module _ {P : Type 0} (name : P → ℕ) where
       apart c n q is foreign = (let x = named (table_of name c) n.pools q is in foreign x.0 x.1 x.2 x.3 x.4)
 
   -- without pools in the books all are others
-  pub all_others : (a : Allocations P) (l : Ledger) → ((k : Key) → (state_of name a l).books k ≡ no_pools) → others_of name a l ≡ l.pools
+  pub all_others : (a : Allocations P) (l : Ledger) → HasNoPools (state_of name a l) → others_of name a l ≡ l.pools
   unfolding others_of
   all_others a l empty = fun_ext (λ q. elim (cases_Bool (is_named (table_of name a) q)) [
-    | inl is ↦ absurd (let x = named (table_of name a) l.pools q is in no_keys (state_of name a l) empty q x.0 x.1 x.2 x.3 x.4)
+    | inl is ↦ absurd (let x = named (table_of name a) l.pools q is in all_foreign (state_of name a l) empty q x.0 x.1 x.2 x.3 x.4)
     | inr is ↦ rw is refl
   ])
 
@@ -68,4 +68,4 @@ module _ {P : Type 0} (name : P → ℕ) where
       let t : State = state_of name b m in
       let sets = out_is_size s (outstanding_of a) agree (record { table = table_of name a; distinct = distinct; keeps = λ k. refl; total = sym (outstanding_of-table name a) }) in
       let nothing : (i : Item) → outstanding s i ≡ 0 = λ i. ∥∥₁_elim sets (search props) (λ all. sym (all.2 i) ∙ ap (count_of i) (nil_from_length all.0 (all.1 ∙ back))) in
-      sym (all_others b m (nothing_left s t agree nothing clean)) ∙ others_stay a b l m (cleaned_foreign s t clean) (cleaned_loses s t clean)
+      sym (all_others b m (no_pool_left s t agree nothing clean)) ∙ others_stay a b l m (cleaned_foreign s t clean) (cleaned_loses s t clean)

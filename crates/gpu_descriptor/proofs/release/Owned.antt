@@ -68,7 +68,7 @@ module _ {P S : Type 0} (name : P → ℕ) (set_name : S → ℕ) (a : Allocatio
       let f = outstanding_found s t 0 out in
       elim (some_or_none (lookup (is_of t.key) es)) [
         | inl row ↦ record { bucket = row.0; found = row.1; has = sym (ap (λ (b : Bucket). b.id) (looked t.key (Some row.0) row.1)) ∙ f.3 }
-        | inr none ↦ absurd (none_at t.number f.0 (ap (λ (b : Bucket). entry_at b t.number) (sym (looked t.key None none)) ∙ f.1))
+        | inr none ↦ absurd (none_at no_pools t.number f.0 refl (ap (λ (b : Bucket). entry_at b t.number) (sym (looked t.key None none)) ∙ f.1))
       ]
 
   -- the first set of a list that is out

@@ -44,7 +44,7 @@ module _ {L P S : Type 0} {means : Meaning L P S} {k : Key} {count : ℕ} (sets 
         nothing = λ zero. absurd (omega arith);
         many = kept_many t agree.books is;
         given = taken_out t agree.books;
-        own = taken_own t agree.books;
+        of_key = taken_own t agree.books;
         totals = kept_totals t agree.books is;
         totals_stay = tt;
         back = tt;
@@ -71,7 +71,7 @@ module _ {L P S : Type 0} {means : Meaning L P S} {k : Key} {count : ℕ} (sets 
         nothing = λ zero. absurd (omega arith);
         many = tt;
         given = tt;
-        own = tt;
+        of_key = tt;
         totals = tt;
         totals_stay = back_totals t agree.books r.back;
         back = back_out t agree.books r.back;
@@ -94,7 +94,7 @@ module _ {L P S : Type 0} {means : Meaning L P S} {k : Key} {count : ℕ} {old n
     nothing = λ zero. absurd (omega arith);
     many = tt;
     given = tt;
-    own = tt;
+    of_key = tt;
     totals = tt;
     totals_stay = (λ i. outstanding_of (same i), λ i. marked_load_of (same i));
     back = λ u i. outstanding (state_of means.pool_name (same i) (ledger i)) u;

@@ -26,7 +26,7 @@ pub record HandsOut {L P S : Type 0} (means : Meaning L P S) (k : Key) (count : 
   pub many : IfOk answer (λ sets. length sets.items ≡ count)
   -- exactly the sets of the answer are outstanding besides those before
   pub given : IfOk answer (λ sets. AreOutBesides (items_of means.set_name sets.items) (state_of means.pool_name old.value old.ledger) (state_of means.pool_name new.value new.ledger))
-  pub own : IfOk answer (λ sets. AreOfKey k (items_of means.set_name sets.items))
+  pub of_key : IfOk answer (λ sets. AreOfKey k (items_of means.set_name sets.items))
   pub totals : IfOk answer (λ sets. (outstanding_of new.value ≡ outstanding_of old.value + count) × (marked_load_of new.value ≡ marked_load_of old.value + set_descriptors k count))
   -- a refusal gives back what it took
   pub totals_stay : OnErr answer ((outstanding_of new.value ≡ outstanding_of old.value) × (marked_load_of new.value ≡ marked_load_of old.value))

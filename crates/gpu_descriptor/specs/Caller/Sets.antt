@@ -1,5 +1,6 @@
 -- Sets that were handed out, as the code has them and as the books see them.
-use Rattle.std.specs.Prelude.{ℕ, List, map}
+use Rattle.std.specs.Prelude.{ℕ, List, map, All}
+use Rattle.gpu_descriptor_types.specs.Meaning.{Meaning, IsOfLayout}
 use Rattle.gpu_descriptor.specs.declared.set.DescriptorSet.{DescriptorSet}
 use Rattle.gpu_descriptor.specs.Model.Agreement.{Item}
 
@@ -14,3 +15,7 @@ module _ {S : Type 0} where
 
   abbrev pub items_of : (S → ℕ) → List (DescriptorSet S) → List Item
   items_of name xs = map (item_of name) xs
+
+  -- each has a raw set that was made with the layout
+  abbrev pub AreOfLayout : {L P : Type 0} → Meaning L P S → L → List (DescriptorSet S) → Type 0
+  AreOfLayout means layout xs = All (λ x. IsOfLayout means layout x.raw) xs

@@ -11,9 +11,13 @@ pub record State : Type 0 where
   pub books : Key → Bucket
   pub ledger : ℕ → Option Pool
 
--- the books are as if no key ever came
+-- no key has a pool. A key that came may have an id
 abbrev pub HasNoPools : State → Type 0
-HasNoPools s = (k : Key) → s.books k ≡ no_pools
+HasNoPools s = (k : Key) → (s.books k).pools ≡ []
+
+-- the books are as if no key ever came
+abbrev pub HasNoKeys : State → Type 0
+HasNoKeys s = (k : Key) → s.books k ≡ no_pools
 
 -- ---- sets that were handed out
 

@@ -11,6 +11,7 @@ ghost use Rattle.gpu_descriptor.specs.Caller.HandsOut.{HandsOut};
 ghost use Rattle.gpu_descriptor.specs.Caller.Keeps.{Keeps};
 ghost use Rattle.gpu_descriptor.specs.Caller.Keys.{with_key};
 ghost use Rattle.gpu_descriptor.specs.Inner.KeyOf.{key_of};
+ghost use Rattle.gpu_descriptor.specs.Caller.Sets.{AreOfLayout};
 ghost use Rattle.gpu_descriptor.specs.Caller.States.{Agrees, keys_of, marked_load_of};
 ghost use Rattle.gpu_descriptor.specs.Model.Load.{bucket_load, sets_out};
 ghost use Rattle.gpu_descriptor.specs.Model.Outcomes.{error_of_alloc as alloc_answer};
@@ -72,6 +73,7 @@ impl<P: Drop, S: Drop> DescriptorAllocator<P, S> {
 
         ensures hands_out { HandsOut D.meaning (layout_key D.meaning layout.now) count result
             (side self.old (D.ledger device.old)) (side self.new (D.ledger device.new)) }
+        ensures own { IfOk result (λ sets. AreOfLayout D.meaning layout.now sets.items) }
         ensures keeps { Keeps D.meaning (side self.old (D.ledger device.old))
             (side self.new (D.ledger device.new)) }
     {
@@ -108,6 +110,7 @@ impl<P: Drop, S: Drop> DescriptorAllocator<P, S> {
         requires agree { Agrees D.meaning.pool_name self.old (D.ledger device.old) }
         ensures taken { IfOk result (λ r. Takes D.meaning (key_of key) count r.sets.items r.taken
             (side self.old (D.ledger device.old)) (side self.new (D.ledger device.new))) }
+        ensures own { IfOk result (λ r. AreOfLayout D.meaning layout.now r.sets.items) }
         ensures declined { IfErr result (λ e. IsDeclined (call_of D.meaning (key_of key) count
             (side self.old (D.ledger device.old)) (side self.new (D.ledger device.new)) (Err e))) }
         ensures looks { CountsLooks self.old.looks self.new.looks
@@ -178,6 +181,7 @@ fn serve_key<L, P: Drop, S: Drop, D: DescriptorDevice<L, P, S>>(
     ensures served { IfOk result (λ r. ServesKey D.meaning (key_of request.now.key) room.old
         request.now.count r.sets.items r.taken (map row_of buckets.old.entries)
         (map row_of buckets.new.entries) (D.ledger device.old) (D.ledger device.new)) }
+    ensures own { IfOk result (λ r. AreOfLayout D.meaning request.now.layout.now r.sets.items) }
     ensures refused { IfErr result (λ e. IsUnserved request.now.count e (books_in
         D.meaning.pool_name (map row_of buckets.old.entries) (key_of request.now.key))) }
     ensures looks { CountsLooks looks.old.count looks.new.count

@@ -10,7 +10,7 @@ ghost use Rattle.gpu_descriptor_types.specs.PoolSize.{pool_counts as pool_counts
 ghost use Rattle.gpu_descriptor.specs.declared.set.DescriptorSet.{DescriptorSet};
 ghost use Rattle.gpu_descriptor.specs.Model.Load.{pool_descriptors};
 ghost use Rattle.gpu_descriptor.specs.Inner.KeyOf.{key_of};
-ghost use Rattle.gpu_descriptor.specs.Caller.Sets.{items_of};
+ghost use Rattle.gpu_descriptor.specs.Caller.Sets.{AreOfLayout, items_of};
 ghost use Rattle.gpu_descriptor.specs.Inner.Stored.{bucket_of, entry_of, stored_load};
 ghost use Rattle.gpu_descriptor.specs.Model.Books.{next_number};
 ghost use Rattle.gpu_descriptor.specs.Inner.OpenPools.{CountsLooks, IsListed, KeepsView, bucket_in};
@@ -104,6 +104,8 @@ fn ask<L, P, S, D: DescriptorDevice<L, P, S>>(
         IsAsked (key_of key.now) wanted (map D.meaning.set_name put)
         (entry_of D.meaning.pool_name pool.old) (entry_of D.meaning.pool_name pool.new)
         (D.ledger device.old) (D.ledger device.new)) }
+    ensures own { AreOfLayout D.meaning layout.now sink.old.sets.items
+        → AreOfLayout D.meaning layout.now sink.new.sets.items }
     ensures err { IfErr result (λ e. (sink.new.sets.items ≡ sink.old.sets.items) × (entry_of
         D.meaning.pool_name pool.new ≡ entry_of D.meaning.pool_name pool.old) × IsNoMemory wanted
         (entry_of D.meaning.pool_name pool.old) e (D.ledger device.old) (D.ledger device.new)) }
@@ -154,6 +156,8 @@ fn walk<'k, L, P, S, D: DescriptorDevice<L, P, S>>(
         (key_of request.now.key) 0 request.now.count (items_of D.meaning.set_name put)
         (bucket_in D.meaning.pool_name view.old) (bucket_in D.meaning.pool_name view.new)
         (D.ledger device.old) (D.ledger device.new)) }
+    ensures own { AreOfLayout D.meaning request.now.layout.now sink.old.sets.items
+        → AreOfLayout D.meaning request.now.layout.now sink.new.sets.items }
     ensures pools { length view.new.pools.now.items ≡ length view.old.pools.now.items }
     ensures capacity { deque_capacity view.new.listed.now ≡ deque_capacity view.old.listed.now }
     ensures given { length sink.new.sets.items ≤ length sink.old.sets.items + request.now.count }
@@ -233,6 +237,7 @@ impl<P: Drop> DescriptorBucket<P> {
             request.now.count r.sets.items r.taken (bucket_of D.meaning.pool_name self.old)
             (bucket_of D.meaning.pool_name self.new) (D.ledger device.old) (D.ledger device.new) ×
             (self.new.total ≡ self.old.total + length r.sets.items)) }
+        ensures own { IfOk result (λ r. AreOfLayout D.meaning request.now.layout.now r.sets.items) }
         ensures offset { self.new.offset ≡ self.old.offset }
         ensures refused { IfErr result (λ e. IsUnserved request.now.count e
             (bucket_of D.meaning.pool_name self.old)) }
@@ -277,6 +282,8 @@ impl<P: Drop> DescriptorBucket<P> {
             (items_of D.meaning.set_name sink.new.sets.items)
             (bucket_of D.meaning.pool_name self.old) (bucket_of D.meaning.pool_name self.new)
             (D.ledger device.old) (D.ledger device.new) }
+        ensures own { AreOfLayout D.meaning request.now.layout.now sink.old.sets.items
+            → AreOfLayout D.meaning request.now.layout.now sink.new.sets.items }
         ensures id { self.new.id ≡ self.old.id }
         ensures offset { self.new.offset ≡ self.old.offset }
         ensures total { self.new.total ≡ self.old.total + length sink.new.sets.items }
@@ -324,6 +331,8 @@ impl<P: Drop> DescriptorBucket<P> {
             request.now.count (items_of D.meaning.set_name sink.new.sets.items)
             (bucket_of D.meaning.pool_name self.old) (bucket_of D.meaning.pool_name self.new)
             (D.ledger device.old) (D.ledger device.new)) }
+        ensures own { AreOfLayout D.meaning request.now.layout.now sink.old.sets.items
+            → AreOfLayout D.meaning request.now.layout.now sink.new.sets.items }
         ensures id { self.new.id ≡ self.old.id }
         ensures offset { self.new.offset ≡ self.old.offset }
         ensures total { self.new.total ≡ self.old.total + length sink.new.sets.items }
@@ -369,6 +378,8 @@ impl<P: Drop> DescriptorBucket<P> {
             (map D.meaning.set_name put) (bucket_of D.meaning.pool_name self.old).pools
             (bucket_of D.meaning.pool_name self.new).pools (D.ledger device.old)
             (D.ledger device.new)) }
+        ensures own { AreOfLayout D.meaning request.now.layout.now sink.old.sets.items
+            → AreOfLayout D.meaning request.now.layout.now sink.new.sets.items }
         ensures err { IfErr result (λ why.
             (sink.new.sets.items ≡ sink.old.sets.items)
             × (self.new.pools.items ≡ self.old.pools.items)

@@ -49,7 +49,7 @@ both (Err e) then a b = then a b
 pub returns-clause-cleans : goal.returns-clause-cleans
 returns-clause-cleans g c =
     let at = (goal.at.returns-clause-cleans g c).After-step-clean in
-    both c.run-replies.result (λ session ledger. subst (λ old. Cleans g.D.DescriptorDevice.meaning old (left g at)) (λ i. side (session i) (ledger i)) (done g at)) c.run-replies.ensures.session c.run-replies.ensures.ledger
+    both c.run-replies.result (λ session device. subst (λ old. Cleans g.D.DescriptorDevice.meaning old (left g at)) (λ i. side (session i) (g.D.DescriptorDevice.ledger (device i))) (done g at)) c.run-replies.ensures.session c.run-replies.ensures.device
 
 -- with no set held afterwards none was outstanding
 nothing : (g : _) (c : After-step-clean g) → held_sets (sets_of c.step-clean.new.self) ≡ [] → (i : Item) → outstanding (state_of g.D.DescriptorDevice.meaning.pool_name (allocator_of c.run-replies.new.self) (g.D.DescriptorDevice.ledger c.run-replies.new.device)) i ≡ 0

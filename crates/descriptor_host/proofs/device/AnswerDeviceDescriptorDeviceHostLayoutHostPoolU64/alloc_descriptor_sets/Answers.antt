@@ -56,6 +56,7 @@ returns-in-Ok-clause-ok g c =
     record {
       sets = sets;
       many = many;
+      own = λ k d within. refl;
       kept = c.put.ensures.kept;
       alike = c.put.ensures.alike;
       room = (let r = c.put.ensures.left in let l = c.len-many.ensures in omega arith);

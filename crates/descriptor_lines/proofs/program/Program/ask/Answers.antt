@@ -5,7 +5,7 @@ use Rattle.descriptor_script.specs.Sessions.SessionRun.{RunsTo}
 use Rattle.descriptor_lines.specs.Commands.{IsKnown}
 use Rattle.descriptor_lines.specs.LineStates.{line_state}
 use Rattle.descriptor_lines.specs.ReplyTexts.{sets_asked, sets_given, text_of_reply}
-use Rattle.descriptor_lines.proofs.SessionLemmas.{as_many, few_tickets, given_as_asked, has_answer, no_memory_changes_nothing, step_of_one, still_runs}
+use Rattle.descriptor_lines.proofs.SessionLemmas.{all_turned_away, as_many, few_tickets, given_as_asked, has_answer, no_memory_changes_nothing, step_of_one, still_runs}
 use Rattle.descriptor_lines.proofs.program.Program.ask.Goals as goal
 
 pub run-requires : goal.run-requires
@@ -36,7 +36,8 @@ returns-in-NoMemory-clause-err g c =
     let runs = subst (λ m. RunsTo m (c.args.command ∷ []) c.in_ok-replies.replies.items (side old before) (side new after)) g.met.D.ScriptedMeaning.scripted c.in_ok-replies.ensures.runs in
     let step = step_of_one c.args.command c.in_ok-replies.replies.items c.index.result.now old new before after runs c.index.ensures in
     let same = no_memory_changes_nothing c.args.command old new before after (rw c.in-NoMemory.is at step) in
-    record { layouts = refl; session = same }
+    let away = all_turned_away c.args.command c.in_ok-replies.replies.items c.index.result.now old new before after runs c.index.ensures (rw c.in-NoMemory.is tt) in
+    record { layouts = refl; session = same; script = ap g.D.LineDevice.script (c.in_ok-replies.ensures.turned_away away) }
 
 pub reply_answer-requires : goal.reply_answer-requires
 reply_answer-requires g c =
@@ -67,6 +68,7 @@ returns g c =
         reply = c.index.result.now;
         said = c.reply_answer.ensures.text ∙ ap (λ text. text ++ text_of_reply (sets_of new) c.index.result.now) (c.reserve.ensures.bytes ∙ c.requires.empty);
         step = step_of_one c.args.command c.in_ok-replies.replies.items c.index.result.now old new before after runs c.index.ensures;
+        turned_away = λ away. ap g.D.LineDevice.script (c.in_ok-replies.ensures.turned_away (all_turned_away c.args.command c.in_ok-replies.replies.items c.index.result.now old new before after runs c.index.ensures away));
         keeps = keeps;
         layouts = refl;
       };

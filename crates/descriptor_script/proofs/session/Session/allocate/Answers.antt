@@ -31,6 +31,7 @@ returns-in-Ok-clause-step g c = record {
   outcome = c.in-Ok.ensures.hands_out.outcome;
   asked = search rules;
   all_given = c.in-Ok.ensures.hands_out.many;
+  own = c.in-Ok.ensures.own;
   first = c.next-first.ensures ∙ ap length c.reserve.ensures.sets;
   sets = c.append.ensures ∙ ap (λ l. l ++ map Some c.in-Ok.sets.items) c.reserve.ensures.sets;
 }

@@ -1,5 +1,7 @@
-use Rattle.std.proofs.Common.{◌≡◌, ◌+◌, [], ◌∷◌, ◌++◌, take, sym, ap, ◌∙◌, arith}
+use Rattle.std.proofs.Common.{◌≡◌, ◌+◌, [], ◌∷◌, ◌++◌, Some, take, sym, ap, ◌∙◌, arith}
 use Rattle.std.proofs.lemmas.List.{take_more}
+use Rattle.std.proofs.lemmas.List.Elements.{All-pop}
+use Rattle.descriptor_script.specs.Sessions.Steps.{IsTurnedAway}
 use Rattle.descriptor_script.specs.declared.command.Command.{Command}
 use Rattle.descriptor_script.proofs.Running.{runs_more, session_through}
 use Rattle.descriptor_script.proofs.session.Session.run.Goals as goal
@@ -16,5 +18,6 @@ loop-command-preserved g c =
       runs = rw (commands, c.push_reserved.ensures.items) more;
       keeps = session_through _ inv.keeps p.keeps;
       filled = (let f = inv.filled in let l = c.push_reserved.ensures.len in omega arith);
+      turned_away = λ all. (let (before, last) = All-pop IsTurnedAway _ c.loop-command.replies.items (Some c.step-reply.result) c.push_reserved.ensures.items all in p.device last ∙ inv.turned_away before);
       room = (let r = inv.room in let cap = c.push_reserved.ensures.capacity in omega arith);
     }

@@ -1,6 +1,7 @@
 use Rattle.gpu_descriptor.proofs.Common.{◌≡◌, ℕ, ◌+◌, ◌-◌, ◌≤◌, ◌++◌, List, [], ◌∷◌, length, map, min, refl, sym, ap, ◌∙◌, subst, arith, length-map, map-append, Some, Ledger, after_alloc, after_create, after_destroy, live_sets, HasNoSets, fresh, pool_counts, DescriptorPool, Entry, Key, flags_of, key_of, set_at, pool_descriptors, entry_of}
 use Rattle.gpu_descriptor.specs.declared.bucket.take.Stop.TheVariants as stop
 use Rattle.gpu_descriptor.proofs.request.NextSize.{one_fits}
+use Rattle.gpu_descriptor.proofs.request.OwnLayout.{none_own, put_own}
 use Rattle.gpu_descriptor.proofs.request.Asks.{same_entry}
 use Rattle.gpu_descriptor.proofs.request.PoolCreated.{created_at, fresh_room, no_sets, grown, not_grown, not_created, none_asked, had_room, create_asked, alloc_asked}
 use Rattle.gpu_descriptor.proofs.bucket.DescriptorBucket.grow_one.Goals.{In-Ok, In-Ok-alloc_descriptor_sets}
@@ -117,3 +118,11 @@ returns-in-Err-alloc_descriptor_sets-clause-looks g c =
     let rise = alloc_asked c.in-Err-alloc_descriptor_sets.error (g.D.DescriptorDevice.ledger c.create_descriptor_pool.new.self).counters in
     let gone = ap (λ (x : Ledger). x.counters.asked) c.destroy_descriptor_pool.ensures in
     omega arith
+
+pub returns-in-Ok-alloc_descriptor_sets-clause-own : goal.returns-in-Ok-alloc_descriptor_sets-clause-own
+returns-in-Ok-alloc_descriptor_sets-clause-own g c =
+    let put = c.in-Ok-alloc_descriptor_sets.ensures.ok in
+    λ before. put_own g.D.DescriptorDevice.meaning c.args.request.now.layout.now c.aim.new.self.sets.items (key_of c.aim.new.self.key.now) c.aim.new.self.id c.aim.new.self.number put.sets c.new.ensures.layout put.kept put.own (none_own g.D.DescriptorDevice.meaning c.args.request.now.layout.now c.aim.ensures.sets before)
+
+pub returns-in-Err-alloc_descriptor_sets-clause-own : goal.returns-in-Err-alloc_descriptor_sets-clause-own
+returns-in-Err-alloc_descriptor_sets-clause-own g c = none_own g.D.DescriptorDevice.meaning c.args.request.now.layout.now (c.in-Err-alloc_descriptor_sets.ensures.err.kept ∙ c.aim.ensures.sets)

@@ -35,6 +35,7 @@ loop-wanting-init g c =
           omega arith);
       growing = grow_start known.2 c.take_known.ensures.id c.take_known.ensures.offset (let out = allocated_entries name c.args.self.now.pools.items in let counted = c.args.self.now.counted in let all = known.0 in omega arith);
       load = ap (λ n. c.args.room.now + n) (walked_load name c.args.self.now.pools.items c.take_known.new.self.pools.items known.2);
+      own = c.take_known.ensures.own;
       looks = c.take_known.ensures.looks;
     }
 
@@ -90,6 +91,7 @@ loop-wanting-preserved g c =
           let is = load_entries g.D.DescriptorDevice.meaning.pool_name key c.grow_one.new.self.pools.items in
           let less = grown.less in
           omega arith);
+      own = λ before. c.in-Ok-grow_one.ensures.own (inv.own before);
       looks = (let a = inv.looks in let b = c.in-Ok-grow_one.ensures.looks in omega arith);
     }
 

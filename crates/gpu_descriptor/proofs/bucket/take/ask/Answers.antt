@@ -1,5 +1,6 @@
 use Rattle.gpu_descriptor.proofs.Common.{◌≡◌, ℕ, ◌+◌, ◌-◌, ◌<◌, ◌≤◌, List, [], length, map, refl, sym, ap, ◌∙◌, subst, arith, min, length-map, append-nil, if◌then◌else◌, Ledger, after_alloc, live_sets, pool_refusals, Entry, Key, key_of, entry_of, IsBookedIn, IsAsked}
 use Rattle.gpu_descriptor.proofs.request.PlacesFree.{has_room}
+use Rattle.gpu_descriptor.proofs.request.OwnLayout.{none_own, put_own}
 use Rattle.gpu_descriptor.proofs.request.Asks.{same_entry, skipped, given, refuses}
 use Rattle.gpu_descriptor.proofs.bucket.take.ask.Goals as goal
 
@@ -48,3 +49,9 @@ returns-then-is_of_pool-clause-asked g c =
     let was = refuses key c.args.wanted c.in-Err.error e l m some of_pool err.ledger in
     let now : record e { available = 0 } ≡ entry_of g.D.DescriptorDevice.meaning.pool_name (record { raw = c.alloc_descriptor_sets.new.pool; capacity = c.args.pool.now.capacity; allocated = c.args.pool.now.allocated; available = 0 }) = same_entry _ _ (sym c.in-Err.ensures.name) refl refl refl in
     ([], refl, err.kept ∙ sym (append-nil c.args.sink.now.sets.items), (let room = err.room in omega arith), subst (λ (f : Entry). IsAsked key c.args.wanted [] e f l m) now was)
+
+pub returns-in-Ok-clause-own : goal.returns-in-Ok-clause-own
+returns-in-Ok-clause-own g c = (let put = c.in-Ok.ensures.ok in put_own g.D.DescriptorDevice.meaning c.args.layout.now c.args.sink.now.sets.items (key_of c.args.sink.now.key.now) c.args.sink.now.id c.args.sink.now.number put.sets c.new.ensures.layout put.kept put.own)
+
+pub returns-then-is_of_pool-clause-own : goal.returns-then-is_of_pool-clause-own
+returns-then-is_of_pool-clause-own g c = none_own g.D.DescriptorDevice.meaning c.args.layout.now c.in-Err.ensures.err.kept

@@ -1,5 +1,6 @@
 use Rattle.gpu_descriptor.proofs.Common.{◌≡◌, ℕ, ◌+◌, ◌-◌, ◌++◌, List, [], length, map, slice_get, slice_set, Some, refl, sym, ap, ◌∙◌, arith, append_assoc, length-append, length-map, append-nil, map-append, length-set, BucketKey, DescriptorSet, Key, key_of, set_at, items_at, items_of}
 use Rattle.gpu_descriptor.proofs.request.OpenWalk.{open_walk_start, open_walk_more, open_walk_stop, walk_sated, walk_empty, next_is_booked, listed_now_closed, listed_now_open, listed_now_same, one_asked}
+use Rattle.gpu_descriptor.proofs.request.OwnLayout.{none_own}
 use Rattle.gpu_descriptor.proofs.request.Walking.{walk_end, items_of-sets_at}
 use Rattle.gpu_descriptor.proofs.bucket.take.walk.Goals.{In-Ok}
 use Rattle.gpu_descriptor.proofs.bucket.take.walk.Goals as goal
@@ -22,6 +23,7 @@ loop-wanting-init g c = record {
   walk = open_walk_start g.D.DescriptorDevice.meaning.pool_name (key_of c.args.request.now.key) c.args.request.now.count c.args.view.now.id c.args.view.now.offset c.args.view.now.pools.now.items c.args.view.now.listed.now.items (g.D.DescriptorDevice.ledger c.args.device.now) c.requires.listed;
   space = refl;
   kept = (refl, refl, refl, refl, refl);
+  own = λ before. before;
   looks = refl;
 }
 
@@ -105,6 +107,7 @@ loop-wanting-preserved g c =
       walk = open_walk_more c.requires.booked inv.walk c.loop-wanting-test.true _ _ last _ (at g r) q refl refl (gave_more g.D.DescriptorDevice.meaning.set_name (key_of c.args.request.now.key) c.loop-wanting.view.id c.newest.new.sink.number inv.put (raws g r)) refl open_still c.in-Ok.ensures.asked.4 (less g r);
       space = inv.space;
       kept = inv.kept;
+      own = λ before. c.in-Ok.ensures.own (none_own g.D.DescriptorDevice.meaning c.args.request.now.layout.now c.newest.ensures.sets (inv.own before));
       looks = (let a = inv.looks in omega arith);
     }
 
@@ -129,5 +132,6 @@ loop-wanting-preserved-then-pool-eq0 g c =
       walk = open_walk_more c.requires.booked inv.walk c.loop-wanting-test.true _ _ last _ (at g r) q now.kept.4 now.kept.0 (gave_more g.D.DescriptorDevice.meaning.set_name (key_of c.args.request.now.key) c.loop-wanting.view.id c.newest.new.sink.number inv.put (raws g r)) pools (now.listed ∙ closed) c.in-Ok.ensures.asked.4 (less g r);
       space = now.capacity ∙ inv.space;
       kept = (now.kept.0 ∙ inv.kept.0, now.kept.1 ∙ inv.kept.1, now.kept.2 ∙ inv.kept.2, now.kept.3 ∙ inv.kept.3, now.kept.4 ∙ inv.kept.4);
+      own = λ before. c.in-Ok.ensures.own (none_own g.D.DescriptorDevice.meaning c.args.request.now.layout.now c.newest.ensures.sets (inv.own before));
       looks = (let a = inv.looks in omega arith);
     }

@@ -39,6 +39,7 @@ returns-in-Ok-clause-step g c =
       given = given;
       outcome = c.in-Ok.ensures.hands_out.outcome;
       all_given = many;
+      own = c.in-Ok.ensures.own;
       held = held_from given _ _ c.hold_each.new.shown (names_are _ _ c.reserve_named.ensures.named) c.args.count many c.hold_each.ensures.held;
       handles = subst (λ n. handles_of (take n c.hold_each.new.shown) ≡ map raw_of given) many c.hold_each.ensures.shown;
     }
