@@ -19,18 +19,6 @@ const SIZES: [Exchange; 5] = [
     ("size b 0 3\n", "size 1 sampler=4294967295\n"),
 ];
 
-/// A request that an existing pool and a new one meet.
-const REQUESTS: [Exchange; 4] = [
-    ("layout s plain sampler=1\n", "layout s total 1\n"),
-    ("alloc s 60\n", "sets 0-59: 0*60\n"),
-    ("alloc s 10\n", "sets 60-69: 0*4 1*6\n"),
-    (
-        "show\n",
-        "pool s 0 64/0\npool s 1 6/58\ndevice created 2 destroyed 0 asked 3 released 0\n\
-         held 70 marked 0\n",
-    ),
-];
-
 /// A pool that refuses, and a set that goes back to it.
 const REFUSAL: [Exchange; 7] = [
     ("layout s plain sampler=1\n", "layout s total 1\n"),
@@ -50,44 +38,7 @@ const REFUSAL: [Exchange; 7] = [
     ),
 ];
 
-/// Pools that are cleaned up, and pool numbers that begin again.
-const CLEANUP: [Exchange; 11] = [
-    ("layout s plain sampler=1\n", "layout s total 1\n"),
-    ("alloc s 64\n", "sets 0-63: 0*64\n"),
-    ("alloc s 64\n", "sets 64-127: 1*64\n"),
-    ("free 64-127\n", "freed 64\n"),
-    ("cleanup\n", "clean\n"),
-    (
-        "show\n",
-        "pool s 0 64/0\npool s 1 0/64\ndevice created 2 destroyed 0 asked 2 released 1\n\
-         held 64 marked 0\n",
-    ),
-    ("alloc s 1\n", "sets 128-128: 1*1\n"),
-    ("free 0-63 128\n", "freed 65\n"),
-    ("cleanup\n", "clean\n"),
-    ("alloc s 1\n", "sets 129-129: 2*1\n"),
-    (
-        "show\n",
-        "pool s 0 1/63\ndevice created 3 destroyed 2 asked 4 released 3\nheld 1 marked 0\n",
-    ),
-];
-
-/// A request that is rolled back where the limit leaves no room.
-const LIMIT: [Exchange; 7] = [
-    ("limit 300\n", "limit 300\n"),
-    ("layout m mark sampler=3\n", "layout m total 3\n"),
-    ("layout k mark sampler=1\n", "layout k total 1\n"),
-    ("alloc m 64\n", "sets 0-63: 0*64\n"),
-    ("alloc k 1\n", "sets 64-64: 1*1\n"),
-    ("alloc m 20\n", "refused: Fragmentation\n"),
-    (
-        "show\n",
-        "pool m 0 64/0\npool m 1 0/14\npool k 0 1/63\n\
-         device created 3 destroyed 0 asked 3 released 1\nheld 65 marked 193\n",
-    ),
-];
-
-pub const DIALOGUES: [&[Exchange]; 5] = [&SIZES, &REQUESTS, &REFUSAL, &CLEANUP, &LIMIT];
+pub const DIALOGUES: [&[Exchange]; 2] = [&SIZES, &REFUSAL];
 
 /// All lines.
 pub fn lines_of(alloc: Global, dialogue: &[Exchange]) -> Result<String, AllocError> {

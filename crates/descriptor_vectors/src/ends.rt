@@ -129,20 +129,8 @@ pub fn expect_unread_behind(
 
 /// Runs the input and compares all of the output.
 pub fn expect(rt: &impl Abort, alloc: Global, input: &[u8], output: &str, exit: Exit) {
-    expect_of(rt, alloc, "input", input, output, exit);
-}
-
-/// Runs the input with this name and compares all of the output.
-pub fn expect_of(
-    rt: &impl Abort,
-    alloc: Global,
-    name: &str,
-    input: &[u8],
-    output: &str,
-    exit: Exit,
-) {
     let mut written = empty_writer(alloc);
     let ended = run_lines(alloc, &mut reader_of(input), &mut written);
     let seen = (written.text.as_slice(), ended);
-    assert_eq!(rt; seen, (output.as_bytes(), exit), "{name}: {input:?}");
+    assert_eq!(rt; seen, (output.as_bytes(), exit), "{input:?}");
 }

@@ -1,4 +1,5 @@
-//! Whole runs of the program: lines and their answers. Tests alone.
+//! Whole runs of the program over readers and writers that stop, wait and watch. Tests alone. Rows of
+//! lines and their answers stand in the folder `rows`.
 #![tactic(auto)]
 
 #[cfg(test)]
@@ -9,8 +10,6 @@ mod dialogues;
 mod ends;
 #[cfg(test)]
 mod reads;
-#[cfg(test)]
-mod rows;
 #[cfg(test)]
 mod runs;
 #[cfg(test)]

@@ -1,58 +1,10 @@
-//! Whole runs at the edges of the line language, worked out beside their proof; and that the rest
-//! of a line which is too long is not read, of which no clause speaks.
+//! Runs of a thousand layouts and of long lines, worked out beside their proof; and that the rest of a
+//! line which is too long is not read, of which no clause speaks.
 use crate::ends::{empty_writer, expect, reader_of};
 use descriptor_lines::{Exit, run_lines};
 use std::alloc::Global;
 use std::io::ErrorKind;
 use std::test::Fail;
-
-#[test]
-fn shapes_of_lines(rt: HostRuntime) {
-    for (input, output) in [
-        ("", ""),
-        ("layout s mark", "layout s total 0\n"),
-        (" \tlayout\t s  mark \t\r\n", "layout s total 0\n"),
-        ("\r\n\n \t\n# note\n#\n\t#layout s plain\n", ""),
-        ("layout Az09_- plain\n", "layout Az09_- total 0\n"),
-        (
-            "layout s plain inline_uniform_block_bindings=1 sampler=00000000000000000002\n",
-            "layout s total 3\n",
-        ),
-        (
-            "layout abcdefghijklmnopqrstuvwxyz012345 plain\n",
-            "layout abcdefghijklmnopqrstuvwxyz012345 total 0\n",
-        ),
-        (
-            "layout s plain\nlayout S mark\nsize s 18446744073709551615 0\n",
-            "layout s total 0\nlayout S total 0\nsize 512 sampler=1\n",
-        ),
-    ] {
-        expect(&rt, rt.alloc(), input.as_bytes(), output, Exit::Done);
-    }
-}
-
-#[test]
-fn all_kinds_in_the_order_of_the_fields(rt: HostRuntime) {
-    let input =
-        "layout k plain inline_uniform_block_bindings=14 inline_uniform_block_bytes=13 acceleration_structure=12 input_attachment=11 storage_buffer_dynamic=10 uniform_buffer_dynamic=9 storage_buffer=8 uniform_buffer=7 storage_texel_buffer=6 uniform_texel_buffer=5 storage_image=4 sampled_image=3 combined_image_sampler=2 sampler=1\nsize k 0 1\n";
-    let output =
-        "layout k total 105\nsize 64 sampler=64 combined_image_sampler=128 sampled_image=192 storage_image=256 uniform_texel_buffer=320 storage_texel_buffer=384 uniform_buffer=448 storage_buffer=512 uniform_buffer_dynamic=576 storage_buffer_dynamic=640 input_attachment=704 acceleration_structure=768 inline_uniform_block_bytes=832 inline_uniform_block_bindings=896\n";
-    expect(&rt, rt.alloc(), input.as_bytes(), output, Exit::Done);
-}
-
-#[test]
-fn bytes_that_are_no_text(rt: HostRuntime) {
-    let output = "line 1: bad name\n";
-    expect(
-        &rt,
-        rt.alloc(),
-        b"layout \xff plain\n",
-        output,
-        Exit::BadLine,
-    );
-    let output = "line 2: unknown command\n";
-    expect(&rt, rt.alloc(), b"#\xff\x00\n\x00", output, Exit::BadLine);
-}
 
 #[test]
 fn as_many_layouts_as_may_be(rt: HostRuntime) -> Result<(), Fail> {

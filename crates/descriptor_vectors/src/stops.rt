@@ -1,6 +1,6 @@
 //! That a run reads nothing behind its end, so nobody at a terminal is waited for: where the input
-//! ends, and where a read or a write fails. Behind a faulty line the rows of the faults see it. No
-//! clause says what is left of the input.
+//! ends, behind a faulty line, and where a read or a write fails. No clause says what is left of the
+//! input.
 use crate::ends::{NO_STOP, Stops, expect_unread_behind};
 use descriptor_lines::Exit;
 use std::io::ErrorKind;
@@ -19,6 +19,21 @@ fn end_of_the_input(rt: HostRuntime) -> Result<(), Fail> {
             ..NO_STOP
         };
         expect_unread_behind(&rt, rt.alloc(), lines, stops, output, exit)?;
+    }
+    Ok(())
+}
+
+#[test]
+fn faulty_line(rt: HostRuntime) -> Result<(), Fail> {
+    for (lines, output) in [
+        ("layout s both\n", "line 1: bad mark\n"),
+        ("# note\n\nalloc s 1\n", "line 3: no such layout\n"),
+        (
+            "limit 9\nlimit 1\n",
+            "limit 9\nline 2: limit must come first\n",
+        ),
+    ] {
+        expect_unread_behind(&rt, rt.alloc(), lines, NO_STOP, output, Exit::BadLine)?;
     }
     Ok(())
 }

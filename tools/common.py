@@ -1,0 +1,167 @@
+#!/usr/bin/env python3
+"""What several tools want: whether a program is built, the original as it compiles, rows, and edits.
+
+usage: tools/common.py is-built FILE ; it ends with 0 where the file is newer than all sources
+"""
+import glob
+import os
+import re
+import shutil
+import subprocess
+import sys
+
+TOOLS = os.path.dirname(os.path.realpath(__file__))
+TOP = os.path.dirname(TOOLS)
+TOOL = os.path.basename(sys.argv[0])
+
+# Where Debian's packages put the sources of crates.
+REGISTRY = "/usr/share/cargo/registry"
+PACKAGES = {"bitflags-1": "librust-bitflags-dev", "hashbrown-0.12": "librust-hashbrown-dev"}
+
+# What bitflags 1 derives by itself, and bitflags 2, which the original takes, does not.
+DERIVES = "    #[derive(Clone, Copy, Debug, Eq, PartialEq, Hash)]\n"
+NAME = "    pub struct DescriptorSetLayoutCreateFlags"
+
+
+def refuse(why, status=2):
+    """Ends the tool: what it needs is missing, or what it was given is no such thing."""
+    print(f"{TOOL}: {why}", file=sys.stderr)
+    sys.exit(status)
+
+
+def need(command, why):
+    if shutil.which(command) is None:
+        refuse(f"the command {command} is missing: {why}")
+
+
+def is_built(file):
+    """Whether a file is there, and newer than all sources of the crates."""
+    sources = [f"{TOP}/crates.txt", *glob.glob(f"{TOP}/crates/*/src/**/*.rt", recursive=True)]
+    return os.path.isfile(file) and os.path.getmtime(file) > max(map(os.path.getmtime, sources))
+
+
+def original_source(path):
+    """The original's file src/allocator.rs, as it compiles with bitflags 1."""
+    try:
+        with open(path, encoding="utf-8") as it:
+            text = it.read()
+    except (OSError, UnicodeDecodeError) as error:
+        refuse(f"the original's src/allocator.rs cannot be read: {error}")
+    if text.count(DERIVES + NAME) != 1:
+        refuse(f"{path} is not src/allocator.rs of gpu-descriptor 0.3.2")
+    return text.replace(DERIVES + NAME, NAME)
+
+
+def write_package(source, folder, files):
+    """A package for cargo without a network: a folder of this repository, and files of these texts."""
+    need("cargo", "it builds the original")
+    for crate, package in PACKAGES.items():
+        if not glob.glob(f"{REGISTRY}/{crate}*"):
+            refuse(f"the crate {crate} is missing: apt-get install {package}")
+    shutil.copytree(source, folder, dirs_exist_ok=True)
+    os.makedirs(f"{folder}/.cargo", exist_ok=True)
+    registry = f'[source.crates-io]\nreplace-with = "debian"\n[source.debian]\ndirectory = "{REGISTRY}"\n'
+    for name, text in {".cargo/config.toml": registry, **files}.items():
+        with open(f"{folder}/{name}", "w", encoding="utf-8") as it:
+            it.write(text)
+
+
+def cargo_build(folder, *words, **environment):
+    """Builds a package, in its release profile unless the words name another."""
+    profile = () if "--profile" in words else ("--release",)
+    command = ["cargo", "build", "--offline", "--quiet", *profile, *words]
+    if subprocess.run(command, cwd=folder, env={**os.environ, **environment}).returncode:
+        refuse(f"cargo could not build {os.path.relpath(folder, TOP)}")
+
+
+# What stands for a byte in a line of a row.
+ESCAPE = re.compile(rb"\\(?:([tr\\])|x([0-9a-fA-F]{2}))")
+BYTES = {b"t": b"\t", b"r": b"\r", b"\\": b"\\"}
+
+
+def line_of(text):
+    """The bytes of a line of the input."""
+    ends = re.fullmatch(r"(?:.*[^\\])?(?:\\\\)*\\", text) is None
+    text = text if ends else text[:-1]
+    line = ESCAPE.sub(lambda it: BYTES.get(it[1]) or bytes.fromhex(it[2].decode()), text.encode())
+    return line + (b"\n" if ends else b"")
+
+
+def rows_of(path):
+    """Name, input and answers of each row of a file."""
+    with open(path, encoding="utf-8", newline="\n") as it:
+        head, *rows = it.read().split("== ")
+    for row in rows:
+        name, _, body = row.strip("\n").partition("\n")
+        lines, answers = b"", ""
+        for line in body.splitlines():
+            if line.startswith(">"):
+                lines += line_of(line[2:])
+            else:
+                answers += f"{line}\n"
+        yield name, lines, answers.encode()
+
+
+def is_fault(answers):
+    return answers.splitlines()[-1:] and answers.splitlines()[-1].startswith(b"line ")
+
+
+def all_rows():
+    """Each row, its name with a number behind that tells rows of one name apart. Behind a faulty line
+    one more stands, which is not to be run."""
+    counts = {}
+    for path in sorted(glob.glob(f"{TOP}/rows/*.txt")):
+        for name, lines, answers in rows_of(path):
+            counts[name] = counts.get(name, 0) + 1
+            if is_fault(answers) and lines.endswith(b"\n"):
+                lines += b"show\n"
+            yield f"{name}-{counts[name]}", lines, answers
+
+
+class BadEdit(Exception):
+    """An edit that reads as none, or that no longer applies."""
+
+
+def read_edit(path):
+    """The replacements of an edit, (file, old, new) in order, and its line 'error:' if it has one."""
+    with open(path, encoding="utf-8") as it:
+        lines = [line.partition(":") for line in it.read().splitlines() if line.strip()]
+    file, old, error, pairs = None, None, None, []
+    for key, _, value in lines:
+        value = value[1:] if value.startswith(" ") else value
+        if key == "file":
+            file = value
+        elif key == "error":
+            error = value
+        elif key == "old":
+            old = value
+        elif key == "new" and file and old:
+            pairs.append((file, old, value))
+            old = None
+        else:
+            raise BadEdit(f"the line '{key}:' is out of place")
+    if not pairs:
+        raise BadEdit("it has no 'old:' and 'new:' pair")
+    return pairs, error
+
+
+def edited(crate, pairs):
+    """The texts of a crate's files once an edit is made, and the lines that it wrote ('src/lib.rt:7')."""
+    texts, written = {}, set()
+    for file, old, new in pairs:
+        if file not in texts:
+            with open(f"{crate}/{file}", encoding="utf-8") as it:
+                texts[file] = it.read()
+        before, found, behind = texts[file].partition(old)
+        if not found or old in behind:
+            raise BadEdit(f"an 'old:' text stands in {file} {texts[file].count(old)} times, and not once")
+        written.add(f"{file}:{before.count(chr(10)) + 1}")
+        texts[file] = before + new + behind
+    return texts, written
+
+
+if __name__ == "__main__":
+    if len(sys.argv) != 3 or sys.argv[1] != "is-built":
+        print(__doc__.strip().split("\n")[-1].partition(" ;")[0], file=sys.stderr)
+        sys.exit(2)
+    sys.exit(0 if is_built(sys.argv[2]) else 1)
