@@ -34,7 +34,7 @@ pub use Rattle.gpu_descriptor.specs.declared.set.BucketKey.{BucketKey}
 pub use Rattle.gpu_descriptor.specs.declared.set.DescriptorSet.{DescriptorSet}
 pub use Rattle.gpu_descriptor.specs.declared.bucket.DescriptorBucket.{DescriptorBucket}
 pub use Rattle.gpu_descriptor.specs.declared.bucket.DescriptorPool.{DescriptorPool}
-pub use Rattle.gpu_descriptor.specs.declared.bucket.take.Stop.{Stop}
+pub use Rattle.gpu_descriptor.specs.declared.bucket.stop.Stop.{Stop}
 pub use Rattle.gpu_descriptor.specs.Model.Books.{AddsUp, Bucket, BucketOf, Entry, EntryOf, HasDistinctKeys, Key, books_of, entry_at, key_eq, next_number, no_pools, sum_over}
 pub use Rattle.gpu_descriptor.specs.Model.Agreement.{Agree, AreOutstanding, HasNoPools, IsAsBooked, Item, State, count_of, flags_of, item_eq, live_at, live_in, outstanding, set_of}
 pub use Rattle.gpu_descriptor.specs.Inner.KeyOf.{key_of}

@@ -10,6 +10,7 @@ mod reads;
 mod release;
 mod run;
 mod search;
+pub(crate) mod stop;
 pub(crate) mod take;
 
 use std::collections::VecDeque;

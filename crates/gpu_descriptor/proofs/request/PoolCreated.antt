@@ -1,6 +1,6 @@
 -- What a new pool does to the ledger.
 use Rattle.gpu_descriptor.proofs.Common.{◌↔◌, ◌≡◌, ◌≢◌, ◌<◌, ℕ, ◌+◌, ◌-◌, ◌≤◌, min, List, [], ◌∷◌, ◌++◌, length, Bool, true, false, cond, nat_eq, Some, None, slice_index, refl, sym, ap, ◌∙◌, arith, eqb-true, mul-le-mul_right, fun_ext, update, flags_of, Key, Entry, Pool, Ledger, Counters, HasRoom, HasNoSets, live_sets, fresh, after_create, after_no_create, after_alloc, after_no_alloc, after_destroy, create_refused, alloc_refused, pool_refusals, no_rise, CreatePoolError, pool_counts, DeviceAllocationError, Stop, update_here, IsNextSize, pool_descriptors, IsGrown, IsRefused, risen, stop_rise, option_map}
-use Rattle.gpu_descriptor.specs.declared.bucket.take.Stop.TheVariants as stop
+use Rattle.gpu_descriptor.specs.declared.bucket.stop.Stop.TheVariants as stop
 use Rattle.gpu_descriptor_types.proofs.Counting.{none_spelled}
 use Rattle.gpu_descriptor.proofs.request.Asks.{same_counters}
 use Rattle.gpu_descriptor.proofs.request.PlacesFree.{key_with, wide, marked_flags}
@@ -40,11 +40,11 @@ grown k room left total wanted size name names old new l m m' sized less many no
   counters = ap (λ (x : Ledger). x.counters) (is ∙ ap (after_alloc name (live_sets k.counts names)) made) ∙ same_counters _ _ (omega arith) (omega arith) (omega arith) (omega arith) (omega arith) (omega arith) (omega arith) (omega arith);
 }
 
-fresh_counters : (error : DeviceAllocationError) (n : Counters) → (let made : Counters = record n { created = n.created + 1 } in let asked = alloc_refused error made in record asked { destroyed = asked.destroyed + 1 }) ≡ risen (stop_rise (stop.New error)) n
+fresh_counters : (error : DeviceAllocationError) (n : Counters) → (let made : Counters = record n { created = n.created + 1 } in let asked = alloc_refused error made in record asked { destroyed = asked.destroyed + 1 }) ≡ risen (stop_rise (stop.NewPoolRefused error)) n
 fresh_counters error n = same_counters _ _ (grind arith) (grind arith) (grind arith) (grind arith) (grind arith) (grind arith) (grind arith) (grind arith)
 
 -- a pool that was created, refused and was destroyed has left the ledger's pools as they were
-pub not_grown : (k : Key) (size name : ℕ) (error : DeviceAllocationError) (l m m' m'' : Ledger) → l.pools name ≡ None → m ≡ after_create (pool_counts k.counts size) size (flags_of k) name l → m' ≡ after_no_alloc name error m → m'' ≡ after_destroy name m' → IsRefused (stop.New error) l m''
+pub not_grown : (k : Key) (size name : ℕ) (error : DeviceAllocationError) (l m m' m'' : Ledger) → l.pools name ≡ None → m ≡ after_create (pool_counts k.counts size) size (flags_of k) name l → m' ≡ after_no_alloc name error m → m'' ≡ after_destroy name m' → IsRefused (stop.NewPoolRefused error) l m''
 not_grown k size name error l m m' m'' none made refused gone = record {
   pools = ap (λ (x : Ledger). x.pools) all ∙ fun_ext (λ q. at (nat_eq name q) q refl);
   counters = ap (λ (x : Ledger). x.counters) all ∙ fresh_counters error l.counters;
@@ -58,10 +58,10 @@ not_grown k size name error l m m' m'' none made refused gone = record {
     at false q h = refl
 
 -- no pool was created
-create_counters : (error : CreatePoolError) (n : Counters) → create_refused error n ≡ risen (stop_rise (stop.Create error)) n
+create_counters : (error : CreatePoolError) (n : Counters) → create_refused error n ≡ risen (stop_rise (stop.PoolNotCreated error)) n
 create_counters error n = same_counters _ _ (grind arith) (grind arith) (grind arith) (grind arith) (grind arith) (grind arith) (grind arith) (grind arith)
 
-pub not_created : (error : CreatePoolError) (l m : Ledger) → m ≡ after_no_create error l → IsRefused (stop.Create error) l m
+pub not_created : (error : CreatePoolError) (l m : Ledger) → m ≡ after_no_create error l → IsRefused (stop.PoolNotCreated error) l m
 not_created error l m is = record {
   pools = ap (λ (x : Ledger). x.pools) is;
   counters = ap (λ (x : Ledger). x.counters) is ∙ create_counters error l.counters;
@@ -72,7 +72,7 @@ pub none_asked : (l : Ledger) (why : Stop) → stop_rise why ≡ no_rise → IsR
 none_asked l why none = record { pools = refl; counters = sym (ap (λ (by : Counters). risen by l.counters) none ∙ same_counters _ _ (omega arith) (omega arith) (omega arith) (omega arith) (omega arith) (omega arith) (omega arith) (omega arith)) }
 
 -- a request stopped for another reason than want of room
-pub had_room : {why : Stop} {one room : ℕ} → why ≢ stop.Room → one ≤ room → (why ≡ stop.Room) ↔ (room < one)
+pub had_room : {why : Stop} {one room : ℕ} → why ≢ stop.NoRoomUnderLimit → one ≤ room → (why ≡ stop.NoRoomUnderLimit) ↔ (room < one)
 had_room other fits = (λ is. absurd (other is), λ none. absurd (omega arith))
 
 -- how often pools were asked

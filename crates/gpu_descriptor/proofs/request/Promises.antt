@@ -3,11 +3,11 @@ use Rattle.gpu_descriptor.proofs.Common.{◌≡◌, ◌≢◌, ℕ, suc, ◌+◌
 use Rattle.gpu_descriptor_types.proofs.Sizes.{pool_size_some}
 use Rattle.gpu_descriptor_types.specs.declared.errors.CreatePoolError.TheVariants as create_error
 use Rattle.gpu_descriptor_types.specs.declared.errors.DeviceAllocationError.TheVariants as alloc_error
-use Rattle.gpu_descriptor.specs.declared.bucket.take.Stop.TheVariants.{Existing, Room, Books, Create, New}
-use Rattle.gpu_descriptor.specs.Model.Outcomes.Allocates.{none, limit, bound, start, done, stopped}
+use Rattle.gpu_descriptor.specs.declared.bucket.stop.Stop.TheVariants.{ExistingPoolRefused, NoRoomUnderLimit, NoMemoryForPool, PoolNotCreated, NewPoolRefused}
+use Rattle.gpu_descriptor.specs.Model.Outcomes.Allocates as outcome
 use Rattle.gpu_descriptor.specs.Model.FreshPools.IsFreshList.{none as no_fresh, some as some_fresh}
-use Rattle.gpu_descriptor.specs.Model.Promises.IsFragmentation.{above_limit, past_bound, no_room_left, no_pool_created, new_pool_refused}
-use Rattle.gpu_descriptor.specs.Model.Promises.IsHostMemory.{device_refused, no_memory_at_start, no_memory_for_a_pool}
+use Rattle.gpu_descriptor.specs.Model.Promises.IsFragmentation.{above_limit, past_bound, no_room_under_limit, pool_not_created, new_pool_refused}
+use Rattle.gpu_descriptor.specs.Model.Promises.IsHostMemory.{device_refused, no_memory_at_start, no_memory_for_pool}
 use Rattle.gpu_descriptor.proofs.request.NextSize.{next_whole, one_fits, last_fits}
 use Rattle.gpu_descriptor.proofs.request.NewPools.{AreFilled, shares_used, done_filled, front_below, list_below}
 
@@ -48,16 +48,16 @@ abbrev Stops : Call → Stop → Grant → ℕ → Type 0
 Stops c why g pooled = StopsAt why c.key (c.limit - pooled) c.count g (c.old.books c.key).pools
 
 stop_cause : (c : Call) (s : IsStopped c) (why : Stop) → s.why ≡ why → IsBack c s.grant why → Stops c why s.grant s.pooled → HasCause (stop_answer why) c
-stop_cause c s (Existing e) is back at = memory_cause c s.grant (Existing e) back e at.memory refl refl
-stop_cause c s Room is back at = no_room_left s is
-stop_cause c s Books is back at = no_memory_for_a_pool s is
-stop_cause c s (Create create_error.OutOfDeviceMemory) is back at = (let n = ap (λ (k : Counters). k.device_memory) back.counters in omega arith)
-stop_cause c s (Create create_error.OutOfHostMemory) is back at = (let n = ap (λ (k : Counters). k.host_memory) back.counters in device_refused (omega arith))
-stop_cause c s (Create create_error.Fragmentation) is back at = (let n = ap (λ (k : Counters). k.fragmentation) back.counters in no_pool_created s is (omega arith))
-stop_cause c s (New alloc_error.OutOfDeviceMemory) is back at = memory_cause c s.grant _ back alloc_error.OutOfDeviceMemory refl refl refl
-stop_cause c s (New alloc_error.OutOfHostMemory) is back at = memory_cause c s.grant _ back alloc_error.OutOfHostMemory refl refl refl
-stop_cause c s (New alloc_error.FragmentedPool) is back at = (let n = ap (λ (k : Counters). k.pool_refused) back.counters in new_pool_refused s alloc_error.FragmentedPool is refl (omega arith))
-stop_cause c s (New alloc_error.OutOfPoolMemory) is back at = (let n = ap (λ (k : Counters). k.pool_refused) back.counters in new_pool_refused s alloc_error.OutOfPoolMemory is refl (omega arith))
+stop_cause c s (ExistingPoolRefused e) is back at = memory_cause c s.grant (ExistingPoolRefused e) back e at.memory refl refl
+stop_cause c s NoRoomUnderLimit is back at = no_room_under_limit s is
+stop_cause c s NoMemoryForPool is back at = no_memory_for_pool s is
+stop_cause c s (PoolNotCreated create_error.OutOfDeviceMemory) is back at = (let n = ap (λ (k : Counters). k.device_memory) back.counters in omega arith)
+stop_cause c s (PoolNotCreated create_error.OutOfHostMemory) is back at = (let n = ap (λ (k : Counters). k.host_memory) back.counters in device_refused (omega arith))
+stop_cause c s (PoolNotCreated create_error.Fragmentation) is back at = (let n = ap (λ (k : Counters). k.fragmentation) back.counters in pool_not_created s is (omega arith))
+stop_cause c s (NewPoolRefused alloc_error.OutOfDeviceMemory) is back at = memory_cause c s.grant _ back alloc_error.OutOfDeviceMemory refl refl refl
+stop_cause c s (NewPoolRefused alloc_error.OutOfHostMemory) is back at = memory_cause c s.grant _ back alloc_error.OutOfHostMemory refl refl refl
+stop_cause c s (NewPoolRefused alloc_error.FragmentedPool) is back at = (let n = ap (λ (k : Counters). k.pool_refused) back.counters in new_pool_refused s alloc_error.FragmentedPool is refl (omega arith))
+stop_cause c s (NewPoolRefused alloc_error.OutOfPoolMemory) is back at = (let n = ap (λ (k : Counters). k.pool_refused) back.counters in new_pool_refused s alloc_error.OutOfPoolMemory is refl (omega arith))
 
 -- ---- pools are created only where the existing ones don't do
 
@@ -122,7 +122,7 @@ create_creates : (e : CreatePoolError) → (create_refused e no_rise).created �
 create_creates e = grind arith
 
 -- there was room where it stopped for another reason
-fits : {why : Stop} {one room : ℕ} → (why ≡ Room) ↔ (room < one) → why ≢ Room → one ≤ room
+fits : {why : Stop} {one room : ℕ} → (why ≡ NoRoomUnderLimit) ↔ (room < one) → why ≢ NoRoomUnderLimit → one ≤ room
 fits {one = one} {room = room} told other = elim (cases_lt room one) [ inl lt ↦ absurd (other (told.1 lt)) | inr le ↦ le ]
 
 module _ (c : Call) where
@@ -131,29 +131,29 @@ module _ (c : Call) where
 
   -- each error has its cause
   pub has_cause : Allocates c → IfErr c.answer (λ e. HasCause e c)
-  has_cause (none zero_count answer stays) = rw answer tt
-  has_cause (limit some above answer stays) = answered _ answer (above_limit above)
-  has_cause (bound some within past answer stays) = answered _ answer (past_bound past)
-  has_cause (start p answer stays) = answered _ answer (no_memory_at_start p stays)
-  has_cause (done p d) = rw d.answer tt
-  has_cause (stopped p s) = answered _ s.back.answer (stop_cause c s s.why refl s.back s.at)
+  has_cause (outcome.none zero_count answer stays) = rw answer tt
+  has_cause (outcome.above_limit some above answer stays) = answered _ answer (above_limit above)
+  has_cause (outcome.past_bound some within past answer stays) = answered _ answer (past_bound past)
+  has_cause (outcome.no_memory_at_start p answer stays) = answered _ answer (no_memory_at_start p stays)
+  has_cause (outcome.done p d) = rw d.answer tt
+  has_cause (outcome.stopped p s) = answered _ s.back.answer (stop_cause c s s.why refl s.back s.at)
 
   stop_short : (s : IsStopped c) (why : Stop) → IsBack c s.grant why → Stops c why s.grant s.pooled → c.before.created < c.after.created → IsShort c s.grant
-  stop_short s (Existing e) back at more =
+  stop_short s (ExistingPoolRefused e) back at more =
       let n = ap (λ (k : Counters). k.created) back.counters in
       let none = alloc_creates e in
       let f = ap length at.no_fresh in
       absurd (omega arith)
-  stop_short s Room back at more = front_short c s Room _ back at.1 (inl (omega arith))
-  stop_short s Books back at more = front_short c s Books _ back at.1 (inl (omega arith))
-  stop_short s (Create e) back at more = front_short c s (Create e) _ back at.1 (inl (ap (λ n. n * pool_size_floor c.key.counts) (create_creates e) ∙ (omega arith)))
-  stop_short s (New e) back at more = front_short c s (New e) _ back at.1 (inr ((omega arith), fits at.2 (λ same. absurd (cc))))
+  stop_short s NoRoomUnderLimit back at more = front_short c s NoRoomUnderLimit _ back at.1 (inl (omega arith))
+  stop_short s NoMemoryForPool back at more = front_short c s NoMemoryForPool _ back at.1 (inl (omega arith))
+  stop_short s (PoolNotCreated e) back at more = front_short c s (PoolNotCreated e) _ back at.1 (inl (ap (λ n. n * pool_size_floor c.key.counts) (create_creates e) ∙ (omega arith)))
+  stop_short s (NewPoolRefused e) back at more = front_short c s (NewPoolRefused e) _ back at.1 (inr ((omega arith), fits at.2 (λ same. absurd (cc))))
 
   -- a pool is created only where the existing ones don't do
   pub short : (outcome : Allocates c) → CreatesOnlyWhereShort outcome
-  short (none zero_count answer stays) more = (let n = ap (λ (k : Counters). k.created) stays.counters in absurd (omega arith))
-  short (limit some above answer stays) more = (let n = ap (λ (k : Counters). k.created) stays.counters in absurd (omega arith))
-  short (bound some within past answer stays) more = (let n = ap (λ (k : Counters). k.created) stays.counters in absurd (omega arith))
-  short (start p answer stays) more = (let n = ap (λ (k : Counters). k.created) stays.counters in absurd (omega arith))
-  short (done p d) more = (d.grant, refl, (let n = ap (λ (k : Counters). k.created) d.counters in done_short c d d.fresh (omega arith)))
-  short (stopped p s) more = (s.grant, refl, stop_short s s.why s.back s.at more)
+  short (outcome.none zero_count answer stays) more = (let n = ap (λ (k : Counters). k.created) stays.counters in absurd (omega arith))
+  short (outcome.above_limit some above answer stays) more = (let n = ap (λ (k : Counters). k.created) stays.counters in absurd (omega arith))
+  short (outcome.past_bound some within past answer stays) more = (let n = ap (λ (k : Counters). k.created) stays.counters in absurd (omega arith))
+  short (outcome.no_memory_at_start p answer stays) more = (let n = ap (λ (k : Counters). k.created) stays.counters in absurd (omega arith))
+  short (outcome.done p d) more = (d.grant, refl, (let n = ap (λ (k : Counters). k.created) d.counters in done_short c d d.fresh (omega arith)))
+  short (outcome.stopped p s) more = (s.grant, refl, stop_short s s.why s.back s.at more)

@@ -3,7 +3,7 @@ use Rattle.std.specs.Prelude.{◌≡◌, ℕ, ◌+◌, false, nat_eq, min, List,
 use Rattle.std.specs.Map.{update}
 use Rattle.gpu_descriptor_types.specs.Ledger.{Ledger, live_sets, on_pool, fresh, no_rise}
 use Rattle.gpu_descriptor_types.specs.PoolSize.{pool_counts}
-use Rattle.gpu_descriptor.specs.declared.bucket.take.Stop.{Stop}
+use Rattle.gpu_descriptor.specs.declared.bucket.stop.Stop.{Stop}
 use Rattle.gpu_descriptor.specs.Model.Outcomes.{risen, StopsAt}
 use Rattle.gpu_descriptor.specs.Model.Books.{Key, Entry, Bucket}
 use Rattle.gpu_descriptor.specs.Model.Agreement.{Item, flags_of}

@@ -8,7 +8,7 @@ use Rattle.gpu_descriptor.specs.Model.Load.{descriptors_out, set_descriptors, se
 use Rattle.gpu_descriptor.specs.declared.errors.AllocationError.{AllocationError}
 use Rattle.gpu_descriptor.specs.declared.errors.AllocationError.TheVariants.{OutOfHostMemory, Fragmentation}
 use Rattle.gpu_descriptor.specs.declared.set.DescriptorSet.{DescriptorSet}
-use Rattle.gpu_descriptor.specs.declared.bucket.take.Stop.{Stop}
+use Rattle.gpu_descriptor.specs.declared.bucket.stop.Stop.{Stop}
 use Rattle.gpu_descriptor.specs.Model.Books.{Key, key_eq, Bucket, BucketOf, HasDistinctKeys, next_number, sum_over}
 use Rattle.gpu_descriptor.specs.Model.Outcomes.{Call, Allocates, taken_by}
 use Rattle.gpu_descriptor.specs.Caller.Sets.{items_of}

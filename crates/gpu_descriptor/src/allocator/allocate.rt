@@ -14,8 +14,6 @@ ghost use Rattle.gpu_descriptor.specs.Inner.KeyOf.{key_of};
 ghost use Rattle.gpu_descriptor.specs.Caller.Sets.{AreOfLayout};
 ghost use Rattle.gpu_descriptor.specs.Caller.States.{Agrees, keys_of, marked_load_of};
 ghost use Rattle.gpu_descriptor.specs.Model.Load.{bucket_load, sets_out};
-ghost use Rattle.gpu_descriptor.specs.Model.Outcomes.{error_of_alloc as alloc_answer};
-ghost use Rattle.gpu_descriptor.specs.Model.Outcomes.{stop_answer};
 ghost use Rattle.gpu_descriptor.specs.Caller.Call.{call_of, layout_key};
 ghost use Rattle.gpu_descriptor.specs.Inner.Buckets.{AreBookedIn};
 ghost use Rattle.gpu_descriptor.specs.Inner.OpenPools.{CountsLooks};
@@ -23,14 +21,15 @@ ghost use Rattle.gpu_descriptor.specs.Inner.Stored.{books_in, row_of, stored_key
 ghost use Rattle.gpu_descriptor.specs.Inner.Serves.{IsDeclined, IsSound, IsUnserved, ServesKey, Takes};
 
 use super::DescriptorAllocator;
-use crate::bucket::take::{Served, SetRequest, Stop};
+use crate::bucket::stop::answer_of;
+use crate::bucket::take::{Served, SetRequest};
 use crate::bucket::{DescriptorBucket, is_past_bound};
 use crate::errors::AllocationError;
 use crate::flags::DescriptorSetLayoutCreateFlags;
 use crate::ids::KeyIds;
 use crate::set::{BucketKey, DescriptorSet};
 use bitflags::Flags;
-use gpu_descriptor_types::{DescriptorDevice, DescriptorTotalCount, DeviceAllocationError, Tally};
+use gpu_descriptor_types::{DescriptorDevice, DescriptorTotalCount, Tally};
 use indexmap::IndexMap;
 use std::alloc::Global;
 use std::collections::VecDeque;
@@ -90,9 +89,9 @@ impl<P: Drop, S: Drop> DescriptorAllocator<P, S> {
         };
         match taken {
             Ok(()) => Ok(sets),
-            Err(why) => {
+            Err(stop) => {
                 self.free_all(device, sets);
-                Err(error_of_stop(why))
+                Err(answer_of(stop))
             }
         }
     }
@@ -223,30 +222,5 @@ fn serve_key<L, P: Drop, S: Drop, D: DescriptorDevice<L, P, S>>(
             Ok(served)
         }
         Err(_) => unreachable!(),
-    }
-}
-
-/// The error of a request that stopped.
-fn error_of_stop(why: Stop) -> AllocationError
-    ensures { result ≡ stop_answer why }
-{
-    match why {
-        Stop::Room => AllocationError::Fragmentation,
-        Stop::Books => AllocationError::OutOfHostMemory,
-        Stop::Create(error) => AllocationError::from(error),
-        Stop::Existing(error) | Stop::New(error) => error_of_alloc(error),
-    }
-}
-
-/// A pool that refuses for its own sake counts as fragmentation.
-fn error_of_alloc(error: DeviceAllocationError) -> AllocationError
-    ensures { result ≡ alloc_answer error }
-{
-    match error {
-        DeviceAllocationError::OutOfDeviceMemory => AllocationError::OutOfDeviceMemory,
-        DeviceAllocationError::OutOfHostMemory => AllocationError::OutOfHostMemory,
-        DeviceAllocationError::FragmentedPool | DeviceAllocationError::OutOfPoolMemory => {
-            AllocationError::Fragmentation
-        }
     }
 }

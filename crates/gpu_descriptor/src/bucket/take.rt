@@ -19,42 +19,24 @@ ghost use Rattle.gpu_descriptor.specs.Inner.Buckets.{IsBookedIn, AreBookedIn};
 ghost use Rattle.gpu_descriptor.specs.Inner.Walk.{IsAsked, IsNoMemory};
 ghost use Rattle.gpu_descriptor.specs.Inner.Walk.{IsRefused, IsWalked};
 ghost use Rattle.gpu_descriptor.specs.Caller.Call.{layout_key};
-ghost use Rattle.gpu_descriptor.specs.declared.bucket.take.Stop.TheVariants.{Existing};
+ghost use Rattle.gpu_descriptor.specs.declared.bucket.stop.Stop.TheVariants.{ExistingPoolRefused};
 ghost use Rattle.gpu_descriptor.specs.Inner.Grow.{IsGrown, IsTaken};
 ghost use Rattle.gpu_descriptor.specs.Model.Outcomes.{StopsAtNew};
 ghost use Rattle.gpu_descriptor.specs.Inner.Serves.{IsServed, IsUnserved};
 
 use crate::bucket::allocation::Allocation;
 use crate::bucket::reads::OpenPools;
+use crate::bucket::stop::Stop;
 use crate::bucket::{DescriptorBucket, DescriptorPool, is_past_bound};
 use crate::errors::AllocationError;
 use crate::set::{BucketKey, DescriptorSet};
 use bitflags::Flags;
 use gpu_descriptor_types::{
-    CreatePoolError, DescriptorDevice, DescriptorPoolCreateFlags, DescriptorTotalCount,
+    DescriptorDevice, DescriptorPoolCreateFlags, DescriptorTotalCount,
     DeviceAllocationError, Layouts, Tally, cut_pool_size, new_pool_size,
 };
 use std::alloc::Global;
 use std::collections::VecDeque;
-
-/// Why a request stops.
-#[derive(Clone, Copy)]
-pub(crate) enum Stop {
-    /// An existing pool answered want of memory.
-    Existing(DeviceAllocationError),
-
-    /// The limit leaves no room for a new pool.
-    Room,
-
-    /// No memory for the books of a new pool.
-    Books,
-
-    /// The new pool wasn't created.
-    Create(CreatePoolError),
-
-    /// The new pool refused, and was destroyed.
-    New(DeviceAllocationError),
-}
 
 /// What a request asks for: so many sets of a layout, whose pools have this key.
 #[derive(Drop)]
@@ -152,7 +134,7 @@ fn walk<'k, L, P, S, D: DescriptorDevice<L, P, S>>(
         (bucket_in D.meaning.pool_name view.old) (bucket_in D.meaning.pool_name view.new)
         (D.ledger device.old) (D.ledger device.new)) }
     ensures stopped { IfErr result (λ e. (put : List (DescriptorSet S)) ×
-        (sink.new.sets.items ≡ sink.old.sets.items ++ put) × IsTaken (Err (Existing e))
+        (sink.new.sets.items ≡ sink.old.sets.items ++ put) × IsTaken (Err (ExistingPoolRefused e))
         (key_of request.now.key) 0 request.now.count (items_of D.meaning.set_name put)
         (bucket_in D.meaning.pool_name view.old) (bucket_in D.meaning.pool_name view.new)
         (D.ledger device.old) (D.ledger device.new)) }
@@ -296,7 +278,7 @@ impl<P: Drop> DescriptorBucket<P> {
     {
         let mut wanting = match self.take_known(device, request, sink, looks) {
             Ok(wanting) => wanting,
-            Err(error) => return Err(Stop::Existing(error)),
+            Err(error) => return Err(Stop::ExistingPoolRefused(error)),
         };
         while wanting > 0 {
             match self.grow_one(device, request, wanting, room, sink, looks) {
@@ -327,7 +309,7 @@ impl<P: Drop> DescriptorBucket<P> {
             (items_of D.meaning.set_name sink.new.sets.items)
             (bucket_of D.meaning.pool_name self.old) (bucket_of D.meaning.pool_name self.new)
             (D.ledger device.old) (D.ledger device.new)) }
-        ensures stopped { IfErr result (λ e. IsTaken (Err (Existing e)) (key_of request.now.key) 0
+        ensures stopped { IfErr result (λ e. IsTaken (Err (ExistingPoolRefused e)) (key_of request.now.key) 0
             request.now.count (items_of D.meaning.set_name sink.new.sets.items)
             (bucket_of D.meaning.pool_name self.old) (bucket_of D.meaning.pool_name self.new)
             (D.ledger device.old) (D.ledger device.new)) }
@@ -394,15 +376,15 @@ impl<P: Drop> DescriptorBucket<P> {
     {
         let (layout, key) = (request.layout, &request.key);
         let Some((counts, size)) = next_size(key, self.total, wanted, *room) else {
-            return Err(Stop::Room);
+            return Err(Stop::NoRoomUnderLimit);
         };
         if !self.make_room() {
-            return Err(Stop::Books);
+            return Err(Stop::NoMemoryForPool);
         }
         let flags = pool_flags(key.update_after_bind);
         let mut raw = match device.create_descriptor_pool(&counts, size, flags) {
             Ok(raw) => raw,
-            Err(error) => return Err(Stop::Create(error)),
+            Err(error) => return Err(Stop::PoolNotCreated(error)),
         };
         let given = size.min(wanted);
         sink.aim(key, self.id, self.next_number());
@@ -420,7 +402,7 @@ impl<P: Drop> DescriptorBucket<P> {
             }
             Err(error) => {
                 device.destroy_descriptor_pool(raw);
-                Err(Stop::New(error))
+                Err(Stop::NewPoolRefused(error))
             }
         }
     }

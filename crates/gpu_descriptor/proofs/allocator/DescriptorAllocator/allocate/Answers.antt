@@ -55,7 +55,7 @@ returns-in-Ok-taken-clause-keeps g c =
 pub returns-in-Err-taken-clause-hands_out : goal.returns-in-Err-taken-clause-hands_out
 returns-in-Err-taken-clause-hands_out g c =
     let r = (goal.at.returns-in-Err-taken-clause-hands_out g c).In-Ok in
-    rw c.error_of_stop.ensures (hands_back c.in-Ok.served.sets (taken g r) c.requires.agree (gained g r) c.in-Ok.ensures.looks c.in-Ok.ensures.comparisons_stay (some g r) c.in-Ok.ensures.within.rows c.free_all.ensures.returns c.in-Err-taken.is)
+    rw c.answer_of.ensures (hands_back c.in-Ok.served.sets (taken g r) c.requires.agree (gained g r) c.in-Ok.ensures.looks c.in-Ok.ensures.comparisons_stay (some g r) c.in-Ok.ensures.within.rows c.free_all.ensures.returns c.in-Err-taken.is)
 
 pub returns-in-Err-taken-clause-keeps : goal.returns-in-Err-taken-clause-keeps
 returns-in-Err-taken-clause-keeps g c =

@@ -1,5 +1,5 @@
 use Rattle.gpu_descriptor.proofs.Common.{◌≡◌, ℕ, ◌+◌, ◌-◌, ◌≤◌, ◌++◌, List, [], ◌∷◌, length, map, min, refl, sym, ap, ◌∙◌, subst, arith, length-map, map-append, Some, Ledger, after_alloc, after_create, after_destroy, live_sets, HasNoSets, fresh, pool_counts, DescriptorPool, Entry, Key, flags_of, key_of, set_at, pool_descriptors, entry_of}
-use Rattle.gpu_descriptor.specs.declared.bucket.take.Stop.TheVariants as stop
+use Rattle.gpu_descriptor.specs.declared.bucket.stop.Stop.TheVariants as stop
 use Rattle.gpu_descriptor.proofs.request.NextSize.{one_fits}
 use Rattle.gpu_descriptor.proofs.request.OwnLayout.{none_own, put_own}
 use Rattle.gpu_descriptor.proofs.request.Asks.{same_entry}
@@ -86,11 +86,11 @@ returns-in-Ok-alloc_descriptor_sets-clause-grown g c =
 
 pub returns-in_default-clause-err : goal.returns-in_default-clause-err
 returns-in_default-clause-err g c =
-    (refl, refl, refl, refl, none_asked (g.D.DescriptorDevice.ledger c.args.device.now) stop.Room refl, (λ is. c.in_default.ensures.none, λ none. refl))
+    (refl, refl, refl, refl, none_asked (g.D.DescriptorDevice.ledger c.args.device.now) stop.NoRoomUnderLimit refl, (λ is. c.in_default.ensures.none, λ none. refl))
 
 pub returns-then-not-make_room-clause-err : goal.returns-then-not-make_room-clause-err
 returns-then-not-make_room-clause-err g c =
-    (refl, c.make_room.ensures.pools, c.make_room.ensures.total, refl, none_asked (g.D.DescriptorDevice.ledger c.args.device.now) stop.Books refl, had_room (λ is. absurd (cc)) (one_fits (key_of c.args.request.now.key) c.args.room.now c.args.self.now.total c.args.wanted c.in-Some.size c.in-Some.ensures.sets))
+    (refl, c.make_room.ensures.pools, c.make_room.ensures.total, refl, none_asked (g.D.DescriptorDevice.ledger c.args.device.now) stop.NoMemoryForPool refl, had_room (λ is. absurd (cc)) (one_fits (key_of c.args.request.now.key) c.args.room.now c.args.self.now.total c.args.wanted c.in-Some.size c.in-Some.ensures.sets))
 
 pub returns-in-Err-clause-err : goal.returns-in-Err-clause-err
 returns-in-Err-clause-err g c =

@@ -1,6 +1,6 @@
 use Rattle.gpu_descriptor.proofs.Common.{◌≡◌, ℕ, ◌+◌, ◌≤◌, ◌++◌, List, length, map, sym, ap, ◌∙◌, arith, length-append, [], ◌∷◌, Err, length-map, map-append, Ledger, DeviceAllocationError, DescriptorPool, DescriptorSet, Item, Entry, Key, key_of, set_at, fresh_entry, items_at, items_of, IsTaken, entry_of, stored_load, IsWalked}
 use Rattle.gpu_descriptor.proofs.sums.PoolsLoad.{pools_load}
-use Rattle.gpu_descriptor.specs.declared.bucket.take.Stop.TheVariants.{Existing}
+use Rattle.gpu_descriptor.specs.declared.bucket.stop.Stop.TheVariants.{ExistingPoolRefused}
 use Rattle.gpu_descriptor.proofs.table.Exact.{bucket}
 use Rattle.gpu_descriptor.proofs.request.Growing.{grow_start, grow_more, grow_end, grow_stop, taken_long, load_more, load_walked}
 use Rattle.gpu_descriptor.proofs.sums.StoredPools.{allocated_entries, load_entries}
@@ -12,7 +12,7 @@ module _ {P : Type 0} (name : P → ℕ) {k : Key} {n id first own start : ℕ} 
   walked_load : {wanting : ℕ} → IsWalked k n wanting items (bucket id first (map (entry_of name) old)) (bucket own start (map (entry_of name) new)) l m → stored_load k new ≡ stored_load k old
   walked_load w = (let a = load_entries name k old in let b = load_entries name k new in let same = load_walked k n w.grant (bucket id first (map (entry_of name) old)) (bucket own start (map (entry_of name) new)) l m items w.taken w.no_fresh in omega arith)
 
-  stopped_load : {error : DeviceAllocationError} → IsTaken (Err (Existing error)) k 0 n items (bucket id first (map (entry_of name) old)) (bucket own start (map (entry_of name) new)) l m → stored_load k new ≡ stored_load k old
+  stopped_load : {error : DeviceAllocationError} → IsTaken (Err (ExistingPoolRefused error)) k 0 n items (bucket id first (map (entry_of name) old)) (bucket own start (map (entry_of name) new)) l m → stored_load k new ≡ stored_load k old
   stopped_load t = (let a = load_entries name k old in let b = load_entries name k new in let same = load_walked k n t.0 (bucket id first (map (entry_of name) old)) (bucket own start (map (entry_of name) new)) l t.1 items t.2 t.3.no_fresh in omega arith)
 
 pub loop-wanting-init : goal.loop-wanting-init

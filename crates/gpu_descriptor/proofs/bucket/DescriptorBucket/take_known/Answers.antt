@@ -1,7 +1,7 @@
 use Rattle.gpu_descriptor.proofs.Common.{◌≡◌, ℕ, Global, ◌+◌, [], ◌++◌, arith, length, sum_by, List, Result, Ok, Err, sym, ap, ◌∙◌, subst, map, IfOk, IfErr, length-map, Ledger, DeviceAllocationError, DescriptorSet, DescriptorPool, Bucket, Key, key_of, allocated_in, items_of, item_of, AreBookedIn, IsTaken, bucket_in, bucket_of, entry_of, IsWalked}
 use Rattle.std.specs.declared.collections.VecDeque.{VecDeque}
 use Rattle.std.proofs.lemmas.Result.{IfErr-weaker, IfOk-weaker}
-use Rattle.gpu_descriptor.specs.declared.bucket.take.Stop.TheVariants.{Existing}
+use Rattle.gpu_descriptor.specs.declared.bucket.stop.Stop.TheVariants.{ExistingPoolRefused}
 use Rattle.gpu_descriptor.proofs.request.Growing.{allocated_walked}
 use Rattle.gpu_descriptor.proofs.table.Exact.{bucket}
 use Rattle.gpu_descriptor.proofs.sums.StoredPools.{allocated_entries}
@@ -16,7 +16,7 @@ module _ {S : Type 0} (name : S → ℕ) {was now : List (DescriptorSet S)} (put
     walked_as : {wanting : ℕ} → IsWalked k n wanting (items_of name put) old new l m → IsWalked k n wanting (items_of name now) older newer l m
     walked_as w = rw (sym first, sym last, sym all) w
 
-    stopped_as : {error : DeviceAllocationError} → IsTaken (Err (Existing error)) k 0 n (items_of name put) old new l m → IsTaken (Err (Existing error)) k 0 n (items_of name now) older newer l m
+    stopped_as : {error : DeviceAllocationError} → IsTaken (Err (ExistingPoolRefused error)) k 0 n (items_of name put) old new l m → IsTaken (Err (ExistingPoolRefused error)) k 0 n (items_of name now) older newer l m
     stopped_as t = rw (sym first, sym last, sym all) t
 
 -- the bucket before and after, as the view has it
@@ -49,7 +49,7 @@ module _ {S : Type 0} (name : S → ℕ) (was now : List (DescriptorSet S)) (emp
   module _ (k : Key) (n had has : ℕ) (old new : Bucket) (l m : Ledger) where
     more : (r : Result ℕ DeviceAllocationError)
         → IfOk r (λ w. (put : List (DescriptorSet S)) × (now ≡ was ++ put) × (has + n ≡ had + w) × (length put + w ≡ n) × IsWalked k n w (items_of name put) old new l m)
-        → IfErr r (λ e. (put : List (DescriptorSet S)) × (now ≡ was ++ put) × IsTaken (Err (Existing e)) k 0 n (items_of name put) old new l m)
+        → IfErr r (λ e. (put : List (DescriptorSet S)) × (now ≡ was ++ put) × IsTaken (Err (ExistingPoolRefused e)) k 0 n (items_of name put) old new l m)
         → allocated_in new.pools ≡ allocated_in old.pools + length now
     more (Ok w) walked stopped = allocated_walked k n walked.4.grant old new l m _ walked.4.taken walked.4.no_fresh ∙ ap (λ j. allocated_in old.pools + j) (long walked.0 walked.1)
     more (Err e) walked stopped = allocated_walked k n stopped.2.0 old new l _ _ stopped.2.2 stopped.2.3.no_fresh ∙ ap (λ j. allocated_in old.pools + j) (long stopped.0 stopped.1)

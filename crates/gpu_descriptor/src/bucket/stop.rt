@@ -1,0 +1,38 @@
+//! Why a request stops that came to the pools of its key, and what it answers then.
+ghost use Rattle.std.specs.Prelude.{◌≡◌};
+ghost use Rattle.gpu_descriptor.specs.Model.Outcomes.{stop_answer};
+
+use crate::errors::AllocationError;
+use gpu_descriptor_types::{CreatePoolError, DeviceAllocationError};
+
+/// Why a request stops that came to the pools of its key.
+#[derive(Clone, Copy)]
+pub(crate) enum Stop {
+    /// An existing pool answered want of memory.
+    ExistingPoolRefused(DeviceAllocationError),
+
+    /// The limit leaves no room for a new pool.
+    NoRoomUnderLimit,
+
+    /// There was no memory for the books of a new pool.
+    NoMemoryForPool,
+
+    /// The device created no new pool.
+    PoolNotCreated(CreatePoolError),
+
+    /// The new pool refused, and was destroyed.
+    NewPoolRefused(DeviceAllocationError),
+}
+
+/// What a request answers that stopped so.
+pub(crate) fn answer_of(stop: Stop) -> AllocationError
+    ensures { result ≡ stop_answer stop }
+{
+    match stop {
+        Stop::ExistingPoolRefused(error) => AllocationError::from(error),
+        Stop::NoRoomUnderLimit => AllocationError::Fragmentation,
+        Stop::NoMemoryForPool => AllocationError::OutOfHostMemory,
+        Stop::PoolNotCreated(error) => AllocationError::from(error),
+        Stop::NewPoolRefused(error) => AllocationError::from(error),
+    }
+}
