@@ -4,7 +4,7 @@ use Rattle.gpu_descriptor_types.proofs.Sizes.{pool_size_some}
 use Rattle.gpu_descriptor_types.specs.declared.errors.CreatePoolError.TheVariants as create_error
 use Rattle.gpu_descriptor_types.specs.declared.errors.DeviceAllocationError.TheVariants as alloc_error
 use Rattle.gpu_descriptor.specs.declared.bucket.stop.Stop.TheVariants.{ExistingPoolRefused, NoRoomUnderLimit, NoMemoryForPool, PoolNotCreated, NewPoolRefused}
-use Rattle.gpu_descriptor.specs.Model.Outcomes.Allocates as outcome
+use Rattle.gpu_descriptor.specs.Model.Outcomes.Allocates.{none, above_limit as was_above_limit, past_bound as was_past_bound, no_memory_at_start as had_no_memory, done, stopped}
 use Rattle.gpu_descriptor.specs.Model.FreshPools.IsFreshList.{none as no_fresh, some as some_fresh}
 use Rattle.gpu_descriptor.specs.Model.Promises.IsFragmentation.{above_limit, past_bound, no_room_under_limit, pool_not_created, new_pool_refused}
 use Rattle.gpu_descriptor.specs.Model.Promises.IsHostMemory.{device_refused, no_memory_at_start, no_memory_for_pool}
@@ -131,12 +131,12 @@ module _ (c : Call) where
 
   -- each error has its cause
   pub has_cause : Allocates c → IfErr c.answer (λ e. HasCause e c)
-  has_cause (outcome.none zero_count answer stays) = rw answer tt
-  has_cause (outcome.above_limit some above answer stays) = answered _ answer (above_limit above)
-  has_cause (outcome.past_bound some within past answer stays) = answered _ answer (past_bound past)
-  has_cause (outcome.no_memory_at_start p answer stays) = answered _ answer (no_memory_at_start p stays)
-  has_cause (outcome.done p d) = rw d.answer tt
-  has_cause (outcome.stopped p s) = answered _ s.back.answer (stop_cause c s s.why refl s.back s.at)
+  has_cause (none zero_count answer stays) = rw answer tt
+  has_cause (was_above_limit some above answer stays) = answered _ answer (above_limit above)
+  has_cause (was_past_bound some within past answer stays) = answered _ answer (past_bound past)
+  has_cause (had_no_memory p answer stays) = answered _ answer (no_memory_at_start p stays)
+  has_cause (done p d) = rw d.answer tt
+  has_cause (stopped p s) = answered _ s.back.answer (stop_cause c s s.why refl s.back s.at)
 
   stop_short : (s : IsStopped c) (why : Stop) → IsBack c s.grant why → Stops c why s.grant s.pooled → c.before.created < c.after.created → IsShort c s.grant
   stop_short s (ExistingPoolRefused e) back at more =
@@ -151,9 +151,9 @@ module _ (c : Call) where
 
   -- a pool is created only where the existing ones don't do
   pub short : (outcome : Allocates c) → CreatesOnlyWhereShort outcome
-  short (outcome.none zero_count answer stays) more = (let n = ap (λ (k : Counters). k.created) stays.counters in absurd (omega arith))
-  short (outcome.above_limit some above answer stays) more = (let n = ap (λ (k : Counters). k.created) stays.counters in absurd (omega arith))
-  short (outcome.past_bound some within past answer stays) more = (let n = ap (λ (k : Counters). k.created) stays.counters in absurd (omega arith))
-  short (outcome.no_memory_at_start p answer stays) more = (let n = ap (λ (k : Counters). k.created) stays.counters in absurd (omega arith))
-  short (outcome.done p d) more = (d.grant, refl, (let n = ap (λ (k : Counters). k.created) d.counters in done_short c d d.fresh (omega arith)))
-  short (outcome.stopped p s) more = (s.grant, refl, stop_short s s.why s.back s.at more)
+  short (none zero_count answer stays) more = (let n = ap (λ (k : Counters). k.created) stays.counters in absurd (omega arith))
+  short (was_above_limit some above answer stays) more = (let n = ap (λ (k : Counters). k.created) stays.counters in absurd (omega arith))
+  short (was_past_bound some within past answer stays) more = (let n = ap (λ (k : Counters). k.created) stays.counters in absurd (omega arith))
+  short (had_no_memory p answer stays) more = (let n = ap (λ (k : Counters). k.created) stays.counters in absurd (omega arith))
+  short (done p d) more = (d.grant, refl, (let n = ap (λ (k : Counters). k.created) d.counters in done_short c d d.fresh (omega arith)))
+  short (stopped p s) more = (s.grant, refl, stop_short s s.why s.back s.at more)

@@ -3,7 +3,7 @@ use Rattle.gpu_descriptor.proofs.sums.TableSums.{adds_up, outstanding_of-table, 
 use Rattle.gpu_descriptor.specs.Model.Books.{AddsUp}
 use Rattle.gpu_descriptor.proofs.Common.{side, Meaning, greatest_u64, [], ◌≡◌, ℕ, ◌+◌, ◌-◌, ◌*◌, ◌<◌, ◌≤◌, ◌&&◌, Bool, true, false, List, map, length, sum, Result, Err, inl, inr, refl, sym, ap, subst, ◌∙◌, arith, mul-le-mul_right, cases_Bool, and_parts, ltb-true, ltb-false, IsDistinct, nat_lt, ◌⊎◌, kinds, Ledger, AllocationError, BucketKey, DescriptorSet, DescriptorBucket, Stop, Key, key_eq, Bucket, BucketOf, HasDistinctKeys, books_of, next_number, sum_over, key_of, Allocations, bucket_load, descriptors_out, set_descriptors, sets_out, IsWithinLimit, call_of, IsDeclined, IsUnserved, IsSound, ServesKey, Takes, named_row, state_of, table_of, outstanding_of, marked_load_of, pool_load_of, IsConsistent, row_of, stored_keys, books_in}
 use Rattle.gpu_descriptor.specs.declared.errors.AllocationError.TheVariants.{Fragmentation}
-use Rattle.gpu_descriptor.specs.Model.Outcomes.Allocates as outcome
+use Rattle.gpu_descriptor.specs.Model.Outcomes.Allocates.{above_limit, past_bound, no_memory_at_start}
 use Rattle.gpu_descriptor.proofs.table.TableBooks.{rows_are, distinct_rows}
 
 -- what a test that failed says
@@ -77,21 +77,21 @@ module _ {L P S : Type 0} (means : Meaning L P S) {a : Allocations P} {most look
   pub declined_by_limit : above ≡ true → Declines Fragmentation
   declined_by_limit passed =
       let both = and_parts key.update_after_bind (nat_lt a.limit (count * sum (kinds key.size) + marked_load_of a)) (sym test ∙ passed) in
-      (outcome.above_limit some (record { marked = both.0; load = marked_load_of a; is_load = load_is means a before distinct; above = ltb-true a.limit (count * sum (kinds key.size) + marked_load_of a) both.1 }) refl (record { state = refl; counters = refl }), refl)
+      (above_limit some (record { marked = both.0; load = marked_load_of a; is_load = load_is means a before distinct; above = ltb-true a.limit (count * sum (kinds key.size) + marked_load_of a) both.1 }) refl (record { state = refl; counters = refl }), refl)
 
   module _ (below : above ≡ false) {past : Bool} (bounded : past ≡ nat_lt greatest_u64 (out + count)) where
     in_limit : (answer : Result _ AllocationError) → IsWithinLimit (call_of means (key_of key) count (side a before) (side a before) answer)
     in_limit answer = record { load = marked_load_of a; is_load = load_is means a before distinct; within = within_of key.update_after_bind a.limit (count * sum (kinds key.size) + marked_load_of a) (sym test ∙ below) }
 
-    past_bound : (greatest_u64 < next_number ((state_of means.pool_name a before).books (key_of key)) + count) ⊎ (greatest_u64 < outstanding_of a + count) → Declines Fragmentation
-    past_bound more = (outcome.past_bound some (in_limit _) (record { out = outstanding_of a; is_out = out_is means a before distinct; past = more }) refl (record { state = refl; counters = refl }), refl)
+    declined_past : (greatest_u64 < next_number ((state_of means.pool_name a before).books (key_of key)) + count) ⊎ (greatest_u64 < outstanding_of a + count) → Declines Fragmentation
+    declined_past more = (past_bound some (in_limit _) (record { out = outstanding_of a; is_out = out_is means a before distinct; past = more }) refl (record { state = refl; counters = refl }), refl)
 
     pub declined_by_bound : past ≡ true → Declines Fragmentation
     declined_by_bound passed =
         let more = ltb-true greatest_u64 (out + count) (sym bounded ∙ passed) in
         let all = ap outstanding_of is in
         let is_out = counted.is_out in
-        past_bound (inr (omega arith))
+        declined_past (inr (omega arith))
 
     pub declined_unserved : past ≡ false → {b : Allocations P} {after : Ledger} → b ≡ a → after ≡ before → (e : AllocationError) → IsUnserved count e (books_in means.pool_name (map row_of es) (key_of key)) → IsDeclined (call_of means (key_of key) count (side a before) (side b after) (Err e))
     declined_unserved kept_in same kept e why = rw (same, kept) (elim (subst (λ (b : Bucket). IsUnserved count e b) (sym (books_at a es (table_is es is) means.pool_name before (key_of key))) why) [
@@ -99,8 +99,8 @@ module _ {L P S : Type 0} (means : Meaning L P S) {a : Allocations P} {most look
           let fits = ltb-false greatest_u64 (out + count) (sym bounded ∙ kept_in) in
           let all = ap outstanding_of is in
           let is_out = counted.is_out in
-          rw memory.0 (outcome.no_memory_at_start (record { some = some; limit = in_limit _; numbers = memory.1; out = outstanding_of a; is_out = out_is means a before distinct; sets = omega arith }) refl (record { state = refl; counters = refl }), refl))
-      | inr many ↦ rw many.0 (past_bound (inl many.1))
+          rw memory.0 (no_memory_at_start (record { some = some; limit = in_limit _; numbers = memory.1; out = outstanding_of a; is_out = out_is means a before distinct; sets = omega arith }) refl (record { state = refl; counters = refl }), refl))
+      | inr many ↦ rw many.0 (declined_past (inl many.1))
     ])
 
 -- a request that passed them, and took what its key has
