@@ -55,7 +55,7 @@ pub use Rattle.gpu_descriptor.specs.Inner.Releases.{FreesRun, IsTakenAt, RunsInt
 pub use Rattle.gpu_descriptor.specs.Inner.RunSteps.{AllPass, CountsFrom, EndsRun, Hands, Looks, RunStep}
 pub use Rattle.gpu_descriptor.specs.Inner.Serves.{IsDeclined, IsServed, IsUnserved, IsSound, ServesKey, Takes}
 pub use Rattle.gpu_descriptor.specs.Inner.SetAt.{set_at}
-pub use Rattle.gpu_descriptor.specs.Inner.Stored.{IsConsistent, books_in, bucket_of, entry_of, kept_in, kept_of, row_of, stored_keys, stored_load}
+pub use Rattle.gpu_descriptor.specs.Inner.Stored.{IsConsistent, KeepsNumbers, books_in, bucket_of, entry_of, kept_in, kept_of, row_of, stored_keys, stored_load}
 pub use Rattle.gpu_descriptor.specs.Inner.Walk.{HasTaken, IsAsked, IsNoMemory, IsRefused, IsWalked}
 pub use Rattle.gpu_descriptor.specs.Model.Cleanup.{IsCleaned, cleaned_bucket, pools_cleaned}
 pub use Rattle.gpu_descriptor.specs.Model.Foreign.{IsForeign, IsNamed, KeepsForeign, LosesNone}

@@ -1,9 +1,8 @@
 //! The allocator: a table from keys to their pools.
-ghost use Rattle.std.specs.Prelude.{◌≡◌, ℕ, true};
+ghost use Rattle.std.specs.Prelude.{◌≡◌, ℕ};
 ghost use Rattle.gpu_descriptor_types.specs.Ledger.{Ledger};
 ghost use Rattle.gpu_descriptor.specs.Caller.States.{Agrees};
 ghost use Rattle.gpu_descriptor.specs.Caller.Values.{without_keys};
-ghost use Rattle.gpu_descriptor.specs.Inner.Ids.{rise_below, stored_ids};
 
 mod allocate;
 mod cleanup;
@@ -11,11 +10,9 @@ mod free;
 pub(crate) mod plan;
 mod readers;
 
-use crate::bucket::DescriptorBucket;
-use crate::ids::KeyIds;
-use crate::set::BucketKey;
+use crate::budget::Budget;
+use crate::key_table::KeyTable;
 use gpu_descriptor_types::Tally;
-use indexmap::IndexMap;
 use std::alloc::Global;
 use std::marker::{Model, PhantomData};
 
@@ -29,17 +26,17 @@ use std::marker::{Model, PhantomData};
 #[derive(Debug, Drop)]
 pub struct DescriptorAllocator<P, S> {
     alloc: Global,
-    buckets: IndexMap<BucketKey, DescriptorBucket<P>>,
+    table: KeyTable<P>,
     max_update_after_bind_descriptors_in_all_pools: u32,
-    current_update_after_bind_descriptors_in_all_pools: u32,
-    /// What the limit leaves for descriptors of further pools of marked layouts.
-    update_after_bind_room: u32,
+
+    /// How many descriptors the outstanding sets of marked layouts have.
+    update_after_bind_descriptors: u32,
     outstanding: u64,
-    ids: KeyIds,
-    looks: Tally,
+    budget: Budget,
+
+    /// How often a release compared numbers.
     comparisons: Tally,
     sets: PhantomData<S>,
-    ghost rising: { rise_below ids.next (stored_ids buckets.entries) ≡ true },
 }
 
 impl<P, S> Model for DescriptorAllocator<P, S> {
@@ -52,14 +49,13 @@ impl<P, S> Model for DescriptorAllocator<P, S> {
 
     ghost view = { λ a. record {
       limit = a.max_update_after_bind_descriptors_in_all_pools;
-      table = map row_of a.buckets.entries;
-      looks = a.looks.count;
+      table = map row_of a.table.buckets.entries;
+      looks = a.budget.looks.count;
       comparisons = a.comparisons.count;
     } };
 
     ghost invariant = { λ a. IsCounted a.max_update_after_bind_descriptors_in_all_pools
-        a.current_update_after_bind_descriptors_in_all_pools a.update_after_bind_room
-        a.outstanding a.buckets.entries };
+        a.update_after_bind_descriptors a.budget.room a.outstanding a.table.buckets.entries };
 }
 
 impl<P, S> DescriptorAllocator<P, S> {
@@ -72,13 +68,14 @@ impl<P, S> DescriptorAllocator<P, S> {
     {
         DescriptorAllocator {
             alloc,
-            buckets: IndexMap::new(alloc),
+            table: KeyTable::new(alloc),
             max_update_after_bind_descriptors_in_all_pools,
-            current_update_after_bind_descriptors_in_all_pools: 0,
-            update_after_bind_room: max_update_after_bind_descriptors_in_all_pools,
+            update_after_bind_descriptors: 0,
             outstanding: 0,
-            ids: KeyIds::new(),
-            looks: Tally::zero(),
+            budget: Budget {
+                room: max_update_after_bind_descriptors_in_all_pools,
+                looks: Tally::zero(),
+            },
             comparisons: Tally::zero(),
             sets: PhantomData,
         }

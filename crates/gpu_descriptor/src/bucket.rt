@@ -5,13 +5,15 @@ ghost use Rattle.gpu_descriptor_types.specs.Bounds.{greatest_u64};
 ghost use Rattle.gpu_descriptor.specs.Inner.OpenNumbers.{free_in, open_numbers};
 
 pub(crate) mod allocation;
+mod existing;
 mod front;
+pub(crate) mod growth;
 mod reads;
 mod release;
+pub(crate) mod request;
 mod run;
 mod search;
 pub(crate) mod stop;
-pub(crate) mod take;
 
 use std::collections::VecDeque;
 
@@ -41,7 +43,7 @@ pub(crate) struct DescriptorBucket<P> {
 
     pub(crate) pools: VecDeque<DescriptorPool<P>>,
 
-    /// The numbers of the pools with known free places, rising. There is room for those of all
+    /// The numbers of the pools with known free places, rising. There is capacity for those of all
     /// pools.
     pub(crate) listed: VecDeque<u64>,
 
@@ -50,7 +52,7 @@ pub(crate) struct DescriptorBucket<P> {
     ghost numbered: { offset + length pools.items < 2 ^ 64 },
     ghost counted: { total ≡ sum_by (λ p. p.allocated) pools.items },
     ghost open: { listed.items ≡ open_numbers offset (free_in pools.items) },
-    ghost room: { length pools.items ≤ deque_capacity listed },
+    ghost capacity: { length pools.items ≤ deque_capacity listed },
 }
 
 /// Whether so many more would pass the greatest number of 64 bits.

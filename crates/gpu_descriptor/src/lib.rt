@@ -24,10 +24,11 @@
 
 mod allocator;
 mod bucket;
+mod budget;
 mod errors;
 mod flags;
-mod ids;
 mod key;
+mod key_table;
 pub mod laws;
 mod set;
 mod view;

@@ -221,7 +221,7 @@ module _ {P : Type 0} where
   none_out b h = b.counted ∙ ap (sum_by (λ (p : DescriptorPool P). p.allocated)) (empty_bucket b h)
 
   pub counted_put : (limit marked room left out : ℕ) (es : List (BucketKey × DescriptorBucket P)) (i : ℕ) (k : BucketKey) (v w : DescriptorBucket P) → slice_get es i ≡ Some (k, v) → w.total ≡ v.total → left + stored_load_in (k, w) ≡ room + stored_load_in (k, v) → IsConsistent limit marked room out es → IsConsistent limit marked left out (set_value_at es i w)
-  counted_put limit marked room left out es i k v w at same moved counted = grind (arith, keys_at, rows_load, rows_out, rows_pool_load, sum_put)
+  counted_put limit marked room left out es i k v w at same moved counted = grind (arith, rows_load, rows_out, rows_pool_load, sum_put)
 
-  pub counted_filter : (limit marked room out : ℕ) (es fs : List (BucketKey × DescriptorBucket P)) → fs ≡ filter (λ e. has_pools e.1) es → IsDistinct key_eq (stored_keys fs) → IsConsistent limit marked room out es → IsConsistent limit marked room out fs
-  counted_filter limit marked room out es fs kept distinct counted = grind (arith, common_steps, set_descriptors-none, rows_load, rows_out, rows_pool_load, stored_load_in, sum_filter)
+  pub counted_filter : (limit marked room out : ℕ) (es fs : List (BucketKey × DescriptorBucket P)) → fs ≡ filter (λ e. has_pools e.1) es → IsConsistent limit marked room out es → IsConsistent limit marked room out fs
+  counted_filter limit marked room out es fs kept counted = grind (arith, common_steps, set_descriptors-none, rows_load, rows_out, rows_pool_load, stored_load_in, sum_filter)

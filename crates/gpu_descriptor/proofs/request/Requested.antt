@@ -28,8 +28,7 @@ rows_distinct name es distinct = subst HasDistinctKeys (sym (rows_are name es)) 
 
 -- a table without keys
 pub counted_none : {P : Type 0} (most : ℕ) → IsConsistent {P = P} most 0 most 0 []
-unfolding IsDistinct
-counted_none most = record { distinct = tt; is_load = refl; within = omega arith; is_room = omega arith; is_out = refl }
+counted_none most = record { is_load = refl; within = omega arith; is_room = omega arith; is_out = refl }
 
 module _ {P : Type 0} {a : Allocations P} {most looks compared : ℕ} (es : List (BucketKey × DescriptorBucket P)) (is : seen most looks compared es ≡ a) where
   pub table_is : a.table ≡ map row_of es
@@ -39,8 +38,8 @@ module _ {P : Type 0} {a : Allocations P} {most looks compared : ℕ} (es : List
   pub seen_again : {looked : ℕ} (fs : List (BucketKey × DescriptorBucket P)) → fs ≡ es → looked ≡ looks → seen most looked compared fs ≡ a
   seen_again fs rows count = (λ i. seen most (count i) compared (rows i)) ∙ is
 
-  pub rows_apart : (name : P → ℕ) → {marked room out : ℕ} → IsConsistent most marked room out es → HasDistinctKeys (table_of name a)
-  rows_apart name counted = subst (λ (x : Allocations P). HasDistinctKeys (table_of name x)) is (rows_distinct name es counted.distinct)
+  pub rows_apart : (name : P → ℕ) → IsDistinct key_eq (stored_keys es) → HasDistinctKeys (table_of name a)
+  rows_apart name apart = subst (λ (x : Allocations P). HasDistinctKeys (table_of name x)) is (rows_distinct name es apart)
 
   pub load_within : {marked room out : ℕ} → IsConsistent most marked room out es → marked_load_of a ≤ a.limit
   load_within counted = subst (λ (x : Allocations P). marked_load_of x ≤ x.limit) is (let load = counted.is_load in let within = counted.within in omega arith)
@@ -49,9 +48,9 @@ module _ {P : Type 0} {a : Allocations P} {most looks compared : ℕ} (es : List
   pool_load_within counted = subst (λ (x : Allocations P). pool_load_of x ≤ x.limit) is (let room = counted.is_room in omega arith)
 
 -- the rows of an allocator and its limit
-module _ {P : Type 0} {a : Allocations P} {most looks compared marked room out : ℕ} {es : List (BucketKey × DescriptorBucket P)} (is : seen most looks compared es ≡ a) (counted : IsConsistent most marked room out es) where
+module _ {P : Type 0} {a : Allocations P} {most looks compared marked room out : ℕ} {es : List (BucketKey × DescriptorBucket P)} (is : seen most looks compared es ≡ a) (counted : IsConsistent most marked room out es) (apart : IsDistinct key_eq (stored_keys es)) where
   pub keeps_limit : (name : P → ℕ) → IsSound name a
-  keeps_limit name = record { rows = rows_apart es is name counted; load = load_within es is counted; pool_load = pool_load_within es is counted }
+  keeps_limit name = record { rows = rows_apart es is name apart; load = load_within es is counted; pool_load = pool_load_within es is counted }
 
 -- what callers see adds up over the books
 module _ {L P S : Type 0} (means : Meaning L P S) (a : Allocations P) (before : Ledger) (distinct : HasDistinctKeys (table_of means.pool_name a)) where
@@ -66,13 +65,13 @@ module _ {L P S : Type 0} (means : Meaning L P S) (a : Allocations P) (before : 
 
 -- ---- the tests of a request, over the fields of an allocator
 
-module _ {L P S : Type 0} (means : Meaning L P S) {a : Allocations P} {most looks compared marked room out : ℕ} {es : List (BucketKey × DescriptorBucket P)} (is : seen most looks compared es ≡ a) (counted : IsConsistent most marked room out es) (before : Ledger)
+module _ {L P S : Type 0} (means : Meaning L P S) {a : Allocations P} {most looks compared marked room out : ℕ} {es : List (BucketKey × DescriptorBucket P)} (is : seen most looks compared es ≡ a) (counted : IsConsistent most marked room out es) (apart : IsDistinct key_eq (stored_keys es)) (before : Ledger)
     (key : BucketKey) {count : ℕ} (some : 0 < count) {above : Bool} (test : above ≡ (key.update_after_bind && nat_lt a.limit (count * sum (kinds key.size) + marked_load_of a))) where
   abbrev Declines : AllocationError → Type 0
   Declines error = IsDeclined (call_of means (key_of key) count (side a before) (side a before) (Err error))
 
   distinct : HasDistinctKeys (table_of means.pool_name a)
-  distinct = rows_apart es is means.pool_name counted
+  distinct = rows_apart es is means.pool_name apart
 
   pub declined_by_limit : above ≡ true → Declines Fragmentation
   declined_by_limit passed =
@@ -125,8 +124,8 @@ module _ {L P S : Type 0} {means : Meaning L P S} {key : BucketKey} {room count 
     | inr off ↦ (let none : set_descriptors (key_of key) given ≡ 0 = rw off refl in let all = counted.within in omega arith)
   ]
 
-  pub counted_now : {given more left : ℕ} → given ≡ length sets → more ≡ set_descriptors (key_of key) given → left + sum_over bucket_load (map row_of fs) ≡ room + sum_over bucket_load (map row_of es) → IsDistinct key_eq (stored_keys fs) → IsConsistent most (marked + more) left (out + given) fs
-  counted_now long load moved distinct =
+  pub counted_now : {given more left : ℕ} → given ≡ length sets → more ≡ set_descriptors (key_of key) given → left + sum_over bucket_load (map row_of fs) ≡ room + sum_over bucket_load (map row_of es) → IsConsistent most (marked + more) left (out + given) fs
+  counted_now long load moved =
       let fits = given_fits long in
       let same = ap (set_descriptors (key_of key)) long in
       let is_room = counted.is_room in
@@ -134,7 +133,7 @@ module _ {L P S : Type 0} {means : Meaning L P S} {key : BucketKey} {room count 
       let is_out = counted.is_out in
       let more = s.load in
       let many = s.out in
-      record { distinct = distinct; is_load = omega arith; within = omega arith; is_room = omega arith; is_out = omega arith }
+      record { is_load = omega arith; within = omega arith; is_room = omega arith; is_out = omega arith }
 
   pub takes_of : {past : Bool} → past ≡ nat_lt greatest_u64 (out + count) → past ≡ false → {looked : ℕ} → Takes means (key_of key) count sets ended (side a before) (side (seen most looked compared fs) after)
   takes_of bounded kept_in {looked} =

@@ -130,8 +130,8 @@ module _ {P : Type 0} {k : Key} {n : ℕ} {es fs : List (BucketKey × Descriptor
   pub load_fits : {limit marked room out : ℕ} → IsConsistent limit marked room out es → set_descriptors k n ≤ marked
   load_fits counted = (let is = counted.is_load in let load = t.load in omega arith)
 
-  pub counted_after : {limit marked room left out less : ℕ} → IsConsistent limit marked room out es → less ≡ set_descriptors k n → left + sum_over bucket_load (map row_of fs) ≡ room + sum_over bucket_load (map row_of es) → stored_keys fs ≡ stored_keys es → IsConsistent limit (marked - less) left (out - n) fs
-  counted_after counted load pools keys = grind arith
+  pub counted_after : {limit marked room left out less : ℕ} → IsConsistent limit marked room out es → less ≡ set_descriptors k n → left + sum_over bucket_load (map row_of fs) ≡ room + sum_over bucket_load (map row_of es) → IsConsistent limit (marked - less) left (out - n) fs
+  counted_after counted load pools = grind arith
 
   module _ (old : Allocations P) (is : old.table ≡ map row_of es) where
     pub out_after : sum_over sets_out (map row_of fs) + n ≡ outstanding_of old

@@ -1,10 +1,9 @@
 -- The table of keys, as the code has it.
 use Rattle.std.specs.Prelude.{◌≡◌, ℕ, ◌+◌, ◌≤◌, List, map, sum_by}
-use Rattle.std.specs.List.{IsDistinct}
 use Rattle.gpu_descriptor.specs.declared.set.BucketKey.{BucketKey}
 use Rattle.gpu_descriptor.specs.declared.bucket.DescriptorPool.{DescriptorPool}
 use Rattle.gpu_descriptor.specs.declared.bucket.DescriptorBucket.{DescriptorBucket}
-use Rattle.gpu_descriptor.specs.Model.Books.{Key, key_eq, EntryOf, BucketOf, Entry, Bucket, books_of, sum_over}
+use Rattle.gpu_descriptor.specs.Model.Books.{Key, EntryOf, BucketOf, Entry, Bucket, books_of, sum_over}
 use Rattle.gpu_descriptor.specs.Model.Load.{bucket_load, descriptors_out, pool_descriptors, sets_out}
 use Rattle.gpu_descriptor.specs.Caller.States.{named, named_row}
 use Rattle.gpu_descriptor.specs.Inner.KeyOf.{key_of}
@@ -23,14 +22,18 @@ module _ {P : Type 0} where
   abbrev pub stored_keys : List (BucketKey × DescriptorBucket P) → List Key
   stored_keys es = map (λ r. key_of r.0) es
 
+  -- they are pools of the same key, and have the same numbers
+  pub record KeepsNumbers (old new : DescriptorBucket P) : Type 0 where
+    pub id : new.id ≡ old.id
+    pub offset : new.offset ≡ old.offset
+
   -- the descriptors of these pools of a key, if it is marked
   abbrev pub stored_load : Key → List (DescriptorPool P) → ℕ
   stored_load k pools = sum_by (λ p. pool_descriptors k p.capacity) pools
 
-  -- no key stands twice, the running totals are those of the table, the marked descriptors keep
-  -- the limit, and room is what those of the pools leave of it
+  -- the running totals are those of the table, the marked descriptors keep the limit, and room is
+  -- what those of the pools leave of it
   pub record IsConsistent (limit marked room out : ℕ) (table : List (BucketKey × DescriptorBucket P)) : Type 0 where
-    pub distinct : IsDistinct key_eq (stored_keys table)
     pub is_load : marked ≡ sum_over descriptors_out (map row_of table)
     pub within : marked ≤ limit
     pub is_room : room + sum_over bucket_load (map row_of table) ≡ limit

@@ -1,38 +1,28 @@
 //! Handing sets out, whole or not at all.
-ghost use Rattle.std.specs.Prelude.{◌≡◌, ◌+◌, ◌*◌, ◌^◌, ◌<◌, ◌&&◌, nat_lt, sum};
-ghost use Rattle.gpu_descriptor_types.specs.Side.{side};
-ghost use Rattle.gpu_descriptor.specs.Inner.Ids.{rise_below, stored_ids};
-ghost use Rattle.std.specs.Prelude.{map, true, Err, IfOk, IfErr, OnOk, OnErr};
-ghost use Rattle.std.specs.List.{IsDistinct};
+ghost use Rattle.std.specs.Prelude.{◌≡◌, ◌+◌, ◌*◌, ◌<◌, ◌&&◌, nat_lt, sum, Err, IfOk, IfErr, OnOk, OnErr};
 ghost use Rattle.gpu_descriptor_types.specs.Counts.{kinds};
-ghost use Rattle.gpu_descriptor.specs.Model.Books.{key_eq, sum_over};
+ghost use Rattle.gpu_descriptor_types.specs.Side.{side};
+ghost use Rattle.gpu_descriptor.specs.Caller.Call.{call_of, layout_key};
 ghost use Rattle.gpu_descriptor.specs.Caller.Flags.{is_marked};
 ghost use Rattle.gpu_descriptor.specs.Caller.HandsOut.{HandsOut};
 ghost use Rattle.gpu_descriptor.specs.Caller.Keeps.{Keeps};
 ghost use Rattle.gpu_descriptor.specs.Caller.Keys.{with_key};
-ghost use Rattle.gpu_descriptor.specs.Inner.KeyOf.{key_of};
 ghost use Rattle.gpu_descriptor.specs.Caller.Sets.{AreOfLayout};
 ghost use Rattle.gpu_descriptor.specs.Caller.States.{Agrees, keys_of, marked_load_of};
-ghost use Rattle.gpu_descriptor.specs.Model.Load.{bucket_load, sets_out};
-ghost use Rattle.gpu_descriptor.specs.Caller.Call.{call_of, layout_key};
-ghost use Rattle.gpu_descriptor.specs.Inner.Buckets.{AreBookedIn};
+ghost use Rattle.gpu_descriptor.specs.Inner.KeyOf.{key_of};
 ghost use Rattle.gpu_descriptor.specs.Inner.OpenPools.{CountsLooks};
-ghost use Rattle.gpu_descriptor.specs.Inner.Stored.{books_in, row_of, stored_keys};
-ghost use Rattle.gpu_descriptor.specs.Inner.Serves.{IsDeclined, IsSound, IsUnserved, ServesKey, Takes};
+ghost use Rattle.gpu_descriptor.specs.Inner.Serves.{IsDeclined, IsSound, Takes};
 
 use super::DescriptorAllocator;
+use crate::bucket::is_past_bound;
+use crate::bucket::request::{Served, SetRequest};
 use crate::bucket::stop::answer_of;
-use crate::bucket::take::{Served, SetRequest};
-use crate::bucket::{DescriptorBucket, is_past_bound};
 use crate::errors::AllocationError;
 use crate::flags::DescriptorSetLayoutCreateFlags;
-use crate::ids::KeyIds;
 use crate::set::{BucketKey, DescriptorSet};
 use bitflags::Flags;
-use gpu_descriptor_types::{DescriptorDevice, DescriptorTotalCount, Tally};
-use indexmap::IndexMap;
-use std::alloc::Global;
-use std::collections::VecDeque;
+use gpu_descriptor_types::{DescriptorDevice, DescriptorTotalCount};
+use std::marker::PhantomData;
 
 impl<P: Drop, S: Drop> DescriptorAllocator<P, S> {
     /// Allocates `count` sets of a layout, and hands them out in the order in which they came.
@@ -79,11 +69,18 @@ impl<P: Drop, S: Drop> DescriptorAllocator<P, S> {
         if count == 0 {
             return Ok(Vec::new(self.alloc));
         }
-        let key = BucketKey {
-            size: *layout_descriptor_count,
-            update_after_bind: flags.contains(DescriptorSetLayoutCreateFlags::UPDATE_AFTER_BIND),
+        let request = SetRequest {
+            layout,
+            key: BucketKey {
+                size: *layout_descriptor_count,
+                update_after_bind: flags
+                    .contains(DescriptorSetLayoutCreateFlags::UPDATE_AFTER_BIND),
+            },
+            count,
+            alloc: self.alloc,
+            device: PhantomData,
         };
-        let Served { sets, taken } = match self.request(device, layout, key, count) {
+        let Served { sets, taken } = match self.serve_within_limit(device, &request) {
             Ok(served) => served,
             Err(error) => return Err(error),
         };
@@ -97,55 +94,45 @@ impl<P: Drop, S: Drop> DescriptorAllocator<P, S> {
     }
 
     /// Takes sets, and hands over those that came. Where it stopped short, they have to go back.
-    fn request<L, D: DescriptorDevice<L, P, S>>(
+    fn serve_within_limit<L, D: DescriptorDevice<L, P, S>>(
         &mut self,
         device: &mut D,
-        layout: &L,
-        key: BucketKey,
-        count: u32,
+        request: &SetRequest<'_, L, P, S, D>,
     ) -> Result<Served<S>, AllocationError>
-        requires same { key_of key ≡ layout_key D.meaning layout.now }
-        requires some { 0 < count }
+        requires some { 0 < request.now.count }
         requires agree { Agrees D.meaning.pool_name self.old (D.ledger device.old) }
-        ensures taken { IfOk result (λ r. Takes D.meaning (key_of key) count r.sets.items r.taken
-            (side self.old (D.ledger device.old)) (side self.new (D.ledger device.new))) }
-        ensures own { IfOk result (λ r. AreOfLayout D.meaning layout.now r.sets.items) }
-        ensures declined { IfErr result (λ e. IsDeclined (call_of D.meaning (key_of key) count
-            (side self.old (D.ledger device.old)) (side self.new (D.ledger device.new)) (Err e))) }
+        ensures taken { IfOk result (λ r. Takes D.meaning (key_of request.now.key) request.now.count
+            r.sets.items r.taken (side self.old (D.ledger device.old))
+            (side self.new (D.ledger device.new))) }
+        ensures own { IfOk result (λ r. AreOfLayout D.meaning request.now.layout.now r.sets.items) }
+        ensures declined { IfErr result (λ e. IsDeclined (call_of D.meaning (key_of request.now.key)
+            request.now.count (side self.old (D.ledger device.old))
+            (side self.new (D.ledger device.new)) (Err e))) }
         ensures looks { CountsLooks self.old.looks self.new.looks
             (D.ledger device.old) (D.ledger device.new) }
         ensures comparisons_stay { self.new.comparisons ≡ self.old.comparisons }
-        ensures keys { OnOk result (keys_of self.new ≡ with_key (key_of key) (keys_of self.old)) }
+        ensures keys { OnOk result (keys_of self.new
+            ≡ with_key (key_of request.now.key) (keys_of self.old)) }
         ensures allocator { OnErr result (self.new ≡ self.old) }
         ensures ledger { OnErr result (D.ledger device.new ≡ D.ledger device.old) }
         ensures within { IsSound D.meaning.pool_name self.new }
         ensures limit { self.new.limit ≡ self.old.limit }
     {
-        let outstanding = self.outstanding;
-        if self.is_above_limit(&key, count) {
+        if self.is_above_limit(&request.key, request.count) {
             return Err(AllocationError::Fragmentation);
         }
-        if is_past_bound(outstanding, count) {
+        if is_past_bound(self.outstanding, request.count) {
             return Err(AllocationError::Fragmentation);
         }
-        let request = SetRequest { layout, key, count };
-        let served = serve_key(
-            self.alloc,
-            &mut self.buckets,
-            &mut self.ids,
-            device,
-            &request,
-            &mut self.update_after_bind_room,
-            &mut self.looks,
-        );
+        let served = self.table.serve(device, request, &mut self.budget);
         let Served { sets, taken } = match served {
             Ok(served) => served,
             Err(error) => return Err(error),
         };
         let given = sets.len() as u64;
         self.outstanding += given;
-        let descriptors = key.descriptors_of_sets(given) as u32;
-        self.current_update_after_bind_descriptors_in_all_pools += descriptors;
+        let descriptors = request.key.descriptors_of_sets(given) as u32;
+        self.update_after_bind_descriptors += descriptors;
         Ok(Served { sets, taken })
     }
 
@@ -155,72 +142,7 @@ impl<P: Drop, S: Drop> DescriptorAllocator<P, S> {
             (count * sum (kinds key.now.size) + marked_load_of self.now)) }
     {
         let left = self.max_update_after_bind_descriptors_in_all_pools
-            - self.current_update_after_bind_descriptors_in_all_pools;
+            - self.update_after_bind_descriptors;
         key.update_after_bind && u128::from(count) * u128::from(key.size.total()) > u128::from(left)
-    }
-}
-
-/// Takes sets of a key. If the key is absent, it is put last.
-fn serve_key<L, P: Drop, S: Drop, D: DescriptorDevice<L, P, S>>(
-    alloc: Global,
-    buckets: &mut IndexMap<BucketKey, DescriptorBucket<P>>,
-    ids: &mut KeyIds,
-    device: &mut D,
-    request: &SetRequest<'_, L>,
-    room: &mut u32,
-    looks: &mut Tally,
-) -> Result<Served<S>, AllocationError>
-    requires same { key_of request.now.key ≡ layout_key D.meaning request.now.layout.now }
-    requires booked { AreBookedIn (key_of request.now.key) (D.ledger device.old).pools (books_in
-        D.meaning.pool_name (map row_of buckets.old.entries) (key_of request.now.key)).pools }
-    requires distinct { IsDistinct key_eq (stored_keys buckets.old.entries) }
-    requires rising { rise_below ids.old.next (stored_ids buckets.old.entries) ≡ true }
-    requires bound { sum_over sets_out (map row_of buckets.old.entries) + request.now.count
-        < 2 ^ 64 }
-    ensures served { IfOk result (λ r. ServesKey D.meaning (key_of request.now.key) room.old
-        request.now.count r.sets.items r.taken (map row_of buckets.old.entries)
-        (map row_of buckets.new.entries) (D.ledger device.old) (D.ledger device.new)) }
-    ensures own { IfOk result (λ r. AreOfLayout D.meaning request.now.layout.now r.sets.items) }
-    ensures refused { IfErr result (λ e. IsUnserved request.now.count e (books_in
-        D.meaning.pool_name (map row_of buckets.old.entries) (key_of request.now.key))) }
-    ensures looks { CountsLooks looks.old.count looks.new.count
-        (D.ledger device.old) (D.ledger device.new) }
-    ensures looks_stay { OnErr result (looks.new ≡ looks.old) }
-    ensures room { room.new + sum_over bucket_load (map row_of buckets.new.entries)
-        ≡ room.old + sum_over bucket_load (map row_of buckets.old.entries) }
-    ensures keys { OnOk result (stored_keys buckets.new.entries
-        ≡ with_key (key_of request.now.key) (stored_keys buckets.old.entries)) }
-    ensures distinct { OnOk result (IsDistinct key_eq (stored_keys buckets.new.entries)) }
-    ensures rising { rise_below ids.new.next (stored_ids buckets.new.entries) ≡ true }
-    ensures entries { OnErr result (buckets.new.entries ≡ buckets.old.entries) }
-    ensures ledger { OnErr result (D.ledger device.new ≡ D.ledger device.old) }
-{
-    match ids.place_of_key(buckets, &request.key) {
-        Some(place) => return buckets[place].serve(device, request, room, alloc, looks),
-        None => {}
-    }
-    if buckets.reserve(1).is_err() {
-        return Err(AllocationError::OutOfHostMemory);
-    }
-    if ids.next == u64::MAX {
-        return Err(AllocationError::OutOfHostMemory);
-    }
-    let mut bucket = DescriptorBucket {
-        id: ids.next,
-        offset: 0,
-        pools: VecDeque::new(alloc),
-        listed: VecDeque::new(alloc),
-        total: 0,
-    };
-    let served = match bucket.serve(device, request, room, alloc, looks) {
-        Ok(served) => served,
-        Err(error) => return Err(error),
-    };
-    match buckets.insert(request.key, bucket) {
-        Ok(_) => {
-            ids.next += 1;
-            Ok(served)
-        }
-        Err(_) => unreachable!(),
     }
 }

@@ -24,12 +24,12 @@ impl<P: Drop, S> DescriptorAllocator<P, S> {
         ensures keeps { Keeps D.meaning (side self.old (D.ledger device.old))
             (side self.new (D.ledger device.new)) }
     {
-        for place in 0..self.buckets.len() {
-            let key = *self.buckets.as_slice().get_index(place).unwrap().0;
-            let bucket = &mut self.buckets[place];
-            bucket.drop_front(device, &key, &mut self.update_after_bind_room, 0);
+        for place in 0..self.table.buckets.len() {
+            let key = *self.table.buckets.as_slice().get_index(place).unwrap().0;
+            let bucket = &mut self.table.buckets[place];
+            bucket.drop_front(device, &key, &mut self.budget.room, 0);
         }
-        self.buckets.retain(
+        self.table.buckets.retain(
             |_key: &BucketKey, bucket: &mut DescriptorBucket<P>| -> bool
                 ensures { (result ≡ has_pools bucket.old) × (bucket.new ≡ bucket.old) }
             { !bucket.pools.is_empty() },

@@ -69,7 +69,7 @@ impl<P, S> DescriptorAllocator<P, S> {
 
         // The proof of `keeps` has the allocator's invariant where a field is read.
         prove!(
-            self.current_update_after_bind_descriptors_in_all_pools
+            self.update_after_bind_descriptors
                 <= self.max_update_after_bind_descriptors_in_all_pools
         );
     }
@@ -98,9 +98,10 @@ impl<P, S> DescriptorAllocator<P, S> {
         ensures few { self.new.comparisons ≤ self.old.comparisons + binary_digits (open_pools
             ((state_of D.meaning.pool_name self.old (D.ledger device.old)).books first.key.is)) }
     {
-        let place = self.ids.place_of_id(&self.buckets, first.id);
-        let key = *self.buckets.as_slice().get_index(place).unwrap().0;
-        let bucket = &mut self.buckets[place];
+        let place = self.table.place_of_id(first.id);
+        self.table.last = place;
+        let key = *self.table.buckets.as_slice().get_index(place).unwrap().0;
+        let bucket = &mut self.table.buckets[place];
         let before = bucket.total;
         let ahead = bucket.release_run(
             device,
@@ -108,12 +109,12 @@ impl<P, S> DescriptorAllocator<P, S> {
             first,
             sets,
             &mut self.comparisons,
-            &mut self.update_after_bind_room,
+            &mut self.budget.room,
         );
         let released = before - bucket.total;
         self.outstanding -= released;
         let descriptors = key.descriptors_of_sets(released) as u32;
-        self.current_update_after_bind_descriptors_in_all_pools -= descriptors;
+        self.update_after_bind_descriptors -= descriptors;
         ahead
     }
 }

@@ -6,7 +6,7 @@
 //! wrong, such a device refuses.
 use super::DescriptorAllocator;
 use crate::bucket::DescriptorBucket;
-use crate::bucket::take::{next_size, pool_flags};
+use crate::bucket::growth::{next_size, pool_flags};
 use crate::set::BucketKey;
 use gpu_descriptor_types::{DescriptorPoolCreateFlags, DescriptorTotalCount};
 
@@ -80,7 +80,7 @@ impl<P, S> DescriptorAllocator<P, S> {
             size: *layout_descriptor_count,
             update_after_bind,
         };
-        let place = self.ids.likely_place(&self.buckets, &key);
+        let place = self.table.place_of_key(&key);
         let total = match self.planned_bucket(place) {
             Some(bucket) => bucket.total,
             None => 0,
@@ -92,7 +92,7 @@ impl<P, S> DescriptorAllocator<P, S> {
             asked: 0,
             fresh: 0,
             total,
-            room: self.update_after_bind_room,
+            room: self.budget.room,
         }
     }
 
@@ -100,13 +100,13 @@ impl<P, S> DescriptorAllocator<P, S> {
     fn is_over(&self, key: &BucketKey, count: u32) -> bool {
         let left = self
             .max_update_after_bind_descriptors_in_all_pools
-            .saturating_sub(self.current_update_after_bind_descriptors_in_all_pools);
+            .saturating_sub(self.update_after_bind_descriptors);
         key.update_after_bind && u128::from(count) * u128::from(key.size.total()) > u128::from(left)
     }
 
     /// The pools at a place of the table.
     fn planned_bucket(&self, place: Option<usize>) -> Option<&DescriptorBucket<P>> {
-        match self.buckets.get_index(place?) {
+        match self.table.buckets.get_index(place?) {
             Some((_, bucket)) => Some(bucket),
             None => None,
         }

@@ -24,7 +24,7 @@ impl<P, S> DescriptorAllocator<P, S> {
         ensures sum { result ≡ marked_load_of self.now }
         ensures within { result ≤ self.now.limit }
     {
-        self.current_update_after_bind_descriptors_in_all_pools
+        self.update_after_bind_descriptors
     }
 
     /// How many descriptors the pools of update-after-bind layouts have, as they were created; a
@@ -34,7 +34,7 @@ impl<P, S> DescriptorAllocator<P, S> {
         ensures sum { result ≡ pool_load_of self.now }
         ensures within { result ≤ self.now.limit }
     {
-        self.max_update_after_bind_descriptors_in_all_pools - self.update_after_bind_room
+        self.max_update_after_bind_descriptors_in_all_pools - self.budget.room
     }
 
     /// How many pools there are for sets of layouts with these counts and this mark.
@@ -46,7 +46,7 @@ impl<P, S> DescriptorAllocator<P, S> {
             size: *size,
             update_after_bind,
         };
-        match self.buckets.get(&key) {
+        match self.table.buckets.get(&key) {
             Some(bucket) => bucket.pools.len(),
             None => 0,
         }
@@ -67,7 +67,7 @@ impl<P, S> DescriptorAllocator<P, S> {
             size: *size,
             update_after_bind,
         };
-        let bucket = self.buckets.get(&key)?;
+        let bucket = self.table.buckets.get(&key)?;
         let pool = bucket.pools.get(index)?;
         Some(PoolView {
             number: bucket.offset + index as u64,

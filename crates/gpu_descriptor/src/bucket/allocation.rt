@@ -6,12 +6,14 @@ use crate::set::{BucketKey, DescriptorSet};
 use gpu_descriptor_types::SetSink;
 use std::alloc::{AllocError, Global};
 
-/// The sets of a request, over room that was taken before the first device call. Each set that is
+/// The sets of a request, over memory that was taken before the first device call. Each set that is
 /// put gets the key with its id, and the number of the pool that is asked.
 #[derive(Drop)]
 pub(crate) struct Allocation<'k, S> {
     pub(crate) sets: Vec<DescriptorSet<S>>,
-    pub(crate) left: usize,
+
+    /// How many sets are left to come.
+    pub(crate) left: u32,
     pub(crate) key: &'k BucketKey,
     pub(crate) id: u64,
     pub(crate) number: u64,
@@ -19,8 +21,8 @@ pub(crate) struct Allocation<'k, S> {
 }
 
 impl<'k, S> Allocation<'k, S> {
-    /// Room for so many sets of a key.
-    pub(crate) fn with_room(
+    /// A sink with capacity for so many sets of a key, which are all left to come.
+    pub(crate) fn with_capacity(
         alloc: Global,
         key: &'k BucketKey,
         id: u64,
@@ -31,7 +33,7 @@ impl<'k, S> Allocation<'k, S> {
     {
         Ok(Allocation {
             sets: Vec::with_capacity(alloc, count as usize)?,
-            left: count as usize,
+            left: count,
             key,
             id,
             number: 0,
@@ -52,7 +54,8 @@ impl<'k, S> Allocation<'k, S> {
         sets
     }
 
-    /// The next sets come from the pool of this key that has this number.
+    /// The next sets come from the pool of this key that has this number. Key and id are set again,
+    /// since of a sink that was with the device no more is known than what it keeps of a set.
     pub(crate) fn aim(&mut self, key: &'k BucketKey, id: u64, number: u64)
         ensures sets { self.new.sets.items ≡ self.old.sets.items }
         ensures left { self.new.left ≡ self.old.left }
@@ -79,7 +82,7 @@ impl<S> SetSink<S> for Allocation<'_, S> {
     } };
 
     fn room(&self) -> usize {
-        self.left
+        self.left as usize
     }
 
     fn put(&mut self, set: S) {

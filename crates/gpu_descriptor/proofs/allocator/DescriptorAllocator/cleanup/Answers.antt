@@ -1,8 +1,9 @@
-use Rattle.gpu_descriptor.proofs.Common.{◌≡◌, ◌≤◌, ◌+◌, ℕ, List, Some, suc, slice_get, option_map, rules, refl, sym, ap, subst, ◌∙◌, arith, length, map, length-map, take_all, Ledger, Bucket, key_of, Allocations, AreBookedIn, has_pools, rise_below, stored_ids, outstanding_of, marked_load_of, bucket_of, row_of}
+use Rattle.gpu_descriptor.proofs.Common.{◌≡◌, ◌≤◌, ◌+◌, ℕ, List, Some, suc, slice_get, option_map, rules, refl, sym, ap, subst, ◌∙◌, arith, length, map, length-map, take_all, IsDistinct, Ledger, Bucket, key_eq, key_of, Allocations, AreBookedIn, has_pools, rise_below, stored_ids, outstanding_of, marked_load_of, bucket_of, row_of}
 use Rattle.indexmap.proofs.CallerLemmas.{filter-RetainsPairs}
 use Rattle.indexmap.specs.Layout.{length-set_value_at}
 use Rattle.std.specs.Map.Iter.{deref_pair}
 use Rattle.gpu_descriptor.proofs.table.Rising.{ids_put, rise_left}
+use Rattle.gpu_descriptor.proofs.table.RowAt.{keys_at}
 use Rattle.gpu_descriptor.proofs.cleanup.Cleaning.{clean_agrees, takes_none}
 use Rattle.gpu_descriptor.proofs.foreign.ForeignPools.{cleaned_foreign, cleaned_loses}
 use Rattle.gpu_descriptor.proofs.sums.Loads.{rows_pool_load, stored_load_in, sum_put, opened, closed}
@@ -15,39 +16,42 @@ use Rattle.gpu_descriptor.proofs.allocator.DescriptorAllocator.cleanup.Goals.{Af
 use Rattle.gpu_descriptor.proofs.allocator.DescriptorAllocator.cleanup.Goals as goal
 
 -- the entry at the place, and what is known of it
-at_place : (g : _) (c : After-index_mut-bucket g) → slice_get c.loop-place.self-inside.buckets.entries c.loop-place.place ≡ Some ((deref_pair c.unwrap.result).0, c.index_mut-bucket.result.now)
-at_place g c = entry_there c.loop-place.self-inside.buckets.entries c.loop-place.place (deref_pair c.unwrap.result) c.index_mut-bucket.result.now (ap (λ es. slice_get es c.loop-place.place) (sym c.as_slice.ensures.entries) ∙ sym c.get_index.ensures.entry ∙ ap (option_map deref_pair) c.unwrap.ensures) c.index_mut-bucket.ensures.value
+at_place : (g : _) (c : After-index_mut-bucket g) → slice_get c.loop-place.self-inside.table.buckets.entries c.loop-place.place ≡ Some ((deref_pair c.unwrap.result).0, c.index_mut-bucket.result.now)
+at_place g c = entry_there c.loop-place.self-inside.table.buckets.entries c.loop-place.place (deref_pair c.unwrap.result) c.index_mut-bucket.result.now (ap (λ es. slice_get es c.loop-place.place) (sym c.as_slice.ensures.entries) ∙ sym c.get_index.ensures.entry ∙ ap (option_map deref_pair) c.unwrap.ensures) c.index_mut-bucket.ensures.value
 
 pub drop_front-requires-clause-stored : goal.drop_front-requires-clause-stored
 drop_front-requires-clause-stored g c =
     let name = g.D.DescriptorDevice.meaning.pool_name in
     let ledger = g.D.DescriptorDevice.ledger in
     let h = c.loop-place.invariant in
-    let es = c.self.inside.buckets.entries in
+    let es = c.self.inside.table.buckets.entries in
     let k = (deref_pair c.unwrap.result).0 in
-    let at = next name c.loop-place.place c.loop-place.self-inside.buckets.entries (rows_in name es) k c.index_mut-bucket.result.now h.rows (at_place g (goal.at.drop_front-requires-clause-stored g c).After-index_mut-bucket) in
+    let at = next name c.loop-place.place c.loop-place.self-inside.table.buckets.entries (rows_in name es) k c.index_mut-bucket.result.now h.rows (at_place g (goal.at.drop_front-requires-clause-stored g c).After-index_mut-bucket) in
     let agree = agree_is name c.args.self.now (ledger c.args.device.now) es (ap (λ (a : Allocations _). a.table) (sym c.self.view_is)) c.requires.agree.books in
-    let there = next_stored (rows_in name es) (ledger c.args.device.now).pools c.loop-place.place (key_of k, bucket_of name c.index_mut-bucket.result.now) (distinct_rows name es (opened c.self.invariant).distinct) agree at in
+    let there = next_stored (rows_in name es) (ledger c.args.device.now).pools c.loop-place.place (key_of k, bucket_of name c.index_mut-bucket.result.now) (distinct_rows name es c.self.inside.table.distinct) agree at in
     (key_of k, subst (λ (l : Ledger). AreBookedIn (key_of k) l.pools (bucket_of name c.index_mut-bucket.result.now).pools) (sym h.ledger) there)
 
 pub drop_front-requires-clause-room : goal.drop_front-requires-clause-room
 drop_front-requires-clause-room g c =
-    let below = (sum_put stored_load_in c.loop-place.self-inside.buckets.entries c.loop-place.place (deref_pair c.unwrap.result).0 c.index_mut-bucket.result.now c.index_mut-bucket.result.now (at_place g (goal.at.drop_front-requires-clause-room g c).After-index_mut-bucket)).0 in
-    let rows = rows_pool_load c.loop-place.self-inside.buckets.entries in
+    let below = (sum_put stored_load_in c.loop-place.self-inside.table.buckets.entries c.loop-place.place (deref_pair c.unwrap.result).0 c.index_mut-bucket.result.now c.index_mut-bucket.result.now (at_place g (goal.at.drop_front-requires-clause-room g c).After-index_mut-bucket)).0 in
+    let rows = rows_pool_load c.loop-place.self-inside.table.buckets.entries in
     omega arith
 
-pub invariant_of-self-inside-in-loop-place : goal.invariant_of-self-inside-in-loop-place
-invariant_of-self-inside-in-loop-place g c =
-    let same = ids_put c.loop-place.self-inside.buckets.entries c.loop-place.place c.index_mut-bucket.result.now c.drop_front.new.self c.index_mut-bucket.ensures.value (ap (λ (b : Bucket). b.id) c.drop_front.ensures.books) in
-    (ap (λ (ids : List ℕ). rise_below c.loop-place.self-inside.ids.next ids) same ∙ c.loop-place.self-inside.rising, tt)
+pub invariant_of-self-inside : goal.invariant_of-self-inside
+invariant_of-self-inside g c =
+    let same = ids_put c.loop-place.self-inside.table.buckets.entries c.loop-place.place c.index_mut-bucket.result.now c.drop_front.new.self c.index_mut-bucket.ensures.value (ap (λ (b : Bucket). b.id) c.drop_front.ensures.books) in
+    record {
+      rising = ap (λ (ids : List ℕ). rise_below c.loop-place.self-inside.table.next_id ids) same ∙ c.loop-place.self-inside.table.rising;
+      distinct = subst (IsDistinct key_eq) (sym (keys_at c.loop-place.self-inside.table.buckets.entries c.loop-place.place c.drop_front.new.self)) c.loop-place.self-inside.table.distinct;
+    }
 
 pub loop-place-preserved : goal.loop-place-preserved
 loop-place-preserved g c =
     let name = g.D.DescriptorDevice.meaning.pool_name in
     let ledger = g.D.DescriptorDevice.ledger in
     let h = c.loop-place.invariant in
-    let es = c.self.inside.buckets.entries in
-    let now = c.loop-place.self-inside.buckets.entries in
+    let es = c.self.inside.table.buckets.entries in
+    let now = c.loop-place.self-inside.table.buckets.entries in
     let i = c.loop-place.place in
     let k = (deref_pair c.unwrap.result).0 in
     let v = c.index_mut-bucket.result.now in
@@ -68,36 +72,39 @@ loop-place-preserved g c =
 pub invariant_of-self-inside-2 : goal.invariant_of-self-inside-2
 invariant_of-self-inside-2 g c =
     let kept = filter-RetainsPairs _ (λ e. has_pools e.1) _ (λ k v b w f call. search rules) _ _ c.retain.ensures.filtered in
-    let left = rise_left (λ e. has_pools e.1) c.loop-place.self-inside.ids.next c.loop-place.self-inside.buckets.entries c.loop-place.self-inside.rising in
-    (ap (λ es. rise_below c.loop-place.self-inside.ids.next (stored_ids es)) kept ∙ left, tt)
+    let left = rise_left (λ e. has_pools e.1) c.loop-place.self-inside.table.next_id c.loop-place.self-inside.table.buckets.entries c.loop-place.self-inside.table.rising in
+    record {
+      rising = ap (λ es. rise_below c.loop-place.self-inside.table.next_id (stored_ids es)) kept ∙ left;
+      distinct = distinct_stored _ (λ k l. search rules) _ c.retain.ensures.unique;
+    }
 
 pub invariant_of-self : goal.invariant_of-self
 invariant_of-self g c =
     let kept = filter-RetainsPairs _ (λ e. has_pools e.1) _ (λ k v b w f call. search rules) _ _ c.retain.ensures.filtered in
-    closed (counted_filter _ _ _ _ _ _ kept (distinct_stored _ (λ k l. search rules) _ c.retain.ensures.unique) c.loop-place.invariant.counted)
+    closed (counted_filter _ _ _ _ _ _ kept c.loop-place.invariant.counted)
 
 pub returns : goal.returns
 returns g c =
     let name = g.D.DescriptorDevice.meaning.pool_name in
     let ledger = g.D.DescriptorDevice.ledger in
     let h = c.loop-place.invariant in
-    let es = c.self.inside.buckets.entries in
+    let es = c.self.inside.table.buckets.entries in
     let was = ap (λ (a : Allocations _). a.table) (sym c.self.view_is) in
-    let distinct = distinct_rows name es (opened c.self.invariant).distinct in
+    let distinct = distinct_rows name es c.self.inside.table.distinct in
     let kept = filter-RetainsPairs _ (λ e. has_pools e.1) _ (λ k v b w f call. search rules) _ _ c.retain.ensures.filtered in
     let le : length (rows_in name es) ≤ c.loop-place.place = (let rows : length (rows_in name es) ≡ length es = length-map es (λ e. (key_of e.0, bucket_of name e.1)) in omega arith) in
     let rows = h.rows ∙ all_cleared c.loop-place.place (rows_in name es) le in
     let less = h.ledger ∙ ap (λ l. ledger_less l (ledger c.args.device.now)) (take_all c.loop-place.place (rows_in name es) le) in
-    let counted = counted_filter _ _ _ _ _ _ kept (distinct_stored _ (λ k l. search rules) _ c.retain.ensures.unique) h.counted in
-    let now : Allocations _ = record { limit = c.loop-place.self-inside.max_update_after_bind_descriptors_in_all_pools; table = map row_of c.retain.new.self.entries; looks = c.loop-place.self-inside.looks.count; comparisons = c.loop-place.self-inside.comparisons.count } in
-    let clean = whole_clean name c.args.self.now (ledger c.args.device.now) (ledger c.loop-place.device) es c.loop-place.self-inside.buckets.entries _ c.loop-place.self-inside.max_update_after_bind_descriptors_in_all_pools was distinct rows less kept in
+    let counted = counted_filter _ _ _ _ _ _ kept h.counted in
+    let now : Allocations _ = record { limit = c.loop-place.self-inside.max_update_after_bind_descriptors_in_all_pools; table = map row_of c.retain.new.self.entries; looks = c.loop-place.self-inside.budget.looks.count; comparisons = c.loop-place.self-inside.comparisons.count } in
+    let clean = whole_clean name c.args.self.now (ledger c.args.device.now) (ledger c.loop-place.device) es c.loop-place.self-inside.table.buckets.entries _ c.loop-place.self-inside.max_update_after_bind_descriptors_in_all_pools was distinct rows less kept in
     let foreign = cleaned_foreign _ _ clean in
     let accounted = cleaned_loses _ _ clean in
     record {
       cleans_up = record {
         cleaned = clean;
         destroyed = whole_count name c.args.self.now (ledger c.args.device.now) (ledger c.loop-place.device) es was distinct less;
-        keys = keys_cleaned name c.args.self.now now (ledger c.args.device.now) (ledger c.loop-place.device) es c.loop-place.self-inside.buckets.entries c.retain.new.self.entries was refl distinct rows kept clean;
+        keys = keys_cleaned name c.args.self.now now (ledger c.args.device.now) (ledger c.loop-place.device) es c.loop-place.self-inside.table.buckets.entries c.retain.new.self.entries was refl distinct rows kept clean;
         outstanding_stay = takes_none _ _ c.requires.agree.books clean;
         totals_stay = (
           sym counted.is_out ∙ h.out ∙ (opened c.self.invariant).is_out ∙ ap outstanding_of c.self.view_is,
@@ -107,7 +114,7 @@ returns g c =
         counts_stay = (h.looks ∙ ap (λ (a : Allocations _). a.looks) c.self.view_is, h.comparisons ∙ ap (λ (a : Allocations _). a.comparisons) c.self.view_is);
       };
       keeps = record {
-        agree = record { rows = rows_distinct name c.retain.new.self.entries counted.distinct; books = clean_agrees _ _ c.requires.agree.books clean };
+        agree = record { rows = rows_distinct name c.retain.new.self.entries (distinct_stored _ (λ k l. search rules) _ c.retain.ensures.unique); books = clean_agrees _ _ c.requires.agree.books clean };
         limit = h.limit ∙ ap (λ (a : Allocations _). a.limit) c.self.view_is;
         load = (omega arith);
         pool_load = (omega arith);

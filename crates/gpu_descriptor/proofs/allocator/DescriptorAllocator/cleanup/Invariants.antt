@@ -8,15 +8,15 @@ abbrev pub invariant-loop-place : goal.invariant-loop-place
 invariant-loop-place g l =
     let name = g.D.DescriptorDevice.meaning.pool_name in
     let ledger = g.D.DescriptorDevice.ledger in
-    let start = rows_in name l.initial.self-inside.buckets.entries in
+    let start = rows_in name l.initial.self-inside.table.buckets.entries in
     record {
-      rows : rows_in name l.self-inside.buckets.entries ≡ cleared l.place start;
+      rows : rows_in name l.self-inside.table.buckets.entries ≡ cleared l.place start;
       ledger : ledger l.device ≡ ledger_less (take l.place start) (ledger l.fn.device);
-      counted : IsConsistent l.self-inside.max_update_after_bind_descriptors_in_all_pools l.self-inside.current_update_after_bind_descriptors_in_all_pools l.self-inside.update_after_bind_room l.self-inside.outstanding l.self-inside.buckets.entries;
-      long : length l.self-inside.buckets.entries ≡ length l.initial.self-inside.buckets.entries;
+      counted : IsConsistent l.self-inside.max_update_after_bind_descriptors_in_all_pools l.self-inside.update_after_bind_descriptors l.self-inside.budget.room l.self-inside.outstanding l.self-inside.table.buckets.entries;
+      long : length l.self-inside.table.buckets.entries ≡ length l.initial.self-inside.table.buckets.entries;
       out : l.self-inside.outstanding ≡ l.initial.self-inside.outstanding;
-      marked : l.self-inside.current_update_after_bind_descriptors_in_all_pools ≡ l.initial.self-inside.current_update_after_bind_descriptors_in_all_pools;
+      marked : l.self-inside.update_after_bind_descriptors ≡ l.initial.self-inside.update_after_bind_descriptors;
       limit : l.self-inside.max_update_after_bind_descriptors_in_all_pools ≡ l.initial.self-inside.max_update_after_bind_descriptors_in_all_pools;
-      looks : l.self-inside.looks.count ≡ l.initial.self-inside.looks.count;
+      looks : l.self-inside.budget.looks.count ≡ l.initial.self-inside.budget.looks.count;
       comparisons : l.self-inside.comparisons.count ≡ l.initial.self-inside.comparisons.count;
     }

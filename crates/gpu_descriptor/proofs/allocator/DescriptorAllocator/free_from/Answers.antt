@@ -50,7 +50,7 @@ returns-clause-keeps g c =
     let foreign = freed_foreign g.D.DescriptorDevice.meaning r.sets _ c.args.self.now c.loop-ahead.self before after r.back in
     let accounted = freed_loses g.D.DescriptorDevice.meaning r.sets _ c.args.self.now c.loop-ahead.self before after r.back in
     record {
-      agree = record { rows = rows_apart _ c.self.view_is name (opened c.self.invariant); books = r.agree };
+      agree = record { rows = rows_apart _ c.self.view_is name c.self.inside.table.distinct; books = r.agree };
       limit = c.loop-ahead.invariant.limit;
       load = load_within _ c.self.view_is (opened c.self.invariant);
       pool_load = pool_load_within _ c.self.view_is (opened c.self.invariant);

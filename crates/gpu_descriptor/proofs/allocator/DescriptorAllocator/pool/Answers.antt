@@ -6,7 +6,7 @@ use Rattle.gpu_descriptor.proofs.allocator.DescriptorAllocator.pool.Goals as goa
 pub returns-in_err-bucket : goal.returns-in_err-bucket
 returns-in_err-bucket g c =
     let k : Key = key_of (record { size = c.args.size.now; update_after_bind = c.args.update_after_bind }) in
-    let here = seen_at _ k (λ l. search rules) c.args.self.now c.self.inside.buckets.entries (ap (λ (a : Allocations _). a.table) c.self.view_is) (sym c.get.ensures.value ∙ ap option_copied c.in_err-bucket.was) in
+    let here = seen_at _ k (λ l. search rules) c.args.self.now c.self.inside.table.buckets.entries (ap (λ (a : Allocations _). a.table) c.self.view_is) (sym c.get.ensures.value ∙ ap option_copied c.in_err-bucket.was) in
     record { view = c.from_residual.ensures ∙ ap (λ (b : BucketOf _). view_in b c.args.index) (sym here) }
 
 pub returns-in_err-pool : goal.returns-in_err-pool
@@ -18,7 +18,7 @@ returns-in_err-pool g c =
       | inl lt ↦ absurd (let bad : false ≡ true = c.in_err-pool.ensures.variant.1 lt in cc)
       | inr le ↦ omega arith
     ] in
-    let here = seen_at _ k (λ l. search rules) c.args.self.now c.self.inside.buckets.entries (ap (λ (a : Allocations _). a.table) c.self.view_is) (sym c.get.ensures.value ∙ ap option_copied c.in_ok-bucket.was) in
+    let here = seen_at _ k (λ l. search rules) c.args.self.now c.self.inside.table.buckets.entries (ap (λ (a : Allocations _). a.table) c.self.view_is) (sym c.get.ensures.value ∙ ap option_copied c.in_ok-bucket.was) in
     let past = slice_get_past (map kept_of q.items) c.args.index (let e = length-map q.items kept_of in omega arith) in
     record { view = c.from_residual-in_err-pool.ensures ∙ sym (ap (λ (b : BucketOf _). view_in b c.args.index) here ∙ ap (option_map (λ (e : EntryOf _). record { number = c.in_ok-bucket.bucket.now.offset + c.args.index; allocated = e.allocated; available = e.available })) past) }
 
@@ -32,6 +32,6 @@ returns g c =
     let k : Key = key_of (record { size = c.args.size.now; update_after_bind = c.args.update_after_bind }) in
     let lt : c.args.index < length c.in_ok-bucket.bucket.now.pools.items = (let lt = c.in_ok-pool.ensures.variant.0 refl in omega (arith, c.in_ok-bucket.bucket.now.pools.ok.0)) in
     let b = c.in_ok-bucket.bucket.now in
-    let here = seen_at _ k (λ l. search rules) c.args.self.now c.self.inside.buckets.entries (ap (λ (a : Allocations _). a.table) c.self.view_is) (sym c.get.ensures.value ∙ ap option_copied c.in_ok-bucket.was) in
+    let here = seen_at _ k (λ l. search rules) c.args.self.now c.self.inside.table.buckets.entries (ap (λ (a : Allocations _). a.table) c.self.view_is) (sym c.get.ensures.value ∙ ap option_copied c.in_ok-bucket.was) in
     let there = slice_get-map kept_of b.pools.items c.args.index ∙ ap (option_map kept_of) (slice_get_read b.pools.items (length b.pools.items) c.args.index c.in_ok-pool.pool.now refl lt c.in_ok-pool.ensures.lookup) in
     record { view = sym (ap (λ (r : BucketOf _). view_in r c.args.index) here ∙ ap (option_map (λ (e : EntryOf _). record { number = b.offset + c.args.index; allocated = e.allocated; available = e.available })) there) }

@@ -1,4 +1,4 @@
-use Rattle.gpu_descriptor.proofs.Common.{◌≡◌, ◌+◌, ◌-◌, ℕ, arith, refl, sym, ap, ◌∙◌, List, [], ◌∷◌, Some, option_map, slice_get, subst, Bucket, Key, key_of, Allocations, DescriptorSet, items_of, state_of, binary_digits, rise_below, stored_ids, stored_load, set_descriptors}
+use Rattle.gpu_descriptor.proofs.Common.{◌≡◌, ◌+◌, ◌-◌, ℕ, arith, refl, sym, ap, ◌∙◌, List, [], ◌∷◌, Some, option_map, slice_get, subst, IsDistinct, Bucket, Key, key_eq, key_of, Allocations, DescriptorSet, items_of, state_of, binary_digits, rise_below, stored_ids, stored_load, set_descriptors}
 use Rattle.indexmap.specs.Layout.{set_value_at}
 use Rattle.std.specs.Map.Iter.{deref_pair}
 use Rattle.gpu_descriptor.proofs.callers.HeldSets.{out_back, out_less}
@@ -13,37 +13,37 @@ use Rattle.gpu_descriptor.proofs.release.WholeRun.{lies_own}
 use Rattle.gpu_descriptor.proofs.allocator.DescriptorAllocator.release_run.Goals.{After-index_mut-bucket, After-release_run-ahead, After-unwrap}
 use Rattle.gpu_descriptor.proofs.allocator.DescriptorAllocator.release_run.Goals as goal
 
-pub place_of_id-place-requires-clause-there : goal.place_of_id-place-requires-clause-there
-place_of_id-place-requires-clause-there g c =
-    let es = c.self.inside.buckets.entries in
+pub place_of_id-place-requires : goal.place_of_id-place-requires
+place_of_id-place-requires g c =
+    let es = c.self.inside.table.buckets.entries in
     let own = first_owns g.D.DescriptorDevice.meaning.pool_name g.D.DescriptorDevice.meaning.set_name c.args.self.now (g.D.DescriptorDevice.ledger c.args.device.now) es (table_is _ c.self.view_is) c.args.first [] (c.requires.outstanding [] c.args.sets.now refl) in
     let at = stands c.args.first.key.is es own.bucket own.found in
     (at.place, at.id ∙ ap (λ (i : ℕ). Some i) own.has)
 
 -- the entry at the place, the row of the set's key, and that they are one
-entry : (g : _) (c : After-unwrap g) → slice_get c.self.inside.buckets.entries c.place_of_id-place.result ≡ Some (deref_pair c.unwrap.result)
+entry : (g : _) (c : After-unwrap g) → slice_get c.self.inside.table.buckets.entries c.place_of_id-place.result ≡ Some (deref_pair c.unwrap.result)
 entry g c = ap (λ es. slice_get es c.place_of_id-place.result) (sym c.as_slice.ensures.entries) ∙ sym c.get_index.ensures.entry ∙ ap (option_map deref_pair) c.unwrap.ensures
 
-owner : (g : _) (c : After-unwrap g) → Owns c.args.first.key.is c.args.first.id c.self.inside.buckets.entries
-owner g c = first_owns g.D.DescriptorDevice.meaning.pool_name g.D.DescriptorDevice.meaning.set_name c.args.self.now (g.D.DescriptorDevice.ledger c.args.device.now) c.self.inside.buckets.entries (table_is _ c.self.view_is) c.args.first [] (c.requires.outstanding [] c.args.sets.now refl)
+owner : (g : _) (c : After-unwrap g) → Owns c.args.first.key.is c.args.first.id c.self.inside.table.buckets.entries
+owner g c = first_owns g.D.DescriptorDevice.meaning.pool_name g.D.DescriptorDevice.meaning.set_name c.args.self.now (g.D.DescriptorDevice.ledger c.args.device.now) c.self.inside.table.buckets.entries (table_is _ c.self.view_is) c.args.first [] (c.requires.outstanding [] c.args.sets.now refl)
 
 own : (g : _) (c : After-unwrap g) → key_of c.unwrap.result.0.now ≡ c.args.first.key.is
 own g c =
-    let es = c.self.inside.buckets.entries in
+    let es = c.self.inside.table.buckets.entries in
     let row = owner g c in
     let at = entry g c in
-    let id = inside _ _ (sym (id_of es c.place_of_id-place.result _ at) ∙ c.place_of_id-place.ensures.place) in
-    (own_key c.self.inside.ids.next es c.self.inside.rising c.args.first.key.is row.bucket row.found c.place_of_id-place.result _ at (id ∙ sym row.has)).0
+    let id = inside _ _ (sym (id_of es c.place_of_id-place.result _ at) ∙ c.place_of_id-place.ensures) in
+    (own_key c.self.inside.table.next_id es c.self.inside.table.rising c.args.first.key.is row.bucket row.found c.place_of_id-place.result _ at (id ∙ sym row.has)).0
 
 -- the row that the place lends
 abbrev There : (g : _) → After-index_mut-bucket g → Type 0
-There g c = IsAt c.args.first.key.is c.self.inside.buckets.entries c.place_of_id-place.result c.index_mut-bucket.result.now
+There g c = IsAt c.args.first.key.is c.self.inside.table.buckets.entries c.place_of_id-place.result c.index_mut-bucket.result.now
 
-there : (g : _) (c : After-index_mut-bucket g) → slice_get c.self.inside.buckets.entries c.place_of_id-place.result ≡ Some (deref_pair c.unwrap.result) → key_of c.unwrap.result.0.now ≡ c.args.first.key.is → There g c
-there g c at key = is_at c.args.first.key.is c.self.inside.buckets.entries c.place_of_id-place.result c.index_mut-bucket.result.now (key_at c.self.inside.buckets.entries c.place_of_id-place.result _ _ at ∙ ap (λ (k : Key). Some k) key) c.index_mut-bucket.ensures.value
+there : (g : _) (c : After-index_mut-bucket g) → slice_get c.self.inside.table.buckets.entries c.place_of_id-place.result ≡ Some (deref_pair c.unwrap.result) → key_of c.unwrap.result.0.now ≡ c.args.first.key.is → There g c
+there g c at key = is_at c.args.first.key.is c.self.inside.table.buckets.entries c.place_of_id-place.result c.index_mut-bucket.result.now (key_at c.self.inside.table.buckets.entries c.place_of_id-place.result _ _ at ∙ ap (λ (k : Key). Some k) key) c.index_mut-bucket.ensures.value
 
-row : (g : _) (c : After-index_mut-bucket g) → There g c → IsRow c.args.first.key.is c.self.inside.buckets.entries c.index_mut-bucket.result.now
-row g c at = row_at c.args.first.key.is (opened c.self.invariant).distinct at
+row : (g : _) (c : After-index_mut-bucket g) → There g c → IsRow c.args.first.key.is c.self.inside.table.buckets.entries c.index_mut-bucket.result.now
+row g c at = row_at c.args.first.key.is c.self.inside.table.distinct at
 
 pub release_run-ahead-requires-clause-same : goal.release_run-ahead-requires-clause-same
 release_run-ahead-requires-clause-same g c = own g (goal.at.release_run-ahead-requires-clause-same g c).After-unwrap
@@ -52,20 +52,20 @@ pub release_run-ahead-requires-clause-stored : goal.release_run-ahead-requires-c
 release_run-ahead-requires-clause-stored g c =
     let at = goal.at.release_run-ahead-requires-clause-stored g c in
     let r = row g at.After-index_mut-bucket (there g at.After-index_mut-bucket (entry g at.After-unwrap) (own g at.After-unwrap)) in
-    row_stored g.D.DescriptorDevice.meaning.pool_name g.D.DescriptorDevice.meaning.set_name c.args.self.now (g.D.DescriptorDevice.ledger c.args.device.now) c.self.inside.buckets.entries (table_is _ c.self.view_is) c.requires.agree c.args.first r.test r.same
+    row_stored g.D.DescriptorDevice.meaning.pool_name g.D.DescriptorDevice.meaning.set_name c.args.self.now (g.D.DescriptorDevice.ledger c.args.device.now) c.self.inside.table.buckets.entries (table_is _ c.self.view_is) c.requires.agree c.args.first r.test r.same
     c.index_mut-bucket.result.now r.at
 
 pub release_run-ahead-requires-clause-taken : goal.release_run-ahead-requires-clause-taken
 release_run-ahead-requires-clause-taken g c = λ xs t gave have.
     let at = goal.at.release_run-ahead-requires-clause-taken g c in
     let r = row g at.After-index_mut-bucket (there g at.After-index_mut-bucket (entry g at.After-unwrap) (own g at.After-unwrap)) in
-    let es = c.self.inside.buckets.entries in
+    let es = c.self.inside.table.buckets.entries in
     let was = table_is _ c.self.view_is in
     let name = g.D.DescriptorDevice.meaning.pool_name in
     let set_name = g.D.DescriptorDevice.meaning.set_name in
     let before = g.D.DescriptorDevice.ledger c.args.device.now in
     let out = c.requires.outstanding xs t gave in
-    let lie = lie_at name set_name c.args.self.now before es was c.self.inside.ids.next c.self.inside.rising c.args.first.key.is c.args.first.id c.args.first.number (owner g at.After-unwrap) xs (out_back set_name (c.args.first ∷ []) xs (c.args.first ∷ xs) (state_of name c.args.self.now before) refl out) have in
+    let lie = lie_at name set_name c.args.self.now before es was c.self.inside.table.next_id c.self.inside.table.rising c.args.first.key.is c.args.first.id c.args.first.number (owner g at.After-unwrap) xs (out_back set_name (c.args.first ∷ []) xs (c.args.first ∷ xs) (state_of name c.args.self.now before) refl out) have in
     row_taken name set_name c.args.self.now before es was c.requires.agree c.args.first r.test r.same c.index_mut-bucket.result.now r.at xs lie out
 
 pub release_run-ahead-requires-clause-room : goal.release_run-ahead-requires-clause-room
@@ -77,13 +77,13 @@ release_run-ahead-requires-clause-room g c =
     omega arith
 
 -- the row that the run leaves
-written : (g : _) (c : After-release_run-ahead g) → IsAt c.args.first.key.is c.self.inside.buckets.entries c.place_of_id-place.result c.index_mut-bucket.result.now
-    → IsWritten c.args.first.key.is c.self.inside.buckets.entries (set_value_at c.self.inside.buckets.entries c.place_of_id-place.result c.release_run-ahead.new.self) c.index_mut-bucket.result.now c.release_run-ahead.new.self
-written g c at = written_at c.args.first.key.is (opened c.self.invariant).distinct at _ _ refl
+written : (g : _) (c : After-release_run-ahead g) → IsAt c.args.first.key.is c.self.inside.table.buckets.entries c.place_of_id-place.result c.index_mut-bucket.result.now
+    → IsWritten c.args.first.key.is c.self.inside.table.buckets.entries (set_value_at c.self.inside.table.buckets.entries c.place_of_id-place.result c.release_run-ahead.new.self) c.index_mut-bucket.result.now c.release_run-ahead.new.self
+written g c at = written_at c.args.first.key.is c.self.inside.table.distinct at _ _ refl
 
 -- what the run takes from the totals
-run_taken : (g : _) (c : After-release_run-ahead g) → IsAt c.args.first.key.is c.self.inside.buckets.entries c.place_of_id-place.result c.index_mut-bucket.result.now
-    → Taken c.args.first.key.is (c.index_mut-bucket.result.now.total - c.release_run-ahead.new.self.total) c.self.inside.buckets.entries (set_value_at c.self.inside.buckets.entries c.place_of_id-place.result c.release_run-ahead.new.self)
+run_taken : (g : _) (c : After-release_run-ahead g) → IsAt c.args.first.key.is c.self.inside.table.buckets.entries c.place_of_id-place.result c.index_mut-bucket.result.now
+    → Taken c.args.first.key.is (c.index_mut-bucket.result.now.total - c.release_run-ahead.new.self.total) c.self.inside.table.buckets.entries (set_value_at c.self.inside.table.buckets.entries c.place_of_id-place.result c.release_run-ahead.new.self)
 run_taken g c at = taken (written g c at) (let total = c.release_run-ahead.ensures.ran.3 in omega arith)
 
 pub overflow_sub-self : goal.overflow_sub-self
@@ -114,19 +114,21 @@ overflow_sub-self-2 g c =
     let same = ap (λ (k : Key). set_descriptors k (c.index_mut-bucket.result.now.total - c.release_run-ahead.new.self.total)) (own g at.After-unwrap) in
     omega arith
 
-pub invariant_of-self-inside : goal.invariant_of-self-inside
-invariant_of-self-inside g c =
-    let es = c.self.inside.buckets.entries in
+pub invariant_of-self-inside-2 : goal.invariant_of-self-inside-2
+invariant_of-self-inside-2 g c =
+    let es = c.self.inside.table.buckets.entries in
     let same = ids_put es c.place_of_id-place.result c.index_mut-bucket.result.now c.release_run-ahead.new.self c.index_mut-bucket.ensures.value (ap (λ (b : Bucket). b.id) c.release_run-ahead.ensures.ran.2.books) in
-    (ap (λ (ids : List ℕ). rise_below c.place_of_id-place.new.self.next ids) same ∙ ap (λ (n : ℕ). rise_below n (stored_ids es)) c.place_of_id-place.ensures.next ∙ c.self.inside.rising, tt)
+    record {
+      rising = ap (λ (ids : List ℕ). rise_below c.self.inside.table.next_id ids) same ∙ c.self.inside.table.rising;
+      distinct = subst (IsDistinct key_eq) (sym (keys_at es c.place_of_id-place.result c.release_run-ahead.new.self)) c.self.inside.table.distinct;
+    }
 
 pub invariant_of-self : goal.invariant_of-self
 invariant_of-self g c =
     let at = goal.at.invariant_of-self g c in
     let here = there g at.After-index_mut-bucket (entry g at.After-unwrap) (own g at.After-unwrap) in
     closed (counted_after (run_taken g at.After-release_run-ahead here) (opened c.self.invariant) (c.descriptors_of_sets-descriptors.ensures ∙ ap (λ (k : Key). set_descriptors k (c.index_mut-bucket.result.now.total - c.release_run-ahead.new.self.total)) (own g at.After-unwrap))
-    (pools_set (written g at.After-release_run-ahead here) _ _ (subst (λ (k : Key). c.release_run-ahead.new.room + stored_load k c.release_run-ahead.new.self.pools.items ≡ c.self.inside.update_after_bind_room + stored_load k c.index_mut-bucket.result.now.pools.items) (own g at.After-unwrap) c.release_run-ahead.ensures.room))
-    (keys_at c.self.inside.buckets.entries c.place_of_id-place.result c.release_run-ahead.new.self))
+    (pools_set (written g at.After-release_run-ahead here) _ _ (subst (λ (k : Key). c.release_run-ahead.new.room + stored_load k c.release_run-ahead.new.self.pools.items ≡ c.self.inside.budget.room + stored_load k c.index_mut-bucket.result.now.pools.items) (own g at.After-unwrap) c.release_run-ahead.ensures.room)))
 
 pub returns-clause-ran : goal.returns-clause-ran
 returns-clause-ran g c =
@@ -135,14 +137,14 @@ returns-clause-ran g c =
     let left = written g at.After-release_run-ahead (there g at.After-index_mut-bucket (entry g at.After-unwrap) (own g at.After-unwrap)) in
     let row = left.row in
     let t = taken left ran.3 in
-    let es = c.self.inside.buckets.entries in
+    let es = c.self.inside.table.buckets.entries in
     let was = table_is _ c.self.view_is in
     let name = g.D.DescriptorDevice.meaning.pool_name in
     let set_name = g.D.DescriptorDevice.meaning.set_name in
     let before = g.D.DescriptorDevice.ledger c.args.device.now in
     let after = g.D.DescriptorDevice.ledger c.release_run-ahead.new.device in
-    let distinct = distinct_rows name es (opened c.self.invariant).distinct in
-    let came = ends_at name set_name c.args.self.now before es was c.self.inside.ids.next c.self.inside.rising c.args.first.key.is c.args.first.id c.args.first.number (owner g at.After-unwrap) g.I.Iterator.next_gives c.args.first _ _ ran.0 _ c.requires.outstanding ran.1 in
+    let distinct = distinct_rows name es c.self.inside.table.distinct in
+    let came = ends_at name set_name c.args.self.now before es was c.self.inside.table.next_id c.self.inside.table.rising c.args.first.key.is c.args.first.id c.args.first.number (owner g at.After-unwrap) g.I.Iterator.next_gives c.args.first _ _ ran.0 _ c.requires.outstanding ran.1 in
     let state = row_ran name set_name c.args.self.now before es was c.requires.agree c.args.first row.test row.same c.index_mut-bucket.result.now row.at ran.0 came.0 c.release_run-ahead.new.self after ran.2 c.self.inside.max_update_after_bind_descriptors_in_all_pools _ left.wrote in
     record {
       sets = ran.0;
@@ -160,13 +162,13 @@ returns-clause-ran g c =
 pub returns-clause-keys : goal.returns-clause-keys
 returns-clause-keys g c =
     let was = table_is _ c.self.view_is in
-    row_keys _ ∙ keys_at c.self.inside.buckets.entries c.place_of_id-place.result c.release_run-ahead.new.self ∙ sym (keys_are c.args.self.now c.self.inside.buckets.entries was)
+    row_keys _ ∙ keys_at c.self.inside.table.buckets.entries c.place_of_id-place.result c.release_run-ahead.new.self ∙ sym (keys_are c.args.self.now c.self.inside.table.buckets.entries was)
 
 pub returns-clause-few : goal.returns-clause-few
 returns-clause-few g c =
     let at = goal.at.returns-clause-few g c in
     let r = row g at.After-index_mut-bucket (there g at.After-index_mut-bucket (entry g at.After-unwrap) (own g at.After-unwrap)) in
-    let open_ones = row_open g.D.DescriptorDevice.meaning.pool_name g.D.DescriptorDevice.meaning.set_name c.args.self.now (g.D.DescriptorDevice.ledger c.args.device.now) c.self.inside.buckets.entries (table_is _ c.self.view_is) c.requires.agree c.args.first r.test r.same
+    let open_ones = row_open g.D.DescriptorDevice.meaning.pool_name g.D.DescriptorDevice.meaning.set_name c.args.self.now (g.D.DescriptorDevice.ledger c.args.device.now) c.self.inside.table.buckets.entries (table_is _ c.self.view_is) c.requires.agree c.args.first r.test r.same
     c.index_mut-bucket.result.now r.at in
     let same = ap binary_digits open_ones in
     let count = ap (λ (a : Allocations _). a.comparisons) c.self.view_is in

@@ -6,7 +6,7 @@ use Rattle.gpu_descriptor.proofs.allocator.DescriptorAllocator.update_after_bind
 pub returns : goal.returns
 returns g c =
     let was = ap (λ (a : Allocations _). a.table) (sym c.self.view_is) in
-    let rows = pool_load_of_rows c.args.self.now c.self.inside.buckets.entries was in
+    let rows = pool_load_of_rows c.args.self.now c.self.inside.table.buckets.entries was in
     let all = (opened c.self.invariant).is_room in
     let limit : c.self.inside.max_update_after_bind_descriptors_in_all_pools ≡ c.args.self.now.limit = ap (λ (a : Allocations _). a.limit) c.self.view_is in
     record { sum = (omega arith); within = (omega arith) }

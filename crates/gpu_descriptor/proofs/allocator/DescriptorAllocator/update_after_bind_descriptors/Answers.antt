@@ -6,5 +6,5 @@ pub returns : goal.returns
 returns g c =
     record {
       sum = (opened c.self.invariant).is_load ∙ ap marked_load_of c.self.view_is;
-      within = subst (λ (a : Allocations _). c.self.inside.current_update_after_bind_descriptors_in_all_pools ≤ a.limit) c.self.view_is (opened c.self.invariant).within;
+      within = subst (λ (a : Allocations _). c.self.inside.update_after_bind_descriptors ≤ a.limit) c.self.view_is (opened c.self.invariant).within;
     }

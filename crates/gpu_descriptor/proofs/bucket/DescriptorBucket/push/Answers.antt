@@ -5,7 +5,7 @@ use Rattle.gpu_descriptor.proofs.bucket.DescriptorBucket.push.Goals as goal
 pub list_last-requires : goal.list_last-requires
 list_last-requires g c =
     let few = few_listed c.args.self.now.offset c.args.self.now.pools.items c.args.self.now.listed.items c.args.self.now.«open» in
-    record { room = omega (arith, c.requires.room_listed) }
+    record { capacity = omega (arith, c.requires.listed) }
 
 pub invariant_of-self : goal.invariant_of-self
 invariant_of-self g c =
@@ -24,5 +24,5 @@ invariant_of-self g c =
           let one : sum_by (λ (p : DescriptorPool g.row.P.Denot). p.allocated) (c.args.pool ∷ []) ≡ c.args.pool.allocated = omega arith in
           omega arith);
       «open» = listed ∙ ap (λ ps. open_numbers first (free_in ps)) (sym is);
-      room = (omega arith);
+      capacity = (omega arith);
     }

@@ -131,7 +131,7 @@ invariant_of-self g c =
       numbered = simp length-set numbered;
       counted = omega arith;
       «open» = listed_again c.args.self.now.offset c.args.self.now.pools.items c.args.self.now.listed.items c.args.self.now.«open» (c.args.first.number - c.args.self.now.offset) c.index_mut-pool.result.now new (read g r) c.args.first.number named some c.enter_new.new.listed.items c.enter_new.ensures.entered c.enter_new.ensures.stays;
-      room = (let long = length-set c.args.self.now.pools.items (c.args.first.number - c.args.self.now.offset) new in omega arith);
+      capacity = (let long = length-set c.args.self.now.pools.items (c.args.first.number - c.args.self.now.offset) new in omega arith);
     }
 
 pub enter_new-requires-clause-rising : goal.enter_new-requires-clause-rising

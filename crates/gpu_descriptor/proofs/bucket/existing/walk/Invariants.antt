@@ -1,21 +1,20 @@
 -- What came stands behind what was there, and each pool that was asked was looked at once.
 use Rattle.gpu_descriptor.proofs.Common.{◌≡◌, ◌+◌, ◌++◌, List, length, map, deque_capacity, DescriptorSet, key_of, entry_of, CountsLooks, KeepsView, AreOfLayout, items_of}
 use Rattle.gpu_descriptor.proofs.request.OpenWalk.{OpenWalk}
-use Rattle.gpu_descriptor.proofs.bucket.take.walk.Given as goal
+use Rattle.gpu_descriptor.proofs.bucket.existing.walk.Given as goal
 
-abbrev pub invariant-loop-wanting : goal.invariant-loop-wanting
-invariant-loop-wanting g l = record {
+abbrev pub invariant-loop-sink : goal.invariant-loop-sink
+invariant-loop-sink g l = record {
   put : List (DescriptorSet g.row.S.Denot);
   sets : l.sink.sets.items ≡ l.initial.sink.sets.items ++ put;
-  room : l.sink.left + l.request.count ≡ l.initial.sink.left + l.wanting;
-  given : length put + l.wanting ≡ l.request.count;
+  given : length put + l.sink.left ≡ l.request.count;
   long : length l.view.pools.now.items ≡ length l.initial.view.pools.now.items;
-  walk : OpenWalk g.D.DescriptorDevice.meaning.pool_name (key_of l.request.key) l.request.count l.view.id l.view.offset l.wanting (items_of g.D.DescriptorDevice.meaning.set_name put) (map (entry_of g.D.DescriptorDevice.meaning.pool_name) l.initial.view.pools.now.items) l.view.pools.now.items l.view.listed.now.items (g.D.DescriptorDevice.ledger l.initial.device) (g.D.DescriptorDevice.ledger l.device);
+  walk : OpenWalk g.D.DescriptorDevice.meaning.pool_name (key_of l.request.key) l.request.count l.view.id l.view.offset l.sink.left (items_of g.D.DescriptorDevice.meaning.set_name put) (map (entry_of g.D.DescriptorDevice.meaning.pool_name) l.initial.view.pools.now.items) l.view.pools.now.items l.view.listed.now.items (g.D.DescriptorDevice.ledger l.initial.device) (g.D.DescriptorDevice.ledger l.device);
   space : deque_capacity l.view.listed.now ≡ deque_capacity l.initial.view.listed.now;
   kept : KeepsView l.initial.view l.view;
   own : AreOfLayout g.D.DescriptorDevice.meaning l.request.layout.now l.initial.sink.sets.items → AreOfLayout g.D.DescriptorDevice.meaning l.request.layout.now l.sink.sets.items;
   looks : CountsLooks l.initial.view.looks.now.count l.view.looks.now.count (g.D.DescriptorDevice.ledger l.initial.device) (g.D.DescriptorDevice.ledger l.device);
 }
 
-abbrev pub decreases-loop-wanting : goal.decreases-loop-wanting
-decreases-loop-wanting g l = l.wanting + length l.view.listed.now.items
+abbrev pub decreases-loop-sink : goal.decreases-loop-sink
+decreases-loop-sink g l = l.sink.left + length l.view.listed.now.items

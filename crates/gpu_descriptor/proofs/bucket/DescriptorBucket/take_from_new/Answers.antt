@@ -4,8 +4,8 @@ use Rattle.gpu_descriptor.proofs.request.NextSize.{one_fits}
 use Rattle.gpu_descriptor.proofs.request.OwnLayout.{none_own, put_own}
 use Rattle.gpu_descriptor.proofs.request.Asks.{same_entry}
 use Rattle.gpu_descriptor.proofs.request.PoolCreated.{created_at, fresh_room, no_sets, grown, not_grown, not_created, none_asked, had_room, create_asked, alloc_asked}
-use Rattle.gpu_descriptor.proofs.bucket.DescriptorBucket.grow_one.Goals.{In-Ok, In-Ok-alloc_descriptor_sets}
-use Rattle.gpu_descriptor.proofs.bucket.DescriptorBucket.grow_one.Goals as goal
+use Rattle.gpu_descriptor.proofs.bucket.DescriptorBucket.take_from_new.Goals.{In-Ok, In-Ok-alloc_descriptor_sets}
+use Rattle.gpu_descriptor.proofs.bucket.DescriptorBucket.take_from_new.Goals as goal
 
 -- the pool that was created
 module _ (g : _) (c : In-Ok g) where
@@ -31,21 +31,21 @@ module _ (g : _) (c : In-Ok g) where
   at = created_at key size name before created made
 
   -- a pool of one set fits
-  fits : pool_descriptors key 1 ≤ c.args.room.now
-  fits = one_fits key c.args.room.now c.args.self.now.total c.args.wanted size c.in-Some.ensures.sets
+  fits : pool_descriptors key 1 ≤ c.args.budget.now.room
+  fits = one_fits key c.args.budget.now.room c.args.self.now.total c.args.sink.now.left size c.in-Some.ensures.sets
 
 -- what came stands behind what was there
 kept : (g : _) (c : In-Ok-alloc_descriptor_sets g) → c.alloc_descriptor_sets.new.sets.sets.items ≡ c.args.sink.now.sets.items ++ map (set_at (key_of c.args.request.now.key) c.args.self.now.id (c.args.self.now.offset + length c.args.self.now.pools.items)) c.in-Ok-alloc_descriptor_sets.ensures.ok.sets
 kept g c =
     let put = c.in-Ok-alloc_descriptor_sets.ensures.ok in
-    let number = c.aim.ensures.number ∙ c.next_number.ensures ∙ (let k = c.make_room.ensures.offset in let same = ap length c.make_room.ensures.pools in let e : c.make_room.new.self.offset + length c.make_room.new.self.pools.items ≡ c.args.self.now.offset + length c.args.self.now.pools.items = omega arith in e) in
-    put.kept ∙ (λ i. c.aim.ensures.sets i ++ map (set_at (key_of (c.aim.ensures.key i)) ((c.aim.ensures.id ∙ c.make_room.ensures.id) i) (number i)) put.sets)
+    let number = c.aim.ensures.number ∙ c.next_number.ensures ∙ (let k = c.reserve_pool.ensures.numbers_stay.offset in let same = ap length c.reserve_pool.ensures.pools in let e : c.reserve_pool.new.self.offset + length c.reserve_pool.new.self.pools.items ≡ c.args.self.now.offset + length c.args.self.now.pools.items = omega arith in e) in
+    put.kept ∙ (λ i. c.aim.ensures.sets i ++ map (set_at (key_of (c.aim.ensures.key i)) ((c.aim.ensures.id ∙ c.reserve_pool.ensures.numbers_stay.id) i) (number i)) put.sets)
 
 pub alloc_descriptor_sets-requires-clause-fits : goal.alloc_descriptor_sets-requires-clause-fits
 alloc_descriptor_sets-requires-clause-fits g c =
     let d = (goal.at.alloc_descriptor_sets-requires-clause-fits g c).In-Ok in
     let few : c.min-given.result ≤ c.in-Some.size = (let a = c.min-given.ensures in omega arith) in
-    let keyed = subst (λ (k : Key). (created g d).pools (name g d) ≡ Some (fresh (pool_counts k.counts (size g d)) (size g d) (flags_of k))) c.requires.same (at g d) in
+    let keyed = subst (λ (k : Key). (created g d).pools (name g d) ≡ Some (fresh (pool_counts k.counts (size g d)) (size g d) (flags_of k))) c.args.request.now.same (at g d) in
     rw (c.new.ensures.left, c.new.ensures.layout) (fresh_room (g.D.DescriptorDevice.meaning.counts c.args.request.now.layout.now) (g.D.DescriptorDevice.meaning.mark c.args.request.now.layout.now) (size g d) (name g d) c.min-given.result (created g d) keyed few)
 
 pub destroy_descriptor_pool-requires : goal.destroy_descriptor_pool-requires
@@ -61,7 +61,7 @@ returns-in-Err-alloc_descriptor_sets-clause-err g c =
     let m'' : Ledger = g.D.DescriptorDevice.ledger c.destroy_descriptor_pool.new.self in
     let gone : m'' ≡ after_destroy (name g d) m' = c.destroy_descriptor_pool.ensures ∙ ap (λ q. after_destroy q m') c.in-Err-alloc_descriptor_sets.ensures.name in
     let err = c.in-Err-alloc_descriptor_sets.ensures.err in
-    (err.kept ∙ c.aim.ensures.sets, c.make_room.ensures.pools, c.make_room.ensures.total, refl, not_grown (key g d) (size g d) (name g d) c.in-Err-alloc_descriptor_sets.error (before g d) (created g d) m' m'' c.in-Ok.ensures.new_name (made g d) err.ledger gone, had_room (λ is. absurd (cc)) (fits g d))
+    (err.kept ∙ c.aim.ensures.sets, err.room ∙ c.aim.ensures.left, c.reserve_pool.ensures.pools, c.reserve_pool.ensures.total, refl, not_grown (key g d) (size g d) (name g d) c.in-Err-alloc_descriptor_sets.error (before g d) (created g d) m' m'' c.in-Ok.ensures.new_name (made g d) err.ledger gone, had_room (λ is. absurd (cc)) (fits g d))
 
 pub returns-in-Ok-alloc_descriptor_sets-clause-grown : goal.returns-in-Ok-alloc_descriptor_sets-clause-grown
 returns-in-Ok-alloc_descriptor_sets-clause-grown g c =
@@ -71,32 +71,32 @@ returns-in-Ok-alloc_descriptor_sets-clause-grown g c =
     let names : List ℕ = map g.D.DescriptorDevice.meaning.set_name put.sets in
     let count = c.min-given.ensures in
     let many : length put.sets ≡ c.min-given.result = put.many ∙ c.new.ensures.left in
-    let long : length names ≡ min c.in-Some.size c.args.wanted = length-map put.sets g.D.DescriptorDevice.meaning.set_name ∙ many ∙ count in
-    let is : m' ≡ after_alloc (name g d) (live_sets (key g d).counts names) (created g d) = put.ledger ∙ ap (λ cs. after_alloc (name g d) (live_sets cs names) (created g d)) (ap g.D.DescriptorDevice.meaning.counts c.new.ensures.layout ∙ sym (ap (λ (k : Key). k.counts) c.requires.same)) in
+    let long : length names ≡ min c.in-Some.size c.args.sink.now.left = length-map put.sets g.D.DescriptorDevice.meaning.set_name ∙ many ∙ count in
+    let is : m' ≡ after_alloc (name g d) (live_sets (key g d).counts names) (created g d) = put.ledger ∙ ap (λ cs. after_alloc (name g d) (live_sets cs names) (created g d)) (ap g.D.DescriptorDevice.meaning.counts c.new.ensures.layout ∙ sym (ap (λ (k : Key). k.counts) c.args.request.now.same)) in
     let old : List Entry = map (entry_of g.D.DescriptorDevice.meaning.pool_name) c.args.self.now.pools.items in
     let new : List Entry = map (entry_of g.D.DescriptorDevice.meaning.pool_name) c.push.new.self.pools.items in
     let value : DescriptorPool g.row.P.Denot = record { raw = c.alloc_descriptor_sets.new.pool; capacity = c.in-Some.size; allocated = c.min-given.result; available = c.in-Some.size - c.min-given.result } in
-    let now : new ≡ old ++ record { pool = name g d; capacity = size g d; allocated = min (size g d) c.args.wanted; available = size g d - min (size g d) c.args.wanted } ∷ [] =
-    ap (map (entry_of g.D.DescriptorDevice.meaning.pool_name)) (c.push.ensures.pools ∙ ap (λ x. x ++ value ∷ []) c.make_room.ensures.pools)
+    let now : new ≡ old ++ record { pool = name g d; capacity = size g d; allocated = min (size g d) c.args.sink.now.left; available = size g d - min (size g d) c.args.sink.now.left } ∷ [] =
+    ap (map (entry_of g.D.DescriptorDevice.meaning.pool_name)) (c.push.ensures.pools ∙ ap (λ x. x ++ value ∷ []) c.reserve_pool.ensures.pools)
     ∙ map-append (entry_of g.D.DescriptorDevice.meaning.pool_name) c.args.self.now.pools.items (value ∷ [])
     ∙ ap (λ (e : Entry). old ++ e ∷ []) (same_entry (entry_of g.D.DescriptorDevice.meaning.pool_name value) _ c.in-Ok-alloc_descriptor_sets.ensures.name refl count (ap (λ n. c.in-Some.size - n) count)) in
-    let room : c.alloc_descriptor_sets.new.sets.left + c.min-given.result ≡ c.args.sink.now.left = (let r = put.room in let n = c.new.ensures.left in let a = c.aim.ensures.left in omega arith) in
-    let total : c.push.new.self.total ≡ c.args.self.now.total + c.min-given.result = c.push.ensures.total ∙ ap (λ n. n + c.min-given.result) c.make_room.ensures.total in
-    (put.sets, many, kept g (goal.at.returns-in-Ok-alloc_descriptor_sets-clause-grown g c).In-Ok-alloc_descriptor_sets, room, total, grown (key g d) c.args.room.now _ c.args.self.now.total c.args.wanted (size g d) (name g d) names old new (before g d) (created g d) m' c.in-Some.ensures.sets (let fits = c.in-Some.ensures.room.0 in let load = c.descriptors_of_pool.ensures in omega arith) long c.in-Ok.ensures.new_name (made g d) is now)
+    let room : c.alloc_descriptor_sets.new.sets.left + length put.sets ≡ c.args.sink.now.left = (let r = put.room in let n = c.new.ensures.left in let a = c.aim.ensures.left in omega arith) in
+    let total : c.push.new.self.total ≡ c.args.self.now.total + length put.sets = (let pushed = c.push.ensures.total in let kept = c.reserve_pool.ensures.total in omega arith) in
+    (put.sets, kept g (goal.at.returns-in-Ok-alloc_descriptor_sets-clause-grown g c).In-Ok-alloc_descriptor_sets, room, total, grown (key g d) c.args.budget.now.room _ c.args.self.now.total c.args.sink.now.left (size g d) (name g d) names old new (before g d) (created g d) m' c.in-Some.ensures.sets (let fits = c.in-Some.ensures.room.0 in let load = c.descriptors_of_pool.ensures in omega arith) long c.in-Ok.ensures.new_name (made g d) is now)
 
 pub returns-in_default-clause-err : goal.returns-in_default-clause-err
 returns-in_default-clause-err g c =
-    (refl, refl, refl, refl, none_asked (g.D.DescriptorDevice.ledger c.args.device.now) stop.NoRoomUnderLimit refl, (λ is. c.in_default.ensures.none, λ none. refl))
+    (refl, refl, refl, refl, refl, none_asked (g.D.DescriptorDevice.ledger c.args.device.now) stop.NoRoomUnderLimit refl, (λ is. c.in_default.ensures.none, λ none. refl))
 
-pub returns-then-not-make_room-clause-err : goal.returns-then-not-make_room-clause-err
-returns-then-not-make_room-clause-err g c =
-    (refl, c.make_room.ensures.pools, c.make_room.ensures.total, refl, none_asked (g.D.DescriptorDevice.ledger c.args.device.now) stop.NoMemoryForPool refl, had_room (λ is. absurd (cc)) (one_fits (key_of c.args.request.now.key) c.args.room.now c.args.self.now.total c.args.wanted c.in-Some.size c.in-Some.ensures.sets))
+pub returns-then-is_err-clause-err : goal.returns-then-is_err-clause-err
+returns-then-is_err-clause-err g c =
+    (refl, refl, c.reserve_pool.ensures.pools, c.reserve_pool.ensures.total, refl, none_asked (g.D.DescriptorDevice.ledger c.args.device.now) stop.NoMemoryForPool refl, had_room (λ is. absurd (cc)) (one_fits (key_of c.args.request.now.key) c.args.budget.now.room c.args.self.now.total c.args.sink.now.left c.in-Some.size c.in-Some.ensures.sets))
 
 pub returns-in-Err-clause-err : goal.returns-in-Err-clause-err
 returns-in-Err-clause-err g c =
     let l : Ledger = g.D.DescriptorDevice.ledger c.args.device.now in
     let m : Ledger = g.D.DescriptorDevice.ledger c.create_descriptor_pool.new.self in
-    (refl, c.make_room.ensures.pools, c.make_room.ensures.total, refl, not_created c.in-Err.error l m c.in-Err.ensures.err, had_room (λ is. absurd (cc)) (one_fits (key_of c.args.request.now.key) c.args.room.now c.args.self.now.total c.args.wanted c.in-Some.size c.in-Some.ensures.sets))
+    (refl, refl, c.reserve_pool.ensures.pools, c.reserve_pool.ensures.total, refl, not_created c.in-Err.error l m c.in-Err.ensures.err, had_room (λ is. absurd (cc)) (one_fits (key_of c.args.request.now.key) c.args.budget.now.room c.args.self.now.total c.args.sink.now.left c.in-Some.size c.in-Some.ensures.sets))
 
 pub returns-in-Err-clause-looks : goal.returns-in-Err-clause-looks
 returns-in-Err-clause-looks g c =
@@ -107,12 +107,12 @@ returns-in-Err-clause-looks g c =
 pub descriptors_of_pool-requires : goal.descriptors_of_pool-requires
 descriptors_of_pool-requires g c = c.in-Some.ensures.room.1
 
-pub overflow_sub-room : goal.overflow_sub-room
-overflow_sub-room g c = (let fits = c.in-Some.ensures.room.0 in let load = c.descriptors_of_pool.ensures in omega arith)
+pub overflow_sub-budget : goal.overflow_sub-budget
+overflow_sub-budget g c = (let fits = c.in-Some.ensures.room.0 in let load = c.descriptors_of_pool.ensures in omega arith)
 
 pub returns-in-Err-alloc_descriptor_sets-clause-looks : goal.returns-in-Err-alloc_descriptor_sets-clause-looks
 returns-in-Err-alloc_descriptor_sets-clause-looks g c =
-    let one = c.next.ensures in
+    let one = c.next-budget.ensures in
     let made = ap (λ (x : Ledger). x.counters.asked) c.in-Ok.ensures.ok in
     let refused = ap (λ (x : Ledger). x.counters.asked) c.in-Err-alloc_descriptor_sets.ensures.err.ledger in
     let rise = alloc_asked c.in-Err-alloc_descriptor_sets.error (g.D.DescriptorDevice.ledger c.create_descriptor_pool.new.self).counters in

@@ -1,9 +1,9 @@
-use Rattle.gpu_descriptor.proofs.Common.{◌≡◌, ◌<◌, ℕ, zero, suc, Bool, true, List, [], ◌∷◌, Some, None, length, get_or, slice_get, rules, sym, ap, ◌∙◌, arith, position, keys_of, lookup, BucketKey, DescriptorBucket, Key, key_eq, key_of, is_of, stored_keys}
+use Rattle.gpu_descriptor.proofs.Common.{◌≡◌, ◌<◌, ℕ, zero, suc, Bool, true, List, [], ◌∷◌, Option, Some, None, IfSome, MatchOption, length, get_or, slice_get, rules, sym, ap, ◌∙◌, arith, position, keys_of, lookup, BucketKey, DescriptorBucket, Key, key_eq, key_of, is_of, stored_keys}
 use Rattle.indexmap.proofs.MapLemmas.{Missing-position}
 use Rattle.std.proofs.lemmas.List.Quantifiers.{position-Some}
 use Rattle.gpu_descriptor.proofs.table.Exact.{key_exact}
 use Rattle.gpu_descriptor.proofs.table.RowAt.{lookup_same}
-use Rattle.gpu_descriptor.proofs.ids.KeyIds.place_of_key.Goals as goal
+use Rattle.gpu_descriptor.proofs.key_table.KeyTable.place_of_key.Goals as goal
 
 tested_at : {P : Type 0} (test : BucketKey → Bool) (key : BucketKey) → ((l : BucketKey) → test l ≡ key_eq (key_of key) (key_of l)) → (es : List (BucketKey × DescriptorBucket P)) (i : ℕ) → i < length es → test (get_or (keys_of es) i key) ≡ true → slice_get (stored_keys es) i ≡ Some (key_of key)
 tested_at test key same [] i within h = absurd (omega arith)
@@ -16,8 +16,10 @@ found_at test key same es i within at = tested_at test key same es i within (pos
 none_at : {P : Type 0} (test : BucketKey → Bool) (key : BucketKey) → ((l : BucketKey) → test l ≡ key_eq (key_of key) (key_of l)) → (es : List (BucketKey × DescriptorBucket P)) → position test (keys_of es) ≡ None → lookup (is_of (key_of key)) es ≡ None
 none_at test key same es none = lookup_same (is_of (key_of key)) test (λ l. sym (same l)) es ∙ (Missing-position test es none).value
 
-pub returns-in-Some-clause-place : goal.returns-in-Some-clause-place
-returns-in-Some-clause-place g c = found_at _ c.args.key.now (λ k. search rules) c.args.buckets.now.entries c.in-Some.place c.in-Some.ensures.within (sym c.in-Some.ensures.index)
+-- what a search by the hash answers
+hashed : {P : Type 0} (test : BucketKey → Bool) (key : BucketKey) → ((l : BucketKey) → test l ≡ key_eq (key_of key) (key_of l)) → (es : List (BucketKey × DescriptorBucket P)) (found : Option ℕ) → found ≡ position test (keys_of es) → IfSome found (λ i. i < length es) → MatchOption found (lookup (is_of (key_of key)) es ≡ None) (λ i. slice_get (stored_keys es) i ≡ Some (key_of key))
+hashed test key same es None is within = none_at test key same es (sym is)
+hashed test key same es (Some i) is within = found_at test key same es i within (sym is)
 
-pub returns-in-None-clause-place : goal.returns-in-None-clause-place
-returns-in-None-clause-place g c = none_at _ c.args.key.now (λ k. search rules) c.args.buckets.now.entries (sym c.in-None.ensures.index)
+pub returns : goal.returns
+returns g c = hashed _ c.args.key.now (λ k. search rules) c.args.self.now.buckets.entries c.get_index_of.result c.get_index_of.ensures.index c.get_index_of.ensures.within

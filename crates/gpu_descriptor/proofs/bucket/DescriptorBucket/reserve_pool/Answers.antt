@@ -1,6 +1,6 @@
 use Rattle.gpu_descriptor.proofs.Common.{length, arith, ap}
 use Rattle.gpu_descriptor.proofs.lists.OpenList.{few_listed}
-use Rattle.gpu_descriptor.proofs.bucket.DescriptorBucket.make_room.Goals as goal
+use Rattle.gpu_descriptor.proofs.bucket.DescriptorBucket.reserve_pool.Goals as goal
 
 pub overflow_sub-wanting : goal.overflow_sub-wanting
 overflow_sub-wanting g c =

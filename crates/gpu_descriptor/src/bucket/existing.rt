@@ -1,0 +1,171 @@
+//! How a request takes sets from the existing pools of its key.
+ghost use Rattle.std.specs.Prelude.{◌≡◌, ◌+◌, ◌<◌, ◌≤◌, ◌++◌, ◌^◌, List, [], length, map};
+ghost use Rattle.std.specs.Prelude.{if◌then◌else◌, IfErr, OnOk, Err};
+ghost use Rattle.std.specs.VecDeque.{deque_capacity};
+ghost use Rattle.gpu_descriptor_types.specs.Ledger.{pool_refusals};
+ghost use Rattle.gpu_descriptor.specs.declared.set.DescriptorSet.{DescriptorSet};
+ghost use Rattle.gpu_descriptor.specs.declared.bucket.stop.Stop.TheVariants.{ExistingPoolRefused};
+ghost use Rattle.gpu_descriptor.specs.Caller.Sets.{AreOfLayout, items_of};
+ghost use Rattle.gpu_descriptor.specs.Inner.Buckets.{IsBookedIn, AreBookedIn};
+ghost use Rattle.gpu_descriptor.specs.Inner.Grow.{IsTaken};
+ghost use Rattle.gpu_descriptor.specs.Inner.KeyOf.{key_of};
+ghost use Rattle.gpu_descriptor.specs.Inner.OpenPools.{CountsLooks, IsListed, KeepsView, bucket_in};
+ghost use Rattle.gpu_descriptor.specs.Inner.SetAt.{set_at};
+ghost use Rattle.gpu_descriptor.specs.Inner.Stored.{KeepsNumbers, bucket_of, entry_of};
+ghost use Rattle.gpu_descriptor.specs.Inner.Walk.{IsAsked, IsNoMemory, IsWalked};
+
+use crate::bucket::allocation::Allocation;
+use crate::bucket::reads::OpenPools;
+use crate::bucket::request::SetRequest;
+use crate::bucket::{DescriptorBucket, DescriptorPool};
+use gpu_descriptor_types::{DescriptorDevice, DeviceAllocationError, Layouts, Tally};
+
+/// Whether a refusal speaks of the pool alone, and not of want of memory.
+fn is_of_pool(error: DeviceAllocationError) -> bool
+    ensures { pool_refusals error ≡ (if result then 1 else 0) }
+{
+    match error {
+        DeviceAllocationError::FragmentedPool | DeviceAllocationError::OutOfPoolMemory => true,
+        DeviceAllocationError::OutOfDeviceMemory | DeviceAllocationError::OutOfHostMemory => false,
+    }
+}
+
+/// Asks a pool for what it has of the sets that are left to come.
+///
+/// Where the pool refuses, its places are no longer known, and none came.
+fn ask<L, P, S, D: DescriptorDevice<L, P, S>>(
+    device: &mut D,
+    pool: &mut DescriptorPool<P>,
+    request: &SetRequest<'_, L, P, S, D>,
+    sink: &mut Allocation<'_, S>,
+) -> Result<(), DeviceAllocationError>
+    requires booked { IsBookedIn (key_of request.now.key) (D.ledger device.old).pools
+        (entry_of D.meaning.pool_name pool.old) }
+    ensures asked { OnOk result ((put : List S) ×
+        (sink.new.sets.items ≡ sink.old.sets.items ++ map (set_at (key_of sink.old.key.now)
+        sink.old.id sink.old.number) put) × (sink.new.left + length put ≡ sink.old.left) ×
+        IsAsked (key_of request.now.key) sink.old.left (map D.meaning.set_name put)
+        (entry_of D.meaning.pool_name pool.old) (entry_of D.meaning.pool_name pool.new)
+        (D.ledger device.old) (D.ledger device.new)) }
+    ensures own { AreOfLayout D.meaning request.now.layout.now sink.old.sets.items
+        → AreOfLayout D.meaning request.now.layout.now sink.new.sets.items }
+    ensures err { IfErr result (λ e. (sink.new.sets.items ≡ sink.old.sets.items) ×
+        (sink.new.left ≡ sink.old.left) × (entry_of D.meaning.pool_name pool.new
+        ≡ entry_of D.meaning.pool_name pool.old) × IsNoMemory sink.old.left
+        (entry_of D.meaning.pool_name pool.old) e (D.ledger device.old) (D.ledger device.new)) }
+{
+    let count = sink.left.min(pool.available);
+    if count == 0 {
+        return Ok(());
+    }
+    match device.alloc_descriptor_sets(&mut pool.raw, Layouts::new(request.layout, count), sink) {
+        Ok(()) => {
+            pool.allocated += count;
+            pool.available -= count;
+            Ok(())
+        }
+        Err(error) => {
+            if is_of_pool(error) {
+                pool.available = 0;
+                Ok(())
+            } else {
+                Err(error)
+            }
+        }
+    }
+}
+
+/// Asks the pools for sets that have known free places, the newest first, until none are left to
+/// come.
+fn walk<'k, L, P, S, D: DescriptorDevice<L, P, S>>(
+    device: &mut D,
+    view: &mut OpenPools<'_, '_, '_, P>,
+    request: &'k SetRequest<'_, L, P, S, D>,
+    sink: &mut Allocation<'k, S>,
+) -> Result<(), DeviceAllocationError>
+    requires booked { AreBookedIn (key_of request.now.key) (D.ledger device.old).pools
+        (map (entry_of D.meaning.pool_name) view.old.pools.now.items) }
+    requires listed { IsListed view.old }
+    requires left { sink.old.left ≡ request.now.count }
+    ensures walked { OnOk result ((put : List (DescriptorSet S)) ×
+        (sink.new.sets.items ≡ sink.old.sets.items ++ put) ×
+        (length put + sink.new.left ≡ request.now.count) × IsWalked (key_of request.now.key)
+        request.now.count sink.new.left (items_of D.meaning.set_name put)
+        (bucket_in D.meaning.pool_name view.old) (bucket_in D.meaning.pool_name view.new)
+        (D.ledger device.old) (D.ledger device.new)) }
+    ensures stopped { IfErr result (λ e. (put : List (DescriptorSet S)) ×
+        (sink.new.sets.items ≡ sink.old.sets.items ++ put) ×
+        (length put + sink.new.left ≡ request.now.count) × IsTaken (Err (ExistingPoolRefused e))
+        (key_of request.now.key) 0 request.now.count (items_of D.meaning.set_name put)
+        (bucket_in D.meaning.pool_name view.old) (bucket_in D.meaning.pool_name view.new)
+        (D.ledger device.old) (D.ledger device.new)) }
+    ensures own { AreOfLayout D.meaning request.now.layout.now sink.old.sets.items
+        → AreOfLayout D.meaning request.now.layout.now sink.new.sets.items }
+    ensures pools { length view.new.pools.now.items ≡ length view.old.pools.now.items }
+    ensures capacity { deque_capacity view.new.listed.now ≡ deque_capacity view.old.listed.now }
+    ensures given { length sink.new.sets.items + sink.new.left
+        ≡ length sink.old.sets.items + request.now.count }
+    ensures listed { IsListed view.new }
+    ensures kept { KeepsView view.old view.new }
+    ensures looks { CountsLooks view.old.looks.now.count view.new.looks.now.count
+        (D.ledger device.old) (D.ledger device.new) }
+{
+    while sink.left > 0 {
+        let Some(pool) = view.newest(&request.key, sink) else {
+            return Ok(());
+        };
+        match ask(device, pool, request, sink) {
+            Ok(()) => {
+                if pool.available == 0 {
+                    view.close_newest();
+                }
+            }
+            Err(error) => return Err(error),
+        }
+    }
+    Ok(())
+}
+
+impl<P> DescriptorBucket<P> {
+    /// Takes what the existing pools are known to have.
+    pub(crate) fn take_from_existing<'k, L, S, D: DescriptorDevice<L, P, S>>(
+        &mut self,
+        device: &mut D,
+        request: &'k SetRequest<'_, L, P, S, D>,
+        looks: &mut Tally,
+        sink: &mut Allocation<'k, S>,
+    ) -> Result<(), DeviceAllocationError>
+        requires booked { AreBookedIn (key_of request.now.key) (D.ledger device.old).pools
+            (bucket_of D.meaning.pool_name self.old).pools }
+        requires bound { self.old.total + request.now.count < 2 ^ 64 }
+        requires empty { sink.old.sets.items ≡ [] }
+        requires left { sink.old.left ≡ request.now.count }
+        ensures walked { OnOk result (IsWalked (key_of request.now.key) request.now.count
+            sink.new.left (items_of D.meaning.set_name sink.new.sets.items)
+            (bucket_of D.meaning.pool_name self.old) (bucket_of D.meaning.pool_name self.new)
+            (D.ledger device.old) (D.ledger device.new)) }
+        ensures stopped { IfErr result (λ e. IsTaken (Err (ExistingPoolRefused e))
+            (key_of request.now.key) 0 request.now.count
+            (items_of D.meaning.set_name sink.new.sets.items)
+            (bucket_of D.meaning.pool_name self.old) (bucket_of D.meaning.pool_name self.new)
+            (D.ledger device.old) (D.ledger device.new)) }
+        ensures own { AreOfLayout D.meaning request.now.layout.now sink.old.sets.items
+            → AreOfLayout D.meaning request.now.layout.now sink.new.sets.items }
+        ensures numbers_stay { KeepsNumbers self.old self.new }
+        ensures total { self.new.total ≡ self.old.total + length sink.new.sets.items }
+        ensures left { length sink.new.sets.items + sink.new.left ≡ request.now.count }
+        ensures looks { CountsLooks looks.old.count looks.new.count
+            (D.ledger device.old) (D.ledger device.new) }
+    {
+        let mut view = OpenPools::new(
+            self.id,
+            self.offset,
+            &mut self.pools,
+            &mut self.listed,
+            looks,
+        );
+        let walked = walk(device, &mut view, request, sink);
+        self.total += sink.sets.len() as u64;
+        walked
+    }
+}

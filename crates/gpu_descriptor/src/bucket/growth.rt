@@ -1,0 +1,191 @@
+//! How a request takes sets from a new pool of its key.
+ghost use Rattle.std.specs.Prelude.{◌≡◌, ◌+◌, ◌<◌, ◌≤◌, ◌++◌, ◌∷◌, ◌^◌, List, [], length, map};
+ghost use Rattle.std.specs.Prelude.{if◌then◌else◌, true, false, IfErr, IfSome, IfNone, OnOk};
+ghost use Rattle.std.specs.VecDeque.{deque_capacity};
+ghost use Rattle.gpu_descriptor_types.specs.Counts.{kinds};
+ghost use Rattle.gpu_descriptor_types.specs.Flags.{bits};
+ghost use Rattle.gpu_descriptor_types.specs.PoolSize.{pool_counts as pool_counts_of};
+ghost use Rattle.gpu_descriptor.specs.Caller.Sets.{AreOfLayout};
+ghost use Rattle.gpu_descriptor.specs.Inner.Grow.{IsGrown};
+ghost use Rattle.gpu_descriptor.specs.Inner.KeyOf.{key_of};
+ghost use Rattle.gpu_descriptor.specs.Inner.OpenPools.{CountsLooks};
+ghost use Rattle.gpu_descriptor.specs.Inner.SetAt.{set_at};
+ghost use Rattle.gpu_descriptor.specs.Inner.Stored.{KeepsNumbers, bucket_of};
+ghost use Rattle.gpu_descriptor.specs.Inner.Walk.{IsRefused};
+ghost use Rattle.gpu_descriptor.specs.Model.FreshPools.{IsNextSize};
+ghost use Rattle.gpu_descriptor.specs.Model.Load.{pool_descriptors};
+ghost use Rattle.gpu_descriptor.specs.Model.Outcomes.{StopsAtNew};
+
+use crate::bucket::allocation::Allocation;
+use crate::bucket::request::SetRequest;
+use crate::bucket::stop::Stop;
+use crate::bucket::{DescriptorBucket, DescriptorPool};
+use crate::budget::Budget;
+use crate::set::BucketKey;
+use bitflags::Flags;
+use gpu_descriptor_types::{
+    DescriptorDevice, DescriptorPoolCreateFlags, DescriptorTotalCount, Layouts, Tally,
+    cut_pool_size, new_pool_size,
+};
+use std::alloc::AllocError;
+use std::collections::VecDeque;
+
+/// The flags of a new pool: sets go back singly, and it takes marked sets if its key is marked.
+pub(crate) fn pool_flags(update_after_bind: bool) -> DescriptorPoolCreateFlags
+    ensures { bits result ≡ (if update_after_bind then 3 else 1) }
+{
+    let mut flags = DescriptorPoolCreateFlags::FREE_DESCRIPTOR_SET;
+    flags.set(
+        DescriptorPoolCreateFlags::UPDATE_AFTER_BIND,
+        update_after_bind,
+    );
+    flags
+}
+
+/// The counts of a key's next pool, and how many sets it holds; `None` where the limit leaves no
+/// room for one.
+pub(crate) fn next_size(
+    key: &BucketKey,
+    total: u64,
+    wanted: u32,
+    room: u32,
+) -> Option<(DescriptorTotalCount, u32)>
+    ensures sets { IfSome result (λ pool. IsNextSize (key_of key.now) room total wanted pool.1) }
+    ensures counts { IfSome result (λ pool. kinds pool.0 ≡ pool_counts_of (kinds key.now.size)
+        pool.1) }
+    ensures at_most { IfSome result (λ pool. pool.1 ≤ 2147483648) }
+    ensures room { IfSome result (λ pool. (pool_descriptors (key_of key.now) pool.1 ≤ room)
+        × (pool_descriptors (key_of key.now) pool.1 < 2 ^ 32)) }
+    ensures none { IfNone result (room < pool_descriptors (key_of key.now) 1) }
+{
+    if key.update_after_bind {
+        cut_pool_size(&key.size, total, wanted, room)
+    } else {
+        Some(new_pool_size(&key.size, total, wanted))
+    }
+}
+
+impl<P> DescriptorBucket<P> {
+    /// Creates a pool, and takes what it has of the sets that are left to come.
+    ///
+    /// A pool of a marked key takes of the room what descriptors it has.
+    #[inline(never)]
+    pub(crate) fn take_from_new<'k, L, S, D: DescriptorDevice<L, P, S>>(
+        &mut self,
+        device: &mut D,
+        request: &'k SetRequest<'_, L, P, S, D>,
+        budget: &mut Budget,
+        sink: &mut Allocation<'k, S>,
+    ) -> Result<(), Stop>
+        requires some { 0 < sink.old.left }
+        requires numbers { self.old.offset + length self.old.pools.items + sink.old.left < 2 ^ 64 }
+        requires bound { self.old.total + sink.old.left < 2 ^ 64 }
+        ensures grown { OnOk result ((put : List S) ×
+            (sink.new.sets.items ≡ sink.old.sets.items ++ map (set_at (key_of request.now.key)
+            self.old.id (self.old.offset + length self.old.pools.items)) put) ×
+            (sink.new.left + length put ≡ sink.old.left) ×
+            (self.new.total ≡ self.old.total + length put) ×
+            IsGrown (key_of request.now.key) budget.old.room budget.new.room self.old.total
+            sink.old.left (map D.meaning.set_name put) (bucket_of D.meaning.pool_name self.old).pools
+            (bucket_of D.meaning.pool_name self.new).pools (D.ledger device.old)
+            (D.ledger device.new)) }
+        ensures own { AreOfLayout D.meaning request.now.layout.now sink.old.sets.items
+            → AreOfLayout D.meaning request.now.layout.now sink.new.sets.items }
+        ensures err { IfErr result (λ stop.
+            (sink.new.sets.items ≡ sink.old.sets.items)
+            × (sink.new.left ≡ sink.old.left)
+            × (self.new.pools.items ≡ self.old.pools.items)
+            × (self.new.total ≡ self.old.total)
+            × (budget.new.room ≡ budget.old.room)
+            × IsRefused stop (D.ledger device.old) (D.ledger device.new)
+            × StopsAtNew stop (key_of request.now.key) budget.old.room) }
+        ensures numbers_stay { KeepsNumbers self.old self.new }
+        ensures looks { CountsLooks budget.old.looks.count budget.new.looks.count
+            (D.ledger device.old) (D.ledger device.new) }
+    {
+        let key = &request.key;
+        let Some((counts, size)) = next_size(key, self.total, sink.left, budget.room) else {
+            return Err(Stop::NoRoomUnderLimit);
+        };
+        if self.reserve_pool().is_err() {
+            return Err(Stop::NoMemoryForPool);
+        }
+        let flags = pool_flags(key.update_after_bind);
+        let mut raw = match device.create_descriptor_pool(&counts, size, flags) {
+            Ok(raw) => raw,
+            Err(error) => return Err(Stop::PoolNotCreated(error)),
+        };
+        let given = size.min(sink.left);
+        sink.aim(key, self.id, self.next_number());
+        budget.looks = Tally::next(&budget.looks);
+        match device.alloc_descriptor_sets(&mut raw, Layouts::new(request.layout, given), sink) {
+            Ok(()) => {
+                self.push(DescriptorPool {
+                    raw,
+                    capacity: size,
+                    allocated: given,
+                    available: size - given,
+                });
+                budget.room -= key.descriptors_of_pool(size);
+                Ok(())
+            }
+            Err(error) => {
+                device.destroy_descriptor_pool(raw);
+                Err(Stop::NewPoolRefused(error))
+            }
+        }
+    }
+
+    /// The number of the next pool.
+    pub(crate) fn next_number(&self) -> u64
+        ensures { result ≡ self.now.offset + length self.now.pools.items }
+    {
+        self.offset + self.pools.len() as u64
+    }
+
+    /// Takes memory for the books of one more pool, and for its number. Where that is refused, nothing
+    /// changes but capacities.
+    fn reserve_pool(&mut self) -> Result<(), AllocError>
+        ensures pools { self.new.pools.items ≡ self.old.pools.items }
+        ensures numbers_stay { KeepsNumbers self.old self.new }
+        ensures total { self.new.total ≡ self.old.total }
+        ensures capacity { OnOk result (length self.new.pools.items < deque_capacity self.new.pools) }
+        ensures listed { OnOk result (length self.new.pools.items
+            < deque_capacity self.new.listed) }
+    {
+        self.pools.reserve(1)?;
+
+        // The list is to have capacity for all pools, listed or not.
+        let wanting = self.pools.len() + 1 - self.listed.len();
+        self.listed.reserve(wanting)
+    }
+
+    /// Puts a new pool behind the others.
+    fn push(&mut self, pool: DescriptorPool<P>)
+        requires numbers { self.old.offset + length self.old.pools.items + 1 < 2 ^ 64 }
+        requires bound { self.old.total + pool.allocated < 2 ^ 64 }
+        requires capacity { length self.old.pools.items < deque_capacity self.old.pools }
+        requires listed { length self.old.pools.items < deque_capacity self.old.listed }
+        ensures pools { self.new.pools.items ≡ self.old.pools.items ++ pool ∷ [] }
+        ensures numbers_stay { KeepsNumbers self.old self.new }
+        ensures total { self.new.total ≡ self.old.total + pool.allocated }
+    {
+        let number = self.next_number();
+        list_last(&mut self.listed, pool.available > 0, number);
+        self.total += u64::from(pool.allocated);
+        self.pools.push_back_reserved(pool);
+    }
+}
+
+/// Puts a number last in a list where its pool is open. The test is an argument, so that the caller
+/// has one state of its list afterwards.
+fn list_last(listed: &mut VecDeque<u64>, is_open: bool, number: u64)
+    requires capacity { length listed.old.items < deque_capacity listed.old }
+    ensures listed { is_open ≡ true → listed.new.items ≡ listed.old.items ++ number ∷ [] }
+    ensures stays { is_open ≡ false → listed.new.items ≡ listed.old.items }
+    ensures capacity { deque_capacity listed.new ≡ deque_capacity listed.old }
+{
+    if is_open {
+        listed.push_back_reserved(number);
+    }
+}

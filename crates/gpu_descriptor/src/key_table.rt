@@ -1,0 +1,173 @@
+//! The keys of an allocator, each with its pools, and where a key stands. A place is tried before it
+//! is used, so nothing rests on the hint.
+ghost use Rattle.std.specs.Prelude.{◌≡◌, ◌+◌, ◌<◌, ◌^◌, ℕ, IsTrue, MatchOption, None, Some, map};
+ghost use Rattle.std.specs.Prelude.{[], IfErr, IfOk, OnErr, OnOk, slice_get, true};
+ghost use Rattle.std.specs.List.{IsDistinct, IsDistinct-prop};
+ghost use Rattle.std.specs.Map.{lookup};
+ghost use Rattle.gpu_descriptor.specs.Caller.Keys.{with_key};
+ghost use Rattle.gpu_descriptor.specs.Caller.Sets.{AreOfLayout};
+ghost use Rattle.gpu_descriptor.specs.Inner.Buckets.{AreBookedIn};
+ghost use Rattle.gpu_descriptor.specs.Inner.Ids.{is_of, rise_below, stored_ids};
+ghost use Rattle.gpu_descriptor.specs.Inner.KeyOf.{key_of};
+ghost use Rattle.gpu_descriptor.specs.Inner.OpenPools.{CountsLooks};
+ghost use Rattle.gpu_descriptor.specs.Inner.Serves.{IsUnserved, ServesKey};
+ghost use Rattle.gpu_descriptor.specs.Inner.Stored.{books_in, row_of, stored_keys};
+ghost use Rattle.gpu_descriptor.specs.Model.Books.{key_eq, sum_over};
+ghost use Rattle.gpu_descriptor.specs.Model.Load.{bucket_load, sets_out};
+
+use crate::bucket::DescriptorBucket;
+use crate::bucket::request::{Served, SetRequest};
+use crate::budget::Budget;
+use crate::errors::AllocationError;
+use crate::set::BucketKey;
+use gpu_descriptor_types::DescriptorDevice;
+use indexmap::IndexMap;
+use std::alloc::Global;
+use std::collections::VecDeque;
+
+/// The keys in the order in which they came, each with its pools.
+#[derive(Debug, Drop)]
+pub(crate) struct KeyTable<P> {
+    pub(crate) buckets: IndexMap<BucketKey, DescriptorBucket<P>>,
+
+    /// The id of the next key. It never goes back, so no two keys ever share one.
+    pub(crate) next_id: u64,
+
+    /// The place of the last call's key, which is a hint.
+    pub(crate) last: usize,
+    ghost rising: { rise_below next_id (stored_ids buckets.entries) ≡ true },
+    ghost distinct: { IsDistinct key_eq (stored_keys buckets.entries) } by { IsDistinct-prop key_eq
+        (stored_keys buckets.entries) },
+}
+
+impl<P> KeyTable<P> {
+    pub(crate) fn new(alloc: Global) -> Self
+        ensures { result.buckets.entries ≡ [] }
+    {
+        KeyTable {
+            buckets: IndexMap::new(alloc),
+            next_id: 0,
+            last: 0,
+        }
+    }
+
+    /// The place of a key. It is hashed only where neither the last call's place is right nor the
+    /// one behind it, which serves keys that are used in the order in which they first came.
+    pub(crate) fn place_of_key(&self, key: &BucketKey) -> Option<usize>
+        ensures { MatchOption result
+            (lookup (is_of (key_of key.now)) self.now.buckets.entries ≡ None)
+            (λ place. slice_get (stored_keys self.now.buckets.entries) place
+            ≡ Some (key_of key.now)) }
+    {
+        if self.has_key(self.last, key) {
+            return Some(self.last);
+        }
+        let likely = self.last.wrapping_add(1);
+        if self.has_key(likely, key) {
+            return Some(likely);
+        }
+        self.buckets.get_index_of(key)
+    }
+
+    /// The place of the key with an id. Where neither hint is right it is found by halves, since
+    /// the ids rise along the table.
+    pub(crate) fn place_of_id(&self, id: u64) -> usize
+        requires { (i : ℕ) × (slice_get (stored_ids self.now.buckets.entries) i ≡ Some id) }
+        ensures { slice_get (stored_ids self.now.buckets.entries) result ≡ Some id }
+    {
+        if self.has_id(self.last, id) {
+            return self.last;
+        }
+        let likely = self.last.wrapping_add(1);
+        if self.has_id(likely, id) {
+            return likely;
+        }
+        self.buckets
+            .partition_point(|_key: &BucketKey, bucket: &DescriptorBucket<P>| bucket.id < id)
+    }
+
+    /// Whether a key stands at this place.
+    fn has_key(&self, place: usize, key: &BucketKey) -> bool
+        ensures { IsTrue result → slice_get (stored_keys self.now.buckets.entries) place
+            ≡ Some (key_of key.now) }
+    {
+        match self.buckets.get_index(place) {
+            Some((stored, _)) => *stored == *key,
+            None => false,
+        }
+    }
+
+    /// Whether the key at this place has this id.
+    fn has_id(&self, place: usize, id: u64) -> bool
+        ensures { IsTrue result → slice_get (stored_ids self.now.buckets.entries) place ≡ Some id }
+    {
+        match self.buckets.get_index(place) {
+            Some((_, bucket)) => bucket.id == id,
+            None => false,
+        }
+    }
+}
+
+impl<P: Drop> KeyTable<P> {
+    /// Takes sets of a key. If the key is absent, it is put last.
+    pub(crate) fn serve<L, S: Drop, D: DescriptorDevice<L, P, S>>(
+        &mut self,
+        device: &mut D,
+        request: &SetRequest<'_, L, P, S, D>,
+        budget: &mut Budget,
+    ) -> Result<Served<S>, AllocationError>
+        requires booked { AreBookedIn (key_of request.now.key) (D.ledger device.old).pools (books_in
+            D.meaning.pool_name (map row_of self.old.buckets.entries)
+            (key_of request.now.key)).pools }
+        requires bound { sum_over sets_out (map row_of self.old.buckets.entries) + request.now.count
+            < 2 ^ 64 }
+        ensures served { IfOk result (λ r. ServesKey D.meaning (key_of request.now.key)
+            budget.old.room request.now.count r.sets.items r.taken
+            (map row_of self.old.buckets.entries) (map row_of self.new.buckets.entries)
+            (D.ledger device.old) (D.ledger device.new)) }
+        ensures own { IfOk result (λ r. AreOfLayout D.meaning request.now.layout.now r.sets.items) }
+        ensures refused { IfErr result (λ e. IsUnserved request.now.count e (books_in
+            D.meaning.pool_name (map row_of self.old.buckets.entries) (key_of request.now.key))) }
+        ensures looks { CountsLooks budget.old.looks.count budget.new.looks.count
+            (D.ledger device.old) (D.ledger device.new) }
+        ensures room { budget.new.room + sum_over bucket_load (map row_of self.new.buckets.entries)
+            ≡ budget.old.room + sum_over bucket_load (map row_of self.old.buckets.entries) }
+        ensures keys { OnOk result (stored_keys self.new.buckets.entries
+            ≡ with_key (key_of request.now.key) (stored_keys self.old.buckets.entries)) }
+        ensures entries { OnErr result (self.new.buckets.entries ≡ self.old.buckets.entries) }
+        ensures budget { OnErr result (budget.new ≡ budget.old) }
+        ensures ledger { OnErr result (D.ledger device.new ≡ D.ledger device.old) }
+    {
+        match self.place_of_key(&request.key) {
+            Some(place) => {
+                self.last = place;
+                return self.buckets[place].serve(device, request, budget);
+            }
+            None => {}
+        }
+        if self.buckets.reserve(1).is_err() {
+            return Err(AllocationError::OutOfHostMemory);
+        }
+        if self.next_id == u64::MAX {
+            return Err(AllocationError::OutOfHostMemory);
+        }
+        let mut bucket = DescriptorBucket {
+            id: self.next_id,
+            offset: 0,
+            pools: VecDeque::new(request.alloc),
+            listed: VecDeque::new(request.alloc),
+            total: 0,
+        };
+        let served = match bucket.serve(device, request, budget) {
+            Ok(served) => served,
+            Err(error) => return Err(error),
+        };
+        match self.buckets.insert(request.key, bucket) {
+            Ok(_) => {
+                self.next_id += 1;
+                Ok(served)
+            }
+            Err(_) => unreachable!(),
+        }
+    }
+}
