@@ -82,8 +82,8 @@ impl<P> KeyTable<P> {
         if self.has_id(likely, id) {
             return likely;
         }
-        self.buckets
-            .partition_point(|_key: &BucketKey, bucket: &DescriptorBucket<P>| bucket.id < id)
+        self.buckets.partition_point(|_key: &BucketKey, bucket: &DescriptorBucket<P>| bucket.id
+            < id)
     }
 
     /// Whether a key stands at this place.

@@ -1,5 +1,5 @@
 -- Cleaning up, row by row.
-use Rattle.gpu_descriptor.proofs.Common.{◌≡◌, ℕ, zero, suc, ◌+◌, ◌-◌, ◌<◌, ◌≤◌, Bool, true, false, not, ◌==◌, List, [], ◌∷◌, ◌++◌, length, map, filter, set, take, drop, sum_by, slice_get, Option, Some, None, option_map, inl, inr, refl, sym, ap, subst, ◌∙◌, arith, length-drop, if◌then◌else◌, fun_ext, list_any, IsDistinct, values_of, cases_Bool, false_from_ne_true, append-nil, drop_all, length-map, take_all, sum_by-cons, sum_by_more, get_or_from_slice_get, slice_get-map, slice_get_within, Pool, Ledger, BucketKey, DescriptorPool, DescriptorBucket, State, Agree, Key, key_eq, Bucket, entry_at, no_pools, books_of, HasDistinctKeys, key_of, Allocations, common_steps, list_any_more, AreBookedIn, has_pools, trimmed_bucket, trimmed_ledger, more_destroyed, empty_front, in_front, cleaned_bucket, IsCleaned, pools_cleaned, named_row, state_of, row_of, bucket_of, stored_keys, IsConsistent}
+use Rattle.gpu_descriptor.proofs.Common.{◌≡◌, ℕ, zero, suc, ◌+◌, ◌-◌, ◌<◌, ◌≤◌, Bool, true, false, not, ◌==◌, List, [], ◌∷◌, ◌++◌, length, map, filter, set, take, drop, sum_by, slice_get, Option, Some, None, option_map, inl, inr, refl, sym, ap, subst, ◌∙◌, arith, length-drop, if◌then◌else◌, fun_ext, list_any, values_of, cases_Bool, false_from_ne_true, append-nil, drop_all, length-map, take_all, sum_by-cons, sum_by_more, get_or_from_slice_get, slice_get-map, slice_get_within, Pool, Ledger, BucketKey, DescriptorPool, DescriptorBucket, State, Agree, Key, key_eq, Bucket, entry_at, no_pools, books_of, HasDistinctKeys, key_of, Allocations, common_steps, list_any_more, AreBookedIn, has_pools, trimmed_bucket, trimmed_ledger, more_destroyed, empty_front, in_front, cleaned_bucket, IsCleaned, pools_cleaned, named_row, state_of, row_of, bucket_of, IsConsistent}
 use Rattle.indexmap.specs.Layout.{set_value_at}
 use Rattle.gpu_descriptor.specs.Caller.States.{keys_of}
 use Rattle.gpu_descriptor.proofs.lists.AtPlaces.{found_before, none_at}
@@ -8,7 +8,6 @@ use Rattle.gpu_descriptor.proofs.release.Fronts.{whole_front, entry_at-from}
 use Rattle.gpu_descriptor.proofs.release.ReleaseAgrees.{front_found}
 use Rattle.gpu_descriptor.proofs.foreign.LedgerPools.{destroyed_both}
 use Rattle.gpu_descriptor.proofs.sums.Loads.{set_descriptors-none, rows_load, rows_out, rows_pool_load, stored_load_in, sum_put}
-use Rattle.gpu_descriptor.proofs.table.RowAt.{keys_at}
 use Rattle.gpu_descriptor.proofs.table.TableBooks.{rows_in, rows_are, keys_are}
 use Rattle.gpu_descriptor.proofs.table.Tables.{key_eq_symm, absent}
 use Rattle.gpu_descriptor.proofs.request.StateAgrees.{booked_of}

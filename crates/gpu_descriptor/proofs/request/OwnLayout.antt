@@ -1,5 +1,5 @@
 -- What was put has the layout that was asked for.
-use Rattle.gpu_descriptor.proofs.Common.{◌≡◌, ◌++◌, ℕ, List, [], map, All, All-append, ap, subst, sym, ◌∙◌, DescriptorSet, IsOfLayout, AreOfLayout, Key, Meaning, set_at}
+use Rattle.gpu_descriptor.proofs.Common.{◌≡◌, ◌++◌, ℕ, List, map, All, All-append, subst, sym, DescriptorSet, IsOfLayout, AreOfLayout, Key, Meaning, set_at}
 use Rattle.std.proofs.lemmas.List.Elements.{All-map}
 
 module _ {L P S : Type 0} (means : Meaning L P S) (layout : L) where

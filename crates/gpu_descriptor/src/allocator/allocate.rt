@@ -69,12 +69,12 @@ impl<P: Drop, S: Drop> DescriptorAllocator<P, S> {
         if count == 0 {
             return Ok(Vec::new(self.alloc));
         }
+        let update_after_bind = flags.contains(DescriptorSetLayoutCreateFlags::UPDATE_AFTER_BIND);
         let request = SetRequest {
             layout,
             key: BucketKey {
                 size: *layout_descriptor_count,
-                update_after_bind: flags
-                    .contains(DescriptorSetLayoutCreateFlags::UPDATE_AFTER_BIND),
+                update_after_bind,
             },
             count,
             alloc: self.alloc,

@@ -74,9 +74,12 @@ impl<P: Drop> DescriptorBucket<P> {
         if is_past_bound(self.next_number(), request.count) {
             return Err(AllocationError::Fragmentation);
         }
-        let Ok(mut sink) =
-            Allocation::with_capacity(request.alloc, &request.key, self.id, request.count)
-        else {
+        let Ok(mut sink) = Allocation::with_capacity(
+            request.alloc,
+            &request.key,
+            self.id,
+            request.count,
+        ) else {
             return Err(AllocationError::OutOfHostMemory);
         };
         let taken = self.take(device, request, budget, &mut sink);

@@ -5,20 +5,20 @@ use Rattle.gpu_descriptor.proofs.request.Outcomes.{taken_agree, taken_given}
 use Rattle.gpu_descriptor.proofs.request.HandedOut.{hands_all, hands_back, hands_none, keeps_all, keeps_back}
 use Rattle.gpu_descriptor.proofs.callers.Unchanged.{keeps_still}
 use Rattle.gpu_descriptor.proofs.request.Requested.{load_within, pool_load_within}
-use Rattle.gpu_descriptor.proofs.allocator.DescriptorAllocator.allocate.Goals.{After-contains, In-Ok}
+use Rattle.gpu_descriptor.proofs.allocator.DescriptorAllocator.allocate.Goals.{After-contains-update_after_bind, In-Ok}
 use Rattle.gpu_descriptor.proofs.allocator.DescriptorAllocator.allocate.Goals as goal
 
 -- the key of the request is that of the layout
-keyed : (g : _) (c : After-contains g) → key_of (record { size = c.args.layout_descriptor_count.now; update_after_bind = c.contains.result }) ≡ layout_key g.D.DescriptorDevice.meaning c.args.layout.now
-keyed g c = λ i. record { counts = c.requires.counts i; marked = (c.contains.ensures tt ∙ c.requires.mark) i }
+keyed : (g : _) (c : After-contains-update_after_bind g) → key_of (record { size = c.args.layout_descriptor_count.now; update_after_bind = c.contains-update_after_bind.result }) ≡ layout_key g.D.DescriptorDevice.meaning c.args.layout.now
+keyed g c = λ i. record { counts = c.requires.counts i; marked = (c.contains-update_after_bind.ensures tt ∙ c.requires.mark) i }
 
 -- what the request took, under the layout's key
 taken : (g : _) (c : In-Ok g) → Takes g.D.DescriptorDevice.meaning (layout_key g.D.DescriptorDevice.meaning c.args.layout.now) c.args.count c.in-Ok.served.sets.items c.in-Ok.served.taken (side c.args.self.now (g.D.DescriptorDevice.ledger c.args.device.now)) (side c.serve_within_limit.new.self (g.D.DescriptorDevice.ledger c.serve_within_limit.new.device))
-taken g c = subst (λ (k : Key). Takes g.D.DescriptorDevice.meaning k c.args.count c.in-Ok.served.sets.items c.in-Ok.served.taken (side c.args.self.now (g.D.DescriptorDevice.ledger c.args.device.now)) (side c.serve_within_limit.new.self (g.D.DescriptorDevice.ledger c.serve_within_limit.new.device))) (keyed g (goal.at-In-Ok g c).After-contains) c.in-Ok.ensures.taken
+taken g c = subst (λ (k : Key). Takes g.D.DescriptorDevice.meaning k c.args.count c.in-Ok.served.sets.items c.in-Ok.served.taken (side c.args.self.now (g.D.DescriptorDevice.ledger c.args.device.now)) (side c.serve_within_limit.new.self (g.D.DescriptorDevice.ledger c.serve_within_limit.new.device))) (keyed g (goal.at-In-Ok g c).After-contains-update_after_bind) c.in-Ok.ensures.taken
 
 -- and the keys
 gained : (g : _) (c : In-Ok g) → keys_of c.serve_within_limit.new.self ≡ with_key (layout_key g.D.DescriptorDevice.meaning c.args.layout.now) (keys_of c.args.self.now)
-gained g c = subst (λ (k : Key). keys_of c.serve_within_limit.new.self ≡ with_key k (keys_of c.args.self.now)) (keyed g (goal.at-In-Ok g c).After-contains) c.in-Ok.ensures.keys
+gained g c = subst (λ (k : Key). keys_of c.serve_within_limit.new.self ≡ with_key k (keys_of c.args.self.now)) (keyed g (goal.at-In-Ok g c).After-contains-update_after_bind) c.in-Ok.ensures.keys
 
 -- some sets were asked for
 some : (g : _) (c : In-Ok g) → 0 < c.args.count
@@ -37,7 +37,7 @@ returns-then-count-eq0-clause-keeps g c =
 pub returns-in-Err-clause-hands_out : goal.returns-in-Err-clause-hands_out
 returns-in-Err-clause-hands_out g c =
     hands_none c.in-Err.ensures.allocator c.in-Err.ensures.ledger c.in-Err.error (let n = c.if-count-eq0.false in omega arith)
-    (subst (λ (k : Key). IsDeclined (call_of g.D.DescriptorDevice.meaning k c.args.count (side c.args.self.now (g.D.DescriptorDevice.ledger c.args.device.now)) (side c.serve_within_limit.new.self (g.D.DescriptorDevice.ledger c.serve_within_limit.new.device)) (Err c.in-Err.error))) (keyed g (goal.at.returns-in-Err-clause-hands_out g c).After-contains) c.in-Err.ensures.declined)
+    (subst (λ (k : Key). IsDeclined (call_of g.D.DescriptorDevice.meaning k c.args.count (side c.args.self.now (g.D.DescriptorDevice.ledger c.args.device.now)) (side c.serve_within_limit.new.self (g.D.DescriptorDevice.ledger c.serve_within_limit.new.device)) (Err c.in-Err.error))) (keyed g (goal.at.returns-in-Err-clause-hands_out g c).After-contains-update_after_bind) c.in-Err.ensures.declined)
 
 pub returns-in-Err-clause-keeps : goal.returns-in-Err-clause-keeps
 returns-in-Err-clause-keeps g c =

@@ -1,4 +1,4 @@
-use Rattle.gpu_descriptor.proofs.Common.{◌≡◌, ◌+◌, ◌-◌, ℕ, arith, refl, sym, ap, ◌∙◌, List, [], ◌∷◌, Some, option_map, slice_get, subst, IsDistinct, Bucket, Key, key_eq, key_of, Allocations, DescriptorSet, items_of, state_of, binary_digits, rise_below, stored_ids, stored_load, set_descriptors}
+use Rattle.gpu_descriptor.proofs.Common.{◌≡◌, ◌+◌, ◌-◌, ℕ, arith, refl, sym, ap, ◌∙◌, List, [], ◌∷◌, Some, option_map, slice_get, subst, IsDistinct, Bucket, Key, key_eq, key_of, Allocations, DescriptorSet, items_of, state_of, binary_digits, rise_below, stored_load, set_descriptors}
 use Rattle.indexmap.specs.Layout.{set_value_at}
 use Rattle.std.specs.Map.Iter.{deref_pair}
 use Rattle.gpu_descriptor.proofs.callers.HeldSets.{out_back, out_less}
