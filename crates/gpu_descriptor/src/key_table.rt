@@ -54,7 +54,7 @@ impl<P> KeyTable<P> {
     /// The place of a key. It is hashed only where neither the last call's place is right nor the
     /// one behind it, which serves keys that are used in the order in which they first came.
     pub(crate) fn place_of_key(&self, key: &BucketKey) -> Option<usize>
-        ensures { MatchOption result
+        ensures place { MatchOption result
             (lookup (is_of (key_of key.now)) self.now.buckets.entries ≡ None)
             (λ place. slice_get (stored_keys self.now.buckets.entries) place
             ≡ Some (key_of key.now)) }
@@ -72,8 +72,8 @@ impl<P> KeyTable<P> {
     /// The place of the key with an id. Where neither hint is right it is found by halves, since
     /// the ids rise along the table.
     pub(crate) fn place_of_id(&self, id: u64) -> usize
-        requires { (i : ℕ) × (slice_get (stored_ids self.now.buckets.entries) i ≡ Some id) }
-        ensures { slice_get (stored_ids self.now.buckets.entries) result ≡ Some id }
+        requires there { (i : ℕ) × (slice_get (stored_ids self.now.buckets.entries) i ≡ Some id) }
+        ensures place { slice_get (stored_ids self.now.buckets.entries) result ≡ Some id }
     {
         if self.has_id(self.last, id) {
             return self.last;

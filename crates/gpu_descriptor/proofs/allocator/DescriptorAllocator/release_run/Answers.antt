@@ -18,7 +18,7 @@ place_of_id-place-requires g c =
     let es = c.self.inside.table.buckets.entries in
     let own = first_owns g.D.DescriptorDevice.meaning.pool_name g.D.DescriptorDevice.meaning.set_name c.args.self.now (g.D.DescriptorDevice.ledger c.args.device.now) es (table_is _ c.self.view_is) c.args.first [] (c.requires.outstanding [] c.args.sets.now refl) in
     let at = stands c.args.first.key.is es own.bucket own.found in
-    (at.place, at.id ∙ ap (λ (i : ℕ). Some i) own.has)
+    record { there = (at.place, at.id ∙ ap (λ (i : ℕ). Some i) own.has) }
 
 -- the entry at the place, the row of the set's key, and that they are one
 entry : (g : _) (c : After-unwrap g) → slice_get c.self.inside.table.buckets.entries c.place_of_id-place.result ≡ Some (deref_pair c.unwrap.result)
@@ -32,7 +32,7 @@ own g c =
     let es = c.self.inside.table.buckets.entries in
     let row = owner g c in
     let at = entry g c in
-    let id = inside _ _ (sym (id_of es c.place_of_id-place.result _ at) ∙ c.place_of_id-place.ensures) in
+    let id = inside _ _ (sym (id_of es c.place_of_id-place.result _ at) ∙ c.place_of_id-place.ensures.place) in
     (own_key c.self.inside.table.next_id es c.self.inside.table.rising c.args.first.key.is row.bucket row.found c.place_of_id-place.result _ at (id ∙ sym row.has)).0
 
 -- the row that the place lends

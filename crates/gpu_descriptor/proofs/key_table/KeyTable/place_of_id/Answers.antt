@@ -10,4 +10,4 @@ returns g c =
     let rising = c.args.self.now.rising in
     let id = c.args.id in
     let point = c.partition_point.ensures.partitioned (λ e. nat_lt e.1.id id) (always_returns_same _ (λ a r. r ≡ nat_lt a.1.0.now.id id) _ (λ a r f call. search rules)) (parted next es rising id) in
-    at_point next es rising id c.partition_point.result point c.requires.0 c.requires.1
+    record { place = at_point next es rising id c.partition_point.result point c.requires.there.0 c.requires.there.1 }

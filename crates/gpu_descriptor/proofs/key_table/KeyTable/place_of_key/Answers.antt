@@ -22,4 +22,4 @@ hashed test key same es None is within = none_at test key same es (sym is)
 hashed test key same es (Some i) is within = found_at test key same es i within (sym is)
 
 pub returns : goal.returns
-returns g c = hashed _ c.args.key.now (λ k. search rules) c.args.self.now.buckets.entries c.get_index_of.result c.get_index_of.ensures.index c.get_index_of.ensures.within
+returns g c = record { place = hashed _ c.args.key.now (λ k. search rules) c.args.self.now.buckets.entries c.get_index_of.result c.get_index_of.ensures.index c.get_index_of.ensures.within }

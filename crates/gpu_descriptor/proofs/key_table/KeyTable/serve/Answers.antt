@@ -21,7 +21,7 @@ on_ok (Err e) a = tt
 
 -- the place has the key
 there : (g : _) (c : After-index_mut g) → IsAt (key_of c.args.request.now.key) c.args.self.now.buckets.entries c.in-Some.place c.index_mut.result.now
-there g c = is_at (key_of c.args.request.now.key) c.args.self.now.buckets.entries c.in-Some.place c.index_mut.result.now c.in-Some.ensures c.index_mut.ensures.value
+there g c = is_at (key_of c.args.request.now.key) c.args.self.now.buckets.entries c.in-Some.place c.index_mut.result.now c.in-Some.ensures.place c.index_mut.ensures.value
 
 -- the row of the key
 row : (g : _) (c : After-index_mut g) → IsRow (key_of c.args.request.now.key) c.args.self.now.buckets.entries c.index_mut.result.now
@@ -58,11 +58,11 @@ pub returns-in-Some-clause-room : goal.returns-in-Some-clause-room
 returns-in-Some-clause-room g c = pools_set (left g (goal.at.returns-in-Some-clause-room g c).After-serve) _ _ c.serve.ensures.room
 
 pub returns-in-Some-clause-keys : goal.returns-in-Some-clause-keys
-returns-in-Some-clause-keys g c = on_ok c.serve.result (keys_at c.args.self.now.buckets.entries c.in-Some.place c.serve.new.self ∙ keys_stay (key_of c.args.request.now.key) (stored_keys c.args.self.now.buckets.entries) c.in-Some.place c.in-Some.ensures)
+returns-in-Some-clause-keys g c = on_ok c.serve.result (keys_at c.args.self.now.buckets.entries c.in-Some.place c.serve.new.self ∙ keys_stay (key_of c.args.request.now.key) (stored_keys c.args.self.now.buckets.entries) c.in-Some.place c.in-Some.ensures.place)
 
 -- a key that the table lacks has no pools
 absent : (g : _) (c : In-None g) → books_in g.D.DescriptorDevice.meaning.pool_name (map row_of c.args.self.now.buckets.entries) (key_of c.args.request.now.key) ≡ no_pools
-absent g c = missing g.D.DescriptorDevice.meaning.pool_name (key_of c.args.request.now.key) c.args.self.now.buckets.entries _ (λ k. search rules) (c.in-None.ensures)
+absent g c = missing g.D.DescriptorDevice.meaning.pool_name (key_of c.args.request.now.key) c.args.self.now.buckets.entries _ (λ k. search rules) (c.in-None.ensures.place)
 
 pub returns-then-is_err-clause-refused : goal.returns-then-is_err-clause-refused
 returns-then-is_err-clause-refused g c =
@@ -85,11 +85,11 @@ returns-in-Err-clause-refused g c =
 put : (g : _) (c : In-Ok-insert g) → c.insert.new.self.entries ≡ c.args.self.now.buckets.entries ++ (c.args.request.now.key, c.serve-2.new.self) ∷ []
 put g c =
     put_new _ (λ k l. search rules) c.args.self.now.buckets c.args.request.now.key c.serve-2.new.self c.reserve.new.self.entries c.insert.new.self.entries c.in-Ok-insert.ensures.entries c.reserve.ensures.entries
-    c.in-None.ensures
+    c.in-None.ensures.place
 
 pub returns-clause-served : goal.returns-clause-served
 returns-clause-served g c =
-    serves_new c.args.request.now.key c.serve-2.new.self c.in-Ok.ensures.served.0 c.in-Ok.ensures.served.1 c.args.self.now.buckets.entries (is_of (key_of c.args.request.now.key)) (λ k. search rules) (c.in-None.ensures) (put g (goal.at.returns-clause-served g c).In-Ok-insert) (λ i. record { id = c.args.self.now.next_id; offset = 0; pools = map (entry_of g.D.DescriptorDevice.meaning.pool_name) (c.new.ensures.items i) }) refl
+    serves_new c.args.request.now.key c.serve-2.new.self c.in-Ok.ensures.served.0 c.in-Ok.ensures.served.1 c.args.self.now.buckets.entries (is_of (key_of c.args.request.now.key)) (λ k. search rules) (c.in-None.ensures.place) (put g (goal.at.returns-clause-served g c).In-Ok-insert) (λ i. record { id = c.args.self.now.next_id; offset = 0; pools = map (entry_of g.D.DescriptorDevice.meaning.pool_name) (c.new.ensures.items i) }) refl
 
 pub returns-clause-room : goal.returns-clause-room
 returns-clause-room g c =
@@ -98,7 +98,7 @@ returns-clause-room g c =
     rw (put g (goal.at.returns-clause-room g c).In-Ok-insert) (pools_end c.args.request.now.key c.args.self.now.buckets.entries c.serve-2.new.self c.serve-2.new.budget.room c.args.budget.now.room (omega arith))
 
 pub returns-clause-keys : goal.returns-clause-keys
-returns-clause-keys g c = keys_put (key_of c.args.request.now.key) c.args.request.now.key c.args.self.now.buckets.entries c.insert.new.self.entries c.serve-2.new.self refl c.in-None.ensures (put g (goal.at.returns-clause-keys g c).In-Ok-insert)
+returns-clause-keys g c = keys_put (key_of c.args.request.now.key) c.args.request.now.key c.args.self.now.buckets.entries c.insert.new.self.entries c.serve-2.new.self refl c.in-None.ensures.place (put g (goal.at.returns-clause-keys g c).In-Ok-insert)
 
 pub invariant_of-self : goal.invariant_of-self
 invariant_of-self g c =
