@@ -24,6 +24,13 @@ pub record IsTakenAt (k : Key) (number : ℕ) (names : List ℕ) (b : Bucket) (p
 abbrev pub bucket_back : Bucket → ℕ → ℕ → Entry → Bucket
 bucket_back b number n e = record b { pools = set b.pools (number - b.offset) (entry_less n e) }
 
+-- sets of these names went back: the entry of their pool has as many fewer, and the ledger's pool lacks them
+pub record Releases (k : Key) (number : ℕ) (names : List ℕ) (old : Bucket) (before : Ledger) (new : Bucket) (after : Ledger) : Type 0 where
+  pub entry : Entry
+  pub at : entry_at old number ≡ Some entry
+  pub books : new ≡ bucket_back old number (length names) entry
+  pub ledger : after ≡ after_release entry.pool (live_sets k.counts names) before
+
 -- giving back sets of these names takes a bucket and the ledger to these
 pub record RunsInto (k : Key) (number : ℕ) (names : List ℕ) (old : Bucket) (before : Ledger) (new : Bucket) (after : Ledger) : Type 0 where
   pub entry : Entry

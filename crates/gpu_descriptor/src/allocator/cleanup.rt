@@ -25,9 +25,8 @@ impl<P: Drop, S> DescriptorAllocator<P, S> {
             (side self.new (D.ledger device.new)) }
     {
         for place in 0..self.table.buckets.len() {
-            let key = *self.table.buckets.as_slice().get_index(place).unwrap().0;
-            let bucket = &mut self.table.buckets[place];
-            bucket.drop_front(device, &key, &mut self.budget.room, 0);
+            let (key, bucket) = self.table.buckets.pair_mut(place);
+            bucket.drop_front(device, key, &mut self.budget.room, 0);
         }
         self.table.buckets.retain(
             |_key: &BucketKey, bucket: &mut DescriptorBucket<P>| -> bool

@@ -100,17 +100,10 @@ impl<P, S> DescriptorAllocator<P, S> {
     {
         let place = self.table.place_of_id(first.id);
         self.table.last = place;
-        let key = *self.table.buckets.as_slice().get_index(place).unwrap().0;
-        let bucket = &mut self.table.buckets[place];
+        let (key, bucket) = self.table.buckets.pair_mut(place);
         let before = bucket.total;
-        let ahead = bucket.release_run(
-            device,
-            &key,
-            first,
-            sets,
-            &mut self.comparisons,
-            &mut self.budget.room,
-        );
+        let ahead = bucket.release_sets(device, first, sets, &mut self.comparisons);
+        bucket.drop_front(device, key, &mut self.budget.room, 1);
         let released = before - bucket.total;
         self.outstanding -= released;
         let descriptors = key.descriptors_of_sets(released) as u32;

@@ -1,9 +1,8 @@
 use Rattle.gpu_descriptor.proofs.Common.{◌≡◌, ◌≤◌, ◌+◌, ℕ, List, Some, suc, slice_get, option_map, rules, refl, sym, ap, subst, ◌∙◌, arith, length, map, length-map, take_all, IsDistinct, Ledger, Bucket, key_eq, key_of, Allocations, AreBookedIn, has_pools, rise_below, stored_ids, outstanding_of, marked_load_of, bucket_of, row_of}
 use Rattle.indexmap.proofs.CallerLemmas.{filter-RetainsPairs}
 use Rattle.indexmap.specs.Layout.{length-set_value_at}
-use Rattle.std.specs.Map.Iter.{deref_pair}
 use Rattle.gpu_descriptor.proofs.table.Rising.{ids_put, rise_left}
-use Rattle.gpu_descriptor.proofs.table.RowAt.{keys_at}
+use Rattle.gpu_descriptor.proofs.table.RowAt.{keys_at, value_at}
 use Rattle.gpu_descriptor.proofs.cleanup.Cleaning.{clean_agrees, takes_none}
 use Rattle.gpu_descriptor.proofs.foreign.ForeignPools.{cleaned_foreign, cleaned_loses}
 use Rattle.gpu_descriptor.proofs.sums.Loads.{rows_pool_load, stored_load_in, sum_put, opened, closed}
@@ -12,12 +11,7 @@ use Rattle.gpu_descriptor.proofs.cleanup.RowsCleaned.{all_cleared, agree_is, cle
 use Rattle.gpu_descriptor.proofs.foreign.OthersStay.{emptied, others_stay}
 use Rattle.gpu_descriptor.proofs.request.Requested.{rows_distinct}
 use Rattle.gpu_descriptor.proofs.table.TableBooks.{rows_in, distinct_rows, distinct_stored}
-use Rattle.gpu_descriptor.proofs.allocator.DescriptorAllocator.cleanup.Goals.{After-index_mut-bucket}
 use Rattle.gpu_descriptor.proofs.allocator.DescriptorAllocator.cleanup.Goals as goal
-
--- the entry at the place, and what is known of it
-at_place : (g : _) (c : After-index_mut-bucket g) → slice_get c.loop-place.self-inside.table.buckets.entries c.loop-place.place ≡ Some ((deref_pair c.unwrap.result).0, c.index_mut-bucket.result.now)
-at_place g c = entry_there c.loop-place.self-inside.table.buckets.entries c.loop-place.place (deref_pair c.unwrap.result) c.index_mut-bucket.result.now (ap (λ es. slice_get es c.loop-place.place) (sym c.as_slice.ensures.entries) ∙ sym c.get_index.ensures.entry ∙ ap (option_map deref_pair) c.unwrap.ensures) c.index_mut-bucket.ensures.value
 
 pub drop_front-requires-clause-stored : goal.drop_front-requires-clause-stored
 drop_front-requires-clause-stored g c =
@@ -25,21 +19,21 @@ drop_front-requires-clause-stored g c =
     let ledger = g.D.DescriptorDevice.ledger in
     let h = c.loop-place.invariant in
     let es = c.self.inside.table.buckets.entries in
-    let k = (deref_pair c.unwrap.result).0 in
-    let at = next name c.loop-place.place c.loop-place.self-inside.table.buckets.entries (rows_in name es) k c.index_mut-bucket.result.now h.rows (at_place g (goal.at.drop_front-requires-clause-stored g c).After-index_mut-bucket) in
+    let k = c.pair_mut-bucket.result.0.now in
+    let at = next name c.loop-place.place c.loop-place.self-inside.table.buckets.entries (rows_in name es) k c.pair_mut-bucket.result.1.now h.rows c.pair_mut-bucket.ensures.value in
     let agree = agree_is name c.args.self.now (ledger c.args.device.now) es (ap (λ (a : Allocations _). a.table) (sym c.self.view_is)) c.requires.agree.books in
-    let there = next_stored (rows_in name es) (ledger c.args.device.now).pools c.loop-place.place (key_of k, bucket_of name c.index_mut-bucket.result.now) (distinct_rows name es c.self.inside.table.distinct) agree at in
-    (key_of k, subst (λ (l : Ledger). AreBookedIn (key_of k) l.pools (bucket_of name c.index_mut-bucket.result.now).pools) (sym h.ledger) there)
+    let there = next_stored (rows_in name es) (ledger c.args.device.now).pools c.loop-place.place (key_of k, bucket_of name c.pair_mut-bucket.result.1.now) (distinct_rows name es c.self.inside.table.distinct) agree at in
+    (key_of k, subst (λ (l : Ledger). AreBookedIn (key_of k) l.pools (bucket_of name c.pair_mut-bucket.result.1.now).pools) (sym h.ledger) there)
 
 pub drop_front-requires-clause-room : goal.drop_front-requires-clause-room
 drop_front-requires-clause-room g c =
-    let below = (sum_put stored_load_in c.loop-place.self-inside.table.buckets.entries c.loop-place.place (deref_pair c.unwrap.result).0 c.index_mut-bucket.result.now c.index_mut-bucket.result.now (at_place g (goal.at.drop_front-requires-clause-room g c).After-index_mut-bucket)).0 in
+    let below = (sum_put stored_load_in c.loop-place.self-inside.table.buckets.entries c.loop-place.place c.pair_mut-bucket.result.0.now c.pair_mut-bucket.result.1.now c.pair_mut-bucket.result.1.now c.pair_mut-bucket.ensures.value).0 in
     let rows = rows_pool_load c.loop-place.self-inside.table.buckets.entries in
     omega arith
 
 pub invariant_of-self-inside : goal.invariant_of-self-inside
 invariant_of-self-inside g c =
-    let same = ids_put c.loop-place.self-inside.table.buckets.entries c.loop-place.place c.index_mut-bucket.result.now c.drop_front.new.self c.index_mut-bucket.ensures.value (ap (λ (b : Bucket). b.id) c.drop_front.ensures.books) in
+    let same = ids_put c.loop-place.self-inside.table.buckets.entries c.loop-place.place c.pair_mut-bucket.result.1.now c.drop_front.new.self (value_at c.loop-place.self-inside.table.buckets.entries c.loop-place.place _ _ c.pair_mut-bucket.ensures.value) (ap (λ (b : Bucket). b.id) c.drop_front.ensures.books) in
     record {
       rising = ap (λ (ids : List ℕ). rise_below c.loop-place.self-inside.table.next_id ids) same ∙ c.loop-place.self-inside.table.rising;
       distinct = subst (IsDistinct key_eq) (sym (keys_at c.loop-place.self-inside.table.buckets.entries c.loop-place.place c.drop_front.new.self)) c.loop-place.self-inside.table.distinct;
@@ -53,9 +47,9 @@ loop-place-preserved g c =
     let es = c.self.inside.table.buckets.entries in
     let now = c.loop-place.self-inside.table.buckets.entries in
     let i = c.loop-place.place in
-    let k = (deref_pair c.unwrap.result).0 in
-    let v = c.index_mut-bucket.result.now in
-    let at = at_place g (goal.at.loop-place-preserved g c).After-index_mut-bucket in
+    let k = c.pair_mut-bucket.result.0.now in
+    let v = c.pair_mut-bucket.result.1.now in
+    let at = c.pair_mut-bucket.ensures.value in
     let more : suc i ≡ i + 1 = omega arith in
     record {
       rows = step_rows name i now (rows_in name es) k v c.drop_front.new.self h.rows at c.drop_front.ensures.books ∙ ap (λ m. cleared m (rows_in name es)) more;

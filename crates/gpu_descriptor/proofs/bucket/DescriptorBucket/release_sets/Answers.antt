@@ -8,8 +8,8 @@ use Rattle.gpu_descriptor.proofs.foreign.LedgerPools.{taken_from, release_pools}
 use Rattle.gpu_descriptor.proofs.release.OneRun.{run_counts, run_live, run_ends, run_goes, done}
 use Rattle.gpu_descriptor.proofs.table.Exact.{bucket}
 use Rattle.gpu_descriptor.proofs.release.Fronts.{entry_at-found, entry_at-from}
-use Rattle.gpu_descriptor.proofs.bucket.DescriptorBucket.release_run.Goals.{Start, After-index_mut-pool, After-finish-count}
-use Rattle.gpu_descriptor.proofs.bucket.DescriptorBucket.release_run.Goals as goal
+use Rattle.gpu_descriptor.proofs.bucket.DescriptorBucket.release_sets.Goals.{Start, After-index_mut-pool, After-finish-count}
+use Rattle.gpu_descriptor.proofs.bucket.DescriptorBucket.release_sets.Goals as goal
 
 -- one set alone is in the place
 first_taken : (g : _) (c : Start g) → IsTakenAt c.args.first.key.is c.args.first.number (g.D.DescriptorDevice.meaning.set_name c.args.first.raw ∷ []) (bucket_of g.D.DescriptorDevice.meaning.pool_name c.args.self.now) (g.D.DescriptorDevice.ledger c.args.device.now).pools
@@ -100,16 +100,16 @@ overflow_sub-self g c =
     let less = total_less c.args.self.now.pools.items (c.args.first.number - c.args.self.now.offset) c.index_mut-pool.result.now c.dealloc_descriptor_sets.new.pool c.finish-count.result (here g r) c.index_mut-pool.ensures.value (omega arith) in
     omega arith
 
-pub drop_front-requires-clause-stored : goal.drop_front-requires-clause-stored
-drop_front-requires-clause-stored g c =
-    let r = (goal.at.drop_front-requires-clause-stored g c).After-index_mut-pool in
-    let f = (goal.at.drop_front-requires-clause-stored g c).After-finish-count in
+pub returns-clause-stored : goal.returns-clause-stored
+returns-clause-stored g c =
+    let r = (goal.at.returns-clause-stored g c).After-index_mut-pool in
+    let f = (goal.at.returns-clause-stored g c).After-finish-count in
     let t = c.dealloc_descriptor_sets.ensures.released in
     let e = entry_of g.D.DescriptorDevice.meaning.pool_name c.index_mut-pool.result.now in
     let pools : (g.D.DescriptorDevice.ledger c.dealloc_descriptor_sets.new.self).pools ≡ taken_from (g.D.DescriptorDevice.ledger c.args.device.now).pools e.pool t.gone = ap (λ (l : Ledger). l.pools) t.ledger ∙ release_pools e.pool t.gone (g.D.DescriptorDevice.ledger c.args.device.now) in
     let after = stored_after c.args.first.key.is c.args.self.now.offset (map (entry_of g.D.DescriptorDevice.meaning.pool_name) c.args.self.now.pools.items) (g.D.DescriptorDevice.ledger c.args.device.now).pools (place g f) e t.gone c.requires.stored (at g r) (taken g f (at g r)).within in
     let there = subst (λ (x : List Entry). AreBookedIn c.args.first.key.is (taken_from (g.D.DescriptorDevice.ledger c.args.device.now).pools e.pool t.gone) x) (sym (changed g f (at g r))) after in
-    (c.args.first.key.is, rw pools there)
+    rw pools there
 
 pub invariant_of-self : goal.invariant_of-self
 invariant_of-self g c =
@@ -164,9 +164,8 @@ returns-clause-ran g c =
       record {
         entry = e;
         at = (let first = c.requires.taken [] c.args.sets.now refl tt in entry_at-from (bucket_of g.D.DescriptorDevice.meaning.pool_name c.args.self.now) c.args.first.number e (entry_at-found (bucket_of g.D.DescriptorDevice.meaning.pool_name c.args.self.now) c.args.first.number first.entry first.at).0 (at g r));
-        books = c.drop_front.ensures.books ∙ ap (λ (x : List Entry). trimmed_bucket 1 (bucket c.args.self.now.id c.args.self.now.offset x)) entries;
-        ledger = c.drop_front.ensures.ledger ∙ ap (λ (x : List Entry). trimmed_ledger 1 (bucket c.args.self.now.id c.args.self.now.offset x) (g.D.DescriptorDevice.ledger c.dealloc_descriptor_sets.new.self)) entries
-            ∙ ap (λ (l : Ledger). trimmed_ledger 1 (bucket c.args.self.now.id c.args.self.now.offset (set es (place g f) (entry_less (length (names_of g.D.DescriptorDevice.meaning.set_name (c.args.first ∷ d.run.xs))) e))) l) (t.ledger ∙ ap (λ (ls : List LiveSet). after_release e.pool ls (g.D.DescriptorDevice.ledger c.args.device.now)) d.sets);
+        books = ap (λ (x : List Entry). bucket c.args.self.now.id c.args.self.now.offset x) entries;
+        ledger = t.ledger ∙ ap (λ (ls : List LiveSet). after_release e.pool ls (g.D.DescriptorDevice.ledger c.args.device.now)) d.sets;
       },
       (omega arith),
     )
@@ -182,17 +181,10 @@ returns-clause-goes g c =
     let f = c.finish-count.ensures.source in
     run_goes g.I.Iterator.next_gives g.I.Iterator.can_next g.I.Iterator.remaining g.D.DescriptorDevice.meaning.set_name c.args.first _ c.dealloc_descriptor_sets.new.sets t.items d.run _ _ (search (rules, m, h)) (search (rules, v, f)) c.requires.ends
 
-pub drop_front-requires-clause-room : goal.drop_front-requires-clause-room
-drop_front-requires-clause-room g c =
-    let r = (goal.at.drop_front-requires-clause-room g c).After-index_mut-pool in
-    let same = stored_put (key_of c.args.key.now) c.args.self.now.pools.items (c.args.first.number - c.args.self.now.offset) c.index_mut-pool.result.now c.dealloc_descriptor_sets.new.pool (c.index_mut-pool.result.now.allocated - c.finish-count.result) (c.index_mut-pool.result.now.available + c.finish-count.result) (here g r) c.index_mut-pool.ensures.value in
-    omega arith
-
-pub returns-clause-room : goal.returns-clause-room
-returns-clause-room g c =
-    let r = (goal.at.returns-clause-room g c).After-index_mut-pool in
-    let same = stored_put (key_of c.args.key.now) c.args.self.now.pools.items (c.args.first.number - c.args.self.now.offset) c.index_mut-pool.result.now c.dealloc_descriptor_sets.new.pool (c.index_mut-pool.result.now.allocated - c.finish-count.result) (c.index_mut-pool.result.now.available + c.finish-count.result) (here g r) c.index_mut-pool.ensures.value in
-    omega arith
+pub returns-clause-load : goal.returns-clause-load
+returns-clause-load g c = λ k.
+    let r = (goal.at.returns-clause-load g c).After-index_mut-pool in
+    stored_put k c.args.self.now.pools.items (c.args.first.number - c.args.self.now.offset) c.index_mut-pool.result.now c.dealloc_descriptor_sets.new.pool (c.index_mut-pool.result.now.allocated - c.finish-count.result) (c.index_mut-pool.result.now.available + c.finish-count.result) (here g r) c.index_mut-pool.ensures.value
 
 pub returns-clause-few : goal.returns-clause-few
 returns-clause-few g c =
