@@ -8,6 +8,7 @@ pub mod NextSize
 pub mod OpenWalk
 pub mod Outcomes
 pub mod OwnLayout
+pub mod Passed
 pub mod PlacesFree
 pub mod PoolCreated
 pub mod Promises

@@ -158,10 +158,7 @@ impl<P: Drop> KeyTable<P> {
             listed: VecDeque::new(request.alloc),
             total: 0,
         };
-        let served = match bucket.serve(device, request, budget) {
-            Ok(served) => served,
-            Err(error) => return Err(error),
-        };
+        let served = bucket.serve(device, request, budget)?;
         match self.buckets.insert(request.key, bucket) {
             Ok(_) => {
                 self.next_id += 1;

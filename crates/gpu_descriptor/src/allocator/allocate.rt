@@ -80,10 +80,7 @@ impl<P: Drop, S: Drop> DescriptorAllocator<P, S> {
             alloc: self.alloc,
             device: PhantomData,
         };
-        let Served { sets, taken } = match self.serve_within_limit(device, &request) {
-            Ok(served) => served,
-            Err(error) => return Err(error),
-        };
+        let Served { sets, taken } = self.serve_within_limit(device, &request)?;
         match taken {
             Ok(()) => Ok(sets),
             Err(stop) => {
@@ -124,11 +121,7 @@ impl<P: Drop, S: Drop> DescriptorAllocator<P, S> {
         if is_past_bound(self.outstanding, request.count) {
             return Err(AllocationError::Fragmentation);
         }
-        let served = self.table.serve(device, request, &mut self.budget);
-        let Served { sets, taken } = match served {
-            Ok(served) => served,
-            Err(error) => return Err(error),
-        };
+        let Served { sets, taken } = self.table.serve(device, request, &mut self.budget)?;
         let given = sets.len() as u64;
         self.outstanding += given;
         let descriptors = request.key.descriptors_of_sets(given) as u32;

@@ -114,13 +114,9 @@ fn walk<'k, L, P, S, D: DescriptorDevice<L, P, S>>(
         let Some(pool) = view.newest(&request.key, sink) else {
             return Ok(());
         };
-        match ask(device, pool, request, sink) {
-            Ok(()) => {
-                if pool.available == 0 {
-                    view.close_newest();
-                }
-            }
-            Err(error) => return Err(error),
+        ask(device, pool, request, sink)?;
+        if pool.available == 0 {
+            view.close_newest();
         }
     }
     Ok(())

@@ -122,10 +122,7 @@ impl<P: Drop> DescriptorBucket<P> {
             Err(error) => return Err(Stop::ExistingPoolRefused(error)),
         }
         while sink.left > 0 {
-            match self.take_from_new(device, request, budget, sink) {
-                Ok(()) => {}
-                Err(stop) => return Err(stop),
-            }
+            self.take_from_new(device, request, budget, sink)?;
         }
         Ok(())
     }

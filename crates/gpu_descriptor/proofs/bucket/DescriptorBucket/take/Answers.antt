@@ -4,6 +4,7 @@ use Rattle.gpu_descriptor.specs.declared.bucket.stop.Stop.TheVariants.{ExistingP
 use Rattle.gpu_descriptor.proofs.table.Exact.{bucket}
 use Rattle.gpu_descriptor.proofs.request.Growing.{grow_start, grow_more, grow_end, grow_stop, taken_long, load_more, load_walked}
 use Rattle.gpu_descriptor.proofs.sums.StoredPools.{allocated_entries, load_entries}
+use Rattle.gpu_descriptor.proofs.request.Passed.{passed}
 use Rattle.gpu_descriptor.proofs.request.Walking.{items_of-sets_at}
 use Rattle.gpu_descriptor.proofs.bucket.DescriptorBucket.take.Goals as goal
 
@@ -40,16 +41,16 @@ loop-sink-init g c =
 pub returns-clause-taken : goal.returns-clause-taken
 returns-clause-taken g c = (let inv = c.loop-sink.invariant in grow_end inv.growing (let end : c.loop-sink.sink.left ≡ 0 = omega arith in end) inv.numbers_stay.id inv.numbers_stay.offset tt)
 
-pub returns-in-Err-take_from_new-clause-taken : goal.returns-in-Err-take_from_new-clause-taken
-returns-in-Err-take_from_new-clause-taken g c =
+pub returns-in_err-take_from_new-clause-taken : goal.returns-in_err-take_from_new-clause-taken
+returns-in_err-take_from_new-clause-taken g c =
     let inv = c.loop-sink.invariant in
-    let err = c.in-Err-take_from_new.ensures.err in
-    grow_stop c.in-Err-take_from_new.stop c.loop-sink-test.true inv.growing (ap (items_of g.D.DescriptorDevice.meaning.set_name) err.0) (ap (map (entry_of g.D.DescriptorDevice.meaning.pool_name)) err.2) (c.in-Err-take_from_new.ensures.numbers_stay.id ∙ inv.numbers_stay.id) (c.in-Err-take_from_new.ensures.numbers_stay.offset ∙ inv.numbers_stay.offset) err.5 err.6
+    let err = c.in_err-take_from_new.ensures.err in
+    rw (passed c.from_residual.result c.in_err-take_from_new.field-0.0 c.from_residual.ensures.1) (grow_stop c.in_err-take_from_new.field-0.0 c.loop-sink-test.true inv.growing (ap (items_of g.D.DescriptorDevice.meaning.set_name) err.0) (ap (map (entry_of g.D.DescriptorDevice.meaning.pool_name)) err.2) (c.in_err-take_from_new.ensures.numbers_stay.id ∙ inv.numbers_stay.id) (c.in_err-take_from_new.ensures.numbers_stay.offset ∙ inv.numbers_stay.offset) err.5 err.6)
 
 pub loop-sink-preserved : goal.loop-sink-preserved
 loop-sink-preserved g c =
     let inv = c.loop-sink.invariant in
-    let got = c.in-Ok-take_from_new.ensures.grown in
+    let got = c.in_ok-take_from_new.ensures.grown in
     let grown = got.4 in
     let key : Key = key_of c.args.request.now.key in
     let items : List (DescriptorPool g.row.P.Denot) = c.loop-sink.self.pools.items in
@@ -70,7 +71,7 @@ loop-sink-preserved g c =
     record {
       given = (let a = inv.given in let b = got.2 in omega arith);
       total = (let a = inv.total in let b = got.3 in omega arith);
-      numbers_stay = record { id = c.in-Ok-take_from_new.ensures.numbers_stay.id ∙ inv.numbers_stay.id; offset = c.in-Ok-take_from_new.ensures.numbers_stay.offset ∙ inv.numbers_stay.offset };
+      numbers_stay = record { id = c.in_ok-take_from_new.ensures.numbers_stay.id ∙ inv.numbers_stay.id; offset = c.in_ok-take_from_new.ensures.numbers_stay.offset ∙ inv.numbers_stay.offset };
       pools = (
           let a = inv.pools in
           let d = length-map c.take_from_new.new.self.pools.items (entry_of g.D.DescriptorDevice.meaning.pool_name) in
@@ -87,8 +88,8 @@ loop-sink-preserved g c =
           let is = load_entries g.D.DescriptorDevice.meaning.pool_name key c.take_from_new.new.self.pools.items in
           let less = grown.less in
           omega arith);
-      own = λ before. c.in-Ok-take_from_new.ensures.own (inv.own before);
-      looks = (let a = inv.looks in let b = c.in-Ok-take_from_new.ensures.looks in omega arith);
+      own = λ before. c.in_ok-take_from_new.ensures.own (inv.own before);
+      looks = (let a = inv.looks in let b = c.in_ok-take_from_new.ensures.looks in omega arith);
     }
 
 pub returns-in-Err-clause-room : goal.returns-in-Err-clause-room

@@ -1,8 +1,9 @@
 use Rattle.gpu_descriptor.proofs.Common.{◌≡◌, ℕ, ◌+◌, ◌-◌, ◌++◌, List, [], length, map, slice_get, slice_set, Some, refl, sym, ap, ◌∙◌, arith, append_assoc, length-append, length-map, append-nil, map-append, length-set, BucketKey, DescriptorSet, Key, key_of, set_at, items_at, items_of, entry_of, IsAsked}
 use Rattle.gpu_descriptor.proofs.request.OpenWalk.{open_walk_start, open_walk_more, open_walk_stop, walk_sated, walk_empty, next_is_booked, listed_now_closed, listed_now_open, listed_now_same, one_asked}
 use Rattle.gpu_descriptor.proofs.request.OwnLayout.{none_own}
+use Rattle.gpu_descriptor.proofs.request.Passed.{passed}
 use Rattle.gpu_descriptor.proofs.request.Walking.{walk_end, items_of-sets_at}
-use Rattle.gpu_descriptor.proofs.bucket.existing.walk.Goals.{In-Ok}
+use Rattle.gpu_descriptor.proofs.bucket.existing.walk.Goals.{In_ok-ask}
 use Rattle.gpu_descriptor.proofs.bucket.existing.walk.Goals as goal
 
 -- sets of one key and number are those of another that are the same
@@ -41,20 +42,20 @@ pub ask-requires : goal.ask-requires
 ask-requires g c =
     record { booked = next_is_booked c.requires.booked c.loop-sink.invariant.walk c.loop-sink-test.true _ _ c.in-Some.ensures.last _ c.in-Some.ensures.value }
 
-pub returns-in-Err-clause-stopped : goal.returns-in-Err-clause-stopped
-returns-in-Err-clause-stopped g c =
+pub returns-in_err-ask-clause-stopped : goal.returns-in_err-ask-clause-stopped
+returns-in_err-ask-clause-stopped g c =
     let inv = c.loop-sink.invariant in
-    let err = c.in-Err.ensures.err in
-    (inv.put, err.0 ∙ c.newest.ensures.sets ∙ inv.sets, (let given = inv.given in let left = c.newest.ensures.left in let still = err.1 in omega arith), open_walk_stop c.requires.booked inv.walk c.loop-sink-test.true _ _ c.in-Some.ensures.last _ c.in-Some.ensures.value c.ask.new.pool 0 c.in-Err.error _ inv.kept.4 inv.kept.0 err.2 (rw c.newest.ensures.left at err.3))
+    let err = c.in_err-ask.ensures.err in
+    rw (passed c.from_residual.result c.in_err-ask.field-0.0 c.from_residual.ensures.1) (inv.put, err.0 ∙ c.newest.ensures.sets ∙ inv.sets, (let given = inv.given in let left = c.newest.ensures.left in let still = err.1 in omega arith), open_walk_stop c.requires.booked inv.walk c.loop-sink-test.true _ _ c.in-Some.ensures.last _ c.in-Some.ensures.value c.ask.new.pool 0 c.in_err-ask.field-0.0 _ inv.kept.4 inv.kept.0 err.2 (rw c.newest.ensures.left at err.3))
 
-pub returns-in-Err-clause-listed : goal.returns-in-Err-clause-listed
-returns-in-Err-clause-listed g c =
-    listed_now_same c.requires.booked c.loop-sink.invariant.walk c.loop-sink-test.true _ _ c.in-Some.ensures.last _ c.in-Some.ensures.value c.ask.new.pool c.in-Err.ensures.err.2
+pub returns-in_err-ask-clause-listed : goal.returns-in_err-ask-clause-listed
+returns-in_err-ask-clause-listed g c =
+    listed_now_same c.requires.booked c.loop-sink.invariant.walk c.loop-sink-test.true _ _ c.in-Some.ensures.last _ c.in-Some.ensures.value c.ask.new.pool c.in_err-ask.ensures.err.2
 
 -- what came of the pool that was asked
-module _ (g : _) (c : In-Ok g) where
+module _ (g : _) (c : In_ok-ask g) where
   abbrev raws : List g.row.S.Denot
-  raws = c.in-Ok.ensures.asked.0
+  raws = c.in_ok-ask.ensures.asked.0
 
   abbrev put : List (DescriptorSet g.row.S.Denot)
   put = c.loop-sink.invariant.put ++ map (set_at (key_of c.args.request.now.key) c.loop-sink.view.id c.newest.new.sink.number) raws
@@ -66,27 +67,27 @@ module _ (g : _) (c : In-Ok g) where
   at = c.in-Some.ensures.value
 
   asked : IsAsked (key_of c.args.request.now.key) c.loop-sink.sink.left names (entry_of g.D.DescriptorDevice.meaning.pool_name c.in-Some.pool.now) (entry_of g.D.DescriptorDevice.meaning.pool_name c.ask.new.pool) (g.D.DescriptorDevice.ledger c.loop-sink.device) (g.D.DescriptorDevice.ledger c.ask.new.device)
-  asked = rw c.newest.ensures.left at c.in-Ok.ensures.asked.3
+  asked = rw c.newest.ensures.left at c.in_ok-ask.ensures.asked.3
 
   less : c.ask.new.sink.left + length names ≡ c.loop-sink.sink.left
-  less = (let a = c.in-Ok.ensures.asked.2 in let many = length-map raws g.D.DescriptorDevice.meaning.set_name in let left = c.newest.ensures.left in omega arith)
+  less = (let a = c.in_ok-ask.ensures.asked.2 in let many = length-map raws g.D.DescriptorDevice.meaning.set_name in let left = c.newest.ensures.left in omega arith)
 
   sets : c.ask.new.sink.sets.items ≡ c.args.sink.now.sets.items ++ put
   sets =
-      c.in-Ok.ensures.asked.1 ∙ ap (λ x. c.newest.new.sink.sets.items ++ x) (aimed_at c.newest.new.sink.number raws c.in-Some.ensures.key c.in-Some.ensures.id) ∙ ap (λ x. x ++ map (set_at (key_of c.args.request.now.key) c.loop-sink.view.id c.newest.new.sink.number) raws) (c.newest.ensures.sets ∙ c.loop-sink.invariant.sets) ∙ append_assoc c.args.sink.now.sets.items c.loop-sink.invariant.put _
+      c.in_ok-ask.ensures.asked.1 ∙ ap (λ x. c.newest.new.sink.sets.items ++ x) (aimed_at c.newest.new.sink.number raws c.in-Some.ensures.key c.in-Some.ensures.id) ∙ ap (λ x. x ++ map (set_at (key_of c.args.request.now.key) c.loop-sink.view.id c.newest.new.sink.number) raws) (c.newest.ensures.sets ∙ c.loop-sink.invariant.sets) ∙ append_assoc c.args.sink.now.sets.items c.loop-sink.invariant.put _
 
   given : length put + c.ask.new.sink.left ≡ c.args.request.now.count
   given =
       let a = c.loop-sink.invariant.given in
       let more = length-append c.loop-sink.invariant.put (map (set_at (key_of c.args.request.now.key) c.loop-sink.view.id c.newest.new.sink.number) raws) in
       let each = length-map raws (set_at (key_of c.args.request.now.key) c.loop-sink.view.id c.newest.new.sink.number) in
-      let left = c.in-Ok.ensures.asked.2 in
+      let left = c.in_ok-ask.ensures.asked.2 in
       let same = c.newest.ensures.left in
       omega arith
 
 pub loop-sink-preserved : goal.loop-sink-preserved
 loop-sink-preserved g c =
-    let r = (goal.at.loop-sink-preserved g c).In-Ok in
+    let r = (goal.at.loop-sink-preserved g c).In_ok-ask in
     let inv = c.loop-sink.invariant in
     let last = c.in-Some.ensures.last in
     let q = c.ask.new.pool in
@@ -101,13 +102,13 @@ loop-sink-preserved g c =
       walk = open_walk_more c.requires.booked inv.walk c.loop-sink-test.true _ _ last _ (at g r) q refl refl (gave_more g.D.DescriptorDevice.meaning.set_name (key_of c.args.request.now.key) c.loop-sink.view.id c.newest.new.sink.number inv.put (raws g r)) refl open_still (asked g r) (less g r);
       space = inv.space;
       kept = inv.kept;
-      own = λ before. c.in-Ok.ensures.own (none_own g.D.DescriptorDevice.meaning c.args.request.now.layout.now c.newest.ensures.sets (inv.own before));
+      own = λ before. c.in_ok-ask.ensures.own (none_own g.D.DescriptorDevice.meaning c.args.request.now.layout.now c.newest.ensures.sets (inv.own before));
       looks = (let a = inv.looks in omega arith);
     }
 
 pub loop-sink-preserved-then-pool-eq0 : goal.loop-sink-preserved-then-pool-eq0
 loop-sink-preserved-then-pool-eq0 g c =
-    let r = (goal.at.loop-sink-preserved-then-pool-eq0 g c).In-Ok in
+    let r = (goal.at.loop-sink-preserved-then-pool-eq0 g c).In_ok-ask in
     let inv = c.loop-sink.invariant in
     let last = c.in-Some.ensures.last in
     let q = c.ask.new.pool in
@@ -125,6 +126,6 @@ loop-sink-preserved-then-pool-eq0 g c =
       walk = open_walk_more c.requires.booked inv.walk c.loop-sink-test.true _ _ last _ (at g r) q now.kept.4 now.kept.0 (gave_more g.D.DescriptorDevice.meaning.set_name (key_of c.args.request.now.key) c.loop-sink.view.id c.newest.new.sink.number inv.put (raws g r)) pools (now.listed ∙ closed) (asked g r) (less g r);
       space = now.capacity ∙ inv.space;
       kept = (now.kept.0 ∙ inv.kept.0, now.kept.1 ∙ inv.kept.1, now.kept.2 ∙ inv.kept.2, now.kept.3 ∙ inv.kept.3, now.kept.4 ∙ inv.kept.4);
-      own = λ before. c.in-Ok.ensures.own (none_own g.D.DescriptorDevice.meaning c.args.request.now.layout.now c.newest.ensures.sets (inv.own before));
+      own = λ before. c.in_ok-ask.ensures.own (none_own g.D.DescriptorDevice.meaning c.args.request.now.layout.now c.newest.ensures.sets (inv.own before));
       looks = (let a = inv.looks in omega arith);
     }

@@ -7,9 +7,10 @@ use Rattle.indexmap.specs.IndexMap.{IndexMap, insert_entry}
 use Rattle.indexmap.proofs.CallerLemmas.{insert_entry-new}
 use Rattle.gpu_descriptor.proofs.cleanup.KeyOrder.{keys_put, keys_stay}
 use Rattle.gpu_descriptor.proofs.sums.Loads.{IsRow, IsWritten, total_present, pools_set, pools_end}
+use Rattle.gpu_descriptor.proofs.request.Passed.{passed}
 use Rattle.gpu_descriptor.proofs.request.InTable.{present, missing, serves_present, serves_new, written-same}
 use Rattle.gpu_descriptor.proofs.table.TableBooks.{distinct_stored}
-use Rattle.gpu_descriptor.proofs.key_table.KeyTable.serve.Goals.{After-index_mut, In-None, In-Ok-insert, After-serve}
+use Rattle.gpu_descriptor.proofs.key_table.KeyTable.serve.Goals.{After-index_mut, In-None, In-Ok, After-serve}
 use Rattle.gpu_descriptor.proofs.key_table.KeyTable.serve.Goals as goal
 
 put_new : {X S : Type 0} (eq : BucketKey → BucketKey → Bool) → ((k l : BucketKey) → eq k l ≡ key_eq (key_of k) (key_of l)) → (m : IndexMap BucketKey (DescriptorBucket X) S) (k : BucketKey) (v : DescriptorBucket X) (es new : List (BucketKey × DescriptorBucket X)) → new ≡ insert_entry eq es k v → es ≡ m.entries → lookup (is_of (key_of k)) m.entries ≡ None → new ≡ m.entries ++ (k, v) ∷ []
@@ -74,31 +75,31 @@ returns-then-self-clause-refused g c =
     let is = absent g (goal.at.returns-then-self-clause-refused g c).In-None in
     inl (refl, subst (λ (b : Bucket). next_number b + c.args.request.now.count ≤ greatest_u64) (sym is) (let n = c.requires.bound in omega arith))
 
-pub returns-in-Err-clause-refused : goal.returns-in-Err-clause-refused
-returns-in-Err-clause-refused g c =
-    let is = absent g (goal.at.returns-in-Err-clause-refused g c).In-None in
+pub returns-in_err-served-clause-refused : goal.returns-in_err-served-clause-refused
+returns-in_err-served-clause-refused g c =
+    let is = absent g (goal.at.returns-in_err-served-clause-refused g c).In-None in
     let given : Bucket → Bucket = λ b. record b { id = c.args.self.now.next_id } in
     let empty : given no_pools ≡ record { id = c.args.self.now.next_id; offset = 0; pools = map (entry_of g.D.DescriptorDevice.meaning.pool_name) c.new.result.items } = λ i. record { id = c.args.self.now.next_id; offset = 0; pools = map (entry_of g.D.DescriptorDevice.meaning.pool_name) (sym c.new.ensures.items i) } in
-    subst (λ (b : Bucket). IsUnserved c.args.request.now.count c.in-Err.error b) (sym (ap given is ∙ empty)) c.in-Err.ensures.refused
+    rw (passed c.from_residual.result c.in_err-served.field-0.0 c.from_residual.ensures.1) (subst (λ (b : Bucket). IsUnserved c.args.request.now.count c.in_err-served.field-0.0 b) (sym (ap given is ∙ empty)) c.in_err-served.ensures.refused)
 
 -- the new key goes last
-put : (g : _) (c : In-Ok-insert g) → c.insert.new.self.entries ≡ c.args.self.now.buckets.entries ++ (c.args.request.now.key, c.serve-2.new.self) ∷ []
+put : (g : _) (c : In-Ok g) → c.insert.new.self.entries ≡ c.args.self.now.buckets.entries ++ (c.args.request.now.key, c.serve-2.new.self) ∷ []
 put g c =
-    put_new _ (λ k l. search rules) c.args.self.now.buckets c.args.request.now.key c.serve-2.new.self c.reserve.new.self.entries c.insert.new.self.entries c.in-Ok-insert.ensures.entries c.reserve.ensures.entries
+    put_new _ (λ k l. search rules) c.args.self.now.buckets c.args.request.now.key c.serve-2.new.self c.reserve.new.self.entries c.insert.new.self.entries c.in-Ok.ensures.entries c.reserve.ensures.entries
     c.in-None.ensures.place
 
 pub returns-clause-served : goal.returns-clause-served
 returns-clause-served g c =
-    serves_new c.args.request.now.key c.serve-2.new.self c.in-Ok.ensures.served.0 c.in-Ok.ensures.served.1 c.args.self.now.buckets.entries (is_of (key_of c.args.request.now.key)) (λ k. search rules) (c.in-None.ensures.place) (put g (goal.at.returns-clause-served g c).In-Ok-insert) (λ i. record { id = c.args.self.now.next_id; offset = 0; pools = map (entry_of g.D.DescriptorDevice.meaning.pool_name) (c.new.ensures.items i) }) refl
+    serves_new c.args.request.now.key c.serve-2.new.self c.in_ok-served.ensures.served.0 c.in_ok-served.ensures.served.1 c.args.self.now.buckets.entries (is_of (key_of c.args.request.now.key)) (λ k. search rules) (c.in-None.ensures.place) (put g (goal.at.returns-clause-served g c).In-Ok) (λ i. record { id = c.args.self.now.next_id; offset = 0; pools = map (entry_of g.D.DescriptorDevice.meaning.pool_name) (c.new.ensures.items i) }) refl
 
 pub returns-clause-room : goal.returns-clause-room
 returns-clause-room g c =
     let empty : stored_load (key_of c.args.request.now.key) c.new.result.items ≡ 0 = ap (stored_load (key_of c.args.request.now.key)) c.new.ensures.items in
     let moved = c.serve-2.ensures.room in
-    rw (put g (goal.at.returns-clause-room g c).In-Ok-insert) (pools_end c.args.request.now.key c.args.self.now.buckets.entries c.serve-2.new.self c.serve-2.new.budget.room c.args.budget.now.room (omega arith))
+    rw (put g (goal.at.returns-clause-room g c).In-Ok) (pools_end c.args.request.now.key c.args.self.now.buckets.entries c.serve-2.new.self c.serve-2.new.budget.room c.args.budget.now.room (omega arith))
 
 pub returns-clause-keys : goal.returns-clause-keys
-returns-clause-keys g c = keys_put (key_of c.args.request.now.key) c.args.request.now.key c.args.self.now.buckets.entries c.insert.new.self.entries c.serve-2.new.self refl c.in-None.ensures.place (put g (goal.at.returns-clause-keys g c).In-Ok-insert)
+returns-clause-keys g c = keys_put (key_of c.args.request.now.key) c.args.request.now.key c.args.self.now.buckets.entries c.insert.new.self.entries c.serve-2.new.self refl c.in-None.ensures.place (put g (goal.at.returns-clause-keys g c).In-Ok)
 
 pub invariant_of-self : goal.invariant_of-self
 invariant_of-self g c =
@@ -109,12 +110,12 @@ invariant_of-self g c =
       distinct = subst (IsDistinct key_eq) (sym (keys_at es c.in-Some.place c.serve.new.self)) c.args.self.now.distinct;
     }
 
-pub invariant_of-self-in-Ok-insert : goal.invariant_of-self-in-Ok-insert
-invariant_of-self-in-Ok-insert g c =
+pub invariant_of-self-in-Ok : goal.invariant_of-self-in-Ok
+invariant_of-self-in-Ok g c =
     let next = c.args.self.now.next_id in
     let es = c.args.self.now.buckets.entries in
     let ids : stored_ids c.insert.new.self.entries ≡ stored_ids es ++ next ∷ [] =
-    ap stored_ids (put g (goal.at.invariant_of-self-in-Ok-insert g c).In-Ok-insert) ∙ map-append _ es _ ∙ ap (λ (n : ℕ). stored_ids es ++ n ∷ []) c.serve-2.ensures.numbers_stay.id in
+    ap stored_ids (put g (goal.at.invariant_of-self-in-Ok g c).In-Ok) ∙ map-append _ es _ ∙ ap (λ (n : ℕ). stored_ids es ++ n ∷ []) c.serve-2.ensures.numbers_stay.id in
     record {
       rising = ap (rise_below (next + 1)) ids ∙ one_more next (next + 1) (stored_ids es) refl c.args.self.now.rising;
       distinct = distinct_stored _ (λ k l. search rules) c.insert.new.self.entries c.insert.ensures.unique;
