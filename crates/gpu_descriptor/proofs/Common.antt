@@ -24,7 +24,7 @@ pub use Rattle.gpu_descriptor_types.specs.Flags.{CanFree, IsUpdateAfterBind}
 pub use Rattle.gpu_descriptor_types.specs.Ledger.{AreLive, Counters, HasNoSets, HasRoom, Ledger, Pool, after_alloc, after_create, after_destroy, after_no_alloc, after_no_create, after_release, alloc_refused, create_refused, fresh, live_sets, no_rise, on_pool, pool_refusals}
 pub use Rattle.gpu_descriptor_types.specs.Meaning.{IsOfLayout, Meaning}
 pub use Rattle.gpu_descriptor_types.specs.Multiset.{AreIn, HasSize, LiveSet, Spells, set_eq, times}
-pub use Rattle.gpu_descriptor_types.specs.PoolSize.{IsPoolSize, pool_counts, pool_size_floor, sets_in_room, start_size}
+pub use Rattle.gpu_descriptor_types.specs.PoolSize.{greatest_pool_size, IsPoolSize, pool_counts, pool_size_floor, sets_in_room, start_size}
 pub use Rattle.gpu_descriptor_types.specs.Side.{side}
 pub use Rattle.gpu_descriptor_types.proofs.Counting.{IsExact, all_taken_out, any_found, any_from, bool_iff, count_by-append, count_by_alike, count_by_no, count_by_none, count_by_yes, counts_alike, list_any-count_by, set_exact, times-append}
 pub use Rattle.gpu_descriptor_types.specs.declared.errors.CreatePoolError.{CreatePoolError}
@@ -59,7 +59,7 @@ pub use Rattle.gpu_descriptor.specs.Inner.Stored.{IsConsistent, KeepsNumbers, bo
 pub use Rattle.gpu_descriptor.specs.Inner.Walk.{HasTaken, IsAsked, IsNoMemory, IsRefused, IsWalked}
 pub use Rattle.gpu_descriptor.specs.Model.Cleanup.{IsCleaned, cleaned_bucket, pools_cleaned}
 pub use Rattle.gpu_descriptor.specs.Model.Foreign.{IsForeign, IsNamed, KeepsForeign, LosesNone}
-pub use Rattle.gpu_descriptor.specs.Model.FreshPools.{AreFull, AreNew, AreSized, Fresh, IsFreshFront, IsFreshList, IsNextSize, fresh_entry, fresh_portions, given_by, room_after}
+pub use Rattle.gpu_descriptor.specs.Model.FreshPools.{AreFull, AreNew, AreSized, Fresh, IsFreshPrefix, IsFreshList, IsNextSize, fresh_entry, fresh_portions, given_by, room_after}
 pub use Rattle.gpu_descriptor.specs.Model.Grants.{Grant, IsGrantOf, Part, bucket_with, came, fresh_or, granted, items_at, items_in, ledger_with, pool_with, portion_of}
 pub use Rattle.gpu_descriptor.specs.Model.Load.{allocated_in, bucket_load, descriptors_created, descriptors_out, set_descriptors, pool_descriptors, sets_out}
 pub use Rattle.gpu_descriptor.specs.Model.Outcomes.{Allocates, Call, IsBack, IsDone, IsStopped, IsWithinLimit, StopsAtNew, Proceeds, Stays, StopsAt, error_of_alloc, grant_rise, out_then, risen, rollback_rise, stop_answer, stop_rise, taken_by, wanting}

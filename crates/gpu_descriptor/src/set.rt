@@ -14,7 +14,7 @@ use gpu_descriptor_types::DescriptorTotalCount;
 /// pools.
 #[derive(Clone, Copy, Debug, PartialEq, Eq, Hash)]
 pub(crate) struct BucketKey {
-    pub(crate) size: DescriptorTotalCount,
+    pub(crate) counts: DescriptorTotalCount,
     pub(crate) update_after_bind: bool,
 }
 
@@ -25,7 +25,7 @@ impl BucketKey {
         ensures { result ≡ set_descriptors (key_of self.now) sets }
     {
         if self.update_after_bind {
-            sets * self.size.total()
+            sets * self.counts.total()
         } else {
             0
         }
@@ -38,7 +38,7 @@ impl BucketKey {
         ensures { result ≡ pool_descriptors (key_of self.now) sets }
     {
         if self.update_after_bind {
-            (u64::from(sets) * self.size.total()).max(1) as u32
+            (u64::from(sets) * self.counts.total()).max(1) as u32
         } else {
             0
         }

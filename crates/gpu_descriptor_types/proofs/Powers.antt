@@ -5,7 +5,7 @@ use Rattle.std.specs.Int.{IsNextPowerOfTwo}
 use Rattle.std.proofs.Math.Nat.{pow-le-pow_right, pow-suc}
 use Rattle.std.proofs.lemmas.Bool.{cases_lt, le-leb, leb-true, leb-false}
 use Rattle.std.proofs.lemmas.Nat.{pow_pos}
-use Rattle.gpu_descriptor_types.specs.PoolSize.{IsLeastPower, IsRounded}
+use Rattle.gpu_descriptor_types.specs.PoolSize.{greatest_pool_size, IsLeastPower, IsRounded}
 
 -- a power of two grows with its exponent
 pow_le : (j k : ℕ) → j ≤ k → 2 ^ j ≤ 2 ^ k
@@ -94,16 +94,16 @@ is_rounded start (Some power) size below fits next is = record {
 }
 
 -- a start of 32 bits is rounded up to a number of sets that a pool may have
-pub rounded_some : (start size : ℕ) → 1 ≤ start → IsRounded start size → (1 ≤ size) × (size ≤ 2147483648)
+pub rounded_some : (start size : ℕ) → 1 ≤ start → IsRounded start size → (1 ≤ size) × (size ≤ greatest_pool_size)
 rounded_some start size first r = by_test (nat_le r.power 4294967295) refl
   where
-    small : r.power ≤ 4294967295 → r.power ≤ 2147483648
+    small : r.power ≤ 4294967295 → r.power ≤ greatest_pool_size
     small le = elim (cases_lt r.rounded.exponent 32) [
       | inl less ↦ (let top : 2 ^ r.rounded.exponent ≤ 2 ^ 31 = pow_le r.rounded.exponent 31 (omega arith) in let is = r.rounded.is_power in omega arith)
       | inr more ↦ (let top : 2 ^ 32 ≤ 2 ^ r.rounded.exponent = pow_le 32 r.rounded.exponent more in let is = r.rounded.is_power in absurd (omega arith))
     ]
 
-    by_test : (b : Bool) → nat_le r.power 4294967295 ≡ b → (1 ≤ size) × (size ≤ 2147483648)
+    by_test : (b : Bool) → nat_le r.power 4294967295 ≡ b → (1 ≤ size) × (size ≤ greatest_pool_size)
     by_test true e =
         let is : size ≡ r.power = rw e at r.fits in
         let fits = small (leb-true r.power 4294967295 e) in

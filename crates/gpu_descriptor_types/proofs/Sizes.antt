@@ -5,7 +5,7 @@ use Rattle.std.proofs.Math.Nat.{mul-div-le, div-mul-le_self, mul-le-mul_left, mu
 use Rattle.std.proofs.lemmas.Nat.{le-div}
 use Rattle.std.proofs.lemmas.List.{get_or-map, length-map}
 use Rattle.gpu_descriptor_types.specs.Counts.{greatest}
-use Rattle.gpu_descriptor_types.specs.PoolSize.{IsLeastPower, IsPoolSize, IsRounded, pool_size_floor, sets_of_kind, start_size}
+use Rattle.gpu_descriptor_types.specs.PoolSize.{greatest_pool_size, IsLeastPower, IsPoolSize, IsRounded, pool_size_floor, sets_of_kind, start_size}
 use Rattle.gpu_descriptor_types.proofs.Least.{fold_min-le, fold_min-le-first, le-fold_min, greatest-ge}
 use Rattle.gpu_descriptor_types.proofs.Powers.{rounded_some, rounded_below, rounded_above}
 
@@ -24,8 +24,8 @@ pool_fits counts start k d within =
     let is = get_or-map sets_of_kind counts k d 0 within in
     kind_fits (slice_index_or counts k d) (fold min start (map sets_of_kind counts)) (omega arith)
 
--- a new pool has at most 2147483648 sets
-pub pool_size_small : (counts : List ℕ) (total wanted sets : ℕ) → IsPoolSize counts total wanted sets → sets ≤ 2147483648
+-- a new pool has at most so many sets
+pub pool_size_small : (counts : List ℕ) (total wanted sets : ℕ) → IsPoolSize counts total wanted sets → sets ≤ greatest_pool_size
 pool_size_small counts total wanted sets s =
     let start = rounded_some (start_size total wanted) s.start (omega arith) s.rounded in
     let below = fold_min-le-first s.start (map sets_of_kind counts) in

@@ -1,14 +1,25 @@
 -- The flags of a pool, as a number whose bits they are.
-use Rattle.std.specs.Prelude.{◌≡◌, ℕ, bit_and}
+use Rattle.std.specs.Prelude.{◌≡◌, ℕ, ◌+◌, Bool, if◌then◌else◌, bit_and}
 use Rattle.gpu_descriptor_types.specs.declared.flags.DescriptorPoolCreateFlags.{DescriptorPoolCreateFlags}
 
 abbrev pub bits : DescriptorPoolCreateFlags → ℕ
 bits flags = flags.0
 
+-- the bits
+abbrev pub free_descriptor_set : ℕ
+free_descriptor_set = 1
+
+abbrev pub update_after_bind : ℕ
+update_after_bind = 2
+
+-- those of a pool whose sets go back singly, for sets of marked layouts or of others
+abbrev pub pool_flags : Bool → ℕ
+pool_flags marked = if marked then free_descriptor_set + update_after_bind else free_descriptor_set
+
 -- sets may be released
 abbrev pub CanFree : ℕ → Type 0
-CanFree flags = bit_and flags 1 ≡ 1
+CanFree flags = bit_and flags free_descriptor_set ≡ free_descriptor_set
 
 -- sets of marked layouts may be allocated
 abbrev pub IsUpdateAfterBind : ℕ → Type 0
-IsUpdateAfterBind flags = bit_and flags 2 ≡ 2
+IsUpdateAfterBind flags = bit_and flags update_after_bind ≡ update_after_bind

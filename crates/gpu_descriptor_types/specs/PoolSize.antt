@@ -3,9 +3,21 @@ use Rattle.gpu_descriptor_types.specs.Bounds.{greatest_i32, greatest_u32}
 use Rattle.gpu_descriptor_types.specs.Counts.{greatest}
 use Rattle.std.specs.Prelude.{◌≡◌, ℕ, ◌*◌, ◌/◌, ◌^◌, ◌≤◌, ◌==◌, max, min, List, map, sum, fold, slice_set, if◌then◌else◌, nat_le}
 
+-- how many sets a pool is to hold at least
+abbrev pub min_sets : ℕ
+min_sets = 64
+
+-- how many of the outstanding sets count at most
+abbrev pub max_sets : ℕ
+max_sets = 512
+
+-- the most sets that a pool holds: the greatest power of two in 32 bits
+abbrev pub greatest_pool_size : ℕ
+greatest_pool_size = 2147483648
+
 -- how many sets a pool is to hold, before it is rounded up and cut: the greatest of 64, what is wanting, and what is outstanding up to 512
 abbrev pub start_size : ℕ → ℕ → ℕ
-start_size total wanted = max (max 64 wanted) (min 512 total)
+start_size total wanted = max (max min_sets wanted) (min max_sets total)
 
 -- power is the least power of two that is not below start
 pub record IsLeastPower (start power : ℕ) : Type 0 where

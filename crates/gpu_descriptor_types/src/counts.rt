@@ -3,6 +3,7 @@ ghost use Rattle.std.specs.Prelude.{◌≡◌, ◌+◌, ◌*◌, ◌^◌, ◌<�
 ghost use Rattle.std.proofs.Common.{rules};
 ghost use Rattle.std.specs.Hash as fed;
 ghost use Rattle.std.specs.Cmp.Rules.{hashing};
+ghost use Rattle.gpu_descriptor_types.specs.Bounds.{greatest_total};
 ghost use Rattle.gpu_descriptor_types.specs.Counts.{kinds};
 
 use std::hash::{Hash, Hasher};
@@ -61,7 +62,7 @@ impl DescriptorTotalCount {
     /// The original counts in 32 bits, where the sum can wrap.
     pub fn total(&self) -> u64
         ensures sum { result ≡ sum (kinds self.now) }
-        ensures at_most { result ≤ 60129542130 }
+        ensures at_most { result ≤ greatest_total }
     {
         self.to_array().iter().map(|kind| u64::from(*kind)).sum()
     }

@@ -20,12 +20,14 @@ bitflag_items! {
 
 impl Flags for DescriptorPoolCreateFlags {
     ghost use Rattle.gpu_descriptor_types.specs.Flags.{bits as bits_of};
+    ghost use Rattle.gpu_descriptor_types.specs.Flags.{free_descriptor_set, update_after_bind};
 
     type Bits = u32;
 
     ghost exact = { ⊤ };
 
-    ghost table = { (codes "FREE_DESCRIPTOR_SET", 1) ∷ (codes "UPDATE_AFTER_BIND", 2) ∷ [] };
+    ghost table = { (codes "FREE_DESCRIPTOR_SET", free_descriptor_set)
+        ∷ (codes "UPDATE_AFTER_BIND", update_after_bind) ∷ [] };
 
     ghost set_of = { bits_of };
 

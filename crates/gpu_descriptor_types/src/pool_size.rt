@@ -3,7 +3,7 @@ ghost use Rattle.std.specs.Prelude.{◌≡◌, ℕ, ◌*◌, ◌<◌, ◌≤◌,
 ghost use Rattle.std.specs.Prelude.{fold, map};
 ghost use Rattle.gpu_descriptor_types.specs.Counts.{kinds as kinds_of};
 ghost use Rattle.gpu_descriptor_types.specs.PoolSize.{IsCutSize, IsPoolSize, IsRounded};
-ghost use Rattle.gpu_descriptor_types.specs.PoolSize.{pool_counts, pool_size_floor};
+ghost use Rattle.gpu_descriptor_types.specs.PoolSize.{greatest_pool_size, pool_counts, pool_size_floor};
 ghost use Rattle.gpu_descriptor_types.specs.PoolSize.{sets_in_room as sets_in_room_of};
 ghost use Rattle.gpu_descriptor_types.specs.PoolSize.{sets_of_kind, start_size as start_size_of};
 
@@ -25,22 +25,22 @@ const MAX_SETS: u32 = 512;
 ///
 /// In the original this is a private call of the bucket, over a total of 32 bits.
 pub fn new_pool_size(
-    size: &DescriptorTotalCount,
+    counts: &DescriptorTotalCount,
     total: u64,
     wanted: u32,
 ) -> (DescriptorTotalCount, u32)
-    ensures sets { IsPoolSize (kinds_of size.now) total wanted result.1 }
-    ensures counts { kinds_of result.0 ≡ pool_counts (kinds_of size.now) result.1 }
+    ensures sets { IsPoolSize (kinds_of counts.now) total wanted result.1 }
+    ensures counts { kinds_of result.0 ≡ pool_counts (kinds_of counts.now) result.1 }
 
     ensures some { 1 ≤ result.1 }
-    ensures at_most { result.1 ≤ 2147483648 }
-    ensures at_least { min wanted (pool_size_floor (kinds_of size.now)) ≤ result.1 }
+    ensures at_most { result.1 ≤ greatest_pool_size }
+    ensures at_least { min wanted (pool_size_floor (kinds_of counts.now)) ≤ result.1 }
     ensures below_twice { result.1 < 2 * start_size_of total wanted }
-    ensures fits { All (λ count. count * result.1 < 2 ^ 32) (kinds_of size.now) }
+    ensures fits { All (λ count. count * result.1 < 2 ^ 32) (kinds_of counts.now) }
 {
-    let kinds = size.to_array();
+    let kinds = counts.to_array();
     let sets = set_count(&kinds, rounded_up(start_size(total, wanted)));
-    (counts_of_sets(size, sets), sets)
+    (counts_of_sets(counts, sets), sets)
 }
 
 /// The size of a new pool, cut so that it has at most `room` descriptors; `None` where not even a
@@ -48,30 +48,30 @@ pub fn new_pool_size(
 ///
 /// A pool for sets without descriptors has one, whatever it holds.
 pub fn cut_pool_size(
-    size: &DescriptorTotalCount,
+    counts: &DescriptorTotalCount,
     total: u64,
     wanted: u32,
     room: u32,
 ) -> Option<(DescriptorTotalCount, u32)>
-    ensures sets { IfSome result (λ pool. IsCutSize (kinds_of size.now) room total wanted pool.1) }
-    ensures counts { IfSome result (λ pool. kinds_of pool.0 ≡ pool_counts (kinds_of size.now)
+    ensures sets { IfSome result (λ pool. IsCutSize (kinds_of counts.now) room total wanted pool.1) }
+    ensures counts { IfSome result (λ pool. kinds_of pool.0 ≡ pool_counts (kinds_of counts.now)
         pool.1) }
-    ensures none { IfNone result (room < max 1 (sum (kinds_of size.now))) }
+    ensures none { IfNone result (room < max 1 (sum (kinds_of counts.now))) }
 
     ensures some { IfSome result (λ pool. 1 ≤ pool.1) }
-    ensures at_most { IfSome result (λ pool. pool.1 ≤ 2147483648) }
+    ensures at_most { IfSome result (λ pool. pool.1 ≤ greatest_pool_size) }
     ensures within { IfSome result (λ pool. sum (kinds_of pool.0) ≤ room) }
 
     // Where a pool of the size of `new_pool_size` fits, it is not cut.
-    ensures whole { (sets : ℕ) → IsPoolSize (kinds_of size.now) total wanted sets
-        → max 1 (sets * sum (kinds_of size.now)) ≤ room → IfSome result (λ pool. pool.1 ≡ sets) }
+    ensures whole { (sets : ℕ) → IsPoolSize (kinds_of counts.now) total wanted sets
+        → max 1 (sets * sum (kinds_of counts.now)) ≤ room → IfSome result (λ pool. pool.1 ≡ sets) }
 {
-    let (_, whole) = new_pool_size(size, total, wanted);
-    let sets = sets_in_room(room, size.total(), whole);
+    let (_, whole) = new_pool_size(counts, total, wanted);
+    let sets = sets_in_room(room, counts.total(), whole);
     if sets == 0 {
         return None;
     }
-    Some((counts_of_sets(size, sets), sets))
+    Some((counts_of_sets(counts, sets), sets))
 }
 
 /// How many of so many sets fit into room for descriptors, where each set has `each`.
@@ -103,7 +103,7 @@ fn rounded_up(start: u32) -> u32
     requires { 1 ≤ start }
     ensures rounded { IsRounded start result }
     ensures some { 1 ≤ result }
-    ensures at_most { result ≤ 2147483648 }
+    ensures at_most { result ≤ greatest_pool_size }
 {
     start
         .checked_next_power_of_two()
@@ -136,36 +136,36 @@ fn cut_to(sets: u32, kind: u32) -> u32
 }
 
 /// The counts of a pool of so many sets.
-fn counts_of_sets(size: &DescriptorTotalCount, sets: u32) -> DescriptorTotalCount
-    requires { All (λ count. count * sets < 2 ^ 32) (kinds_of size.now) }
-    ensures { kinds_of result ≡ pool_counts (kinds_of size.now) sets }
+fn counts_of_sets(counts: &DescriptorTotalCount, sets: u32) -> DescriptorTotalCount
+    requires { All (λ count. count * sets < 2 ^ 32) (kinds_of counts.now) }
+    ensures { kinds_of result ≡ pool_counts (kinds_of counts.now) sets }
 {
-    let mut counts = products(size, sets);
-    if counts == DescriptorTotalCount::default() {
-        counts.sampler = 1;
+    let mut all = products(counts, sets);
+    if all == DescriptorTotalCount::default() {
+        all.sampler = 1;
     }
-    counts
+    all
 }
 
 /// Each count times the number of sets.
-fn products(size: &DescriptorTotalCount, sets: u32) -> DescriptorTotalCount
-    requires { All (λ count. count * sets < 2 ^ 32) (kinds_of size.now) }
-    ensures { kinds_of result ≡ map (λ count. count * sets) (kinds_of size.now) }
+fn products(counts: &DescriptorTotalCount, sets: u32) -> DescriptorTotalCount
+    requires { All (λ count. count * sets < 2 ^ 32) (kinds_of counts.now) }
+    ensures { kinds_of result ≡ map (λ count. count * sets) (kinds_of counts.now) }
 {
     DescriptorTotalCount {
-        sampler: size.sampler * sets,
-        combined_image_sampler: size.combined_image_sampler * sets,
-        sampled_image: size.sampled_image * sets,
-        storage_image: size.storage_image * sets,
-        uniform_texel_buffer: size.uniform_texel_buffer * sets,
-        storage_texel_buffer: size.storage_texel_buffer * sets,
-        uniform_buffer: size.uniform_buffer * sets,
-        storage_buffer: size.storage_buffer * sets,
-        uniform_buffer_dynamic: size.uniform_buffer_dynamic * sets,
-        storage_buffer_dynamic: size.storage_buffer_dynamic * sets,
-        input_attachment: size.input_attachment * sets,
-        acceleration_structure: size.acceleration_structure * sets,
-        inline_uniform_block_bytes: size.inline_uniform_block_bytes * sets,
-        inline_uniform_block_bindings: size.inline_uniform_block_bindings * sets,
+        sampler: counts.sampler * sets,
+        combined_image_sampler: counts.combined_image_sampler * sets,
+        sampled_image: counts.sampled_image * sets,
+        storage_image: counts.storage_image * sets,
+        uniform_texel_buffer: counts.uniform_texel_buffer * sets,
+        storage_texel_buffer: counts.storage_texel_buffer * sets,
+        uniform_buffer: counts.uniform_buffer * sets,
+        storage_buffer: counts.storage_buffer * sets,
+        uniform_buffer_dynamic: counts.uniform_buffer_dynamic * sets,
+        storage_buffer_dynamic: counts.storage_buffer_dynamic * sets,
+        input_attachment: counts.input_attachment * sets,
+        acceleration_structure: counts.acceleration_structure * sets,
+        inline_uniform_block_bytes: counts.inline_uniform_block_bytes * sets,
+        inline_uniform_block_bindings: counts.inline_uniform_block_bindings * sets,
     }
 }

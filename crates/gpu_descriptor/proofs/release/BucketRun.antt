@@ -1,5 +1,5 @@
 -- Giving one run back to a stored bucket.
-use Rattle.gpu_descriptor.proofs.Common.{◌≡◌, ℕ, zero, suc, ◌+◌, ◌-◌, ◌<◌, ◌≤◌, List, [], ◌∷◌, length, map, sum_by, set, get_or, slice_get, Option, Some, option_map, inl, inr, refl, sym, ap, ◌∙◌, arith, IfSome, slice_get_within, slice_get-map, slice_get_read, length-map, sum_by-cons, CanFree, Pool, live_sets, LiveSet, times, AreIn, DescriptorPool, live_in, flags_of, IsAsBooked, Key, Entry, Bucket, ∥∥₁_elim, ∥∥₁_map, props, common_steps, AreBookedIn, IsTakenAt, entry_less, pool_less, entry_of}
+use Rattle.gpu_descriptor.proofs.Common.{greatest_pool_size, ◌≡◌, ℕ, zero, suc, ◌+◌, ◌-◌, ◌<◌, ◌≤◌, List, [], ◌∷◌, length, map, sum_by, set, get_or, slice_get, Option, Some, option_map, inl, inr, refl, sym, ap, ◌∙◌, arith, IfSome, slice_get_within, slice_get-map, slice_get_read, length-map, sum_by-cons, CanFree, Pool, live_sets, LiveSet, times, AreIn, DescriptorPool, live_in, flags_of, IsAsBooked, Key, Entry, Bucket, ∥∥₁_elim, ∥∥₁_map, props, common_steps, AreBookedIn, IsTakenAt, entry_less, pool_less, entry_of}
 use Rattle.gpu_descriptor.proofs.foreign.LedgerPools.{taken_from, with_pool_same, with_pool_other, size_minus, only_these}
 use Rattle.gpu_descriptor.proofs.table.Exact.{bucket}
 use Rattle.gpu_descriptor.proofs.release.Fronts.{entry_at-found}
@@ -95,7 +95,7 @@ stored_after k first es pools i e ls stored at within =
 pub read_first : {P : Type 0} (name : P → ℕ) (k : Key) (number : ℕ) (names : List ℕ) (id first : ℕ) (items : List (DescriptorPool P)) (pools : ℕ → Option Pool) (q : DescriptorPool P) → IsTakenAt k number names (bucket id first (map (entry_of name) items)) pools → q ≡ get_or items (number - first) q → slice_get (map (entry_of name) items) (number - first) ≡ Some (entry_of name q)
 read_first name k number names id first items pools q t is = read_at name items (number - first) q (is_within name k number names id first items pools t) is
 
-pub place_room : (k : Key) (b : Bucket) (pools : ℕ → Option Pool) (i : ℕ) (e : Entry) → AreBookedIn k pools b.pools → slice_get b.pools i ≡ Some e → e.allocated + e.available ≤ 2147483648
+pub place_room : (k : Key) (b : Bucket) (pools : ℕ → Option Pool) (i : ℕ) (e : Entry) → AreBookedIn k pools b.pools → slice_get b.pools i ≡ Some e → e.allocated + e.available ≤ greatest_pool_size
 place_room k b pools i e stored at =
     let booked = (stored.each i e at).booked in
     grind (arith, common_steps)

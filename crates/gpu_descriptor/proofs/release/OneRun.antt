@@ -1,5 +1,5 @@
 -- One run: what the device may take of the caller's iterator, and what it took.
-use Rattle.gpu_descriptor.proofs.Common.{◌≡◌, ℕ, ◌+◌, ◌-◌, ◌≤◌, true, List, [], ◌∷◌, length, map, slice_get, refl, sym, ap, subst, ◌∙◌, arith, eq-eqb, Option, Some, None, OnSome, Count, HoldsAlong, IsFinite, IsNearerEnd, Yields, YieldsThen, and_from, length-map, Pool, Ledger, AreLive, live_sets, CanFree, LiveSet, DescriptorSet, live_in, Key, Entry, Bucket, Run, AreBookedIn, IsTakenAt, names_of, RunStep, CountsFrom, EndsRun, AllPass}
+use Rattle.gpu_descriptor.proofs.Common.{greatest_pool_size, ◌≡◌, ℕ, ◌+◌, ◌-◌, ◌≤◌, true, List, [], ◌∷◌, length, map, slice_get, refl, sym, ap, subst, ◌∙◌, arith, eq-eqb, Option, Some, None, OnSome, Count, HoldsAlong, IsFinite, IsNearerEnd, Yields, YieldsThen, and_from, length-map, Pool, Ledger, AreLive, live_sets, CanFree, LiveSet, DescriptorSet, live_in, Key, Entry, Bucket, Run, AreBookedIn, IsTakenAt, names_of, RunStep, CountsFrom, EndsRun, AllPass}
 use Rattle.gpu_descriptor.specs.Inner.RunSteps.{at_place}
 use Rattle.gpu_descriptor.proofs.release.BucketRun.{AreTaken, can_free, can_take, took_these, length_names}
 use Rattle.gpu_descriptor.proofs.release.RunTaken.{Whole, whole, front}
@@ -17,7 +17,7 @@ module _ {T S : Type 0} (steps : T → Option (DescriptorSet S) → T → Type 0
   abbrev pub Takes : T → DescriptorSet S → Bucket → (ℕ → Option Pool) → Type 0
   Takes rest x b pools = HoldsAlong steps rest (λ xs. AllPass (at_place x.id x.number) xs → IsTakenAt x.key.is x.number (names_of name (x ∷ xs)) b pools)
 
-  pub run_counts : (rest : T) (x : DescriptorSet S) (b : Bucket) (pools : ℕ → Option Pool) (e : Entry) → slice_get b.pools (x.number - b.offset) ≡ Some e → e.allocated ≤ 2147483648 → Takes rest x b pools → CountsFrom steps x.id x.number rest (0 + 1)
+  pub run_counts : (rest : T) (x : DescriptorSet S) (b : Bucket) (pools : ℕ → Option Pool) (e : Entry) → slice_get b.pools (x.number - b.offset) ≡ Some e → e.allocated ≤ greatest_pool_size → Takes rest x b pools → CountsFrom steps x.id x.number rest (0 + 1)
   run_counts rest x b pools e at small h = grind (arith, length-map)
 
   -- all that a run gives is live in the place

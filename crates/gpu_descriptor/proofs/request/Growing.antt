@@ -1,5 +1,5 @@
 -- The new pools of a request, as far as it has come.
-use Rattle.gpu_descriptor.proofs.Common.{◌≡◌, ℕ, zero, suc, take, drop, ◌+◌, ◌-◌, ◌<◌, inl, inr, List, [], ◌∷◌, ◌++◌, length, map, Bool, true, false, cond, ◌==◌, nat_eq, Option, Some, None, Ok, Err, refl, sym, ap, ◌∙◌, subst, arith, eqb-true, eq-eqb, append_assoc, length-append, fun_ext, ne_eqb, nil_from_length, eqb-false, map-append, append-nil, length-map, sum_by-cons, sum_by-append, list_any, update, if◌then◌else◌, option_map, Item, flags_of, Key, Entry, Bucket, Pool, Ledger, live_sets, on_pool, no_rise, cases_Bool, or_from, or_parts, pool_counts, Stop, list_any-append, Fresh, fresh_portions, fresh_entry, given_by, IsNextSize, room_after, AreSized, AreFull, AreNew, IsFreshFront, IsFreshList, Grant, Part, items_at, portion_of, came, pool_with, ledger_with, fresh_or, IsGrown, IsTaken, IsRefused, allocated_in, pool_descriptors, risen, grant_rise, StopsAtNew, StopsAt, offer, rest, shared, all_shared, Portion, portions_of, AreBookedIn, HasTaken, IsWalked}
+use Rattle.gpu_descriptor.proofs.Common.{◌≡◌, ℕ, zero, suc, take, drop, ◌+◌, ◌-◌, ◌<◌, inl, inr, List, [], ◌∷◌, ◌++◌, length, map, Bool, true, false, cond, ◌==◌, nat_eq, Option, Some, None, Ok, Err, refl, sym, ap, ◌∙◌, subst, arith, eqb-true, eq-eqb, append_assoc, length-append, fun_ext, ne_eqb, nil_from_length, eqb-false, map-append, append-nil, length-map, sum_by-cons, sum_by-append, list_any, update, if◌then◌else◌, option_map, Item, flags_of, Key, Entry, Bucket, Pool, Ledger, live_sets, on_pool, no_rise, cases_Bool, or_from, or_parts, pool_counts, Stop, list_any-append, Fresh, fresh_portions, fresh_entry, given_by, IsNextSize, room_after, AreSized, AreFull, AreNew, IsFreshPrefix, IsFreshList, Grant, Part, items_at, portion_of, came, pool_with, ledger_with, fresh_or, IsGrown, IsTaken, IsRefused, allocated_in, pool_descriptors, risen, grant_rise, StopsAtNew, StopsAt, offer, rest, shared, all_shared, Portion, portions_of, AreBookedIn, HasTaken, IsWalked}
 use Rattle.gpu_descriptor.proofs.sums.PoolsLoad.{pools_load}
 use Rattle.gpu_descriptor.specs.declared.bucket.stop.Stop.TheVariants as stop
 use Rattle.gpu_descriptor_types.specs.Ledger as ledgers
@@ -215,7 +215,7 @@ grow_stop why {k} {start} {n} {id} {old = old} {m = m} some s same_sets same_poo
   refused,
 )
   where
-    stops_at : (why : Stop) → IsFreshFront k start (allocated_in (all_shared s.refused n old)) (rest s.refused n old) s.fresh → StopsAtNew why k (room_after k start s.fresh) → StopsAt why k start n (all_so_far id s.refused s.fresh s.parts) old
+    stops_at : (why : Stop) → IsFreshPrefix k start (allocated_in (all_shared s.refused n old)) (rest s.refused n old) s.fresh → StopsAtNew why k (room_after k start s.fresh) → StopsAt why k start n (all_so_far id s.refused s.fresh s.parts) old
     stops_at (stop.ExistingPoolRefused e) front none = absurd none
     stops_at stop.NoRoomUnderLimit front none = (refl, front, none)
     stops_at stop.NoMemoryForPool front none = (refl, front, none)

@@ -6,11 +6,11 @@ use Rattle.gpu_descriptor.proofs.request.NextSize.{next_below}
 
 -- ---- sizes
 
-pub front_below : (k : Key) (room total wanted : ℕ) (pools : List Fresh) → AreSized k room total wanted pools → AreFull pools → given_by pools < wanted → AreBelowTwice total wanted pools
-front_below k room total wanted [] sized full short = tt
-front_below k room total wanted (f ∷ pools) sized full short =
+pub prefix_below : (k : Key) (room total wanted : ℕ) (pools : List Fresh) → AreSized k room total wanted pools → AreFull pools → given_by pools < wanted → AreBelowTwice total wanted pools
+prefix_below k room total wanted [] sized full short = tt
+prefix_below k room total wanted (f ∷ pools) sized full short =
     let sum = sum_by-cons (λ (g : Fresh). g.given) f pools in
-    (omega arith, next_below k room total wanted f.size sized.0, front_below k (room - pool_descriptors k f.size) (total + f.given) (wanted - f.given) pools sized.1 full.1 (omega arith))
+    (omega arith, next_below k room total wanted f.size sized.0, prefix_below k (room - pool_descriptors k f.size) (total + f.given) (wanted - f.given) pools sized.1 full.1 (omega arith))
 
 pub list_below : (k : Key) (room total wanted : ℕ) (front : List Fresh) (last : Fresh) → AreSized k room total wanted (front ++ last ∷ []) → AreFull front → given_by front < wanted → AreBelowTwice total wanted (front ++ last ∷ [])
 list_below k room total wanted [] last sized full short = (omega arith, next_below k room total wanted last.size sized.0, tt)

@@ -1,5 +1,5 @@
 -- What a key's next pool takes of the room, and when its size was cut.
-use Rattle.gpu_descriptor.proofs.Common.{◌≡◌, ℕ, ◌+◌, ◌-◌, ◌*◌, ◌<◌, ◌≤◌, max, sum, List, [], ◌∷◌, ◌++◌, inl, inr, refl, sym, ◌∙◌, subst, arith, mul-le-mul_right, cases_Bool, IsPoolSize, sets_in_room, start_size, Key, Fresh, IsNextSize, AreSized, room_after, pool_descriptors}
+use Rattle.gpu_descriptor.proofs.Common.{greatest_pool_size, ◌≡◌, ℕ, ◌+◌, ◌-◌, ◌*◌, ◌<◌, ◌≤◌, max, sum, List, [], ◌∷◌, ◌++◌, inl, inr, refl, sym, ◌∙◌, subst, arith, mul-le-mul_right, cases_Bool, IsPoolSize, sets_in_room, start_size, Key, Fresh, IsNextSize, AreSized, room_after, pool_descriptors}
 use Rattle.gpu_descriptor_types.proofs.Room.{few_in_room, fits_in_room, whole_in_room}
 use Rattle.gpu_descriptor_types.proofs.Sizes.{pool_size_small, pool_size_below}
 
@@ -9,7 +9,7 @@ module _ (k : Key) (room total wanted size : ℕ) (s : IsNextSize k room total w
   few : size ≤ s.whole
   few = grind (arith, s.cut, few_in_room room (sum k.counts) s.whole)
 
-  pub next_small : size ≤ 2147483648
+  pub next_small : size ≤ greatest_pool_size
   next_small = (let a = few in let b = pool_size_small k.counts total wanted s.whole s.is_whole in omega arith)
 
   pub next_below : size < 2 * start_size total wanted

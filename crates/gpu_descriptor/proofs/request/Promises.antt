@@ -1,5 +1,5 @@
 -- What every outcome of a request promises.
-use Rattle.gpu_descriptor.proofs.Common.{◌≡◌, ◌≢◌, ℕ, suc, ◌+◌, ◌-◌, ◌*◌, ◌<◌, ◌≤◌, Bool, List, [], ◌∷◌, map, length, sum_by, inl, inr, Result, Err, refl, sym, ap, ◌∙◌, subst, arith, length-map, length-append, sum_by-cons, sum_by-append, pool_size_floor, ◌↔◌, min, OnOk, IfErr, Counters, create_refused, alloc_refused, pool_refusals, no_rise, CreatePoolError, DeviceAllocationError, AllocationError, Stop, Item, Key, Entry, cases_lt, ◌⊎◌, error_of_alloc, Allocates, Call, IsBack, IsDone, IsStopped, StopsAt, out_then, stop_answer, stop_rise, wanting, Fresh, IsFreshFront, IsNextSize, room_after, AreSized, AreFull, IsFreshList, given_by, Grant, Part, portion_of, items_at, items_in, AreBelowTwice, HasCause, IsShort, CreatesOnlyWhereShort, pool_descriptors, Portion, offer, rest, portions_of}
+use Rattle.gpu_descriptor.proofs.Common.{◌≡◌, ◌≢◌, ℕ, suc, ◌+◌, ◌-◌, ◌*◌, ◌<◌, ◌≤◌, Bool, List, [], ◌∷◌, map, length, sum_by, inl, inr, Result, Err, refl, sym, ap, ◌∙◌, subst, arith, length-map, length-append, sum_by-cons, sum_by-append, pool_size_floor, ◌↔◌, min, OnOk, IfErr, Counters, create_refused, alloc_refused, pool_refusals, no_rise, CreatePoolError, DeviceAllocationError, AllocationError, Stop, Item, Key, Entry, cases_lt, ◌⊎◌, error_of_alloc, Allocates, Call, IsBack, IsDone, IsStopped, StopsAt, out_then, stop_answer, stop_rise, wanting, Fresh, IsFreshPrefix, IsNextSize, room_after, AreSized, AreFull, IsFreshList, given_by, Grant, Part, portion_of, items_at, items_in, AreBelowTwice, HasCause, IsShort, CreatesOnlyWhereShort, pool_descriptors, Portion, offer, rest, portions_of}
 use Rattle.gpu_descriptor_types.proofs.Sizes.{pool_size_some}
 use Rattle.gpu_descriptor_types.specs.declared.errors.CreatePoolError.TheVariants as create_error
 use Rattle.gpu_descriptor_types.specs.declared.errors.DeviceAllocationError.TheVariants as alloc_error
@@ -9,7 +9,7 @@ use Rattle.gpu_descriptor.specs.Model.FreshPools.IsFreshList.{none as no_fresh, 
 use Rattle.gpu_descriptor.specs.Model.Promises.IsFragmentation.{above_limit, past_bound, no_room_under_limit, pool_not_created, new_pool_refused}
 use Rattle.gpu_descriptor.specs.Model.Promises.IsHostMemory.{device_refused, no_memory_at_start, no_memory_for_pool}
 use Rattle.gpu_descriptor.proofs.request.NextSize.{next_whole, one_fits, last_fits}
-use Rattle.gpu_descriptor.proofs.request.NewPools.{AreFilled, shares_used, done_filled, front_below, list_below}
+use Rattle.gpu_descriptor.proofs.request.NewPools.{AreFilled, shares_used, done_filled, prefix_below, list_below}
 
 -- ---- how many sets
 
@@ -90,13 +90,13 @@ pools_short c g some below filled n rise few = record {
 }
 
 -- after a front
-front_short : (c : Call) (s : IsStopped c) (why : Stop) (room : ℕ) → IsBack c s.grant why → IsFreshFront c.key room (out_then c s.grant) (wanting c s.grant) s.grant.fresh
+prefix_short : (c : Call) (s : IsStopped c) (why : Stop) (room : ℕ) → IsBack c s.grant why → IsFreshPrefix c.key room (out_then c s.grant) (wanting c s.grant) s.grant.fresh
     → ((stop_rise why).created * pool_size_floor c.key.counts ≡ 0) ⊎ (((stop_rise why).created * pool_size_floor c.key.counts ≡ pool_size_floor c.key.counts) × (pool_descriptors c.key 1 ≤ room_after c.key room s.grant.fresh)) → IsShort c s.grant
-front_short c s why room back front more =
+prefix_short c s why room back front more =
     let short = front.short in
     let n = ap (λ (k : Counters). k.created) back.counters in
     let all = few c.key room _ _ s.grant.fresh front.sized front.full short ((stop_rise why).created * pool_size_floor c.key.counts) more in
-    pools_short c s.grant (omega arith) (front_below c.key room _ _ s.grant.fresh front.sized front.full short) (rw back.answer tt) (length s.grant.fresh + (stop_rise why).created) (omega arith) (omega arith)
+    pools_short c s.grant (omega arith) (prefix_below c.key room _ _ s.grant.fresh front.sized front.full short) (rw back.answer tt) (length s.grant.fresh + (stop_rise why).created) (omega arith) (omega arith)
 
 -- a list that gave all
 done_short : (c : Call) (d : IsDone c) → IsFreshList c.key (c.limit - d.pooled) (out_then c d.grant) (wanting c d.grant) d.grant.fresh → 0 < length d.grant.fresh → IsShort c d.grant
@@ -144,10 +144,10 @@ module _ (c : Call) where
       let none = alloc_creates e in
       let f = ap length at.no_fresh in
       absurd (omega arith)
-  stop_short s NoRoomUnderLimit back at more = front_short c s NoRoomUnderLimit _ back at.1 (inl (omega arith))
-  stop_short s NoMemoryForPool back at more = front_short c s NoMemoryForPool _ back at.1 (inl (omega arith))
-  stop_short s (PoolNotCreated e) back at more = front_short c s (PoolNotCreated e) _ back at.1 (inl (ap (λ n. n * pool_size_floor c.key.counts) (create_creates e) ∙ (omega arith)))
-  stop_short s (NewPoolRefused e) back at more = front_short c s (NewPoolRefused e) _ back at.1 (inr ((omega arith), fits at.2 (λ same. absurd (cc))))
+  stop_short s NoRoomUnderLimit back at more = prefix_short c s NoRoomUnderLimit _ back at.1 (inl (omega arith))
+  stop_short s NoMemoryForPool back at more = prefix_short c s NoMemoryForPool _ back at.1 (inl (omega arith))
+  stop_short s (PoolNotCreated e) back at more = prefix_short c s (PoolNotCreated e) _ back at.1 (inl (ap (λ n. n * pool_size_floor c.key.counts) (create_creates e) ∙ (omega arith)))
+  stop_short s (NewPoolRefused e) back at more = prefix_short c s (NewPoolRefused e) _ back at.1 (inr ((omega arith), fits at.2 (λ same. absurd (cc))))
 
   -- a pool is created only where the existing ones don't do
   pub short : (outcome : Allocates c) → CreatesOnlyWhereShort outcome

@@ -66,7 +66,7 @@ module _ {L P S : Type 0} (means : Meaning L P S) (a : Allocations P) (before : 
 -- ---- the tests of a request, over the fields of an allocator
 
 module _ {L P S : Type 0} (means : Meaning L P S) {a : Allocations P} {most looks compared marked room out : ℕ} {es : List (BucketKey × DescriptorBucket P)} (is : seen most looks compared es ≡ a) (counted : IsConsistent most marked room out es) (apart : IsDistinct key_eq (stored_keys es)) (before : Ledger)
-    (key : BucketKey) {count : ℕ} (some : 0 < count) {above : Bool} (test : above ≡ (key.update_after_bind && nat_lt a.limit (count * sum (kinds key.size) + marked_load_of a))) where
+    (key : BucketKey) {count : ℕ} (some : 0 < count) {above : Bool} (test : above ≡ (key.update_after_bind && nat_lt a.limit (count * sum (kinds key.counts) + marked_load_of a))) where
   abbrev Declines : AllocationError → Type 0
   Declines error = IsDeclined (call_of means (key_of key) count (side a before) (side a before) (Err error))
 
@@ -75,12 +75,12 @@ module _ {L P S : Type 0} (means : Meaning L P S) {a : Allocations P} {most look
 
   pub declined_by_limit : above ≡ true → Declines Fragmentation
   declined_by_limit passed =
-      let both = and_parts key.update_after_bind (nat_lt a.limit (count * sum (kinds key.size) + marked_load_of a)) (sym test ∙ passed) in
-      (above_limit some (record { marked = both.0; load = marked_load_of a; is_load = load_is means a before distinct; above = ltb-true a.limit (count * sum (kinds key.size) + marked_load_of a) both.1 }) refl (record { state = refl; counters = refl }), refl)
+      let both = and_parts key.update_after_bind (nat_lt a.limit (count * sum (kinds key.counts) + marked_load_of a)) (sym test ∙ passed) in
+      (above_limit some (record { marked = both.0; load = marked_load_of a; is_load = load_is means a before distinct; above = ltb-true a.limit (count * sum (kinds key.counts) + marked_load_of a) both.1 }) refl (record { state = refl; counters = refl }), refl)
 
   module _ (below : above ≡ false) {past : Bool} (bounded : past ≡ nat_lt greatest_u64 (out + count)) where
     in_limit : (answer : Result _ AllocationError) → IsWithinLimit (call_of means (key_of key) count (side a before) (side a before) answer)
-    in_limit answer = record { load = marked_load_of a; is_load = load_is means a before distinct; within = within_of key.update_after_bind a.limit (count * sum (kinds key.size) + marked_load_of a) (sym test ∙ below) }
+    in_limit answer = record { load = marked_load_of a; is_load = load_is means a before distinct; within = within_of key.update_after_bind a.limit (count * sum (kinds key.counts) + marked_load_of a) (sym test ∙ below) }
 
     declined_past : (greatest_u64 < next_number ((state_of means.pool_name a before).books (key_of key)) + count) ⊎ (greatest_u64 < outstanding_of a + count) → Declines Fragmentation
     declined_past more = (past_bound some (in_limit _) (record { out = outstanding_of a; is_out = out_is means a before distinct; past = more }) refl (record { state = refl; counters = refl }), refl)
@@ -105,9 +105,9 @@ module _ {L P S : Type 0} (means : Meaning L P S) {a : Allocations P} {most look
 -- a request that passed them, and took what its key has
 module _ {L P S : Type 0} {means : Meaning L P S} {key : BucketKey} {room count : ℕ} {sets : List (DescriptorSet S)} {ended : Result (Unit {0}) Stop} {es : List (BucketKey × DescriptorBucket P)} (fs : List (BucketKey × DescriptorBucket P)) {before after : Ledger}
     (s : ServesKey means (key_of key) room count sets ended (map row_of es) (map row_of fs) before after) {a : Allocations P} {most looks compared marked out : ℕ} (is : seen most looks compared es ≡ a) (counted : IsConsistent most marked room out es)
-    {above : Bool} (test : above ≡ (key.update_after_bind && nat_lt a.limit (count * sum (kinds key.size) + marked_load_of a))) (below : above ≡ false) where
-  sets_within : key.update_after_bind ≡ true → count * sum (kinds key.size) + marked_load_of a ≤ a.limit
-  sets_within = within_of key.update_after_bind a.limit (count * sum (kinds key.size) + marked_load_of a) (sym test ∙ below)
+    {above : Bool} (test : above ≡ (key.update_after_bind && nat_lt a.limit (count * sum (kinds key.counts) + marked_load_of a))) (below : above ≡ false) where
+  sets_within : key.update_after_bind ≡ true → count * sum (kinds key.counts) + marked_load_of a ≤ a.limit
+  sets_within = within_of key.update_after_bind a.limit (count * sum (kinds key.counts) + marked_load_of a) (sym test ∙ below)
 
   -- their descriptors keep the limit
   pub given_fits : {given : ℕ} → given ≡ length sets → set_descriptors (key_of key) given + marked ≤ most
@@ -118,8 +118,8 @@ module _ {L P S : Type 0} {means : Meaning L P S} {key : BucketKey} {room count 
         let load = ap marked_load_of is in
         let limit = ap (λ (x : Allocations P). x.limit) is in
         let is_load = counted.is_load in
-        let product : set_descriptors (key_of key) given ≡ given * sum (kinds key.size) = rw on refl in
-        let le : given * sum (kinds key.size) ≤ count * sum (kinds key.size) = mul-le-mul_right (sum (kinds key.size)) (omega arith) in
+        let product : set_descriptors (key_of key) given ≡ given * sum (kinds key.counts) = rw on refl in
+        let le : given * sum (kinds key.counts) ≤ count * sum (kinds key.counts) = mul-le-mul_right (sum (kinds key.counts)) (omega arith) in
         omega arith)
     | inr off ↦ (let none : set_descriptors (key_of key) given ≡ 0 = rw off refl in let all = counted.within in omega arith)
   ]

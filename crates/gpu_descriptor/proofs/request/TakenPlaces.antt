@@ -1,5 +1,5 @@
 -- What stands at the places of a key's pools once a request took sets of them: an old pool with what it gave, or a new one.
-use Rattle.gpu_descriptor.proofs.Common.{◌≡◌, ◌≢◌, ℕ, zero, suc, take, drop, ◌+◌, ◌≤◌, ◌⊎◌, inl, inr, List, [], ◌∷◌, ◌++◌, length, map, Bool, false, ◌==◌, Option, Some, None, refl, sym, ap, ◌∙◌, subst, arith, cases_Bool, eq-eqb, ne_eqb, eqb-false, or_parts, or_from, length-append, sum_by, sum_by-cons, sum_by-append, slice_get, list_any, if◌then◌else◌, flags_of, Key, Entry, Pool, pool_counts, Fresh, AreNew, AreSized, AreFull, IsFreshList, fresh_entry, fresh_portions, Part, portion_of, came, fresh_or, Portion, offer, share, shared, all_shared, portions_of}
+use Rattle.gpu_descriptor.proofs.Common.{greatest_pool_size, ◌≡◌, ◌≢◌, ℕ, zero, suc, take, drop, ◌+◌, ◌≤◌, ◌⊎◌, inl, inr, List, [], ◌∷◌, ◌++◌, length, map, Bool, false, ◌==◌, Option, Some, None, refl, sym, ap, ◌∙◌, subst, arith, cases_Bool, eq-eqb, ne_eqb, eqb-false, or_parts, or_from, length-append, sum_by, sum_by-cons, sum_by-append, slice_get, list_any, if◌then◌else◌, flags_of, Key, Entry, Pool, pool_counts, Fresh, AreNew, AreSized, AreFull, IsFreshList, fresh_entry, fresh_portions, Part, portion_of, came, fresh_or, Portion, offer, share, shared, all_shared, portions_of}
 use Rattle.gpu_descriptor.specs.Model.FreshPools.IsFreshList.{none as none_fresh, some as some_fresh}
 use Rattle.gpu_descriptor_types.specs.Ledger as ledgers
 use Rattle.gpu_descriptor.proofs.lists.AtPlaces.{none_at}
@@ -136,11 +136,11 @@ taken_named (suc left) n refused (x ∷ es) fs (suc i) e at = taken_named left n
 -- each holds some sets, not too many, and gave no more
 abbrev pub AreMade : List Fresh → Type 0
 AreMade [] = Unit {0}
-AreMade (f ∷ fs) = (1 ≤ f.size) × (f.size ≤ 2147483648) × (f.given ≤ f.size) × AreMade fs
+AreMade (f ∷ fs) = (1 ≤ f.size) × (f.size ≤ greatest_pool_size) × (f.given ≤ f.size) × AreMade fs
 
-pub made_front : (k : Key) (fs : List Fresh) (room total wanted : ℕ) → AreSized k room total wanted fs → AreFull fs → AreMade fs
-made_front k [] room total wanted sized full = tt
-made_front k (f ∷ fs) room total wanted sized full = (sized.0.some, next_small k _ _ _ f.size sized.0, (let is = full.0 in omega arith), made_front k fs _ _ _ sized.1 full.1)
+pub made_prefix : (k : Key) (fs : List Fresh) (room total wanted : ℕ) → AreSized k room total wanted fs → AreFull fs → AreMade fs
+made_prefix k [] room total wanted sized full = tt
+made_prefix k (f ∷ fs) room total wanted sized full = (sized.0.some, next_small k _ _ _ f.size sized.0, (let is = full.0 in omega arith), made_prefix k fs _ _ _ sized.1 full.1)
 
 pub made_list : (k : Key) (front : List Fresh) (last : Fresh) (room total wanted : ℕ) → AreSized k room total wanted (front ++ last ∷ []) → AreFull front → last.given ≤ last.size → AreMade (front ++ last ∷ [])
 made_list k [] last room total wanted sized full few = (sized.0.some, next_small k _ _ _ _ sized.0, few, tt)
@@ -167,7 +167,7 @@ pub record IsNew (k : Key) (ledger : ℕ → Option Pool) (number : ℕ) (fs : L
   pub none : ledger fresh.pool ≡ None
   pub given : given_at fresh.pool (fresh_portions number fs) ≡ fresh.given
   pub there : (o : Option Pool) → fresh_or k fs fresh.pool o ≡ Some (ledgers.fresh (pool_counts k.counts fresh.size) fresh.size (flags_of k))
-  pub made : (1 ≤ fresh.size) × (fresh.size ≤ 2147483648) × (fresh.given ≤ fresh.size)
+  pub made : (1 ≤ fresh.size) × (fresh.size ≤ greatest_pool_size) × (fresh.given ≤ fresh.size)
 
 pub new_stands : (k : Key) (ledger : ℕ → Option Pool) (number : ℕ) (fs : List Fresh) → AreNew ledger fs → AreMade fs → (j : ℕ) (e : Entry) → slice_get (map fresh_entry fs) j ≡ Some e → IsNew k ledger number fs j e
 new_stands k ledger number [] new made j e at = absurd (cc)

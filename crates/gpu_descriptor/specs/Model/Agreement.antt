@@ -3,7 +3,8 @@ use Rattle.std.specs.Prelude.{◌<◌, ◌≡◌, ℕ, ◌+◌, ◌≤◌, Bool,
 use Rattle.std.specs.Option.{option_map_or}
 use Rattle.gpu_descriptor_types.specs.Ledger.{Pool}
 use Rattle.gpu_descriptor_types.specs.Multiset.{HasSize, LiveSet}
-use Rattle.gpu_descriptor_types.specs.PoolSize.{pool_counts}
+use Rattle.gpu_descriptor_types.specs.Flags.{pool_flags}
+use Rattle.gpu_descriptor_types.specs.PoolSize.{greatest_pool_size, pool_counts}
 use Rattle.gpu_descriptor.specs.Model.Books.{Key, key_eq, Entry, Bucket, entry_at, no_pools}
 
 -- the books by key, and the ledger's pools by name: of the ledger no counters
@@ -59,13 +60,13 @@ AreOutstanding m s = (t : Item) → count_of t m ≤ outstanding s t
 
 -- sets go back singly, and UPDATE_AFTER_BIND stands exactly for a marked key
 abbrev pub flags_of : Key → ℕ
-flags_of k = if k.marked then 3 else 1
+flags_of k = pool_flags k.marked
 
 -- the device's pool is as the entry says
 pub record IsAsBooked (k : Key) (pool : Pool) (e : Entry) : Type 0 where
   pub flags : pool.flags ≡ flags_of k
   pub at_least : 1 ≤ pool.capacity
-  pub small : pool.capacity ≤ 2147483648
+  pub small : pool.capacity ≤ greatest_pool_size
   pub capacity : e.capacity ≡ pool.capacity
   pub counts : pool.counts ≡ pool_counts k.counts pool.capacity
   pub sets : (x : LiveSet) → 0 < pool.live x → x.counts ≡ k.counts

@@ -44,15 +44,15 @@ AreNew ledger (f ∷ pools) = (ledger f.pool ≡ None) × (list_any (λ h. h.poo
 
 module _ (k : Key) (room total wanted : ℕ) where
   -- new pools that gave all they have, and sets are still wanting
-  pub record IsFreshFront (pools : List Fresh) : Type 0 where
+  pub record IsFreshPrefix (pools : List Fresh) : Type 0 where
     pub sized : AreSized k room total wanted pools
     pub full : AreFull pools
     pub short : given_by pools < wanted
 
-  -- new pools that gave all that was wanting: none, or a front and one more that has the rest
+  -- new pools that gave all that was wanting: none, or a prefix and one more that has the rest
   pub data IsFreshList (pools : List Fresh) : Type 0 where
     none : wanted ≡ 0 → pools ≡ [] → IsFreshList pools
-    some : (front : List Fresh) (last : Fresh) → pools ≡ front ++ last ∷ [] → IsFreshFront front → AreSized k room total wanted pools → last.given ≤ last.size → given_by pools ≡ wanted → IsFreshList pools
+    some : (prefix : List Fresh) (last : Fresh) → pools ≡ prefix ++ last ∷ [] → IsFreshPrefix prefix → AreSized k room total wanted pools → last.given ≤ last.size → given_by pools ≡ wanted → IsFreshList pools
 
 -- what new pools gave, in order
 abbrev pub fresh_portions : ℕ → List Fresh → List Portion

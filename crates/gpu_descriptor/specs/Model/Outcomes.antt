@@ -14,7 +14,7 @@ use Rattle.gpu_descriptor.specs.Model.Release.{released, pools_gone}
 use Rattle.gpu_descriptor.specs.Model.Load.{allocated_in, pool_descriptors, sets_out, descriptors_out, bucket_load}
 use Rattle.gpu_descriptor.specs.Model.Runs.{runs}
 use Rattle.gpu_descriptor.specs.Model.Shares.{rest, is_asked, all_shared, asked_count, refused_count}
-use Rattle.gpu_descriptor.specs.Model.FreshPools.{IsFreshFront, IsFreshList, room_after}
+use Rattle.gpu_descriptor.specs.Model.FreshPools.{IsFreshPrefix, IsFreshList, room_after}
 use Rattle.gpu_descriptor.specs.Model.Grants.{Grant, IsGrantOf, items_in, granted}
 use Rattle.gpu_descriptor_types.specs.declared.errors.CreatePoolError.TheVariants as create_error
 use Rattle.gpu_descriptor_types.specs.declared.errors.DeviceAllocationError.TheVariants as alloc_error
@@ -106,10 +106,10 @@ abbrev pub StopsAtNew : Stop → Key → ℕ → Type 0
 StopsAtNew (ExistingPoolRefused e) k room = ⊥
 StopsAtNew why k room = (why ≡ NoRoomUnderLimit) ↔ (room < pool_descriptors k 1)
 
--- what had been taken then: of the existing pools, or of all these and a front of new ones
+-- what had been taken then: of the existing pools, or of all these and a prefix of new ones
 abbrev pub StopsAt : Stop → Key → (room n : ℕ) → Grant → List Entry → Type 0
 StopsAt (ExistingPoolRefused e) k room n g old = EndsAtPool n old e g
-StopsAt why k room n g old = (g.skipped ≡ 0) × IsFreshFront k room (allocated_in (all_shared g.refused n old)) (rest g.refused n old) g.fresh × StopsAtNew why k (room_after k room g.fresh)
+StopsAt why k room n g old = (g.skipped ≡ 0) × IsFreshPrefix k room (allocated_in (all_shared g.refused n old)) (rest g.refused n old) g.fresh × StopsAtNew why k (room_after k room g.fresh)
 
 -- ---- the outcomes
 

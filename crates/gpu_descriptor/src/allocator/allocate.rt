@@ -73,7 +73,7 @@ impl<P: Drop, S: Drop> DescriptorAllocator<P, S> {
         let request = SetRequest {
             layout,
             key: BucketKey {
-                size: *layout_descriptor_count,
+                counts: *layout_descriptor_count,
                 update_after_bind,
             },
             count,
@@ -132,10 +132,10 @@ impl<P: Drop, S: Drop> DescriptorAllocator<P, S> {
     /// Whether so many sets would pass the limit on marked descriptors.
     fn is_above_limit(&self, key: &BucketKey, count: u32) -> bool
         ensures { result ≡ (key.now.update_after_bind && nat_lt (self.now.limit)
-            (count * sum (kinds key.now.size) + marked_load_of self.now)) }
+            (count * sum (kinds key.now.counts) + marked_load_of self.now)) }
     {
         let left = self.max_update_after_bind_descriptors_in_all_pools
             - self.update_after_bind_descriptors;
-        key.update_after_bind && u128::from(count) * u128::from(key.size.total()) > u128::from(left)
+        key.update_after_bind && u128::from(count) * u128::from(key.counts.total()) > u128::from(left)
     }
 }

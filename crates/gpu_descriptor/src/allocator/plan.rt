@@ -77,7 +77,7 @@ impl<P, S> DescriptorAllocator<P, S> {
         count: u32,
     ) -> Plan {
         let key = BucketKey {
-            size: *layout_descriptor_count,
+            counts: *layout_descriptor_count,
             update_after_bind,
         };
         let place = self.table.place_of_key(&key);
@@ -101,7 +101,7 @@ impl<P, S> DescriptorAllocator<P, S> {
         let left = self
             .max_update_after_bind_descriptors_in_all_pools
             .saturating_sub(self.update_after_bind_descriptors);
-        key.update_after_bind && u128::from(count) * u128::from(key.size.total()) > u128::from(left)
+        key.update_after_bind && u128::from(count) * u128::from(key.counts.total()) > u128::from(left)
     }
 
     /// The pools at a place of the table.

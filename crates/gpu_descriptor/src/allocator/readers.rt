@@ -38,12 +38,12 @@ impl<P, S> DescriptorAllocator<P, S> {
     }
 
     /// How many pools there are for sets of layouts with these counts and this mark.
-    pub fn pool_count(&self, size: &DescriptorTotalCount, update_after_bind: bool) -> usize
+    pub fn pool_count(&self, counts: &DescriptorTotalCount, update_after_bind: bool) -> usize
         ensures count { result ≡ length (books_of self.now.table
-            (record { counts = kinds size.now; marked = update_after_bind })).pools }
+            (record { counts = kinds counts.now; marked = update_after_bind })).pools }
     {
         let key = BucketKey {
-            size: *size,
+            counts: *counts,
             update_after_bind,
         };
         match self.table.buckets.get(&key) {
@@ -56,15 +56,15 @@ impl<P, S> DescriptorAllocator<P, S> {
     /// this mark, oldest first; `None` past the last.
     pub fn pool(
         &self,
-        size: &DescriptorTotalCount,
+        counts: &DescriptorTotalCount,
         update_after_bind: bool,
         index: usize,
     ) -> Option<PoolView>
         ensures view { result ≡ view_in (books_of self.now.table
-            (record { counts = kinds size.now; marked = update_after_bind })) index }
+            (record { counts = kinds counts.now; marked = update_after_bind })) index }
     {
         let key = BucketKey {
-            size: *size,
+            counts: *counts,
             update_after_bind,
         };
         let bucket = self.table.buckets.get(&key)?;

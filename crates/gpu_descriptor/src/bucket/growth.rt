@@ -1,10 +1,10 @@
 //! How a request takes sets from a new pool of its key.
 ghost use Rattle.std.specs.Prelude.{◌≡◌, ◌+◌, ◌<◌, ◌≤◌, ◌++◌, ◌∷◌, ◌^◌, List, [], length, map};
-ghost use Rattle.std.specs.Prelude.{if◌then◌else◌, true, false, IfErr, IfSome, IfNone, OnOk};
+ghost use Rattle.std.specs.Prelude.{true, false, IfErr, IfSome, IfNone, OnOk};
 ghost use Rattle.std.specs.VecDeque.{deque_capacity};
 ghost use Rattle.gpu_descriptor_types.specs.Counts.{kinds};
-ghost use Rattle.gpu_descriptor_types.specs.Flags.{bits};
-ghost use Rattle.gpu_descriptor_types.specs.PoolSize.{pool_counts as pool_counts_of};
+ghost use Rattle.gpu_descriptor_types.specs.Flags.{bits, pool_flags as pool_flags_of};
+ghost use Rattle.gpu_descriptor_types.specs.PoolSize.{greatest_pool_size, pool_counts as pool_counts_of};
 ghost use Rattle.gpu_descriptor.specs.Caller.Sets.{AreOfLayout};
 ghost use Rattle.gpu_descriptor.specs.Inner.Grow.{IsGrown};
 ghost use Rattle.gpu_descriptor.specs.Inner.KeyOf.{key_of};
@@ -32,7 +32,7 @@ use std::collections::VecDeque;
 
 /// The flags of a new pool: sets go back singly, and it takes marked sets if its key is marked.
 pub(crate) fn pool_flags(update_after_bind: bool) -> DescriptorPoolCreateFlags
-    ensures { bits result ≡ (if update_after_bind then 3 else 1) }
+    ensures { bits result ≡ pool_flags_of update_after_bind }
 {
     let mut flags = DescriptorPoolCreateFlags::FREE_DESCRIPTOR_SET;
     flags.set(
@@ -51,17 +51,17 @@ pub(crate) fn next_size(
     room: u32,
 ) -> Option<(DescriptorTotalCount, u32)>
     ensures sets { IfSome result (λ pool. IsNextSize (key_of key.now) room total wanted pool.1) }
-    ensures counts { IfSome result (λ pool. kinds pool.0 ≡ pool_counts_of (kinds key.now.size)
+    ensures counts { IfSome result (λ pool. kinds pool.0 ≡ pool_counts_of (kinds key.now.counts)
         pool.1) }
-    ensures at_most { IfSome result (λ pool. pool.1 ≤ 2147483648) }
+    ensures at_most { IfSome result (λ pool. pool.1 ≤ greatest_pool_size) }
     ensures room { IfSome result (λ pool. (pool_descriptors (key_of key.now) pool.1 ≤ room)
         × (pool_descriptors (key_of key.now) pool.1 < 2 ^ 32)) }
     ensures none { IfNone result (room < pool_descriptors (key_of key.now) 1) }
 {
     if key.update_after_bind {
-        cut_pool_size(&key.size, total, wanted, room)
+        cut_pool_size(&key.counts, total, wanted, room)
     } else {
-        Some(new_pool_size(&key.size, total, wanted))
+        Some(new_pool_size(&key.counts, total, wanted))
     }
 }
 

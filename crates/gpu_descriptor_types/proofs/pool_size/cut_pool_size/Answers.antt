@@ -10,7 +10,7 @@ use Rattle.gpu_descriptor_types.proofs.pool_size.cut_pool_size.Goals as goal
 pub counts_of_sets-requires : goal.counts_of_sets-requires
 counts_of_sets-requires c = λ k d within.
     let whole = c.new_pool_size-whole.ensures.fits k d within in
-    let less = mul-le-mul_left (slice_index_or (kinds_of c.args.size.now) k d) c.sets_in_room-sets.ensures.at_most in
+    let less = mul-le-mul_left (slice_index_or (kinds_of c.args.counts.now) k d) c.sets_in_room-sets.ensures.at_most in
     omega arith
 
 pub returns-clause-sets : goal.returns-clause-sets
@@ -25,13 +25,13 @@ pub returns-clause-within : goal.returns-clause-within
 returns-clause-within c =
     let cut = c.sets_in_room-sets.ensures.sets ∙ ap (λ each. sets_in_room_of c.args.room each c.new_pool_size-whole.result.1) c.total.ensures.sum in
     let some = c.if-sets-eq0.false in
-    let fits = fits_in_room c.args.room (sum (kinds_of c.args.size.now)) c.new_pool_size-whole.result.1 c.sets_in_room-sets.result cut (omega arith) in
-    let all = ap sum c.counts_of_sets.ensures ∙ pool_counts_sum (kinds_of c.args.size.now) c.sets_in_room-sets.result (omega arith) in
+    let fits = fits_in_room c.args.room (sum (kinds_of c.args.counts.now)) c.new_pool_size-whole.result.1 c.sets_in_room-sets.result cut (omega arith) in
+    let all = ap sum c.counts_of_sets.ensures ∙ pool_counts_sum (kinds_of c.args.counts.now) c.sets_in_room-sets.result (omega arith) in
     omega arith
 
 pub returns-clause-whole : goal.returns-clause-whole
 returns-clause-whole c = λ sets is fits.
     let cut = c.sets_in_room-sets.ensures.sets ∙ ap (λ each. sets_in_room_of c.args.room each c.new_pool_size-whole.result.1) c.total.ensures.sum in
-    let same = pool_size_once (kinds_of c.args.size.now) c.args.total c.args.wanted c.new_pool_size-whole.result.1 sets c.new_pool_size-whole.ensures.sets is in
-    let room : max 1 (c.new_pool_size-whole.result.1 * sum (kinds_of c.args.size.now)) ≤ c.args.room = subst (λ n. max 1 (n * sum (kinds_of c.args.size.now)) ≤ c.args.room) (sym same) fits in
-    cut ∙ all_in_room c.args.room (sum (kinds_of c.args.size.now)) c.new_pool_size-whole.result.1 room ∙ same
+    let same = pool_size_once (kinds_of c.args.counts.now) c.args.total c.args.wanted c.new_pool_size-whole.result.1 sets c.new_pool_size-whole.ensures.sets is in
+    let room : max 1 (c.new_pool_size-whole.result.1 * sum (kinds_of c.args.counts.now)) ≤ c.args.room = subst (λ n. max 1 (n * sum (kinds_of c.args.counts.now)) ≤ c.args.room) (sym same) fits in
+    cut ∙ all_in_room c.args.room (sum (kinds_of c.args.counts.now)) c.new_pool_size-whole.result.1 room ∙ same

@@ -6,10 +6,10 @@ use Rattle.gpu_descriptor_types.proofs.Least.{fold_min-le-first}
 use Rattle.gpu_descriptor_types.proofs.pool_size.new_pool_size.Goals as goal
 
 pub counts_of_sets-requires : goal.counts_of_sets-requires
-counts_of_sets-requires c = λ k d within. rw (c.set_count-sets.ensures.least, c.to_array-kinds.ensures) (pool_fits (kinds_of c.args.size.now) c.rounded_up.result k d within)
+counts_of_sets-requires c = λ k d within. rw (c.set_count-sets.ensures.least, c.to_array-kinds.ensures) (pool_fits (kinds_of c.args.counts.now) c.rounded_up.result k d within)
 
 pub returns-clause-fits : goal.returns-clause-fits
-returns-clause-fits c = λ k d within. rw (c.set_count-sets.ensures.least, c.to_array-kinds.ensures) (pool_fits (kinds_of c.args.size.now) c.rounded_up.result k d within)
+returns-clause-fits c = λ k d within. rw (c.set_count-sets.ensures.least, c.to_array-kinds.ensures) (pool_fits (kinds_of c.args.counts.now) c.rounded_up.result k d within)
 
 pub returns-clause-sets : goal.returns-clause-sets
 returns-clause-sets c = record {
@@ -26,7 +26,7 @@ returns-clause-at_most c =
     omega arith
 
 pub returns-clause-below_twice : goal.returns-clause-below_twice
-returns-clause-below_twice c = pool_size_below (kinds_of c.args.size.now) c.args.total c.args.wanted _ (returns-clause-sets c)
+returns-clause-below_twice c = pool_size_below (kinds_of c.args.counts.now) c.args.total c.args.wanted _ (returns-clause-sets c)
 
 pub returns-clause-at_least : goal.returns-clause-at_least
-returns-clause-at_least c = pool_size_some (kinds_of c.args.size.now) c.args.total c.args.wanted _ (returns-clause-sets c)
+returns-clause-at_least c = pool_size_some (kinds_of c.args.counts.now) c.args.total c.args.wanted _ (returns-clause-sets c)

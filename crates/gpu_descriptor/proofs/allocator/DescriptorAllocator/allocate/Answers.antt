@@ -10,7 +10,7 @@ use Rattle.gpu_descriptor.proofs.allocator.DescriptorAllocator.allocate.Goals.{A
 use Rattle.gpu_descriptor.proofs.allocator.DescriptorAllocator.allocate.Goals as goal
 
 -- the key of the request is that of the layout
-keyed : (g : _) (c : After-contains-update_after_bind g) → key_of (record { size = c.args.layout_descriptor_count.now; update_after_bind = c.contains-update_after_bind.result }) ≡ layout_key g.D.DescriptorDevice.meaning c.args.layout.now
+keyed : (g : _) (c : After-contains-update_after_bind g) → key_of (record { counts = c.args.layout_descriptor_count.now; update_after_bind = c.contains-update_after_bind.result }) ≡ layout_key g.D.DescriptorDevice.meaning c.args.layout.now
 keyed g c = λ i. record { counts = c.requires.counts i; marked = (c.contains-update_after_bind.ensures tt ∙ c.requires.mark) i }
 
 -- what the request took, under the layout's key

@@ -1,4 +1,4 @@
-use Rattle.gpu_descriptor.proofs.Common.{key_of, ◌≡◌, ℕ, List, set, ◌+◌, ◌<◌, ◌≤◌, ◌-◌, rules, arith, sym, refl, ◌∙◌, ap, subst, length, map, slice_get, [], ◌∷◌, Some, length-set, eqb-true, length-map, slice_get_read, DescriptorPool, Ledger, after_release, LiveSet, DescriptorSet, live_in, Entry, IsNonDecreasing, AreBookedIn, trimmed_bucket, trimmed_ledger, IsTakenAt, names_of, free_in, entry_less, bucket_of, entry_of, binary_digits}
+use Rattle.gpu_descriptor.proofs.Common.{greatest_pool_size, key_of, ◌≡◌, ℕ, List, set, ◌+◌, ◌<◌, ◌≤◌, ◌-◌, rules, arith, sym, refl, ◌∙◌, ap, subst, length, map, slice_get, [], ◌∷◌, Some, length-set, eqb-true, length-map, slice_get_read, DescriptorPool, Ledger, after_release, LiveSet, DescriptorSet, live_in, Entry, IsNonDecreasing, AreBookedIn, trimmed_bucket, trimmed_ledger, IsTakenAt, names_of, free_in, entry_less, bucket_of, entry_of, binary_digits}
 use Rattle.gpu_descriptor.proofs.sums.PoolLoads.{stored_put}
 use Rattle.gpu_descriptor.proofs.lists.OpenNumbers.{open_rises}
 use Rattle.gpu_descriptor.proofs.lists.OpenList.{listed_again, fewer_listed}
@@ -29,7 +29,7 @@ at : (g : _) (c : After-index_mut-pool g) → slice_get (bucket_of g.D.Descripto
 at g c = read_first g.D.DescriptorDevice.meaning.pool_name c.args.first.key.is c.args.first.number (g.D.DescriptorDevice.meaning.set_name c.args.first.raw ∷ []) c.args.self.now.id c.args.self.now.offset c.args.self.now.pools.items (g.D.DescriptorDevice.ledger c.args.device.now).pools c.index_mut-pool.result.now
     (c.requires.taken [] c.args.sets.now refl tt) c.index_mut-pool.ensures.value
 
-room : (g : _) (c : After-index_mut-pool g) → c.index_mut-pool.result.now.allocated + c.index_mut-pool.result.now.available ≤ 2147483648
+room : (g : _) (c : After-index_mut-pool g) → c.index_mut-pool.result.now.allocated + c.index_mut-pool.result.now.available ≤ greatest_pool_size
 room g c = place_room c.args.first.key.is (bucket_of g.D.DescriptorDevice.meaning.pool_name c.args.self.now) (g.D.DescriptorDevice.ledger c.args.device.now).pools (c.args.first.number - c.args.self.now.offset) (entry_of g.D.DescriptorDevice.meaning.pool_name c.index_mut-pool.result.now) c.requires.stored (at g c)
 
 -- the place is within
