@@ -32,10 +32,7 @@ had_taken (Err why) k room n items old new l m t = record { g = t.0; grant = t.2
   where
     made_before : (why : Stop) → StopsAt why k room n t.0 old.pools → AreMade t.0.fresh
     made_before (stop.ExistingPoolRefused e) at = subst AreMade (sym at.no_fresh) tt
-    made_before stop.NoRoomUnderLimit at = made_prefix k t.0.fresh _ _ _ at.1.sized at.1.full
-    made_before stop.NoMemoryForPool at = made_prefix k t.0.fresh _ _ _ at.1.sized at.1.full
-    made_before (stop.PoolNotCreated e) at = made_prefix k t.0.fresh _ _ _ at.1.sized at.1.full
-    made_before (stop.NewPoolRefused e) at = made_prefix k t.0.fresh _ _ _ at.1.sized at.1.full
+    made_before why at = made_prefix k t.0.fresh _ _ _ at.1.sized at.1.full
 
 module _ {L P S : Type 0} {means : Meaning L P S} {k : Key} {count : ℕ} {sets : List (DescriptorSet S)} {ended : Result (Unit {0}) Stop} {old new : Allocations P} {before after : Ledger}
     (t : Takes means k count sets ended (side old before) (side new after)) (agree : Agree (state_of means.pool_name old before)) where

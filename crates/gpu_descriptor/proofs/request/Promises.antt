@@ -3,7 +3,7 @@ use Rattle.gpu_descriptor.proofs.Common.{◌≡◌, ◌≢◌, ℕ, suc, ◌+◌
 use Rattle.gpu_descriptor_types.proofs.Sizes.{pool_size_some}
 use Rattle.gpu_descriptor_types.specs.declared.errors.CreatePoolError.TheVariants as create_error
 use Rattle.gpu_descriptor_types.specs.declared.errors.DeviceAllocationError.TheVariants as alloc_error
-use Rattle.gpu_descriptor.specs.declared.bucket.stop.Stop.TheVariants.{ExistingPoolRefused, NoRoomUnderLimit, NoMemoryForPool, PoolNotCreated, NewPoolRefused}
+use Rattle.gpu_descriptor.specs.declared.bucket.stop.Stop.TheVariants as stop
 use Rattle.gpu_descriptor.specs.Model.Outcomes.Allocates.{none, above_limit as was_above_limit, past_bound as was_past_bound, no_memory_at_start as had_no_memory, done, stopped}
 use Rattle.gpu_descriptor.specs.Model.FreshPools.IsFreshList.{none as no_fresh, some as some_fresh}
 use Rattle.gpu_descriptor.specs.Model.Promises.IsFragmentation.{above_limit, past_bound, no_room_under_limit, pool_not_created, new_pool_refused}
@@ -48,16 +48,16 @@ abbrev Stops : Call → Stop → Grant → ℕ → Type 0
 Stops c why g pooled = StopsAt why c.key (c.limit - pooled) c.count g (c.old.books c.key).pools
 
 stop_cause : (c : Call) (s : IsStopped c) (why : Stop) → s.why ≡ why → IsBack c s.grant why → Stops c why s.grant s.pooled → HasCause (stop_answer why) c
-stop_cause c s (ExistingPoolRefused e) is back at = memory_cause c s.grant (ExistingPoolRefused e) back e at.memory refl refl
-stop_cause c s NoRoomUnderLimit is back at = no_room_under_limit s is
-stop_cause c s NoMemoryForPool is back at = no_memory_for_pool s is
-stop_cause c s (PoolNotCreated create_error.OutOfDeviceMemory) is back at = (let n = ap (λ (k : Counters). k.device_memory) back.counters in omega arith)
-stop_cause c s (PoolNotCreated create_error.OutOfHostMemory) is back at = (let n = ap (λ (k : Counters). k.host_memory) back.counters in device_refused (omega arith))
-stop_cause c s (PoolNotCreated create_error.Fragmentation) is back at = (let n = ap (λ (k : Counters). k.fragmentation) back.counters in pool_not_created s is (omega arith))
-stop_cause c s (NewPoolRefused alloc_error.OutOfDeviceMemory) is back at = memory_cause c s.grant _ back alloc_error.OutOfDeviceMemory refl refl refl
-stop_cause c s (NewPoolRefused alloc_error.OutOfHostMemory) is back at = memory_cause c s.grant _ back alloc_error.OutOfHostMemory refl refl refl
-stop_cause c s (NewPoolRefused alloc_error.FragmentedPool) is back at = (let n = ap (λ (k : Counters). k.pool_refused) back.counters in new_pool_refused s alloc_error.FragmentedPool is refl (omega arith))
-stop_cause c s (NewPoolRefused alloc_error.OutOfPoolMemory) is back at = (let n = ap (λ (k : Counters). k.pool_refused) back.counters in new_pool_refused s alloc_error.OutOfPoolMemory is refl (omega arith))
+stop_cause c s (stop.ExistingPoolRefused e) is back at = memory_cause c s.grant (stop.ExistingPoolRefused e) back e at.memory refl refl
+stop_cause c s stop.NoRoomUnderLimit is back at = no_room_under_limit s is
+stop_cause c s stop.NoMemoryForPool is back at = no_memory_for_pool s is
+stop_cause c s (stop.PoolNotCreated create_error.OutOfDeviceMemory) is back at = (let n = ap (λ (k : Counters). k.device_memory) back.counters in omega arith)
+stop_cause c s (stop.PoolNotCreated create_error.OutOfHostMemory) is back at = (let n = ap (λ (k : Counters). k.host_memory) back.counters in device_refused (omega arith))
+stop_cause c s (stop.PoolNotCreated create_error.Fragmentation) is back at = (let n = ap (λ (k : Counters). k.fragmentation) back.counters in pool_not_created s is (omega arith))
+stop_cause c s (stop.NewPoolRefused alloc_error.OutOfDeviceMemory) is back at = memory_cause c s.grant _ back alloc_error.OutOfDeviceMemory refl refl refl
+stop_cause c s (stop.NewPoolRefused alloc_error.OutOfHostMemory) is back at = memory_cause c s.grant _ back alloc_error.OutOfHostMemory refl refl refl
+stop_cause c s (stop.NewPoolRefused alloc_error.FragmentedPool) is back at = (let n = ap (λ (k : Counters). k.pool_refused) back.counters in new_pool_refused s alloc_error.FragmentedPool is refl (omega arith))
+stop_cause c s (stop.NewPoolRefused alloc_error.OutOfPoolMemory) is back at = (let n = ap (λ (k : Counters). k.pool_refused) back.counters in new_pool_refused s alloc_error.OutOfPoolMemory is refl (omega arith))
 
 -- ---- pools are created only where the existing ones don't do
 
@@ -122,7 +122,7 @@ create_creates : (e : CreatePoolError) → (create_refused e no_rise).created �
 create_creates e = grind arith
 
 -- there was room where it stopped for another reason
-fits : {why : Stop} {one room : ℕ} → (why ≡ NoRoomUnderLimit) ↔ (room < one) → why ≢ NoRoomUnderLimit → one ≤ room
+fits : {why : Stop} {one room : ℕ} → (why ≡ stop.NoRoomUnderLimit) ↔ (room < one) → why ≢ stop.NoRoomUnderLimit → one ≤ room
 fits {one = one} {room = room} told other = elim (cases_lt room one) [ inl lt ↦ absurd (other (told.1 lt)) | inr le ↦ le ]
 
 module _ (c : Call) where
@@ -139,15 +139,15 @@ module _ (c : Call) where
   has_cause (stopped p s) = answered _ s.back.answer (stop_cause c s s.why refl s.back s.at)
 
   stop_short : (s : IsStopped c) (why : Stop) → IsBack c s.grant why → Stops c why s.grant s.pooled → c.before.created < c.after.created → IsShort c s.grant
-  stop_short s (ExistingPoolRefused e) back at more =
+  stop_short s (stop.ExistingPoolRefused e) back at more =
       let n = ap (λ (k : Counters). k.created) back.counters in
       let none = alloc_creates e in
       let f = ap length at.no_fresh in
       absurd (omega arith)
-  stop_short s NoRoomUnderLimit back at more = prefix_short c s NoRoomUnderLimit _ back at.1 (inl (omega arith))
-  stop_short s NoMemoryForPool back at more = prefix_short c s NoMemoryForPool _ back at.1 (inl (omega arith))
-  stop_short s (PoolNotCreated e) back at more = prefix_short c s (PoolNotCreated e) _ back at.1 (inl (ap (λ n. n * pool_size_floor c.key.counts) (create_creates e) ∙ (omega arith)))
-  stop_short s (NewPoolRefused e) back at more = prefix_short c s (NewPoolRefused e) _ back at.1 (inr ((omega arith), fits at.2 (λ same. absurd (cc))))
+  stop_short s stop.NoRoomUnderLimit back at more = prefix_short c s stop.NoRoomUnderLimit _ back at.1 (inl (omega arith))
+  stop_short s stop.NoMemoryForPool back at more = prefix_short c s stop.NoMemoryForPool _ back at.1 (inl (omega arith))
+  stop_short s (stop.PoolNotCreated e) back at more = prefix_short c s (stop.PoolNotCreated e) _ back at.1 (inl (ap (λ n. n * pool_size_floor c.key.counts) (create_creates e) ∙ (omega arith)))
+  stop_short s (stop.NewPoolRefused e) back at more = prefix_short c s (stop.NewPoolRefused e) _ back at.1 (inr ((omega arith), fits at.2 (λ same. absurd (cc))))
 
   -- a pool is created only where the existing ones don't do
   pub short : (outcome : Allocates c) → CreatesOnlyWhereShort outcome

@@ -2,7 +2,7 @@
 use Rattle.std.specs.Prelude.{if◌then◌else◌, ◌≡◌, ℕ, ◌+◌, ◌-◌, ◌&&◌, Bool, true, nat_lt, min, List, [], length}
 use Rattle.gpu_descriptor_types.specs.Ledger.{Ledger, live_sets, on_pool, pool_refusals, no_rise}
 use Rattle.gpu_descriptor.specs.declared.bucket.stop.Stop.{Stop}
-use Rattle.gpu_descriptor.specs.declared.bucket.stop.Stop.TheVariants.{ExistingPoolRefused}
+use Rattle.gpu_descriptor.specs.declared.bucket.stop.Stop.TheVariants as stop
 use Rattle.gpu_descriptor_types.specs.declared.errors.DeviceAllocationError.{DeviceAllocationError}
 use Rattle.gpu_descriptor.specs.Model.Books.{Key, Entry, Bucket}
 use Rattle.gpu_descriptor.specs.Model.Agreement.{Item}
@@ -28,7 +28,7 @@ pub record IsRefused (why : Stop) (before after : Ledger) : Type 0 where
 pub record IsNoMemory (wanted : ℕ) (e : Entry) (error : DeviceAllocationError) (before after : Ledger) : Type 0 where
   pub asked : nat_lt 0 e.available && nat_lt 0 wanted ≡ true
   pub memory : pool_refusals error ≡ 0
-  pub refused : IsRefused (ExistingPoolRefused error) before after
+  pub refused : IsRefused (stop.ExistingPoolRefused error) before after
 
 -- a request of n sets took so much of a key's pools, and these sets came
 pub record HasTaken (k : Key) (n : ℕ) (g : Grant) (items : List Item) (old new : Bucket) (before after : Ledger) : Type 0 where

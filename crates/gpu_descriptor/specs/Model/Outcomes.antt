@@ -7,7 +7,7 @@ use Rattle.gpu_descriptor.specs.declared.errors.AllocationError.{AllocationError
 use Rattle.gpu_descriptor.specs.declared.errors.AllocationError.TheVariants.{OutOfDeviceMemory, OutOfHostMemory, Fragmentation}
 use Rattle.gpu_descriptor_types.specs.Ledger.{Counters, no_rise, create_refused, alloc_refused, pool_refusals}
 use Rattle.gpu_descriptor.specs.declared.bucket.stop.Stop.{Stop}
-use Rattle.gpu_descriptor.specs.declared.bucket.stop.Stop.TheVariants.{ExistingPoolRefused, NoRoomUnderLimit, NoMemoryForPool, PoolNotCreated, NewPoolRefused}
+use Rattle.gpu_descriptor.specs.declared.bucket.stop.Stop.TheVariants as stop
 use Rattle.gpu_descriptor.specs.Model.Books.{Key, Entry, next_number, AddsUp}
 use Rattle.gpu_descriptor.specs.Model.Agreement.{State, Item}
 use Rattle.gpu_descriptor.specs.Model.Release.{released, pools_gone}
@@ -76,19 +76,19 @@ pub record Call : Type 0 where
 
 -- what the request answers then
 abbrev pub stop_answer : Stop → AllocationError
-stop_answer (ExistingPoolRefused error) = error_of_alloc error
-stop_answer NoRoomUnderLimit = Fragmentation
-stop_answer NoMemoryForPool = OutOfHostMemory
-stop_answer (PoolNotCreated error) = error_of_create error
-stop_answer (NewPoolRefused error) = error_of_alloc error
+stop_answer (stop.ExistingPoolRefused error) = error_of_alloc error
+stop_answer stop.NoRoomUnderLimit = Fragmentation
+stop_answer stop.NoMemoryForPool = OutOfHostMemory
+stop_answer (stop.PoolNotCreated error) = error_of_create error
+stop_answer (stop.NewPoolRefused error) = error_of_alloc error
 
 -- by how much it raises the counters. A new pool that refused was created and destroyed
 abbrev pub stop_rise : Stop → Counters
-stop_rise (ExistingPoolRefused e) = alloc_refused e no_rise
-stop_rise NoRoomUnderLimit = no_rise
-stop_rise NoMemoryForPool = no_rise
-stop_rise (PoolNotCreated e) = create_refused e no_rise
-stop_rise (NewPoolRefused e) = let asked = alloc_refused e no_rise in record asked { created = 1; destroyed = 1 }
+stop_rise (stop.ExistingPoolRefused e) = alloc_refused e no_rise
+stop_rise stop.NoRoomUnderLimit = no_rise
+stop_rise stop.NoMemoryForPool = no_rise
+stop_rise (stop.PoolNotCreated e) = create_refused e no_rise
+stop_rise (stop.NewPoolRefused e) = let asked = alloc_refused e no_rise in record asked { created = 1; destroyed = 1 }
 
 -- what a request of n sets took of these pools ends at one that was asked and answered a memory error. The newer ones were asked before it, where they had places
 pub record EndsAtPool (n : ℕ) (pools : List Entry) (error : DeviceAllocationError) (g : Grant) : Type 0 where
@@ -103,12 +103,12 @@ pub record EndsAtPool (n : ℕ) (pools : List Entry) (error : DeviceAllocationEr
 
 -- no new pool came: for want of room exactly where not even one of one set fits
 abbrev pub StopsAtNew : Stop → Key → ℕ → Type 0
-StopsAtNew (ExistingPoolRefused e) k room = ⊥
-StopsAtNew why k room = (why ≡ NoRoomUnderLimit) ↔ (room < pool_descriptors k 1)
+StopsAtNew (stop.ExistingPoolRefused e) k room = ⊥
+StopsAtNew why k room = (why ≡ stop.NoRoomUnderLimit) ↔ (room < pool_descriptors k 1)
 
 -- what had been taken then: of the existing pools, or of all these and a prefix of new ones
 abbrev pub StopsAt : Stop → Key → (room n : ℕ) → Grant → List Entry → Type 0
-StopsAt (ExistingPoolRefused e) k room n g old = EndsAtPool n old e g
+StopsAt (stop.ExistingPoolRefused e) k room n g old = EndsAtPool n old e g
 StopsAt why k room n g old = (g.skipped ≡ 0) × IsFreshPrefix k room (allocated_in (all_shared g.refused n old)) (rest g.refused n old) g.fresh × StopsAtNew why k (room_after k room g.fresh)
 
 -- ---- the outcomes

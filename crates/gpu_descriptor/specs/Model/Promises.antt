@@ -7,7 +7,7 @@ use Rattle.gpu_descriptor_types.specs.PoolSize.{pool_size_floor, start_size}
 use Rattle.gpu_descriptor.specs.declared.errors.AllocationError.{AllocationError}
 use Rattle.gpu_descriptor.specs.declared.errors.AllocationError.TheVariants.{OutOfDeviceMemory, OutOfHostMemory, Fragmentation}
 use Rattle.gpu_descriptor_types.specs.declared.errors.DeviceAllocationError.{DeviceAllocationError}
-use Rattle.gpu_descriptor.specs.declared.bucket.stop.Stop.TheVariants.{NoRoomUnderLimit, NoMemoryForPool, PoolNotCreated, NewPoolRefused}
+use Rattle.gpu_descriptor.specs.declared.bucket.stop.Stop.TheVariants as stop
 use Rattle.gpu_descriptor.specs.Model.Books.{Key, Entry, entry_at, key_eq}
 use Rattle.gpu_descriptor.specs.Model.Agreement.{State, Item, count_of, outstanding}
 use Rattle.gpu_descriptor.specs.Model.Outcomes.{Call, IsAboveLimit, IsPastBound, IsStopped, Proceeds, Stays, taken_by, out_then, wanting, Allocates}
@@ -36,9 +36,9 @@ module _ (c : Call) where
   pub data IsFragmentation : Type 0 where
     above_limit : IsAboveLimit c → IsFragmentation
     past_bound : IsPastBound c → IsFragmentation
-    no_room_under_limit : (s : IsStopped c) → s.why ≡ NoRoomUnderLimit → IsFragmentation
-    pool_not_created : (s : IsStopped c) → s.why ≡ PoolNotCreated create_error.Fragmentation → c.before.fragmentation < c.after.fragmentation → IsFragmentation
-    new_pool_refused : (s : IsStopped c) (e : DeviceAllocationError) → s.why ≡ NewPoolRefused e → pool_refusals e ≡ 1 → c.before.pool_refused < c.after.pool_refused → IsFragmentation
+    no_room_under_limit : (s : IsStopped c) → s.why ≡ stop.NoRoomUnderLimit → IsFragmentation
+    pool_not_created : (s : IsStopped c) → s.why ≡ stop.PoolNotCreated create_error.Fragmentation → c.before.fragmentation < c.after.fragmentation → IsFragmentation
+    new_pool_refused : (s : IsStopped c) (e : DeviceAllocationError) → s.why ≡ stop.NewPoolRefused e → pool_refusals e ≡ 1 → c.before.pool_refused < c.after.pool_refused → IsFragmentation
 
   -- the three causes of OutOfHostMemory: the device said so, or a growth was refused or no id left, which no counter shows
   pub data IsHostMemory : Type 0 where
@@ -46,7 +46,7 @@ module _ (c : Call) where
     -- no memory for the answer or the key, or no id left: nothing changed
     no_memory_at_start : Proceeds c → Stays c → IsHostMemory
     -- for the books of a new pool
-    no_memory_for_pool : (s : IsStopped c) → s.why ≡ NoMemoryForPool → IsHostMemory
+    no_memory_for_pool : (s : IsStopped c) → s.why ≡ stop.NoMemoryForPool → IsHostMemory
 
   -- the existing pools don't do: those that refused aside, they have fewer known free places than are wanted. A new pool that refused was destroyed at once: few counts it, below_twice does not
   pub record IsShort (g : Grant) : Type 0 where

@@ -103,8 +103,6 @@ fn walk<'k, L, P, S, D: DescriptorDevice<L, P, S>>(
         → AreOfLayout D.meaning request.now.layout.now sink.new.sets.items }
     ensures pools { length view.new.pools.now.items ≡ length view.old.pools.now.items }
     ensures capacity { deque_capacity view.new.listed.now ≡ deque_capacity view.old.listed.now }
-    ensures given { length sink.new.sets.items + sink.new.left
-        ≡ length sink.old.sets.items + request.now.count }
     ensures listed { IsListed view.new }
     ensures kept { KeepsView view.old view.new }
     ensures looks { CountsLooks view.old.looks.now.count view.new.looks.now.count
