@@ -136,6 +136,7 @@ impl<P: Drop, S: Drop> DescriptorAllocator<P, S> {
     {
         let left = self.max_update_after_bind_descriptors_in_all_pools
             - self.update_after_bind_descriptors;
-        key.update_after_bind && u128::from(count) * u128::from(key.counts.total()) > u128::from(left)
+        key.update_after_bind
+            && u128::from(count) * u128::from(key.counts.total()) > u128::from(left)
     }
 }

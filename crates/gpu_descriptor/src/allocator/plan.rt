@@ -101,7 +101,8 @@ impl<P, S> DescriptorAllocator<P, S> {
         let left = self
             .max_update_after_bind_descriptors_in_all_pools
             .saturating_sub(self.update_after_bind_descriptors);
-        key.update_after_bind && u128::from(count) * u128::from(key.counts.total()) > u128::from(left)
+        key.update_after_bind
+            && u128::from(count) * u128::from(key.counts.total()) > u128::from(left)
     }
 
     /// The pools at a place of the table.

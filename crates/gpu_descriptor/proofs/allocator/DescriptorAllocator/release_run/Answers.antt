@@ -1,4 +1,4 @@
-use Rattle.gpu_descriptor.proofs.Common.{EndsRun, RunsInto, names_of, bucket_of, length, trimmed_bucket, trimmed_ledger, ◌≡◌, ◌+◌, ◌-◌, ℕ, arith, refl, sym, ap, ◌∙◌, List, [], ◌∷◌, Some, option_map, slice_get, subst, IsDistinct, Bucket, Key, key_eq, key_of, Allocations, DescriptorSet, items_of, state_of, binary_digits, rise_below, stored_load, set_descriptors}
+use Rattle.gpu_descriptor.proofs.Common.{EndsRun, RunsInto, names_of, bucket_of, length, trimmed_bucket, trimmed_ledger, ◌≡◌, ◌+◌, ◌-◌, ℕ, arith, refl, sym, ap, ◌∙◌, List, [], ◌∷◌, Some, subst, IsDistinct, Bucket, Key, key_eq, key_of, Allocations, DescriptorSet, items_of, state_of, binary_digits, rise_below, stored_load, set_descriptors}
 use Rattle.indexmap.specs.Layout.{set_value_at}
 use Rattle.gpu_descriptor.specs.Inner.RunSteps.{at_place}
 use Rattle.gpu_descriptor.proofs.callers.HeldSets.{out_back, out_less}

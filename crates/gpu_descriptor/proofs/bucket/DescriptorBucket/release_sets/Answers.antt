@@ -1,4 +1,4 @@
-use Rattle.gpu_descriptor.proofs.Common.{greatest_pool_size, key_of, ◌≡◌, ℕ, List, set, ◌+◌, ◌<◌, ◌≤◌, ◌-◌, rules, arith, sym, refl, ◌∙◌, ap, subst, length, map, slice_get, [], ◌∷◌, Some, length-set, eqb-true, length-map, slice_get_read, DescriptorPool, Ledger, after_release, LiveSet, DescriptorSet, live_in, Entry, IsNonDecreasing, AreBookedIn, trimmed_bucket, trimmed_ledger, IsTakenAt, names_of, free_in, entry_less, bucket_of, entry_of, binary_digits}
+use Rattle.gpu_descriptor.proofs.Common.{greatest_pool_size, ◌≡◌, ℕ, List, set, ◌+◌, ◌<◌, ◌≤◌, ◌-◌, rules, arith, sym, refl, ◌∙◌, ap, subst, length, map, slice_get, [], ◌∷◌, Some, length-set, eqb-true, length-map, slice_get_read, DescriptorPool, Ledger, after_release, LiveSet, DescriptorSet, live_in, Entry, IsNonDecreasing, AreBookedIn, IsTakenAt, free_in, entry_less, bucket_of, entry_of, binary_digits}
 use Rattle.gpu_descriptor.proofs.sums.PoolLoads.{stored_put}
 use Rattle.gpu_descriptor.proofs.lists.OpenNumbers.{open_rises}
 use Rattle.gpu_descriptor.proofs.lists.OpenList.{listed_again, fewer_listed}
