@@ -1,9 +1,9 @@
 //! Why a request is refused.
 ghost use Rattle.std.specs.Prelude.{◌≡◌, Some};
-ghost use Rattle.gpu_descriptor.specs.Model.Outcomes.{error_of_alloc, error_of_create};
+ghost use Rattle.gpu_descriptor.specs.Model.Outcomes.{error_of_create};
 ghost use Rattle.gpu_descriptor.specs.Caller.Errors.{error_text};
 
-use gpu_descriptor_types::{CreatePoolError, DeviceAllocationError};
+use gpu_descriptor_types::CreatePoolError;
 use std::error::Error;
 use std::fmt;
 
@@ -48,21 +48,6 @@ impl From<CreatePoolError> for AllocationError {
             CreatePoolError::OutOfDeviceMemory => AllocationError::OutOfDeviceMemory,
             CreatePoolError::OutOfHostMemory => AllocationError::OutOfHostMemory,
             CreatePoolError::Fragmentation => AllocationError::Fragmentation,
-        }
-    }
-}
-
-/// A pool that refuses for its own sake counts as fragmentation.
-impl From<DeviceAllocationError> for AllocationError {
-    ghost from_gives = { λ error result. result ≡ error_of_alloc error };
-
-    fn from(error: DeviceAllocationError) -> AllocationError {
-        match error {
-            DeviceAllocationError::OutOfDeviceMemory => AllocationError::OutOfDeviceMemory,
-            DeviceAllocationError::OutOfHostMemory => AllocationError::OutOfHostMemory,
-            DeviceAllocationError::FragmentedPool | DeviceAllocationError::OutOfPoolMemory => {
-                AllocationError::Fragmentation
-            }
         }
     }
 }
