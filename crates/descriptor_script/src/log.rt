@@ -1,8 +1,8 @@
 //! The list of a device's calls, over room that is taken ahead.
-ghost use Rattle.std.specs.Prelude.{◌≡◌, ◌+◌, ◌<◌, ◌≤◌, ◌++◌, [], ◌∷◌, IsTrue, vec_len};
+ghost use Rattle.std.specs.Prelude.{◌≡◌, ◌+◌, ◌<◌, ◌≤◌, ◌++◌, [], ◌∷◌, OnOk, vec_len};
 ghost use Rattle.std.specs.Prelude.{vec_capacity};
 
-use std::alloc::Global;
+use std::alloc::{AllocError, Global};
 
 /// A call that the device granted.
 #[derive(Clone, Copy, Debug, PartialEq, Eq)]
@@ -43,15 +43,15 @@ impl Log {
         }
     }
 
-    /// Takes room for so many calls more. Whether it is there.
-    pub(crate) fn reserve(&mut self, more: usize) -> bool
-        ensures room { IsTrue result → HasLogRoom more self.new }
+    /// Takes room for so many calls more.
+    pub(crate) fn reserve(&mut self, more: usize) -> Result<(), AllocError>
+        ensures room { OnOk result (HasLogRoom more self.new) }
         ensures calls { self.new.calls.items ≡ self.old.calls.items }
         ensures owed { self.new.owed ≡ self.old.owed }
     {
         match self.owed.checked_add(more) {
-            Some(all) => self.calls.reserve(all).is_ok(),
-            None => false,
+            Some(all) => self.calls.reserve(all),
+            None => Err(AllocError),
         }
     }
 

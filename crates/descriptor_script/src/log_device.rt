@@ -144,7 +144,7 @@ impl DescriptorDevice<ScriptLayout, RawPool, RawSet> for LogDevice {
             ++ Call.Create (pool_id pool) ∷ []) }
         ensures unlisted { OnErr result (calls_of self.new ≡ calls_of self.old) }
     {
-        if !self.log.reserve(2) {
+        if self.log.reserve(2).is_err() {
             let error = CreatePoolError::OutOfHostMemory;
             self.device.refuse_create(error);
             return Err(error);
@@ -209,7 +209,7 @@ impl DescriptorDevice<ScriptLayout, RawPool, RawSet> for LogDevice {
         ensures unlisted { OnErr result (calls_of self.new ≡ calls_of self.old) }
     {
         let count = layouts.len();
-        if !self.log.reserve(count as usize + 1) {
+        if self.log.reserve(count as usize + 1).is_err() {
             let error = DeviceAllocationError::OutOfHostMemory;
             self.device.refuse_alloc(pool, error);
             return Err(error);
