@@ -6,11 +6,14 @@ ghost use Rattle.gpu_descriptor.specs.Caller.Values.{without_keys};
 ghost use Rattle.descriptor_frames.specs.Retired.{AreInOrder};
 
 mod allocate;
+mod allocate_for;
 mod cleanup;
 mod finish;
 mod free;
 mod retire;
 mod retire_all;
+mod retire_late;
+mod retire_reserved;
 
 use crate::retired::Retired;
 use gpu_descriptor::DescriptorAllocator;
@@ -69,6 +72,13 @@ impl<P, S> FrameManager<P, S> {
         ensures order { AreInOrder (retired_of self.now) (greatest_of self.now) }
     {
         self.retired.len() as u64
+    }
+
+    /// The greatest frame at which a set was ever retired, and 0 before the first.
+    pub fn greatest(&self) -> u64
+        ensures { result ≡ greatest_of self.now }
+    {
+        self.greatest
     }
 
     /// The allocator.

@@ -1,4 +1,4 @@
--- What public clauses say beside the model: the allocator's value and its state, the call, sets, frees, flags, errors, views.
+-- What public clauses say beside the model: the allocator's value and its state, the call, sets, layouts, frees, flags, errors, views.
 pub mod Call
 pub mod CleansUp
 pub mod Comparisons
@@ -6,10 +6,14 @@ pub mod Errors
 pub mod Flags
 pub mod Frees
 pub mod HandsOut
+pub mod HandsOutOne
 pub mod Keeps
 pub mod Keys
+pub mod LayoutRegistries
 pub mod Others
+pub mod SetLayouts
 pub mod SetLends
+pub mod SetLists
 pub mod Sets
 pub mod States
 pub mod Values

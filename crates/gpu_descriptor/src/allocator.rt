@@ -5,6 +5,7 @@ ghost use Rattle.gpu_descriptor.specs.Caller.States.{Agrees};
 ghost use Rattle.gpu_descriptor.specs.Caller.Values.{without_keys};
 
 mod allocate;
+mod allocate_for;
 mod cleanup;
 mod free;
 pub(crate) mod plan;

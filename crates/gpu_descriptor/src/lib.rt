@@ -29,6 +29,8 @@ mod errors;
 mod flags;
 mod key;
 mod key_table;
+mod layout;
+mod layout_registry;
 pub mod laws;
 mod set;
 mod view;
@@ -41,5 +43,7 @@ pub use gpu_descriptor_types::{
     Counter, CreatePoolError, DescriptorDevice, DescriptorPoolCreateFlags, DescriptorTotalCount,
     DeviceAllocationError, Layouts, SetSink, Tally, cut_pool_size, new_pool_size,
 };
+pub use layout::SetLayout;
+pub use layout_registry::{LayoutHandle, LayoutRegistry};
 pub use set::DescriptorSet;
 pub use view::PoolView;

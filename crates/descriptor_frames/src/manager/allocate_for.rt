@@ -1,0 +1,78 @@
+//! Handing out sets of a layout that is kept with its counts and flags.
+ghost use Rattle.std.specs.Prelude.{[], ◌∷◌, IfOk, OnErr};
+ghost use Rattle.gpu_descriptor_types.specs.Meaning.{IsOfLayout};
+ghost use Rattle.gpu_descriptor_types.specs.Side.{side};
+ghost use Rattle.gpu_descriptor.specs.Caller.Call.{layout_key};
+ghost use Rattle.gpu_descriptor.specs.Caller.HandsOut.{HandsOut};
+ghost use Rattle.gpu_descriptor.specs.Caller.HandsOutOne.{HandsOutOne};
+ghost use Rattle.gpu_descriptor.specs.Caller.Keeps.{Keeps};
+ghost use Rattle.gpu_descriptor.specs.Caller.SetLayouts.{IsMeant};
+ghost use Rattle.gpu_descriptor.specs.Caller.Sets.{AreOfLayout, item_of, items_of, raw_of};
+ghost use Rattle.gpu_descriptor.specs.Caller.States.{Agrees};
+
+use super::FrameManager;
+use gpu_descriptor::{AllocationError, DescriptorDevice, DescriptorSet, SetLayout};
+
+impl<P: Drop, S: Drop> FrameManager<P, S> {
+    ghost use Rattle.descriptor_frames.specs.Frames.{AreRetiredOut, BringsIntoUse};
+    ghost use Rattle.descriptor_frames.specs.Frames.{KeepsInUse, KeepsRetired, allocator_of};
+
+    /// Allocates sets, as `DescriptorAllocator::allocate_for` does. The retired sets stay.
+    pub fn allocate_for<L, D: DescriptorDevice<L, P, S>>(
+        &mut self,
+        device: &mut D,
+        layout: &SetLayout<L>,
+        count: u32,
+    ) -> Result<Vec<DescriptorSet<S>>, AllocationError>
+        requires meant { IsMeant D.meaning layout.now }
+        requires agree { Agrees D.meaning.pool_name (allocator_of self.old) (D.ledger device.old) }
+
+        ensures hands_out { HandsOut D.meaning (layout_key D.meaning layout.now.layout) count
+            result (side (allocator_of self.old) (D.ledger device.old))
+            (side (allocator_of self.new) (D.ledger device.new)) }
+        ensures own { IfOk result (λ sets. AreOfLayout D.meaning layout.now.layout sets.items) }
+        ensures keeps { Keeps D.meaning (side (allocator_of self.old) (D.ledger device.old))
+            (side (allocator_of self.new) (D.ledger device.new)) }
+
+        // If the retired sets were outstanding they still are, and only the answer comes into use.
+        ensures retired { KeepsRetired D.meaning.pool_name D.meaning.set_name self.old self.new
+            (D.ledger device.old) (D.ledger device.new) }
+        ensures in_use { AreRetiredOut D.meaning.pool_name D.meaning.set_name self.old
+            (D.ledger device.old) → IfOk result (λ sets. BringsIntoUse D.meaning.pool_name
+            D.meaning.set_name self.old self.new (D.ledger device.old) (D.ledger device.new)
+            (items_of D.meaning.set_name sets.items)) }
+        ensures in_use_stay { OnErr result (KeepsInUse D.meaning.pool_name D.meaning.set_name
+            self.old self.new (D.ledger device.old) (D.ledger device.new)) }
+    {
+        self.allocate(device, &layout.layout, layout.flags, &layout.counts, count)
+    }
+
+    /// Allocates one set, as `DescriptorAllocator::allocate_one` does. The retired sets stay.
+    pub fn allocate_one<L, D: DescriptorDevice<L, P, S>>(
+        &mut self,
+        device: &mut D,
+        layout: &SetLayout<L>,
+    ) -> Result<DescriptorSet<S>, AllocationError>
+        requires meant { IsMeant D.meaning layout.now }
+        requires agree { Agrees D.meaning.pool_name (allocator_of self.old) (D.ledger device.old) }
+
+        ensures hands_out { HandsOutOne D.meaning (layout_key D.meaning layout.now.layout) result
+            (side (allocator_of self.old) (D.ledger device.old))
+            (side (allocator_of self.new) (D.ledger device.new)) }
+        ensures own { IfOk result (λ set. IsOfLayout D.meaning layout.now.layout (raw_of set)) }
+        ensures keeps { Keeps D.meaning (side (allocator_of self.old) (D.ledger device.old))
+            (side (allocator_of self.new) (D.ledger device.new)) }
+
+        // If the retired sets were outstanding they still are, and only the answer comes into use.
+        ensures retired { KeepsRetired D.meaning.pool_name D.meaning.set_name self.old self.new
+            (D.ledger device.old) (D.ledger device.new) }
+        ensures in_use { AreRetiredOut D.meaning.pool_name D.meaning.set_name self.old
+            (D.ledger device.old) → IfOk result (λ set. BringsIntoUse D.meaning.pool_name
+            D.meaning.set_name self.old self.new (D.ledger device.old) (D.ledger device.new)
+            (item_of D.meaning.set_name set ∷ [])) }
+        ensures in_use_stay { OnErr result (KeepsInUse D.meaning.pool_name D.meaning.set_name
+            self.old self.new (D.ledger device.old) (D.ledger device.new)) }
+    {
+        self.allocator.allocate_one(device, layout)
+    }
+}

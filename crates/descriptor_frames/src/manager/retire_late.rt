@@ -1,0 +1,81 @@
+//! Retiring a set behind sets of later frames.
+ghost use Rattle.std.specs.Prelude.{◌≡◌, ℕ, ◌+◌, ◌<◌, ◌≤◌, [], ◌∷◌, drop, length, take};
+ghost use Rattle.std.specs.Prelude.{IfErr, IsOk, OnErr, OnOk, max};
+ghost use Rattle.gpu_descriptor_types.specs.Ledger.{Ledger};
+ghost use Rattle.gpu_descriptor.specs.Caller.Sets.{item_of};
+ghost use Rattle.descriptor_frames.specs.Errors.{handed_back};
+ghost use Rattle.descriptor_frames.specs.Retired.{due, later, with_late};
+
+use super::FrameManager;
+use crate::errors::RetireError;
+use crate::retired::Retired;
+use gpu_descriptor::DescriptorSet;
+
+impl<P, S> FrameManager<P, S> {
+    ghost use Rattle.descriptor_frames.specs.Frames.{AreInUse, AreRetiredOut, Retires};
+    ghost use Rattle.descriptor_frames.specs.Frames.{allocator_of, greatest_of, retired_of};
+    ghost use Rattle.descriptor_frames.specs.Frames.{room_of};
+
+    /// Retires a set, also at a frame below the greatest: it goes back when this frame or a later
+    /// one is finished.
+    ///
+    /// The place in the list is found by halves. Then either the sets of later frames are moved, or
+    /// the others, whichever are fewer. `Memory` where there is no room for one more: the set comes
+    /// back, and nothing changed. It never answers `FrameBack`.
+    pub fn retire_late(&mut self, frame: u64, set: DescriptorSet<S>) -> Result<(), RetireError<S>>
+        ensures list { OnOk result (retired_of self.new
+            ≡ with_late frame set (retired_of self.old)) }
+        ensures greatest { OnOk result (greatest_of self.new ≡ max (greatest_of self.old) frame) }
+
+        // On any device: a set that was in use is so once less, and the retired ones are still out.
+        ensures in_use { OnOk result ((pool_name : P → ℕ) (set_name : S → ℕ) (l : Ledger)
+            → AreRetiredOut pool_name set_name self.old l
+            → AreInUse pool_name set_name (item_of set_name set ∷ []) self.old l
+            → Retires pool_name set_name (item_of set_name set ∷ []) self.old self.new l) }
+
+        ensures fits { 0 < room_of self.old → IsOk result }
+        ensures room { OnOk result (room_of self.old ≤ room_of self.new + 1) }
+        ensures count { OnOk result (length (retired_of self.new)
+            ≡ length (retired_of self.old) + 1) }
+        ensures back { IfErr result (λ e. e ≡ RetireError.Memory set) }
+        ensures list_stays { OnErr result (retired_of self.new ≡ retired_of self.old) }
+        ensures greatest_stays { OnErr result (greatest_of self.new ≡ greatest_of self.old) }
+        ensures room_stays { OnErr result (room_of self.old ≤ room_of self.new) }
+        ensures allocator { allocator_of self.new ≡ allocator_of self.old }
+    {
+        if self.reserve(1).is_err() {
+            return Err(RetireError::Memory(set));
+        }
+        let place = self.place_behind(frame);
+        self.put_at(place, frame, set);
+        Ok(())
+    }
+
+    /// How many sets were retired at the frame or before.
+    fn place_behind(&self, frame: u64) -> usize
+        ensures within { result ≤ length (retired_of self.now) }
+        ensures due { take result (retired_of self.now) ≡ due frame (retired_of self.now) }
+        ensures later { drop result (retired_of self.now) ≡ later frame (retired_of self.now) }
+    {
+        self.retired
+            .partition_point(|retired: &Retired<S>| retired.frame <= frame)
+    }
+
+    /// Puts a set in at its place, over room that was taken.
+    fn put_at(&mut self, place: usize, frame: u64, set: DescriptorSet<S>)
+        requires within { place ≤ length (retired_of self.old) }
+        requires due { take place (retired_of self.old) ≡ due frame (retired_of self.old) }
+        requires later { drop place (retired_of self.old) ≡ later frame (retired_of self.old) }
+        requires room { 0 < room_of self.old }
+        ensures list { retired_of self.new ≡ with_late frame set (retired_of self.old) }
+        ensures count { length (retired_of self.new) ≡ length (retired_of self.old) + 1 }
+        ensures greatest { greatest_of self.new ≡ max (greatest_of self.old) frame }
+        ensures room { room_of self.old ≤ room_of self.new + 1 }
+        ensures allocator { allocator_of self.new ≡ allocator_of self.old }
+    {
+        match self.retired.insert(place, Retired { frame, set }) {
+            Ok(()) => self.greatest = self.greatest.max(frame),
+            Err(_) => unreachable!(),
+        }
+    }
+}
