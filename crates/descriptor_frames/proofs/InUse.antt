@@ -1,13 +1,15 @@
 -- What is outstanding and in use, when sets are retired and go back.
-use Rattle.std.proofs.Common.{◌≡◌, ℕ, ◌+◌, ◌-◌, ◌≤◌, List, [], ◌++◌, IfOk, OnErr, Result, Ok, Err, ap, ◌∙◌, arith}
+use Rattle.std.proofs.Common.{◌≡◌, ℕ, ◌+◌, ◌-◌, ◌≤◌, List, [], ◌∷◌, ◌++◌, IfOk, OnErr, Result, Ok, Err, ap, ◌∙◌, arith}
 use Rattle.std.specs.Global.{Vec}
 use Rattle.gpu_descriptor.specs.Model.Agreement.{AreOutstanding, Item, State, count_of, outstanding}
 use Rattle.gpu_descriptor.specs.Model.Promises.{AreOutBesides, KeepsOutstanding}
 use Rattle.gpu_descriptor_types.specs.Ledger.{Ledger}
-use Rattle.gpu_descriptor.specs.Caller.Sets.{items_of}
+use Rattle.gpu_descriptor.specs.Caller.SetLists.{HasBesides}
+use Rattle.gpu_descriptor.specs.Caller.Sets.{item_of, items_of}
 use Rattle.gpu_descriptor.specs.Caller.States.{state_of}
 use Rattle.gpu_descriptor.specs.declared.set.DescriptorSet.{DescriptorSet}
 use Rattle.gpu_descriptor.proofs.callers.HeldSets.{count_parts}
+use Rattle.gpu_descriptor.proofs.callers.SetLists.{count_besides}
 use Rattle.descriptor_frames.specs.Frames.{AreInUse, AreRetiredOut, Retires, allocator_of, retired_of, state_in}
 use Rattle.descriptor_frames.specs.Retired.{retired_sets}
 use Rattle.descriptor_frames.specs.declared.manager.FrameManager.{FrameManager}
@@ -41,6 +43,15 @@ retires pool_name set_name old new l xs same is out used =
     record {
       retired = record { out = λ t. (let e = as_before t in let m = more.0 t in omega arith) };
       used = λ t. (let e = as_before t in let m = more.1 t in omega arith);
+    }
+
+-- the one set is retired, wherever it stands in the list
+pub retires_one : {P S : Type 0} (pool_name : P → ℕ) (set_name : S → ℕ) (old new : FrameManager P S) (l : Ledger) (x : DescriptorSet S) → allocator_of new ≡ allocator_of old → HasBesides x (retired_sets (retired_of old)) (retired_sets (retired_of new)) → AreRetiredOut pool_name set_name old l → AreInUse pool_name set_name (item_of set_name x ∷ []) old l → Retires pool_name set_name (item_of set_name x ∷ []) old new l
+retires_one pool_name set_name old new l x same more out used =
+    let as_before : (t : Item) → outstanding (state_in pool_name new l) t ≡ outstanding (state_in pool_name old l) t = λ t. ap (λ a. outstanding (state_of pool_name a l) t) same in
+    record {
+      retired = record { out = λ t. (let e = as_before t in let m = count_besides set_name more t in let a = out.out t in let b = used.used t in omega arith) };
+      used = λ t. (let e = as_before t in let m = count_besides set_name more t in let a = out.out t in let b = used.used t in omega arith);
     }
 
 pub none_retired : {P S : Type 0} (pool_name : P → ℕ) (set_name : S → ℕ) (m : FrameManager P S) (l : Ledger) → retired_of m ≡ [] → AreRetiredOut pool_name set_name m l

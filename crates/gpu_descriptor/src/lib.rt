@@ -29,9 +29,9 @@ mod errors;
 mod flags;
 mod key;
 mod key_table;
+pub mod laws;
 mod layout;
 mod layout_registry;
-pub mod laws;
 mod set;
 mod view;
 

@@ -1,10 +1,11 @@
 //! Retiring a set behind sets of later frames.
-ghost use Rattle.std.specs.Prelude.{◌≡◌, ℕ, ◌+◌, ◌<◌, ◌≤◌, [], ◌∷◌, drop, length, take};
+ghost use Rattle.std.specs.Prelude.{◌≡◌, ℕ, ◌+◌, ◌<◌, ◌≤◌, [], ◌∷◌, length};
 ghost use Rattle.std.specs.Prelude.{IfErr, IsOk, OnErr, OnOk, max};
+ghost use Rattle.std.specs.List.Sorted.{IsPartitionPoint};
 ghost use Rattle.gpu_descriptor_types.specs.Ledger.{Ledger};
+ghost use Rattle.gpu_descriptor.specs.Caller.SetLists.{HasBesides};
 ghost use Rattle.gpu_descriptor.specs.Caller.Sets.{item_of};
-ghost use Rattle.descriptor_frames.specs.Errors.{handed_back};
-ghost use Rattle.descriptor_frames.specs.Retired.{due, later, with_late};
+ghost use Rattle.descriptor_frames.specs.Retired.{retired_sets, with_late};
 
 use super::FrameManager;
 use crate::errors::RetireError;
@@ -54,8 +55,8 @@ impl<P, S> FrameManager<P, S> {
     /// How many sets were retired at the frame or before.
     fn place_behind(&self, frame: u64) -> usize
         ensures within { result ≤ length (retired_of self.now) }
-        ensures due { take result (retired_of self.now) ≡ due frame (retired_of self.now) }
-        ensures later { drop result (retired_of self.now) ≡ later frame (retired_of self.now) }
+        ensures place { IsPartitionPoint (λ r. r.frame ≤ frame) (λ r. frame < r.frame)
+            (retired_of self.now) result }
     {
         self.retired
             .partition_point(|retired: &Retired<S>| retired.frame <= frame)
@@ -64,10 +65,12 @@ impl<P, S> FrameManager<P, S> {
     /// Puts a set in at its place, over room that was taken.
     fn put_at(&mut self, place: usize, frame: u64, set: DescriptorSet<S>)
         requires within { place ≤ length (retired_of self.old) }
-        requires due { take place (retired_of self.old) ≡ due frame (retired_of self.old) }
-        requires later { drop place (retired_of self.old) ≡ later frame (retired_of self.old) }
+        requires place { IsPartitionPoint (λ r. r.frame ≤ frame) (λ r. frame < r.frame)
+            (retired_of self.old) place }
         requires room { 0 < room_of self.old }
         ensures list { retired_of self.new ≡ with_late frame set (retired_of self.old) }
+        ensures besides { HasBesides set (retired_sets (retired_of self.old))
+            (retired_sets (retired_of self.new)) }
         ensures count { length (retired_of self.new) ≡ length (retired_of self.old) + 1 }
         ensures greatest { greatest_of self.new ≡ max (greatest_of self.old) frame }
         ensures room { room_of self.old ≤ room_of self.new + 1 }

@@ -1,15 +1,15 @@
 -- One set in place of a list of one.
-use Rattle.std.proofs.Common.{◌≡◌, List, [], ◌∷◌, ◌++◌, All, Ok, length, length-append, get_or, sym, ap, subst, ◌∙◌, arith}
+use Rattle.std.proofs.Common.{◌≡◌, List, [], ◌∷◌, ◌++◌, Ok, length, length-append, ap, subst, ◌∙◌, arith}
 use Rattle.std.specs.Global.{Vec}
 use Rattle.gpu_descriptor_types.specs.Meaning.{IsOfLayout, Meaning}
 use Rattle.gpu_descriptor_types.specs.Side.{Side}
 use Rattle.gpu_descriptor.specs.declared.set.DescriptorSet.{DescriptorSet}
-use Rattle.gpu_descriptor.specs.Model.Agreement.{State, outstanding, count_of}
+use Rattle.gpu_descriptor.specs.Model.Agreement.{State}
 use Rattle.gpu_descriptor.specs.Model.Books.{Key}
 use Rattle.gpu_descriptor.specs.Model.Promises.{AreOfKey, AreOutBesides}
 use Rattle.gpu_descriptor.specs.Caller.HandsOut.{HandsOut}
 use Rattle.gpu_descriptor.specs.Caller.HandsOutOne.{HandsOutOne}
-use Rattle.gpu_descriptor.specs.Caller.Sets.{AreOfLayout, item_of, items_of, raw_of}
+use Rattle.gpu_descriptor.specs.Caller.Sets.{AreOfLayout, items_of, raw_of}
 use Rattle.gpu_descriptor.specs.Caller.States.{state_of}
 use Rattle.gpu_descriptor.specs.Caller.Values.{Allocations}
 
