@@ -1,6 +1,7 @@
 -- Two lists of sets in use, as of those that are held and of those of a frame: when sets come, are retired and go back. For callers that hold both.
-use Rattle.std.proofs.Common.{ℕ, List, [], ◌∷◌, arith}
+use Rattle.std.proofs.Common.{Result, Ok, Err, IsOk, OnOk, ◌≡◌, ap, ℕ, List, [], ◌∷◌, arith}
 use Rattle.gpu_descriptor_types.specs.Ledger.{Ledger}
+use Rattle.gpu_descriptor.specs.Model.Agreement.{count_of}
 use Rattle.gpu_descriptor.specs.Caller.SetLists.{HasBesides}
 use Rattle.gpu_descriptor.specs.Caller.Sets.{item_of, items_of}
 use Rattle.gpu_descriptor.specs.declared.set.DescriptorSet.{DescriptorSet}
@@ -30,6 +31,10 @@ module _ {P S : Type 0} (pool_name : P → ℕ) (set_name : S → ℕ) where
     both_stay same used = record { both = λ t. (let a = same t in let b = used.both t in omega arith) }
 
   module _ {m : FrameManager P S} {l : Ledger} where
+    -- there are none
+    pub none_used : {xs ys : List (DescriptorSet S)} → xs ≡ [] → ys ≡ [] → AreBothInUse pool_name set_name xs ys m l
+    none_used xs ys = record { both = λ t. (let a = ap (λ (zs : List (DescriptorSet S)). count_of t (items_of set_name zs)) xs in let b = ap (λ (zs : List (DescriptorSet S)). count_of t (items_of set_name zs)) ys in omega arith) }
+
     -- each list is in use, and one of the first
     pub first_used : {xs ys : List (DescriptorSet S)} → AreBothInUse pool_name set_name xs ys m l → AreInUse pool_name set_name (items_of set_name xs) m l
     first_used used = record { used = λ t. (let a = used.both t in omega arith) }
@@ -39,3 +44,8 @@ module _ {P S : Type 0} (pool_name : P → ℕ) (set_name : S → ℕ) where
 
     pub one_used : {x : DescriptorSet S} {xs ys rest : List (DescriptorSet S)} → HasBesides x rest xs → AreBothInUse pool_name set_name xs ys m l → AreInUse pool_name set_name (item_of set_name x ∷ []) m l
     one_used besides used = record { used = λ t. (let a = count_besides set_name besides t in let b = used.both t in omega arith) }
+
+-- what holds where a call succeeds, of a call that does
+pub on_success : {T E X : Type 0} (r : Result T E) → IsOk r → OnOk r X → X
+on_success (Ok x) fine on = on
+on_success (Err e) fine on = absurd (let bad = fine in cc)

@@ -10,8 +10,8 @@ use Rattle.gpu_descriptor.proofs.callers.HeldSets.{count_parts}
 
 module _ {X : Type 0} where
   -- one came to the end
-  pub besides_last : (xs : List X) (x : X) → HasBesides x xs (xs ++ x ∷ [])
-  besides_last xs x = record { place = length xs; is = sym (insert_end xs x) }
+  pub besides_last : (xs all : List X) (x : X) → all ≡ xs ++ x ∷ [] → HasBesides x xs all
+  besides_last xs all x is = record { place = length xs; is = is ∙ sym (insert_end xs x) }
 
   -- the first of a list
   pub besides_first : (x : X) (xs : List X) → HasBesides x xs (x ∷ xs)

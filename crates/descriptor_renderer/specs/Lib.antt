@@ -1,0 +1,3 @@
+pub mod DeviceSets
+pub mod Errors
+pub mod HeldSets

@@ -1,0 +1,62 @@
+//! Why a renderer declines.
+ghost use Rattle.std.specs.Prelude.{Some};
+ghost use Rattle.descriptor_renderer.specs.Errors.{destroy_text, render_text};
+
+use gpu_descriptor::AllocationError;
+use std::error::Error;
+use std::fmt;
+
+/// Why there is no set.
+#[derive(Clone, Copy, Debug, PartialEq, Eq)]
+pub enum RenderError {
+    /// No frame is open.
+    NoFrame,
+
+    /// The handle names no layout of the renderer.
+    NoLayout,
+
+    /// The allocator refused, or there was no memory for the renderer's own lists, which is
+    /// `OutOfHostMemory`.
+    Allocation(AllocationError),
+}
+
+impl fmt::Display for RenderError {
+    ghost output = { λ error. Some (render_text error) };
+
+    ghost styled_output = { λ error _. Some (render_text error) };
+
+    fn fmt<W: fmt::Write>(&self, f: &mut fmt::Formatter<W>) -> fmt::Result {
+        match self {
+            RenderError::NoFrame => f.write_str("No open frame"),
+            RenderError::NoLayout => f.write_str("Unknown layout"),
+            RenderError::Allocation(error) => error.fmt(f),
+        }
+    }
+}
+
+impl Error for RenderError {}
+
+/// Why no set was destroyed.
+#[derive(Clone, Copy, Debug, PartialEq, Eq)]
+pub enum DestroyError {
+    /// The handle names no set that the renderer holds.
+    NoSet,
+
+    /// The frame of the last use was not opened yet.
+    FrameAhead,
+}
+
+impl fmt::Display for DestroyError {
+    ghost output = { λ error. Some (destroy_text error) };
+
+    ghost styled_output = { λ error _. Some (destroy_text error) };
+
+    fn fmt<W: fmt::Write>(&self, f: &mut fmt::Formatter<W>) -> fmt::Result {
+        match self {
+            DestroyError::NoSet => f.write_str("Unknown set"),
+            DestroyError::FrameAhead => f.write_str("Frame not opened yet"),
+        }
+    }
+}
+
+impl Error for DestroyError {}
