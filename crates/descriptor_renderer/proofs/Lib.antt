@@ -1,1 +1,3 @@
+mod Drawn
 mod Held
+mod HeldBy

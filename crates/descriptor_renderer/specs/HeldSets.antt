@@ -4,6 +4,8 @@ use Rattle.gpu_descriptor_types.specs.Meaning.{IsOfLayout, Meaning}
 use Rattle.gpu_descriptor.specs.Caller.Sets.{raw_of}
 use Rattle.gpu_descriptor.specs.declared.set.DescriptorSet.{DescriptorSet}
 use Rattle.slab.specs.Slab.{entries_from}
+use Rattle.descriptor_renderer.specs.SetsBy.{SetsBy}
+use Rattle.descriptor_renderer.specs.declared.handles.SetHandle.{SetHandle}
 use Rattle.descriptor_renderer.specs.declared.held_set.HeldSet.{HeldSet}
 
 module _ {S : Type 0} where
@@ -30,3 +32,10 @@ module _ {S : Type 0} where
     pub empty : slot_at old place ≡ None
     pub here : slot_at new place ≡ Some (record { number = number; set = set })
     pub others : (other : ℕ) → other ≢ place → slot_at new other ≡ slot_at old other
+
+  -- the sets that the renderer with this number holds, by handle. None under a handle of another renderer, and none under that of a set that is gone
+  unfoldable pub held_by : ℕ → List (Option (HeldSet S)) → SetsBy SetHandle S
+  held_by renderer slots = record {
+    set = λ h. if h.renderer == renderer then numbered (slot_at slots h.place) h.number else None;
+    all = sets_in slots;
+  }

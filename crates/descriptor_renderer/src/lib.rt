@@ -10,4 +10,4 @@ mod renderer;
 
 pub use errors::{DestroyError, RenderError};
 pub use handles::{DrawHandle, SetHandle};
-
+pub use renderer::Renderer;

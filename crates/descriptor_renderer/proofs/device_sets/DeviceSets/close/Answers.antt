@@ -1,8 +1,8 @@
-use Rattle.std.proofs.Common.{◌≡◌, ◌++◌, length, length-append, map, ap, ◌∙◌, arith}
+use Rattle.std.proofs.Common.{◌≡◌, length, length-append, map, ap, ◌∙◌, arith}
 use Rattle.std.proofs.lemmas.List.{length-map}
 use Rattle.gpu_descriptor.specs.Caller.Others.{others_of}
 use Rattle.gpu_descriptor.specs.Caller.States.{outstanding_of}
-use Rattle.descriptor_frames.specs.Frames.{allocator_of, due_sets, retired_of}
+use Rattle.descriptor_frames.specs.Frames.{allocator_of, retired_of}
 use Rattle.descriptor_frames.specs.Retired.{at_frame}
 use Rattle.descriptor_frames.proofs.BothInUse.{first_used, second_gone, second_used}
 use Rattle.descriptor_renderer.specs.HeldSets.{sets_in}

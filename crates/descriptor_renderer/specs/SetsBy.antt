@@ -1,0 +1,28 @@
+-- Sets by handle, and what happens to them.
+use Rattle.std.specs.Prelude.{◌≡◌, ◌≢◌, List, Option, None, Some}
+use Rattle.gpu_descriptor_types.specs.Meaning.{IsOfLayout, Meaning}
+use Rattle.gpu_descriptor.specs.Caller.SetLists.{HasBesides}
+use Rattle.gpu_descriptor.specs.Caller.Sets.{raw_of}
+use Rattle.gpu_descriptor.specs.declared.set.DescriptorSet.{DescriptorSet}
+
+-- the set of each handle, and all sets
+pub record SetsBy (H S : Type 0) : Type 0 where
+  pub set : H → Option (DescriptorSet S)
+  pub all : List (DescriptorSet S)
+
+module _ {H L P S : Type 0} where
+  -- a set of the layout came under a handle that had none, and each other handle has the set that it had
+  pub record Gives (means : Meaning L P S) (layout : L) (handle : H) (old new : SetsBy H S) : Type 0 where
+    pub set : DescriptorSet S
+    pub own : IsOfLayout means layout (raw_of set)
+    pub fresh : old.set handle ≡ None
+    pub given : new.set handle ≡ Some set
+    pub others : (other : H) → other ≢ handle → new.set other ≡ old.set other
+    pub besides : HasBesides set old.all new.all
+
+module _ {H S : Type 0} where
+  -- the set of the handle is gone, and each other handle has the set that it had
+  pub record Removes (handle : H) (set : DescriptorSet S) (old new : SetsBy H S) : Type 0 where
+    pub gone : new.set handle ≡ None
+    pub others : (other : H) → other ≢ handle → new.set other ≡ old.set other
+    pub besides : HasBesides set new.all old.all
