@@ -1,25 +1,18 @@
 //! Callers, each once with ample memory: that it succeeds, and what it leaves. No clause says that
 //! memory is there.
 ghost use Rattle.descriptor_script.specs.Scripted.Raw.{script_meaning};
-ghost use Rattle.descriptor_uses.specs.Layouts.{IsMeant};
+ghost use Rattle.gpu_descriptor.specs.Caller.SetLayouts.{IsMeant};
 
 use crate::acts::expect_calls;
 use crate::bench::{expect_same, layout_of};
 use descriptor_script::{Call, LogDevice, RawPool, RawSet, ScriptLayout};
-use descriptor_uses::SetLayout;
 use descriptor_uses::drawing::{render, render_one};
+use descriptor_uses::game::{Score, play};
 use descriptor_uses::one_layout::draw_once;
 use descriptor_uses::proper_use::flags_of;
-use gpu_descriptor::{DescriptorDevice, DescriptorPoolCreateFlags};
+use gpu_descriptor::{DescriptorDevice, DescriptorPoolCreateFlags, SetLayout};
 use std::process::Abort;
 use std::test::Fail;
-
-/// A plain layout of one sampler, as a request takes it.
-pub fn plain_layout() -> SetLayout<ScriptLayout>
-    ensures { IsMeant script_meaning result }
-{
-    set_layout(false)
-}
 
 /// A layout of one sampler, as a request takes it.
 pub fn set_layout(mark: bool) -> SetLayout<ScriptLayout>
@@ -47,6 +40,31 @@ fn one_layout_is_drawn(rt: HostRuntime) -> Result<(), Fail> {
     ];
     expect_calls(&rt, &device, &calls);
     Ok(())
+}
+
+/// Each of the five frames has a material and four sets, the first three the water too.
+#[test]
+fn game_draws_five_frames(rt: HostRuntime) {
+    let played = play(rt.alloc(), Vec::new(rt.alloc()), 5000);
+    let wanted = Score {
+        drawn: 28,
+        refused: 0,
+    };
+    assert!(rt; played.score.is_ok_and(|score| score == wanted));
+    expect_same(&rt, played.device.created(), 3);
+    expect_same(&rt, played.device.destroyed(), 3);
+}
+
+/// Under a limit that the water takes, the sets of many textures are refused until that is gone.
+#[test]
+fn game_draws_under_its_limit(rt: HostRuntime) {
+    let played = play(rt.alloc(), Vec::new(rt.alloc()), 16);
+    let wanted = Score {
+        drawn: 23,
+        refused: 5,
+    };
+    assert!(rt; played.score.is_ok_and(|score| score == wanted));
+    expect_same(&rt, played.device.created(), played.device.destroyed());
 }
 
 /// The name of the next pool, and how many the device creates, where that is at most 9.

@@ -1,4 +1,4 @@
-//! Values, devices, sessions and frames tried through public calls. Tests alone: the gate proves a
+//! Values, devices, sessions, frames and renderers tried through public calls. Tests alone: the gate proves a
 //! crate with tests twice, so they have one of their own.
 #![tactic(auto)]
 
@@ -14,8 +14,6 @@ mod callers;
 mod capacity;
 #[cfg(test)]
 mod device;
-#[cfg(test)]
-mod engines;
 #[cfg(test)]
 mod frames;
 #[cfg(test)]
@@ -33,7 +31,7 @@ mod refused;
 #[cfg(test)]
 mod refused_first;
 #[cfg(test)]
-mod scenes;
+mod renderers;
 #[cfg(test)]
 mod sets;
 #[cfg(test)]

@@ -4,10 +4,12 @@ ghost use Rattle.descriptor_script.specs.Scripted.Device.{empty_ledger};
 ghost use Rattle.descriptor_uses.specs.FewPools.{few_ledger};
 
 use crate::few_pools::FewPools;
-use crate::{SetLayout, one_layout, two_layouts};
+use crate::{one_layout, two_layouts};
 use bitflags::Flags;
 use descriptor_script::ScriptLayout;
-use gpu_descriptor::{AllocationError, DescriptorSetLayoutCreateFlags, DescriptorTotalCount};
+use gpu_descriptor::{
+    AllocationError, DescriptorSetLayoutCreateFlags, DescriptorTotalCount, SetLayout,
+};
 use std::alloc::Global;
 
 /// What a drawing leaves.

@@ -1,18 +1,12 @@
-//! Devices and callers of the allocator, proved: what a user of it may write.
+//! Devices and callers of the allocator and of the renderer, proved: what a user of them may write.
 #![tactic(auto)]
 
 pub mod batches;
 pub mod drawing;
-pub mod engine;
 pub mod few_pools;
-pub mod frame_renderer;
-pub mod frames;
-mod layout;
+pub mod game;
 pub mod one_layout;
 pub mod own_device;
+pub mod owned_allocator;
 pub mod proper_use;
-pub mod renderer;
-pub mod scene;
 pub mod two_layouts;
-
-pub use layout::SetLayout;

@@ -1,11 +1,12 @@
 //! Sets of two layouts, taken and given back, over any device.
 ghost use Rattle.std.specs.Prelude.{◌≡◌};
 ghost use Rattle.gpu_descriptor.specs.Caller.Others.{others_of};
+ghost use Rattle.gpu_descriptor.specs.Caller.SetLayouts.{IsMeant};
 ghost use Rattle.gpu_descriptor.specs.Caller.States.{Agrees, outstanding_of};
-ghost use Rattle.descriptor_uses.specs.Layouts.{IsMeant};
 
-use crate::layout::SetLayout;
-use gpu_descriptor::{AllocationError, DescriptorAllocator, DescriptorDevice, laws};
+use gpu_descriptor::{
+    AllocationError, DescriptorAllocator, DescriptorDevice, SetLayout, laws,
+};
 use std::alloc::Global;
 
 /// Makes an allocator, takes three sets of one layout and two of another, gives all back and cleans
@@ -42,8 +43,8 @@ pub fn borrow_sets<L, P: Drop, S: Drop, D: DescriptorDevice<L, P, S>>(
     ensures others { others_of D.meaning.pool_name allocator.new (D.ledger device.new) ≡ others_of
         D.meaning.pool_name allocator.old (D.ledger device.old) }
 {
-    let three = allocator.allocate(device, &first.layout, first.flags, &first.counts, 3)?;
-    match allocator.allocate(device, &second.layout, second.flags, &second.counts, 2) {
+    let three = allocator.allocate_for(device, first, 3)?;
+    match allocator.allocate_for(device, second, 2) {
         Ok(two) => {
             allocator.free_all(device, two);
             allocator.free_all(device, three);

@@ -1,0 +1,6 @@
+//! Renderers: that they draw and hold sets where places are there, what each refusal costs, and what
+//! they leave. No clause says that memory or places are there.
+mod bench;
+mod frames;
+mod handles;
+mod refused;
