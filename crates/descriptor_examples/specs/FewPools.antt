@@ -1,0 +1,8 @@
+-- A device around the scripted one: what it owes.
+use Rattle.std.specs.Prelude.{ℕ}
+use Rattle.gpu_descriptor_types.specs.Ledger.{Ledger}
+use Rattle.descriptor_script.specs.Scripted.Device.{ledger_of}
+use Rattle.descriptor_examples.specs.declared.few_pools.FewPools.{FewPools}
+
+abbrev pub few_ledger : {MOST : ℕ} → FewPools MOST → Ledger
+few_ledger d = ledger_of d.device

@@ -1,0 +1,160 @@
+//! A small game over a renderer: three layouts, two materials, five frames. Where the device
+//! refuses a set, the game draws without.
+ghost use Rattle.std.specs.Prelude.{◌≡◌};
+ghost use Rattle.descriptor_script.specs.Scripted.Device.{empty_ledger, ledger_of};
+ghost use Rattle.descriptor_script.specs.Scripted.Raw.{script_meaning};
+ghost use Rattle.gpu_descriptor.specs.Caller.SetLayouts.{IsMeant};
+ghost use Rattle.descriptor_renderer.specs.Renderers.{pools_besides};
+
+use crate::proper_use::flags_of;
+use descriptor_renderer::{RenderError, Renderer, SetHandle};
+use descriptor_script::{Answer, RawPool, RawSet, ScriptLayout, ScriptedDevice};
+use gpu_descriptor::{AllocationError, DescriptorTotalCount, LayoutHandle, SetLayout};
+use std::alloc::Global;
+
+type GameRenderer = Renderer<ScriptLayout, RawPool, RawSet, ScriptedDevice>;
+
+/// What a game draws with.
+#[derive(Clone, Copy)]
+pub struct Scenery {
+    plain: LayoutHandle,
+    bindless: LayoutHandle,
+    stone: SetHandle,
+    water: SetHandle,
+}
+
+/// How many draws there were, and how many were refused.
+#[derive(Clone, Copy, Debug, PartialEq, Eq)]
+pub struct Score {
+    pub drawn: u64,
+    pub refused: u64,
+}
+
+/// What a game leaves.
+#[derive(Drop)]
+pub struct Played {
+    pub device: ScriptedDevice,
+    pub score: Result<Score, RenderError>,
+}
+
+/// Plays five frames. Whatever the device refuses, it has no pool afterwards.
+pub fn play(alloc: Global, script: Vec<Answer>, limit: u32) -> Played
+    ensures pools { (ledger_of result.device).pools ≡ empty_ledger.pools }
+{
+    let mut renderer = Renderer::new(alloc, ScriptedDevice::new(alloc, script), limit, 1);
+    let score = play_frames(&mut renderer);
+    Played {
+        device: renderer.shutdown(),
+        score,
+    }
+}
+
+/// Loads the scenery, and draws five frames. The water dries up after the third.
+fn play_frames(renderer: &mut GameRenderer) -> Result<Score, RenderError>
+    ensures { pools_besides renderer.new ≡ pools_besides renderer.old }
+{
+    let scenery = load(renderer)?;
+    let mut score = Score {
+        drawn: 0,
+        refused: 0,
+    };
+    for frame in 1..6 {
+        draw_frame(renderer, &scenery, &mut score);
+        if frame == 3 {
+            let _dried = renderer.destroy_set(scenery.water, 3);
+        }
+    }
+    Ok(score)
+}
+
+/// Adds three layouts, and creates two materials.
+fn load(renderer: &mut GameRenderer) -> Result<Scenery, RenderError>
+    ensures { pools_besides renderer.new ≡ pools_besides renderer.old }
+{
+    let plain = add(renderer, layout_of(1, false))?;
+    let textured = add(renderer, layout_of(3, false))?;
+    let bindless = add(renderer, layout_of(16, true))?;
+    Ok(Scenery {
+        plain,
+        bindless,
+        stone: renderer.create_set(textured)?,
+        water: renderer.create_set(bindless)?,
+    })
+}
+
+/// Adds a layout.
+fn add(
+    renderer: &mut GameRenderer,
+    layout: SetLayout<ScriptLayout>,
+) -> Result<LayoutHandle, RenderError>
+    requires { IsMeant script_meaning layout }
+    ensures { pools_besides renderer.new ≡ pools_besides renderer.old }
+{
+    match renderer.add_layout(layout) {
+        Ok(handle) => Ok(handle),
+        Err(_) => Err(RenderError::Allocation(AllocationError::OutOfHostMemory)),
+    }
+}
+
+/// A layout of so many samplers.
+fn layout_of(sampler: u32, mark: bool) -> SetLayout<ScriptLayout>
+    ensures { IsMeant script_meaning result }
+{
+    let counts = DescriptorTotalCount {
+        sampler,
+        ..DescriptorTotalCount::default()
+    };
+    SetLayout {
+        layout: ScriptLayout { counts, mark },
+        counts,
+        flags: flags_of(mark),
+    }
+}
+
+/// Draws a frame: both materials, three plain sets, and a set of many textures. The device is done
+/// with the frame two before.
+fn draw_frame(renderer: &mut GameRenderer, scenery: &Scenery, score: &mut Score)
+    ensures { pools_besides renderer.new ≡ pools_besides renderer.old }
+{
+    let Some(frame) = renderer.begin_frame() else {
+        return;
+    };
+    bind_material(renderer, scenery.stone, score);
+    bind_material(renderer, scenery.water, score);
+    for layout in [
+        scenery.plain,
+        scenery.plain,
+        scenery.plain,
+        scenery.bindless,
+    ] {
+        draw(renderer, layout, score);
+    }
+    renderer.end_frame();
+    renderer.gpu_done(frame.saturating_sub(2));
+}
+
+/// Draws with a material, where it is still there.
+fn bind_material(renderer: &GameRenderer, material: SetHandle, score: &mut Score) {
+    if let Some(raw) = renderer.set(material) {
+        bind(renderer.device(), raw, score);
+    }
+}
+
+/// Draws with a set of a layout, where there is one.
+fn draw(renderer: &mut GameRenderer, layout: LayoutHandle, score: &mut Score)
+    ensures { pools_besides renderer.new ≡ pools_besides renderer.old }
+{
+    match renderer.draw(layout) {
+        Ok(draw) => {
+            if let Some(raw) = renderer.drawn(draw) {
+                bind(renderer.device(), raw, score);
+            }
+        }
+        Err(_) => score.refused = score.refused.saturating_add(1),
+    }
+}
+
+/// Stands for the device's calls that write a set and bind it.
+fn bind(_device: &ScriptedDevice, _set: &RawSet, score: &mut Score) {
+    score.drawn = score.drawn.saturating_add(1);
+}

@@ -1,0 +1,16 @@
+use Rattle.std.proofs.Common.{sym, ◌∙◌}
+use Rattle.descriptor_script.specs.Sessions.Session.{layouts_of}
+use Rattle.descriptor_tests.proofs.Layouts.{meant_after}
+use Rattle.descriptor_tests.proofs.bench.Bench.add_layout.Goals as goal
+
+pub invariant_of-self : goal.invariant_of-self
+invariant_of-self g c =
+    let old = c.args.self.now in
+    let layout = c.args.layout in
+    record {
+      ready = record {
+        agree = rw c.add_layout.ensures.allocator old.ready.agree;
+        held = rw (c.add_layout.ensures.allocator, c.add_layout.ensures.sets) old.ready.held;
+        meant = meant_after g.D.DescriptorDevice.meaning (layouts_of old.session) (layouts_of c.add_layout.new.self) (record { layout = layout; counts = layout.counts; flags = c.flags_of-flags.result }) c.add_layout.result c.add_layout.ensures.last c.add_layout.ensures.layouts old.ready.meant (sym c.requires.counts) (c.flags_of-flags.ensures ∙ sym c.requires.mark);
+      };
+    }

@@ -1,0 +1,94 @@
+//! Callers, each once with ample memory: that it succeeds, and what it leaves. No clause says that
+//! memory is there.
+ghost use Rattle.descriptor_script.specs.Scripted.Raw.{script_meaning};
+ghost use Rattle.gpu_descriptor.specs.Caller.SetLayouts.{IsMeant};
+
+use crate::acts::expect_calls;
+use crate::bench::{expect_same, layout_of};
+use descriptor_examples::drawing::{render, render_one};
+use descriptor_examples::game::{Score, play};
+use descriptor_examples::one_layout::draw_once;
+use descriptor_examples::proper_use::flags_of;
+use descriptor_script::{Call, LogDevice, RawPool, RawSet, ScriptLayout};
+use gpu_descriptor::{DescriptorDevice, DescriptorPoolCreateFlags, SetLayout};
+use std::process::Abort;
+use std::test::Fail;
+
+/// A layout of one sampler, as a request takes it.
+pub fn set_layout(mark: bool) -> SetLayout<ScriptLayout>
+    ensures { IsMeant script_meaning result }
+{
+    let layout = layout_of(1, mark);
+    SetLayout {
+        layout,
+        counts: layout.counts,
+        flags: flags_of(layout.mark),
+    }
+}
+
+#[test]
+fn one_layout_is_drawn(rt: HostRuntime) -> Result<(), Fail> {
+    let mut device = LogDevice::new(rt.alloc());
+    let layout = layout_of(1, false);
+    let flags = flags_of(layout.mark);
+    draw_once(rt.alloc(), &mut device, &layout, flags, &layout.counts)?;
+    let calls = [
+        Call::Create { pool: 0 },
+        Call::Alloc { pool: 0, sets: 3 },
+        Call::Release { pool: 0, sets: 3 },
+        Call::Destroy { pool: 0 },
+    ];
+    expect_calls(&rt, &device, &calls);
+    Ok(())
+}
+
+/// Each of the five frames has a material and four sets, the first three the water too.
+#[test]
+fn game_draws_five_frames(rt: HostRuntime) {
+    let played = play(rt.alloc(), Vec::new(rt.alloc()), 5000);
+    let wanted = Score {
+        drawn: 28,
+        refused: 0,
+    };
+    assert!(rt; played.score.is_ok_and(|score| score == wanted));
+    expect_same(&rt, played.device.created(), 3);
+    expect_same(&rt, played.device.destroyed(), 3);
+}
+
+/// Under a limit that the water takes, the sets of many textures are refused until that is gone.
+#[test]
+fn game_draws_under_its_limit(rt: HostRuntime) {
+    let played = play(rt.alloc(), Vec::new(rt.alloc()), 16);
+    let wanted = Score {
+        drawn: 23,
+        refused: 5,
+    };
+    assert!(rt; played.score.is_ok_and(|score| score == wanted));
+    expect_same(&rt, played.device.created(), played.device.destroyed());
+}
+
+/// The name of the next pool, and how many the device creates, where that is at most 9.
+fn pools_to_come<D: DescriptorDevice<ScriptLayout, RawPool, RawSet>>(
+    device: &mut D,
+) -> (Option<u64>, u32) {
+    let counts = layout_of(1, false).counts;
+    let flags = DescriptorPoolCreateFlags::FREE_DESCRIPTOR_SET;
+    let mut first = None;
+    for created in 0..9 {
+        match device.create_descriptor_pool(&counts, 1, flags) {
+            Ok(pool) => first = first.or(Some(pool.id())),
+            Err(_) => return (first, created),
+        }
+    }
+    (first, 9)
+}
+
+#[test]
+fn drawings_create_a_pool_for_each_layout(rt: HostRuntime) {
+    let mut one = render_one(rt.alloc());
+    expect_same(&rt, one.answer, Ok(()));
+    expect_same(&rt, pools_to_come(&mut one.device), (None, 0));
+    let mut two = render(rt.alloc());
+    expect_same(&rt, two.answer, Ok(()));
+    expect_same(&rt, pools_to_come(&mut two.device), (Some(2), 3));
+}

@@ -1,0 +1,115 @@
+//! Sets in a caller's hands: that they stand in an answer as they came, and that each goes back, by
+//! an iterator which the caller keeps too.
+ghost use Rattle.gpu_descriptor.specs.Caller.States.{Agrees};
+ghost use Rattle.descriptor_script.specs.Scripted.Raw.{pool_id};
+ghost use Rattle.descriptor_script.specs.Scripted.Device.{ledger_of};
+ghost use Rattle.descriptor_script.specs.Scripted.Logged.{ledger_logged};
+
+use crate::bench::{expect_same, layout_of};
+use descriptor_examples::proper_use::{borrow_pool, borrow_set, borrow_sets, flags_of};
+use descriptor_script::{LogDevice, RawPool, RawSet, ScriptLayout, ScriptedDevice};
+use gpu_descriptor::{AllocationError, DescriptorAllocator, DescriptorSet};
+use std::process::Abort;
+use std::test::Fail;
+
+/// Compares the names of the sets.
+fn expect_names(rt: &impl Abort, sets: &[DescriptorSet<RawSet>], names: &[u64]) {
+    expect_same(rt, sets.len(), names.len());
+    for (set, name) in sets.iter().zip(names) {
+        expect_same(rt, set.raw().id(), *name);
+    }
+}
+
+/// Allocates three sets, compares their names in the order of the answer, and gives them back.
+fn expect_answer(
+    rt: &impl Abort,
+    allocator: &mut DescriptorAllocator<RawPool, RawSet>,
+    device: &mut LogDevice,
+    layout: &ScriptLayout,
+    names: &[u64],
+) -> Result<(), AllocationError>
+    requires { Agrees pool_id allocator.old (ledger_logged device.old) }
+    ensures { Agrees pool_id allocator.new (ledger_logged device.new) }
+{
+    let flags = flags_of(layout.mark);
+    let sets = allocator.allocate(device, layout, flags, &layout.counts, 3)?;
+    expect_names(rt, &sets, names);
+    allocator.free_all(device, sets);
+    Ok(())
+}
+
+/// Borrows a set, and sees that it has this name and is back.
+fn expect_borrowed(
+    rt: &impl Abort,
+    allocator: &mut DescriptorAllocator<RawPool, RawSet>,
+    device: &mut LogDevice,
+    layout: &ScriptLayout,
+    name: u64,
+) -> Result<(), AllocationError>
+    requires { Agrees pool_id allocator.old (ledger_logged device.old) }
+    ensures { Agrees pool_id allocator.new (ledger_logged device.new) }
+{
+    expect_same(rt, borrow_set(allocator, device, layout)?, name);
+    expect_same(rt, allocator.outstanding(), 0);
+    Ok(())
+}
+
+/// Borrows sets of a plain layout, then a pool, and then sets of a marked layout by an iterator.
+fn expect_all_lent(
+    rt: &impl Abort,
+    allocator: &mut DescriptorAllocator<RawPool, RawSet>,
+    device: &mut LogDevice,
+) -> Result<(), Fail>
+    requires { Agrees pool_id allocator.old (ledger_logged device.old) }
+{
+    let plain = layout_of(1, false);
+    expect_answer(rt, allocator, device, &plain, &[0, 1, 2])?;
+    expect_answer(rt, allocator, device, &plain, &[3, 4, 5])?;
+    expect_borrowed(rt, allocator, device, &plain, 6)?;
+    expect_borrowed(rt, allocator, device, &plain, 7)?;
+    expect_same(rt, allocator.pool_count(&plain.counts, false), 1);
+    expect_same(rt, borrow_pool(device, &plain.counts)?, 1);
+    let is_at_end = borrow_sets(allocator, device, &layout_of(3, true), 3)?;
+    expect_same(rt, (is_at_end, allocator.outstanding()), (true, 0));
+    Ok(())
+}
+
+/// Allocates so many sets of a new device, and compares their names, which a new device gives from 0
+/// up.
+fn expect_in_order(
+    rt: &impl Abort,
+    allocator: &mut DescriptorAllocator<RawPool, RawSet>,
+    device: &mut ScriptedDevice,
+    layout: &ScriptLayout,
+    count: u32,
+) -> Result<(), AllocationError>
+    requires { Agrees pool_id allocator.old (ledger_of device.old) }
+{
+    let flags = flags_of(layout.mark);
+    let sets = allocator.allocate(device, layout, flags, &layout.counts, count)?;
+    expect_same(rt, sets.len(), count as usize);
+    for (name, set) in (0u64..).zip(&sets) {
+        expect_same(rt, set.raw().id(), name);
+    }
+    Ok(())
+}
+
+#[test]
+fn sets_of_a_large_answer_stand_as_they_came(rt: HostRuntime) -> Result<(), AllocationError> {
+    let mut device = ScriptedDevice::new(rt.alloc(), Vec::new(rt.alloc()));
+    let mut allocator = DescriptorAllocator::new(rt.alloc(), 0);
+    expect_in_order(
+        &rt,
+        &mut allocator,
+        &mut device,
+        &layout_of(1, false),
+        100_000,
+    )
+}
+
+#[test]
+fn sets_are_lent_and_come_back(rt: HostRuntime) -> Result<(), Fail> {
+    let mut device = LogDevice::new(rt.alloc());
+    let mut allocator = DescriptorAllocator::new(rt.alloc(), 10);
+    expect_all_lent(&rt, &mut allocator, &mut device)
+}
