@@ -8,7 +8,7 @@ use std::test::Fail;
 
 /// What is done at a bench, or seen there.
 #[derive(Clone, Copy)]
-pub enum Act<'a> {
+pub enum SessionAct<'a> {
     /// So many sets of the layout at this place are asked for, with this reply.
     Allocate(usize, u32, Reply),
     /// The sets of these tickets go back, with this reply.
@@ -87,17 +87,17 @@ pub fn expect_calls(rt: &impl Abort, device: &LogDevice, calls: &[Call]) {
 }
 
 /// Sees what an act says that stands at the bench.
-fn see(rt: &impl Abort, bench: &Bench<LogDevice>, next: Act<'_>) {
+fn see(rt: &impl Abort, bench: &Bench<LogDevice>, next: SessionAct<'_>) {
     match next {
-        Act::Held(held) => expect_held(rt, bench, held),
-        Act::Names(names) => expect_names(rt, bench, names),
-        Act::Next(ticket) => expect_same(rt, bench.session.next_ticket(), ticket),
-        Act::Loads(capacity, marked) => expect_loads(rt, bench, capacity, marked),
-        Act::Pools(samplers, pools) => {
+        SessionAct::Held(held) => expect_held(rt, bench, held),
+        SessionAct::Names(names) => expect_names(rt, bench, names),
+        SessionAct::Next(ticket) => expect_same(rt, bench.session.next_ticket(), ticket),
+        SessionAct::Loads(capacity, marked) => expect_loads(rt, bench, capacity, marked),
+        SessionAct::Pools(samplers, pools) => {
             let layout = layout_of(samplers, false);
             expect_pools(rt, bench.session.allocator(), &layout, pools);
         }
-        Act::Calls(calls) => expect_calls(rt, &bench.device, calls),
+        SessionAct::Calls(calls) => expect_calls(rt, &bench.device, calls),
         _ => assert!(rt; false, "an act that is not made"),
     }
 }
@@ -107,23 +107,23 @@ fn make(
     rt: &impl Abort,
     alloc: Global,
     bench: &mut Bench<LogDevice>,
-    next: Act<'_>,
+    next: SessionAct<'_>,
 ) -> Result<(), AllocError> {
     match next {
-        Act::Allocate(layout, count, wanted) => {
+        SessionAct::Allocate(layout, count, wanted) => {
             expect_same(rt, bench.allocate(layout, count), wanted);
             Ok(())
         }
-        Act::Free(tickets, wanted) => {
+        SessionAct::Free(tickets, wanted) => {
             expect_same(rt, bench.free(alloc, tickets)?, wanted);
             Ok(())
         }
-        Act::FreeEach(tickets) => free_each(rt, alloc, bench, tickets),
-        Act::Cleanup => {
+        SessionAct::FreeEach(tickets) => free_each(rt, alloc, bench, tickets),
+        SessionAct::Cleanup => {
             expect_same(rt, bench.cleanup(), Reply::Clean);
             Ok(())
         }
-        Act::Run(commands, wanted) => expect_run(rt, bench, commands, wanted),
+        SessionAct::Run(commands, wanted) => expect_run(rt, bench, commands, wanted),
         seen => {
             see(rt, bench, seen);
             Ok(())
@@ -137,7 +137,7 @@ fn play(
     alloc: Global,
     bench: &mut Bench<LogDevice>,
     layouts: &[ScriptLayout],
-    acts: &[Act<'_>],
+    acts: &[SessionAct<'_>],
 ) -> Result<(), Fail> {
     for layout in layouts {
         bench.add_layout(*layout)?;
@@ -148,16 +148,33 @@ fn play(
     Ok(())
 }
 
-/// Does the acts at a new bench, with a limit, layouts and a script.
-pub fn play_new(
-    rt: &impl Abort,
-    alloc: Global,
-    limit: u32,
-    layouts: &[ScriptLayout],
-    script: &[Answer],
-    acts: &[Act<'_>],
-) -> Result<(), Fail> {
-    let script = script.to_vec(alloc)?;
-    let mut bench = Bench::new(alloc, limit, LogDevice::with_script(alloc, script));
-    play(rt, alloc, &mut bench, layouts, acts)
+/// A new bench: its limit, its layouts, and what its device answers.
+#[derive(Clone, Copy)]
+pub struct Setting<'a> {
+    pub limit: u32,
+    pub layouts: &'a [ScriptLayout],
+    pub script: &'a [Answer],
+}
+
+impl<'a> Setting<'a> {
+    /// Layouts under the limit 0, on a device that grants all.
+    pub fn of(layouts: &'a [ScriptLayout]) -> Self {
+        Setting {
+            limit: 0,
+            layouts,
+            script: &[],
+        }
+    }
+
+    /// Does the acts there.
+    pub fn play(
+        &self,
+        rt: &impl Abort,
+        alloc: Global,
+        acts: &[SessionAct<'_>],
+    ) -> Result<(), Fail> {
+        let script = self.script.to_vec(alloc)?;
+        let mut bench = Bench::new(alloc, self.limit, LogDevice::with_script(alloc, script));
+        play(rt, alloc, &mut bench, self.layouts, acts)
+    }
 }

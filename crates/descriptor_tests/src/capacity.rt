@@ -1,7 +1,7 @@
 //! How many descriptors the pools for marked sets have, in numbers, which no line of the program
 //! shows.
-use crate::acts::Act::{Allocate, Loads};
-use crate::acts::play_new;
+use crate::acts::SessionAct::{Allocate, Loads};
+use crate::acts::Setting;
 use crate::bench::{layout_of, sets};
 use descriptor_script::Reply;
 use gpu_descriptor::AllocationError;
@@ -20,5 +20,9 @@ fn pools_count_as_they_were_cut(rt: HostRuntime) -> Result<(), Fail> {
         Allocate(0, 20, REFUSED),
         Loads(298, 193),
     ];
-    play_new(&rt, rt.alloc(), 300, &layouts, &[], &acts)
+    let setting = Setting {
+        limit: 300,
+        ..Setting::of(&layouts)
+    };
+    setting.play(&rt, rt.alloc(), &acts)
 }

@@ -1,8 +1,8 @@
 //! That memory is found in a large run of a session, and for the list of its device's calls: beside
 //! hundreds of keys, pools and calls, for hundreds of tickets of a list and of commands of a run.
 //! No clause says that memory is there.
-use crate::acts::Act::{Allocate, Cleanup, Free, Held, Run};
-use crate::acts::{Act, play_new};
+use crate::acts::SessionAct::{Allocate, Cleanup, Free, Held, Run};
+use crate::acts::{SessionAct, Setting};
 use crate::bench::{layout_of, sets};
 use descriptor_script::{Command, Reply, ScriptLayout};
 use std::alloc::{AllocError, Global};
@@ -19,7 +19,7 @@ fn many_layouts(alloc: Global, count: u32) -> Result<Vec<ScriptLayout>, AllocErr
 }
 
 /// A set of each of so many keys, with the tickets from 0 up.
-fn a_set_of_each(alloc: Global, count: u32) -> Result<Vec<Act<'static>>, AllocError> {
+fn a_set_of_each(alloc: Global, count: u32) -> Result<Vec<SessionAct<'static>>, AllocError> {
     let mut acts = Vec::new(alloc);
     for place in 0..count as usize {
         acts.push(Allocate(place, 1, sets(place, 1)))?;
@@ -76,5 +76,5 @@ fn memory_is_found_beside_hundreds(rt: HostRuntime) -> Result<(), Fail> {
     ] {
         acts.push(act)?;
     }
-    play_new(&rt, rt.alloc(), 0, &layouts, &[], &acts)
+    Setting::of(&layouts).play(&rt, rt.alloc(), &acts)
 }

@@ -1,7 +1,7 @@
 //! In which order sets of one pool stand under their tickets, and calls reach the device: no clause
 //! says it, since the ledger sees no order.
-use crate::acts::Act::{Allocate, Calls, Free, Names, Next, Pools};
-use crate::acts::play_new;
+use crate::acts::SessionAct::{Allocate, Calls, Free, Names, Next, Pools};
+use crate::acts::Setting;
 use crate::bench::{layout_of, sets};
 use descriptor_script::{Answer, Call, Reply};
 use gpu_descriptor::AllocationError;
@@ -25,7 +25,7 @@ fn tickets_have_the_sets_as_they_came(rt: HostRuntime) -> Result<(), Fail> {
         Names(&names),
         Pools(1, &[(0, 64, 0), (1, 38, 26)]),
     ];
-    play_new(&rt, rt.alloc(), 0, &[layout_of(1, false)], &[], &acts)
+    Setting::of(&[layout_of(1, false)]).play(&rt, rt.alloc(), &acts)
 }
 
 #[test]
@@ -52,7 +52,11 @@ fn sets_of_a_refused_request_go_back_as_they_came(rt: HostRuntime) -> Result<(),
         Calls(&calls),
     ];
     let layouts = [layout_of(2147483647, false)];
-    play_new(&rt, rt.alloc(), 0, &layouts, &script, &acts)
+    let setting = Setting {
+        script: &script,
+        ..Setting::of(&layouts)
+    };
+    setting.play(&rt, rt.alloc(), &acts)
 }
 
 #[test]
@@ -76,5 +80,5 @@ fn front_goes_before_the_next_run(rt: HostRuntime) -> Result<(), Fail> {
         Free(&tickets, Reply::Freed(65)),
         Calls(&calls),
     ];
-    play_new(&rt, rt.alloc(), 0, &[layout_of(1, false)], &[], &acts)
+    Setting::of(&[layout_of(1, false)]).play(&rt, rt.alloc(), &acts)
 }

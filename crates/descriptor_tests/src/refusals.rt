@@ -1,8 +1,8 @@
 //! Each answer of a device at each of its calls. Clauses say what each step may reply and leaves;
 //! none says that a refused call costs one request and no other, that later requests are met, or
 //! how many calls a run makes.
-use crate::acts::Act::{Allocate, Pools};
-use crate::acts::play_new;
+use crate::acts::SessionAct::{Allocate, Pools};
+use crate::acts::Setting;
 use crate::bench::{Bench, expect_pools, expect_same, layout_of, scripted, sets};
 use crate::plans::{Ask, Plan, dropped_pools, keys_in_turn, new_pools, old_pools};
 use descriptor_script::{Answer, Command, Reply, ScriptLayout, ScriptedDevice, refuse_at};
@@ -154,7 +154,12 @@ fn pool_that_is_passed_over_shows_no_free_place(rt: HostRuntime) -> Result<(), F
     let layouts = [layout_of(1, false)];
     for word in [Answer::Frag, Answer::Pool] {
         let script = [Answer::Ok, Answer::Ok, word];
-        play_new(&rt, rt.alloc(), u32::MAX, &layouts, &script, &acts)?;
+        let setting = Setting {
+            limit: u32::MAX,
+            layouts: &layouts,
+            script: &script,
+        };
+        setting.play(&rt, rt.alloc(), &acts)?;
     }
     Ok(())
 }

@@ -1,6 +1,6 @@
 //! What a device sees: its calls in their order, which no clause says, and what stands then.
-use crate::acts::Act::{Allocate, Calls, Cleanup, Free, FreeEach, Held, Loads, Pools};
-use crate::acts::{Act, expect_calls, play_new};
+use crate::acts::SessionAct::{Allocate, Calls, Cleanup, Free, FreeEach, Held, Loads, Pools};
+use crate::acts::{SessionAct, Setting, expect_calls};
 use crate::bench::{expect_pools, expect_same, layout_of, sets};
 use crate::pair::Pair;
 use descriptor_script::{Call, Command, LogDevice, Reply};
@@ -104,7 +104,7 @@ fn cleanup_goes_through_keys_in_their_order(rt: HostRuntime) -> Result<(), Fail>
         Calls(&calls),
     ];
     let layouts = [layout_of(2, false), layout_of(1, false)];
-    play_new(&rt, rt.alloc(), 0, &layouts, &[], &acts)
+    Setting::of(&layouts).play(&rt, rt.alloc(), &acts)
 }
 
 /// Sets of so many samplers that come by two requests.
@@ -114,7 +114,7 @@ struct Taken {
     requests: [u32; 2],
 }
 
-fn allocates(taken: Taken) -> [Act<'static>; 2] {
+fn allocates(taken: Taken) -> [SessionAct<'static>; 2] {
     let [first, second] = taken.requests;
     [
         Allocate(0, first, sets(0, first)),
@@ -180,14 +180,7 @@ fn expect_however<'a>(
     let [first, second] = allocates(taken);
     let free = Free(tickets, Reply::Freed(tickets.len()));
     let acts = [first, second, free, Calls(calls)];
-    play_new(
-        rt,
-        alloc,
-        0,
-        &[layout_of(taken.samplers, false)],
-        &[],
-        &acts,
-    )?;
+    Setting::of(&[layout_of(taken.samplers, false)]).play(rt, alloc, &acts)?;
     expect_left(rt, alloc, taken, tickets, stands)?;
     let mut turned = tickets.to_vec(alloc)?;
     turned.reverse();
@@ -210,7 +203,7 @@ fn expect_left<'a>(
         FreeEach(tickets),
     ] {
         let acts = [first, second, back, left, Held(0), Loads(0, 0)];
-        play_new(rt, alloc, 0, &layouts, &[], &acts)?;
+        Setting::of(&layouts).play(rt, alloc, &acts)?;
     }
     Ok(())
 }

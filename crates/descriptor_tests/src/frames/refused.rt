@@ -1,17 +1,17 @@
 //! Sets that are retired while growths are refused: one alone, or each from one on. In a plain run
 //! every growth is granted; `tools/refuse-memory` refuses them in turn. It also compares how many
 //! growths two tests ask for.
-use crate::frames::trial::Act::{
+use crate::frames::trial::FrameAct::{
     Cleanup, Device, Finish, FreeAll, Pools, Reserve, Retire, RetireAll, Sets,
 };
-use crate::frames::trial::{Act, Outcome, Trial, expect_sets, play};
+use crate::frames::trial::{FrameAct, Outcome, Trial, expect_sets, play};
 use gpu_descriptor::AllocationError;
 use std::alloc::Global;
 use std::process::Abort;
 use std::test::Fail;
 
 /// Does the acts behind three sets that are retired at frames 5, 6 and 7.
-fn play_behind(rt: &impl Abort, trial: &mut Trial, acts: &[Act<'_>]) -> Result<(), Fail> {
+fn play_behind(rt: &impl Abort, trial: &mut Trial, acts: &[FrameAct<'_>]) -> Result<(), Fail> {
     let retired = [
         Retire(5, Outcome::Retired),
         Retire(6, Outcome::Retired),
@@ -22,7 +22,7 @@ fn play_behind(rt: &impl Abort, trial: &mut Trial, acts: &[Act<'_>]) -> Result<(
 }
 
 /// Does the acts at three new sets that are retired at frames 5, 6 and 7.
-fn play_retired(rt: &impl Abort, alloc: Global, acts: &[Act<'_>]) -> Result<(), Fail> {
+fn play_retired(rt: &impl Abort, alloc: Global, acts: &[FrameAct<'_>]) -> Result<(), Fail> {
     let mut trial = Trial::new(alloc, 3)?;
     play_behind(rt, &mut trial, acts)
 }

@@ -1,6 +1,8 @@
 //! What no clause says: that sets are retired, and go back, where memory is there. And beside the
 //! proofs what the readers show then, at three sets and two frames.
-use crate::frames::trial::Act::{Cleanup, Device, Finish, FreeAll, Pools, Retire, RetireAll, Sets};
+use crate::frames::trial::FrameAct::{
+    Cleanup, Device, Finish, FreeAll, Pools, Retire, RetireAll, Sets,
+};
 use crate::frames::trial::{Outcome, Trial, play};
 use std::test::Fail;
 

@@ -6,6 +6,7 @@ ghost use Rattle.descriptor_script.specs.Scripted.Device.{ledger_of};
 ghost use Rattle.descriptor_script.specs.Scripted.Raw.{pool_id, set_id};
 ghost use Rattle.descriptor_frames.specs.Frames.{AreInUse, AreRetiredOut, allocator_of};
 
+use crate::bench::expect_pools;
 use bitflags::Flags;
 use descriptor_frames::{FrameManager, RetireAllError, RetireError};
 use descriptor_script::{RawPool, RawSet, ScriptLayout, ScriptedDevice};
@@ -27,7 +28,7 @@ pub struct Trial {
     pub device: ScriptedDevice,
     pub manager: FrameManager<RawPool, RawSet>,
     pub in_use: VecDeque<DescriptorSet<RawSet>>,
-    pub counts: DescriptorTotalCount,
+    pub layout: ScriptLayout,
     ghost agree: { Agrees pool_id (allocator_of manager) (ledger_of device) } by { Agrees-prop
         pool_id (allocator_of manager) (ledger_of device) },
     ghost retired: { AreRetiredOut pool_id set_id manager (ledger_of device) },
@@ -61,7 +62,7 @@ impl Trial {
             device,
             manager,
             in_use: VecDeque::from(sets),
-            counts,
+            layout,
         })
     }
 
@@ -126,7 +127,7 @@ impl Trial {
 
 /// What is done at a trial, or seen there.
 #[derive(Clone, Copy)]
-pub enum Act<'a> {
+pub enum FrameAct<'a> {
     /// The first of the sets in use is retired at this frame, with this outcome.
     Retire(u64, Outcome),
     /// All sets in use are retired at this frame at once, with this outcome.
@@ -146,21 +147,6 @@ pub enum Act<'a> {
     Device(u64, u64),
 }
 
-/// The number, the allocated and the available of a pool.
-fn pool_at(trial: &Trial, index: usize) -> Option<(u64, u32, u32)> {
-    let view = trial.manager.allocator().pool(&trial.counts, false, index)?;
-    Some((view.number, view.allocated, view.available))
-}
-
-/// Compares the pools: the number, the allocated and the available of each.
-fn expect_pools(rt: &impl Abort, trial: &Trial, pools: &[(u64, u32, u32)]) {
-    let count = trial.manager.allocator().pool_count(&trial.counts, false);
-    assert_eq!(rt; count, pools.len());
-    for (index, pool) in pools.iter().enumerate() {
-        assert_eq!(rt; pool_at(trial, index), Some(*pool), "at {index}");
-    }
-}
-
 /// Compares how many sets are out, and how many of these are retired.
 pub fn expect_sets(rt: &impl Abort, trial: &Trial, outstanding: u64, retired: u64) {
     let seen = [trial.manager.outstanding(), trial.manager.retired()];
@@ -174,25 +160,31 @@ pub fn expect_device(rt: &impl Abort, trial: &Trial, destroyed: u64, released: u
 }
 
 /// Does one act, or sees what it says.
-fn make(rt: &impl Abort, trial: &mut Trial, next: Act<'_>) -> Result<(), Fail> {
+fn make(rt: &impl Abort, trial: &mut Trial, next: FrameAct<'_>) -> Result<(), Fail> {
     match next {
-        Act::Retire(frame, wanted) => assert_eq!(rt; trial.retire(frame)?, wanted, "at {frame}"),
-        Act::RetireAll(frame, wanted) => {
+        FrameAct::Retire(frame, wanted) => assert_eq!(rt;
+            trial.retire(frame)?,
+            wanted,
+            "at {frame}"
+        ),
+        FrameAct::RetireAll(frame, wanted) => {
             assert_eq!(rt; trial.retire_all(frame), wanted, "at {frame}");
         }
-        Act::FreeAll => trial.free_all(),
-        Act::Reserve(count) => trial.manager.reserve(count)?,
-        Act::Finish(frame) => trial.finish(frame),
-        Act::Cleanup => trial.cleanup(),
-        Act::Pools(pools) => expect_pools(rt, trial, pools),
-        Act::Sets(outstanding, retired) => expect_sets(rt, trial, outstanding, retired),
-        Act::Device(destroyed, released) => expect_device(rt, trial, destroyed, released),
+        FrameAct::FreeAll => trial.free_all(),
+        FrameAct::Reserve(count) => trial.manager.reserve(count)?,
+        FrameAct::Finish(frame) => trial.finish(frame),
+        FrameAct::Cleanup => trial.cleanup(),
+        FrameAct::Pools(pools) => {
+            expect_pools(rt, trial.manager.allocator(), &trial.layout, pools);
+        }
+        FrameAct::Sets(outstanding, retired) => expect_sets(rt, trial, outstanding, retired),
+        FrameAct::Device(destroyed, released) => expect_device(rt, trial, destroyed, released),
     }
     Ok(())
 }
 
 /// Does the acts in order.
-pub fn play(rt: &impl Abort, trial: &mut Trial, acts: &[Act<'_>]) -> Result<(), Fail> {
+pub fn play(rt: &impl Abort, trial: &mut Trial, acts: &[FrameAct<'_>]) -> Result<(), Fail> {
     for next in acts {
         make(rt, trial, *next)?;
     }
