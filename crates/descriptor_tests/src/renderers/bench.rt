@@ -1,34 +1,30 @@
 //! A renderer over the scripted device, with a plain layout and a marked one.
 use crate::bench::expect_same;
 use crate::callers::set_layout;
-use descriptor_renderer::{RenderError, Renderer, SetHandle};
+use descriptor_renderer::{DrawHandle, Renderer, SetHandle};
 use descriptor_script::{Answer, RawPool, RawSet, ScriptLayout, ScriptedDevice};
-use gpu_descriptor::{AllocationError, DescriptorDevice, LayoutHandle};
+use gpu_descriptor::LayoutHandle;
 use std::alloc::Global;
 use std::process::Abort;
 
 pub type Scripted = Renderer<ScriptLayout, RawPool, RawSet, ScriptedDevice>;
 
 /// A renderer with two layouts of a sampler each, the second one marked.
-pub struct Stage<P, S, D: DescriptorDevice<ScriptLayout, P, S>> {
-    pub renderer: Renderer<ScriptLayout, P, S, D>,
+#[derive(Drop)]
+pub struct Stage {
+    pub renderer: Scripted,
     pub plain: LayoutHandle,
     pub marked: LayoutHandle,
 }
 
-/// A stage over a device. None where there is no memory for the layouts.
-pub fn make_stage<P: Drop, S: Drop, D: DescriptorDevice<ScriptLayout, P, S> + Drop>(
-    alloc: Global,
-    device: D,
-    limit: u32,
-) -> Option<Stage<P, S, D>> {
+/// A stage over the scripted device. None where there is no memory for the layouts.
+pub fn make_stage(alloc: Global, script: Vec<Answer>, limit: u32) -> Option<Stage> {
+    let device = ScriptedDevice::new(alloc, script);
     let mut renderer = Renderer::new(alloc, device, limit, 1);
     let Ok(plain) = renderer.add_layout(set_layout(false)) else {
-        let _device = renderer.shutdown();
         return None;
     };
     let Ok(marked) = renderer.add_layout(set_layout(true)) else {
-        let _device = renderer.shutdown();
         return None;
     };
     Some(Stage {
@@ -38,17 +34,9 @@ pub fn make_stage<P: Drop, S: Drop, D: DescriptorDevice<ScriptLayout, P, S> + Dr
     })
 }
 
-/// A stage over the scripted device.
-pub fn scripted(
-    rt: &impl Abort,
-    alloc: Global,
-    script: Vec<Answer>,
-    limit: u32,
-) -> Stage<RawPool, RawSet, ScriptedDevice> {
-    make_stage(alloc, ScriptedDevice::new(alloc, script), limit).expect(
-        rt,
-        "memory for two layouts",
-    )
+/// The same, with memory for the layouts.
+pub fn scripted(rt: &impl Abort, alloc: Global, script: Vec<Answer>, limit: u32) -> Stage {
+    make_stage(alloc, script, limit).expect(rt, "memory for two layouts")
 }
 
 /// Sees how many sets are of the frame, held and retired.
@@ -69,6 +57,30 @@ pub fn expect_counts(
     );
 }
 
+/// A set that is held from now on.
+pub fn hold(rt: &impl Abort, renderer: &mut Scripted, layout: LayoutHandle) -> SetHandle {
+    renderer.create_set(layout).expect(rt, "a set")
+}
+
+/// A draw of the open frame.
+pub fn draw(rt: &impl Abort, renderer: &mut Scripted, layout: LayoutHandle) -> DrawHandle {
+    renderer.draw(layout).expect(rt, "a set")
+}
+
+/// Destroys a set.
+pub fn destroy(rt: &impl Abort, renderer: &mut Scripted, set: SetHandle, last_use: u64) {
+    expect_same(rt, renderer.destroy_set(set, last_use), Ok(()));
+}
+
+/// Draws a frame with so many sets.
+pub fn draw_frame(rt: &impl Abort, renderer: &mut Scripted, layout: LayoutHandle, count: u32) {
+    assert!(rt; renderer.begin_frame().is_some());
+    for _ in 0..count {
+        assert!(rt; renderer.draw(layout).is_ok());
+    }
+    renderer.end_frame();
+}
+
 /// The name of a held set.
 pub fn name_of(renderer: &Scripted, set: SetHandle) -> Option<u64> {
     let raw = renderer.set(set)?;
@@ -79,9 +91,4 @@ pub fn name_of(renderer: &Scripted, set: SetHandle) -> Option<u64> {
 pub fn expect_shut_down(rt: &impl Abort, renderer: Scripted) {
     let device = renderer.shutdown();
     expect_same(rt, device.created(), device.destroyed());
-}
-
-/// The refusal of an allocator.
-pub fn refusal(error: AllocationError) -> RenderError {
-    RenderError::Allocation(error)
 }

@@ -1,11 +1,14 @@
 //! Many frames, in flight and late, on the scripted device and on one with a budget of places.
-use super::bench::{Stage, expect_counts, expect_shut_down, make_stage, scripted};
+use super::bench::{
+    Scripted, Stage, destroy, draw_frame, expect_counts, expect_shut_down, hold, scripted,
+};
 use crate::bench::expect_same;
-use crate::budget::Budget;
-use descriptor_renderer::Renderer;
-use descriptor_script::ScriptLayout;
+use crate::budget::{Budget, SizedPool};
+use crate::callers::set_layout;
+use descriptor_renderer::{Renderer, SetHandle};
+use descriptor_script::{RawSet, ScriptLayout};
 use gpu_descriptor::{DescriptorDevice, LayoutHandle};
-use std::test::Fail;
+use std::process::Abort;
 
 /// Draws so many frames with so many sets of each layout, and finishes each three frames later. The
 /// last one stays open. Tells how many draws were refused.
@@ -50,11 +53,18 @@ fn renderer_draws_frames(rt: HostRuntime) {
 #[test]
 fn renderer_keeps_within_a_budget(rt: HostRuntime) {
     let device = Budget::new(rt.alloc(), 200);
-    let Stage {
-        mut renderer,
-        plain,
-        marked,
-    } = make_stage(rt.alloc(), device, u32::MAX).expect(&rt, "memory for two layouts");
+    let mut renderer: Renderer<ScriptLayout, SizedPool, RawSet, Budget> = Renderer::new(
+        rt.alloc(),
+        device,
+        u32::MAX,
+        1,
+    );
+    let plain = renderer
+        .add_layout(set_layout(false))
+        .expect(&rt, "memory for a layout");
+    let marked = renderer
+        .add_layout(set_layout(true))
+        .expect(&rt, "memory for a layout");
     let refused = draw_frames(&mut renderer, [plain, marked], 9, 40);
     assert!(rt; 0 < refused);
     let device = renderer.shutdown();
@@ -72,69 +82,58 @@ fn frames_come_late(rt: HostRuntime) {
         marked: _,
     } = scripted(&rt, rt.alloc(), Vec::new(rt.alloc()), u32::MAX);
     for count in [1, 2, 1] {
-        assert!(rt; renderer.begin_frame().is_some());
-        for _ in 0..count {
-            assert!(rt; renderer.draw(plain).is_ok());
-        }
-        renderer.end_frame();
+        draw_frame(&rt, &mut renderer, plain, count);
     }
     expect_counts(&rt, &renderer, 0, 0, 4);
-    renderer.gpu_done(0);
-    expect_counts(&rt, &renderer, 0, 0, 4);
-    renderer.gpu_done(2);
-    expect_counts(&rt, &renderer, 0, 0, 1);
-    renderer.gpu_done(1);
-    expect_counts(&rt, &renderer, 0, 0, 1);
-    renderer.gpu_done(9);
-    expect_counts(&rt, &renderer, 0, 0, 0);
+    for (done, left) in [(0, 4), (2, 1), (1, 1), (9, 0)] {
+        renderer.gpu_done(done);
+        expect_counts(&rt, &renderer, 0, 0, left);
+    }
     expect_shut_down(&rt, renderer);
 }
 
-/// Held sets that were last used in frames 3, 1 and 2 are destroyed in this order, and go back in
-/// the order of the frames.
+/// Destroys three sets that were last used in the frames 3, 1 and 2, in this order.
+fn destroy_three(rt: &impl Abort, renderer: &mut Scripted, sets: [SetHandle; 3]) {
+    destroy(rt, renderer, sets[0], 3);
+    destroy(rt, renderer, sets[1], 1);
+    destroy(rt, renderer, sets[2], 2);
+}
+
+/// They go back in the order of the frames.
 #[test]
-fn sets_go_back_with_their_last_use(rt: HostRuntime) -> Result<(), Fail> {
+fn sets_go_back_with_their_last_use(rt: HostRuntime) {
     let Stage {
         mut renderer,
         plain,
         marked: _,
     } = scripted(&rt, rt.alloc(), Vec::new(rt.alloc()), u32::MAX);
-    let sets = [
-        renderer.create_set(plain)?,
-        renderer.create_set(plain)?,
-        renderer.create_set(plain)?,
-    ];
+    let first = hold(&rt, &mut renderer, plain);
+    let second = hold(&rt, &mut renderer, plain);
+    let third = hold(&rt, &mut renderer, plain);
     for _ in 0..3 {
-        assert!(rt; renderer.begin_frame().is_some());
-        assert!(rt; renderer.draw(plain).is_ok());
-        renderer.end_frame();
+        draw_frame(&rt, &mut renderer, plain, 1);
     }
-    renderer.destroy_set(sets[0], 3)?;
-    renderer.destroy_set(sets[1], 1)?;
-    renderer.destroy_set(sets[2], 2)?;
-    expect_counts(&rt, &renderer, 0, 0, 6);
-    for left in [4, 2, 0] {
-        renderer.gpu_done(3 - left / 2);
+    destroy_three(&rt, &mut renderer, [first, second, third]);
+    for (done, left) in [(0, 6), (1, 4), (2, 2), (3, 0)] {
+        renderer.gpu_done(done);
         expect_counts(&rt, &renderer, 0, 0, left);
     }
     expect_shut_down(&rt, renderer);
-    Ok(())
 }
 
 /// A set that no frame used goes back with the next frame that is done.
 #[test]
-fn unused_sets_go_back_at_once(rt: HostRuntime) -> Result<(), Fail> {
+fn unused_sets_go_back_at_once(rt: HostRuntime) {
     let Stage {
         mut renderer,
         plain,
         marked: _,
     } = scripted(&rt, rt.alloc(), Vec::new(rt.alloc()), u32::MAX);
-    let set = renderer.create_set(plain)?;
-    assert!(rt; renderer.begin_frame().is_some());
-    renderer.destroy_set(set, 0)?;
+    let set = hold(&rt, &mut renderer, plain);
+    draw_frame(&rt, &mut renderer, plain, 0);
+    destroy(&rt, &mut renderer, set, 0);
     expect_counts(&rt, &renderer, 0, 0, 1);
     renderer.gpu_done(0);
     expect_counts(&rt, &renderer, 0, 0, 0);
     expect_shut_down(&rt, renderer);
-    Ok(())
 }

@@ -1,10 +1,13 @@
 //! Refusals of the device, of the limit and of memory.
-use super::bench::{Stage, expect_counts, expect_shut_down, make_stage, refusal, scripted};
+use super::bench::{
+    Scripted, Stage, destroy, draw_frame, expect_counts, expect_shut_down, hold, make_stage,
+    scripted,
+};
 use super::frames::draw_frames;
 use crate::bench::expect_same;
 use descriptor_renderer::RenderError;
-use descriptor_script::{Answer, ScriptedDevice, refuse_at};
-use gpu_descriptor::AllocationError;
+use descriptor_script::{Answer, refuse_at};
+use gpu_descriptor::{AllocationError, LayoutHandle};
 use std::alloc::Global;
 use std::process::Abort;
 use std::test::Fail;
@@ -32,88 +35,102 @@ fn renderer_outlives_a_refusal(rt: HostRuntime) -> Result<(), Fail> {
 }
 
 /// A set that the device refuses is not held, and the next one is.
+fn expect_refused(
+    rt: &impl Abort,
+    renderer: &mut Scripted,
+    layout: LayoutHandle,
+    why: AllocationError,
+) {
+    expect_error(rt, renderer, layout, why);
+    expect_counts(rt, renderer, 0, 0, 0);
+    let _set = hold(rt, renderer, layout);
+    expect_counts(rt, renderer, 0, 1, 0);
+}
+
+/// Sees that no set of the layout is held, and why.
+fn expect_error(
+    rt: &impl Abort,
+    renderer: &mut Scripted,
+    layout: LayoutHandle,
+    why: AllocationError,
+) {
+    match renderer.create_set(layout) {
+        Ok(_) => assert!(rt; false),
+        Err(error) => expect_same(rt, error, RenderError::Allocation(why)),
+    }
+}
+
 #[test]
 fn refused_set_is_not_held(rt: HostRuntime) -> Result<(), Fail> {
-    for (word, error) in [
+    for (word, why) in [
         (Answer::Device, AllocationError::OutOfDeviceMemory),
         (Answer::Host, AllocationError::OutOfHostMemory),
         (Answer::Frag, AllocationError::Fragmentation),
     ] {
+        let script = refuse_at(rt.alloc(), 0, word)?;
         let Stage {
             mut renderer,
             plain,
             marked: _,
-        } = scripted(&rt, rt.alloc(), refuse_at(rt.alloc(), 0, word)?, u32::MAX);
-        expect_same(&rt, renderer.create_set(plain), Err(refusal(error)));
-        expect_counts(&rt, &renderer, 0, 0, 0);
-        assert!(rt; renderer.create_set(plain).is_ok());
-        expect_counts(&rt, &renderer, 0, 1, 0);
+        } = scripted(&rt, rt.alloc(), script, u32::MAX);
+        expect_refused(&rt, &mut renderer, plain, why);
         expect_shut_down(&rt, renderer);
     }
     Ok(())
 }
 
-/// Under a limit of five descriptors, a sixth marked set waits until one has gone back.
+/// Under a limit of five descriptors, a sixth marked set waits until the others have gone back.
 #[test]
-fn marked_sets_keep_within_the_limit(rt: HostRuntime) -> Result<(), Fail> {
+fn marked_sets_keep_within_the_limit(rt: HostRuntime) {
     let Stage {
         mut renderer,
         plain,
         marked,
     } = scripted(&rt, rt.alloc(), Vec::new(rt.alloc()), 5);
-    let full: Result<(), RenderError> = Err(refusal(AllocationError::Fragmentation));
-    let set = renderer.create_set(marked)?;
-    assert!(rt; renderer.begin_frame().is_some());
-    for _ in 0..4 {
-        assert!(rt; renderer.draw(marked).is_ok());
-    }
-    expect_same(&rt, renderer.draw(marked).map(|_| ()), full);
-    expect_same(&rt, renderer.create_set(marked).map(|_| ()), full);
-    assert!(rt; renderer.draw(plain).is_ok());
-    renderer.destroy_set(set, 1)?;
-    expect_same(&rt, renderer.draw(marked).map(|_| ()), full);
-    renderer.end_frame();
+    draw_frame(&rt, &mut renderer, marked, 4);
+    let set = hold(&rt, &mut renderer, marked);
+    expect_error(&rt, &mut renderer, marked, AllocationError::Fragmentation);
+    destroy(&rt, &mut renderer, set, 1);
+    expect_error(&rt, &mut renderer, marked, AllocationError::Fragmentation);
+    let _plain = hold(&rt, &mut renderer, plain);
     renderer.gpu_done(1);
-    for _ in 0..5 {
-        assert!(rt; renderer.create_set(marked).is_ok());
-    }
-    expect_same(&rt, renderer.create_set(marked).map(|_| ()), full);
+    draw_frame(&rt, &mut renderer, marked, 5);
+    expect_error(&rt, &mut renderer, marked, AllocationError::Fragmentation);
     expect_shut_down(&rt, renderer);
-    Ok(())
 }
 
-/// In a plain run every growth is granted; `tools/refuse-memory` refuses each in turn. A refusal
-/// costs its own call, and the sets that are there are retired and destroyed all the same.
+/// Creates two sets, one of which is destroyed again, and draws three times. What is refused for
+/// want of memory costs its own call.
+fn draw_and_destroy(rt: &impl Abort, stage: &mut Stage) {
+    let set = stage.renderer.create_set(stage.marked);
+    let _kept = stage.renderer.create_set(stage.plain);
+    for _ in 0..3 {
+        let _drawn = stage.renderer.draw(stage.plain);
+    }
+    if let Ok(set) = set {
+        let last = stage.renderer.frame();
+        expect_same(rt, stage.renderer.destroy_set(set, last), Ok(()));
+    }
+}
+
+/// In a plain run every growth is granted; `tools/refuse-memory` refuses each in turn. The sets that
+/// are there are retired and destroyed all the same.
 #[test]
 fn renderer_outlives_want_of_memory(rt: HostRuntime) {
-    let device = ScriptedDevice::new(rt.alloc(), Vec::new(rt.alloc()));
-    let Some(
-        Stage {
-            mut renderer,
-            plain,
-            marked,
-        },
-    ) = make_stage(rt.alloc(), device, u32::MAX)
-    else {
+    let Some(mut stage) = make_stage(rt.alloc(), Vec::new(rt.alloc()), u32::MAX) else {
         return;
     };
     for _ in 0..9 {
-        let _opened = renderer.begin_frame();
-        let set = renderer.create_set(marked);
-        let _kept = renderer.create_set(plain);
-        for _ in 0..3 {
-            let before = renderer.drawn_count();
-            if renderer.draw(plain).is_err() {
-                expect_same(&rt, renderer.drawn_count(), before);
-            }
-        }
-        if let Ok(set) = set {
-            expect_same(&rt, renderer.destroy_set(set, renderer.frame()), Ok(()));
-        }
-        renderer.end_frame();
-        expect_same(&rt, renderer.drawn_count(), 0);
+        let _opened = stage.renderer.begin_frame();
+        draw_and_destroy(&rt, &mut stage);
+        stage.renderer.end_frame();
     }
-    renderer.gpu_done(9);
-    expect_same(&rt, renderer.retired_count(), 0);
+    stage.renderer.gpu_done(9);
+    expect_same(&rt, stage.renderer.retired_count(), 0);
+    let Stage {
+        renderer,
+        plain: _,
+        marked: _,
+    } = stage;
     expect_shut_down(&rt, renderer);
 }
