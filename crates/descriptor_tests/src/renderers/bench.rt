@@ -50,11 +50,10 @@ pub fn expect_counts(
     expect_same(rt, renderer.drawn_count(), drawn);
     expect_same(rt, renderer.held_count(), held);
     expect_same(rt, renderer.retired_count(), retired);
-    expect_same(
-        rt,
-        renderer.outstanding(),
-        drawn as u64 + held as u64 + retired,
-    );
+    let all = (drawn as u64)
+        .saturating_add(held as u64)
+        .saturating_add(retired);
+    expect_same(rt, renderer.outstanding(), all);
 }
 
 /// A set that is held from now on.
