@@ -15,7 +15,7 @@ module _ {P S : Type 0} where
   abbrev pub allocator_of : FrameManager P S → Allocations P
   allocator_of m = m.allocator
 
-  -- the retired sets with their frames, in the order in which they were retired
+  -- the retired sets with their frames, in the order in which they go back
   abbrev pub retired_of : FrameManager P S → List (Retired S)
   retired_of m = m.retired.items
 

@@ -15,8 +15,8 @@ impl<P, S> FrameManager<P, S> {
     ghost use Rattle.descriptor_frames.specs.Frames.{allocator_of, due_sets, greatest_of};
     ghost use Rattle.descriptor_frames.specs.Frames.{retired_of, room_of};
 
-    /// Gives back all sets that were retired at this frame or before, in the order in which they
-    /// were retired. It takes no memory and can't be refused. The device must be done with the work
+    /// Gives back all sets that were retired at this frame or before, those of earlier frames first.
+    /// It takes no memory and can't be refused. The device must be done with the work
     /// of these frames: no contract sees that.
     ///
     /// It takes about as many steps as sets go back; the others are not moved. With none it makes
