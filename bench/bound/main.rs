@@ -56,6 +56,11 @@ impl workloads::Bench for Bound {
         unsafe { self.allocator.free(&mut self.device, sets) }.unwrap();
     }
 
+    fn cleanup(&mut self) {
+        // SAFETY: the device is the same in all calls.
+        unsafe { self.allocator.cleanup(&mut self.device) }
+    }
+
     fn is_for_device_memory(error: &AllocationError) -> bool {
         *error == AllocationError::OutOfDeviceMemory
     }

@@ -68,6 +68,11 @@ impl workloads::Bench for Original {
         unsafe { self.allocator.free(&self.device, sets) }
     }
 
+    fn cleanup(&mut self) {
+        // The device is the same in all calls.
+        unsafe { self.allocator.cleanup(&self.device) }
+    }
+
     fn is_for_device_memory(error: &AllocationError) -> bool {
         matches!(error, AllocationError::OutOfDeviceMemory)
     }

@@ -3,7 +3,9 @@
 //! Arguments of the program: a workload and a number N. The line on standard output is to be the same
 //! as ours; the time of all operations goes to standard error.
 
+use std::collections::VecDeque;
 use std::fmt::Debug;
+use std::mem;
 use std::time::{Duration, Instant};
 
 /// How many sets a frame takes.
@@ -17,6 +19,15 @@ const REQUESTS: u32 = 1000;
 
 /// Sets of this many samplers go two to a pool.
 const TWO_A_POOL: u32 = u32::MAX / 2;
+
+/// How many sets a frame of a renderer draws.
+const DRAWS: u32 = 10_000;
+
+/// How many layouts these sets are of, in turn.
+const DRAWN_LAYOUTS: u32 = 4;
+
+/// How many materials a renderer has.
+const MATERIALS: usize = 100;
 
 /// An allocator under the greatest limit, and its device.
 pub trait Bench {
@@ -33,6 +44,9 @@ pub trait Bench {
     fn take(&mut self, layout: &Self::Layout, count: u32) -> Result<Vec<Self::Set>, Self::Error>;
 
     fn give_back(&mut self, sets: Vec<Self::Set>);
+
+    /// Destroys the pools that have no sets.
+    fn cleanup(&mut self);
 
     fn is_for_device_memory(error: &Self::Error) -> bool;
 
@@ -124,6 +138,92 @@ fn drained<B: Bench>(bench: &mut B, n: u32) -> Duration {
     start.elapsed()
 }
 
+/// A frame that was opened, and the sets that go back once the device is done with it.
+struct Frame<S> {
+    number: u64,
+    sets: Vec<S>,
+}
+
+/// A renderer as its author writes it by hand.
+struct Renderer<'a, B: Bench> {
+    bench: &'a mut B,
+    drawn: Vec<B::Layout>,
+    material: B::Layout,
+    materials: Vec<B::Set>,
+
+    /// The frames that the device is not done with, in their order.
+    frames: VecDeque<Frame<B::Set>>,
+}
+
+impl<'a, B: Bench> Renderer<'a, B> {
+    /// One with its layouts and materials.
+    fn new(bench: &'a mut B) -> Self {
+        let drawn = (0..DRAWN_LAYOUTS)
+            .map(|samplers| bench.layout(samplers, 1, false))
+            .collect();
+        let material = bench.layout(DRAWN_LAYOUTS, 1, false);
+        let materials = (0..MATERIALS)
+            .map(|_| take_one(bench, &material))
+            .collect();
+        Renderer {
+            bench,
+            drawn,
+            material,
+            materials,
+            frames: VecDeque::new(),
+        }
+    }
+
+    /// Draws a frame, in which another material takes the place of one. The device is done with the
+    /// frame two before.
+    fn draw_frame(&mut self, number: u64) {
+        let new = take_one(self.bench, &self.material);
+        let old = &mut self.materials[number as usize % MATERIALS];
+        let mut sets = vec![mem::replace(old, new)];
+        for draw in 0..DRAWS {
+            let layout = &self.drawn[draw as usize % self.drawn.len()];
+            sets.append(&mut self.bench.take(layout, 1).unwrap());
+        }
+        self.frames.push_back(Frame { number, sets });
+        self.gpu_done(number.saturating_sub(2));
+    }
+
+    /// The device is done with this frame and those before it.
+    fn gpu_done(&mut self, number: u64) {
+        while let Some(frame) = self.frames.front_mut() {
+            if frame.number > number {
+                break;
+            }
+            self.bench.give_back(mem::take(&mut frame.sets));
+            self.frames.pop_front();
+        }
+        self.bench.cleanup();
+    }
+
+    /// Destroys the materials. The device is done with the last two frames, one after the other.
+    fn unload(mut self, last: u64) {
+        let sets = mem::take(&mut self.materials);
+        self.frames.push_back(Frame { number: last, sets });
+        self.gpu_done(last.saturating_sub(1));
+        self.gpu_done(last);
+    }
+}
+
+fn take_one<B: Bench>(bench: &mut B, layout: &B::Layout) -> B::Set {
+    bench.take(layout, 1).unwrap().remove(0)
+}
+
+fn renderer<B: Bench>(bench: &mut B, n: u32) -> Duration {
+    let mut renderer = Renderer::new(bench);
+    let start = Instant::now();
+    for number in 1..=u64::from(n) {
+        renderer.draw_frame(number);
+    }
+    let time = start.elapsed();
+    renderer.unload(u64::from(n));
+    time
+}
+
 /// Shuffles sets, the same way each time.
 fn shuffle<S>(held: &mut [S]) {
     let mut random: u64 = 1;
@@ -164,6 +264,10 @@ pub fn run<B: Bench>() {
             full(&mut bench, n)
         }
         "drained" => drained(&mut bench, n),
+        "renderer" => {
+            operations *= u64::from(DRAWS);
+            renderer(&mut bench, n)
+        }
         _ => panic!("no workload has this name"),
     };
     println!(

@@ -11,7 +11,9 @@ mod counted_set;
 mod device;
 mod layout;
 mod mix;
+mod outcome;
 mod owed;
+mod rendering;
 mod rounds;
 #[cfg(test)]
 mod two_layouts;
@@ -20,6 +22,7 @@ mod workloads;
 
 use anyhow::anyhow;
 use bench::Bench;
+use outcome::Outcome;
 use std::env;
 use workload::{WORKLOADS, Workload};
 
@@ -30,30 +33,42 @@ fn main(rt: HostRuntime) -> Result<(), anyhow::Error> {
         return Err(anyhow!("the arguments are a workload, or all, and a number"));
     };
     let n: u32 = number.as_str().parse()?;
-    let mut is_known = false;
-    for workload in WORKLOADS {
-        if name.as_str() == workload.name() || name.as_str() == "all" {
-            run(&rt, workload, n)?;
-            is_known = true;
-        }
-    }
-    if is_known {
+    if run_named(&rt, name.as_str(), n)? {
         Ok(())
     } else {
         Err(anyhow!("no workload has this name"))
     }
 }
 
-/// Runs a workload over a new allocator, and writes what came of it.
-fn run(rt: &HostRuntime, workload: Workload, n: u32) -> Result<(), anyhow::Error> {
+/// Runs the workload of this name, or all, and writes what came of it. False where none has the
+/// name.
+fn run_named(rt: &HostRuntime, name: &str, n: u32) -> Result<bool, anyhow::Error> {
+    let mut is_known = false;
+    for workload in WORKLOADS {
+        if is_meant(name, workload.name()) {
+            run(rt, workload, n)?.write(rt, workload.name(), n)?;
+            is_known = true;
+        }
+    }
+    if is_meant(name, rendering::NAME) {
+        rendering::render(rt, rt.alloc(), n)?.write(rt, rendering::NAME, n)?;
+        is_known = true;
+    }
+    Ok(is_known)
+}
+
+/// Whether a name is that of a workload, or asks for all.
+fn is_meant(name: &str, workload: &str) -> bool {
+    name == workload || name == "all"
+}
+
+/// Runs a workload over a new allocator.
+fn run(rt: &HostRuntime, workload: Workload, n: u32) -> Result<Outcome, anyhow::Error> {
     let mut bench = Bench::new(rt.alloc(), workload.most_pools());
     let time = bench.run(rt, rt.alloc(), workload, n)?;
-    println!(rt;
-        "{} {n} {} operations, checksum {}",
-        workload.name(),
-        workload.operations(n),
-        bench.device.sum()
-    )?;
-    eprintln!(rt; "{} ns", time.as_nanos())?;
-    Ok(())
+    Ok(Outcome {
+        operations: workload.operations(n),
+        sum: bench.device.sum(),
+        time,
+    })
 }
