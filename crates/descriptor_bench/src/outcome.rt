@@ -15,8 +15,7 @@ impl Outcome {
     pub fn write(&self, rt: &HostRuntime, name: &str, n: u32) -> Result<(), Error> {
         println!(rt;
             "{name} {n} {} operations, checksum {}",
-            self.operations,
-            self.sum
+            self.operations, self.sum
         )?;
         eprintln!(rt; "{} ns", self.time.as_nanos())?;
         Ok(())
