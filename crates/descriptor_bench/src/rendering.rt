@@ -116,10 +116,10 @@ fn render_frame(renderer: &mut BenchRenderer, scene: &mut Scene) -> Result<(), a
     let Some(frame) = renderer.begin_frame() else {
         return Err(anyhow!("a frame was to be opened"));
     };
-    draw_each(renderer, &scene.drawn)?;
     let place = (frame % MATERIALS as u64) as usize;
     renderer.destroy_set(scene.materials[place], frame)?;
     scene.materials[place] = renderer.create_set(scene.material)?;
+    draw_each(renderer, &scene.drawn)?;
     renderer.end_frame();
     renderer.gpu_done(frame.saturating_sub(2));
     Ok(())
