@@ -162,9 +162,7 @@ impl<'a, B: Bench> Renderer<'a, B> {
             .map(|samplers| bench.layout(samplers, 1, false))
             .collect();
         let material = bench.layout(DRAWN_LAYOUTS, 1, false);
-        let materials = (0..MATERIALS)
-            .map(|_| take_one(bench, &material))
-            .collect();
+        let materials = (0..MATERIALS).map(|_| take_one(bench, &material)).collect();
         Renderer {
             bench,
             drawn,
@@ -174,8 +172,8 @@ impl<'a, B: Bench> Renderer<'a, B> {
         }
     }
 
-    /// Draws a frame, in which another material takes the place of one. The device is done with the
-    /// frame two before.
+    /// Draws a frame. A new material takes the place of one whose last use is in this frame. Once the
+    /// frame has ended, the device is done with the frame two before.
     fn draw_frame(&mut self, number: u64) {
         let new = take_one(self.bench, &self.material);
         let old = &mut self.materials[number as usize % MATERIALS];

@@ -45,12 +45,12 @@ fn main(rt: HostRuntime) -> Result<(), anyhow::Error> {
 fn run_named(rt: &HostRuntime, name: &str, n: u32) -> Result<bool, anyhow::Error> {
     let mut is_known = false;
     for workload in WORKLOADS {
-        if is_meant(name, workload.name()) {
+        if is_asked_for(name, workload.name()) {
             run(rt, workload, n)?.write(rt, workload.name(), n)?;
             is_known = true;
         }
     }
-    if is_meant(name, rendering::NAME) {
+    if is_asked_for(name, rendering::NAME) {
         rendering::render(rt, rt.alloc(), n)?.write(rt, rendering::NAME, n)?;
         is_known = true;
     }
@@ -58,7 +58,7 @@ fn run_named(rt: &HostRuntime, name: &str, n: u32) -> Result<bool, anyhow::Error
 }
 
 /// Whether a name is that of a workload, or asks for all.
-fn is_meant(name: &str, workload: &str) -> bool {
+fn is_asked_for(name: &str, workload: &str) -> bool {
     name == workload || name == "all"
 }
 

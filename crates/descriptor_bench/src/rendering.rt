@@ -110,8 +110,8 @@ fn render_frames(
     Ok(())
 }
 
-/// Draws a frame, in which another material takes the place of one. The device is done with the
-/// frame two before.
+/// Draws a frame. A new material takes the place of one whose last use is in this frame. Once the
+/// frame has ended, the device is done with the frame two before.
 fn render_frame(renderer: &mut BenchRenderer, scene: &mut Scene) -> Result<(), anyhow::Error> {
     let Some(frame) = renderer.begin_frame() else {
         return Err(anyhow!("a frame was to be opened"));
@@ -131,7 +131,7 @@ fn draw_each(
     layouts: &[LayoutHandle; DRAWN_LAYOUTS],
 ) -> Result<(), RenderError> {
     for draw in 0..DRAWS {
-        let _draw = renderer.draw(layouts[draw as usize % DRAWN_LAYOUTS])?;
+        renderer.draw(layouts[draw as usize % DRAWN_LAYOUTS])?;
     }
     Ok(())
 }
