@@ -5,6 +5,7 @@ pub mod batches;
 pub mod drawing;
 pub mod few_pools;
 pub mod game;
+pub mod one_frame;
 pub mod one_layout;
 pub mod own_device;
 pub mod owned_allocator;
