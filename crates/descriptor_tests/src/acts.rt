@@ -132,7 +132,7 @@ fn make(
 }
 
 /// Puts the layouts, and does the acts in order.
-fn play(
+pub fn play(
     rt: &impl Abort,
     alloc: Global,
     bench: &mut Bench<LogDevice>,

@@ -2,9 +2,9 @@
 //! hundreds of keys, pools and calls, for hundreds of tickets of a list and of commands of a run.
 //! No clause says that memory is there.
 use crate::acts::SessionAct::{Allocate, Cleanup, Free, Held, Run};
-use crate::acts::{SessionAct, Setting};
-use crate::bench::{layout_of, sets};
-use descriptor_script::{Command, Reply, ScriptLayout};
+use crate::acts::{SessionAct, play};
+use crate::bench::{Bench, layout_of, sets};
+use descriptor_script::{Command, LogDevice, Reply, ScriptLayout};
 use std::alloc::{AllocError, Global};
 use std::test::Fail;
 
@@ -76,5 +76,7 @@ fn memory_is_found_beside_hundreds(rt: HostRuntime) -> Result<(), Fail> {
     ] {
         acts.push(act)?;
     }
-    Setting::of(&layouts).play(&rt, rt.alloc(), &acts)
+    let device = LogDevice::with_script(rt.alloc(), Vec::new(rt.alloc()));
+    let mut bench = Bench::new(rt.alloc(), 0, device);
+    play(&rt, rt.alloc(), &mut bench, &layouts, &acts)
 }
