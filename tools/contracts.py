@@ -1,0 +1,151 @@
+"""What the sources say of the contracts of functions, read as text: the clauses of each function, the
+definitions that its clauses are said with, and the fields of those that are records."""
+import re
+from pathlib import Path
+
+import common
+
+TOP = Path(common.TOP)
+WORD = re.compile(r"[A-Za-z_]\w*")
+IMPORT = re.compile(r"use Rattle\.(\w+)\.specs\.([\w.]+)\.\{([^}]*)\}")
+DEFINED = re.compile(r"^ *(?:(?:abbrev|unfoldable) pub|pub (record|data)) (\w+)\b", re.M)
+FUNCTION = re.compile(r"^( *)((?:pub(?:\(\w+\))? )?)(?:extern \"C\" )?fn (\w+)", re.M)
+AROUND = re.compile(r"^(?:pub(?:\(\w+\))? )?(impl|trait|struct|enum)\b(.*(?:\n    where.*)?)", re.M)
+CLAUSE = re.compile(r"^ *(requires|ensures)\*? (?:(\w+) )?\{", re.M)
+
+
+def sources(crate, kind, ending):
+    return sorted((TOP / "crates" / crate / kind).glob(f"**/*.{ending}"))
+
+
+CRATES = sorted(path.parent.name for path in (TOP / "crates").glob("*/src"))
+
+
+def imports(text):
+    """Of each name that a file imports, the module that defines it."""
+    return {name.split(" as ")[-1].strip(): (crate, module, name.split(" as ")[0].strip())
+            for crate, module, names in IMPORT.findall(text) for name in names.split(",")}
+
+
+def definitions():
+    """Of each definition, by crate, module and name, its kind, its text, and its file's imports."""
+    found = {}
+    for crate in CRATES:
+        root = TOP / "crates" / crate / "specs"
+        for path in sources(crate, "specs", "antt"):
+            module = ".".join(path.relative_to(root).with_suffix("").parts)
+            text = path.read_text()
+            places = [*DEFINED.finditer(text)]
+            inside = {**imports(text), **{it[2]: (crate, module, it[2]) for it in places}}
+            for place, end in zip(places, [*(it.start() for it in places[1:]), len(text)]):
+                body = re.sub(r"--.*", "", text[place.start():end])
+                found[crate, module, place[2]] = place[1], body, inside
+    return found
+
+
+DEFINITIONS = definitions()
+
+
+def fields(place):
+    """The fields of a record, and the cases of a data type, each with its text."""
+    kind, body, _ = DEFINITIONS.get(place, (None, "", None))
+    parts = re.split(r"^ +(?:pub )?(\w+) :", body, flags=re.M)
+    return dict(zip(parts[1::2], parts[2::2])) if kind else {}
+
+
+def promises(place):
+    """The fields of a record that no other field is said with."""
+    found = fields(place) if DEFINITIONS.get(place, "?")[0] == "record" else {}
+    return [name for name in found if not any(re.search(rf"(?<![\w.]){name}\b", text)
+                                              for other, text in found.items() if other != name)]
+
+
+def said_with(text, names):
+    """The definitions that a text is said with, by their names. Those that are named nearest to the
+    text come first: of two with one name the page means the first."""
+    found, seen = {}, set()
+    near = [names[word] for word in WORD.findall(text) if word in names]
+    while near:
+        near = [it for it in dict.fromkeys(near) if it in DEFINITIONS and it not in seen]
+        seen.update(near)
+        for place in near:
+            found.setdefault(place[2], place)
+        near = [inside[word] for _, body, inside in map(DEFINITIONS.get, near)
+                for word in WORD.findall(body) if word in inside]
+    return found
+
+
+class Function:
+    """A function with its clauses."""
+
+    def __init__(self, crate, path, place, text):
+        head = text[place.start():]
+        end = re.compile(rf"(?<=\n){place[1]}(?:\{{|\).*\{{$)|^.*(?:///|\bfn )|^\}}", re.M)
+        found = end.search(head, head.index("\n"))
+        head = head[:0 if head.partition("\n")[0].endswith("{") else found and found.start()]
+        before = [*AROUND.finditer(text[:place.start()])]
+        last = before[-1] if before and place[1] else None
+        self.path, self.name, self.is_public = path, place[3], bool(place[2].startswith("pub "))
+        self.head, self.crate = head, crate
+        self.type = type_of(last) if last else None
+        self.trait = trait_of(last) if last else None
+        self.is_public |= bool(last and (last[1] == "trait" or self.trait))
+        clauses = CLAUSE.findall(head)
+        self.requires = {name for kind, name in clauses if kind == "requires"}
+        self.ensures = [name for kind, name in clauses if kind == "ensures"]
+        self.names = imports(text)
+        self.words = None
+
+    def said(self):
+        """The definitions that its clauses are said with."""
+        if self.words is None:
+            at = CLAUSE.search(self.head)
+            self.words = said_with(self.head[at.start():] if at else "", self.names)
+        return self.words
+
+
+def without_parameters(text):
+    """What stands behind the parameters of an impl."""
+    depth = 0
+    for at, letter in enumerate(text if text.startswith("<") else ""):
+        depth += (letter == "<") - (letter == ">" and text[at - 1] not in "-=")
+        if depth == 0:
+            return text[at + 1:]
+    return text
+
+
+def type_of(around):
+    """The type of an impl; or the name of a trait, a struct or an enum."""
+    text = without_parameters(around[2]) if around[1] == "impl" else around[2]
+    found = re.search(r"(?:\w+::)*(\w+)", text.split(" for ")[-1])
+    return found[1] if found else None
+
+
+def trait_of(around):
+    """The trait that an impl is of."""
+    text = without_parameters(around[2]) if around[1] == "impl" else ""
+    found = re.match(r"\s*(?:\w+::)*(\w+)", text) if " for " in text else None
+    return found[1] if found else None
+
+
+def of_trait(function):
+    """The names of the clauses that the trait of an impl has for the method too."""
+    return {clause for it in FUNCTIONS if function.trait and it.type == function.trait
+            and it.name == function.name for clause in it.ensures}
+
+
+def functions_and_ghosts():
+    """All functions; and of each type, by its crate and name, its ghost fields and members."""
+    functions, ghosts = [], {}
+    for crate in CRATES:
+        for path in sources(crate, "src", "rt"):
+            text = path.read_text()
+            functions += [Function(crate, path, it, text) for it in FUNCTION.finditer(text)]
+            parts = [*AROUND.finditer(text)]
+            for part, end in zip(parts, [*(it.start() for it in parts[1:]), len(text)]):
+                ghosts.setdefault((crate, type_of(part)), set()).update(
+                    re.findall(r"^ +(?:pub )?ghost (\w+)\b(?: =|:)", text[part.start():end], re.M))
+    return functions, ghosts
+
+
+FUNCTIONS, GHOSTS = functions_and_ghosts()
