@@ -140,8 +140,8 @@ typedef struct gd_call {
 } gd_call;
 
 /*
- * A set: the driver's handle, and the library's name of it. A name has a place in its lower 32 bits,
- * which is used again once the set is freed, and above them how often the place was used, this time
+ * A set: the driver's handle, and the library's name of it. A name has a slot in its lower 32 bits,
+ * which is used again once the set is freed, and above them how often the slot was used, this time
  * counted. So no name is 0, and none comes twice while the allocator is open. Two allocators may
  * give the same name.
  */
