@@ -126,7 +126,7 @@ impl<P> DescriptorBucket<P> {
                     allocated: given,
                     available: size - given,
                 });
-                budget.room -= key.descriptors_of_pool(size);
+                budget.room -= key.marked_descriptors_of_pool(size);
                 Ok(())
             }
             Err(error) => {
