@@ -67,7 +67,8 @@ impl<P, S> DescriptorAllocator<P, S> {
             ahead = self.release_run(device, first, sets);
         }
 
-        // The proof of `keeps` has the allocator's invariant where a field is read.
+        // A proof has the allocator's invariant only where a field is read, and that of `keeps`
+        // needs the invariant.
         prove!(
             self.update_after_bind_descriptors
                 <= self.max_update_after_bind_descriptors_in_all_pools

@@ -117,10 +117,8 @@ impl<P: Drop> DescriptorBucket<P> {
         ensures looks { CountsLooks budget.old.looks.count budget.new.looks.count
             (D.ledger device.old) (D.ledger device.new) }
     {
-        match self.take_from_existing(device, request, &mut budget.looks, sink) {
-            Ok(()) => {}
-            Err(error) => return Err(Stop::ExistingPoolRefused(error)),
-        }
+        self.take_from_existing(device, request, &mut budget.looks, sink)
+            .map_err(Stop::ExistingPoolRefused)?;
         while sink.left > 0 {
             self.take_from_new(device, request, budget, sink)?;
         }

@@ -54,7 +54,8 @@ fn enter(listed: &mut VecDeque<u64>, number: u64, comparisons: &mut Tally)
 }
 
 /// Puts a number in at its place where it isn't there yet, into an empty list without a search. The
-/// test is an argument, so that the caller has one state of its list afterwards.
+/// test is an argument: with an `if` around the call, each promise of the caller would want two
+/// proofs.
 #[inline]
 pub(crate) fn enter_new(
     listed: &mut VecDeque<u64>,
