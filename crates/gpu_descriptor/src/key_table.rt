@@ -16,7 +16,7 @@ ghost use Rattle.gpu_descriptor.specs.Model.Books.{key_eq, sum_over};
 ghost use Rattle.gpu_descriptor.specs.Model.Load.{bucket_load, sets_out};
 
 use crate::bucket::DescriptorBucket;
-use crate::bucket::request::{Served, SetRequest};
+use crate::bucket::request::{Gathered, SetRequest};
 use crate::budget::Budget;
 use crate::errors::AllocationError;
 use crate::set::BucketKey;
@@ -115,14 +115,14 @@ impl<P: Drop> KeyTable<P> {
         device: &mut D,
         request: &SetRequest<'_, L, P, S, D>,
         budget: &mut Budget,
-    ) -> Result<Served<S>, AllocationError>
+    ) -> Result<Gathered<S>, AllocationError>
         requires booked { AreBookedIn (key_of request.now.key) (D.ledger device.old).pools (books_in
             D.meaning.pool_name (map row_of self.old.buckets.entries)
             (key_of request.now.key)).pools }
         requires bound { sum_over sets_out (map row_of self.old.buckets.entries) + request.now.count
             < 2 ^ 64 }
         ensures served { IfOk result (λ r. ServesKey D.meaning (key_of request.now.key)
-            budget.old.room request.now.count r.sets.items r.taken
+            budget.old.room request.now.count r.sets.items r.ended
             (map row_of self.old.buckets.entries) (map row_of self.new.buckets.entries)
             (D.ledger device.old) (D.ledger device.new)) }
         ensures own { IfOk result (λ r. AreOfLayout D.meaning request.now.layout.now r.sets.items) }

@@ -19,8 +19,8 @@ pub(crate) struct BucketKey {
 }
 
 impl BucketKey {
-    /// How many descriptors so many sets have, if the key is marked, and else 0.
-    pub(crate) fn descriptors_of_sets(&self, sets: u64) -> u64
+    /// How many descriptors so many sets of the key have, if it is marked; else 0.
+    pub(crate) fn marked_descriptors_of_sets(&self, sets: u64) -> u64
         requires { set_descriptors (key_of self.now) sets < 2 ^ 64 }
         ensures { result ≡ set_descriptors (key_of self.now) sets }
     {
@@ -31,9 +31,9 @@ impl BucketKey {
         }
     }
 
-    /// How many descriptors a pool of so many sets has, if the key is marked, and else 0. A pool
-    /// for sets without descriptors has one.
-    pub(crate) fn descriptors_of_pool(&self, sets: u32) -> u32
+    /// How many descriptors a pool of so many sets has, if the key is marked; else 0. A pool for
+    /// sets without descriptors has one.
+    pub(crate) fn marked_descriptors_of_pool(&self, sets: u32) -> u32
         requires { pool_descriptors (key_of self.now) sets < 2 ^ 32 }
         ensures { result ≡ pool_descriptors (key_of self.now) sets }
     {

@@ -14,9 +14,9 @@ ghost use Rattle.gpu_descriptor.specs.Inner.OpenPools.{CountsLooks};
 ghost use Rattle.gpu_descriptor.specs.Inner.Serves.{IsDeclined, IsSound, Takes};
 
 use super::DescriptorAllocator;
-use crate::bucket::is_past_bound;
-use crate::bucket::request::{Served, SetRequest};
+use crate::bucket::request::{Gathered, SetRequest};
 use crate::bucket::stop::answer_of;
+use crate::bucket::would_pass_64_bits;
 use crate::errors::AllocationError;
 use crate::flags::DescriptorSetLayoutCreateFlags;
 use crate::set::{BucketKey, DescriptorSet};
@@ -80,8 +80,8 @@ impl<P: Drop, S: Drop> DescriptorAllocator<P, S> {
             alloc: self.alloc,
             device: PhantomData,
         };
-        let Served { sets, taken } = self.serve_within_limit(device, &request)?;
-        match taken {
+        let Gathered { sets, ended } = self.serve_within_limit(device, &request)?;
+        match ended {
             Ok(()) => Ok(sets),
             Err(stop) => {
                 self.free_all(device, sets);
@@ -90,16 +90,17 @@ impl<P: Drop, S: Drop> DescriptorAllocator<P, S> {
         }
     }
 
-    /// Takes sets, and hands over those that came. Where it stopped short, they have to go back.
+    /// Takes sets, unless so many would pass the limit or 64 bits, and counts those that came. Where
+    /// the request stopped short, they have to go back.
     fn serve_within_limit<L, D: DescriptorDevice<L, P, S>>(
         &mut self,
         device: &mut D,
         request: &SetRequest<'_, L, P, S, D>,
-    ) -> Result<Served<S>, AllocationError>
+    ) -> Result<Gathered<S>, AllocationError>
         requires some { 0 < request.now.count }
         requires agree { Agrees D.meaning.pool_name self.old (D.ledger device.old) }
         ensures taken { IfOk result (λ r. Takes D.meaning (key_of request.now.key) request.now.count
-            r.sets.items r.taken (side self.old (D.ledger device.old))
+            r.sets.items r.ended (side self.old (D.ledger device.old))
             (side self.new (D.ledger device.new))) }
         ensures own { IfOk result (λ r. AreOfLayout D.meaning request.now.layout.now r.sets.items) }
         ensures declined { IfErr result (λ e. IsDeclined (call_of D.meaning (key_of request.now.key)
@@ -118,19 +119,21 @@ impl<P: Drop, S: Drop> DescriptorAllocator<P, S> {
         if self.is_above_limit(&request.key, request.count) {
             return Err(AllocationError::Fragmentation);
         }
-        if is_past_bound(self.outstanding, request.count) {
+        if would_pass_64_bits(self.outstanding, request.count) {
             return Err(AllocationError::Fragmentation);
         }
-        let Served { sets, taken } = self.table.serve(device, request, &mut self.budget)?;
-        let given = sets.len() as u64;
-        self.outstanding += given;
-        let descriptors = request.key.descriptors_of_sets(given) as u32;
+        let Gathered { sets, ended } = self.table.serve(device, request, &mut self.budget)?;
+        let came = sets.len() as u64;
+        self.outstanding += came;
+        let descriptors = request.key.marked_descriptors_of_sets(came) as u32;
         self.update_after_bind_descriptors += descriptors;
-        Ok(Served { sets, taken })
+        Ok(Gathered { sets, ended })
     }
+}
 
+impl<P, S> DescriptorAllocator<P, S> {
     /// Whether so many sets would pass the limit on marked descriptors.
-    fn is_above_limit(&self, key: &BucketKey, count: u32) -> bool
+    pub(super) fn is_above_limit(&self, key: &BucketKey, count: u32) -> bool
         ensures { result ≡ (key.now.update_after_bind && nat_lt (self.now.limit)
             (count * sum (kinds key.now.counts) + marked_load_of self.now)) }
     {

@@ -26,7 +26,7 @@ impl<P: Drop, S> DescriptorAllocator<P, S> {
     {
         for place in 0..self.table.buckets.len() {
             let (key, bucket) = self.table.buckets.pair_mut(place);
-            bucket.drop_front(device, key, &mut self.budget.room, 0);
+            bucket.destroy_empty_front(device, key, &mut self.budget.room, 0);
         }
         self.table.buckets.retain(
             |_key: &BucketKey, bucket: &mut DescriptorBucket<P>| -> bool

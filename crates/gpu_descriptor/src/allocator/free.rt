@@ -67,7 +67,8 @@ impl<P, S> DescriptorAllocator<P, S> {
             ahead = self.release_run(device, first, sets);
         }
 
-        // The proof of `keeps` has the allocator's invariant where a field is read.
+        // A proof has the allocator's invariant only where a field is read, and that of `keeps`
+        // needs the invariant.
         prove!(
             self.update_after_bind_descriptors
                 <= self.max_update_after_bind_descriptors_in_all_pools
@@ -103,10 +104,10 @@ impl<P, S> DescriptorAllocator<P, S> {
         let (key, bucket) = self.table.buckets.pair_mut(place);
         let before = bucket.total;
         let ahead = bucket.release_sets(device, first, sets, &mut self.comparisons);
-        bucket.drop_front(device, key, &mut self.budget.room, 1);
+        bucket.destroy_empty_front(device, key, &mut self.budget.room, 1);
         let released = before - bucket.total;
         self.outstanding -= released;
-        let descriptors = key.descriptors_of_sets(released) as u32;
+        let descriptors = key.marked_descriptors_of_sets(released) as u32;
         self.update_after_bind_descriptors -= descriptors;
         ahead
     }

@@ -88,21 +88,16 @@ impl<P, S> DescriptorAllocator<P, S> {
         Plan {
             place,
             key,
-            wanting: if self.is_over(&key, count) { 0 } else { count },
+            wanting: if self.is_above_limit(&key, count) {
+                0
+            } else {
+                count
+            },
             asked: 0,
             fresh: 0,
             total,
             room: self.budget.room,
         }
-    }
-
-    /// Whether so many sets would pass the limit on marked descriptors.
-    fn is_over(&self, key: &BucketKey, count: u32) -> bool {
-        let left = self
-            .max_update_after_bind_descriptors_in_all_pools
-            .saturating_sub(self.update_after_bind_descriptors);
-        key.update_after_bind
-            && u128::from(count) * u128::from(key.counts.total()) > u128::from(left)
     }
 
     /// The pools at a place of the table.
@@ -185,7 +180,7 @@ impl Plan {
         match next_size(&self.key, self.total, self.wanting, self.room) {
             Some((_, size)) if answer == PlannedAnswer::Granted => {
                 self.fresh = size;
-                self.room -= self.key.descriptors_of_pool(size);
+                self.room -= self.key.marked_descriptors_of_pool(size);
             }
             _ => self.wanting = 0,
         }

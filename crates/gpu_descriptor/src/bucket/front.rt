@@ -10,8 +10,9 @@ use crate::set::BucketKey;
 use gpu_descriptor_types::DescriptorDevice;
 
 impl<P> DescriptorBucket<P> {
-    /// Destroys the pools without sets at the front, but never the last `keep` pools.
-    pub(crate) fn drop_front<L, S, D: DescriptorDevice<L, P, S>>(
+    /// Destroys the pools without sets at the front, but never the last `keep` pools. Their
+    /// descriptors are room under the limit again.
+    pub(crate) fn destroy_empty_front<L, S, D: DescriptorDevice<L, P, S>>(
         &mut self,
         device: &mut D,
         key: &BucketKey,
@@ -34,7 +35,7 @@ impl<P> DescriptorBucket<P> {
             if front.available > 0 {
                 let _number = self.listed.pop_front();
             }
-            *room += key.descriptors_of_pool(front.capacity);
+            *room += key.marked_descriptors_of_pool(front.capacity);
             device.destroy_descriptor_pool(front.raw);
             self.offset += 1;
         }

@@ -126,7 +126,7 @@ impl<P> DescriptorBucket<P> {
                     allocated: given,
                     available: size - given,
                 });
-                budget.room -= key.descriptors_of_pool(size);
+                budget.room -= key.marked_descriptors_of_pool(size);
                 Ok(())
             }
             Err(error) => {
@@ -171,21 +171,11 @@ impl<P> DescriptorBucket<P> {
         ensures total { self.new.total ≡ self.old.total + pool.allocated }
     {
         let number = self.next_number();
-        list_last(&mut self.listed, pool.available > 0, number);
+        let is_open = pool.available > 0;
         self.total += u64::from(pool.allocated);
         self.pools.push_back_reserved(pool);
-    }
-}
-
-/// Puts a number last in a list where its pool is open. The test is an argument, so that the caller
-/// has one state of its list afterwards.
-fn list_last(listed: &mut VecDeque<u64>, is_open: bool, number: u64)
-    requires capacity { length listed.old.items < deque_capacity listed.old }
-    ensures listed { is_open ≡ true → listed.new.items ≡ listed.old.items ++ number ∷ [] }
-    ensures stays { is_open ≡ false → listed.new.items ≡ listed.old.items }
-    ensures capacity { deque_capacity listed.new ≡ deque_capacity listed.old }
-{
-    if is_open {
-        listed.push_back_reserved(number);
+        if is_open {
+            self.listed.push_back_reserved(number);
+        }
     }
 }

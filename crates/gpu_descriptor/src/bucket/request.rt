@@ -13,7 +13,7 @@ ghost use Rattle.gpu_descriptor.specs.Model.Books.{next_number};
 
 use crate::bucket::allocation::Allocation;
 use crate::bucket::stop::Stop;
-use crate::bucket::{DescriptorBucket, is_past_bound};
+use crate::bucket::{DescriptorBucket, would_pass_64_bits};
 use crate::budget::Budget;
 use crate::errors::AllocationError;
 use crate::set::{BucketKey, DescriptorSet};
@@ -34,13 +34,13 @@ pub(crate) struct SetRequest<'a, L, P, S, D: DescriptorDevice<L, P, S>> {
     ghost same: { key_of key ≡ layout_key D.meaning layout.now },
 }
 
-/// What a request took, before any of it goes back.
-pub(crate) struct Served<S> {
+/// What a request gathered, before any of it goes back.
+pub(crate) struct Gathered<S> {
     /// The sets that came.
     pub(crate) sets: Vec<DescriptorSet<S>>,
 
     /// Whether they are all, or why the request stopped.
-    pub(crate) taken: Result<(), Stop>,
+    pub(crate) ended: Result<(), Stop>,
 }
 
 impl<P: Drop> DescriptorBucket<P> {
@@ -50,12 +50,12 @@ impl<P: Drop> DescriptorBucket<P> {
         device: &mut D,
         request: &SetRequest<'_, L, P, S, D>,
         budget: &mut Budget,
-    ) -> Result<Served<S>, AllocationError>
+    ) -> Result<Gathered<S>, AllocationError>
         requires booked { AreBookedIn (key_of request.now.key) (D.ledger device.old).pools
             (bucket_of D.meaning.pool_name self.old).pools }
         requires bound { self.old.total + request.now.count < 2 ^ 64 }
         ensures served { IfOk result (λ r. IsServed D.meaning (key_of request.now.key)
-            budget.old.room request.now.count r.sets.items r.taken
+            budget.old.room request.now.count r.sets.items r.ended
             (bucket_of D.meaning.pool_name self.old) (bucket_of D.meaning.pool_name self.new)
             (D.ledger device.old) (D.ledger device.new) ×
             (self.new.total ≡ self.old.total + length r.sets.items)) }
@@ -71,7 +71,7 @@ impl<P: Drop> DescriptorBucket<P> {
         ensures bucket { OnErr result (self.new ≡ self.old) }
         ensures ledger { OnErr result (D.ledger device.new ≡ D.ledger device.old) }
     {
-        if is_past_bound(self.next_number(), request.count) {
+        if would_pass_64_bits(self.next_number(), request.count) {
             return Err(AllocationError::Fragmentation);
         }
         let Ok(mut sink) = Allocation::with_capacity(
@@ -82,9 +82,9 @@ impl<P: Drop> DescriptorBucket<P> {
         ) else {
             return Err(AllocationError::OutOfHostMemory);
         };
-        let taken = self.take(device, request, budget, &mut sink);
+        let ended = self.take(device, request, budget, &mut sink);
         let sets = sink.into_sets();
-        Ok(Served { sets, taken })
+        Ok(Gathered { sets, ended })
     }
 
     /// Takes as many sets as the sink has left: from the existing pools, and then from new ones.
@@ -117,10 +117,8 @@ impl<P: Drop> DescriptorBucket<P> {
         ensures looks { CountsLooks budget.old.looks.count budget.new.looks.count
             (D.ledger device.old) (D.ledger device.new) }
     {
-        match self.take_from_existing(device, request, &mut budget.looks, sink) {
-            Ok(()) => {}
-            Err(error) => return Err(Stop::ExistingPoolRefused(error)),
-        }
+        self.take_from_existing(device, request, &mut budget.looks, sink)
+            .map_err(Stop::ExistingPoolRefused)?;
         while sink.left > 0 {
             self.take_from_new(device, request, budget, sink)?;
         }

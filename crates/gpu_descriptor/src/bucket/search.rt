@@ -34,11 +34,11 @@ pub(crate) fn place_of(view: &mut Numbers<'_, '_>, number: u64) -> usize
     low
 }
 
-/// Puts a number in at its place. There is room for it.
+/// Puts a number in at its place. There is capacity for it.
 #[inline(never)]
 fn enter(listed: &mut VecDeque<u64>, number: u64, comparisons: &mut Tally)
     requires rising { IsNonDecreasing listed.old.items }
-    requires room { length listed.old.items < deque_capacity listed.old }
+    requires fits { length listed.old.items < deque_capacity listed.old }
     ensures entered { IsEntered number listed.old.items listed.new.items }
     ensures capacity { deque_capacity listed.old ≤ deque_capacity listed.new }
     ensures rises { comparisons.old.count ≤ comparisons.new.count }
@@ -54,7 +54,8 @@ fn enter(listed: &mut VecDeque<u64>, number: u64, comparisons: &mut Tally)
 }
 
 /// Puts a number in at its place where it isn't there yet, into an empty list without a search. The
-/// test is an argument, so that the caller has one state of its list afterwards.
+/// test is an argument: with an `if` around the call, each promise of the caller would want two
+/// proofs.
 #[inline]
 pub(crate) fn enter_new(
     listed: &mut VecDeque<u64>,
@@ -63,7 +64,7 @@ pub(crate) fn enter_new(
     comparisons: &mut Tally,
 )
     requires rising { IsNonDecreasing listed.old.items }
-    requires room { is_new ≡ true → length listed.old.items < deque_capacity listed.old }
+    requires fits { is_new ≡ true → length listed.old.items < deque_capacity listed.old }
     ensures entered { is_new ≡ true → IsEntered number listed.old.items listed.new.items }
     ensures stays { is_new ≡ false → listed.new.items ≡ listed.old.items }
     ensures capacity { deque_capacity listed.old ≤ deque_capacity listed.new }

@@ -14,8 +14,8 @@ keyed : (g : _) (c : After-contains-update_after_bind g) → key_of (record { co
 keyed g c = λ i. record { counts = c.requires.counts i; marked = (c.contains-update_after_bind.ensures tt ∙ c.requires.mark) i }
 
 -- what the request took, under the layout's key
-taken : (g : _) (c : In_ok-sets g) → Takes g.D.DescriptorDevice.meaning (layout_key g.D.DescriptorDevice.meaning c.args.layout.now) c.args.count c.in_ok-sets.field-0.sets.items c.in_ok-sets.field-0.taken (side c.args.self.now (g.D.DescriptorDevice.ledger c.args.device.now)) (side c.serve_within_limit.new.self (g.D.DescriptorDevice.ledger c.serve_within_limit.new.device))
-taken g c = subst (λ (k : Key). Takes g.D.DescriptorDevice.meaning k c.args.count c.in_ok-sets.field-0.sets.items c.in_ok-sets.field-0.taken (side c.args.self.now (g.D.DescriptorDevice.ledger c.args.device.now)) (side c.serve_within_limit.new.self (g.D.DescriptorDevice.ledger c.serve_within_limit.new.device))) (keyed g (goal.at-In_ok-sets g c).After-contains-update_after_bind) c.in_ok-sets.ensures.taken
+taken : (g : _) (c : In_ok-sets g) → Takes g.D.DescriptorDevice.meaning (layout_key g.D.DescriptorDevice.meaning c.args.layout.now) c.args.count c.in_ok-sets.field-0.sets.items c.in_ok-sets.field-0.ended (side c.args.self.now (g.D.DescriptorDevice.ledger c.args.device.now)) (side c.serve_within_limit.new.self (g.D.DescriptorDevice.ledger c.serve_within_limit.new.device))
+taken g c = subst (λ (k : Key). Takes g.D.DescriptorDevice.meaning k c.args.count c.in_ok-sets.field-0.sets.items c.in_ok-sets.field-0.ended (side c.args.self.now (g.D.DescriptorDevice.ledger c.args.device.now)) (side c.serve_within_limit.new.self (g.D.DescriptorDevice.ledger c.serve_within_limit.new.device))) (keyed g (goal.at-In_ok-sets g c).After-contains-update_after_bind) c.in_ok-sets.ensures.taken
 
 -- and the keys
 gained : (g : _) (c : In_ok-sets g) → keys_of c.serve_within_limit.new.self ≡ with_key (layout_key g.D.DescriptorDevice.meaning c.args.layout.now) (keys_of c.args.self.now)

@@ -13,8 +13,8 @@ use Rattle.gpu_descriptor.proofs.request.Requested.{rows_distinct}
 use Rattle.gpu_descriptor.proofs.table.TableBooks.{rows_in, distinct_rows, distinct_stored}
 use Rattle.gpu_descriptor.proofs.allocator.DescriptorAllocator.cleanup.Goals as goal
 
-pub drop_front-requires-clause-stored : goal.drop_front-requires-clause-stored
-drop_front-requires-clause-stored g c =
+pub destroy_empty_front-requires-clause-stored : goal.destroy_empty_front-requires-clause-stored
+destroy_empty_front-requires-clause-stored g c =
     let name = g.D.DescriptorDevice.meaning.pool_name in
     let ledger = g.D.DescriptorDevice.ledger in
     let h = c.loop-place.invariant in
@@ -25,18 +25,18 @@ drop_front-requires-clause-stored g c =
     let there = next_stored (rows_in name es) (ledger c.args.device.now).pools c.loop-place.place (key_of k, bucket_of name c.pair_mut-bucket.result.1.now) (distinct_rows name es c.self.inside.table.distinct) agree at in
     (key_of k, subst (λ (l : Ledger). AreBookedIn (key_of k) l.pools (bucket_of name c.pair_mut-bucket.result.1.now).pools) (sym h.ledger) there)
 
-pub drop_front-requires-clause-room : goal.drop_front-requires-clause-room
-drop_front-requires-clause-room g c =
+pub destroy_empty_front-requires-clause-room : goal.destroy_empty_front-requires-clause-room
+destroy_empty_front-requires-clause-room g c =
     let below = (sum_put stored_load_in c.loop-place.self-inside.table.buckets.entries c.loop-place.place c.pair_mut-bucket.result.0.now c.pair_mut-bucket.result.1.now c.pair_mut-bucket.result.1.now c.pair_mut-bucket.ensures.value).0 in
     let rows = rows_pool_load c.loop-place.self-inside.table.buckets.entries in
     omega arith
 
 pub invariant_of-self-inside : goal.invariant_of-self-inside
 invariant_of-self-inside g c =
-    let same = ids_put c.loop-place.self-inside.table.buckets.entries c.loop-place.place c.pair_mut-bucket.result.1.now c.drop_front.new.self (value_at c.loop-place.self-inside.table.buckets.entries c.loop-place.place _ _ c.pair_mut-bucket.ensures.value) (ap (λ (b : Bucket). b.id) c.drop_front.ensures.books) in
+    let same = ids_put c.loop-place.self-inside.table.buckets.entries c.loop-place.place c.pair_mut-bucket.result.1.now c.destroy_empty_front.new.self (value_at c.loop-place.self-inside.table.buckets.entries c.loop-place.place _ _ c.pair_mut-bucket.ensures.value) (ap (λ (b : Bucket). b.id) c.destroy_empty_front.ensures.books) in
     record {
       rising = ap (λ (ids : List ℕ). rise_below c.loop-place.self-inside.table.next_id ids) same ∙ c.loop-place.self-inside.table.rising;
-      distinct = subst (IsDistinct key_eq) (sym (keys_at c.loop-place.self-inside.table.buckets.entries c.loop-place.place c.drop_front.new.self)) c.loop-place.self-inside.table.distinct;
+      distinct = subst (IsDistinct key_eq) (sym (keys_at c.loop-place.self-inside.table.buckets.entries c.loop-place.place c.destroy_empty_front.new.self)) c.loop-place.self-inside.table.distinct;
     }
 
 pub loop-place-preserved : goal.loop-place-preserved
@@ -52,10 +52,10 @@ loop-place-preserved g c =
     let at = c.pair_mut-bucket.ensures.value in
     let more : suc i ≡ i + 1 = omega arith in
     record {
-      rows = step_rows name i now (rows_in name es) k v c.drop_front.new.self h.rows at c.drop_front.ensures.books ∙ ap (λ m. cleared m (rows_in name es)) more;
-      ledger = step_less i (rows_in name es) (key_of k, bucket_of name v) (ledger c.args.device.now) (ledger c.loop-place.device) (ledger c.drop_front.new.device) (next name i now (rows_in name es) k v h.rows at) h.ledger c.drop_front.ensures.ledger;
-      counted = counted_put _ _ _ _ _ now i k v c.drop_front.new.self at c.drop_front.ensures.total c.drop_front.ensures.room h.counted;
-      long = length-set_value_at now i c.drop_front.new.self ∙ h.long;
+      rows = step_rows name i now (rows_in name es) k v c.destroy_empty_front.new.self h.rows at c.destroy_empty_front.ensures.books ∙ ap (λ m. cleared m (rows_in name es)) more;
+      ledger = step_less i (rows_in name es) (key_of k, bucket_of name v) (ledger c.args.device.now) (ledger c.loop-place.device) (ledger c.destroy_empty_front.new.device) (next name i now (rows_in name es) k v h.rows at) h.ledger c.destroy_empty_front.ensures.ledger;
+      counted = counted_put _ _ _ _ _ now i k v c.destroy_empty_front.new.self at c.destroy_empty_front.ensures.total c.destroy_empty_front.ensures.room h.counted;
+      long = length-set_value_at now i c.destroy_empty_front.new.self ∙ h.long;
       out = h.out;
       marked = h.marked;
       limit = h.limit;

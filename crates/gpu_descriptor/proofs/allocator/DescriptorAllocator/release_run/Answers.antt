@@ -10,7 +10,7 @@ use Rattle.gpu_descriptor.proofs.table.Rising.{id_of, ids_put, inside, own_key}
 use Rattle.gpu_descriptor.proofs.table.RowAt.{IsAt, keys_at, row_at, value_at, written_at}
 use Rattle.gpu_descriptor.proofs.table.TableBooks.{distinct_rows, row_keys, keys_are}
 use Rattle.gpu_descriptor.proofs.release.WholeRun.{lies_own}
-use Rattle.gpu_descriptor.proofs.allocator.DescriptorAllocator.release_run.Goals.{After-pair_mut-bucket, After-drop_front}
+use Rattle.gpu_descriptor.proofs.allocator.DescriptorAllocator.release_run.Goals.{After-pair_mut-bucket, After-destroy_empty_front}
 use Rattle.gpu_descriptor.proofs.allocator.DescriptorAllocator.release_run.Goals as goal
 
 pub place_of_id-place-requires : goal.place_of_id-place-requires
@@ -59,23 +59,23 @@ release_sets-ahead-requires-clause-taken g c = λ xs t gave have.
     let lie = lie_at name set_name c.args.self.now before es was c.self.inside.table.next_id c.self.inside.table.rising c.args.first.key.is c.args.first.id c.args.first.number (owner g at.After-pair_mut-bucket) xs (out_back set_name (c.args.first ∷ []) xs (c.args.first ∷ xs) (state_of name c.args.self.now before) refl out) have in
     row_taken name set_name c.args.self.now before es was c.requires.agree c.args.first r.test r.same c.pair_mut-bucket.result.1.now r.at xs lie out
 
-pub drop_front-requires-clause-room : goal.drop_front-requires-clause-room
-drop_front-requires-clause-room g c =
-    let at = (goal.at.drop_front-requires-clause-room g c).After-pair_mut-bucket in
+pub destroy_empty_front-requires-clause-room : goal.destroy_empty_front-requires-clause-room
+destroy_empty_front-requires-clause-room g c =
+    let at = (goal.at.destroy_empty_front-requires-clause-room g c).After-pair_mut-bucket in
     let below = pools_present (row g at) in
     let same = ap (λ (k : Key). stored_load k c.pair_mut-bucket.result.1.now.pools.items) (own g at) in
     let load = c.release_sets-ahead.ensures.load (key_of c.pair_mut-bucket.result.0.now) in
     let all = (opened c.self.invariant).is_room in
     omega arith
 
-pub drop_front-requires-clause-stored : goal.drop_front-requires-clause-stored
-drop_front-requires-clause-stored g c = (c.args.first.key.is, c.release_sets-ahead.ensures.stored)
+pub destroy_empty_front-requires-clause-stored : goal.destroy_empty_front-requires-clause-stored
+destroy_empty_front-requires-clause-stored g c = (c.args.first.key.is, c.release_sets-ahead.ensures.stored)
 
 -- the run, and what it does to its key's pools with the front that goes
-ran : (g : _) (c : After-drop_front g)
+ran : (g : _) (c : After-destroy_empty_front g)
     → (run : List (DescriptorSet g.row.S.Denot)) × EndsRun g.I.Iterator.next_gives (at_place c.args.first.id c.args.first.number) c.args.sets.now run c.release_sets-ahead.result c.release_sets-ahead.new.sets
-    × RunsInto c.args.first.key.is c.args.first.number (names_of g.D.DescriptorDevice.meaning.set_name (c.args.first ∷ run)) (bucket_of g.D.DescriptorDevice.meaning.pool_name c.pair_mut-bucket.result.1.now) (g.D.DescriptorDevice.ledger c.args.device.now) (bucket_of g.D.DescriptorDevice.meaning.pool_name c.drop_front.new.self) (g.D.DescriptorDevice.ledger c.drop_front.new.device)
-    × (c.drop_front.new.self.total + length (c.args.first ∷ run) ≡ c.pair_mut-bucket.result.1.now.total)
+    × RunsInto c.args.first.key.is c.args.first.number (names_of g.D.DescriptorDevice.meaning.set_name (c.args.first ∷ run)) (bucket_of g.D.DescriptorDevice.meaning.pool_name c.pair_mut-bucket.result.1.now) (g.D.DescriptorDevice.ledger c.args.device.now) (bucket_of g.D.DescriptorDevice.meaning.pool_name c.destroy_empty_front.new.self) (g.D.DescriptorDevice.ledger c.destroy_empty_front.new.device)
+    × (c.destroy_empty_front.new.self.total + length (c.args.first ∷ run) ≡ c.pair_mut-bucket.result.1.now.total)
 ran g c =
     let r = c.release_sets-ahead.ensures.ran in (
       r.0,
@@ -83,57 +83,57 @@ ran g c =
       record {
         entry = r.2.entry;
         at = r.2.at;
-        books = c.drop_front.ensures.books ∙ ap (trimmed_bucket 1) r.2.books;
-        ledger = c.drop_front.ensures.ledger ∙ (λ i. trimmed_ledger 1 (r.2.books i) (r.2.ledger i));
+        books = c.destroy_empty_front.ensures.books ∙ ap (trimmed_bucket 1) r.2.books;
+        ledger = c.destroy_empty_front.ensures.ledger ∙ (λ i. trimmed_ledger 1 (r.2.books i) (r.2.ledger i));
       },
-      (let left = c.drop_front.ensures.total in let went = r.3 in omega arith),
+      (let left = c.destroy_empty_front.ensures.total in let went = r.3 in omega arith),
     )
 
 -- the row that the run leaves
-written : (g : _) (c : After-drop_front g) → IsAt c.args.first.key.is c.self.inside.table.buckets.entries c.place_of_id-place.result c.pair_mut-bucket.result.1.now
-    → IsWritten c.args.first.key.is c.self.inside.table.buckets.entries (set_value_at c.self.inside.table.buckets.entries c.place_of_id-place.result c.drop_front.new.self) c.pair_mut-bucket.result.1.now c.drop_front.new.self
+written : (g : _) (c : After-destroy_empty_front g) → IsAt c.args.first.key.is c.self.inside.table.buckets.entries c.place_of_id-place.result c.pair_mut-bucket.result.1.now
+    → IsWritten c.args.first.key.is c.self.inside.table.buckets.entries (set_value_at c.self.inside.table.buckets.entries c.place_of_id-place.result c.destroy_empty_front.new.self) c.pair_mut-bucket.result.1.now c.destroy_empty_front.new.self
 written g c at = written_at c.args.first.key.is c.self.inside.table.distinct at _ _ refl
 
 -- what the run takes from the totals
-run_taken : (g : _) (c : After-drop_front g) → IsAt c.args.first.key.is c.self.inside.table.buckets.entries c.place_of_id-place.result c.pair_mut-bucket.result.1.now
-    → Taken c.args.first.key.is (c.pair_mut-bucket.result.1.now.total - c.drop_front.new.self.total) c.self.inside.table.buckets.entries (set_value_at c.self.inside.table.buckets.entries c.place_of_id-place.result c.drop_front.new.self)
+run_taken : (g : _) (c : After-destroy_empty_front g) → IsAt c.args.first.key.is c.self.inside.table.buckets.entries c.place_of_id-place.result c.pair_mut-bucket.result.1.now
+    → Taken c.args.first.key.is (c.pair_mut-bucket.result.1.now.total - c.destroy_empty_front.new.self.total) c.self.inside.table.buckets.entries (set_value_at c.self.inside.table.buckets.entries c.place_of_id-place.result c.destroy_empty_front.new.self)
 run_taken g c at = taken (written g c at) (let total = (ran g c).3 in omega arith)
 
 pub overflow_sub-self : goal.overflow_sub-self
 overflow_sub-self g c =
     let at = goal.at.overflow_sub-self g c in
-    let out = (run_taken g at.After-drop_front (there g at.After-pair_mut-bucket)).out in
+    let out = (run_taken g at.After-destroy_empty_front (there g at.After-pair_mut-bucket)).out in
     let is = (opened c.self.invariant).is_out in
     omega arith
 
-pub descriptors_of_sets-descriptors-requires : goal.descriptors_of_sets-descriptors-requires
-descriptors_of_sets-descriptors-requires g c =
-    let at = goal.at.descriptors_of_sets-descriptors-requires g c in
-    let fits = load_fits (run_taken g at.After-drop_front (there g at.After-pair_mut-bucket)) (opened c.self.invariant) in
-    let same = ap (λ (k : Key). set_descriptors k (c.pair_mut-bucket.result.1.now.total - c.drop_front.new.self.total)) (own g at.After-pair_mut-bucket) in
+pub marked_descriptors_of_sets-descriptors-requires : goal.marked_descriptors_of_sets-descriptors-requires
+marked_descriptors_of_sets-descriptors-requires g c =
+    let at = goal.at.marked_descriptors_of_sets-descriptors-requires g c in
+    let fits = load_fits (run_taken g at.After-destroy_empty_front (there g at.After-pair_mut-bucket)) (opened c.self.invariant) in
+    let same = ap (λ (k : Key). set_descriptors k (c.pair_mut-bucket.result.1.now.total - c.destroy_empty_front.new.self.total)) (own g at.After-pair_mut-bucket) in
     omega arith
 
 pub overflow_cast-descriptors : goal.overflow_cast-descriptors
 overflow_cast-descriptors g c =
     let at = goal.at.overflow_cast-descriptors g c in
-    let fits = load_fits (run_taken g at.After-drop_front (there g at.After-pair_mut-bucket)) (opened c.self.invariant) in
-    let same = ap (λ (k : Key). set_descriptors k (c.pair_mut-bucket.result.1.now.total - c.drop_front.new.self.total)) (own g at.After-pair_mut-bucket) in
+    let fits = load_fits (run_taken g at.After-destroy_empty_front (there g at.After-pair_mut-bucket)) (opened c.self.invariant) in
+    let same = ap (λ (k : Key). set_descriptors k (c.pair_mut-bucket.result.1.now.total - c.destroy_empty_front.new.self.total)) (own g at.After-pair_mut-bucket) in
     omega arith
 
 pub overflow_sub-self-2 : goal.overflow_sub-self-2
 overflow_sub-self-2 g c =
     let at = goal.at.overflow_sub-self-2 g c in
-    let fits = load_fits (run_taken g at.After-drop_front (there g at.After-pair_mut-bucket)) (opened c.self.invariant) in
-    let same = ap (λ (k : Key). set_descriptors k (c.pair_mut-bucket.result.1.now.total - c.drop_front.new.self.total)) (own g at.After-pair_mut-bucket) in
+    let fits = load_fits (run_taken g at.After-destroy_empty_front (there g at.After-pair_mut-bucket)) (opened c.self.invariant) in
+    let same = ap (λ (k : Key). set_descriptors k (c.pair_mut-bucket.result.1.now.total - c.destroy_empty_front.new.self.total)) (own g at.After-pair_mut-bucket) in
     omega arith
 
 pub invariant_of-self-inside-2 : goal.invariant_of-self-inside-2
 invariant_of-self-inside-2 g c =
     let es = c.self.inside.table.buckets.entries in
-    let same = ids_put es c.place_of_id-place.result c.pair_mut-bucket.result.1.now c.drop_front.new.self (value_at es c.place_of_id-place.result _ _ c.pair_mut-bucket.ensures.value) (ap (λ (b : Bucket). b.id) (ran g (goal.at.invariant_of-self-inside-2 g c).After-drop_front).2.books) in
+    let same = ids_put es c.place_of_id-place.result c.pair_mut-bucket.result.1.now c.destroy_empty_front.new.self (value_at es c.place_of_id-place.result _ _ c.pair_mut-bucket.ensures.value) (ap (λ (b : Bucket). b.id) (ran g (goal.at.invariant_of-self-inside-2 g c).After-destroy_empty_front).2.books) in
     record {
       rising = ap (λ (ids : List ℕ). rise_below c.self.inside.table.next_id ids) same ∙ c.self.inside.table.rising;
-      distinct = subst (IsDistinct key_eq) (sym (keys_at es c.place_of_id-place.result c.drop_front.new.self)) c.self.inside.table.distinct;
+      distinct = subst (IsDistinct key_eq) (sym (keys_at es c.place_of_id-place.result c.destroy_empty_front.new.self)) c.self.inside.table.distinct;
     }
 
 pub invariant_of-self : goal.invariant_of-self
@@ -142,16 +142,16 @@ invariant_of-self g c =
     let here = there g at.After-pair_mut-bucket in
     let same = own g at.After-pair_mut-bucket in
     let key = key_of c.pair_mut-bucket.result.0.now in
-    let moved : c.drop_front.new.room + stored_load key c.drop_front.new.self.pools.items ≡ c.self.inside.budget.room + stored_load key c.pair_mut-bucket.result.1.now.pools.items =
-    c.drop_front.ensures.room ∙ ap (λ n. c.self.inside.budget.room + n) (c.release_sets-ahead.ensures.load key) in
-    closed (counted_after (run_taken g at.After-drop_front here) (opened c.self.invariant) (c.descriptors_of_sets-descriptors.ensures ∙ ap (λ (k : Key). set_descriptors k (c.pair_mut-bucket.result.1.now.total - c.drop_front.new.self.total)) same)
-    (pools_set (written g at.After-drop_front here) _ _ (subst (λ (k : Key). c.drop_front.new.room + stored_load k c.drop_front.new.self.pools.items ≡ c.self.inside.budget.room + stored_load k c.pair_mut-bucket.result.1.now.pools.items) same moved)))
+    let moved : c.destroy_empty_front.new.room + stored_load key c.destroy_empty_front.new.self.pools.items ≡ c.self.inside.budget.room + stored_load key c.pair_mut-bucket.result.1.now.pools.items =
+    c.destroy_empty_front.ensures.room ∙ ap (λ n. c.self.inside.budget.room + n) (c.release_sets-ahead.ensures.load key) in
+    closed (counted_after (run_taken g at.After-destroy_empty_front here) (opened c.self.invariant) (c.marked_descriptors_of_sets-descriptors.ensures ∙ ap (λ (k : Key). set_descriptors k (c.pair_mut-bucket.result.1.now.total - c.destroy_empty_front.new.self.total)) same)
+    (pools_set (written g at.After-destroy_empty_front here) _ _ (subst (λ (k : Key). c.destroy_empty_front.new.room + stored_load k c.destroy_empty_front.new.self.pools.items ≡ c.self.inside.budget.room + stored_load k c.pair_mut-bucket.result.1.now.pools.items) same moved)))
 
 pub returns-clause-ran : goal.returns-clause-ran
 returns-clause-ran g c =
     let at = goal.at.returns-clause-ran g c in
-    let ran = ran g at.After-drop_front in
-    let left = written g at.After-drop_front (there g at.After-pair_mut-bucket) in
+    let ran = ran g at.After-destroy_empty_front in
+    let left = written g at.After-destroy_empty_front (there g at.After-pair_mut-bucket) in
     let row = left.row in
     let t = taken left ran.3 in
     let es = c.self.inside.table.buckets.entries in
@@ -159,16 +159,16 @@ returns-clause-ran g c =
     let name = g.D.DescriptorDevice.meaning.pool_name in
     let set_name = g.D.DescriptorDevice.meaning.set_name in
     let before = g.D.DescriptorDevice.ledger c.args.device.now in
-    let after = g.D.DescriptorDevice.ledger c.drop_front.new.device in
+    let after = g.D.DescriptorDevice.ledger c.destroy_empty_front.new.device in
     let distinct = distinct_rows name es c.self.inside.table.distinct in
     let came = ends_at name set_name c.args.self.now before es was c.self.inside.table.next_id c.self.inside.table.rising c.args.first.key.is c.args.first.id c.args.first.number (owner g at.After-pair_mut-bucket) g.I.Iterator.next_gives c.args.first _ _ ran.0 _ c.requires.outstanding ran.1 in
-    let state = row_ran name set_name c.args.self.now before es was c.requires.agree c.args.first row.test row.same c.pair_mut-bucket.result.1.now row.at ran.0 came.0 c.drop_front.new.self after ran.2 c.self.inside.max_update_after_bind_descriptors_in_all_pools _ left.wrote in
+    let state = row_ran name set_name c.args.self.now before es was c.requires.agree c.args.first row.test row.same c.pair_mut-bucket.result.1.now row.at ran.0 came.0 c.destroy_empty_front.new.self after ran.2 c.self.inside.max_update_after_bind_descriptors_in_all_pools _ left.wrote in
     record {
       sets = ran.0;
       came = came;
       back = record {
         state = state;
-        counters = row_counted name set_name c.args.self.now before es was c.requires.agree c.args.first row.test row.same c.pair_mut-bucket.result.1.now row.at ran.0 came.0 c.drop_front.new.self after ran.2 distinct;
+        counters = row_counted name set_name c.args.self.now before es was c.requires.agree c.args.first row.test row.same c.pair_mut-bucket.result.1.now row.at ran.0 came.0 c.destroy_empty_front.new.self after ran.2 distinct;
         outstanding = out_after t c.args.self.now was;
         marked = load_after t c.args.self.now was _ (run_load set_name c.args.first.key.is c.args.first.number (c.args.first ∷ ran.0) (lies_own c.args.first, came.0));
         returned = out_less (items_of set_name (c.args.first ∷ ran.0)) (state_of name c.args.self.now before) _ c.requires.agree (c.requires.outstanding ran.0 ran.1.1.0 ran.1.1.1) state;
@@ -179,7 +179,7 @@ returns-clause-ran g c =
 pub returns-clause-keys : goal.returns-clause-keys
 returns-clause-keys g c =
     let was = table_is _ c.self.view_is in
-    row_keys _ ∙ keys_at c.self.inside.table.buckets.entries c.place_of_id-place.result c.drop_front.new.self ∙ sym (keys_are c.args.self.now c.self.inside.table.buckets.entries was)
+    row_keys _ ∙ keys_at c.self.inside.table.buckets.entries c.place_of_id-place.result c.destroy_empty_front.new.self ∙ sym (keys_are c.args.self.now c.self.inside.table.buckets.entries was)
 
 pub returns-clause-few : goal.returns-clause-few
 returns-clause-few g c =

@@ -137,9 +137,9 @@ invariant_of-self g c =
 pub enter_new-requires-clause-rising : goal.enter_new-requires-clause-rising
 enter_new-requires-clause-rising g c = subst IsNonDecreasing (sym c.args.self.now.«open») (open_rises c.args.self.now.offset (free_in c.args.self.now.pools.items))
 
-pub enter_new-requires-clause-room : goal.enter_new-requires-clause-room
-enter_new-requires-clause-room g c = λ full.
-    let r = (goal.at.enter_new-requires-clause-room g c).After-index_mut-pool in
+pub enter_new-requires-clause-fits : goal.enter_new-requires-clause-fits
+enter_new-requires-clause-fits g c = λ full.
+    let r = (goal.at.enter_new-requires-clause-fits g c).After-index_mut-pool in
     let fewer = fewer_listed c.args.self.now.offset c.args.self.now.pools.items c.args.self.now.listed.items c.args.self.now.«open» (c.args.first.number - c.args.self.now.offset) c.index_mut-pool.result.now c.index_mut-pool.result.now (read g r) (eqb-true _ _ full) in
     omega arith
 

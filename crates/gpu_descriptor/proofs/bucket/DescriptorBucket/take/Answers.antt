@@ -1,4 +1,6 @@
-use Rattle.gpu_descriptor.proofs.Common.{◌≡◌, ℕ, ◌+◌, ◌≤◌, ◌++◌, List, length, map, sym, ap, ◌∙◌, arith, length-append, [], ◌∷◌, Err, length-map, map-append, Ledger, DeviceAllocationError, DescriptorPool, DescriptorSet, Item, Entry, Key, key_of, set_at, fresh_entry, items_at, items_of, IsTaken, entry_of, stored_load, IsWalked}
+use Rattle.gpu_descriptor.proofs.Common.{◌≡◌, ℕ, ◌+◌, ◌≤◌, ◌++◌, List, length, map, sym, ap, ◌∙◌, arith, Result, Ok, OnOk, IfErr, true, false, length-append, [], ◌∷◌, Err, length-map, map-append, Ledger, DeviceAllocationError, DescriptorPool, DescriptorSet, Item, Entry, Key, key_of, set_at, fresh_entry, items_at, items_of, IsTaken, entry_of, stored_load, IsWalked}
+use Rattle.std.specs.Result.{is_ok}
+use mathlib.Core.Bool.{true≢false}
 use Rattle.gpu_descriptor.proofs.sums.PoolsLoad.{pools_load}
 use Rattle.gpu_descriptor.specs.declared.bucket.stop.Stop.TheVariants.{ExistingPoolRefused}
 use Rattle.gpu_descriptor.proofs.table.Exact.{bucket}
@@ -16,10 +18,19 @@ module _ {P : Type 0} (name : P → ℕ) {k : Key} {n id first own start : ℕ} 
   stopped_load : {error : DeviceAllocationError} → IsTaken (Err (ExistingPoolRefused error)) k 0 n items (bucket id first (map (entry_of name) old)) (bucket own start (map (entry_of name) new)) l m → stored_load k new ≡ stored_load k old
   stopped_load t = (let a = load_entries name k old in let b = load_entries name k new in let same = load_walked k n t.0 (bucket id first (map (entry_of name) old)) (bucket own start (map (entry_of name) new)) l t.1 items t.2 t.3.no_fresh in omega arith)
 
+-- what is known of an Ok, and of an Err
+on_ok : {T E X : Type 0} (r : Result T E) → OnOk r X → is_ok r ≡ true → X
+on_ok (Ok done) known is = known
+on_ok (Err e) known is = absurd (true≢false (sym is))
+
+on_err : {T E X : Type 0} {P : E → Type 0} (r : Result T E) → ((e : E) → P e → X) → IfErr r P → is_ok r ≡ false → X
+on_err (Ok done) says known is = absurd (true≢false is)
+on_err (Err e) says known is = says e known
+
 pub loop-sink-init : goal.loop-sink-init
 loop-sink-init g c =
     let name = g.D.DescriptorDevice.meaning.pool_name in
-    let known = c.in-Ok.ensures.walked in
+    let known = on_ok c.take_from_existing.result c.take_from_existing.ensures.walked (sym c.in_ok-map_err.ensures.variant) in
     let total = c.take_from_existing.ensures.total in
     record {
       given = c.take_from_existing.ensures.left;
@@ -45,7 +56,7 @@ pub returns-in_err-take_from_new-clause-taken : goal.returns-in_err-take_from_ne
 returns-in_err-take_from_new-clause-taken g c =
     let inv = c.loop-sink.invariant in
     let err = c.in_err-take_from_new.ensures.err in
-    rw (passed c.from_residual.result c.in_err-take_from_new.field-0.0 c.from_residual.ensures.1) (grow_stop c.in_err-take_from_new.field-0.0 c.loop-sink-test.true inv.growing (ap (items_of g.D.DescriptorDevice.meaning.set_name) err.0) (ap (map (entry_of g.D.DescriptorDevice.meaning.pool_name)) err.2) (c.in_err-take_from_new.ensures.numbers_stay.id ∙ inv.numbers_stay.id) (c.in_err-take_from_new.ensures.numbers_stay.offset ∙ inv.numbers_stay.offset) err.5 err.6)
+    rw (passed c.from_residual-in_err-take_from_new.result c.in_err-take_from_new.field-0.0 c.from_residual-in_err-take_from_new.ensures.1) (grow_stop c.in_err-take_from_new.field-0.0 c.loop-sink-test.true inv.growing (ap (items_of g.D.DescriptorDevice.meaning.set_name) err.0) (ap (map (entry_of g.D.DescriptorDevice.meaning.pool_name)) err.2) (c.in_err-take_from_new.ensures.numbers_stay.id ∙ inv.numbers_stay.id) (c.in_err-take_from_new.ensures.numbers_stay.offset ∙ inv.numbers_stay.offset) err.5 err.6)
 
 pub loop-sink-preserved : goal.loop-sink-preserved
 loop-sink-preserved g c =
@@ -92,5 +103,5 @@ loop-sink-preserved g c =
       looks = (let a = inv.looks in let b = c.in_ok-take_from_new.ensures.looks in omega arith);
     }
 
-pub returns-in-Err-clause-room : goal.returns-in-Err-clause-room
-returns-in-Err-clause-room g c = ap (λ n. c.args.budget.now.room + n) (stopped_load g.D.DescriptorDevice.meaning.pool_name c.args.self.now.pools.items c.take_from_existing.new.self.pools.items c.in-Err.ensures.stopped)
+pub returns-in_err-map_err-clause-room : goal.returns-in_err-map_err-clause-room
+returns-in_err-map_err-clause-room g c = ap (λ n. c.args.budget.now.room + n) (on_err c.take_from_existing.result (λ e. stopped_load g.D.DescriptorDevice.meaning.pool_name c.args.self.now.pools.items c.take_from_existing.new.self.pools.items {error = e}) c.take_from_existing.ensures.stopped (sym c.in_err-map_err.ensures.variant))

@@ -82,7 +82,7 @@ returns-in-Ok-alloc_descriptor_sets-clause-grown g c =
     ∙ ap (λ (e : Entry). old ++ e ∷ []) (same_entry (entry_of g.D.DescriptorDevice.meaning.pool_name value) _ c.in-Ok-alloc_descriptor_sets.ensures.name refl count (ap (λ n. c.in-Some.size - n) count)) in
     let room : c.alloc_descriptor_sets.new.sets.left + length put.sets ≡ c.args.sink.now.left = (let r = put.room in let n = c.new.ensures.left in let a = c.aim.ensures.left in omega arith) in
     let total : c.push.new.self.total ≡ c.args.self.now.total + length put.sets = (let pushed = c.push.ensures.total in let kept = c.reserve_pool.ensures.total in omega arith) in
-    (put.sets, kept g (goal.at.returns-in-Ok-alloc_descriptor_sets-clause-grown g c).In-Ok-alloc_descriptor_sets, room, total, grown (key g d) c.args.budget.now.room _ c.args.self.now.total c.args.sink.now.left (size g d) (name g d) names old new (before g d) (created g d) m' c.in-Some.ensures.sets (let fits = c.in-Some.ensures.room.0 in let load = c.descriptors_of_pool.ensures in omega arith) long c.in-Ok.ensures.new_name (made g d) is now)
+    (put.sets, kept g (goal.at.returns-in-Ok-alloc_descriptor_sets-clause-grown g c).In-Ok-alloc_descriptor_sets, room, total, grown (key g d) c.args.budget.now.room _ c.args.self.now.total c.args.sink.now.left (size g d) (name g d) names old new (before g d) (created g d) m' c.in-Some.ensures.sets (let fits = c.in-Some.ensures.room.0 in let load = c.marked_descriptors_of_pool.ensures in omega arith) long c.in-Ok.ensures.new_name (made g d) is now)
 
 pub returns-in_default-clause-err : goal.returns-in_default-clause-err
 returns-in_default-clause-err g c =
@@ -104,11 +104,11 @@ returns-in-Err-clause-looks g c =
     let same = create_asked c.in-Err.error (g.D.DescriptorDevice.ledger c.args.device.now).counters in
     omega arith
 
-pub descriptors_of_pool-requires : goal.descriptors_of_pool-requires
-descriptors_of_pool-requires g c = c.in-Some.ensures.room.1
+pub marked_descriptors_of_pool-requires : goal.marked_descriptors_of_pool-requires
+marked_descriptors_of_pool-requires g c = c.in-Some.ensures.room.1
 
 pub overflow_sub-budget : goal.overflow_sub-budget
-overflow_sub-budget g c = (let fits = c.in-Some.ensures.room.0 in let load = c.descriptors_of_pool.ensures in omega arith)
+overflow_sub-budget g c = (let fits = c.in-Some.ensures.room.0 in let load = c.marked_descriptors_of_pool.ensures in omega arith)
 
 pub returns-in-Err-alloc_descriptor_sets-clause-looks : goal.returns-in-Err-alloc_descriptor_sets-clause-looks
 returns-in-Err-alloc_descriptor_sets-clause-looks g c =

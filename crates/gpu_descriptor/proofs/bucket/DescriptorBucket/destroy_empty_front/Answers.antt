@@ -1,8 +1,8 @@
 use Rattle.gpu_descriptor.proofs.Common.{◌≡◌, ◌+◌, drop, ◌<◌, ◌≤◌, ◌∙◌, sym, ap, arith, length, get_or, Some, key_of, front_but, pool_descriptors, bucket_of, stored_load}
 use Rattle.gpu_descriptor.proofs.sums.PoolLoads.{stored_first}
 use Rattle.gpu_descriptor.proofs.release.FrontPool.{IsFront, is_front, turn_unused, turn, stop_full, stop_short, still}
-use Rattle.gpu_descriptor.proofs.bucket.DescriptorBucket.drop_front.Goals.{After-unwrap-front}
-use Rattle.gpu_descriptor.proofs.bucket.DescriptorBucket.drop_front.Goals as goal
+use Rattle.gpu_descriptor.proofs.bucket.DescriptorBucket.destroy_empty_front.Goals.{After-unwrap-front}
+use Rattle.gpu_descriptor.proofs.bucket.DescriptorBucket.destroy_empty_front.Goals as goal
 
 front : (g : _) (c : After-unwrap-front g) → IsFront g.D.DescriptorDevice.meaning.pool_name c.args.keep c.loop-self.self.pools.items c.unwrap-front.result
 front g c =
@@ -16,9 +16,9 @@ front g c =
 first_load : (g : _) (c : After-unwrap-front g) → stored_load (key_of c.args.key.now) c.loop-self.self.pools.items ≡ pool_descriptors (key_of c.args.key.now) c.unwrap-front.result.capacity + stored_load (key_of c.args.key.now) (drop 1 c.loop-self.self.pools.items)
 first_load g c = (let first = front g c in let some = first.long in stored_first (key_of c.args.key.now) c.loop-self.self.pools.items c.unwrap-front.result (omega arith) first.is)
 
-pub descriptors_of_pool-requires : goal.descriptors_of_pool-requires
-descriptors_of_pool-requires g c =
-    let d = (goal.at.descriptors_of_pool-requires g c).After-unwrap-front in
+pub marked_descriptors_of_pool-requires : goal.marked_descriptors_of_pool-requires
+marked_descriptors_of_pool-requires g c =
+    let d = (goal.at.marked_descriptors_of_pool-requires g c).After-unwrap-front in
     let all = first_load g d in
     omega arith
 

@@ -1,5 +1,5 @@
 use Rattle.gpu_descriptor.proofs.Common.{◌≡◌, ◌+◌, length, Key, key_of, AreBookedIn, trimmed_bucket, trimmed_ledger, bucket_of, stored_load}
-use Rattle.gpu_descriptor.proofs.bucket.DescriptorBucket.drop_front.Given as goal
+use Rattle.gpu_descriptor.proofs.bucket.DescriptorBucket.destroy_empty_front.Given as goal
 
 -- what is left to drop is what there was to drop
 abbrev pub invariant-loop-self : goal.invariant-loop-self
