@@ -1,7 +1,11 @@
 //! The layouts, pools and sets of a scripted device.
 ghost use Rattle.std.specs.Prelude.{◌≡◌};
-ghost use Rattle.descriptor_script.specs.Scripted.Raw.{pool_id, set_id, set_pool};
+ghost use Rattle.gpu_descriptor.specs.Caller.Flags.{is_marked};
+ghost use Rattle.gpu_descriptor.specs.Caller.SetLayouts.{IsMeant};
+ghost use Rattle.descriptor_script.specs.Scripted.Raw.{pool_id, script_meaning, set_id, set_pool};
 
+use bitflags::Flags;
+use gpu_descriptor::{DescriptorSetLayoutCreateFlags, SetLayout};
 use gpu_descriptor_types::DescriptorTotalCount;
 
 /// A layout: its descriptors, and whether it is marked as update-after-bind.
@@ -9,6 +13,31 @@ use gpu_descriptor_types::DescriptorTotalCount;
 pub struct ScriptLayout {
     pub counts: DescriptorTotalCount,
     pub mark: bool,
+}
+
+impl ScriptLayout {
+    /// The flags with which the layout is made.
+    pub fn flags(&self) -> DescriptorSetLayoutCreateFlags
+        ensures { is_marked result ≡ self.now.mark }
+    {
+        if self.mark {
+            DescriptorSetLayoutCreateFlags::UPDATE_AFTER_BIND
+        } else {
+            DescriptorSetLayoutCreateFlags::empty()
+        }
+    }
+
+    /// The layout with its counts and its flags, for the calls that take a `SetLayout`.
+    pub fn to_set_layout(self) -> SetLayout<ScriptLayout>
+        ensures meant { IsMeant script_meaning result }
+        ensures layout { result.layout ≡ self }
+    {
+        SetLayout {
+            layout: self,
+            counts: self.counts,
+            flags: self.flags(),
+        }
+    }
 }
 
 /// A pool of the device.

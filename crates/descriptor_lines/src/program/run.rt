@@ -2,7 +2,6 @@
 ghost use Rattle.std.specs.Prelude.{◌≡◌, ◌++◌, [], None, IsTrue, OnOk, OnErr, length, sum};
 ghost use Rattle.std.specs.Prelude.{string_bytes};
 ghost use Rattle.gpu_descriptor_types.specs.Counts.{kinds};
-ghost use Rattle.gpu_descriptor.specs.Caller.Flags.{is_marked};
 ghost use Rattle.descriptor_lines.specs.Answers.{AnswersSize, layout_answer as layout_answer_of};
 ghost use Rattle.descriptor_lines.specs.Answers.{limit_answer as limit_answer_of};
 ghost use Rattle.descriptor_lines.specs.Answers.{script_answer as script_answer_of};
@@ -17,9 +16,7 @@ use crate::answer;
 use crate::command::Command;
 use crate::device::LineDevice;
 use crate::layouts::Layout;
-use bitflags::Flags;
 use descriptor_script::{Answer, Command as SessionCommand, Reply, ScriptLayout, Session};
-use gpu_descriptor::DescriptorSetLayoutCreateFlags;
 use gpu_descriptor_types::{DescriptorTotalCount, new_pool_size};
 use std::alloc::AllocError;
 
@@ -101,7 +98,7 @@ impl<D: LineDevice> Program<D> {
         self.layouts.reserve()?;
         let Layout { counts, mark } = layout;
         let scripted = ScriptLayout { counts, mark };
-        match self.session.add_layout(scripted, counts, flags_of(mark)) {
+        match self.session.add_layout(scripted, counts, scripted.flags()) {
             Ok(_) => {
                 self.layouts.push(name, layout);
                 Ok(())
@@ -149,17 +146,6 @@ impl<D: LineDevice> Program<D> {
                 Ok(())
             }
         }
-    }
-}
-
-/// The flags of a layout that is marked for updates after binding, or is not.
-fn flags_of(mark: bool) -> DescriptorSetLayoutCreateFlags
-    ensures { is_marked result ≡ mark }
-{
-    if mark {
-        DescriptorSetLayoutCreateFlags::UPDATE_AFTER_BIND
-    } else {
-        DescriptorSetLayoutCreateFlags::empty()
     }
 }
 

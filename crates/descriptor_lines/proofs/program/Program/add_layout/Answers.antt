@@ -21,7 +21,7 @@ returns-in-Ok-clause-ready g c =
     let old = c.requires.ready in
     let added = c.add_layout.ensures in
     record {
-      ready = same_is_ready c.args.self.now.session c.add_layout.new.self _ old.ready added.allocator added.sets (rw c.in-Ok.ensures.last (meant_more (layouts_of c.args.self.now.session) _ old.ready.meant (refl, c.flags_of.ensures)));
+      ready = same_is_ready c.args.self.now.session c.add_layout.new.self _ old.ready added.allocator added.sets (rw c.in-Ok.ensures.last (meant_more (layouts_of c.args.self.now.session) _ old.ready.meant (refl, c.flags.ensures)));
       layouts = rw (c.in-Ok.ensures.last, c.push.ensures.layouts, c.reserve.ensures.same) (map-append (λ k. k.layout) (layouts_of c.args.self.now.session) _ ∙ ap (λ l. l ++ scripted c.args.layout ∷ []) old.layouts ∙ sym (map-append (λ l. scripted l.1) (layouts_in c.args.self.now.layouts) _));
       fresh = λ unbegun. (let begun = c.requires.begun in cc);
     }

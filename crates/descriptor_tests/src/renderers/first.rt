@@ -1,0 +1,28 @@
+//! A whole test of a renderer, to begin with.
+use descriptor_renderer::Renderer;
+use descriptor_script::{Answer, ScriptLayout, ScriptedDevice, refuse_at};
+use gpu_descriptor::DescriptorTotalCount;
+use std::test::Fail;
+
+/// The device refuses its first call, so the first draw is refused. The next one has a set.
+#[test]
+fn draws_past_a_refusal(rt: HostRuntime) -> Result<(), Fail> {
+    let script = refuse_at(rt.alloc(), 0, Answer::Device)?;
+    let device = ScriptedDevice::new(rt.alloc(), script);
+    let mut renderer = Renderer::new(rt.alloc(), device, u32::MAX, 1);
+    let counts = DescriptorTotalCount {
+        sampler: 1,
+        ..DescriptorTotalCount::default()
+    };
+    let mark = false;
+    let layout = ScriptLayout { counts, mark }.to_set_layout();
+    let layout = renderer.add_layout(layout).ok().expect(&rt, "memory");
+    assert!(rt; renderer.begin_frame().is_some());
+    assert!(rt; renderer.draw(layout).is_err());
+    assert!(rt; renderer.draw(layout).is_ok());
+    renderer.end_frame();
+    let device = renderer.shutdown();
+    assert_eq!(rt; device.created(), 1);
+    assert_eq!(rt; device.destroyed(), 1);
+    Ok(())
+}
