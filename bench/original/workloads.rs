@@ -195,15 +195,16 @@ impl<'a, B: Bench> Renderer<'a, B> {
             self.bench.give_back(mem::take(&mut frame.sets));
             self.frames.pop_front();
         }
-        self.bench.cleanup();
     }
 
-    /// Destroys the materials. The device is done with the last two frames, one after the other.
+    /// Destroys the materials. The device is done with the last two frames, one after the other, and
+    /// then all pools go.
     fn unload(mut self, last: u64) {
         let sets = mem::take(&mut self.materials);
         self.frames.push_back(Frame { number: last, sets });
         self.gpu_done(last.saturating_sub(1));
         self.gpu_done(last);
+        self.bench.cleanup();
     }
 }
 

@@ -1,12 +1,11 @@
-//! A small game over a renderer: three layouts, two materials, five frames. Where the device
-//! refuses a set, the game draws without.
+//! A small game over a renderer: three layouts, two materials, five frames in two levels. Where the
+//! device refuses a set, the game draws without.
 ghost use Rattle.std.specs.Prelude.{◌≡◌};
 ghost use Rattle.descriptor_script.specs.Scripted.Device.{empty_ledger, ledger_of};
 ghost use Rattle.descriptor_script.specs.Scripted.Raw.{script_meaning};
 ghost use Rattle.gpu_descriptor.specs.Caller.SetLayouts.{IsMeant};
 ghost use Rattle.descriptor_renderer.specs.Renderers.{pools_besides};
 
-use crate::proper_use::flags_of;
 use descriptor_renderer::{RenderError, Renderer, SetHandle};
 use descriptor_script::{Answer, RawPool, RawSet, ScriptLayout, ScriptedDevice};
 use gpu_descriptor::{AllocationError, DescriptorTotalCount, LayoutHandle, SetLayout};
@@ -49,7 +48,7 @@ pub fn play(alloc: Global, script: Vec<Answer>, limit: u32) -> Played
     }
 }
 
-/// Loads the scenery, and draws five frames. The water dries up after the third.
+/// Loads the scenery, and draws five frames. The first level ends after the third.
 fn play_frames(renderer: &mut GameRenderer) -> Result<Score, RenderError>
     ensures { pools_besides renderer.new ≡ pools_besides renderer.old }
 {
@@ -61,10 +60,19 @@ fn play_frames(renderer: &mut GameRenderer) -> Result<Score, RenderError>
     for frame in 1..6 {
         draw_frame(renderer, &scenery, &mut score);
         if frame == 3 {
-            let _dried = renderer.destroy_set(scenery.water, 3);
+            end_level(renderer, scenery.water, frame);
         }
     }
     Ok(score)
+}
+
+/// Ends a level: its water dries up, and once the device is done the empty pools are destroyed.
+fn end_level(renderer: &mut GameRenderer, water: SetHandle, last_frame: u64)
+    ensures { pools_besides renderer.new ≡ pools_besides renderer.old }
+{
+    let _dried = renderer.destroy_set(water, last_frame);
+    renderer.gpu_done(last_frame);
+    renderer.cleanup();
 }
 
 /// Adds three layouts, and creates two materials.
@@ -104,11 +112,7 @@ fn layout_of(sampler: u32, mark: bool) -> SetLayout<ScriptLayout>
         sampler,
         ..DescriptorTotalCount::default()
     };
-    SetLayout {
-        layout: ScriptLayout { counts, mark },
-        counts,
-        flags: flags_of(mark),
-    }
+    ScriptLayout { counts, mark }.to_set_layout()
 }
 
 /// Draws a frame: both materials, three plain sets, and a set of many textures. The device is done

@@ -1,6 +1,5 @@
 //! Sets and pools as they are to be used: each while it is out, and each goes back once.
 ghost use Rattle.std.specs.Prelude.{◌≡◌, ◌+◌, IfOk, OnOk};
-ghost use Rattle.gpu_descriptor.specs.Caller.Flags.{is_marked};
 ghost use Rattle.gpu_descriptor.specs.Caller.States.{Agrees, outstanding_of};
 ghost use Rattle.descriptor_script.specs.Scripted.Raw.{pool_id};
 ghost use Rattle.descriptor_script.specs.Scripted.Logged.{ledger_logged, next_pool};
@@ -9,17 +8,8 @@ use bitflags::Flags;
 use descriptor_script::{LogDevice, RawPool, RawSet, ScriptLayout};
 use gpu_descriptor::{
     AllocationError, CreatePoolError, DescriptorAllocator, DescriptorDevice,
-    DescriptorPoolCreateFlags, DescriptorSetLayoutCreateFlags, DescriptorTotalCount,
+    DescriptorPoolCreateFlags, DescriptorTotalCount,
 };
-
-/// The flags that go with a mark.
-pub fn flags_of(mark: bool) -> DescriptorSetLayoutCreateFlags
-    ensures { is_marked result ≡ mark }
-{
-    let mut flags = DescriptorSetLayoutCreateFlags::empty();
-    flags.set(DescriptorSetLayoutCreateFlags::UPDATE_AFTER_BIND, mark);
-    flags
-}
 
 /// Allocates a set, reads its name, and gives it back.
 pub fn borrow_set(
@@ -31,7 +21,7 @@ pub fn borrow_set(
     ensures agree { Agrees pool_id allocator.new (ledger_logged device.new) }
     ensures outstanding { outstanding_of allocator.new ≡ outstanding_of allocator.old }
 {
-    let flags = flags_of(layout.mark);
+    let flags = layout.flags();
     match allocator.allocate(device, layout, flags, &layout.counts, 1) {
         Ok(sets) => {
             let name = sets[0].raw().id();
@@ -54,7 +44,7 @@ pub fn borrow_sets(
     ensures agree { Agrees pool_id allocator.new (ledger_logged device.new) }
     ensures outstanding { outstanding_of allocator.new ≡ outstanding_of allocator.old }
 {
-    let flags = flags_of(layout.mark);
+    let flags = layout.flags();
     match allocator.allocate(device, layout, flags, &layout.counts, count) {
         Ok(sets) => {
             let mut items = sets.into_iter();

@@ -203,6 +203,22 @@ impl<L, P: Drop, S: Drop, D: DescriptorDevice<L, P, S>> DeviceSets<L, P, S, D> {
         ensures limit { limit_in self.new ≡ limit_in self.old }
     {
         self.manager.finish(&mut self.device, frame);
+    }
+
+    /// Destroys pools without sets.
+    pub(crate) fn cleanup(&mut self)
+        ensures emptied { IsAccounted self.old → length (drawn_in self.old)
+            + length (sets_in (slots_in self.old)) + length (retired_in self.old) ≡ 0
+            → pools_in self.new ≡ others_in self.old }
+        ensures drawn { drawn_in self.new ≡ drawn_in self.old }
+        ensures held { slots_in self.new ≡ slots_in self.old }
+        ensures retired { retired_in self.new ≡ retired_in self.old }
+        ensures greatest { greatest_in self.new ≡ greatest_in self.old }
+        ensures accounted { IsAccounted self.old → IsAccounted self.new }
+        ensures room { HasRoomToRetire self.old → HasRoomToRetire self.new }
+        ensures others { others_in self.new ≡ others_in self.old }
+        ensures limit { limit_in self.new ≡ limit_in self.old }
+    {
         self.manager.cleanup(&mut self.device);
     }
 

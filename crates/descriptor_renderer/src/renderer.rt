@@ -187,8 +187,9 @@ impl<L: Drop, P: Drop, S: Drop, D: DescriptorDevice<L, P, S>> Renderer<L, P, S, 
         self.is_open = false;
     }
 
-    /// The device is done with this frame and those before it: the sets that wait for them go back,
-    /// and pools without sets are destroyed.
+    /// The device is done with this frame and those before it: the sets that wait for them go back.
+    /// Whenever the oldest pools of their key have no set left, these are destroyed, but never the
+    /// key's last pool.
     pub fn gpu_done(&mut self, frame: u64)
         ensures retired { retired_in self.new ≡ later frame (retired_in self.old) }
         ensures layouts { layout_of self.new ≡ layout_of self.old }
@@ -201,6 +202,25 @@ impl<L: Drop, P: Drop, S: Drop, D: DescriptorDevice<L, P, S>> Renderer<L, P, S, 
         ensures limit { limit_of self.new ≡ limit_of self.old }
     {
         self.sets.finish(frame);
+    }
+
+    /// Destroys the oldest pools of each key up to the first that has a set, the last pool too. Call
+    /// it between levels, or when memory is short.
+    #[tactic(auto, unfolding(crate::specs::DrawnSets::drawn_by, crate::specs::HeldSets::held_by))]
+    pub fn cleanup(&mut self)
+        ensures emptied { length (drawn_in self.old).all + length (held_in self.old).all
+            + length (retired_in self.old) ≡ 0 → pools_in self.new ≡ pools_besides self.old }
+        ensures layouts { layout_of self.new ≡ layout_of self.old }
+        ensures frame { frame_of self.new ≡ frame_of self.old }
+        ensures open { is_open self.new ≡ is_open self.old }
+        ensures drawn { drawn_in self.new ≡ drawn_in self.old }
+        ensures held { held_in self.new ≡ held_in self.old }
+        ensures created { created_in self.new ≡ created_in self.old }
+        ensures retired { retired_in self.new ≡ retired_in self.old }
+        ensures pools { pools_besides self.new ≡ pools_besides self.old }
+        ensures limit { limit_of self.new ≡ limit_of self.old }
+    {
+        self.sets.cleanup();
     }
 
     /// Creates a set of a layout, which is held until it is destroyed, in a frame or between two.

@@ -5,7 +5,6 @@ ghost use Rattle.descriptor_script.proofs.OneReady.{IsReady-prop};
 ghost use Rattle.gpu_descriptor_types.specs.Counts.{kinds};
 ghost use Rattle.descriptor_script.specs.Sessions.Session.{IsReady};
 
-use descriptor_examples::proper_use::flags_of;
 use descriptor_script::headline::headline;
 use descriptor_script::{
     Answer, Command, RawPool, RawSet, Reply, ScriptLayout, ScriptedDevice, Session,
@@ -45,7 +44,7 @@ impl<D: DescriptorDevice<ScriptLayout, RawPool, RawSet>> Bench<D> {
         requires counts { D.meaning.counts layout ≡ kinds layout.counts }
         requires mark { D.meaning.mark layout ≡ layout.mark }
     {
-        let flags = flags_of(layout.mark);
+        let flags = layout.flags();
         match self.session.add_layout(layout, layout.counts, flags) {
             Ok(place) => Ok(place),
             Err(_) => Err("no memory for a layout"),

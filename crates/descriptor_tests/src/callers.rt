@@ -8,7 +8,6 @@ use crate::bench::{expect_same, layout_of};
 use descriptor_examples::drawing::{render, render_one};
 use descriptor_examples::game::{Score, play};
 use descriptor_examples::one_layout::draw_once;
-use descriptor_examples::proper_use::flags_of;
 use descriptor_script::{Call, LogDevice, RawPool, RawSet, ScriptLayout};
 use gpu_descriptor::{DescriptorDevice, DescriptorPoolCreateFlags, SetLayout};
 use std::process::Abort;
@@ -18,19 +17,14 @@ use std::test::Fail;
 pub fn set_layout(mark: bool) -> SetLayout<ScriptLayout>
     ensures { IsMeant script_meaning result }
 {
-    let layout = layout_of(1, mark);
-    SetLayout {
-        layout,
-        counts: layout.counts,
-        flags: flags_of(layout.mark),
-    }
+    layout_of(1, mark).to_set_layout()
 }
 
 #[test]
 fn one_layout_is_drawn(rt: HostRuntime) -> Result<(), Fail> {
     let mut device = LogDevice::new(rt.alloc());
     let layout = layout_of(1, false);
-    let flags = flags_of(layout.mark);
+    let flags = layout.flags();
     draw_once(rt.alloc(), &mut device, &layout, flags, &layout.counts)?;
     let calls = [
         Call::Create { pool: 0 },
@@ -42,7 +36,8 @@ fn one_layout_is_drawn(rt: HostRuntime) -> Result<(), Fail> {
     Ok(())
 }
 
-/// Each of the five frames has a material and four sets, the first three the water too.
+/// Each of the five frames has a material and four sets, the first three the water too. Two of three
+/// pools go between the levels, and come again.
 #[test]
 fn game_draws_five_frames(rt: HostRuntime) {
     let played = play(rt.alloc(), Vec::new(rt.alloc()), 5000);
@@ -51,17 +46,18 @@ fn game_draws_five_frames(rt: HostRuntime) {
         refused: 0,
     };
     assert!(rt; played.score.is_ok_and(|score| score == wanted));
-    expect_same(&rt, played.device.created(), 3);
-    expect_same(&rt, played.device.destroyed(), 3);
+    expect_same(&rt, played.device.created(), 5);
+    expect_same(&rt, played.device.destroyed(), 5);
 }
 
-/// Under a limit that the water takes, the sets of many textures are refused until that is gone.
+/// Under a limit of one set of many textures, such a set is refused while the water has the place,
+/// or the frame before.
 #[test]
 fn game_draws_under_its_limit(rt: HostRuntime) {
     let played = play(rt.alloc(), Vec::new(rt.alloc()), 16);
     let wanted = Score {
-        drawn: 23,
-        refused: 5,
+        drawn: 24,
+        refused: 4,
     };
     assert!(rt; played.score.is_ok_and(|score| score == wanted));
     expect_same(&rt, played.device.created(), played.device.destroyed());

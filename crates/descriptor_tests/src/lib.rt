@@ -7,8 +7,6 @@ mod acts;
 #[cfg(test)]
 mod bench;
 #[cfg(test)]
-mod budget;
-#[cfg(test)]
 mod callers;
 #[cfg(test)]
 mod capacity;

@@ -4,7 +4,6 @@ ghost use Rattle.descriptor_script.specs.Scripted.Logged.{ledger_logged};
 ghost use Rattle.descriptor_tests.specs.Pairs.{ArePaired, IsNewSession, paired-prop};
 
 use crate::bench::layout_of;
-use descriptor_examples::proper_use::flags_of;
 use descriptor_script::{Command, LogDevice, RawPool, RawSet, Reply, ScriptLayout, Session};
 use std::alloc::Global;
 use std::test::Fail;
@@ -25,7 +24,7 @@ pub fn one_layout(alloc: Global) -> Result<Session<ScriptLayout, RawPool, RawSet
 {
     let layout = layout_of(1, false);
     let mut session = Session::new(alloc, 0);
-    match session.add_layout(layout, layout.counts, flags_of(layout.mark)) {
+    match session.add_layout(layout, layout.counts, layout.flags()) {
         Ok(_) => Ok(session),
         Err(_) => Err(Fail::new("no memory for a layout")),
     }

@@ -7,7 +7,6 @@ ghost use Rattle.descriptor_script.specs.Scripted.Logged.{ledger_logged};
 ghost use Rattle.descriptor_script.specs.Scripted.Raw.{pool_id};
 
 use crate::bench::{expect_same, layout_of};
-use descriptor_examples::proper_use::flags_of;
 use descriptor_script::{Answer, LogDevice, RawPool, RawSet, ScriptLayout};
 use gpu_descriptor::{AllocationError, DescriptorAllocator, laws};
 use std::test::Fail;
@@ -25,7 +24,7 @@ fn ask_in_vain(
     ensures began { IsTrue result → HasNoPools (state_of pool_id allocator.new
         (ledger_logged device.new)) }
 {
-    let flags = flags_of(layout.mark);
+    let flags = layout.flags();
     match allocator.allocate(device, layout, flags, &layout.counts, 1) {
         Ok(sets) => {
             allocator.free_all(device, sets);
@@ -48,7 +47,7 @@ fn borrow_and_clean(
     ensures pools { (ledger_logged device.new).pools ≡ (ledger_logged device.old).pools }
 {
     laws::no_pool_is_lost::<RawPool>();
-    let flags = flags_of(layout.mark);
+    let flags = layout.flags();
     match allocator.allocate(device, layout, flags, &layout.counts, 1) {
         Ok(sets) => {
             allocator.free_all(device, sets);

@@ -1,6 +1,7 @@
 //! Renderers: that they draw and hold sets where places are there, what each refusal costs, and what
 //! they leave. No clause says that memory or places are there.
 mod bench;
+mod first;
 mod frames;
 mod handles;
 mod refused;

@@ -6,7 +6,7 @@ ghost use Rattle.descriptor_script.specs.Scripted.Device.{ledger_of};
 ghost use Rattle.descriptor_script.specs.Scripted.Logged.{ledger_logged};
 
 use crate::bench::{expect_same, layout_of};
-use descriptor_examples::proper_use::{borrow_pool, borrow_set, borrow_sets, flags_of};
+use descriptor_examples::proper_use::{borrow_pool, borrow_set, borrow_sets};
 use descriptor_script::{LogDevice, RawPool, RawSet, ScriptLayout, ScriptedDevice};
 use gpu_descriptor::{AllocationError, DescriptorAllocator, DescriptorSet};
 use std::process::Abort;
@@ -31,7 +31,7 @@ fn expect_answer(
     requires { Agrees pool_id allocator.old (ledger_logged device.old) }
     ensures { Agrees pool_id allocator.new (ledger_logged device.new) }
 {
-    let flags = flags_of(layout.mark);
+    let flags = layout.flags();
     let sets = allocator.allocate(device, layout, flags, &layout.counts, 3)?;
     expect_names(rt, &sets, names);
     allocator.free_all(device, sets);
@@ -85,7 +85,7 @@ fn expect_in_order(
 ) -> Result<(), AllocationError>
     requires { Agrees pool_id allocator.old (ledger_of device.old) }
 {
-    let flags = flags_of(layout.mark);
+    let flags = layout.flags();
     let sets = allocator.allocate(device, layout, flags, &layout.counts, count)?;
     expect_same(rt, sets.len(), count as usize);
     for (name, set) in (0u64..).zip(&sets) {

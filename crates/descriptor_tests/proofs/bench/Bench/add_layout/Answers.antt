@@ -11,6 +11,6 @@ invariant_of-self g c =
       ready = record {
         agree = rw c.add_layout.ensures.allocator old.ready.agree;
         held = rw (c.add_layout.ensures.allocator, c.add_layout.ensures.sets) old.ready.held;
-        meant = meant_after g.D.DescriptorDevice.meaning (layouts_of old.session) (layouts_of c.add_layout.new.self) (record { layout = layout; counts = layout.counts; flags = c.flags_of-flags.result }) c.add_layout.result c.add_layout.ensures.last c.add_layout.ensures.layouts old.ready.meant (sym c.requires.counts) (c.flags_of-flags.ensures ∙ sym c.requires.mark);
+        meant = meant_after g.D.DescriptorDevice.meaning (layouts_of old.session) (layouts_of c.add_layout.new.self) (record { layout = layout; counts = layout.counts; flags = c.flags-flags.result }) c.add_layout.result c.add_layout.ensures.last c.add_layout.ensures.layouts old.ready.meant (sym c.requires.counts) (c.flags-flags.ensures ∙ sym c.requires.mark);
       };
     }
