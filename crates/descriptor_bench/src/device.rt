@@ -80,11 +80,11 @@ fn layout_of(mut layouts: Layouts<'_, Layout>) -> Layout
 /// Puts so many sets of a layout.
 fn fill<K: SetSink<CountedSet>>(first: u64, many: u32, layout: &Layout, sink: &mut K)
     requires names { first + many < 2 ^ 64 }
-    requires room { many ≤ K.sink.room_left sink.old }
+    requires sink_left { many ≤ K.sink.left sink.old }
     ensures kept { K.sink.kept sink.new ≡ K.sink.kept sink.old
         ++ map (K.sink.kept_as sink.old) (counted_sets layout.now.number first many) }
     ensures alike { K.sink.kept_as sink.new ≡ K.sink.kept_as sink.old }
-    ensures room { K.sink.room_left sink.new + many ≡ K.sink.room_left sink.old }
+    ensures sink_left { K.sink.left sink.new + many ≡ K.sink.left sink.old }
 {
     for name in first..first + u64::from(many) {
         sink.put(CountedSet {
@@ -117,7 +117,7 @@ fn take_each<I: Iterator<Item = CountedSet>>(
 
 impl DescriptorDevice<Layout, u64, CountedSet> for CountingDevice {
     ghost use Rattle.descriptor_bench.specs.Device.{bench_meaning, ledger_of};
-    ghost use Rattle.gpu_descriptor_types.specs.Ledger.{HasRoom, Puts, PutsNone};
+    ghost use Rattle.gpu_descriptor_types.specs.Ledger.{CanGive, Puts, PutsNone};
 
     ghost meaning = { bench_meaning };
 
@@ -159,9 +159,9 @@ impl DescriptorDevice<Layout, u64, CountedSet> for CountingDevice {
         layouts: Layouts<'_, Layout>,
         sets: &mut K,
     ) -> Result<(), DeviceAllocationError>
-        requires fits { HasRoom pool.old (left layouts) (kinds (layout layouts).counts)
+        requires fits { CanGive pool.old (left layouts) (kinds (layout layouts).counts)
             (layout layouts).mark (ledger_of self.old) }
-        requires room { left layouts ≤ K.sink.room_left sets.old }
+        requires sink_left { left layouts ≤ K.sink.left sets.old }
         ensures name { pool.new ≡ pool.old }
         ensures ok { OnOk result (Puts K.sink bench_meaning (layout layouts.entry) pool.old
             (left layouts.entry) sets.old sets.new (ledger_of self.old) (ledger_of self.new)) }

@@ -23,9 +23,9 @@ module _ {P S : Type 0} where
   abbrev pub greatest_of : FrameManager P S → ℕ
   greatest_of m = m.greatest
 
-  -- how many more sets there is room for in the list
-  abbrev pub room_of : FrameManager P S → ℕ
-  room_of m = deque_capacity m.retired - length (retired_of m)
+  -- for how many more sets of the list memory is reserved
+  abbrev pub reserve_of : FrameManager P S → ℕ
+  reserve_of m = deque_capacity m.retired - length (retired_of m)
 
   -- the sets that were retired at the frame or before
   abbrev pub due_sets : ℕ → FrameManager P S → List (DescriptorSet S)
@@ -65,10 +65,10 @@ module _ {P S : Type 0} where
         pub both : (t : Item) → count_of t (items_of set_name xs) + count_of t (items_of set_name ys) ≤ in_use m l t
 
       module _ (old new : FrameManager P S) (before after : Ledger) where
-        -- the list, its room and the greatest frame stay, and retired sets that were outstanding still are
+        -- the list, its reserve and the greatest frame stay, and retired sets that were outstanding still are
         pub record KeepsRetired : Type 0 where
           pub list : retired_of new ≡ retired_of old
-          pub room : room_of new ≡ room_of old
+          pub reserve : reserve_of new ≡ reserve_of old
           pub greatest : greatest_of new ≡ greatest_of old
           pub outstanding : AreRetiredOut old before → AreRetiredOut new after
 

@@ -14,7 +14,7 @@ use Rattle.gpu_descriptor_types.specs.declared.flags.DescriptorPoolCreateFlags.{
 use Rattle.gpu_descriptor_types.proofs.Counting.{times-append}
 use Rattle.descriptor_host.specs.History.{Entry}
 use Rattle.descriptor_host.specs.Pools.{AreBelow, OwedPool, counters_of, none_named, pool_name, pool_owed, pools_owed, row_at, rows_of}
-use Rattle.descriptor_host.specs.Room.{ledger_after}
+use Rattle.descriptor_host.specs.Reserve.{ledger_after}
 use Rattle.descriptor_host.specs.declared.act.Act.TheVariants.{Create, NoCreate, Put, NoPut, Release, Destroy}
 use Rattle.descriptor_host.specs.declared.pool.HostPool.{HostPool}
 use Rattle.descriptor_host.proofs.Rows.{AreTaken, all_named, are_taken, change_row, counters_more, live_row, put_row, row_is, rows_more, same_ledger, taken_less}

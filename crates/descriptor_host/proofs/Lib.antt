@@ -3,6 +3,6 @@ mod Layouts
 mod Ledgers
 mod Queues
 mod PointerSteps
-mod Rooms
+mod Reserves
 mod Rows
 mod Values

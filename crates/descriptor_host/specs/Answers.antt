@@ -4,7 +4,7 @@ use Rattle.std.specs.VecDeque.{deque_capacity}
 use Rattle.std.specs.declared.collections.VecDeque.{VecDeque}
 use Rattle.descriptor_host.specs.Calls.{DriverCall}
 use Rattle.descriptor_host.specs.History.{Log}
-use Rattle.descriptor_host.specs.Ties.{HasRoomFor}
+use Rattle.descriptor_host.specs.Ties.{HasReserveFor}
 use Rattle.descriptor_host.specs.declared.call_queue.CallHead.{CallHead}
 use Rattle.descriptor_host.specs.declared.call_queue.CallQueue.{CallQueue}
 use Rattle.descriptor_host.specs.declared.device.Outcome.{Outcome}
@@ -23,9 +23,9 @@ IsErrorOf {E} error wanting e [] = e ≡ wanting
 IsErrorOf {E} error wanting e (Granted ∷ os) = e ≡ wanting
 IsErrorOf {E} error wanting e (Refused why ∷ os) = e ≡ error why
 
--- there is room for the answer to the named call
+-- there is reserve for the answer to the named call
 abbrev pub CanHear : {A : Type 0} → Option CallHead → VecDeque Outcome A → CallQueue → Type 0
-CanHear wanted outcomes granted = (h : CallHead) → wanted ≡ Some h → (length outcomes.items < deque_capacity outcomes) × HasRoomFor h granted
+CanHear wanted outcomes granted = (h : CallHead) → wanted ≡ Some h → (length outcomes.items < deque_capacity outcomes) × HasReserveFor h granted
 
 -- the log after the driver granted what the head asks for
 abbrev pub granting : CallHead → List ℕ → Log → Log

@@ -6,7 +6,7 @@ use Rattle.gpu_descriptor_types.specs.Meaning.{Meaning}
 use Rattle.descriptor_host.specs.Calls.{DriverCall}
 use Rattle.descriptor_host.specs.History.{Log}
 use Rattle.descriptor_host.specs.Pools.{pool_name}
-use Rattle.descriptor_host.specs.Room.{ledger_after}
+use Rattle.descriptor_host.specs.Reserve.{ledger_after}
 use Rattle.descriptor_host.specs.declared.device.AnswerDevice.{AnswerDevice}
 use Rattle.descriptor_host.specs.declared.device.Outcome.{Outcome}
 use Rattle.descriptor_host.specs.declared.layout.HostLayout.{HostLayout}

@@ -12,5 +12,5 @@ pub mod Pools
 pub mod Refusals
 pub mod Replies
 pub mod Requests
-pub mod Room
+pub mod Reserve
 pub mod Ties

@@ -24,18 +24,18 @@ abbrev pub IsBalanced : Log → Type 0
 IsBalanced l = (p : DriverCall → Bool) → count_by p l.heard ≡ count_by p (used_of l.history) + count_by p l.granted
 
 -- so many pools and sets can end without memory, beside those that were taken
-pub record HasRoomToEnd (room taken : ℕ) (q : CallQueue) : Type 0 where
-  pub calls : length q.heads.items + taken + room ≤ deque_capacity q.heads
-  pub sets : length q.sets.items + room ≤ deque_capacity q.sets
+pub record HasReserveToEnd (reserve taken : ℕ) (q : CallQueue) : Type 0 where
+  pub calls : length q.heads.items + taken + reserve ≤ deque_capacity q.heads
+  pub sets : length q.sets.items + reserve ≤ deque_capacity q.sets
 
--- a grant of so much has room
-pub record HasRoomFor (h : CallHead) (q : CallQueue) : Type 0 where
+-- memory is reserved for such a grant
+pub record HasReserveFor (h : CallHead) (q : CallQueue) : Type 0 where
   pub head : length q.heads.items < deque_capacity q.heads
   pub sets : length q.sets.items + h.sets ≤ deque_capacity q.sets
 
--- what had room still has it
-abbrev pub KeepsRoom : CallQueue → CallQueue → Type 0
-KeepsRoom old new = (h : CallHead) → HasRoomFor h old → HasRoomFor h new
+-- what could be granted still can be
+abbrev pub KeepsReserve : CallQueue → CallQueue → Type 0
+KeepsReserve old new = (h : CallHead) → HasReserveFor h old → HasReserveFor h new
 
 -- the first grant has this head
 pub record IsNext (h : CallHead) (granted : List DriverCall) : Type 0 where

@@ -5,8 +5,8 @@ ghost use Rattle.std.specs.VecDeque.{deque_capacity};
 ghost use Rattle.descriptor_host.specs.Acts.{first_sets, last_sets, log_after};
 ghost use Rattle.descriptor_host.specs.Calls.{things_in, things_of};
 ghost use Rattle.descriptor_host.specs.History.{no_log};
-ghost use Rattle.descriptor_host.specs.Ties.{HasRoomFor, HasRoomToEnd, IsBalanced, IsGranted, IsLast};
-ghost use Rattle.descriptor_host.specs.Ties.{IsNext, KeepsRoom};
+ghost use Rattle.descriptor_host.specs.Ties.{HasReserveFor, HasReserveToEnd, IsBalanced, IsGranted, IsLast};
+ghost use Rattle.descriptor_host.specs.Ties.{IsNext, KeepsReserve};
 ghost use Rattle.descriptor_host.specs.Ties.{ReturnsAll};
 ghost use Rattle.descriptor_host.specs.Ties.{Ties};
 
@@ -23,7 +23,7 @@ use std::collections::VecDeque;
 
 /// The history of a device, with what waits on both sides of it.
 ///
-/// The listed calls can't be refused, so room for them is taken before a pool or a set is granted.
+/// The listed calls can't be refused, so memory for them is reserved before a pool or a set is granted.
 #[derive(Drop)]
 pub(crate) struct CallLog {
     /// What the driver granted, and no step used yet.
@@ -32,62 +32,62 @@ pub(crate) struct CallLog {
     /// The calls that the host has still to make.
     pub(crate) listed: CallQueue,
 
-    /// For the ends of how many pools and sets there is room.
-    pub(crate) room: usize,
+    /// For the ends of how many pools and sets memory is reserved.
+    pub(crate) reserve: usize,
     pub(crate) owed: Owed,
     ghost grants: { IsGranted owed.log granted },
     ghost balanced: { IsBalanced owed.log },
     ghost tied: { Ties owed.log listed },
-    ghost fits: { HasRoomToEnd room (length owed.log.taken) listed },
+    ghost fits: { HasReserveToEnd reserve (length owed.log.taken) listed },
 }
 
 impl CallLog {
     /// Nothing was done.
     pub(crate) fn new(alloc: Global) -> Self
         ensures log { result.owed.log ≡ no_log }
-        ensures room { result.room ≡ 0 }
+        ensures reserve { result.reserve ≡ 0 }
     {
         CallLog {
             granted: CallQueue::new(alloc),
             listed: CallQueue::new(alloc),
-            room: 0,
+            reserve: 0,
             owed: Owed::none(),
         }
     }
 
-    /// Takes room for a grant of so many sets, and for the ends of so many pools and sets more.
+    /// Reserves memory for a grant of so many sets, and for the ends of so many pools and sets more.
     pub(crate) fn reserve(&mut self, head: &CallHead) -> Result<(), AllocError>
         requires whole { self.old.owed.log.taken ≡ [] }
         ensures log { self.new.owed.log ≡ self.old.owed.log }
-        ensures grant { OnOk result (HasRoomFor head.now self.new.granted) }
-        ensures room { OnOk result (self.new.room ≡ self.old.room + things_of head.now) }
-        ensures full { OnErr result (self.new.room ≡ self.old.room) }
+        ensures grant { OnOk result (HasReserveFor head.now self.new.granted) }
+        ensures reserve { OnOk result (self.new.reserve ≡ self.old.reserve + things_of head.now) }
+        ensures full { OnErr result (self.new.reserve ≡ self.old.reserve) }
     {
-        let Some(room) = self.room.checked_add(head.things()) else {
+        let Some(reserve) = self.reserve.checked_add(head.things()) else {
             return Err(AllocError);
         };
         self.granted.reserve(1, head.sets)?;
-        self.listed.reserve(room, room)?;
-        self.room = room;
+        self.listed.reserve(reserve, reserve)?;
+        self.reserve = reserve;
         Ok(())
     }
 
-    /// Gives room back that nothing needs any more.
-    pub(crate) fn forgive(&mut self, room: usize)
-        requires { room ≤ self.old.room }
+    /// Gives up reserved memory that nothing needs any more.
+    pub(crate) fn forgive(&mut self, reserve: usize)
+        requires { reserve ≤ self.old.reserve }
         ensures log { self.new.owed.log ≡ self.old.owed.log }
-        ensures room { self.new.room + room ≡ self.old.room }
+        ensures reserve { self.new.reserve + reserve ≡ self.old.reserve }
         ensures granted { self.new.granted ≡ self.old.granted }
     {
-        self.room -= room;
+        self.reserve -= reserve;
     }
 
     /// Hears that the driver granted a pool.
     pub(crate) fn grant_pool(&mut self, pool: u64)
-        requires room { length self.old.granted.heads.items < deque_capacity self.old.granted.heads }
+        requires reserve { length self.old.granted.heads.items < deque_capacity self.old.granted.heads }
         requires whole { self.old.owed.log.given ≡ [] }
         ensures log { self.new.owed.log ≡ log_after (Act.GrantPool pool) self.old.owed.log }
-        ensures room { self.new.room ≡ self.old.room }
+        ensures reserve { self.new.reserve ≡ self.old.reserve }
     {
         let head = CallHead { pool, sets: 0 };
         self.granted.heads.push_back_reserved(head);
@@ -98,7 +98,7 @@ impl CallLog {
     fn give(&mut self, set: u64)
         requires { length self.old.granted.sets.items < deque_capacity self.old.granted.sets }
         ensures log { self.new.owed.log ≡ log_after (Act.Give set) self.old.owed.log }
-        ensures room { self.new.room ≡ self.old.room }
+        ensures reserve { self.new.reserve ≡ self.old.reserve }
         ensures heads { self.new.granted.heads ≡ self.old.granted.heads }
         ensures sets { length self.new.granted.sets.items ≡ length self.old.granted.sets.items + 1 }
         ensures capacity { deque_capacity self.new.granted.sets
@@ -110,10 +110,10 @@ impl CallLog {
 
     /// Hears that those were all sets of a grant.
     fn grant_given(&mut self, pool: u64, sets: usize)
-        requires room { length self.old.granted.heads.items < deque_capacity self.old.granted.heads }
+        requires reserve { length self.old.granted.heads.items < deque_capacity self.old.granted.heads }
         requires all { sets ≡ length self.old.owed.log.given }
         ensures log { self.new.owed.log ≡ log_after (Act.GrantSets pool) self.old.owed.log }
-        ensures room { self.new.room ≡ self.old.room }
+        ensures reserve { self.new.reserve ≡ self.old.reserve }
     {
         self.granted
             .heads
@@ -123,13 +123,13 @@ impl CallLog {
 
     /// Hears that the driver granted sets of a pool.
     pub(crate) fn grant_sets(&mut self, pool: u64, sets: &[u64])
-        requires room { length self.old.granted.heads.items < deque_capacity self.old.granted.heads }
+        requires reserve { length self.old.granted.heads.items < deque_capacity self.old.granted.heads }
         requires sets { length self.old.granted.sets.items + length sets.now
             ≤ deque_capacity self.old.granted.sets }
         requires whole { self.old.owed.log.given ≡ [] }
         ensures log { self.new.owed.log ≡ log_after (Act.GrantSets pool)
             (record self.old.owed.log { given = sets.now }) }
-        ensures room { self.new.room ≡ self.old.room }
+        ensures reserve { self.new.reserve ≡ self.old.reserve }
     {
         for set in sets {
             self.give(*set);
@@ -159,8 +159,8 @@ impl CallLog {
         requires { IsNext (record { pool = pool.handle; sets = 0 }) self.old.owed.log.granted }
         ensures log { self.new.owed.log ≡ log_after
             (Act.Create pool counts.now max_sets flags) self.old.owed.log }
-        ensures room { self.new.room ≡ self.old.room }
-        ensures grant { KeepsRoom self.old.granted self.new.granted }
+        ensures reserve { self.new.reserve ≡ self.old.reserve }
+        ensures grant { KeepsReserve self.old.granted self.new.granted }
     {
         self.granted.heads.pop_front();
         self.owed.note(Act::Create {
@@ -174,7 +174,7 @@ impl CallLog {
     /// Notes that a pool was refused.
     pub(crate) fn refuse_pool(&mut self, error: CreatePoolError)
         ensures log { self.new.owed.log ≡ log_after (Act.NoCreate error) self.old.owed.log }
-        ensures room { self.new.room ≡ self.old.room }
+        ensures reserve { self.new.reserve ≡ self.old.reserve }
         ensures granted { self.new.granted ≡ self.old.granted }
     {
         self.owed.note(Act::NoCreate { error });
@@ -190,14 +190,14 @@ impl CallLog {
     )
         requires next { IsNext (record { pool = pool.handle; sets = many })
             self.old.owed.log.granted }
-        requires room { many ≤ K.sink.room_left sink.old }
+        requires left { many ≤ K.sink.left sink.old }
         ensures log { self.new.owed.log ≡ log_after (Act.Put pool counts) self.old.owed.log }
-        ensures room { self.new.room ≡ self.old.room }
-        ensures grant { KeepsRoom self.old.granted self.new.granted }
+        ensures reserve { self.new.reserve ≡ self.old.reserve }
+        ensures grant { KeepsReserve self.old.granted self.new.granted }
         ensures kept { K.sink.kept sink.new ≡ K.sink.kept sink.old
             ++ map (K.sink.kept_as sink.old) (first_sets self.old.owed.log.granted) }
         ensures alike { K.sink.kept_as sink.new ≡ K.sink.kept_as sink.old }
-        ensures left { K.sink.room_left sink.new + many ≡ K.sink.room_left sink.old }
+        ensures left { K.sink.left sink.new + many ≡ K.sink.left sink.old }
     {
         fill(&mut self.granted.sets, many, sink);
         self.granted.heads.pop_front();
@@ -207,7 +207,7 @@ impl CallLog {
     /// Notes that sets were refused.
     pub(crate) fn refuse_sets(&mut self, pool: HostPool, error: DeviceAllocationError)
         ensures log { self.new.owed.log ≡ log_after (Act.NoPut pool error) self.old.owed.log }
-        ensures room { self.new.room ≡ self.old.room }
+        ensures reserve { self.new.reserve ≡ self.old.reserve }
         ensures granted { self.new.granted ≡ self.old.granted }
     {
         self.owed.note(Act::NoPut { pool, error });
@@ -215,13 +215,13 @@ impl CallLog {
 
     /// Takes a set, which a call is to release.
     pub(crate) fn take(&mut self, set: u64)
-        requires { 0 < self.old.room }
+        requires { 0 < self.old.reserve }
         ensures log { self.new.owed.log ≡ log_after (Act.Take set) self.old.owed.log }
-        ensures room { self.new.room + 1 ≡ self.old.room }
+        ensures reserve { self.new.reserve + 1 ≡ self.old.reserve }
         ensures granted { self.new.granted ≡ self.old.granted }
     {
         self.listed.sets.push_back_reserved(set);
-        self.room -= 1;
+        self.reserve -= 1;
         self.owed.note(Act::Take { set });
     }
 
@@ -229,7 +229,7 @@ impl CallLog {
     pub(crate) fn release(&mut self, pool: HostPool, sets: usize)
         requires { sets ≡ length self.old.owed.log.taken }
         ensures log { self.new.owed.log ≡ log_after (Act.Release pool) self.old.owed.log }
-        ensures room { self.new.room ≡ self.old.room }
+        ensures reserve { self.new.reserve ≡ self.old.reserve }
     {
         list_sets(&mut self.listed.heads, pool.handle, sets);
         self.owed.note(Act::Release { pool });
@@ -237,17 +237,17 @@ impl CallLog {
 
     /// Lists the end of a pool.
     pub(crate) fn destroy(&mut self, pool: HostPool)
-        requires room { 0 < self.old.room }
+        requires reserve { 0 < self.old.reserve }
         requires whole { self.old.owed.log.taken ≡ [] }
         ensures log { self.new.owed.log ≡ log_after (Act.Destroy pool) self.old.owed.log }
-        ensures room { self.new.room + 1 ≡ self.old.room }
+        ensures reserve { self.new.reserve + 1 ≡ self.old.reserve }
     {
         let head = CallHead {
             pool: pool.handle,
             sets: 0,
         };
         self.listed.heads.push_back_reserved(head);
-        self.room -= 1;
+        self.reserve -= 1;
         self.owed.note(Act::Destroy { pool });
     }
 }
@@ -259,9 +259,9 @@ impl CallLog {
     pub(crate) fn return_all(&mut self)
         requires whole { self.old.owed.log.taken ≡ [] }
         requires told { self.old.owed.log.given ≡ [] }
-        requires room { things_in self.old.owed.log.granted ≤ self.old.room }
+        requires reserve { things_in self.old.owed.log.granted ≤ self.old.reserve }
         ensures returned { ReturnsAll self.old.owed.log self.new.owed.log }
-        ensures room { self.new.room + things_in self.old.owed.log.granted ≡ self.old.room }
+        ensures reserve { self.new.reserve + things_in self.old.owed.log.granted ≡ self.old.reserve }
     {
         while let Some(head) = self.last_grant() {
             if head.sets == 0 {
@@ -287,16 +287,16 @@ impl CallLog {
     /// Lists the end of the pool of the last grant.
     fn return_pool(&mut self, pool: u64)
         requires last { IsLast (record { pool = pool; sets = 0 }) self.old.owed.log.granted }
-        requires room { 0 < self.old.room }
+        requires reserve { 0 < self.old.reserve }
         requires whole { self.old.owed.log.taken ≡ [] }
         ensures log { self.new.owed.log ≡ log_after (Act.ReturnPool pool) self.old.owed.log }
-        ensures room { self.new.room + 1 ≡ self.old.room }
+        ensures reserve { self.new.reserve + 1 ≡ self.old.reserve }
     {
         self.granted.heads.pop_back();
         self.listed
             .heads
             .push_back_reserved(CallHead { pool, sets: 0 });
-        self.room -= 1;
+        self.reserve -= 1;
         self.owed.note(Act::ReturnPool { pool });
     }
 
@@ -304,11 +304,11 @@ impl CallLog {
     fn return_sets(&mut self, pool: u64, sets: usize)
         requires last { IsLast (record { pool = pool; sets = sets }) self.old.owed.log.granted }
         requires some { 0 < sets }
-        requires room { sets ≤ self.old.room }
+        requires reserve { sets ≤ self.old.reserve }
         requires told { self.old.owed.log.given ≡ [] }
         requires whole { self.old.owed.log.taken ≡ [] }
         ensures log { self.new.owed.log ≡ log_after (Act.ReturnSets pool) self.old.owed.log }
-        ensures room { self.new.room + sets ≡ self.old.room }
+        ensures reserve { self.new.reserve + sets ≡ self.old.reserve }
     {
         let start = self.granted.sets.len() - sets;
         for place in 0..sets {
@@ -333,7 +333,7 @@ impl CallLog {
         requires told { self.old.owed.log.given ≡ [] }
         requires taken { self.old.owed.log.taken ≡ last_sets self.old.owed.log.granted }
         ensures log { self.new.owed.log ≡ log_after (Act.ReturnSets pool) self.old.owed.log }
-        ensures room { self.new.room ≡ self.old.room }
+        ensures reserve { self.new.reserve ≡ self.old.reserve }
     {
         let left = self.granted.sets.len() - sets;
         self.granted.heads.pop_back();
@@ -348,11 +348,11 @@ impl CallLog {
 /// Puts so many sets from the front.
 fn fill<K: SetSink<u64>>(sets: &mut VecDeque<u64>, many: u32, sink: &mut K)
     requires there { many ≤ length sets.old.items }
-    requires room { many ≤ K.sink.room_left sink.old }
+    requires left { many ≤ K.sink.left sink.old }
     ensures kept { K.sink.kept sink.new ≡ K.sink.kept sink.old
         ++ map (K.sink.kept_as sink.old) (take many sets.old.items) }
     ensures alike { K.sink.kept_as sink.new ≡ K.sink.kept_as sink.old }
-    ensures left { K.sink.room_left sink.new + many ≡ K.sink.room_left sink.old }
+    ensures left { K.sink.left sink.new + many ≡ K.sink.left sink.old }
     ensures sets { sets.old.items ≡ take many sets.old.items ++ sets.new.items }
     ensures capacity { deque_capacity sets.new ≡ deque_capacity sets.old }
 {

@@ -42,16 +42,16 @@ impl CallQueue {
         }
     }
 
-    /// Takes room for so many calls and sets more.
+    /// Reserves memory for so many calls and sets more.
     pub(crate) fn reserve(&mut self, calls: usize, sets: usize) -> Result<(), AllocError>
         ensures calls { OnOk result (length self.old.heads.items + calls
             ≤ deque_capacity self.new.heads) }
-        ensures room { OnOk result (length self.old.sets.items + sets
+        ensures reserve { OnOk result (length self.old.sets.items + sets
             ≤ deque_capacity self.new.sets) }
         ensures heads { self.new.heads.items ≡ self.old.heads.items }
         ensures sets { self.new.sets.items ≡ self.old.sets.items }
         ensures calls_stay { deque_capacity self.old.heads ≤ deque_capacity self.new.heads }
-        ensures room_stays { deque_capacity self.old.sets ≤ deque_capacity self.new.sets }
+        ensures reserve_stays { deque_capacity self.old.sets ≤ deque_capacity self.new.sets }
     {
         self.heads.reserve(calls)?;
         self.sets.reserve(sets)

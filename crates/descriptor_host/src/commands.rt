@@ -8,7 +8,7 @@ ghost use Rattle.descriptor_host.specs.Acts.{listed_of, waiting_of};
 ghost use Rattle.descriptor_host.specs.Hosts.{CleansUp, Frees, HandsOut, IsOver};
 ghost use Rattle.descriptor_host.specs.Hosts.{ledger_on, log_on, session_of};
 ghost use Rattle.descriptor_host.specs.Requests.{Commits, HasRequest};
-ghost use Rattle.descriptor_host.specs.Room.{ledger_after};
+ghost use Rattle.descriptor_host.specs.Reserve.{ledger_after};
 ghost use Rattle.descriptor_host.specs.Ties.{IsBalanced};
 
 use crate::error::HostError;

@@ -10,7 +10,7 @@ ghost use Rattle.descriptor_host.specs.History.{no_log};
 ghost use Rattle.descriptor_host.specs.Pools.{AreBelow, rows_of};
 ghost use Rattle.descriptor_host.specs.Answers.{CanHear, IsErrorOf, granting};
 ghost use Rattle.descriptor_host.specs.Refusals.{alloc_error_of, create_error_of};
-ghost use Rattle.descriptor_host.specs.Room.{EndsAll};
+ghost use Rattle.descriptor_host.specs.Reserve.{EndsAll};
 ghost use Rattle.descriptor_host.specs.Acts.{first_sets, waiting_of};
 ghost use Rattle.descriptor_host.specs.Calls.{things_of};
 ghost use Rattle.descriptor_host.specs.Ties.{IsNext, ReturnsAll};
@@ -56,7 +56,7 @@ pub struct AnswerDevice {
     ghost whole: { log.owed.log.taken ≡ [] },
     ghost hears: { CanHear wanted outcomes log.granted },
     ghost ends: { EndsAll (rows_of log.owed.log.history) next_number log.owed.log.granted wanted
-        log.room },
+        log.reserve },
 }
 
 impl AnswerDevice {
@@ -76,7 +76,7 @@ impl AnswerDevice {
         }
     }
 
-    /// Names a call that the host is to make, over room for its answer and for what ends what it
+    /// Names a call that the host is to make, over memory for its answer and for what ends what it
     /// brings.
     pub(crate) fn want(&mut self, head: CallHead) -> Result<(), AllocError>
         ensures log { log_of self.new ≡ log_of self.old }
@@ -152,7 +152,7 @@ impl AnswerDevice {
     pub(crate) fn is_over(&self) -> bool
         ensures { IsTrue result ↔ OwesNothing self.now }
     {
-        self.log.room == 0
+        self.log.reserve == 0
     }
 
     /// Whether calls wait that were not handed over.
@@ -205,10 +205,10 @@ fn take_each<I: Iterator<Item = u64>>(log: &mut CallLog, sets: &mut I) -> usize
     requires can { I.can_next sets.old }
     requires ends { IsFinite (I.remaining sets.old) }
     requires whole { log.old.owed.log.taken ≡ [] }
-    requires room { HoldsAlong I.next_gives sets.old (λ xs. length xs ≤ log.old.room) }
+    requires reserve { HoldsAlong I.next_gives sets.old (λ xs. length xs ≤ log.old.reserve) }
     ensures taken { (items : List ℕ) × YieldsThen I.next_gives sets.old items None sets.new
         × (log.new.owed.log ≡ record log.old.owed.log { taken = items })
-        × (log.new.room + length items ≡ log.old.room) × (result ≡ length items) }
+        × (log.new.reserve + length items ≡ log.old.reserve) × (result ≡ length items) }
     ensures granted { log.new.granted ≡ log.old.granted }
 {
     let mut many = 0;
@@ -277,7 +277,7 @@ impl DescriptorDevice<HostLayout, HostPool, u64> for AnswerDevice {
     ghost use Rattle.descriptor_host.specs.Device.{host_meaning};
     ghost use Rattle.descriptor_host.specs.Pools.{pool_name};
     ghost use Rattle.gpu_descriptor_types.specs.Flags.{bits};
-    ghost use Rattle.gpu_descriptor_types.specs.Ledger.{HasRoom, Puts, PutsNone};
+    ghost use Rattle.gpu_descriptor_types.specs.Ledger.{CanGive, Puts, PutsNone};
     ghost use Rattle.gpu_descriptor_types.specs.Ledger.{after_create, after_no_create};
 
     ghost meaning = { host_meaning };
@@ -329,9 +329,9 @@ impl DescriptorDevice<HostLayout, HostPool, u64> for AnswerDevice {
         layouts: Layouts<'_, HostLayout>,
         sets: &mut K,
     ) -> Result<(), DeviceAllocationError>
-        requires fits { HasRoom (pool_name pool.old) (left layouts) (kinds (layout layouts).counts)
+        requires fits { CanGive (pool_name pool.old) (left layouts) (kinds (layout layouts).counts)
             (layout layouts).mark (ledger_of self.old) }
-        requires room { left layouts ≤ K.sink.room_left sets.old }
+        requires sink_left { left layouts ≤ K.sink.left sets.old }
         ensures name { pool_name pool.new ≡ pool_name pool.old }
         ensures ok { OnOk result (Puts K.sink host_meaning (layout layouts.entry)
             (pool_name pool.old) (left layouts.entry) sets.old sets.new (ledger_of self.old)

@@ -20,7 +20,7 @@ impl CallLog {
         ensures handed { HandsOver (take result out.new) self.old.owed.log self.new.owed.log }
         ensures within { result ≤ length out.old }
         ensures all { IsTooLong (length out.old) result (waiting_of self.new.owed.log) }
-        ensures room { self.new.room ≡ self.old.room }
+        ensures reserve { self.new.reserve ≡ self.old.reserve }
         ensures granted { self.new.granted ≡ self.old.granted }
     {
         let mut written = 0;
@@ -63,7 +63,7 @@ impl CallLog {
         ensures words { take (at + 2 + head.now.sets) out.new ≡ take at out.old
             ++ head.now.pool ∷ head.now.sets ∷ first_sets (waiting_of self.old.owed.log) }
         ensures log { self.new.owed.log ≡ log_after Act.Hand self.old.owed.log }
-        ensures room { self.new.room ≡ self.old.room }
+        ensures reserve { self.new.reserve ≡ self.old.reserve }
         ensures granted { self.new.granted ≡ self.old.granted }
     {
         out[at] = head.pool;

@@ -4,7 +4,7 @@ ghost use Rattle.std.specs.Prelude.{IfOk, IfErr, IfSome, IsSome, OnOk, OnErr};
 ghost use Rattle.descriptor_host.specs.Calls.{things_of};
 ghost use Rattle.gpu_descriptor_types.specs.Side.{side};
 ghost use Rattle.descriptor_script.proofs.OneReady.{IsReady-prop};
-ghost use Rattle.descriptor_script.specs.Sessions.Session.{HasRoomToFree, IsReady};
+ghost use Rattle.descriptor_script.specs.Sessions.Session.{HasReserveToFree, IsReady};
 ghost use Rattle.descriptor_host.specs.Device.{host_meaning, ledger_of};
 
 use crate::call_queue::CallHead;
@@ -40,7 +40,7 @@ pub struct Host {
     pub(crate) request: Option<Request>,
     ghost ready: { IsReady host_meaning (side session (ledger_of device)) } by { IsReady-prop
         host_meaning (side session (ledger_of device)) },
-    ghost roomy: { HasRoomToFree session },
+    ghost can_free: { HasReserveToFree session },
 }
 
 impl Host {
@@ -152,7 +152,7 @@ impl Host {
         Some((call, head))
     }
 
-    /// Goes on with the request on its way, and names its next call. Where there is no room for what
+    /// Goes on with the request on its way, and names its next call. Where memory is wanting for what
     /// the call may bring, none is named, and the request is refused when it is made.
     fn go_on(&mut self) -> DeviceCall
         requires { named_call self.old ≡ None }

@@ -13,7 +13,7 @@ pub enum Refusal {
     /// The driver's memory is fragmented, or the pool is.
     Fragmentation,
 
-    /// The pool has no room.
+    /// The pool can't give the sets.
     OutOfPoolMemory,
 }
 

@@ -9,8 +9,8 @@ use Rattle.descriptor_words.specs.Fault.{words_of_fault}
 use Rattle.descriptor_words.specs.Kinds.{kind_names}
 
 -- so many bytes may go behind the text without memory
-abbrev pub HasRoomFor : {Z : Type 0} → ℕ → String Z → Type 0
-HasRoomFor more text = length (string_bytes text) + more ≤ string_capacity text
+abbrev pub HasReserveFor : {Z : Type 0} → ℕ → String Z → Type 0
+HasReserveFor more text = length (string_bytes text) + more ≤ string_capacity text
 
 -- the answer of `limit`
 abbrev pub limit_answer : ℕ → List ℕ

@@ -39,7 +39,7 @@ LosesLine (Some bytes) (Some rest) = (0 < length bytes) × (rest ≡ after_end b
 abbrev pub longest_line : ℕ
 longest_line = 4096
 
--- the bytes that a buffer of lines has room for
+-- how many bytes a buffer of lines holds
 abbrev pub buffer_len : ℕ
 buffer_len = 65536
 

@@ -4,12 +4,12 @@ ghost use Rattle.gpu_descriptor_types.specs.Counts.{kinds};
 ghost use Rattle.descriptor_lines.specs.Answers as says;
 
 mod reply;
-mod room;
+mod reserved;
 
 use descriptor_words::{Fault, kind_name};
 use gpu_descriptor::PoolView;
 use gpu_descriptor_types::DescriptorTotalCount;
-pub use reply::{reply_answer, room_for};
+pub use reply::{reply_answer, reserve_for};
 use std::alloc::AllocError;
 
 /// The answer where there was no memory to run a line.

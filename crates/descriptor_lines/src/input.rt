@@ -47,7 +47,7 @@ pub struct LineBuffer {
     end: usize,
     is_at_end: bool,
     reads_left: u32,
-    ghost room: { vec_len bytes ≡ buffer_len },
+    ghost whole: { vec_len bytes ≡ buffer_len },
     ghost from_start: { start ≤ searched },
     ghost to_end: { searched ≤ end },
     ghost within: { end ≤ buffer_len },
@@ -193,10 +193,10 @@ impl LineBuffer {
         Ok(())
     }
 
-    /// Moves the bytes to the front of the buffer, so that there is room behind them.
+    /// Moves the bytes to the front of the buffer, so that more bytes fit behind them.
     fn move_to_front(&mut self)
         requires { self.old.end - self.old.start ≤ longest_line }
-        ensures room { self.new.end ≤ longest_line }
+        ensures fits { self.new.end ≤ longest_line }
         ensures bytes { buffered self.new ≡ buffered self.old }
         ensures reads { self.new.reads_left ≡ self.old.reads_left }
         ensures end { self.new.is_at_end ≡ self.old.is_at_end }

@@ -81,9 +81,9 @@ impl Layouts {
         self.by_name.iter()
     }
 
-    /// Takes room for one more layout.
+    /// Reserves memory for one more layout.
     pub fn reserve(&mut self) -> Result<(), AllocError>
-        ensures room { OnOk result (0 < spare self.new.by_name) }
+        ensures reserve { OnOk result (0 < spare self.new.by_name) }
         ensures same { SameLayouts self.old self.new }
     {
         self.by_name.reserve(1)
@@ -108,15 +108,15 @@ impl Layouts {
         true
     }
 
-    /// Puts a layout of a new name last, over room that was taken.
+    /// Puts a layout of a new name last, over memory that was reserved.
     pub fn push(&mut self, name: String, layout: Layout)
-        requires room { 0 < spare self.old.by_name }
+        requires reserve { 0 < spare self.old.by_name }
         requires absent { layout_named self.old (string_bytes name) ≡ None }
         ensures layouts { layouts_in self.new ≡ layouts_in self.old ++ (string_bytes name, layout)
             ∷ [] }
     {
         let is_first = self.is_new(&layout);
-        // There is room, and the name is new.
+        // Memory is reserved, and the name is new.
         let _ = self.by_name.insert(name, Entry { layout, is_first });
     }
 }

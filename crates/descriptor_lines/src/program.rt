@@ -29,7 +29,7 @@ use output::answer_line;
 use std::alloc::Global;
 use std::io::{Read, Write};
 
-/// Room for most answers and for every line of a fault.
+/// Enough bytes for most answers and for every line of a fault.
 const ANSWER_LEN: usize = 1024;
 
 /// The session that the lines speak to.

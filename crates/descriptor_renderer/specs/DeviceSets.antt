@@ -11,7 +11,7 @@ use Rattle.gpu_descriptor.specs.Model.Promises.{HasCause}
 use Rattle.gpu_descriptor.specs.declared.errors.AllocationError.{AllocationError}
 use Rattle.gpu_descriptor.specs.declared.errors.AllocationError.TheVariants.{OutOfHostMemory}
 use Rattle.gpu_descriptor.specs.declared.set.DescriptorSet.{DescriptorSet}
-use Rattle.descriptor_frames.specs.Frames.{allocator_of, greatest_of, retired_of, room_of}
+use Rattle.descriptor_frames.specs.Frames.{allocator_of, greatest_of, retired_of, reserve_of}
 use Rattle.descriptor_frames.specs.declared.retired.Retired.{Retired}
 use Rattle.descriptor_renderer.specs.HeldSets.{sets_in}
 use Rattle.descriptor_renderer.specs.declared.device_sets.DeviceSets.{DeviceSets}
@@ -53,9 +53,9 @@ module _ {L P S D : Type 0} {d : Ghosts D L P S} where
   pub record IsAccounted (s : DeviceSets L P S D d) : Type 0 where
     pub all : outstanding_of (allocator_of s.manager) ≡ length (drawn_in s) + length (sets_in (slots_in s)) + length (retired_in s)
 
-  -- there is room to retire all sets of the frame and all that are held
-  pub record HasRoomToRetire (s : DeviceSets L P S D d) : Type 0 where
-    pub room : length (drawn_in s) + length (sets_in (slots_in s)) ≤ room_of s.manager
+  -- memory is reserved to retire all sets of the frame and all that are held
+  pub record HasReserveToRetire (s : DeviceSets L P S D d) : Type 0 where
+    pub reserve : length (drawn_in s) + length (sets_in (slots_in s)) ≤ reserve_of s.manager
 
   -- why a set of the layout was refused: an error other than want of memory has the cause that the allocator names
   abbrev pub IsRefused : L → AllocationError → DeviceSets L P S D d → DeviceSets L P S D d → Type 0

@@ -1,12 +1,12 @@
 //! A device with its frame manager, the sets of the frame, and the sets that are held.
 ghost use Rattle.std.specs.Prelude.{◌≡◌, ℕ, ◌+◌, ◌<◌, ◌≤◌, ◌++◌, [], length, map, slice_get, slice_set, None};
-ghost use Rattle.std.specs.Prelude.{IfErr, IfOk, IfSome, IsSome, IsTrue, OnErr, OnOk};
+ghost use Rattle.std.specs.Prelude.{IfErr, IfOk, IfSome, IsSome, OnErr, OnOk};
 ghost use Rattle.std.specs.Option.{option_copied};
 ghost use Rattle.gpu_descriptor.specs.Caller.SetLayouts.{Adds, IsMeant};
 ghost use Rattle.gpu_descriptor.specs.Caller.States.{Agrees};
 ghost use Rattle.gpu_descriptor.proofs.callers.OneAgreement.{Agrees-prop};
 ghost use Rattle.descriptor_frames.specs.Frames.{AreBothInUse, AreRetiredOut, allocator_of};
-ghost use Rattle.descriptor_frames.specs.Frames.{greatest_of, retired_of, room_of};
+ghost use Rattle.descriptor_frames.specs.Frames.{greatest_of, retired_of, reserve_of};
 ghost use Rattle.descriptor_frames.specs.Retired.{at_frame, later, with_late};
 ghost use Rattle.descriptor_renderer.specs.HeldSets.{Holds, numbered, sets_in, slot_at};
 
@@ -14,7 +14,7 @@ use crate::held_set::{HeldSet, put, retire_each, take};
 use descriptor_frames::FrameManager;
 use gpu_descriptor::{AllocationError, DescriptorDevice, DescriptorSet, SetLayout, laws};
 use slab::Slab;
-use std::alloc::Global;
+use std::alloc::{AllocError, Global};
 use std::collections::VecDeque;
 use std::marker::PhantomData;
 
@@ -36,7 +36,7 @@ pub(crate) struct DeviceSets<L, P, S, D: DescriptorDevice<L, P, S>> {
 }
 
 impl<L, P: Drop, S: Drop, D: DescriptorDevice<L, P, S>> DeviceSets<L, P, S, D> {
-    ghost use Rattle.descriptor_renderer.specs.DeviceSets.{HasRoomToRetire, IsAccounted};
+    ghost use Rattle.descriptor_renderer.specs.DeviceSets.{HasReserveToRetire, IsAccounted};
     ghost use Rattle.descriptor_renderer.specs.DeviceSets.{IsRefused, drawn_in, greatest_in};
     ghost use Rattle.descriptor_renderer.specs.DeviceSets.{limit_in, others_in, pools_in};
     ghost use Rattle.descriptor_renderer.specs.DeviceSets.{retired_in, slots_in};
@@ -49,7 +49,7 @@ impl<L, P: Drop, S: Drop, D: DescriptorDevice<L, P, S>> DeviceSets<L, P, S, D> {
         ensures retired { retired_in result ≡ [] }
         ensures greatest { greatest_in result ≡ 0 }
         ensures accounted { IsAccounted result }
-        ensures room { HasRoomToRetire result }
+        ensures reserve { HasReserveToRetire result }
         ensures others { others_in result ≡ (D.ledger device).pools }
         ensures limit { limit_in result ≡ limit }
     {
@@ -63,7 +63,7 @@ impl<L, P: Drop, S: Drop, D: DescriptorDevice<L, P, S>> DeviceSets<L, P, S, D> {
         }
     }
 
-    /// Takes a set of a layout for the frame, and room to retire it.
+    /// Takes a set of a layout for the frame, and memory to retire it.
     pub(crate) fn draw(&mut self, layout: &SetLayout<L>) -> Result<(), AllocationError>
         requires { IsMeant D.meaning layout.now }
         ensures drawn { OnOk result (Adds D.meaning layout.now.layout 1 (drawn_in self.old)
@@ -74,11 +74,11 @@ impl<L, P: Drop, S: Drop, D: DescriptorDevice<L, P, S>> DeviceSets<L, P, S, D> {
         ensures retired { retired_in self.new ≡ retired_in self.old }
         ensures greatest { greatest_in self.new ≡ greatest_in self.old }
         ensures accounted { IsAccounted self.old → IsAccounted self.new }
-        ensures room { HasRoomToRetire self.old → HasRoomToRetire self.new }
+        ensures reserve { HasReserveToRetire self.old → HasReserveToRetire self.new }
         ensures others { others_in self.new ≡ others_in self.old }
         ensures limit { limit_in self.new ≡ limit_in self.old }
     {
-        if !self.has_room() || self.drawn.reserve(1).is_err() {
+        if self.reserve_to_retire().is_err() || self.drawn.reserve(1).is_err() {
             return Err(AllocationError::OutOfHostMemory);
         }
         let set = self.manager.allocate_one(&mut self.device, layout)?;
@@ -86,7 +86,7 @@ impl<L, P: Drop, S: Drop, D: DescriptorDevice<L, P, S>> DeviceSets<L, P, S, D> {
         Ok(())
     }
 
-    /// Takes a set of a layout to hold under a number, and room to retire it. Gives its place.
+    /// Takes a set of a layout to hold under a number, and memory to retire it. Gives its place.
     pub(crate) fn hold(
         &mut self,
         layout: &SetLayout<L>,
@@ -101,23 +101,23 @@ impl<L, P: Drop, S: Drop, D: DescriptorDevice<L, P, S>> DeviceSets<L, P, S, D> {
         ensures retired { retired_in self.new ≡ retired_in self.old }
         ensures greatest { greatest_in self.new ≡ greatest_in self.old }
         ensures accounted { IsAccounted self.old → IsAccounted self.new }
-        ensures room { HasRoomToRetire self.old → HasRoomToRetire self.new }
+        ensures reserve { HasReserveToRetire self.old → HasReserveToRetire self.new }
         ensures others { others_in self.new ≡ others_in self.old }
         ensures limit { limit_in self.new ≡ limit_in self.old }
     {
-        if !self.has_room() || self.held.reserve(1).is_err() {
+        if self.reserve_to_retire().is_err() || self.held.reserve(1).is_err() {
             return Err(AllocationError::OutOfHostMemory);
         }
         let set = self.manager.allocate_one(&mut self.device, layout)?;
         Ok(put(&mut self.held, number, set))
     }
 
-    /// Takes room to retire one more set. False where memory is wanting.
+    /// Reserves memory to retire one more set.
     #[tactic(auto, using(crate::proofs::Held::length_sets))]
-    fn has_room(&mut self) -> bool
-        ensures room { IsTrue result → length self.new.drawn.items
-            + length (sets_in self.new.held.slots) < room_of self.new.manager }
-        ensures room_stays { room_of self.old.manager ≤ room_of self.new.manager }
+    fn reserve_to_retire(&mut self) -> Result<(), AllocError>
+        ensures reserve { OnOk result (length self.new.drawn.items
+            + length (sets_in self.new.held.slots) < reserve_of self.new.manager) }
+        ensures reserve_stays { reserve_of self.old.manager ≤ reserve_of self.new.manager }
         ensures drawn { self.new.drawn ≡ self.old.drawn }
         ensures held { self.new.held ≡ self.old.held }
         ensures list { retired_of self.new.manager ≡ retired_of self.old.manager }
@@ -126,12 +126,12 @@ impl<L, P: Drop, S: Drop, D: DescriptorDevice<L, P, S>> DeviceSets<L, P, S, D> {
         ensures device { self.new.device ≡ self.old.device }
     {
         let Some(count) = self.drawn.len().checked_add(self.held.len()) else {
-            return false;
+            return Err(AllocError);
         };
         let Some(more) = count.checked_add(1) else {
-            return false;
+            return Err(AllocError);
         };
-        self.manager.reserve(more).is_ok()
+        self.manager.reserve(more)
     }
 
     /// The set at a place among those of the frame.
@@ -154,7 +154,7 @@ impl<L, P: Drop, S: Drop, D: DescriptorDevice<L, P, S>> DeviceSets<L, P, S, D> {
 
     /// Retires all sets of the frame.
     pub(crate) fn retire_drawn(&mut self, frame: u64)
-        requires room { HasRoomToRetire self.old }
+        requires reserve { HasReserveToRetire self.old }
         requires rising { greatest_in self.old ≤ frame }
         ensures drawn { drawn_in self.new ≡ [] }
         ensures held { slots_in self.new ≡ slots_in self.old }
@@ -162,7 +162,7 @@ impl<L, P: Drop, S: Drop, D: DescriptorDevice<L, P, S>> DeviceSets<L, P, S, D> {
             ++ map (at_frame frame) (drawn_in self.old) }
         ensures greatest { greatest_in self.new ≤ frame }
         ensures accounted { IsAccounted self.old → IsAccounted self.new }
-        ensures room { HasRoomToRetire self.new }
+        ensures reserve { HasReserveToRetire self.new }
         ensures others { others_in self.new ≡ others_in self.old }
         ensures limit { limit_in self.new ≡ limit_in self.old }
     {
@@ -172,7 +172,7 @@ impl<L, P: Drop, S: Drop, D: DescriptorDevice<L, P, S>> DeviceSets<L, P, S, D> {
     /// Retires a set that is held.
     pub(crate) fn release(&mut self, place: usize, frame: u64)
         requires held { IsSome (slot_at (slots_in self.old) place) }
-        requires room { HasRoomToRetire self.old }
+        requires reserve { HasReserveToRetire self.old }
         ensures held { slots_in self.new ≡ slice_set (slots_in self.old) place None }
         ensures retired { IfSome (slot_at (slots_in self.old) place) (λ held. retired_in self.new
             ≡ with_late frame held.set (retired_in self.old)) }
@@ -180,7 +180,7 @@ impl<L, P: Drop, S: Drop, D: DescriptorDevice<L, P, S>> DeviceSets<L, P, S, D> {
             → greatest_in self.new ≤ last }
         ensures drawn { drawn_in self.new ≡ drawn_in self.old }
         ensures accounted { IsAccounted self.old → IsAccounted self.new }
-        ensures room { HasRoomToRetire self.new }
+        ensures reserve { HasReserveToRetire self.new }
         ensures others { others_in self.new ≡ others_in self.old }
         ensures limit { limit_in self.new ≡ limit_in self.old }
     {
@@ -198,7 +198,7 @@ impl<L, P: Drop, S: Drop, D: DescriptorDevice<L, P, S>> DeviceSets<L, P, S, D> {
         ensures retired { retired_in self.new ≡ later frame (retired_in self.old) }
         ensures greatest { greatest_in self.new ≡ greatest_in self.old }
         ensures accounted { IsAccounted self.old → IsAccounted self.new }
-        ensures room { HasRoomToRetire self.old → HasRoomToRetire self.new }
+        ensures reserve { HasReserveToRetire self.old → HasReserveToRetire self.new }
         ensures others { others_in self.new ≡ others_in self.old }
         ensures limit { limit_in self.new ≡ limit_in self.old }
     {
@@ -215,7 +215,7 @@ impl<L, P: Drop, S: Drop, D: DescriptorDevice<L, P, S>> DeviceSets<L, P, S, D> {
         ensures retired { retired_in self.new ≡ retired_in self.old }
         ensures greatest { greatest_in self.new ≡ greatest_in self.old }
         ensures accounted { IsAccounted self.old → IsAccounted self.new }
-        ensures room { HasRoomToRetire self.old → HasRoomToRetire self.new }
+        ensures reserve { HasReserveToRetire self.old → HasReserveToRetire self.new }
         ensures others { others_in self.new ≡ others_in self.old }
         ensures limit { limit_in self.new ≡ limit_in self.old }
     {
@@ -225,7 +225,7 @@ impl<L, P: Drop, S: Drop, D: DescriptorDevice<L, P, S>> DeviceSets<L, P, S, D> {
     /// Gives all sets back, destroys all pools, and hands the device back.
     pub(crate) fn close(self) -> D
         requires accounted { IsAccounted self }
-        requires room { HasRoomToRetire self }
+        requires reserve { HasReserveToRetire self }
         ensures { (D.ledger result).pools ≡ others_in self }
     {
         let DeviceSets {

@@ -5,7 +5,7 @@ ghost use Rattle.gpu_descriptor_types.specs.Ledger.{Ledger};
 ghost use Rattle.gpu_descriptor.specs.Caller.SetLists.{HasBesides};
 ghost use Rattle.gpu_descriptor.specs.Caller.Sets.{items_of};
 ghost use Rattle.descriptor_frames.specs.Frames.{AreInUse, AreRetiredOut, Retires, allocator_of};
-ghost use Rattle.descriptor_frames.specs.Frames.{greatest_of, retired_of, room_of};
+ghost use Rattle.descriptor_frames.specs.Frames.{greatest_of, retired_of, reserve_of};
 ghost use Rattle.descriptor_frames.specs.Retired.{at_frame};
 ghost use Rattle.slab.specs.Slab.{HasRoomFor};
 ghost use Rattle.descriptor_renderer.specs.HeldSets.{sets_in, slot_at};
@@ -21,7 +21,7 @@ pub(crate) struct HeldSet<S> {
     pub(crate) set: DescriptorSet<S>,
 }
 
-/// Puts a set into an empty slot, over room that was taken. Gives its place.
+/// Puts a set into an empty slot, over memory that was reserved. Gives its place.
 pub(crate) fn put<S>(held: &mut Slab<HeldSet<S>>, number: u64, set: DescriptorSet<S>) -> usize
     requires { HasRoomFor held.old 1 }
     ensures empty { slot_at held.old.slots result ≡ None }
@@ -46,14 +46,14 @@ pub(crate) fn take<S>(held: &mut Slab<HeldSet<S>>, place: usize) -> DescriptorSe
     set
 }
 
-/// Retires all sets that are held, in the order of their places, over room that was taken.
+/// Retires all sets that are held, in the order of their places, over memory that was reserved.
 pub(crate) fn retire_each<P, S: Drop>(
     manager: &mut FrameManager<P, S>,
     frame: u64,
     held: Slab<HeldSet<S>>,
 )
     requires rising { greatest_of manager.old ≤ frame }
-    requires room { length (sets_in held.slots) ≤ room_of manager.old }
+    requires reserve { length (sets_in held.slots) ≤ reserve_of manager.old }
     ensures last { retired_of manager.new
         ≡ retired_of manager.old ++ map (at_frame frame) (sets_in held.slots) }
     ensures rising { greatest_of manager.new ≤ frame }

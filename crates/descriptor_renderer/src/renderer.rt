@@ -6,7 +6,7 @@ ghost use Rattle.std.specs.Option.{option_copied};
 ghost use Rattle.gpu_descriptor.specs.Caller.SetLayouts.{Adds, IsMeant};
 ghost use Rattle.gpu_descriptor.specs.Caller.Sets.{raw_of};
 ghost use Rattle.descriptor_frames.specs.Retired.{at_frame, later, with_late};
-ghost use Rattle.descriptor_renderer.specs.DeviceSets.{HasRoomToRetire, IsAccounted, greatest_in};
+ghost use Rattle.descriptor_renderer.specs.DeviceSets.{HasReserveToRetire, IsAccounted, greatest_in};
 ghost use Rattle.descriptor_renderer.specs.DeviceSets.{drawn_in as sets_drawn};
 ghost use Rattle.descriptor_renderer.specs.SetsBy.{Gives, Removes};
 
@@ -21,7 +21,7 @@ use std::alloc::{AllocFailed, Global};
 /// A frame is opened by `begin_frame`, takes any number of sets by `draw`, and is ended by
 /// `end_frame`. Its sets go back once `gpu_done` is told of the frame or a later one; frames in
 /// between may be in flight. A set by `create_set` is held until `destroy_set`, and goes back once
-/// the frame of its last use is done. Room to retire a set is taken before the set is asked for, so
+/// the frame of its last use is done. Memory to retire a set is reserved before the set is asked for, so
 /// ending a frame and destroying a set take no memory and can't be refused for it.
 ///
 /// The raw set of a handle is lent, as the device is, to be written and bound. Do not allocate or
@@ -39,7 +39,7 @@ pub struct Renderer<L, P, S, D: DescriptorDevice<L, P, S>> {
     /// How many sets were ever created.
     created: u64,
     ghost accounted: { IsAccounted sets },
-    ghost room: { HasRoomToRetire sets },
+    ghost reserve: { HasReserveToRetire sets },
     ghost rising: { greatest_in sets ≤ frame },
     ghost idle: { is_open ≡ false → sets_drawn sets ≡ [] },
 }

@@ -20,7 +20,7 @@ pub enum Answer {
     /// The memory is too fragmented: of the device at a create, of the pool at an alloc.
     Frag,
 
-    /// The pool has no room. At a create this is read as `Frag`.
+    /// The pool can't give the sets. At a create this is read as `Frag`.
     Pool,
 }
 

@@ -1,4 +1,4 @@
-//! The list of a device's calls, over room that is taken ahead.
+//! The list of a device's calls, over memory that is reserved ahead.
 ghost use Rattle.std.specs.Prelude.{◌≡◌, ◌+◌, ◌<◌, ◌≤◌, ◌++◌, [], ◌∷◌, OnOk, vec_len};
 ghost use Rattle.std.specs.Prelude.{vec_capacity};
 
@@ -20,18 +20,18 @@ pub enum Call {
     Destroy { pool: u64 },
 }
 
-/// Calls in their order, with room for those that can't be refused.
+/// Calls in their order, with memory for those that can't be refused.
 #[derive(Drop)]
 pub(crate) struct Log {
     pub(crate) calls: Vec<Call>,
 
-    /// For how many calls to come there is room.
+    /// For how many calls to come memory is reserved.
     pub(crate) owed: usize,
     ghost fits: { vec_len calls + owed ≤ vec_capacity calls },
 }
 
 impl Log {
-    ghost use Rattle.descriptor_script.specs.Inner.Log.{HasLogRoom};
+    ghost use Rattle.descriptor_script.specs.Inner.Log.{HasLogReserve};
 
     pub(crate) fn new(alloc: Global) -> Self
         ensures calls { result.calls.items ≡ [] }
@@ -43,9 +43,9 @@ impl Log {
         }
     }
 
-    /// Takes room for so many calls more.
+    /// Reserves memory for so many calls more.
     pub(crate) fn reserve(&mut self, more: usize) -> Result<(), AllocError>
-        ensures room { OnOk result (HasLogRoom more self.new) }
+        ensures reserve { OnOk result (HasLogReserve more self.new) }
         ensures calls { self.new.calls.items ≡ self.old.calls.items }
         ensures owed { self.new.owed ≡ self.old.owed }
     {
@@ -57,7 +57,7 @@ impl Log {
 
     /// Puts a call that owes so many others.
     pub(crate) fn put(&mut self, call: Call, owes: usize)
-        requires { HasLogRoom (owes + 1) self.old }
+        requires { HasLogReserve (owes + 1) self.old }
         ensures calls { self.new.calls.items ≡ self.old.calls.items ++ call ∷ [] }
         ensures owed { self.new.owed ≡ self.old.owed + owes }
     {

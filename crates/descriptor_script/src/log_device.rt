@@ -5,7 +5,7 @@ ghost use Rattle.std.specs.Iterator.{IsFinite, HoldsAlong};
 ghost use Rattle.gpu_descriptor_types.specs.Counts.{kinds};
 ghost use Rattle.gpu_descriptor_types.specs.Flags.{bits};
 ghost use Rattle.gpu_descriptor_types.specs.Layouts.{layout, left};
-ghost use Rattle.gpu_descriptor_types.specs.Ledger.{AreLive, HasNoSets, HasRoom, Puts, PutsNone};
+ghost use Rattle.gpu_descriptor_types.specs.Ledger.{AreLive, HasNoSets, CanGive, Puts, PutsNone};
 ghost use Rattle.gpu_descriptor_types.specs.Ledger.{Releases, after_create, after_destroy};
 ghost use Rattle.gpu_descriptor_types.specs.Ledger.{after_no_create};
 ghost use Rattle.descriptor_script.specs.Scripted.Device.{empty_ledger, ledger_of, names_given};
@@ -28,8 +28,8 @@ use std::alloc::Global;
 /// A device that answers by a script as `ScriptedDevice` does, names pools from 0 up, and lists
 /// what it granted.
 ///
-/// Before it reads the word of a create or an alloc it takes room for that call and for those that
-/// end what it begins, so a release and a destroy take no memory. Where the room isn't there the
+/// Before it reads the word of a create or an alloc it reserves memory for that call and for those that
+/// end what it begins, so a release and a destroy take no memory. Where memory is wanting the
 /// call is refused for want of host memory, and no word is read. A refused call and a release of no
 /// set are not listed.
 #[derive(Drop)]
@@ -177,9 +177,9 @@ impl DescriptorDevice<ScriptLayout, RawPool, RawSet> for LogDevice {
         layouts: Layouts<'_, ScriptLayout>,
         sets: &mut K,
     ) -> Result<(), DeviceAllocationError>
-        requires fits { HasRoom (pool_id pool.old) (left layouts) (kinds (layout layouts).counts)
+        requires fits { CanGive (pool_id pool.old) (left layouts) (kinds (layout layouts).counts)
             (layout layouts).mark (ledger_logged self.old) }
-        requires room { left layouts ≤ K.sink.room_left sets.old }
+        requires sink_left { left layouts ≤ K.sink.left sets.old }
         ensures name { pool_id pool.new ≡ pool_id pool.old }
         ensures ok { OnOk result (Puts K.sink script_meaning (layout layouts.entry)
             (pool_id pool.old) (left layouts.entry) sets.old sets.new (ledger_logged self.old)

@@ -68,7 +68,7 @@ impl<S> Slots<S> {
         name_at(place, before + 1)
     }
 
-    /// Holds a set at a new place, over room that was taken. It answers the set's name.
+    /// Holds a set at a new place, over memory that was reserved. It answers the set's name.
     fn hold_last(&mut self, set: DescriptorSet<S>) -> u64
         requires { CanHold 1 self.old }
         ensures held { Holds result set (named_in self.old) (named_in self.new) }
@@ -84,11 +84,11 @@ impl<S> Slots<S> {
 }
 
 impl<S> Slots<S> {
-    /// Holds a set, over room that was taken. It answers the set's name.
+    /// Holds a set, over memory that was reserved. It answers the set's name.
     fn hold(&mut self, set: DescriptorSet<S>) -> u64
         requires { CanHold 1 self.old }
         ensures held { Holds result set (named_in self.old) (named_in self.new) }
-        ensures room { (n : ℕ) → CanHold (n + 1) self.old → CanHold n self.new }
+        ensures reserve { (n : ℕ) → CanHold (n + 1) self.old → CanHold n self.new }
     {
         match self.next_spare() {
             Some(place) => self.hold_again(place, set),
@@ -96,9 +96,9 @@ impl<S> Slots<S> {
         }
     }
 
-    /// Takes room for so many sets more, under names.
+    /// Reserves memory for so many sets more, under names.
     pub(crate) fn reserve_named(&mut self, count: u32) -> Result<(), AllocError>
-        ensures room { OnOk result (CanHold count self.new) }
+        ensures reserve { OnOk result (CanHold count self.new) }
         ensures some { OnErr result (0 < count) }
         ensures named { NamesStay self.old self.new }
     {
@@ -140,14 +140,14 @@ impl<S> Slots<S> {
         }
     }
 
-    /// Finds the places of sets, and appends them over room that was taken. If a name isn't the
+    /// Finds the places of sets, and appends them over memory that was reserved. If a name isn't the
     /// last of its place it ends there.
     pub(crate) fn find_places(&self, sets: &[NamedSet], places: &mut Vec<usize>) -> bool
         requires empty { places.old.items ≡ [] }
-        requires room { length sets.now ≤ vec_capacity places.old }
+        requires reserve { length sets.now ≤ vec_capacity places.old }
         ensures found { IsTrue result → places.new.items ≡ map place_of (names_of sets.now) }
         ensures named { IsTrue result ↔ AreLast (named_in self.now) (names_of sets.now) }
-        ensures room { vec_capacity places.new ≡ vec_capacity places.old }
+        ensures reserve { vec_capacity places.new ≡ vec_capacity places.old }
     {
         for set in sets {
             match self.find_place(set.name) {
@@ -158,7 +158,7 @@ impl<S> Slots<S> {
         true
     }
 
-    /// Says that these places may be used again. It takes no memory: without room they are not.
+    /// Says that these places may be used again. It takes no memory: where none is reserved they are not.
     pub(crate) fn spare_each(&mut self, places: &[usize])
         ensures named { NamesStay self.old self.new }
     {
@@ -171,9 +171,9 @@ impl<S> Slots<S> {
 }
 
 impl Slots<u64> {
-    /// Holds sets, over room that was taken, and shows each with its name.
+    /// Holds sets, over memory that was reserved, and shows each with its name.
     pub(crate) fn hold_each(&mut self, sets: Vec<DescriptorSet<u64>>, shown: &mut [NamedSet])
-        requires room { CanHold (length sets.items) self.old }
+        requires reserve { CanHold (length sets.items) self.old }
         requires long { length sets.items ≤ length shown.old }
         ensures held { HoldsEach (names_of (take (length sets.items) shown.new)) sets.items
             (named_in self.old) (named_in self.new) }

@@ -36,7 +36,7 @@ pub struct Session<L, P, S> {
     pub(crate) layouts: Vec<KnownLayout<L>>,
     pub(crate) slots: Slots<S>,
 
-    /// Room for the places of a list of names.
+    /// Memory for the places of a list of names.
     pub(crate) places: Vec<usize>,
     ghost counted: { slots.held ≡ outstanding_of allocator },
     ghost within: { marked_load_of allocator ≤ allocator.limit },
@@ -45,7 +45,7 @@ pub struct Session<L, P, S> {
 
 impl<L, P, S> Session<L, P, S> {
     ghost use Rattle.descriptor_script.specs.Sessions.Session.{allocator_of, layouts_of};
-    ghost use Rattle.descriptor_script.specs.Sessions.Session.{named_of, room_to_free, sets_of};
+    ghost use Rattle.descriptor_script.specs.Sessions.Session.{named_of, reserve_to_free, sets_of};
 
     /// A session without layouts and sets, whose allocator has this limit on update-after-bind
     /// descriptors, and agrees with every device. It takes no memory.
@@ -79,7 +79,7 @@ impl<L, P, S> Session<L, P, S> {
         ensures allocator { allocator_of self.new ≡ allocator_of self.old }
         ensures sets { sets_of self.new ≡ sets_of self.old }
         ensures named { named_of self.new ≡ named_of self.old }
-        ensures room { room_to_free self.new ≡ room_to_free self.old }
+        ensures reserve { reserve_to_free self.new ≡ reserve_to_free self.old }
     {
         let place = self.layouts.len();
         let known = KnownLayout {

@@ -74,9 +74,9 @@ impl<S> Slots<S> {
         self.sets.len()
     }
 
-    /// Takes room for so many tickets.
+    /// Reserves memory for so many tickets.
     pub(crate) fn reserve(&mut self, count: u32) -> Result<(), AllocError>
-        ensures room { OnOk result (HasSpareSlots count self.new) }
+        ensures reserve { OnOk result (HasSpareSlots count self.new) }
         ensures some { OnErr result (0 < count) }
         ensures sets { slots_of self.new ≡ slots_of self.old }
         ensures before { self.new.before ≡ self.old.before }
@@ -85,7 +85,7 @@ impl<S> Slots<S> {
         self.listed.reserve(count as usize)
     }
 
-    /// Puts sets under the next tickets, over room that was taken.
+    /// Puts sets under the next tickets, over memory that was reserved.
     pub(crate) fn append(&mut self, sets: Vec<DescriptorSet<S>>)
     where
         S: Drop,
@@ -97,11 +97,11 @@ impl<S> Slots<S> {
         }
     }
 
-    /// Puts a set under the next ticket, over room that was taken.
+    /// Puts a set under the next ticket, over memory that was reserved.
     pub(crate) fn push(&mut self, set: DescriptorSet<S>)
         requires { HasSpareSlots 1 self.old }
         ensures sets { slots_of self.new ≡ slots_of self.old ++ Some set ∷ [] }
-        ensures room { (vec_len self.new.sets ≡ vec_len self.old.sets + 1)
+        ensures reserve { (vec_len self.new.sets ≡ vec_len self.old.sets + 1)
             × (vec_capacity self.new.sets ≡ vec_capacity self.old.sets) }
         ensures marks { (vec_len self.new.listed ≡ vec_len self.old.listed + 1)
             × (vec_capacity self.new.listed ≡ vec_capacity self.old.listed) }

@@ -7,7 +7,7 @@ use Rattle.std.proofs.lemmas.List.Sums.{sum_by-cons, sum_by-append}
 use Rattle.std.specs.List.Sorted.{IsPermutation}
 use Rattle.std.proofs.lemmas.Map.{update_here}
 use Rattle.std.specs.Option.{option_map}
-use Rattle.gpu_descriptor_types.specs.Ledger.{Ledger, Pool, HasRoom, HasNoSets, AreLive, Releases, fresh, on_pool, live_sets, after_create, after_alloc, after_no_alloc, pool_refusals}
+use Rattle.gpu_descriptor_types.specs.Ledger.{Ledger, Pool, CanGive, HasNoSets, AreLive, Releases, fresh, on_pool, live_sets, after_create, after_alloc, after_no_alloc, pool_refusals}
 use Rattle.gpu_descriptor_types.specs.Multiset.{LiveSet, set_eq, times, AreIn}
 use Rattle.gpu_descriptor_types.specs.declared.errors.DeviceAllocationError.{DeviceAllocationError}
 use Rattle.gpu_descriptor_types.proofs.Counting.{set_exact, all_taken_out, none_spelled}
@@ -20,10 +20,10 @@ on_here name f pools pool h = update_here pools name (option_map f (pools name))
 pub made : (l0 l1 : Ledger) (counts : List ℕ) (capacity flags name : ℕ) → l1 ≡ after_create counts capacity flags name l0 → l1.pools name ≡ Some (fresh counts capacity flags)
 made l0 l1 counts capacity flags name e = ap (λ (l : Ledger). l.pools name) e ∙ update_here l0.pools name (Some (fresh counts capacity flags))
 
--- it has room
-pub has_room : (l1 : Ledger) (counts : List ℕ) (capacity flags name n : ℕ) (layout : List ℕ) (mark : Bool) → l1.pools name ≡ Some (fresh counts capacity flags) → mark ≡ false → n ≤ capacity
-    → ((k : ℕ) → n * slice_index layout k ≤ slice_index counts k) → HasRoom name n layout mark l1
-has_room l1 counts capacity flags name n layout mark live plain few h = record {
+-- a new pool can give its sets
+pub can_give : (l1 : Ledger) (counts : List ℕ) (capacity flags name n : ℕ) (layout : List ℕ) (mark : Bool) → l1.pools name ≡ Some (fresh counts capacity flags) → mark ≡ false → n ≤ capacity
+    → ((k : ℕ) → n * slice_index layout k ≤ slice_index counts k) → CanGive name n layout mark l1
+can_give l1 counts capacity flags name n layout mark live plain few h = record {
   pool = fresh counts capacity flags;
   is_live = live;
   marked = λ t. absurd (let k : false ≡ true = sym plain ∙ t in cc);

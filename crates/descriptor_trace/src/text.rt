@@ -14,7 +14,7 @@ use gpu_descriptor::{
 };
 use std::alloc::AllocError;
 
-/// Room for every line of a call: fourteen kinds with their counts come to less.
+/// Enough bytes for every line of a call: fourteen kinds with their counts come to less.
 pub const LINE_LEN: usize = 1024;
 
 /// That a pool was to be created, and what the device answered.

@@ -5,7 +5,7 @@ ghost use Rattle.std.specs.Iterator.{IsFinite, HoldsAlong};
 ghost use Rattle.gpu_descriptor_types.specs.Counts.{kinds};
 ghost use Rattle.gpu_descriptor_types.specs.Flags.{bits};
 ghost use Rattle.gpu_descriptor_types.specs.Layouts.{layout, left};
-ghost use Rattle.gpu_descriptor_types.specs.Ledger.{AreLive, HasNoSets, HasRoom, Puts, PutsNone};
+ghost use Rattle.gpu_descriptor_types.specs.Ledger.{AreLive, HasNoSets, CanGive, Puts, PutsNone};
 ghost use Rattle.gpu_descriptor_types.specs.Ledger.{after_create, after_destroy, after_no_create};
 ghost use Rattle.gpu_descriptor_types.specs.Ledger.{Releases};
 ghost use Rattle.descriptor_script.specs.Scripted.Device.{empty_ledger};
@@ -142,9 +142,9 @@ impl<W: Write> DescriptorDevice<ScriptLayout, RawPool, RawSet> for Traced<W> {
         layouts: Layouts<'_, ScriptLayout>,
         sets: &mut K,
     ) -> Result<(), DeviceAllocationError>
-        requires fits { HasRoom (pool_id pool.old) (left layouts) (kinds (layout layouts).counts)
+        requires fits { CanGive (pool_id pool.old) (left layouts) (kinds (layout layouts).counts)
             (layout layouts).mark (ledger_of self.old.device) }
-        requires room { left layouts ≤ K.sink.room_left sets.old }
+        requires sink_left { left layouts ≤ K.sink.left sets.old }
         ensures name { pool_id pool.new ≡ pool_id pool.old }
         ensures ok { OnOk result (Puts K.sink script_meaning (layout layouts.entry)
             (pool_id pool.old) (left layouts.entry) sets.old sets.new (ledger_of self.old.device)

@@ -140,16 +140,16 @@ fn expect_write_fault(
     failure: Option<ErrorKind>,
 ) -> Result<(), Fail> {
     let (lines, answers) = with_a_fault(alloc, dialogue)?;
-    for room in 0..answers.len() {
+    for taken in 0..answers.len() {
         let mut output = empty_writer(alloc);
-        output.until_stop = room;
+        output.until_stop = taken;
         output.failure = failure;
         let ended = run_lines(alloc, &mut reader_of(lines.as_bytes()), &mut output);
-        assert_eq!(rt; ended, Exit::WriteFault, "at {room}");
+        assert_eq!(rt; ended, Exit::WriteFault, "at {taken}");
         assert_eq!(rt;
             output.text.as_slice(),
-            &answers.as_bytes()[..room],
-            "at {room}"
+            &answers.as_bytes()[..taken],
+            "at {taken}"
         );
     }
     Ok(())

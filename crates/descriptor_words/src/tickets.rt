@@ -103,9 +103,9 @@ fn add_tickets(tickets: &mut Vec<usize>, span: Span) -> Result<(), Refusal>
     Ok(())
 }
 
-/// Puts so many tickets from the first up behind the others, over room that was taken.
+/// Puts so many tickets from the first up behind the others, over memory that was reserved.
 fn push_rising(tickets: &mut Vec<usize>, first: usize, count: usize)
-    requires room { vec_len tickets.old + count ≤ vec_capacity tickets.old }
+    requires reserve { vec_len tickets.old + count ≤ vec_capacity tickets.old }
     requires fits { first + count ≤ 2 ^ 64 }
     ensures items { tickets.new.items ≡ tickets.old.items ++ range_with_len first count }
     ensures len { vec_len tickets.new ≡ vec_len tickets.old + count }
@@ -115,9 +115,9 @@ fn push_rising(tickets: &mut Vec<usize>, first: usize, count: usize)
     }
 }
 
-/// Puts so many tickets from the first down behind the others, over room that was taken.
+/// Puts so many tickets from the first down behind the others, over memory that was reserved.
 fn push_falling(tickets: &mut Vec<usize>, first: usize, count: usize)
-    requires room { vec_len tickets.old + count ≤ vec_capacity tickets.old }
+    requires reserve { vec_len tickets.old + count ≤ vec_capacity tickets.old }
     requires fits { count ≤ first + 1 }
     ensures items { tickets.new.items ≡ tickets.old.items ++ reverse (range_with_len
         (first + 1 - count) count) }

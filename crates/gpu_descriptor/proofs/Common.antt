@@ -21,7 +21,7 @@ pub use Rattle.std.proofs.Props.{props}
 pub use Rattle.gpu_descriptor_types.specs.Bounds.{greatest_u64}
 pub use Rattle.gpu_descriptor_types.specs.Counts.{kinds}
 pub use Rattle.gpu_descriptor_types.specs.Flags.{CanFree, IsUpdateAfterBind}
-pub use Rattle.gpu_descriptor_types.specs.Ledger.{AreLive, Counters, HasNoSets, HasRoom, Ledger, Pool, after_alloc, after_create, after_destroy, after_no_alloc, after_no_create, after_release, alloc_refused, create_refused, fresh, live_sets, no_rise, on_pool, pool_refusals}
+pub use Rattle.gpu_descriptor_types.specs.Ledger.{AreLive, Counters, HasNoSets, CanGive, Ledger, Pool, after_alloc, after_create, after_destroy, after_no_alloc, after_no_create, after_release, alloc_refused, create_refused, fresh, live_sets, no_rise, on_pool, pool_refusals}
 pub use Rattle.gpu_descriptor_types.specs.Meaning.{IsOfLayout, Meaning}
 pub use Rattle.gpu_descriptor_types.specs.Multiset.{AreIn, HasSize, LiveSet, Spells, set_eq, times}
 pub use Rattle.gpu_descriptor_types.specs.PoolSize.{greatest_pool_size, IsPoolSize, pool_counts, pool_size_floor, sets_in_room, start_size}

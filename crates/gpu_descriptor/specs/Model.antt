@@ -1,4 +1,4 @@
--- The model: books and ledger, and what each call makes of them. Who doubts a claim reads this room.
+-- The model: books and ledger, and what each call makes of them. Who doubts a claim reads this folder.
 pub mod Agreement
 pub mod Books
 pub mod Cleanup

@@ -114,8 +114,8 @@ pub record HasNoSets (name : ℕ) (l : Ledger) : Type 0 where
   pub is_live : l.pools name ≡ Some pool
   pub empty : (x : LiveSet) → pool.live x ≡ 0
 
--- n sets of a layout fit
-pub record HasRoom (name n : ℕ) (counts : List ℕ) (mark : Bool) (l : Ledger) : Type 0 where
+-- the pool can give n sets of a layout
+pub record CanGive (name n : ℕ) (counts : List ℕ) (mark : Bool) (l : Ledger) : Type 0 where
   pub pool : Pool
   pub is_live : l.pools name ≡ Some pool
   pub marked : IsTrue mark → IsUpdateAfterBind pool.flags
@@ -139,7 +139,7 @@ pub record AreLive (name : ℕ) (names : List ℕ) (l : Ledger) : Type 0 where
 pub record Sink (K S X : Type 0) : Type 0 where
   pub kept : K → List X
   pub kept_as : K → S → X
-  pub room_left : K → ℕ
+  pub left : K → ℕ
 
 module _ {K S X : Type 0} (sink : Sink K S X) where
   -- exactly n sets of the layout were put, and are live in the pool
@@ -149,14 +149,14 @@ module _ {K S X : Type 0} (sink : Sink K S X) where
     pub own : All (IsOfLayout means layout) sets
     pub kept : sink.kept new ≡ sink.kept old ++ map (sink.kept_as old) sets
     pub alike : sink.kept_as new ≡ sink.kept_as old
-    pub room : sink.room_left new + n ≡ sink.room_left old
+    pub left : sink.left new + n ≡ sink.left old
     pub ledger : after ≡ after_alloc name (live_sets (means.counts layout) (map means.set_name sets)) before
 
   -- nothing was put, and the error was counted
   pub record PutsNone (name : ℕ) (e : DeviceAllocationError) (old new : K) (before after : Ledger) : Type 0 where
     pub kept : sink.kept new ≡ sink.kept old
     pub alike : sink.kept_as new ≡ sink.kept_as old
-    pub room : sink.room_left new ≡ sink.room_left old
+    pub left : sink.left new ≡ sink.left old
     pub ledger : after ≡ after_no_alloc name e before
 
 -- the iterator gave its items, up to its end, and these have left the pool

@@ -5,7 +5,7 @@ ghost use Rattle.gpu_descriptor_types.specs.Counts.{kinds};
 ghost use Rattle.gpu_descriptor_types.specs.Flags.{bits};
 ghost use Rattle.gpu_descriptor_types.specs.Layouts.{layout, left};
 ghost use Rattle.gpu_descriptor_types.specs.Ledger.{Ledger, after_create, after_no_create};
-ghost use Rattle.gpu_descriptor_types.specs.Ledger.{after_destroy, HasNoSets, HasRoom, AreLive};
+ghost use Rattle.gpu_descriptor_types.specs.Ledger.{after_destroy, HasNoSets, CanGive, AreLive};
 ghost use Rattle.gpu_descriptor_types.specs.Meaning.{Meaning};
 ghost use Rattle.gpu_descriptor_types.specs.Ledger.{Puts, PutsNone, Releases};
 
@@ -53,9 +53,9 @@ pub trait DescriptorDevice<L, P, S> {
         layouts: Layouts<'_, L>,
         sets: &mut K,
     ) -> Result<(), DeviceAllocationError>
-        requires fits { HasRoom (meaning.pool_name pool.old) (left layouts) (meaning.counts (layout
+        requires fits { CanGive (meaning.pool_name pool.old) (left layouts) (meaning.counts (layout
             layouts)) (meaning.mark (layout layouts)) (ledger self.old) }
-        requires room { left layouts ≤ K.sink.room_left sets.old }
+        requires sink_left { left layouts ≤ K.sink.left sets.old }
         ensures name { meaning.pool_name pool.new ≡ meaning.pool_name pool.old }
         ensures ok { OnOk result (Puts K.sink meaning (layout layouts.entry) (meaning.pool_name
             pool.old) (left layouts.entry) sets.old sets.new (ledger self.old) (ledger self.new)) }

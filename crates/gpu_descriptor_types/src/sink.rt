@@ -2,7 +2,7 @@
 ghost use Rattle.std.specs.Prelude.{◌≡◌, ◌+◌, ◌<◌, [], ◌∷◌, ◌++◌};
 ghost use Rattle.gpu_descriptor_types.specs.Ledger.{Sink};
 
-/// Takes sets, as long as it has room.
+/// Takes sets, as long as some more fit.
 ///
 /// A sink is lent to the device, which hands it back in a state of which its caller knows what the
 /// clauses of `put` say. So they say the whole of it: what is kept of each set, and that this
@@ -16,13 +16,13 @@ pub trait SetSink<S> {
     ghost sink: { Sink Self S Self.Kept };
 
     /// How many more sets fit.
-    fn room(&self) -> usize
-        ensures { result ≡ sink.room_left self.now };
+    fn left(&self) -> usize
+        ensures { result ≡ sink.left self.now };
 
     /// Puts a set behind the others.
     fn put(&mut self, set: S)
-        requires { 0 < sink.room_left self.old }
+        requires { 0 < sink.left self.old }
         ensures kept { sink.kept self.new ≡ sink.kept self.old ++ sink.kept_as self.old set ∷ [] }
         ensures alike { sink.kept_as self.new ≡ sink.kept_as self.old }
-        ensures room { sink.room_left self.new + 1 ≡ sink.room_left self.old };
+        ensures left { sink.left self.new + 1 ≡ sink.left self.old };
 }

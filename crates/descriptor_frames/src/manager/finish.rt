@@ -13,7 +13,7 @@ use gpu_descriptor::DescriptorDevice;
 impl<P, S> FrameManager<P, S> {
     ghost use Rattle.descriptor_frames.specs.Frames.{AreRetiredOut, ManagerStays, KeepsInUse};
     ghost use Rattle.descriptor_frames.specs.Frames.{allocator_of, due_sets, greatest_of};
-    ghost use Rattle.descriptor_frames.specs.Frames.{retired_of, room_of};
+    ghost use Rattle.descriptor_frames.specs.Frames.{retired_of, reserve_of};
 
     /// Gives back all sets that were retired at this frame or before, those of earlier frames first.
     /// It takes no memory and can't be refused. The device must be done with the work
@@ -36,7 +36,7 @@ impl<P, S> FrameManager<P, S> {
         ensures count { length (retired_of self.new) + length (due_sets frame self.old)
             ≡ length (retired_of self.old) }
         ensures all { greatest_of self.old ≤ frame → retired_of self.new ≡ [] }
-        ensures room { room_of self.old ≤ room_of self.new }
+        ensures reserve { reserve_of self.old ≤ reserve_of self.new }
         ensures greatest { greatest_of self.new ≡ greatest_of self.old }
         ensures retired { AreRetiredOut D.meaning.pool_name D.meaning.set_name self.new
             (D.ledger device.new) }

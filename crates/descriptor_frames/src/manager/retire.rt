@@ -1,4 +1,4 @@
-//! Retiring a set, over room that may be taken before.
+//! Retiring a set, over memory that may be reserved before.
 ghost use Rattle.std.specs.Prelude.{◌≡◌, ℕ, ◌+◌, ◌<◌, ◌≤◌, ◌↔◌, [], ◌∷◌, ◌++◌};
 ghost use Rattle.std.specs.Prelude.{IfErr, IsErrOf, IsOk, OnErr, OnOk};
 ghost use Rattle.gpu_descriptor_types.specs.Ledger.{Ledger};
@@ -15,13 +15,13 @@ use std::alloc::AllocError;
 impl<P, S> FrameManager<P, S> {
     ghost use Rattle.descriptor_frames.specs.Frames.{AreInUse, AreRetiredOut, Retires};
     ghost use Rattle.descriptor_frames.specs.Frames.{allocator_of, greatest_of, retired_of};
-    ghost use Rattle.descriptor_frames.specs.Frames.{room_of};
+    ghost use Rattle.descriptor_frames.specs.Frames.{reserve_of};
 
-    /// Takes room for so many more retired sets: the next ones are retired without want of memory.
+    /// Reserves memory for so many more retired sets: the next ones are retired without want of memory.
     pub fn reserve(&mut self, additional: usize) -> Result<(), AllocError>
-        ensures room { OnOk result (additional ≤ room_of self.new) }
-        ensures full { OnErr result (room_of self.old < additional) }
-        ensures room_stays { room_of self.old ≤ room_of self.new }
+        ensures reserve { OnOk result (additional ≤ reserve_of self.new) }
+        ensures full { OnErr result (reserve_of self.old < additional) }
+        ensures reserve_stays { reserve_of self.old ≤ reserve_of self.new }
         ensures list { retired_of self.new ≡ retired_of self.old }
         ensures greatest { greatest_of self.new ≡ greatest_of self.old }
         ensures allocator { allocator_of self.new ≡ allocator_of self.old }
@@ -32,7 +32,7 @@ impl<P, S> FrameManager<P, S> {
     /// Retires a set: it goes back when this frame or a later one is finished.
     ///
     /// Frames must not fall: `FrameBack` where the frame is below the greatest at which a set was
-    /// ever retired, also when all these have gone back since. `Memory` where there is no room for
+    /// ever retired, also when all these have gone back since. `Memory` where there is no memory for
     /// one more. Either hands the set back, and nothing changed.
     pub fn retire(&mut self, frame: u64, set: DescriptorSet<S>) -> Result<(), RetireError<S>>
         ensures last { OnOk result (retired_of self.new
@@ -45,14 +45,14 @@ impl<P, S> FrameManager<P, S> {
             → AreInUse pool_name set_name (item_of set_name set ∷ []) self.old l
             → Retires pool_name set_name (item_of set_name set ∷ []) self.old self.new l) }
 
-        ensures fits { greatest_of self.old ≤ frame → 0 < room_of self.old → IsOk result }
-        ensures room { OnOk result (room_of self.old ≤ room_of self.new + 1) }
+        ensures fits { greatest_of self.old ≤ frame → 0 < reserve_of self.old → IsOk result }
+        ensures reserve { OnOk result (reserve_of self.old ≤ reserve_of self.new + 1) }
         ensures frame_back { (IsErrOf result (RetireError.FrameBack set))
             ↔ (frame < greatest_of self.old) }
         ensures back { IfErr result (λ e. handed_back e ≡ set) }
         ensures list_stays { OnErr result (retired_of self.new ≡ retired_of self.old) }
         ensures greatest_stays { OnErr result (greatest_of self.new ≡ greatest_of self.old) }
-        ensures room_stays { OnErr result (room_of self.old ≤ room_of self.new) }
+        ensures reserve_stays { OnErr result (reserve_of self.old ≤ reserve_of self.new) }
         ensures allocator { allocator_of self.new ≡ allocator_of self.old }
     {
         if frame < self.greatest {
@@ -65,13 +65,13 @@ impl<P, S> FrameManager<P, S> {
         Ok(())
     }
 
-    /// Puts a set last in the list, over room that was taken.
+    /// Puts a set last in the list, over memory that was reserved.
     pub(super) fn put(&mut self, frame: u64, set: DescriptorSet<S>)
         requires rising { greatest_of self.old ≤ frame }
-        requires room { 0 < room_of self.old }
+        requires reserve { 0 < reserve_of self.old }
         ensures list { retired_of self.new ≡ retired_of self.old ++ at_frame frame set ∷ [] }
         ensures greatest { greatest_of self.new ≡ frame }
-        ensures room { room_of self.new + 1 ≡ room_of self.old }
+        ensures reserve { reserve_of self.new + 1 ≡ reserve_of self.old }
         ensures allocator { allocator_of self.new ≡ allocator_of self.old }
     {
         self.retired.push_back_reserved(Retired { frame, set });

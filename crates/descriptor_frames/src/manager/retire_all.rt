@@ -13,12 +13,12 @@ use gpu_descriptor::DescriptorSet;
 impl<P, S: Drop> FrameManager<P, S> {
     ghost use Rattle.descriptor_frames.specs.Frames.{AreInUse, AreRetiredOut, Retires};
     ghost use Rattle.descriptor_frames.specs.Frames.{allocator_of, greatest_of, retired_of};
-    ghost use Rattle.descriptor_frames.specs.Frames.{room_of};
+    ghost use Rattle.descriptor_frames.specs.Frames.{reserve_of};
 
     /// Retires the sets of a vector, in their order: all, or none.
     ///
     /// It is refused as `retire` is: `FrameBack` for the frame, also where no set is given, and
-    /// `Memory` where there is no room for all. Either hands the vector back, and nothing changed.
+    /// `Memory` where there is no memory for all. Either hands the vector back, and nothing changed.
     pub fn retire_all(
         &mut self,
         frame: u64,
@@ -36,15 +36,15 @@ impl<P, S: Drop> FrameManager<P, S> {
             → AreInUse pool_name set_name (items_of set_name sets.items) self.old l
             → Retires pool_name set_name (items_of set_name sets.items) self.old self.new l) }
 
-        ensures fits { greatest_of self.old ≤ frame → length sets.items ≤ room_of self.old
+        ensures fits { greatest_of self.old ≤ frame → length sets.items ≤ reserve_of self.old
             → IsOk result }
-        ensures room { OnOk result (room_of self.old ≤ room_of self.new + length sets.items) }
+        ensures reserve { OnOk result (reserve_of self.old ≤ reserve_of self.new + length sets.items) }
         ensures frame_back { (IsErrOf result (RetireAllError.FrameBack sets))
             ↔ (frame < greatest_of self.old) }
         ensures back { IfErr result (λ e. all_handed_back e ≡ sets) }
         ensures list_stays { OnErr result (retired_of self.new ≡ retired_of self.old) }
         ensures greatest_stays { OnErr result (greatest_of self.new ≡ greatest_of self.old) }
-        ensures room_stays { OnErr result (room_of self.old ≤ room_of self.new) }
+        ensures reserve_stays { OnErr result (reserve_of self.old ≤ reserve_of self.new) }
         ensures allocator { allocator_of self.new ≡ allocator_of self.old }
     {
         if frame < self.greatest {
@@ -57,15 +57,15 @@ impl<P, S: Drop> FrameManager<P, S> {
         Ok(())
     }
 
-    /// Puts sets last in the list, over room that was taken.
+    /// Puts sets last in the list, over memory that was reserved.
     fn put_all(&mut self, frame: u64, sets: Vec<DescriptorSet<S>>)
         requires rising { greatest_of self.old ≤ frame }
-        requires room { length sets.items ≤ room_of self.old }
+        requires reserve { length sets.items ≤ reserve_of self.old }
         ensures list { retired_of self.new
             ≡ retired_of self.old ++ map (at_frame frame) sets.items }
         ensures greatest { 0 < length sets.items → greatest_of self.new ≡ frame }
         ensures none { length sets.items ≡ 0 → greatest_of self.new ≡ greatest_of self.old }
-        ensures room { room_of self.new + length sets.items ≡ room_of self.old }
+        ensures reserve { reserve_of self.new + length sets.items ≡ reserve_of self.old }
         ensures allocator { allocator_of self.new ≡ allocator_of self.old }
     {
         for set in sets {

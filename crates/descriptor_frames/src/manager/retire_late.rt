@@ -15,13 +15,13 @@ use gpu_descriptor::DescriptorSet;
 impl<P, S> FrameManager<P, S> {
     ghost use Rattle.descriptor_frames.specs.Frames.{AreInUse, AreRetiredOut, Retires};
     ghost use Rattle.descriptor_frames.specs.Frames.{allocator_of, greatest_of, retired_of};
-    ghost use Rattle.descriptor_frames.specs.Frames.{room_of};
+    ghost use Rattle.descriptor_frames.specs.Frames.{reserve_of};
 
     /// Retires a set, also at a frame below the greatest: it goes back when this frame or a later
     /// one is finished.
     ///
     /// The place in the list is found by halves. Then either the sets of later frames are moved, or
-    /// the others, whichever are fewer. `Memory` where there is no room for one more: the set comes
+    /// the others, whichever are fewer. `Memory` where there is no memory for one more: the set comes
     /// back, and nothing changed. It never answers `FrameBack`.
     pub fn retire_late(&mut self, frame: u64, set: DescriptorSet<S>) -> Result<(), RetireError<S>>
         ensures list { OnOk result (retired_of self.new
@@ -34,14 +34,14 @@ impl<P, S> FrameManager<P, S> {
             → AreInUse pool_name set_name (item_of set_name set ∷ []) self.old l
             → Retires pool_name set_name (item_of set_name set ∷ []) self.old self.new l) }
 
-        ensures fits { 0 < room_of self.old → IsOk result }
-        ensures room { OnOk result (room_of self.old ≤ room_of self.new + 1) }
+        ensures fits { 0 < reserve_of self.old → IsOk result }
+        ensures reserve { OnOk result (reserve_of self.old ≤ reserve_of self.new + 1) }
         ensures count { OnOk result (length (retired_of self.new)
             ≡ length (retired_of self.old) + 1) }
         ensures back { IfErr result (λ e. e ≡ RetireError.Memory set) }
         ensures list_stays { OnErr result (retired_of self.new ≡ retired_of self.old) }
         ensures greatest_stays { OnErr result (greatest_of self.new ≡ greatest_of self.old) }
-        ensures room_stays { OnErr result (room_of self.old ≤ room_of self.new) }
+        ensures reserve_stays { OnErr result (reserve_of self.old ≤ reserve_of self.new) }
         ensures allocator { allocator_of self.new ≡ allocator_of self.old }
     {
         if self.reserve(1).is_err() {
@@ -62,18 +62,18 @@ impl<P, S> FrameManager<P, S> {
             .partition_point(|retired: &Retired<S>| retired.frame <= frame)
     }
 
-    /// Puts a set in at its place, over room that was taken.
+    /// Puts a set in at its place, over memory that was reserved.
     fn put_at(&mut self, place: usize, frame: u64, set: DescriptorSet<S>)
         requires within { place ≤ length (retired_of self.old) }
         requires place { IsPartitionPoint (λ r. r.frame ≤ frame) (λ r. frame < r.frame)
             (retired_of self.old) place }
-        requires room { 0 < room_of self.old }
+        requires reserve { 0 < reserve_of self.old }
         ensures list { retired_of self.new ≡ with_late frame set (retired_of self.old) }
         ensures besides { HasBesides set (retired_sets (retired_of self.old))
             (retired_sets (retired_of self.new)) }
         ensures count { length (retired_of self.new) ≡ length (retired_of self.old) + 1 }
         ensures greatest { greatest_of self.new ≡ max (greatest_of self.old) frame }
-        ensures room { room_of self.old ≤ room_of self.new + 1 }
+        ensures reserve { reserve_of self.old ≤ reserve_of self.new + 1 }
         ensures allocator { allocator_of self.new ≡ allocator_of self.old }
     {
         match self.retired.insert(place, Retired { frame, set }) {

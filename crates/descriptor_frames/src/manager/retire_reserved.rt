@@ -1,4 +1,4 @@
-//! Retiring the sets of a queue over room that was taken.
+//! Retiring the sets of a queue over memory that was reserved.
 ghost use Rattle.std.specs.Prelude.{◌≡◌, ℕ, ◌+◌, ◌<◌, ◌≤◌, [], ◌++◌, length, map};
 ghost use Rattle.std.specs.VecDeque.{deque_capacity};
 ghost use Rattle.gpu_descriptor_types.specs.Ledger.{Ledger};
@@ -12,13 +12,13 @@ use std::collections::VecDeque;
 impl<P, S> FrameManager<P, S> {
     ghost use Rattle.descriptor_frames.specs.Frames.{AreInUse, AreRetiredOut, Retires};
     ghost use Rattle.descriptor_frames.specs.Frames.{allocator_of, greatest_of, retired_of};
-    ghost use Rattle.descriptor_frames.specs.Frames.{room_of};
+    ghost use Rattle.descriptor_frames.specs.Frames.{reserve_of};
 
-    /// Retires all sets of a queue, in their order, over room that `reserve` took. It can't be
-    /// refused. The queue is empty afterwards, and keeps its room.
+    /// Retires all sets of a queue, in their order, over memory that `reserve` took. It can't be
+    /// refused. The queue is empty afterwards, and keeps its memory.
     pub fn retire_reserved(&mut self, frame: u64, sets: &mut VecDeque<DescriptorSet<S>>)
         requires rising { greatest_of self.old ≤ frame }
-        requires room { length sets.old.items ≤ room_of self.old }
+        requires reserve { length sets.old.items ≤ reserve_of self.old }
         ensures last { retired_of self.new
             ≡ retired_of self.old ++ map (at_frame frame) sets.old.items }
         ensures emptied { sets.new.items ≡ [] }
@@ -34,7 +34,7 @@ impl<P, S> FrameManager<P, S> {
             → AreInUse pool_name set_name (items_of set_name sets.old.items) self.old l
             → Retires pool_name set_name (items_of set_name sets.old.items) self.old self.new l }
 
-        ensures room { room_of self.new + length sets.old.items ≡ room_of self.old }
+        ensures reserve { reserve_of self.new + length sets.old.items ≡ reserve_of self.old }
         ensures allocator { allocator_of self.new ≡ allocator_of self.old }
     {
         while let Some(set) = sets.pop_front() {

@@ -4,14 +4,14 @@ ghost use Rattle.std.specs.Prelude.{string_bytes, string_capacity};
 ghost use Rattle.gpu_descriptor.specs.Caller.Errors.{error_text};
 ghost use Rattle.descriptor_script.specs.Sessions.Session.{sets_of};
 ghost use Rattle.descriptor_script.specs.Sessions.Tickets.{set_at};
-ghost use Rattle.descriptor_lines.specs.Answers.{HasRoomFor};
+ghost use Rattle.descriptor_lines.specs.Answers.{HasReserveFor};
 ghost use Rattle.descriptor_lines.specs.Replies.{AreHeld, HasAnswer, pool_at};
 ghost use Rattle.descriptor_lines.specs.ReplyTexts.{most_bytes, sets_asked, sets_given};
 ghost use Rattle.descriptor_lines.specs.ReplyTexts.{freed_text, refused_text, text_of_reply};
 ghost use Rattle.descriptor_lines.specs.ReplyTexts.{pools_from, range_text, sets_text};
 ghost use Rattle.descriptor_lines.specs.ReplyTexts.{stretch_text, stretches_text};
 
-use super::room::{put, put_number};
+use super::reserved::{put, put_number};
 use crate::program::LineSession;
 use descriptor_script::{Command, Reply};
 use gpu_descriptor::AllocationError;
@@ -32,7 +32,7 @@ struct Stretch {
 }
 
 /// How many bytes the answer of a command may have.
-pub fn room_for(command: &Command) -> usize
+pub fn reserve_for(command: &Command) -> usize
     ensures { result ≡ most_bytes (sets_asked command.now) }
 {
     match command {
@@ -44,7 +44,7 @@ pub fn room_for(command: &Command) -> usize
 /// Puts what the session replied behind the answer.
 pub fn reply_answer(answer: &mut String, session: &LineSession, reply: &Reply)
     requires replied { HasAnswer session.now reply.now }
-    requires room { HasRoomFor (most_bytes (sets_given reply.now)) answer.old }
+    requires reserve { HasReserveFor (most_bytes (sets_given reply.now)) answer.old }
     ensures text { string_bytes answer.new ≡ string_bytes answer.old
         ++ text_of_reply (sets_of session.now) reply.now }
     ensures enough { length (text_of_reply (sets_of session.now) reply.now)
@@ -62,7 +62,7 @@ pub fn reply_answer(answer: &mut String, session: &LineSession, reply: &Reply)
 
 /// That the allocator refused, and why.
 fn refused_answer(answer: &mut String, error: &AllocationError)
-    requires { HasRoomFor (length (refused_text error.now)) answer.old }
+    requires { HasReserveFor (length (refused_text error.now)) answer.old }
     ensures { string_bytes answer.new ≡ string_bytes answer.old ++ refused_text error.now }
 {
     put(answer, "refused: ");
@@ -83,7 +83,7 @@ fn text_of_error(error: &AllocationError) -> &'static str
 
 /// How many sets went back.
 fn freed_answer(answer: &mut String, count: usize)
-    requires { HasRoomFor (length (freed_text count)) answer.old }
+    requires { HasReserveFor (length (freed_text count)) answer.old }
     ensures { string_bytes answer.new ≡ string_bytes answer.old ++ freed_text count }
 {
     put_number(answer, "freed ", count as u64);
@@ -93,7 +93,7 @@ fn freed_answer(answer: &mut String, count: usize)
 /// The tickets of sets that were handed out, and their device pools in stretches of neighbours.
 fn sets_answer(answer: &mut String, session: &LineSession, first: usize, count: u32)
     requires held { AreHeld session.now first count }
-    requires room { HasRoomFor (most_bytes count) answer.old }
+    requires reserve { HasReserveFor (most_bytes count) answer.old }
     ensures text { string_bytes answer.new ≡ string_bytes answer.old
         ++ sets_text (sets_of session.now) first count }
     ensures enough { length (sets_text (sets_of session.now) first count) ≤ most_bytes count }
@@ -109,9 +109,9 @@ fn sets_answer(answer: &mut String, session: &LineSession, first: usize, count: 
 
 /// The tickets from the first to the last.
 fn range_answer(answer: &mut String, first: usize, last: usize)
-    requires { HasRoomFor (length (range_text first last)) answer.old }
+    requires { HasReserveFor (length (range_text first last)) answer.old }
     ensures text { string_bytes answer.new ≡ string_bytes answer.old ++ range_text first last }
-    ensures room { string_capacity answer.old ≤ string_capacity answer.new }
+    ensures reserve { string_capacity answer.old ≤ string_capacity answer.new }
 {
     put_number(answer, "sets ", first as u64);
     put_number(answer, "-", last as u64);
@@ -122,12 +122,12 @@ fn range_answer(answer: &mut String, first: usize, last: usize)
 fn stretches_answer(answer: &mut String, session: &LineSession, first: usize, count: u32)
     requires some { 0 < count }
     requires held { AreHeld session.now first count }
-    requires room { HasRoomFor (23 * count) answer.old }
+    requires reserve { HasReserveFor (23 * count) answer.old }
     ensures text { string_bytes answer.new ≡ string_bytes answer.old
         ++ stretches_text (pools_from (sets_of session.now) first count) }
     ensures enough { length (stretches_text (pools_from (sets_of session.now) first count))
         ≤ 23 * count }
-    ensures room { string_capacity answer.old ≤ string_capacity answer.new }
+    ensures reserve { string_capacity answer.old ≤ string_capacity answer.new }
 {
     let mut stretch = Stretch {
         pool: device_pool(session, first),
@@ -158,10 +158,10 @@ fn device_pool(session: &LineSession, ticket: usize) -> u64
 
 /// A stretch: the name of its pool, and its length.
 fn stretch_answer(answer: &mut String, stretch: Stretch)
-    requires { HasRoomFor (length (stretch_text (stretch.pool, stretch.length))) answer.old }
+    requires { HasReserveFor (length (stretch_text (stretch.pool, stretch.length))) answer.old }
     ensures text { string_bytes answer.new ≡ string_bytes answer.old
         ++ stretch_text (stretch.pool, stretch.length) }
-    ensures room { string_capacity answer.old ≤ string_capacity answer.new }
+    ensures reserve { string_capacity answer.old ≤ string_capacity answer.new }
 {
     put_number(answer, " ", stretch.pool);
     put_number(answer, "*", stretch.length);

@@ -34,7 +34,7 @@ pub fn answer_line<W: Write>(
         Err(Refusal::NoMemory) => write_text(output, answer::NO_MEMORY)?,
         Err(Refusal::Fault(fault)) => {
             answer.clear();
-            // There is room for it since the start.
+            // Memory for it is reserved since the start.
             answer::fault_line(answer, number, fault).map_err(|_| Exit::WriteFault)?;
             write_text(output, answer.as_str())?;
             return Err(Exit::BadLine);

@@ -136,8 +136,8 @@ impl<D: LineDevice> Program<D> {
             (line_state D.ledger D.script self.new)) }
         ensures begun { self.new.has_begun ≡ self.old.has_begun }
     {
-        // The answer has its room before the command is run.
-        answer.reserve(answer::room_for(&command))?;
+        // The answer has its memory before the command is run.
+        answer.reserve(answer::reserve_for(&command))?;
         let replies = self.session.run(&mut self.device, &[command])?;
         match replies[0] {
             Reply::NoMemory => Err(AllocError),

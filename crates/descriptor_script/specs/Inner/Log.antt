@@ -1,7 +1,7 @@
--- Room for calls to come.
+-- The memory that is reserved for calls to come.
 use Rattle.std.specs.Prelude.{ℕ, ◌+◌, ◌≤◌, vec_len, vec_capacity}
 use Rattle.descriptor_script.specs.declared.log.Log.{Log}
 
--- besides those that are owed, so many calls have room
-abbrev pub HasLogRoom : ℕ → Log → Type 0
-HasLogRoom more log = vec_len log.calls + log.owed + more ≤ vec_capacity log.calls
+-- memory is reserved for so many calls, besides those that are owed
+abbrev pub HasLogReserve : ℕ → Log → Type 0
+HasLogReserve more log = vec_len log.calls + log.owed + more ≤ vec_capacity log.calls

@@ -24,11 +24,11 @@ script_logged d = script_of d.device
 abbrev pub calls_of : LogDevice → List Call
 calls_of d = d.log.calls.items
 
--- a refused call answers its word, or there was no room in the list and none was read
+-- a refused call answers its word, or there was no memory for the list and none was read
 abbrev pub IsErrorOfCall : {E : Type 0} → (Answer → E) → E → E → List Answer → List Answer → Type 0
-IsErrorOfCall error_of no_room error old new =
+IsErrorOfCall error_of no_memory error old new =
     ((error ≡ error_of (next_word old)) × (new ≡ rest_words old))
-    ⊎ ((error ≡ no_room) × (new ≡ old))
+    ⊎ ((error ≡ no_memory) × (new ≡ old))
 
 -- a release of no set is not listed
 abbrev pub release_of : ℕ → ℕ → List Call

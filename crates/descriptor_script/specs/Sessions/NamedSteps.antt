@@ -7,7 +7,7 @@ use Rattle.gpu_descriptor.specs.Caller.Sets.{AreOfLayout, items_of, raw_of}
 use Rattle.gpu_descriptor.specs.declared.set.DescriptorSet.{DescriptorSet}
 use Rattle.descriptor_script.specs.Sessions.Names.{AreNamedOnce, HoldsEach, place_of}
 use Rattle.descriptor_script.specs.Sessions.NamedSets.{handles_of, names_of}
-use Rattle.descriptor_script.specs.Sessions.Session.{layouts_of, named_of, room_to_free}
+use Rattle.descriptor_script.specs.Sessions.Session.{layouts_of, named_of, reserve_to_free}
 use Rattle.descriptor_script.specs.Sessions.Steps.{GivesUp, IsAsBefore, Refuses, request_of}
 use Rattle.descriptor_script.specs.declared.command.Reply.{Reply}
 use Rattle.descriptor_script.specs.declared.command.Reply.TheVariants.{Refused, BadTicket, BadLayout, NoMemory}
@@ -48,12 +48,12 @@ module _ {L P : Type 0} (means : Meaning L P ℕ) (old new : Side (Session L P �
       pub back : GivesUp means (map place_of names) old new (length names)
       pub generation : (place : ℕ) → (named_of new.value).generation place ≡ (named_of old.value).generation place
 
-    -- how a free of these names ends, with room for so many places: a name is bad exactly where it isn't held or stands twice
+    -- how a free of these names ends, where so many places are reserved: a name is bad exactly where it isn't held or stands twice
     abbrev pub FreesAt : ℕ → Result (Unit {0}) Reply → Type 0
-    FreesAt room (Ok done) = GivesUpNamed
-    FreesAt room (Err BadTicket) = (¬ AreNamedOnce (named_of old.value) names) × IsUnchanged old new
-    FreesAt room (Err NoMemory) = (room < length names) × IsUnchanged old new
-    FreesAt room (Err _) = ⊥
+    FreesAt reserve (Ok done) = GivesUpNamed
+    FreesAt reserve (Err BadTicket) = (¬ AreNamedOnce (named_of old.value) names) × IsUnchanged old new
+    FreesAt reserve (Err NoMemory) = (reserve < length names) × IsUnchanged old new
+    FreesAt reserve (Err _) = ⊥
 
     abbrev pub FreesNamed : Result (Unit {0}) Reply → Type 0
-    FreesNamed = FreesAt (room_to_free old.value)
+    FreesNamed = FreesAt (reserve_to_free old.value)

@@ -37,12 +37,12 @@ module _ {L P S : Type 0} where
   named_of s = named_in s.slots
 
   -- so many sets can go back by their names at once without memory
-  abbrev pub room_to_free : Session L P S → ℕ
-  room_to_free s = vec_capacity s.places
+  abbrev pub reserve_to_free : Session L P S → ℕ
+  reserve_to_free s = vec_capacity s.places
 
   -- so all that are held can
-  abbrev pub HasRoomToFree : Session L P S → Type 0
-  HasRoomToFree s = length (held_sets (sets_of s)) ≤ room_to_free s
+  abbrev pub HasReserveToFree : Session L P S → Type 0
+  HasReserveToFree s = length (held_sets (sets_of s)) ≤ reserve_to_free s
 
 -- the held sets are exactly the outstanding sets
 abbrev pub AreAllHeld : {S : Type 0} → (S → ℕ) → List (Option (DescriptorSet S)) → State → Type 0

@@ -6,7 +6,7 @@ ghost use Rattle.descriptor_script.specs.Sessions.NamedSets.{names_of, places_of
 ghost use Rattle.descriptor_script.specs.Sessions.Headline.{GoBackInRuns, GoBackOneByOne};
 ghost use Rattle.descriptor_script.specs.Sessions.NamedSteps.{AllocatesNamed, FreesAt, FreesNamed};
 ghost use Rattle.descriptor_script.specs.Sessions.Session.{IsReady, KeepsSession, named_of};
-ghost use Rattle.descriptor_script.specs.Sessions.Session.{HasRoomToFree};
+ghost use Rattle.descriptor_script.specs.Sessions.Session.{HasReserveToFree};
 ghost use Rattle.descriptor_script.specs.Sessions.Steps.{IsTurnedAway};
 
 use super::Session;
@@ -35,7 +35,7 @@ impl<L, P: Drop> Session<L, P, u64> {
             (side self.new (D.ledger device.new)) layout count (take count shown.new) result }
         ensures device { IfErr result (λ reply. IsTurnedAway reply → device.new ≡ device.old) }
         ensures names { KeepsNames (named_of self.old) (named_of self.new) }
-        ensures room { HasRoomToFree self.old → HasRoomToFree self.new }
+        ensures reserve { HasReserveToFree self.old → HasReserveToFree self.new }
         ensures others { drop count shown.new ≡ drop count shown.old }
         ensures hidden { OnErr result (shown.new ≡ shown.old) }
         ensures keeps { KeepsSession D.meaning (side self.old (D.ledger device.old))
@@ -62,7 +62,7 @@ impl<L, P: Drop> Session<L, P, u64> {
         }
     }
 
-    /// Gives the sets of these names back. It takes no memory where there is room to free, as after
+    /// Gives the sets of these names back. It takes no memory where enough is reserved to free, as after
     /// `allocate_named`.
     ///
     /// The error is `BadTicket`, or `NoMemory`. Then nothing changed.
@@ -79,9 +79,9 @@ impl<L, P: Drop> Session<L, P, u64> {
             (side self.old (D.ledger device.old)) (side self.new (D.ledger device.new))) }
         ensures one_call_a_run { OnOk result (GoBackInRuns D.meaning (places_of sets.now)
             (side self.old (D.ledger device.old)) (side self.new (D.ledger device.new))) }
-        ensures memory { HasRoomToFree self.old → result ≢ Err Reply.NoMemory }
+        ensures memory { HasReserveToFree self.old → result ≢ Err Reply.NoMemory }
         ensures names { KeepsNames (named_of self.old) (named_of self.new) }
-        ensures room { HasRoomToFree self.old → HasRoomToFree self.new }
+        ensures reserve { HasReserveToFree self.old → HasReserveToFree self.new }
         ensures keeps { KeepsSession D.meaning (side self.old (D.ledger device.old))
             (side self.new (D.ledger device.new)) }
     {
@@ -110,7 +110,7 @@ impl<L, P: Drop> Session<L, P, u64> {
         ensures one_by_one { OnOk result (GoBackOneByOne D.meaning (places_of sets.now)
             (side self.old (D.ledger device.old)) (side self.new (D.ledger device.new))) }
         ensures names { KeepsNames (named_of self.old) (named_of self.new) }
-        ensures room { vec_capacity places.old ≤ vec_capacity places.new }
+        ensures reserve { vec_capacity places.old ≤ vec_capacity places.new }
         ensures keeps { KeepsSession D.meaning (side self.old (D.ledger device.old))
             (side self.new (D.ledger device.new)) }
     {
@@ -130,9 +130,9 @@ impl<L, P: Drop> Session<L, P, u64> {
     }
 }
 
-/// Takes room for the places of the held sets and of so many more.
+/// Reserves memory for the places of the held sets and of so many more.
 fn reserve_places(places: &mut Vec<usize>, held: u64, count: u32) -> Result<(), AllocError>
-    ensures room { OnOk result (0 < count → held + count ≤ vec_capacity places.new) }
+    ensures reserve { OnOk result (0 < count → held + count ≤ vec_capacity places.new) }
     ensures some { OnErr result (0 < count) }
     ensures more { vec_capacity places.old ≤ vec_capacity places.new }
 {

@@ -11,7 +11,7 @@ use gpu_descriptor::DescriptorDevice;
 use std::alloc::AllocError;
 
 impl<L, P: Drop, S: Drop> Session<L, P, S> {
-    /// Takes room for all replies, and then does the commands in order. On `Err` nothing was done.
+    /// Reserves memory for all replies, and then does the commands in order. On `Err` nothing was done.
     pub fn run<D: DescriptorDevice<L, P, S>>(
         &mut self,
         device: &mut D,

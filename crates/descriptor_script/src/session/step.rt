@@ -2,7 +2,7 @@
 ghost use Rattle.std.specs.Prelude.{◌≡◌, length};
 ghost use Rattle.gpu_descriptor_types.specs.Side.{side};
 ghost use Rattle.descriptor_script.specs.Sessions.Session.{IsReady, KeepsSession};
-ghost use Rattle.descriptor_script.specs.Sessions.Session.{named_of, room_to_free, sets_of};
+ghost use Rattle.descriptor_script.specs.Sessions.Session.{named_of, reserve_to_free, sets_of};
 ghost use Rattle.descriptor_script.specs.Sessions.Steps.{AllocatesTo, Cleans, FreesTo, GivesUp};
 ghost use Rattle.descriptor_script.specs.Sessions.Steps.{IsTurnedAway, KeepsTickets, StepsTo};
 ghost use Rattle.descriptor_script.specs.Sessions.Tickets.{AreHeldOnce};
@@ -120,7 +120,7 @@ impl<L, P: Drop, S: Drop> Session<L, P, S> {
         ensures cleans { Cleans D.meaning (side self.old (D.ledger device.old))
             (side self.new (D.ledger device.new)) }
         ensures named { named_of self.new ≡ named_of self.old }
-        ensures room { room_to_free self.new ≡ room_to_free self.old }
+        ensures reserve { reserve_to_free self.new ≡ reserve_to_free self.old }
         ensures keeps { KeepsSession D.meaning (side self.old (D.ledger device.old))
             (side self.new (D.ledger device.new)) }
     {

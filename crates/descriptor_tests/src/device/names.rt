@@ -1,6 +1,6 @@
 //! The names of pools and of sets on the scripted device: that they rise, past 32 bits too, and end
 //! at 18446744073709551614 and not before. No clause says that a name is there.
-use crate::device::trip::{Room, TripError};
+use crate::device::trip::{BoundedSets, TripError};
 use crate::device::words::{samplers, trip};
 use descriptor_script::{RawPool, RawSet, ScriptLayout, ScriptedDevice};
 use gpu_descriptor_types::{
@@ -26,11 +26,11 @@ fn filled(
         mark: false,
     };
     let flags = DescriptorPoolCreateFlags::FREE_DESCRIPTOR_SET;
-    let mut sink = Room::new(alloc, count)?;
+    let mut sink = BoundedSets::new(alloc, count)?;
     let mut pool = device.create_descriptor_pool(&samplers(count), count, flags)?;
     let layouts = Layouts::new(&layout, count);
     device.alloc_descriptor_sets(&mut pool, layouts, &mut sink)?;
-    let Room { sets, left: _ } = sink;
+    let BoundedSets { sets, left: _ } = sink;
     Ok((pool, sets))
 }
 

@@ -10,38 +10,38 @@ use gpu_descriptor_types::{
 };
 use std::alloc::{AllocError, Global};
 
-/// A vector that takes as many sets as it has room for.
+/// A vector that takes as many sets as were said.
 #[derive(Drop)]
-pub struct Room<S> {
+pub struct BoundedSets<S> {
     pub sets: Vec<S>,
     pub left: usize,
     ghost fits: { vec_len sets + left ≤ vec_capacity sets },
 }
 
-impl<S> Room<S> {
+impl<S> BoundedSets<S> {
     pub fn new(alloc: Global, count: u32) -> Result<Self, AllocError>
     where
         S: Drop,
-        ensures empty { IfOk result (λ room. room.sets.items ≡ []) }
-        ensures room { IfOk result (λ room. room.left ≡ count) }
+        ensures empty { IfOk result (λ sink. sink.sets.items ≡ []) }
+        ensures left { IfOk result (λ sink. sink.left ≡ count) }
     {
         let left = count as usize;
         let mut sets = Vec::new(alloc);
         sets.reserve(left)?;
-        Ok(Room { sets, left })
+        Ok(BoundedSets { sets, left })
     }
 }
 
-impl<S> SetSink<S> for Room<S> {
+impl<S> SetSink<S> for BoundedSets<S> {
     type Kept = S;
 
     ghost sink = { record {
       kept = λ r. r.sets.items;
       kept_as = λ r s. s;
-      room_left = λ r. r.left;
+      left = λ r. r.left;
     } };
 
-    fn room(&self) -> usize {
+    fn left(&self) -> usize {
         self.left
     }
 
@@ -93,8 +93,8 @@ pub fn round_trip<L, P, S: Drop, D: DescriptorDevice<L, P, S>>(
           destroyed = n.destroyed + 1;
         }) }
 {
-    let mut sink = match Room::new(alloc, count) {
-        Ok(room) => room,
+    let mut sink = match BoundedSets::new(alloc, count) {
+        Ok(sink) => sink,
         Err(_) => return Err(TripError::Memory),
     };
     let flags = DescriptorPoolCreateFlags::FREE_DESCRIPTOR_SET;
@@ -105,7 +105,7 @@ pub fn round_trip<L, P, S: Drop, D: DescriptorDevice<L, P, S>>(
     let layouts = Layouts::new(layout, count);
     match device.alloc_descriptor_sets(&mut pool, layouts, &mut sink) {
         Ok(()) => {
-            let Room { sets, left: _ } = sink;
+            let BoundedSets { sets, left: _ } = sink;
             let mut items = ordered(sets, last_first).into_iter();
             device.dealloc_descriptor_sets(&mut pool, &mut items);
             device.destroy_descriptor_pool(pool);

@@ -71,16 +71,16 @@ fn all_sets_are_retired_or_none(rt: HostRuntime) -> Result<(), Fail> {
     }
 }
 
-/// Takes room for five sets.
+/// Reserves memory for five sets.
 #[test]
-fn room_is_taken(rt: HostRuntime) -> Result<(), Fail> {
+fn memory_is_reserved(rt: HostRuntime) -> Result<(), Fail> {
     let mut trial = Trial::new(rt.alloc(), 5)?;
     play(&rt, &mut trial, &[Reserve(5)])
 }
 
-/// Asks for as many growths as `room_is_taken`.
+/// Asks for as many growths as `memory_is_reserved`.
 #[test]
-fn room_is_taken_and_used(rt: HostRuntime) -> Result<(), Fail> {
+fn memory_is_reserved_and_used(rt: HostRuntime) -> Result<(), Fail> {
     let acts = [
         Reserve(5),
         Retire(1, Outcome::Retired),

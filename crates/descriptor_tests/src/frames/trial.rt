@@ -134,7 +134,7 @@ pub enum FrameAct<'a> {
     RetireAll(u64, Outcome),
     /// All sets in use go back at once.
     FreeAll,
-    /// Room is taken for so many sets.
+    /// Memory is reserved for so many sets.
     Reserve(usize),
     /// A frame is finished.
     Finish(u64),

@@ -53,8 +53,8 @@ fn refusals_are_told_as_they_are(rt: HostRuntime) -> Result<(), Fail> {
     Ok(())
 }
 
-/// In a plain run every growth is granted; `tools/refuse-memory` refuses each in turn. Room is taken
-/// before the device is asked, so for want of room no set goes back.
+/// In a plain run every growth is granted; `tools/refuse-memory` refuses each in turn. Memory is
+/// reserved before the device is asked, so for want of memory no set goes back.
 #[test]
 fn want_of_memory_gives_no_set_back(rt: HostRuntime) {
     let Some(mut stage) = make_stage(rt.alloc(), Vec::new(rt.alloc()), 1) else {

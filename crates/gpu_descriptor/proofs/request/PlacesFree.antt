@@ -1,5 +1,5 @@
 -- Known free places are room on the device.
-use Rattle.gpu_descriptor.proofs.Common.{◌≡◌, ℕ, zero, suc, ◌+◌, ◌*◌, ◌<◌, ◌≤◌, inl, inr, List, [], ◌∷◌, length, map, Bool, true, false, slice_index, refl, sym, ap, subst, arith, eqb-true, mul-le-mul_right, cases_Bool, sum_by-cons, IsTrue, sum, sum_by, ◌==◌, flags_of, Key, Entry, count_by_yes, set_exact, IsUpdateAfterBind, Ledger, HasRoom, LiveSet, set_eq, times, pool_counts, IsBookedIn}
+use Rattle.gpu_descriptor.proofs.Common.{◌≡◌, ℕ, zero, suc, ◌+◌, ◌*◌, ◌<◌, ◌≤◌, inl, inr, List, [], ◌∷◌, length, map, Bool, true, false, slice_index, refl, sym, ap, subst, arith, eqb-true, mul-le-mul_right, cases_Bool, sum_by-cons, IsTrue, sum, sum_by, ◌==◌, flags_of, Key, Entry, count_by_yes, set_exact, IsUpdateAfterBind, Ledger, CanGive, LiveSet, set_eq, times, pool_counts, IsBookedIn}
 use Rattle.gpu_descriptor.proofs.lists.AtPlaces.{count_by_more}
 use Rattle.gpu_descriptor.proofs.sums.Sized.{listed}
 
@@ -43,8 +43,8 @@ pub marked_flags : (counts : List ℕ) (mark : Bool) → IsTrue mark → IsUpdat
 marked_flags counts true h = refl
 marked_flags counts false h = absurd (cc)
 
-pub has_room : (counts : List ℕ) (mark : Bool) (e : Entry) (n : ℕ) (l : Ledger) → IsBookedIn (key_with counts mark) l.pools e → n ≤ e.available → HasRoom e.pool n counts mark l
-has_room counts mark e n l b few =
+pub can_give : (counts : List ℕ) (mark : Bool) (e : Entry) (n : ℕ) (l : Ledger) → IsBookedIn (key_with counts mark) l.pools e → n ≤ e.available → CanGive e.pool n counts mark l
+can_give counts mark e n l b few =
     record {
       pool = b.pool;
       is_live = b.is_live;

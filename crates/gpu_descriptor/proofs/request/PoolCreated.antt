@@ -1,5 +1,5 @@
 -- What a new pool does to the ledger.
-use Rattle.gpu_descriptor.proofs.Common.{◌↔◌, ◌≡◌, ◌≢◌, ◌<◌, ℕ, ◌+◌, ◌-◌, ◌≤◌, min, List, [], ◌∷◌, ◌++◌, length, Bool, true, false, cond, nat_eq, Some, None, slice_index, refl, sym, ap, ◌∙◌, arith, eqb-true, mul-le-mul_right, fun_ext, update, flags_of, Key, Entry, Pool, Ledger, Counters, HasRoom, HasNoSets, live_sets, fresh, after_create, after_no_create, after_alloc, after_no_alloc, after_destroy, create_refused, alloc_refused, pool_refusals, no_rise, CreatePoolError, pool_counts, DeviceAllocationError, Stop, update_here, IsNextSize, pool_descriptors, IsGrown, IsRefused, risen, stop_rise, option_map}
+use Rattle.gpu_descriptor.proofs.Common.{◌↔◌, ◌≡◌, ◌≢◌, ◌<◌, ℕ, ◌+◌, ◌-◌, ◌≤◌, min, List, [], ◌∷◌, ◌++◌, length, Bool, true, false, cond, nat_eq, Some, None, slice_index, refl, sym, ap, ◌∙◌, arith, eqb-true, mul-le-mul_right, fun_ext, update, flags_of, Key, Entry, Pool, Ledger, Counters, CanGive, HasNoSets, live_sets, fresh, after_create, after_no_create, after_alloc, after_no_alloc, after_destroy, create_refused, alloc_refused, pool_refusals, no_rise, CreatePoolError, pool_counts, DeviceAllocationError, Stop, update_here, IsNextSize, pool_descriptors, IsGrown, IsRefused, risen, stop_rise, option_map}
 use Rattle.gpu_descriptor.specs.declared.bucket.stop.Stop.TheVariants as stop
 use Rattle.gpu_descriptor_types.proofs.Counting.{none_spelled}
 use Rattle.gpu_descriptor.proofs.request.Asks.{same_counters}
@@ -9,7 +9,7 @@ use Rattle.gpu_descriptor.proofs.request.PlacesFree.{key_with, wide, marked_flag
 pub created_at : (k : Key) (size name : ℕ) (l m : Ledger) → m ≡ after_create (pool_counts k.counts size) size (flags_of k) name l → m.pools name ≡ Some (fresh (pool_counts k.counts size) size (flags_of k))
 created_at k size name l m is = ap (λ (x : Ledger). x.pools name) is ∙ update_here l.pools name (Some (fresh (pool_counts k.counts size) size (flags_of k)))
 
-pub fresh_room : (counts : List ℕ) (mark : Bool) (size name n : ℕ) (m : Ledger) → m.pools name ≡ Some (fresh (pool_counts counts size) size (flags_of (key_with counts mark))) → n ≤ size → HasRoom name n counts mark m
+pub fresh_room : (counts : List ℕ) (mark : Bool) (size name n : ℕ) (m : Ledger) → m.pools name ≡ Some (fresh (pool_counts counts size) size (flags_of (key_with counts mark))) → n ≤ size → CanGive name n counts mark m
 fresh_room counts mark size name n m is few = record {
   pool = fresh (pool_counts counts size) size (flags_of (key_with counts mark));
   is_live = is;

@@ -78,10 +78,10 @@ impl<S> SetSink<S> for Allocation<'_, S> {
     ghost sink = { record {
       kept = λ sink. sink.sets.items;
       kept_as = λ sink raw. set_at (key_of sink.key.now) sink.id sink.number raw;
-      room_left = λ sink. sink.left;
+      left = λ sink. sink.left;
     } };
 
-    fn room(&self) -> usize {
+    fn left(&self) -> usize {
         self.left as usize
     }
 

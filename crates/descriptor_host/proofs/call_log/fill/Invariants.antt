@@ -8,7 +8,7 @@ invariant-loop-place g l = record {
   within : l._place ≤ l.many;
   kept : g.K.SetSink.sink.kept l.sink ≡ g.K.SetSink.sink.kept l.fn.sink ++ map (g.K.SetSink.sink.kept_as l.fn.sink) (take l._place l.fn.sets.items);
   alike : g.K.SetSink.sink.kept_as l.sink ≡ g.K.SetSink.sink.kept_as l.fn.sink;
-  left : g.K.SetSink.sink.room_left l.sink + l._place ≡ g.K.SetSink.sink.room_left l.fn.sink;
+  left : g.K.SetSink.sink.left l.sink + l._place ≡ g.K.SetSink.sink.left l.fn.sink;
   sets : l.fn.sets.items ≡ take l._place l.fn.sets.items ++ l.sets.items;
   capacity : deque_capacity l.sets ≡ deque_capacity l.fn.sets;
 }

@@ -7,7 +7,7 @@ abbrev pub invariant-loop-set : goal.invariant-loop-set
 invariant-loop-set g l = record {
   steps : Yields g.I.Iterator.next_gives l.fn.sets l.yielded l.sets;
   log : l.log.owed.log ≡ record l.fn.log.owed.log { taken = l.yielded };
-  room : l.log.room + length l.yielded ≡ l.fn.log.room;
+  reserve : l.log.reserve + length l.yielded ≡ l.fn.log.reserve;
   many : l.many ≡ length l.yielded;
   granted : l.log.granted ≡ l.fn.log.granted;
 }

@@ -13,7 +13,7 @@ loop-one-init g c =
     let is = c.into_iter-one-iterator.ensures.into_iter_gives in
     record {
       list = ap (λ es. retired_of c.args.manager.now ++ map (at_frame c.args.frame) (map (λ e. e.1.set) es)) is;
-      room = (let a = ap length is in let b = length-map (entries c.args.held) (λ e. e.1.set) in let r = c.requires.room in omega arith);
+      reserve = (let a = ap length is in let b = length-map (entries c.args.held) (λ e. e.1.set) in let r = c.requires.reserve in omega arith);
       rising = c.requires.rising;
       allocator = refl;
     }

@@ -16,8 +16,8 @@ loop-layout-preserved g c =
     let more : length (c.loop-layout.yielded ++ c.in-Some.layout ∷ []) ≡ length c.loop-layout.yielded + 1 = length-append c.loop-layout.yielded (c.in-Some.layout ∷ []) in
     let at : c.args.first + length c.loop-layout.yielded ≡ n = sym i.name in
     let had : it.left ≡ to.left + 1 = step.more in
-    let roomy : 0 < spare c.loop-layout.live = (let s = i.space in omega arith) in
-    let ok = c.insert.ensures.succeeds roomy in
+    let spacious : 0 < spare c.loop-layout.live = (let s = i.space in omega arith) in
+    let ok = c.insert.ensures.succeeds spacious in
     let free = i.fresh n (omega arith) in
     let pushed = put_last c.loop-layout.live c.insert.new.self n c.in-Some.layout.now.counts c.insert.result ok c.insert.ensures.entries free in
     let changes = put_changes c.loop-layout.live c.insert.new.self n c.in-Some.layout.now.counts c.insert.result ok c.insert.ensures.updates in
@@ -30,5 +30,5 @@ loop-layout-preserved g c =
       fresh = λ m above. changes m ∙ none_above n m _ _ above (i.fresh m (omega arith));
       sets = kept_grown (g.K.SetSink.sink.kept_as c.args.sink.now) _ _ _ _ c.args.pool c.args.first _ _ n c.put.ensures.kept i.sets at (ap (λ f. f (raw_set c.args.pool n)) i.alike) more;
       alike = c.put.ensures.alike ∙ i.alike;
-      room = (let r = i.room in let p = c.put.ensures.room in omega arith);
+      sink_left = (let r = i.sink_left in let p = c.put.ensures.left in omega arith);
     }

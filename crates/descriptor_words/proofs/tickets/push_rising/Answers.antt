@@ -12,5 +12,5 @@ loop-step-preserved c =
     record {
       items = c.push_reserved.ensures.items ∙ ap (λ l. l ++ (first + step) ∷ []) inv.items ∙ append_assoc old (range_with_len first step) ((first + step) ∷ []) ∙ ap (λ l. old ++ l) (sym (rising_more first step));
       filled = (let f = inv.filled in let l = c.push_reserved.ensures.len in omega arith);
-      room = (let r = inv.room in let cap = c.push_reserved.ensures.capacity in omega arith);
+      reserve = (let r = inv.reserve in let cap = c.push_reserved.ensures.capacity in omega arith);
     }

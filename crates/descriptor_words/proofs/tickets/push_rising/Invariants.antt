@@ -6,5 +6,5 @@ abbrev pub invariant-loop-step : goal.invariant-loop-step
 invariant-loop-step l = record {
   items : l.tickets.items ≡ l.initial.tickets.items ++ range_with_len l.first l.step;
   filled : vec_len l.tickets ≡ vec_len l.initial.tickets + l.step;
-  room : vec_len l.initial.tickets + l.count ≤ vec_capacity l.tickets;
+  reserve : vec_len l.initial.tickets + l.count ≤ vec_capacity l.tickets;
 }

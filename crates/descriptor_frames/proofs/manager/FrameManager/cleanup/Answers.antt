@@ -6,7 +6,7 @@ use Rattle.descriptor_frames.proofs.manager.FrameManager.cleanup.Goals as goal
 pub returns-clause-retired : goal.returns-clause-retired
 returns-clause-retired g c = record {
   list = refl;
-  room = refl;
+  reserve = refl;
   greatest = refl;
   outstanding = λ o. record { out = λ t. (let a = o.out t in let b = c.cleanup.ensures.cleans_up.outstanding_stay t in omega arith) };
 }

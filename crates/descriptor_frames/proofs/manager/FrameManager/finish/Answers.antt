@@ -51,9 +51,9 @@ returns-clause-all g c up =
     let early : All (λ r. r.frame ≤ c.args.frame) (retired_of c.args.self.now) = λ i d lt. (let within = c.args.self.now.ordered.within i d lt in omega arith) in
     ap (λ q. q.items) c.end.ensures ∙ (took_due c.free_from.ensures.frees c.args.self.now.greatest c.args.self.now.ordered).1 ∙ none_later c.args.frame (retired_of c.args.self.now) early
 
-pub returns-clause-room : goal.returns-clause-room
-returns-clause-room g c =
-    let all = went_back g (goal.at.returns-clause-room g c).After-end in
+pub returns-clause-reserve : goal.returns-clause-reserve
+returns-clause-reserve g c =
+    let all = went_back g (goal.at.returns-clause-reserve g c).After-end in
     let places = ap deque_capacity c.end.ensures ∙ same_places_then c.free_from.ensures.frees in
     omega arith
 

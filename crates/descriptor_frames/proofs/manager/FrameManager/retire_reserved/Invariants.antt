@@ -1,10 +1,10 @@
 use Rattle.std.proofs.Common.{◌≡◌, ◌+◌, ◌<◌, ◌≤◌, ◌++◌, length, map}
 use Rattle.std.specs.VecDeque.{deque_capacity}
-use Rattle.descriptor_frames.specs.Frames.{allocator_of, greatest_of, retired_of, room_of}
+use Rattle.descriptor_frames.specs.Frames.{allocator_of, greatest_of, retired_of, reserve_of}
 use Rattle.descriptor_frames.specs.Retired.{at_frame}
 use Rattle.descriptor_frames.proofs.manager.FrameManager.retire_reserved.Given as goal
 
--- the retired sets and those of the queue make up the list, and there is room for these
+-- the retired sets and those of the queue make up the list, and memory for these is reserved
 abbrev pub invariant-loop-set : goal.invariant-loop-set
 invariant-loop-set g l = record {
   list : retired_of l.self ++ map (at_frame l.frame) l.sets.items ≡ retired_of l.fn.self ++ map (at_frame l.frame) l.fn.sets.items;
@@ -13,7 +13,7 @@ invariant-loop-set g l = record {
   rising : greatest_of l.self ≤ l.frame;
   greatest : length l.sets.items < length l.fn.sets.items → greatest_of l.self ≡ l.frame;
   none : length l.sets.items ≡ length l.fn.sets.items → greatest_of l.self ≡ greatest_of l.fn.self;
-  room : room_of l.self + length l.fn.sets.items ≡ room_of l.fn.self + length l.sets.items;
+  reserve : reserve_of l.self + length l.fn.sets.items ≡ reserve_of l.fn.self + length l.sets.items;
   allocator : allocator_of l.self ≡ allocator_of l.fn.self;
 }
 

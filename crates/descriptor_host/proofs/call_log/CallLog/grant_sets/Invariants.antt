@@ -10,5 +10,5 @@ invariant-loop-set l = record {
   heads : l.self.granted.heads ≡ l.fn.self.granted.heads;
   long : length l.self.granted.sets.items ≡ length l.fn.self.granted.sets.items + l.set-index;
   capacity : deque_capacity l.self.granted.sets ≡ deque_capacity l.fn.self.granted.sets;
-  room : l.self.room ≡ l.fn.self.room;
+  reserve : l.self.reserve ≡ l.fn.self.reserve;
 }

@@ -19,6 +19,6 @@ loop-head-preserved c =
       within = search rules;
       long = search rules;
       handed = hands_more c.args.self.now.owed.log now.owed.log c.hand_first.new.self.owed.log now.listed n.call n.rest (take c.loop-head.written c.loop-head.out) (take (c.loop-head.written + (2 + head.sets)) c.hand_first.new.out) now.tied i.handed n.first c.hand_first.ensures.log more;
-      room = c.hand_first.ensures.room ∙ i.room;
+      reserve = c.hand_first.ensures.reserve ∙ i.reserve;
       granted = c.hand_first.ensures.granted ∙ i.granted;
     }

@@ -9,7 +9,7 @@ invariant-loop-head l = record {
   within : l.written ≤ length l.out;
   long : length l.out ≡ length l.fn.out;
   handed : HandsOver (take l.written l.out) l.fn.self.owed.log l.self.owed.log;
-  room : l.self.room ≡ l.fn.self.room;
+  reserve : l.self.reserve ≡ l.fn.self.reserve;
   granted : l.self.granted ≡ l.fn.self.granted;
 }
 

@@ -8,16 +8,16 @@ use Rattle.descriptor_host.specs.declared.call_queue.CallHead.{CallHead}
 use Rattle.descriptor_host.proofs.Queues.{release_some, returned_more, things_less}
 use Rattle.descriptor_host.proofs.call_log.CallLog.return_all.Goals as goal
 
-pub return_pool-requires-clause-room : goal.return_pool-requires-clause-room
-return_pool-requires-clause-room c =
+pub return_pool-requires-clause-reserve : goal.return_pool-requires-clause-reserve
+return_pool-requires-clause-reserve c =
     let l = c.in-Some.ensures.last in
     let t = things_less c.loop-head.self.owed.log.granted l.call l.last in
     let fits = c.loop-head.invariant.fits in
     let some : 1 ≤ things_of (head_of l.call) = omega arith in
     omega arith
 
-pub return_sets-requires-clause-room : goal.return_sets-requires-clause-room
-return_sets-requires-clause-room c =
+pub return_sets-requires-clause-reserve : goal.return_sets-requires-clause-reserve
+return_sets-requires-clause-reserve c =
     let l = c.in-Some.ensures.last in
     let t = things_less c.loop-head.self.owed.log.granted l.call l.last in
     let fits = c.loop-head.invariant.fits in
@@ -39,7 +39,7 @@ loop-head-preserved c =
     let things : things_of (head_of l.call) ≡ length l.call.sets = omega arith in
     let now : after.granted ≡ but_last before.granted = ap (λ (m : Log). m.granted) log in
     let less : things_in after.granted ≡ things_in (but_last before.granted) = ap things_in now in
-    let room = c.return_sets.ensures.room in
+    let reserve = c.return_sets.ensures.reserve in
     let more : listed_of after.history ≡ listed_of before.history ++ l.call ∷ [] = ap (λ (m : Log). listed_of m.history) log ∙ ap (λ cs. listed_of before.history ++ cs) (ap (release_of c.in-Some.head.pool) l.sets ∙ release_some c.in-Some.head.pool l.call.sets some ∙ ap (λ (p : ℕ). record { pool = p; sets = l.call.sets } ∷ []) (sym (ap (λ (h : CallHead). h.pool) l.head))) in
     record {
       listed = returned_more before after l.call l.last now more ∙ i.listed;
@@ -50,7 +50,7 @@ loop-head-preserved c =
       handed = ap (λ (m : Log). m.handed) log ∙ i.handed;
       heard = ap (λ (m : Log). m.heard) log ∙ i.heard;
       fits = (let f = i.fits in omega arith);
-      room = (let r = i.room in omega arith);
+      reserve = (let r = i.reserve in omega arith);
     }
 
 pub loop-head-preserved-then-head-eq0 : goal.loop-head-preserved-then-head-eq0
@@ -66,7 +66,7 @@ loop-head-preserved-then-head-eq0 c =
     let things : things_of (head_of l.call) ≡ 1 = omega arith in
     let now : after.granted ≡ but_last before.granted = ap (λ (m : Log). m.granted) log in
     let less : things_in after.granted ≡ things_in (but_last before.granted) = ap things_in now in
-    let room = c.return_pool.ensures.room in
+    let reserve = c.return_pool.ensures.reserve in
     let is : ◌≡◌ {A = DriverCall} (record { pool = c.in-Some.head.pool; sets = [] }) l.call = (λ k. record { pool = sym (ap (λ (h : CallHead). h.pool) l.head) k; sets = sym (nil_from_length l.call.sets none) k }) in
     let more : listed_of after.history ≡ listed_of before.history ++ l.call ∷ [] = ap (λ (m : Log). listed_of m.history) log ∙ ap (λ (d : DriverCall). listed_of before.history ++ d ∷ []) is in
     record {
@@ -78,5 +78,5 @@ loop-head-preserved-then-head-eq0 c =
       handed = ap (λ (m : Log). m.handed) log ∙ i.handed;
       heard = ap (λ (m : Log). m.heard) log ∙ i.heard;
       fits = (let f = i.fits in omega arith);
-      room = (let r = i.room in omega arith);
+      reserve = (let r = i.reserve in omega arith);
     }

@@ -14,8 +14,8 @@ invariant-loop-head l = record {
   taken : l.self.owed.log.taken ≡ [];
   handed : l.self.owed.log.handed ≡ l.fn.self.owed.log.handed;
   heard : l.self.owed.log.heard ≡ l.fn.self.owed.log.heard;
-  fits : things_in l.self.owed.log.granted ≤ l.self.room;
-  room : l.self.room + things_in l.fn.self.owed.log.granted ≡ l.fn.self.room + things_in l.self.owed.log.granted;
+  fits : things_in l.self.owed.log.granted ≤ l.self.reserve;
+  reserve : l.self.reserve + things_in l.fn.self.owed.log.granted ≡ l.fn.self.reserve + things_in l.self.owed.log.granted;
 }
 
 abbrev pub decreases-loop-head : goal.decreases-loop-head

@@ -8,5 +8,5 @@ invariant-loop-place l = record {
   log : l.self.owed.log ≡ record l.fn.self.owed.log { taken = take l.place (drop l.start l.fn.self.granted.sets.items) };
   granted : l.self.granted ≡ l.fn.self.granted;
   start : l.start ≡ length l.fn.self.granted.sets.items - l.sets;
-  room : l.self.room + l.place ≡ l.fn.self.room;
+  reserve : l.self.reserve + l.place ≡ l.fn.self.reserve;
 }

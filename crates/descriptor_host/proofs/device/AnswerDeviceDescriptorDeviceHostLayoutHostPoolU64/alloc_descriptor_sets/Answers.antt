@@ -2,14 +2,14 @@ use Rattle.std.proofs.Common.{◌≡◌, ℕ, [], List, length, map, refl, ap, �
 use Rattle.gpu_descriptor_types.specs.Counts.{kinds}
 use Rattle.descriptor_host.specs.History.{Log}
 use Rattle.descriptor_host.specs.Pools.{pool_name, rows_of}
-use Rattle.descriptor_host.specs.Room.{ledger_after}
+use Rattle.descriptor_host.specs.Reserve.{ledger_after}
 use Rattle.descriptor_host.specs.declared.act.Act.TheVariants.{Put, NoPut}
 use Rattle.gpu_descriptor_types.specs.Layouts.{layout, left}
 use Rattle.gpu_descriptor_types.specs.Ledger.{Ledger, after_alloc, after_no_alloc, live_sets}
 use Rattle.descriptor_host.specs.Acts.{first_sets}
 use Rattle.descriptor_host.specs.declared.call_queue.CallHead.{CallHead}
 use Rattle.descriptor_host.proofs.Ledgers.{ledger_no_put, ledger_put}
-use Rattle.descriptor_host.proofs.Rooms.{ends_no_put, ends_put}
+use Rattle.descriptor_host.proofs.Reserves.{ends_no_put, ends_put}
 use Rattle.descriptor_host.proofs.Rows.{live_alike, rows_more, still_below}
 use Rattle.descriptor_host.proofs.device.AnswerDeviceDescriptorDeviceHostLayoutHostPoolU64.alloc_descriptor_sets.Goals as goal
 
@@ -28,7 +28,7 @@ invariant_of-self-clause-ends g c =
     let live = ap (λ (l : Ledger). l.pools (pool_name pool)) c.next_sets.ensures.ledger ∙ c.requires.fits.is_live in
     let next = c.in-Ok.ensures.granted in
     let log = c.put.ensures.log in
-    ends_put history _ mid.next_number c.len-many.result pool counts c.requires.fits.pool granted _ mid.wanted mid.log.room _ mid.below live (ap (λ (l : Log). rows_of l.history) log ∙ rows_more (Put pool counts) (first_sets granted) history) next.0 next.1 (ap (λ (l : Log). l.granted) log) c.put.ensures.room mid.ends
+    ends_put history _ mid.next_number c.len-many.result pool counts c.requires.fits.pool granted _ mid.wanted mid.log.reserve _ mid.below live (ap (λ (l : Log). rows_of l.history) log ∙ rows_more (Put pool counts) (first_sets granted) history) next.0 next.1 (ap (λ (l : Log). l.granted) log) c.put.ensures.reserve mid.ends
 
 pub invariant_of-self-in-Err-clause-below : goal.invariant_of-self-in-Err-clause-below
 invariant_of-self-in-Err-clause-below g c =
@@ -42,7 +42,7 @@ invariant_of-self-in-Err-clause-ends g c =
     let pool = c.args.pool.now in
     let live = ap (λ (l : Ledger). l.pools (pool_name pool)) c.next_sets.ensures.ledger ∙ c.requires.fits.is_live in
     let log = c.refuse_sets.ensures.log in
-    ends_no_put history _ mid.next_number pool c.in-Err.error c.requires.fits.pool mid.log.owed.log.granted _ mid.wanted mid.log.room _ mid.below live (ap (λ (l : Log). rows_of l.history) log ∙ rows_more (NoPut pool c.in-Err.error) [] history) (ap (λ (l : Log). l.granted) log) c.refuse_sets.ensures.room mid.ends
+    ends_no_put history _ mid.next_number pool c.in-Err.error c.requires.fits.pool mid.log.owed.log.granted _ mid.wanted mid.log.reserve _ mid.below live (ap (λ (l : Log). rows_of l.history) log ∙ rows_more (NoPut pool c.in-Err.error) [] history) (ap (λ (l : Log). l.granted) log) c.refuse_sets.ensures.reserve mid.ends
 
 pub returns-in-Ok-clause-ok : goal.returns-in-Ok-clause-ok
 returns-in-Ok-clause-ok g c =
@@ -59,7 +59,7 @@ returns-in-Ok-clause-ok g c =
       own = λ k d within. refl;
       kept = c.put.ensures.kept;
       alike = c.put.ensures.alike;
-      room = (let r = c.put.ensures.left in let l = c.len-many.ensures in omega arith);
+      left = (let r = c.put.ensures.left in let l = c.len-many.ensures in omega arith);
       ledger = ap (λ (l : Log). ledger_after l.history) c.put.ensures.log ∙ ledger_put mid.history pool counts sets ∙ (λ i. after_alloc (pool_name pool) (same i) (c.next_sets.ensures.ledger i));
     }
 
@@ -69,7 +69,7 @@ returns-in-Err-clause-err g c =
     record {
       kept = refl;
       alike = refl;
-      room = refl;
+      left = refl;
       ledger = ap (λ (l : Log). ledger_after l.history) c.refuse_sets.ensures.log ∙ ledger_no_put c.next_sets.new.self.log.owed.log.history pool c.in-Err.error ∙ ap (after_no_alloc (pool_name pool) c.in-Err.error) c.next_sets.ensures.ledger;
     }
 

@@ -6,10 +6,10 @@ use Rattle.descriptor_host.specs.declared.pool.HostPool.{HostPool}
 use Rattle.descriptor_host.specs.Calls.{things_in}
 use Rattle.descriptor_host.specs.History.{Log}
 use Rattle.descriptor_host.specs.Pools.{AreBelow, OwedPool, pool_name, rows_of}
-use Rattle.descriptor_host.specs.Room.{EndsAll, ledger_after}
+use Rattle.descriptor_host.specs.Reserve.{EndsAll, ledger_after}
 use Rattle.descriptor_host.specs.declared.act.Act.TheVariants.{Create, NoCreate}
 use Rattle.descriptor_host.proofs.Ledgers.{below_by, ledger_create, ledger_no_create, none_at}
-use Rattle.descriptor_host.proofs.Rooms.{ends_created, ends_moved}
+use Rattle.descriptor_host.proofs.Reserves.{ends_created, ends_moved}
 use Rattle.descriptor_host.proofs.Rows.{new_below, rows_more}
 use Rattle.descriptor_host.proofs.device.AnswerDeviceDescriptorDeviceHostLayoutHostPoolU64.create_descriptor_pool.Goals as goal
 
@@ -32,9 +32,9 @@ invariant_of-self-clause-ends c =
     let is = ap (λ (l : Log). rows_of l.history) log ∙ rows_more (Create pool c.args.counts.now c.args.max_sets c.args.flags) [] history in
     let old = c.args.self.now in
     let number : mid.next_number ≡ old.next_number = c.next_pool.ensures.number in
-    let ends : EndsAll (rows_of history) old.next_number mid.log.owed.log.granted mid.wanted mid.log.room = subst (λ (n : ℕ). EndsAll (rows_of history) n mid.log.owed.log.granted mid.wanted mid.log.room) number mid.ends in
+    let ends : EndsAll (rows_of history) old.next_number mid.log.owed.log.granted mid.wanted mid.log.reserve = subst (λ (n : ℕ). EndsAll (rows_of history) n mid.log.owed.log.granted mid.wanted mid.log.reserve) number mid.ends in
     let below = subst (AreBelow (rows_of history)) number mid.below in
-    ends_created (rows_of history) _ old.next_number c.in-Ok.handle made mid.log.owed.log.granted _ mid.wanted mid.log.room _ below c.in-Ok.ensures.small refl is c.in-Ok.ensures.granted (ap (λ (l : Log). l.granted) log) c.create.ensures.room ends
+    ends_created (rows_of history) _ old.next_number c.in-Ok.handle made mid.log.owed.log.granted _ mid.wanted mid.log.reserve _ below c.in-Ok.ensures.small refl is c.in-Ok.ensures.granted (ap (λ (l : Log). l.granted) log) c.create.ensures.reserve ends
 
 pub invariant_of-self-in-Err-clause-below : goal.invariant_of-self-in-Err-clause-below
 invariant_of-self-in-Err-clause-below c =
@@ -46,9 +46,9 @@ invariant_of-self-in-Err-clause-ends c =
     let mid = c.next_pool.new.self in
     let history = mid.log.owed.log.history in
     let log = c.refuse_pool.ensures.log in
-    let room = c.refuse_pool.ensures.room in
+    let reserve = c.refuse_pool.ensures.reserve in
     let granted = ap (λ (l : Log). things_in l.granted) log in
-    ends_moved (rows_of history) _ mid.next_number mid.log.owed.log.granted _ mid.wanted _ mid.log.room _ (ap (λ (l : Log). rows_of l.history) log ∙ rows_more (NoCreate c.in-Err.error) [] history) (omega arith) mid.ends
+    ends_moved (rows_of history) _ mid.next_number mid.log.owed.log.granted _ mid.wanted _ mid.log.reserve _ (ap (λ (l : Log). rows_of l.history) log ∙ rows_more (NoCreate c.in-Err.error) [] history) (omega arith) mid.ends
 
 pub returns-in-Ok-clause-new_name : goal.returns-in-Ok-clause-new_name
 returns-in-Ok-clause-new_name c = none_at c.args.self.now.log.owed.log.history c.args.self.now.next_number _ c.args.self.now.below (omega arith)

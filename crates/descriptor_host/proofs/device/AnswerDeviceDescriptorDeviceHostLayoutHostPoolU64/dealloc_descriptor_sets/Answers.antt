@@ -3,7 +3,7 @@ use Rattle.std.specs.Prelude.{Some}
 use Rattle.descriptor_host.specs.declared.pool.HostPool.{HostPool}
 use Rattle.descriptor_host.specs.History.{Log}
 use Rattle.descriptor_host.specs.Pools.{pool_name, pool_owed, rows_of}
-use Rattle.descriptor_host.specs.Room.{ledger_after}
+use Rattle.descriptor_host.specs.Reserve.{ledger_after}
 use Rattle.descriptor_host.specs.declared.act.Act.TheVariants.{Release}
 use Rattle.gpu_descriptor_types.specs.Ledger.{AreLive, Ledger, Pool, after_release}
 use Rattle.gpu_descriptor_types.specs.Multiset.{AreIn, LiveSet, times}
@@ -12,17 +12,17 @@ use Rattle.std.specs.Prelude.{IfSome}
 use Rattle.descriptor_host.specs.Acts.{log_after}
 use Rattle.descriptor_host.specs.Device.{ledger_of}
 use Rattle.descriptor_host.proofs.Ledgers.{goes, pools_after}
-use Rattle.descriptor_host.proofs.Rooms.{ends_release, room_release}
+use Rattle.descriptor_host.proofs.Reserves.{ends_release, reserve_release}
 use Rattle.descriptor_host.proofs.Rows.{map-id, rows_more, still_below, taken_in}
 use Rattle.descriptor_host.proofs.device.AnswerDeviceDescriptorDeviceHostLayoutHostPoolU64.dealloc_descriptor_sets.Goals as goal
 
 still_live : (l m : Ledger) (pool : HostPool) (xs : List ℕ) → m ≡ l → AreLive (pool_name pool) (map (λ n. n) xs) l → AreLive (pool_name pool) xs m
 still_live l m pool xs same live = subst (λ (k : Ledger). AreLive (pool_name pool) xs k) (sym same) (subst (λ (names : List ℕ). AreLive (pool_name pool) names l) (map-id xs) live)
 
-pub take_each-many-requires-clause-room : goal.take_each-many-requires-clause-room
-take_each-many-requires-clause-room g c = (λ xs t steps.
+pub take_each-many-requires-clause-reserve : goal.take_each-many-requires-clause-reserve
+take_each-many-requires-clause-reserve g c = (λ xs t steps.
     let mid = c.end_answers.new.self in
-    room_release mid.log.owed.log.history mid.next_number mid.log.owed.log.granted mid.wanted mid.log.room c.args.pool.now xs mid.below (still_live _ _ c.args.pool.now xs c.end_answers.ensures.ledger (c.requires.live xs t steps)) mid.ends)
+    reserve_release mid.log.owed.log.history mid.next_number mid.log.owed.log.granted mid.wanted mid.log.reserve c.args.pool.now xs mid.below (still_live _ _ c.args.pool.now xs c.end_answers.ensures.ledger (c.requires.live xs t steps)) mid.ends)
 
 pub invariant_of-self-clause-below : goal.invariant_of-self-clause-below
 invariant_of-self-clause-below g c =
@@ -38,9 +38,9 @@ invariant_of-self-clause-ends g c =
     let t = c.take_each-many.ensures.taken in
     let pool = c.args.pool.now in
     let after = c.release.ensures.log ∙ ap (log_after (Release pool)) t.2 in
-    let less : c.release.new.self.room + length t.0 ≡ mid.log.room = ap (λ (n : ℕ). n + length t.0) c.release.ensures.room ∙ t.3 in
+    let less : c.release.new.self.reserve + length t.0 ≡ mid.log.reserve = ap (λ (n : ℕ). n + length t.0) c.release.ensures.reserve ∙ t.3 in
     let history = mid.log.owed.log.history in
-    ends_release history _ mid.next_number pool t.0 mid.log.owed.log.granted _ mid.wanted mid.log.room _ mid.below (still_live _ _ pool t.0 c.end_answers.ensures.ledger (c.requires.live t.0 t.1.0 t.1.1)) (ap (λ (l : Log). rows_of l.history) after ∙ rows_more (Release pool) t.0 history) (ap (λ (l : Log). l.granted) after) less mid.ends
+    ends_release history _ mid.next_number pool t.0 mid.log.owed.log.granted _ mid.wanted mid.log.reserve _ mid.below (still_live _ _ pool t.0 c.end_answers.ensures.ledger (c.requires.live t.0 t.1.0 t.1.1)) (ap (λ (l : Log). rows_of l.history) after ∙ rows_more (Release pool) t.0 history) (ap (λ (l : Log). l.granted) after) less mid.ends
 
 pub returns-clause-released : goal.returns-clause-released
 returns-clause-released g c =

@@ -14,5 +14,5 @@ invariant_of-self c =
         held = rw (c.add_layout.ensures.allocator, c.add_layout.ensures.sets) old.ready.held;
         meant = meant_after host_meaning (layouts_of old.session) (layouts_of c.add_layout.new.self) (record { layout = layout; counts = layout.counts; flags = c.flags-flags.result }) c.add_layout.result c.add_layout.ensures.last c.add_layout.ensures.layouts old.ready.meant refl c.flags-flags.ensures;
       };
-      roomy = rw (c.add_layout.ensures.sets, c.add_layout.ensures.room) old.roomy;
+      can_free = rw (c.add_layout.ensures.sets, c.add_layout.ensures.reserve) old.can_free;
     }

@@ -4,7 +4,7 @@ use Rattle.descriptor_lines.proofs.answer.reply.reply_answer.Goals as goal
 
 pub freed_answer-requires : goal.freed_answer-requires
 freed_answer-requires c =
-    let room = rw c.in-Freed.is at c.requires.room in
+    let reserve = rw c.in-Freed.is at c.requires.reserve in
     omega (arith, length_of_freed c.in-Freed.count (omega arith))
 
 pub returns-in-Freed-clause-enough : goal.returns-in-Freed-clause-enough

@@ -16,8 +16,8 @@ joined old first second third a b c one two three = three ∙ ap (λ l. l ++ c) 
 pub range_answer-requires : goal.range_answer-requires
 range_answer-requires c = omega (arith, length_of_range c.args.first (c.args.first + c.args.count - 1) (omega arith) (omega arith))
 
-pub stretches_answer-requires-clause-room : goal.stretches_answer-requires-clause-room
-stretches_answer-requires-clause-room c =
+pub stretches_answer-requires-clause-reserve : goal.stretches_answer-requires-clause-reserve
+stretches_answer-requires-clause-reserve c =
     let range = range_text c.args.first (c.args.first + c.args.count - 1) in
     let ranged : length (string_bytes c.range_answer.new.answer) ≡ length (string_bytes c.args.answer.now) + length range = longer _ _ _ c.range_answer.ensures.text in
     omega (arith, length_of_range c.args.first (c.args.first + c.args.count - 1) (omega arith) (omega arith))

@@ -17,7 +17,7 @@ loop-ticket-init c =
       short = omega arith;
       said = ap (λ pools. string_bytes c.args.answer.now ++ stretches_text pools) first;
       few = omega arith;
-      room = omega arith;
+      reserve = omega arith;
     }
 
 pub stretch_answer-requires : goal.stretch_answer-requires
@@ -37,7 +37,7 @@ loop-ticket-preserved c =
         short = omega arith;
         said = ap (λ pools. string_bytes l.answer ++ stretches_text pools) (stretch_grows slots l.ticket (c.args.first + c.args.count) l.stretch.pool l.stretch.length c.loop-ticket-test.true (sym pool.ensures ∙ w.if-pool-stretch.true)) ∙ l.invariant.said;
         few = omega arith;
-        room = l.invariant.room;
+        reserve = l.invariant.reserve;
       })
       | else-pool-stretch w ↦
           let ended = stretch_text (l.stretch.pool, l.stretch.length) in
@@ -49,7 +49,7 @@ loop-ticket-preserved c =
             short = omega arith;
             said = ap (λ bytes. bytes ++ others) w.stretch_answer.ensures.text ∙ append_assoc (string_bytes l.answer) ended others ∙ ap (λ text. string_bytes l.answer ++ text) (stretch_ends slots l.ticket (c.args.first + c.args.count) l.stretch.pool l.stretch.length pool.result c.loop-ticket-test.true l.invariant.some (sym pool.ensures) w.if-pool-stretch.false) ∙ l.invariant.said;
             few = omega (arith, grown, length_of_stretch l.stretch.pool l.stretch.length l.invariant.some l.invariant.named (omega arith));
-            room = omega arith;
+            reserve = omega arith;
           })
     ]
 

@@ -4,7 +4,7 @@ use Rattle.descriptor_script.specs.Sessions.Session.{sets_of}
 use Rattle.descriptor_lines.specs.ReplyTexts.{pools_from, stretches_text}
 use Rattle.descriptor_lines.proofs.answer.reply.stretches_answer.Given as goal
 
--- the text lacks the stretch so far and those of the tickets that are left, and has room for them
+-- the text lacks the stretch so far and those of the tickets that are left, and has memory for them
 abbrev pub invariant-loop-ticket : goal.invariant-loop-ticket
 invariant-loop-ticket l = record {
   some : 0 < l.stretch.length;
@@ -12,5 +12,5 @@ invariant-loop-ticket l = record {
   short : l.stretch.length + l.fn.first ≤ l.ticket;
   said : string_bytes l.answer ++ stretches_text (replicate l.stretch.length l.stretch.pool ++ pools_from (sets_of l.session) l.ticket (l.fn.first + l.fn.count - l.ticket)) ≡ string_bytes l.initial.answer ++ stretches_text (pools_from (sets_of l.session) l.fn.first l.fn.count);
   few : length (string_bytes l.answer) + 23 * (l.stretch.length + l.fn.first) ≤ length (string_bytes l.initial.answer) + 23 * l.ticket;
-  room : string_capacity l.initial.answer ≤ string_capacity l.answer;
+  reserve : string_capacity l.initial.answer ≤ string_capacity l.answer;
 }

@@ -12,15 +12,15 @@ use Rattle.descriptor_lines.proofs.input.LineBuffer.read_more.Goals as goal
 -- what stands in the buffer after a read behind its bytes
 read_behind : {Z : Type 0} (v : Vec ℕ Z) (shown got : List ℕ) (end : ℕ) → length shown ≡ v.len → end ≤ length shown → length got ≡ length (slice_range shown end (length shown))
     → let all = take end shown ++ (got ++ post_of end (length shown - end) shown) in (with_items v all).items ≡ all
-read_behind v shown got end size fits room =
+read_behind v shown got end size fits behind =
     let rest : List ℕ = post_of end (length shown - end) shown in
     with_items_is v _ (omega (arith, length-between shown end (length shown) (omega arith), length-append (take end shown) (got ++ rest), length-append got rest, length-take-le end shown fits, length-drop (length shown - end) (drop end shown), length-drop end shown))
 
 -- what stands before the place of a read stays
 front_stays : {Z : Type 0} (v : Vec ℕ Z) (shown got : List ℕ) (start place end : ℕ) → length shown ≡ v.len → end ≤ length shown → place ≤ end → length got ≡ length (slice_range shown end (length shown))
     → slice_range (with_items v (take end shown ++ (got ++ post_of end (length shown - end) shown))).items start place ≡ slice_range shown start place
-front_stays v shown got start place end size fits before room =
-    ap (λ l. slice_range l start place) (read_behind v shown got end size fits room) ∙ front_part shown (got ++ post_of end (length shown - end) shown) start place end before fits
+front_stays v shown got start place end size fits before behind =
+    ap (λ l. slice_range l start place) (read_behind v shown got end size fits behind) ∙ front_part shown (got ++ post_of end (length shown - end) shown) start place end before fits
 
 pub returns-clause-kept : goal.returns-clause-kept
 returns-clause-kept g c =

@@ -25,12 +25,12 @@ last_entry layouts name entry absent = insert_entry-new string_eq layouts.by_nam
 
 pub returns : goal.returns
 returns c =
-    let entries = on_ok c.insert.result _ (c.insert.ensures.succeeds c.requires.room) c.insert.ensures.entries in
+    let entries = on_ok c.insert.result _ (c.insert.ensures.succeeds c.requires.reserve) c.insert.ensures.entries in
     record { layouts = ap (map listed) (entries ∙ last_entry c.args.self.now _ _ c.requires.absent) ∙ map-append listed _ _ }
 
 pub invariant_of-self : goal.invariant_of-self
 invariant_of-self c =
-    let entries = on_ok c.insert.result _ (c.insert.ensures.succeeds c.requires.room) c.insert.ensures.entries in
+    let entries = on_ok c.insert.result _ (c.insert.ensures.succeeds c.requires.reserve) c.insert.ensures.entries in
     record {
       told = subst TellFirsts (sym (entries ∙ last_entry c.args.self.now _ _ c.requires.absent)) (tell_more _ _ c.args.self.now.told c.is_new-is_first.ensures);
     }

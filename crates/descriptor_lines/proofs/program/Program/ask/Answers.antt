@@ -51,7 +51,7 @@ reply_answer-requires g c =
     let few : sets_given c.index.result.now ≤ sets_asked c.args.command = given_as_asked c.args.command c.index.result.now old new before after step in
     record {
       replied = has_answer c.args.command c.index.result.now old new before after step c.in_default.not-NoMemory known (few_tickets new);
-      room = omega (arith, c.in_ok-reserve.ensures.ok, c.room_for.ensures, c.reserve.new.self.bytes.ok.0);
+      reserve = omega (arith, c.in_ok-reserve.ensures.ok, c.reserve_for.ensures, c.reserve.new.self.bytes.ok.0);
     }
 
 pub returns : goal.returns

@@ -29,7 +29,7 @@ loop-set-preserved c =
     record {
       ahead = append_snoc c.loop-set.yielded c.in-Some.set rest ∙ ap (λ l. c.loop-set.yielded ++ l) (sym steps) ∙ inv.ahead;
       count = (let more = length-append c.loop-set.yielded (c.in-Some.set ∷ []) in omega arith);
-      room = c.hold-name.ensures.room (length rest) (subst (λ n. CanHold n c.loop-set.self) (omega arith) inv.room);
+      reserve = c.hold-name.ensures.reserve (length rest) (subst (λ n. CanHold n c.loop-set.self) (omega arith) inv.reserve);
       held = subst (λ ns. HoldsEach ns (c.loop-set.yielded ++ c.in-Some.set ∷ []) (named_in c.args.self.now) (named_in c.hold-name.new.self)) (sym (ap names_of one_more ∙ map-append (λ (s : NamedSet). s.name) (take count shown) (v ∷ []))) (holds_more (names_of (take count shown)) c.loop-set.yielded v.name c.in-Some.set (named_in c.args.self.now) (named_in c.loop-set.self) (named_in c.hold-name.new.self) inv.held c.hold-name.ensures.held);
       shown = ap handles_of one_more ∙ map-append (λ (s : NamedSet). s.handle) (take count shown) (v ∷ []) ∙ (λ j. inv.shown j ++ c.raw-handle.ensures j ∷ []) ∙ sym (map-append raw_of c.loop-set.yielded (c.in-Some.set ∷ []));
       others = drop_set shown count v (length c.args.sets.items) (omega arith) ∙ inv.others;

@@ -17,10 +17,10 @@ allocate-requires-clause-mark g c = (c.requires.ready.meant c.args.layout c.in-S
 
 pub append-requires : goal.append-requires
 append-requires g c =
-    let room = is_ok_then c.reserve.result (HasSpareSlots c.args.count c.reserve.new.self) (sym c.is_err.ensures.value ∙ c.if-is_err.false) c.reserve.ensures.room in
+    let reserve = is_ok_then c.reserve.result (HasSpareSlots c.args.count c.reserve.new.self) (sym c.is_err.ensures.value ∙ c.if-is_err.false) c.reserve.ensures.reserve in
     let many = c.in-Ok.ensures.hands_out.many in
-    let sets = room.sets in
-    let listed = room.listed in
+    let sets = reserve.sets in
+    let listed = reserve.listed in
     record { sets = omega arith; listed = omega arith }
 
 pub returns-in-Ok-clause-step : goal.returns-in-Ok-clause-step

@@ -19,5 +19,5 @@ loop-command-preserved g c =
       keeps = session_through _ inv.keeps p.keeps;
       filled = (let f = inv.filled in let l = c.push_reserved.ensures.len in omega arith);
       turned_away = λ all. (let (before, last) = All-pop IsTurnedAway _ c.loop-command.replies.items (Some c.step-reply.result) c.push_reserved.ensures.items all in p.device last ∙ inv.turned_away before);
-      room = (let r = inv.room in let cap = c.push_reserved.ensures.capacity in omega arith);
+      reserve = (let r = inv.reserve in let cap = c.push_reserved.ensures.capacity in omega arith);
     }

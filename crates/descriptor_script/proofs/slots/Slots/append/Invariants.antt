@@ -3,10 +3,10 @@ use Rattle.std.specs.Vec.Iter.{into_iter_items}
 use Rattle.descriptor_script.specs.Inner.Slots.{HasSpareSlots, slots_of}
 use Rattle.descriptor_script.proofs.slots.Slots.append.Given as goal
 
--- the sets so far are put, and there is room for the others
+-- the sets so far are put, and memory for the others is reserved
 abbrev pub invariant-loop-set : goal.invariant-loop-set
 invariant-loop-set g l = record {
   ahead : l.yielded ++ into_iter_items l.set-iterator ≡ l.fn.sets.items;
   sets : slots_of l.self ≡ slots_of l.fn.self ++ map Some l.yielded;
-  room : HasSpareSlots (length (into_iter_items l.set-iterator)) l.self;
+  reserve : HasSpareSlots (length (into_iter_items l.set-iterator)) l.self;
 }

@@ -30,5 +30,5 @@ loop-set-preserved g c =
       found = c.push_reserved.ensures.items ∙ (λ j. inv.found j ++ c.in-Some.ensures.0 j ∷ []) ∙ sym (ap (λ l. map place_of (names_of l)) (take_more sets i none c.loop-set-test.true) ∙ places_more (take i sets) (get_or sets i none));
       last = below_more _ _ inv.last (subst (λ n. generation_of n ≡ get_or c.args.self.now.before.items (place_of n) 0 + 1) (sym is) c.in-Some.ensures.1);
       long = search rules;
-      room = search rules;
+      reserve = search rules;
     }

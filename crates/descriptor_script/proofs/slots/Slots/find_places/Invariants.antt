@@ -11,5 +11,5 @@ invariant-loop-set g l = record {
   found : l.places.items ≡ map place_of (names_of (take l.set-index l.sets));
   last : (i : ℕ) → i < l.set-index → generation_of (get_or (names_of l.sets) i 0) ≡ (named_in l.self).generation (place_of (get_or (names_of l.sets) i 0));
   long : length l.places.items ≡ l.set-index;
-  room : vec_capacity l.places ≡ vec_capacity l.fn.places;
+  reserve : vec_capacity l.places ≡ vec_capacity l.fn.places;
 }

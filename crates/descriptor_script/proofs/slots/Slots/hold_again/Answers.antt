@@ -11,7 +11,7 @@ overflow_add-self g c =
     let s = c.args.self.now in
     let few = held_few s.sets.items in
     let counted = s.counted in
-    let room = c.requires.few in
+    let below = c.requires.few in
     omega arith
 
 pub invariant_of-self : goal.invariant_of-self

@@ -12,7 +12,7 @@ overflow_add-self g c =
     let counted = s.counted in
     let ok = s.sets.ok in
     let small = s.sets.small in
-    let room = c.requires.sets in
+    let sets = c.requires.sets in
     omega arith
 
 pub invariant_of-self : goal.invariant_of-self

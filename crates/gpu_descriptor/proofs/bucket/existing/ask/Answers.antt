@@ -1,5 +1,5 @@
 use Rattle.gpu_descriptor.proofs.Common.{◌≡◌, ℕ, ◌+◌, ◌-◌, ◌<◌, ◌≤◌, List, [], length, map, refl, sym, ap, ◌∙◌, subst, arith, min, length-map, append-nil, if◌then◌else◌, Ledger, after_alloc, live_sets, pool_refusals, Entry, Key, key_of, entry_of, IsBookedIn, IsAsked}
-use Rattle.gpu_descriptor.proofs.request.PlacesFree.{has_room}
+use Rattle.gpu_descriptor.proofs.request.PlacesFree.{can_give}
 use Rattle.gpu_descriptor.proofs.request.OwnLayout.{none_own, put_own}
 use Rattle.gpu_descriptor.proofs.request.Asks.{same_entry, skipped, given, refuses}
 use Rattle.gpu_descriptor.proofs.bucket.existing.ask.Goals as goal
@@ -15,7 +15,7 @@ alloc_descriptor_sets-requires-clause-fits g c =
     let e : Entry = entry_of g.D.DescriptorDevice.meaning.pool_name c.args.pool.now in
     let l : Ledger = g.D.DescriptorDevice.ledger c.args.device.now in
     let booked = subst (λ (k : Key). IsBookedIn k l.pools e) c.args.request.now.same c.requires.booked in
-    rw (c.new.ensures.left, c.new.ensures.layout) (has_room (g.D.DescriptorDevice.meaning.counts c.args.request.now.layout.now) (g.D.DescriptorDevice.meaning.mark c.args.request.now.layout.now) e c.min-count.result l booked few)
+    rw (c.new.ensures.left, c.new.ensures.layout) (can_give (g.D.DescriptorDevice.meaning.counts c.args.request.now.layout.now) (g.D.DescriptorDevice.meaning.mark c.args.request.now.layout.now) e c.min-count.result l booked few)
 
 pub returns-in-Ok-clause-asked : goal.returns-in-Ok-clause-asked
 returns-in-Ok-clause-asked g c =
@@ -33,7 +33,7 @@ returns-in-Ok-clause-asked g c =
     let is : m ≡ after_alloc e.pool (live_sets key.counts names) l = put.ledger ∙ ap (λ cs. after_alloc e.pool (live_sets cs names) l) (ap g.D.DescriptorDevice.meaning.counts c.new.ensures.layout ∙ counts) in
     let was = given key c.args.sink.now.left names e l m some long is in
     let now : record e { allocated = e.allocated + min c.args.sink.now.left e.available; available = e.available - min c.args.sink.now.left e.available } ≡ entry_of g.D.DescriptorDevice.meaning.pool_name (record { raw = c.alloc_descriptor_sets.new.pool; capacity = c.args.pool.now.capacity; allocated = c.args.pool.now.allocated + c.min-count.result; available = c.args.pool.now.available - c.min-count.result }) = same_entry _ _ (sym c.in-Ok.ensures.name) refl (omega arith) (omega arith) in
-    let room : c.alloc_descriptor_sets.new.sets.left + length put.sets ≡ c.args.sink.now.left = (let r = put.room in let n = c.new.ensures.left in omega arith) in
+    let room : c.alloc_descriptor_sets.new.sets.left + length put.sets ≡ c.args.sink.now.left = (let r = put.left in let n = c.new.ensures.left in omega arith) in
     (put.sets, put.kept, room, subst (λ (f : Entry). IsAsked key c.args.sink.now.left names e f l m) now was)
 
 pub returns-then-is_of_pool-clause-asked : goal.returns-then-is_of_pool-clause-asked
@@ -48,7 +48,7 @@ returns-then-is_of_pool-clause-asked g c =
     let of_pool : pool_refusals c.in-Err.error ≡ 1 = c.is_of_pool.ensures ∙ ap (λ b. if b then 1 else 0) c.if-is_of_pool.true in
     let was = refuses key c.args.sink.now.left c.in-Err.error e l m some of_pool err.ledger in
     let now : record e { available = 0 } ≡ entry_of g.D.DescriptorDevice.meaning.pool_name (record { raw = c.alloc_descriptor_sets.new.pool; capacity = c.args.pool.now.capacity; allocated = c.args.pool.now.allocated; available = 0 }) = same_entry _ _ (sym c.in-Err.ensures.name) refl refl refl in
-    ([], err.kept ∙ sym (append-nil c.args.sink.now.sets.items), (let room = err.room in omega arith), subst (λ (f : Entry). IsAsked key c.args.sink.now.left [] e f l m) now was)
+    ([], err.kept ∙ sym (append-nil c.args.sink.now.sets.items), (let left = err.left in omega arith), subst (λ (f : Entry). IsAsked key c.args.sink.now.left [] e f l m) now was)
 
 pub returns-in-Ok-clause-own : goal.returns-in-Ok-clause-own
 returns-in-Ok-clause-own g c = (let put = c.in-Ok.ensures.ok in put_own g.D.DescriptorDevice.meaning c.args.request.now.layout.now c.args.sink.now.sets.items (key_of c.args.sink.now.key.now) c.args.sink.now.id c.args.sink.now.number put.sets c.new.ensures.layout put.kept put.own)

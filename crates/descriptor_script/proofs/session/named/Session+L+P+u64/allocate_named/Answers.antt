@@ -24,10 +24,10 @@ at g c =
 pub allocate-requires-clause-mark : goal.allocate-requires-clause-mark
 allocate-requires-clause-mark g c = (c.requires.ready.meant c.args.layout c.in-Some.known.now (at g (goal.at.allocate-requires-clause-mark g c).In-Some)).1
 
-pub hold_each-requires-clause-room : goal.hold_each-requires-clause-room
-hold_each-requires-clause-room g c =
-    let room = is_ok_then c.reserve_named.result (CanHold c.args.count c.reserve_named.new.self) (sym c.is_err.ensures.value ∙ c.if-is_err.false) c.reserve_named.ensures.room in
-    subst (λ n. CanHold n c.reserve_named.new.self) (sym c.in-Ok.ensures.hands_out.many) room
+pub hold_each-requires-clause-reserve : goal.hold_each-requires-clause-reserve
+hold_each-requires-clause-reserve g c =
+    let reserve = is_ok_then c.reserve_named.result (CanHold c.args.count c.reserve_named.new.self) (sym c.is_err.ensures.value ∙ c.if-is_err.false) c.reserve_named.ensures.reserve in
+    subst (λ n. CanHold n c.reserve_named.new.self) (sym c.in-Ok.ensures.hands_out.many) reserve
 
 pub returns-in-Ok-clause-step : goal.returns-in-Ok-clause-step
 returns-in-Ok-clause-step g c =

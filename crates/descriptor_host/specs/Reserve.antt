@@ -1,4 +1,4 @@
--- The room that a device takes for calls that can't be refused.
+-- The memory that a device reserves for calls that can't be refused.
 use Rattle.std.specs.Prelude.{◌≡◌, ℕ, zero, suc, ◌+◌, ◌*◌, List, length, Option, None, Some}
 use Rattle.gpu_descriptor_types.specs.Ledger.{Ledger}
 use Rattle.descriptor_host.specs.Calls.{DriverCall, things_in, things_of}
@@ -25,6 +25,6 @@ unfoldable pub things_below : List (ℕ × Option OwedPool) → ℕ → ℕ
 things_below rows zero = 0
 things_below rows (suc name) = things_left (row_at rows name) + things_below rows name
 
--- the room is for the ends of all that is live, all that was granted, and what the named call may bring
-pub record EndsAll (rows : List (ℕ × Option OwedPool)) (next : ℕ) (granted : List DriverCall) (wanted : Option CallHead) (room : ℕ) : Type 0 where
-  pub exactly : things_below rows (next * 18446744073709551616) + things_in granted + things_wanted wanted ≡ room
+-- the reserve is for the ends of all that is live, all that was granted, and what the named call may bring
+pub record EndsAll (rows : List (ℕ × Option OwedPool)) (next : ℕ) (granted : List DriverCall) (wanted : Option CallHead) (reserve : ℕ) : Type 0 where
+  pub exactly : things_below rows (next * 18446744073709551616) + things_in granted + things_wanted wanted ≡ reserve

@@ -1,4 +1,4 @@
--- The room that a device has taken, as it goes on.
+-- The memory that a device has reserved, as it goes on.
 use Rattle.std.proofs.Common.{◌≡◌, ◌≢◌, ℕ, zero, suc, ◌+◌, ◌*◌, ◌<◌, ◌≤◌, true, false, nat_eq, List, [], ◌∷◌, ◌++◌, count_by, drop, length, Option, None, Some, inl, inr, refl, sym, ap, ◌∙◌, arith, eqb-true, eq-eqb, ne_eqb, lt_of_not-le}
 use Rattle.std.specs.Prelude.{is_some}
 use Rattle.std.specs.Option.{option_map}
@@ -14,7 +14,7 @@ use Rattle.descriptor_host.specs.Acts.{first_sets}
 use Rattle.descriptor_host.specs.Calls.{DriverCall, things_in, things_of}
 use Rattle.descriptor_host.specs.History.{Entry}
 use Rattle.descriptor_host.specs.Pools.{AreBelow, OwedPool, none_named, pool_name, pool_owed, row_at, rows_after, rows_of}
-use Rattle.descriptor_host.specs.Room.{EndsAll, ledger_after, things_below, things_left, things_wanted}
+use Rattle.descriptor_host.specs.Reserve.{EndsAll, ledger_after, things_below, things_left, things_wanted}
 use Rattle.descriptor_host.specs.Ties.{IsNext}
 use Rattle.descriptor_host.specs.declared.act.Act.TheVariants.{Put, NoPut, Release, Destroy}
 use Rattle.descriptor_host.specs.declared.call_queue.CallHead.{CallHead}
@@ -93,13 +93,13 @@ next_things h g rest n is = ap things_in n.first ∙ (λ i. things_of (n.head i)
 
 -- ---- by the steps
 
--- the same things are live, and what there is room for besides changes as the room does
-pub ends_moved : (rows more : List (ℕ × Option OwedPool)) (next : ℕ) (g h : List DriverCall) (v w : Option CallHead) (room now : ℕ) → more ≡ rows → things_in h + things_wanted w + room ≡ things_in g + things_wanted v + now → EndsAll rows next g v room → EndsAll more next h w now
-ends_moved rows more next g h v w room now same fits ends = (let is = ap (λ (rs : List (ℕ × Option OwedPool)). things_below rs (next * 18446744073709551616)) same in let had = ends.exactly in record { exactly = omega arith })
+-- the same things are live, and what there is reserve for besides changes as the reserve does
+pub ends_moved : (rows more : List (ℕ × Option OwedPool)) (next : ℕ) (g h : List DriverCall) (v w : Option CallHead) (reserve now : ℕ) → more ≡ rows → things_in h + things_wanted w + reserve ≡ things_in g + things_wanted v + now → EndsAll rows next g v reserve → EndsAll more next h w now
+ends_moved rows more next g h v w reserve now same fits ends = (let is = ap (λ (rs : List (ℕ × Option OwedPool)). things_below rs (next * 18446744073709551616)) same in let had = ends.exactly in record { exactly = omega arith })
 
-pub ends_created : (rows more : List (ℕ × Option OwedPool)) (next handle : ℕ) (made : OwedPool) (g rest : List DriverCall) (w : Option CallHead) (room now : ℕ) → AreBelow rows next → handle < 18446744073709551616 → length made.live ≡ 0 → more ≡ (next * 18446744073709551616 + handle, Some made) ∷ rows
-    → IsNext (record { pool = handle; sets = 0 }) g → rest ≡ drop 1 g → now ≡ room → EndsAll rows next g w room → EndsAll more (next + 1) rest w now
-ends_created rows more next handle made g rest w room now below small empty is n used same ends =
+pub ends_created : (rows more : List (ℕ × Option OwedPool)) (next handle : ℕ) (made : OwedPool) (g rest : List DriverCall) (w : Option CallHead) (reserve now : ℕ) → AreBelow rows next → handle < 18446744073709551616 → length made.live ≡ 0 → more ≡ (next * 18446744073709551616 + handle, Some made) ∷ rows
+    → IsNext (record { pool = handle; sets = 0 }) g → rest ≡ drop 1 g → now ≡ reserve → EndsAll rows next g w reserve → EndsAll more (next + 1) rest w now
+ends_created rows more next handle made g rest w reserve now below small empty is n used same ends =
     let name : ℕ = next * 18446744073709551616 + handle in
     let bound : ℕ = next * 18446744073709551616 + 18446744073709551616 in
     let above : (next + 1) * 18446744073709551616 ≡ bound = omega arith in
@@ -111,9 +111,9 @@ ends_created rows more next handle made g rest w room now below small empty is n
     let had = ends.exactly in
     record { exactly = omega arith }
 
-pub ends_put : (h : List Entry) (more : List (ℕ × Option OwedPool)) (next many : ℕ) (pool : HostPool) (counts : DescriptorTotalCount) (live : Pool) (g rest : List DriverCall) (w : Option CallHead) (room now : ℕ) → AreBelow (rows_of h) next → (ledger_after h).pools (pool_name pool) ≡ Some live → more ≡ rows_after (Put pool counts) (first_sets g) (rows_of h)
-    → 0 < many → IsNext (record { pool = pool.handle; sets = many }) g → rest ≡ drop 1 g → now ≡ room → EndsAll (rows_of h) next g w room → EndsAll more next rest w now
-ends_put h more next many pool counts live g rest w room now below at is some n used same ends =
+pub ends_put : (h : List Entry) (more : List (ℕ × Option OwedPool)) (next many : ℕ) (pool : HostPool) (counts : DescriptorTotalCount) (live : Pool) (g rest : List DriverCall) (w : Option CallHead) (reserve now : ℕ) → AreBelow (rows_of h) next → (ledger_after h).pools (pool_name pool) ≡ Some live → more ≡ rows_after (Put pool counts) (first_sets g) (rows_of h)
+    → 0 < many → IsNext (record { pool = pool.handle; sets = many }) g → rest ≡ drop 1 g → now ≡ reserve → EndsAll (rows_of h) next g w reserve → EndsAll more next rest w now
+ends_put h more next many pool counts live g rest w reserve now below at is some n used same ends =
     let put : List LiveSet = live_sets (kinds counts) (first_sets g) in
     let row = live_row (rows_of h) (pool_name pool) live (ap (λ (f : ℕ → Option Pool). f (pool_name pool)) (sym (pools_after h)) ∙ at) in
     let long : length put ≡ many = length-map (first_sets g) (λ (k : ℕ). record { name = k; counts = kinds counts }) ∙ ap (λ cs. length (first_sets cs)) n.first ∙ ap (λ (c : CallHead). c.sets) n.head in
@@ -123,9 +123,9 @@ ends_put h more next many pool counts live g rest w room now below at is some n 
     let had = ends.exactly in
     record { exactly = omega arith }
 
-pub ends_no_put : (h : List Entry) (more : List (ℕ × Option OwedPool)) (next : ℕ) (pool : HostPool) (error : DeviceAllocationError) (live : Pool) (g rest : List DriverCall) (w : Option CallHead) (room now : ℕ) → AreBelow (rows_of h) next → (ledger_after h).pools (pool_name pool) ≡ Some live → more ≡ rows_after (NoPut pool error) [] (rows_of h)
-    → rest ≡ g → now ≡ room → EndsAll (rows_of h) next g w room → EndsAll more next rest w now
-ends_no_put h more next pool error live g rest w room now below at is used same ends =
+pub ends_no_put : (h : List Entry) (more : List (ℕ × Option OwedPool)) (next : ℕ) (pool : HostPool) (error : DeviceAllocationError) (live : Pool) (g rest : List DriverCall) (w : Option CallHead) (reserve now : ℕ) → AreBelow (rows_of h) next → (ledger_after h).pools (pool_name pool) ≡ Some live → more ≡ rows_after (NoPut pool error) [] (rows_of h)
+    → rest ≡ g → now ≡ reserve → EndsAll (rows_of h) next g w reserve → EndsAll more next rest w now
+ends_no_put h more next pool error live g rest w reserve now below at is used same ends =
     let row = live_row (rows_of h) (pool_name pool) live (ap (λ (f : ℕ → Option Pool). f (pool_name pool)) (sym (pools_after h)) ∙ at) in
     let live_same = changed (rows_of h) more next (pool_name pool) row.0 (λ (r : OwedPool). record r { refusals = r.refusals + pool_refusals error }) below row.1 is in
     let granted = ap things_in used in
@@ -140,18 +140,18 @@ empty_row h name none =
     let row = live_row (rows_of h) name none.pool (ap (λ (f : ℕ → Option Pool). f name) (sym (pools_after h)) ∙ none.is_live) in
     (row.0, row.1, ap length (none_spelled row.0.live (λ x. ap (λ (p : Pool). p.live x) row.2 ∙ none.empty x)))
 
--- a live pool has room for its end
-pub room_destroy : (h : List Entry) (next : ℕ) (g : List DriverCall) (w : Option CallHead) (room : ℕ) (pool : HostPool) → AreBelow (rows_of h) next → HasNoSets (pool_name pool) (ledger_after h) → EndsAll (rows_of h) next g w room → 1 ≤ room
-room_destroy h next g w room pool below none ends =
+-- a live pool has reserve for its end
+pub reserve_destroy : (h : List Entry) (next : ℕ) (g : List DriverCall) (w : Option CallHead) (reserve : ℕ) (pool : HostPool) → AreBelow (rows_of h) next → HasNoSets (pool_name pool) (ledger_after h) → EndsAll (rows_of h) next g w reserve → 1 ≤ reserve
+reserve_destroy h next g w reserve pool below none ends =
     let row = empty_row h (pool_name pool) none in
     let within = row_within (rows_of h) (pool_name pool) (next * 18446744073709551616) (live_below (rows_of h) next (pool_name pool) row.0 below row.1) in
     let left : things_left (row_at (rows_of h) (pool_name pool)) ≡ length row.0.live + 1 = ap things_left row.1 in
     let had = ends.exactly in
     omega arith
 
-pub ends_destroy : (h : List Entry) (more : List (ℕ × Option OwedPool)) (next : ℕ) (pool : HostPool) (g rest : List DriverCall) (w : Option CallHead) (room now : ℕ) → AreBelow (rows_of h) next → HasNoSets (pool_name pool) (ledger_after h) → more ≡ rows_after (Destroy pool) [] (rows_of h)
-    → rest ≡ g → now + 1 ≡ room → EndsAll (rows_of h) next g w room → EndsAll more next rest w now
-ends_destroy h more next pool g rest w room now below none is used less ends =
+pub ends_destroy : (h : List Entry) (more : List (ℕ × Option OwedPool)) (next : ℕ) (pool : HostPool) (g rest : List DriverCall) (w : Option CallHead) (reserve now : ℕ) → AreBelow (rows_of h) next → HasNoSets (pool_name pool) (ledger_after h) → more ≡ rows_after (Destroy pool) [] (rows_of h)
+    → rest ≡ g → now + 1 ≡ reserve → EndsAll (rows_of h) next g w reserve → EndsAll more next rest w now
+ends_destroy h more next pool g rest w reserve now below none is used less ends =
     let bound : ℕ = next * 18446744073709551616 in
     let row = empty_row h (pool_name pool) none in
     let is_more = ap (λ (rs : List (ℕ × Option OwedPool)). things_below rs bound) is in
@@ -176,9 +176,9 @@ length_taken names sets t =
     let all = all_counted sets in
     omega arith
 
--- sets that are live have room to go
-pub room_release : (h : List Entry) (next : ℕ) (g : List DriverCall) (w : Option CallHead) (room : ℕ) (pool : HostPool) (names : List ℕ) → AreBelow (rows_of h) next → AreLive (pool_name pool) names (ledger_after h) → EndsAll (rows_of h) next g w room → length names ≤ room
-room_release h next g w room pool names below are ends =
+-- sets that are live have reserve to go
+pub reserve_release : (h : List Entry) (next : ℕ) (g : List DriverCall) (w : Option CallHead) (reserve : ℕ) (pool : HostPool) (names : List ℕ) → AreBelow (rows_of h) next → AreLive (pool_name pool) names (ledger_after h) → EndsAll (rows_of h) next g w reserve → length names ≤ reserve
+reserve_release h next g w reserve pool names below are ends =
     let out = goes h pool names are in
     let within = row_within (rows_of h) (pool_name pool) (next * 18446744073709551616) (live_below (rows_of h) next (pool_name pool) out.row below out.at) in
     let left : things_left (row_at (rows_of h) (pool_name pool)) ≡ length out.row.live + 1 = ap things_left out.at in
@@ -186,9 +186,9 @@ room_release h next g w room pool names below are ends =
     let had = ends.exactly in
     omega arith
 
-pub ends_release : (h : List Entry) (more : List (ℕ × Option OwedPool)) (next : ℕ) (pool : HostPool) (names : List ℕ) (g rest : List DriverCall) (w : Option CallHead) (room now : ℕ) → AreBelow (rows_of h) next → AreLive (pool_name pool) names (ledger_after h) → more ≡ rows_after (Release pool) names (rows_of h)
-    → rest ≡ g → now + length names ≡ room → EndsAll (rows_of h) next g w room → EndsAll more next rest w now
-ends_release h more next pool names g rest w room now below are is used less ends =
+pub ends_release : (h : List Entry) (more : List (ℕ × Option OwedPool)) (next : ℕ) (pool : HostPool) (names : List ℕ) (g rest : List DriverCall) (w : Option CallHead) (reserve now : ℕ) → AreBelow (rows_of h) next → AreLive (pool_name pool) names (ledger_after h) → more ≡ rows_after (Release pool) names (rows_of h)
+    → rest ≡ g → now + length names ≡ reserve → EndsAll (rows_of h) next g w reserve → EndsAll more next rest w now
+ends_release h more next pool names g rest w reserve now below are is used less ends =
     let out = goes h pool names are in
     let live_less = changed (rows_of h) more next (pool_name pool) out.row (λ (r : OwedPool). record r { live = none_named names r.live }) below out.at is in
     let taken = length_taken names out.row.live out.are in
@@ -201,9 +201,9 @@ pub ends_nothing : EndsAll [] 0 [] None 0
 unfolding things_below
 ends_nothing = record { exactly = refl }
 
--- ---- room for nothing
+-- ---- reserve for nothing
 
--- where there is room for nothing no pool is live
+-- where there is reserve for nothing no pool is live
 pub nothing_live : (h : List Entry) (next : ℕ) (g : List DriverCall) (w : Option CallHead) → AreBelow (rows_of h) next → EndsAll (rows_of h) next g w 0 → (name : ℕ) → (ledger_after h).pools name ≡ None
 nothing_live h next g w below ends name = ap (λ (f : ℕ → Option Pool). f name) (pools_after h) ∙ by (row_at (rows_of h) name) refl
   where
@@ -224,9 +224,9 @@ pub nothing_named : (rows : List (ℕ × Option OwedPool)) (next : ℕ) (g : Lis
 nothing_named rows next g None ends = refl
 nothing_named rows next g (Some h) ends = absurd (let had = ends.exactly in omega arith)
 
--- where nothing is left there is room for nothing
-pub no_room : (h : List Entry) (next : ℕ) (g : List DriverCall) (w : Option CallHead) (room : ℕ) → ((name : ℕ) → (ledger_after h).pools name ≡ None) → g ≡ [] → w ≡ None → EndsAll (rows_of h) next g w room → room ≡ 0
-no_room h next g w room none granted named ends =
+-- where nothing is left there is reserve for nothing
+pub no_reserve : (h : List Entry) (next : ℕ) (g : List DriverCall) (w : Option CallHead) (reserve : ℕ) → ((name : ℕ) → (ledger_after h).pools name ≡ None) → g ≡ [] → w ≡ None → EndsAll (rows_of h) next g w reserve → reserve ≡ 0
+no_reserve h next g w reserve none granted named ends =
     let live = all_none (rows_of h) (next * 18446744073709551616) (λ name. by (row_at (rows_of h) name) (ap (λ (f : ℕ → Option Pool). f name) (sym (pools_after h)) ∙ none name)) in
     let grants = ap things_in granted in
     let wanted = ap things_wanted named in

@@ -1,25 +1,25 @@
-//! Texts that go behind an answer which has room for them.
+//! Texts that go behind an answer which has memory for them.
 ghost use Rattle.std.specs.Prelude.{◌≡◌, ◌≤◌, ◌+◌, ◌++◌, length, string_bytes, string_capacity};
 ghost use Rattle.std.specs.Fmt.{decimal};
-ghost use Rattle.descriptor_lines.specs.Answers.{HasRoomFor};
+ghost use Rattle.descriptor_lines.specs.Answers.{HasReserveFor};
 
 use itoa::Buffer;
 
 /// Puts a text behind the answer.
 pub fn put(answer: &mut String, text: &str)
-    requires { HasRoomFor (length text.now) answer.old }
+    requires { HasReserveFor (length text.now) answer.old }
     ensures text { string_bytes answer.new ≡ string_bytes answer.old ++ text.now }
-    ensures room { string_capacity answer.old ≤ string_capacity answer.new }
+    ensures reserve { string_capacity answer.old ≤ string_capacity answer.new }
 {
     answer.push_str(text).unwrap();
 }
 
 /// Puts a number behind the answer, and before it this text.
 pub fn put_number(answer: &mut String, before: &str, number: u64)
-    requires { HasRoomFor (length before.now + length (decimal number)) answer.old }
+    requires { HasReserveFor (length before.now + length (decimal number)) answer.old }
     ensures text { string_bytes answer.new ≡ string_bytes answer.old
         ++ (before.now ++ decimal number) }
-    ensures room { string_capacity answer.old ≤ string_capacity answer.new }
+    ensures reserve { string_capacity answer.old ≤ string_capacity answer.new }
 {
     put(answer, before);
     put(answer, Buffer::new().format(number));
