@@ -58,13 +58,6 @@ fn expect_filled(
 }
 
 #[test]
-fn names_rise(rt: HostRuntime) -> Result<(), Fail> {
-    let mut device = ScriptedDevice::new(rt.alloc(), Vec::new(rt.alloc()));
-    let names = [(0, 0), (1, 4), (2, 8)];
-    expect_filled(&rt, rt.alloc(), &mut device, &names)
-}
-
-#[test]
 fn names_pass_32_bits(rt: HostRuntime) -> Result<(), Fail> {
     let mut device = device_from(rt.alloc(), 4294967294, 4294967289);
     let names = [

@@ -4,8 +4,7 @@
 use crate::frames::trial::FrameAct::{
     Cleanup, Device, Finish, FreeAll, Pools, Reserve, Retire, RetireAll, Sets,
 };
-use crate::frames::trial::{FrameAct, Outcome, Trial, expect_sets, play};
-use gpu_descriptor::AllocationError;
+use crate::frames::trial::{FrameAct, Outcome, Trial, play};
 use std::alloc::Global;
 use std::process::Abort;
 use std::test::Fail;
@@ -44,31 +43,6 @@ fn sets_are_retired_and_finished(rt: HostRuntime) -> Result<(), Fail> {
         Device(1, 2),
     ];
     play_retired(&rt, rt.alloc(), &acts)
-}
-
-/// Retires nine sets at once, or, where memory is wanting, none of them; these go back at once.
-fn expect_all_or_none(rt: &impl Abort, trial: &mut Trial) -> Result<(), Fail> {
-    if trial.retire_all(1) == Outcome::Retired {
-        expect_sets(rt, trial, 9, 9);
-    } else {
-        expect_sets(rt, trial, 9, 0);
-        assert_eq!(rt; trial.in_use.len(), 9);
-        trial.free_all();
-    }
-    trial.finish(1);
-    expect_sets(rt, trial, 0, 0);
-    Ok(())
-}
-
-#[test]
-fn all_sets_are_retired_or_none(rt: HostRuntime) -> Result<(), Fail> {
-    match Trial::new(rt.alloc(), 9) {
-        Ok(mut trial) => expect_all_or_none(&rt, &mut trial),
-        Err(error) => {
-            assert_eq!(rt; error, AllocationError::OutOfHostMemory);
-            Ok(())
-        }
-    }
 }
 
 /// Reserves memory for five sets.
