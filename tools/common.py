@@ -123,16 +123,19 @@ class BadEdit(Exception):
 
 
 def read_edit(path):
-    """The replacements of an edit, (file, old, new) in order, and its line 'error:' if it has one."""
+    """The replacements of an edit, (file, old, new) in order; its line 'error:', if it has one; and the
+    functions that it names by lines 'function:'."""
     with open(path, encoding="utf-8") as it:
         lines = [line.partition(":") for line in it.read().splitlines() if line.strip()]
-    file, old, error, pairs = None, None, None, []
+    file, old, error, pairs, functions = None, None, None, [], []
     for key, _, value in lines:
         value = value[1:] if value.startswith(" ") else value
         if key == "file":
             file = value
         elif key == "error":
             error = value
+        elif key == "function":
+            functions.append(value)
         elif key == "old":
             old = value
         elif key == "new" and file and old:
@@ -142,12 +145,13 @@ def read_edit(path):
             raise BadEdit(f"the line '{key}:' is out of place")
     if not pairs:
         raise BadEdit("it has no 'old:' and 'new:' pair")
-    return pairs, error
+    return pairs, error, functions
 
 
-def edited(crate, pairs):
-    """The texts of a crate's files once an edit is made, and the lines that it wrote ('src/lib.rt:7')."""
-    texts, written = {}, set()
+def edited(crate, pairs, texts=()):
+    """The texts of a crate's files once an edit is made, beside texts that others have made of some, and
+    the lines that it wrote ('src/lib.rt:7')."""
+    texts, written = dict(texts), set()
     for file, old, new in pairs:
         if file not in texts:
             with open(f"{crate}/{file}", encoding="utf-8") as it:
