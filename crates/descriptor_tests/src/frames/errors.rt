@@ -7,31 +7,23 @@ use std::mem;
 use std::test::Fail;
 
 #[test]
-fn texts_of_a_set_that_comes_back(rt: HostRuntime) -> Result<(), Fail> {
-    let mut trial = Trial::new(rt.alloc(), 1)?;
+fn texts_of_sets_that_come_back(rt: HostRuntime) -> Result<(), Fail> {
+    let mut trial = Trial::new(rt.alloc(), 3)?;
     let Some(set) = trial.in_use.pop_front() else {
         return Err(Fail::from("no set is in use"));
     };
-    let frame_back = RetireError::FrameBack(set);
-    let said = format!(in rt.alloc(); "{frame_back}")?;
+    let one = RetireError::FrameBack(set);
+    let said = format!(in rt.alloc(); "{one}")?;
     assert_eq!(rt; said.as_str(), "Frame before the last one");
-    let memory = RetireError::Memory(frame_back.into_inner());
-    let said = format!(in rt.alloc(); "{memory}")?;
+    let one = RetireError::Memory(one.into_inner());
+    let said = format!(in rt.alloc(); "{one}")?;
     assert_eq!(rt; said.as_str(), "Host memory exhausted");
-    Ok(())
-}
-
-#[test]
-fn texts_of_sets_that_come_back(rt: HostRuntime) -> Result<(), Fail> {
-    let mut trial = Trial::new(rt.alloc(), 2)?;
     let sets = mem::replace(&mut trial.in_use, VecDeque::new(rt.alloc()));
-    let frame_back = RetireAllError::FrameBack(Vec::from(sets));
-    let said = format!(in rt.alloc(); "{frame_back}")?;
+    let all = RetireAllError::FrameBack(Vec::from(sets));
+    let said = format!(in rt.alloc(); "{all}")?;
     assert_eq!(rt; said.as_str(), "Frame before the last one");
-    let sets = frame_back.into_inner();
-    assert_eq!(rt; sets.len(), 2);
-    let memory = RetireAllError::Memory(sets);
-    let said = format!(in rt.alloc(); "{memory}")?;
+    let all = RetireAllError::Memory(all.into_inner());
+    let said = format!(in rt.alloc(); "{all}")?;
     assert_eq!(rt; said.as_str(), "Host memory exhausted");
     Ok(())
 }
