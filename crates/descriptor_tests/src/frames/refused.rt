@@ -1,6 +1,5 @@
-//! Sets that are retired while growths are refused: one alone, or each from one on. In a plain run
-//! every growth is granted; `tools/refuse-memory` refuses them in turn. It also compares how many
-//! growths two tests ask for.
+//! Pairs of tests that ask for as many growths, which `tools/refuse-memory` compares: what the second
+//! of a pair does besides takes no memory.
 use crate::frames::trial::FrameAct::{
     Cleanup, Device, Finish, FreeAll, Pools, Reserve, Retire, RetireAll, Sets,
 };
