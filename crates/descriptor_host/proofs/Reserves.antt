@@ -93,7 +93,7 @@ next_things h g rest n is = ap things_in n.first ∙ (λ i. things_of (n.head i)
 
 -- ---- by the steps
 
--- the same things are live, and what there is reserve for besides changes as the reserve does
+-- the same things are live, and what else memory is reserved for changes as the reserve does
 pub ends_moved : (rows more : List (ℕ × Option OwedPool)) (next : ℕ) (g h : List DriverCall) (v w : Option CallHead) (reserve now : ℕ) → more ≡ rows → things_in h + things_wanted w + reserve ≡ things_in g + things_wanted v + now → EndsAll rows next g v reserve → EndsAll more next h w now
 ends_moved rows more next g h v w reserve now same fits ends = (let is = ap (λ (rs : List (ℕ × Option OwedPool)). things_below rs (next * 18446744073709551616)) same in let had = ends.exactly in record { exactly = omega arith })
 
@@ -140,7 +140,7 @@ empty_row h name none =
     let row = live_row (rows_of h) name none.pool (ap (λ (f : ℕ → Option Pool). f name) (sym (pools_after h)) ∙ none.is_live) in
     (row.0, row.1, ap length (none_spelled row.0.live (λ x. ap (λ (p : Pool). p.live x) row.2 ∙ none.empty x)))
 
--- a live pool has reserve for its end
+-- memory is reserved for the end of a live pool
 pub reserve_destroy : (h : List Entry) (next : ℕ) (g : List DriverCall) (w : Option CallHead) (reserve : ℕ) (pool : HostPool) → AreBelow (rows_of h) next → HasNoSets (pool_name pool) (ledger_after h) → EndsAll (rows_of h) next g w reserve → 1 ≤ reserve
 reserve_destroy h next g w reserve pool below none ends =
     let row = empty_row h (pool_name pool) none in
@@ -176,7 +176,7 @@ length_taken names sets t =
     let all = all_counted sets in
     omega arith
 
--- sets that are live have reserve to go
+-- memory is reserved for the ends of sets that are live
 pub reserve_release : (h : List Entry) (next : ℕ) (g : List DriverCall) (w : Option CallHead) (reserve : ℕ) (pool : HostPool) (names : List ℕ) → AreBelow (rows_of h) next → AreLive (pool_name pool) names (ledger_after h) → EndsAll (rows_of h) next g w reserve → length names ≤ reserve
 reserve_release h next g w reserve pool names below are ends =
     let out = goes h pool names are in
@@ -201,9 +201,9 @@ pub ends_nothing : EndsAll [] 0 [] None 0
 unfolding things_below
 ends_nothing = record { exactly = refl }
 
--- ---- reserve for nothing
+-- ---- where no memory is reserved
 
--- where there is reserve for nothing no pool is live
+-- where no memory is reserved no pool is live
 pub nothing_live : (h : List Entry) (next : ℕ) (g : List DriverCall) (w : Option CallHead) → AreBelow (rows_of h) next → EndsAll (rows_of h) next g w 0 → (name : ℕ) → (ledger_after h).pools name ≡ None
 nothing_live h next g w below ends name = ap (λ (f : ℕ → Option Pool). f name) (pools_after h) ∙ by (row_at (rows_of h) name) refl
   where
@@ -224,7 +224,7 @@ pub nothing_named : (rows : List (ℕ × Option OwedPool)) (next : ℕ) (g : Lis
 nothing_named rows next g None ends = refl
 nothing_named rows next g (Some h) ends = absurd (let had = ends.exactly in omega arith)
 
--- where nothing is left there is reserve for nothing
+-- where nothing is left no memory is reserved
 pub no_reserve : (h : List Entry) (next : ℕ) (g : List DriverCall) (w : Option CallHead) (reserve : ℕ) → ((name : ℕ) → (ledger_after h).pools name ≡ None) → g ≡ [] → w ≡ None → EndsAll (rows_of h) next g w reserve → reserve ≡ 0
 no_reserve h next g w reserve none granted named ends =
     let live = all_none (rows_of h) (next * 18446744073709551616) (λ name. by (row_at (rows_of h) name) (ap (λ (f : ℕ → Option Pool). f name) (sym (pools_after h)) ∙ none name)) in

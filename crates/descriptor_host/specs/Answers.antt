@@ -23,7 +23,7 @@ IsErrorOf {E} error wanting e [] = e ≡ wanting
 IsErrorOf {E} error wanting e (Granted ∷ os) = e ≡ wanting
 IsErrorOf {E} error wanting e (Refused why ∷ os) = e ≡ error why
 
--- there is reserve for the answer to the named call
+-- memory is reserved for the answer to the named call
 abbrev pub CanHear : {A : Type 0} → Option CallHead → VecDeque Outcome A → CallQueue → Type 0
 CanHear wanted outcomes granted = (h : CallHead) → wanted ≡ Some h → (length outcomes.items < deque_capacity outcomes) × HasReserveFor h granted
 

@@ -23,7 +23,8 @@ use std::collections::VecDeque;
 
 /// The history of a device, with what waits on both sides of it.
 ///
-/// The listed calls can't be refused, so memory for them is reserved before a pool or a set is granted.
+/// The listed calls can't be refused, so memory for them is reserved before a pool or a set is
+/// granted.
 #[derive(Drop)]
 pub(crate) struct CallLog {
     /// What the driver granted, and no step used yet.

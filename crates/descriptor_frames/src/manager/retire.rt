@@ -17,7 +17,8 @@ impl<P, S> FrameManager<P, S> {
     ghost use Rattle.descriptor_frames.specs.Frames.{allocator_of, greatest_of, retired_of};
     ghost use Rattle.descriptor_frames.specs.Frames.{reserve_of};
 
-    /// Reserves memory for so many more retired sets: the next ones are retired without want of memory.
+    /// Reserves memory for so many more retired sets: the next ones are retired without want of
+    /// memory.
     pub fn reserve(&mut self, additional: usize) -> Result<(), AllocError>
         ensures reserve { OnOk result (additional ≤ reserve_of self.new) }
         ensures full { OnErr result (reserve_of self.old < additional) }
