@@ -1,5 +1,5 @@
 -- The ledger of a device with one pool.
-use Rattle.std.proofs.Common.{◌≡◌, ◌≢◌, ◌+◌, ◌-◌, ℕ, zero, suc, true, false, List, [], ◌∷◌, map, Option, Some, None, refl, sym, ap, ◌∙◌, arith}
+use Rattle.std.proofs.Common.{◌≡◌, ◌≢◌, ◌-◌, ℕ, zero, suc, true, false, List, [], ◌∷◌, map, Option, Some, None, refl, sym, ap, ◌∙◌, arith}
 use Rattle.std.proofs.Math.Path.{fun_ext}
 use Rattle.std.proofs.lemmas.Map.{update_apart}
 use Rattle.std.specs.Map.{update}
@@ -44,10 +44,6 @@ on_only f o name p live same =
 pub no_pool : (o : Option OnlyPool) → is_some o ≡ false → as_created o ≡ None
 no_pool None none = refl
 no_pool (Some p) none = absurd (let bad : true ≡ false = none in cc)
-
-pub refused_none : (o : Option OnlyPool) → option_map (λ (pool : Pool). record pool { refusals = pool.refusals + 0 }) (as_created o) ≡ as_created o
-refused_none None = refl
-refused_none (Some p) = refl
 
 pub released_none : (o : Option OnlyPool) → option_map (λ (pool : Pool). record pool { live = λ x. pool.live x - times [] x }) (as_created o) ≡ as_created o
 released_none None = refl

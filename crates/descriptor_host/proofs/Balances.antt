@@ -1,6 +1,5 @@
 -- What the driver granted is used, returned or waits.
 use Rattle.std.proofs.Common.{◌≡◌, ℕ, ◌+◌, List, [], ◌∷◌, ◌++◌, count_by, sym, ap, ◌∙◌, arith}
-use Rattle.std.proofs.lemmas.List.{nil_from_length}
 use Rattle.gpu_descriptor_types.proofs.Counting.{count_by-append}
 use Rattle.descriptor_host.specs.Acts.{used_of}
 use Rattle.descriptor_host.specs.Calls.{DriverCall, head_of}
@@ -8,21 +7,8 @@ use Rattle.descriptor_host.specs.History.{Log}
 use Rattle.descriptor_host.specs.Ties.{IsBalanced}
 use Rattle.descriptor_host.specs.declared.call_queue.CallHead.{CallHead}
 
--- a grant of no sets is the pool itself
-pub pool_call : (call : DriverCall) (pool n : ℕ) → head_of call ≡ record { pool = pool; sets = n } → n ≡ 0 → ◌≡◌ {A = DriverCall} call (record { pool = pool; sets = [] })
-pool_call call pool n is none = λ i. record { pool = ap (λ (h : CallHead). h.pool) is i; sets = nil_from_length call.sets (ap (λ (h : CallHead). h.sets) is ∙ none) i }
-
 pub sets_call : (call : DriverCall) (pool n : ℕ) (sets : List ℕ) → head_of call ≡ record { pool = pool; sets = n } → sets ≡ call.sets → ◌≡◌ {A = DriverCall} call (record { pool = pool; sets = sets })
 sets_call call pool n sets is same = λ i. record { pool = ap (λ (h : CallHead). h.pool) is i; sets = sym same i }
-
--- one more was granted
-pub more_heard : (l m : Log) (call : DriverCall) → IsBalanced l → m.heard ≡ l.heard ++ call ∷ [] → m.granted ≡ l.granted ++ call ∷ [] → used_of m.history ≡ used_of l.history → IsBalanced m
-more_heard l m call b heard granted used p =
-    let h : count_by p m.heard ≡ count_by p l.heard + count_by p (call ∷ []) = ap (count_by p) heard ∙ count_by-append p l.heard (call ∷ []) in
-    let g : count_by p m.granted ≡ count_by p l.granted + count_by p (call ∷ []) = ap (count_by p) granted ∙ count_by-append p l.granted (call ∷ []) in
-    let u : count_by p (used_of m.history) ≡ count_by p (used_of l.history) = ap (count_by p) used in
-    let was = b p in
-    omega arith
 
 -- a grant was used, wherever it stood
 pub one_used : (l m : Log) (call : DriverCall) (front back : List DriverCall) → IsBalanced l → m.heard ≡ l.heard → l.granted ≡ front ++ (call ∷ back) → m.granted ≡ front ++ back → used_of m.history ≡ call ∷ [] ++ used_of l.history → IsBalanced m

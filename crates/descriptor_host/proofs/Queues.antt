@@ -80,9 +80,6 @@ last_split granted call items given is none last =
 pub last_start : (front back items : List ℕ) (n : ℕ) → items ≡ front ++ back → length back ≡ n → length items - n ≡ length front
 last_start front back items n is long = (let e = ap length is ∙ length-append front back in omega arith)
 
-pub last_taken : (front back items : List ℕ) (n : ℕ) → items ≡ front ++ back → length back ≡ n → drop (length items - n) items ≡ back
-last_taken front back items n is long = (let s = last_start front back items n is long in ap (drop (length items - n)) is ∙ drop_at front back (length items - n) (sym s))
-
 pub last_left : (front back items : List ℕ) (n : ℕ) → items ≡ front ++ back → length back ≡ n → take (length items - n) items ≡ front
 last_left front back items n is long = (let s = last_start front back items n is long in ap (take (length items - n)) is ∙ take_at front back (length items - n) (sym s))
 
@@ -125,9 +122,6 @@ things_snoc (c ∷ cs) call = (let e = things_snoc cs call in omega arith)
 
 pub things_less : (granted : List DriverCall) (call : DriverCall) → granted ≡ but_last granted ++ call ∷ [] → things_in granted ≡ things_in (but_last granted) + things_of (head_of call)
 things_less granted call last = ap things_in last ∙ things_snoc (but_last granted) call
-
-pub length_less : (granted : List DriverCall) (call : DriverCall) → granted ≡ but_last granted ++ call ∷ [] → length (but_last granted) < length granted
-length_less granted call last = (let e = ap length last ∙ length-append (but_last granted) (call ∷ []) in omega arith)
 
 -- ---- the first call that waits is handed over
 

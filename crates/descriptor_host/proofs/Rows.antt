@@ -8,7 +8,6 @@ use Rattle.std.proofs.lemmas.Bool.{cases_Bool}
 use Rattle.gpu_descriptor_types.specs.Ledger.{Pool, Ledger, live_sets, on_pool}
 use Rattle.gpu_descriptor_types.specs.Multiset.{LiveSet, set_eq, times, AreIn}
 use Rattle.gpu_descriptor_types.proofs.Counting.{set_exact, count_by_yes, count_by_no, count_by-append, all_taken_out}
-use Rattle.gpu_descriptor_types.specs.Ledger.{no_rise}
 use Rattle.descriptor_host.specs.History.{Entry}
 use Rattle.descriptor_host.specs.declared.act.Act.{Act}
 use Rattle.descriptor_host.specs.Pools.{OwedPool, counters_after, counters_of, rows_after, rows_of, pool_owed, row_at, pools_owed, AreBelow, rest_named, none_named}
@@ -177,10 +176,6 @@ no_rows = refl
 pub rows_more : (act : Act) (sets : List ℕ) (history : List Entry) → rows_of (record { act = act; sets = sets } ∷ history) ≡ rows_after act sets (rows_of history)
 unfolding rows_of
 rows_more act sets history = refl
-
-pub no_counters : counters_of [] ≡ no_rise
-unfolding counters_of
-no_counters = refl
 
 pub counters_more : (act : Act) (sets : List ℕ) (history : List Entry) → counters_of (record { act = act; sets = sets } ∷ history) ≡ counters_after act (counters_of history)
 unfolding counters_of

@@ -158,11 +158,6 @@ Keeps-IfSome None b P same h = tt
 Keeps-IfSome (Some x) None P same h = absurd same
 Keeps-IfSome (Some x) (Some y) P same h = subst P same h
 
-pub Keeps-IsAtEnd : (a b : Option (List ℕ)) → Keeps a b → IsAtEnd b → IsAtEnd a
-Keeps-IsAtEnd None b same h = tt
-Keeps-IsAtEnd (Some x) None same h = absurd same
-Keeps-IsAtEnd (Some x) (Some y) same h = sym same ∙ h
-
 pub Keeps-LosesLine : (a b c : Option (List ℕ)) → Keeps a b → LosesLine b c → LosesLine a c
 Keeps-LosesLine None b c same h = tt
 Keeps-LosesLine (Some x) None c same h = absurd same

@@ -1,6 +1,6 @@
 -- Tickets in a row, one by one.
-use Rattle.std.proofs.Common.{◌≡◌, ℕ, zero, suc, ◌+◌, ◌-◌, ◌≤◌, [], List, ◌∷◌, ◌++◌, length, length-append, reverse, sym, ap, ◌∙◌, arith}
-use Rattle.std.proofs.lemmas.Grind.{common_steps, reverse_onto}
+use Rattle.std.proofs.Common.{◌≡◌, ℕ, zero, suc, ◌+◌, ◌-◌, [], List, ◌∷◌, ◌++◌, length, length-append, sym, ap, ◌∙◌, arith}
+use Rattle.std.proofs.lemmas.Grind.{common_steps}
 use Rattle.std.proofs.lemmas.Bool.Decides.{nat_tests}
 use Rattle.std.proofs.lemmas.List.{flat_map_more, length-reverse}
 use Rattle.std.proofs.lemmas.List.FromFn.{length-range_with_len}
@@ -15,14 +15,6 @@ range_more a (suc n) =
 -- one more up
 pub rising_more : (first n : ℕ) → range_with_len first (n + 1) ≡ range_with_len first n ++ (first + n) ∷ []
 rising_more first n = ap (range_with_len first) (let e : n + 1 ≡ suc n = omega arith in e) ∙ range_more first n
-
--- one more down
-pub falling_more : (first n : ℕ) → n ≤ first → reverse (range_with_len (first + 1 - (n + 1)) (n + 1)) ≡ reverse (range_with_len (first + 1 - n) n) ++ (first - n) ∷ []
-falling_more first n inside =
-    let count : n + 1 ≡ suc n = omega arith in
-    let last : first + 1 - suc n ≡ first - n = omega arith in
-    let rest : first - n + 1 ≡ first + 1 - n = omega arith in
-    ap (λ k. reverse (range_with_len (first + 1 - k) k)) count ∙ ap (λ a. reverse (range_with_len a (suc n))) last ∙ reverse_onto (range_with_len (first - n + 1) n) (first - n) [] ∙ ap (λ a. reverse (range_with_len a n) ++ (first - n) ∷ []) rest
 
 -- how many tickets there are from the one to the other, with both
 pub count_between : (first last : ℕ) → length (tickets_between first last) ≡ (first - last) + (last - first) + 1

@@ -51,7 +51,7 @@ pub use Rattle.gpu_descriptor.specs.Inner.Grow.{IsGrown, IsTaken}
 pub use Rattle.gpu_descriptor.specs.Inner.Ids.{is_of, rise_below, stored_ids}
 pub use Rattle.gpu_descriptor.specs.Inner.OpenNumbers.{IsEntered, free_in, open_numbers}
 pub use Rattle.gpu_descriptor.specs.Inner.OpenPools.{CountsLooks, KeepsView, bucket_in, looked_at}
-pub use Rattle.gpu_descriptor.specs.Inner.Releases.{FreesRun, IsTakenAt, RunsInto, bucket_back, names_of}
+pub use Rattle.gpu_descriptor.specs.Inner.Releases.{FreesRun, IsTakenAt, Releases, bucket_back, names_of}
 pub use Rattle.gpu_descriptor.specs.Inner.RunSteps.{AllPass, CountsFrom, EndsRun, Hands, Looks, RunStep}
 pub use Rattle.gpu_descriptor.specs.Inner.Serves.{IsDeclined, IsServed, IsUnserved, IsSound, ServesKey, Takes}
 pub use Rattle.gpu_descriptor.specs.Inner.SetAt.{set_at}
@@ -62,7 +62,7 @@ pub use Rattle.gpu_descriptor.specs.Model.Foreign.{IsForeign, IsNamed, KeepsFore
 pub use Rattle.gpu_descriptor.specs.Model.FreshPools.{AreFull, AreNew, AreSized, Fresh, IsFreshPrefix, IsFreshList, IsNextSize, fresh_entry, fresh_portions, given_by, room_after}
 pub use Rattle.gpu_descriptor.specs.Model.Grants.{Grant, IsGrantOf, Part, bucket_with, came, fresh_or, granted, items_at, items_in, ledger_with, pool_with, portion_of}
 pub use Rattle.gpu_descriptor.specs.Model.Load.{allocated_in, bucket_load, descriptors_created, descriptors_out, set_descriptors, pool_descriptors, sets_out}
-pub use Rattle.gpu_descriptor.specs.Model.Outcomes.{Allocates, Call, IsBack, IsDone, IsStopped, IsWithinLimit, StopsAtNew, Proceeds, Stays, StopsAt, error_of_alloc, grant_rise, out_then, risen, rollback_rise, stop_answer, stop_rise, taken_by, wanting}
+pub use Rattle.gpu_descriptor.specs.Model.Outcomes.{Allocates, Call, IsBack, IsDone, IsStopped, IsWithinLimit, StopsAtNew, Proceeds, Stays, StopsAt, error_of_alloc, grant_rise, out_then, risen, rollback_rise, stop_error, stop_rise, taken_by, wanting}
 pub use Rattle.gpu_descriptor.specs.Model.Promises.{AreBelowTwice, AreOfKey, AreOutBesides, CreatesOnlyWhereShort, HasCause, IsShort, IsUntouched, KeepsOtherKeys, KeepsOutstanding}
 pub use Rattle.gpu_descriptor.specs.Model.Release.{bucket_less, empty_front, entry_less, fronts_gone, given_back, in_front, is_empty, lies_in, more_destroyed, more_released, pool_less, pools_gone, released, released_each, singly, spent_front, without_front}
 pub use Rattle.gpu_descriptor.specs.Model.Runs.{breaks, runs}

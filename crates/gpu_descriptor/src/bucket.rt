@@ -55,8 +55,8 @@ pub(crate) struct DescriptorBucket<P> {
     ghost capacity: { length pools.items ≤ deque_capacity listed },
 }
 
-/// Whether a number and so many more would pass the greatest number of 64 bits.
-pub(crate) fn would_pass_64_bits(number: u64, count: u32) -> bool
+/// Whether a number and so many more would exceed 64 bits.
+pub(crate) fn would_exceed_64_bits(number: u64, count: u32) -> bool
     ensures { result ≡ nat_lt greatest_u64 (number + count) }
 {
     number.checked_add(u64::from(count)).is_none()

@@ -20,9 +20,6 @@ pub record IsExact {A : Type 0} (eq : A → A → Bool) : Type 0 where
   pub same : (a b : A) → eq a b ≡ true → a ≡ b
   pub self : (a : A) → eq a a ≡ true
 
-pub nat_exact : IsExact nat_eq
-nat_exact = record { same = λ a b h. eqb-true a b h; self = λ a. eq-eqb a a refl }
-
 pub set_exact : IsExact set_eq
 set_exact = record {
   same = λ a b h.

@@ -1,5 +1,5 @@
 -- An allocator without pools, of which only one key was touched since.
-use Rattle.gpu_descriptor.proofs.Common.{◌≡◌, ℕ, length, [], inl, inr, refl, sym, ap, subst, ◌∙◌, cases_Bool, nil_from_length, length-map, Ledger, State, HasNoPools, Key, key_eq, Bucket, books_of, Allocations, KeepsOtherKeys, state_of, named}
+use Rattle.gpu_descriptor.proofs.Common.{◌≡◌, ℕ, length, [], inl, inr, ap, subst, ◌∙◌, cases_Bool, nil_from_length, length-map, Ledger, State, HasNoPools, Key, key_eq, Bucket, books_of, Allocations, KeepsOtherKeys, state_of, named}
 use Rattle.gpu_descriptor.proofs.sums.TableSums.{books_named}
 use Rattle.gpu_descriptor.proofs.table.Exact.{key_exact}
 

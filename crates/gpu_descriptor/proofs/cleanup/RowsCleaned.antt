@@ -1,5 +1,5 @@
 -- Cleaning up, row by row.
-use Rattle.gpu_descriptor.proofs.Common.{◌≡◌, ℕ, zero, suc, ◌+◌, ◌-◌, ◌<◌, ◌≤◌, Bool, true, false, not, ◌==◌, List, [], ◌∷◌, ◌++◌, length, map, filter, set, take, drop, sum_by, slice_get, Option, Some, None, option_map, inl, inr, refl, sym, ap, subst, ◌∙◌, arith, length-drop, if◌then◌else◌, fun_ext, list_any, values_of, cases_Bool, false_from_ne_true, append-nil, drop_all, length-map, take_all, sum_by-cons, sum_by_more, get_or_from_slice_get, slice_get-map, slice_get_within, Pool, Ledger, BucketKey, DescriptorPool, DescriptorBucket, State, Agree, Key, key_eq, Bucket, entry_at, no_pools, books_of, HasDistinctKeys, key_of, Allocations, common_steps, list_any_more, AreBookedIn, has_pools, trimmed_bucket, trimmed_ledger, more_destroyed, empty_front, in_front, cleaned_bucket, IsCleaned, pools_cleaned, named_row, state_of, row_of, bucket_of, IsConsistent}
+use Rattle.gpu_descriptor.proofs.Common.{◌≡◌, ℕ, zero, suc, ◌+◌, ◌-◌, ◌<◌, ◌≤◌, Bool, true, false, not, ◌==◌, List, [], ◌∷◌, ◌++◌, length, map, filter, set, take, drop, sum_by, slice_get, Option, Some, None, option_map, inl, inr, refl, sym, ap, subst, ◌∙◌, arith, length-drop, if◌then◌else◌, fun_ext, list_any, cases_Bool, false_from_ne_true, append-nil, drop_all, length-map, take_all, sum_by-cons, sum_by_more, get_or_from_slice_get, slice_get-map, slice_get_within, Pool, Ledger, BucketKey, DescriptorPool, DescriptorBucket, State, Agree, Key, key_eq, Bucket, entry_at, no_pools, books_of, HasDistinctKeys, key_of, Allocations, common_steps, list_any_more, AreBookedIn, has_pools, trimmed_bucket, trimmed_ledger, more_destroyed, empty_front, in_front, cleaned_bucket, IsCleaned, pools_cleaned, named_row, state_of, row_of, bucket_of, IsConsistent}
 use Rattle.indexmap.specs.Layout.{set_value_at}
 use Rattle.gpu_descriptor.specs.Caller.States.{keys_of}
 use Rattle.gpu_descriptor.proofs.lists.AtPlaces.{found_before, none_at}
@@ -49,10 +49,6 @@ cleared_set : (rows : Rows) (i : ℕ) (r : Key × Bucket) → slice_get rows i �
 cleared_set [] i r at = absurd (let bad : ◌≡◌ {A = Option (Key × Bucket)} None (Some r) = at in cc)
 cleared_set (x ∷ rows) zero r at = (let same : Some x ≡ Some r = at in let eq : x ≡ r = cc in ap (λ (y : Key × Bucket). cleared_row y ∷ rows) (sym eq))
 cleared_set (x ∷ rows) (suc i) r at = ap (λ (l : Rows). cleared_row x ∷ l) (cleared_set rows i r at)
-
--- the entry at a place, seen by its value
-pub entry_there : {P : Type 0} (es : List (BucketKey × DescriptorBucket P)) (i : ℕ) (e : BucketKey × DescriptorBucket P) (v : DescriptorBucket P) → slice_get es i ≡ Some e → slice_get (values_of es) i ≡ Some v → slice_get es i ≡ Some (e.0, v)
-entry_there {P} es i e v at found = grind (arith, slice_get-map)
 
 module _ {P : Type 0} (name : P → ℕ) where
   rows_set : (es : List (BucketKey × DescriptorBucket P)) (i : ℕ) (k : BucketKey) (v w : DescriptorBucket P) → slice_get es i ≡ Some (k, v) → rows_in name (set_value_at es i w) ≡ set (rows_in name es) i (key_of k, bucket_of name w)

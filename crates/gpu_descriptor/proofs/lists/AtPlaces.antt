@@ -32,7 +32,7 @@ none_from p (x ∷ xs) each = or_from (p x) (list_any p xs) (each 0 x refl) (non
 pub count_by_more : {A : Type 0} (p : A → Bool) (x : A) (xs : List A) → count_by p xs ≤ count_by p (x ∷ xs)
 count_by_more p x xs = elim (cases_Bool (p x)) [ inl on ↦ (let e = count_by_yes p x xs on in omega arith) | inr off ↦ (let e = count_by_no p x xs off in omega arith) ]
 
--- ---- a write, and one more at the end
+-- ---- a write
 
 -- what stands at a place after a write
 pub set_got : {A : Type 0} (xs : List A) (i : ℕ) (x : A) (j : ℕ) (y : A) → slice_get (slice_set xs i x) j ≡ Some y → ((j ≡ i) × (y ≡ x)) ⊎ ((j ≢ i) × (slice_get xs j ≡ Some y))
@@ -41,40 +41,6 @@ set_got (z ∷ xs) zero x zero y at = inl (refl, (let e : x ≡ y = cc in sym e)
 set_got (z ∷ xs) zero x (suc j) y at = inr ((λ e. omega arith), at)
 set_got (z ∷ xs) (suc i) x zero y at = inr ((λ e. omega arith), at)
 set_got (z ∷ xs) (suc i) x (suc j) y at = grind (arith, (set_got xs i x j y at))
-
-pub set_here : {A : Type 0} (xs : List A) (i : ℕ) (x y : A) → slice_get xs i ≡ Some y → slice_get (slice_set xs i x) i ≡ Some x
-set_here [] i x y at = absurd (cc)
-set_here (z ∷ xs) zero x y at = refl
-set_here (z ∷ xs) (suc i) x y at = set_here xs i x y at
-
-pub set_there : {A : Type 0} (xs : List A) (i : ℕ) (x : A) (j : ℕ) → j ≢ i → slice_get (slice_set xs i x) j ≡ slice_get xs j
-set_there [] i x j ne = refl
-set_there (z ∷ xs) zero x zero ne = absurd (ne refl)
-set_there (z ∷ xs) zero x (suc j) ne = refl
-set_there (z ∷ xs) (suc i) x zero ne = refl
-set_there (z ∷ xs) (suc i) x (suc j) ne = set_there xs i x j (λ e. ne (ap suc e))
-
--- what stands in a list with one more at its end
-pub end_got : {A : Type 0} (xs : List A) (x : A) (j : ℕ) (y : A) → slice_get (xs ++ x ∷ []) j ≡ Some y → ((j < length xs) × (slice_get xs j ≡ Some y)) ⊎ ((j ≡ length xs) × (y ≡ x))
-end_got [] x zero y at = inr (refl, (let e : x ≡ y = cc in sym e))
-end_got [] x (suc j) y at = absurd (cc)
-end_got (z ∷ xs) x zero y at = inl (omega arith, at)
-end_got (z ∷ xs) x (suc j) y at = elim (end_got xs x j y at) [ inl here ↦ inl (omega (arith, here.0), here.1) | inr last ↦ inr (ap suc last.0, last.1) ]
-
-pub end_before : {A : Type 0} (xs : List A) (x : A) (j : ℕ) → j < length xs → slice_get (xs ++ x ∷ []) j ≡ slice_get xs j
-end_before [] x j lt = absurd (omega arith)
-end_before (z ∷ xs) x zero lt = refl
-end_before (z ∷ xs) x (suc j) lt = end_before xs x j (omega arith)
-
-pub end_here : {A : Type 0} (xs : List A) (x : A) → slice_get (xs ++ x ∷ []) (length xs) ≡ Some x
-end_here [] x = refl
-end_here (z ∷ xs) x = end_here xs x
-
-pub end_past : {A : Type 0} (xs : List A) (x : A) (j : ℕ) → length xs < j → slice_get (xs ++ x ∷ []) j ≡ None
-end_past [] x zero lt = absurd (omega arith)
-end_past [] x (suc j) lt = refl
-end_past (z ∷ xs) x zero lt = absurd (omega arith)
-end_past (z ∷ xs) x (suc j) lt = end_past xs x j (omega arith)
 
 -- ---- the list around a place
 

@@ -67,7 +67,7 @@ stored_after k first es pools i e ls stored at within =
             let booked = stored.each i e at in
             let pool = booked.pool in
             let live : (x : LiveSet) → times ls x ≤ pool.live x = λ x. (let is : live_in pools e.pool x ≡ pool.live x = rw booked.is_live refl in let less = within x in omega arith) in
-            let room = booked.booked.room in
+            let bound = booked.booked.fits in
             let fits : length ls ≤ e.allocated = ∥∥₁_elim booked.booked.allocated (search props) (λ size. (size_minus pool.live e.allocated ls size live).0) in
             let after : Pool = pool_less (times ls) pool in
             let is : IsAsBooked k after y = record {
@@ -78,7 +78,7 @@ stored_after k first es pools i e ls stored at within =
               counts = booked.booked.counts;
               sets = λ x some. booked.booked.sets x (omega arith);
               allocated = ∥∥₁_map booked.booked.allocated (λ size. (size_minus pool.live e.allocated ls size live).1);
-              room = omega arith;
+              fits = omega arith;
               full = λ none. (let whole = booked.booked.full none in omega arith);
             } in
             grind (arith, common_steps, taken_from, with_pool_same))
@@ -95,8 +95,8 @@ stored_after k first es pools i e ls stored at within =
 pub read_first : {P : Type 0} (name : P → ℕ) (k : Key) (number : ℕ) (names : List ℕ) (id first : ℕ) (items : List (DescriptorPool P)) (pools : ℕ → Option Pool) (q : DescriptorPool P) → IsTakenAt k number names (bucket id first (map (entry_of name) items)) pools → q ≡ get_or items (number - first) q → slice_get (map (entry_of name) items) (number - first) ≡ Some (entry_of name q)
 read_first name k number names id first items pools q t is = read_at name items (number - first) q (is_within name k number names id first items pools t) is
 
-pub place_room : (k : Key) (b : Bucket) (pools : ℕ → Option Pool) (i : ℕ) (e : Entry) → AreBookedIn k pools b.pools → slice_get b.pools i ≡ Some e → e.allocated + e.available ≤ greatest_pool_size
-place_room k b pools i e stored at =
+pub place_fits : (k : Key) (b : Bucket) (pools : ℕ → Option Pool) (i : ℕ) (e : Entry) → AreBookedIn k pools b.pools → slice_get b.pools i ≡ Some e → e.allocated + e.available ≤ greatest_pool_size
+place_fits k b pools i e stored at =
     let booked = (stored.each i e at).booked in
     grind (arith, common_steps)
 

@@ -1,5 +1,5 @@
 -- All that is promised of a request, from what it took: kept, given back, declined, or for no sets.
-use Rattle.gpu_descriptor.proofs.Common.{◌≡◌, ◌≤◌, ℕ, ◌+◌, ◌<◌, List, Option, None, Some, Result, Ok, Err, sym, ap, ◌∙◌, arith, Vec, side, Meaning, Ledger, Counters, AllocationError, DescriptorSet, Stop, Agree, outstanding, HasDistinctKeys, Key, Allocations, run_digits, Grant, granted, items_in, stop_answer, call_of, Returns, with_key, items_of, Agrees, marked_load_of, outstanding_of, pool_load_of, state_of, table_of, IsDeclined, Takes}
+use Rattle.gpu_descriptor.proofs.Common.{◌≡◌, ◌≤◌, ℕ, ◌+◌, ◌<◌, List, Option, None, Some, Result, Ok, Err, sym, ap, ◌∙◌, arith, Vec, side, Meaning, Ledger, Counters, AllocationError, DescriptorSet, Stop, Agree, outstanding, HasDistinctKeys, Key, Allocations, run_digits, Grant, granted, items_in, stop_error, call_of, Returns, with_key, items_of, Agrees, marked_load_of, outstanding_of, pool_load_of, state_of, table_of, IsDeclined, Takes}
 use Rattle.gpu_descriptor.specs.Caller.HandsOut.{HandsOut}
 use Rattle.gpu_descriptor.specs.Caller.Keeps.{Keeps}
 use Rattle.gpu_descriptor.specs.Caller.States.{keys_of}
@@ -60,7 +60,7 @@ module _ {L P S : Type 0} {means : Meaning L P S} {k : Key} {count : ℕ} (sets 
       }
 
   -- the sets went back
-  pub hands_back : {last : Allocations P} {final : Ledger} → HasDistinctKeys (table_of means.pool_name new) → Returns means sets.items (side new after) (side last final) → {why : Stop} → ended ≡ Err why → HandsOut means k count (Err (stop_answer why)) (side old before) (side last final)
+  pub hands_back : {last : Allocations P} {final : Ledger} → HasDistinctKeys (table_of means.pool_name new) → Returns means sets.items (side new after) (side last final) → {why : Stop} → ended ≡ Err why → HandsOut means k count (Err (stop_error why)) (side old before) (side last final)
   hands_back still r is =
       let went = went_back t agree.books agree.rows still some r.back is in
       let outcome = went.0 in

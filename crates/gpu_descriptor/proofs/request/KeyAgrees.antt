@@ -17,7 +17,7 @@ pub record Became (given : ℕ) (refused : Bool) (e f : Entry) : Type 0 where
   pub pool : f.pool ≡ e.pool
   pub capacity : f.capacity ≡ e.capacity
   pub allocated : f.allocated ≡ e.allocated + given
-  pub room : f.allocated + f.available ≤ e.allocated + e.available
+  pub fits : f.allocated + f.available ≤ e.allocated + e.available
   pub whole : refused ≡ false → f.allocated + f.available ≡ e.allocated + e.available
 
 -- the pool once sets of the key came out of it, and it may have refused
@@ -37,7 +37,7 @@ pool_booked k pool e f names refused b became = record {
     (let a = length-append size.0 (live_sets k.counts names) in let n = length-map names (λ (n : ℕ). let s : LiveSet = record { name = n; counts = k.counts } in s) in let was = size.1 in let more = became.allocated in omega arith),
     (λ x. times-append size.0 (live_sets k.counts names) x ∙ ap (λ n. n + times (live_sets k.counts names) x) (size.2 x)),
   ));
-  room = (let r = b.room in let more = became.room in omega arith);
+  fits = (let r = b.fits in let more = became.fits in omega arith);
   full = λ none. elim (cases_Bool refused) [
     | inl on ↦ absurd (let some : (if refused then pool.refusals + 1 else pool.refusals) ≡ pool.refusals + 1 = rw on refl in omega arith)
     | inr off ↦ became.whole off ∙ b.full (let same : (if refused then pool.refusals + 1 else pool.refusals) ≡ pool.refusals = rw off refl in omega arith)

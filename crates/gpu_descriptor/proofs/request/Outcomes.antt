@@ -1,6 +1,6 @@
 -- A request that took sets is as the definitions say: kept whole, or given back.
 use Rattle.gpu_descriptor.proofs.request.Requested.{load_is, pool_load_is, out_is}
-use Rattle.gpu_descriptor.proofs.Common.{fun_ext, ◌≡◌, ℕ, ◌+◌, ◌-◌, ◌<◌, Some, is_some, true, List, [], ◌∷◌, length, arith, Result, Ok, Err, OnOk, refl, sym, ap, ◌∙◌, subst, length-map, side, Meaning, Ledger, no_rise, AllocationError, DescriptorSet, Stop, State, Item, Agree, AreOutstanding, Option, Pool, count_of, outstanding, key_eq, if◌then◌else◌, Key, Bucket, HasDistinctKeys, Allocations, KeepsForeign, LosesNone, GivesBack, Grant, IsGrantOf, bucket_with, items_in, granted, ledger_with, IsTaken, IsRefused, set_descriptors, Allocates, Call, Proceeds, taken_by, risen, rollback_rise, StopsAt, stop_answer, stop_rise, IsUntouched, KeepsOtherKeys, AreOfKey, AreOutBesides, KeepsOutstanding, released, pools_gone, call_of, Takes, runs, item_of, items_of, state_of, table_of, outstanding_of, marked_load_of, pool_load_of, HasTaken}
+use Rattle.gpu_descriptor.proofs.Common.{fun_ext, ◌≡◌, ℕ, ◌+◌, ◌-◌, ◌<◌, Some, is_some, true, List, [], ◌∷◌, length, arith, Result, Ok, Err, OnOk, refl, sym, ap, ◌∙◌, subst, length-map, side, Meaning, Ledger, no_rise, AllocationError, DescriptorSet, Stop, State, Item, Agree, AreOutstanding, Option, Pool, count_of, outstanding, key_eq, if◌then◌else◌, Key, Bucket, HasDistinctKeys, Allocations, KeepsForeign, LosesNone, GivesBack, Grant, IsGrantOf, bucket_with, items_in, granted, ledger_with, IsTaken, IsRefused, set_descriptors, Allocates, Call, Proceeds, taken_by, risen, rollback_rise, StopsAt, stop_error, stop_rise, IsUntouched, KeepsOtherKeys, AreOfKey, AreOutBesides, KeepsOutstanding, released, pools_gone, call_of, Takes, runs, item_of, items_of, state_of, table_of, outstanding_of, marked_load_of, pool_load_of, HasTaken}
 use Rattle.gpu_descriptor.specs.Caller.Others.{others_of}
 use Rattle.gpu_descriptor.specs.Model.Outcomes.Allocates.{done, stopped}
 use Rattle.gpu_descriptor.specs.Caller.States.{keys_of}
@@ -107,7 +107,7 @@ module _ {L P S : Type 0} {means : Meaning L P S} {k : Key} {count : ℕ} {sets 
 
     -- the outcome, and what it took
     abbrev Rolls : Stop → Type 0
-    Rolls why = (o : Allocates (call (stop_answer why))) × (g : Grant) × (taken_by o ≡ Some g) × (items_in k g.id g.parts ≡ items) × (granted k count g s ≡ state_of means.pool_name new after)
+    Rolls why = (o : Allocates (call (stop_error why))) × (g : Grant) × (taken_by o ≡ Some g) × (items_in k g.id g.parts ≡ items) × (granted k count g s ≡ state_of means.pool_name new after)
 
     module _ (why : Stop) (g : Grant) (between : Ledger) (taken : HasTaken k count g items (s.books k) t.serves.bucket before between) (refused : IsRefused why between after) where
       now : state_of means.pool_name new after ≡ granted k count g s

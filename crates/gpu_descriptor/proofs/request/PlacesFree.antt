@@ -49,11 +49,11 @@ can_give counts mark e n l b few =
       pool = b.pool;
       is_live = b.is_live;
       marked = λ h. subst (λ (f : ℕ). IsUpdateAfterBind f) (sym b.booked.flags) (marked_flags counts mark h);
-      places = λ sets spelled. (let long = listed (key_with counts mark) b.pool e b.booked sets spelled in let room = b.booked.room in omega arith);
+      places = λ sets spelled. (let long = listed (key_with counts mark) b.pool e b.booked sets spelled in let fits = b.booked.fits in omega arith);
       each_kind = λ sets spelled j.
           let long = listed (key_with counts mark) b.pool e b.booked sets spelled in
           let all : sum_by (λ s. slice_index s.counts j) sets ≡ length sets * slice_index counts j = sum_alike counts j sets (λ x lt. b.booked.sets x (let is = spelled x in omega arith)) in
-          let product : (length sets + n) * slice_index counts j ≤ b.pool.capacity * slice_index counts j = mul-le-mul_right (slice_index counts j) (let room = b.booked.room in omega arith) in
+          let product : (length sets + n) * slice_index counts j ≤ b.pool.capacity * slice_index counts j = mul-le-mul_right (slice_index counts j) (let fits = b.booked.fits in omega arith) in
           let has = wide (key_with counts mark) b.pool.capacity j in
           let same : slice_index b.pool.counts j ≡ slice_index (pool_counts counts b.pool.capacity) j = ap (λ (c : List ℕ). slice_index c j) b.booked.counts in
           omega arith;

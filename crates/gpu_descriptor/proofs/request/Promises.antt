@@ -1,5 +1,5 @@
 -- What every outcome of a request promises.
-use Rattle.gpu_descriptor.proofs.Common.{◌≡◌, ◌≢◌, ℕ, suc, ◌+◌, ◌-◌, ◌*◌, ◌<◌, ◌≤◌, Bool, List, [], ◌∷◌, map, length, sum_by, inl, inr, Result, Err, refl, sym, ap, ◌∙◌, subst, arith, length-map, length-append, sum_by-cons, sum_by-append, pool_size_floor, ◌↔◌, min, OnOk, IfErr, Counters, create_refused, alloc_refused, pool_refusals, no_rise, CreatePoolError, DeviceAllocationError, AllocationError, Stop, Item, Key, Entry, cases_lt, ◌⊎◌, error_of_alloc, Allocates, Call, IsBack, IsDone, IsStopped, StopsAt, out_then, stop_answer, stop_rise, wanting, Fresh, IsFreshPrefix, IsNextSize, room_after, AreSized, AreFull, IsFreshList, given_by, Grant, Part, portion_of, items_at, items_in, AreBelowTwice, HasCause, IsShort, CreatesOnlyWhereShort, pool_descriptors, Portion, offer, rest, portions_of}
+use Rattle.gpu_descriptor.proofs.Common.{◌≡◌, ◌≢◌, ℕ, suc, ◌+◌, ◌-◌, ◌*◌, ◌<◌, ◌≤◌, Bool, List, [], ◌∷◌, map, length, sum_by, inl, inr, Result, Err, refl, sym, ap, ◌∙◌, subst, arith, length-map, length-append, sum_by-cons, sum_by-append, pool_size_floor, ◌↔◌, min, OnOk, IfErr, Counters, create_refused, alloc_refused, pool_refusals, no_rise, CreatePoolError, DeviceAllocationError, AllocationError, Stop, Item, Key, Entry, cases_lt, ◌⊎◌, error_of_alloc, Allocates, Call, IsBack, IsDone, IsStopped, StopsAt, out_then, stop_error, stop_rise, wanting, Fresh, IsFreshPrefix, IsNextSize, room_after, AreSized, AreFull, IsFreshList, given_by, Grant, Part, portion_of, items_at, items_in, AreBelowTwice, HasCause, IsShort, CreatesOnlyWhereShort, pool_descriptors, Portion, offer, rest, portions_of}
 use Rattle.gpu_descriptor_types.proofs.Sizes.{pool_size_some}
 use Rattle.gpu_descriptor_types.specs.declared.errors.CreatePoolError.TheVariants as create_error
 use Rattle.gpu_descriptor_types.specs.declared.errors.DeviceAllocationError.TheVariants as alloc_error
@@ -47,7 +47,7 @@ memory_cause c g why back alloc_error.OutOfPoolMemory memory device host = absur
 abbrev Stops : Call → Stop → Grant → ℕ → Type 0
 Stops c why g pooled = StopsAt why c.key (c.limit - pooled) c.count g (c.old.books c.key).pools
 
-stop_cause : (c : Call) (s : IsStopped c) (why : Stop) → s.why ≡ why → IsBack c s.grant why → Stops c why s.grant s.pooled → HasCause (stop_answer why) c
+stop_cause : (c : Call) (s : IsStopped c) (why : Stop) → s.why ≡ why → IsBack c s.grant why → Stops c why s.grant s.pooled → HasCause (stop_error why) c
 stop_cause c s (stop.ExistingPoolRefused e) is back at = memory_cause c s.grant (stop.ExistingPoolRefused e) back e at.memory refl refl
 stop_cause c s stop.NoRoomUnderLimit is back at = no_room_under_limit s is
 stop_cause c s stop.NoMemoryForPool is back at = no_memory_for_pool s is

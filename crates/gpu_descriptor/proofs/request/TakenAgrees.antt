@@ -150,8 +150,8 @@ module _ (k : Key) (n : ℕ) (g : Grant) (s : State) (agree : Agree s) (grant : 
       let allocated : f.allocated ≡ x.fresh.given = ap (λ (e : Entry). e.allocated) x.is in
       let free : f.available ≡ size - x.fresh.given = ap (λ (e : Entry). e.available) x.is in
       stands_so m empty f (ledgers.fresh (pool_counts k.counts size) size (flags_of k)) (inr (ap (λ (e : Entry). s.ledger e.pool) x.is ∙ x.none, j, x.fresh, place, x.at, ap (λ (e : Entry). e.pool) (sym x.is))) (x.there (s.ledger q))
-      (record { flags = refl; at_least = fits.0; small = fits.1; capacity = refl; counts = refl; sets = λ y some. absurd (omega arith); allocated = ∣ ([], refl, λ y. refl) ∣₁; room = omega arith; full = λ never. (let e : 0 + size ≡ size = omega arith in e) })
-      (record { pool = ap (λ (e : Entry). e.pool) x.is; capacity = ap (λ (e : Entry). e.capacity) x.is; allocated = omega arith; room = omega arith; whole = λ off. omega arith })
+      (record { flags = refl; at_least = fits.0; small = fits.1; capacity = refl; counts = refl; sets = λ y some. absurd (omega arith); allocated = ∣ ([], refl, λ y. refl) ∣₁; fits = omega arith; full = λ never. (let e : 0 + size ≡ size = omega arith in e) })
+      (record { pool = ap (λ (e : Entry). e.pool) x.is; capacity = ap (λ (e : Entry). e.capacity) x.is; allocated = omega arith; fits = omega arith; whole = λ off. omega arith })
       (λ y. rw (le-ltb m b.offset (omega arith), slice_get_past b.pools (m - b.offset) (omega arith)) refl)
 
   stands : (m : ℕ) (f : Entry) → entry_at new m ≡ Some f → Stands m f

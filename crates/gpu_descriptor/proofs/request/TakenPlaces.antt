@@ -49,7 +49,7 @@ became_shared refused n newer e = record {
   pool = refl;
   capacity = refl;
   allocated = refl;
-  room = (let few : offer refused e ≤ e.available = elim (cases_Bool (refused e.pool)) [ inl on ↦ rw on (omega arith) | inr off ↦ rw off (omega arith) ] in omega arith);
+  fits = (let few : offer refused e ≤ e.available = elim (cases_Bool (refused e.pool)) [ inl on ↦ rw on (omega arith) | inr off ↦ rw off (omega arith) ] in omega arith);
   whole = λ off. (let all : offer refused e ≡ e.available = rw off refl in omega arith);
 }
 
@@ -105,7 +105,7 @@ taken_stands refused n number (suc left) [] fs apart i f at = inr (i, (omega ari
 taken_stands refused n number (suc left) (e ∷ es) fs apart zero f at =
     let is : e ≡ f = cc in
     let none = no_share refused n e.pool number (drop left es) (apart_drop e.pool left es (first_apart e es apart)) in
-    let same : Became (given_at e.pool (portions_of refused n number (drop left es))) (refused e.pool) e e = record { pool = refl; capacity = refl; allocated = omega arith; room = omega arith; whole = λ off. refl } in
+    let same : Became (given_at e.pool (portions_of refused n number (drop left es))) (refused e.pool) e e = record { pool = refl; capacity = refl; allocated = omega arith; fits = omega arith; whole = λ off. refl } in
     inl (e, refl, subst (Became (given_at e.pool (portions_of refused n number (drop left es))) (refused e.pool) e) is same)
 taken_stands refused n number (suc left) (e ∷ es) fs apart (suc i) f at = elim (taken_stands refused n number left es fs (later_apart e es apart) i f at) [
   | inl old ↦ inl old

@@ -11,7 +11,6 @@ use Rattle.gpu_descriptor_types.specs.Meaning.{Meaning}
 use Rattle.gpu_descriptor_types.specs.Side.{Side}
 use Rattle.gpu_descriptor_types.specs.Multiset.{LiveSet, times}
 use Rattle.gpu_descriptor.specs.Model.Books.{Key, Entry, Bucket, entry_at}
-use Rattle.gpu_descriptor.specs.Inner.Buckets.{trimmed_bucket, trimmed_ledger}
 
 -- the sets of these names are live in the key's pool with the number
 pub record IsTakenAt (k : Key) (number : ℕ) (names : List ℕ) (b : Bucket) (pools : ℕ → Option Pool) : Type 0 where
@@ -30,13 +29,6 @@ pub record Releases (k : Key) (number : ℕ) (names : List ℕ) (old : Bucket) (
   pub at : entry_at old number ≡ Some entry
   pub books : new ≡ bucket_back old number (length names) entry
   pub ledger : after ≡ after_release entry.pool (live_sets k.counts names) before
-
--- giving back sets of these names takes a bucket and the ledger to these
-pub record RunsInto (k : Key) (number : ℕ) (names : List ℕ) (old : Bucket) (before : Ledger) (new : Bucket) (after : Ledger) : Type 0 where
-  pub entry : Entry
-  pub at : entry_at old number ≡ Some entry
-  pub books : new ≡ trimmed_bucket 1 (bucket_back old number (length names) entry)
-  pub ledger : after ≡ trimmed_ledger 1 (bucket_back old number (length names) entry) (after_release entry.pool (live_sets k.counts names) before)
 
 -- the names of the raw sets
 abbrev pub names_of : {S : Type 0} → (S → ℕ) → List (DescriptorSet S) → List ℕ

@@ -72,7 +72,7 @@ pub record IsAsBooked (k : Key) (pool : Pool) (e : Entry) : Type 0 where
   pub sets : (x : LiveSet) → 0 < pool.live x → x.counts ≡ k.counts
   -- only that there is a list: so there is one proof at most that books and ledger agree
   pub allocated : ∥ HasSize pool.live e.allocated ∥₁
-  pub room : e.allocated + e.available ≤ pool.capacity
+  pub fits : e.allocated + e.available ≤ pool.capacity
   pub full : pool.refusals ≡ 0 → e.allocated + e.available ≡ pool.capacity
 
 -- books and ledger agree

@@ -75,12 +75,12 @@ pub record Call : Type 0 where
 -- ---- why a request stops
 
 -- what the request answers then
-abbrev pub stop_answer : Stop → AllocationError
-stop_answer (stop.ExistingPoolRefused error) = error_of_alloc error
-stop_answer stop.NoRoomUnderLimit = Fragmentation
-stop_answer stop.NoMemoryForPool = OutOfHostMemory
-stop_answer (stop.PoolNotCreated error) = error_of_create error
-stop_answer (stop.NewPoolRefused error) = error_of_alloc error
+abbrev pub stop_error : Stop → AllocationError
+stop_error (stop.ExistingPoolRefused error) = error_of_alloc error
+stop_error stop.NoRoomUnderLimit = Fragmentation
+stop_error stop.NoMemoryForPool = OutOfHostMemory
+stop_error (stop.PoolNotCreated error) = error_of_create error
+stop_error (stop.NewPoolRefused error) = error_of_alloc error
 
 -- by how much it raises the counters. A new pool that refused was created and destroyed
 abbrev pub stop_rise : Stop → Counters
@@ -171,7 +171,7 @@ module _ (c : Call) where
   -- a request stopped when it had taken so much: the sets went back
   pub record IsBack (grant : Grant) (why : Stop) : Type 0 where
     pub taken : IsGrant grant
-    pub answer : c.answer ≡ Err (stop_answer why)
+    pub answer : c.answer ≡ Err (stop_error why)
     pub state : c.new ≡ released (items_in c.key grant.id grant.parts) (granted c.key c.count grant c.old)
     pub counters : c.after ≡ risen (rollback_rise (items_in c.key grant.id grant.parts) c.key (granted c.key c.count grant c.old)) (risen (stop_rise why) (risen (grant_rise c.count grant (c.old.books c.key).pools) c.before))
 

@@ -15,8 +15,8 @@ ghost use Rattle.gpu_descriptor.specs.Inner.Serves.{IsDeclined, IsSound, Takes};
 
 use super::DescriptorAllocator;
 use crate::bucket::request::{Gathered, SetRequest};
-use crate::bucket::stop::answer_of;
-use crate::bucket::would_pass_64_bits;
+use crate::bucket::stop::error_of;
+use crate::bucket::would_exceed_64_bits;
 use crate::errors::AllocationError;
 use crate::flags::DescriptorSetLayoutCreateFlags;
 use crate::set::{BucketKey, DescriptorSet};
@@ -25,29 +25,32 @@ use gpu_descriptor_types::{DescriptorDevice, DescriptorTotalCount};
 use std::marker::PhantomData;
 
 impl<P: Drop, S: Drop> DescriptorAllocator<P, S> {
-    /// Allocates `count` sets of a layout, and hands them out in the order in which they came.
+    /// Allocates `count` sets of a layout, and hands them out in the order in which they came from
+    /// the device.
     ///
-    /// The newest pools of the layout's key are asked first, each once, for what it is known to
-    /// have. For what is still wanting new pools are created, each of the size that `new_pool_size`
-    /// says; for a marked layout `cut_pool_size`, with the room that the limit leaves. `count` 0
-    /// changes nothing and takes no memory.
+    /// The existing pools of the layout's key are asked first, from the newest to the oldest, each at
+    /// most once, and each for as many sets as it is known to have places for. For the sets that are
+    /// still wanting new pools are created. `new_pool_size` says how many sets a new pool has; for a
+    /// marked (update-after-bind) layout `cut_pool_size` cuts this number to the room that the limit
+    /// leaves. A request for 0 sets changes nothing and takes no memory.
     ///
-    /// Where the request can't be met, all that it took goes back, in one release call for each run
-    /// of neighbours. If sets went back, the empty pools at the key's front are then destroyed, but
-    /// never its last pool. The errors:
+    /// If the request can't be met, all sets that it took go back, in the order in which they came,
+    /// with one release call for each stretch of neighbours of one pool. If sets went back, the oldest
+    /// pools of the key are then destroyed up to the first that has a set, but never the key's last
+    /// pool. The errors:
     ///
-    /// - `Fragmentation`: the sets of a marked layout would pass the limit, the limit leaves no
-    ///   room for a new pool of a marked layout, the number of a pool or of the sets that are out
-    ///   would pass 64 bits, the device refused a new pool so, or a new pool refused for its own
-    ///   sake;
+    /// - `Fragmentation`: the sets of a marked layout would exceed the limit; or the limit leaves no
+    ///   room for a new pool of a marked layout; or the number of sets that are out, or the number of
+    ///   a pool, would exceed 64 bits; or the device refused with this error to create a pool; or a
+    ///   new pool refused its sets as fragmented or full;
     /// - `OutOfDeviceMemory`: the device said so, at an existing or a new pool;
-    /// - `OutOfHostMemory`: the device said so, there was no memory for the answer or the books, or
-    ///   no id is left for a new key.
+    /// - `OutOfHostMemory`: the device said so; or there was no memory for the answer or for the books
+    ///   of a key or a pool; or no id is left for a new key.
     ///
-    /// `flags` and `layout_descriptor_count` must be those of the layout, and `device` that of all
-    /// other calls. In the original the product that is held against the limit is taken in 32 bits;
-    /// here it is exact. In the original the limit counts only the sets that are out; here the
-    /// pools as well.
+    /// `flags` and `layout_descriptor_count` must be those of the layout, and `device` must be the one
+    /// of all other calls. In the original crate the product that is compared with the limit is taken
+    /// in 32 bits, and here it is exact. There the limit counts only the sets that are out, and here
+    /// it also counts the pools.
     pub fn allocate<L, D: DescriptorDevice<L, P, S>>(
         &mut self,
         device: &mut D,
@@ -80,19 +83,22 @@ impl<P: Drop, S: Drop> DescriptorAllocator<P, S> {
             alloc: self.alloc,
             device: PhantomData,
         };
-        let Gathered { sets, ended } = self.serve_within_limit(device, &request)?;
+        let Gathered { sets, ended } = self.serve_if_allowed(device, &request)?;
         match ended {
             Ok(()) => Ok(sets),
             Err(stop) => {
                 self.free_all(device, sets);
-                Err(answer_of(stop))
+                Err(error_of(stop))
             }
         }
     }
 
-    /// Takes sets, unless so many would pass the limit or 64 bits, and counts those that came. Where
-    /// the request stopped short, they have to go back.
-    fn serve_within_limit<L, D: DescriptorDevice<L, P, S>>(
+    /// Takes the sets of a request and counts those that came, unless so many sets would exceed the
+    /// limit or 64 bits. On an error nothing was taken. Where `ended` says that the request stopped
+    /// short, the sets that came are the caller's to give back.
+    ///
+    /// New pools are held against the limit where they are created, by the room in the budget.
+    fn serve_if_allowed<L, D: DescriptorDevice<L, P, S>>(
         &mut self,
         device: &mut D,
         request: &SetRequest<'_, L, P, S, D>,
@@ -116,30 +122,30 @@ impl<P: Drop, S: Drop> DescriptorAllocator<P, S> {
         ensures within { IsSound D.meaning.pool_name self.new }
         ensures limit { self.new.limit ≡ self.old.limit }
     {
-        if self.is_above_limit(&request.key, request.count) {
+        if self.would_exceed_limit(&request.key, request.count) {
             return Err(AllocationError::Fragmentation);
         }
-        if would_pass_64_bits(self.outstanding, request.count) {
+        if would_exceed_64_bits(self.outstanding, request.count) {
             return Err(AllocationError::Fragmentation);
         }
         let Gathered { sets, ended } = self.table.serve(device, request, &mut self.budget)?;
-        let came = sets.len() as u64;
-        self.outstanding += came;
-        let descriptors = request.key.marked_descriptors_of_sets(came) as u32;
+        let taken = sets.len() as u64;
+        self.outstanding += taken;
+        let descriptors = request.key.marked_descriptors_of_sets(taken) as u32;
         self.update_after_bind_descriptors += descriptors;
         Ok(Gathered { sets, ended })
     }
 }
 
 impl<P, S> DescriptorAllocator<P, S> {
-    /// Whether so many sets would pass the limit on marked descriptors.
-    pub(super) fn is_above_limit(&self, key: &BucketKey, count: u32) -> bool
+    /// Whether so many sets more would exceed the limit on marked descriptors.
+    pub(super) fn would_exceed_limit(&self, key: &BucketKey, count: u32) -> bool
         ensures { result ≡ (key.now.update_after_bind && nat_lt (self.now.limit)
             (count * sum (kinds key.now.counts) + marked_load_of self.now)) }
     {
-        let left = self.max_update_after_bind_descriptors_in_all_pools
+        let unused = self.max_update_after_bind_descriptors_in_all_pools
             - self.update_after_bind_descriptors;
         key.update_after_bind
-            && u128::from(count) * u128::from(key.counts.total()) > u128::from(left)
+            && u128::from(count) * u128::from(key.counts.total()) > u128::from(unused)
     }
 }

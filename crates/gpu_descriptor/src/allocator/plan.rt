@@ -88,7 +88,7 @@ impl<P, S> DescriptorAllocator<P, S> {
         Plan {
             place,
             key,
-            wanting: if self.is_above_limit(&key, count) {
+            wanting: if self.would_exceed_limit(&key, count) {
                 0
             } else {
                 count

@@ -13,7 +13,7 @@ ghost use Rattle.gpu_descriptor.specs.Model.Books.{next_number};
 
 use crate::bucket::allocation::Allocation;
 use crate::bucket::stop::Stop;
-use crate::bucket::{DescriptorBucket, would_pass_64_bits};
+use crate::bucket::{DescriptorBucket, would_exceed_64_bits};
 use crate::budget::Budget;
 use crate::errors::AllocationError;
 use crate::set::{BucketKey, DescriptorSet};
@@ -71,7 +71,7 @@ impl<P: Drop> DescriptorBucket<P> {
         ensures bucket { OnErr result (self.new ≡ self.old) }
         ensures ledger { OnErr result (D.ledger device.new ≡ D.ledger device.old) }
     {
-        if would_pass_64_bits(self.next_number(), request.count) {
+        if would_exceed_64_bits(self.next_number(), request.count) {
             return Err(AllocationError::Fragmentation);
         }
         let Ok(mut sink) = Allocation::with_capacity(

@@ -1,6 +1,6 @@
 //! Why a request stops that came to the pools of its key, and what it answers then.
 ghost use Rattle.std.specs.Prelude.{◌≡◌};
-ghost use Rattle.gpu_descriptor.specs.Model.Outcomes.{error_of_alloc, stop_answer};
+ghost use Rattle.gpu_descriptor.specs.Model.Outcomes.{error_of_alloc, stop_error};
 
 use crate::errors::AllocationError;
 use gpu_descriptor_types::{CreatePoolError, DeviceAllocationError};
@@ -25,20 +25,20 @@ pub(crate) enum Stop {
 }
 
 /// What a request answers that stopped so.
-pub(crate) fn answer_of(stop: Stop) -> AllocationError
-    ensures { result ≡ stop_answer stop }
+pub(crate) fn error_of(stop: Stop) -> AllocationError
+    ensures { result ≡ stop_error stop }
 {
     match stop {
-        Stop::ExistingPoolRefused(error) => answer_of_pool(error),
+        Stop::ExistingPoolRefused(error) => error_of_pool(error),
         Stop::NoRoomUnderLimit => AllocationError::Fragmentation,
         Stop::NoMemoryForPool => AllocationError::OutOfHostMemory,
         Stop::PoolNotCreated(error) => AllocationError::from(error),
-        Stop::NewPoolRefused(error) => answer_of_pool(error),
+        Stop::NewPoolRefused(error) => error_of_pool(error),
     }
 }
 
 /// A pool that refuses for its own sake counts as fragmentation.
-fn answer_of_pool(error: DeviceAllocationError) -> AllocationError
+fn error_of_pool(error: DeviceAllocationError) -> AllocationError
     ensures { result ≡ error_of_alloc error }
 {
     match error {

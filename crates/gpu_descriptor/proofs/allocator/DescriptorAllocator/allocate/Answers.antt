@@ -14,12 +14,12 @@ keyed : (g : _) (c : After-contains-update_after_bind g) → key_of (record { co
 keyed g c = λ i. record { counts = c.requires.counts i; marked = (c.contains-update_after_bind.ensures tt ∙ c.requires.mark) i }
 
 -- what the request took, under the layout's key
-taken : (g : _) (c : In_ok-sets g) → Takes g.D.DescriptorDevice.meaning (layout_key g.D.DescriptorDevice.meaning c.args.layout.now) c.args.count c.in_ok-sets.field-0.sets.items c.in_ok-sets.field-0.ended (side c.args.self.now (g.D.DescriptorDevice.ledger c.args.device.now)) (side c.serve_within_limit.new.self (g.D.DescriptorDevice.ledger c.serve_within_limit.new.device))
-taken g c = subst (λ (k : Key). Takes g.D.DescriptorDevice.meaning k c.args.count c.in_ok-sets.field-0.sets.items c.in_ok-sets.field-0.ended (side c.args.self.now (g.D.DescriptorDevice.ledger c.args.device.now)) (side c.serve_within_limit.new.self (g.D.DescriptorDevice.ledger c.serve_within_limit.new.device))) (keyed g (goal.at-In_ok-sets g c).After-contains-update_after_bind) c.in_ok-sets.ensures.taken
+taken : (g : _) (c : In_ok-sets g) → Takes g.D.DescriptorDevice.meaning (layout_key g.D.DescriptorDevice.meaning c.args.layout.now) c.args.count c.in_ok-sets.field-0.sets.items c.in_ok-sets.field-0.ended (side c.args.self.now (g.D.DescriptorDevice.ledger c.args.device.now)) (side c.serve_if_allowed.new.self (g.D.DescriptorDevice.ledger c.serve_if_allowed.new.device))
+taken g c = subst (λ (k : Key). Takes g.D.DescriptorDevice.meaning k c.args.count c.in_ok-sets.field-0.sets.items c.in_ok-sets.field-0.ended (side c.args.self.now (g.D.DescriptorDevice.ledger c.args.device.now)) (side c.serve_if_allowed.new.self (g.D.DescriptorDevice.ledger c.serve_if_allowed.new.device))) (keyed g (goal.at-In_ok-sets g c).After-contains-update_after_bind) c.in_ok-sets.ensures.taken
 
 -- and the keys
-gained : (g : _) (c : In_ok-sets g) → keys_of c.serve_within_limit.new.self ≡ with_key (layout_key g.D.DescriptorDevice.meaning c.args.layout.now) (keys_of c.args.self.now)
-gained g c = subst (λ (k : Key). keys_of c.serve_within_limit.new.self ≡ with_key k (keys_of c.args.self.now)) (keyed g (goal.at-In_ok-sets g c).After-contains-update_after_bind) c.in_ok-sets.ensures.keys
+gained : (g : _) (c : In_ok-sets g) → keys_of c.serve_if_allowed.new.self ≡ with_key (layout_key g.D.DescriptorDevice.meaning c.args.layout.now) (keys_of c.args.self.now)
+gained g c = subst (λ (k : Key). keys_of c.serve_if_allowed.new.self ≡ with_key k (keys_of c.args.self.now)) (keyed g (goal.at-In_ok-sets g c).After-contains-update_after_bind) c.in_ok-sets.ensures.keys
 
 -- some sets were asked for
 some : (g : _) (c : In_ok-sets g) → 0 < c.args.count
@@ -38,7 +38,7 @@ returns-then-count-eq0-clause-keeps g c =
 pub returns-in_err-sets-clause-hands_out : goal.returns-in_err-sets-clause-hands_out
 returns-in_err-sets-clause-hands_out g c =
     rw (passed c.from_residual.result c.in_err-sets.field-0.0 c.from_residual.ensures.1) (hands_none c.in_err-sets.ensures.allocator c.in_err-sets.ensures.ledger c.in_err-sets.field-0.0 (let n = c.if-count-eq0.false in omega arith)
-    (subst (λ (k : Key). IsDeclined (call_of g.D.DescriptorDevice.meaning k c.args.count (side c.args.self.now (g.D.DescriptorDevice.ledger c.args.device.now)) (side c.serve_within_limit.new.self (g.D.DescriptorDevice.ledger c.serve_within_limit.new.device)) (Err c.in_err-sets.field-0.0))) (keyed g (goal.at.returns-in_err-sets-clause-hands_out g c).After-contains-update_after_bind) c.in_err-sets.ensures.declined))
+    (subst (λ (k : Key). IsDeclined (call_of g.D.DescriptorDevice.meaning k c.args.count (side c.args.self.now (g.D.DescriptorDevice.ledger c.args.device.now)) (side c.serve_if_allowed.new.self (g.D.DescriptorDevice.ledger c.serve_if_allowed.new.device)) (Err c.in_err-sets.field-0.0))) (keyed g (goal.at.returns-in_err-sets-clause-hands_out g c).After-contains-update_after_bind) c.in_err-sets.ensures.declined))
 
 pub returns-in_err-sets-clause-keeps : goal.returns-in_err-sets-clause-keeps
 returns-in_err-sets-clause-keeps g c =
@@ -56,7 +56,7 @@ returns-in-Ok-clause-keeps g c =
 pub returns-in-Err-clause-hands_out : goal.returns-in-Err-clause-hands_out
 returns-in-Err-clause-hands_out g c =
     let r = (goal.at.returns-in-Err-clause-hands_out g c).In_ok-sets in
-    rw c.answer_of.ensures (hands_back c.in_ok-sets.field-0.sets (taken g r) c.requires.agree (gained g r) c.in_ok-sets.ensures.looks c.in_ok-sets.ensures.comparisons_stay (some g r) c.in_ok-sets.ensures.within.rows c.free_all.ensures.returns c.in-Err.is)
+    rw c.error_of.ensures (hands_back c.in_ok-sets.field-0.sets (taken g r) c.requires.agree (gained g r) c.in_ok-sets.ensures.looks c.in_ok-sets.ensures.comparisons_stay (some g r) c.in_ok-sets.ensures.within.rows c.free_all.ensures.returns c.in-Err.is)
 
 pub returns-in-Err-clause-keeps : goal.returns-in-Err-clause-keeps
 returns-in-Err-clause-keeps g c =

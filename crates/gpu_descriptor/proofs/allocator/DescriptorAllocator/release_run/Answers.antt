@@ -1,6 +1,5 @@
-use Rattle.gpu_descriptor.proofs.Common.{EndsRun, RunsInto, names_of, bucket_of, length, trimmed_bucket, trimmed_ledger, ◌≡◌, ◌+◌, ◌-◌, ℕ, arith, refl, sym, ap, ◌∙◌, List, [], ◌∷◌, Some, subst, IsDistinct, Bucket, Key, key_eq, key_of, Allocations, DescriptorSet, items_of, state_of, binary_digits, rise_below, stored_load, set_descriptors}
+use Rattle.gpu_descriptor.proofs.Common.{length, trimmed_bucket, ◌≡◌, ◌+◌, ◌-◌, ℕ, arith, refl, sym, ap, ◌∙◌, List, [], ◌∷◌, Some, subst, IsDistinct, Bucket, Key, key_eq, key_of, Allocations, DescriptorSet, items_of, state_of, binary_digits, rise_below, stored_load, set_descriptors}
 use Rattle.indexmap.specs.Layout.{set_value_at}
-use Rattle.gpu_descriptor.specs.Inner.RunSteps.{at_place}
 use Rattle.gpu_descriptor.proofs.callers.HeldSets.{out_back, out_less}
 use Rattle.gpu_descriptor.proofs.release.LentRow.{row_open, row_stored, row_taken, row_ran, row_counted}
 use Rattle.gpu_descriptor.proofs.sums.Loads.{IsRow, IsWritten, Taken, taken, load_fits, counted_after, out_after, load_after, run_load, pools_present, pools_set, opened, closed}
@@ -71,23 +70,9 @@ destroy_empty_front-requires-clause-room g c =
 pub destroy_empty_front-requires-clause-stored : goal.destroy_empty_front-requires-clause-stored
 destroy_empty_front-requires-clause-stored g c = (c.args.first.key.is, c.release_sets-ahead.ensures.stored)
 
--- the run, and what it does to its key's pools with the front that goes
-ran : (g : _) (c : After-destroy_empty_front g)
-    → (run : List (DescriptorSet g.row.S.Denot)) × EndsRun g.I.Iterator.next_gives (at_place c.args.first.id c.args.first.number) c.args.sets.now run c.release_sets-ahead.result c.release_sets-ahead.new.sets
-    × RunsInto c.args.first.key.is c.args.first.number (names_of g.D.DescriptorDevice.meaning.set_name (c.args.first ∷ run)) (bucket_of g.D.DescriptorDevice.meaning.pool_name c.pair_mut-bucket.result.1.now) (g.D.DescriptorDevice.ledger c.args.device.now) (bucket_of g.D.DescriptorDevice.meaning.pool_name c.destroy_empty_front.new.self) (g.D.DescriptorDevice.ledger c.destroy_empty_front.new.device)
-    × (c.destroy_empty_front.new.self.total + length (c.args.first ∷ run) ≡ c.pair_mut-bucket.result.1.now.total)
-ran g c =
-    let r = c.release_sets-ahead.ensures.ran in (
-      r.0,
-      r.1,
-      record {
-        entry = r.2.entry;
-        at = r.2.at;
-        books = c.destroy_empty_front.ensures.books ∙ ap (trimmed_bucket 1) r.2.books;
-        ledger = c.destroy_empty_front.ensures.ledger ∙ (λ i. trimmed_ledger 1 (r.2.books i) (r.2.ledger i));
-      },
-      (let left = c.destroy_empty_front.ensures.total in let went = r.3 in omega arith),
-    )
+-- how many sets the key has out then
+went : (g : _) (c : After-destroy_empty_front g) → c.destroy_empty_front.new.self.total + length (c.args.first ∷ c.release_sets-ahead.ensures.ran.0) ≡ c.pair_mut-bucket.result.1.now.total
+went g c = (let left = c.destroy_empty_front.ensures.total in let less = c.release_sets-ahead.ensures.ran.3 in omega arith)
 
 -- the row that the run leaves
 written : (g : _) (c : After-destroy_empty_front g) → IsAt c.args.first.key.is c.self.inside.table.buckets.entries c.place_of_id-place.result c.pair_mut-bucket.result.1.now
@@ -97,7 +82,7 @@ written g c at = written_at c.args.first.key.is c.self.inside.table.distinct at 
 -- what the run takes from the totals
 run_taken : (g : _) (c : After-destroy_empty_front g) → IsAt c.args.first.key.is c.self.inside.table.buckets.entries c.place_of_id-place.result c.pair_mut-bucket.result.1.now
     → Taken c.args.first.key.is (c.pair_mut-bucket.result.1.now.total - c.destroy_empty_front.new.self.total) c.self.inside.table.buckets.entries (set_value_at c.self.inside.table.buckets.entries c.place_of_id-place.result c.destroy_empty_front.new.self)
-run_taken g c at = taken (written g c at) (let total = (ran g c).3 in omega arith)
+run_taken g c at = taken (written g c at) (let total = went g c in omega arith)
 
 pub overflow_sub-self : goal.overflow_sub-self
 overflow_sub-self g c =
@@ -130,7 +115,7 @@ overflow_sub-self-2 g c =
 pub invariant_of-self-inside-2 : goal.invariant_of-self-inside-2
 invariant_of-self-inside-2 g c =
     let es = c.self.inside.table.buckets.entries in
-    let same = ids_put es c.place_of_id-place.result c.pair_mut-bucket.result.1.now c.destroy_empty_front.new.self (value_at es c.place_of_id-place.result _ _ c.pair_mut-bucket.ensures.value) (ap (λ (b : Bucket). b.id) (ran g (goal.at.invariant_of-self-inside-2 g c).After-destroy_empty_front).2.books) in
+    let same = ids_put es c.place_of_id-place.result c.pair_mut-bucket.result.1.now c.destroy_empty_front.new.self (value_at es c.place_of_id-place.result _ _ c.pair_mut-bucket.ensures.value) (ap (λ (b : Bucket). b.id) (c.destroy_empty_front.ensures.books ∙ ap (trimmed_bucket 1) c.release_sets-ahead.ensures.ran.2.books)) in
     record {
       rising = ap (λ (ids : List ℕ). rise_below c.self.inside.table.next_id ids) same ∙ c.self.inside.table.rising;
       distinct = subst (IsDistinct key_eq) (sym (keys_at es c.place_of_id-place.result c.destroy_empty_front.new.self)) c.self.inside.table.distinct;
@@ -150,10 +135,11 @@ invariant_of-self g c =
 pub returns-clause-ran : goal.returns-clause-ran
 returns-clause-ran g c =
     let at = goal.at.returns-clause-ran g c in
-    let ran = ran g at.After-destroy_empty_front in
+    let ran = c.release_sets-ahead.ensures.ran in
     let left = written g at.After-destroy_empty_front (there g at.After-pair_mut-bucket) in
     let row = left.row in
-    let t = taken left ran.3 in
+    let t = taken left (went g at.After-destroy_empty_front) in
+    let front = c.destroy_empty_front.ensures in
     let es = c.self.inside.table.buckets.entries in
     let was = table_is _ c.self.view_is in
     let name = g.D.DescriptorDevice.meaning.pool_name in
@@ -162,13 +148,13 @@ returns-clause-ran g c =
     let after = g.D.DescriptorDevice.ledger c.destroy_empty_front.new.device in
     let distinct = distinct_rows name es c.self.inside.table.distinct in
     let came = ends_at name set_name c.args.self.now before es was c.self.inside.table.next_id c.self.inside.table.rising c.args.first.key.is c.args.first.id c.args.first.number (owner g at.After-pair_mut-bucket) g.I.Iterator.next_gives c.args.first _ _ ran.0 _ c.requires.outstanding ran.1 in
-    let state = row_ran name set_name c.args.self.now before es was c.requires.agree c.args.first row.test row.same c.pair_mut-bucket.result.1.now row.at ran.0 came.0 c.destroy_empty_front.new.self after ran.2 c.self.inside.max_update_after_bind_descriptors_in_all_pools _ left.wrote in
+    let state = row_ran name set_name c.args.self.now before es was c.requires.agree c.args.first row.test row.same c.pair_mut-bucket.result.1.now row.at ran.0 came.0 c.destroy_empty_front.new.self after _ _ ran.2 front.books front.ledger c.self.inside.max_update_after_bind_descriptors_in_all_pools _ left.wrote in
     record {
       sets = ran.0;
       came = came;
       back = record {
         state = state;
-        counters = row_counted name set_name c.args.self.now before es was c.requires.agree c.args.first row.test row.same c.pair_mut-bucket.result.1.now row.at ran.0 came.0 c.destroy_empty_front.new.self after ran.2 distinct;
+        counters = row_counted name set_name c.args.self.now before es was c.requires.agree c.args.first row.test row.same c.pair_mut-bucket.result.1.now row.at ran.0 came.0 c.destroy_empty_front.new.self after _ _ ran.2 front.books front.ledger distinct;
         outstanding = out_after t c.args.self.now was;
         marked = load_after t c.args.self.now was _ (run_load set_name c.args.first.key.is c.args.first.number (c.args.first ∷ ran.0) (lies_own c.args.first, came.0));
         returned = out_less (items_of set_name (c.args.first ∷ ran.0)) (state_of name c.args.self.now before) _ c.requires.agree (c.requires.outstanding ran.0 ran.1.1.0 ran.1.1.1) state;

@@ -3,7 +3,7 @@ use Rattle.gpu_descriptor.proofs.sums.PoolLoads.{stored_put}
 use Rattle.gpu_descriptor.proofs.lists.OpenNumbers.{open_rises}
 use Rattle.gpu_descriptor.proofs.lists.OpenList.{listed_again, fewer_listed}
 use Rattle.gpu_descriptor.proofs.release.Comparisons.{listed_count}
-use Rattle.gpu_descriptor.proofs.release.BucketRun.{AreTaken, are_taken, is_within, read_first, changed_at, stored_after, total_less, place_room}
+use Rattle.gpu_descriptor.proofs.release.BucketRun.{AreTaken, are_taken, is_within, read_first, changed_at, stored_after, total_less, place_fits}
 use Rattle.gpu_descriptor.proofs.foreign.LedgerPools.{taken_from, release_pools}
 use Rattle.gpu_descriptor.proofs.release.OneRun.{run_counts, run_live, run_ends, run_goes, done}
 use Rattle.gpu_descriptor.proofs.table.Exact.{bucket}
@@ -29,8 +29,8 @@ at : (g : _) (c : After-index_mut-pool g) → slice_get (bucket_of g.D.Descripto
 at g c = read_first g.D.DescriptorDevice.meaning.pool_name c.args.first.key.is c.args.first.number (g.D.DescriptorDevice.meaning.set_name c.args.first.raw ∷ []) c.args.self.now.id c.args.self.now.offset c.args.self.now.pools.items (g.D.DescriptorDevice.ledger c.args.device.now).pools c.index_mut-pool.result.now
     (c.requires.taken [] c.args.sets.now refl tt) c.index_mut-pool.ensures.value
 
-room : (g : _) (c : After-index_mut-pool g) → c.index_mut-pool.result.now.allocated + c.index_mut-pool.result.now.available ≤ greatest_pool_size
-room g c = place_room c.args.first.key.is (bucket_of g.D.DescriptorDevice.meaning.pool_name c.args.self.now) (g.D.DescriptorDevice.ledger c.args.device.now).pools (c.args.first.number - c.args.self.now.offset) (entry_of g.D.DescriptorDevice.meaning.pool_name c.index_mut-pool.result.now) c.requires.stored (at g c)
+places : (g : _) (c : After-index_mut-pool g) → c.index_mut-pool.result.now.allocated + c.index_mut-pool.result.now.available ≤ greatest_pool_size
+places g c = place_fits c.args.first.key.is (bucket_of g.D.DescriptorDevice.meaning.pool_name c.args.self.now) (g.D.DescriptorDevice.ledger c.args.device.now).pools (c.args.first.number - c.args.self.now.offset) (entry_of g.D.DescriptorDevice.meaning.pool_name c.index_mut-pool.result.now) c.requires.stored (at g c)
 
 -- the place is within
 here : (g : _) (c : After-index_mut-pool g) → c.args.first.number - c.args.self.now.offset < length c.args.self.now.pools.items
@@ -72,7 +72,7 @@ module _ (g : _) (c : After-finish-count g) where
 pub dealloc_descriptor_sets-requires-clause-can : goal.dealloc_descriptor_sets-requires-clause-can
 dealloc_descriptor_sets-requires-clause-can g c =
     let d = (goal.at.dealloc_descriptor_sets-requires-clause-can g c).After-index_mut-pool in
-    let fits = room g d in
+    let fits = places g d in
     (c.requires.can, run_counts g.I.Iterator.next_gives g.I.Iterator.can_next g.I.Iterator.remaining g.D.DescriptorDevice.meaning.set_name c.args.sets.now c.args.first (bucket_of g.D.DescriptorDevice.meaning.pool_name c.args.self.now) (g.D.DescriptorDevice.ledger c.args.device.now).pools (entry_of g.D.DescriptorDevice.meaning.pool_name c.index_mut-pool.result.now) (at g d) (omega arith) c.requires.taken)
 
 pub dealloc_descriptor_sets-requires-clause-live : goal.dealloc_descriptor_sets-requires-clause-live
@@ -90,7 +90,7 @@ pub overflow_add-pool : goal.overflow_add-pool
 overflow_add-pool g c =
     let r = (goal.at.overflow_add-pool g c).After-index_mut-pool in
     let fits = (counted g (goal.at.overflow_add-pool g c).After-finish-count (at g r)).0 in
-    let small = room g r in
+    let small = places g r in
     omega arith
 
 pub overflow_sub-self : goal.overflow_sub-self

@@ -11,7 +11,7 @@ returns-clause-served g c =
     subst (λ (x : List (DescriptorSet g.row.S.Denot)). IsServed g.D.DescriptorDevice.meaning key c.args.budget.now.room c.args.request.now.count x c.take-ended.result (bucket_of name c.args.self.now) (bucket_of name c.take-ended.new.self) l m × (c.take-ended.new.self.total ≡ c.args.self.now.total + length x)) (sym c.into_sets-sets.ensures) (
       record {
         numbers = (
-            let below : c.next_number.result + c.args.request.now.count ≤ greatest_u64 = ltb-false greatest_u64 (c.next_number.result + c.args.request.now.count) (sym c.would_pass_64_bits.ensures ∙ c.if-would_pass_64_bits.false) in
+            let below : c.next_number.result + c.args.request.now.count ≤ greatest_u64 = ltb-false greatest_u64 (c.next_number.result + c.args.request.now.count) (sym c.would_exceed_64_bits.ensures ∙ c.if-would_exceed_64_bits.false) in
             let long = length-map c.args.self.now.pools.items (entry_of name) in
             let n = c.next_number.ensures in
             omega arith);
