@@ -9,6 +9,7 @@ import re
 import shutil
 import subprocess
 import sys
+from typing import NamedTuple
 
 TOOLS = os.path.dirname(os.path.realpath(__file__))
 TOP = os.path.dirname(TOOLS)
@@ -122,12 +123,19 @@ class BadEdit(Exception):
     """An edit that reads as none, or that no longer applies."""
 
 
+class EditText(NamedTuple):
+    """What a file of an edit says: its replacements, (file, old, new) in order, and its other lines."""
+    pairs: list
+    error: str | None
+    functions: list
+    clauses: list
+
+
 def read_edit(path):
-    """The replacements of an edit, (file, old, new) in order; its line 'error:', if it has one; and the
-    functions that it names by lines 'function:'."""
+    """Reads an edit. Beside replacements it may have a line 'error:', lines 'function:' and lines 'clause:'."""
     with open(path, encoding="utf-8") as it:
         lines = [line.partition(":") for line in it.read().splitlines() if line.strip()]
-    file, old, error, pairs, functions = None, None, None, [], []
+    file, old, error, pairs, functions, clauses = None, None, None, [], [], []
     for key, _, value in lines:
         value = value[1:] if value.startswith(" ") else value
         if key == "file":
@@ -136,6 +144,8 @@ def read_edit(path):
             error = value
         elif key == "function":
             functions.append(value)
+        elif key == "clause":
+            clauses.append(value)
         elif key == "old":
             old = value
         elif key == "new" and file and old:
@@ -145,7 +155,7 @@ def read_edit(path):
             raise BadEdit(f"the line '{key}:' is out of place")
     if not pairs:
         raise BadEdit("it has no 'old:' and 'new:' pair")
-    return pairs, error, functions
+    return EditText(pairs, error, functions, clauses)
 
 
 def edited(crate, pairs, texts=()):
