@@ -30,7 +30,7 @@ fn renderer_draws_frames(rt: HostRuntime) {
 }
 
 /// Sees how many pools were created and destroyed.
-fn expect_pools(rt: &impl Abort, stage: &Stage, created: u64, destroyed: u64) {
+fn expect_created_destroyed(rt: &impl Abort, stage: &Stage, created: u64, destroyed: u64) {
     let device = stage.renderer.device();
     expect_same(
         rt,
@@ -48,10 +48,10 @@ fn pool_serves_later_frames(rt: HostRuntime) {
         draw_frame(&rt, &mut stage, 1);
         stage.renderer.gpu_done(frame);
     }
-    expect_pools(&rt, &stage, 1, 0);
+    expect_created_destroyed(&rt, &stage, 1, 0);
     let _held = hold(&rt, &mut stage);
     stage.renderer.cleanup();
-    expect_pools(&rt, &stage, 2, 1);
+    expect_created_destroyed(&rt, &stage, 2, 1);
 }
 
 /// The sets of two frames that are done at once go back in one call of the device.
