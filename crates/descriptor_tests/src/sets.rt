@@ -2,38 +2,39 @@
 //! an iterator which the caller keeps too.
 ghost use Rattle.gpu_descriptor.specs.Caller.States.{Agrees};
 ghost use Rattle.descriptor_script.specs.Scripted.Raw.{pool_id};
-ghost use Rattle.descriptor_script.specs.Scripted.Device.{ledger_of};
 ghost use Rattle.descriptor_script.specs.Scripted.Logged.{ledger_logged};
 
 use crate::bench::{expect_same, layout_of};
 use descriptor_examples::proper_use::{borrow_pool, borrow_set, borrow_sets};
-use descriptor_script::{LogDevice, RawPool, RawSet, ScriptLayout, ScriptedDevice};
+use descriptor_script::{LogDevice, RawPool, RawSet, ScriptLayout};
 use gpu_descriptor::{AllocationError, DescriptorAllocator, DescriptorSet};
 use std::process::Abort;
 use std::test::Fail;
 
-/// Compares the names of the sets.
-fn expect_names(rt: &impl Abort, sets: &[DescriptorSet<RawSet>], names: &[u64]) {
-    expect_same(rt, sets.len(), names.len());
-    for (set, name) in sets.iter().zip(names) {
-        expect_same(rt, set.raw().id(), *name);
+/// Sees that so many sets have names that rise by one from the first.
+fn expect_names(rt: &impl Abort, sets: &[DescriptorSet<RawSet>], first: u64, count: u32) {
+    expect_same(rt, sets.len(), count as usize);
+    for (place, set) in sets.iter().enumerate() {
+        expect_same(rt, set.raw().id(), first.saturating_add(place as u64));
     }
 }
 
-/// Allocates three sets, compares their names in the order of the answer, and gives them back.
+/// Allocates so many sets, sees that the answer has them in the order of their names, and gives them
+/// back.
 fn expect_answer(
     rt: &impl Abort,
     allocator: &mut DescriptorAllocator<RawPool, RawSet>,
     device: &mut LogDevice,
     layout: &ScriptLayout,
-    names: &[u64],
+    first: u64,
+    count: u32,
 ) -> Result<(), AllocationError>
     requires { Agrees pool_id allocator.old (ledger_logged device.old) }
     ensures { Agrees pool_id allocator.new (ledger_logged device.new) }
 {
     let flags = layout.flags();
-    let sets = allocator.allocate(device, layout, flags, &layout.counts, 3)?;
-    expect_names(rt, &sets, names);
+    let sets = allocator.allocate(device, layout, flags, &layout.counts, count)?;
+    expect_names(rt, &sets, first, count);
     allocator.free_all(device, sets);
     Ok(())
 }
@@ -63,8 +64,8 @@ fn expect_all_lent(
     requires { Agrees pool_id allocator.old (ledger_logged device.old) }
 {
     let plain = layout_of(1, false);
-    expect_answer(rt, allocator, device, &plain, &[0, 1, 2])?;
-    expect_answer(rt, allocator, device, &plain, &[3, 4, 5])?;
+    expect_answer(rt, allocator, device, &plain, 0, 3)?;
+    expect_answer(rt, allocator, device, &plain, 3, 3)?;
     expect_borrowed(rt, allocator, device, &plain, 6)?;
     expect_borrowed(rt, allocator, device, &plain, 7)?;
     expect_same(rt, allocator.pool_count(&plain.counts, false), 1);
@@ -74,37 +75,13 @@ fn expect_all_lent(
     Ok(())
 }
 
-/// Allocates so many sets of a new device, and compares their names, which a new device gives from 0
-/// up.
-fn expect_in_order(
-    rt: &impl Abort,
-    allocator: &mut DescriptorAllocator<RawPool, RawSet>,
-    device: &mut ScriptedDevice,
-    layout: &ScriptLayout,
-    count: u32,
-) -> Result<(), AllocationError>
-    requires { Agrees pool_id allocator.old (ledger_of device.old) }
-{
-    let flags = layout.flags();
-    let sets = allocator.allocate(device, layout, flags, &layout.counts, count)?;
-    expect_same(rt, sets.len(), count as usize);
-    for (name, set) in (0u64..).zip(&sets) {
-        expect_same(rt, set.raw().id(), name);
-    }
-    Ok(())
-}
-
+/// A new device names its sets from 0 up.
 #[test]
 fn sets_of_a_large_answer_stand_as_they_came(rt: HostRuntime) -> Result<(), AllocationError> {
-    let mut device = ScriptedDevice::new(rt.alloc(), Vec::new(rt.alloc()));
+    let mut device = LogDevice::new(rt.alloc());
     let mut allocator = DescriptorAllocator::new(rt.alloc(), 0);
-    expect_in_order(
-        &rt,
-        &mut allocator,
-        &mut device,
-        &layout_of(1, false),
-        100_000,
-    )
+    let layout = layout_of(1, false);
+    expect_answer(&rt, &mut allocator, &mut device, &layout, 0, 100_000)
 }
 
 #[test]

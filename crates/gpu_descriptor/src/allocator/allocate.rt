@@ -29,28 +29,29 @@ impl<P: Drop, S: Drop> DescriptorAllocator<P, S> {
     /// the device.
     ///
     /// The existing pools of the layout's key are asked first, from the newest to the oldest, each at
-    /// most once, and each for as many sets as it is known to have places for. For the sets that are
-    /// still wanting new pools are created. `new_pool_size` says how many sets a new pool has; for a
-    /// marked (update-after-bind) layout `cut_pool_size` cuts this number to the room that the limit
-    /// leaves. A request for 0 sets changes nothing and takes no memory.
+    /// most once, and each for as many sets as it is known to have places for. A pool that refuses as
+    /// fragmented or full is passed over. For the sets that are still wanting new pools are created.
+    /// `new_pool_size` says how many sets a new pool has; for a marked (update-after-bind) layout
+    /// `cut_pool_size` cuts this number to the room that the limit leaves. A request for 0 sets
+    /// changes nothing and takes no memory.
     ///
-    /// If the request can't be met, all sets that it took go back, in the order in which they came,
-    /// with one release call for each stretch of neighbours of one pool. If sets went back, the oldest
-    /// pools of the key are then destroyed up to the first that has a set, but never the key's last
-    /// pool. The errors:
+    /// If the request can't be met, a new pool that refused its sets is destroyed, and all sets that
+    /// the request took go back, in the order in which they came: neighbours of one pool go back in
+    /// one release call. If sets went back, the oldest pools of the key are then destroyed up to the
+    /// first that has a set, but never the key's last pool. The errors:
     ///
     /// - `Fragmentation`: the sets of a marked layout would exceed the limit; or the limit leaves no
-    ///   room for a new pool of a marked layout; or the number of sets that are out, or the number of
-    ///   a pool, would exceed 64 bits; or the device refused with this error to create a pool; or a
-    ///   new pool refused its sets as fragmented or full;
+    ///   room for a new pool of a marked layout; or the number of sets that are out, or the number
+    ///   that a new pool gets, would exceed 64 bits; or the device refused with this error to create a
+    ///   pool; or a new pool refused its sets as fragmented or full;
     /// - `OutOfDeviceMemory`: the device said so, at an existing or a new pool;
     /// - `OutOfHostMemory`: the device said so; or there was no memory for the answer or for the books
     ///   of a key or a pool; or no id is left for a new key.
     ///
     /// `flags` and `layout_descriptor_count` must be those of the layout, and `device` must be the one
-    /// of all other calls. In the original crate the product that is compared with the limit is taken
-    /// in 32 bits, and here it is exact. There the limit counts only the sets that are out, and here
-    /// it also counts the pools.
+    /// of all other calls. In the original crate the number of descriptors that is compared with the
+    /// limit is computed in 32 bits, and here it is exact. There the limit counts only the sets that
+    /// are out, and here it also counts the pools.
     pub fn allocate<L, D: DescriptorDevice<L, P, S>>(
         &mut self,
         device: &mut D,
@@ -93,7 +94,7 @@ impl<P: Drop, S: Drop> DescriptorAllocator<P, S> {
         }
     }
 
-    /// Takes the sets of a request and counts those that came, unless so many sets would exceed the
+    /// Takes the sets of a request and counts those that came, unless all of them would exceed the
     /// limit or 64 bits. On an error nothing was taken. Where `ended` says that the request stopped
     /// short, the sets that came are the caller's to give back.
     ///
@@ -138,7 +139,7 @@ impl<P: Drop, S: Drop> DescriptorAllocator<P, S> {
 }
 
 impl<P, S> DescriptorAllocator<P, S> {
-    /// Whether so many sets more would exceed the limit on marked descriptors.
+    /// Whether `count` sets more would exceed the limit on marked descriptors.
     pub(super) fn would_exceed_limit(&self, key: &BucketKey, count: u32) -> bool
         ensures { result ≡ (key.now.update_after_bind && nat_lt (self.now.limit)
             (count * sum (kinds key.now.counts) + marked_load_of self.now)) }
