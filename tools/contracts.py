@@ -9,7 +9,7 @@ TOP = Path(common.TOP)
 WORD = re.compile(r"[A-Za-z_]\w*")
 IMPORT = re.compile(r"use Rattle\.(\w+)\.specs\.([\w.]+)\.\{([^}]*)\}")
 DEFINED = re.compile(r"^ *(?:(?:abbrev|unfoldable) pub|pub (record|data)) (\w+)\b", re.M)
-FUNCTION = re.compile(r"^( *)((?:pub(?:\(\w+\))? )?)(?:extern \"C\" )?fn (\w+)", re.M)
+FUNCTION = re.compile(r"^( *)((?:pub(?:\(\w+\))? )?)(?:const )?(?:unsafe )?(?:extern \"C\" )?fn (\w+)", re.M)
 AROUND = re.compile(r"^(?:pub(?:\(\w+\))? )?(impl|trait|struct|enum)\b(.*(?:\n    where.*)?)", re.M)
 CLAUSE = re.compile(r"^ *(requires|ensures)\*? (?:(\w+) )?\{", re.M)
 
@@ -76,13 +76,16 @@ def said_with(text, names):
 
 
 class Function:
-    """A function with its clauses."""
+    """A function with its clauses. In its file it goes from start to end, and its body from inside on."""
 
     def __init__(self, crate, path, place, text):
         head = text[place.start():]
         end = re.compile(rf"(?<=\n){place[1]}(?:\{{|\).*\{{$)|^.*(?:///|\bfn )|^\}}", re.M)
         found = end.search(head, head.index("\n"))
         head = head[:0 if head.partition("\n")[0].endswith("{") else found and found.start()]
+        self.start, self.inside = place.start(), place.start() + len(head or text[place.start():].partition("\n")[0])
+        last = re.compile(rf"^{place[1]}\}}$", re.M).search(text, self.start)
+        self.end = last.end() if last else self.inside
         before = [*AROUND.finditer(text[:place.start()])]
         last = before[-1] if before and place[1] else None
         self.path, self.name, self.is_public = path, place[3], bool(place[2].startswith("pub "))
