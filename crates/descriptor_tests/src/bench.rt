@@ -84,6 +84,13 @@ pub fn sets(first: usize, count: u32) -> Reply {
     Reply::Sets { first, count }
 }
 
+/// Writes the first tickets, from 0 up.
+pub fn number(tickets: &mut [usize]) {
+    for (place, ticket) in tickets.iter_mut().enumerate() {
+        *ticket = place;
+    }
+}
+
 /// Compares two values. A call of it costs the prover less than an assertion in its place.
 pub fn expect_same<T: Copy + PartialEq + Debug>(rt: &impl Abort, seen: T, wanted: T) {
     assert_eq!(rt; seen, wanted);

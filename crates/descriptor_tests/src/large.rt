@@ -3,7 +3,7 @@
 //! No clause says that memory is there.
 use crate::acts::SessionAct::{Allocate, Cleanup, Free, Held, Run};
 use crate::acts::{SessionAct, play};
-use crate::bench::{Bench, layout_of, sets};
+use crate::bench::{Bench, layout_of, number, sets};
 use descriptor_script::{Command, LogDevice, Reply, ScriptLayout};
 use std::alloc::{AllocError, Global};
 use std::test::Fail;
@@ -25,14 +25,6 @@ fn a_set_of_each(alloc: Global, count: u32) -> Result<Vec<SessionAct<'static>>, 
         acts.push(Allocate(place, 1, sets(place, 1)))?;
     }
     Ok(acts)
-}
-
-fn first_tickets(alloc: Global, count: usize) -> Result<Vec<usize>, AllocError> {
-    let mut tickets = Vec::new(alloc);
-    for ticket in 0..count {
-        tickets.push(ticket)?;
-    }
-    Ok(tickets)
 }
 
 /// Commands that ask for a set of the first key each.
@@ -60,7 +52,8 @@ fn single_replies(alloc: Global, first: usize, end: usize) -> Result<Vec<Reply>,
 #[test]
 fn memory_is_found_beside_hundreds(rt: HostRuntime) -> Result<(), Fail> {
     let layouts = many_layouts(rt.alloc(), 300)?;
-    let tickets = first_tickets(rt.alloc(), 1500)?;
+    let mut tickets = [0; 1500];
+    number(&mut tickets);
     let commands = single_sets(rt.alloc(), 300)?;
     let replies = single_replies(rt.alloc(), 1500, 1800)?;
     let mut acts = a_set_of_each(rt.alloc(), 300)?;

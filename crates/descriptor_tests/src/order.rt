@@ -2,7 +2,7 @@
 //! says it, since the ledger sees no order.
 use crate::acts::SessionAct::{Allocate, Calls, Free, Names, Next, Pools};
 use crate::acts::Setting;
-use crate::bench::{layout_of, sets};
+use crate::bench::{layout_of, number, sets};
 use descriptor_script::{Answer, Call, Reply};
 use gpu_descriptor::AllocationError;
 use std::test::Fail;
@@ -62,9 +62,7 @@ fn sets_of_a_refused_request_go_back_as_they_came(rt: HostRuntime) -> Result<(),
 #[test]
 fn front_goes_before_the_next_run(rt: HostRuntime) -> Result<(), Fail> {
     let mut tickets = [0; 65];
-    for (place, ticket) in tickets.iter_mut().enumerate() {
-        *ticket = place;
-    }
+    number(&mut tickets);
     let calls = [
         Call::Create { pool: 0 },
         Call::Alloc { pool: 0, sets: 64 },

@@ -1,6 +1,6 @@
 //! Whole runs of a session in which growths are refused: one alone, or each from one on. In a plain
 //! run every growth is granted; `tools/refuse-memory` refuses them in turn.
-use crate::bench::{Bench, expect_same, layout_of, sets};
+use crate::bench::{Bench, expect_same, layout_of, number, sets};
 use descriptor_script::{Command, LogDevice, Reply, ScriptLayout};
 use gpu_descriptor::AllocationError;
 use std::alloc::{AllocError, Global};
@@ -136,9 +136,7 @@ fn expect_runs(rt: &impl Abort, alloc: Global, taken: &Taken<'_>) {
 #[test]
 fn newer_pool_first_until_memory_is_wanting(rt: HostRuntime) {
     let mut tickets = [0; 128];
-    for (place, ticket) in tickets.iter_mut().enumerate() {
-        *ticket = place;
-    }
+    number(&mut tickets);
     tickets.rotate_left(64);
     let taken = Taken {
         samplers: 1,

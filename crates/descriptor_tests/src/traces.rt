@@ -1,7 +1,7 @@
 //! What a device sees: its calls in their order, which no clause says, and what stands then.
 use crate::acts::SessionAct::{Allocate, Calls, Cleanup, Free, FreeEach, Held, Loads, Pools};
 use crate::acts::{SessionAct, Setting, expect_calls};
-use crate::bench::{expect_pools, expect_same, layout_of, sets};
+use crate::bench::{expect_pools, expect_same, layout_of, number, sets};
 use crate::pair::Pair;
 use descriptor_script::{Call, Command, LogDevice, Reply};
 use std::alloc::{AllocError, Global};
@@ -22,7 +22,9 @@ fn share_the_device(rt: &impl Abort, alloc: Global, pair: &mut Pair) -> Result<(
 
 /// One takes 64 sets, the other one, the first one more, and then gives its 64 back.
 fn take_in_turns(rt: &impl Abort, alloc: Global, pair: &mut Pair) -> Result<(), AllocError> {
-    let tickets = first_tickets(alloc, 64)?;
+    let mut tickets = [0; 64];
+    number(&mut tickets);
+    let tickets = tickets.to_vec(alloc)?;
     pair.step_one(&allocate(64));
     pair.step_other(&allocate(1));
     pair.step_one(&allocate(1));
@@ -51,14 +53,6 @@ fn expect_taken_in_turns(rt: &impl Abort, pair: &Pair) {
 
 fn allocate(count: u32) -> Command {
     Command::Allocate { layout: 0, count }
-}
-
-fn first_tickets(alloc: Global, count: usize) -> Result<Vec<usize>, AllocError> {
-    let mut tickets = Vec::new(alloc);
-    for ticket in 0..count {
-        tickets.push(ticket)?;
-    }
-    Ok(tickets)
 }
 
 /// Compares the pools created and destroyed, and the calls that asked for sets and released some.
@@ -125,9 +119,7 @@ fn allocates(taken: Taken) -> [SessionAct<'static>; 2] {
 #[test]
 fn newer_pool_first_however_it_comes_back(rt: HostRuntime) -> Result<(), Fail> {
     let mut tickets = [0; 128];
-    for (place, ticket) in tickets.iter_mut().enumerate() {
-        *ticket = place;
-    }
+    number(&mut tickets);
     tickets.rotate_left(64);
     let taken = Taken {
         samplers: 1,
