@@ -29,21 +29,21 @@ impl<P: Drop, S: Drop> DescriptorAllocator<P, S> {
     /// the device.
     ///
     /// The existing pools of the layout's key are asked first, from the newest to the oldest, each at
-    /// most once, and each for as many sets as it is known to have places for. A pool that refuses as
-    /// fragmented or full is passed over. For the sets that are still wanting new pools are created.
-    /// `new_pool_size` says how many sets a new pool has; for a marked (update-after-bind) layout
-    /// `cut_pool_size` cuts this number to the room that the limit leaves. A request for 0 sets
+    /// most once, and each for at most as many sets as it is known to have places for. A pool that
+    /// refuses as fragmented or full is passed over. For the sets that are still wanting new pools are
+    /// created. `new_pool_size` says how many sets a new pool has; for a marked (update-after-bind)
+    /// layout `cut_pool_size` cuts this number to the room that the limit leaves. A request for 0 sets
     /// changes nothing and takes no memory.
     ///
     /// If the request can't be met, a new pool that refused its sets is destroyed, and all sets that
     /// the request took go back, in the order in which they came: neighbours of one pool go back in
-    /// one release call. If sets went back, the oldest pools of the key are then destroyed up to the
-    /// first that has a set, but never the key's last pool. The errors:
+    /// one release call. As sets go back, the oldest pools of the key are destroyed up to the first
+    /// that has a set, but never the key's last pool. The errors:
     ///
     /// - `Fragmentation`: the sets of a marked layout would exceed the limit; or the limit leaves no
-    ///   room for a new pool of a marked layout; or the number of sets that are out, or the number
-    ///   that a new pool gets, would exceed 64 bits; or the device refused with this error to create a
-    ///   pool; or a new pool refused its sets as fragmented or full;
+    ///   room for a new pool of a marked layout; or `count` more than the number of sets that are out,
+    ///   or than the number of the key's next pool, would exceed 64 bits; or the device refused with
+    ///   this error to create a pool; or a new pool refused its sets as fragmented or full;
     /// - `OutOfDeviceMemory`: the device said so, at an existing or a new pool;
     /// - `OutOfHostMemory`: the device said so; or there was no memory for the answer or for the books
     ///   of a key or a pool; or no id is left for a new key.
