@@ -6,7 +6,6 @@ use crate::counted_set::CountedSet;
 use crate::device::CountingDevice;
 use crate::layout::Layout;
 use crate::outcome::Outcome;
-use anyhow::anyhow;
 use descriptor_renderer::{RenderError, Renderer, SetHandle};
 use gpu_descriptor::{AllocationError, LayoutHandle, SetLayout};
 use std::alloc::Global;
@@ -113,9 +112,7 @@ fn render_frames(
 /// Draws a frame. A new material takes the place of one whose last use is in this frame. Once the
 /// frame has ended, the device is done with the frame two before.
 fn render_frame(renderer: &mut BenchRenderer, scene: &mut Scene) -> Result<(), anyhow::Error> {
-    let Some(frame) = renderer.begin_frame() else {
-        return Err(anyhow!("a frame was to be opened"));
-    };
+    let frame = renderer.begin_frame()?;
     let place = (frame % MATERIALS as u64) as usize;
     renderer.destroy_set(scene.materials[place], frame)?;
     scene.materials[place] = renderer.create_set(scene.material)?;

@@ -120,7 +120,7 @@ fn layout_of(sampler: u32, mark: bool) -> SetLayout<ScriptLayout>
 fn draw_frame(renderer: &mut GameRenderer, scenery: &Scenery, score: &mut Score)
     ensures { pools_besides renderer.new ≡ pools_besides renderer.old }
 {
-    let Some(frame) = renderer.begin_frame() else {
+    let Ok(frame) = renderer.begin_frame() else {
         return;
     };
     bind_material(renderer, scenery.stone, score);

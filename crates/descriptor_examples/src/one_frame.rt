@@ -32,7 +32,7 @@ fn draw_frame<L: Drop, P: Drop, S: Drop, D: DescriptorDevice<L, P, S>>(
     ensures pools { pools_besides renderer.new ≡ pools_besides renderer.old }
 {
     let material = renderer.create_set(layout)?;
-    let Some(frame) = renderer.begin_frame() else {
+    let Ok(frame) = renderer.begin_frame() else {
         return Err(RenderError::NoFrame);
     };
     let draw = renderer.draw(layout)?;

@@ -9,5 +9,5 @@ mod errors;
 mod manager;
 mod retired;
 
-pub use errors::{RetireAllError, RetireError};
+pub use errors::RetireError;
 pub use manager::FrameManager;

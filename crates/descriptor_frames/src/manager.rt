@@ -19,6 +19,7 @@ use crate::retired::Retired;
 use gpu_descriptor::DescriptorAllocator;
 use std::alloc::Global;
 use std::collections::VecDeque;
+use std::ops::Range;
 
 /// Hands out descriptor sets, and gives them back when the frame that used them last is done.
 ///
@@ -52,8 +53,25 @@ impl<P, S> FrameManager<P, S> {
 
         ensures greatest { greatest_of result ≡ 0 }
     {
+        FrameManager::with_ids(alloc, max, 0..u64::MAX)
+    }
+
+    /// The same as `new`, but the ids of its allocator's keys are taken from this range, as by
+    /// `DescriptorAllocator::with_ids`.
+    pub fn with_ids(alloc: Global, max: u32, ids: Range<u64>) -> Self
+        ensures allocator { allocator_of result ≡ without_keys max }
+        ensures list { retired_of result ≡ [] }
+
+        // On any device.
+        ensures agree { (pool_name : P → ℕ) (l : Ledger)
+            → Agrees pool_name (allocator_of result) l }
+        ensures retired { (pool_name : P → ℕ) (set_name : S → ℕ) (l : Ledger)
+            → AreRetiredOut pool_name set_name result l }
+
+        ensures greatest { greatest_of result ≡ 0 }
+    {
         FrameManager {
-            allocator: DescriptorAllocator::new(alloc, max),
+            allocator: DescriptorAllocator::with_ids(alloc, max, ids),
             retired: VecDeque::new(alloc),
             greatest: 0,
         }

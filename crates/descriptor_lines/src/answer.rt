@@ -11,6 +11,7 @@ use gpu_descriptor::PoolView;
 use gpu_descriptor_types::DescriptorTotalCount;
 pub use reply::{reply_answer, reserve_for};
 use std::alloc::AllocError;
+use std::string::String;
 
 /// The answer where there was no memory to run a line.
 pub const NO_MEMORY: &str = "refused: no memory\n";
@@ -32,7 +33,7 @@ pub fn layout_answer(
     ensures { OnOk result (string_bytes answer.new ≡ string_bytes answer.old
         ++ says.layout_answer name.now (sum (kinds counts.now))) }
 {
-    let total = counts.total();
+    let total = counts.total_u64();
     writeln!(answer, "layout {name} total {total}")
 }
 

@@ -18,6 +18,7 @@ use gpu_descriptor_types::DescriptorTotalCount;
 use layout::parse_layout;
 use script::parse_script;
 use std::alloc::Global;
+use std::vec::Vec;
 
 /// The greatest count of sets that a line may ask for.
 const MAX_SETS: u64 = 1_000_000;

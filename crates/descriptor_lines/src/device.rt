@@ -5,6 +5,7 @@ ghost use Rattle.descriptor_script.specs.Scripted.Raw.{script_meaning};
 
 use descriptor_script::{Answer, RawPool, RawSet, ScriptLayout, ScriptedDevice};
 use gpu_descriptor::DescriptorDevice;
+use std::vec::Vec;
 
 /// A device of scripted pools, sets and layouts, which means them as the scripted device does.
 pub trait ScriptedMeaning: DescriptorDevice<ScriptLayout, RawPool, RawSet> {

@@ -9,6 +9,7 @@ ghost use Rattle.descriptor_lines.specs.Lines.{before_end, after_end, buffer_len
 use descriptor_words::first_of;
 use std::alloc::{AllocError, Global};
 use std::io::Read;
+use std::vec::{self, Vec};
 
 /// The greatest length of a line, in bytes without its end.
 pub const MAX_LINE_LEN: usize = 4096;

@@ -7,6 +7,7 @@ use gpu_descriptor_types::DescriptorTotalCount;
 use indexmap::IndexMap;
 use indexmap::map::Iter;
 use std::alloc::{AllocError, Global};
+use std::string::String;
 
 /// The greatest number of layouts.
 pub const MAX_LAYOUTS: usize = 1024;

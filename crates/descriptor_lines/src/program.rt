@@ -28,6 +28,8 @@ use descriptor_words::{Fault, Refusal};
 use output::answer_line;
 use std::alloc::Global;
 use std::io::{Read, Write};
+use std::string::String;
+use std::vec::Vec;
 
 /// Enough bytes for most answers and for every line of a fault.
 const ANSWER_LEN: usize = 1024;

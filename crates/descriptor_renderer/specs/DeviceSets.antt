@@ -1,6 +1,8 @@
 -- The sets over a device: those of the frame, those that are held, what is out, and the pools of the device.
-use Rattle.std.specs.Prelude.{◌≡◌, ℕ, ◌+◌, ◌≤◌, List, length, Err, Option}
-use Rattle.gpu_descriptor_types.specs.Ledger.{Pool}
+use Rattle.std.specs.Prelude.{◌≡◌, ℕ, ◌+◌, ◌<◌, ◌≤◌, List, length, Err, Option}
+use Rattle.std.specs.VecDeque.{deque_capacity}
+use Rattle.slab.specs.Slab.{HasRoomFor}
+use Rattle.gpu_descriptor_types.specs.Ledger.{Ledger, Pool}
 use Rattle.gpu_descriptor_types.specs.Side.{Side, side}
 use Rattle.gpu_descriptor_types.specs.declared.device.DescriptorDevice.{Ghosts}
 use Rattle.gpu_descriptor.specs.Caller.Call.{call_of, layout_key}
@@ -38,9 +40,13 @@ module _ {L P S D : Type 0} {d : Ghosts D L P S} where
   abbrev pub limit_in : DeviceSets L P S D d → ℕ
   limit_in s = (allocator_of s.manager).limit
 
+  -- the ledger of the device
+  abbrev pub ledger_in : DeviceSets L P S D d → Ledger
+  ledger_in s = d.ledger s.device
+
   -- the live pools of the device, and those of them that are none of the allocator's
   abbrev pub pools_in : DeviceSets L P S D d → ℕ → Option Pool
-  pools_in s = (d.ledger s.device).pools
+  pools_in s = (ledger_in s).pools
 
   abbrev pub others_in : DeviceSets L P S D d → ℕ → Option Pool
   others_in s = others_of d.meaning.pool_name (allocator_of s.manager) (d.ledger s.device)
@@ -56,6 +62,22 @@ module _ {L P S D : Type 0} {d : Ghosts D L P S} where
   -- memory is reserved to retire all sets of the frame and all that are held
   pub record HasReserveToRetire (s : DeviceSets L P S D d) : Type 0 where
     pub reserve : length (drawn_in s) + length (sets_in (slots_in s)) ≤ reserve_of s.manager
+
+  -- memory is reserved to retire one more set
+  abbrev pub HasRoomToRetire : DeviceSets L P S D d → Type 0
+  HasRoomToRetire s = length (drawn_in s) + length (sets_in (slots_in s)) < reserve_of s.manager
+
+  -- memory is reserved to draw one more set and to retire it
+  abbrev pub HasRoomToDraw : DeviceSets L P S D d → Type 0
+  HasRoomToDraw s = (length (drawn_in s) < deque_capacity s.drawn) × HasRoomToRetire s
+
+  -- memory is reserved to hold one more set and to retire it
+  abbrev pub HasRoomToHold : DeviceSets L P S D d → Type 0
+  HasRoomToHold s = HasRoomFor s.held 1 × HasRoomToRetire s
+
+  -- the error has the cause that the allocator names
+  abbrev pub IsCaused : L → AllocationError → DeviceSets L P S D d → DeviceSets L P S D d → Type 0
+  IsCaused layout error old new = HasCause error (call_of d.meaning (layout_key d.meaning layout) 1 (side_in old) (side_in new) (Err error))
 
   -- why a set of the layout was refused: an error other than want of memory has the cause that the allocator names
   abbrev pub IsRefused : L → AllocationError → DeviceSets L P S D d → DeviceSets L P S D d → Type 0

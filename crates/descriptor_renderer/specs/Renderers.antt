@@ -1,13 +1,15 @@
 -- What a renderer has: layouts, frames, sets by handle, and the pools of its device.
 use Rattle.std.specs.Prelude.{ℕ, Bool, List, Option}
-use Rattle.gpu_descriptor_types.specs.Ledger.{Pool}
+use Rattle.gpu_descriptor_types.specs.Ledger.{Ledger, Pool}
 use Rattle.gpu_descriptor_types.specs.declared.device.DescriptorDevice.{Ghosts}
-use Rattle.gpu_descriptor.specs.Caller.LayoutRegistries.{layout_at}
+use Rattle.gpu_descriptor_types.specs.Side.{Side}
+use Rattle.gpu_descriptor.specs.Caller.LayoutRegistries.{layout_at, registry_of}
+use Rattle.gpu_descriptor.specs.Caller.Values.{Allocations}
 use Rattle.gpu_descriptor.specs.declared.errors.AllocationError.{AllocationError}
 use Rattle.gpu_descriptor.specs.declared.layout.SetLayout.{SetLayout}
 use Rattle.gpu_descriptor.specs.declared.layout_registry.LayoutHandle.{LayoutHandle}
 use Rattle.descriptor_frames.specs.declared.retired.Retired.{Retired}
-use Rattle.descriptor_renderer.specs.DeviceSets.{IsRefused, drawn_in as drawn_of, limit_in, others_in, pools_in as pools_of, retired_in as retired_of, slots_in}
+use Rattle.descriptor_renderer.specs.DeviceSets.{HasRoomToDraw, HasRoomToHold, IsCaused, IsRefused, drawn_in as drawn_of, ledger_in as ledger_of, limit_in, others_in, pools_in as pools_of, retired_in as retired_of, side_in, slots_in}
 use Rattle.descriptor_renderer.specs.DrawnSets.{drawn_by}
 use Rattle.descriptor_renderer.specs.HeldSets.{held_by}
 use Rattle.descriptor_renderer.specs.SetsBy.{SetsBy}
@@ -47,6 +49,10 @@ module _ {L P S D : Type 0} {d : Ghosts D L P S} where
   abbrev pub retired_in : Renderer L P S D d → List (Retired S)
   retired_in r = retired_of r.sets
 
+  -- the ledger of the device
+  abbrev pub ledger_in : Renderer L P S D d → Ledger
+  ledger_in r = ledger_of r.sets
+
   -- the live pools of the device, and those of them that are none of the renderer's
   abbrev pub pools_in : Renderer L P S D d → ℕ → Option Pool
   pools_in r = pools_of r.sets
@@ -54,9 +60,31 @@ module _ {L P S D : Type 0} {d : Ghosts D L P S} where
   abbrev pub pools_besides : Renderer L P S D d → ℕ → Option Pool
   pools_besides r = others_in r.sets
 
+  -- the numbers that tell the renderer's handles of sets and of layouts from those of other renderers
+  abbrev pub renderer_of : Renderer L P S D d → ℕ
+  renderer_of r = r.renderer
+
+  abbrev pub layouts_renderer_of : Renderer L P S D d → ℕ
+  layouts_renderer_of r = registry_of r.layouts
+
+  -- the allocator, and the ledger of the device
+  abbrev pub side_of : Renderer L P S D d → Side (Allocations P)
+  side_of r = side_in r.sets
+
   -- the limit on update-after-bind descriptors
   abbrev pub limit_of : Renderer L P S D d → ℕ
   limit_of r = limit_in r.sets
+
+  -- memory is reserved for one more set of the frame, or for one more that is held, and to retire it
+  abbrev pub CanDraw : Renderer L P S D d → Type 0
+  CanDraw r = HasRoomToDraw r.sets
+
+  abbrev pub CanHold : Renderer L P S D d → Type 0
+  CanHold r = HasRoomToHold r.sets
+
+  -- the error has the cause that the allocator names
+  abbrev pub HasItsCause : L → AllocationError → Renderer L P S D d → Renderer L P S D d → Type 0
+  HasItsCause layout error old new = IsCaused layout error old.sets new.sets
 
   -- why the allocator refused a set of the layout: an error other than want of memory has the cause that the allocator names
   abbrev pub HasCause : L → AllocationError → Renderer L P S D d → Renderer L P S D d → Type 0

@@ -1,18 +1,20 @@
 //! A device with its frame manager, the sets of the frame, and the sets that are held.
 ghost use Rattle.std.specs.Prelude.{◌≡◌, ℕ, ◌+◌, ◌<◌, ◌≤◌, ◌++◌, [], length, map, slice_get, slice_set, None};
-ghost use Rattle.std.specs.Prelude.{IfErr, IfOk, IfSome, IsSome, OnErr, OnOk};
+ghost use Rattle.std.specs.Prelude.{IfErr, IfOk, IfSome, IsOk, IsSome, OnErr, OnOk};
 ghost use Rattle.std.specs.Option.{option_copied};
 ghost use Rattle.gpu_descriptor.specs.Caller.SetLayouts.{Adds, IsMeant};
 ghost use Rattle.gpu_descriptor.specs.Caller.States.{Agrees};
 ghost use Rattle.gpu_descriptor.proofs.callers.OneAgreement.{Agrees-prop};
 ghost use Rattle.descriptor_frames.specs.Frames.{AreBothInUse, AreRetiredOut, allocator_of};
 ghost use Rattle.descriptor_frames.specs.Frames.{greatest_of, retired_of, reserve_of};
-ghost use Rattle.descriptor_frames.specs.Retired.{at_frame, later, with_late};
+ghost use Rattle.gpu_descriptor.specs.Caller.CleansUp.{CleansUp};
+ghost use Rattle.gpu_descriptor.specs.Caller.Frees.{Returns};
+ghost use Rattle.descriptor_frames.specs.Retired.{at_frame, due, later, retired_sets, with_late};
 ghost use Rattle.descriptor_renderer.specs.HeldSets.{Holds, numbered, sets_in, slot_at};
 
 use crate::held_set::{HeldSet, put, retire_each, take};
 use descriptor_frames::FrameManager;
-use gpu_descriptor::{AllocationError, DescriptorDevice, DescriptorSet, SetLayout, laws};
+use gpu_descriptor::{AllocationError, DescriptorDevice, DescriptorSet, SetLayout};
 use slab::Slab;
 use std::alloc::{AllocError, Global};
 use std::collections::VecDeque;
@@ -37,9 +39,10 @@ pub(crate) struct DeviceSets<L, P, S, D: DescriptorDevice<L, P, S>> {
 
 impl<L, P: Drop, S: Drop, D: DescriptorDevice<L, P, S>> DeviceSets<L, P, S, D> {
     ghost use Rattle.descriptor_renderer.specs.DeviceSets.{HasReserveToRetire, IsAccounted};
+    ghost use Rattle.descriptor_renderer.specs.DeviceSets.{HasRoomToDraw, HasRoomToHold, IsCaused};
     ghost use Rattle.descriptor_renderer.specs.DeviceSets.{IsRefused, drawn_in, greatest_in};
-    ghost use Rattle.descriptor_renderer.specs.DeviceSets.{limit_in, others_in, pools_in};
-    ghost use Rattle.descriptor_renderer.specs.DeviceSets.{retired_in, slots_in};
+    ghost use Rattle.descriptor_renderer.specs.DeviceSets.{ledger_in, limit_in, others_in, pools_in};
+    ghost use Rattle.descriptor_renderer.specs.DeviceSets.{retired_in, side_in, slots_in};
 
     /// No sets, under a limit on update-after-bind descriptors.
     #[tactic(auto, using(gpu_descriptor::proofs::callers::NewAllocators::new_agrees))]
@@ -53,7 +56,6 @@ impl<L, P: Drop, S: Drop, D: DescriptorDevice<L, P, S>> DeviceSets<L, P, S, D> {
         ensures others { others_in result ≡ (D.ledger device).pools }
         ensures limit { limit_in result ≡ limit }
     {
-        laws::no_pool_is_lost::<P>();
         DeviceSets {
             device,
             manager: FrameManager::new(alloc, limit),
@@ -70,6 +72,8 @@ impl<L, P: Drop, S: Drop, D: DescriptorDevice<L, P, S>> DeviceSets<L, P, S, D> {
             (drawn_in self.new)) }
         ensures stay { OnErr result (drawn_in self.new ≡ drawn_in self.old) }
         ensures refused { IfErr result (λ e. IsRefused layout.now.layout e self.old self.new) }
+        ensures fits { HasRoomToDraw self.old → IfErr result (λ e. IsCaused layout.now.layout e
+            self.old self.new) }
         ensures held { slots_in self.new ≡ slots_in self.old }
         ensures retired { retired_in self.new ≡ retired_in self.old }
         ensures greatest { greatest_in self.new ≡ greatest_in self.old }
@@ -97,6 +101,8 @@ impl<L, P: Drop, S: Drop, D: DescriptorDevice<L, P, S>> DeviceSets<L, P, S, D> {
             (slots_in self.old) (slots_in self.new)) }
         ensures stay { OnErr result (slots_in self.new ≡ slots_in self.old) }
         ensures refused { IfErr result (λ e. IsRefused layout.now.layout e self.old self.new) }
+        ensures fits { HasRoomToHold self.old → IfErr result (λ e. IsCaused layout.now.layout e
+            self.old self.new) }
         ensures drawn { drawn_in self.new ≡ drawn_in self.old }
         ensures retired { retired_in self.new ≡ retired_in self.old }
         ensures greatest { greatest_in self.new ≡ greatest_in self.old }
@@ -117,6 +123,8 @@ impl<L, P: Drop, S: Drop, D: DescriptorDevice<L, P, S>> DeviceSets<L, P, S, D> {
     fn reserve_to_retire(&mut self) -> Result<(), AllocError>
         ensures reserve { OnOk result (length self.new.drawn.items
             + length (sets_in self.new.held.slots) < reserve_of self.new.manager) }
+        ensures fits { length self.old.drawn.items + length (sets_in self.old.held.slots)
+            < reserve_of self.old.manager → IsOk result }
         ensures reserve_stays { reserve_of self.old.manager ≤ reserve_of self.new.manager }
         ensures drawn { self.new.drawn ≡ self.old.drawn }
         ensures held { self.new.held ≡ self.old.held }
@@ -165,6 +173,7 @@ impl<L, P: Drop, S: Drop, D: DescriptorDevice<L, P, S>> DeviceSets<L, P, S, D> {
         ensures reserve { HasReserveToRetire self.new }
         ensures others { others_in self.new ≡ others_in self.old }
         ensures limit { limit_in self.new ≡ limit_in self.old }
+        ensures pools { pools_in self.new ≡ pools_in self.old }
     {
         self.manager.retire_reserved(frame, &mut self.drawn);
     }
@@ -183,6 +192,7 @@ impl<L, P: Drop, S: Drop, D: DescriptorDevice<L, P, S>> DeviceSets<L, P, S, D> {
         ensures reserve { HasReserveToRetire self.new }
         ensures others { others_in self.new ≡ others_in self.old }
         ensures limit { limit_in self.new ≡ limit_in self.old }
+        ensures pools { pools_in self.new ≡ pools_in self.old }
     {
         let set = take(&mut self.held, place);
         match self.manager.retire_late(frame, set) {
@@ -201,6 +211,8 @@ impl<L, P: Drop, S: Drop, D: DescriptorDevice<L, P, S>> DeviceSets<L, P, S, D> {
         ensures reserve { HasReserveToRetire self.old → HasReserveToRetire self.new }
         ensures others { others_in self.new ≡ others_in self.old }
         ensures limit { limit_in self.new ≡ limit_in self.old }
+        ensures returns { Returns D.meaning (retired_sets (due frame (retired_in self.old)))
+            (side_in self.old) (side_in self.new) }
     {
         self.manager.finish(&mut self.device, frame);
     }
@@ -218,6 +230,7 @@ impl<L, P: Drop, S: Drop, D: DescriptorDevice<L, P, S>> DeviceSets<L, P, S, D> {
         ensures reserve { HasReserveToRetire self.old → HasReserveToRetire self.new }
         ensures others { others_in self.new ≡ others_in self.old }
         ensures limit { limit_in self.new ≡ limit_in self.old }
+        ensures cleans_up { CleansUp D.meaning (side_in self.old) (side_in self.new) }
     {
         self.manager.cleanup(&mut self.device);
     }
@@ -240,6 +253,20 @@ impl<L, P: Drop, S: Drop, D: DescriptorDevice<L, P, S>> DeviceSets<L, P, S, D> {
         retire_each(&mut manager, last, held);
         manager.finish(&mut device, last);
         manager.cleanup(&mut device);
+        device
+    }
+
+    /// Returns the device without any call of it. Its pools stay there, with their sets.
+    pub(crate) fn into_device(self) -> D
+        ensures { D.ledger result ≡ ledger_in self }
+    {
+        let DeviceSets {
+            device,
+            manager: _,
+            drawn: _,
+            held: _,
+            layouts: _,
+        } = self;
         device
     }
 

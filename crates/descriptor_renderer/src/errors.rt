@@ -1,10 +1,35 @@
 //! Why a renderer declines.
 ghost use Rattle.std.specs.Prelude.{Some};
-ghost use Rattle.descriptor_renderer.specs.Errors.{destroy_text, render_text};
+ghost use Rattle.descriptor_renderer.specs.Errors.{begin_text, destroy_text, render_text};
 
 use gpu_descriptor::AllocationError;
 use std::error::Error;
 use std::fmt;
+
+/// Why no frame was opened.
+#[derive(Clone, Copy, Debug, PartialEq, Eq)]
+pub enum BeginError {
+    /// A frame is open.
+    FrameOpen,
+
+    /// The last frame had the greatest number that a `u64` has.
+    NoMoreFrames,
+}
+
+impl fmt::Display for BeginError {
+    ghost output = { λ error. Some (begin_text error) };
+
+    ghost styled_output = { λ error _. Some (begin_text error) };
+
+    fn fmt<W: fmt::Write>(&self, f: &mut fmt::Formatter<W>) -> fmt::Result {
+        match self {
+            BeginError::FrameOpen => f.write_str("Frame already open"),
+            BeginError::NoMoreFrames => f.write_str("Frame numbers exhausted"),
+        }
+    }
+}
+
+impl Error for BeginError {}
 
 /// Why there is no set.
 #[derive(Clone, Copy, Debug, PartialEq, Eq)]

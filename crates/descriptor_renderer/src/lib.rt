@@ -8,6 +8,6 @@ mod handles;
 mod held_set;
 mod renderer;
 
-pub use errors::{DestroyError, RenderError};
+pub use errors::{BeginError, DestroyError, RenderError};
 pub use handles::{DrawHandle, SetHandle};
 pub use renderer::Renderer;

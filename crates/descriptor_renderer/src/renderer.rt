@@ -1,17 +1,19 @@
 //! The renderer: layouts that are added as it runs, sets of a frame, and sets that are held.
 ghost use Rattle.std.specs.Prelude.{◌≡◌, ◌+◌, ◌<◌, ◌≤◌, ◌^◌, ◌++◌, ◌↔◌, [], length, map, option_map};
-ghost use Rattle.std.specs.Prelude.{IfErr, IfOk, IfSome, IsErrOf, IsSome, None, OnErr, OnOk, Some};
+ghost use Rattle.std.specs.Prelude.{IfErr, IfOk, IfSome, IsErrOf, IsOk, IsSome, None, OnErr, OnOk, Some};
 ghost use Rattle.std.specs.Prelude.{false, true};
 ghost use Rattle.std.specs.Option.{option_copied};
 ghost use Rattle.gpu_descriptor.specs.Caller.SetLayouts.{Adds, IsMeant};
 ghost use Rattle.gpu_descriptor.specs.Caller.Sets.{raw_of};
-ghost use Rattle.descriptor_frames.specs.Retired.{at_frame, later, with_late};
+ghost use Rattle.gpu_descriptor.specs.Caller.CleansUp.{CleansUp};
+ghost use Rattle.gpu_descriptor.specs.Caller.Frees.{Returns};
+ghost use Rattle.descriptor_frames.specs.Retired.{at_frame, due, later, retired_sets, with_late};
 ghost use Rattle.descriptor_renderer.specs.DeviceSets.{HasReserveToRetire, IsAccounted, greatest_in};
 ghost use Rattle.descriptor_renderer.specs.DeviceSets.{drawn_in as sets_drawn};
 ghost use Rattle.descriptor_renderer.specs.SetsBy.{Gives, Removes};
 
 use crate::device_sets::DeviceSets;
-use crate::errors::{DestroyError, RenderError};
+use crate::errors::{BeginError, DestroyError, RenderError};
 use crate::handles::{DrawHandle, SetHandle};
 use gpu_descriptor::{AllocationError, DescriptorDevice, LayoutHandle, LayoutRegistry, SetLayout};
 use std::alloc::{AllocFailed, Global};
@@ -48,10 +50,13 @@ impl<L: Drop, P: Drop, S: Drop, D: DescriptorDevice<L, P, S>> Renderer<L, P, S, 
     ghost use Rattle.gpu_descriptor.specs.declared.errors.AllocationError.{AllocationError};
     ghost use Rattle.gpu_descriptor.specs.declared.layout.SetLayout.{SetLayout};
     ghost use Rattle.gpu_descriptor.specs.declared.layout_registry.LayoutHandle.{LayoutHandle};
-    ghost use Rattle.descriptor_renderer.specs.Renderers.{HasCause, created_in, drawn_in};
+    ghost use Rattle.descriptor_renderer.specs.Renderers.{CanDraw, CanHold, HasCause};
+    ghost use Rattle.descriptor_renderer.specs.Renderers.{HasItsCause, created_in, drawn_in};
     ghost use Rattle.descriptor_renderer.specs.Renderers.{frame_of, held_in, is_open, layout_of};
-    ghost use Rattle.descriptor_renderer.specs.Renderers.{limit_of, number_of, pools_besides};
-    ghost use Rattle.descriptor_renderer.specs.Renderers.{pools_in, retired_in};
+    ghost use Rattle.descriptor_renderer.specs.Renderers.{layouts_renderer_of};
+    ghost use Rattle.descriptor_renderer.specs.Renderers.{ledger_in, limit_of, number_of};
+    ghost use Rattle.descriptor_renderer.specs.Renderers.{pools_besides, pools_in, renderer_of};
+    ghost use Rattle.descriptor_renderer.specs.Renderers.{retired_in, side_of};
 
     /// A renderer over a device, without layouts, sets and an open frame. It takes no memory.
     ///
@@ -68,6 +73,8 @@ impl<L: Drop, P: Drop, S: Drop, D: DescriptorDevice<L, P, S>> Renderer<L, P, S, 
         ensures retired { retired_in result ≡ [] }
         ensures pools { pools_besides result ≡ (D.ledger device).pools }
         ensures limit { limit_of result ≡ limit }
+        ensures number { renderer_of result ≡ renderer }
+        ensures layouts_number { layouts_renderer_of result ≡ renderer }
     {
         Renderer {
             sets: DeviceSets::new(alloc, device, limit),
@@ -101,32 +108,42 @@ impl<L: Drop, P: Drop, S: Drop, D: DescriptorDevice<L, P, S>> Renderer<L, P, S, 
         ensures retired { retired_in self.new ≡ retired_in self.old }
         ensures pools { pools_besides self.new ≡ pools_besides self.old }
         ensures limit { limit_of self.new ≡ limit_of self.old }
+        ensures device { pools_in self.new ≡ pools_in self.old }
     {
         self.layouts.add(layout)
     }
 
-    /// Opens the next frame, and gives its number. None where one is open, or past the last `u64`.
+    /// Opens the next frame and returns its number. The first frame has number 1.
+    ///
+    /// It returns `FrameOpen` if a frame is open, and `NoMoreFrames` after frame `u64::MAX`. After
+    /// either error nothing has changed.
     #[tactic(auto, unfolding(crate::specs::DrawnSets::drawn_by))]
-    pub fn begin_frame(&mut self) -> Option<u64>
-        ensures next { IfSome result (λ frame. (frame ≡ frame_of self.old + 1)
+    pub fn begin_frame(&mut self) -> Result<u64, BeginError>
+        ensures next { IfOk result (λ frame. (frame ≡ frame_of self.old + 1)
             × (frame_of self.new ≡ frame) × (is_open self.new ≡ true)) }
-        ensures opens { is_open self.old ≡ false → frame_of self.old + 1 < 2 ^ 64 → IsSome result }
-        ensures declines { is_open self.old ≡ true → result ≡ None }
-        ensures stays { result ≡ None → self.new ≡ self.old }
-        ensures drawn { IsSome result → (drawn_in self.new).all ≡ [] }
+        ensures opens { is_open self.old ≡ false → frame_of self.old + 1 < 2 ^ 64 → IsOk result }
+        ensures frame_open { (IsErrOf result BeginError.FrameOpen) ↔ (is_open self.old ≡ true) }
+        ensures no_more_frames { (IsErrOf result BeginError.NoMoreFrames) ↔ ((is_open self.old
+            ≡ false) × (frame_of self.old ≡ u64.MAX)) }
+        ensures stays { OnErr result (self.new ≡ self.old) }
+        ensures drawn { OnOk result ((drawn_in self.new).all ≡ []) }
         ensures layouts { layout_of self.new ≡ layout_of self.old }
         ensures held { held_in self.new ≡ held_in self.old }
         ensures created { created_in self.new ≡ created_in self.old }
         ensures retired { retired_in self.new ≡ retired_in self.old }
         ensures pools { pools_besides self.new ≡ pools_besides self.old }
         ensures limit { limit_of self.new ≡ limit_of self.old }
+        ensures device { pools_in self.new ≡ pools_in self.old }
     {
-        if self.is_open || self.frame == u64::MAX {
-            return None;
+        if self.is_open {
+            return Err(BeginError::FrameOpen);
+        }
+        if self.frame == u64::MAX {
+            return Err(BeginError::NoMoreFrames);
         }
         self.frame += 1;
         self.is_open = true;
-        Some(self.frame)
+        Ok(self.frame)
     }
 
     /// Takes a set of a layout, which is in use until the frame ends.
@@ -142,6 +159,9 @@ impl<L: Drop, P: Drop, S: Drop, D: DescriptorDevice<L, P, S>> Renderer<L, P, S, 
         ensures refused { (error : AllocationError) → IsErrOf result (RenderError.Allocation error)
             → IfSome (layout_of self.old layout) (λ known. HasCause known.layout error self.old
             self.new) }
+        ensures fits { CanDraw self.old → (error : AllocationError) → IsErrOf result
+            (RenderError.Allocation error) → IfSome (layout_of self.old layout) (λ known.
+            HasItsCause known.layout error self.old self.new) }
         ensures stay { OnErr result (drawn_in self.new ≡ drawn_in self.old) }
         ensures layouts { layout_of self.new ≡ layout_of self.old }
         ensures frame { frame_of self.new ≡ frame_of self.old }
@@ -182,6 +202,7 @@ impl<L: Drop, P: Drop, S: Drop, D: DescriptorDevice<L, P, S>> Renderer<L, P, S, 
         ensures created { created_in self.new ≡ created_in self.old }
         ensures pools { pools_besides self.new ≡ pools_besides self.old }
         ensures limit { limit_of self.new ≡ limit_of self.old }
+        ensures device { pools_in self.new ≡ pools_in self.old }
     {
         self.sets.retire_drawn(self.frame);
         self.is_open = false;
@@ -200,6 +221,8 @@ impl<L: Drop, P: Drop, S: Drop, D: DescriptorDevice<L, P, S>> Renderer<L, P, S, 
         ensures created { created_in self.new ≡ created_in self.old }
         ensures pools { pools_besides self.new ≡ pools_besides self.old }
         ensures limit { limit_of self.new ≡ limit_of self.old }
+        ensures returns { Returns D.meaning (retired_sets (due frame (retired_in self.old)))
+            (side_of self.old) (side_of self.new) }
     {
         self.sets.finish(frame);
     }
@@ -219,6 +242,7 @@ impl<L: Drop, P: Drop, S: Drop, D: DescriptorDevice<L, P, S>> Renderer<L, P, S, 
         ensures retired { retired_in self.new ≡ retired_in self.old }
         ensures pools { pools_besides self.new ≡ pools_besides self.old }
         ensures limit { limit_of self.new ≡ limit_of self.old }
+        ensures cleans_up { CleansUp D.meaning (side_of self.old) (side_of self.new) }
     {
         self.sets.cleanup();
     }
@@ -238,6 +262,10 @@ impl<L: Drop, P: Drop, S: Drop, D: DescriptorDevice<L, P, S>> Renderer<L, P, S, 
             ≡ None) }
         ensures refused { (error : AllocationError) → IsErrOf result (RenderError.Allocation error)
             → IfSome (layout_of self.old layout) (λ known. HasCause known.layout error self.old
+            self.new) }
+        ensures fits { CanHold self.old → created_in self.old + 1 < 2 ^ 64
+            → (error : AllocationError) → IsErrOf result (RenderError.Allocation error)
+            → IfSome (layout_of self.old layout) (λ known. HasItsCause known.layout error self.old
             self.new) }
         ensures stay { OnErr result (held_in self.new ≡ held_in self.old) }
         ensures created_stay { OnErr result (created_in self.new ≡ created_in self.old) }
@@ -288,6 +316,7 @@ impl<L: Drop, P: Drop, S: Drop, D: DescriptorDevice<L, P, S>> Renderer<L, P, S, 
         ensures created { created_in self.new ≡ created_in self.old }
         ensures pools { pools_besides self.new ≡ pools_besides self.old }
         ensures limit { limit_of self.new ≡ limit_of self.old }
+        ensures device { pools_in self.new ≡ pools_in self.old }
     {
         if self.set(set).is_none() {
             return Err(DestroyError::NoSet);
@@ -397,5 +426,21 @@ impl<L: Drop, P: Drop, S: Drop, D: DescriptorDevice<L, P, S>> Renderer<L, P, S, 
             created: _,
         } = self;
         sets.close()
+    }
+
+    /// Returns the device without any call of it: its pools stay there, with their sets. It is for a
+    /// device that was lost or that misbehaved. Otherwise use `shutdown`, which destroys the pools.
+    pub fn into_device(self) -> D
+        ensures { D.ledger result ≡ ledger_in self }
+    {
+        let Renderer {
+            sets,
+            layouts: _,
+            renderer: _,
+            frame: _,
+            is_open: _,
+            created: _,
+        } = self;
+        sets.into_device()
     }
 }

@@ -1,5 +1,5 @@
 -- What a call leaves of the ledger, from what it leaves of the pools and the counters.
-use Rattle.std.proofs.Common.{◌≡◌, ℕ, ◌+◌, List, ◌++◌, map, refl, ap, ◌∙◌}
+use Rattle.std.proofs.Common.{◌≡◌, ℕ, ◌+◌, ◌++◌, map, refl, ap, ◌∙◌}
 use Rattle.std.proofs.lemmas.List.FromFn.{length-map-range_with_len}
 use Rattle.gpu_descriptor_types.specs.Counts.{kinds}
 use Rattle.gpu_descriptor_types.specs.Ledger.{Ledger, Sink, Puts, PutsNone, live_sets, on_pool, alloc_refused, pool_refusals}

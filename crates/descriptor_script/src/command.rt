@@ -1,5 +1,6 @@
 //! What a session is asked, and what it replies.
 use gpu_descriptor::AllocationError;
+use std::vec::Vec;
 
 /// What a session is asked to do.
 #[derive(Debug, PartialEq, Eq, Drop)]

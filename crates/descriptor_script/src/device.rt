@@ -24,6 +24,7 @@ use gpu_descriptor_types::{
     DeviceAllocationError, Layouts, SetSink,
 };
 use std::alloc::Global;
+use std::vec::Vec;
 
 /// A device that answers by a script.
 ///

@@ -13,6 +13,7 @@ ghost use Rattle.descriptor_script.specs.Sessions.SessionRun.{RunsKeeping, RunsT
 use crate::{Command, Reply, Session};
 use gpu_descriptor::DescriptorDevice;
 use std::alloc::AllocError;
+use std::vec::Vec;
 
 /// Runs commands as `Session::run` does. Its contract is the headline, a clause for each part.
 ///

@@ -3,6 +3,7 @@ ghost use Rattle.std.specs.Prelude.{◌≡◌, ◌+◌, ◌<◌, ◌≤◌, ◌+
 ghost use Rattle.std.specs.Prelude.{vec_capacity};
 
 use std::alloc::{AllocError, Global};
+use std::vec::Vec;
 
 /// A call that the device granted.
 #[derive(Clone, Copy, Debug, PartialEq, Eq)]

@@ -12,6 +12,7 @@ use crate::named_set::{LAST_GENERATION, NamedSet, PLACES, generation_in, name_at
 use crate::slots::Slots;
 use gpu_descriptor::DescriptorSet;
 use std::alloc::AllocError;
+use std::vec::Vec;
 
 impl<S> Slots<S> {
     /// How many sets were at a place, with the one that is or was there last.

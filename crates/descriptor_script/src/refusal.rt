@@ -4,6 +4,7 @@ ghost use Rattle.descriptor_script.specs.Scripted.Script.{refusing_at};
 
 use crate::answer::Answer;
 use std::alloc::{AllocError, Global};
+use std::vec::{self, Vec};
 
 /// The script of a device that answers so at one of its calls: so many words `Ok`, and then
 /// `answer`. Behind it each word is `Ok` again. `place` counts from 0 the calls that create a pool

@@ -4,7 +4,7 @@ ghost use Rattle.std.specs.Vec.Iter.{into_iter_items};
 ghost use Rattle.descriptor_script.specs.Scripted.Script.{next_word, rest_words};
 
 use crate::answer::Answer;
-use std::vec::IntoIter;
+use std::vec::{IntoIter, Vec};
 
 /// A script, read word by word. After its end each word is `Ok`.
 #[derive(Drop)]

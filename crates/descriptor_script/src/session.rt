@@ -17,6 +17,7 @@ use gpu_descriptor::{
     DescriptorAllocator, DescriptorSet, DescriptorSetLayoutCreateFlags, DescriptorTotalCount,
 };
 use std::alloc::Global;
+use std::vec::Vec;
 
 /// A layout, with its counts and flags.
 #[derive(Drop)]

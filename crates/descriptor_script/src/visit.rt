@@ -12,8 +12,9 @@ ghost use Rattle.descriptor_script.specs.Sessions.Steps.{Cleans};
 ghost use Rattle.descriptor_script.specs.Sessions.Tickets.{held_sets};
 
 use crate::{Command, Reply, Session};
-use gpu_descriptor::{DescriptorDevice, laws};
+use gpu_descriptor::DescriptorDevice;
 use std::alloc::AllocError;
+use std::vec::Vec;
 
 /// Runs commands, as `Session::run` does, on a session that has no pools, and then cleans up. If no
 /// set is held then, the device has exactly the pools that it had before, whatever it refused in
@@ -44,8 +45,6 @@ pub fn visit<L, P: Drop, S: Drop, D: DescriptorDevice<L, P, S>>(
     ensures keeps { KeepsSession D.meaning (side session.old (D.ledger device.old))
         (side session.new (D.ledger device.new)) }
 {
-    laws::no_pool_is_lost::<P>();
-    laws::clean_again();
     let replies = session.run(device, commands);
     let _clean = session.step(device, &Command::Cleanup);
     replies

@@ -4,4 +4,5 @@ mod bench;
 mod first;
 mod frames;
 mod handles;
+mod lost;
 mod refused;

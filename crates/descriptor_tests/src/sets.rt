@@ -8,6 +8,8 @@ use crate::bench::{expect_same, layout_of};
 use descriptor_examples::proper_use::{borrow_pool, borrow_set, borrow_sets};
 use descriptor_script::{LogDevice, RawPool, RawSet, ScriptLayout};
 use gpu_descriptor::{AllocationError, DescriptorAllocator, DescriptorSet};
+use std::alloc::Global;
+use std::ops::Range;
 use std::process::Abort;
 use std::test::Fail;
 
@@ -89,4 +91,33 @@ fn sets_are_lent_and_come_back(rt: HostRuntime) -> Result<(), Fail> {
     let mut device = LogDevice::new(rt.alloc());
     let mut allocator = DescriptorAllocator::new(rt.alloc(), 10);
     expect_all_lent(&rt, &mut allocator, &mut device)
+}
+
+/// Allocates a set under a range of ids, sees that it has its id there and in no other range, and
+/// gives it back.
+fn expect_id_in(rt: &impl Abort, alloc: Global, ids: Range<u64>) -> Result<(), AllocationError> {
+    let mut device = LogDevice::new(alloc);
+    let other = ids.end..u64::MAX;
+    let mut allocator = DescriptorAllocator::with_ids(alloc, 0, ids.start..ids.end);
+    let layout = layout_of(1, false);
+    let sets = allocator.allocate(&mut device, &layout, layout.flags(), &layout.counts, 1)?;
+    for set in sets.iter() {
+        expect_same(
+            rt,
+            (set.has_id_in(&ids), set.has_id_in(&other)),
+            (true, false),
+        );
+    }
+    allocator.free_all(&mut device, sets);
+    Ok(())
+}
+
+/// No clause says which ids an allocator takes.
+#[test]
+fn ids_are_taken_from_the_range(rt: HostRuntime) -> Result<(), AllocationError> {
+    expect_id_in(&rt, rt.alloc(), 0..1)?;
+    expect_id_in(&rt, rt.alloc(), 7..9)?;
+    let refused = expect_id_in(&rt, rt.alloc(), 7..7);
+    expect_same(&rt, refused, Err(AllocationError::OutOfHostMemory));
+    Ok(())
 }

@@ -14,6 +14,7 @@ use crate::fault::{Fault, Refusal};
 use crate::text;
 use crate::text::Words;
 use std::alloc::Global;
+use std::vec::Vec;
 
 /// The greatest number of tickets of a line.
 const MAX_TICKETS: usize = 1_000_000;

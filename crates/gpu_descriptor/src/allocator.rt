@@ -8,7 +8,6 @@ mod allocate;
 mod allocate_for;
 mod cleanup;
 mod free;
-pub(crate) mod plan;
 mod readers;
 
 use crate::budget::Budget;
@@ -16,6 +15,7 @@ use crate::key_table::KeyTable;
 use gpu_descriptor_types::Tally;
 use std::alloc::Global;
 use std::marker::{Model, PhantomData};
+use std::ops::Range;
 
 /// Allocates descriptor sets for any layout.
 ///
@@ -67,9 +67,27 @@ impl<P, S> DescriptorAllocator<P, S> {
         ensures value { result ≡ without_keys max_update_after_bind_descriptors_in_all_pools }
         ensures agree { (name : P → ℕ) (ledger : Ledger) → Agrees name result ledger }
     {
+        DescriptorAllocator::with_ids(
+            alloc,
+            max_update_after_bind_descriptors_in_all_pools,
+            0..u64::MAX,
+        )
+    }
+
+    /// The same as `new`, but the ids of its keys are taken from this range. Each set bears the id of
+    /// its key, so sets of allocators whose ranges are disjoint can be told apart. A request for a new
+    /// key for which no id is left is refused as out of host memory.
+    pub fn with_ids(
+        alloc: Global,
+        max_update_after_bind_descriptors_in_all_pools: u32,
+        ids: Range<u64>,
+    ) -> Self
+        ensures value { result ≡ without_keys max_update_after_bind_descriptors_in_all_pools }
+        ensures agree { (name : P → ℕ) (ledger : Ledger) → Agrees name result ledger }
+    {
         DescriptorAllocator {
             alloc,
-            table: KeyTable::new(alloc),
+            table: KeyTable::new(alloc, ids),
             max_update_after_bind_descriptors_in_all_pools,
             update_after_bind_descriptors: 0,
             outstanding: 0,

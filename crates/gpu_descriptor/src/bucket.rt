@@ -7,7 +7,7 @@ ghost use Rattle.gpu_descriptor.specs.Inner.OpenNumbers.{free_in, open_numbers};
 pub(crate) mod allocation;
 mod existing;
 mod front;
-pub(crate) mod growth;
+mod growth;
 mod reads;
 mod release;
 pub(crate) mod request;

@@ -24,6 +24,7 @@ use gpu_descriptor_types::DescriptorDevice;
 use indexmap::IndexMap;
 use std::alloc::Global;
 use std::collections::VecDeque;
+use std::ops::Range;
 
 /// The keys in the order in which they came, each with its pools.
 #[derive(Debug, Drop)]
@@ -33,6 +34,9 @@ pub(crate) struct KeyTable<P> {
     /// The id of the next key. It never goes back, so no two keys ever share one.
     pub(crate) next_id: u64,
 
+    /// No key gets this id, or one above it.
+    pub(crate) end_id: u64,
+
     /// The place of the last call's key, which is a hint.
     pub(crate) last: usize,
     ghost rising: { rise_below next_id (stored_ids buckets.entries) ≡ true },
@@ -41,19 +45,22 @@ pub(crate) struct KeyTable<P> {
 }
 
 impl<P> KeyTable<P> {
-    pub(crate) fn new(alloc: Global) -> Self
+    /// A table without keys, which takes its ids from this range.
+    pub(crate) fn new(alloc: Global, ids: Range<u64>) -> Self
         ensures { result.buckets.entries ≡ [] }
     {
         KeyTable {
             buckets: IndexMap::new(alloc),
-            next_id: 0,
+            next_id: ids.start,
+            end_id: ids.end,
             last: 0,
         }
     }
 
     /// The place of a key. It is hashed only where neither the last call's place is right nor the
     /// one behind it, which serves keys that are used in the order in which they first came.
-    pub(crate) fn place_of_key(&self, key: &BucketKey) -> Option<usize>
+    #[inline]
+    fn place_of_key(&self, key: &BucketKey) -> Option<usize>
         ensures place { MatchOption result
             (lookup (is_of (key_of key.now)) self.now.buckets.entries ≡ None)
             (λ place. slice_get (stored_keys self.now.buckets.entries) place
@@ -71,6 +78,7 @@ impl<P> KeyTable<P> {
 
     /// The place of the key with an id. Where neither hint is right it is found by halves, since
     /// the ids rise along the table.
+    #[inline]
     pub(crate) fn place_of_id(&self, id: u64) -> usize
         requires there { (i : ℕ) × (slice_get (stored_ids self.now.buckets.entries) i ≡ Some id) }
         ensures place { slice_get (stored_ids self.now.buckets.entries) result ≡ Some id }
@@ -87,6 +95,7 @@ impl<P> KeyTable<P> {
     }
 
     /// Whether a key stands at this place.
+    #[inline]
     fn has_key(&self, place: usize, key: &BucketKey) -> bool
         ensures { IsTrue result → slice_get (stored_keys self.now.buckets.entries) place
             ≡ Some (key_of key.now) }
@@ -110,6 +119,7 @@ impl<P> KeyTable<P> {
 
 impl<P: Drop> KeyTable<P> {
     /// Takes sets of a key. If the key is absent, it is put last.
+    #[inline]
     pub(crate) fn serve<L, S: Drop, D: DescriptorDevice<L, P, S>>(
         &mut self,
         device: &mut D,
@@ -138,17 +148,14 @@ impl<P: Drop> KeyTable<P> {
         ensures budget { OnErr result (budget.new ≡ budget.old) }
         ensures ledger { OnErr result (D.ledger device.new ≡ D.ledger device.old) }
     {
-        match self.place_of_key(&request.key) {
-            Some(place) => {
-                self.last = place;
-                return self.buckets[place].serve(device, request, budget);
-            }
-            None => {}
+        if let Some(place) = self.place_of_key(&request.key) {
+            self.last = place;
+            return self.buckets[place].serve(device, request, budget);
         }
         if self.buckets.reserve(1).is_err() {
             return Err(AllocationError::OutOfHostMemory);
         }
-        if self.next_id == u64::MAX {
+        if self.next_id >= self.end_id {
             return Err(AllocationError::OutOfHostMemory);
         }
         let mut bucket = DescriptorBucket {

@@ -8,6 +8,7 @@ use crate::layout::SetLayout;
 use gpu_descriptor_types::DescriptorDevice;
 use std::alloc::{AllocFailed, Global};
 use std::marker::PhantomData;
+use std::vec::Vec;
 
 /// A layout of a registry: the number of the registry, and the layout's place there.
 #[derive(Clone, Copy, Debug, PartialEq, Eq, Hash)]

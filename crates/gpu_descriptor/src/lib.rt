@@ -36,7 +36,6 @@ mod set;
 mod view;
 
 pub use allocator::DescriptorAllocator;
-pub use allocator::plan::{Plan, PlannedAnswer, PlannedCall};
 pub use errors::AllocationError;
 pub use flags::DescriptorSetLayoutCreateFlags;
 pub use gpu_descriptor_types::{

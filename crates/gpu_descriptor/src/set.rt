@@ -1,14 +1,15 @@
 //! Sets that were handed out, and the keys under which they went.
-ghost use Rattle.std.specs.Prelude.{◌≡◌, ◌<◌, ◌^◌};
+ghost use Rattle.std.specs.Prelude.{◌≡◌, ◌<◌, ◌^◌, ◌&&◌, nat_le, nat_lt};
 ghost use Rattle.std.specs.Borrow.{sem};
 ghost use Rattle.gpu_descriptor.specs.Model.Load.{set_descriptors, pool_descriptors};
 ghost use Rattle.gpu_descriptor.specs.Inner.KeyOf.{key_of};
 ghost use Rattle.gpu_descriptor.specs.Caller.SetLends.{LendsRaw};
 ghost use Rattle.gpu_descriptor.specs.Inner.RunSteps.{at_place};
-ghost use Rattle.gpu_descriptor.specs.Caller.Sets.{raw_of};
+ghost use Rattle.gpu_descriptor.specs.Caller.Sets.{id_of, raw_of};
 
 use crate::key::SetKey;
 use gpu_descriptor_types::DescriptorTotalCount;
+use std::ops::Range;
 
 /// The counts of a layout, and whether it is marked as update-after-bind. Layouts of one key share
 /// pools.
@@ -20,12 +21,13 @@ pub(crate) struct BucketKey {
 
 impl BucketKey {
     /// How many descriptors so many sets of the key have, if it is marked; else 0.
+    #[inline]
     pub(crate) fn marked_descriptors_of_sets(&self, sets: u64) -> u64
         requires { set_descriptors (key_of self.now) sets < 2 ^ 64 }
         ensures { result ≡ set_descriptors (key_of self.now) sets }
     {
         if self.update_after_bind {
-            sets * self.counts.total()
+            sets * self.counts.total_u64()
         } else {
             0
         }
@@ -33,12 +35,13 @@ impl BucketKey {
 
     /// How many descriptors a pool of so many sets has, if the key is marked; else 0. A pool for
     /// sets without descriptors has one.
+    #[inline]
     pub(crate) fn marked_descriptors_of_pool(&self, sets: u32) -> u32
         requires { pool_descriptors (key_of self.now) sets < 2 ^ 32 }
         ensures { result ≡ pool_descriptors (key_of self.now) sets }
     {
         if self.update_after_bind {
-            (u64::from(sets) * self.counts.total()).max(1) as u32
+            (u64::from(sets) * self.counts.total_u64()).max(1) as u32
         } else {
             0
         }
@@ -74,6 +77,15 @@ impl<S> DescriptorSet<S> {
         ensures value { result.now ≡ raw_of self.old }
     {
         &mut self.raw
+    }
+
+    /// Whether the id of its key is in this range. All sets of an allocator that was made with these
+    /// ids have theirs there.
+    pub fn has_id_in(&self, ids: &Range<u64>) -> bool
+        ensures { result ≡ (nat_le ids.now.start (id_of self.now) && nat_lt (id_of self.now)
+            ids.now.end) }
+    {
+        ids.start <= self.id && self.id < ids.end
     }
 
     /// Whether it lies under the key with this id in the pool with this number.

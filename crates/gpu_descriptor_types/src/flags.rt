@@ -6,7 +6,7 @@ use bitflags::{Flag, Flags, bitflag_items};
 /// Flags of a new pool. `bitflags::Flags` has their calls.
 ///
 /// The bits are this crate's own.
-#[derive(Clone, Copy, Debug, PartialEq, Eq)]
+#[derive(Clone, Copy, Debug, PartialEq, Eq, Hash)]
 pub struct DescriptorPoolCreateFlags(u32);
 
 bitflag_items! {

@@ -14,6 +14,7 @@ use gpu_descriptor::{
     AllocationError, DescriptorDevice, DescriptorSet, DescriptorSetLayoutCreateFlags,
     DescriptorTotalCount,
 };
+use std::vec::Vec;
 
 impl<P: Drop, S: Drop> FrameManager<P, S> {
     ghost use Rattle.gpu_descriptor.specs.declared.set.DescriptorSet.{DescriptorSet};

@@ -12,6 +12,7 @@ ghost use Rattle.gpu_descriptor.specs.Caller.States.{Agrees};
 
 use super::FrameManager;
 use gpu_descriptor::{AllocationError, DescriptorDevice, DescriptorSet, SetLayout};
+use std::vec::Vec;
 
 impl<P: Drop, S: Drop> FrameManager<P, S> {
     ghost use Rattle.descriptor_frames.specs.Frames.{AreRetiredOut, BringsIntoUse};

@@ -8,6 +8,7 @@ ghost use Rattle.gpu_descriptor.specs.Caller.States.{Agrees};
 
 use super::FrameManager;
 use gpu_descriptor::{DescriptorDevice, DescriptorSet};
+use std::vec::Vec;
 
 impl<P, S> FrameManager<P, S> {
     ghost use Rattle.descriptor_frames.specs.Frames.{AreInUse, KeepsRetired, LeavesUse};

@@ -35,7 +35,11 @@ impl<P, S> FrameManager<P, S> {
     /// Frames must not fall: `FrameBack` where the frame is below the greatest at which a set was
     /// ever retired, also when all these have gone back since. `Memory` where there is no memory for
     /// one more. Either hands the set back, and nothing changed.
-    pub fn retire(&mut self, frame: u64, set: DescriptorSet<S>) -> Result<(), RetireError<S>>
+    pub fn retire(
+        &mut self,
+        frame: u64,
+        set: DescriptorSet<S>,
+    ) -> Result<(), RetireError<DescriptorSet<S>>>
         ensures last { OnOk result (retired_of self.new
             ≡ retired_of self.old ++ at_frame frame set ∷ []) }
         ensures greatest { OnOk result (greatest_of self.new ≡ frame) }

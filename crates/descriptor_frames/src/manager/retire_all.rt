@@ -3,12 +3,13 @@ ghost use Rattle.std.specs.Prelude.{◌≡◌, ℕ, ◌+◌, ◌<◌, ◌≤◌,
 ghost use Rattle.std.specs.Prelude.{IfErr, IsErrOf, IsOk, OnErr, OnOk};
 ghost use Rattle.gpu_descriptor_types.specs.Ledger.{Ledger};
 ghost use Rattle.gpu_descriptor.specs.Caller.Sets.{items_of};
-ghost use Rattle.descriptor_frames.specs.Errors.{all_handed_back};
+ghost use Rattle.descriptor_frames.specs.Errors.{handed_back};
 ghost use Rattle.descriptor_frames.specs.Retired.{at_frame};
 
 use super::FrameManager;
-use crate::errors::RetireAllError;
+use crate::errors::RetireError;
 use gpu_descriptor::DescriptorSet;
+use std::vec::Vec;
 
 impl<P, S: Drop> FrameManager<P, S> {
     ghost use Rattle.descriptor_frames.specs.Frames.{AreInUse, AreRetiredOut, Retires};
@@ -23,7 +24,7 @@ impl<P, S: Drop> FrameManager<P, S> {
         &mut self,
         frame: u64,
         sets: Vec<DescriptorSet<S>>,
-    ) -> Result<(), RetireAllError<S>>
+    ) -> Result<(), RetireError<Vec<DescriptorSet<S>>>>
         ensures last { OnOk result (retired_of self.new
             ≡ retired_of self.old ++ map (at_frame frame) sets.items) }
         ensures greatest { OnOk result (0 < length sets.items → greatest_of self.new ≡ frame) }
@@ -39,19 +40,19 @@ impl<P, S: Drop> FrameManager<P, S> {
         ensures fits { greatest_of self.old ≤ frame → length sets.items ≤ reserve_of self.old
             → IsOk result }
         ensures reserve { OnOk result (reserve_of self.old ≤ reserve_of self.new + length sets.items) }
-        ensures frame_back { (IsErrOf result (RetireAllError.FrameBack sets))
+        ensures frame_back { (IsErrOf result (RetireError.FrameBack sets))
             ↔ (frame < greatest_of self.old) }
-        ensures back { IfErr result (λ e. all_handed_back e ≡ sets) }
+        ensures back { IfErr result (λ e. handed_back e ≡ sets) }
         ensures list_stays { OnErr result (retired_of self.new ≡ retired_of self.old) }
         ensures greatest_stays { OnErr result (greatest_of self.new ≡ greatest_of self.old) }
         ensures reserve_stays { OnErr result (reserve_of self.old ≤ reserve_of self.new) }
         ensures allocator { allocator_of self.new ≡ allocator_of self.old }
     {
         if frame < self.greatest {
-            return Err(RetireAllError::FrameBack(sets));
+            return Err(RetireError::FrameBack(sets));
         }
         if self.reserve(sets.len()).is_err() {
-            return Err(RetireAllError::Memory(sets));
+            return Err(RetireError::Memory(sets));
         }
         self.put_all(frame, sets);
         Ok(())

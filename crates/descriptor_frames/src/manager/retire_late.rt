@@ -23,7 +23,11 @@ impl<P, S> FrameManager<P, S> {
     /// The place in the list is found by halves. Then either the sets of later frames are moved, or
     /// the others, whichever are fewer. `Memory` where there is no memory for one more: the set comes
     /// back, and nothing changed. It never answers `FrameBack`.
-    pub fn retire_late(&mut self, frame: u64, set: DescriptorSet<S>) -> Result<(), RetireError<S>>
+    pub fn retire_late(
+        &mut self,
+        frame: u64,
+        set: DescriptorSet<S>,
+    ) -> Result<(), RetireError<DescriptorSet<S>>>
         ensures list { OnOk result (retired_of self.new
             ≡ with_late frame set (retired_of self.old)) }
         ensures greatest { OnOk result (greatest_of self.new ≡ max (greatest_of self.old) frame) }

@@ -15,6 +15,7 @@ use super::reserved::{put, put_number};
 use crate::program::LineSession;
 use descriptor_script::{Command, Reply};
 use gpu_descriptor::AllocationError;
+use std::string::String;
 
 /// The most bytes of an answer without its stretches: two tickets of up to 20 digits, and what
 /// stands about them.

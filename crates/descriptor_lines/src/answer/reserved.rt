@@ -4,6 +4,7 @@ ghost use Rattle.std.specs.Fmt.{decimal};
 ghost use Rattle.descriptor_lines.specs.Answers.{HasReserveFor};
 
 use itoa::Buffer;
+use std::string::String;
 
 /// Puts a text behind the answer.
 pub fn put(answer: &mut String, text: &str)

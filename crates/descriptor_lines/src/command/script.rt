@@ -8,6 +8,7 @@ ghost use Rattle.descriptor_script.specs.declared.answer.Answer.{Answer as Answe
 use descriptor_script::Answer;
 use descriptor_words::{Fault, Refusal, Words};
 use std::alloc::Global;
+use std::vec::Vec;
 
 /// `script WORD ..`.
 pub fn parse_script(alloc: Global, words: Words<'_>) -> Result<Vec<Answer>, Refusal>

@@ -7,6 +7,7 @@ use crate::answer;
 use crate::exit::Exit;
 use descriptor_words::Refusal;
 use std::io::Write;
+use std::string::String;
 
 /// Writes what there is to say of a line, and leaves the text empty.
 pub fn answer_line<W: Write>(

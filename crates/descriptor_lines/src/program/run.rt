@@ -19,6 +19,8 @@ use crate::layouts::Layout;
 use descriptor_script::{Answer, Command as SessionCommand, Reply, ScriptLayout, Session};
 use gpu_descriptor_types::{DescriptorTotalCount, new_pool_size};
 use std::alloc::AllocError;
+use std::string::String;
+use std::vec::Vec;
 
 impl<D: LineDevice> Program<D> {
     /// Runs a command, and puts its answer into the empty text. An error changes nothing.

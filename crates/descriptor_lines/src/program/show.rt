@@ -9,6 +9,7 @@ use crate::answer;
 use crate::device::LineDevice;
 use crate::layouts::Layout;
 use std::alloc::AllocError;
+use std::string::String;
 
 impl<D: LineDevice> Program<D> {
     /// Puts the pools of each key behind the text, under the first layout that has it, and then the

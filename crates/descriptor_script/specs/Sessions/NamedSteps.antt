@@ -29,8 +29,11 @@ module _ {L P : Type 0} (means : Meaning L P ℕ) (old new : Side (Session L P �
       pub given : List (DescriptorSet ℕ)
       pub outcome : Allocates (request_of means layout count old new known (Ok (items_of means.set_name given)))
       pub all_given : length given ≡ count
+      -- each is of the layout
       pub own : AreOfLayout means known.layout given
+      -- each under a name that was never given
       pub held : HoldsEach (names_of shown) given (named_of old.value) (named_of new.value)
+      -- the array has them in their order
       pub handles : handles_of shown ≡ map raw_of given
 
     -- how a request for so many sets of the layout at a place ends. One for none finds memory

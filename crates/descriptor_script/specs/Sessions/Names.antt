@@ -31,11 +31,15 @@ module _ {X : Type 0} where
 
   -- a set is held besides, under a name that was never given
   pub record Holds (name : ℕ) (x : X) (old new : Named X) : Type 0 where
+    -- the name was never given
     pub fresh : ¬ IsGiven old name
     pub given : IsGiven new name
+    -- names that were given stay so
     pub stay : (n : ℕ) → IsGiven old n → IsGiven new n
     pub set : set_named new name ≡ Some x
+    -- no other name gets or loses a set
     pub others : (n : ℕ) → n ≢ name → set_named new n ≡ set_named old n
+    -- one set more is held
     pub held : (p : X → Bool) → count_by p (held_sets new.sets) ≡ count_by p (held_sets old.sets) + count_by p (x ∷ [])
 
   -- the sets are held besides, one after another, each under its name
@@ -47,4 +51,5 @@ module _ {X : Type 0} where
   -- no name is given twice: one that was given stays so, and if its set isn't held it never is again
   pub record KeepsNames (old new : Named X) : Type 0 where
     pub given : (n : ℕ) → IsGiven old n → IsGiven new n
+    -- the name of a set that was freed never has a set again
     pub freed : (n : ℕ) → IsGiven old n → set_named old n ≡ None → set_named new n ≡ None

@@ -59,14 +59,20 @@ module _ {L P S : Type 0} (means : Meaning L P S) where
 
   -- the next command may be run
   pub record IsReady (s : Side (Session L P S)) : Type 0 where
+    -- books and ledger agree
     pub agree : Agrees means.pool_name (allocator_of s.value) s.ledger
+    -- the held sets are exactly the outstanding ones
     pub held : AreAllHeld means.set_name (sets_of s.value) (state_on s)
+    -- the layouts have the counts and the marks that the device gives to them
     pub meant : AreMeant (layouts_of s.value)
 
   -- what every command keeps
   pub record KeepsSession (old new : Side (Session L P S)) : Type 0 where
+    -- the next command may be run
     pub ready : IsReady new
+    -- what every call of the allocator keeps
     pub allocator : Keeps means (allocator_on old) (allocator_on new)
+    -- the layouts stay
     pub layouts : layouts_of new.value ≡ layouts_of old.value
     -- the allocator counts as many sets as are held
     pub count : length (held_sets (sets_of new.value)) ≡ outstanding_of (allocator_of new.value)

@@ -47,21 +47,29 @@ module _ {L P S : Type 0} (means : Meaning L P S) where
     -- the sets of a request are held under the next tickets, in their order
     pub record HoldsAnswer (next many : ℕ) : Type 0 where
       pub known : KnownLayout L
+      -- the layout at the command's place
       pub at : slice_get (layouts_of old.value) layout ≡ Some known
+      -- the sets of the request, which was met
       pub given : List (DescriptorSet S)
       pub outcome : Allocates (request_of known (Ok (items_of means.set_name given)))
       pub asked : many ≡ count
       pub all_given : length given ≡ count
+      -- each is of the layout
       pub own : AreOfLayout means known.layout given
+      -- the first ticket is the next one
       pub first : next ≡ length (sets_of old.value)
+      -- the sets are in the next slots, in their order
       pub sets : sets_of new.value ≡ sets_of old.value ++ map Some given
 
     -- the allocator refused for a named cause, and the sets stay
     pub record Refuses (error : AllocationError) : Type 0 where
       pub known : KnownLayout L
       pub at : slice_get (layouts_of old.value) layout ≡ Some known
+      -- which of its outcomes the request had
       pub outcome : Allocates (request_of known (Err error))
+      -- the error has one of its causes
       pub cause : HasCause error (request_of known (Err error))
+      -- the held sets stay
       pub sets : sets_of new.value ≡ sets_of old.value
 
     -- what a request for so many sets of the layout at a place may reply. A request for none finds memory

@@ -15,6 +15,7 @@ use crate::named_set::NamedSet;
 use gpu_descriptor::DescriptorDevice;
 use std::alloc::AllocError;
 use std::mem;
+use std::vec::Vec;
 
 impl<L, P: Drop> Session<L, P, u64> {
     /// Allocates sets of the layout at a place. Each is held under a name that was never given, and

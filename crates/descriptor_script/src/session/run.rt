@@ -9,6 +9,7 @@ use super::Session;
 use crate::command::{Command, Reply};
 use gpu_descriptor::DescriptorDevice;
 use std::alloc::AllocError;
+use std::vec::Vec;
 
 impl<L, P: Drop, S: Drop> Session<L, P, S> {
     /// Reserves memory for all replies, and then does the commands in order. On `Err` nothing was done.

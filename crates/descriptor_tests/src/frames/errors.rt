@@ -1,6 +1,6 @@
 //! The texts of sets that come back, as a caller prints them: no clause says that they are written.
 use crate::frames::trial::Trial;
-use descriptor_frames::{RetireAllError, RetireError};
+use descriptor_frames::RetireError;
 use descriptor_script::RawSet;
 use gpu_descriptor::DescriptorSet;
 use std::alloc::Global;
@@ -26,10 +26,10 @@ fn texts_of_sets_that_come_back(rt: HostRuntime) -> Result<(), Fail> {
     let one = RetireError::Memory(one.into_inner());
     let said = format!(in rt.alloc(); "{one}")?;
     assert_eq!(rt; said.as_str(), "Host memory exhausted");
-    let all = RetireAllError::FrameBack(Vec::from(sets));
+    let all = RetireError::FrameBack(Vec::from(sets));
     let said = format!(in rt.alloc(); "{all}")?;
     assert_eq!(rt; said.as_str(), "Frame before the last one");
-    let all = RetireAllError::Memory(all.into_inner());
+    let all = RetireError::Memory(all.into_inner());
     let said = format!(in rt.alloc(); "{all}")?;
     assert_eq!(rt; said.as_str(), "Host memory exhausted");
     Ok(())

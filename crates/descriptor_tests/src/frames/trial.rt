@@ -8,7 +8,7 @@ ghost use Rattle.descriptor_frames.specs.Frames.{AreInUse, AreRetiredOut, alloca
 
 use crate::bench::expect_pools;
 use bitflags::Flags;
-use descriptor_frames::{FrameManager, RetireAllError, RetireError};
+use descriptor_frames::{FrameManager, RetireError};
 use descriptor_script::{RawPool, RawSet, ScriptLayout, ScriptedDevice};
 use gpu_descriptor::{
     AllocationError, DescriptorSet, DescriptorSetLayoutCreateFlags, DescriptorTotalCount,
@@ -91,11 +91,11 @@ impl Trial {
         let sets = mem::replace(&mut self.in_use, VecDeque::new(self.alloc));
         match self.manager.retire_all(frame, Vec::from(sets)) {
             Ok(()) => Outcome::Retired,
-            Err(RetireAllError::FrameBack(sets)) => {
+            Err(RetireError::FrameBack(sets)) => {
                 self.in_use = VecDeque::from(sets);
                 Outcome::FrameBack(self.first())
             }
-            Err(RetireAllError::Memory(sets)) => {
+            Err(RetireError::Memory(sets)) => {
                 self.in_use = VecDeque::from(sets);
                 Outcome::Memory(self.first())
             }

@@ -49,7 +49,7 @@ pub fn hold(rt: &impl Abort, stage: &mut Stage) -> SetHandle {
 
 /// Opens a frame and draws so many plain sets.
 pub fn draw_sets(rt: &impl Abort, stage: &mut Stage, count: u32) {
-    assert!(rt; stage.renderer.begin_frame().is_some());
+    assert!(rt; stage.renderer.begin_frame().is_ok());
     for _ in 0..count {
         assert!(rt; stage.renderer.draw(stage.plain).is_ok());
     }

@@ -17,7 +17,7 @@ fn draws_past_a_refusal(rt: HostRuntime) -> Result<(), Fail> {
     let mark = false;
     let layout = ScriptLayout { counts, mark }.to_set_layout();
     let layout = renderer.add_layout(layout).ok().expect(&rt, "memory");
-    assert!(rt; renderer.begin_frame().is_some());
+    assert!(rt; renderer.begin_frame().is_ok());
     assert!(rt; renderer.draw(layout).is_err());
     assert!(rt; renderer.draw(layout).is_ok());
     renderer.end_frame();

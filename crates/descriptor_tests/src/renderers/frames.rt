@@ -9,7 +9,7 @@ pub fn draw_frames(stage: &mut Stage, frames: u32, count: u32) -> u64 {
     let mut refused: u64 = 0;
     for _ in 0..frames {
         stage.renderer.end_frame();
-        if let Some(frame) = stage.renderer.begin_frame() {
+        if let Ok(frame) = stage.renderer.begin_frame() {
             stage.renderer.gpu_done(frame.saturating_sub(3));
         }
         for _ in 0..count {

@@ -11,13 +11,17 @@ use Rattle.gpu_descriptor.specs.Caller.States.{keys_of, marked_load_of, outstand
 use Rattle.gpu_descriptor.specs.Caller.Values.{Allocations}
 
 pub record CleansUp {L P S : Type 0} (means : Meaning L P S) (old new : Side (Allocations P)) : Type 0 where
+  -- each key loses the empty pools at its front, the last pool too
   pub cleaned : IsCleaned (state_of means.pool_name old.value old.ledger) (state_of means.pool_name new.value new.ledger)
   -- all other counters stay
   pub destroyed : new.ledger.counters ≡ more_destroyed (pools_cleaned (keys_of old.value) (state_of means.pool_name old.value old.ledger)) old.ledger.counters
   -- those that still have pools, in their order
   pub keys : keys_of new.value ≡ keys_with_pools (state_of means.pool_name new.value new.ledger) (keys_of old.value)
+  -- the same sets are outstanding as before
   pub outstanding_stay : KeepsOutstanding (state_of means.pool_name old.value old.ledger) (state_of means.pool_name new.value new.ledger)
+  -- their number and the marked load stay
   pub totals_stay : (outstanding_of new.value ≡ outstanding_of old.value) × (marked_load_of new.value ≡ marked_load_of old.value)
   -- with no set out, the device has only the pools of others left
   pub emptied : outstanding_of old.value ≡ 0 → new.ledger.pools ≡ others_of means.pool_name old.value old.ledger
+  -- no pool is looked at, and nothing is compared
   pub counts_stay : (new.value.looks ≡ old.value.looks) × (new.value.comparisons ≡ old.value.comparisons)

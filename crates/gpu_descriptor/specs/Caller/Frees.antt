@@ -21,10 +21,13 @@ marked_descriptors m = sum_by (λ t. set_descriptors t.key 1) m
 module _ {L P S : Type 0} (means : Meaning L P S) where
   -- these sets have gone back, in so many release calls
   pub record GivesBack (sets : List (DescriptorSet S)) (calls : ℕ) (old new : Side (Allocations P)) : Type 0 where
+    -- the state is released of exactly these sets, whatever their order
     pub state : state_of means.pool_name new.value new.ledger ≡ released (items_of means.set_name sets) (state_of means.pool_name old.value old.ledger)
     -- all other counters stay
     pub counters : new.ledger.counters ≡ more_destroyed (pools_gone (keys_of old.value) (items_of means.set_name sets) (state_of means.pool_name old.value old.ledger)) (more_released calls old.ledger.counters)
+    -- as many sets fewer are out
     pub outstanding : outstanding_of new.value + length sets ≡ outstanding_of old.value
+    -- the marked load falls by the descriptors of the marked sets among them
     pub marked : marked_load_of new.value + marked_descriptors (items_of means.set_name sets) ≡ marked_load_of old.value
     -- exactly these were outstanding besides those that still are
     pub returned : AreOutBesides (items_of means.set_name sets) (state_of means.pool_name new.value new.ledger) (state_of means.pool_name old.value old.ledger)
@@ -34,14 +37,19 @@ module _ {L P S : Type 0} (means : Meaning L P S) where
   -- these sets have gone back, in one release call for each run
   pub record Returns (sets : List (DescriptorSet S)) (old new : Side (Allocations P)) : Type 0 where
     pub back : GivesBack sets (runs (items_of means.set_name sets)) old new
+    -- the keys keep their order
     pub keys : keys_of new.value ≡ keys_of old.value
+    -- no pool is looked at
     pub looks_stay : new.value.looks ≡ old.value.looks
     -- for each run at most as many as the number of its key's open pools has binary digits, once the runs before it went back
     pub comparisons : new.value.comparisons ≤ old.value.comparisons + run_digits (state_of means.pool_name old.value old.ledger) (items_of means.set_name sets)
+    -- the number of comparisons never falls
     pub compared : old.value.comparisons ≤ new.value.comparisons
 
   -- the iterator gave sets up to its end, and these have gone back
   pub record Frees {T : Type 0} (steps : T → Option (DescriptorSet S) → T → Type 0) (given left : T) (old new : Side (Allocations P)) : Type 0 where
+    -- what the iterator gave
     pub sets : List (DescriptorSet S)
+    -- it gave these, and then its end
     pub drained : YieldsThen steps given sets None left
     pub returns : Returns sets old new

@@ -23,16 +23,23 @@ pub record HandsOut {L P S : Type 0} (means : Meaning L P S) (k : Key) (count : 
   pub outcome : Allocates (call_of means k count old new (answer_of means.set_name answer))
   -- no sets change nothing
   pub nothing : count ≡ 0 → (new.value ≡ old.value) × (new.ledger ≡ old.ledger)
+  -- as many sets as were asked for
   pub many : IfOk answer (λ sets. length sets.items ≡ count)
   -- exactly the sets of the answer are outstanding besides those before
   pub given : IfOk answer (λ sets. AreOutBesides (items_of means.set_name sets.items) (state_of means.pool_name old.value old.ledger) (state_of means.pool_name new.value new.ledger))
+  -- each has the counts and the mark of the layout
   pub of_key : IfOk answer (λ sets. AreOfKey k (items_of means.set_name sets.items))
+  -- the number of sets that are out and the marked load rise by what was handed out
   pub totals : IfOk answer (λ sets. (outstanding_of new.value ≡ outstanding_of old.value + count) × (marked_load_of new.value ≡ marked_load_of old.value + set_descriptors k count))
   -- a refusal gives back what it took
   pub totals_stay : OnErr answer ((outstanding_of new.value ≡ outstanding_of old.value) × (marked_load_of new.value ≡ marked_load_of old.value))
+  -- the same sets are outstanding as before
   pub back : OnErr answer (KeepsOutstanding (state_of means.pool_name old.value old.ledger) (state_of means.pool_name new.value new.ledger))
+  -- the error has one of its causes
   pub cause : IfErr answer (λ e. HasCause e (call_of means k count old new (answer_of means.set_name answer)))
+  -- a new pool comes only if the key's existing pools don't do, and so many at most
   pub creates : CreatesOnlyWhereShort outcome
+  -- the pools of other keys are untouched, in the books and on the device
   pub other_keys : KeepsOtherKeys k (state_of means.pool_name old.value old.ledger) (state_of means.pool_name new.value new.ledger)
   -- a request that came to the walk has its key there, even if it stopped; any other leaves the keys
   pub keys : keys_of new.value ≡ (if is_some (taken_by outcome) then with_key k (keys_of old.value) else keys_of old.value)
@@ -43,4 +50,5 @@ pub record HandsOut {L P S : Type 0} (means : Meaning L P S) (k : Key) (count : 
   -- a rollback compares no more than a release of its sets, and no other request compares
   pub searches : OnErr answer (MatchOption (taken_by outcome) (new.value.comparisons ≡ old.value.comparisons) (λ g. new.value.comparisons ≤ old.value.comparisons + run_digits (granted k count g (state_of means.pool_name old.value old.ledger)) (items_in k g.id g.parts)))
   pub comparisons_stay : OnOk answer (new.value.comparisons ≡ old.value.comparisons)
+  -- the number of comparisons never falls
   pub compared : old.value.comparisons ≤ new.value.comparisons

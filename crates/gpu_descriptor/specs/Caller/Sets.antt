@@ -9,6 +9,10 @@ module _ {S : Type 0} where
   abbrev pub raw_of : DescriptorSet S → S
   raw_of x = x.raw
 
+  -- the id of its key
+  abbrev pub id_of : DescriptorSet S → ℕ
+  id_of x = x.id
+
   -- the set as the books see it
   abbrev pub item_of : (S → ℕ) → DescriptorSet S → Item
   item_of name x = record { key = x.key.is; id = x.id; number = x.number; name = name x.raw }

@@ -28,6 +28,7 @@ module _ {P : Type 0} (name : P → ℕ) where
   -- no key has two rows, and books and ledger agree
   pub record Agrees (a : Allocations P) (l : Ledger) : Type 0 where
     pub rows : HasDistinctKeys (table_of a)
+    -- what the books say of their pools, the device has
     pub books : Agree (state_of a l)
 
 module _ {P : Type 0} where

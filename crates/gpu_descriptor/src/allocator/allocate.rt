@@ -23,6 +23,7 @@ use crate::set::{BucketKey, DescriptorSet};
 use bitflags::Flags;
 use gpu_descriptor_types::{DescriptorDevice, DescriptorTotalCount};
 use std::marker::PhantomData;
+use std::vec::Vec;
 
 impl<P: Drop, S: Drop> DescriptorAllocator<P, S> {
     /// Allocates `count` sets of a layout, and hands them out in the order in which they came from
@@ -140,13 +141,13 @@ impl<P: Drop, S: Drop> DescriptorAllocator<P, S> {
 
 impl<P, S> DescriptorAllocator<P, S> {
     /// Whether `count` sets more would exceed the limit on marked descriptors.
-    pub(super) fn would_exceed_limit(&self, key: &BucketKey, count: u32) -> bool
+    fn would_exceed_limit(&self, key: &BucketKey, count: u32) -> bool
         ensures { result ≡ (key.now.update_after_bind && nat_lt (self.now.limit)
             (count * sum (kinds key.now.counts) + marked_load_of self.now)) }
     {
         let unused = self.max_update_after_bind_descriptors_in_all_pools
             - self.update_after_bind_descriptors;
         key.update_after_bind
-            && u128::from(count) * u128::from(key.counts.total()) > u128::from(unused)
+            && u128::from(count) * u128::from(key.counts.total_u64()) > u128::from(unused)
     }
 }

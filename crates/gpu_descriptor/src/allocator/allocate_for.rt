@@ -15,6 +15,7 @@ use crate::errors::AllocationError;
 use crate::layout::SetLayout;
 use crate::set::DescriptorSet;
 use gpu_descriptor_types::DescriptorDevice;
+use std::vec::Vec;
 
 impl<P: Drop, S: Drop> DescriptorAllocator<P, S> {
     /// The same as `allocate`, for a layout that is kept with its counts and flags.

@@ -13,6 +13,7 @@ ghost use Rattle.gpu_descriptor.specs.Caller.States.{Agrees, keys_of, state_of};
 use super::DescriptorAllocator;
 use crate::set::DescriptorSet;
 use gpu_descriptor_types::DescriptorDevice;
+use std::vec::Vec;
 
 impl<P, S> DescriptorAllocator<P, S> {
     /// Gives sets back. It takes no memory and can't be refused.
@@ -46,6 +47,7 @@ impl<P, S> DescriptorAllocator<P, S> {
     }
 
     /// The same as `free`, for the sets that the iterator gives up to its end.
+    #[inline]
     pub fn free_from<L, D: DescriptorDevice<L, P, S>, I: Iterator<Item = DescriptorSet<S>>>(
         &mut self,
         device: &mut D,
@@ -77,6 +79,7 @@ impl<P, S> DescriptorAllocator<P, S> {
 
     /// Gives back one run, from `first` to before the first set that lies elsewhere, which is
     /// handed back.
+    #[inline]
     fn release_run<L, D: DescriptorDevice<L, P, S>, I: Iterator<Item = DescriptorSet<S>>>(
         &mut self,
         device: &mut D,

@@ -5,6 +5,7 @@ use crate::key::SetKey;
 use crate::set::{BucketKey, DescriptorSet};
 use gpu_descriptor_types::SetSink;
 use std::alloc::{AllocError, Global};
+use std::vec::Vec;
 
 /// The sets of a request, over memory that was taken before the first device call. Each set that is
 /// put gets the key with its id, and the number of the pool that is asked.
@@ -85,6 +86,7 @@ impl<S> SetSink<S> for Allocation<'_, S> {
         self.left as usize
     }
 
+    #[inline]
     fn put(&mut self, set: S) {
         self.sets.push_reserved(DescriptorSet {
             raw: set,

@@ -33,6 +33,7 @@ fn is_of_pool(error: DeviceAllocationError) -> bool
 /// Asks a pool for what it has of the sets that are left to come.
 ///
 /// Where the pool refuses, its places are no longer known, and none came.
+#[inline]
 fn ask<L, P, S, D: DescriptorDevice<L, P, S>>(
     device: &mut D,
     pool: &mut DescriptorPool<P>,
@@ -77,6 +78,7 @@ fn ask<L, P, S, D: DescriptorDevice<L, P, S>>(
 
 /// Asks the pools for sets that have known free places, the newest first, until none are left to
 /// come.
+#[inline(always)]
 fn walk<'k, L, P, S, D: DescriptorDevice<L, P, S>>(
     device: &mut D,
     view: &mut OpenPools<'_, '_, '_, P>,

@@ -12,6 +12,7 @@ use gpu_descriptor_types::DescriptorDevice;
 impl<P> DescriptorBucket<P> {
     /// Destroys the pools without sets at the front, but never the last `keep` pools. Their
     /// descriptors are room under the limit again.
+    #[inline]
     pub(crate) fn destroy_empty_front<L, S, D: DescriptorDevice<L, P, S>>(
         &mut self,
         device: &mut D,
@@ -35,9 +36,9 @@ impl<P> DescriptorBucket<P> {
             if front.available > 0 {
                 let _number = self.listed.pop_front();
             }
+            self.offset += 1;
             *room += key.marked_descriptors_of_pool(front.capacity);
             device.destroy_descriptor_pool(front.raw);
-            self.offset += 1;
         }
     }
 }

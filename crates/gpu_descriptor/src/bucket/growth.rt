@@ -31,7 +31,7 @@ use std::alloc::AllocError;
 use std::collections::VecDeque;
 
 /// The flags of a new pool: sets go back singly, and it takes marked sets if its key is marked.
-pub(crate) fn pool_flags(update_after_bind: bool) -> DescriptorPoolCreateFlags
+fn pool_flags(update_after_bind: bool) -> DescriptorPoolCreateFlags
     ensures { bits result ≡ pool_flags_of update_after_bind }
 {
     let mut flags = DescriptorPoolCreateFlags::FREE_DESCRIPTOR_SET;
@@ -44,7 +44,8 @@ pub(crate) fn pool_flags(update_after_bind: bool) -> DescriptorPoolCreateFlags
 
 /// The counts of a key's next pool, and how many sets it holds; `None` where the limit leaves no
 /// room for one.
-pub(crate) fn next_size(
+#[inline]
+fn next_size(
     key: &BucketKey,
     total: u64,
     wanted: u32,

@@ -18,6 +18,7 @@ impl<P> DescriptorBucket<P> {
     /// Gives back the sets of one run of this key in one device call.
     ///
     /// The run goes from `first` to before the first set that lies elsewhere, which is handed back.
+    #[inline]
     pub(crate) fn release_sets<
         L,
         S,

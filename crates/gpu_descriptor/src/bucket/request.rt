@@ -20,6 +20,7 @@ use crate::set::{BucketKey, DescriptorSet};
 use gpu_descriptor_types::DescriptorDevice;
 use std::alloc::Global;
 use std::marker::PhantomData;
+use std::vec::Vec;
 
 /// What a request asks for: so many sets of a layout, whose pools have this key.
 #[derive(Drop)]
@@ -45,6 +46,7 @@ pub(crate) struct Gathered<S> {
 
 impl<P: Drop> DescriptorBucket<P> {
     /// Takes sets for a request. Memory for the answer is taken first.
+    #[inline(always)]
     pub(crate) fn serve<L, S: Drop, D: DescriptorDevice<L, P, S>>(
         &mut self,
         device: &mut D,
@@ -88,6 +90,7 @@ impl<P: Drop> DescriptorBucket<P> {
     }
 
     /// Takes as many sets as the sink has left: from the existing pools, and then from new ones.
+    #[inline(always)]
     fn take<'k, L, S, D: DescriptorDevice<L, P, S>>(
         &mut self,
         device: &mut D,

@@ -6,6 +6,8 @@ use Rattle.gpu_descriptor_types.specs.Side.{Side, side}
 use Rattle.gpu_descriptor.specs.Model.Agreement.{Item, State, count_of, outstanding}
 use Rattle.gpu_descriptor.specs.Caller.Sets.{items_of}
 use Rattle.gpu_descriptor.specs.Caller.States.{state_of}
+use Rattle.gpu_descriptor.proofs.cleanup.Cleaning.{nothing_left}
+use Rattle.gpu_descriptor.proofs.foreign.NoneLost.{restores}
 use Rattle.descriptor_script.specs.Sessions.Session.{allocator_of, sets_of}
 use Rattle.descriptor_script.specs.Sessions.Steps.{Cleans, StepsTo}
 use Rattle.descriptor_script.specs.Sessions.Tickets.{held_sets}
@@ -63,14 +65,14 @@ returns-clause-pools g c none =
     let t : State = state_of name (allocator_of c.run-replies.new.self) (ledger c.run-replies.new.device) in
     let u : State = state_of name (allocator_of c.step-clean.new.self) (ledger c.step-clean.new.device) in
     let at = (goal.at.returns-clause-pools g c).After-step-clean in
-    c.no_pool_is_lost.ensures.restores s t u c.requires.began c.run-replies.ensures.keeps.allocator.foreign c.run-replies.ensures.keeps.allocator.accounted c.run-replies.ensures.keeps.ready.agree.books (nothing g at none) (done g at).cleans_up.cleaned
+    restores s t u c.requires.began c.run-replies.ensures.keeps.allocator.foreign c.run-replies.ensures.keeps.allocator.accounted c.run-replies.ensures.keeps.ready.agree.books (nothing g at none) (done g at).cleans_up.cleaned
 
 pub returns-clause-ended : goal.returns-clause-ended
 returns-clause-ended g c none =
     let name = g.D.DescriptorDevice.meaning.pool_name in
     let ledger = g.D.DescriptorDevice.ledger in
     let at = (goal.at.returns-clause-ended g c).After-step-clean in
-    c.clean_again.ensures.all (state_of name (allocator_of c.run-replies.new.self) (ledger c.run-replies.new.device)) _ c.run-replies.ensures.keeps.ready.agree.books (nothing g at none) (done g at).cleans_up.cleaned
+    nothing_left (state_of name (allocator_of c.run-replies.new.self) (ledger c.run-replies.new.device)) _ c.run-replies.ensures.keeps.ready.agree.books (nothing g at none) (done g at).cleans_up.cleaned
 
 pub returns-clause-keeps : goal.returns-clause-keeps
 returns-clause-keeps g c = session_through _ c.run-replies.ensures.keeps c.step-clean.ensures.keeps

@@ -4,6 +4,6 @@ use Rattle.gpu_descriptor.proofs.key_table.KeyTable.new.Goals as goal
 
 pub invariant_of-result : goal.invariant_of-result
 invariant_of-result g c = record {
-  rising = ap (λ es. rise_below 0 (stored_ids es)) c.new.ensures.empty;
+  rising = ap (λ es. rise_below c.args.ids.start (stored_ids es)) c.new.ensures.empty;
   distinct = distinct_stored _ (λ k l. search rules) c.new.result.entries c.new.ensures.unique;
 }

@@ -10,7 +10,7 @@ use Rattle.gpu_descriptor.proofs.sums.Loads.{IsRow, IsWritten, total_present, po
 use Rattle.gpu_descriptor.proofs.request.Passed.{passed}
 use Rattle.gpu_descriptor.proofs.request.InTable.{present, missing, serves_present, serves_new, written-same}
 use Rattle.gpu_descriptor.proofs.table.TableBooks.{distinct_stored}
-use Rattle.gpu_descriptor.proofs.key_table.KeyTable.serve.Goals.{After-index_mut, In-None, In-Ok, After-serve}
+use Rattle.gpu_descriptor.proofs.key_table.KeyTable.serve.Goals.{After-index_mut, In_default, In-Ok, After-serve}
 use Rattle.gpu_descriptor.proofs.key_table.KeyTable.serve.Goals as goal
 
 put_new : {X S : Type 0} (eq : BucketKey → BucketKey → Bool) → ((k l : BucketKey) → eq k l ≡ key_eq (key_of k) (key_of l)) → (m : IndexMap BucketKey (DescriptorBucket X) S) (k : BucketKey) (v : DescriptorBucket X) (es new : List (BucketKey × DescriptorBucket X)) → new ≡ insert_entry eq es k v → es ≡ m.entries → lookup (is_of (key_of k)) m.entries ≡ None → new ≡ m.entries ++ (k, v) ∷ []
@@ -62,22 +62,22 @@ pub returns-in-Some-clause-keys : goal.returns-in-Some-clause-keys
 returns-in-Some-clause-keys g c = on_ok c.serve.result (keys_at c.args.self.now.buckets.entries c.in-Some.place c.serve.new.self ∙ keys_stay (key_of c.args.request.now.key) (stored_keys c.args.self.now.buckets.entries) c.in-Some.place c.in-Some.ensures.place)
 
 -- a key that the table lacks has no pools
-absent : (g : _) (c : In-None g) → books_in g.D.DescriptorDevice.meaning.pool_name (map row_of c.args.self.now.buckets.entries) (key_of c.args.request.now.key) ≡ no_pools
-absent g c = missing g.D.DescriptorDevice.meaning.pool_name (key_of c.args.request.now.key) c.args.self.now.buckets.entries _ (λ k. search rules) (c.in-None.ensures.place)
+absent : (g : _) (c : In_default g) → books_in g.D.DescriptorDevice.meaning.pool_name (map row_of c.args.self.now.buckets.entries) (key_of c.args.request.now.key) ≡ no_pools
+absent g c = missing g.D.DescriptorDevice.meaning.pool_name (key_of c.args.request.now.key) c.args.self.now.buckets.entries _ (λ k. search rules) (c.in_default.ensures.place)
 
 pub returns-then-is_err-clause-refused : goal.returns-then-is_err-clause-refused
 returns-then-is_err-clause-refused g c =
-    let is = absent g (goal.at.returns-then-is_err-clause-refused g c).In-None in
+    let is = absent g (goal.at.returns-then-is_err-clause-refused g c).In_default in
     inl (refl, subst (λ (b : Bucket). next_number b + c.args.request.now.count ≤ greatest_u64) (sym is) (let n = c.requires.bound in omega arith))
 
 pub returns-then-self-clause-refused : goal.returns-then-self-clause-refused
 returns-then-self-clause-refused g c =
-    let is = absent g (goal.at.returns-then-self-clause-refused g c).In-None in
+    let is = absent g (goal.at.returns-then-self-clause-refused g c).In_default in
     inl (refl, subst (λ (b : Bucket). next_number b + c.args.request.now.count ≤ greatest_u64) (sym is) (let n = c.requires.bound in omega arith))
 
 pub returns-in_err-served-clause-refused : goal.returns-in_err-served-clause-refused
 returns-in_err-served-clause-refused g c =
-    let is = absent g (goal.at.returns-in_err-served-clause-refused g c).In-None in
+    let is = absent g (goal.at.returns-in_err-served-clause-refused g c).In_default in
     let given : Bucket → Bucket = λ b. record b { id = c.args.self.now.next_id } in
     let empty : given no_pools ≡ record { id = c.args.self.now.next_id; offset = 0; pools = map (entry_of g.D.DescriptorDevice.meaning.pool_name) c.new.result.items } = λ i. record { id = c.args.self.now.next_id; offset = 0; pools = map (entry_of g.D.DescriptorDevice.meaning.pool_name) (sym c.new.ensures.items i) } in
     rw (passed c.from_residual.result c.in_err-served.field-0.0 c.from_residual.ensures.1) (subst (λ (b : Bucket). IsUnserved c.args.request.now.count c.in_err-served.field-0.0 b) (sym (ap given is ∙ empty)) c.in_err-served.ensures.refused)
@@ -86,11 +86,11 @@ returns-in_err-served-clause-refused g c =
 put : (g : _) (c : In-Ok g) → c.insert.new.self.entries ≡ c.args.self.now.buckets.entries ++ (c.args.request.now.key, c.serve-2.new.self) ∷ []
 put g c =
     put_new _ (λ k l. search rules) c.args.self.now.buckets c.args.request.now.key c.serve-2.new.self c.reserve.new.self.entries c.insert.new.self.entries c.in-Ok.ensures.entries c.reserve.ensures.entries
-    c.in-None.ensures.place
+    c.in_default.ensures.place
 
 pub returns-clause-served : goal.returns-clause-served
 returns-clause-served g c =
-    serves_new c.args.request.now.key c.serve-2.new.self c.in_ok-served.ensures.served.0 c.in_ok-served.ensures.served.1 c.args.self.now.buckets.entries (is_of (key_of c.args.request.now.key)) (λ k. search rules) (c.in-None.ensures.place) (put g (goal.at.returns-clause-served g c).In-Ok) (λ i. record { id = c.args.self.now.next_id; offset = 0; pools = map (entry_of g.D.DescriptorDevice.meaning.pool_name) (c.new.ensures.items i) }) refl
+    serves_new c.args.request.now.key c.serve-2.new.self c.in_ok-served.ensures.served.0 c.in_ok-served.ensures.served.1 c.args.self.now.buckets.entries (is_of (key_of c.args.request.now.key)) (λ k. search rules) (c.in_default.ensures.place) (put g (goal.at.returns-clause-served g c).In-Ok) (λ i. record { id = c.args.self.now.next_id; offset = 0; pools = map (entry_of g.D.DescriptorDevice.meaning.pool_name) (c.new.ensures.items i) }) refl
 
 pub returns-clause-room : goal.returns-clause-room
 returns-clause-room g c =
@@ -99,7 +99,7 @@ returns-clause-room g c =
     rw (put g (goal.at.returns-clause-room g c).In-Ok) (pools_end c.args.request.now.key c.args.self.now.buckets.entries c.serve-2.new.self c.serve-2.new.budget.room c.args.budget.now.room (omega arith))
 
 pub returns-clause-keys : goal.returns-clause-keys
-returns-clause-keys g c = keys_put (key_of c.args.request.now.key) c.args.request.now.key c.args.self.now.buckets.entries c.insert.new.self.entries c.serve-2.new.self refl c.in-None.ensures.place (put g (goal.at.returns-clause-keys g c).In-Ok)
+returns-clause-keys g c = keys_put (key_of c.args.request.now.key) c.args.request.now.key c.args.self.now.buckets.entries c.insert.new.self.entries c.serve-2.new.self refl c.in_default.ensures.place (put g (goal.at.returns-clause-keys g c).In-Ok)
 
 pub invariant_of-self : goal.invariant_of-self
 invariant_of-self g c =
