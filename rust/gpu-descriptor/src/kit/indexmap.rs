@@ -1,0 +1,219 @@
+//! The kit's crate `indexmap`.
+
+use super::alloc::{AllocError, AllocFailed, Global};
+use core::hash::{Hash, Hasher};
+use core::ops::{Index, IndexMut};
+use std_alloc::vec::Vec;
+
+/// Pairs in the order in which their keys came, each key once.
+///
+/// `order` has each place of `entries` once, with the hash of its key, sorted by hash. So a key is found
+/// by binary search.
+#[derive(Debug)]
+pub struct IndexMap<K, V> {
+    entries: Vec<(K, V)>,
+    order: Vec<(u64, usize)>,
+}
+
+/// Hashes eight bytes at a time. Keys with the same hash are told apart by `Eq`, so nothing but time
+/// rests on it.
+struct Mix(u64);
+
+impl Hasher for Mix {
+    fn write(&mut self, bytes: &[u8]) {
+        for bytes in bytes.chunks(8) {
+            let mut word = [0; 8];
+            word[..bytes.len()].copy_from_slice(bytes);
+            self.write_u64(u64::from_le_bytes(word));
+        }
+    }
+
+    #[inline]
+    fn write_u64(&mut self, word: u64) {
+        self.0 = (self.0.rotate_left(23) ^ word).wrapping_mul(0x9e37_79b9_7f4a_7c15);
+    }
+
+    #[inline]
+    fn write_u128(&mut self, words: u128) {
+        self.write_u64(words as u64);
+        self.write_u64((words >> 64) as u64);
+    }
+
+    #[inline]
+    fn write_u8(&mut self, byte: u8) {
+        self.write_u64(u64::from(byte));
+    }
+
+    fn finish(&self) -> u64 {
+        self.0
+    }
+}
+
+fn hash_of<K: Hash>(key: &K) -> u64 {
+    let mut mix = Mix(0);
+    key.hash(&mut mix);
+    mix.finish()
+}
+
+impl<K, V> IndexMap<K, V> {
+    /// `empty`, `len`: it has no pair. It takes no memory.
+    pub fn new(_: Global) -> Self {
+        IndexMap {
+            entries: Vec::new(),
+            order: Vec::new(),
+        }
+    }
+
+    /// `len`: how many pairs there are.
+    #[inline]
+    pub fn len(&self) -> usize {
+        self.entries.len()
+    }
+
+    /// `entry`, `found`: the pair at the place, if there is one.
+    #[inline]
+    pub fn get_index(&self, index: usize) -> Option<(&K, &V)> {
+        self.entries.get(index).map(|(key, value)| (key, value))
+    }
+
+    /// `value`, `writes_back`: the pair at the place, which has to be there; else a panic.
+    #[inline]
+    pub fn pair_mut(&mut self, index: usize) -> (&K, &mut V) {
+        let (key, value) = &mut self.entries[index];
+        (key, value)
+    }
+
+    /// `bound`, `partitioned`: the first place whose pair `pred` refuses.
+    pub fn partition_point(&self, pred: impl Fn(&K, &V) -> bool) -> usize {
+        self.entries
+            .partition_point(|(key, value)| pred(key, value))
+    }
+
+    /// `entries`: nothing changes. `ok`: so many inserts need no memory. `succeeds`: if they needed none
+    /// before, it takes none.
+    pub fn reserve(&mut self, additional: usize) -> Result<(), AllocError> {
+        let entries = self.entries.try_reserve(additional);
+        match entries.and_then(|()| self.order.try_reserve(additional)) {
+            Ok(()) => Ok(()),
+            Err(_) => Err(AllocError),
+        }
+    }
+}
+
+impl<K: Eq + Hash, V> IndexMap<K, V> {
+    /// `index`: the place of the key, if it is there.
+    pub fn get_index_of(&self, key: &K) -> Option<usize> {
+        let hash = hash_of(key);
+        let first = self.order.partition_point(|it| it.0 < hash);
+        let alike = self.order[first..].iter().take_while(|it| it.0 == hash);
+        alike
+            .map(|it| it.1)
+            .find(|place| self.entries[*place].0 == *key)
+    }
+
+    /// `value`: the value of the key, if it is there.
+    pub fn get(&self, key: &K) -> Option<&V> {
+        self.get_index_of(key).map(|place| &self.entries[place].1)
+    }
+
+    /// `entries`, `old`: a new key goes last, and a key that is there gets the value.
+    /// `value_returned`, `err`: if an allocation failed, nothing changed. `succeeds`: if there is
+    /// room, it takes no memory.
+    pub fn insert(&mut self, key: K, value: V) -> Result<Option<V>, AllocFailed<(K, V)>> {
+        if let Some(place) = self.get_index_of(&key) {
+            return Ok(Some(core::mem::replace(&mut self.entries[place].1, value)));
+        }
+        if self.reserve(1).is_err() {
+            return Err(AllocFailed {
+                value: (key, value),
+            });
+        }
+        let hash = hash_of(&key);
+        let first = self.order.partition_point(|it| it.0 < hash);
+        self.order.insert(first, (hash, self.entries.len()));
+        self.entries.push((key, value));
+        Ok(None)
+    }
+
+    /// `filtered`: the pairs for which `keep` is true stay, in their order. `room`: it takes no memory
+    /// and gives none back, since the sort is in place.
+    pub fn retain(&mut self, mut keep: impl FnMut(&K, &mut V) -> bool) {
+        let before = self.entries.len();
+        self.entries.retain_mut(|(key, value)| keep(key, value));
+        if self.entries.len() == before {
+            return;
+        }
+        self.order.truncate(self.entries.len());
+        let stay = self.entries.iter().enumerate();
+        for (entry, (place, (key, _))) in self.order.iter_mut().zip(stay) {
+            *entry = (hash_of(key), place);
+        }
+        self.order.sort_unstable();
+    }
+}
+
+/// `value`: the value at the place, which has to be there; else a panic.
+impl<K, V> Index<usize> for IndexMap<K, V> {
+    type Output = V;
+
+    fn index(&self, index: usize) -> &V {
+        &self.entries[index].1
+    }
+}
+
+impl<K, V> IndexMut<usize> for IndexMap<K, V> {
+    fn index_mut(&mut self, index: usize) -> &mut V {
+        &mut self.entries[index].1
+    }
+}
+
+#[cfg(test)]
+mod tests {
+    use super::{Global, IndexMap, Vec};
+
+    /// Only four hashes, so that most keys share theirs.
+    #[derive(Clone, Copy, Debug, PartialEq, Eq)]
+    struct Key(u32);
+
+    impl core::hash::Hash for Key {
+        fn hash<H: core::hash::Hasher>(&self, state: &mut H) {
+            state.write_u64(u64::from(self.0 % 4));
+        }
+    }
+
+    /// Beside a list of pairs.
+    #[test]
+    fn acts_as_a_list_of_pairs() {
+        let (mut map, mut list) = (IndexMap::new(Global), Vec::<(Key, u32)>::new());
+        let mut random = 1_u64;
+        let mut below = |end: u64| {
+            random = random
+                .wrapping_mul(6364136223846793005)
+                .wrapping_add(1442695040888963407);
+            ((random >> 33) % end) as u32
+        };
+        for step in 0..100_000 {
+            let key = Key(below(40));
+            let place = list.iter().position(|it| it.0 == key);
+            assert_eq!(map.get_index_of(&key), place);
+            assert_eq!(map.get(&key), place.map(|place| &list[place].1));
+            match below(20) {
+                0 => {
+                    let (by, rest) = (2 + below(9), below(2));
+                    map.retain(|key: &Key, _: &mut u32| key.0 % by != rest);
+                    list.retain(|it| it.0.0 % by != rest);
+                }
+                _ => {
+                    let old = map.insert(key, step).unwrap();
+                    assert_eq!(old, place.map(|place| list[place].1));
+                    match place {
+                        Some(place) => list[place].1 = step,
+                        None => list.push((key, step)),
+                    }
+                }
+            }
+            assert_eq!(map.entries, list);
+            assert_eq!(map.order.len(), list.len());
+        }
+    }
+}

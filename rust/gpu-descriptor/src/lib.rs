@@ -1,0 +1,122 @@
+//! A descriptor set allocator for Vulkan-like APIs: the interface of the crate gpu-descriptor 0.3.2 over
+//! proved sources.
+//!
+//! [`DescriptorAllocator`] hands out descriptor sets by layout, from pools that it creates, sizes and
+//! destroys on a [`DescriptorDevice`]. [`frames::FrameManager`] frees sets once the frame that used them
+//! last is done, and [`renderer::Renderer`] owns a device and keeps all descriptor sets of a renderer
+//! under handles. With the feature `vulkan` there is a device over the functions of Vulkan.
+//!
+//! ```
+//! use gpu_descriptor::{
+//!     CreatePoolError, DescriptorAllocator, DescriptorDevice, DescriptorPoolCreateFlags,
+//!     DescriptorSetLayoutCreateFlags, DescriptorTotalCount, DeviceAllocationError,
+//! };
+//! # use std::cell::Cell;
+//!
+//! /// A device that only numbers its pools and sets.
+//! struct Device(Cell<u64>);
+//! # impl Device {
+//! #     fn next(&self) -> u64 {
+//! #         self.0.set(self.0.get() + 1);
+//! #         self.0.get()
+//! #     }
+//! # }
+//!
+//! impl DescriptorDevice<u64, u64, u64> for Device {
+//!     unsafe fn create_descriptor_pool(
+//!         &self,
+//!         _counts: &DescriptorTotalCount,
+//!         _max_sets: u32,
+//!         _flags: DescriptorPoolCreateFlags,
+//!     ) -> Result<u64, CreatePoolError> {
+//!         Ok(self.next())
+//!     }
+//!
+//!     unsafe fn destroy_descriptor_pool(&self, _pool: u64) {}
+//!
+//!     unsafe fn alloc_descriptor_sets<'a>(
+//!         &self,
+//!         _pool: &mut u64,
+//!         layouts: impl ExactSizeIterator<Item = &'a u64>,
+//!         sets: &mut impl Extend<u64>,
+//!     ) -> Result<(), DeviceAllocationError> {
+//!         sets.extend(layouts.map(|_| self.next()));
+//!         Ok(())
+//!     }
+//!
+//!     unsafe fn dealloc_descriptor_sets(&self, _pool: &mut u64, sets: impl Iterator<Item = u64>) {
+//!         sets.for_each(drop);
+//!     }
+//! }
+//!
+//! # fn main() -> Result<(), Box<dyn std::error::Error>> {
+//! let device = Device(Cell::new(0));
+//! let layout = 7;
+//! let flags = DescriptorSetLayoutCreateFlags::empty();
+//! let counts = DescriptorTotalCount { uniform_buffer: 1, ..Default::default() };
+//!
+//! let limit = 500_000; // maxUpdateAfterBindDescriptorsInAllPools of the driver
+//! let mut allocator = DescriptorAllocator::new(limit);
+//! let sets = unsafe { allocator.allocate(&device, &layout, flags, &counts, 3) }?;
+//! assert_eq!(*sets[0].raw(), 2);
+//! unsafe { allocator.free(&device, sets) };
+//! unsafe { allocator.cleanup(&device) };
+//! # Ok(())
+//! # }
+//! ```
+//!
+//! # What is proved
+//!
+//! The modules `gpu_descriptor_types`, `gpu_descriptor`, `descriptor_frames` and `descriptor_renderer`
+//! are generated: a tool takes the contracts out of sources that a prover has checked, and writes the
+//! other lines unchanged. Trusted and only tested are that tool, the shim `kit` of the std under which the
+//! sources were proved, the files by hand (this interface), and rustc. See the repository's
+//! docs/PROVED.md.
+#![cfg_attr(not(feature = "std"), no_std)]
+#![deny(unsafe_op_in_unsafe_fn)]
+#![warn(missing_docs)]
+
+extern crate alloc as std_alloc;
+
+mod allocator;
+#[allow(dead_code, unused_imports, clippy::all, missing_docs)]
+#[warn(clippy::incompatible_msrv)]
+#[forbid(unsafe_code)]
+#[rustfmt::skip]
+mod descriptor_frames;
+#[allow(dead_code, unused_imports, clippy::all, missing_docs)]
+#[warn(clippy::incompatible_msrv)]
+#[forbid(unsafe_code)]
+#[rustfmt::skip]
+mod descriptor_renderer;
+mod device;
+pub mod frames;
+#[allow(dead_code, unused_imports, clippy::all, missing_docs)]
+#[warn(clippy::incompatible_msrv)]
+#[deny(unsafe_code)]
+#[rustfmt::skip]
+mod gpu_descriptor;
+#[allow(dead_code, unused_imports, clippy::all, missing_docs)]
+#[warn(clippy::incompatible_msrv)]
+#[forbid(unsafe_code)]
+#[rustfmt::skip]
+mod gpu_descriptor_types;
+#[forbid(unsafe_code)]
+mod ids;
+#[allow(dead_code)]
+#[forbid(unsafe_code)]
+mod kit;
+#[forbid(unsafe_code)]
+mod poison;
+pub mod renderer;
+#[cfg(feature = "vulkan")]
+pub mod vulkan;
+
+pub use crate::gpu_descriptor::{
+    AllocationError, DescriptorSet, DescriptorSetLayoutCreateFlags, PoolView, SetLayout,
+};
+pub use crate::gpu_descriptor_types::{
+    CreatePoolError, DescriptorPoolCreateFlags, DescriptorTotalCount, DeviceAllocationError,
+};
+pub use allocator::DescriptorAllocator;
+pub use device::DescriptorDevice;

@@ -1,0 +1,30 @@
+//! What each `VkResult` of the two calls that can fail becomes.
+
+use crate::{CreatePoolError, DeviceAllocationError};
+
+const SUCCESS: i32 = 0;
+const ERROR_OUT_OF_DEVICE_MEMORY: i32 = -2;
+const ERROR_FRAGMENTED_POOL: i32 = -12;
+const ERROR_OUT_OF_POOL_MEMORY: i32 = -1_000_069_000;
+const ERROR_FRAGMENTATION: i32 = -1_000_161_000;
+
+/// The result of `vkCreateDescriptorPool`. A result without a name here ends the request.
+pub(super) fn of_create(result: i32) -> Result<(), CreatePoolError> {
+    match result {
+        SUCCESS => Ok(()),
+        ERROR_OUT_OF_DEVICE_MEMORY => Err(CreatePoolError::OutOfDeviceMemory),
+        ERROR_FRAGMENTATION | ERROR_FRAGMENTED_POOL => Err(CreatePoolError::Fragmentation),
+        _ => Err(CreatePoolError::OutOfHostMemory),
+    }
+}
+
+/// The result of `vkAllocateDescriptorSets`. A result without a name here ends the request.
+pub(super) fn of_allocate(result: i32) -> Result<(), DeviceAllocationError> {
+    match result {
+        SUCCESS => Ok(()),
+        ERROR_OUT_OF_DEVICE_MEMORY => Err(DeviceAllocationError::OutOfDeviceMemory),
+        ERROR_FRAGMENTATION | ERROR_FRAGMENTED_POOL => Err(DeviceAllocationError::FragmentedPool),
+        ERROR_OUT_OF_POOL_MEMORY => Err(DeviceAllocationError::OutOfPoolMemory),
+        _ => Err(DeviceAllocationError::OutOfHostMemory),
+    }
+}

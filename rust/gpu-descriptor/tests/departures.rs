@@ -1,0 +1,216 @@
+//! Where the crate departs from gpu-descriptor 0.3.2, or has more than it.
+
+use gpu_descriptor::*;
+use std::cell::Cell;
+
+/// A device that hands out numbers.
+#[derive(Default)]
+struct Device {
+    next: Cell<u64>,
+    refuses_new_pools: Cell<bool>,
+    pools: Cell<i64>,
+    sets: Cell<i64>,
+}
+
+impl DescriptorDevice<(), u64, u64> for Device {
+    unsafe fn create_descriptor_pool(
+        &self,
+        _: &DescriptorTotalCount,
+        _: u32,
+        _: DescriptorPoolCreateFlags,
+    ) -> Result<u64, CreatePoolError> {
+        self.pools.set(self.pools.get() + 1);
+        Ok(0)
+    }
+
+    unsafe fn destroy_descriptor_pool(&self, _: u64) {
+        self.pools.set(self.pools.get() - 1);
+    }
+
+    unsafe fn alloc_descriptor_sets<'a>(
+        &self,
+        _: &mut u64,
+        layouts: impl ExactSizeIterator<Item = &'a ()>,
+        sets: &mut impl Extend<u64>,
+    ) -> Result<(), DeviceAllocationError> {
+        if self.refuses_new_pools.get() {
+            return Err(DeviceAllocationError::OutOfPoolMemory);
+        }
+        let first = self.next.get();
+        self.next.set(first + layouts.len() as u64);
+        self.sets.set(self.sets.get() + layouts.len() as i64);
+        sets.extend(first..self.next.get());
+        Ok(())
+    }
+
+    unsafe fn dealloc_descriptor_sets(&self, _: &mut u64, sets: impl Iterator<Item = u64>) {
+        self.sets.set(self.sets.get() - sets.count() as i64);
+    }
+}
+
+type Allocator = DescriptorAllocator<u64, u64>;
+type Sets = Vec<DescriptorSet<u64>>;
+
+fn samplers(sampler: u32) -> DescriptorTotalCount {
+    DescriptorTotalCount {
+        sampler,
+        ..Default::default()
+    }
+}
+
+fn take(
+    allocator: &mut Allocator,
+    device: &Device,
+    counts: DescriptorTotalCount,
+    is_marked: bool,
+    count: u32,
+) -> Result<Sets, AllocationError> {
+    let mut flags = DescriptorSetLayoutCreateFlags::empty();
+    flags.set(DescriptorSetLayoutCreateFlags::UPDATE_AFTER_BIND, is_marked);
+    // SAFETY: each test has one device, and the layouts are what they are said to be.
+    unsafe { allocator.allocate(device, &(), flags, &counts, count) }
+}
+
+/// In the original it panics or wraps.
+#[test]
+fn the_total_stops_at_the_greatest_number() {
+    let mut counts = samplers(u32::MAX);
+    assert_eq!(counts.total(), u32::MAX);
+    counts.sampled_image = 1;
+    assert_eq!(counts.total(), u32::MAX);
+    counts.sampler = 5;
+    assert_eq!(counts.total(), 6);
+}
+
+/// The original lets it past the limit: the product of 2^16 sets and 2^16 descriptors wraps to 0.
+#[test]
+fn a_product_of_33_bits_is_past_the_limit() {
+    let (device, mut allocator) = (Device::default(), Allocator::new(u32::MAX));
+    let sets = take(&mut allocator, &device, samplers(1 << 16), true, 1 << 16);
+    assert!(matches!(sets, Err(AllocationError::Fragmentation)));
+    assert_eq!(device.pools.get(), 0);
+}
+
+/// In the original it is a panic.
+#[test]
+fn a_new_pool_that_refuses_is_destroyed() {
+    let (device, mut allocator) = (Device::default(), Allocator::new(0));
+    device.refuses_new_pools.set(true);
+    let sets = take(&mut allocator, &device, samplers(1), false, 1);
+    assert!(matches!(sets, Err(AllocationError::Fragmentation)));
+    assert_eq!(device.pools.get(), 0);
+}
+
+/// The original counts the first set of a run to the run before, and refuses marked sets for good.
+#[test]
+fn marked_and_plain_sets_go_back_in_one_call() {
+    for marked_first in [false, true] {
+        let (device, mut allocator) = (Device::default(), Allocator::new(64 * 5));
+        for _ in 0..3 {
+            let plain = take(&mut allocator, &device, samplers(3), false, 1).unwrap();
+            let marked = take(&mut allocator, &device, samplers(5), true, 64).unwrap();
+            let (mut first, last) = if marked_first {
+                (marked, plain)
+            } else {
+                (plain, marked)
+            };
+            first.extend(last);
+            unsafe { allocator.free(&device, first) };
+            unsafe { allocator.cleanup(&device) };
+        }
+        assert_eq!((device.pools.get(), device.sets.get()), (0, 0));
+    }
+}
+
+/// In the original the limit is on the sets that are out, and a driver refuses the pools.
+#[test]
+fn pools_of_marked_sets_keep_to_the_limit() {
+    let (device, mut allocator) = (Device::default(), Allocator::new(100));
+    let sets = take(&mut allocator, &device, samplers(10), true, 4).unwrap();
+    assert_eq!(sets.len(), 4);
+    let refused = take(&mut allocator, &device, samplers(11), true, 1);
+    assert!(matches!(refused, Err(AllocationError::Fragmentation)));
+    let more = take(&mut allocator, &device, samplers(10), true, 6).unwrap();
+    assert_eq!(device.pools.get(), 1);
+    unsafe { allocator.free(&device, sets.into_iter().chain(more)) };
+    unsafe { allocator.cleanup(&device) };
+}
+
+/// The calls that the crate bitflags has from its version 2 on, over which the original isn't tried.
+#[test]
+fn calls_of_flags() {
+    type Flags = DescriptorPoolCreateFlags;
+    let both = Flags::FREE_DESCRIPTOR_SET | Flags::UPDATE_AFTER_BIND;
+    assert_eq!(Flags::from_bits_retain(6).bits(), 6);
+    assert_eq!(Flags::from_bits_truncate(6), Flags::UPDATE_AFTER_BIND);
+    assert_eq!(Flags::from_name("UPDATE_AFTER_BIND").unwrap().bits(), 2);
+    assert_eq!(Flags::from_name("FREE"), None);
+    let each: Vec<Flags> = both.iter().collect();
+    assert_eq!(each, [Flags::FREE_DESCRIPTOR_SET, Flags::UPDATE_AFTER_BIND]);
+    let named: Vec<(&str, Flags)> = Flags::UPDATE_AFTER_BIND.iter_names().collect();
+    assert_eq!(named, [("UPDATE_AFTER_BIND", Flags::UPDATE_AFTER_BIND)]);
+    let name = DescriptorSetLayoutCreateFlags::all().iter_names().next();
+    assert_eq!(name.unwrap().0, "UPDATE_AFTER_BIND");
+}
+
+/// A device that is lent to it is one, as `&Device` and `&&Device` are.
+#[test]
+fn a_lent_device() {
+    let (device, mut allocator) = (Device::default(), Allocator::new(0));
+    let flags = DescriptorSetLayoutCreateFlags::empty();
+    let lent = &&device;
+    let sets = unsafe { allocator.allocate(lent, &(), flags, &samplers(1), 2) }.unwrap();
+    unsafe { allocator.free(lent, sets) };
+    unsafe { allocator.cleanup(lent) };
+    assert_eq!((device.pools.get(), device.sets.get()), (0, 0));
+}
+
+/// Errors are values, and are errors without std too.
+#[test]
+fn errors_are_values() {
+    fn is_value<T: Copy + Eq + Send + Sync + 'static>() {}
+    fn is_error<T: core::error::Error>() {}
+    is_value::<AllocationError>();
+    is_value::<CreatePoolError>();
+    is_value::<DeviceAllocationError>();
+    is_error::<AllocationError>();
+}
+
+/// The original warns once for each key with sets that are out.
+#[cfg(feature = "std")]
+#[test]
+fn a_drop_warns_once() {
+    if std::env::var_os("DROP_ALLOCATOR").is_some() {
+        let (device, mut allocator) = (Device::default(), Allocator::new(0));
+        for sampler in 1..4 {
+            take(&mut allocator, &device, samplers(sampler), false, 1).unwrap();
+        }
+        return;
+    }
+    let ran = std::process::Command::new(std::env::current_exe().unwrap())
+        .args(["a_drop_warns_once", "--exact", "--nocapture"])
+        .env("DROP_ALLOCATOR", "")
+        .output()
+        .unwrap();
+    let errors = String::from_utf8(ran.stderr).unwrap();
+    assert!(ran.status.success());
+    assert_eq!(
+        errors
+            .matches("Descriptor sets were not deallocated")
+            .count(),
+        1
+    );
+}
+
+/// A set shows whose it is.
+#[test]
+fn ids_tell_allocators_apart() {
+    let device = Device::default();
+    let (mut first, second) = (Allocator::new(0), Allocator::new(0));
+    let flags = DescriptorSetLayoutCreateFlags::empty();
+    let sets = unsafe { first.allocate(&device, &(), flags, &samplers(1), 1) }.unwrap();
+    assert!(sets[0].has_id_in(&first.ids()));
+    assert!(!sets[0].has_id_in(&second.ids()));
+    unsafe { first.free(&device, sets) };
+    unsafe { first.cleanup(&device) };
+}

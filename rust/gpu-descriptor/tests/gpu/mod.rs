@@ -1,0 +1,199 @@
+//! A device that takes no memory once it is made, refuses or panics at a call, and sees to it that no
+//! set goes back which a frame in flight reads.
+#![allow(dead_code)]
+
+use gpu_descriptor::*;
+use std::cell::{Cell, RefCell};
+
+/// A raw set is its pool and its place there.
+pub type Set = (usize, usize);
+
+const POOLS: usize = 100;
+const PLACES: usize = 512;
+
+#[derive(Clone, Copy, Debug, PartialEq, Eq)]
+pub enum Fault {
+    /// A refusal: by the number of its reason, of a new pool (3) and of sets (4).
+    Refuses(usize),
+    Panics,
+}
+
+pub const REASONS: usize = 4;
+
+pub struct Gpu {
+    live: RefCell<Vec<Vec<bool>>>,
+    live_sets: Cell<usize>,
+    exists: RefCell<Vec<bool>>,
+
+    /// Which sets which frame reads.
+    reads: RefCell<Vec<(u64, Set)>>,
+
+    /// How many calls for pools and sets there were, the one with the fault, and the fault.
+    pub calls: Cell<u64>,
+    pub faulty: Cell<u64>,
+    pub fault: Cell<Fault>,
+
+    /// Whether the next release panics.
+    pub panics_at_release: Cell<bool>,
+    pub releases: Cell<u64>,
+}
+
+impl Gpu {
+    pub fn new() -> Self {
+        Gpu {
+            live: RefCell::new(vec![vec![false; PLACES]; POOLS]),
+            live_sets: Cell::new(0),
+            exists: RefCell::new(vec![false; POOLS]),
+            reads: RefCell::default(),
+            calls: Cell::new(0),
+            faulty: Cell::new(u64::MAX),
+            fault: Cell::new(Fault::Panics),
+            panics_at_release: Cell::new(false),
+            releases: Cell::new(0),
+        }
+    }
+
+    /// The call with this number has the fault.
+    pub fn with_fault(faulty: u64, fault: Fault) -> Self {
+        let gpu = Gpu::new();
+        gpu.faulty.set(faulty);
+        gpu.fault.set(fault);
+        gpu
+    }
+
+    pub fn is_live(&self, set: Set) -> bool {
+        self.live.borrow()[set.0][set.1]
+    }
+
+    pub fn live_sets(&self) -> usize {
+        self.live_sets.get()
+    }
+
+    pub fn pools(&self) -> usize {
+        self.exists.borrow().iter().filter(|it| **it).count()
+    }
+
+    pub fn is_empty(&self) -> bool {
+        self.pools() == 0 && self.live_sets() == 0
+    }
+
+    pub fn submit(&self, frame: u64, sets: impl Iterator<Item = Set>) {
+        self.reads.borrow_mut().extend(sets.map(|set| (frame, set)));
+    }
+
+    /// Waits for a frame.
+    pub fn wait(&self, frame: u64) {
+        self.reads.borrow_mut().retain(|it| it.0 > frame);
+    }
+
+    /// The reason of a refusal, if this call has the fault.
+    fn reason(&self) -> Option<usize> {
+        if self.calls.replace(self.calls.get() + 1) != self.faulty.get() {
+            return None;
+        }
+        match self.fault.get() {
+            Fault::Refuses(reason) => Some(reason),
+            Fault::Panics => panic!("as it was told"),
+        }
+    }
+}
+
+impl DescriptorDevice<u32, usize, Set> for Gpu {
+    unsafe fn create_descriptor_pool(
+        &self,
+        _: &DescriptorTotalCount,
+        max_sets: u32,
+        _: DescriptorPoolCreateFlags,
+    ) -> Result<usize, CreatePoolError> {
+        match self.reason() {
+            None => {}
+            Some(0) => return Err(CreatePoolError::OutOfDeviceMemory),
+            Some(1) => return Err(CreatePoolError::OutOfHostMemory),
+            Some(_) => return Err(CreatePoolError::Fragmentation),
+        }
+        assert!(max_sets as usize <= PLACES);
+        let mut exists = self.exists.borrow_mut();
+        let pool = exists.iter().position(|it| !it).unwrap();
+        exists[pool] = true;
+        Ok(pool)
+    }
+
+    unsafe fn destroy_descriptor_pool(&self, pool: usize) {
+        assert!(self.exists.borrow_mut()[pool], "a pool is destroyed once");
+        self.exists.borrow_mut()[pool] = false;
+        let live = self.live.borrow();
+        assert!(!live[pool].contains(&true), "it has no sets");
+    }
+
+    unsafe fn alloc_descriptor_sets<'a>(
+        &self,
+        pool: &mut usize,
+        layouts: impl ExactSizeIterator<Item = &'a u32>,
+        sets: &mut impl Extend<Set>,
+    ) -> Result<(), DeviceAllocationError> {
+        match self.reason() {
+            None => {}
+            Some(0) => return Err(DeviceAllocationError::OutOfDeviceMemory),
+            Some(1) => return Err(DeviceAllocationError::OutOfHostMemory),
+            Some(2) => return Err(DeviceAllocationError::FragmentedPool),
+            Some(_) => return Err(DeviceAllocationError::OutOfPoolMemory),
+        }
+        self.live_sets.set(self.live_sets() + layouts.len());
+        let mut live = self.live.borrow_mut();
+        let places = &mut live[*pool];
+        sets.extend(layouts.map(|_| {
+            let place = places.iter().position(|it| !it).unwrap();
+            places[place] = true;
+            (*pool, place)
+        }));
+        Ok(())
+    }
+
+    unsafe fn dealloc_descriptor_sets(&self, pool: &mut usize, sets: impl Iterator<Item = Set>) {
+        self.releases.set(self.releases.get() + 1);
+        assert!(!self.panics_at_release.get(), "as it was told");
+        for set in sets {
+            assert_eq!(set.0, *pool, "it goes to its pool");
+            assert!(self.is_live(set), "it goes back once");
+            let reads = self.reads.borrow();
+            let is_read = reads.iter().any(|it| it.1 == set);
+            assert!(!is_read, "a frame in flight reads it");
+            self.live.borrow_mut()[set.0][set.1] = false;
+            self.live_sets.set(self.live_sets() - 1);
+        }
+    }
+}
+
+/// Sets of so many samplers go two to a pool.
+pub const TWO_A_POOL: u32 = u32::MAX / 2;
+
+/// Three layouts: a plain one, one of which two sets go to a pool, and a marked one.
+pub fn layout(number: u32) -> SetLayout<u32> {
+    let mut flags = DescriptorSetLayoutCreateFlags::empty();
+    flags.set(
+        DescriptorSetLayoutCreateFlags::UPDATE_AFTER_BIND,
+        number == 2,
+    );
+    let counts = DescriptorTotalCount {
+        sampler: [1, TWO_A_POOL, 5][number as usize],
+        ..Default::default()
+    };
+    SetLayout {
+        layout: number,
+        counts,
+        flags,
+    }
+}
+
+/// Numbers by chance.
+pub struct Random(pub u64);
+
+impl Random {
+    pub fn below(&mut self, end: u64) -> u64 {
+        self.0 = self
+            .0
+            .wrapping_mul(6364136223846793005)
+            .wrapping_add(1442695040888963407);
+        (self.0 >> 33) % end
+    }
+}

@@ -1,0 +1,260 @@
+//! Each growth of memory in a request is refused in turn. Giving back and cleaning up take none.
+
+mod refuses;
+
+use gpu_descriptor::*;
+use refuses::with_refused;
+use std::cell::{Cell, RefCell};
+
+/// A device that takes no memory once it is made. A set has its pool and its place.
+struct Device {
+    live: RefCell<Vec<Vec<bool>>>,
+    exists: RefCell<Vec<bool>>,
+    calls: Cell<u64>,
+}
+
+const POOLS: usize = 400;
+const PLACES: usize = 600;
+
+impl Device {
+    fn new() -> Self {
+        Device {
+            live: RefCell::new(vec![vec![false; PLACES]; POOLS]),
+            exists: RefCell::new(vec![false; POOLS]),
+            calls: Cell::new(0),
+        }
+    }
+
+    fn live_sets(&self) -> usize {
+        self.live
+            .borrow()
+            .iter()
+            .flatten()
+            .filter(|it| **it)
+            .count()
+    }
+}
+
+impl DescriptorDevice<u32, usize, (usize, usize)> for Device {
+    unsafe fn create_descriptor_pool(
+        &self,
+        _: &DescriptorTotalCount,
+        max_sets: u32,
+        _: DescriptorPoolCreateFlags,
+    ) -> Result<usize, CreatePoolError> {
+        assert!(max_sets as usize <= PLACES);
+        self.calls.set(self.calls.get() + 1);
+        let mut exists = self.exists.borrow_mut();
+        let pool = exists.iter().position(|it| !it).unwrap();
+        exists[pool] = true;
+        Ok(pool)
+    }
+
+    unsafe fn destroy_descriptor_pool(&self, pool: usize) {
+        self.calls.set(self.calls.get() + 1);
+        assert!(std::mem::replace(
+            &mut self.exists.borrow_mut()[pool],
+            false
+        ));
+        assert!(self.live.borrow()[pool].iter().all(|it| !it));
+    }
+
+    unsafe fn alloc_descriptor_sets<'a>(
+        &self,
+        pool: &mut usize,
+        layouts: impl ExactSizeIterator<Item = &'a u32>,
+        sets: &mut impl Extend<(usize, usize)>,
+    ) -> Result<(), DeviceAllocationError> {
+        self.calls.set(self.calls.get() + 1);
+        let mut live = self.live.borrow_mut();
+        let places = &mut live[*pool];
+        sets.extend(layouts.map(|_| {
+            let place = places.iter().position(|it| !it).unwrap();
+            places[place] = true;
+            (*pool, place)
+        }));
+        Ok(())
+    }
+
+    unsafe fn dealloc_descriptor_sets(
+        &self,
+        pool: &mut usize,
+        sets: impl Iterator<Item = (usize, usize)>,
+    ) {
+        self.calls.set(self.calls.get() + 1);
+        for set in sets {
+            assert_eq!(set.0, *pool);
+            assert!(std::mem::replace(
+                &mut self.live.borrow_mut()[set.0][set.1],
+                false
+            ));
+        }
+    }
+}
+
+type Allocator = DescriptorAllocator<usize, (usize, usize)>;
+type Set = DescriptorSet<(usize, usize)>;
+
+#[derive(Clone, Copy)]
+struct Request {
+    samplers: u32,
+    is_marked: bool,
+    count: u32,
+}
+
+fn plain(samplers: u32, count: u32) -> Request {
+    Request {
+        samplers,
+        is_marked: false,
+        count,
+    }
+}
+
+fn take(
+    allocator: &mut Allocator,
+    device: &Device,
+    it: Request,
+) -> Result<Vec<Set>, AllocationError> {
+    let mut flags = DescriptorSetLayoutCreateFlags::empty();
+    flags.set(
+        DescriptorSetLayoutCreateFlags::UPDATE_AFTER_BIND,
+        it.is_marked,
+    );
+    let counts = DescriptorTotalCount {
+        sampler: it.samplers,
+        ..Default::default()
+    };
+    unsafe { allocator.allocate(device, &it.samplers, flags, &counts, it.count) }
+}
+
+/// The books as their debug text, but for the place that is looked at first.
+fn books(allocator: &Allocator) -> String {
+    let text = format!("{allocator:?}");
+    let hint = "last: ";
+    let (before, rest) = text.split_once(hint).expect("the table has its hint");
+    format!(
+        "{before}{}",
+        rest.trim_start_matches(|it: char| it.is_ascii_digit())
+    )
+}
+
+fn take_all(allocator: &mut Allocator, device: &Device, requests: &[Request]) -> Vec<Set> {
+    let taken = requests.iter().map(|it| take(allocator, device, *it));
+    taken.flat_map(Result::unwrap).collect()
+}
+
+/// After the requests of `before`, `last` is made and each growth in it is refused in turn: those at its
+/// start, before its key and pools are looked at, and the others, for the books of new pools.
+fn refuse_each(before: &[Request], last: Request, at_start: u64, others: u64) {
+    for number in 0..at_start + others {
+        let (device, mut allocator) = (Device::new(), Allocator::new(100_000));
+        let mut held = take_all(&mut allocator, &device, before);
+        let (had, calls) = (books(&allocator), device.calls.get());
+        let (result, growths) = with_refused(number, || take(&mut allocator, &device, last));
+        assert!(matches!(result, Err(AllocationError::OutOfHostMemory)));
+        assert!(growths > number, "there is such a growth");
+        assert_eq!(device.live_sets(), held.len(), "what it took went back");
+        if number < at_start {
+            assert_eq!(device.calls.get(), calls);
+            assert_eq!(books(&allocator), had, "nothing changed");
+        }
+        // With memory it is granted.
+        held.extend(take(&mut allocator, &device, last).unwrap());
+        give_back(allocator, &device, held);
+    }
+    // There is no other growth.
+    let (device, mut allocator) = (Device::new(), Allocator::new(100_000));
+    let mut held = take_all(&mut allocator, &device, before);
+    let (result, growths) = with_refused(u64::MAX, || take(&mut allocator, &device, last));
+    assert_eq!(growths, at_start + others);
+    held.extend(result.unwrap());
+    give_back(allocator, &device, held);
+}
+
+/// Gives all sets back, every fifth one first, and cleans up: without memory.
+fn give_back(mut allocator: Allocator, device: &Device, held: Vec<Set>) {
+    assert_eq!(device.live_sets(), held.len());
+    let in_places = held.into_iter().enumerate();
+    let (first, rest): (Vec<_>, Vec<_>) = in_places.partition(|(place, _)| place % 5 == 0);
+    let sets = first.into_iter().chain(rest).map(|(_, set)| set);
+    let ((), growths) = with_refused(u64::MAX, || unsafe {
+        allocator.free(device, sets);
+        allocator.cleanup(device);
+    });
+    assert_eq!(growths, 0, "free and cleanup take no memory");
+    assert_eq!(device.live_sets(), 0);
+    assert!(device.exists.borrow().iter().all(|it| !it));
+}
+
+const TWO_A_POOL: u32 = u32::MAX / 2;
+
+#[test]
+fn first_request() {
+    // The table, its order, the vector of sets, the pools and the list of open ones.
+    refuse_each(&[], plain(1, 3), 3, 2);
+}
+
+#[test]
+fn places_are_there() {
+    refuse_each(&[plain(1, 3)], plain(1, 3), 1, 0);
+}
+
+#[test]
+fn no_sets() {
+    refuse_each(&[plain(1, 3)], plain(2, 0), 0, 0);
+}
+
+#[test]
+fn many_pools() {
+    // Both queues grow to 4, 8 and 16 places.
+    refuse_each(&[], plain(TWO_A_POOL, 18), 3, 6);
+    refuse_each(&[plain(TWO_A_POOL, 1)], plain(TWO_A_POOL, 18), 1, 4);
+    refuse_each(
+        &[plain(TWO_A_POOL, 5), plain(7, 100)],
+        plain(TWO_A_POOL, 100),
+        1,
+        8,
+    );
+}
+
+#[test]
+fn marked() {
+    let marked = |count| Request {
+        is_marked: true,
+        ..plain(5, count)
+    };
+    refuse_each(&[marked(10), plain(5, 10)], marked(300), 1, 0);
+    refuse_each(&[plain(5, 10)], marked(300), 1, 2);
+}
+
+#[test]
+fn many_keys() {
+    let mut before = Vec::new();
+    for samplers in 0..40_u32 {
+        // The table and its order have 4, 8, 16, 32 and 64 places.
+        let grows = samplers == 0 || (samplers >= 4 && samplers.is_power_of_two());
+        refuse_each(&before, plain(samplers, 2), if grows { 3 } else { 1 }, 2);
+        before.push(plain(samplers, 2));
+    }
+}
+
+/// Of the keys that stay, the order is made anew.
+#[test]
+fn cleanup_takes_no_memory_where_keys_stay() {
+    let (device, mut allocator) = (Device::new(), Allocator::new(0));
+    let (mut held, mut back) = (Vec::new(), Vec::new());
+    for samplers in 0..400 {
+        let sets = if samplers % 4 == 0 {
+            &mut back
+        } else {
+            &mut held
+        };
+        sets.extend(take(&mut allocator, &device, plain(samplers, 2)).unwrap());
+    }
+    let ((), growths) = with_refused(u64::MAX, || unsafe {
+        allocator.free(&device, back);
+        allocator.cleanup(&device);
+    });
+    assert_eq!(growths, 0);
+    give_back(allocator, &device, held);
+}

@@ -1,0 +1,564 @@
+//! `Renderer` beside a list of what it has to have: each call of the device and each growth of memory is
+//! refused in turn; handles that are stale or foreign; panics; drops.
+
+mod gpu;
+mod refuses;
+
+use gpu::{Fault, Gpu, REASONS, Random, Set, layout};
+use gpu_descriptor::AllocationError::{self, *};
+use gpu_descriptor::renderer::*;
+use refuses::{calls, counted, refuse};
+use std::collections::BTreeSet;
+use std::panic::{AssertUnwindSafe, catch_unwind};
+use std::process::Command;
+
+type Sets<'a> = Renderer<u32, usize, Set, &'a Gpu>;
+
+/// A renderer, and what it has to have.
+struct Stage<'a> {
+    gpu: &'a Gpu,
+    renderer: Sets<'a>,
+    layouts: Vec<LayoutHandle>,
+    drawn: Vec<(DrawHandle, Set)>,
+    held: Vec<(SetHandle, Set)>,
+    retired: Vec<(u64, Set)>,
+
+    /// Handles that name nothing any longer.
+    old_draws: Vec<DrawHandle>,
+    old_sets: Vec<SetHandle>,
+    refusals: Vec<AllocationError>,
+    layouts_refused: u64,
+}
+
+/// A call that may take no memory.
+fn without_memory<R>(run: impl FnOnce() -> R) -> R {
+    let before = calls();
+    let answer = counted(run);
+    assert_eq!(calls(), before, "no memory is taken");
+    answer
+}
+
+impl<'a> Stage<'a> {
+    fn new(gpu: &'a Gpu) -> Self {
+        let mut stage = Stage {
+            gpu,
+            renderer: without_memory(|| Renderer::new(gpu, 10_000)),
+            layouts: Vec::new(),
+            drawn: Vec::new(),
+            held: Vec::new(),
+            retired: Vec::new(),
+            old_draws: Vec::new(),
+            old_sets: Vec::new(),
+            refusals: Vec::new(),
+            layouts_refused: 0,
+        };
+        for number in 0..3 {
+            let mut new = layout(number);
+            let handle = loop {
+                // SAFETY: the device knows no layouts.
+                match counted(|| unsafe { stage.renderer.add_layout(new) }) {
+                    Ok(handle) => break handle,
+                    Err(error) => new = error.into_inner(),
+                }
+                assert_eq!(new.layout, number);
+                stage.layouts_refused += 1;
+            };
+            stage.layouts.push(handle);
+        }
+        stage
+    }
+
+    fn frame(&self) -> u64 {
+        self.renderer.frame()
+    }
+
+    fn check(&self) {
+        let it = &self.renderer;
+        assert_eq!(it.drawn_count(), self.drawn.len());
+        assert_eq!(it.held_count(), self.held.len());
+        assert_eq!(it.retired_count(), self.retired.len() as u64);
+        let mut all = BTreeSet::new();
+        for (handle, raw) in &self.drawn {
+            assert_eq!(it.drawn(*handle), Some(raw));
+            all.insert(*raw);
+        }
+        for (handle, raw) in &self.held {
+            assert_eq!(it.set(*handle), Some(raw));
+            all.insert(*raw);
+        }
+        all.extend(self.retired.iter().map(|it| it.1));
+        assert!(all.iter().all(|raw| self.gpu.is_live(*raw)));
+        let count = self.drawn.len() + self.held.len() + self.retired.len();
+        assert_eq!(all.len(), count, "no set is there twice");
+        assert_eq!(self.gpu.live_sets(), count, "and no other one");
+        assert_eq!(it.outstanding(), count as u64);
+        assert!(self.old_draws.iter().all(|old| it.drawn(*old).is_none()));
+        assert!(self.old_sets.iter().all(|old| it.set(*old).is_none()));
+        for (handle, number) in self.layouts.iter().zip(0..) {
+            assert_eq!(it.layout(*handle).map(|it| it.layout), Some(number));
+        }
+    }
+
+    fn refused(&mut self, error: RenderError) -> bool {
+        let RenderError::Allocation(error) = error else {
+            panic!("{error}");
+        };
+        self.refusals.push(error);
+        self.check();
+        false
+    }
+
+    fn draw(&mut self, layout: usize) -> bool {
+        match counted(|| self.renderer.draw(self.layouts[layout])) {
+            Ok(handle) => {
+                let raw = *self.renderer.drawn(handle).unwrap();
+                self.drawn.push((handle, raw));
+                true
+            }
+            Err(error) => self.refused(error),
+        }
+    }
+
+    fn create(&mut self, layout: usize) -> bool {
+        match counted(|| self.renderer.create_set(self.layouts[layout])) {
+            Ok(handle) => {
+                let raw = *self.renderer.set(handle).unwrap();
+                self.held.push((handle, raw));
+                true
+            }
+            Err(error) => self.refused(error),
+        }
+    }
+
+    fn destroy(&mut self, place: usize, last_use: u64) {
+        let (handle, raw) = self.held.swap_remove(place);
+        assert_eq!(
+            without_memory(|| self.renderer.destroy_set(handle, last_use)),
+            Ok(())
+        );
+        self.retired.push((last_use, raw));
+        self.old_sets.push(handle);
+    }
+
+    fn begin(&mut self) {
+        let frame = self.frame();
+        assert_eq!(
+            without_memory(|| self.renderer.begin_frame()),
+            Ok(frame + 1)
+        );
+    }
+
+    fn end(&mut self) {
+        let frame = self.frame();
+        without_memory(|| self.renderer.end_frame());
+        for (handle, raw) in self.drawn.drain(..) {
+            self.retired.push((frame, raw));
+            self.old_draws.push(handle);
+        }
+    }
+
+    fn done(&mut self, frame: u64) {
+        self.gpu.wait(frame);
+        // SAFETY: the device sees to it that no frame in flight reads a set that goes back.
+        without_memory(|| unsafe { self.renderer.gpu_done(frame) });
+        self.retired.retain(|it| it.0 > frame);
+        self.check();
+    }
+
+    fn cleanup(&mut self) {
+        without_memory(|| self.renderer.cleanup());
+        self.check();
+    }
+
+    fn shutdown(self) {
+        self.gpu.wait(u64::MAX);
+        // SAFETY: as above.
+        without_memory(|| unsafe { self.renderer.shutdown() });
+        assert!(self.gpu.is_empty(), "nothing is left");
+    }
+}
+
+/// A scene of eight frames, three of them in flight. A call that is refused is made again, and granted.
+/// Ends with the refusals.
+fn scene(gpu: &Gpu) -> (Vec<AllocationError>, u64) {
+    let mut stage = Stage::new(gpu);
+    for number in 0..4 {
+        assert!(stage.create(number % 3) || stage.create(number % 3));
+    }
+    for frame in 1..=8 {
+        stage.begin();
+        for layout in [0, 1, 2, 1, 1, 0, 1, 2] {
+            assert!(stage.draw(layout) || stage.draw(layout));
+        }
+        stage.check();
+        let layout = frame as usize % 3;
+        assert!(stage.create(layout) || stage.create(layout));
+        let held = stage.held.iter().map(|it| it.1);
+        gpu.submit(frame, stage.drawn.iter().map(|it| it.1).chain(held));
+        stage.end();
+        stage.destroy(frame as usize % stage.held.len(), frame);
+        stage.done(frame.saturating_sub(2));
+        if frame == 5 {
+            stage.cleanup();
+        }
+    }
+    let refusals = (std::mem::take(&mut stage.refusals), stage.layouts_refused);
+    stage.shutdown();
+    refusals
+}
+
+#[test]
+fn the_device_refuses_each_call() {
+    let gpu = Gpu::new();
+    assert_eq!(scene(&gpu), (vec![], 0));
+    let all = gpu.calls.get();
+    println!("{all} calls");
+    assert!(all > 50);
+    for reason in 0..REASONS {
+        let mut seen = 0;
+        for call in 0..all {
+            let gpu = Gpu::with_fault(call, Fault::Refuses(reason));
+            let (refusals, _) = scene(&gpu);
+            assert!(gpu.calls.get() > call, "the call was made");
+            assert!(refusals.len() <= 1);
+            let wanted = [OutOfDeviceMemory, OutOfHostMemory, Fragmentation];
+            if reason < 2 {
+                assert_eq!(refusals, [wanted[reason]]);
+            }
+            seen += refusals.len();
+        }
+        println!("{all} calls refused for reason {reason}: {seen} refusals");
+        assert!(seen > 0);
+    }
+}
+
+#[test]
+fn each_growth_is_refused() {
+    for number in 0.. {
+        refuse(number);
+        let (refusals, layouts) = scene(&Gpu::new());
+        if number >= calls() {
+            assert_eq!((refusals.len(), layouts), (0, 0));
+            println!("{number} calls for memory");
+            assert!(number > 50);
+            return;
+        }
+        assert_eq!(refusals.len() as u64 + layouts, 1, "growth {number}");
+        assert!(refusals.iter().all(|it| *it == OutOfHostMemory));
+    }
+}
+
+#[test]
+fn by_chance() {
+    let mut random = Random(1);
+    let mut refusals = 0;
+    for _ in 0..300 {
+        let gpu = Gpu::new();
+        let mut stage = Stage::new(&gpu);
+        for _ in 0..200 {
+            if random.below(10) == 0 {
+                gpu.faulty.set(gpu.calls.get() + random.below(3));
+                let reason = random.below(REASONS as u64) as usize;
+                gpu.fault.set(Fault::Refuses(reason));
+            }
+            let layout = random.below(3) as usize;
+            let frame = stage.frame();
+            match random.below(16) {
+                0..5 if stage.renderer.is_frame_open() => _ = stage.draw(layout),
+                5..8 => _ = stage.create(layout),
+                8..11 if !stage.held.is_empty() => {
+                    let place = random.below(stage.held.len() as u64) as usize;
+                    stage.destroy(place, random.below(frame + 1));
+                }
+                11..13 if !stage.renderer.is_frame_open() => stage.begin(),
+                11..13 => stage.end(),
+                13 => stage.done(random.below(frame + 2)),
+                14 => stage.cleanup(),
+                _ => {
+                    if let Some(old) = stage.old_sets.last() {
+                        let answer = stage.renderer.destroy_set(*old, 0);
+                        assert_eq!(answer, Err(DestroyError::NoSet));
+                    }
+                }
+            }
+            stage.check();
+        }
+        refusals += stage.refusals.len();
+        stage.shutdown();
+    }
+    assert!(refusals > 1000);
+}
+
+#[test]
+fn stale_handles() {
+    let gpu = Gpu::new();
+    let mut stage = Stage::new(&gpu);
+    stage.create(0);
+    let (old, raw) = stage.held[0];
+    stage.destroy(0, 0);
+    stage.done(0);
+    // The same slot and the same raw set, under another handle.
+    stage.create(0);
+    assert_eq!(stage.held[0].1, raw);
+    assert_ne!(stage.held[0].0, old);
+    assert_eq!(stage.renderer.set(old), None);
+    let answer = stage.renderer.destroy_set(old, 0);
+    assert_eq!(answer, Err(DestroyError::NoSet));
+    // A draw of an older frame, at the same place.
+    stage.begin();
+    stage.draw(0);
+    stage.end();
+    let old = stage.old_draws[0];
+    assert_eq!(stage.renderer.drawn(old), None);
+    stage.begin();
+    stage.draw(0);
+    assert_eq!(stage.renderer.drawn(old), None);
+    stage.check();
+    stage.shutdown();
+}
+
+#[test]
+fn foreign_handles() {
+    let (gpu, other_gpu) = (Gpu::new(), Gpu::new());
+    let (mut stage, mut other) = (Stage::new(&gpu), Stage::new(&other_gpu));
+    for it in [&mut stage, &mut other] {
+        it.begin();
+        it.draw(0);
+        it.create(0);
+    }
+    let it = &mut stage.renderer;
+    assert_eq!(it.drawn(other.drawn[0].0), None);
+    assert_eq!(it.set(other.held[0].0), None);
+    assert!(it.layout(other.layouts[0]).is_none());
+    assert_eq!(it.draw(other.layouts[0]), Err(RenderError::NoLayout));
+    assert_eq!(it.create_set(other.layouts[0]), Err(RenderError::NoLayout));
+    let answer = it.destroy_set(other.held[0].0, 0);
+    assert_eq!(answer, Err(DestroyError::NoSet));
+    stage.check();
+    other.check();
+    stage.shutdown();
+    other.shutdown();
+}
+
+#[test]
+fn frames_out_of_turn() {
+    let gpu = Gpu::new();
+    let mut stage = Stage::new(&gpu);
+    let layout = stage.layouts[0];
+    assert_eq!(stage.renderer.draw(layout), Err(RenderError::NoFrame));
+    stage.end();
+    stage.begin();
+    assert_eq!(stage.renderer.begin_frame(), Err(BeginError::FrameOpen));
+    stage.draw(0);
+    stage.create(0);
+    let answer = stage.renderer.destroy_set(stage.held[0].0, 2);
+    assert_eq!(answer, Err(DestroyError::FrameAhead));
+    // The sets of the open frame stay, whatever is done.
+    stage.done(u64::MAX);
+    assert_eq!(stage.drawn.len(), 1);
+    stage.end();
+    stage.end();
+    assert_eq!(stage.renderer.draw(layout), Err(RenderError::NoFrame));
+    stage.done(1);
+    assert_eq!(gpu.live_sets(), 1);
+    let texts = [
+        RenderError::NoFrame.to_string(),
+        RenderError::Allocation(OutOfHostMemory).to_string(),
+        BeginError::FrameOpen.to_string(),
+        DestroyError::NoSet.to_string(),
+    ];
+    assert_eq!(
+        texts,
+        [
+            "No open frame",
+            "Host memory exhausted",
+            "Frame already open",
+            "Unknown set"
+        ]
+    );
+    stage.shutdown();
+}
+
+/// A set that is destroyed in a frame in flight isn't freed before that frame is done.
+#[test]
+fn destroyed_in_flight() {
+    let gpu = Gpu::new();
+    let mut stage = Stage::new(&gpu);
+    stage.create(0);
+    let raw = stage.held[0].1;
+    for frame in 1..=3 {
+        stage.begin();
+        gpu.submit(frame, [raw].into_iter());
+        stage.end();
+    }
+    stage.destroy(0, 3);
+    for done in [0, 1, 2] {
+        stage.done(done);
+        assert!(gpu.is_live(raw));
+    }
+    // The device sees it, should the frame not be over.
+    let is_seen = catch_unwind(AssertUnwindSafe(|| unsafe { stage.renderer.gpu_done(3) }));
+    assert!(is_seen.is_err());
+    std::mem::forget(stage);
+
+    let gpu = Gpu::new();
+    let mut stage = Stage::new(&gpu);
+    stage.create(0);
+    let raw = stage.held[0].1;
+    stage.begin();
+    gpu.submit(1, [raw].into_iter());
+    stage.end();
+    stage.destroy(0, 1);
+    assert!(gpu.is_live(raw));
+    stage.done(1);
+    assert!(!gpu.is_live(raw));
+    stage.shutdown();
+}
+
+/// A set whose last use is before that of sets which wait already goes back with its own frame.
+#[test]
+fn retired_late() {
+    let gpu = Gpu::new();
+    let mut stage = Stage::new(&gpu);
+    for _ in 0..6 {
+        stage.create(0);
+    }
+    for _ in 1..=5 {
+        stage.begin();
+        stage.draw(1);
+        stage.end();
+    }
+    for last_use in [5, 1, 4, 0, 2, 2] {
+        stage.destroy(0, last_use);
+        stage.check();
+    }
+    for (done, left) in [(0, 10), (1, 8), (2, 5), (3, 4), (4, 2), (5, 0)] {
+        stage.done(done);
+        assert_eq!(gpu.live_sets(), left);
+    }
+    stage.shutdown();
+}
+
+/// What a call of a poisoned renderer does: it panics.
+fn panics<R>(what: &str, run: impl FnOnce() -> R) {
+    let ran = catch_unwind(AssertUnwindSafe(|| drop(Some(run()))));
+    let panic = ran.expect_err(what);
+    let text = panic.downcast_ref::<&str>().expect("a text");
+    assert_eq!(*text, "an earlier call of this allocator panicked");
+}
+
+#[test]
+fn a_panic_poisons() {
+    let without = Gpu::new();
+    scene(&without);
+    let mut tried = 0;
+    for call in (0..without.calls.get()).step_by(7) {
+        let gpu = Gpu::with_fault(call, Fault::Panics);
+        let mut stage = Stage::new(&gpu);
+        let ran = catch_unwind(AssertUnwindSafe(|| {
+            for _ in 0..4 {
+                stage.begin();
+                for layout in [0, 1, 2, 1, 1] {
+                    stage.draw(layout);
+                    stage.create(layout);
+                }
+                stage.end();
+            }
+        }));
+        assert_eq!(ran.is_err(), gpu.calls.get() == call + 1);
+        if ran.is_ok() {
+            stage.shutdown();
+            continue;
+        }
+        tried += 1;
+        let (layouts, it) = (&stage.layouts, &mut stage.renderer);
+        assert!(it.is_poisoned());
+        panics("draw", || it.draw(layouts[0]));
+        panics("create", || it.create_set(layouts[0]));
+        panics("begin", || it.begin_frame());
+        panics("end", || it.end_frame());
+        panics("done", || unsafe { it.gpu_done(9) });
+        panics("cleanup", || it.cleanup());
+        panics("add", || unsafe { it.add_layout(layout(0)) });
+        // Readers still answer.
+        for (handle, raw) in &stage.held {
+            assert_eq!(it.set(*handle), Some(raw));
+        }
+        let calls = gpu.calls.get();
+        panics("shutdown", || unsafe { stage.renderer.shutdown() });
+        assert_eq!((gpu.calls.get(), gpu.releases.get()), (calls, 0));
+    }
+    assert!(tried > 3);
+}
+
+/// Cleans up at its drop, as programs do.
+struct Cleans<'a>(Stage<'a>);
+
+impl Drop for Cleans<'_> {
+    fn drop(&mut self) {
+        unsafe { self.0.renderer.gpu_done(9) };
+        self.0.renderer.cleanup();
+    }
+}
+
+#[test]
+fn a_drop_in_a_panic_cleans_up_nothing() {
+    let gpu = Gpu::new();
+    let ran = catch_unwind(AssertUnwindSafe(|| {
+        let mut it = Cleans(Stage::new(&gpu));
+        it.0.begin();
+        it.0.draw(0);
+        it.0.end();
+        gpu.panics_at_release.set(true);
+        unsafe { it.0.renderer.gpu_done(1) };
+    }));
+    assert!(ran.is_err());
+    assert_eq!(gpu.releases.get(), 1, "the device is asked no more");
+}
+
+fn is_sent<T: Send>(it: T) -> T {
+    it
+}
+
+/// A renderer that owns its device goes to another thread, and gives the device back.
+#[test]
+fn owns_a_device() {
+    let mut renderer = is_sent(Renderer::new(Gpu::new(), 0));
+    let handle = unsafe { renderer.add_layout(layout(0)) }.unwrap();
+    renderer.create_set(handle).unwrap();
+    assert_eq!(renderer.device().live_sets(), 1);
+    assert_eq!(
+        format!("{renderer:?}"),
+        "Renderer { frame: 0, is_frame_open: false, is_poisoned: false, drawn_count: 0, \
+         held_count: 1, retired_count: 0, .. }"
+    );
+    let gpu = unsafe { renderer.shutdown() };
+    assert!(gpu.is_empty());
+}
+
+#[test]
+fn drops() {
+    let how = std::env::var("DROPS").unwrap_or_default();
+    if !how.is_empty() {
+        let gpu = Gpu::new();
+        let mut stage = Stage::new(&gpu);
+        if how != "unused" {
+            stage.create(0);
+        }
+        if how == "shut" {
+            stage.shutdown();
+        }
+        return;
+    }
+    for (how, lines) in [("unused", 0), ("shut", 0), ("left", 1)] {
+        let ran = Command::new(std::env::current_exe().unwrap())
+            .args(["drops", "--exact", "--nocapture"])
+            .env("DROPS", how)
+            .output()
+            .unwrap();
+        let said = String::from_utf8(ran.stderr).unwrap();
+        let seen = said.matches("Descriptor pools were not destroyed").count();
+        assert!(ran.status.success());
+        assert_eq!(seen, lines, "{how}: {said}");
+    }
+}

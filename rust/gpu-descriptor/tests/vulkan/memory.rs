@@ -1,0 +1,139 @@
+//! Where memory is lacking for the handles of a call. The functions here take none, and their `unsafe`
+//! rests on calls that are made as Vulkan asks.
+
+use crate::refuses::{calls, counted, refuse};
+use gpu_descriptor::vulkan::raw::{
+    AllocationCallbacks, DescriptorPoolCreateInfo, DescriptorSetAllocateInfo,
+};
+use gpu_descriptor::vulkan::{
+    DescriptorPool, DescriptorSet, DescriptorSetLayout, Device, DeviceHandle, Functions,
+};
+use gpu_descriptor::*;
+use std::cell::Cell;
+use std::ptr::null_mut;
+
+thread_local! {
+    static ALLOCATED: Cell<u32> = const { Cell::new(0) };
+    static FREED: Cell<u32> = const { Cell::new(0) };
+}
+
+unsafe extern "system" fn create_descriptor_pool(
+    _: DeviceHandle,
+    _: *const DescriptorPoolCreateInfo,
+    _: *const AllocationCallbacks,
+    pool: *mut DescriptorPool,
+) -> i32 {
+    unsafe { *pool = DescriptorPool(1) };
+    0
+}
+
+unsafe extern "system" fn destroy_descriptor_pool(
+    _: DeviceHandle,
+    _: DescriptorPool,
+    _: *const AllocationCallbacks,
+) {
+}
+
+unsafe extern "system" fn allocate_descriptor_sets(
+    _: DeviceHandle,
+    info: *const DescriptorSetAllocateInfo,
+    sets: *mut DescriptorSet,
+) -> i32 {
+    let count = unsafe { (*info).descriptor_set_count };
+    ALLOCATED.set(ALLOCATED.get() + count);
+    for place in 0..count {
+        unsafe { *sets.add(place as usize) = DescriptorSet(u64::from(place)) };
+    }
+    0
+}
+
+unsafe extern "system" fn free_descriptor_sets(
+    _: DeviceHandle,
+    _: DescriptorPool,
+    count: u32,
+    _: *const DescriptorSet,
+) -> i32 {
+    FREED.set(FREED.get() + count);
+    0
+}
+
+fn device() -> Device {
+    let functions = Functions {
+        create_descriptor_pool,
+        destroy_descriptor_pool,
+        allocate_descriptor_sets,
+        free_descriptor_sets,
+    };
+    // SAFETY: the functions don't read through the handle.
+    unsafe { Device::new(DeviceHandle(null_mut()), functions) }
+}
+
+/// Allocates sets from a pool, with a refusal of the memory that is asked for by this number, and
+/// returns besides how often memory was asked for.
+fn allocate(count: usize, refused: u64) -> (Result<(), DeviceAllocationError>, usize, u64) {
+    let layouts = vec![DescriptorSetLayout(1); count];
+    let mut sets = Vec::with_capacity(count);
+    refuse(refused);
+    let answer = counted(|| unsafe {
+        device().alloc_descriptor_sets(&mut DescriptorPool(1), layouts.iter(), &mut sets)
+    });
+    (answer, sets.len(), calls())
+}
+
+#[test]
+fn a_refusal_of_memory_is_out_of_host_memory() {
+    let error = Err(DeviceAllocationError::OutOfHostMemory);
+    assert_eq!(allocate(33, u64::MAX), (Ok(()), 33, 2));
+    assert_eq!(ALLOCATED.take(), 33);
+    assert_eq!(allocate(33, 0), (error, 0, 1));
+    assert_eq!(allocate(33, 1), (error, 0, 2));
+    assert_eq!(ALLOCATED.take(), 0, "the driver isn't asked");
+}
+
+#[test]
+fn few_sets_take_no_memory() {
+    for count in [1, 32] {
+        assert_eq!(allocate(count, u64::MAX), (Ok(()), count, 0));
+    }
+}
+
+#[test]
+fn a_release_takes_no_memory() {
+    for count in [1, 128, 1000] {
+        refuse(u64::MAX);
+        counted(|| unsafe {
+            let sets = (0..count).map(DescriptorSet);
+            device().dealloc_descriptor_sets(&mut DescriptorPool(1), sets);
+        });
+        assert_eq!((FREED.take(), calls()), (count as u32, 0));
+    }
+}
+
+/// Each growth of memory in a request of the allocator is refused in turn.
+#[test]
+fn a_request_without_memory_leaves_no_set() {
+    let counts = DescriptorTotalCount {
+        sampler: 1,
+        ..Default::default()
+    };
+    let flags = DescriptorSetLayoutCreateFlags::empty();
+    for refused in 0.. {
+        let mut allocator = DescriptorAllocator::new(0);
+        let layout = DescriptorSetLayout(1);
+        refuse(refused);
+        // SAFETY: the functions are the same in all calls.
+        let answer =
+            counted(|| unsafe { allocator.allocate(&device(), &layout, flags, &counts, 200) });
+        let is_refused = calls() > refused;
+        match answer {
+            Ok(sets) => unsafe { allocator.free(&device(), sets) },
+            Err(error) => assert_eq!(error, AllocationError::OutOfHostMemory),
+        }
+        unsafe { allocator.cleanup(&device()) };
+        assert_eq!(ALLOCATED.take(), FREED.take());
+        if !is_refused {
+            assert!(refused >= 2);
+            return;
+        }
+    }
+}

@@ -1,0 +1,125 @@
+//! What each `VkResult` becomes.
+
+use crate::driver::{Call, Driver, layouts};
+use gpu_descriptor::vulkan::{DescriptorPool, DescriptorSet};
+use gpu_descriptor::*;
+
+/// Results by their numbers, and what they become: of a new pool, of sets, and of a request whose
+/// new pool refuses sets so.
+type Row = (i32, CreatePoolError, DeviceAllocationError, AllocationError);
+
+const HOST: (CreatePoolError, DeviceAllocationError, AllocationError) = (
+    CreatePoolError::OutOfHostMemory,
+    DeviceAllocationError::OutOfHostMemory,
+    AllocationError::OutOfHostMemory,
+);
+
+const fn host(result: i32) -> Row {
+    (result, HOST.0, HOST.1, HOST.2)
+}
+
+const ROWS: [Row; 15] = [
+    host(-1), // VK_ERROR_OUT_OF_HOST_MEMORY
+    (
+        -2, // VK_ERROR_OUT_OF_DEVICE_MEMORY
+        CreatePoolError::OutOfDeviceMemory,
+        DeviceAllocationError::OutOfDeviceMemory,
+        AllocationError::OutOfDeviceMemory,
+    ),
+    (
+        -12, // VK_ERROR_FRAGMENTED_POOL
+        CreatePoolError::Fragmentation,
+        DeviceAllocationError::FragmentedPool,
+        AllocationError::Fragmentation,
+    ),
+    (
+        -1_000_161_000, // VK_ERROR_FRAGMENTATION
+        CreatePoolError::Fragmentation,
+        DeviceAllocationError::FragmentedPool,
+        AllocationError::Fragmentation,
+    ),
+    (
+        -1_000_069_000, // VK_ERROR_OUT_OF_POOL_MEMORY
+        CreatePoolError::OutOfHostMemory,
+        DeviceAllocationError::OutOfPoolMemory,
+        AllocationError::Fragmentation,
+    ),
+    host(-3),             // VK_ERROR_INITIALIZATION_FAILED
+    host(-4),             // VK_ERROR_DEVICE_LOST
+    host(-8),             // VK_ERROR_FEATURE_NOT_PRESENT
+    host(-13),            // VK_ERROR_UNKNOWN
+    host(-1_000_011_001), // VK_ERROR_VALIDATION_FAILED
+    host(-1_000_072_003), // VK_ERROR_INVALID_EXTERNAL_HANDLE
+    host(1),              // VK_NOT_READY
+    host(5),              // VK_INCOMPLETE
+    host(i32::MIN),
+    host(i32::MAX),
+];
+
+#[test]
+fn of_a_new_pool() {
+    for (result, error, ..) in ROWS {
+        let driver = Driver::new();
+        driver.create_result.set(result);
+        let flags = DescriptorPoolCreateFlags::empty();
+        let answer = unsafe {
+            driver
+                .device()
+                .create_descriptor_pool(&Default::default(), 1, flags)
+        };
+        assert_eq!(answer, Err(error), "{result}");
+    }
+}
+
+#[test]
+fn of_sets() {
+    for (result, _, error, _) in ROWS {
+        for count in [1, 100] {
+            let driver = Driver::new();
+            driver.allocate_result.set(result);
+            let (wanted, mut sets) = (layouts(count), Vec::<DescriptorSet>::new());
+            let answer = unsafe {
+                let (pool, layouts) = (&mut DescriptorPool(5), wanted.iter());
+                driver
+                    .device()
+                    .alloc_descriptor_sets(pool, layouts, &mut sets)
+            };
+            assert_eq!((answer, sets), (Err(error), vec![]), "{result}");
+        }
+    }
+}
+
+fn request(driver: &Driver) -> AllocationError {
+    let mut allocator = DescriptorAllocator::new(0);
+    let (device, layout) = (driver.device(), layouts(1)[0]);
+    let counts = DescriptorTotalCount {
+        sampler: 1,
+        ..Default::default()
+    };
+    let flags = DescriptorSetLayoutCreateFlags::empty();
+    // SAFETY: it is the device of all calls.
+    let answer = unsafe { allocator.allocate(&device, &layout, flags, &counts, 3) };
+    answer.unwrap_err()
+}
+
+#[test]
+fn of_a_request() {
+    for (result, of_pool, _, of_sets) in ROWS {
+        let driver = Driver::new();
+        driver.create_result.set(result);
+        assert_eq!(request(&driver), AllocationError::from(of_pool), "{result}");
+        assert_eq!(driver.take_calls().len(), 1);
+
+        driver.create_result.set(0);
+        driver.allocate_result.set(result);
+        assert_eq!(request(&driver), of_sets, "{result}");
+        let calls = driver.take_calls();
+        assert!(
+            matches!(
+                calls.as_slice(),
+                [Call::Create(..), Call::Allocate(..), Call::Destroy(..)]
+            ),
+            "the pool that refused is destroyed"
+        );
+    }
+}
