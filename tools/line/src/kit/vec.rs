@@ -1,0 +1,41 @@
+//! What the line program takes of the kit's `std::vec` beyond the crate.
+
+pub use crate::crate_kit::vec::Vec;
+pub use std_alloc::vec::IntoIter;
+
+use super::alloc::{AllocError, AllocFailed, Global};
+
+/// So many copies of an item.
+pub fn filled<T: Clone>(alloc: Global, item: T, count: usize) -> Result<Vec<T>, AllocError> {
+    let mut items = Vec::with_capacity(alloc, count)?;
+    items.0.resize(count, item);
+    Ok(items)
+}
+
+impl<T> Vec<T> {
+    pub fn capacity(&self) -> usize {
+        self.0.capacity()
+    }
+
+    pub fn clear(&mut self) {
+        self.0.clear()
+    }
+
+    pub fn reserve(&mut self, additional: usize) -> Result<(), AllocError> {
+        self.0.try_reserve(additional).map_err(|_| AllocError)
+    }
+}
+
+impl<T: PartialEq> PartialEq for Vec<T> {
+    fn eq(&self, other: &Self) -> bool {
+        self.0 == other.0
+    }
+}
+
+impl<T: Eq> Eq for Vec<T> {}
+
+impl<T> From<AllocFailed<T>> for AllocError {
+    fn from(_: AllocFailed<T>) -> Self {
+        AllocError
+    }
+}
