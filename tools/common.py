@@ -19,6 +19,13 @@ TOOL = os.path.basename(sys.argv[0])
 REGISTRY = "/usr/share/cargo/registry"
 PACKAGES = {"bitflags-1": "librust-bitflags-dev", "hashbrown-0.12": "librust-hashbrown-dev"}
 
+# What a tool says that was given no file of the original.
+NO_ORIGINAL = (
+    "it takes src/allocator.rs of gpu-descriptor 0.3.2, which is not in this repository: "
+    "`cargo add gpu-descriptor@=0.3.2` and `cargo fetch`, in any package, put it into "
+    "~/.cargo/registry/src/*/gpu-descriptor-0.3.2"
+)
+
 # What bitflags 1 derives by itself, and bitflags 2, which the original takes, does not.
 DERIVES = "    #[derive(Clone, Copy, Debug, Eq, PartialEq, Hash)]\n"
 NAME = "    pub struct DescriptorSetLayoutCreateFlags"
@@ -65,6 +72,15 @@ def write_package(source, folder, files):
     for name, text in {".cargo/config.toml": registry, **files}.items():
         with open(f"{folder}/{name}", "w", encoding="utf-8") as it:
             it.write(text)
+
+
+def write_original(path):
+    """The original as a package of its name and version, in tools/out."""
+    with open(f"{TOP}/bench/original/types.rs", encoding="utf-8") as it:
+        types = it.read()
+    folder = f"{TOOLS}/out/gpu-descriptor"
+    write_package(f"{TOOLS}/original-crate", folder, {"allocator.rs": original_source(path), "types.rs": types})
+    return folder
 
 
 def cargo_build(folder, *words, **environment):

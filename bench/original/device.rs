@@ -68,10 +68,7 @@ impl DescriptorDevice<(), u64, u64> for CountingDevice {
         Ok(())
     }
 
-    unsafe fn dealloc_descriptor_sets<'a>(&self, pool: &mut u64, sets: impl Iterator<Item = u64>)
-    where
-        u64: 'a,
-    {
+    unsafe fn dealloc_descriptor_sets(&self, pool: &mut u64, sets: impl Iterator<Item = u64>) {
         let mut sum = self.sum.get();
         for set in sets {
             sum = sum.wrapping_add(set ^ *pool);

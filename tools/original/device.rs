@@ -191,13 +191,11 @@ impl DescriptorDevice<Layout, RawPool, RawSet> for ScriptedDevice {
         Ok(())
     }
 
-    unsafe fn dealloc_descriptor_sets<'a>(
+    unsafe fn dealloc_descriptor_sets(
         &self,
         pool: &mut RawPool,
         sets: impl Iterator<Item = RawSet>,
-    ) where
-        RawSet: 'a,
-    {
+    ) {
         let mut state = self.state.borrow_mut();
         state.released += 1;
         let from = state

@@ -1,11 +1,11 @@
-//! A device that answers by a script, notes each call, and sees whether it is called rightly.
+//! A device that follows a script, notes each call, and sees whether it is called rightly.
 
-use std::collections::{BTreeSet, HashMap, VecDeque};
+use std::collections::{HashMap, VecDeque};
 use std::ops::Range;
 use std::panic::resume_unwind;
 
-#[derive(Clone, Copy, Debug, PartialEq)]
-pub enum Answer {
+#[derive(Clone, Copy, Debug, PartialEq, Eq, PartialOrd, Ord)]
+pub enum Outcome {
     Granted,
     Device,
     Host,
@@ -31,35 +31,105 @@ fn sum(counts: &[u32; 14]) -> u64 {
     counts.iter().copied().map(u64::from).sum()
 }
 
-/// Why a run of the original ends: it is about to act otherwise by design (docs/DIFFERENCES.md).
-pub struct Departure(pub &'static str);
+/// A call of the device that may be refused.
+#[derive(Clone, Copy, Debug, PartialEq, Eq, PartialOrd, Ord)]
+pub enum Call {
+    Create,
+    AllocateFromOldPool,
+    AllocateFromNewPool,
+}
 
-/// Ends the run.
-pub fn depart(why: &'static str) -> ! {
-    resume_unwind(Box::new(Departure(why)))
+impl Call {
+    pub const ALL: [Call; 3] = [
+        Call::Create,
+        Call::AllocateFromOldPool,
+        Call::AllocateFromNewPool,
+    ];
+
+    /// How it may be refused. A new pool that refuses for its own sake is a departure.
+    pub fn refusals(self) -> &'static [Outcome] {
+        use Outcome::{Device, Fragmented, Full, Host};
+        match self {
+            Call::Create => &[Device, Host, Fragmented],
+            Call::AllocateFromOldPool => &[Device, Host, Fragmented, Full],
+            Call::AllocateFromNewPool => &[Device, Host],
+        }
+    }
+}
+
+/// Numbers, those of a range by its ends.
+#[derive(Debug, PartialEq, Eq, PartialOrd, Ord)]
+pub struct Ranges(Vec<(u64, u64)>);
+
+impl Ranges {
+    pub fn new(numbers: &[u64]) -> Self {
+        let ranges = numbers.chunk_by(|one, next| one + 1 == *next);
+        Ranges(ranges.map(|it| (it[0], it[it.len() - 1])).collect())
+    }
+}
+
+/// A line of a transcript: a call of the device, how it ended, or what a request returned.
+#[derive(Debug, PartialEq, Eq, PartialOrd, Ord)]
+pub enum Event {
+    Create {
+        counts: [u32; 14],
+        places: u32,
+        flags: u32,
+    },
+    Allocate {
+        pool: u64,
+        count: usize,
+    },
+    Ended(Call, Outcome),
+    Free {
+        pool: u64,
+        sets: Ranges,
+    },
+    Destroy {
+        pool: u64,
+    },
+    Sets(Ranges),
+    Refused(String),
+    Panicked,
+}
+
+/// Why a run of the original ends: it is about to act otherwise by design (docs/DIFFERENCES.md).
+pub struct Departure {
+    pub why: &'static str,
+
+    /// The transcript up to there.
+    pub before: Vec<Event>,
 }
 
 struct Pool {
     counts: [u32; 14],
     is_marked: bool,
     places: usize,
-    sets: BTreeSet<u64>,
+    live: usize,
     was_asked: bool,
 }
 
 pub struct Device {
-    /// What was called and answered so far.
-    pub transcript: Vec<String>,
+    /// Each call so far, with its outcome.
+    pub transcript: Vec<Event>,
 
-    /// The answers to come. Behind them all is granted.
-    pub script: VecDeque<Answer>,
+    /// The outcomes to come. After them all is granted.
+    pub script: VecDeque<Outcome>,
+
+    /// Refuses by chance, one call in so many, where it is not 0: at a pool that was asked before for
+    /// each reason, else for want of memory.
+    pub odds: u64,
+
+    chance: u64,
 
     /// The limit that the original is held to: where it is about to pass it the run ends.
     limit: Option<u32>,
 
     pools: HashMap<u64, Pool>,
     created: u64,
-    next_set: u64,
+
+    /// The pool of each set, until it goes back.
+    owners: Vec<Option<u64>>,
 }
 
 impl Device {
@@ -68,45 +138,76 @@ impl Device {
         Device {
             transcript: Vec::new(),
             script: VecDeque::new(),
+            odds: 0,
+            chance: 1,
             limit,
             pools: HashMap::new(),
             created: 0,
-            next_set: 0,
+            owners: Vec::new(),
         }
     }
 
-    pub fn note(&mut self, line: String) {
-        self.transcript.push(line);
+    pub fn note(&mut self, event: Event) {
+        self.transcript.push(event);
     }
 
-    fn answer(&mut self, call: &str) -> Result<(), Answer> {
-        let answer = self.script.pop_front().unwrap_or(Answer::Granted);
-        self.note(format!("{call}: {answer:?}"));
-        match answer {
-            Answer::Granted => Ok(()),
-            _ => Err(answer),
+    /// Ends the run.
+    pub fn depart(&mut self, why: &'static str) -> ! {
+        let before = std::mem::take(&mut self.transcript);
+        resume_unwind(Box::new(Departure { why, before }))
+    }
+
+    fn below(&mut self, end: u64) -> u64 {
+        self.chance = self
+            .chance
+            .wrapping_mul(6364136223846793005)
+            .wrapping_add(1442695040888963407);
+        (self.chance >> 33) % end
+    }
+
+    /// An outcome by chance, one of these if it is a refusal.
+    fn by_chance(&mut self, refusals: &[Outcome]) -> Outcome {
+        if self.odds == 0 || self.below(self.odds) > 0 {
+            return Outcome::Granted;
+        }
+        refusals[self.below(refusals.len() as u64) as usize]
+    }
+
+    fn outcome(&mut self, call: Call) -> Result<(), Outcome> {
+        let by_chance = self.by_chance(call.refusals());
+        let outcome = self.script.pop_front().unwrap_or(by_chance);
+        self.note(Event::Ended(call, outcome));
+        match outcome {
+            Outcome::Granted => Ok(()),
+            _ => Err(outcome),
         }
     }
 
-    /// The descriptors with which the marked pools were created.
-    fn marked_load(&self) -> u64 {
+    /// Whether the marked pools, with one of these counts, have more descriptors than the limit.
+    fn passes_limit(&self, counts: &[u32; 14]) -> bool {
         let marked = self.pools.values().filter(|pool| pool.is_marked);
-        marked.map(|pool| sum(&pool.counts)).sum()
+        let load: u64 = marked.map(|pool| sum(&pool.counts)).sum();
+        self.limit
+            .is_some_and(|limit| load + sum(counts) > u64::from(limit))
     }
 
-    pub fn create(&mut self, counts: [u32; 14], places: u32, flags: u32) -> Result<u64, Answer> {
+    pub fn create(&mut self, counts: [u32; 14], places: u32, flags: u32) -> Result<u64, Outcome> {
         let is_marked = flags == 3;
         assert!(is_marked || flags == 1, "flags {flags}");
-        let load = self.marked_load() + sum(&counts);
-        if is_marked && self.limit.is_some_and(|limit| load > u64::from(limit)) {
-            depart("a pool for marked sets passes the limit");
+        if is_marked && self.passes_limit(&counts) {
+            self.depart("a pool for marked sets passes the limit");
         }
-        self.answer(&format!("create {places} sets {counts:?} {flags}"))?;
+        self.note(Event::Create {
+            counts,
+            places,
+            flags,
+        });
+        self.outcome(Call::Create)?;
         let pool = Pool {
             counts,
             is_marked,
             places: places as usize,
-            sets: BTreeSet::new(),
+            live: 0,
             was_asked: false,
         };
         self.pools.insert(self.created, pool);
@@ -114,35 +215,51 @@ impl Device {
         Ok(self.created - 1)
     }
 
-    pub fn allocate(&mut self, pool: u64, kind: &Kind, count: usize) -> Result<Range<u64>, Answer> {
-        let answer = self.answer(&format!("allocate {count} from {pool}"));
+    pub fn allocate(
+        &mut self,
+        pool: u64,
+        kind: &Kind,
+        count: usize,
+    ) -> Result<Range<u64>, Outcome> {
         let asked = self.pools.get_mut(&pool).expect("the pool is there");
         let is_new = !std::mem::replace(&mut asked.was_asked, true);
-        assert!(asked.sets.len() + count <= asked.places, "too many sets");
+        assert!(asked.live + count <= asked.places, "too many sets");
         assert_eq!(asked.is_marked, kind.is_marked);
-        let refuses = matches!(answer, Err(Answer::Fragmented | Answer::Full));
+        self.note(Event::Allocate { pool, count });
+        let outcome = self.outcome(if is_new {
+            Call::AllocateFromNewPool
+        } else {
+            Call::AllocateFromOldPool
+        });
+        let refuses = matches!(outcome, Err(Outcome::Fragmented | Outcome::Full));
         if self.limit.is_some() && is_new && refuses {
-            depart("a new pool refuses for its own sake");
+            self.depart("a new pool refuses for its own sake");
         }
-        answer?;
-        let given = self.next_set..self.next_set + count as u64;
-        self.next_set = given.end;
-        asked.sets.extend(given.clone());
-        Ok(given)
+        outcome?;
+        let asked = self.pools.get_mut(&pool).expect("the pool is there");
+        asked.live += count;
+        let first = self.owners.len();
+        self.owners.resize(first + count, Some(pool));
+        Ok(first as u64..(first + count) as u64)
     }
 
     pub fn free(&mut self, pool: u64, sets: impl Iterator<Item = u64>) {
         let sets: Vec<u64> = sets.collect();
-        self.note(format!("free {sets:?} to {pool}"));
-        let live = self.pools.get_mut(&pool).expect("the pool is there");
+        self.note(Event::Free {
+            pool,
+            sets: Ranges::new(&sets),
+        });
+        let live = &mut self.pools.get_mut(&pool).expect("the pool is there").live;
         for set in sets {
-            assert!(live.sets.remove(&set), "set {set} is not there");
+            let owner = self.owners[set as usize].take();
+            assert_eq!(owner, Some(pool), "set {set} is not there");
+            *live -= 1;
         }
     }
 
     pub fn destroy(&mut self, pool: u64) {
-        self.note(format!("destroy {pool}"));
+        self.note(Event::Destroy { pool });
         let gone = self.pools.remove(&pool).expect("the pool is there");
-        assert!(gone.sets.is_empty(), "a pool with sets is destroyed");
+        assert!(gone.live == 0, "a pool with sets is destroyed");
     }
 }

@@ -1,6 +1,6 @@
 //! Random programs: a seed gives the same one each time.
 
-use crate::device::{Answer, Kind};
+use crate::device::{Event, Kind, Outcome};
 use crate::subject::Subject;
 
 /// Limits on marked descriptors: most programs have the greatest.
@@ -12,15 +12,15 @@ const COUNTS: [u32; 8] = [0, 1, 2, 6, 100, u32::MAX / 100, u32::MAX / 3, u32::MA
 /// So many of them are few: of these marked layouts are made, which the limit counts.
 const FEW: usize = 5;
 
-const ANSWERS: [Answer; 8] = [
-    Answer::Granted,
-    Answer::Granted,
-    Answer::Granted,
-    Answer::Device,
-    Answer::Host,
-    Answer::Fragmented,
-    Answer::Full,
-    Answer::Full,
+const OUTCOMES: [Outcome; 8] = [
+    Outcome::Granted,
+    Outcome::Granted,
+    Outcome::Granted,
+    Outcome::Device,
+    Outcome::Host,
+    Outcome::Fragmented,
+    Outcome::Full,
+    Outcome::Full,
 ];
 
 /// Numbers that look random.
@@ -52,7 +52,7 @@ struct Program<S: Subject> {
 }
 
 /// The transcript of a program.
-pub fn run<S: Subject>(seed: u64) -> Vec<String> {
+pub fn run<S: Subject>(seed: u64) -> Vec<Event> {
     let mut random = Random(seed);
     // Neighbouring seeds begin alike.
     random.below(1);
@@ -65,6 +65,9 @@ pub fn run<S: Subject>(seed: u64) -> Vec<String> {
         layouts: Vec::new(),
         held: Vec::new(),
     };
+    if !program.is_scripted {
+        program.subject.device().odds = program.random.one_of(&[0, 3, 6, 20]);
+    }
     program.layout();
     for _ in 0..10 + program.random.below(50) {
         program.step();
@@ -130,13 +133,14 @@ impl<S: Subject> Program<S> {
 
     fn script(&mut self) {
         let count = self.random.below(6);
-        let script = (0..count).map(|_| self.random.one_of(&ANSWERS)).collect();
+        let script = (0..count).map(|_| self.random.one_of(&OUTCOMES)).collect();
         self.subject.device().script = script;
     }
 
     /// Gives all back, and sees that no pool is left.
-    fn finish(mut self) -> Vec<String> {
+    fn finish(mut self) -> Vec<Event> {
         self.subject.device().script.clear();
+        self.subject.device().odds = 0;
         for sets in std::mem::take(&mut self.held) {
             self.subject.free(sets);
         }

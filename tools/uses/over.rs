@@ -1,12 +1,12 @@
-//! The original, gpu-descriptor 0.3.2.
+// An allocator with the interface of gpu-descriptor 0.3.2, as `Subject`. This file is compiled over
+// `under_test`, once for the original and once for the new crate.
 
-use crate::allocator::{DescriptorAllocator, DescriptorSet, DescriptorSetLayoutCreateFlags};
-use crate::device::{depart, Answer, Device, Kind};
+use crate::device::{Outcome, Device, Kind};
 use crate::subject::Subject;
-use crate::types::*;
 use std::cell::RefCell;
+use under_test::*;
 
-pub struct Original {
+pub struct Over {
     allocator: DescriptorAllocator<u64, RawSet>,
     device: RefCell<Device>,
 }
@@ -46,9 +46,9 @@ impl DescriptorDevice<Kind, u64, RawSet> for RefCell<Device> {
         let created = self
             .borrow_mut()
             .create(to_array(counts), max_sets, flags.bits());
-        created.map_err(|answer| match answer {
-            Answer::Device => CreatePoolError::OutOfDeviceMemory,
-            Answer::Host => CreatePoolError::OutOfHostMemory,
+        created.map_err(|outcome| match outcome {
+            Outcome::Device => CreatePoolError::OutOfDeviceMemory,
+            Outcome::Host => CreatePoolError::OutOfHostMemory,
             _ => CreatePoolError::Fragmentation,
         })
     }
@@ -65,11 +65,12 @@ impl DescriptorDevice<Kind, u64, RawSet> for RefCell<Device> {
     ) -> Result<(), DeviceAllocationError> {
         let count = layouts.len();
         let kind = layouts.next().expect("there is a layout");
+        assert_eq!(layouts.count(), count - 1);
         let given = self.borrow_mut().allocate(*pool, kind, count);
-        let given = given.map_err(|answer| match answer {
-            Answer::Device => DeviceAllocationError::OutOfDeviceMemory,
-            Answer::Host => DeviceAllocationError::OutOfHostMemory,
-            Answer::Full => DeviceAllocationError::OutOfPoolMemory,
+        let given = given.map_err(|outcome| match outcome {
+            Outcome::Device => DeviceAllocationError::OutOfDeviceMemory,
+            Outcome::Host => DeviceAllocationError::OutOfHostMemory,
+            Outcome::Full => DeviceAllocationError::OutOfPoolMemory,
             _ => DeviceAllocationError::FragmentedPool,
         })?;
         let is_marked = kind.is_marked;
@@ -77,22 +78,19 @@ impl DescriptorDevice<Kind, u64, RawSet> for RefCell<Device> {
         Ok(())
     }
 
-    unsafe fn dealloc_descriptor_sets<'a>(&self, pool: &mut u64, sets: impl Iterator<Item = RawSet>)
-    where
-        RawSet: 'a,
-    {
+    unsafe fn dealloc_descriptor_sets(&self, pool: &mut u64, sets: impl Iterator<Item = RawSet>) {
         self.borrow_mut().free(*pool, sets.map(|set| set.number));
     }
 }
 
-impl Subject for Original {
+impl Subject for Over {
     type Layout = (Kind, DescriptorTotalCount);
     type Set = DescriptorSet<RawSet>;
 
     fn with_limit(limit: u32) -> Self {
-        Original {
+        Over {
             allocator: DescriptorAllocator::new(limit),
-            device: RefCell::new(Device::new(Some(limit))),
+            device: RefCell::new(Device::new(DEPARTS.then_some(limit))),
         }
     }
 
@@ -127,8 +125,8 @@ impl Subject for Original {
         count: u32,
     ) -> Result<Vec<DescriptorSet<RawSet>>, String> {
         let wanted = u128::from(count) * u128::from(kind.total());
-        if kind.is_marked && wanted > u128::from(u32::MAX) {
-            depart("a request for marked sets has more descriptors than 32 bits count");
+        if DEPARTS && kind.is_marked && wanted > u128::from(u32::MAX) {
+            self.device().depart("a request for marked sets has more descriptors than 32 bits count");
         }
         let mut flags = DescriptorSetLayoutCreateFlags::empty();
         flags.set(
@@ -136,17 +134,17 @@ impl Subject for Original {
             kind.is_marked,
         );
         // The device is the same in all calls, and the layout has these flags and counts.
-        let answer = unsafe {
+        let outcome = unsafe {
             self.allocator
                 .allocate(&self.device, kind, flags, counts, count)
         };
-        answer.map_err(|error| error.to_string())
+        outcome.map_err(|error| error.to_string())
     }
 
     fn free(&mut self, sets: Vec<DescriptorSet<RawSet>>) {
         let marked = sets.iter().filter(|set| set.raw().is_marked).count();
-        if 0 < marked && marked < sets.len() {
-            depart("marked and plain sets go back in one call");
+        if DEPARTS && 0 < marked && marked < sets.len() {
+            self.device().depart("marked and plain sets go back in one call");
         }
         // The sets are of this allocator, and each goes back once.
         unsafe { self.allocator.free(&self.device, sets) }

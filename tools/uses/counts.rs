@@ -1,0 +1,136 @@
+//! What was compared, and what was left out.
+
+use crate::device::{Call, Departure, Event, Outcome};
+use std::collections::BTreeMap;
+use std::panic::{UnwindSafe, catch_unwind};
+use std::process::ExitCode;
+
+/// The first faults say enough.
+const MOST_FAULTS: u64 = 9;
+
+/// So many programs meet each refusal.
+const MANY_PROGRAMS: u64 = 1000;
+
+#[derive(Default)]
+pub struct Counts {
+    passed: u64,
+    failed: u64,
+
+    /// Programs that were left out, by the departure that they meet.
+    left_out: BTreeMap<&'static str, u64>,
+
+    /// Refusals in the programs that were compared.
+    refusals: BTreeMap<(Call, Outcome), u64>,
+}
+
+impl Counts {
+    /// How many were compared to their end.
+    pub fn compared(&self) -> u64 {
+        self.passed + self.failed
+    }
+
+    pub fn fail(&mut self, why: &str) {
+        self.failed += 1;
+        if self.failed <= MOST_FAULTS {
+            println!("FAILED: {why}");
+        }
+    }
+
+    /// Compares both, and returns whether the original got to its end. Where it is about to depart,
+    /// they are compared up to there. A panic has a transcript of its own.
+    pub fn compare(
+        &mut self,
+        name: &str,
+        there: impl FnOnce() -> Vec<Event> + UnwindSafe,
+        here: impl FnOnce() -> Vec<Event> + UnwindSafe,
+    ) -> bool {
+        let there = match catch_unwind(there).map_err(|why| why.downcast::<Departure>()) {
+            Ok(there) => Ok(there),
+            Err(Ok(departure)) => Err(departure),
+            Err(Err(_)) => {
+                self.fail(&format!("{name}: the original panics"));
+                return true;
+            }
+        };
+        let here = catch_unwind(here).unwrap_or_else(|_| vec![Event::Panicked]);
+        match there {
+            Ok(there) if there == here => {
+                self.passed += 1;
+                self.note_refusals(&there);
+                true
+            }
+            Ok(there) => {
+                self.fail(&difference(name, &there, &here));
+                true
+            }
+            Err(departure) => {
+                *self.left_out.entry(departure.why).or_default() += 1;
+                if !here.starts_with(&departure.before) {
+                    self.fail(&difference(name, &departure.before, &here));
+                }
+                false
+            }
+        }
+    }
+
+    fn note_refusals(&mut self, transcript: &[Event]) {
+        for event in transcript {
+            match event {
+                Event::Ended(_, Outcome::Granted) => {}
+                Event::Ended(call, refusal) => {
+                    *self.refusals.entry((*call, *refusal)).or_default() += 1;
+                }
+                _ => {}
+            }
+        }
+    }
+
+    pub fn add(&mut self, other: Counts) {
+        self.passed += other.passed;
+        self.failed += other.failed;
+        for (departure, count) in other.left_out {
+            *self.left_out.entry(departure).or_default() += count;
+        }
+        for (refusal, count) in other.refusals {
+            *self.refusals.entry(refusal).or_default() += count;
+        }
+    }
+
+    /// Prints what the programs met.
+    pub fn print(&self) {
+        for (departure, count) in &self.left_out {
+            println!("left out: {count}, once they were compared up to there: {departure}");
+        }
+        for ((call, refusal), count) in &self.refusals {
+            println!("refused: {count} times, {call:?}: {refusal:?}");
+        }
+    }
+
+    /// Prints the last line. Of many programs, some have to meet each refusal.
+    pub fn end(mut self) -> ExitCode {
+        for call in Call::ALL {
+            for refusal in call.refusals() {
+                let is_met = self.refusals.contains_key(&(call, *refusal));
+                if self.compared() >= MANY_PROGRAMS && !is_met {
+                    self.fail(&format!("no program met {call:?}: {refusal:?}"));
+                }
+            }
+        }
+        println!("{} passed, {} failed", self.passed, self.failed);
+        ExitCode::from(u8::from(self.failed > 0))
+    }
+}
+
+/// The first line that differs.
+fn difference(name: &str, there: &[Event], here: &[Event]) -> String {
+    let same = there
+        .iter()
+        .zip(here)
+        .take_while(|(one, other)| one == other);
+    let place = same.count();
+    format!(
+        "{name}, line {place}:\n  the original: {:?}\n  the crate: {:?}",
+        there.get(place),
+        here.get(place)
+    )
+}
