@@ -1,8 +1,9 @@
 #include "driver.h"
 #include "host.h"
+#include "memory.h"
 #include <string.h>
 
-// Some have the same counts, and then share pools where both are marked or neither is. Some have no
+// Some have the same counts, and share pools if both are update-after-bind or neither is. Some have no
 // descriptors. Of one a set has so many that a pool holds 21.
 const struct driver_layout driver_layouts[DRIVER_LAYOUTS] = {
     {"plain uniform_buffer=1 storage_image=2",
@@ -25,6 +26,8 @@ const struct driver_layout driver_layouts[DRIVER_LAYOUTS] = {
 };
 
 struct driver driver;
+struct driver_calls driver_calls;
+void (*driver_inside)(void);
 
 struct pool {
     uint32_t counts[GD_KINDS], used[GD_KINDS];
@@ -82,10 +85,19 @@ bool driver_is_alive(uint64_t set) {
 static uint32_t refusal(void) {
     static const uint32_t REASONS[] = {GD_OUT_OF_DEVICE_MEMORY, GD_OUT_OF_HOST_MEMORY,
                                        GD_FRAGMENTATION, GD_OUT_OF_POOL_MEMORY};
+    static const uint32_t INVALID[] = {1, GD_NULL_POINTER, GD_BUSY, GD_BAD_RESULT, 99, UINT32_MAX};
     if (driver.refuses_one_in == 0 || !one_in(driver.refuses_one_in))
         return GD_OK;
     driver.refused++;
+    if (driver.invalid_one_in > 0 && one_in(driver.invalid_one_in))
+        return INVALID[random_below(6)];
     return REASONS[random_below(4)];
+}
+
+static uint32_t note(uint32_t result) {
+    CHECK(driver_calls.result_count < 20000);
+    driver_calls.results[driver_calls.result_count++] = result;
+    return result;
 }
 
 // How many descriptors of a marked pool count against the limit.
@@ -96,18 +108,18 @@ static uint64_t load_of(const struct pool *pool) {
     return pool->flags & GD_UPDATE_AFTER_BIND ? sum : 0;
 }
 
-static uint32_t create_pool(const gd_call *call, uint64_t *handles) {
-    CHECK(call->count >= 1 && call->pool == 0 && call->layout == 0);
-    CHECK((call->flags | GD_UPDATE_AFTER_BIND) == (GD_FREE_DESCRIPTOR_SET | GD_UPDATE_AFTER_BIND));
-    struct pool pool = {.capacity = call->count, .flags = call->flags, .is_alive = true};
-    memcpy(pool.counts, call->counts, sizeof pool.counts);
+static uint32_t create(const gd_pool_info *info, uint64_t *handle) {
+    CHECK(info->max_sets >= 1);
+    CHECK((info->flags | GD_UPDATE_AFTER_BIND) == (GD_FREE_DESCRIPTOR_SET | GD_UPDATE_AFTER_BIND));
+    struct pool pool = {.capacity = info->max_sets, .flags = info->flags, .is_alive = true};
+    memcpy(pool.counts, info->counts, sizeof pool.counts);
     CHECK(driver.marked + load_of(&pool) <= driver.limit);
     uint32_t why = refusal();
     if (why != GD_OK)
         return why;
     pools = grown(pools, &pool_room, pool_count + 1, sizeof *pools);
     pools[pool_count] = pool;
-    handles[0] = FIRST_POOL + 8 * pool_count;
+    *handle = FIRST_POOL + 8 * pool_count;
     pool_count++;
     driver.created++;
     driver.pools++;
@@ -125,56 +137,108 @@ static void check_room(const struct pool *pool, uint32_t layout, uint32_t count)
     }
 }
 
-static uint32_t allocate_sets(const gd_call *call, uint64_t *handles) {
-    struct pool *pool = pool_of(call->pool);
-    uint64_t layout = (call->layout - FIRST_LAYOUT) / 16;
-    CHECK(layout < DRIVER_LAYOUTS && driver_layout_handle((uint32_t)layout) == call->layout);
-    CHECK(call->count >= 1 && call->flags == 0);
-    check_room(pool, (uint32_t)layout, call->count);
+static uint32_t allocate(uint64_t pool_handle, uint32_t count, const uint64_t *layouts,
+                         uint64_t *handles) {
+    struct pool *pool = pool_of(pool_handle);
+    uint64_t layout = (layouts[0] - FIRST_LAYOUT) / 16;
+    CHECK(layout < DRIVER_LAYOUTS && driver_layout_handle((uint32_t)layout) == layouts[0]);
+    CHECK(count >= 1);
+    for (uint32_t place = 0; place < count; place++)
+        CHECK(layouts[place] == layouts[0] && handles[place] == 0);
+    check_room(pool, (uint32_t)layout, count);
     driver.asked++;
     uint32_t why = refusal();
     if (why != GD_OK)
         return why;
     for (int kind = 0; kind < GD_KINDS; kind++)
-        pool->used[kind] += call->count * driver_layouts[layout].counts[kind];
-    pool->sets += call->count;
-    driver.sets += call->count;
-    sets = grown(sets, &set_room, set_count + call->count, sizeof *sets);
-    for (uint32_t place = 0; place < call->count; place++) {
-        sets[set_count] = (struct set){call->pool, (uint32_t)layout, true};
+        pool->used[kind] += count * driver_layouts[layout].counts[kind];
+    pool->sets += count;
+    driver.sets += count;
+    sets = grown(sets, &set_room, set_count + count, sizeof *sets);
+    for (uint32_t place = 0; place < count; place++) {
+        sets[set_count] = (struct set){pool_handle, (uint32_t)layout, true};
         handles[place] = FIRST_SET + 2 * set_count;
+        CHECK(driver_calls.set_count < 20000);
+        driver_calls.sets[driver_calls.set_count] = handles[place];
+        driver_calls.pools[driver_calls.set_count++] = driver_pool_number(pool_handle);
         set_count++;
     }
     return GD_OK;
 }
 
-uint32_t driver_make(const gd_call *call, uint64_t *handles) {
-    CHECK(call->kind == GD_CREATE_POOL || call->kind == GD_ALLOCATE_SETS);
-    CHECK(call->reserved == 0);
-    return call->kind == GD_CREATE_POOL ? create_pool(call, handles) : allocate_sets(call, handles);
-}
-
-void driver_free_sets(uint64_t pool_handle, const uint64_t *handles, size_t count) {
+static void free_sets(uint64_t pool_handle, const uint64_t *handles, size_t count) {
     struct pool *pool = pool_of(pool_handle);
+    CHECK(count >= 1);
     for (size_t place = 0; place < count; place++) {
         struct set *set = set_of(handles[place]);
         CHECK(set->is_alive && set->pool == pool_handle);
         set->is_alive = false;
+        CHECK(driver_calls.released < 40000);
+        driver_calls.freed[driver_calls.released++] = handles[place];
         for (int kind = 0; kind < GD_KINDS; kind++)
             pool->used[kind] -= driver_layouts[set->layout].counts[kind];
     }
     pool->sets -= (uint32_t)count;
     driver.sets -= count;
     driver.released++;
+    driver_calls.releases++;
 }
 
-void driver_destroy_pool(uint64_t handle) {
+static void destroy_pool(uint64_t handle) {
     struct pool *pool = pool_of(handle);
     CHECK(pool->sets == 0);
     pool->is_alive = false;
     driver.destroyed++;
+    driver_calls.destroyed++;
     driver.pools--;
     driver.marked -= load_of(pool);
+}
+
+// ---- the four functions: the driver's memory is not the library's ----
+
+static void enter(void *user) {
+    CHECK(user == &driver);
+    memory_pause();
+    if (driver_inside != NULL)
+        driver_inside();
+}
+
+static gd_status called_to_create(void *user, const gd_pool_info *info, uint64_t *pool) {
+    enter(user);
+    uint32_t result = note(create(info, pool));
+    memory_go_on();
+    return result;
+}
+
+static void called_to_destroy(void *user, uint64_t pool) {
+    enter(user);
+    destroy_pool(pool);
+    memory_go_on();
+}
+
+static gd_status called_to_allocate(void *user, uint64_t pool, uint32_t count,
+                                    const uint64_t *layouts, uint64_t *handles) {
+    enter(user);
+    uint32_t result = note(allocate(pool, count, layouts, handles));
+    memory_go_on();
+    return result;
+}
+
+static void called_to_free(void *user, uint64_t pool, uint32_t count, const uint64_t *handles) {
+    enter(user);
+    free_sets(pool, handles, count);
+    memory_go_on();
+}
+
+gd_device driver_device(void) {
+    gd_device device = {&driver, called_to_create, called_to_destroy, called_to_allocate,
+                        called_to_free};
+    return device;
+}
+
+void driver_forget(void) {
+    driver_calls.result_count = driver_calls.set_count = 0;
+    driver_calls.released = driver_calls.releases = driver_calls.destroyed = 0;
 }
 
 void driver_end(void) {

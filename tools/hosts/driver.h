@@ -5,11 +5,12 @@
 #define DRIVER_H
 #include "gpu_descriptor.h"
 #include <stdbool.h>
+#include <stddef.h>
 
 enum { DRIVER_LAYOUTS = 9 };
 
 struct driver_layout {
-    const char *words; // what the line program's `layout` says behind the name
+    const char *words; // of the line program's `layout`, after the name
     bool is_marked;
     uint32_t counts[GD_KINDS];
 };
@@ -19,6 +20,7 @@ extern const struct driver_layout driver_layouts[DRIVER_LAYOUTS];
 // What the driver did and has.
 struct driver {
     uint32_t refuses_one_in; // 0: none
+    uint32_t invalid_one_in;    // a failure with an unknown status; 0: none
     uint64_t limit;          // on the descriptors of pools for marked layouts
     uint64_t created, destroyed, asked, released, refused;
     uint64_t pools, sets, marked; // alive, and the descriptors of the marked pools
@@ -31,12 +33,24 @@ uint64_t driver_layout_handle(uint32_t layout);
 // The sum of the counts of a layout.
 uint64_t driver_descriptors(uint32_t layout);
 
-// Makes a call: GD_OK, and `handles` has the pool or the sets, or why it is refused.
-uint32_t driver_make(const gd_call *call, uint64_t *handles);
+// The four functions.
+gd_device driver_device(void);
 
-void driver_free_sets(uint64_t pool, const uint64_t *sets, size_t count);
+// What became of the calls that are to create pools or to allocate sets, since the last
+// driver_forget: a status for each, and each set with its pool.
+struct driver_calls {
+    uint32_t results[20000];
+    uint64_t sets[20000], pools[20000];
+    uint64_t freed[40000]; // in their order
+    size_t result_count, set_count, released, releases, destroyed;
+};
 
-void driver_destroy_pool(uint64_t pool);
+extern struct driver_calls driver_calls;
+
+void driver_forget(void);
+
+// Called within each call of the driver, if it isn't NULL.
+extern void (*driver_inside)(void);
 
 // The number of a pool, which counts from 0 up.
 uint64_t driver_pool_number(uint64_t pool);

@@ -13,7 +13,6 @@
 enum {
     MOST_HELD = 1000,
     MOST_SETS = 40,
-    WORDS = MOST_SETS + 2,
     LAYOUTS = 3,
     PLACES = 4 * MOST_HELD, // for more no name needs to be
     HANDLES = 4 * MOST_HELD,
@@ -37,12 +36,13 @@ struct handles {
 };
 
 static gd_allocator allocator;
+static gd_layout layouts[LAYOUTS];
 static struct handles pools, sets;
 static gd_set held[MOST_HELD];
 static uint32_t held_count;
 static uint32_t uses[PLACES];  // how often a place was used
 static uint64_t strange_names; // that have none of these places
-static uint64_t met, refused, calls, most_held;
+static uint64_t met, refused, calls, most_held, frame = 10;
 
 // ---- the driver ----
 
@@ -63,56 +63,52 @@ static void drop_handle(struct handles *kind, uint64_t handle) {
     kind->freed[kind->freed_count++] = (uint32_t)handle;
 }
 
-// Grants a call, and answers how many handles it gave.
-static uint32_t grant(const gd_call *call, uint64_t *handles) {
-    if (call->kind == GD_CREATE_POOL) {
-        handles[0] = draw_handle(&pools);
-        return 1;
-    }
-    alive(&pools, call->pool)->sets += call->count;
-    for (uint32_t place = 0; place < call->count; place++) {
-        handles[place] = draw_handle(&sets);
-        alive(&sets, handles[place])->pool = call->pool;
-    }
-    return call->count;
+static bool is_refused(void) {
+    calls++;
+    return one_in(REFUSES_ONE_IN);
 }
 
-// Makes a call that was handed over.
-static void make_call(const uint64_t *words) {
-    struct given *pool = alive(&pools, words[0]);
+static gd_status create_pool(void *user, const gd_pool_info *info, uint64_t *pool) {
+    (void)user, (void)info;
+    if (is_refused())
+        return GD_OUT_OF_DEVICE_MEMORY + random_below(4);
+    *pool = draw_handle(&pools);
+    return GD_OK;
+}
+
+static gd_status allocate_sets(void *user, uint64_t pool, uint32_t count, const uint64_t *asked,
+                               uint64_t *handles) {
+    (void)user, (void)asked;
+    if (is_refused())
+        return GD_OUT_OF_DEVICE_MEMORY + random_below(4);
+    alive(&pools, pool)->sets += count;
+    for (uint32_t place = 0; place < count; place++) {
+        handles[place] = draw_handle(&sets);
+        alive(&sets, handles[place])->pool = pool;
+    }
+    return GD_OK;
+}
+
+static void free_sets(void *user, uint64_t pool, uint32_t count, const uint64_t *handles) {
+    (void)user;
     calls++;
-    if (words[1] == 0) {
-        CHECK(pool->sets == 0);
-        drop_handle(&pools, words[0]);
+    alive(&pools, pool)->sets -= count;
+    for (uint32_t place = 0; place < count; place++) {
+        CHECK(alive(&sets, handles[place])->pool == pool);
+        drop_handle(&sets, handles[place]);
     }
-    pool->sets -= (uint32_t)words[1];
-    for (uint64_t place = 0; place < words[1]; place++) {
-        CHECK(alive(&sets, words[2 + place])->pool == words[0]);
-        drop_handle(&sets, words[2 + place]);
-    }
+}
+
+static void destroy_pool(void *user, uint64_t pool) {
+    (void)user;
+    calls++;
+    CHECK(alive(&pools, pool)->sets == 0);
+    drop_handle(&pools, pool);
 }
 
 // ---- requests and frees ----
 
-static void make_calls(uint64_t *words, gd_handed handed) {
-    for (;;) {
-        for (size_t at = 0; at < handed.words; at += 2 + words[at + 1])
-            make_call(&words[at]);
-        if (handed.next == 0)
-            return;
-        CHECK(handed.next <= WORDS);
-        CHECK(gd_calls(&allocator, words, WORDS, &handed) == GD_OK);
-    }
-}
-
-static void make_waiting_calls(void) {
-    uint64_t words[WORDS];
-    gd_handed handed;
-    CHECK(gd_calls(&allocator, words, WORDS, &handed) == GD_OK);
-    make_calls(words, handed);
-}
-
-// A name that was never given before: its place was used as often as the name says.
+// Checks that a name is new: its generation is the number of uses of its place.
 static void note_name(uint64_t name) {
     uint64_t place = name & UINT32_MAX;
     if (place >= PLACES) {
@@ -123,25 +119,12 @@ static void note_name(uint64_t name) {
     CHECK(name >> 32 == uses[place]);
 }
 
-static gd_status answer(gd_set *got, uint32_t count, gd_call *call) {
-    uint64_t handles[MOST_SETS];
-    calls++;
-    if (one_in(REFUSES_ONE_IN))
-        return gd_refused(&allocator, GD_OUT_OF_DEVICE_MEMORY + random_below(4), got, count, call);
-    CHECK(call->kind == GD_CREATE_POOL || call->count <= count);
-    return gd_granted(&allocator, handles, grant(call, handles), got, count, call);
-}
-
-// Asks for some sets, and answers how many it got.
+// Allocates some sets, and returns how many it got.
 static uint32_t allocate(uint32_t count) {
     gd_set *got = &held[held_count];
-    gd_call call;
-    gd_status status = gd_begin(&allocator, random_below(LAYOUTS), count, got, count, &call);
-    while (status == GD_OK && call.kind != GD_NO_CALL)
-        status = answer(got, count, &call);
+    gd_status status = gd_allocate(allocator, layouts[random_below(LAYOUTS)], count, got);
     CHECK(status <= GD_FRAGMENTATION);
     if (status != GD_OK) {
-        make_waiting_calls();
         refused++;
         return 0;
     }
@@ -157,25 +140,23 @@ static uint32_t allocate(uint32_t count) {
 
 // Gives some of the held sets back, in random order.
 static void free_some(uint32_t count) {
-    gd_set back[MOST_SETS] = {{0, 0}};
-    uint64_t words[WORDS];
-    gd_handed handed;
+    gd_set back[MOST_SETS] = {{0, 0, 0}};
     for (uint32_t place = 0; place < count; place++) {
         uint32_t at = random_below(held_count);
         back[place] = held[at];
         held[at] = held[--held_count];
     }
-    CHECK(gd_free(&allocator, back, count, words, WORDS, &handed) == GD_OK);
-    make_calls(words, handed);
+    if (one_in(3)) {
+        CHECK(gd_free_after(allocator, back, count, ++frame) == GD_OK);
+        return;
+    }
+    CHECK(gd_free(allocator, back, count) == GD_OK);
     for (uint32_t place = 0; place < count; place++)
         CHECK(!sets.given[back[place].handle].is_alive);
 }
 
 static void clean_up(void) {
-    uint64_t words[WORDS];
-    gd_handed handed;
-    CHECK(gd_cleanup(&allocator, words, WORDS, &handed) == GD_OK);
-    make_calls(words, handed);
+    CHECK(gd_cleanup(allocator) == GD_OK);
 }
 
 // ---- the run ----
@@ -194,20 +175,22 @@ static uint64_t resident(void) {
 }
 
 static void open_all(void) {
-    uint64_t place;
-    CHECK(gd_open(&allocator, 200000) == GD_OK);
+    gd_device device = {NULL, create_pool, destroy_pool, allocate_sets, free_sets};
+    CHECK(gd_create(&device, 200000, &allocator) == GD_OK);
     for (uint32_t layout = 0; layout < LAYOUTS; layout++) {
         uint32_t counts[GD_KINDS] = {[GD_SAMPLER] = layout, [GD_UNIFORM_BUFFER] = 1};
-        CHECK(gd_layout(&allocator, layout, counts, GD_KINDS, layout == 2, &place) == GD_OK);
+        CHECK(gd_add_layout(allocator, layout, counts, layout == 2 ? GD_UPDATE_AFTER_BIND : 0,
+                            &layouts[layout]) == GD_OK);
     }
 }
 
 static void close_all(void) {
     while (held_count > 0)
         free_some(held_count < MOST_SETS ? held_count : MOST_SETS);
+    CHECK(gd_frame_done(allocator, UINT64_MAX) == GD_OK);
     clean_up();
     CHECK(pools.freed_count == pools.count && sets.freed_count == sets.count);
-    CHECK(gd_close(&allocator) == GD_OK);
+    CHECK(gd_destroy(allocator) == GD_OK);
 }
 
 // Mostly asks until a thousand sets are out, then mostly gives back until few are.
@@ -220,6 +203,7 @@ static void act(void) {
         free_some(lot < held_count ? lot : held_count);
     else
         operation += allocate(lot);
+    CHECK(gd_frame_done(allocator, frame - 3) == GD_OK);
     if (one_in(10000))
         clean_up();
 }

@@ -1,22 +1,28 @@
-// Refuses memory to the library, and counts its blocks. A host that is linked with --wrap=malloc,
-// --wrap=realloc and --wrap=free takes its own memory from the same functions, so each call of the
-// library stands in LIBRARY.
+// Refuses memory to the library, and counts its blocks. A host is linked with --wrap for malloc,
+// calloc, realloc, posix_memalign, aligned_alloc and free, which are all that Rust's std calls. The
+// host and its driver take memory from the same functions, so each call of the library is in
+// LIBRARY, and the driver's functions pause it.
 #ifndef MEMORY_H
 #define MEMORY_H
 #include "gpu_descriptor.h"
 
 extern uint32_t memory_refused_one_in; // 0: none
+extern uint64_t memory_refuses_at;     // the number of the only taking that is refused; 0: none
 extern uint64_t memory_refusals;
 extern uint64_t memory_blocks;  // that the library has
-extern uint64_t memory_takings; // how often it asked for memory
+extern uint64_t memory_requests; // how often it asked for memory
 
 void memory_enter(void);
 
 gd_status memory_leave(gd_status status);
 
+void memory_pause(void);
+
+void memory_go_on(void);
+
 #define LIBRARY(call) (memory_enter(), memory_leave(call))
 
-// Frees a block that isn't the library's, inside a call of it.
+// Frees a block that isn't the library's.
 void memory_free_other(void *block);
 
 #endif

@@ -1,0 +1,92 @@
+// Owners of sets over a device that only counts: sets are freed at the end of their scope, or after a
+// frame. It checks the counts and prints them.
+#include "gpu_descriptor.hpp"
+
+#include <cstdio>
+#include <cstdlib>
+#include <vector>
+
+namespace {
+
+struct counts {
+    uint64_t handles = 0; // no handle is given twice
+    unsigned pools = 0, sets = 0;
+};
+
+counts &counts_of(void *user) {
+    return *static_cast<counts *>(user);
+}
+
+gd_status create_pool(void *user, const gd_pool_info *, uint64_t *pool) noexcept {
+    counts_of(user).pools++;
+    *pool = ++counts_of(user).handles;
+    return GD_OK;
+}
+
+void destroy_pool(void *user, uint64_t) noexcept {
+    counts_of(user).pools--;
+}
+
+gd_status allocate_sets(void *user, uint64_t, uint32_t count, const uint64_t *, uint64_t *sets) noexcept {
+    counts_of(user).sets += count;
+    for (uint32_t index = 0; index < count; index++)
+        sets[index] = ++counts_of(user).handles;
+    return GD_OK;
+}
+
+void free_sets(void *user, uint64_t, uint32_t count, const uint64_t *) noexcept {
+    counts_of(user).sets -= count;
+}
+
+void require(bool fact, const char *what) {
+    if (!fact) {
+        std::printf("failed: %s\n", what);
+        std::exit(1);
+    }
+}
+
+// One frame: a set that lives for this scope, and one that waits for the end of the frame.
+void draw(gd::allocator &allocator, gd_layout layout, uint64_t frame) {
+    gd::set scratch, bound;
+    require(allocator.allocate(layout, scratch) == GD_OK, "allocate");
+    require(allocator.allocate(layout, bound) == GD_OK, "allocate");
+    require(bound.handle() != scratch.handle(), "two handles");
+    require(bound.free_after(frame) == GD_OK && !bound, "free_after");
+}
+
+} // namespace
+
+int main() {
+    counts device;
+    const gd_device functions = {&device, create_pool, destroy_pool, allocate_sets, free_sets};
+    const uint32_t kinds[GD_KINDS] = {2};
+    gd_layout layout;
+    std::vector<gd::set> kept;
+    {
+        gd::allocator allocator;
+        require(allocator.create(functions, 500000) == GD_OK, "create");
+        require(gd_add_layout(allocator.raw(), 77, kinds, 0, &layout) == GD_OK, "gd_add_layout");
+        for (uint64_t frame = 1; frame <= 10; frame++) {
+            if (frame > 2)
+                require(gd_frame_done(allocator.raw(), frame - 2) == GD_OK, "gd_frame_done");
+            draw(allocator, layout, frame);
+        }
+        std::printf("after ten frames: %u sets wait\n", device.sets);
+        require(device.sets == 2, "two sets wait");
+
+        for (int count = 0; count < 50; count++) {
+            gd::set set;
+            require(allocator.allocate(layout, set) == GD_OK, "allocate");
+            kept.push_back(std::move(set));
+        }
+        kept.erase(kept.begin(), kept.begin() + 10); // moves the others
+        require(device.sets == 42, "ten of fifty sets are freed");
+
+        gd::allocator moved = std::move(allocator);
+        require(!allocator && moved, "a move"); // NOLINT: a moved owner is empty
+    }
+    std::printf("after the allocator: %u sets, %u pools\n", device.sets, device.pools);
+    require(device.sets == 0 && device.pools == 0, "all is destroyed");
+    kept.clear(); // its owners are too late, and do nothing
+    return 0;
+}

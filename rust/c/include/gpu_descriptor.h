@@ -1,0 +1,264 @@
+/*
+ * gpu_descriptor.h: a descriptor set allocator for Vulkan-like APIs, for C11 and C++17.
+ *
+ *     gd_device device = {user, create_pool, destroy_pool, allocate_sets, free_sets};
+ *     gd_allocator allocator;
+ *     gd_layout layout;
+ *     gd_set sets[2];
+ *     gd_create(&device, limit, &allocator);
+ *     gd_add_layout(allocator, handle, counts, 0, &layout);
+ *     gd_allocate(allocator, layout, 2, sets);   // sets[0].handle is the driver's
+ *     gd_free(allocator, sets, 2);               // once the device no longer uses them
+ *     gd_destroy(allocator);
+ *
+ * The allocator decides which pool a set comes from, how large a new pool is and when a pool is
+ * destroyed. It does so by four functions of yours. gpu_descriptor_vulkan.h has them for a VkDevice,
+ * and gpu_descriptor.hpp has classes for C++.
+ *
+ * Statuses: every function returns a gd_status. If it isn't GD_OK, the call changed no set and no
+ * count of sets. A failed gd_allocate may have created pools, which are empty, or destroyed empty
+ * ones; any other failed call changed nothing of the allocator. Outputs may be zeroed, as their function
+ * says. Of GD_INTERNAL_ERROR none of this holds. If several statuses apply, any of them may be returned.
+ *
+ * Ownership: gd_destroy frees the library's memory of an allocator and destroys its pools. The values
+ * gd_allocator, gd_layout and gd_set own nothing: copy them as you like. Layouts are yours: destroy
+ * them after the last gd_allocate with them.
+ *
+ * Pointers must be valid, and arrays at least as long as their count. NULL is GD_NULL_POINTER, unless
+ * the count is 0. A gd_allocator is zeroed, or gd_create wrote it.
+ *
+ * Threads: each function may be called from any thread. One call on an allocator runs at a time. A
+ * call that comes while another runs changes nothing and returns GD_BUSY: from another thread, and
+ * from one of your four functions too. It doesn't wait, so use a lock if threads share an allocator.
+ * Make no call from a signal handler.
+ *
+ * Units: counts of sets are sets, counts of a layout or a pool are descriptors (for inline uniform
+ * blocks: bytes, and bindings). Handles are the driver's own values, of 64 bits. The library compares
+ * them and passes them back, and reads nothing else of them.
+ */
+#ifndef GPU_DESCRIPTOR_H
+#define GPU_DESCRIPTOR_H
+
+#include <stdint.h>
+
+#ifdef __cplusplus
+#define GD_NOEXCEPT noexcept
+extern "C" {
+#else
+#define GD_NOEXCEPT
+#endif
+
+/* The result of a call. */
+typedef uint32_t gd_status;
+
+enum {
+    GD_OK = 0,
+
+    /* Why gd_allocate failed, and why one of your functions fails. */
+    GD_OUT_OF_DEVICE_MEMORY = 10,
+    GD_OUT_OF_HOST_MEMORY = 11, /* of the driver or of the library */
+    GD_FRAGMENTATION = 12,      /* of gd_allocate: the limit is reached, or a new pool failed as
+                                   fragmented or gave no sets; of your functions: memory or the pool is
+                                   fragmented */
+    GD_OUT_OF_POOL_MEMORY = 13, /* only of your functions: the pool has no room */
+
+    /* Mistakes in a call. */
+    GD_NULL_POINTER = 20,   /* a pointer or a function is NULL */
+    GD_BAD_ALLOCATOR = 21,  /* zeroed, or destroyed */
+    GD_BAD_LAYOUT = 22,     /* not one of this allocator */
+    GD_BAD_SET = 23,        /* zeroed, freed, waiting, of another allocator, changed, or twice in the
+                               list */
+    GD_BAD_FLAGS = 24,      /* unknown flags */
+    GD_BAD_COUNTS = 25,     /* only of gpu_descriptor_vulkan.h: a layout that can't be counted */
+    GD_BAD_RESULT = 26,     /* one of your functions returned another status than it may */
+    GD_BUSY = 27,           /* another call on the allocator is running */
+    GD_OUTSTANDING = 28,    /* gd_destroy while sets are outstanding */
+    GD_INTERNAL_ERROR = 29  /* a bug of the library stopped a call; each later call on the allocator
+                               returns this too */
+};
+
+/* The kinds of descriptors: the indices of counts. */
+enum {
+    GD_SAMPLER,
+    GD_COMBINED_IMAGE_SAMPLER,
+    GD_SAMPLED_IMAGE,
+    GD_STORAGE_IMAGE,
+    GD_UNIFORM_TEXEL_BUFFER,
+    GD_STORAGE_TEXEL_BUFFER,
+    GD_UNIFORM_BUFFER,
+    GD_STORAGE_BUFFER,
+    GD_UNIFORM_BUFFER_DYNAMIC,
+    GD_STORAGE_BUFFER_DYNAMIC,
+    GD_INPUT_ATTACHMENT,
+    GD_ACCELERATION_STRUCTURE,
+    GD_INLINE_UNIFORM_BLOCK_BYTES,
+    GD_INLINE_UNIFORM_BLOCK_BINDINGS,
+    GD_KINDS /* 14 */
+};
+
+/* Flags of pools and layouts, with Vulkan's values. */
+enum {
+    GD_FREE_DESCRIPTOR_SET = 1, /* of a pool: sets can be freed one by one. Each pool has it. */
+    GD_UPDATE_AFTER_BIND = 2    /* of a layout: update-after-bind; of a pool: it is for such layouts */
+};
+
+/* A pool to create. */
+typedef struct gd_pool_info {
+    uint32_t max_sets;         /* how many sets it holds at most, at least 1 */
+    uint32_t flags;            /* GD_FREE_DESCRIPTOR_SET, and GD_UPDATE_AFTER_BIND or not */
+    uint32_t counts[GD_KINDS]; /* how many descriptors all of its sets have at most */
+} gd_pool_info;
+
+/*
+ * Your functions. Each gets 'user' of the gd_device.
+ *
+ * gd_create_pool creates a pool and writes its handle.
+ *
+ * gd_destroy_pool destroys a pool, which has no sets.
+ *
+ * gd_allocate_sets allocates 'count' sets, at least 1, from a pool. Both arrays have 'count' elements:
+ * the layout, each time the same, and zeros for the handles of the sets. It writes all handles, or
+ * fails and has allocated no set. If a pool that isn't new fails as fragmented or has no room, the
+ * allocator goes on with another pool.
+ *
+ * gd_free_sets frees sets, at least 1, all of this pool.
+ *
+ * gd_create_pool and gd_allocate_sets return GD_OK or one of the four reasons. Any other status counts
+ * as a failure, and gd_allocate returns GD_BAD_RESULT.
+ *
+ * They run inside of a call on the allocator, in its thread. They may call other allocators; a call on
+ * the same one is GD_BUSY. They must return: not by longjmp, and not by a C++ exception, which would
+ * end the program. For this their types are noexcept in C++.
+ */
+typedef gd_status (*gd_create_pool)(void *user, const gd_pool_info *info, uint64_t *pool) GD_NOEXCEPT;
+typedef void (*gd_destroy_pool)(void *user, uint64_t pool) GD_NOEXCEPT;
+typedef gd_status (*gd_allocate_sets)(void *user, uint64_t pool, uint32_t count,
+                                      const uint64_t *layouts, uint64_t *sets) GD_NOEXCEPT;
+typedef void (*gd_free_sets)(void *user, uint64_t pool, uint32_t count,
+                             const uint64_t *sets) GD_NOEXCEPT;
+
+typedef struct gd_device {
+    void *user;
+    gd_create_pool create_pool;
+    gd_destroy_pool destroy_pool;
+    gd_allocate_sets allocate_sets;
+    gd_free_sets free_sets;
+} gd_device;
+
+/* An allocator. Zeroed, it is none. The fields are the library's. */
+typedef struct gd_allocator {
+    const void *slot;
+    uint64_t id;
+} gd_allocator;
+
+/* A layout of an allocator. The fields are the library's. */
+typedef struct gd_layout {
+    uint64_t index;
+    uint64_t owner;
+} gd_layout;
+
+/* A set. Zeroed, it is none. No name is given twice, so a freed set is never taken for a new one. */
+typedef struct gd_set {
+    uint64_t handle; /* the driver's */
+    uint64_t name;   /* the library's, as 'owner' */
+    uint64_t owner;
+} gd_set;
+
+/*
+ * Creates an allocator. The device is copied; what 'user' points to must stay valid until gd_destroy.
+ * All pools for update-after-bind layouts together have at most 'limit' descriptors: in Vulkan this is
+ * maxUpdateAfterBindDescriptorsInAllPools. If it fails, 'allocator' is zeroed.
+ *
+ * A few hundred bytes of a destroyed allocator are kept for the next one.
+ *
+ * GD_NULL_POINTER, GD_OUT_OF_HOST_MEMORY.
+ */
+gd_status gd_create(const gd_device *device, uint32_t limit, gd_allocator *allocator);
+
+/*
+ * Destroys an allocator and all its pools. No set may be outstanding; gd_free_all frees what is left.
+ * It allocates nothing.
+ *
+ * GD_OUTSTANDING, GD_BAD_ALLOCATOR, GD_BUSY, GD_INTERNAL_ERROR.
+ */
+gd_status gd_destroy(gd_allocator allocator);
+
+/*
+ * Adds a layout: the driver's handle, the descriptors of one set by kind, and 0 or
+ * GD_UPDATE_AFTER_BIND. Counts and flags must be those of the layout: the library can't check them.
+ * The same layout again has the same index. Layouts with the same counts and flags share pools. A
+ * layout can't be removed; its memory is freed by gd_destroy. The time is linear in the number of
+ * layouts.
+ *
+ * GD_NULL_POINTER, GD_BAD_FLAGS, GD_OUT_OF_HOST_MEMORY, GD_BAD_ALLOCATOR, GD_BUSY, GD_INTERNAL_ERROR.
+ */
+gd_status gd_add_layout(gd_allocator allocator, uint64_t handle, const uint32_t counts[GD_KINDS],
+                        uint32_t flags, gd_layout *layout);
+
+/*
+ * Allocates 'count' sets, all or none: sets[i] is the i-th that the driver allocated. If it fails, 'sets'
+ * is zeroed, and freeing such a set is GD_BAD_SET.
+ *
+ * GD_OUT_OF_DEVICE_MEMORY, GD_OUT_OF_HOST_MEMORY, GD_FRAGMENTATION, GD_BAD_RESULT, GD_NULL_POINTER,
+ * GD_BAD_LAYOUT, GD_BAD_ALLOCATOR, GD_BUSY, GD_INTERNAL_ERROR.
+ */
+gd_status gd_allocate(gd_allocator allocator, gd_layout layout, uint32_t count, gd_set *sets);
+
+/*
+ * Frees sets, all or none, of any layouts and in any order. The device must no longer use them. Pools
+ * that become empty may be destroyed. It allocates nothing. Neighbours of one pool are freed in one
+ * call of free_sets.
+ *
+ * GD_BAD_SET, GD_NULL_POINTER, GD_BAD_ALLOCATOR, GD_BUSY, GD_INTERNAL_ERROR.
+ */
+gd_status gd_free(gd_allocator allocator, const gd_set *sets, uint32_t count);
+
+/*
+ * Frees all outstanding sets, those that wait for a frame too. The device must no longer use them. It
+ * allocates nothing.
+ *
+ * GD_BAD_ALLOCATOR, GD_BUSY, GD_INTERNAL_ERROR.
+ */
+gd_status gd_free_all(gd_allocator allocator);
+
+/*
+ * Frees sets, all or none, once a frame is done: they wait, and gd_frame_done frees them. They are no
+ * longer yours: freeing one again is GD_BAD_SET. Frames are numbers of your own: a set is freed by the
+ * next gd_frame_done with its number or a higher one. Only the first call of an allocator allocates;
+ * afterwards gd_allocate reserves the memory. If it fails, the sets are still yours.
+ *
+ * GD_BAD_SET, GD_OUT_OF_HOST_MEMORY, GD_NULL_POINTER, GD_BAD_ALLOCATOR, GD_BUSY, GD_INTERNAL_ERROR.
+ */
+gd_status gd_free_after(gd_allocator allocator, const gd_set *sets, uint32_t count, uint64_t frame);
+
+/*
+ * Frees the sets that wait for this frame or an earlier one. The device must be done with these
+ * frames. UINT64_MAX frees all that wait. It allocates nothing.
+ *
+ * GD_BAD_ALLOCATOR, GD_BUSY, GD_INTERNAL_ERROR.
+ */
+gd_status gd_frame_done(gd_allocator allocator, uint64_t frame);
+
+/*
+ * Destroys empty pools: of the layouts that share pools the oldest ones, up to the first that has
+ * sets. If no set is outstanding no pool is left. It allocates nothing.
+ *
+ * GD_BAD_ALLOCATOR, GD_BUSY, GD_INTERNAL_ERROR.
+ */
+gd_status gd_cleanup(gd_allocator allocator);
+
+/*
+ * How many sets are outstanding, those that wait for a frame included; how many of them wait; how many
+ * pools exist.
+ *
+ * GD_NULL_POINTER, GD_BAD_ALLOCATOR, GD_BUSY, GD_INTERNAL_ERROR.
+ */
+gd_status gd_outstanding(gd_allocator allocator, uint64_t *sets);
+gd_status gd_waiting(gd_allocator allocator, uint64_t *sets);
+gd_status gd_pool_count(gd_allocator allocator, uint64_t *pools);
+
+#ifdef __cplusplus
+}
+#endif
+
+#endif

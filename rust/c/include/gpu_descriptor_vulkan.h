@@ -1,0 +1,284 @@
+/*
+ * gpu_descriptor_vulkan.h: the device of gpu_descriptor.h for a VkDevice. Header only, for C11 and
+ * C++17.
+ *
+ *     gdv_device vulkan;                                  // must stay where it is until gd_destroy
+ *     gdv_init(&vulkan, device, NULL);
+ *     gdv_create(&vulkan, limit, &allocator);
+ *     gdv_add_layout(allocator, layout, &layout_info, &known);
+ *     gd_allocate(allocator, known, 2, sets);
+ *     VkDescriptorSet first = gdv_handle(sets[0]);
+ *     gd_free(allocator, sets, 2);                        // or gd_free_after and gd_frame_done
+ *     gd_destroy(allocator);                              // before vkDestroyDevice
+ *
+ * All else is gpu_descriptor.h. Vulkan's own rules on threads hold as well: nobody else may use the
+ * pools, which are known to the library alone.
+ *
+ * With VK_NO_PROTOTYPES there is no gdv_init: write the fields of a gdv_device, as your loader has the
+ * functions.
+ *
+ * The header allocates nothing: the arrays of a call are the library's.
+ */
+#ifndef GPU_DESCRIPTOR_VULKAN_H
+#define GPU_DESCRIPTOR_VULKAN_H
+
+#include "gpu_descriptor.h"
+
+#include <assert.h>
+#include <stddef.h>
+#include <string.h>
+#include <vulkan/vulkan.h>
+
+#ifndef VK_VERSION_1_3
+#error "gpu_descriptor_vulkan.h needs the headers of Vulkan 1.3; the device may be older"
+#endif
+
+static_assert(sizeof(VkDescriptorPool) == 8 && sizeof(VkDescriptorSet) == 8 &&
+                  sizeof(VkDescriptorSetLayout) == 8,
+              "handles have 64 bits");
+static_assert((int)GD_FREE_DESCRIPTOR_SET ==
+                      (int)VK_DESCRIPTOR_POOL_CREATE_FREE_DESCRIPTOR_SET_BIT &&
+                  (int)GD_UPDATE_AFTER_BIND ==
+                      (int)VK_DESCRIPTOR_POOL_CREATE_UPDATE_AFTER_BIND_BIT &&
+                  (int)GD_UPDATE_AFTER_BIND ==
+                      (int)VK_DESCRIPTOR_SET_LAYOUT_CREATE_UPDATE_AFTER_BIND_POOL_BIT,
+              "the flags are Vulkan's");
+
+/* A device, and the functions that are called on it. */
+typedef struct gdv_device {
+    VkDevice device;
+    const VkAllocationCallbacks *callbacks; /* for the driver's memory of a pool; may be NULL */
+    PFN_vkCreateDescriptorPool create_pool;
+    PFN_vkDestroyDescriptorPool destroy_pool;
+    PFN_vkAllocateDescriptorSets allocate_sets;
+    PFN_vkFreeDescriptorSets free_sets;
+} gdv_device;
+
+/* ---- results ---- */
+
+/*
+ * The status for a result of the driver. Any other error ends the request as GD_OUT_OF_HOST_MEMORY, so
+ * don't try again for ever: gdv_result tells what the driver returned.
+ */
+static inline gd_status gdv_reason(VkResult result) {
+    switch (result) {
+    case VK_SUCCESS:
+        return GD_OK;
+    case VK_ERROR_OUT_OF_DEVICE_MEMORY:
+        return GD_OUT_OF_DEVICE_MEMORY;
+    case VK_ERROR_FRAGMENTED_POOL:
+    case VK_ERROR_FRAGMENTATION:
+        return GD_FRAGMENTATION;
+    case VK_ERROR_OUT_OF_POOL_MEMORY:
+        return GD_OUT_OF_POOL_MEMORY;
+    default:
+        return GD_OUT_OF_HOST_MEMORY;
+    }
+}
+
+/* The result for a status of gpu_descriptor.h. Mistakes, such as GD_BAD_SET, are VK_ERROR_UNKNOWN. */
+static inline VkResult gdv_result(gd_status status) {
+    switch (status) {
+    case GD_OK:
+        return VK_SUCCESS;
+    case GD_OUT_OF_DEVICE_MEMORY:
+        return VK_ERROR_OUT_OF_DEVICE_MEMORY;
+    case GD_OUT_OF_HOST_MEMORY:
+        return VK_ERROR_OUT_OF_HOST_MEMORY;
+    case GD_FRAGMENTATION:
+        return VK_ERROR_FRAGMENTATION;
+    default:
+        return VK_ERROR_UNKNOWN;
+    }
+}
+
+/* On some platforms handles are pointers, on others they are numbers. */
+#if (VK_USE_64_BIT_PTR_DEFINES == 1)
+#define GDV_HANDLE(type, number) ((type)(uintptr_t)(number))
+#define GDV_NUMBER(handle) ((uint64_t)(uintptr_t)(handle))
+#else
+#define GDV_HANDLE(type, number) ((type)(number))
+#define GDV_NUMBER(handle) ((uint64_t)(handle))
+#endif
+
+/* The driver's handle of a set. */
+static inline VkDescriptorSet gdv_handle(gd_set set) {
+    return GDV_HANDLE(VkDescriptorSet, set.handle);
+}
+
+/* ---- the four functions ---- */
+
+/* The type of a kind. GD_INLINE_UNIFORM_BLOCK_BINDINGS has none. */
+static inline VkDescriptorType gdv_type(uint32_t kind) {
+    if (kind == GD_ACCELERATION_STRUCTURE)
+        return VK_DESCRIPTOR_TYPE_ACCELERATION_STRUCTURE_KHR;
+    if (kind == GD_INLINE_UNIFORM_BLOCK_BYTES)
+        return VK_DESCRIPTOR_TYPE_INLINE_UNIFORM_BLOCK;
+    return (VkDescriptorType)kind; /* the first eleven have Vulkan's numbers */
+}
+
+/* The kind of a type; GD_KINDS if it has none. */
+static inline uint32_t gdv_kind(VkDescriptorType type) {
+    for (uint32_t kind = 0; kind < GD_INLINE_UNIFORM_BLOCK_BINDINGS; kind++)
+        if (gdv_type(kind) == type)
+            return kind;
+    return GD_KINDS;
+}
+
+static inline gd_status gdv_create_pool(void *user, const gd_pool_info *pool_info,
+                                        uint64_t *pool) GD_NOEXCEPT {
+    const gdv_device *it = (const gdv_device *)user;
+    VkDescriptorPoolSize sizes[GD_KINDS];
+    uint32_t size_count = 0;
+    for (uint32_t kind = 0; kind < GD_INLINE_UNIFORM_BLOCK_BINDINGS; kind++) {
+        if (pool_info->counts[kind] == 0)
+            continue;
+        sizes[size_count].type = gdv_type(kind);
+        sizes[size_count].descriptorCount = pool_info->counts[kind];
+        size_count++;
+    }
+    VkDescriptorPoolInlineUniformBlockCreateInfo blocks;
+    memset(&blocks, 0, sizeof blocks);
+    blocks.sType = VK_STRUCTURE_TYPE_DESCRIPTOR_POOL_INLINE_UNIFORM_BLOCK_CREATE_INFO;
+    blocks.maxInlineUniformBlockBindings = pool_info->counts[GD_INLINE_UNIFORM_BLOCK_BINDINGS];
+    VkDescriptorPoolCreateInfo info;
+    memset(&info, 0, sizeof info);
+    info.sType = VK_STRUCTURE_TYPE_DESCRIPTOR_POOL_CREATE_INFO;
+    info.pNext = blocks.maxInlineUniformBlockBindings == 0 ? NULL : &blocks;
+    info.flags = pool_info->flags;
+    info.maxSets = pool_info->max_sets;
+    info.poolSizeCount = size_count;
+    info.pPoolSizes = sizes;
+    VkDescriptorPool made = VK_NULL_HANDLE;
+    gd_status status = gdv_reason(it->create_pool(it->device, &info, it->callbacks, &made));
+    *pool = GDV_NUMBER(made);
+    return status;
+}
+
+static inline void gdv_destroy_pool(void *user, uint64_t pool) GD_NOEXCEPT {
+    const gdv_device *it = (const gdv_device *)user;
+    it->destroy_pool(it->device, GDV_HANDLE(VkDescriptorPool, pool), it->callbacks);
+}
+
+/* The arrays are passed on as they are: handles have 64 bits, and no function of C reads them. */
+static inline gd_status gdv_allocate_sets(void *user, uint64_t pool, uint32_t count,
+                                          const uint64_t *layouts, uint64_t *sets) GD_NOEXCEPT {
+    const gdv_device *it = (const gdv_device *)user;
+    VkDescriptorSetAllocateInfo info;
+    memset(&info, 0, sizeof info);
+    info.sType = VK_STRUCTURE_TYPE_DESCRIPTOR_SET_ALLOCATE_INFO;
+    info.descriptorPool = GDV_HANDLE(VkDescriptorPool, pool);
+    info.descriptorSetCount = count;
+    info.pSetLayouts = (const VkDescriptorSetLayout *)(const void *)layouts;
+    return gdv_reason(it->allocate_sets(it->device, &info, (VkDescriptorSet *)(void *)sets));
+}
+
+static inline void gdv_free_sets(void *user, uint64_t pool, uint32_t count,
+                                 const uint64_t *sets) GD_NOEXCEPT {
+    const gdv_device *it = (const gdv_device *)user;
+    /* It returns VK_SUCCESS, always. */
+    (void)it->free_sets(it->device, GDV_HANDLE(VkDescriptorPool, pool), count,
+                        (const VkDescriptorSet *)(const void *)sets);
+}
+
+/* ---- your calls ---- */
+
+#ifndef VK_NO_PROTOTYPES
+/* Writes a gdv_device. The callbacks aren't copied: they must stay valid until gd_destroy. */
+static inline void gdv_init(gdv_device *vulkan, VkDevice device,
+                            const VkAllocationCallbacks *callbacks) {
+    vulkan->device = device;
+    vulkan->callbacks = callbacks;
+    vulkan->create_pool = vkCreateDescriptorPool;
+    vulkan->destroy_pool = vkDestroyDescriptorPool;
+    vulkan->allocate_sets = vkAllocateDescriptorSets;
+    vulkan->free_sets = vkFreeDescriptorSets;
+}
+#endif
+
+/* The gd_device of a VkDevice, for gd_create. 'vulkan' must stay where it is until gd_destroy. */
+static inline gd_device gdv_functions(gdv_device *vulkan) {
+    gd_device device;
+    device.user = vulkan;
+    device.create_pool = gdv_create_pool;
+    device.destroy_pool = gdv_destroy_pool;
+    device.allocate_sets = gdv_allocate_sets;
+    device.free_sets = gdv_free_sets;
+    return device;
+}
+
+/*
+ * Creates an allocator for a VkDevice. 'limit' is the device's maxUpdateAfterBindDescriptorsInAllPools;
+ * without update-after-bind layouts it doesn't matter. 'vulkan' must stay where it is until gd_destroy.
+ *
+ * GD_NULL_POINTER, also if a function of 'vulkan' is NULL; GD_OUT_OF_HOST_MEMORY.
+ */
+static inline gd_status gdv_create(gdv_device *vulkan, uint32_t limit, gd_allocator *allocator) {
+    if (allocator != NULL)
+        memset(allocator, 0, sizeof *allocator);
+    if (vulkan == NULL || vulkan->create_pool == NULL || vulkan->destroy_pool == NULL ||
+        vulkan->allocate_sets == NULL || vulkan->free_sets == NULL)
+        return GD_NULL_POINTER;
+    gd_device device = gdv_functions(vulkan);
+    return gd_create(&device, limit, allocator);
+}
+
+/* Whether a binding has a variable count. */
+static inline int gdv_is_variable(const VkDescriptorSetLayoutCreateInfo *info) {
+    const VkBaseInStructure *next = (const VkBaseInStructure *)info->pNext;
+    for (; next != NULL; next = next->pNext) {
+        if (next->sType != VK_STRUCTURE_TYPE_DESCRIPTOR_SET_LAYOUT_BINDING_FLAGS_CREATE_INFO)
+            continue;
+        const VkDescriptorSetLayoutBindingFlagsCreateInfo *flags =
+            (const VkDescriptorSetLayoutBindingFlagsCreateInfo *)(const void *)next;
+        for (uint32_t number = 0; number < flags->bindingCount; number++)
+            if (flags->pBindingFlags[number] & VK_DESCRIPTOR_BINDING_VARIABLE_DESCRIPTOR_COUNT_BIT)
+                return 1;
+    }
+    return 0;
+}
+
+/*
+ * Counts the descriptors of one set of a layout: 'counts' and 'flags' for gd_add_layout.
+ *
+ * A sampler with YCbCr conversion may need several descriptors
+ * (VkSamplerYcbcrConversionImageFormatProperties): then add to the counts and call gd_add_layout.
+ *
+ * GD_BAD_COUNTS for a type that has no kind, a count past 32 bits, a binding with a variable count, and
+ * other flags than update-after-bind: push descriptors, descriptor buffers, host-only layouts.
+ */
+static inline gd_status gdv_count(const VkDescriptorSetLayoutCreateInfo *info,
+                                  uint32_t counts[GD_KINDS], uint32_t *flags) {
+    memset(counts, 0, GD_KINDS * sizeof *counts);
+    *flags = info->flags & VK_DESCRIPTOR_SET_LAYOUT_CREATE_UPDATE_AFTER_BIND_POOL_BIT;
+    if (*flags != info->flags || gdv_is_variable(info))
+        return GD_BAD_COUNTS;
+    for (uint32_t number = 0; number < info->bindingCount; number++) {
+        const VkDescriptorSetLayoutBinding *binding = &info->pBindings[number];
+        uint32_t kind = gdv_kind(binding->descriptorType);
+        if (binding->descriptorCount == 0)
+            continue;
+        if (kind == GD_KINDS || binding->descriptorCount > UINT32_MAX - counts[kind])
+            return GD_BAD_COUNTS;
+        counts[kind] += binding->descriptorCount; /* of an inline uniform block: bytes */
+        if (kind == GD_INLINE_UNIFORM_BLOCK_BYTES)
+            counts[GD_INLINE_UNIFORM_BLOCK_BINDINGS] += 1;
+    }
+    return GD_OK;
+}
+
+/* gdv_count and gd_add_layout, with the statuses of both. */
+static inline gd_status gdv_add_layout(gd_allocator allocator, VkDescriptorSetLayout layout,
+                                       const VkDescriptorSetLayoutCreateInfo *info,
+                                       gd_layout *known) {
+    uint32_t counts[GD_KINDS];
+    uint32_t flags = 0;
+    if (info == NULL)
+        return GD_NULL_POINTER;
+    gd_status status = gdv_count(info, counts, &flags);
+    if (status != GD_OK)
+        return status;
+    return gd_add_layout(allocator, GDV_NUMBER(layout), counts, flags, known);
+}
+
+#endif

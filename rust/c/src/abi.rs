@@ -1,0 +1,82 @@
+//! The types of `gpu_descriptor.h`.
+
+use core::ffi::c_void;
+
+/// `gd_status`.
+#[repr(transparent)]
+#[derive(Clone, Copy, Debug, PartialEq, Eq)]
+pub struct GdStatus(pub u32);
+
+impl GdStatus {
+    pub const OK: Self = GdStatus(0);
+    pub const OUT_OF_DEVICE_MEMORY: Self = GdStatus(10);
+    pub const OUT_OF_HOST_MEMORY: Self = GdStatus(11);
+    pub const FRAGMENTATION: Self = GdStatus(12);
+    pub const OUT_OF_POOL_MEMORY: Self = GdStatus(13);
+    pub const NULL_POINTER: Self = GdStatus(20);
+    pub const BAD_ALLOCATOR: Self = GdStatus(21);
+    pub const BAD_LAYOUT: Self = GdStatus(22);
+    pub const BAD_SET: Self = GdStatus(23);
+    pub const BAD_FLAGS: Self = GdStatus(24);
+    pub const BAD_RESULT: Self = GdStatus(26);
+    pub const BUSY: Self = GdStatus(27);
+    pub const OUTSTANDING: Self = GdStatus(28);
+    pub const INTERNAL_ERROR: Self = GdStatus(29);
+}
+
+/// `gd_pool_info`.
+#[repr(C)]
+pub struct GdPoolInfo {
+    pub max_sets: u32,
+    pub flags: u32,
+    pub counts: [u32; 14],
+}
+
+pub type CreatePool = unsafe extern "C" fn(*mut c_void, *const GdPoolInfo, *mut u64) -> GdStatus;
+pub type DestroyPool = unsafe extern "C" fn(*mut c_void, u64);
+pub type AllocateSets =
+    unsafe extern "C" fn(*mut c_void, u64, u32, *const u64, *mut u64) -> GdStatus;
+pub type FreeSets = unsafe extern "C" fn(*mut c_void, u64, u32, *const u64);
+
+/// `gd_device`.
+#[repr(C)]
+#[derive(Clone, Copy)]
+pub struct GdDevice {
+    pub user: *mut c_void,
+    pub create_pool: Option<CreatePool>,
+    pub destroy_pool: Option<DestroyPool>,
+    pub allocate_sets: Option<AllocateSets>,
+    pub free_sets: Option<FreeSets>,
+}
+
+/// `gd_layout`.
+#[repr(C)]
+#[derive(Clone, Copy)]
+pub struct GdLayout {
+    pub index: u64,
+    pub owner: u64,
+}
+
+/// `gd_set`.
+#[repr(C)]
+#[derive(Clone, Copy)]
+pub struct GdSet {
+    pub handle: u64,
+    pub name: u64,
+    pub owner: u64,
+}
+
+impl GdSet {
+    pub const NONE: Self = GdSet {
+        handle: 0,
+        name: 0,
+        owner: 0,
+    };
+}
+
+/// The sizes that C gives them.
+const _: () = {
+    assert!(size_of::<GdPoolInfo>() == 64);
+    assert!(size_of::<GdDevice>() == 5 * size_of::<usize>());
+    assert!(size_of::<GdLayout>() == 16 && size_of::<GdSet>() == 24);
+};

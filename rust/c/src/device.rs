@@ -1,0 +1,195 @@
+//! A device that calls the functions of a host.
+
+use crate::abi::{AllocateSets, CreatePool, DestroyPool, FreeSets, GdDevice, GdPoolInfo, GdStatus};
+use crate::gpu_descriptor_types::{
+    CreatePoolError, DescriptorDevice, DescriptorPoolCreateFlags, DescriptorTotalCount,
+    DeviceAllocationError, Layouts, SetSink,
+};
+use crate::kit::alloc::AllocError;
+use core::ffi::c_void;
+use std_alloc::vec::Vec;
+
+/// A `gd_device` of which no function is `NULL`, and memory for the handles of a call.
+///
+/// A call has at most as many sets as the largest pool. So the memory is reserved before a pool is
+/// created, and no later call of the pool allocates.
+pub struct HostDevice {
+    user: *mut c_void,
+    create_pool: CreatePool,
+    destroy_pool: DestroyPool,
+    allocate_sets: AllocateSets,
+    free_sets: FreeSets,
+
+    /// The sets of a call.
+    handles: Vec<u64>,
+
+    /// The first `filled` of them are `layout`.
+    layouts: Vec<u64>,
+    layout: u64,
+    filled: usize,
+
+    /// How many pools exist.
+    pub pools: u64,
+
+    /// A function returned an unknown status. The request ends as if the host had no memory.
+    pub has_bad_result: bool,
+}
+
+// SAFETY: `user` is the host's, and the header says that any thread may pass it to the functions.
+unsafe impl Send for HostDevice {}
+
+impl HostDevice {
+    /// `None` if a function is `NULL`. It allocates nothing.
+    pub fn new(device: &GdDevice) -> Option<Self> {
+        Some(HostDevice {
+            user: device.user,
+            create_pool: device.create_pool?,
+            destroy_pool: device.destroy_pool?,
+            allocate_sets: device.allocate_sets?,
+            free_sets: device.free_sets?,
+            handles: Vec::new(),
+            layouts: Vec::new(),
+            layout: 0,
+            filled: 0,
+            pools: 0,
+            has_bad_result: false,
+        })
+    }
+
+    /// Reserves memory for the handles of so many sets.
+    #[inline]
+    fn reserve(&mut self, sets: usize) -> Result<(), AllocError> {
+        if sets <= self.layouts.len() {
+            Ok(())
+        } else {
+            self.grow(sets)
+        }
+    }
+
+    /// The layouts grow last: `reserve` goes by them.
+    #[cold]
+    fn grow(&mut self, sets: usize) -> Result<(), AllocError> {
+        for list in [&mut self.handles, &mut self.layouts] {
+            if list.len() < sets {
+                let more = sets - list.len();
+                list.try_reserve_exact(more).map_err(|_| AllocError)?;
+                list.resize(sets, 0);
+            }
+        }
+        Ok(())
+    }
+
+    /// Makes the first `count` layouts this one, and the first `count` handles 0.
+    #[inline]
+    fn prepare(&mut self, layout: u64, count: usize) {
+        if self.layout != layout {
+            (self.layout, self.filled) = (layout, 0);
+        }
+        if self.filled < count {
+            self.layouts[self.filled..count].fill(layout);
+            self.filled = count;
+        }
+        // Most requests are of one set, for which a call of `memset` is slower.
+        match &mut self.handles[..count] {
+            [handle] => *handle = 0,
+            handles => handles.fill(0),
+        }
+    }
+
+    /// Frees the sets of the first `count` handles.
+    fn free_first(&mut self, pool: u64, count: usize) {
+        if count > 0 {
+            // SAFETY: the pointer leads to so many handles, which are sets of this pool.
+            unsafe { (self.free_sets)(self.user, pool, count as u32, self.handles.as_ptr()) }
+        }
+    }
+}
+
+impl DescriptorDevice<u64, u64, u64> for HostDevice {
+    fn create_descriptor_pool(
+        &mut self,
+        counts: &DescriptorTotalCount,
+        max_sets: u32,
+        flags: DescriptorPoolCreateFlags,
+    ) -> Result<u64, CreatePoolError> {
+        if self.reserve(max_sets as usize).is_err() {
+            return Err(CreatePoolError::OutOfHostMemory);
+        }
+        let info = GdPoolInfo {
+            max_sets,
+            flags: flags.bits(),
+            counts: counts.to_array(),
+        };
+        let mut pool = 0;
+        // SAFETY: both pointers are valid during the call.
+        let status = unsafe { (self.create_pool)(self.user, &info, &mut pool) };
+        match status {
+            GdStatus::OK => {
+                self.pools += 1;
+                Ok(pool)
+            }
+            GdStatus::OUT_OF_DEVICE_MEMORY => Err(CreatePoolError::OutOfDeviceMemory),
+            GdStatus::OUT_OF_HOST_MEMORY => Err(CreatePoolError::OutOfHostMemory),
+            GdStatus::FRAGMENTATION | GdStatus::OUT_OF_POOL_MEMORY => {
+                Err(CreatePoolError::Fragmentation)
+            }
+            _ => {
+                self.has_bad_result = true;
+                Err(CreatePoolError::OutOfHostMemory)
+            }
+        }
+    }
+
+    fn destroy_descriptor_pool(&mut self, pool: u64) {
+        self.pools -= 1;
+        // SAFETY: the host created the pool, and it has no sets.
+        unsafe { (self.destroy_pool)(self.user, pool) }
+    }
+
+    fn alloc_descriptor_sets<K: SetSink<u64>>(
+        &mut self,
+        pool: &mut u64,
+        layouts: Layouts<'_, u64>,
+        sets: &mut K,
+    ) -> Result<(), DeviceAllocationError> {
+        let (layout, count) = (*layouts.layout(), layouts.len());
+        if self.reserve(count as usize).is_err() {
+            return Err(DeviceAllocationError::OutOfHostMemory);
+        }
+        self.prepare(layout, count as usize);
+        let (layouts, handles) = (self.layouts.as_ptr(), self.handles.as_mut_ptr());
+        // SAFETY: both arrays have at least `count` elements.
+        let status = unsafe { (self.allocate_sets)(self.user, *pool, count, layouts, handles) };
+        match status {
+            GdStatus::OK => {
+                for handle in &self.handles[..count as usize] {
+                    sets.put(*handle);
+                }
+                Ok(())
+            }
+            GdStatus::OUT_OF_DEVICE_MEMORY => Err(DeviceAllocationError::OutOfDeviceMemory),
+            GdStatus::OUT_OF_HOST_MEMORY => Err(DeviceAllocationError::OutOfHostMemory),
+            GdStatus::FRAGMENTATION => Err(DeviceAllocationError::FragmentedPool),
+            GdStatus::OUT_OF_POOL_MEMORY => Err(DeviceAllocationError::OutOfPoolMemory),
+            _ => {
+                self.has_bad_result = true;
+                Err(DeviceAllocationError::OutOfHostMemory)
+            }
+        }
+    }
+
+    /// Frees the sets in one call: there are no more than the pool has, for which memory is reserved.
+    /// If there were more, it would take several calls.
+    fn dealloc_descriptor_sets<I: Iterator<Item = u64>>(&mut self, pool: &mut u64, sets: &mut I) {
+        let mut count = 0;
+        for set in sets {
+            if count == self.handles.len() {
+                self.free_first(*pool, count);
+                count = 0;
+            }
+            self.handles[count] = set;
+            count += 1;
+        }
+        self.free_first(*pool, count);
+    }
+}

@@ -1,0 +1,220 @@
+//! The functions of `gpu_descriptor.h`.
+//!
+//! The `unsafe` of this file is the reading and writing of the host's pointers. Each of them is as the
+//! header says: valid, as long as its count, and not in use elsewhere.
+#![allow(clippy::missing_safety_doc)]
+
+use crate::abi::{GdDevice, GdLayout, GdSet, GdStatus};
+use crate::allocator::Allocator;
+use crate::device::HostDevice;
+use crate::slot::{self, GdAllocator};
+
+/// Zeroes an array of the host's, so that a request that failed leaves no set there.
+///
+/// # Safety
+///
+/// It is `NULL` or has so many elements.
+unsafe fn zero(sets: *mut GdSet, count: u32) {
+    if !sets.is_null() {
+        for at in 0..count as usize {
+            // SAFETY: as above.
+            unsafe { sets.add(at).write(GdSet::NONE) };
+        }
+    }
+}
+
+/// Whether a pointer to so many elements is one that the header forbids.
+fn is_missing(sets: *const GdSet, count: u32) -> bool {
+    sets.is_null() && count > 0
+}
+
+#[unsafe(no_mangle)]
+pub unsafe extern "C" fn gd_create(
+    device: *const GdDevice,
+    limit: u32,
+    allocator: *mut GdAllocator,
+) -> GdStatus {
+    if allocator.is_null() {
+        return GdStatus::NULL_POINTER;
+    }
+    // SAFETY: the header's.
+    unsafe { allocator.write(GdAllocator::NONE) };
+    if device.is_null() {
+        return GdStatus::NULL_POINTER;
+    }
+    // SAFETY: the header's.
+    let Some(device) = HostDevice::new(unsafe { &*device }) else {
+        return GdStatus::NULL_POINTER;
+    };
+    match slot::create(|id| Allocator::new(id, device, limit)) {
+        Ok(created) => {
+            // SAFETY: the header's.
+            unsafe { allocator.write(created) };
+            GdStatus::OK
+        }
+        Err(_) => GdStatus::OUT_OF_HOST_MEMORY,
+    }
+}
+
+#[unsafe(no_mangle)]
+pub unsafe extern "C" fn gd_destroy(allocator: GdAllocator) -> GdStatus {
+    // SAFETY: the header's.
+    unsafe {
+        slot::destroy(allocator, |it| {
+            if it.outstanding() > 0 {
+                return GdStatus::OUTSTANDING;
+            }
+            it.cleanup();
+            GdStatus::OK
+        })
+    }
+}
+
+#[unsafe(no_mangle)]
+pub unsafe extern "C" fn gd_add_layout(
+    allocator: GdAllocator,
+    handle: u64,
+    counts: *const u32,
+    flags: u32,
+    layout: *mut GdLayout,
+) -> GdStatus {
+    if counts.is_null() || layout.is_null() {
+        return GdStatus::NULL_POINTER;
+    }
+    // SAFETY: the header's.
+    unsafe {
+        slot::enter(allocator, |it| {
+            let counts = counts.cast::<[u32; 14]>().read();
+            match it.add_layout(handle, &counts, flags) {
+                Ok(known) => {
+                    layout.write(known);
+                    GdStatus::OK
+                }
+                Err(status) => status,
+            }
+        })
+    }
+}
+
+#[unsafe(no_mangle)]
+pub unsafe extern "C" fn gd_allocate(
+    allocator: GdAllocator,
+    layout: GdLayout,
+    count: u32,
+    sets: *mut GdSet,
+) -> GdStatus {
+    if is_missing(sets, count) {
+        return GdStatus::NULL_POINTER;
+    }
+    // SAFETY: the header's.
+    let status = unsafe {
+        slot::enter(allocator, |it| {
+            it.allocate(layout, count, |at, set| sets.add(at).write(set))
+        })
+    };
+    if status != GdStatus::OK {
+        // SAFETY: the header's.
+        unsafe { zero(sets, count) };
+    }
+    status
+}
+
+#[unsafe(no_mangle)]
+pub unsafe extern "C" fn gd_free(
+    allocator: GdAllocator,
+    sets: *const GdSet,
+    count: u32,
+) -> GdStatus {
+    if is_missing(sets, count) {
+        return GdStatus::NULL_POINTER;
+    }
+    // SAFETY: the header's.
+    unsafe { slot::enter(allocator, |it| it.free(count, |at| sets.add(at).read())) }
+}
+
+#[unsafe(no_mangle)]
+pub unsafe extern "C" fn gd_free_all(allocator: GdAllocator) -> GdStatus {
+    // SAFETY: the header's.
+    unsafe {
+        slot::enter(allocator, |it| {
+            it.free_all();
+            GdStatus::OK
+        })
+    }
+}
+
+#[unsafe(no_mangle)]
+pub unsafe extern "C" fn gd_free_after(
+    allocator: GdAllocator,
+    sets: *const GdSet,
+    count: u32,
+    frame: u64,
+) -> GdStatus {
+    if is_missing(sets, count) {
+        return GdStatus::NULL_POINTER;
+    }
+    // SAFETY: the header's.
+    unsafe {
+        slot::enter(allocator, |it| {
+            it.free_after(count, |at| sets.add(at).read(), frame)
+        })
+    }
+}
+
+#[unsafe(no_mangle)]
+pub unsafe extern "C" fn gd_frame_done(allocator: GdAllocator, frame: u64) -> GdStatus {
+    // SAFETY: the header's.
+    unsafe {
+        slot::enter(allocator, |it| {
+            it.frame_done(frame);
+            GdStatus::OK
+        })
+    }
+}
+
+#[unsafe(no_mangle)]
+pub unsafe extern "C" fn gd_cleanup(allocator: GdAllocator) -> GdStatus {
+    // SAFETY: the header's.
+    unsafe {
+        slot::enter(allocator, |it| {
+            it.cleanup();
+            GdStatus::OK
+        })
+    }
+}
+
+/// Writes a number of an allocator.
+///
+/// # Safety
+///
+/// As the header says.
+unsafe fn read(allocator: GdAllocator, number: *mut u64, read: fn(&Allocator) -> u64) -> GdStatus {
+    if number.is_null() {
+        return GdStatus::NULL_POINTER;
+    }
+    // SAFETY: as above.
+    unsafe {
+        slot::enter(allocator, |it| {
+            number.write(read(it));
+            GdStatus::OK
+        })
+    }
+}
+
+#[unsafe(no_mangle)]
+pub unsafe extern "C" fn gd_outstanding(allocator: GdAllocator, sets: *mut u64) -> GdStatus {
+    // SAFETY: the header's.
+    unsafe { read(allocator, sets, Allocator::outstanding) }
+}
+
+#[unsafe(no_mangle)]
+pub unsafe extern "C" fn gd_waiting(allocator: GdAllocator, sets: *mut u64) -> GdStatus {
+    // SAFETY: the header's.
+    unsafe { read(allocator, sets, Allocator::waiting) }
+}
+
+#[unsafe(no_mangle)]
+pub unsafe extern "C" fn gd_pool_count(allocator: GdAllocator, pools: *mut u64) -> GdStatus {
+    // SAFETY: the header's.
+    unsafe { read(allocator, pools, |it| it.device.pools) }
+}

@@ -1,0 +1,41 @@
+//! The C interface of the allocator. `include/gpu_descriptor.h` says what each function does.
+//!
+//! Generated from proved sources are the modules `gpu_descriptor_types` and `gpu_descriptor`, which are
+//! the files of rust/gpu-descriptor, and `descriptor_script`. By hand are `device`, which calls the host's
+//! functions, `allocator`, a session over it, `slot`, through which each call goes, and `exports`.
+#![cfg_attr(not(feature = "std"), no_std)]
+#![deny(unsafe_code)]
+
+extern crate alloc as std_alloc;
+
+#[allow(unsafe_code)]
+mod abi;
+mod allocator;
+#[path = "../../gpu-descriptor/src/kit/mod.rs"]
+#[allow(dead_code, unused_imports)]
+mod crate_kit;
+#[allow(dead_code, clippy::all)]
+#[forbid(unsafe_code)]
+#[rustfmt::skip]
+mod descriptor_script;
+#[allow(unsafe_code)]
+mod device;
+#[allow(unsafe_code)]
+mod exports;
+#[path = "../../gpu-descriptor/src/gpu_descriptor/mod.rs"]
+#[allow(dead_code, unused_imports, clippy::all)]
+#[rustfmt::skip]
+mod gpu_descriptor;
+#[path = "../../gpu-descriptor/src/gpu_descriptor_types/mod.rs"]
+#[allow(dead_code, unused_imports, clippy::all)]
+#[forbid(unsafe_code)]
+#[rustfmt::skip]
+mod gpu_descriptor_types;
+#[allow(dead_code)]
+#[forbid(unsafe_code)]
+mod kit;
+#[cfg(not(feature = "std"))]
+#[allow(unsafe_code)]
+mod memory;
+#[allow(unsafe_code)]
+mod slot;

@@ -1,0 +1,70 @@
+use super::{GdAllocator, create, destroy, enter};
+use crate::abi::{GdDevice, GdPoolInfo, GdStatus};
+use crate::allocator::Allocator;
+use crate::device::HostDevice;
+use core::ffi::c_void;
+
+unsafe extern "C" fn create_pool(_: *mut c_void, _: *const GdPoolInfo, _: *mut u64) -> GdStatus {
+    GdStatus::FRAGMENTATION
+}
+
+unsafe extern "C" fn destroy_pool(_: *mut c_void, _: u64) {}
+
+unsafe extern "C" fn allocate_sets(
+    _: *mut c_void,
+    _: u64,
+    _: u32,
+    _: *const u64,
+    _: *mut u64,
+) -> GdStatus {
+    GdStatus::FRAGMENTATION
+}
+
+unsafe extern "C" fn free_sets(_: *mut c_void, _: u64, _: u32, _: *const u64) {}
+
+fn created() -> GdAllocator {
+    let device = GdDevice {
+        user: core::ptr::null_mut(),
+        create_pool: Some(create_pool),
+        destroy_pool: Some(destroy_pool),
+        allocate_sets: Some(allocate_sets),
+        free_sets: Some(free_sets),
+    };
+    let device = HostDevice::new(&device).unwrap();
+    create(|id| Allocator::new(id, device, 0)).unwrap()
+}
+
+/// A panic is a status, and so is each later call. Another allocator is not touched.
+#[test]
+fn a_panic_is_a_status() {
+    let (poisoned, other) = (created(), created());
+    // SAFETY: `create` made both.
+    unsafe {
+        let status = enter(poisoned, |_| panic!("on purpose"));
+        assert_eq!(status, GdStatus::INTERNAL_ERROR);
+        let status = enter(poisoned, |_| GdStatus::OK);
+        assert_eq!(status, GdStatus::INTERNAL_ERROR);
+        let status = destroy(poisoned, |_| GdStatus::OK);
+        assert_eq!(status, GdStatus::INTERNAL_ERROR);
+        assert_eq!(enter(other, |_| GdStatus::OK), GdStatus::OK);
+        assert_eq!(destroy(other, |_| GdStatus::OK), GdStatus::OK);
+        let status = destroy(other, |_| unreachable!());
+        assert_eq!(status, GdStatus::BAD_ALLOCATOR);
+    }
+}
+
+/// A call inside of a call is turned away.
+#[test]
+fn a_call_inside_is_busy() {
+    let allocator = created();
+    // SAFETY: `create` made it.
+    unsafe {
+        let status = enter(allocator, |_| {
+            assert_eq!(enter(allocator, |_| unreachable!()), GdStatus::BUSY);
+            assert_eq!(destroy(allocator, |_| unreachable!()), GdStatus::BUSY);
+            GdStatus::OUTSTANDING
+        });
+        assert_eq!(status, GdStatus::OUTSTANDING);
+        assert_eq!(destroy(allocator, |_| GdStatus::OK), GdStatus::OK);
+    }
+}

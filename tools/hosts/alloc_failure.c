@@ -1,0 +1,111 @@
+// Allocation-failure injection: a run of calls in which the n-th allocation of the library fails, for each
+// n. The call returns GD_OUT_OF_HOST_MEMORY and changes nothing: counts and the driver's sets are as
+// before, and the same call succeeds when it is made again.
+#include "gpu_descriptor.h"
+#include "host.h"
+#include "memory.h"
+#include <string.h>
+
+enum { LAYOUTS = 12, MOST = 700 };
+
+static uint64_t pools, sets_alive, next_handle;
+
+static gd_status create_pool(void *user, const gd_pool_info *info, uint64_t *pool) {
+    (void)user, (void)info;
+    pools++;
+    *pool = ++next_handle;
+    return GD_OK;
+}
+
+static void destroy_pool(void *user, uint64_t pool) {
+    (void)user, (void)pool;
+    pools--;
+}
+
+static gd_status allocate_sets(void *user, uint64_t pool, uint32_t count, const uint64_t *layouts,
+                               uint64_t *sets) {
+    (void)user, (void)pool, (void)layouts;
+    sets_alive += count;
+    for (uint32_t place = 0; place < count; place++)
+        sets[place] = ++next_handle;
+    return GD_OK;
+}
+
+static void free_sets(void *user, uint64_t pool, uint32_t count, const uint64_t *sets) {
+    (void)user, (void)pool, (void)sets;
+    sets_alive -= count;
+}
+
+static gd_allocator allocator;
+static uint64_t refused_calls;
+
+// Makes a call again if it fails, and checks that it changed nothing.
+#define RETRY(call)                                                                                \
+    do {                                                                                           \
+        uint64_t before = sets_alive, out = 0, refusals = memory_refusals;                         \
+        gd_status status = LIBRARY(call);                                                          \
+        if (status == GD_OK)                                                                       \
+            break;                                                                                 \
+        CHECK(status == GD_OUT_OF_HOST_MEMORY);                                                    \
+        CHECK(memory_refusals == refusals + 1);                                                    \
+        refused_calls++;                                                                           \
+        CHECK(sets_alive == before);                                                               \
+        CHECK(allocator.id == 0 || gd_outstanding(allocator, &out) == GD_OK);                      \
+        CHECK(out == sets_alive);                                                                  \
+        CHECK(LIBRARY(call) == GD_OK);                                                             \
+    } while (0)
+
+// The calls that allocate nothing.
+#define ALLOCATES_NOTHING(call)                                                                    \
+    do {                                                                                           \
+        uint64_t requests_before = memory_requests;                                                \
+        CHECK(LIBRARY(call) == GD_OK);                                                             \
+        CHECK(memory_requests == requests_before);                                                 \
+    } while (0)
+
+static void run(void) {
+    static gd_set sets[LAYOUTS][MOST], more[MOST];
+    gd_layout layouts[LAYOUTS];
+    gd_device device = {NULL, create_pool, destroy_pool, allocate_sets, free_sets};
+    memset(&allocator, 0, sizeof allocator);
+    RETRY(gd_create(&device, 1000000, &allocator));
+    for (uint32_t at = 0; at < LAYOUTS; at++) {
+        uint32_t counts[GD_KINDS] = {at + 1, at == 7 ? 40000000 : 0};
+        uint32_t flags = at % 2 == 0 ? 0 : GD_UPDATE_AFTER_BIND;
+        RETRY(gd_add_layout(allocator, at, counts, at == 7 ? 0 : flags, &layouts[at]));
+        RETRY(gd_allocate(allocator, layouts[at], at * 60 + 1, sets[at]));
+    }
+    for (uint32_t at = 0; at < LAYOUTS; at++)
+        ALLOCATES_NOTHING(gd_free(allocator, sets[at], at * 20));
+    ALLOCATES_NOTHING(gd_cleanup(allocator));
+    RETRY(gd_allocate(allocator, layouts[3], MOST, more));
+    RETRY(gd_free_after(allocator, more, 100, 1));
+    ALLOCATES_NOTHING(gd_free_after(allocator, more + 100, 600, 0));
+    RETRY(gd_allocate(allocator, layouts[2], MOST, more));
+    ALLOCATES_NOTHING(gd_frame_done(allocator, 0));
+    ALLOCATES_NOTHING(gd_free_after(allocator, more, MOST, 3));
+    for (uint32_t at = 0; at < LAYOUTS; at++)
+        ALLOCATES_NOTHING(gd_free_after(allocator, sets[at] + at * 20, at * 40 + 1, 2 + at % 3));
+    ALLOCATES_NOTHING(gd_frame_done(allocator, 3));
+    ALLOCATES_NOTHING(gd_frame_done(allocator, UINT64_MAX));
+    CHECK(sets_alive == 0);
+    RETRY(gd_allocate(allocator, layouts[4], MOST, more));
+    ALLOCATES_NOTHING(gd_free_after(allocator, more, 100, 1));
+    ALLOCATES_NOTHING(gd_free_all(allocator));
+    CHECK(sets_alive == 0);
+    ALLOCATES_NOTHING(gd_destroy(allocator));
+    CHECK(pools == 0 && memory_blocks == 1); // the slot
+}
+
+int main(void) {
+    uint64_t requests_before, refusals, turns = 0;
+    do {
+        requests_before = memory_requests;
+        refusals = memory_refusals;
+        memory_refuses_at = requests_before + ++turns;
+        run();
+    } while (memory_refusals > refusals);
+    printf("each of %" PRIu64 " allocations failed in turn: %" PRIu64 " calls failed, nothing lost\n",
+           turns - 1, refused_calls);
+    return 0;
+}

@@ -1,0 +1,409 @@
+// Each misuse that can be seen is a status, and changes nothing.
+#include "gpu_descriptor.h"
+#include "host.h"
+#include <string.h>
+
+enum { MOST = 4096 };
+
+// A device that counts, with a list of results for the calls that may fail.
+struct world {
+    uint64_t pools, sets, next, calls, releases;
+    uint32_t results[64];
+    uint32_t result_count, used;
+    gd_allocator back; // called back from each call, if it isn't zeroed
+    gd_set any;
+    gd_layout layout;
+    uint64_t called_back;
+};
+
+static const uint64_t UNTOUCHED = 0x756e746f75636864;
+
+// Each function that takes an allocator returns this status, and writes nothing, but that a failed
+// gd_allocate zeroes its sets.
+static void expect_of_each(gd_status wanted, gd_allocator it, gd_layout known, gd_set any) {
+    gd_set set = {1, 2, 3};
+    uint64_t number = UNTOUCHED;
+    gd_layout layout = {UNTOUCHED, UNTOUCHED};
+    uint32_t counts[GD_KINDS] = {9};
+    CHECK(gd_allocate(it, known, 1, &set) == wanted);
+    CHECK(set.handle == 0 && set.name == 0 && set.owner == 0);
+    CHECK(gd_free(it, &any, 1) == wanted && gd_free(it, &any, 0) == wanted);
+    CHECK(gd_free_after(it, &any, 1, 1) == wanted && gd_free_after(it, NULL, 0, 1) == wanted);
+    CHECK(gd_free_all(it) == wanted && gd_frame_done(it, UINT64_MAX) == wanted);
+    CHECK(gd_cleanup(it) == wanted && gd_destroy(it) == wanted);
+    CHECK(gd_add_layout(it, 1, counts, 0, &layout) == wanted);
+    CHECK(layout.index == UNTOUCHED && layout.owner == UNTOUCHED);
+    CHECK(gd_outstanding(it, &number) == wanted && gd_waiting(it, &number) == wanted);
+    CHECK(gd_pool_count(it, &number) == wanted && number == UNTOUCHED);
+    // With several mistakes any of their statuses is right.
+    CHECK(gd_allocate(it, known, 1, NULL) != GD_OK && gd_free(it, NULL, 1) != GD_OK);
+    CHECK(gd_add_layout(it, 1, NULL, 99, NULL) != GD_OK && gd_outstanding(it, NULL) != GD_OK);
+}
+
+static void call_back(struct world *world) {
+    world->calls++;
+    if (world->back.id == 0)
+        return;
+    world->called_back++;
+    expect_of_each(GD_BUSY, world->back, world->layout, world->any);
+}
+
+static uint32_t next_result(struct world *world) {
+    if (world->used == world->result_count)
+        return GD_OK;
+    return world->results[world->used++];
+}
+
+static gd_status create_pool(void *user, const gd_pool_info *info, uint64_t *pool) {
+    struct world *world = user;
+    call_back(world);
+    CHECK(info->max_sets > 0);
+    uint32_t why = next_result(world);
+    if (why != GD_OK)
+        return why;
+    world->pools++;
+    *pool = ++world->next;
+    return GD_OK;
+}
+
+static void destroy_pool(void *user, uint64_t pool) {
+    struct world *world = user;
+    call_back(world);
+    CHECK(pool > 0);
+    world->pools--;
+}
+
+static gd_status allocate_sets(void *user, uint64_t pool, uint32_t count, const uint64_t *layouts,
+                               uint64_t *sets) {
+    struct world *world = user;
+    call_back(world);
+    CHECK(pool > 0 && layouts[count - 1] == layouts[0]);
+    uint32_t why = next_result(world);
+    if (why != GD_OK)
+        return why;
+    world->sets += count;
+    for (uint32_t place = 0; place < count; place++)
+        sets[place] = ++world->next;
+    return GD_OK;
+}
+
+static void free_sets(void *user, uint64_t pool, uint32_t count, const uint64_t *sets) {
+    struct world *world = user;
+    call_back(world);
+    CHECK(pool > 0 && sets[count - 1] > 0);
+    world->sets -= count;
+    world->releases++;
+}
+
+static gd_device device_of(struct world *world) {
+    gd_device device = {world, create_pool, destroy_pool, allocate_sets, free_sets};
+    return device;
+}
+
+static void expect(struct world *world, gd_allocator allocator, uint64_t sets, uint64_t pools) {
+    uint64_t said = UNTOUCHED;
+    CHECK(world->sets == sets && world->pools == pools);
+    CHECK(gd_outstanding(allocator, &said) == GD_OK && said == sets);
+    CHECK(gd_pool_count(allocator, &said) == GD_OK && said == pools);
+}
+
+static void pass_null(void) {
+    struct world world = {0};
+    gd_device device = device_of(&world);
+    gd_allocator allocator = {&world, 77}, none = {NULL, 0};
+    gd_layout layout = {UNTOUCHED, UNTOUCHED};
+    gd_set set = {0, 0, 0};
+    uint32_t counts[GD_KINDS] = {1};
+    CHECK(gd_create(&device, 0, NULL) == GD_NULL_POINTER);
+    CHECK(gd_create(NULL, 0, &allocator) == GD_NULL_POINTER);
+    CHECK(allocator.slot == NULL && allocator.id == 0);
+    for (int missing = 0; missing < 4; missing++) {
+        gd_device it = device_of(&world);
+        if (missing == 0)
+            it.create_pool = NULL;
+        if (missing == 1)
+            it.destroy_pool = NULL;
+        if (missing == 2)
+            it.allocate_sets = NULL;
+        if (missing == 3)
+            it.free_sets = NULL;
+        allocator.id = 77;
+        CHECK(gd_create(&it, 0, &allocator) == GD_NULL_POINTER && allocator.id == 0);
+    }
+    CHECK(gd_create(&device, 100, &allocator) == GD_OK);
+    CHECK(gd_add_layout(allocator, 1, NULL, 0, &layout) == GD_NULL_POINTER);
+    CHECK(gd_add_layout(allocator, 1, counts, 0, NULL) == GD_NULL_POINTER);
+    CHECK(gd_add_layout(allocator, 1, counts, 1, &layout) == GD_BAD_FLAGS);
+    CHECK(gd_add_layout(allocator, 1, counts, 6, &layout) == GD_BAD_FLAGS);
+    CHECK(layout.index == UNTOUCHED && layout.owner == UNTOUCHED);
+    CHECK(gd_add_layout(allocator, 1, counts, 0, &layout) == GD_OK);
+    CHECK(gd_allocate(allocator, layout, 1, NULL) == GD_NULL_POINTER);
+    CHECK(gd_allocate(allocator, layout, 0, NULL) == GD_OK);
+    CHECK(gd_free(allocator, NULL, 1) == GD_NULL_POINTER && gd_free(allocator, NULL, 0) == GD_OK);
+    CHECK(gd_free_after(allocator, NULL, 1, 1) == GD_NULL_POINTER);
+    CHECK(gd_free_after(allocator, NULL, 0, 1) == GD_OK);
+    CHECK(gd_outstanding(allocator, NULL) == GD_NULL_POINTER && gd_waiting(allocator, NULL) == GD_NULL_POINTER);
+    CHECK(gd_pool_count(allocator, NULL) == GD_NULL_POINTER);
+    CHECK(world.calls == 0);
+
+    expect_of_each(GD_BAD_ALLOCATOR, none, layout, set);
+    none.id = allocator.id;
+    expect_of_each(GD_BAD_ALLOCATOR, none, layout, set);
+    none = allocator;
+    for (uint32_t bit = 0; bit < 64; bit++) {
+        none.id = allocator.id ^ UINT64_C(1) << bit;
+        expect_of_each(GD_BAD_ALLOCATOR, none, layout, set);
+    }
+    CHECK(world.calls == 0);
+    CHECK(gd_destroy(allocator) == GD_OK);
+}
+
+// An allocator that was destroyed, with and without another in its slot.
+static void use_destroyed(void) {
+    struct world world = {0};
+    gd_device device = device_of(&world);
+    gd_allocator first, second;
+    gd_layout layout, known;
+    gd_set set = {0, 0, 0}, old;
+    uint32_t counts[GD_KINDS] = {1};
+    CHECK(gd_create(&device, 100, &first) == GD_OK);
+    CHECK(gd_add_layout(first, 1, counts, 0, &layout) == GD_OK);
+    CHECK(gd_allocate(first, layout, 1, &old) == GD_OK);
+    CHECK(gd_destroy(first) == GD_OUTSTANDING);
+    expect(&world, first, 1, 1);
+    CHECK(gd_free(first, &old, 1) == GD_OK && gd_destroy(first) == GD_OK);
+    for (int turn = 0; turn < 2; turn++) {
+        uint64_t calls = world.calls;
+        expect_of_each(GD_BAD_ALLOCATOR, first, layout, old);
+        CHECK(world.calls == calls);
+        if (turn > 0)
+            break;
+        CHECK(gd_create(&device, 100, &second) == GD_OK);
+        CHECK(second.slot == first.slot && second.id != first.id);
+        CHECK(gd_add_layout(second, 1, counts, 0, &known) == GD_OK);
+        CHECK(gd_allocate(second, known, 1, &set) == GD_OK);
+        CHECK(set.name == old.name);
+        CHECK(gd_free(second, &old, 1) == GD_BAD_SET);
+        CHECK(gd_allocate(second, layout, 1, &old) == GD_BAD_LAYOUT);
+        CHECK(gd_free(second, &set, 1) == GD_OK);
+    }
+    CHECK(gd_destroy(second) == GD_OK && world.pools == 0);
+}
+
+static void pass_wrong_sets(void) {
+    struct world world = {0};
+    gd_device device = device_of(&world);
+    gd_allocator one, other;
+    gd_layout layout, foreign, none = {0, 0}, beyond;
+    gd_set sets[8], strange[8], back[9], zeroed = {0, 0, 0};
+    uint32_t counts[GD_KINDS] = {1};
+    CHECK(gd_create(&device, 100, &one) == GD_OK && gd_create(&device, 100, &other) == GD_OK);
+    CHECK(gd_add_layout(one, 1, counts, 0, &layout) == GD_OK);
+    CHECK(gd_add_layout(other, 1, counts, 0, &foreign) == GD_OK);
+    beyond = layout;
+    beyond.index++;
+    CHECK(gd_allocate(one, none, 1, sets) == GD_BAD_LAYOUT);
+    CHECK(gd_allocate(one, foreign, 1, sets) == GD_BAD_LAYOUT);
+    CHECK(gd_allocate(one, beyond, 1, sets) == GD_BAD_LAYOUT);
+    beyond.index = UINT64_MAX;
+    CHECK(gd_allocate(one, beyond, 0, sets) == GD_BAD_LAYOUT && world.calls == 0);
+    CHECK(gd_allocate(one, layout, 8, sets) == GD_OK);
+    CHECK(gd_allocate(other, foreign, 8, strange) == GD_OK);
+    CHECK(sets[3].name == strange[3].name);
+    uint64_t calls = world.calls;
+    for (int later = 0; later < 2; later++) {
+#define BAD(list, count)                                                                           \
+    CHECK((later ? gd_free_after(one, list, count, 1) : gd_free(one, list, count)) == GD_BAD_SET)
+        BAD(strange, 8);     // of the other allocator
+        BAD(&strange[3], 1); // a name that is held here
+        BAD(&zeroed, 1);
+        memcpy(back, sets, sizeof sets);
+        back[8] = sets[0];
+        BAD(back, 9); // more than are held
+        for (uint32_t at = 0; at < 8; at++) {
+            memcpy(back, sets, sizeof sets);
+            back[at] = sets[(at + 1) % 8];
+            BAD(back, 8); // twice
+            back[at] = strange[at];
+            BAD(back, 8);
+            back[at] = zeroed;
+            BAD(back, 8);
+            back[at] = sets[at];
+            back[at].handle++;
+            BAD(back, 8);
+            for (uint32_t bit = 0; bit < 64; bit++) {
+                back[at] = sets[at];
+                back[at].name ^= UINT64_C(1) << bit;
+                if (bit >= 3) // else it is another's name
+                    BAD(&back[at], 1);
+                BAD(back, 8);
+                back[at] = sets[at];
+                back[at].owner ^= UINT64_C(1) << bit;
+                BAD(back, 8);
+            }
+        }
+    }
+    CHECK(world.calls == calls && world.sets == 16);
+    CHECK(gd_free(one, sets, 3) == GD_OK);
+    CHECK(gd_free(one, sets, 1) == GD_BAD_SET && gd_free(one, sets, 8) == GD_BAD_SET);
+    CHECK(gd_free_after(one, &sets[3], 2, 7) == GD_OK && world.sets == 13);
+    CHECK(gd_free(one, &sets[3], 1) == GD_BAD_SET);
+    CHECK(gd_free_after(one, &sets[4], 1, 8) == GD_BAD_SET);
+    gd_set again[5];
+    CHECK(gd_allocate(one, layout, 5, again) == GD_OK); // in the places of those that left
+    for (uint32_t at = 0; at < 5; at++)
+        CHECK(gd_free(one, &sets[at], 1) == GD_BAD_SET);
+    CHECK(gd_free(one, again, 5) == GD_OK && gd_free(one, &sets[5], 3) == GD_OK);
+    CHECK(gd_destroy(one) == GD_OUTSTANDING); // two wait
+    CHECK(gd_frame_done(one, 6) == GD_OK && gd_destroy(one) == GD_OUTSTANDING && world.sets == 10);
+    CHECK(gd_frame_done(one, 7) == GD_OK && world.sets == 8);
+    CHECK(gd_destroy(one) == GD_OK && gd_free(other, strange, 8) == GD_OK);
+    CHECK(gd_destroy(other) == GD_OK && world.pools == 0);
+}
+
+// Unknown statuses at each call of a request: it fails, and what it had is freed.
+static void return_unknown_statuses(void) {
+    static const uint32_t UNKNOWN[] = {1, 9, 14, GD_NULL_POINTER, GD_BUSY, GD_INTERNAL_ERROR, 1000, UINT32_MAX};
+    static gd_set sets[MOST];
+    struct world world = {0};
+    gd_device device = device_of(&world);
+    gd_allocator allocator;
+    gd_layout layout;
+    uint32_t counts[GD_KINDS] = {[GD_SAMPLER] = 100000000}; // a pool has few
+    CHECK(gd_create(&device, 100, &allocator) == GD_OK);
+    CHECK(gd_add_layout(allocator, 1, counts, 0, &layout) == GD_OK);
+    for (uint32_t at = 0; at < 6; at++) {
+        for (uint32_t wrong = 0; wrong < 8; wrong++) {
+            memset(world.results, 0, sizeof world.results);
+            world.results[at] = UNKNOWN[wrong];
+            world.result_count = at + 1;
+            world.used = 0;
+            memset(sets, 1, sizeof sets);
+            CHECK(gd_allocate(allocator, layout, 200, sets) == GD_BAD_RESULT);
+            CHECK(world.used == at + 1 && world.sets == 0);
+            for (uint32_t place = 0; place < 200; place++)
+                CHECK(sets[place].handle == 0 && sets[place].owner == 0);
+            expect(&world, allocator, 0, world.pools);
+            CHECK(gd_cleanup(allocator) == GD_OK);
+            expect(&world, allocator, 0, 0);
+        }
+    }
+    // The status is that of this request alone.
+    world.results[0] = GD_OUT_OF_HOST_MEMORY;
+    world.result_count = 1;
+    world.used = 0;
+    CHECK(gd_allocate(allocator, layout, 200, sets) == GD_OUT_OF_HOST_MEMORY);
+    CHECK(gd_allocate(allocator, layout, 200, sets) == GD_OK);
+    CHECK(gd_free(allocator, sets, 200) == GD_OK && gd_destroy(allocator) == GD_OK);
+}
+
+// Each of the four functions calls the same allocator back, and another one.
+static void call_allocators_back(void) {
+    static gd_set sets[MOST];
+    struct world world = {0};
+    gd_device device = device_of(&world);
+    gd_layout layout;
+    gd_allocator allocator;
+    uint32_t counts[GD_KINDS] = {1};
+    CHECK(gd_create(&device, 100, &allocator) == GD_OK);
+    CHECK(gd_add_layout(allocator, 1, counts, 0, &layout) == GD_OK);
+    CHECK(gd_allocate(allocator, layout, 1, &world.any) == GD_OK);
+    world.back = allocator;
+    world.layout = layout;
+    for (int turn = 0; turn < 20; turn++) {
+        CHECK(gd_allocate(allocator, layout, 1000, sets) == GD_OK);
+        CHECK(gd_free(allocator, sets, 300) == GD_OK);
+        CHECK(gd_free_after(allocator, sets + 300, 700, 1) == GD_OK);
+        CHECK(gd_frame_done(allocator, 1) == GD_OK);
+        CHECK(gd_cleanup(allocator) == GD_OK);
+    }
+    CHECK(gd_free(allocator, &world.any, 1) == GD_OK && gd_cleanup(allocator) == GD_OK);
+    CHECK(world.called_back > 40 && world.sets == 0 && world.pools == 0);
+    CHECK(gd_allocate(allocator, layout, 1, sets) == GD_OK && gd_free(allocator, sets, 1) == GD_OK);
+    CHECK(gd_destroy(allocator) == GD_OK && world.pools == 0);
+}
+
+// All sets are freed at once: those in places of many generations, and those that wait.
+static void free_all(void) {
+    static gd_set sets[MOST];
+    struct world world = {0};
+    gd_device device = device_of(&world);
+    gd_layout layouts[3];
+    gd_allocator allocator;
+    CHECK(gd_create(&device, UINT32_MAX, &allocator) == GD_OK);
+    CHECK(gd_free_all(allocator) == GD_OK && gd_frame_done(allocator, 1) == GD_OK);
+    for (uint32_t at = 0; at < 3; at++) {
+        uint32_t counts[GD_KINDS] = {at + 1};
+        CHECK(gd_add_layout(allocator, at, counts, at == 1 ? 2 : 0, &layouts[at]) == GD_OK);
+    }
+    for (int turn = 0; turn < 50; turn++) {
+        uint32_t out = 0;
+        for (uint32_t at = 0; at < 3; at++, out += 500)
+            CHECK(gd_allocate(allocator, layouts[at], 500, sets + out) == GD_OK);
+        CHECK(gd_free(allocator, sets + turn, 300) == GD_OK);
+        CHECK(gd_free_after(allocator, sets + 700, 100 + (uint32_t)turn, 9) == GD_OK);
+        CHECK(gd_allocate(allocator, layouts[2], 170, sets + out) == GD_OK);
+        world.back = allocator;
+        world.any = sets[0];
+        CHECK(gd_free_all(allocator) == GD_OK && world.sets == 0);
+        world.back.id = 0;
+        for (uint32_t at = 0; at < out + 170; at++)
+            CHECK(gd_free(allocator, &sets[at], 1) == GD_BAD_SET);
+        expect(&world, allocator, 0, world.pools);
+    }
+    for (int turn = 0; turn < 2; turn++) { // a place of one that waited may be freed
+        CHECK(gd_allocate(allocator, layouts[0], 2000, sets) == GD_OK);
+        CHECK(gd_free_after(allocator, sets, turn == 0 ? 2000 : 1, 9) == GD_OK);
+        if (turn > 0)
+            CHECK(gd_free(allocator, sets + 1, 1999) == GD_OK);
+        CHECK(gd_free_all(allocator) == GD_OK);
+    }
+    CHECK(gd_allocate(allocator, layouts[1], 900, sets) == GD_OK);
+    CHECK(gd_destroy(allocator) == GD_OUTSTANDING && gd_free_all(allocator) == GD_OK);
+    CHECK(gd_destroy(allocator) == GD_OK && world.pools == 0);
+    CHECK(gd_free_all(allocator) == GD_BAD_ALLOCATOR);
+}
+
+// Sets that were allocated one by one are freed in one call: memory for a whole pool is reserved.
+static void free_in_one_call(void) {
+    struct world world = {0};
+    gd_device device = device_of(&world);
+    gd_layout layout;
+    gd_allocator allocator;
+    gd_set sets[64];
+    uint32_t counts[GD_KINDS] = {1};
+    CHECK(gd_create(&device, 100, &allocator) == GD_OK);
+    CHECK(gd_add_layout(allocator, 1, counts, 0, &layout) == GD_OK);
+    for (uint32_t at = 0; at < 64; at++)
+        CHECK(gd_allocate(allocator, layout, 1, &sets[at]) == GD_OK);
+    CHECK(gd_free(allocator, sets, 64) == GD_OK && world.releases == 1 && world.pools == 1);
+    CHECK(gd_destroy(allocator) == GD_OK && world.pools == 0);
+}
+
+// Many allocators, one after the other and at once.
+static void make_many(void) {
+    struct world world = {0};
+    gd_device device = device_of(&world);
+    gd_allocator many[100];
+    for (int turn = 0; turn < 100; turn++) {
+        for (int at = 0; at < 100; at++)
+            CHECK(gd_create(&device, 100, &many[at]) == GD_OK);
+        for (int at = 0; at < 100; at++)
+            CHECK(gd_destroy(many[at]) == GD_OK);
+        for (int at = 0; at < 100; at++)
+            CHECK(gd_destroy(many[at]) == GD_BAD_ALLOCATOR);
+    }
+}
+
+int main(void) {
+    pass_null();
+    use_destroyed();
+    pass_wrong_sets();
+    return_unknown_statuses();
+    call_allocators_back();
+    free_all();
+    free_in_one_call();
+    make_many();
+    printf("each misuse is a status and changes nothing\n");
+    return 0;
+}

@@ -1,0 +1,167 @@
+// Threads that call one allocator without a lock. Each call succeeds or returns GD_BUSY, and nothing is
+// lost. Then allocators are created and destroyed while threads use those that there were.
+#define _POSIX_C_SOURCE 200809L
+#include "gpu_descriptor.h"
+#include "host.h"
+#include <pthread.h>
+#include <sched.h>
+#include <stdatomic.h>
+
+enum { THREADS = 4, SETS = 3000, LOT = 5, ALLOCATORS = 500 };
+
+// Not atomic: the allocator lets one call in at a time, and orders them.
+static uint64_t pools, sets_alive, next_handle;
+static atomic_uint inside;
+static atomic_ullong busy, succeeded, gone;
+static _Atomic uint64_t current_slot, current_id;
+
+static void come_in(void) {
+    CHECK(atomic_fetch_add(&inside, 1) == 0);
+}
+
+static void go_out(void) {
+    atomic_fetch_sub(&inside, 1);
+}
+
+static gd_status create_pool(void *user, const gd_pool_info *info, uint64_t *pool) {
+    (void)user, (void)info;
+    come_in();
+    pools++;
+    *pool = ++next_handle;
+    go_out();
+    return GD_OK;
+}
+
+static void destroy_pool(void *user, uint64_t pool) {
+    (void)user, (void)pool;
+    come_in();
+    pools--;
+    go_out();
+}
+
+static gd_status allocate_sets(void *user, uint64_t pool, uint32_t count, const uint64_t *layouts,
+                               uint64_t *sets) {
+    (void)user, (void)pool, (void)layouts;
+    come_in();
+    sets_alive += count;
+    for (uint32_t place = 0; place < count; place++)
+        sets[place] = ++next_handle;
+    go_out();
+    return GD_OK;
+}
+
+static void free_sets(void *user, uint64_t pool, uint32_t count, const uint64_t *sets) {
+    (void)user, (void)pool, (void)sets;
+    come_in();
+    sets_alive -= count;
+    go_out();
+}
+
+static gd_allocator allocator;
+static gd_layout layout;
+static gd_device device = {NULL, create_pool, destroy_pool, allocate_sets, free_sets};
+
+static gd_status counted_call(gd_status status) {
+    CHECK(status == GD_OK || status == GD_BUSY);
+    atomic_fetch_add(status == GD_OK ? &succeeded : &busy, 1);
+    if (status == GD_BUSY)
+        (void)sched_yield();
+    return status;
+}
+
+static void *use(void *way) {
+    for (uint32_t done = 0; done < SETS; done++) {
+        gd_set sets[LOT];
+        while (counted_call(gd_allocate(allocator, layout, LOT, sets)) != GD_OK) {
+            CHECK(sets[0].handle == 0);
+        }
+        if (way == NULL) {
+            while (counted_call(gd_free(allocator, sets, LOT)) != GD_OK) {
+            }
+        } else {
+            while (counted_call(gd_free_after(allocator, sets, LOT, done)) != GD_OK) {
+            }
+            (void)counted_call(gd_frame_done(allocator, done));
+        }
+        (void)counted_call(gd_cleanup(allocator));
+    }
+    return NULL;
+}
+
+// Uses whatever allocator there was last, which may be gone. The two halves of an allocator that is
+// read may be of two: then its id is not the slot's.
+static void *use_late(void *unused) {
+    (void)unused;
+    while (atomic_load(&current_id) != UINT64_MAX) {
+        gd_allocator late;
+        late.id = atomic_load(&current_id);
+        late.slot = (const void *)(uintptr_t)atomic_load(&current_slot);
+        gd_layout known = {0, late.id};
+        gd_set set;
+        gd_status status = gd_allocate(late, known, 1, &set);
+        CHECK(status == GD_OK || status == GD_BUSY || status == GD_BAD_ALLOCATOR ||
+              status == GD_BAD_LAYOUT);
+        atomic_fetch_add(status == GD_OK ? &succeeded : status == GD_BUSY ? &busy : &gone, 1);
+        while (status == GD_OK && (status = gd_free(late, &set, 1)) != GD_OK) {
+            CHECK(status == GD_BUSY);
+            status = GD_OK;
+        }
+        (void)sched_yield();
+    }
+    return NULL;
+}
+
+static void make_and_destroy(void) {
+    uint32_t counts[GD_KINDS] = {1};
+    for (uint32_t done = 0; done < ALLOCATORS; done++) {
+        gd_allocator made;
+        gd_layout known;
+        gd_status status;
+        CHECK(gd_create(&device, 100, &made) == GD_OK);
+        do
+            status = gd_add_layout(made, 1, counts, 0, &known);
+        while (status == GD_BUSY);
+        CHECK(status == GD_OK);
+        atomic_store(&current_slot, (uint64_t)(uintptr_t)made.slot);
+        atomic_store(&current_id, made.id);
+        for (struct timespec wait = {0, 20000}; one_in(2);)
+            (void)nanosleep(&wait, NULL);
+        do
+            status = gd_destroy(made);
+        while (status == GD_BUSY || status == GD_OUTSTANDING);
+        CHECK(status == GD_OK && pools == 0 && sets_alive == 0);
+    }
+    atomic_store(&current_id, UINT64_MAX);
+}
+
+static void start(pthread_t *threads, void *(*what)(void *), bool is_different) {
+    for (uint64_t at = 0; at < THREADS; at++)
+        CHECK(pthread_create(&threads[at], NULL, what,
+                             is_different && at % 2 ? &allocator : NULL) == 0);
+}
+
+static void wait_for(pthread_t *threads) {
+    for (int at = 0; at < THREADS; at++)
+        CHECK(pthread_join(threads[at], NULL) == 0);
+}
+
+int main(void) {
+    pthread_t threads[THREADS];
+    uint32_t counts[GD_KINDS] = {1};
+    uint64_t out = 1;
+    CHECK(gd_create(&device, 100, &allocator) == GD_OK);
+    CHECK(gd_add_layout(allocator, 1, counts, 0, &layout) == GD_OK);
+    start(threads, use, true);
+    wait_for(threads);
+    CHECK(gd_frame_done(allocator, UINT64_MAX) == GD_OK);
+    CHECK(gd_outstanding(allocator, &out) == GD_OK && out == 0 && sets_alive == 0);
+    CHECK(gd_destroy(allocator) == GD_OK && pools == 0);
+    printf("%llu calls succeeded, %llu busy\n", (unsigned long long)succeeded, (unsigned long long)busy);
+    (void)fflush(stdout);
+    start(threads, use_late, false);
+    make_and_destroy();
+    wait_for(threads);
+    printf("in all %llu calls succeeded, %llu busy, %llu on allocators that were gone\n",
+           (unsigned long long)succeeded, (unsigned long long)busy, (unsigned long long)gone);
+    return 0;
+}
