@@ -1,6 +1,11 @@
+#!/usr/bin/env python3
 """What the sources say of the contracts of functions, read as text: the clauses of each function, the
-definitions that its clauses are said with, and the fields of those that are records."""
+definitions that its clauses are said with, and the fields of those that are records.
+
+usage: tools/contracts.py CRATE.. ; it prints the clauses of the crates' public functions
+"""
 import re
+import sys
 from pathlib import Path
 
 import common
@@ -51,13 +56,6 @@ def fields(place):
     kind, body, _ = DEFINITIONS.get(place, (None, "", None))
     parts = re.split(r"^ +(?:pub )?(\w+) :", body, flags=re.M)
     return dict(zip(parts[1::2], parts[2::2])) if kind else {}
-
-
-def promises(place):
-    """The fields of a record that no other field is said with."""
-    found = fields(place) if DEFINITIONS.get(place, "?")[0] == "record" else {}
-    return [name for name in found if not any(re.search(rf"(?<![\w.]){name}\b", text)
-                                              for other, text in found.items() if other != name)]
 
 
 def said_with(text, names):
@@ -131,12 +129,6 @@ def trait_of(around):
     return found[1] if found else None
 
 
-def of_trait(function):
-    """The names of the clauses that the trait of an impl has for the method too."""
-    return {clause for it in FUNCTIONS if function.trait and it.type == function.trait
-            and it.name == function.name for clause in it.ensures}
-
-
 def functions_and_ghosts():
     """All functions; and of each type, by its crate and name, its ghost fields and members."""
     functions, ghosts = [], {}
@@ -152,3 +144,19 @@ def functions_and_ghosts():
 
 
 FUNCTIONS, GHOSTS = functions_and_ghosts()
+
+
+def index(crates):
+    """The clauses of the public functions of crates, a line for each function."""
+    for function in FUNCTIONS:
+        if function.crate in crates and function.is_public and (function.requires or function.ensures):
+            place = function.type or function.path.stem
+            requires = [f"requires {it}".strip() for it in sorted(function.requires)]
+            ensures = [it or "(unnamed)" for it in dict.fromkeys(function.ensures)]
+            yield f"{place}::{function.name}: {', '.join(requires + ensures)}"
+
+
+if __name__ == "__main__":
+    if not sys.argv[1:] or not {*sys.argv[1:]} <= {*CRATES}:
+        sys.exit(__doc__.strip().rsplit("\n", 1)[-1])
+    print(*index(sys.argv[1:]), sep="\n")
