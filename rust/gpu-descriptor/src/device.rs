@@ -10,9 +10,10 @@ use core::marker::PhantomData;
 ///
 /// The allocator asks for pools of at least one set, which are not without descriptors, and always with
 /// [`FREE_DESCRIPTOR_SET`](DescriptorPoolCreateFlags::FREE_DESCRIPTOR_SET). It never asks a pool for more
-/// sets or descriptors than the pool has left. After `FragmentedPool` and `OutOfPoolMemory` the next pool
-/// is asked, and every other error ends the request. A result of the driver that has no name here is best
-/// returned as `OutOfHostMemory`; a panic poisons the allocator.
+/// sets or descriptors than the pool has left. If an existing pool returns `FragmentedPool` or
+/// `OutOfPoolMemory`, the next pool is asked. A new pool that returns one of them is destroyed and ends the
+/// request with `Fragmentation`, and every other error ends the request. A result of the driver that has no
+/// name here is best returned as `OutOfHostMemory`; a panic poisons the allocator.
 pub trait DescriptorDevice<L, P, S> {
     /// Creates a pool for at most `max_sets` sets, which have at most these descriptors altogether.
     ///
