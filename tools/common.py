@@ -1,5 +1,5 @@
 #!/usr/bin/env python3
-"""What several tools want: whether a program is built, the original as it compiles, rows, and edits.
+"""What several tools want: whether a program is built, the original as it compiles, golden tests, and edits.
 
 usage: tools/common.py is-built FILE ; it ends with 0 where the file is newer than all sources
 """
@@ -91,7 +91,7 @@ def cargo_build(folder, *words, **environment):
         refuse(f"cargo could not build {os.path.relpath(folder, TOP)}")
 
 
-# What stands for a byte in a line of a row.
+# What stands for a byte in a line of a golden test.
 ESCAPE = re.compile(rb"\\(?:([tr\\])|x([0-9a-fA-F]{2}))")
 BYTES = {b"t": b"\t", b"r": b"\r", b"\\": b"\\"}
 
@@ -104,12 +104,12 @@ def line_of(text):
     return line + (b"\n" if ends else b"")
 
 
-def rows_of(path):
-    """Name, input and answers of each row of a file."""
+def golden_tests_of(path):
+    """Name, input and answers of each golden test of a file."""
     with open(path, encoding="utf-8", newline="\n") as it:
-        head, *rows = it.read().split("== ")
-    for row in rows:
-        name, _, body = row.strip("\n").partition("\n")
+        head, *tests = it.read().split("== ")
+    for test in tests:
+        name, _, body = test.strip("\n").partition("\n")
         lines, answers = b"", ""
         for line in body.splitlines():
             if line.startswith(">"):
@@ -123,12 +123,12 @@ def is_fault(answers):
     return answers.splitlines()[-1:] and answers.splitlines()[-1].startswith(b"line ")
 
 
-def all_rows():
-    """Each row, its name with a number behind that tells rows of one name apart. Behind a faulty line
-    one more stands, which is not to be run."""
+def golden_tests():
+    """Each golden test, its name with a number after it that tells tests of one name apart. After a faulty
+    line comes one more, which is not to be run."""
     counts = {}
-    for path in sorted(glob.glob(f"{TOP}/rows/*.txt")):
-        for name, lines, answers in rows_of(path):
+    for path in sorted(glob.glob(f"{TOP}/golden/*.txt")):
+        for name, lines, answers in golden_tests_of(path):
             counts[name] = counts.get(name, 0) + 1
             if is_fault(answers) and lines.endswith(b"\n"):
                 lines += b"show\n"
