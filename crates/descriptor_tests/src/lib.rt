@@ -1,4 +1,4 @@
-//! Values, devices, sessions, frames and renderers tried through public calls. Tests alone: the gate proves a
+//! Values, devices, sessions, frames and renderers tried through public calls. Tests alone: CI proves a
 //! crate with tests twice, so they have one of their own.
 #![tactic(auto)]
 
