@@ -18,7 +18,7 @@ pub enum Exit {
 }
 
 impl Exit {
-    /// The status that the program ends with.
+    /// The exit code that the program ends with.
     pub fn code(&self) -> u8
         ensures { result ≡ code_of self.now }
     {
