@@ -1,5 +1,5 @@
-//! Whole runs of a session in which growths are refused: one alone, or each from one on. In a plain
-//! run every growth is granted; `tools/refuse-memory` refuses them in turn.
+//! Whole runs of a session in which allocations fail: one alone, or each from one on. In a plain run
+//! none fails; `tools/allocation-failures` lets them fail in turn.
 use crate::bench::{Bench, expect_same, layout_of, number, sets};
 use descriptor_script::{Command, LogDevice, Reply, ScriptLayout};
 use gpu_descriptor::AllocationError;

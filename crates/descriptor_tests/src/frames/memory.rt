@@ -1,6 +1,6 @@
 //! What no clause says: that sets which came back for want of memory are retired at the next try.
-//! In a plain run every growth is granted; `tools/refuse-memory` refuses each growth of each test
-//! in turn, and grants the next ones.
+//! In a plain run no allocation fails; `tools/allocation-failures` lets each allocation of each test
+//! fail in turn, and not the next ones.
 use crate::frames::trial::{Outcome, Trial, expect_device, expect_sets};
 use std::process::Abort;
 use std::test::Fail;

@@ -1,5 +1,5 @@
-//! Pairs of tests that ask for as many growths, which `tools/refuse-memory` compares: what the second
-//! of a pair does besides takes no memory.
+//! Pairs of tests with as many allocations, which `tools/allocation-failures` compares: what the second
+//! of a pair does besides allocates nothing.
 use crate::frames::trial::FrameAct::{
     Cleanup, Device, Finish, FreeAll, Pools, Reserve, Retire, RetireAll, Sets,
 };
@@ -30,7 +30,7 @@ fn sets_are_retired(rt: HostRuntime) -> Result<(), Fail> {
     play_retired(&rt, rt.alloc(), &[Sets(3, 3)])
 }
 
-/// Asks for as many growths as `sets_are_retired`.
+/// Has as many allocations as `sets_are_retired`.
 #[test]
 fn sets_are_retired_and_finished(rt: HostRuntime) -> Result<(), Fail> {
     let acts = [
@@ -51,7 +51,7 @@ fn memory_is_reserved(rt: HostRuntime) -> Result<(), Fail> {
     play(&rt, &mut trial, &[Reserve(5)])
 }
 
-/// Asks for as many growths as `memory_is_reserved`.
+/// Has as many allocations as `memory_is_reserved`.
 #[test]
 fn memory_is_reserved_and_used(rt: HostRuntime) -> Result<(), Fail> {
     let acts = [

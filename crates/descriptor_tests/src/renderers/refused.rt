@@ -1,4 +1,4 @@
-//! Refusals of the device, and growths of memory: refused ones, and how many there are.
+//! Refusals of the device, and allocations: failures, and how many there are.
 use super::bench::{ample, draw_frame, draw_sets, hold, make_stage, scripted};
 use super::frames::draw_frames;
 use crate::bench::expect_same;
@@ -53,7 +53,7 @@ fn refusals_are_told_as_they_are(rt: HostRuntime) -> Result<(), Fail> {
     Ok(())
 }
 
-/// In a plain run every growth is granted; `tools/refuse-memory` refuses each in turn. Memory is
+/// In a plain run no allocation fails; `tools/allocation-failures` lets each fail in turn. Memory is
 /// reserved before the device is asked, so for want of memory no set goes back.
 #[test]
 fn want_of_memory_gives_no_set_back(rt: HostRuntime) {
@@ -77,7 +77,7 @@ fn frame_is_drawn(rt: HostRuntime) {
     draw_sets(&rt, &mut stage, 3);
 }
 
-/// Asks for as many growths as `frame_is_drawn`.
+/// Has as many allocations as `frame_is_drawn`.
 #[test]
 fn frame_is_drawn_and_finished(rt: HostRuntime) {
     let mut stage = ample(&rt, rt.alloc());

@@ -1,11 +1,11 @@
-/* Stands before the C library's malloc in a program that is run with it (LD_PRELOAD), and refuses
- * growths. They are counted from 1, and only once the C library itself has started. It also counts
- * what of that is given back.
+/* Replaces the C library's malloc in a program that is run with it (LD_PRELOAD), and lets allocations
+ * fail. They are counted from 1, and only once the C library itself has started. A realloc is an
+ * allocation, too. It also counts the blocks that are freed.
  *
- * REFUSE_AT=N       the Nth growth is refused; 0, or nothing: none is
- * REFUSE_AFTER=1    so is each growth after it
- * REFUSE_REPORT=F   how many growths there were, and how many blocks were never given back, is
- *                   written to the file F when the program ends
+ * FAIL_AT=N       the Nth allocation fails; 0, or nothing: none does
+ * FAIL_AFTER=1    so does each allocation after it
+ * FAIL_REPORT=F   how many allocations there were, and how many blocks were never freed, is written to
+ *                 the file F when the program ends
  *
  * It includes no header, so that the kit's own compiler is enough. */
 
@@ -24,15 +24,15 @@ extern long write(int file, const void *bytes, size_t count);
 
 enum { ENOMEM = 12, WRITE_CREATE_TRUNCATE = 01 | 0100 | 01000 };
 
-static unsigned long refuse_at, growths, blocks;
-static int refuse_after, has_started;
+static unsigned long fail_at, allocations, blocks;
+static int fail_after, has_started;
 
-/* Counts a growth, and says whether it is refused. */
-static int is_refused(void) {
+/* Counts an allocation, and returns whether it fails. */
+static int fails(void) {
     if (!has_started)
         return 0;
-    growths += 1;
-    if (refuse_at == 0 || growths < refuse_at || (growths > refuse_at && !refuse_after))
+    allocations += 1;
+    if (fail_at == 0 || allocations < fail_at || (allocations > fail_at && !fail_after))
         return 0;
     *__errno_location() = ENOMEM;
     return 1;
@@ -45,22 +45,22 @@ static void *counted(void *block) {
 }
 
 void *malloc(size_t size) {
-    return is_refused() ? 0 : counted(__libc_malloc(size));
+    return fails() ? 0 : counted(__libc_malloc(size));
 }
 
 void *calloc(size_t count, size_t size) {
-    return is_refused() ? 0 : counted(__libc_calloc(count, size));
+    return fails() ? 0 : counted(__libc_calloc(count, size));
 }
 
-/* A block that grows is the same block. */
+/* A block of another size is the same block. */
 void *realloc(void *old, size_t size) {
-    if (is_refused())
+    if (fails())
         return 0;
     return old ? __libc_realloc(old, size) : counted(__libc_realloc(old, size));
 }
 
 void *memalign(size_t alignment, size_t size) {
-    return is_refused() ? 0 : counted(__libc_memalign(alignment, size));
+    return fails() ? 0 : counted(__libc_memalign(alignment, size));
 }
 
 void free(void *block) {
@@ -81,10 +81,10 @@ int posix_memalign(void **place, size_t alignment, size_t size) {
 }
 
 __attribute__((constructor)) static void start(void) {
-    const char *at = getenv("REFUSE_AT");
-    const char *after = getenv("REFUSE_AFTER");
-    refuse_at = at ? strtoul(at, 0, 10) : 0;
-    refuse_after = after && *after == '1';
+    const char *at = getenv("FAIL_AT");
+    const char *after = getenv("FAIL_AFTER");
+    fail_at = at ? strtoul(at, 0, 10) : 0;
+    fail_after = after && *after == '1';
     has_started = 1;
 }
 
@@ -100,11 +100,11 @@ static void tell(int file, unsigned long number) {
 }
 
 __attribute__((destructor)) static void report(void) {
-    const char *path = getenv("REFUSE_REPORT");
+    const char *path = getenv("FAIL_REPORT");
     has_started = 0;
     if (!path)
         return;
     int file = open(path, WRITE_CREATE_TRUNCATE, 0600);
-    tell(file, growths);
+    tell(file, allocations);
     tell(file, blocks);
 }
