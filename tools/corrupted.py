@@ -11,10 +11,10 @@ WORDS = """
 LONGEST = 4096
 
 
-def spoil(text, pick):
-    """The bytes of a program, spoilt in one to three ways; `pick` is a random.Random."""
-    for spoiling in pick.choices(SPOILINGS, k=pick.randint(1, 3)):
-        text = spoiling(text, pick)
+def corrupt(text, pick):
+    """The bytes of a program, corrupted in one to three ways; `pick` is a random.Random."""
+    for corruption in pick.choices(CORRUPTIONS, k=pick.randint(1, 3)):
+        text = corruption(text, pick)
     return text
 
 
@@ -75,4 +75,4 @@ def cut(text, pick):
     return text[: pick.randint(0, len(text))]
 
 
-SPOILINGS = [odd_line, odd_line, long_line, other_ends, other_spaces, other_bytes, moved_line, cut]
+CORRUPTIONS = [odd_line, odd_line, long_line, other_ends, other_spaces, other_bytes, moved_line, cut]
