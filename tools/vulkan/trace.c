@@ -1,4 +1,4 @@
-// Reads a trace. What isn't as docs/TRACE.md has it ends the program with 2 and the line's number.
+// Reads a trace. What isn't as docs/LINES.md has it ends the program with 2 and the line's number.
 #define _POSIX_C_SOURCE 200809L
 #include "trace.h"
 #include <stdio.h>

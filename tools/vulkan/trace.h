@@ -1,4 +1,4 @@
-// The calls of a trace (docs/TRACE.md).
+// The calls of a trace (docs/LINES.md).
 #pragma once
 #include <stdbool.h>
 #include <stddef.h>
