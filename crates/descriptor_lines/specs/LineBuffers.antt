@@ -1,4 +1,4 @@
--- What a buffer of lines has to give.
+-- What a buffer of lines has to give. Only the code's own contracts say it.
 use Rattle.std.specs.Prelude.{ℕ, List, Option, Some, IsTrue, if◌then◌else◌, slice_range}
 use Rattle.std.specs.Io.KnownBytes.{IsAtEnd, prepend_known}
 use Rattle.descriptor_lines.specs.declared.input.LineBuffer.{LineBuffer}
