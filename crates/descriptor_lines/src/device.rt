@@ -10,6 +10,8 @@ use std::vec::Vec;
 /// A device of scripted pools, sets and layouts, which means them as the scripted device does.
 pub trait ScriptedMeaning: DescriptorDevice<ScriptLayout, RawPool, RawSet> {
     /// Pools and sets have the names that they carry, layouts their counts and their mark.
+    // A trait of its own, without calls: in a trait that has calls a ghost member can't name the ghost
+    // members of the trait above.
     ghost scripted: { Self.DescriptorDevice.meaning ≡ script_meaning };
 }
 

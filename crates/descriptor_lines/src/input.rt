@@ -14,7 +14,8 @@ use std::vec::{self, Vec};
 /// The greatest length of a line, in bytes without its end.
 pub const MAX_LINE_LEN: usize = 4096;
 
-/// The most read calls that a run may make.
+/// The most read calls that a run may make. A test of `descriptor_vectors` counts them, and no clause:
+/// of any reader only the bytes that are left have a name.
 pub const MAX_READS: u32 = 100_000_000;
 
 /// The most bytes that a read call asks for.
@@ -110,6 +111,8 @@ impl LineBuffer {
         }
     }
 
+    // Two calls, so that no byte is copied: a method that lends a part of what it changes can't say
+    // what it left.
     /// The line at this place, without the carriage return that it may end in.
     pub fn line(&self, span: Span) -> &[u8]
         ensures bytes { result.now ≡ strip_last 13 (bytes_at self.now span) }

@@ -1,4 +1,5 @@
-//! Runs the lines of standard input, and writes their answers to standard output.
+//! Runs the lines of standard input, and writes their answers to standard output. It is `main` alone,
+//! since no crate can depend on a program: tests call `run_lines`.
 #![tactic(auto)]
 
 use descriptor_lines::run_lines;

@@ -1,5 +1,7 @@
-//! Tests of a session as lists of acts at a bench, whose device answers by a script and lists its
-//! calls.
+//! Tests of a session as lists of acts at a bench, whose device answers by a script and lists its calls.
+//! Acts are data, and helpers take the bench by `&mut`, for time: the prover takes some for each place
+//! where a bench may be dropped, for each `?` while it lives and each assertion, and seconds for each
+//! function with a test.
 use crate::bench::{Bench, expect_pools, expect_same, layout_of};
 use descriptor_script::{Answer, Call, Command, LogDevice, Reply, ScriptLayout};
 use std::alloc::{AllocError, Global};

@@ -1,4 +1,5 @@
-//! A session on a device, with which all its steps are made.
+//! A session on a device, with which all its steps are made. By its ghost field it is ready for the next
+//! step, whatever was done before: so a test carries no condition from one call to the next.
 ghost use Rattle.std.specs.Prelude.{◌≡◌};
 ghost use Rattle.gpu_descriptor_types.specs.Side.{side};
 ghost use Rattle.descriptor_script.proofs.OneReady.{IsReady-prop};

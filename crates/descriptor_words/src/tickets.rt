@@ -78,7 +78,8 @@ fn parse_ticket(word: &[u8]) -> Result<usize, Fault>
     Ok(ticket as usize)
 }
 
-/// Puts the tickets behind the others. A fault comes before any of them is written.
+/// Puts the tickets after the others. They are counted before any of them is written, since a short
+/// word can name more than memory holds.
 #[tactic(auto, using(crate::proofs::TicketLemmas::count_between))]
 fn add_tickets(tickets: &mut Vec<usize>, span: Span) -> Result<(), Refusal>
     requires { vec_len tickets.old ≤ most_tickets }

@@ -1,4 +1,5 @@
-//! What there is to say of a line, on its way out.
+//! What there is to say of a line, on its way out. It is made as a text first, so that one write is
+//! enough if the writer takes it all.
 ghost use Rattle.std.specs.Prelude.{◌≡◌, ◌⊎◌, [], Err, IfErr, OnErr, OnOk, string_bytes};
 ghost use Rattle.std.specs.Io.KnownBytes.{Appends};
 ghost use Rattle.descriptor_lines.specs.Outcomes.{AppendsPrefix, IsNoFault, said_of};
@@ -35,7 +36,8 @@ pub fn answer_line<W: Write>(
         Err(Refusal::NoMemory) => write_text(output, answer::NO_MEMORY)?,
         Err(Refusal::Fault(fault)) => {
             answer.clear();
-            // Memory for it is reserved since the start.
+            // Memory for it is reserved since the start. But no clause says that a formatted write
+            // succeeds, and a run that ends at a fault has always written the fault's line.
             answer::fault_line(answer, number, fault).map_err(|_| Exit::WriteFault)?;
             write_text(output, answer.as_str())?;
             return Err(Exit::BadLine);
