@@ -1,7 +1,7 @@
 #!/usr/bin/env python3
 """What several tools want: whether a program is built, the original as it compiles, golden tests, and edits.
 
-usage: tools/common.py is-built FILE ; it ends with 0 where the file is newer than all sources
+usage: tools/common.py is-built FILE ; it ends with 0 if the file is newer than all sources
 """
 import glob
 import os
@@ -19,7 +19,7 @@ TOOL = os.path.basename(sys.argv[0])
 REGISTRY = "/usr/share/cargo/registry"
 PACKAGES = {"bitflags-1": "librust-bitflags-dev", "hashbrown-0.12": "librust-hashbrown-dev"}
 
-# What a tool says that was given no file of the original.
+# The error of a tool that was given no file of the original.
 NO_ORIGINAL = (
     "it takes src/allocator.rs of gpu-descriptor 0.3.2, which is not in this repository: "
     "`cargo add gpu-descriptor@=0.3.2` and `cargo fetch`, in any package, put it into "
@@ -91,7 +91,7 @@ def cargo_build(folder, *words, **environment):
         refuse(f"cargo could not build {os.path.relpath(folder, TOP)}")
 
 
-# What stands for a byte in a line of a golden test.
+# The escape of a byte in a line of a golden test.
 ESCAPE = re.compile(rb"\\(?:([tr\\])|x([0-9a-fA-F]{2}))")
 BYTES = {b"t": b"\t", b"r": b"\r", b"\\": b"\\"}
 
@@ -140,7 +140,7 @@ class BadEdit(Exception):
 
 
 class EditText(NamedTuple):
-    """What a file of an edit says: its replacements, (file, old, new) in order, and its other lines."""
+    """What a file of an edit has: its replacements, (file, old, new) in order, and its other lines."""
     pairs: list
     error: str | None
     functions: list
@@ -182,11 +182,11 @@ def edited(crate, pairs, texts=()):
         if file not in texts:
             with open(f"{crate}/{file}", encoding="utf-8") as it:
                 texts[file] = it.read()
-        before, found, behind = texts[file].partition(old)
-        if not found or old in behind:
-            raise BadEdit(f"an 'old:' text stands in {file} {texts[file].count(old)} times, and not once")
+        before, found, after = texts[file].partition(old)
+        if not found or old in after:
+            raise BadEdit(f"an 'old:' text is in {file} {texts[file].count(old)} times, and not once")
         written.add(f"{file}:{before.count(chr(10)) + 1}")
-        texts[file] = before + new + behind
+        texts[file] = before + new + after
     return texts, written
 
 

@@ -106,7 +106,7 @@ class Function:
 
 
 def without_parameters(text):
-    """What stands behind the parameters of an impl."""
+    """What comes after the parameters of an impl."""
     depth = 0
     for at, letter in enumerate(text if text.startswith("<") else ""):
         depth += (letter == "<") - (letter == ">" and text[at - 1] not in "-=")

@@ -1,4 +1,4 @@
-// Readers of private numbers, which the script puts behind the original's text.
+// Readers of private numbers, which the script puts after the original's text.
 
 impl<P, S> DescriptorAllocator<P, S> {
     /// Number, allocated and available of the pools of a key, oldest first.

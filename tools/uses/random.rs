@@ -137,7 +137,7 @@ impl<S: Subject> Program<S> {
         self.subject.device().script = script;
     }
 
-    /// Gives all back, and sees that no pool is left.
+    /// Frees all, and checks that no pool is left.
     fn finish(mut self) -> Vec<Event> {
         self.subject.device().script.clear();
         self.subject.device().odds = 0;

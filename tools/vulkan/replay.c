@@ -1,14 +1,14 @@
 // Makes the calls of traces (trace.h) on a Vulkan driver, under the Khronos validation layer.
 //
-// Each trace is replayed twice. On a device of Vulkan 1.3 all is as the trace says. On one of 1.0,
+// Each trace is replayed twice. On a device of Vulkan 1.3 all is as in the trace. On one of 1.0,
 // which has no marks and no inline uniform blocks, these are left away: there a pool must not be
-// asked for more than it has left, and the layer says where it is, as it doesn't for 1.3.
+// asked for more than it has left, and the layer reports it if it is, which it doesn't for 1.3.
 // A call that the script refused isn't made. Which sets of a pool go back a trace doesn't say: the
 // oldest do.
 //
 // For each replay it prints 'TRACE: Vulkan 1.N: C calls, M messages', or why the trace is left out.
-// It ends with 1 on any message and on any call that the driver refuses, with 2 where one of them is
-// no trace, before anything is replayed, and with 3 where there is no layer or no driver.
+// It ends with 1 on any message and on any call that the driver refuses, with 2 if one of them is
+// no trace, before anything is replayed, and with 3 if there is no layer or no driver.
 //
 // usage: replay TRACE..
 #include "trace.h"
@@ -87,14 +87,14 @@ static VKAPI_ATTR VkBool32 VKAPI_CALL hear(VkDebugUtilsMessageSeverityFlagBitsEX
 
 // ---- what the driver takes ----
 
-// Why no driver, or not this one, takes such a layout; NULL where it does.
+// Why no driver, or not this one, takes such a layout; NULL if it does.
 static const char *objection(const struct call *call) {
     uint64_t sum = 0;
     for (int kind = 0; kind < BLOCKS; kind++)
         sum += call->counts[kind];
     uint32_t bytes = call->counts[BYTES], blocks = call->counts[BLOCKS];
     if (sum > most_descriptors)
-        return "a set with more descriptors than the driver answers for";
+        return "a set with more descriptors than the driver supports";
     if (call->counts[11])
         return "acceleration structures";
     if (bytes % 4 || bytes < 4 * (uint64_t)blocks || (bytes && !blocks) || blocks > MAX_BLOCKS)
@@ -413,7 +413,7 @@ static bool replay_all(const struct trace *traces, size_t count) {
     for (size_t place = 0; place < count; place++)
         is_fine = replay_trace(&traces[place]) && is_fine;
     messages = 0;
-    trace_name = "behind the last trace";
+    trace_name = "after the last trace";
     destroy_instance();
     return is_fine && !messages;
 }

@@ -71,7 +71,7 @@ static bool parse_refusal(const char **at) {
     return false;
 }
 
-// Reads what stands behind the number of sets. What is wrong with it; NULL where it is fine.
+// Reads what comes after the number of sets. What is wrong with it; NULL if it is fine.
 static const char *parse_rest(const char **at, struct call *call) {
     call->keeps_sets = call->verb == CREATE && starts(at, ", no release");
     call->mark = starts(at, ", mark");
@@ -86,7 +86,7 @@ static const char *parse_rest(const char **at, struct call *call) {
     return call->refused && !parse_refusal(at) ? "a refusal without its word" : NULL;
 }
 
-// Reads a call up to the line's end. What is wrong with it; NULL where it is fine.
+// Reads a call up to the line's end. What is wrong with it; NULL if it is fine.
 static const char *parse(const char *at, const char *end, struct call *call) {
     static const char *const verbs[] = {"create ", "alloc ", "release ", "destroy "};
     *call = (struct call){0};
@@ -117,7 +117,7 @@ static struct made *made_by(struct made *pools, size_t count, uint64_t name) {
 }
 
 // Does a call on the pools that are there, of which there is room for one more. What is wrong with
-// it; NULL where it is fine. Whether a pool has room for its sets is for the layer to say.
+// it; NULL if it is fine. Whether a pool has room for its sets is for the layer to say.
 static const char *follow(const struct call *call, struct made *pools, size_t *count) {
     struct made *pool = made_by(pools, *count, call->pool);
     if (call->verb == CREATE) {
@@ -144,7 +144,7 @@ static void refuse(const char *path, size_t line, const char *why, const char *t
     exit(2);
 }
 
-// Room for one more, where the array has as many as a power of two.
+// Room for one more, if the array has as many as a power of two.
 static void *grown(const char *path, void *array, size_t count, size_t size) {
     if (count & (count - 1))
         return array;

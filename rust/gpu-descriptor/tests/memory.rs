@@ -1,4 +1,4 @@
-//! Each growth of memory in a request is refused in turn. Giving back and cleaning up take none.
+//! Each allocation of memory in a request fails in turn. Freeing sets and cleaning up allocate nothing.
 
 mod refuses;
 
@@ -143,16 +143,16 @@ fn take_all(allocator: &mut Allocator, device: &Device, requests: &[Request]) ->
     taken.flat_map(Result::unwrap).collect()
 }
 
-/// After the requests of `before`, `last` is made and each growth in it is refused in turn: those at its
+/// After the requests of `before`, `last` is made and each allocation in it fails in turn: those at its
 /// start, before its key and pools are looked at, and the others, for the books of new pools.
 fn refuse_each(before: &[Request], last: Request, at_start: u64, others: u64) {
     for number in 0..at_start + others {
         let (device, mut allocator) = (Device::new(), Allocator::new(100_000));
         let mut held = take_all(&mut allocator, &device, before);
         let (had, calls) = (books(&allocator), device.calls.get());
-        let (result, growths) = with_refused(number, || take(&mut allocator, &device, last));
+        let (result, allocations) = with_refused(number, || take(&mut allocator, &device, last));
         assert!(matches!(result, Err(AllocationError::OutOfHostMemory)));
-        assert!(growths > number, "there is such a growth");
+        assert!(allocations > number, "there is such an allocation");
         assert_eq!(device.live_sets(), held.len(), "what it took went back");
         if number < at_start {
             assert_eq!(device.calls.get(), calls);
@@ -162,11 +162,11 @@ fn refuse_each(before: &[Request], last: Request, at_start: u64, others: u64) {
         held.extend(take(&mut allocator, &device, last).unwrap());
         give_back(allocator, &device, held);
     }
-    // There is no other growth.
+    // There is no other allocation.
     let (device, mut allocator) = (Device::new(), Allocator::new(100_000));
     let mut held = take_all(&mut allocator, &device, before);
-    let (result, growths) = with_refused(u64::MAX, || take(&mut allocator, &device, last));
-    assert_eq!(growths, at_start + others);
+    let (result, allocations) = with_refused(u64::MAX, || take(&mut allocator, &device, last));
+    assert_eq!(allocations, at_start + others);
     held.extend(result.unwrap());
     give_back(allocator, &device, held);
 }
@@ -177,11 +177,11 @@ fn give_back(mut allocator: Allocator, device: &Device, held: Vec<Set>) {
     let in_places = held.into_iter().enumerate();
     let (first, rest): (Vec<_>, Vec<_>) = in_places.partition(|(place, _)| place % 5 == 0);
     let sets = first.into_iter().chain(rest).map(|(_, set)| set);
-    let ((), growths) = with_refused(u64::MAX, || unsafe {
+    let ((), allocations) = with_refused(u64::MAX, || unsafe {
         allocator.free(device, sets);
         allocator.cleanup(device);
     });
-    assert_eq!(growths, 0, "free and cleanup take no memory");
+    assert_eq!(allocations, 0, "free and cleanup take no memory");
     assert_eq!(device.live_sets(), 0);
     assert!(device.exists.borrow().iter().all(|it| !it));
 }
@@ -251,10 +251,10 @@ fn cleanup_takes_no_memory_where_keys_stay() {
         };
         sets.extend(take(&mut allocator, &device, plain(samplers, 2)).unwrap());
     }
-    let ((), growths) = with_refused(u64::MAX, || unsafe {
+    let ((), allocations) = with_refused(u64::MAX, || unsafe {
         allocator.free(&device, back);
         allocator.cleanup(&device);
     });
-    assert_eq!(growths, 0);
+    assert_eq!(allocations, 0);
     give_back(allocator, &device, held);
 }

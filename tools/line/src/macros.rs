@@ -1,4 +1,4 @@
-//! The kit's macros, which hide Rust's of the same name in the modules behind this one.
+//! The kit's macros, which hide Rust's of the same name in the modules after this one.
 
 /// `vec![in alloc; item; count]`
 macro_rules! vec {

@@ -1,6 +1,6 @@
 //! Many programs in one process, which saves the start of a process for each.
 //!
-//! The input has one program behind the other, each behind its length in bytes, 8 bytes with the
+//! The input has one program after the other, each after its length in bytes, 8 bytes with the
 //! lowest first. To each program the exit code is written, in one byte, then the length of its
 //! output in the same way, then the output.
 

@@ -109,7 +109,7 @@ fn a_release_takes_no_memory() {
     }
 }
 
-/// Each growth of memory in a request of the allocator is refused in turn.
+/// Each allocation of memory in a request of the allocator fails in turn.
 #[test]
 fn a_request_without_memory_leaves_no_set() {
     let counts = DescriptorTotalCount {

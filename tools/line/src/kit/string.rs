@@ -1,4 +1,4 @@
-//! The kit's `String`: each growth may be refused.
+//! The kit's `String`: each allocation may fail.
 
 use super::alloc::{AllocError, Global};
 use std::borrow::Borrow;
