@@ -6,7 +6,7 @@ use bitflags::Flags;
 use gpu_descriptor::{DescriptorSetLayoutCreateFlags, DescriptorTotalCount};
 
 /// A layout: its descriptors, whether it is marked as update-after-bind, and its number, by which
-/// it is told from others of the same descriptors and mark.
+/// it differs from others of the same descriptors and mark.
 #[derive(Clone, Copy)]
 pub struct Layout {
     pub counts: DescriptorTotalCount,

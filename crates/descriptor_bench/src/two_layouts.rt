@@ -1,4 +1,4 @@
-//! Two layouts that only their numbers tell apart.
+//! Two layouts that differ in their numbers alone.
 ghost use Rattle.std.specs.Prelude.{IfOk};
 ghost use Rattle.gpu_descriptor.specs.Caller.Sets.{AreOfLayout};
 ghost use Rattle.descriptor_bench.specs.Device.{bench_meaning};

@@ -8,7 +8,7 @@ use Rattle.descriptor_words.specs.declared.fault.Fault.{Fault}
 use Rattle.descriptor_words.specs.Fault.{words_of_fault}
 use Rattle.descriptor_words.specs.Kinds.{kind_names}
 
--- so many bytes may go behind the text without memory
+-- so many bytes may go after the text without memory
 abbrev pub HasReserveFor : {Z : Type 0} → ℕ → String Z → Type 0
 HasReserveFor more text = length (string_bytes text) + more ≤ string_capacity text
 

@@ -45,7 +45,7 @@ IsMarkWord word = (mark : Bool) × (word ≡ word_of_mark mark)
 
 module _ (layouts : Layouts) where
   module _ (name : List ℕ) (Numbers : Type 0) where
-    -- what is wrong with the name of a layout, or else with numbers behind it
+    -- what is wrong with the name of a layout, or else with numbers after it
     abbrev pub IsFaultOfUse : Fault → Type 0
     IsFaultOfUse BadName = ¬ IsName name
     IsFaultOfUse NoSuchLayout = IsName name × (layout_named layouts name ≡ None)
@@ -58,7 +58,7 @@ module _ (layouts : Layouts) where
     pub absent : layout_named layouts name ≡ None
 
   module _ (name mark : List ℕ) (words : List (List ℕ)) where
-    -- what is wrong with a new name, a mark and the words behind them
+    -- what is wrong with a new name, a mark and the words after them
     abbrev pub IsFaultOfNew : Fault → Type 0
     IsFaultOfNew BadName = ¬ IsName name
     IsFaultOfNew NameIsTaken = IsName name × IsSome (layout_named layouts name)
@@ -76,7 +76,7 @@ module _ (layouts : Layouts) where
       pub counts_are : GiveCounts words (kinds layout.counts)
 
   module _ (has_begun : Bool) where
-    -- what is wrong with the words behind that of a command, of which `limit` may come only where no line had one: memory can be wanting for `script` and `free` alone
+    -- what is wrong with the words after that of a command, of which `limit` may come only where no line had one: memory can be wanting for `script` and `free` alone
     abbrev pub IsRefusalOfWords : Keyword → List (List ℕ) → Refusal → Type 0
     IsRefusalOfWords keyword.Limit words reason = IsFaultAnd reason (IsFaultOfLimit has_begun words)
     IsRefusalOfWords keyword.Layout (name ∷ mark ∷ words) reason =
@@ -114,7 +114,7 @@ module _ (layouts : Layouts) where
     pub number : WritesNumberWithin most_sets count
     pub count_is : sets ≡ value_of count
 
-  -- the words behind that of a command give the command
+  -- the words after that of a command give the command
   abbrev pub GiveCommand : Keyword → List (List ℕ) → Command → Type 0
   GiveCommand keyword.Limit words (Limit max) = IsNumberOf words max
   GiveCommand keyword.Layout (name ∷ mark ∷ words) (MakesLayout named layout) =

@@ -20,7 +20,7 @@ first_layouts (l ∷ ls) =
 abbrev pub listed : String Global × Entry → List ℕ × Layout
 listed entry = (string_bytes entry.0, entry.1.layout)
 
--- the entries that are told to be first are the first with their counts and mark
+-- the entries that are said to be first are the first with their counts and mark
 abbrev pub TellFirsts : List (String Global × Entry) → Type 0
 TellFirsts entries =
     map listed (filter (λ e. e.1.is_first) entries) ≡ first_layouts (map listed entries)

@@ -16,7 +16,7 @@ use Rattle.descriptor_lines.specs.Replies.{pool_at}
 abbrev pub front_of : ℕ → List ℕ → ℕ
 front_of pool pools = prefix_len (λ next. next == pool) pools
 
--- the stretches that begin behind this pool: one begins where the pool is another than before, and is the longest front of its pool
+-- the stretches that begin after this pool: one begins where the pool is another than before, and is the longest front of its pool
 unfoldable pub stretches_behind : ℕ → List ℕ → List (ℕ × ℕ)
 stretches_behind pool [] = []
 stretches_behind pool (next ∷ rest) =

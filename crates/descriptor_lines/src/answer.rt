@@ -51,7 +51,7 @@ pub fn size_answer(
     answer.push('\n')
 }
 
-/// Puts the kinds of which the counts are not 0 behind the text, in the order of the fields: each as
+/// Puts the kinds of which the counts are not 0 after the text, in the order of the fields: each as
 /// a blank, its name, `=` and its count.
 pub fn kinds_answer(answer: &mut String, counts: &[u32; 14]) -> Result<(), AllocError>
     ensures { OnOk result (string_bytes answer.new ≡ string_bytes answer.old

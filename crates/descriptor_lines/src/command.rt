@@ -97,7 +97,7 @@ impl<'a> Command<'a> {
     }
 }
 
-/// The command of the words behind its first.
+/// The command of the words after its first.
 fn parse_words<'a>(
     alloc: Global,
     keyword: Keyword,

@@ -15,7 +15,7 @@ pub trait ScriptedMeaning: DescriptorDevice<ScriptLayout, RawPool, RawSet> {
     ghost scripted: { Self.DescriptorDevice.meaning ≡ script_meaning };
 }
 
-/// A device that takes a script, shows its counters, and is told the lines that it is used by.
+/// A device that takes a script, shows its counters, and receives the lines that it is used by.
 pub trait LineDevice: ScriptedMeaning {
     /// The words that are still to be read.
     ghost script: { Self → List Answer };
@@ -60,7 +60,7 @@ impl ScriptedMeaning for ScriptedDevice {
     ghost scripted = { refl };
 }
 
-/// A device that answers by a script alone hears nothing of the lines.
+/// A device that answers by a script alone ignores the lines.
 impl LineDevice for ScriptedDevice {
     ghost use Rattle.descriptor_script.specs.Scripted.Device.{script_of};
 

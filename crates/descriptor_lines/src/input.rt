@@ -177,7 +177,7 @@ impl LineBuffer {
         (span.start < span.end).then_some(span)
     }
 
-    /// Reads once behind the bytes, of which there are at most as many as a line may have.
+    /// Reads once after the bytes, of which there are at most as many as a line may have.
     fn read_more<R: Read>(&mut self, input: &mut R) -> Result<(), InputFault>
         requires few { self.old.end - self.old.start ≤ longest_line }
         requires open { IsFalse self.old.is_at_end }
@@ -197,7 +197,7 @@ impl LineBuffer {
         Ok(())
     }
 
-    /// Moves the bytes to the front of the buffer, so that more bytes fit behind them.
+    /// Moves the bytes to the front of the buffer, so that more bytes fit after them.
     fn move_to_front(&mut self)
         requires { self.old.end - self.old.start ≤ longest_line }
         ensures fits { self.new.end ≤ longest_line }

@@ -67,7 +67,7 @@ impl<D: LineDevice> Program<D> {
         }
     }
 
-    /// Runs a line, and puts its answer behind the text. Where there is none, nothing changes.
+    /// Runs a line, and puts its answer after the text. If there is none, nothing changes.
     fn run_line(&mut self, line: &[u8], answer: &mut String) -> Result<(), Refusal>
         requires ready { CanRun (line_state D.ledger D.script self.old) }
         requires empty { string_bytes answer.old ≡ [] }

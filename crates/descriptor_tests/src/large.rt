@@ -8,7 +8,7 @@ use descriptor_script::{Command, LogDevice, Reply, ScriptLayout};
 use std::alloc::{AllocError, Global};
 use std::test::Fail;
 
-/// So many keys, and one behind them whose pools have one set.
+/// So many keys, and one after them whose pools have one set.
 fn many_layouts(alloc: Global, count: u32) -> Result<Vec<ScriptLayout>, AllocError> {
     let mut layouts = Vec::new(alloc);
     for samplers in 1..=count {

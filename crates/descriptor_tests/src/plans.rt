@@ -65,7 +65,7 @@ pub fn old_pools() -> Plan<'static> {
 }
 
 /// The only pool is empty when a request takes its place and three new pools: a rollback drops all
-/// of them but the last. The next request takes two places behind a pool that is in use.
+/// of them but the last. The next request takes two places after a pool that is in use.
 pub fn dropped_pools() -> Plan<'static> {
     Plan {
         layouts: layouts(),

@@ -8,7 +8,7 @@ use Rattle.descriptor_script.specs.declared.raw.RawSet.{RawSet}
 use Rattle.descriptor_trace.specs.declared.traced.Traced.{Traced}
 use Rattle.descriptor_trace.specs.TraceTexts.{release_line}
 
--- a text goes behind what the output holds, unless something is lost, and nothing goes behind a loss
+-- a text is put after what the output holds, unless something is lost, and nothing after a loss
 pub record WritesDown {W : Type 0} (contents : W → Option (List ℕ)) (old new : Traced W) (text : List ℕ) : Type 0 where
   pub whole : IsFalse new.has_lost → Appends (contents old.output) (contents new.output) text
   pub still_lost : IsTrue old.has_lost → IsTrue new.has_lost

@@ -1,4 +1,4 @@
-//! Readers and writers that give and take what they are told to, and a run between them.
+//! Readers and writers that give and take so much as a test says, and a run between them.
 ghost use Rattle.std.specs.Prelude.{◌≡◌, IfOk};
 
 use descriptor_lines::{Exit, run_lines};
@@ -103,7 +103,7 @@ pub const NO_STOP: Stops = Stops {
 };
 
 /// Runs lines at which the run ends, a byte a read call, and compares all of the output. The line
-/// behind them is not read.
+/// after them is not read.
 pub fn expect_unread_behind(
     rt: &impl Abort,
     alloc: Global,

@@ -1,5 +1,5 @@
-//! That a run reads nothing behind its end, so nobody at a terminal is waited for: where the input
-//! ends, behind a faulty line, and where a read or a write fails. No clause says what is left of the
+//! That a run reads nothing after its end, so nobody at a terminal is waited for: where the input
+//! ends, after a faulty line, and where a read or a write fails. No clause says what is left of the
 //! input.
 use crate::ends::{NO_STOP, Stops, expect_unread_behind};
 use descriptor_lines::Exit;

@@ -38,7 +38,7 @@ impl Read for Watcher<'_> {
     }
 }
 
-/// Takes what its sink takes, and tells how much that was.
+/// Takes what its sink takes, and returns how much that was.
 #[derive(Drop)]
 struct Teller<'a> {
     sink: Sink,

@@ -26,7 +26,7 @@ struct Span {
     last: usize,
 }
 
-/// The tickets that the words behind `free` write, one word after the other.
+/// The tickets that the words after `free` write, one word after the other.
 ///
 /// The fault is that of the first word that is wrong, or with which the tickets are too many.
 pub fn parse_free(alloc: Global, words: Words<'_>) -> Result<Vec<usize>, Refusal>
@@ -105,7 +105,7 @@ fn add_tickets(tickets: &mut Vec<usize>, span: Span) -> Result<(), Refusal>
     Ok(())
 }
 
-/// Puts so many tickets from the first up behind the others, over memory that was reserved.
+/// Puts so many tickets from the first up after the others, over memory that was reserved.
 fn push_rising(tickets: &mut Vec<usize>, first: usize, count: usize)
     requires reserve { vec_len tickets.old + count ≤ vec_capacity tickets.old }
     requires fits { first + count ≤ 2 ^ 64 }
@@ -117,7 +117,7 @@ fn push_rising(tickets: &mut Vec<usize>, first: usize, count: usize)
     }
 }
 
-/// Puts so many tickets from the first down behind the others, over memory that was reserved.
+/// Puts so many tickets from the first down after the others, over memory that was reserved.
 fn push_falling(tickets: &mut Vec<usize>, first: usize, count: usize)
     requires reserve { vec_len tickets.old + count ≤ vec_capacity tickets.old }
     requires fits { count ≤ first + 1 }

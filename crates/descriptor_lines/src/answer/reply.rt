@@ -42,7 +42,7 @@ pub fn reserve_for(command: &Command) -> usize
     }
 }
 
-/// Puts what the session replied behind the answer.
+/// Puts what the session replied after the answer.
 pub fn reply_answer(answer: &mut String, session: &LineSession, reply: &Reply)
     requires replied { HasAnswer session.now reply.now }
     requires reserve { HasReserveFor (most_bytes (sets_given reply.now)) answer.old }

@@ -1,4 +1,4 @@
-//! Texts that go behind an answer which has memory for them.
+//! Texts that are put after an answer which has memory for them.
 ghost use Rattle.std.specs.Prelude.{◌≡◌, ◌≤◌, ◌+◌, ◌++◌, length, string_bytes, string_capacity};
 ghost use Rattle.std.specs.Fmt.{decimal};
 ghost use Rattle.descriptor_lines.specs.Answers.{HasReserveFor};
@@ -6,7 +6,7 @@ ghost use Rattle.descriptor_lines.specs.Answers.{HasReserveFor};
 use itoa::Buffer;
 use std::string::String;
 
-/// Puts a text behind the answer.
+/// Puts a text after the answer.
 pub fn put(answer: &mut String, text: &str)
     requires { HasReserveFor (length text.now) answer.old }
     ensures text { string_bytes answer.new ≡ string_bytes answer.old ++ text.now }
@@ -15,7 +15,7 @@ pub fn put(answer: &mut String, text: &str)
     answer.push_str(text).unwrap();
 }
 
-/// Puts a number behind the answer, and before it this text.
+/// Puts a number after the answer, and before it this text.
 pub fn put_number(answer: &mut String, before: &str, number: u64)
     requires { HasReserveFor (length before.now + length (decimal number)) answer.old }
     ensures text { string_bytes answer.new ≡ string_bytes answer.old

@@ -76,7 +76,7 @@ impl<D: LineDevice> Program<D> {
         Ok(())
     }
 
-    /// Keeps a layout, and puts the answer behind the text.
+    /// Keeps a layout, and puts the answer after the text.
     fn add_layout(
         &mut self,
         name: &str,

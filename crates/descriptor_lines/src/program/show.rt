@@ -12,7 +12,7 @@ use std::alloc::AllocError;
 use std::string::String;
 
 impl<D: LineDevice> Program<D> {
-    /// Puts the pools of each key behind the text, under the first layout that has it, and then the
+    /// Puts the pools of each key after the text, under the first layout that has it, and then the
     /// counters.
     pub(super) fn show(&self, answer: &mut String) -> Result<(), AllocError>
         ensures { OnOk result (string_bytes answer.new ≡ string_bytes answer.old
@@ -35,7 +35,7 @@ impl<D: LineDevice> Program<D> {
         answer::held_answer(answer, self.session.held(), marked)
     }
 
-    /// Puts the pools of a layout behind the text, oldest first.
+    /// Puts the pools of a layout after the text, oldest first.
     fn show_pools(&self, name: &str, layout: &Layout, answer: &mut String) -> Result<(), AllocError>
         ensures { OnOk result (string_bytes answer.new ≡ string_bytes answer.old
             ++ pools_answer (allocator_of self.now.session).table (name.now, layout.now)) }

@@ -8,7 +8,7 @@ use std::alloc::Global;
 use std::process::Abort;
 use std::test::Fail;
 
-/// Does the acts behind three sets that are retired at frames 5, 6 and 7.
+/// Does the acts after three sets that are retired at frames 5, 6 and 7.
 fn play_behind(rt: &impl Abort, trial: &mut Trial, acts: &[FrameAct<'_>]) -> Result<(), Fail> {
     let retired = [
         Retire(5, Outcome::Retired),

@@ -1,4 +1,4 @@
-//! Handles of two renderers, which are told apart by the renderers' numbers.
+//! Handles of two renderers, which differ by the renderers' numbers.
 use super::bench::{Stage, ample, draw_sets, hold, make_stage};
 use crate::bench::expect_same;
 use descriptor_renderer::{DrawHandle, SetHandle};

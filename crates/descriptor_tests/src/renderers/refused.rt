@@ -9,7 +9,7 @@ use std::alloc::Global;
 use std::process::Abort;
 use std::test::Fail;
 
-/// Draws five frames on a device that refuses one call, and tells how many draws that cost.
+/// Draws five frames on a device that refuses one call, and returns how many draws that cost.
 fn refused_at(rt: &impl Abort, alloc: Global, call: usize) -> Result<u64, Fail> {
     let mut stage = scripted(rt, alloc, refuse_at(alloc, call, Answer::Device)?);
     Ok(draw_frames(&mut stage, 5, 3))
