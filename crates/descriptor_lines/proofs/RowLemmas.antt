@@ -6,7 +6,7 @@ use Rattle.descriptor_words.specs.Fault.{faulty}
 use Rattle.descriptor_words.specs.Keywords.{word_of_keyword}
 use Rattle.descriptor_words.specs.Words.{is_silent}
 use Rattle.descriptor_words.specs.declared.fault.Fault.{Fault}
-use Rattle.descriptor_words.specs.declared.fault.Fault.TheVariants.{LineTooLong, UnknownCommand, LimitNotFirst, BadWordCount, BadName, NameIsTaken, NoSuchLayout, BadMark, BadKind, KindTwice, BadNumber, BadAnswerWord, TooManyTickets, TooManyLayouts}
+use Rattle.descriptor_words.specs.declared.fault.Fault.TheVariants.{BadName, NoSuchLayout, BadNumber}
 use Rattle.descriptor_words.specs.declared.fault.Refusal.{Refusal}
 use Rattle.descriptor_words.specs.declared.keyword.Keyword.{Keyword}
 use Rattle.descriptor_words.specs.declared.keyword.Keyword.TheVariants as keyword
@@ -23,7 +23,7 @@ use Rattle.descriptor_lines.specs.Transcripts.{AreAnswered, IsAnswered, IsFaultO
 use Rattle.descriptor_lines.specs.declared.command.Command.{Command}
 use Rattle.descriptor_lines.specs.declared.command.Command.TheVariants as command
 use Rattle.descriptor_lines.specs.declared.exit.Exit.{Exit}
-use Rattle.descriptor_lines.specs.declared.exit.Exit.TheVariants.{Done, BadLine, ReadFault, WriteFault, NoMemory}
+use Rattle.descriptor_lines.specs.declared.exit.Exit.TheVariants.{Done, BadLine}
 use Rattle.descriptor_lines.specs.declared.layouts.Layout.{Layout}
 use Rattle.descriptor_lines.specs.declared.layouts.Layouts.{Layouts}
 
@@ -65,9 +65,7 @@ pub step_of : (number : ℕ) (line : List ℕ) (lines : List (List ℕ)) (old : 
 step_of number line lines old Done text ends = done_step number line lines old ends.0 text ends.1
 step_of number line lines old BadLine text (before, faulty_line, after, answers, last, p, new, split, answered, refused, said) =
     faulty_step number line lines old p new text before faulty_line after answers last split answered refused said
-step_of number line lines old ReadFault text ends = absurd ends
-step_of number line lines old WriteFault text ends = absurd ends
-step_of number line lines old NoMemory text ends = absurd ends
+step_of number line lines old _ text ends = absurd ends
 
 none_split : (before after : List (List ℕ)) (line : List ℕ) → [] ≡ before ++ line ∷ after → ⊥
 none_split [] after line split = not_end split
@@ -76,21 +74,15 @@ none_split (first ∷ before) after line split = not_end split
 pub end_of : (number : ℕ) (old : LineState) (exit : Exit) (text : List ℕ) → Ends number [] old exit text → (exit ≡ Done) × (text ≡ [])
 end_of number old Done text ends = (refl, ends.1.0)
 end_of number old BadLine text (before, line, after, answers, last, p, new, split, answered, refused, said) = absurd (none_split before after line split)
-end_of number old ReadFault text ends = absurd ends
-end_of number old WriteFault text ends = absurd ends
-end_of number old NoMemory text ends = absurd ends
+end_of number old _ text ends = absurd ends
 
 -- a run whose reads and writes were good
 pub ends_from : (lines : List (List ℕ)) (start last : LineState) (exit : Exit) (text : List ℕ) → (exit ≡ Done) ⊎ (exit ≡ BadLine) → Wrote lines start exit text last → Ends 1 lines start exit text
 ends_from lines start last Done text well wrote = (last, wrote)
 ends_from lines start last BadLine text well wrote =
     (wrote.before, wrote.line, wrote.after, wrote.answers, wrote.said, wrote.program, last, wrote.split, wrote.answered, wrote.says, wrote.whole)
-ends_from lines start last ReadFault text (inl well) wrote = cc
-ends_from lines start last ReadFault text (inr well) wrote = cc
-ends_from lines start last WriteFault text (inl well) wrote = cc
-ends_from lines start last WriteFault text (inr well) wrote = cc
-ends_from lines start last NoMemory text (inl well) wrote = cc
-ends_from lines start last NoMemory text (inr well) wrote = cc
+ends_from lines start last _ text (inl well) wrote = cc
+ends_from lines start last _ text (inr well) wrote = cc
 
 -- ---- words
 
@@ -111,13 +103,7 @@ keyword_of n =
 
 keyword_told : (keyword : Keyword) → keyword_of (number_of (word_of_keyword keyword)) ≡ keyword
 keyword_told keyword.Limit = refl
-keyword_told keyword.Layout = refl
-keyword_told keyword.Size = refl
-keyword_told keyword.Script = refl
-keyword_told keyword.Alloc = refl
-keyword_told keyword.Free = refl
-keyword_told keyword.Cleanup = refl
-keyword_told keyword.Show = refl
+keyword_told _ = refl
 
 -- no two commands have one word
 pub one_keyword : (keyword other : Keyword) → word_of_keyword keyword ≡ word_of_keyword other → keyword ≡ other
@@ -127,13 +113,7 @@ one_keyword keyword other same =
 -- a line that begins with the word of a command is not silent
 keyword_is_heard : (keyword : Keyword) (words : List (List ℕ)) → IsFalse (is_silent (word_of_keyword keyword ∷ words))
 keyword_is_heard keyword.Limit words = refl
-keyword_is_heard keyword.Layout words = refl
-keyword_is_heard keyword.Size words = refl
-keyword_is_heard keyword.Script words = refl
-keyword_is_heard keyword.Alloc words = refl
-keyword_is_heard keyword.Free words = refl
-keyword_is_heard keyword.Cleanup words = refl
-keyword_is_heard keyword.Show words = refl
+keyword_is_heard _ words = refl
 
 refused_is_heard : (layouts : Layouts) (has_begun : Bool) (words : List (List ℕ)) (reason : Refusal) → IsRefusalOf layouts has_begun words reason → IsTrue (is_silent words) → ⊥
 refused_is_heard layouts has_begun [] reason refused silent = refused
@@ -177,40 +157,20 @@ silent_line number line lines old exit text short silent ends = passed (step_of 
 pub has_memory : (answer rest text : List ℕ) → text ≡ answer ++ rest → HadMemory text → answer ≡ no_memory → ⊥
 has_memory answer rest text said had none = had [] rest (rw none at said)
 
+not_there : (o : Option Layout) → o ≡ None → IsSome o → ⊥
+not_there None none there = cc
+not_there (Some layout) none there = cc
+
 -- what is wrong with a name that no layout has
 no_layout : (layouts : Layouts) (name : List ℕ) (Numbers : Type 0) (fault : Fault) → IsName name → layout_named layouts name ≡ None → IsFaultOfUse layouts name Numbers fault → fault ≡ NoSuchLayout
-no_layout layouts name Numbers LineTooLong is none wrong = absurd wrong
-no_layout layouts name Numbers UnknownCommand is none wrong = absurd wrong
-no_layout layouts name Numbers LimitNotFirst is none wrong = absurd wrong
-no_layout layouts name Numbers BadWordCount is none wrong = absurd wrong
 no_layout layouts name Numbers BadName is none wrong = absurd (wrong is)
-no_layout layouts name Numbers NameIsTaken is none wrong = absurd wrong
 no_layout layouts name Numbers NoSuchLayout is none wrong = refl
-no_layout layouts name Numbers BadMark is none wrong = absurd wrong
-no_layout layouts name Numbers BadKind is none wrong = absurd wrong
-no_layout layouts name Numbers KindTwice is none wrong = absurd wrong
 no_layout layouts name Numbers BadNumber is none wrong = absurd (not_there (layout_named layouts name) none wrong.1)
-  where
-    not_there : (o : Option Layout) → o ≡ None → IsSome o → ⊥
-    not_there None none there = cc
-    not_there (Some layout) none there = cc
-no_layout layouts name Numbers BadAnswerWord is none wrong = absurd wrong
-no_layout layouts name Numbers TooManyTickets is none wrong = absurd wrong
-no_layout layouts name Numbers TooManyLayouts is none wrong = absurd wrong
+no_layout layouts name Numbers _ is none wrong = absurd wrong
 
 no_place : (layouts : Layouts) (name count : List ℕ) (command : Command) → layout_named layouts name ≡ None → GiveCommand layouts keyword.Alloc (name ∷ count ∷ []) command → ⊥
-no_place layouts name count (command.Limit max) none gives = gives
-no_place layouts name count (command.Layout named layout) none gives = gives
-no_place layouts name count (command.Size counts total wanted) none gives = gives
-no_place layouts name count (command.Script script) none gives = gives
 no_place layouts name count (command.Alloc place sets) none gives = not_there (layout_named layouts name) none gives.known
-  where
-    not_there : (o : Option Layout) → o ≡ None → IsSome o → ⊥
-    not_there None none there = cc
-    not_there (Some layout) none there = cc
-no_place layouts name count (command.Free tickets) none gives = gives
-no_place layouts name count command.Cleanup none gives = gives
-no_place layouts name count command.Show none gives = gives
+no_place layouts name count _ none gives = gives
 
 no_layout_refusal : (layouts : Layouts) (has_begun : Bool) (name count : List ℕ) (fault : Fault) → IsName name → layout_named layouts name ≡ None → IsRefusalOf layouts has_begun (codes "alloc" ∷ name ∷ count ∷ []) (faulty fault) → fault ≡ NoSuchLayout
 no_layout_refusal layouts has_begun name count fault is none (inl (heard, unknown, same)) = absurd (unknown keyword.Alloc refl)

@@ -2,23 +2,20 @@
 use Rattle.std.proofs.Common.{All, ◌≡◌, ◌≢◌, ℕ, zero, suc, zero-le, ◌+◌, ◌-◌, ◌<◌, ◌≤◌, ◌^◌, List, [], ◌∷◌, ◌++◌, length, length-append, map, get_or, slice_index_or, Option, None, Some, IsSome, subst, refl, sym, ap, ◌∙◌, arith}
 use Rattle.std.proofs.lemmas.List.{get_or-append_right, length-map}
 use Rattle.std.proofs.lemmas.List.Elements.{All-cons, All-nil}
-use Rattle.gpu_descriptor_types.specs.Counts.{kinds}
 use Rattle.gpu_descriptor_types.specs.Ledger.{Ledger}
-use Rattle.gpu_descriptor.specs.Caller.Flags.{is_marked}
+use Rattle.gpu_descriptor.specs.Caller.SetLayouts.{IsMeant}
 use Rattle.gpu_descriptor.specs.Caller.States.{state_of}
 use Rattle.gpu_descriptor.proofs.callers.NewAllocators.{new_agrees}
 use Rattle.gpu_descriptor.proofs.release.Places.{none_out}
 use Rattle.descriptor_script.specs.Scripted.Raw.{pool_id, script_meaning}
-use Rattle.descriptor_script.specs.Sessions.Session.{AreMeant, IsReady, allocator_of, layouts_of, sets_of}
+use Rattle.descriptor_script.specs.Sessions.Session.{IsReady, allocator_of, layouts_of, sets_of}
 use Rattle.descriptor_script.specs.Sessions.SessionRun.{RunsTo}
 use Rattle.descriptor_script.specs.Sessions.Steps.{IsAsBefore, IsTurnedAway, StepsTo}
 use Rattle.descriptor_script.specs.declared.answer.Answer.{Answer}
 use Rattle.descriptor_script.specs.declared.command.Command.{Command}
-use Rattle.descriptor_script.specs.declared.command.Command.TheVariants.{Allocate, Free, Cleanup}
+use Rattle.descriptor_script.specs.declared.command.Command.TheVariants.{Allocate}
 use Rattle.descriptor_script.specs.declared.command.Reply.{Reply}
-use Rattle.descriptor_script.specs.declared.command.Reply.TheVariants.{Sets, Refused, Freed, BadTicket, BadLayout, NoMemory, Clean}
-use Rattle.descriptor_script.specs.declared.raw.ScriptLayout.{ScriptLayout}
-use Rattle.descriptor_script.specs.declared.session.KnownLayout.{KnownLayout}
+use Rattle.descriptor_script.specs.declared.command.Reply.TheVariants.{Sets, BadLayout, NoMemory}
 use Rattle.descriptor_lines.specs.Commands.{IsKnown}
 use Rattle.descriptor_lines.specs.LayoutTable.{layout_count, layouts_in}
 use Rattle.descriptor_lines.specs.LineStates.{LineState}
@@ -33,7 +30,7 @@ pub new_is_ready : (s : LineSession) (l : Ledger) (max : ℕ) → allocator_of s
 new_is_ready s l max allocator layouts sets = record {
   agree = new_agrees allocator script_meaning.pool_name l;
   held = rw (allocator, sets) (λ t. none_out (state_of pool_id (record { limit = max; table = []; looks = 0; comparisons = 0 }) l) t refl);
-  meant = rw layouts (λ i k at. (cc));
+  meant = rw layouts (All-nil (IsMeant script_meaning));
 }
 
 -- after a step the program can run the next line
@@ -45,19 +42,12 @@ still_runs p s script l can ready layouts = record {
 }
 
 -- a session with the same books and sets is ready as well
-pub same_is_ready : (s t : LineSession) (l : Ledger) → IsReady script_meaning (side s l) → allocator_of t ≡ allocator_of s → sets_of t ≡ sets_of s → AreMeant script_meaning (layouts_of t) → IsReady script_meaning (side t l)
+pub same_is_ready : (s t : LineSession) (l : Ledger) → IsReady script_meaning (side s l) → allocator_of t ≡ allocator_of s → sets_of t ≡ sets_of s → All (IsMeant script_meaning) (layouts_of t) → IsReady script_meaning (side t l)
 same_is_ready s t l ready allocator sets meant = record {
   agree = rw allocator ready.agree;
   held = rw (allocator, sets) ready.held;
   meant = meant;
 }
-
--- one more layout that is meant
-pub meant_more : (ks : List (KnownLayout ScriptLayout)) (k : KnownLayout ScriptLayout) → AreMeant script_meaning ks → (kinds k.counts ≡ kinds k.layout.counts) × (is_marked k.flags ≡ k.layout.mark) → AreMeant script_meaning (ks ++ k ∷ [])
-meant_more [] k meant is zero x at = let same : k ≡ x = (cc) in rw (← same) is
-meant_more [] k meant is (suc i) x at = (cc)
-meant_more (y ∷ ks) k meant is zero x at = meant zero x at
-meant_more (y ∷ ks) k meant is (suc i) x at = meant_more ks k (λ j z there. meant (suc j) z there) is i x at
 
 module _ {X : Type 0} where
   some_at : (given : List X) (i : ℕ) → i < length given → IsSome (get_or (map Some given) i None)
@@ -89,16 +79,11 @@ all_turned_away command (r ∷ s ∷ rest) reply old new before after run is awa
 -- a reply that memory is wanting changes nothing
 pub no_memory_changes_nothing : (command : Command) (old new : LineSession) (before after : Ledger) → Steps command NoMemory old new before after → IsAsBefore (side old before) (side new after)
 no_memory_changes_nothing (Allocate layout count) old new before after step = step.2
-no_memory_changes_nothing (Free tickets) old new before after step = absurd step
-no_memory_changes_nothing Cleanup old new before after step = absurd step
+no_memory_changes_nothing _ old new before after step = absurd step
 
 -- the reply to a command is answered where its layout is there, and memory
 pub has_answer : (command : Command) (reply : Reply) (old new : LineSession) (before after : Ledger) → Steps command reply old new before after → reply ≢ NoMemory → IsKnown (length (layouts_of old)) command → length (sets_of new) < 2 ^ 64 → HasAnswer new reply
-has_answer command (Refused error) old new before after step memory known small = tt
-has_answer command (Freed count) old new before after step memory known small = tt
-has_answer command BadTicket old new before after step memory known small = tt
 has_answer command NoMemory old new before after step memory known small = absurd (memory refl)
-has_answer command Clean old new before after step memory known small = tt
 has_answer (Allocate layout count) (Sets first many) old new before after step memory known small =
     let longer : length (sets_of new) ≡ length (sets_of old) + length step.given = ap length step.sets ∙ length-append (sets_of old) (map Some step.given) ∙ ap (λ n. length (sets_of old) + n) (length-map step.given Some) in
     record {
@@ -106,22 +91,15 @@ has_answer (Allocate layout count) (Sets first many) old new before after step m
       fits = omega (arith, longer, step.first, step.asked, step.all_given);
     }
 has_answer (Allocate layout count) BadLayout old new before after step memory known small = absurd (omega (arith, step.0, known))
-has_answer (Free tickets) (Sets first many) old new before after step memory known small = absurd step
-has_answer (Free tickets) BadLayout old new before after step memory known small = absurd step
-has_answer Cleanup (Sets first many) old new before after step memory known small = absurd step
-has_answer Cleanup BadLayout old new before after step memory known small = absurd step
+has_answer _ (Sets first many) old new before after step memory known small = absurd step
+has_answer _ BadLayout old new before after step memory known small = absurd step
+has_answer _ _ old new before after step memory known small = tt
 
 -- a reply hands out no more sets than the command asks for
 pub given_as_asked : (command : Command) (reply : Reply) (old new : LineSession) (before after : Ledger) → Steps command reply old new before after → sets_given reply ≤ sets_asked command
-given_as_asked command (Refused error) old new before after step = zero-le
-given_as_asked command (Freed count) old new before after step = zero-le
-given_as_asked command BadTicket old new before after step = zero-le
-given_as_asked command BadLayout old new before after step = zero-le
-given_as_asked command NoMemory old new before after step = zero-le
-given_as_asked command Clean old new before after step = zero-le
 given_as_asked (Allocate layout count) (Sets first many) old new before after step = omega (arith, step.asked)
-given_as_asked (Free tickets) (Sets first many) old new before after step = absurd step
-given_as_asked Cleanup (Sets first many) old new before after step = absurd step
+given_as_asked _ (Sets first many) old new before after step = absurd step
+given_as_asked _ _ old new before after step = zero-le
 
 -- the tickets of a session fit in 64 bits
 pub few_tickets : (s : LineSession) → length (sets_of s) < 2 ^ 64

@@ -142,10 +142,6 @@ module _ {S : Type 0} where
   all_emptied (x ∷ xs) s t y none =
       all_emptied xs y.0 t y.2 none ∙ ap (λ l. emptied l (iter_rest y.0.tickets)) y.1.3 ∙ sym (ap (emptied (slots_of s.slots)) y.1.1)
 
-  pub before_stays : (xs : List (DescriptorSet S)) (s t : Taking S) → Yields TakesNext s xs t → t.slots.before ≡ s.slots.before
-  before_stays [] s t y = ap (λ (u : Taking S). u.slots.before) (sym y)
-  before_stays (x ∷ xs) s t y = before_stays xs y.0 t y.2 ∙ y.1.4
-
   tally-items : (name : S → ℕ) (i : Item) (xs : List (DescriptorSet S)) → tally (λ x. count_of i (item_of name x ∷ [])) xs ≡ count_of i (items_of name xs)
   tally-items name i [] = refl
   tally-items name i (x ∷ xs) = ap (λ n. count_of i (item_of name x ∷ []) + n) (tally-items name i xs) ∙ sym (count_by-append (λ j. item_eq j i) (item_of name x ∷ []) (items_of name xs))

@@ -8,12 +8,12 @@ use Rattle.descriptor_script.specs.Sessions.Session.{sets_of}
 use Rattle.descriptor_script.specs.Sessions.Steps.{AllocatesTo, Cleans, FreesTo, KeepsTickets}
 use Rattle.descriptor_script.specs.Sessions.Tickets.{emptied, set_at}
 use Rattle.descriptor_script.specs.declared.command.Reply.{Reply}
-use Rattle.descriptor_script.specs.declared.command.Reply.TheVariants.{Sets, Refused, Freed, BadTicket, BadLayout, NoMemory, Clean}
+use Rattle.descriptor_script.specs.declared.command.Reply.TheVariants.{Sets, Refused, Freed, BadTicket, BadLayout, NoMemory}
 use Rattle.descriptor_script.specs.declared.session.Session.{Session}
 use Rattle.descriptor_script.proofs.Emptied.{none_at}
 
 module _ {X : Type 0} where
-  pub emptied_length : (slots : List (Option X)) (tickets : List ℕ) → length (emptied slots tickets) ≡ length slots
+  emptied_length : (slots : List (Option X)) (tickets : List ℕ) → length (emptied slots tickets) ≡ length slots
   emptied_length slots [] = refl
   emptied_length slots (n ∷ ns) = emptied_length (set slots n None) ns ∙ length-set slots n None
 
@@ -23,7 +23,7 @@ module _ {X : Type 0} where
     | inr other ↦ get_or-set_other slots n m None None other ∙ none
   ]
 
-  pub emptied_none : (slots : List (Option X)) (tickets : List ℕ) (m : ℕ) → get_or slots m None ≡ None → get_or (emptied slots tickets) m None ≡ None
+  emptied_none : (slots : List (Option X)) (tickets : List ℕ) (m : ℕ) → get_or slots m None ≡ None → get_or (emptied slots tickets) m None ≡ None
   emptied_none slots [] m none = none
   emptied_none slots (n ∷ ns) m none = emptied_none (set slots n None) ns m (none_set slots n m none)
 
@@ -41,23 +41,17 @@ module _ {L P S : Type 0} where
     freed = λ ticket lt none. ap (λ s. set_at s ticket) h.sets ∙ get_or_append_left (sets_of old.value) (map Some h.given) None ticket lt ∙ none;
   }
   allocating_keeps means layout count (Refused e) old new h = same old.value new.value h.sets
-  allocating_keeps means layout count (Freed n) old new h = absurd h
-  allocating_keeps means layout count BadTicket old new h = absurd h
   allocating_keeps means layout count BadLayout old new h = same old.value new.value h.1.sets
   allocating_keeps means layout count NoMemory old new h = same old.value new.value h.2.sets
-  allocating_keeps means layout count Clean old new h = absurd h
+  allocating_keeps means layout count _ old new h = absurd h
 
   pub freeing_keeps : (means : Meaning L P S) (tickets : List ℕ) (reply : Reply) (old new : Side (Session L P S)) → FreesTo means tickets old new reply → KeepsTickets old.value new.value
-  freeing_keeps means tickets (Sets next many) old new h = absurd h
-  freeing_keeps means tickets (Refused e) old new h = absurd h
   freeing_keeps means tickets (Freed n) old new h = record {
     next = (let l = ap length h.sets in let a = emptied_length (sets_of old.value) tickets in omega arith);
     freed = λ ticket lt none. ap (λ s. set_at s ticket) h.sets ∙ emptied_none (sets_of old.value) tickets ticket none;
   }
   freeing_keeps means tickets BadTicket old new h = same old.value new.value h.1.sets
-  freeing_keeps means tickets BadLayout old new h = absurd h
-  freeing_keeps means tickets NoMemory old new h = absurd h
-  freeing_keeps means tickets Clean old new h = absurd h
+  freeing_keeps means tickets _ old new h = absurd h
 
   pub cleaning_keeps : (means : Meaning L P S) (old new : Side (Session L P S)) → Cleans means old new → KeepsTickets old.value new.value
   cleaning_keeps means old new h = same old.value new.value h.sets

@@ -4,7 +4,6 @@ pub mod Live
 pub mod Log
 pub mod Marks
 pub mod Owed
-pub mod Places
 pub mod Pools
 pub mod Slots
 pub mod Table

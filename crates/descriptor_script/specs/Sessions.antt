@@ -1,8 +1,5 @@
 -- Sessions: what one keeps, what a command does to it, runs, and the parts of the headline.
 pub mod Headline
-pub mod Names
-pub mod NamedSets
-pub mod NamedSteps
 pub mod Session
 pub mod SessionRun
 pub mod Steps

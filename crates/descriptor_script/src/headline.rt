@@ -4,18 +4,16 @@
 //! marked descriptors never pass the limit, and a request fails only for a named cause.
 ghost use Rattle.std.specs.Prelude.{◌≡◌, IfOk, OnErr};
 ghost use Rattle.gpu_descriptor_types.specs.Side.{side};
-ghost use Rattle.descriptor_script.specs.Sessions.Headline.{CallsOnceARun, FailsForCause};
-ghost use Rattle.descriptor_script.specs.Sessions.Headline.{FreesOneByOne, HoldsExactly};
-ghost use Rattle.descriptor_script.specs.Sessions.Headline.{HoldsWhatIsOut, KeepsAll, KeepsLimit};
+ghost use Rattle.descriptor_script.specs.Sessions.Headline.{KeepsAll};
 ghost use Rattle.descriptor_script.specs.Sessions.Session.{IsReady, KeepsSession};
-ghost use Rattle.descriptor_script.specs.Sessions.SessionRun.{RunsKeeping, RunsTo};
+ghost use Rattle.descriptor_script.specs.Sessions.SessionRun.{RunsKeeping};
 
 use crate::{Command, Reply, Session};
 use gpu_descriptor::DescriptorDevice;
 use std::alloc::AllocError;
 use std::vec::Vec;
 
-/// Runs commands as `Session::run` does. Its contract is the headline, a clause for each part.
+/// Runs commands as `Session::run` does. Its contract is the headline.
 ///
 /// What `RunsKeeping` says holds after each command of the list, refused ones too: there are states
 /// from the first to the last, each by a step from the one before, with the promise at each. The
@@ -28,34 +26,7 @@ pub fn headline<L, P: Drop, S: Drop, D: DescriptorDevice<L, P, S>>(
 ) -> Result<Vec<Reply>, AllocError>
     requires ready { IsReady D.meaning (side session.old (D.ledger device.old)) }
 
-    // The replies are those of a run: the commands were done in order, each as its reply says.
-    ensures runs { IfOk result (λ replies. RunsTo D.meaning commands.now replies.items
-        (side session.old (D.ledger device.old)) (side session.new (D.ledger device.new))) }
-
-    // The pools hold exactly the sets that are held ..
-    ensures exactly { IfOk result (λ replies. RunsKeeping D.meaning (HoldsExactly D.meaning)
-        commands.now replies.items (side session.old (D.ledger device.old))
-        (side session.new (D.ledger device.new))) }
-
-    // .. and these are the sets that were handed out and not returned.
-    ensures handed_out { IfOk result (λ replies. RunsKeeping D.meaning HoldsWhatIsOut commands.now
-        replies.items (side session.old (D.ledger device.old))
-        (side session.new (D.ledger device.new))) }
-
-    ensures one_by_one { IfOk result (λ replies. RunsKeeping D.meaning (FreesOneByOne D.meaning)
-        commands.now replies.items (side session.old (D.ledger device.old))
-        (side session.new (D.ledger device.new))) }
-    ensures one_call_a_run { IfOk result (λ replies. RunsKeeping D.meaning (CallsOnceARun D.meaning)
-        commands.now replies.items (side session.old (D.ledger device.old))
-        (side session.new (D.ledger device.new))) }
-    ensures limit { IfOk result (λ replies. RunsKeeping D.meaning KeepsLimit commands.now
-        replies.items (side session.old (D.ledger device.old))
-        (side session.new (D.ledger device.new))) }
-    ensures cause { IfOk result (λ replies. RunsKeeping D.meaning (FailsForCause D.meaning)
-        commands.now replies.items (side session.old (D.ledger device.old))
-        (side session.new (D.ledger device.new))) }
-
-    // All these at the same states.
+    // At each command of the list all parts of the headline hold, which are the fields of `KeepsAll`.
     ensures together { IfOk result (λ replies. RunsKeeping D.meaning (KeepsAll D.meaning)
         commands.now replies.items (side session.old (D.ledger device.old))
         (side session.new (D.ledger device.new))) }

@@ -1,31 +1,19 @@
 //! A session: commands on an allocator, whose sets are named by tickets.
 ghost use Rattle.std.specs.Prelude.{◌≡◌, ℕ, ◌≤◌, ◌++◌, [], ◌∷◌, length, slice_get, IfOk, IfErr, OnOk};
 ghost use Rattle.std.specs.Prelude.{OnErr};
-ghost use Rattle.std.specs.Option.{option_copied, option_map};
+ghost use Rattle.std.specs.Option.{option_copied};
 ghost use Rattle.gpu_descriptor_types.specs.Ledger.{Ledger};
 ghost use Rattle.gpu_descriptor.specs.Caller.States.{Agrees, marked_load_of, outstanding_of};
 ghost use Rattle.gpu_descriptor.specs.Caller.States.{pool_load_of};
 ghost use Rattle.gpu_descriptor.specs.Caller.Values.{without_keys};
 ghost use Rattle.descriptor_script.specs.Sessions.Tickets.{held_sets, set_at};
 
-mod named;
 mod run;
 mod step;
 
 use crate::slots::Slots;
-use gpu_descriptor::{
-    DescriptorAllocator, DescriptorSet, DescriptorSetLayoutCreateFlags, DescriptorTotalCount,
-};
-use std::alloc::Global;
-use std::vec::Vec;
-
-/// A layout, with its counts and flags.
-#[derive(Drop)]
-pub(crate) struct KnownLayout<L> {
-    pub(crate) layout: L,
-    pub(crate) counts: DescriptorTotalCount,
-    pub(crate) flags: DescriptorSetLayoutCreateFlags,
-}
+use gpu_descriptor::{DescriptorAllocator, DescriptorSet, SetLayout};
+use std::alloc::{AllocFailed, Global};
 
 /// Runs commands on an allocator, and keeps the sets that are out.
 ///
@@ -34,19 +22,15 @@ pub(crate) struct KnownLayout<L> {
 #[derive(Drop)]
 pub struct Session<L, P, S> {
     pub(crate) allocator: DescriptorAllocator<P, S>,
-    pub(crate) layouts: Vec<KnownLayout<L>>,
+    pub(crate) layouts: Vec<SetLayout<L>>,
     pub(crate) slots: Slots<S>,
-
-    /// Memory for the places of a list of names.
-    pub(crate) places: Vec<usize>,
     ghost counted: { slots.held ≡ outstanding_of allocator },
     ghost within: { marked_load_of allocator ≤ allocator.limit },
     ghost in_room: { pool_load_of allocator ≤ allocator.limit },
 }
 
 impl<L, P, S> Session<L, P, S> {
-    ghost use Rattle.descriptor_script.specs.Sessions.Session.{allocator_of, layouts_of};
-    ghost use Rattle.descriptor_script.specs.Sessions.Session.{named_of, reserve_to_free, sets_of};
+    ghost use Rattle.descriptor_script.specs.Sessions.Session.{allocator_of, layouts_of, sets_of};
 
     /// A session without layouts and sets, whose allocator has this limit on update-after-bind
     /// descriptors, and agrees with every device. It takes no memory.
@@ -61,55 +45,29 @@ impl<L, P, S> Session<L, P, S> {
             allocator: DescriptorAllocator::new(alloc, max),
             layouts: Vec::new(alloc),
             slots: Slots::new(alloc),
-            places: Vec::new(alloc),
         }
     }
 
-    /// Puts a layout last, and answers its place. For want of memory it hands the layout back.
-    pub fn add_layout(
-        &mut self,
-        layout: L,
-        counts: DescriptorTotalCount,
-        flags: DescriptorSetLayoutCreateFlags,
-    ) -> Result<usize, L>
+    /// Puts a layout last, and returns its place. If an allocation fails the layout comes back, and
+    /// nothing has changed.
+    pub fn add_layout(&mut self, layout: SetLayout<L>) -> Result<usize, AllocFailed<SetLayout<L>>>
         ensures place { IfOk result (λ place. place ≡ length (layouts_of self.old)) }
-        ensures last { OnOk result (layouts_of self.new ≡ layouts_of self.old
-            ++ record { layout = layout; counts = counts; flags = flags } ∷ []) }
-        ensures back { IfErr result (λ l. l ≡ layout) }
+        ensures last { OnOk result (layouts_of self.new ≡ layouts_of self.old ++ layout ∷ []) }
+        ensures back { IfErr result (λ failed. failed.value ≡ layout) }
         ensures layouts { OnErr result (layouts_of self.new ≡ layouts_of self.old) }
         ensures allocator { allocator_of self.new ≡ allocator_of self.old }
         ensures sets { sets_of self.new ≡ sets_of self.old }
-        ensures named { named_of self.new ≡ named_of self.old }
-        ensures reserve { reserve_to_free self.new ≡ reserve_to_free self.old }
     {
         let place = self.layouts.len();
-        let known = KnownLayout {
-            layout,
-            counts,
-            flags,
-        };
-        match self.layouts.push(known) {
-            Ok(()) => Ok(place),
-            Err(failed) => {
-                let KnownLayout {
-                    layout,
-                    counts: _,
-                    flags: _,
-                } = failed.value;
-                Err(layout)
-            }
-        }
+        self.layouts.push(layout)?;
+        Ok(place)
     }
 
     /// The layout at a place.
-    pub fn layout(&self, place: usize) -> Option<&L>
-        ensures { option_copied result ≡ option_map (λ k. k.layout)
-            (slice_get (layouts_of self.now) place) }
+    pub fn layout(&self, place: usize) -> Option<&SetLayout<L>>
+        ensures { option_copied result ≡ slice_get (layouts_of self.now) place }
     {
-        match self.layouts.get(place) {
-            Some(known) => Some(&known.layout),
-            None => None,
-        }
+        self.layouts.get(place)
     }
 
     /// The allocator.

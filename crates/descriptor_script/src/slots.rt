@@ -1,6 +1,6 @@
 //! Sets by ticket.
 ghost use Rattle.std.specs.Prelude.{◌≡◌, ◌+◌, ◌++◌, ◌∷◌, ◌<◌, ◌↔◌, [], length, map, slice_set};
-ghost use Rattle.std.specs.Prelude.{◌≤◌, None, Some, IsSome, IsTrue, OnOk, OnErr, vec_capacity, vec_len};
+ghost use Rattle.std.specs.Prelude.{None, Some, IsSome, IsTrue, OnOk, OnErr, vec_capacity, vec_len};
 ghost use Rattle.std.specs.Option.{option_copied};
 ghost use Rattle.descriptor_script.specs.Inner.Marks.{AreClear};
 ghost use Rattle.descriptor_script.specs.Sessions.Tickets.{AreHeldOnce, held_sets, set_at};
@@ -8,7 +8,6 @@ ghost use Rattle.descriptor_script.specs.Sessions.Tickets.{AreHeldOnce, held_set
 use crate::marks::{clear_each, mark_each};
 use gpu_descriptor::DescriptorSet;
 use std::alloc::{AllocError, Global};
-use std::vec::Vec;
 
 /// A slot for each ticket that was given, with its set until that is freed.
 #[derive(Drop)]
@@ -21,15 +20,7 @@ pub(crate) struct Slots<S> {
 
     /// How many slots have a set.
     pub(crate) held: u64,
-
-    /// How many sets were at a place before the one that is or was there last; behind the list none
-    /// was.
-    pub(crate) before: Vec<u32>,
-
-    /// Places of which some may be used again.
-    pub(crate) spare: Vec<usize>,
     ghost as_long: { vec_len listed ≡ vec_len sets },
-    ghost few: { vec_len before ≤ vec_len sets },
     ghost clear: { AreClear listed.items },
     ghost counted: { held ≡ length (held_sets sets.items) },
 }
@@ -46,8 +37,6 @@ impl<S> Slots<S> {
             sets: Vec::new(alloc),
             listed: Vec::new(alloc),
             held: 0,
-            before: Vec::new(alloc),
-            spare: Vec::new(alloc),
         }
     }
 
@@ -80,7 +69,6 @@ impl<S> Slots<S> {
         ensures reserve { OnOk result (HasSpareSlots count self.new) }
         ensures some { OnErr result (0 < count) }
         ensures sets { slots_of self.new ≡ slots_of self.old }
-        ensures before { self.new.before ≡ self.old.before }
     {
         self.sets.reserve(count as usize)?;
         self.listed.reserve(count as usize)
@@ -99,14 +87,13 @@ impl<S> Slots<S> {
     }
 
     /// Puts a set under the next ticket, over memory that was reserved.
-    pub(crate) fn push(&mut self, set: DescriptorSet<S>)
+    fn push(&mut self, set: DescriptorSet<S>)
         requires { HasSpareSlots 1 self.old }
         ensures sets { slots_of self.new ≡ slots_of self.old ++ Some set ∷ [] }
         ensures reserve { (vec_len self.new.sets ≡ vec_len self.old.sets + 1)
             × (vec_capacity self.new.sets ≡ vec_capacity self.old.sets) }
         ensures marks { (vec_len self.new.listed ≡ vec_len self.old.listed + 1)
             × (vec_capacity self.new.listed ≡ vec_capacity self.old.listed) }
-        ensures before { self.new.before ≡ self.old.before }
     {
         self.sets.push_reserved(Some(set));
         self.listed.push_reserved(false);
@@ -118,7 +105,6 @@ impl<S> Slots<S> {
         requires { IsSome (set_at (slots_of self.old) ticket) }
         ensures set { result ≡ set_at (slots_of self.old) ticket }
         ensures sets { slots_of self.new ≡ slice_set (slots_of self.old) ticket None }
-        ensures before { self.new.before ≡ self.old.before }
     {
         let set = self.sets[ticket].take();
         self.held -= 1;
@@ -129,7 +115,6 @@ impl<S> Slots<S> {
     pub(crate) fn are_held_once(&mut self, tickets: &[usize]) -> bool
         ensures answer { IsTrue result ↔ AreHeldOnce (slots_of self.old) tickets.now }
         ensures sets { slots_of self.new ≡ slots_of self.old }
-        ensures before { self.new.before ≡ self.old.before }
     {
         let good = mark_each(&self.sets, &mut self.listed, tickets);
         clear_each(&mut self.listed, tickets);

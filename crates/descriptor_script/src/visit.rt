@@ -2,11 +2,10 @@
 //! once all its sets are free.
 ghost use Rattle.std.specs.Prelude.{◌≡◌, [], IfOk, OnErr};
 ghost use Rattle.gpu_descriptor_types.specs.Side.{side};
-ghost use Rattle.gpu_descriptor.specs.Caller.States.{Agrees, state_of};
-ghost use Rattle.descriptor_script.specs.Sessions.Session.{AreAllHeld, AreMeant};
+ghost use Rattle.gpu_descriptor.specs.Caller.States.{state_of};
 ghost use Rattle.gpu_descriptor.specs.Model.Agreement.{HasNoKeys, HasNoPools};
-ghost use Rattle.descriptor_script.specs.Sessions.Session.{KeepsSession, allocator_of};
-ghost use Rattle.descriptor_script.specs.Sessions.Session.{layouts_of, sets_of};
+ghost use Rattle.descriptor_script.specs.Sessions.Session.{IsReady, KeepsSession, allocator_of};
+ghost use Rattle.descriptor_script.specs.Sessions.Session.{sets_of};
 ghost use Rattle.descriptor_script.specs.Sessions.SessionRun.{VisitsTo};
 ghost use Rattle.descriptor_script.specs.Sessions.Steps.{Cleans};
 ghost use Rattle.descriptor_script.specs.Sessions.Tickets.{held_sets};
@@ -28,12 +27,9 @@ pub fn visit<L, P: Drop, S: Drop, D: DescriptorDevice<L, P, S>>(
     device: &mut D,
     commands: &[Command],
 ) -> Result<Vec<Reply>, AllocError>
+    requires ready { IsReady D.meaning (side session.old (D.ledger device.old)) }
     requires began { HasNoPools (state_of D.meaning.pool_name (allocator_of session.old)
         (D.ledger device.old)) }
-    requires agree { Agrees D.meaning.pool_name (allocator_of session.old) (D.ledger device.old) }
-    requires held { AreAllHeld D.meaning.set_name (sets_of session.old) (state_of
-        D.meaning.pool_name (allocator_of session.old) (D.ledger device.old)) }
-    requires meant { AreMeant D.meaning (layouts_of session.old) }
     ensures runs { IfOk result (λ replies. VisitsTo D.meaning commands.now replies.items
         (side session.old (D.ledger device.old)) (side session.new (D.ledger device.new))) }
     ensures cleans { OnErr result (Cleans D.meaning (side session.old (D.ledger device.old))
@@ -46,6 +42,6 @@ pub fn visit<L, P: Drop, S: Drop, D: DescriptorDevice<L, P, S>>(
         (side session.new (D.ledger device.new)) }
 {
     let replies = session.run(device, commands);
-    let _clean = session.step(device, &Command::Cleanup);
+    session.cleanup(device);
     replies
 }

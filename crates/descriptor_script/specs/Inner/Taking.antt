@@ -8,5 +8,5 @@ use Rattle.descriptor_script.specs.declared.taking.Taking.{Taking}
 
 -- the set of the next ticket was taken, or no ticket was left
 abbrev pub TakesNext : {S : Type 0} → Taking S → Option (DescriptorSet S) → Taking S → Type 0
-TakesNext s r t = MatchOption r ((iter_rest s.tickets ≡ []) × (iter_rest t.tickets ≡ []) × (slots_of t.slots ≡ slots_of s.slots) × (t.slots.before ≡ s.slots.before))
-    (λ x. (n : ℕ) × (iter_rest s.tickets ≡ n ∷ iter_rest t.tickets) × (set_at (slots_of s.slots) n ≡ Some x) × (slots_of t.slots ≡ slice_set (slots_of s.slots) n None) × (t.slots.before ≡ s.slots.before))
+TakesNext s r t = MatchOption r ((iter_rest s.tickets ≡ []) × (iter_rest t.tickets ≡ []) × (slots_of t.slots ≡ slots_of s.slots))
+    (λ x. (n : ℕ) × (iter_rest s.tickets ≡ n ∷ iter_rest t.tickets) × (set_at (slots_of s.slots) n ≡ Some x) × (slots_of t.slots ≡ slice_set (slots_of s.slots) n None))

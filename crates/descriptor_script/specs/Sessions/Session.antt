@@ -1,20 +1,17 @@
 -- What a session keeps.
-use Rattle.std.specs.Prelude.{◌≡◌, ℕ, ◌≤◌, List, length, slice_get, Option, Some, vec_capacity}
-use Rattle.gpu_descriptor_types.specs.Counts.{kinds}
+use Rattle.std.specs.Prelude.{◌≡◌, ℕ, All, List, length, Option}
 use Rattle.gpu_descriptor.specs.Model.Agreement.{Item, State, count_of, outstanding}
 use Rattle.gpu_descriptor_types.specs.Meaning.{Meaning}
 use Rattle.gpu_descriptor_types.specs.Side.{Side, side}
-use Rattle.gpu_descriptor.specs.Caller.Flags.{is_marked}
 use Rattle.gpu_descriptor.specs.Caller.Keeps.{Keeps}
 use Rattle.gpu_descriptor.specs.Caller.States.{Agrees, outstanding_of, state_of}
+use Rattle.gpu_descriptor.specs.Caller.SetLayouts.{IsMeant}
 use Rattle.gpu_descriptor.specs.Caller.Sets.{items_of}
 use Rattle.gpu_descriptor.specs.Caller.Values.{Allocations}
+use Rattle.gpu_descriptor.specs.declared.layout.SetLayout.{SetLayout}
 use Rattle.gpu_descriptor.specs.declared.set.DescriptorSet.{DescriptorSet}
-use Rattle.descriptor_script.specs.Inner.Places.{named_in}
 use Rattle.descriptor_script.specs.Inner.Slots.{slots_of}
-use Rattle.descriptor_script.specs.Sessions.Names.{Named}
 use Rattle.descriptor_script.specs.Sessions.Tickets.{held_sets}
-use Rattle.descriptor_script.specs.declared.session.KnownLayout.{KnownLayout}
 use Rattle.descriptor_script.specs.declared.session.Session.{Session}
 
 module _ {L P S : Type 0} where
@@ -25,24 +22,12 @@ module _ {L P S : Type 0} where
   abbrev pub allocator_on : Side (Session L P S) → Side (Allocations P)
   allocator_on s = side (allocator_of s.value) s.ledger
 
-  abbrev pub layouts_of : Session L P S → List (KnownLayout L)
+  abbrev pub layouts_of : Session L P S → List (SetLayout L)
   layouts_of s = s.layouts.items
 
   -- a slot for each ticket that was given, with its set if that is held. The next ticket is their number
   abbrev pub sets_of : Session L P S → List (Option (DescriptorSet S))
   sets_of s = slots_of s.slots
-
-  -- the same by name
-  abbrev pub named_of : Session L P S → Named (DescriptorSet S)
-  named_of s = named_in s.slots
-
-  -- so many sets can go back by their names at once without memory
-  abbrev pub reserve_to_free : Session L P S → ℕ
-  reserve_to_free s = vec_capacity s.places
-
-  -- so all that are held can
-  abbrev pub HasReserveToFree : Session L P S → Type 0
-  HasReserveToFree s = length (held_sets (sets_of s)) ≤ reserve_to_free s
 
 -- the held sets are exactly the outstanding sets
 abbrev pub AreAllHeld : {S : Type 0} → (S → ℕ) → List (Option (DescriptorSet S)) → State → Type 0
@@ -53,10 +38,6 @@ module _ {L P S : Type 0} (means : Meaning L P S) where
   abbrev pub state_on : Side (Session L P S) → State
   state_on s = state_of means.pool_name (allocator_of s.value) s.ledger
 
-  -- the counts and the mark of each layout are those of the device's meaning
-  abbrev pub AreMeant : List (KnownLayout L) → Type 0
-  AreMeant layouts = (i : ℕ) (k : KnownLayout L) → slice_get layouts i ≡ Some k → (kinds k.counts ≡ means.counts k.layout) × (is_marked k.flags ≡ means.mark k.layout)
-
   -- the next command may be run
   pub record IsReady (s : Side (Session L P S)) : Type 0 where
     -- books and ledger agree
@@ -64,7 +45,7 @@ module _ {L P S : Type 0} (means : Meaning L P S) where
     -- the held sets are exactly the outstanding ones
     pub held : AreAllHeld means.set_name (sets_of s.value) (state_on s)
     -- the layouts have the counts and the marks that the device gives to them
-    pub meant : AreMeant (layouts_of s.value)
+    pub meant : All (IsMeant means) (layouts_of s.value)
 
   -- what every command keeps
   pub record KeepsSession (old new : Side (Session L P S)) : Type 0 where

@@ -10,6 +10,7 @@ use Rattle.gpu_descriptor.specs.Model.Promises.{HasCause}
 use Rattle.gpu_descriptor.specs.Caller.Call.{call_of, layout_key}
 use Rattle.gpu_descriptor.specs.Caller.Sets.{AreOfLayout, items_of}
 use Rattle.gpu_descriptor.specs.declared.errors.AllocationError.{AllocationError}
+use Rattle.gpu_descriptor.specs.declared.layout.SetLayout.{SetLayout}
 use Rattle.gpu_descriptor.specs.declared.set.DescriptorSet.{DescriptorSet}
 use Rattle.descriptor_script.specs.Sessions.Session.{allocator_of, allocator_on, layouts_of, sets_of}
 use Rattle.descriptor_script.specs.Sessions.Tickets.{AreHeldOnce, emptied, set_at}
@@ -17,7 +18,6 @@ use Rattle.descriptor_script.specs.declared.command.Command.{Command}
 use Rattle.descriptor_script.specs.declared.command.Command.TheVariants.{Allocate, Free, Cleanup}
 use Rattle.descriptor_script.specs.declared.command.Reply.{Reply}
 use Rattle.descriptor_script.specs.declared.command.Reply.TheVariants.{Sets, Refused, Freed, BadTicket, BadLayout, NoMemory, Clean}
-use Rattle.descriptor_script.specs.declared.session.KnownLayout.{KnownLayout}
 use Rattle.descriptor_script.specs.declared.session.Session.{Session}
 
 -- nothing changed
@@ -41,12 +41,12 @@ OfStep L P S = Command → Reply → Side (Session L P S) → Side (Session L P 
 module _ {L P S : Type 0} (means : Meaning L P S) where
   module _ (layout count : ℕ) (old new : Side (Session L P S)) where
     -- the session's request to its allocator, and what it left
-    abbrev pub request_of : KnownLayout L → Result (List Item) AllocationError → Call
+    abbrev pub request_of : SetLayout L → Result (List Item) AllocationError → Call
     request_of known answer = call_of means (layout_key means known.layout) count (allocator_on old) (allocator_on new) answer
 
     -- the sets of a request are held under the next tickets, in their order
     pub record HoldsAnswer (next many : ℕ) : Type 0 where
-      pub known : KnownLayout L
+      pub known : SetLayout L
       -- the layout at the command's place
       pub at : slice_get (layouts_of old.value) layout ≡ Some known
       -- the sets of the request, which was met
@@ -63,7 +63,7 @@ module _ {L P S : Type 0} (means : Meaning L P S) where
 
     -- the allocator refused for a named cause, and the sets stay
     pub record Refuses (error : AllocationError) : Type 0 where
-      pub known : KnownLayout L
+      pub known : SetLayout L
       pub at : slice_get (layouts_of old.value) layout ≡ Some known
       -- which of its outcomes the request had
       pub outcome : Allocates (request_of known (Err error))

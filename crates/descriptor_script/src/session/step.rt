@@ -1,11 +1,9 @@
 //! One command of a session.
-ghost use Rattle.std.specs.Prelude.{◌≡◌, length};
+ghost use Rattle.std.specs.Prelude.{◌≡◌};
 ghost use Rattle.gpu_descriptor_types.specs.Side.{side};
 ghost use Rattle.descriptor_script.specs.Sessions.Session.{IsReady, KeepsSession};
-ghost use Rattle.descriptor_script.specs.Sessions.Session.{named_of, reserve_to_free, sets_of};
-ghost use Rattle.descriptor_script.specs.Sessions.Steps.{AllocatesTo, Cleans, FreesTo, GivesUp};
+ghost use Rattle.descriptor_script.specs.Sessions.Steps.{AllocatesTo, Cleans, FreesTo};
 ghost use Rattle.descriptor_script.specs.Sessions.Steps.{IsTurnedAway, KeepsTickets, StepsTo};
-ghost use Rattle.descriptor_script.specs.Sessions.Tickets.{AreHeldOnce};
 
 use super::Session;
 use crate::command::{Command, Reply};
@@ -52,17 +50,14 @@ impl<L, P: Drop, S: Drop> Session<L, P, S> {
         ensures keeps { KeepsSession D.meaning (side self.old (D.ledger device.old))
             (side self.new (D.ledger device.new)) }
     {
-        let Some(known) = self.layouts.get(layout) else {
+        let Some(layout) = self.layouts.get(layout) else {
             return Reply::BadLayout;
         };
         if self.slots.reserve(count).is_err() {
             return Reply::NoMemory;
         }
         let first = self.slots.next();
-        match self
-            .allocator
-            .allocate(device, &known.layout, known.flags, &known.counts, count)
-        {
+        match self.allocator.allocate_for(device, layout, count) {
             Ok(sets) => {
                 self.slots.append(sets);
                 Reply::Sets { first, count }
@@ -83,25 +78,6 @@ impl<L, P: Drop, S: Drop> Session<L, P, S> {
         if !self.slots.are_held_once(tickets) {
             return Reply::BadTicket;
         }
-        self.give_back(device, tickets);
-        Reply::Freed(tickets.len())
-    }
-
-    /// Gives back the sets of these tickets, which are held.
-    pub(super) fn give_back<D: DescriptorDevice<L, P, S>>(
-        &mut self,
-        device: &mut D,
-        tickets: &[usize],
-    )
-        requires ready { IsReady D.meaning (side self.old (D.ledger device.old)) }
-        requires good { AreHeldOnce (sets_of self.old) tickets.now }
-        ensures back { GivesUp D.meaning tickets.now (side self.old (D.ledger device.old))
-            (side self.new (D.ledger device.new)) (length tickets.now) }
-        ensures before { self.new.slots.before ≡ self.old.slots.before }
-        ensures places { self.new.places ≡ self.old.places }
-        ensures keeps { KeepsSession D.meaning (side self.old (D.ledger device.old))
-            (side self.new (D.ledger device.new)) }
-    {
         // The iterator owns the slots while the allocator reads it.
         let none = Slots::new(self.slots.alloc);
         let slots = mem::replace(&mut self.slots, none);
@@ -112,15 +88,14 @@ impl<L, P: Drop, S: Drop> Session<L, P, S> {
         self.allocator.free_from(device, &mut sets);
         let Taking { slots, tickets: _ } = sets;
         self.slots = slots;
+        Reply::Freed(tickets.len())
     }
 
     /// Destroys the empty pools at the front of each key.
-    pub fn cleanup<D: DescriptorDevice<L, P, S>>(&mut self, device: &mut D)
+    pub(crate) fn cleanup<D: DescriptorDevice<L, P, S>>(&mut self, device: &mut D)
         requires ready { IsReady D.meaning (side self.old (D.ledger device.old)) }
         ensures cleans { Cleans D.meaning (side self.old (D.ledger device.old))
             (side self.new (D.ledger device.new)) }
-        ensures named { named_of self.new ≡ named_of self.old }
-        ensures reserve { reserve_to_free self.new ≡ reserve_to_free self.old }
         ensures keeps { KeepsSession D.meaning (side self.old (D.ledger device.old))
             (side self.new (D.ledger device.new)) }
     {

@@ -1,7 +1,6 @@
 use Rattle.std.proofs.Common.{◌≡◌, [], sym, ap, subst, ◌∙◌}
 use Rattle.std.proofs.lemmas.Result.{IfOk-weaker}
 use Rattle.std.specs.Prelude.{Result, Ok, Err, OnErr}
-use Rattle.gpu_descriptor_types.specs.Meaning.{Meaning}
 use Rattle.gpu_descriptor_types.specs.Side.{Side, side}
 use Rattle.gpu_descriptor.specs.Model.Agreement.{Item, State, count_of, outstanding}
 use Rattle.gpu_descriptor.specs.Caller.Sets.{items_of}
@@ -9,40 +8,24 @@ use Rattle.gpu_descriptor.specs.Caller.States.{state_of}
 use Rattle.gpu_descriptor.proofs.cleanup.Cleaning.{nothing_left}
 use Rattle.gpu_descriptor.proofs.foreign.NoneLost.{restores}
 use Rattle.descriptor_script.specs.Sessions.Session.{allocator_of, sets_of}
-use Rattle.descriptor_script.specs.Sessions.Steps.{Cleans, StepsTo}
+use Rattle.descriptor_script.specs.Sessions.Steps.{Cleans}
 use Rattle.descriptor_script.specs.Sessions.Tickets.{held_sets}
-use Rattle.descriptor_script.specs.declared.command.Command.TheVariants.{Cleanup}
-use Rattle.descriptor_script.specs.declared.command.Reply.{Reply}
-use Rattle.descriptor_script.specs.declared.command.Reply.TheVariants.{Sets, Refused, Freed, BadTicket, BadLayout, NoMemory, Clean}
 use Rattle.descriptor_script.specs.declared.session.Session.{Session}
 use Rattle.descriptor_script.proofs.Running.{session_through}
-use Rattle.descriptor_script.proofs.visit.visit.Goals.{After-step-clean}
+use Rattle.descriptor_script.proofs.visit.visit.Goals.{After-cleanup}
 use Rattle.descriptor_script.proofs.visit.visit.Goals as goal
 
-cleans : {L P S : Type 0} (means : Meaning L P S) (old new : Side (Session L P S)) (reply : Reply) → StepsTo means Cleanup reply old new → Cleans means old new
-cleans means old new Clean h = h
-cleans means old new (Sets first many) h = absurd h
-cleans means old new (Refused e) h = absurd h
-cleans means old new (Freed many) h = absurd h
-cleans means old new BadTicket h = absurd h
-cleans means old new BadLayout h = absurd h
-cleans means old new NoMemory h = absurd h
-
 -- the session once the commands were run, and once it was cleaned up
-abbrev used : (g : _) (c : After-step-clean g) → Side (Session g.row.L.Denot g.row.P.Denot g.row.S.Denot)
+abbrev used : (g : _) (c : After-cleanup g) → Side (Session g.row.L.Denot g.row.P.Denot g.row.S.Denot)
 used g c = side c.run-replies.new.self (g.D.DescriptorDevice.ledger c.run-replies.new.device)
 
-abbrev left : (g : _) (c : After-step-clean g) → Side (Session g.row.L.Denot g.row.P.Denot g.row.S.Denot)
-left g c = side c.step-clean.new.self (g.D.DescriptorDevice.ledger c.step-clean.new.device)
-
--- what the cleaning up did
-done : (g : _) (c : After-step-clean g) → Cleans g.D.DescriptorDevice.meaning (used g c) (left g c)
-done g c = cleans g.D.DescriptorDevice.meaning (used g c) (left g c) c.step-clean.result c.step-clean.ensures.step
+abbrev left : (g : _) (c : After-cleanup g) → Side (Session g.row.L.Denot g.row.P.Denot g.row.S.Denot)
+left g c = side c.cleanup.new.self (g.D.DescriptorDevice.ledger c.cleanup.new.device)
 
 pub returns-clause-runs : goal.returns-clause-runs
 returns-clause-runs g c =
-    let at = (goal.at.returns-clause-runs g c).After-step-clean in
-    IfOk-weaker c.run-replies.result _ _ (λ replies ran. (used g at, ran, done g at)) c.run-replies.ensures.runs
+    let at = (goal.at.returns-clause-runs g c).After-cleanup in
+    IfOk-weaker c.run-replies.result _ _ (λ replies ran. (used g at, ran, at.cleanup.ensures.cleans)) c.run-replies.ensures.runs
 
 both : {T E A B C : Type 0} (r : Result T E) → (A → B → C) → OnErr r A → OnErr r B → OnErr r C
 both (Ok x) then a b = tt
@@ -50,12 +33,12 @@ both (Err e) then a b = then a b
 
 pub returns-clause-cleans : goal.returns-clause-cleans
 returns-clause-cleans g c =
-    let at = (goal.at.returns-clause-cleans g c).After-step-clean in
-    both c.run-replies.result (λ session device. subst (λ old. Cleans g.D.DescriptorDevice.meaning old (left g at)) (λ i. side (session i) (g.D.DescriptorDevice.ledger (device i))) (done g at)) c.run-replies.ensures.session c.run-replies.ensures.device
+    let at = (goal.at.returns-clause-cleans g c).After-cleanup in
+    both c.run-replies.result (λ session device. subst (λ old. Cleans g.D.DescriptorDevice.meaning old (left g at)) (λ i. side (session i) (g.D.DescriptorDevice.ledger (device i))) at.cleanup.ensures.cleans) c.run-replies.ensures.session c.run-replies.ensures.device
 
 -- with no set held afterwards none was outstanding
-nothing : (g : _) (c : After-step-clean g) → held_sets (sets_of c.step-clean.new.self) ≡ [] → (i : Item) → outstanding (state_of g.D.DescriptorDevice.meaning.pool_name (allocator_of c.run-replies.new.self) (g.D.DescriptorDevice.ledger c.run-replies.new.device)) i ≡ 0
-nothing g c none i = c.run-replies.ensures.keeps.ready.held i ∙ ap (λ l. count_of i (items_of g.D.DescriptorDevice.meaning.set_name (held_sets l))) (sym (done g c).sets) ∙ ap (λ l. count_of i (items_of g.D.DescriptorDevice.meaning.set_name l)) none
+nothing : (g : _) (c : After-cleanup g) → held_sets (sets_of c.cleanup.new.self) ≡ [] → (i : Item) → outstanding (state_of g.D.DescriptorDevice.meaning.pool_name (allocator_of c.run-replies.new.self) (g.D.DescriptorDevice.ledger c.run-replies.new.device)) i ≡ 0
+nothing g c none i = c.run-replies.ensures.keeps.ready.held i ∙ ap (λ l. count_of i (items_of g.D.DescriptorDevice.meaning.set_name (held_sets l))) (sym c.cleanup.ensures.cleans.sets) ∙ ap (λ l. count_of i (items_of g.D.DescriptorDevice.meaning.set_name l)) none
 
 pub returns-clause-pools : goal.returns-clause-pools
 returns-clause-pools g c none =
@@ -63,16 +46,16 @@ returns-clause-pools g c none =
     let ledger = g.D.DescriptorDevice.ledger in
     let s : State = state_of name (allocator_of c.args.session.now) (ledger c.args.device.now) in
     let t : State = state_of name (allocator_of c.run-replies.new.self) (ledger c.run-replies.new.device) in
-    let u : State = state_of name (allocator_of c.step-clean.new.self) (ledger c.step-clean.new.device) in
-    let at = (goal.at.returns-clause-pools g c).After-step-clean in
-    restores s t u c.requires.began c.run-replies.ensures.keeps.allocator.foreign c.run-replies.ensures.keeps.allocator.accounted c.run-replies.ensures.keeps.ready.agree.books (nothing g at none) (done g at).cleans_up.cleaned
+    let u : State = state_of name (allocator_of c.cleanup.new.self) (ledger c.cleanup.new.device) in
+    let at = (goal.at.returns-clause-pools g c).After-cleanup in
+    restores s t u c.requires.began c.run-replies.ensures.keeps.allocator.foreign c.run-replies.ensures.keeps.allocator.accounted c.run-replies.ensures.keeps.ready.agree.books (nothing g at none) at.cleanup.ensures.cleans.cleans_up.cleaned
 
 pub returns-clause-ended : goal.returns-clause-ended
 returns-clause-ended g c none =
     let name = g.D.DescriptorDevice.meaning.pool_name in
     let ledger = g.D.DescriptorDevice.ledger in
-    let at = (goal.at.returns-clause-ended g c).After-step-clean in
-    nothing_left (state_of name (allocator_of c.run-replies.new.self) (ledger c.run-replies.new.device)) _ c.run-replies.ensures.keeps.ready.agree.books (nothing g at none) (done g at).cleans_up.cleaned
+    let at = (goal.at.returns-clause-ended g c).After-cleanup in
+    nothing_left (state_of name (allocator_of c.run-replies.new.self) (ledger c.run-replies.new.device)) _ c.run-replies.ensures.keeps.ready.agree.books (nothing g at none) at.cleanup.ensures.cleans.cleans_up.cleaned
 
 pub returns-clause-keeps : goal.returns-clause-keeps
-returns-clause-keeps g c = session_through _ c.run-replies.ensures.keeps c.step-clean.ensures.keeps
+returns-clause-keeps g c = session_through _ c.run-replies.ensures.keeps c.cleanup.ensures.keeps

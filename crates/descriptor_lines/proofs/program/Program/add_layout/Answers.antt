@@ -1,9 +1,12 @@
-use Rattle.std.proofs.Common.{◌∷◌, ◌++◌, [], refl, sym, ap, ◌∙◌}
+use Rattle.std.proofs.Common.{◌∷◌, ◌++◌, [], sym, ◌∙◌}
 use Rattle.std.proofs.lemmas.List.{map-append}
+use Rattle.std.proofs.lemmas.List.Elements.{All-push}
+use Rattle.gpu_descriptor.specs.Caller.SetLayouts.{IsMeant}
+use Rattle.descriptor_script.specs.Scripted.Raw.{script_meaning}
 use Rattle.descriptor_script.specs.Sessions.Session.{layouts_of}
 use Rattle.descriptor_lines.specs.LayoutTable.{layouts_in}
 use Rattle.descriptor_lines.specs.Programs.{scripted}
-use Rattle.descriptor_lines.proofs.SessionLemmas.{meant_more, same_is_ready}
+use Rattle.descriptor_lines.proofs.SessionLemmas.{same_is_ready}
 use Rattle.descriptor_lines.proofs.program.Program.add_layout.Goals as goal
 
 pub returns-in-Err-clause-ready : goal.returns-in-Err-clause-ready
@@ -21,7 +24,7 @@ returns-in-Ok-clause-ready g c =
     let old = c.requires.ready in
     let added = c.add_layout.ensures in
     record {
-      ready = same_is_ready c.args.self.now.session c.add_layout.new.self _ old.ready added.allocator added.sets (rw c.in-Ok.ensures.last (meant_more (layouts_of c.args.self.now.session) _ old.ready.meant (refl, c.flags.ensures)));
-      layouts = rw (c.in-Ok.ensures.last, c.push.ensures.layouts, c.reserve.ensures.same) (map-append (λ k. k.layout) (layouts_of c.args.self.now.session) _ ∙ ap (λ l. l ++ scripted c.args.layout ∷ []) old.layouts ∙ sym (map-append (λ l. scripted l.1) (layouts_in c.args.self.now.layouts) _));
+      ready = same_is_ready c.args.self.now.session c.add_layout.new.self _ old.ready added.allocator added.sets (rw c.in-Ok.ensures.last (All-push (IsMeant script_meaning) (layouts_of c.args.self.now.session) _ old.ready.meant c.to_set_layout.ensures.meant));
+      layouts = rw (c.in-Ok.ensures.last, c.push.ensures.layouts, c.reserve.ensures.same) (map-append (λ k. k.layout) (layouts_of c.args.self.now.session) _ ∙ (λ i. old.layouts i ++ c.to_set_layout.ensures.layout i ∷ []) ∙ sym (map-append (λ l. scripted l.1) (layouts_in c.args.self.now.layouts) _));
       fresh = λ unbegun. (let begun = c.requires.begun in cc);
     }

@@ -7,13 +7,10 @@ use Rattle.descriptor_script.proofs.Held.{all_held_more, held_sum, is_ok_then}
 use Rattle.descriptor_script.proofs.session.Session.allocate.Goals.{In-Some}
 use Rattle.descriptor_script.proofs.session.Session.allocate.Goals as goal
 
-at : (g : _) (c : In-Some g) → slice_get c.args.self.now.layouts.items c.args.layout ≡ Some c.in-Some.known.now
+at : (g : _) (c : In-Some g) → slice_get c.args.self.now.layouts.items c.args.layout ≡ Some c.in-Some.layout.now
 at g c =
     let found = c.in-Some.ensures.lookup in
-    ap (λ l. slice_get l c.args.layout) (sym c.deref.ensures.value) ∙ slice_get_read c.deref.result.now (length c.deref.result.now) c.args.layout c.in-Some.known.now refl found.3.0 found.1
-
-pub allocate-requires-clause-mark : goal.allocate-requires-clause-mark
-allocate-requires-clause-mark g c = (c.requires.ready.meant c.args.layout c.in-Some.known.now (at g (goal.at.allocate-requires-clause-mark g c).In-Some)).1
+    ap (λ l. slice_get l c.args.layout) (sym c.deref.ensures.value) ∙ slice_get_read c.deref.result.now (length c.deref.result.now) c.args.layout c.in-Some.layout.now refl found.3.0 found.1
 
 pub append-requires : goal.append-requires
 append-requires g c =
@@ -25,7 +22,7 @@ append-requires g c =
 
 pub returns-in-Ok-clause-step : goal.returns-in-Ok-clause-step
 returns-in-Ok-clause-step g c = record {
-  known = c.in-Some.known.now;
+  known = c.in-Some.layout.now;
   at = at g (goal.at.returns-in-Ok-clause-step g c).In-Some;
   given = c.in-Ok.sets.items;
   outcome = c.in-Ok.ensures.hands_out.outcome;
@@ -40,7 +37,7 @@ pub returns-in-Ok-clause-keeps : goal.returns-in-Ok-clause-keeps
 returns-in-Ok-clause-keeps g c = record {
   ready = record {
     agree = c.in-Ok.ensures.keeps.agree;
-    held = rw (c.append.ensures, c.reserve.ensures.sets) (all_held_more g.D.DescriptorDevice.meaning.set_name c.args.self.now.slots.sets.items c.in-Ok.sets.items (state_of g.D.DescriptorDevice.meaning.pool_name c.args.self.now.allocator (g.D.DescriptorDevice.ledger c.args.device.now)) (state_of g.D.DescriptorDevice.meaning.pool_name c.allocate.new.self (g.D.DescriptorDevice.ledger c.allocate.new.device)) c.requires.ready.held c.in-Ok.ensures.hands_out.given);
+    held = rw (c.append.ensures, c.reserve.ensures.sets) (all_held_more g.D.DescriptorDevice.meaning.set_name c.args.self.now.slots.sets.items c.in-Ok.sets.items (state_of g.D.DescriptorDevice.meaning.pool_name c.args.self.now.allocator (g.D.DescriptorDevice.ledger c.args.device.now)) (state_of g.D.DescriptorDevice.meaning.pool_name c.allocate_for.new.self (g.D.DescriptorDevice.ledger c.allocate_for.new.device)) c.requires.ready.held c.in-Ok.ensures.hands_out.given);
     meant = c.requires.ready.meant;
   };
   allocator = c.in-Ok.ensures.keeps;
@@ -50,7 +47,7 @@ returns-in-Ok-clause-keeps g c = record {
 
 pub returns-in-Err-clause-step : goal.returns-in-Err-clause-step
 returns-in-Err-clause-step g c = record {
-  known = c.in-Some.known.now;
+  known = c.in-Some.layout.now;
   at = at g (goal.at.returns-in-Err-clause-step g c).In-Some;
   outcome = c.in-Err.ensures.hands_out.outcome;
   cause = c.in-Err.ensures.hands_out.cause;

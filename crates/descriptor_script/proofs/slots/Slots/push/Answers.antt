@@ -20,7 +20,6 @@ invariant_of-self g c =
     let s = c.args.self.now in
     record {
       as_long = c.push_reserved-2.ensures.len ∙ ap (λ n. n + 1) s.as_long ∙ sym c.push_reserved.ensures.len;
-      few = (let few = s.few in let a = c.push_reserved.ensures.len in omega arith);
       clear = (let P = AreClear in rw c.push_reserved-2.ensures.items (clear_more s.listed.items s.clear));
       counted = (let e = ap held_sets c.push_reserved.ensures.items ∙ held_more s.sets.items (c.args.set ∷ []) in
           let l = ap length e ∙ length-append (held_sets s.sets.items) (c.args.set ∷ []) in

@@ -6,15 +6,15 @@ use Rattle.descriptor_script.specs.Inner.Slots.{slots_of}
 use Rattle.std.specs.Slice.Iter.{iter_rest}
 use Rattle.descriptor_script.specs.Sessions.Tickets.{AreHeldOnce, emptied, held_sets, set_at}
 use Rattle.descriptor_script.specs.declared.taking.Taking.{Taking}
-use Rattle.descriptor_script.proofs.Emptied.{all_emptied, all_held_less, all_out, each_taken, fewer_held, before_stays, held_as}
-use Rattle.descriptor_script.proofs.session.Session.give_back.Goals.{After-iter}
-use Rattle.descriptor_script.proofs.session.Session.give_back.Goals as goal
+use Rattle.descriptor_script.proofs.Emptied.{all_emptied, all_held_less, all_out, each_taken, fewer_held, held_as}
+use Rattle.descriptor_script.proofs.session.Session.free.Goals.{After-iter}
+use Rattle.descriptor_script.proofs.session.Session.free.Goals as goal
 
 slots_are : (g : _) (c : After-iter g) → slots_of c.replace-slots.result ≡ slots_of c.args.self.now.slots
-slots_are g c = ap slots_of c.replace-slots.ensures.value
+slots_are g c = ap slots_of c.replace-slots.ensures.value ∙ c.are_held_once.ensures.sets
 
 good : (g : _) (c : After-iter g) → AreHeldOnce (slots_of c.args.self.now.slots) c.args.tickets.now
-good g c = c.requires.good
+good g c = c.are_held_once.ensures.answer.0 c.if-not-are_held_once.false
 
 held : (g : _) (c : After-iter g) → AreAllHeld g.D.DescriptorDevice.meaning.set_name (slots_of c.replace-slots.result) (state_of g.D.DescriptorDevice.meaning.pool_name c.args.self.now.allocator (g.D.DescriptorDevice.ledger c.args.device.now))
 held g c = held_as g.D.DescriptorDevice.meaning.set_name _ _ (state_of g.D.DescriptorDevice.meaning.pool_name c.args.self.now.allocator (g.D.DescriptorDevice.ledger c.args.device.now)) (slots_are g c) c.requires.ready.held
@@ -29,9 +29,9 @@ free_from-requires-clause-outstanding g c =
     let d = (goal.at.free_from-requires-clause-outstanding g c).After-iter in
     all_out g.D.DescriptorDevice.meaning.set_name (record { slots = c.replace-slots.result; tickets = c.iter.result }) (state_of g.D.DescriptorDevice.meaning.pool_name c.args.self.now.allocator (g.D.DescriptorDevice.ledger c.args.device.now)) (held g d)
 
-pub returns-clause-back : goal.returns-clause-back
-returns-clause-back g c =
-    let d = (goal.at.returns-clause-back g c).After-iter in
+pub returns-clause-step : goal.returns-clause-step
+returns-clause-step g c =
+    let d = (goal.at.returns-clause-step g c).After-iter in
     let s : Taking g.row.S.Denot = record { slots = c.replace-slots.result; tickets = c.iter.result } in
     let frees = c.free_from.ensures.frees in
     let drained = frees.drained in
@@ -43,12 +43,6 @@ returns-clause-back g c =
       back = frees.returns;
       sets = drained.2.2 ∙ all_emptied frees.sets s drained.0 drained.1 drained.2.0 ∙ ap (λ l. emptied l (iter_rest s.tickets)) (slots_are g d) ∙ ap (emptied (slots_of c.args.self.now.slots)) c.iter.ensures.rest;
     }
-
-pub returns-clause-before : goal.returns-clause-before
-returns-clause-before g c =
-    let s : Taking g.row.S.Denot = record { slots = c.replace-slots.result; tickets = c.iter.result } in
-    let drained = c.free_from.ensures.frees.drained in
-    drained.2.3 ∙ before_stays c.free_from.ensures.frees.sets s drained.0 drained.1 ∙ ap (λ s. s.before) c.replace-slots.ensures.value
 
 pub returns-clause-keeps : goal.returns-clause-keeps
 returns-clause-keeps g c =
@@ -69,9 +63,9 @@ returns-clause-keeps g c =
       count = search rules;
     }
 
-pub invariant_of-self : goal.invariant_of-self
-invariant_of-self g c =
-    let d = (goal.at.invariant_of-self g c).After-iter in
+pub invariant_of-self-2 : goal.invariant_of-self-2
+invariant_of-self-2 g c =
+    let d = (goal.at.invariant_of-self-2 g c).After-iter in
     let s : Taking g.row.S.Denot = record { slots = c.replace-slots.result; tickets = c.iter.result } in
     let frees = c.free_from.ensures.frees in
     let drained = frees.drained in
