@@ -1,7 +1,6 @@
 pub mod HeldSets
 pub mod NewAllocators
 pub mod OneAgreement
-pub mod OneSet
 pub mod SetLists
 pub mod Unchanged
 pub mod WithoutPools

@@ -6,10 +6,8 @@ pub mod Errors
 pub mod Flags
 pub mod Frees
 pub mod HandsOut
-pub mod HandsOutOne
 pub mod Keeps
 pub mod Keys
-pub mod LayoutRegistries
 pub mod Others
 pub mod SetLayouts
 pub mod SetLends

@@ -9,6 +9,7 @@ mod allocate_for;
 mod cleanup;
 mod free;
 mod readers;
+mod serve;
 
 use crate::budget::Budget;
 use crate::key_table::KeyTable;

@@ -1,11 +1,12 @@
 //! The keys of an allocator, each with its pools, and where a key stands. A place is tried before it
 //! is used, so nothing rests on the hint.
-ghost use Rattle.std.specs.Prelude.{◌≡◌, ◌+◌, ◌<◌, ◌^◌, ℕ, IsTrue, MatchOption, None, Some, map};
+ghost use Rattle.std.specs.Prelude.{◌≡◌, ◌+◌, ◌<◌, ◌^◌, ◌++◌, ℕ, length, IsTrue, MatchOption, None, Some, map};
 ghost use Rattle.std.specs.Prelude.{[], IfErr, IfOk, OnErr, OnOk, slice_get, true};
 ghost use Rattle.std.specs.List.{IsDistinct, IsDistinct-prop};
 ghost use Rattle.std.specs.Map.{lookup};
 ghost use Rattle.gpu_descriptor.specs.Caller.Keys.{with_key};
-ghost use Rattle.gpu_descriptor.specs.Caller.Sets.{AreOfLayout};
+ghost use Rattle.gpu_descriptor.specs.Caller.SetLists.{behind};
+ghost use Rattle.gpu_descriptor.specs.Caller.Sets.{PutsOfLayout};
 ghost use Rattle.gpu_descriptor.specs.Inner.Buckets.{AreBookedIn};
 ghost use Rattle.gpu_descriptor.specs.Inner.Ids.{is_of, rise_below, stored_ids};
 ghost use Rattle.gpu_descriptor.specs.Inner.KeyOf.{key_of};
@@ -16,9 +17,12 @@ ghost use Rattle.gpu_descriptor.specs.Model.Books.{key_eq, sum_over};
 ghost use Rattle.gpu_descriptor.specs.Model.Load.{bucket_load, sets_out};
 
 use crate::bucket::DescriptorBucket;
-use crate::bucket::request::{Gathered, SetRequest};
+use crate::bucket::allocation::Allocation;
+use crate::bucket::request::SetRequest;
+use crate::bucket::stop::Stop;
 use crate::budget::Budget;
 use crate::errors::AllocationError;
+use crate::places::SetPlaces;
 use crate::set::BucketKey;
 use gpu_descriptor_types::DescriptorDevice;
 use indexmap::IndexMap;
@@ -101,7 +105,7 @@ impl<P> KeyTable<P> {
             ≡ Some (key_of key.now) }
     {
         match self.buckets.get_index(place) {
-            Some((stored, _)) => *stored == *key,
+            Some((stored, _)) => stored.is(key),
             None => false,
         }
     }
@@ -120,22 +124,30 @@ impl<P> KeyTable<P> {
 impl<P: Drop> KeyTable<P> {
     /// Takes sets of a key. If the key is absent, it is put last.
     #[inline]
-    pub(crate) fn serve<L, S: Drop, D: DescriptorDevice<L, P, S>>(
+    pub(crate) fn serve<'k, L, S, D: DescriptorDevice<L, P, S>, K: SetPlaces<S>>(
         &mut self,
         device: &mut D,
-        request: &SetRequest<'_, L, P, S, D>,
+        request: &'k SetRequest<'_, L, P, S, D>,
         budget: &mut Budget,
-    ) -> Result<Gathered<S>, AllocationError>
+        sink: &mut Allocation<'k, S, K>,
+    ) -> Result<Result<(), Stop>, AllocationError>
         requires booked { AreBookedIn (key_of request.now.key) (D.ledger device.old).pools (books_in
             D.meaning.pool_name (map row_of self.old.buckets.entries)
             (key_of request.now.key)).pools }
         requires bound { sum_over sets_out (map row_of self.old.buckets.entries) + request.now.count
             < 2 ^ 64 }
-        ensures served { IfOk result (λ r. ServesKey D.meaning (key_of request.now.key)
-            budget.old.room request.now.count r.sets.items r.ended
+        ensures served { IfOk result (λ ended. ServesKey D.meaning (key_of request.now.key)
+            budget.old.room request.now.count
+            (behind (K.items sink.old.sets) (K.items sink.new.sets)) ended
             (map row_of self.old.buckets.entries) (map row_of self.new.buckets.entries)
             (D.ledger device.old) (D.ledger device.new)) }
-        ensures own { IfOk result (λ r. AreOfLayout D.meaning request.now.layout.now r.sets.items) }
+        ensures front { OnOk result (K.items sink.new.sets ≡ K.items sink.old.sets
+            ++ behind (K.items sink.old.sets) (K.items sink.new.sets)) }
+        ensures left { OnOk result (length (behind (K.items sink.old.sets) (K.items sink.new.sets))
+            + sink.new.left ≡ request.now.count) }
+        ensures own { OnOk result (PutsOfLayout D.meaning request.now.layout.now
+            (K.items sink.old.sets) (K.items sink.new.sets)) }
+        ensures sets { OnErr result (K.items sink.new.sets ≡ K.items sink.old.sets) }
         ensures refused { IfErr result (λ e. IsUnserved request.now.count e (books_in
             D.meaning.pool_name (map row_of self.old.buckets.entries) (key_of request.now.key))) }
         ensures looks { CountsLooks budget.old.looks.count budget.new.looks.count
@@ -150,7 +162,7 @@ impl<P: Drop> KeyTable<P> {
     {
         if let Some(place) = self.place_of_key(&request.key) {
             self.last = place;
-            return self.buckets[place].serve(device, request, budget);
+            return self.buckets[place].serve(device, request, budget, sink);
         }
         if self.buckets.reserve(1).is_err() {
             return Err(AllocationError::OutOfHostMemory);
@@ -165,7 +177,7 @@ impl<P: Drop> KeyTable<P> {
             listed: VecDeque::new(request.alloc),
             total: 0,
         };
-        let served = bucket.serve(device, request, budget)?;
+        let served = bucket.serve(device, request, budget, sink)?;
         match self.buckets.insert(request.key, bucket) {
             Ok(_) => {
                 self.next_id += 1;

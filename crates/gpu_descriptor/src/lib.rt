@@ -31,7 +31,7 @@ mod key;
 mod key_table;
 pub mod laws;
 mod layout;
-mod layout_registry;
+mod places;
 mod set;
 mod view;
 
@@ -43,6 +43,5 @@ pub use gpu_descriptor_types::{
     DeviceAllocationError, Layouts, SetSink, Tally, cut_pool_size, new_pool_size,
 };
 pub use layout::SetLayout;
-pub use layout_registry::{LayoutHandle, LayoutRegistry};
 pub use set::DescriptorSet;
 pub use view::PoolView;

@@ -1,5 +1,5 @@
 -- All that is promised of a request, from what it took: kept, given back, declined, or for no sets.
-use Rattle.gpu_descriptor.proofs.Common.{◌≡◌, ◌≤◌, ℕ, ◌+◌, ◌<◌, List, Option, None, Some, Result, Ok, Err, sym, ap, ◌∙◌, arith, Vec, side, Meaning, Ledger, Counters, AllocationError, DescriptorSet, Stop, Agree, outstanding, HasDistinctKeys, Key, Allocations, run_digits, Grant, granted, items_in, stop_error, call_of, Returns, with_key, items_of, Agrees, marked_load_of, outstanding_of, pool_load_of, state_of, table_of, IsDeclined, Takes}
+use Rattle.gpu_descriptor.proofs.Common.{◌≡◌, ◌≤◌, ℕ, ◌+◌, ◌<◌, List, Option, None, Some, Result, Ok, Err, sym, ap, ◌∙◌, arith, side, Meaning, Ledger, Counters, AllocationError, DescriptorSet, Stop, Agree, outstanding, HasDistinctKeys, Key, Allocations, run_digits, Grant, granted, items_in, stop_error, call_of, Returns, with_key, items_of, Agrees, marked_load_of, outstanding_of, pool_load_of, state_of, table_of, IsDeclined, Takes}
 use Rattle.gpu_descriptor.specs.Caller.HandsOut.{HandsOut}
 use Rattle.gpu_descriptor.specs.Caller.Keeps.{Keeps}
 use Rattle.gpu_descriptor.specs.Caller.States.{keys_of}
@@ -32,8 +32,8 @@ module _ {L P S : Type 0} {means : Meaning L P S} {k : Key} {count : ℕ} {sets 
         others = back_others_of t agree r.back;
       }
 
-module _ {L P S : Type 0} {means : Meaning L P S} {k : Key} {count : ℕ} (sets : Vec (DescriptorSet S)) {ended : Result (Unit {0}) Stop} {old new : Allocations P} {before after : Ledger}
-    (t : Takes means k count sets.items ended (side old before) (side new after)) (agree : Agrees means.pool_name old before) (keys : keys_of new ≡ with_key k (keys_of old))
+module _ {L P S : Type 0} {means : Meaning L P S} {k : Key} {count : ℕ} (sets : List (DescriptorSet S)) {ended : Result (Unit {0}) Stop} {old new : Allocations P} {before after : Ledger}
+    (t : Takes means k count sets ended (side old before) (side new after)) (agree : Agrees means.pool_name old before) (keys : keys_of new ≡ with_key k (keys_of old))
     (looks : new.looks + before.counters.asked ≡ old.looks + after.counters.asked) (comparisons : new.comparisons ≡ old.comparisons) (some : 0 < count) where
   pub hands_all : {x : Unit {0}} → ended ≡ Ok x → HandsOut means k count (Ok sets) (side old before) (side new after)
   hands_all is =
@@ -60,12 +60,12 @@ module _ {L P S : Type 0} {means : Meaning L P S} {k : Key} {count : ℕ} (sets 
       }
 
   -- the sets went back
-  pub hands_back : {last : Allocations P} {final : Ledger} → HasDistinctKeys (table_of means.pool_name new) → Returns means sets.items (side new after) (side last final) → {why : Stop} → ended ≡ Err why → HandsOut means k count (Err (stop_error why)) (side old before) (side last final)
+  pub hands_back : {last : Allocations P} {final : Ledger} → HasDistinctKeys (table_of means.pool_name new) → Returns means sets (side new after) (side last final) → {why : Stop} → ended ≡ Err why → HandsOut means k count (Err (stop_error why)) (side old before) (side last final)
   hands_back still r is =
       let went = went_back t agree.books agree.rows still some r.back is in
       let outcome = went.0 in
       let asked = ap (λ (c : Counters). c.asked) r.back.counters in
-      let gone : run_digits (granted k count went.1 (state_of means.pool_name old before)) (items_in k went.1.id went.1.parts) ≡ run_digits (state_of means.pool_name new after) (items_of means.set_name sets.items) = λ i. run_digits (went.4 i) (went.3 i) in
+      let gone : run_digits (granted k count went.1 (state_of means.pool_name old before)) (items_in k went.1.id went.1.parts) ≡ run_digits (state_of means.pool_name new after) (items_of means.set_name sets) = λ i. run_digits (went.4 i) (went.3 i) in
       record {
         outcome = outcome;
         nothing = λ zero. absurd (omega arith);

@@ -1,14 +1,31 @@
 -- What was put has the layout that was asked for.
-use Rattle.gpu_descriptor.proofs.Common.{◌≡◌, ◌++◌, ℕ, List, map, All, All-append, subst, sym, DescriptorSet, IsOfLayout, AreOfLayout, Key, Meaning, set_at}
-use Rattle.std.proofs.lemmas.List.Elements.{All-map}
+use Rattle.gpu_descriptor.proofs.Common.{◌≡◌, ◌++◌, ◌+◌, ◌-◌, inl, inr, ℕ, List, map, drop, drop_all, length, All, All-append, ap, arith, cases_lt, subst, sym, ◌∙◌, DescriptorSet, IsOfLayout, AreOfLayout, Key, Meaning, set_at}
+use Rattle.std.proofs.Math.Seq.{drop-append-add}
+use Rattle.std.proofs.lemmas.List.{drop-append-le}
+use Rattle.std.proofs.lemmas.List.Elements.{All-drop, All-map}
+use Rattle.gpu_descriptor.specs.Caller.SetLists.{behind}
+use Rattle.gpu_descriptor.specs.Caller.Sets.{PutsOfLayout}
+
+-- what holds of the rest of a list and of all that is put behind it holds of the rest of both
+All-put : {X : Type 0} (P : X → Type 0) (n : ℕ) (xs ys : List X) → All P (drop n xs) → All P ys → All P (drop n (xs ++ ys))
+All-put P n xs ys before put = elim (cases_lt (length xs) n) [
+  | inr within ↦ subst (All P) (sym (drop-append-le n xs ys within)) (All-append P (drop n xs) ys before put)
+  | inl past ↦ (
+      let is : drop n (xs ++ ys) ≡ drop (n - length xs) ys = ap (λ m. drop m (xs ++ ys)) (let e : n ≡ length xs + (n - length xs) = omega arith in e) ∙ drop-append-add xs ys (n - length xs) in
+      subst (All P) (sym is) (All-drop P (n - length xs) ys put))
+]
 
 module _ {L P S : Type 0} (means : Meaning L P S) (layout : L) where
-  -- what a pool gave has the layout, as what was there before
-  pub put_own : {asked : L} (old : List (DescriptorSet S)) {new : List (DescriptorSet S)} (k : Key) (id number : ℕ) (raws : List S) → asked ≡ layout → new ≡ old ++ map (set_at k id number) raws → All (IsOfLayout means asked) raws → AreOfLayout means layout old → AreOfLayout means layout new
-  put_own old k id number raws same is own before =
-      subst (AreOfLayout means layout) (sym is) (All-append (λ x. IsOfLayout means layout x.raw) old (map (set_at k id number) raws) before
-      (All-map (λ x. IsOfLayout means layout x.raw) (set_at k id number) raws (subst (λ l. All (IsOfLayout means l) raws) same own)))
+  -- what a pool gave has the layout
+  pub put_own : {asked : L} (old : List (DescriptorSet S)) {new : List (DescriptorSet S)} (k : Key) (id number : ℕ) (raws : List S) → asked ≡ layout → new ≡ old ++ map (set_at k id number) raws → All (IsOfLayout means asked) raws → PutsOfLayout means layout old new
+  put_own old k id number raws same is own first before =
+      let put : AreOfLayout means layout (map (set_at k id number) raws) = All-map (λ x. IsOfLayout means layout x.raw) (set_at k id number) raws (subst (λ l. All (IsOfLayout means l) raws) same own) in
+      subst (λ (xs : List (DescriptorSet S)). AreOfLayout means layout (drop first xs)) (sym is) (All-put (λ x. IsOfLayout means layout x.raw) first old (map (set_at k id number) raws) before put)
 
   -- nothing was put
-  pub none_own : {old new : List (DescriptorSet S)} → new ≡ old → AreOfLayout means layout old → AreOfLayout means layout new
-  none_own is = subst (AreOfLayout means layout) (sym is)
+  pub none_own : {old new : List (DescriptorSet S)} → new ≡ old → PutsOfLayout means layout old new
+  none_own is first = subst (λ (xs : List (DescriptorSet S)). AreOfLayout means layout (drop first xs)) (sym is)
+
+  -- all that is behind
+  pub own_behind : {old new : List (DescriptorSet S)} → PutsOfLayout means layout old new → AreOfLayout means layout (behind old new)
+  own_behind {old} puts = puts (length old) (subst (AreOfLayout means layout) (sym (drop_all (length old) old (omega arith))) (λ i x within. absurd (omega arith)))

@@ -1,21 +1,18 @@
 -- A request to an allocator over a device, in the words of the books.
 use Rattle.std.specs.Prelude.{ℕ, List, Result, Ok, Err}
-use Rattle.std.specs.Global.{Vec}
 use Rattle.gpu_descriptor_types.specs.Meaning.{Meaning}
 use Rattle.gpu_descriptor_types.specs.Side.{Side}
 use Rattle.gpu_descriptor.specs.declared.errors.AllocationError.{AllocationError}
-use Rattle.gpu_descriptor.specs.declared.set.DescriptorSet.{DescriptorSet}
 use Rattle.gpu_descriptor.specs.Model.Books.{Key}
 use Rattle.gpu_descriptor.specs.Model.Agreement.{Item}
-use Rattle.gpu_descriptor.specs.Caller.Sets.{items_of}
 use Rattle.gpu_descriptor.specs.Caller.States.{state_of}
 use Rattle.gpu_descriptor.specs.Caller.Values.{Allocations}
 use Rattle.gpu_descriptor.specs.Model.Outcomes.{Call}
 
--- the answer, as the books see it
-abbrev pub answer_of : {S : Type 0} → (S → ℕ) → Result (Vec (DescriptorSet S)) AllocationError → Result (List Item) AllocationError
-answer_of name (Ok sets) = Ok (items_of name sets.items)
-answer_of name (Err e) = Err e
+-- what f makes of the value of an answer, or the same error
+abbrev pub map_ok : {A B : Type 0} → (A → B) → Result A AllocationError → Result B AllocationError
+map_ok f (Ok x) = Ok (f x)
+map_ok f (Err e) = Err e
 
 module _ {L P S : Type 0} (means : Meaning L P S) where
   -- a request of so many sets of a key, and what it left

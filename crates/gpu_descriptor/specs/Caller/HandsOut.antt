@@ -1,7 +1,6 @@
 -- What a request for sets leaves of an allocator and of the ledger.
 use Rattle.gpu_descriptor.specs.Model.Grants.{granted, items_in}
-use Rattle.std.specs.Prelude.{◌≡◌, ℕ, ◌+◌, ◌≤◌, length, IfOk, IfErr, MatchOption, None, OnOk, OnErr, Result, if◌then◌else◌, is_some}
-use Rattle.std.specs.Global.{Vec}
+use Rattle.std.specs.Prelude.{◌≡◌, ℕ, ◌+◌, ◌≤◌, List, length, IfOk, IfErr, MatchOption, None, OnOk, OnErr, Result, if◌then◌else◌, is_some}
 use Rattle.gpu_descriptor_types.specs.Meaning.{Meaning}
 use Rattle.gpu_descriptor_types.specs.Side.{Side}
 use Rattle.gpu_descriptor.specs.declared.errors.AllocationError.{AllocationError}
@@ -10,7 +9,7 @@ use Rattle.gpu_descriptor.specs.Model.Books.{Key}
 use Rattle.gpu_descriptor.specs.Model.Load.{set_descriptors}
 use Rattle.gpu_descriptor.specs.Model.Outcomes.{Allocates, taken_by}
 use Rattle.gpu_descriptor.specs.Model.Promises.{AreOfKey, AreOutBesides, CreatesOnlyWhereShort, HasCause, KeepsOtherKeys, KeepsOutstanding}
-use Rattle.gpu_descriptor.specs.Caller.Call.{answer_of, call_of}
+use Rattle.gpu_descriptor.specs.Caller.Call.{call_of, map_ok}
 use Rattle.gpu_descriptor.specs.Caller.Comparisons.{run_digits}
 use Rattle.gpu_descriptor.specs.Caller.Keys.{with_key}
 use Rattle.gpu_descriptor.specs.Caller.Sets.{items_of}
@@ -18,17 +17,17 @@ use Rattle.gpu_descriptor.specs.Caller.States.{keys_of, marked_load_of, outstand
 use Rattle.gpu_descriptor.specs.Caller.Values.{Allocations}
 
 -- a request of so many sets of a key was answered
-pub record HandsOut {L P S : Type 0} (means : Meaning L P S) (k : Key) (count : ℕ) (answer : Result (Vec (DescriptorSet S)) AllocationError) (old new : Side (Allocations P)) : Type 0 where
+pub record HandsOut {L P S : Type 0} (means : Meaning L P S) (k : Key) (count : ℕ) (answer : Result (List (DescriptorSet S)) AllocationError) (old new : Side (Allocations P)) : Type 0 where
   -- everything at once: which of its outcomes the request had
-  pub outcome : Allocates (call_of means k count old new (answer_of means.set_name answer))
+  pub outcome : Allocates (call_of means k count old new (map_ok (items_of means.set_name) answer))
   -- no sets change nothing
   pub nothing : count ≡ 0 → (new.value ≡ old.value) × (new.ledger ≡ old.ledger)
   -- as many sets as were asked for
-  pub many : IfOk answer (λ sets. length sets.items ≡ count)
+  pub many : IfOk answer (λ sets. length sets ≡ count)
   -- exactly the sets of the answer are outstanding besides those before
-  pub given : IfOk answer (λ sets. AreOutBesides (items_of means.set_name sets.items) (state_of means.pool_name old.value old.ledger) (state_of means.pool_name new.value new.ledger))
+  pub given : IfOk answer (λ sets. AreOutBesides (items_of means.set_name sets) (state_of means.pool_name old.value old.ledger) (state_of means.pool_name new.value new.ledger))
   -- each has the counts and the mark of the layout
-  pub of_key : IfOk answer (λ sets. AreOfKey k (items_of means.set_name sets.items))
+  pub of_key : IfOk answer (λ sets. AreOfKey k (items_of means.set_name sets))
   -- the number of sets that are out and the marked load rise by what was handed out
   pub totals : IfOk answer (λ sets. (outstanding_of new.value ≡ outstanding_of old.value + count) × (marked_load_of new.value ≡ marked_load_of old.value + set_descriptors k count))
   -- a refusal gives back what it took
@@ -36,7 +35,7 @@ pub record HandsOut {L P S : Type 0} (means : Meaning L P S) (k : Key) (count : 
   -- the same sets are outstanding as before
   pub back : OnErr answer (KeepsOutstanding (state_of means.pool_name old.value old.ledger) (state_of means.pool_name new.value new.ledger))
   -- the error has one of its causes
-  pub cause : IfErr answer (λ e. HasCause e (call_of means k count old new (answer_of means.set_name answer)))
+  pub cause : IfErr answer (λ e. HasCause e (call_of means k count old new (map_ok (items_of means.set_name) answer)))
   -- a new pool comes only if the key's existing pools don't do, and so many at most
   pub creates : CreatesOnlyWhereShort outcome
   -- the pools of other keys are untouched, in the books and on the device

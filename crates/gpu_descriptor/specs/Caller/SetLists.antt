@@ -1,6 +1,10 @@
 -- Lists that one joined, or left.
-use Rattle.std.specs.Prelude.{◌≡◌, ℕ, List}
+use Rattle.std.specs.Prelude.{◌≡◌, ℕ, List, drop, length}
 use Rattle.std.specs.List.{insert}
+
+-- what the new list has behind the old one
+abbrev pub behind : {X : Type 0} → List X → List X → List X
+behind old new = drop (length old) new
 
 -- the new list has this one besides, wherever it stands
 pub record HasBesides {X : Type 0} (x : X) (old new : List X) : Type 0 where

@@ -1,28 +1,19 @@
 //! Handing sets out, whole or not at all.
-ghost use Rattle.std.specs.Prelude.{◌≡◌, ◌+◌, ◌*◌, ◌<◌, ◌&&◌, nat_lt, sum, Err, IfOk, IfErr, OnOk, OnErr};
+ghost use Rattle.std.specs.Prelude.{◌≡◌, IfOk};
 ghost use Rattle.gpu_descriptor_types.specs.Counts.{kinds};
 ghost use Rattle.gpu_descriptor_types.specs.Side.{side};
-ghost use Rattle.gpu_descriptor.specs.Caller.Call.{call_of, layout_key};
+ghost use Rattle.gpu_descriptor.specs.Caller.Call.{layout_key, map_ok};
 ghost use Rattle.gpu_descriptor.specs.Caller.Flags.{is_marked};
 ghost use Rattle.gpu_descriptor.specs.Caller.HandsOut.{HandsOut};
 ghost use Rattle.gpu_descriptor.specs.Caller.Keeps.{Keeps};
-ghost use Rattle.gpu_descriptor.specs.Caller.Keys.{with_key};
 ghost use Rattle.gpu_descriptor.specs.Caller.Sets.{AreOfLayout};
-ghost use Rattle.gpu_descriptor.specs.Caller.States.{Agrees, keys_of, marked_load_of};
-ghost use Rattle.gpu_descriptor.specs.Inner.KeyOf.{key_of};
-ghost use Rattle.gpu_descriptor.specs.Inner.OpenPools.{CountsLooks};
-ghost use Rattle.gpu_descriptor.specs.Inner.Serves.{IsDeclined, IsSound, Takes};
+ghost use Rattle.gpu_descriptor.specs.Caller.States.{Agrees};
 
 use super::DescriptorAllocator;
-use crate::bucket::request::{Gathered, SetRequest};
-use crate::bucket::stop::error_of;
-use crate::bucket::would_exceed_64_bits;
 use crate::errors::AllocationError;
 use crate::flags::DescriptorSetLayoutCreateFlags;
-use crate::set::{BucketKey, DescriptorSet};
-use bitflags::Flags;
+use crate::set::DescriptorSet;
 use gpu_descriptor_types::{DescriptorDevice, DescriptorTotalCount};
-use std::marker::PhantomData;
 use std::vec::Vec;
 
 impl<P: Drop, S: Drop> DescriptorAllocator<P, S> {
@@ -65,89 +56,22 @@ impl<P: Drop, S: Drop> DescriptorAllocator<P, S> {
         requires mark { is_marked flags ≡ D.meaning.mark layout.now }
         requires agree { Agrees D.meaning.pool_name self.old (D.ledger device.old) }
 
-        ensures hands_out { HandsOut D.meaning (layout_key D.meaning layout.now) count result
-            (side self.old (D.ledger device.old)) (side self.new (D.ledger device.new)) }
+        ensures hands_out { HandsOut D.meaning (layout_key D.meaning layout.now) count
+            (map_ok (λ sets. sets.items) result) (side self.old (D.ledger device.old)) (side self.new (D.ledger device.new)) }
         ensures own { IfOk result (λ sets. AreOfLayout D.meaning layout.now sets.items) }
         ensures keeps { Keeps D.meaning (side self.old (D.ledger device.old))
             (side self.new (D.ledger device.new)) }
     {
-        if count == 0 {
-            return Ok(Vec::new(self.alloc));
-        }
-        let update_after_bind = flags.contains(DescriptorSetLayoutCreateFlags::UPDATE_AFTER_BIND);
-        let request = SetRequest {
+        let none = Vec::new(self.alloc);
+        let (sets, answer) = self.allocate_behind(
+            device,
             layout,
-            key: BucketKey {
-                counts: *layout_descriptor_count,
-                update_after_bind,
-            },
+            flags,
+            layout_descriptor_count,
             count,
-            alloc: self.alloc,
-            device: PhantomData,
-        };
-        let Gathered { sets, ended } = self.serve_if_allowed(device, &request)?;
-        match ended {
-            Ok(()) => Ok(sets),
-            Err(stop) => {
-                self.free_all(device, sets);
-                Err(error_of(stop))
-            }
-        }
-    }
-
-    /// Takes the sets of a request and counts those that came, unless all of them would exceed the
-    /// limit or 64 bits. On an error nothing was taken. Where `ended` says that the request stopped
-    /// short, the sets that came are the caller's to give back.
-    ///
-    /// New pools are held against the limit where they are created, by the room in the budget.
-    fn serve_if_allowed<L, D: DescriptorDevice<L, P, S>>(
-        &mut self,
-        device: &mut D,
-        request: &SetRequest<'_, L, P, S, D>,
-    ) -> Result<Gathered<S>, AllocationError>
-        requires some { 0 < request.now.count }
-        requires agree { Agrees D.meaning.pool_name self.old (D.ledger device.old) }
-        ensures taken { IfOk result (λ r. Takes D.meaning (key_of request.now.key) request.now.count
-            r.sets.items r.ended (side self.old (D.ledger device.old))
-            (side self.new (D.ledger device.new))) }
-        ensures own { IfOk result (λ r. AreOfLayout D.meaning request.now.layout.now r.sets.items) }
-        ensures declined { IfErr result (λ e. IsDeclined (call_of D.meaning (key_of request.now.key)
-            request.now.count (side self.old (D.ledger device.old))
-            (side self.new (D.ledger device.new)) (Err e))) }
-        ensures looks { CountsLooks self.old.looks self.new.looks
-            (D.ledger device.old) (D.ledger device.new) }
-        ensures comparisons_stay { self.new.comparisons ≡ self.old.comparisons }
-        ensures keys { OnOk result (keys_of self.new
-            ≡ with_key (key_of request.now.key) (keys_of self.old)) }
-        ensures allocator { OnErr result (self.new ≡ self.old) }
-        ensures ledger { OnErr result (D.ledger device.new ≡ D.ledger device.old) }
-        ensures within { IsSound D.meaning.pool_name self.new }
-        ensures limit { self.new.limit ≡ self.old.limit }
-    {
-        if self.would_exceed_limit(&request.key, request.count) {
-            return Err(AllocationError::Fragmentation);
-        }
-        if would_exceed_64_bits(self.outstanding, request.count) {
-            return Err(AllocationError::Fragmentation);
-        }
-        let Gathered { sets, ended } = self.table.serve(device, request, &mut self.budget)?;
-        let taken = sets.len() as u64;
-        self.outstanding += taken;
-        let descriptors = request.key.marked_descriptors_of_sets(taken) as u32;
-        self.update_after_bind_descriptors += descriptors;
-        Ok(Gathered { sets, ended })
-    }
-}
-
-impl<P, S> DescriptorAllocator<P, S> {
-    /// Whether `count` sets more would exceed the limit on marked descriptors.
-    fn would_exceed_limit(&self, key: &BucketKey, count: u32) -> bool
-        ensures { result ≡ (key.now.update_after_bind && nat_lt (self.now.limit)
-            (count * sum (kinds key.now.counts) + marked_load_of self.now)) }
-    {
-        let unused = self.max_update_after_bind_descriptors_in_all_pools
-            - self.update_after_bind_descriptors;
-        key.update_after_bind
-            && u128::from(count) * u128::from(key.counts.total_u64()) > u128::from(unused)
+            none,
+        );
+        answer?;
+        Ok(sets)
     }
 }

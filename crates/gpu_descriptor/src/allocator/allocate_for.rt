@@ -1,12 +1,12 @@
 //! Handing out sets of a layout that is kept with its counts and flags.
-ghost use Rattle.std.specs.Prelude.{IfOk};
+ghost use Rattle.std.specs.Prelude.{◌≡◌, ◌++◌, [], ◌∷◌, IfOk, OnOk, OnErr};
 ghost use Rattle.gpu_descriptor_types.specs.Meaning.{IsOfLayout};
 ghost use Rattle.gpu_descriptor_types.specs.Side.{side};
-ghost use Rattle.gpu_descriptor.specs.Caller.Call.{layout_key};
+ghost use Rattle.gpu_descriptor.specs.Caller.Call.{layout_key, map_ok};
 ghost use Rattle.gpu_descriptor.specs.Caller.HandsOut.{HandsOut};
-ghost use Rattle.gpu_descriptor.specs.Caller.HandsOutOne.{HandsOutOne};
 ghost use Rattle.gpu_descriptor.specs.Caller.Keeps.{Keeps};
 ghost use Rattle.gpu_descriptor.specs.Caller.SetLayouts.{IsMeant};
+ghost use Rattle.gpu_descriptor.specs.Caller.SetLists.{behind};
 ghost use Rattle.gpu_descriptor.specs.Caller.Sets.{AreOfLayout, raw_of};
 ghost use Rattle.gpu_descriptor.specs.Caller.States.{Agrees};
 
@@ -15,6 +15,7 @@ use crate::errors::AllocationError;
 use crate::layout::SetLayout;
 use crate::set::DescriptorSet;
 use gpu_descriptor_types::DescriptorDevice;
+use std::mem::replace;
 use std::vec::Vec;
 
 impl<P: Drop, S: Drop> DescriptorAllocator<P, S> {
@@ -29,7 +30,7 @@ impl<P: Drop, S: Drop> DescriptorAllocator<P, S> {
         requires agree { Agrees D.meaning.pool_name self.old (D.ledger device.old) }
 
         ensures hands_out { HandsOut D.meaning (layout_key D.meaning layout.now.layout) count
-            result (side self.old (D.ledger device.old)) (side self.new (D.ledger device.new)) }
+            (map_ok (λ sets. sets.items) result) (side self.old (D.ledger device.old)) (side self.new (D.ledger device.new)) }
         ensures own { IfOk result (λ sets. AreOfLayout D.meaning layout.now.layout sets.items) }
         ensures keeps { Keeps D.meaning (side self.old (D.ledger device.old))
             (side self.new (D.ledger device.new)) }
@@ -37,7 +38,45 @@ impl<P: Drop, S: Drop> DescriptorAllocator<P, S> {
         self.allocate(device, &layout.layout, layout.flags, &layout.counts, count)
     }
 
-    /// Allocates one set of a layout, as `allocate_for` does. It takes no more memory than that.
+    /// The same as `allocate_for`, but the sets are put behind those of a vector. It takes memory for
+    /// them only if the vector has no capacity for `count` more. If it can't get that, the answer is
+    /// `OutOfHostMemory` before the device is asked. On an error the vector has the sets that it had.
+    pub fn allocate_into<L, D: DescriptorDevice<L, P, S>>(
+        &mut self,
+        device: &mut D,
+        layout: &SetLayout<L>,
+        count: u32,
+        sets: &mut Vec<DescriptorSet<S>>,
+    ) -> Result<(), AllocationError>
+        requires meant { IsMeant D.meaning layout.now }
+        requires agree { Agrees D.meaning.pool_name self.old (D.ledger device.old) }
+
+        // The request's sets are those behind what the vector had.
+        ensures hands_out { HandsOut D.meaning (layout_key D.meaning layout.now.layout) count
+            (map_ok (λ done. behind sets.old.items sets.new.items) result)
+            (side self.old (D.ledger device.old)) (side self.new (D.ledger device.new)) }
+        ensures front { OnOk result (sets.new.items
+            ≡ sets.old.items ++ behind sets.old.items sets.new.items) }
+        ensures own { OnOk result (AreOfLayout D.meaning layout.now.layout
+            (behind sets.old.items sets.new.items)) }
+        ensures sets_stay { OnErr result (sets.new.items ≡ sets.old.items) }
+        ensures keeps { Keeps D.meaning (side self.old (D.ledger device.old))
+            (side self.new (D.ledger device.new)) }
+    {
+        let given = replace(sets, Vec::new(self.alloc));
+        let (given, answer) = self.allocate_behind(
+            device,
+            &layout.layout,
+            layout.flags,
+            &layout.counts,
+            count,
+            given,
+        );
+        *sets = given;
+        answer
+    }
+
+    /// Allocates one set of a layout, as `allocate_for` does. It takes no memory for the answer.
     pub fn allocate_one<L, D: DescriptorDevice<L, P, S>>(
         &mut self,
         device: &mut D,
@@ -46,14 +85,22 @@ impl<P: Drop, S: Drop> DescriptorAllocator<P, S> {
         requires meant { IsMeant D.meaning layout.now }
         requires agree { Agrees D.meaning.pool_name self.old (D.ledger device.old) }
 
-        ensures hands_out { HandsOutOne D.meaning (layout_key D.meaning layout.now.layout) result
-            (side self.old (D.ledger device.old)) (side self.new (D.ledger device.new)) }
+        ensures hands_out { HandsOut D.meaning (layout_key D.meaning layout.now.layout) 1
+            (map_ok (λ set. set ∷ []) result) (side self.old (D.ledger device.old)) (side self.new (D.ledger device.new)) }
         ensures own { IfOk result (λ set. IsOfLayout D.meaning layout.now.layout (raw_of set)) }
         ensures keeps { Keeps D.meaning (side self.old (D.ledger device.old))
             (side self.new (D.ledger device.new)) }
     {
-        let mut sets = self.allocate_for(device, layout, 1)?;
-        match sets.pop() {
+        let (set, answer) = self.allocate_behind(
+            device,
+            &layout.layout,
+            layout.flags,
+            &layout.counts,
+            1,
+            None,
+        );
+        answer?;
+        match set {
             Some(set) => Ok(set),
             None => unreachable!(),
         }

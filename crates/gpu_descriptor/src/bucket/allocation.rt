@@ -1,49 +1,56 @@
 //! Where a request puts the sets that come from the device.
-ghost use Rattle.std.specs.Prelude.{◌≡◌, ◌+◌, ◌≤◌, [], IfOk, vec_len, vec_capacity};
+ghost use Rattle.std.specs.Prelude.{◌≡◌, ◌≤◌, OnOk};
 
 use crate::key::SetKey;
+use crate::places::SetPlaces;
 use crate::set::{BucketKey, DescriptorSet};
 use gpu_descriptor_types::SetSink;
-use std::alloc::{AllocError, Global};
-use std::vec::Vec;
+use std::alloc::AllocError;
+use std::marker::PhantomData;
 
-/// The sets of a request, over memory that was taken before the first device call. Each set that is
-/// put gets the key with its id, and the number of the pool that is asked.
+/// The sets of a request, over room that was made before the first device call. Each set that is put
+/// gets the key with its id, and the number of the pool that is asked.
 #[derive(Drop)]
-pub(crate) struct Allocation<'k, S> {
-    pub(crate) sets: Vec<DescriptorSet<S>>,
+pub(crate) struct Allocation<'k, S, K: SetPlaces<S>> {
+    pub(crate) sets: K,
 
     /// How many sets are left to come.
     pub(crate) left: u32,
     pub(crate) key: &'k BucketKey,
     pub(crate) id: u64,
     pub(crate) number: u64,
-    ghost fits: { vec_len sets + left ≤ vec_capacity sets },
+    raw: PhantomData<S>,
+    ghost fits: { left ≤ K.places sets },
 }
 
-impl<'k, S> Allocation<'k, S> {
-    /// A sink with capacity for so many sets of a key, which are all left to come.
-    pub(crate) fn with_capacity(
-        alloc: Global,
-        key: &'k BucketKey,
-        id: u64,
-        count: u32,
-    ) -> Result<Self, AllocError>
-        ensures sets { IfOk result (λ sink. sink.sets.items ≡ []) }
-        ensures left { IfOk result (λ sink. sink.left ≡ count) }
+impl<'k, S, K: SetPlaces<S>> Allocation<'k, S, K> {
+    /// A sink that puts its sets here. None are left to come.
+    pub(crate) fn new(sets: K, key: &'k BucketKey) -> Self
+        ensures { result.sets ≡ sets }
     {
-        Ok(Allocation {
-            sets: Vec::with_capacity(alloc, count as usize)?,
-            left: count,
+        Allocation {
+            sets,
+            left: 0,
             key,
-            id,
+            id: 0,
             number: 0,
-        })
+            raw: PhantomData,
+        }
     }
 
-    /// The sets that were put.
-    pub(crate) fn into_sets(self) -> Vec<DescriptorSet<S>>
-        ensures { result.items ≡ self.entry.sets.items }
+    /// Makes room for so many sets, which are then all left to come.
+    pub(crate) fn make_room(&mut self, count: u32) -> Result<(), AllocError>
+        ensures sets { K.items self.new.sets ≡ K.items self.old.sets }
+        ensures left { OnOk result (self.new.left ≡ count) }
+    {
+        self.sets.make_room(count)?;
+        self.left = count;
+        Ok(())
+    }
+
+    /// What the sets were put into.
+    pub(crate) fn into_sets(self) -> K
+        ensures { result ≡ self.entry.sets }
     {
         let Allocation {
             sets,
@@ -51,6 +58,7 @@ impl<'k, S> Allocation<'k, S> {
             key: _,
             id: _,
             number: _,
+            raw: _,
         } = self;
         sets
     }
@@ -58,7 +66,7 @@ impl<'k, S> Allocation<'k, S> {
     /// The next sets come from the pool of this key that has this number. Key and id are set again,
     /// since of a sink that was with the device no more is known than what it keeps of a set.
     pub(crate) fn aim(&mut self, key: &'k BucketKey, id: u64, number: u64)
-        ensures sets { self.new.sets.items ≡ self.old.sets.items }
+        ensures sets { self.new.sets ≡ self.old.sets }
         ensures left { self.new.left ≡ self.old.left }
         ensures key { self.new.key.now ≡ key.now }
         ensures id { self.new.id ≡ id }
@@ -70,14 +78,14 @@ impl<'k, S> Allocation<'k, S> {
     }
 }
 
-impl<S> SetSink<S> for Allocation<'_, S> {
+impl<S, K: SetPlaces<S>> SetSink<S> for Allocation<'_, S, K> {
     ghost use Rattle.gpu_descriptor.specs.Inner.KeyOf.{key_of};
     ghost use Rattle.gpu_descriptor.specs.Inner.SetAt.{set_at};
 
     type Kept = DescriptorSet<S>;
 
     ghost sink = { record {
-      kept = λ sink. sink.sets.items;
+      kept = λ sink. K.items sink.sets;
       kept_as = λ sink raw. set_at (key_of sink.key.now) sink.id sink.number raw;
       left = λ sink. sink.left;
     } };
@@ -88,7 +96,7 @@ impl<S> SetSink<S> for Allocation<'_, S> {
 
     #[inline]
     fn put(&mut self, set: S) {
-        self.sets.push_reserved(DescriptorSet {
+        self.sets.put(DescriptorSet {
             raw: set,
             number: self.number,
             id: self.id,

@@ -1,11 +1,12 @@
 //! How a request takes sets from the existing pools of its key.
-ghost use Rattle.std.specs.Prelude.{◌≡◌, ◌+◌, ◌<◌, ◌≤◌, ◌++◌, ◌^◌, List, [], length, map};
+ghost use Rattle.std.specs.Prelude.{◌≡◌, ◌+◌, ◌<◌, ◌≤◌, ◌++◌, ◌^◌, List, length, map};
 ghost use Rattle.std.specs.Prelude.{if◌then◌else◌, IfErr, OnOk, Err};
 ghost use Rattle.std.specs.VecDeque.{deque_capacity};
 ghost use Rattle.gpu_descriptor_types.specs.Ledger.{pool_refusals};
 ghost use Rattle.gpu_descriptor.specs.declared.set.DescriptorSet.{DescriptorSet};
 ghost use Rattle.gpu_descriptor.specs.declared.bucket.stop.Stop.TheVariants.{ExistingPoolRefused};
-ghost use Rattle.gpu_descriptor.specs.Caller.Sets.{AreOfLayout, items_of};
+ghost use Rattle.gpu_descriptor.specs.Caller.SetLists.{behind};
+ghost use Rattle.gpu_descriptor.specs.Caller.Sets.{PutsOfLayout, items_of};
 ghost use Rattle.gpu_descriptor.specs.Inner.Buckets.{IsBookedIn, AreBookedIn};
 ghost use Rattle.gpu_descriptor.specs.Inner.Grow.{IsTaken};
 ghost use Rattle.gpu_descriptor.specs.Inner.KeyOf.{key_of};
@@ -18,6 +19,7 @@ use crate::bucket::allocation::Allocation;
 use crate::bucket::reads::OpenPools;
 use crate::bucket::request::SetRequest;
 use crate::bucket::{DescriptorBucket, DescriptorPool};
+use crate::places::SetPlaces;
 use gpu_descriptor_types::{DescriptorDevice, DeviceAllocationError, Layouts, Tally};
 
 /// Whether a refusal speaks of the pool alone, and not of want of memory.
@@ -34,23 +36,23 @@ fn is_of_pool(error: DeviceAllocationError) -> bool
 ///
 /// Where the pool refuses, its places are no longer known, and none came.
 #[inline]
-fn ask<L, P, S, D: DescriptorDevice<L, P, S>>(
+fn ask<L, P, S, D: DescriptorDevice<L, P, S>, K: SetPlaces<S>>(
     device: &mut D,
     pool: &mut DescriptorPool<P>,
     request: &SetRequest<'_, L, P, S, D>,
-    sink: &mut Allocation<'_, S>,
+    sink: &mut Allocation<'_, S, K>,
 ) -> Result<(), DeviceAllocationError>
     requires booked { IsBookedIn (key_of request.now.key) (D.ledger device.old).pools
         (entry_of D.meaning.pool_name pool.old) }
     ensures asked { OnOk result ((put : List S) ×
-        (sink.new.sets.items ≡ sink.old.sets.items ++ map (set_at (key_of sink.old.key.now)
+        (K.items sink.new.sets ≡ K.items sink.old.sets ++ map (set_at (key_of sink.old.key.now)
         sink.old.id sink.old.number) put) × (sink.new.left + length put ≡ sink.old.left) ×
         IsAsked (key_of request.now.key) sink.old.left (map D.meaning.set_name put)
         (entry_of D.meaning.pool_name pool.old) (entry_of D.meaning.pool_name pool.new)
         (D.ledger device.old) (D.ledger device.new)) }
-    ensures own { AreOfLayout D.meaning request.now.layout.now sink.old.sets.items
-        → AreOfLayout D.meaning request.now.layout.now sink.new.sets.items }
-    ensures err { IfErr result (λ e. (sink.new.sets.items ≡ sink.old.sets.items) ×
+    ensures own { PutsOfLayout D.meaning request.now.layout.now (K.items sink.old.sets)
+        (K.items sink.new.sets) }
+    ensures err { IfErr result (λ e. (K.items sink.new.sets ≡ K.items sink.old.sets) ×
         (sink.new.left ≡ sink.old.left) × (entry_of D.meaning.pool_name pool.new
         ≡ entry_of D.meaning.pool_name pool.old) × IsNoMemory sink.old.left
         (entry_of D.meaning.pool_name pool.old) e (D.ledger device.old) (D.ledger device.new)) }
@@ -79,30 +81,30 @@ fn ask<L, P, S, D: DescriptorDevice<L, P, S>>(
 /// Asks the pools for sets that have known free places, the newest first, until none are left to
 /// come.
 #[inline(always)]
-fn walk<'k, L, P, S, D: DescriptorDevice<L, P, S>>(
+fn walk<'k, L, P, S, D: DescriptorDevice<L, P, S>, K: SetPlaces<S>>(
     device: &mut D,
     view: &mut OpenPools<'_, '_, '_, P>,
     request: &'k SetRequest<'_, L, P, S, D>,
-    sink: &mut Allocation<'k, S>,
+    sink: &mut Allocation<'k, S, K>,
 ) -> Result<(), DeviceAllocationError>
     requires booked { AreBookedIn (key_of request.now.key) (D.ledger device.old).pools
         (map (entry_of D.meaning.pool_name) view.old.pools.now.items) }
     requires listed { IsListed view.old }
     requires left { sink.old.left ≡ request.now.count }
     ensures walked { OnOk result ((put : List (DescriptorSet S)) ×
-        (sink.new.sets.items ≡ sink.old.sets.items ++ put) ×
+        (K.items sink.new.sets ≡ K.items sink.old.sets ++ put) ×
         (length put + sink.new.left ≡ request.now.count) × IsWalked (key_of request.now.key)
         request.now.count sink.new.left (items_of D.meaning.set_name put)
         (bucket_in D.meaning.pool_name view.old) (bucket_in D.meaning.pool_name view.new)
         (D.ledger device.old) (D.ledger device.new)) }
     ensures stopped { IfErr result (λ e. (put : List (DescriptorSet S)) ×
-        (sink.new.sets.items ≡ sink.old.sets.items ++ put) ×
+        (K.items sink.new.sets ≡ K.items sink.old.sets ++ put) ×
         (length put + sink.new.left ≡ request.now.count) × IsTaken (Err (ExistingPoolRefused e))
         (key_of request.now.key) 0 request.now.count (items_of D.meaning.set_name put)
         (bucket_in D.meaning.pool_name view.old) (bucket_in D.meaning.pool_name view.new)
         (D.ledger device.old) (D.ledger device.new)) }
-    ensures own { AreOfLayout D.meaning request.now.layout.now sink.old.sets.items
-        → AreOfLayout D.meaning request.now.layout.now sink.new.sets.items }
+    ensures own { PutsOfLayout D.meaning request.now.layout.now (K.items sink.old.sets)
+        (K.items sink.new.sets) }
     ensures pools { length view.new.pools.now.items ≡ length view.old.pools.now.items }
     ensures capacity { deque_capacity view.new.listed.now ≡ deque_capacity view.old.listed.now }
     ensures listed { IsListed view.new }
@@ -124,32 +126,37 @@ fn walk<'k, L, P, S, D: DescriptorDevice<L, P, S>>(
 
 impl<P> DescriptorBucket<P> {
     /// Takes what the existing pools are known to have.
-    pub(crate) fn take_from_existing<'k, L, S, D: DescriptorDevice<L, P, S>>(
+    pub(crate) fn take_from_existing<'k, L, S, D: DescriptorDevice<L, P, S>, K: SetPlaces<S>>(
         &mut self,
         device: &mut D,
         request: &'k SetRequest<'_, L, P, S, D>,
         looks: &mut Tally,
-        sink: &mut Allocation<'k, S>,
+        sink: &mut Allocation<'k, S, K>,
     ) -> Result<(), DeviceAllocationError>
         requires booked { AreBookedIn (key_of request.now.key) (D.ledger device.old).pools
             (bucket_of D.meaning.pool_name self.old).pools }
         requires bound { self.old.total + request.now.count < 2 ^ 64 }
-        requires empty { sink.old.sets.items ≡ [] }
         requires left { sink.old.left ≡ request.now.count }
         ensures walked { OnOk result (IsWalked (key_of request.now.key) request.now.count
-            sink.new.left (items_of D.meaning.set_name sink.new.sets.items)
+            sink.new.left (items_of D.meaning.set_name
+            (behind (K.items sink.old.sets) (K.items sink.new.sets)))
             (bucket_of D.meaning.pool_name self.old) (bucket_of D.meaning.pool_name self.new)
             (D.ledger device.old) (D.ledger device.new)) }
         ensures stopped { IfErr result (λ e. IsTaken (Err (ExistingPoolRefused e))
             (key_of request.now.key) 0 request.now.count
-            (items_of D.meaning.set_name sink.new.sets.items)
+            (items_of D.meaning.set_name
+            (behind (K.items sink.old.sets) (K.items sink.new.sets)))
             (bucket_of D.meaning.pool_name self.old) (bucket_of D.meaning.pool_name self.new)
             (D.ledger device.old) (D.ledger device.new)) }
-        ensures own { AreOfLayout D.meaning request.now.layout.now sink.old.sets.items
-            → AreOfLayout D.meaning request.now.layout.now sink.new.sets.items }
+        ensures own { PutsOfLayout D.meaning request.now.layout.now (K.items sink.old.sets)
+            (K.items sink.new.sets) }
         ensures numbers_stay { KeepsNumbers self.old self.new }
-        ensures total { self.new.total ≡ self.old.total + length sink.new.sets.items }
-        ensures left { length sink.new.sets.items + sink.new.left ≡ request.now.count }
+        ensures front { K.items sink.new.sets ≡ K.items sink.old.sets
+            ++ behind (K.items sink.old.sets) (K.items sink.new.sets) }
+        ensures total { self.new.total ≡ self.old.total
+            + length (behind (K.items sink.old.sets) (K.items sink.new.sets)) }
+        ensures left { length (behind (K.items sink.old.sets) (K.items sink.new.sets))
+            + sink.new.left ≡ request.now.count }
         ensures looks { CountsLooks looks.old.count looks.new.count
             (D.ledger device.old) (D.ledger device.new) }
     {
@@ -161,7 +168,7 @@ impl<P> DescriptorBucket<P> {
             looks,
         );
         let walked = walk(device, &mut view, request, sink);
-        self.total += sink.sets.len() as u64;
+        self.total += u64::from(request.count - sink.left);
         walked
     }
 }

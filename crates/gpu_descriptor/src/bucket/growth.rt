@@ -5,7 +5,7 @@ ghost use Rattle.std.specs.VecDeque.{deque_capacity};
 ghost use Rattle.gpu_descriptor_types.specs.Counts.{kinds};
 ghost use Rattle.gpu_descriptor_types.specs.Flags.{bits, pool_flags as pool_flags_of};
 ghost use Rattle.gpu_descriptor_types.specs.PoolSize.{greatest_pool_size, pool_counts as pool_counts_of};
-ghost use Rattle.gpu_descriptor.specs.Caller.Sets.{AreOfLayout};
+ghost use Rattle.gpu_descriptor.specs.Caller.Sets.{PutsOfLayout};
 ghost use Rattle.gpu_descriptor.specs.Inner.Grow.{IsGrown};
 ghost use Rattle.gpu_descriptor.specs.Inner.KeyOf.{key_of};
 ghost use Rattle.gpu_descriptor.specs.Inner.OpenPools.{CountsLooks};
@@ -21,6 +21,7 @@ use crate::bucket::request::SetRequest;
 use crate::bucket::stop::Stop;
 use crate::bucket::{DescriptorBucket, DescriptorPool};
 use crate::budget::Budget;
+use crate::places::SetPlaces;
 use crate::set::BucketKey;
 use bitflags::Flags;
 use gpu_descriptor_types::{
@@ -71,18 +72,18 @@ impl<P> DescriptorBucket<P> {
     ///
     /// A pool of a marked key takes of the room what descriptors it has.
     #[inline(never)]
-    pub(crate) fn take_from_new<'k, L, S, D: DescriptorDevice<L, P, S>>(
+    pub(crate) fn take_from_new<'k, L, S, D: DescriptorDevice<L, P, S>, K: SetPlaces<S>>(
         &mut self,
         device: &mut D,
         request: &'k SetRequest<'_, L, P, S, D>,
         budget: &mut Budget,
-        sink: &mut Allocation<'k, S>,
+        sink: &mut Allocation<'k, S, K>,
     ) -> Result<(), Stop>
         requires some { 0 < sink.old.left }
         requires numbers { self.old.offset + length self.old.pools.items + sink.old.left < 2 ^ 64 }
         requires bound { self.old.total + sink.old.left < 2 ^ 64 }
         ensures grown { OnOk result ((put : List S) ×
-            (sink.new.sets.items ≡ sink.old.sets.items ++ map (set_at (key_of request.now.key)
+            (K.items sink.new.sets ≡ K.items sink.old.sets ++ map (set_at (key_of request.now.key)
             self.old.id (self.old.offset + length self.old.pools.items)) put) ×
             (sink.new.left + length put ≡ sink.old.left) ×
             (self.new.total ≡ self.old.total + length put) ×
@@ -90,10 +91,10 @@ impl<P> DescriptorBucket<P> {
             sink.old.left (map D.meaning.set_name put) (bucket_of D.meaning.pool_name self.old).pools
             (bucket_of D.meaning.pool_name self.new).pools (D.ledger device.old)
             (D.ledger device.new)) }
-        ensures own { AreOfLayout D.meaning request.now.layout.now sink.old.sets.items
-            → AreOfLayout D.meaning request.now.layout.now sink.new.sets.items }
+        ensures own { PutsOfLayout D.meaning request.now.layout.now (K.items sink.old.sets)
+            (K.items sink.new.sets) }
         ensures err { IfErr result (λ stop.
-            (sink.new.sets.items ≡ sink.old.sets.items)
+            (K.items sink.new.sets ≡ K.items sink.old.sets)
             × (sink.new.left ≡ sink.old.left)
             × (self.new.pools.items ≡ self.old.pools.items)
             × (self.new.total ≡ self.old.total)

@@ -6,6 +6,7 @@ ghost use Rattle.std.specs.Borrow.{sem};
 
 use crate::bucket::DescriptorPool;
 use crate::bucket::allocation::Allocation;
+use crate::places::SetPlaces;
 use crate::set::BucketKey;
 use gpu_descriptor_types::Tally;
 use std::collections::VecDeque;
@@ -53,10 +54,10 @@ impl<'a, 'b, 'c, P> OpenPools<'a, 'b, 'c, P> {
 
     /// Reads the books of the newest pool with known free places, and aims a sink at that pool.
     /// This is a look, where there is such a pool.
-    pub(crate) fn newest<'k, S>(
+    pub(crate) fn newest<'k, S, K: SetPlaces<S>>(
         &mut self,
         key: &'k BucketKey,
-        sink: &mut Allocation<'k, S>,
+        sink: &mut Allocation<'k, S, K>,
     ) -> Option<&mut DescriptorPool<P>>
         requires listed { IsListed self.old }
         ensures* lends { sem 𝓛 (LendsNewest P.row self.entry (sink.new.number - self.old.offset)
@@ -69,7 +70,7 @@ impl<'a, 'b, 'c, P> OpenPools<'a, 'b, 'c, P> {
             (sink.new.number - self.old.offset) ≡ Some pool.now) }
         ensures key { OnSome result (sink.new.key.now ≡ key.now) }
         ensures id { OnSome result (sink.new.id ≡ self.old.id) }
-        ensures sets { sink.new.sets.items ≡ sink.old.sets.items }
+        ensures sets { K.items sink.new.sets ≡ K.items sink.old.sets }
         ensures left { sink.new.left ≡ sink.old.left }
     {
         let Some(number) = last_of(self.listed) else {

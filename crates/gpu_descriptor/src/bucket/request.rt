@@ -1,8 +1,9 @@
 //! A request for sets of one key: what it asks for, what it answers, and how the key's bucket serves
 //! it.
-ghost use Rattle.std.specs.Prelude.{◌≡◌, ◌+◌, ◌<◌, ◌^◌, [], length, IfOk, IfErr, OnOk, OnErr};
+ghost use Rattle.std.specs.Prelude.{◌≡◌, ◌+◌, ◌<◌, ◌^◌, ◌++◌, length, IfOk, IfErr, OnOk, OnErr};
 ghost use Rattle.gpu_descriptor.specs.Caller.Call.{layout_key};
-ghost use Rattle.gpu_descriptor.specs.Caller.Sets.{AreOfLayout, items_of};
+ghost use Rattle.gpu_descriptor.specs.Caller.SetLists.{behind};
+ghost use Rattle.gpu_descriptor.specs.Caller.Sets.{PutsOfLayout, items_of};
 ghost use Rattle.gpu_descriptor.specs.Inner.Buckets.{AreBookedIn};
 ghost use Rattle.gpu_descriptor.specs.Inner.Grow.{IsTaken};
 ghost use Rattle.gpu_descriptor.specs.Inner.KeyOf.{key_of};
@@ -16,11 +17,11 @@ use crate::bucket::stop::Stop;
 use crate::bucket::{DescriptorBucket, would_exceed_64_bits};
 use crate::budget::Budget;
 use crate::errors::AllocationError;
-use crate::set::{BucketKey, DescriptorSet};
+use crate::places::SetPlaces;
+use crate::set::BucketKey;
 use gpu_descriptor_types::DescriptorDevice;
 use std::alloc::Global;
 use std::marker::PhantomData;
-use std::vec::Vec;
 
 /// What a request asks for: so many sets of a layout, whose pools have this key.
 #[derive(Drop)]
@@ -29,39 +30,39 @@ pub(crate) struct SetRequest<'a, L, P, S, D: DescriptorDevice<L, P, S>> {
     pub(crate) key: BucketKey,
     pub(crate) count: u32,
 
-    /// Where the answer and the books of new pools take memory.
+    /// Where the books of a new key and of new pools take memory.
     pub(crate) alloc: Global,
     pub(crate) device: PhantomData<(P, S, D)>,
     ghost same: { key_of key ≡ layout_key D.meaning layout.now },
 }
 
-/// What a request gathered, before any of it goes back.
-pub(crate) struct Gathered<S> {
-    /// The sets that came.
-    pub(crate) sets: Vec<DescriptorSet<S>>,
-
-    /// Whether they are all, or why the request stopped.
-    pub(crate) ended: Result<(), Stop>,
-}
-
 impl<P: Drop> DescriptorBucket<P> {
-    /// Takes sets for a request. Memory for the answer is taken first.
+    /// Takes sets for a request. On an error nothing was taken. The inner result says whether all
+    /// came, or why the request stopped. Room for the sets is made first.
     #[inline(always)]
-    pub(crate) fn serve<L, S: Drop, D: DescriptorDevice<L, P, S>>(
+    pub(crate) fn serve<'k, L, S, D: DescriptorDevice<L, P, S>, K: SetPlaces<S>>(
         &mut self,
         device: &mut D,
-        request: &SetRequest<'_, L, P, S, D>,
+        request: &'k SetRequest<'_, L, P, S, D>,
         budget: &mut Budget,
-    ) -> Result<Gathered<S>, AllocationError>
+        sink: &mut Allocation<'k, S, K>,
+    ) -> Result<Result<(), Stop>, AllocationError>
         requires booked { AreBookedIn (key_of request.now.key) (D.ledger device.old).pools
             (bucket_of D.meaning.pool_name self.old).pools }
         requires bound { self.old.total + request.now.count < 2 ^ 64 }
-        ensures served { IfOk result (λ r. IsServed D.meaning (key_of request.now.key)
-            budget.old.room request.now.count r.sets.items r.ended
+        ensures served { IfOk result (λ ended. IsServed D.meaning (key_of request.now.key)
+            budget.old.room request.now.count
+            (behind (K.items sink.old.sets) (K.items sink.new.sets)) ended
             (bucket_of D.meaning.pool_name self.old) (bucket_of D.meaning.pool_name self.new)
-            (D.ledger device.old) (D.ledger device.new) ×
-            (self.new.total ≡ self.old.total + length r.sets.items)) }
-        ensures own { IfOk result (λ r. AreOfLayout D.meaning request.now.layout.now r.sets.items) }
+            (D.ledger device.old) (D.ledger device.new) × (self.new.total ≡ self.old.total
+            + length (behind (K.items sink.old.sets) (K.items sink.new.sets)))) }
+        ensures front { OnOk result (K.items sink.new.sets ≡ K.items sink.old.sets
+            ++ behind (K.items sink.old.sets) (K.items sink.new.sets)) }
+        ensures left { OnOk result (length (behind (K.items sink.old.sets) (K.items sink.new.sets))
+            + sink.new.left ≡ request.now.count) }
+        ensures own { OnOk result (PutsOfLayout D.meaning request.now.layout.now
+            (K.items sink.old.sets) (K.items sink.new.sets)) }
+        ensures sets { OnErr result (K.items sink.new.sets ≡ K.items sink.old.sets) }
         ensures numbers_stay { KeepsNumbers self.old self.new }
         ensures refused { IfErr result (λ e. IsUnserved request.now.count e
             (bucket_of D.meaning.pool_name self.old)) }
@@ -76,44 +77,41 @@ impl<P: Drop> DescriptorBucket<P> {
         if would_exceed_64_bits(self.next_number(), request.count) {
             return Err(AllocationError::Fragmentation);
         }
-        let Ok(mut sink) = Allocation::with_capacity(
-            request.alloc,
-            &request.key,
-            self.id,
-            request.count,
-        ) else {
+        if sink.make_room(request.count).is_err() {
             return Err(AllocationError::OutOfHostMemory);
-        };
-        let ended = self.take(device, request, budget, &mut sink);
-        let sets = sink.into_sets();
-        Ok(Gathered { sets, ended })
+        }
+        Ok(self.take(device, request, budget, sink))
     }
 
     /// Takes as many sets as the sink has left: from the existing pools, and then from new ones.
     #[inline(always)]
-    fn take<'k, L, S, D: DescriptorDevice<L, P, S>>(
+    fn take<'k, L, S, D: DescriptorDevice<L, P, S>, K: SetPlaces<S>>(
         &mut self,
         device: &mut D,
         request: &'k SetRequest<'_, L, P, S, D>,
         budget: &mut Budget,
-        sink: &mut Allocation<'k, S>,
+        sink: &mut Allocation<'k, S, K>,
     ) -> Result<(), Stop>
         requires booked { AreBookedIn (key_of request.now.key) (D.ledger device.old).pools
             (bucket_of D.meaning.pool_name self.old).pools }
         requires bound { self.old.total + request.now.count < 2 ^ 64 }
         requires numbers { next_number (bucket_of D.meaning.pool_name self.old) + request.now.count
             < 2 ^ 64 }
-        requires empty { sink.old.sets.items ≡ [] }
         requires left { sink.old.left ≡ request.now.count }
         ensures taken { IsTaken result (key_of request.now.key) budget.old.room request.now.count
-            (items_of D.meaning.set_name sink.new.sets.items)
+            (items_of D.meaning.set_name
+            (behind (K.items sink.old.sets) (K.items sink.new.sets)))
             (bucket_of D.meaning.pool_name self.old) (bucket_of D.meaning.pool_name self.new)
             (D.ledger device.old) (D.ledger device.new) }
-        ensures own { AreOfLayout D.meaning request.now.layout.now sink.old.sets.items
-            → AreOfLayout D.meaning request.now.layout.now sink.new.sets.items }
+        ensures own { PutsOfLayout D.meaning request.now.layout.now (K.items sink.old.sets)
+            (K.items sink.new.sets) }
         ensures numbers_stay { KeepsNumbers self.old self.new }
-        ensures total { self.new.total ≡ self.old.total + length sink.new.sets.items }
-        ensures left { length sink.new.sets.items + sink.new.left ≡ request.now.count }
+        ensures front { K.items sink.new.sets ≡ K.items sink.old.sets
+            ++ behind (K.items sink.old.sets) (K.items sink.new.sets) }
+        ensures total { self.new.total ≡ self.old.total
+            + length (behind (K.items sink.old.sets) (K.items sink.new.sets)) }
+        ensures left { length (behind (K.items sink.old.sets) (K.items sink.new.sets))
+            + sink.new.left ≡ request.now.count }
         ensures all { OnOk result (sink.new.left ≡ 0) }
         ensures room { budget.new.room + stored_load (key_of request.now.key) self.new.pools.items
             ≡ budget.old.room + stored_load (key_of request.now.key) self.old.pools.items }

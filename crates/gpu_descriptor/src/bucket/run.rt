@@ -34,6 +34,7 @@ impl<S, I: Iterator<Item = DescriptorSet<S>>> Iterator for Run<'_, '_, I, S> {
     ghost remaining = { λ s. count_map (λ n. n + option_len s.ahead.now)
         (I.remaining s.source.now) };
 
+    #[inline]
     fn next(&mut self) -> Option<S> {
         let set = match self.ahead.take() {
             Some(set) => set,

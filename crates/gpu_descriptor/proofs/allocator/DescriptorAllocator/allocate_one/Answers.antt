@@ -1,14 +1,14 @@
-use Rattle.gpu_descriptor.specs.Caller.Call.{layout_key}
-use Rattle.gpu_descriptor.proofs.callers.OneSet.{one_handed_out, one_of_layout, only_one}
+use Rattle.gpu_descriptor.proofs.Common.{[], ◌∷◌, Option, None, Result, OnOk, AllocationError, ap, ◌∙◌, arith, subst, DescriptorSet, AreOfLayout}
+use Rattle.std.specs.Option.{option_to_list}
+use Rattle.std.specs.Result.{result_from_control_flow}
+use Rattle.gpu_descriptor.specs.Caller.SetLists.{behind}
 use Rattle.gpu_descriptor.proofs.allocator.DescriptorAllocator.allocate_one.Goals as goal
-
-pub returns-clause-hands_out : goal.returns-clause-hands_out
-returns-clause-hands_out g c =
-    let means = g.D.DescriptorDevice.meaning in
-    let is = only_one c.in_ok-sets.sets.items _ c.in-Some.set c.in-Some.ensures.items c.in_ok-sets.ensures.hands_out.many in
-    one_handed_out means c.in_ok-sets.sets c.in-Some.set is (layout_key means c.args.layout.now.layout) _ _ c.in_ok-sets.ensures.hands_out
 
 pub returns-clause-own : goal.returns-clause-own
 returns-clause-own g c =
-    let is = only_one c.in_ok-sets.sets.items _ c.in-Some.set c.in-Some.ensures.items c.in_ok-sets.ensures.hands_out.many in
-    one_of_layout g.D.DescriptorDevice.meaning c.in_ok-sets.sets c.in-Some.set is c.args.layout.now.layout c.in_ok-sets.ensures.own
+    let means = g.D.DescriptorDevice.meaning in
+    let layout = c.args.layout.now.layout in
+    let answered = c.branch-answer.ensures ∙ ap result_from_control_flow c.in_ok-answer.is in
+    let came : AreOfLayout means layout (behind (option_to_list {X = DescriptorSet g.row.S.Denot} None) (option_to_list c.allocate_behind-set.result.0)) = subst (λ (r : Result (Unit {0}) AllocationError). OnOk r (AreOfLayout means layout (behind (option_to_list {X = DescriptorSet g.row.S.Denot} None) (option_to_list c.allocate_behind-set.result.0)))) answered c.allocate_behind-set.ensures.own in
+    let one : AreOfLayout means layout (c.in-Some.set ∷ []) = subst (λ (o : Option (DescriptorSet g.row.S.Denot)). AreOfLayout means layout (behind (option_to_list {X = DescriptorSet g.row.S.Denot} None) (option_to_list o))) c.in-Some.is came in
+    one 0 c.in-Some.set (omega arith)

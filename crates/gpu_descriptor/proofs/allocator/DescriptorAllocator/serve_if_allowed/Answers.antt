@@ -1,10 +1,11 @@
 use Rattle.gpu_descriptor.proofs.sums.Loads.{opened, closed}
-use Rattle.gpu_descriptor.proofs.Common.{greatest_u64, ◌+◌, ◌≤◌, arith, refl, ap, subst, sym, ◌∙◌, ltb-false, Ledger, Bucket, key_of, set_descriptors, state_of, IsConsistent, AreBookedIn}
+use Rattle.gpu_descriptor.proofs.Common.{greatest_u64, ◌≡◌, ◌+◌, ◌≤◌, length, arith, refl, ap, subst, sym, ◌∙◌, ltb-false, Ledger, Bucket, key_of, set_descriptors, state_of, IsConsistent, AreBookedIn}
 use Rattle.gpu_descriptor.proofs.request.StateAgrees.{booked_of}
 use Rattle.gpu_descriptor.proofs.cleanup.KeyOrder.{keys_seen}
 use Rattle.gpu_descriptor.proofs.request.Requested.{keeps_limit, seen, seen_again, table_is, books_at, declined_by_limit, declined_by_bound, declined_unserved, given_fits, counted_now, takes_of}
+use Rattle.gpu_descriptor.specs.Caller.SetLists.{behind}
 use Rattle.gpu_descriptor.proofs.request.Passed.{passed}
-use Rattle.gpu_descriptor.proofs.allocator.DescriptorAllocator.serve_if_allowed.Goals.{After-len-taken, After-marked_descriptors_of_sets-descriptors}
+use Rattle.gpu_descriptor.proofs.allocator.DescriptorAllocator.serve_if_allowed.Goals.{After-from-taken, After-marked_descriptors_of_sets-descriptors}
 use Rattle.gpu_descriptor.proofs.allocator.DescriptorAllocator.serve_if_allowed.Goals as goal
 
 pub returns-then-would_exceed_limit-clause-declined : goal.returns-then-would_exceed_limit-clause-declined
@@ -28,48 +29,52 @@ serve-requires-clause-bound g c =
     let is = (opened c.self.invariant).is_out in
     omega arith
 
-pub returns-in_err-sets-clause-declined : goal.returns-in_err-sets-clause-declined
-returns-in_err-sets-clause-declined g c =
-    rw (passed c.from_residual.result c.in_err-sets.field-0.0 c.from_residual.ensures.1) (declined_unserved g.D.DescriptorDevice.meaning c.self.view_is (opened c.self.invariant) c.self.inside.table.distinct _ c.args.request.now.key c.requires.some c.would_exceed_limit.ensures c.if-would_exceed_limit.false
-    c.would_exceed_64_bits.ensures c.if-would_exceed_64_bits.false (seen_again _ c.self.view_is _ c.in_err-sets.ensures.entries (ap (λ b. b.looks.count) c.in_err-sets.ensures.budget)) c.in_err-sets.ensures.ledger c.in_err-sets.field-0.0 c.in_err-sets.ensures.refused)
+pub returns-in_err-ended-clause-declined : goal.returns-in_err-ended-clause-declined
+returns-in_err-ended-clause-declined g c =
+    rw (passed c.from_residual.result c.in_err-ended.field-0.0 c.from_residual.ensures.1) (declined_unserved g.D.DescriptorDevice.meaning c.self.view_is (opened c.self.invariant) c.self.inside.table.distinct _ c.args.request.now.key c.requires.some c.would_exceed_limit.ensures c.if-would_exceed_limit.false
+    c.would_exceed_64_bits.ensures c.if-would_exceed_64_bits.false (seen_again _ c.self.view_is _ c.in_err-ended.ensures.entries (ap (λ b. b.looks.count) c.in_err-ended.ensures.budget)) c.in_err-ended.ensures.ledger c.in_err-ended.field-0.0 c.in_err-ended.ensures.refused)
+
+-- so many came
+many : (g : _) (c : After-from-taken g) → c.from-taken.result ≡ length (behind (g.K.SetPlaces.items c.args.sink.now.sets) (g.K.SetPlaces.items c.serve.new.sink.sets))
+many g c = (let left = c.in_ok-ended.ensures.left in let came = c.from-taken.ensures in omega arith)
 
 -- the descriptors of what came keep the limit
-fits : (g : _) (c : After-len-taken g) → set_descriptors (key_of c.args.request.now.key) c.len-taken.result + c.self.inside.update_after_bind_descriptors ≤ c.self.inside.max_update_after_bind_descriptors_in_all_pools
-fits g c = given_fits c.serve.new.self.buckets.entries c.in_ok-sets.ensures.served c.self.view_is (opened c.self.invariant) c.would_exceed_limit.ensures c.if-would_exceed_limit.false (c.len-taken.ensures ∙ c.in_ok-sets.field-0.sets.ok.0)
+fits : (g : _) (c : After-from-taken g) → set_descriptors (key_of c.args.request.now.key) c.from-taken.result + c.self.inside.update_after_bind_descriptors ≤ c.self.inside.max_update_after_bind_descriptors_in_all_pools
+fits g c = given_fits c.serve.new.self.buckets.entries c.in_ok-ended.ensures.served c.self.view_is (opened c.self.invariant) c.would_exceed_limit.ensures c.if-would_exceed_limit.false (many g c)
 
 pub marked_descriptors_of_sets-descriptors-requires : goal.marked_descriptors_of_sets-descriptors-requires
 marked_descriptors_of_sets-descriptors-requires g c =
-    let all = fits g (goal.at.marked_descriptors_of_sets-descriptors-requires g c).After-len-taken in
+    let all = fits g (goal.at.marked_descriptors_of_sets-descriptors-requires g c).After-from-taken in
     let ranges = c.self.ranges in
     omega arith
 
 pub overflow_cast-descriptors : goal.overflow_cast-descriptors
 overflow_cast-descriptors g c =
-    let all = fits g (goal.at.overflow_cast-descriptors g c).After-len-taken in
+    let all = fits g (goal.at.overflow_cast-descriptors g c).After-from-taken in
     let is = c.marked_descriptors_of_sets-descriptors.ensures in
     let ranges = c.self.ranges in
     omega arith
 
 pub overflow_add-self-2 : goal.overflow_add-self-2
 overflow_add-self-2 g c =
-    let all = fits g (goal.at.overflow_add-self-2 g c).After-len-taken in
+    let all = fits g (goal.at.overflow_add-self-2 g c).After-from-taken in
     let is = c.marked_descriptors_of_sets-descriptors.ensures in
     let ranges = c.self.ranges in
     omega arith
 
 -- the totals count what came
-counted : (g : _) (c : After-marked_descriptors_of_sets-descriptors g) → IsConsistent c.self.inside.max_update_after_bind_descriptors_in_all_pools (c.self.inside.update_after_bind_descriptors + c.marked_descriptors_of_sets-descriptors.result) c.serve.new.budget.room (c.self.inside.outstanding + c.len-taken.result) c.serve.new.self.buckets.entries
-counted g c = counted_now c.serve.new.self.buckets.entries c.in_ok-sets.ensures.served c.self.view_is (opened c.self.invariant) c.would_exceed_limit.ensures c.if-would_exceed_limit.false (c.len-taken.ensures ∙ c.in_ok-sets.field-0.sets.ok.0) c.marked_descriptors_of_sets-descriptors.ensures c.serve.ensures.room
+counted : (g : _) (c : After-marked_descriptors_of_sets-descriptors g) → IsConsistent c.self.inside.max_update_after_bind_descriptors_in_all_pools (c.self.inside.update_after_bind_descriptors + c.marked_descriptors_of_sets-descriptors.result) c.serve.new.budget.room (c.self.inside.outstanding + c.from-taken.result) c.serve.new.self.buckets.entries
+counted g c = counted_now c.serve.new.self.buckets.entries c.in_ok-ended.ensures.served c.self.view_is (opened c.self.invariant) c.would_exceed_limit.ensures c.if-would_exceed_limit.false (many g (goal.at-After-marked_descriptors_of_sets-descriptors g c).After-from-taken) c.marked_descriptors_of_sets-descriptors.ensures c.serve.ensures.room
 
 pub invariant_of-self-2 : goal.invariant_of-self-2
 invariant_of-self-2 g c = closed (counted g (goal.at.invariant_of-self-2 g c).After-marked_descriptors_of_sets-descriptors)
 
 pub returns-clause-taken : goal.returns-clause-taken
 returns-clause-taken g c =
-    takes_of c.serve.new.self.buckets.entries c.in_ok-sets.ensures.served c.self.view_is (opened c.self.invariant) c.would_exceed_limit.ensures c.if-would_exceed_limit.false c.would_exceed_64_bits.ensures c.if-would_exceed_64_bits.false
+    takes_of c.serve.new.self.buckets.entries c.in_ok-ended.ensures.served c.self.view_is (opened c.self.invariant) c.would_exceed_limit.ensures c.if-would_exceed_limit.false c.would_exceed_64_bits.ensures c.if-would_exceed_64_bits.false
 
 pub returns-clause-keys : goal.returns-clause-keys
-returns-clause-keys g c = keys_seen (key_of c.args.request.now.key) c.args.self.now (seen 0 0 0 c.serve.new.self.buckets.entries) c.self.inside.table.buckets.entries c.serve.new.self.buckets.entries (table_is _ c.self.view_is) refl c.in_ok-sets.ensures.keys
+returns-clause-keys g c = keys_seen (key_of c.args.request.now.key) c.args.self.now (seen 0 0 0 c.serve.new.self.buckets.entries) c.self.inside.table.buckets.entries c.serve.new.self.buckets.entries (table_is _ c.self.view_is) refl c.in_ok-ended.ensures.keys
 
 pub returns-clause-within : goal.returns-clause-within
 returns-clause-within g c = keeps_limit refl (counted g (goal.at.returns-clause-within g c).After-marked_descriptors_of_sets-descriptors) c.serve.new.self.distinct g.D.DescriptorDevice.meaning.pool_name
@@ -80,5 +85,5 @@ returns-then-would_exceed_limit-clause-within g c = keeps_limit c.self.view_is (
 pub returns-then-would_exceed_64_bits-clause-within : goal.returns-then-would_exceed_64_bits-clause-within
 returns-then-would_exceed_64_bits-clause-within g c = keeps_limit c.self.view_is (opened c.self.invariant) c.self.inside.table.distinct g.D.DescriptorDevice.meaning.pool_name
 
-pub returns-in_err-sets-clause-within : goal.returns-in_err-sets-clause-within
-returns-in_err-sets-clause-within g c = rw c.in_err-sets.ensures.entries (keeps_limit refl (opened c.self.invariant) c.self.inside.table.distinct g.D.DescriptorDevice.meaning.pool_name)
+pub returns-in_err-ended-clause-within : goal.returns-in_err-ended-clause-within
+returns-in_err-ended-clause-within g c = rw c.in_err-ended.ensures.entries (keeps_limit refl (opened c.self.invariant) c.self.inside.table.distinct g.D.DescriptorDevice.meaning.pool_name)

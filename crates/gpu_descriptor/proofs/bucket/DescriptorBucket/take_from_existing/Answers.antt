@@ -1,22 +1,24 @@
-use Rattle.gpu_descriptor.proofs.Common.{◌≡◌, ℕ, Global, ◌+◌, [], ◌++◌, arith, length, sum_by, List, Result, Ok, Err, sym, ap, ◌∙◌, subst, map, OnOk, IfErr, length-map, Ledger, DeviceAllocationError, DescriptorSet, DescriptorPool, Bucket, Key, key_of, allocated_in, items_of, item_of, AreBookedIn, IsTaken, bucket_in, bucket_of, entry_of, IsWalked}
+use Rattle.gpu_descriptor.proofs.Common.{◌≡◌, ℕ, Global, ◌+◌, ◌++◌, arith, length, sum_by, List, Result, Ok, Err, sym, ap, ◌∙◌, subst, map, OnOk, IfErr, length-map, Ledger, DeviceAllocationError, DescriptorSet, DescriptorPool, Bucket, Key, key_of, allocated_in, items_of, item_of, AreBookedIn, IsTaken, bucket_in, bucket_of, entry_of, IsWalked}
 use Rattle.std.specs.declared.collections.VecDeque.{VecDeque}
 use Rattle.std.proofs.lemmas.Result.{IfErr-weaker, on_ok_weaker}
 use Rattle.gpu_descriptor.specs.declared.bucket.stop.Stop.TheVariants.{ExistingPoolRefused}
 use Rattle.gpu_descriptor.proofs.request.Growing.{allocated_walked}
+use Rattle.gpu_descriptor.proofs.lists.Behind.{behind_is}
+use Rattle.gpu_descriptor.specs.Caller.SetLists.{behind}
 use Rattle.gpu_descriptor.proofs.table.Exact.{bucket}
 use Rattle.gpu_descriptor.proofs.sums.StoredPools.{allocated_entries}
 use Rattle.gpu_descriptor.proofs.bucket.DescriptorBucket.take_from_existing.Goals.{After-walk-walked}
 use Rattle.gpu_descriptor.proofs.bucket.DescriptorBucket.take_from_existing.Goals as goal
 
-module _ {S : Type 0} (name : S → ℕ) {was now : List (DescriptorSet S)} (put : List (DescriptorSet S)) (empty : was ≡ []) (is : now ≡ was ++ put) where
-  all : put ≡ now
-  all = sym (is ∙ ap (λ x. x ++ put) empty)
+module _ {S : Type 0} (name : S → ℕ) (was : List (DescriptorSet S)) {now : List (DescriptorSet S)} (put : List (DescriptorSet S)) (is : now ≡ was ++ put) where
+  all : put ≡ behind was now
+  all = sym (behind_is was put is)
 
   module _ {k : Key} {n : ℕ} {old older new newer : Bucket} {l m : Ledger} (first : old ≡ older) (last : new ≡ newer) where
-    walked_as : {wanting : ℕ} → IsWalked k n wanting (items_of name put) old new l m → IsWalked k n wanting (items_of name now) older newer l m
+    walked_as : {wanting : ℕ} → IsWalked k n wanting (items_of name put) old new l m → IsWalked k n wanting (items_of name (behind was now)) older newer l m
     walked_as w = rw (sym first, sym last, sym all) w
 
-    stopped_as : {error : DeviceAllocationError} → IsTaken (Err (ExistingPoolRefused error)) k 0 n (items_of name put) old new l m → IsTaken (Err (ExistingPoolRefused error)) k 0 n (items_of name now) older newer l m
+    stopped_as : {error : DeviceAllocationError} → IsTaken (Err (ExistingPoolRefused error)) k 0 n (items_of name put) old new l m → IsTaken (Err (ExistingPoolRefused error)) k 0 n (items_of name (behind was now)) older newer l m
     stopped_as t = rw (sym first, sym last, sym all) t
 
 -- the bucket before and after, as the view has it
@@ -32,33 +34,34 @@ walk-walked-requires-clause-booked g c = subst (λ (q : VecDeque (DescriptorPool
 pub returns-clause-walked : goal.returns-clause-walked
 returns-clause-walked g c =
     let at = (goal.at.returns-clause-walked g c).After-walk-walked in
-    on_ok_weaker c.walk-walked.result (λ p. walked_as g.D.DescriptorDevice.meaning.set_name p.0 c.requires.empty p.1 (was_bucket g at) (is_bucket g at) p.3) c.walk-walked.ensures.walked
+    on_ok_weaker c.walk-walked.result (λ p. walked_as g.D.DescriptorDevice.meaning.set_name (g.K.SetPlaces.items c.args.sink.now.sets) p.0 p.1 (was_bucket g at) (is_bucket g at) p.3) c.walk-walked.ensures.walked
 
 pub returns-clause-stopped : goal.returns-clause-stopped
 returns-clause-stopped g c =
     let at = (goal.at.returns-clause-stopped g c).After-walk-walked in
-    IfErr-weaker c.walk-walked.result _ _ (λ error p. stopped_as g.D.DescriptorDevice.meaning.set_name p.0 c.requires.empty p.1 (was_bucket g at) (is_bucket g at) p.3) c.walk-walked.ensures.stopped
+    IfErr-weaker c.walk-walked.result _ _ (λ error p. stopped_as g.D.DescriptorDevice.meaning.set_name (g.K.SetPlaces.items c.args.sink.now.sets) p.0 p.1 (was_bucket g at) (is_bucket g at) p.3) c.walk-walked.ensures.stopped
 
 -- as many more are allocated as came
-module _ {S : Type 0} (name : S → ℕ) (was now : List (DescriptorSet S)) (empty : was ≡ []) where
-  long : (put : List (DescriptorSet S)) → now ≡ was ++ put → length (items_of name put) ≡ length now
-  long put is = length-map put (item_of name) ∙ ap length (all name put empty is)
+module _ {S : Type 0} (name : S → ℕ) (was now : List (DescriptorSet S)) where
+  long : (put : List (DescriptorSet S)) → now ≡ was ++ put → length (items_of name put) ≡ length (behind was now)
+  long put is = length-map put (item_of name) ∙ ap length (all name was put is)
 
   module _ (k : Key) (n left : ℕ) (old new : Bucket) (l m : Ledger) where
     more : (r : Result (Unit {0}) DeviceAllocationError)
         → OnOk r ((put : List (DescriptorSet S)) × (now ≡ was ++ put) × (length put + left ≡ n) × IsWalked k n left (items_of name put) old new l m)
         → IfErr r (λ e. (put : List (DescriptorSet S)) × (now ≡ was ++ put) × (length put + left ≡ n) × IsTaken (Err (ExistingPoolRefused e)) k 0 n (items_of name put) old new l m)
-        → allocated_in new.pools ≡ allocated_in old.pools + length now
-    more (Ok done) walked stopped = allocated_walked k n walked.3.grant old new l m _ walked.3.taken walked.3.no_fresh ∙ ap (λ j. allocated_in old.pools + j) (long walked.0 walked.1)
-    more (Err e) walked stopped = allocated_walked k n stopped.3.0 old new l _ _ stopped.3.2 stopped.3.3.no_fresh ∙ ap (λ j. allocated_in old.pools + j) (long stopped.0 stopped.1)
+        → (allocated_in new.pools ≡ allocated_in old.pools + length (behind was now)) × (length (behind was now) + left ≡ n)
+    more (Ok done) walked stopped = (allocated_walked k n walked.3.grant old new l m _ walked.3.taken walked.3.no_fresh ∙ ap (λ j. allocated_in old.pools + j) (long walked.0 walked.1), ap (λ (xs : List (DescriptorSet S)). length xs + left) (sym (all name was walked.0 walked.1)) ∙ walked.2)
+    more (Err e) walked stopped = (allocated_walked k n stopped.3.0 old new l _ _ stopped.3.2 stopped.3.3.no_fresh ∙ ap (λ j. allocated_in old.pools + j) (long stopped.0 stopped.1), ap (λ (xs : List (DescriptorSet S)). length xs + left) (sym (all name was stopped.0 stopped.1)) ∙ stopped.2)
 
 pub invariant_of-self-clause-counted : goal.invariant_of-self-clause-counted
 invariant_of-self-clause-counted g c =
     let name = g.D.DescriptorDevice.meaning.pool_name in
-    let given = more g.D.DescriptorDevice.meaning.set_name c.args.sink.now.sets.items c.walk-walked.new.sink.sets.items c.requires.empty (key_of c.args.request.now.key) c.args.request.now.count c.walk-walked.new.sink.left (bucket_in name c.new-view.result) (bucket_in name c.walk-walked.new.view) (g.D.DescriptorDevice.ledger c.args.device.now) (g.D.DescriptorDevice.ledger c.walk-walked.new.device) c.walk-walked.result c.walk-walked.ensures.walked c.walk-walked.ensures.stopped in
+    let given = more g.D.DescriptorDevice.meaning.set_name (g.K.SetPlaces.items c.args.sink.now.sets) (g.K.SetPlaces.items c.walk-walked.new.sink.sets) (key_of c.args.request.now.key) c.args.request.now.count c.walk-walked.new.sink.left (bucket_in name c.new-view.result) (bucket_in name c.walk-walked.new.view) (g.D.DescriptorDevice.ledger c.args.device.now) (g.D.DescriptorDevice.ledger c.walk-walked.new.device) c.walk-walked.result c.walk-walked.ensures.walked c.walk-walked.ensures.stopped in
     let was = allocated_entries name c.new-view.result.pools.now.items ∙ ap (λ (q : VecDeque (DescriptorPool g.row.P.Denot) Global). sum_by (λ (p : DescriptorPool g.row.P.Denot). p.allocated) q.items) c.new-view.ensures.pools in
     let is = allocated_entries name c.walk-walked.new.view.pools.now.items in
     let total = c.args.self.now.counted in
-    let len = c.len.ensures in
-    let fit = c.walk-walked.new.sink.sets.ok.0 in
+    let came = c.from.ensures in
+    let many = given.1 in
+    let rise = given.0 in
     omega arith

@@ -35,11 +35,11 @@ module _ (g : _) (c : In-Ok g) where
   fits = one_fits key c.args.budget.now.room c.args.self.now.total c.args.sink.now.left size c.in-Some.ensures.sets
 
 -- what came stands behind what was there
-kept : (g : _) (c : In-Ok-alloc_descriptor_sets g) → c.alloc_descriptor_sets.new.sets.sets.items ≡ c.args.sink.now.sets.items ++ map (set_at (key_of c.args.request.now.key) c.args.self.now.id (c.args.self.now.offset + length c.args.self.now.pools.items)) c.in-Ok-alloc_descriptor_sets.ensures.ok.sets
+kept : (g : _) (c : In-Ok-alloc_descriptor_sets g) → (g.K.SetPlaces.items c.alloc_descriptor_sets.new.sets.sets) ≡ (g.K.SetPlaces.items c.args.sink.now.sets) ++ map (set_at (key_of c.args.request.now.key) c.args.self.now.id (c.args.self.now.offset + length c.args.self.now.pools.items)) c.in-Ok-alloc_descriptor_sets.ensures.ok.sets
 kept g c =
     let put = c.in-Ok-alloc_descriptor_sets.ensures.ok in
     let number = c.aim.ensures.number ∙ c.next_number.ensures ∙ (let k = c.reserve_pool.ensures.numbers_stay.offset in let same = ap length c.reserve_pool.ensures.pools in let e : c.reserve_pool.new.self.offset + length c.reserve_pool.new.self.pools.items ≡ c.args.self.now.offset + length c.args.self.now.pools.items = omega arith in e) in
-    put.kept ∙ (λ i. c.aim.ensures.sets i ++ map (set_at (key_of (c.aim.ensures.key i)) ((c.aim.ensures.id ∙ c.reserve_pool.ensures.numbers_stay.id) i) (number i)) put.sets)
+    put.kept ∙ (λ i. g.K.SetPlaces.items (c.aim.ensures.sets i) ++ map (set_at (key_of (c.aim.ensures.key i)) ((c.aim.ensures.id ∙ c.reserve_pool.ensures.numbers_stay.id) i) (number i)) put.sets)
 
 pub alloc_descriptor_sets-requires-clause-fits : goal.alloc_descriptor_sets-requires-clause-fits
 alloc_descriptor_sets-requires-clause-fits g c =
@@ -61,7 +61,7 @@ returns-in-Err-alloc_descriptor_sets-clause-err g c =
     let m'' : Ledger = g.D.DescriptorDevice.ledger c.destroy_descriptor_pool.new.self in
     let gone : m'' ≡ after_destroy (name g d) m' = c.destroy_descriptor_pool.ensures ∙ ap (λ q. after_destroy q m') c.in-Err-alloc_descriptor_sets.ensures.name in
     let err = c.in-Err-alloc_descriptor_sets.ensures.err in
-    (err.kept ∙ c.aim.ensures.sets, err.left ∙ c.aim.ensures.left, c.reserve_pool.ensures.pools, c.reserve_pool.ensures.total, refl, not_grown (key g d) (size g d) (name g d) c.in-Err-alloc_descriptor_sets.error (before g d) (created g d) m' m'' c.in-Ok.ensures.new_name (made g d) err.ledger gone, had_room (λ is. absurd (cc)) (fits g d))
+    (err.kept ∙ ap g.K.SetPlaces.items c.aim.ensures.sets, err.left ∙ c.aim.ensures.left, c.reserve_pool.ensures.pools, c.reserve_pool.ensures.total, refl, not_grown (key g d) (size g d) (name g d) c.in-Err-alloc_descriptor_sets.error (before g d) (created g d) m' m'' c.in-Ok.ensures.new_name (made g d) err.ledger gone, had_room (λ is. absurd (cc)) (fits g d))
 
 pub returns-in-Ok-alloc_descriptor_sets-clause-grown : goal.returns-in-Ok-alloc_descriptor_sets-clause-grown
 returns-in-Ok-alloc_descriptor_sets-clause-grown g c =
@@ -122,7 +122,7 @@ returns-in-Err-alloc_descriptor_sets-clause-looks g c =
 pub returns-in-Ok-alloc_descriptor_sets-clause-own : goal.returns-in-Ok-alloc_descriptor_sets-clause-own
 returns-in-Ok-alloc_descriptor_sets-clause-own g c =
     let put = c.in-Ok-alloc_descriptor_sets.ensures.ok in
-    λ before. put_own g.D.DescriptorDevice.meaning c.args.request.now.layout.now c.aim.new.self.sets.items (key_of c.aim.new.self.key.now) c.aim.new.self.id c.aim.new.self.number put.sets c.new.ensures.layout put.kept put.own (none_own g.D.DescriptorDevice.meaning c.args.request.now.layout.now c.aim.ensures.sets before)
+    λ first before. put_own g.D.DescriptorDevice.meaning c.args.request.now.layout.now (g.K.SetPlaces.items c.aim.new.self.sets) (key_of c.aim.new.self.key.now) c.aim.new.self.id c.aim.new.self.number put.sets c.new.ensures.layout put.kept put.own first (none_own g.D.DescriptorDevice.meaning c.args.request.now.layout.now (ap g.K.SetPlaces.items c.aim.ensures.sets) first before)
 
 pub returns-in-Err-alloc_descriptor_sets-clause-own : goal.returns-in-Err-alloc_descriptor_sets-clause-own
-returns-in-Err-alloc_descriptor_sets-clause-own g c = none_own g.D.DescriptorDevice.meaning c.args.request.now.layout.now (c.in-Err-alloc_descriptor_sets.ensures.err.kept ∙ c.aim.ensures.sets)
+returns-in-Err-alloc_descriptor_sets-clause-own g c = none_own g.D.DescriptorDevice.meaning c.args.request.now.layout.now (c.in-Err-alloc_descriptor_sets.ensures.err.kept ∙ ap g.K.SetPlaces.items c.aim.ensures.sets)

@@ -7,7 +7,7 @@ use Rattle.gpu_descriptor.proofs.bucket.existing.ask.Goals as goal
 pub returns-then-count-eq0-clause-asked : goal.returns-then-count-eq0-clause-asked
 returns-then-count-eq0-clause-asked g c =
     let none : min c.args.sink.now.left c.args.pool.now.available ≡ 0 = (let a = c.min-count.ensures in let b = c.if-count-eq0.true in omega arith) in
-    ([], sym (append-nil c.args.sink.now.sets.items), omega arith, skipped (key_of c.args.request.now.key) c.args.sink.now.left (entry_of g.D.DescriptorDevice.meaning.pool_name c.args.pool.now) (g.D.DescriptorDevice.ledger c.args.device.now) none)
+    ([], sym (append-nil (g.K.SetPlaces.items c.args.sink.now.sets)), omega arith, skipped (key_of c.args.request.now.key) c.args.sink.now.left (entry_of g.D.DescriptorDevice.meaning.pool_name c.args.pool.now) (g.D.DescriptorDevice.ledger c.args.device.now) none)
 
 pub alloc_descriptor_sets-requires-clause-fits : goal.alloc_descriptor_sets-requires-clause-fits
 alloc_descriptor_sets-requires-clause-fits g c =
@@ -48,10 +48,10 @@ returns-then-is_of_pool-clause-asked g c =
     let of_pool : pool_refusals c.in-Err.error ≡ 1 = c.is_of_pool.ensures ∙ ap (λ b. if b then 1 else 0) c.if-is_of_pool.true in
     let was = refuses key c.args.sink.now.left c.in-Err.error e l m some of_pool err.ledger in
     let now : record e { available = 0 } ≡ entry_of g.D.DescriptorDevice.meaning.pool_name (record { raw = c.alloc_descriptor_sets.new.pool; capacity = c.args.pool.now.capacity; allocated = c.args.pool.now.allocated; available = 0 }) = same_entry _ _ (sym c.in-Err.ensures.name) refl refl refl in
-    ([], err.kept ∙ sym (append-nil c.args.sink.now.sets.items), (let left = err.left in omega arith), subst (λ (f : Entry). IsAsked key c.args.sink.now.left [] e f l m) now was)
+    ([], err.kept ∙ sym (append-nil (g.K.SetPlaces.items c.args.sink.now.sets)), (let left = err.left in omega arith), subst (λ (f : Entry). IsAsked key c.args.sink.now.left [] e f l m) now was)
 
 pub returns-in-Ok-clause-own : goal.returns-in-Ok-clause-own
-returns-in-Ok-clause-own g c = (let put = c.in-Ok.ensures.ok in put_own g.D.DescriptorDevice.meaning c.args.request.now.layout.now c.args.sink.now.sets.items (key_of c.args.sink.now.key.now) c.args.sink.now.id c.args.sink.now.number put.sets c.new.ensures.layout put.kept put.own)
+returns-in-Ok-clause-own g c = (let put = c.in-Ok.ensures.ok in put_own g.D.DescriptorDevice.meaning c.args.request.now.layout.now (g.K.SetPlaces.items c.args.sink.now.sets) (key_of c.args.sink.now.key.now) c.args.sink.now.id c.args.sink.now.number put.sets c.new.ensures.layout put.kept put.own)
 
 pub returns-then-is_of_pool-clause-own : goal.returns-then-is_of_pool-clause-own
 returns-then-is_of_pool-clause-own g c = none_own g.D.DescriptorDevice.meaning c.args.request.now.layout.now c.in-Err.ensures.err.kept

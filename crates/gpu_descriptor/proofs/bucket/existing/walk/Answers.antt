@@ -17,13 +17,13 @@ gave_more name k id number put raws = map-append _ put (map (set_at k id number)
 pub loop-sink-init : goal.loop-sink-init
 loop-sink-init g c = record {
   put = [];
-  sets = sym (append-nil c.args.sink.now.sets.items);
+  sets = sym (append-nil (g.K.SetPlaces.items c.args.sink.now.sets));
   given = (let left = c.requires.left in omega arith);
   long = refl;
   walk = rw c.requires.left (open_walk_start g.D.DescriptorDevice.meaning.pool_name (key_of c.args.request.now.key) c.args.request.now.count c.args.view.now.id c.args.view.now.offset c.args.view.now.pools.now.items c.args.view.now.listed.now.items (g.D.DescriptorDevice.ledger c.args.device.now) c.requires.listed);
   space = refl;
   kept = (refl, refl, refl, refl, refl);
-  own = λ before. before;
+  own = λ first before. before;
   looks = refl;
 }
 
@@ -72,9 +72,9 @@ module _ (g : _) (c : In_ok-ask g) where
   less : c.ask.new.sink.left + length names ≡ c.loop-sink.sink.left
   less = (let a = c.in_ok-ask.ensures.asked.2 in let many = length-map raws g.D.DescriptorDevice.meaning.set_name in let left = c.newest.ensures.left in omega arith)
 
-  sets : c.ask.new.sink.sets.items ≡ c.args.sink.now.sets.items ++ put
+  sets : (g.K.SetPlaces.items c.ask.new.sink.sets) ≡ (g.K.SetPlaces.items c.args.sink.now.sets) ++ put
   sets =
-      c.in_ok-ask.ensures.asked.1 ∙ ap (λ x. c.newest.new.sink.sets.items ++ x) (aimed_at c.newest.new.sink.number raws c.in-Some.ensures.key c.in-Some.ensures.id) ∙ ap (λ x. x ++ map (set_at (key_of c.args.request.now.key) c.loop-sink.view.id c.newest.new.sink.number) raws) (c.newest.ensures.sets ∙ c.loop-sink.invariant.sets) ∙ append_assoc c.args.sink.now.sets.items c.loop-sink.invariant.put _
+      c.in_ok-ask.ensures.asked.1 ∙ ap (λ x. (g.K.SetPlaces.items c.newest.new.sink.sets) ++ x) (aimed_at c.newest.new.sink.number raws c.in-Some.ensures.key c.in-Some.ensures.id) ∙ ap (λ x. x ++ map (set_at (key_of c.args.request.now.key) c.loop-sink.view.id c.newest.new.sink.number) raws) (c.newest.ensures.sets ∙ c.loop-sink.invariant.sets) ∙ append_assoc (g.K.SetPlaces.items c.args.sink.now.sets) c.loop-sink.invariant.put _
 
   given : length put + c.ask.new.sink.left ≡ c.args.request.now.count
   given =
@@ -102,7 +102,7 @@ loop-sink-preserved g c =
       walk = open_walk_more c.requires.booked inv.walk c.loop-sink-test.true _ _ last _ (at g r) q refl refl (gave_more g.D.DescriptorDevice.meaning.set_name (key_of c.args.request.now.key) c.loop-sink.view.id c.newest.new.sink.number inv.put (raws g r)) refl open_still (asked g r) (less g r);
       space = inv.space;
       kept = inv.kept;
-      own = λ before. c.in_ok-ask.ensures.own (none_own g.D.DescriptorDevice.meaning c.args.request.now.layout.now c.newest.ensures.sets (inv.own before));
+      own = λ first before. c.in_ok-ask.ensures.own first (none_own g.D.DescriptorDevice.meaning c.args.request.now.layout.now c.newest.ensures.sets first (inv.own first before));
       looks = (let a = inv.looks in omega arith);
     }
 
@@ -126,6 +126,6 @@ loop-sink-preserved-then-pool-eq0 g c =
       walk = open_walk_more c.requires.booked inv.walk c.loop-sink-test.true _ _ last _ (at g r) q now.kept.4 now.kept.0 (gave_more g.D.DescriptorDevice.meaning.set_name (key_of c.args.request.now.key) c.loop-sink.view.id c.newest.new.sink.number inv.put (raws g r)) pools (now.listed ∙ closed) (asked g r) (less g r);
       space = now.capacity ∙ inv.space;
       kept = (now.kept.0 ∙ inv.kept.0, now.kept.1 ∙ inv.kept.1, now.kept.2 ∙ inv.kept.2, now.kept.3 ∙ inv.kept.3, now.kept.4 ∙ inv.kept.4);
-      own = λ before. c.in_ok-ask.ensures.own (none_own g.D.DescriptorDevice.meaning c.args.request.now.layout.now c.newest.ensures.sets (inv.own before));
+      own = λ first before. c.in_ok-ask.ensures.own first (none_own g.D.DescriptorDevice.meaning c.args.request.now.layout.now c.newest.ensures.sets first (inv.own first before));
       looks = (let a = inv.looks in omega arith);
     }

@@ -3,4 +3,4 @@ use Rattle.gpu_descriptor.proofs.bucket.allocation.AllocationSetSink.put.Goals a
 
 pub returns-clause-kept : goal.returns-clause-kept
 returns-clause-kept g c =
-    c.push_reserved.ensures.items ∙ ap (λ (k : Key). c.args.self.now.sets.items ++ set_at k c.args.self.now.id c.args.self.now.number c.args.set ∷ []) c.of.ensures
+    c.put.ensures.items ∙ ap (λ (k : Key). g.K.SetPlaces.items c.args.self.now.sets ++ set_at k c.args.self.now.id c.args.self.now.number c.args.set ∷ []) c.of.ensures

@@ -35,7 +35,7 @@ returns g c =
         value = ap (λ (n : ℕ). slice_get c.args.self.now.pools.now.items (n - c.args.self.now.offset)) number ∙ slice_get_read c.args.self.now.pools.now.items (length c.args.self.now.pools.now.items) (c.in-Some.number - c.args.self.now.offset) c.index_mut.result.now refl here c.index_mut.ensures.value;
         key = c.aim.ensures.key;
         id = c.aim.ensures.id;
-        sets = c.aim.ensures.sets;
+        sets = ap g.K.SetPlaces.items c.aim.ensures.sets;
         left = c.aim.ensures.left;
       },
     )

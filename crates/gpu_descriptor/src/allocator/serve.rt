@@ -1,0 +1,180 @@
+//! How a request is served: whether the limit allows it, and what goes back if it can't be met.
+ghost use Rattle.std.specs.Prelude.{◌≡◌, ◌+◌, ◌*◌, ◌<◌, ◌++◌, ◌&&◌, nat_lt, sum, Err};
+ghost use Rattle.std.specs.Prelude.{IfOk, IfErr, OnOk, OnErr};
+ghost use Rattle.gpu_descriptor_types.specs.Counts.{kinds};
+ghost use Rattle.gpu_descriptor_types.specs.Side.{side};
+ghost use Rattle.gpu_descriptor.specs.Caller.Call.{call_of, layout_key, map_ok};
+ghost use Rattle.gpu_descriptor.specs.Caller.Flags.{is_marked};
+ghost use Rattle.gpu_descriptor.specs.Caller.HandsOut.{HandsOut};
+ghost use Rattle.gpu_descriptor.specs.Caller.Keeps.{Keeps};
+ghost use Rattle.gpu_descriptor.specs.Caller.Keys.{with_key};
+ghost use Rattle.gpu_descriptor.specs.Caller.SetLists.{behind};
+ghost use Rattle.gpu_descriptor.specs.Caller.Sets.{AreOfLayout, PutsOfLayout};
+ghost use Rattle.gpu_descriptor.specs.Caller.States.{Agrees, keys_of, marked_load_of};
+ghost use Rattle.gpu_descriptor.specs.Inner.KeyOf.{key_of};
+ghost use Rattle.gpu_descriptor.specs.Inner.OpenPools.{CountsLooks};
+ghost use Rattle.gpu_descriptor.specs.Inner.Serves.{IsDeclined, IsSound, Takes};
+
+use super::DescriptorAllocator;
+use crate::bucket::allocation::Allocation;
+use crate::bucket::request::SetRequest;
+use crate::bucket::stop::{Stop, error_of};
+use crate::bucket::would_exceed_64_bits;
+use crate::errors::AllocationError;
+use crate::flags::DescriptorSetLayoutCreateFlags;
+use crate::places::SetPlaces;
+use crate::set::BucketKey;
+use bitflags::Flags;
+use gpu_descriptor_types::{DescriptorDevice, DescriptorTotalCount};
+use std::marker::PhantomData;
+
+impl<P: Drop, S> DescriptorAllocator<P, S> {
+    /// Puts the sets of a request behind those of a list, and hands that back. On an error it has
+    /// the sets that it had. See `allocate`.
+    #[inline]
+    pub(super) fn allocate_behind<L, D: DescriptorDevice<L, P, S>, K: SetPlaces<S>>(
+        &mut self,
+        device: &mut D,
+        layout: &L,
+        flags: DescriptorSetLayoutCreateFlags,
+        layout_descriptor_count: &DescriptorTotalCount,
+        count: u32,
+        sets: K,
+    ) -> (K, Result<(), AllocationError>)
+        requires counts { kinds layout_descriptor_count.now ≡ D.meaning.counts layout.now }
+        requires mark { is_marked flags ≡ D.meaning.mark layout.now }
+        requires agree { Agrees D.meaning.pool_name self.old (D.ledger device.old) }
+
+        ensures hands_out { HandsOut D.meaning (layout_key D.meaning layout.now) count
+            (map_ok (λ done. behind (K.items sets) (K.items result.0)) result.1)
+            (side self.old (D.ledger device.old)) (side self.new (D.ledger device.new)) }
+        ensures front { OnOk result.1 (K.items result.0
+            ≡ K.items sets ++ behind (K.items sets) (K.items result.0)) }
+        ensures own { OnOk result.1 (AreOfLayout D.meaning layout.now
+            (behind (K.items sets) (K.items result.0))) }
+        ensures sets { OnErr result.1 (K.items result.0 ≡ K.items sets) }
+        ensures keeps { Keeps D.meaning (side self.old (D.ledger device.old))
+            (side self.new (D.ledger device.new)) }
+    {
+        if count == 0 {
+            // A proof has the allocator's invariant only where a field is read, and that of `keeps`
+            // needs the invariant.
+            prove!(
+                self.update_after_bind_descriptors
+                    <= self.max_update_after_bind_descriptors_in_all_pools
+            );
+            return (sets, Ok(()));
+        }
+        let update_after_bind = flags.contains(DescriptorSetLayoutCreateFlags::UPDATE_AFTER_BIND);
+        let request = SetRequest {
+            layout,
+            key: BucketKey {
+                counts: *layout_descriptor_count,
+                update_after_bind,
+            },
+            count,
+            alloc: self.alloc,
+            device: PhantomData,
+        };
+        self.fill(device, &request, sets)
+    }
+
+    /// Puts the sets of a request behind those of a list, or gives back those that came.
+    #[inline]
+    fn fill<L, D: DescriptorDevice<L, P, S>, K: SetPlaces<S>>(
+        &mut self,
+        device: &mut D,
+        request: &SetRequest<'_, L, P, S, D>,
+        sets: K,
+    ) -> (K, Result<(), AllocationError>)
+        requires some { 0 < request.now.count }
+        requires agree { Agrees D.meaning.pool_name self.old (D.ledger device.old) }
+        ensures hands_out { HandsOut D.meaning (layout_key D.meaning request.now.layout.now)
+            request.now.count
+            (map_ok (λ done. behind (K.items sets) (K.items result.0)) result.1)
+            (side self.old (D.ledger device.old)) (side self.new (D.ledger device.new)) }
+        ensures front { OnOk result.1 (K.items result.0
+            ≡ K.items sets ++ behind (K.items sets) (K.items result.0)) }
+        ensures own { OnOk result.1 (AreOfLayout D.meaning request.now.layout.now
+            (behind (K.items sets) (K.items result.0))) }
+        ensures sets { OnErr result.1 (K.items result.0 ≡ K.items sets) }
+        ensures keeps { Keeps D.meaning (side self.old (D.ledger device.old))
+            (side self.new (D.ledger device.new)) }
+    {
+        let first = sets.count();
+        let mut sink = Allocation::new(sets, &request.key);
+        let served = self.serve_if_allowed(device, request, &mut sink);
+        let mut sets = sink.into_sets();
+        match served {
+            Ok(ended) => match ended {
+                Ok(()) => (sets, Ok(())),
+                Err(stop) => {
+                    sets.give_back(first, self, device);
+                    (sets, Err(error_of(stop)))
+                }
+            },
+            Err(error) => (sets, Err(error)),
+        }
+    }
+
+    /// Takes the sets of a request and counts those that came, unless all of them would exceed the
+    /// limit or 64 bits. On an error nothing was taken. Where the inner result says that the request
+    /// stopped short, the sets that came are the caller's to give back.
+    ///
+    /// New pools are held against the limit where they are created, by the room in the budget.
+    fn serve_if_allowed<'k, L, D: DescriptorDevice<L, P, S>, K: SetPlaces<S>>(
+        &mut self,
+        device: &mut D,
+        request: &'k SetRequest<'_, L, P, S, D>,
+        sink: &mut Allocation<'k, S, K>,
+    ) -> Result<Result<(), Stop>, AllocationError>
+        requires some { 0 < request.now.count }
+        requires agree { Agrees D.meaning.pool_name self.old (D.ledger device.old) }
+        ensures taken { IfOk result (λ ended. Takes D.meaning (key_of request.now.key)
+            request.now.count (behind (K.items sink.old.sets) (K.items sink.new.sets)) ended
+            (side self.old (D.ledger device.old)) (side self.new (D.ledger device.new))) }
+        ensures front { OnOk result (K.items sink.new.sets ≡ K.items sink.old.sets
+            ++ behind (K.items sink.old.sets) (K.items sink.new.sets)) }
+        ensures own { OnOk result (PutsOfLayout D.meaning request.now.layout.now
+            (K.items sink.old.sets) (K.items sink.new.sets)) }
+        ensures sets { OnErr result (K.items sink.new.sets ≡ K.items sink.old.sets) }
+        ensures declined { IfErr result (λ e. IsDeclined (call_of D.meaning (key_of request.now.key)
+            request.now.count (side self.old (D.ledger device.old))
+            (side self.new (D.ledger device.new)) (Err e))) }
+        ensures looks { CountsLooks self.old.looks self.new.looks
+            (D.ledger device.old) (D.ledger device.new) }
+        ensures comparisons_stay { self.new.comparisons ≡ self.old.comparisons }
+        ensures keys { OnOk result (keys_of self.new
+            ≡ with_key (key_of request.now.key) (keys_of self.old)) }
+        ensures allocator { OnErr result (self.new ≡ self.old) }
+        ensures ledger { OnErr result (D.ledger device.new ≡ D.ledger device.old) }
+        ensures within { IsSound D.meaning.pool_name self.new }
+        ensures limit { self.new.limit ≡ self.old.limit }
+    {
+        if self.would_exceed_limit(&request.key, request.count) {
+            return Err(AllocationError::Fragmentation);
+        }
+        if would_exceed_64_bits(self.outstanding, request.count) {
+            return Err(AllocationError::Fragmentation);
+        }
+        let ended = self.table.serve(device, request, &mut self.budget, sink)?;
+        let taken = u64::from(request.count - sink.left);
+        self.outstanding += taken;
+        let descriptors = request.key.marked_descriptors_of_sets(taken) as u32;
+        self.update_after_bind_descriptors += descriptors;
+        Ok(ended)
+    }
+}
+
+impl<P, S> DescriptorAllocator<P, S> {
+    /// Whether `count` sets more would exceed the limit on marked descriptors.
+    fn would_exceed_limit(&self, key: &BucketKey, count: u32) -> bool
+        ensures { result ≡ (key.now.update_after_bind && nat_lt (self.now.limit)
+            (count * sum (kinds key.now.counts) + marked_load_of self.now)) }
+    {
+        let unused = self.max_update_after_bind_descriptors_in_all_pools
+            - self.update_after_bind_descriptors;
+        key.update_after_bind
+            && u128::from(count) * u128::from(key.counts.total_u64()) > u128::from(unused)
+    }
+}
