@@ -6,8 +6,8 @@ use crate::counted_set::CountedSet;
 use crate::device::CountingDevice;
 use crate::layout::Layout;
 use crate::outcome::Outcome;
-use descriptor_renderer::{RenderError, Renderer, SetHandle};
-use gpu_descriptor::{AllocationError, LayoutHandle, SetLayout};
+use descriptor_renderer::{LayoutHandle, RenderError, Renderer, SetHandle};
+use gpu_descriptor::{AllocationError, SetLayout};
 use std::alloc::Global;
 use std::time::{Clock, Instant};
 

@@ -6,9 +6,9 @@ ghost use Rattle.descriptor_script.specs.Scripted.Raw.{script_meaning};
 ghost use Rattle.gpu_descriptor.specs.Caller.SetLayouts.{IsMeant};
 ghost use Rattle.descriptor_renderer.specs.Renderers.{pools_besides};
 
-use descriptor_renderer::{RenderError, Renderer, SetHandle};
+use descriptor_renderer::{LayoutHandle, RenderError, Renderer, SetHandle};
 use descriptor_script::{Answer, RawPool, RawSet, ScriptLayout, ScriptedDevice};
-use gpu_descriptor::{AllocationError, DescriptorTotalCount, LayoutHandle, SetLayout};
+use gpu_descriptor::{AllocationError, DescriptorTotalCount, SetLayout};
 use std::alloc::Global;
 
 type GameRenderer = Renderer<ScriptLayout, RawPool, RawSet, ScriptedDevice>;

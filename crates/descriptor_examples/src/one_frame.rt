@@ -3,8 +3,8 @@ ghost use Rattle.std.specs.Prelude.{◌≡◌};
 ghost use Rattle.gpu_descriptor.specs.Caller.SetLayouts.{IsMeant};
 ghost use Rattle.descriptor_renderer.specs.Renderers.{pools_besides};
 
-use descriptor_renderer::{RenderError, Renderer};
-use gpu_descriptor::{DescriptorDevice, LayoutHandle, SetLayout};
+use descriptor_renderer::{LayoutHandle, RenderError, Renderer};
+use gpu_descriptor::{DescriptorDevice, SetLayout};
 use std::alloc::Global;
 
 /// Adds a layout, draws a frame with it, and hands the device back, with the pools that it had.

@@ -1,14 +1,8 @@
 -- The sets of a frame by handle, when one comes.
-use Rattle.std.proofs.Common.{◌≡◌, ◌≢◌, ℕ, zero, suc, ◌==◌, ◌&&◌, List, [], ◌∷◌, ◌++◌, length, slice_get, None, Some, inl, inr, Bool, true, false, refl, sym, ap, subst, ◌∙◌, arith, eq-eqb, eqb-true, ne_eqb}
+use Rattle.std.proofs.Common.{◌≡◌, ◌≢◌, ℕ, zero, suc, ◌==◌, ◌&&◌, List, [], ◌∷◌, ◌++◌, length, slice_get, None, Some, inl, inr, Bool, true, false, refl, sym, ap, ◌∙◌, eq-eqb, eqb-true, ne_eqb}
 use Rattle.std.proofs.lemmas.Bool.{and_parts, cases_Bool}
-use Rattle.gpu_descriptor_types.specs.Meaning.{IsOfLayout, Meaning}
-use Rattle.gpu_descriptor.specs.Caller.SetLayouts.{Adds}
-use Rattle.gpu_descriptor.specs.Caller.SetLists.{HasBesides}
-use Rattle.gpu_descriptor.specs.Caller.Sets.{AreOfLayout, raw_of}
 use Rattle.gpu_descriptor.specs.declared.set.DescriptorSet.{DescriptorSet}
-use Rattle.gpu_descriptor.proofs.callers.SetLists.{besides_last}
-use Rattle.descriptor_renderer.specs.DrawnSets.{drawn_by}
-use Rattle.descriptor_renderer.specs.SetsBy.{Gives}
+use Rattle.descriptor_renderer.specs.DrawnSets.{Draws, drawn_by}
 use Rattle.descriptor_renderer.specs.declared.handles.DrawHandle.{DrawHandle}
 
 get_last : {X : Type 0} (xs : List X) (x : X) → slice_get (xs ++ x ∷ []) (length xs) ≡ Some x
@@ -51,13 +45,11 @@ module _ {S : Type 0} (renderer frame : ℕ) where
   unfolding drawn_by
   all_drawn drawn = refl
 
-  -- a set came behind the others
-  one_came : {L P : Type 0} (means : Meaning L P S) (layout : L) (old new : List (DescriptorSet S)) (x : DescriptorSet S) (handle : DrawHandle) → handle.renderer ≡ renderer → handle.frame ≡ frame → handle.place ≡ length old → IsOfLayout means layout (raw_of x) → new ≡ old ++ x ∷ [] → Gives means layout handle (drawn_by renderer frame old) (drawn_by renderer frame new)
-  one_came means layout old new x handle mine now place own is = record {
-    set = x;
-    own = own;
+  -- a set came last
+  pub draws : (old new : List (DescriptorSet S)) (x : DescriptorSet S) (handle : DrawHandle) → handle.renderer ≡ renderer → handle.frame ≡ frame → handle.place ≡ length old → new ≡ old ++ x ∷ [] → Draws handle x (drawn_by renderer frame old) (drawn_by renderer frame new)
+  draws old new x handle mine now place is = record {
     fresh = drawn_here old handle mine now ∙ ap (slice_get old) place ∙ get_past old;
-    given = drawn_here new handle mine now ∙ ap (λ xs. slice_get xs handle.place) is ∙ ap (slice_get (old ++ x ∷ [])) place ∙ get_last old x;
+    named = drawn_here new handle mine now ∙ ap (λ xs. slice_get xs handle.place) is ∙ ap (slice_get (old ++ x ∷ [])) place ∙ get_last old x;
     others = λ other apart. elim (cases_Bool ((other.renderer == renderer) && (other.frame == frame))) [
       | inl same ↦
           let parts = and_parts (other.renderer == renderer) (other.frame == frame) same in
@@ -67,17 +59,5 @@ module _ {S : Type 0} (renderer frame : ℕ) where
           drawn_here new other a b ∙ ap (λ xs. slice_get xs other.place) is ∙ get_apart old x other.place elsewhere ∙ sym (drawn_here old other a b)
       | inr elsewhere ↦ drawn_nowhere new other elsewhere ∙ sym (drawn_nowhere old other elsewhere)
     ];
-    besides = subst (λ xs. HasBesides x xs (drawn_by renderer frame new).all) (sym (all_drawn old)) (besides_last old (drawn_by renderer frame new).all x (all_drawn new ∙ is));
+    last = all_drawn new ∙ is ∙ ap (λ xs. xs ++ x ∷ []) (sym (all_drawn old));
   }
-
-  pub draw_gives : {L P : Type 0} (means : Meaning L P S) (layout : L) (old new : List (DescriptorSet S)) (handle : DrawHandle) → handle.renderer ≡ renderer → handle.frame ≡ frame → handle.place ≡ length old → Adds means layout 1 old new → Gives means layout handle (drawn_by renderer frame old) (drawn_by renderer frame new)
-  draw_gives means layout old new handle mine now place adds = by_sets adds.sets adds.many adds.own adds.behind
-    where
-      by_sets : (sets : List (DescriptorSet S)) → length sets ≡ 1 → AreOfLayout means layout sets → new ≡ old ++ sets → Gives means layout handle (drawn_by renderer frame old) (drawn_by renderer frame new)
-      by_sets [] many own is = absurd (omega arith)
-      by_sets (x ∷ []) many own is = one_came means layout old new x handle mine now place (own 0 x (omega arith)) is
-      by_sets (x ∷ y ∷ sets) many own is = absurd (omega arith)
-
-  pub draw_behind : {L P : Type 0} (means : Meaning L P S) (layout : L) (old new : List (DescriptorSet S)) → Adds means layout 1 old new → Adds means layout 1 (drawn_by renderer frame old).all (drawn_by renderer frame new).all
-  unfolding drawn_by
-  draw_behind means layout old new adds = adds

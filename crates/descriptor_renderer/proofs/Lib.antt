@@ -1,3 +1,6 @@
 mod Drawn
 mod Held
-mod HeldBy
+mod Queued
+mod Slots
+mod Taking
+mod Using

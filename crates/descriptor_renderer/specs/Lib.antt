@@ -1,6 +1,8 @@
-pub mod DeviceSets
 pub mod DrawnSets
 pub mod Errors
 pub mod HeldSets
+pub mod Holding
+pub mod LayoutRegistries
+pub mod Queue
 pub mod Renderers
-pub mod SetsBy
+pub mod Slots

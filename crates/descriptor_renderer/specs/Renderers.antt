@@ -1,27 +1,31 @@
 -- What a renderer has: layouts, frames, sets by handle, and the pools of its device.
-use Rattle.std.specs.Prelude.{ℕ, Bool, List, Option}
+use Rattle.std.specs.Prelude.{◌≡◌, ℕ, ◌+◌, ◌<◌, ◌≤◌, ◌⊎◌, Bool, List, length, Option, Ok, Err, vec_capacity}
+use Rattle.std.specs.VecDeque.{deque_capacity}
 use Rattle.gpu_descriptor_types.specs.Ledger.{Ledger, Pool}
+use Rattle.gpu_descriptor_types.specs.Side.{Side, side}
 use Rattle.gpu_descriptor_types.specs.declared.device.DescriptorDevice.{Ghosts}
-use Rattle.gpu_descriptor_types.specs.Side.{Side}
-use Rattle.gpu_descriptor.specs.Caller.LayoutRegistries.{layout_at, registry_of}
+use Rattle.gpu_descriptor.specs.Caller.Call.{layout_key}
+use Rattle.gpu_descriptor.specs.Caller.HandsOut.{HandsOut}
+use Rattle.gpu_descriptor.specs.Caller.Others.{others_of}
 use Rattle.gpu_descriptor.specs.Caller.Values.{Allocations}
 use Rattle.gpu_descriptor.specs.declared.errors.AllocationError.{AllocationError}
+use Rattle.gpu_descriptor.specs.declared.errors.AllocationError.TheVariants.{OutOfHostMemory}
 use Rattle.gpu_descriptor.specs.declared.layout.SetLayout.{SetLayout}
-use Rattle.gpu_descriptor.specs.declared.layout_registry.LayoutHandle.{LayoutHandle}
+use Rattle.gpu_descriptor.specs.declared.set.DescriptorSet.{DescriptorSet}
+use Rattle.descriptor_frames.specs.Frames.{allocator_of, reserve_of, retired_of}
 use Rattle.descriptor_frames.specs.declared.retired.Retired.{Retired}
-use Rattle.descriptor_renderer.specs.DeviceSets.{HasRoomToDraw, HasRoomToHold, IsCaused, IsRefused, drawn_in as drawn_of, ledger_in as ledger_of, limit_in, others_in, pools_in as pools_of, retired_in as retired_of, side_in, slots_in}
-use Rattle.descriptor_renderer.specs.DrawnSets.{drawn_by}
-use Rattle.descriptor_renderer.specs.HeldSets.{held_by}
-use Rattle.descriptor_renderer.specs.SetsBy.{SetsBy}
-use Rattle.descriptor_renderer.specs.declared.handles.DrawHandle.{DrawHandle}
-use Rattle.descriptor_renderer.specs.declared.handles.SetHandle.{SetHandle}
+use Rattle.descriptor_renderer.specs.DrawnSets.{Drawn, drawn_by}
+use Rattle.descriptor_renderer.specs.HeldSets.{Held, sets_in}
+use Rattle.descriptor_renderer.specs.Holding.{HasSlots, held_of, slots_of}
+use Rattle.descriptor_renderer.specs.LayoutRegistries.{layout_at, layouts_of, registry_of}
+use Rattle.descriptor_renderer.specs.declared.layout_registry.LayoutHandle.{LayoutHandle}
 use Rattle.descriptor_renderer.specs.declared.renderer.Renderer.{Renderer}
 
--- how many sets the renderer had created before that of the handle
-abbrev pub number_of : SetHandle → ℕ
-number_of h = h.number
-
 module _ {L P S D : Type 0} {d : Ghosts D L P S} where
+  -- the layouts, in the order in which they were added
+  abbrev pub layouts_in : Renderer L P S D d → List (SetLayout L)
+  layouts_in r = layouts_of r.layouts
+
   -- the layout of a handle. None where the renderer did not give the handle
   abbrev pub layout_of : Renderer L P S D d → LayoutHandle → Option (SetLayout L)
   layout_of r = layout_at r.layouts
@@ -33,59 +37,68 @@ module _ {L P S D : Type 0} {d : Ghosts D L P S} where
   abbrev pub is_open : Renderer L P S D d → Bool
   is_open r = r.is_open
 
-  -- the sets of the open frame, in the order in which they were drawn with
-  abbrev pub drawn_in : Renderer L P S D d → SetsBy DrawHandle S
-  drawn_in r = drawn_by r.renderer r.frame (drawn_of r.sets)
+  -- the sets of the open frame
+  abbrev pub drawn_in : Renderer L P S D d → Drawn S
+  drawn_in r = drawn_by r.renderer r.frame r.drawn.items
 
-  -- the sets that were created and not destroyed
-  abbrev pub held_in : Renderer L P S D d → SetsBy SetHandle S
-  held_in r = held_by r.renderer (slots_in r.sets)
+  -- the sets that were created and neither freed nor destroyed
+  abbrev pub held_in : Renderer L P S D d → Held S
+  held_in r = held_of r.held
 
-  -- how many sets were ever created
-  abbrev pub created_in : Renderer L P S D d → ℕ
-  created_in r = r.created
-
-  -- the sets that wait for their frame, in the order in which they go back
+  -- the sets that wait for their frame, in the order in which they are freed
   abbrev pub retired_in : Renderer L P S D d → List (Retired S)
-  retired_in r = retired_of r.sets
+  retired_in r = retired_of r.manager
 
   -- the ledger of the device
   abbrev pub ledger_in : Renderer L P S D d → Ledger
-  ledger_in r = ledger_of r.sets
+  ledger_in r = d.ledger r.device
 
   -- the live pools of the device, and those of them that are none of the renderer's
   abbrev pub pools_in : Renderer L P S D d → ℕ → Option Pool
-  pools_in r = pools_of r.sets
+  pools_in r = (ledger_in r).pools
 
   abbrev pub pools_besides : Renderer L P S D d → ℕ → Option Pool
-  pools_besides r = others_in r.sets
-
-  -- the numbers that tell the renderer's handles of sets and of layouts from those of other renderers
-  abbrev pub renderer_of : Renderer L P S D d → ℕ
-  renderer_of r = r.renderer
-
-  abbrev pub layouts_renderer_of : Renderer L P S D d → ℕ
-  layouts_renderer_of r = registry_of r.layouts
+  pools_besides r = others_of d.meaning.pool_name (allocator_of r.manager) (ledger_in r)
 
   -- the allocator, and the ledger of the device
   abbrev pub side_of : Renderer L P S D d → Side (Allocations P)
-  side_of r = side_in r.sets
+  side_of r = side (allocator_of r.manager) (ledger_in r)
 
   -- the limit on update-after-bind descriptors
   abbrev pub limit_of : Renderer L P S D d → ℕ
-  limit_of r = limit_in r.sets
+  limit_of r = (allocator_of r.manager).limit
 
-  -- memory is reserved for one more set of the frame, or for one more that is held, and to retire it
-  abbrev pub CanDraw : Renderer L P S D d → Type 0
-  CanDraw r = HasRoomToDraw r.sets
+  -- the number that tells the renderer's handles from those of others: of draws, of sets and of layouts
+  pub record HasNumber (number : ℕ) (r : Renderer L P S D d) : Type 0 where
+    pub draws : r.renderer ≡ number
+    pub sets : r.held.renderer ≡ number
+    pub layouts : registry_of r.layouts ≡ number
 
-  abbrev pub CanHold : Renderer L P S D d → Type 0
-  CanHold r = HasRoomToHold r.sets
+  -- memory is reserved to retire so many sets more
+  abbrev pub CanRetire : ℕ → Renderer L P S D d → Type 0
+  CanRetire n r = length r.drawn.items + length (sets_in (slots_of r.held)) + n ≤ reserve_of r.manager
 
-  -- the error has the cause that the allocator names
-  abbrev pub HasItsCause : L → AllocationError → Renderer L P S D d → Renderer L P S D d → Type 0
-  HasItsCause layout error old new = IsCaused layout error old.sets new.sets
+  -- a set more can be drawn with, without an allocation of the renderer's own
+  pub record CanDraw (r : Renderer L P S D d) : Type 0 where
+    pub drawn : length r.drawn.items < deque_capacity r.drawn
+    pub retire : CanRetire 1 r
 
-  -- why the allocator refused a set of the layout: an error other than want of memory has the cause that the allocator names
-  abbrev pub HasCause : L → AllocationError → Renderer L P S D d → Renderer L P S D d → Type 0
-  HasCause layout error old new = IsRefused layout error old.sets new.sets
+  -- so many sets more can be held, without an allocation of the renderer's own
+  pub record CanCreate (n : ℕ) (r : Renderer L P S D d) : Type 0 where
+    pub slots : HasSlots n r.held
+    pub vacant : length (slots_of r.held) + n ≤ vec_capacity r.held.vacant
+    pub going : length (sets_in (slots_of r.held)) + n ≤ deque_capacity r.going
+    pub retire : CanRetire n r
+
+  module _ (layout : L) (count : ℕ) (old new : Renderer L P S D d) where
+    -- the allocator met a request for so many sets of the layout by these
+    abbrev pub IsMetBy : List (DescriptorSet S) → Type 0
+    IsMetBy sets = HandsOut d.meaning (layout_key d.meaning layout) count (Ok sets) (side_of old) (side_of new)
+
+    -- the allocator refused it
+    abbrev pub FailsInAllocator : AllocationError → Type 0
+    FailsInAllocator error = HandsOut d.meaning (layout_key d.meaning layout) count (Err error) (side_of old) (side_of new)
+
+    -- the allocator refused it, or an allocation of the renderer's own failed before it was asked
+    abbrev pub Fails : AllocationError → Type 0
+    Fails error = FailsInAllocator error ⊎ ((error ≡ OutOfHostMemory) × (side_of new ≡ side_of old))

@@ -1,13 +1,18 @@
 //! Handles of sets. Each tells which renderer gave it, and names no other set later.
+ghost use Rattle.std.specs.Prelude.{◌≡◌, ◌<◌};
+ghost use Rattle.descriptor_renderer.specs.HeldSets.{generation_of, place_of};
 
-/// A set that a renderer holds until it is destroyed.
+/// How many places there are: a name has its place in the lower half, its generation in the upper.
+pub(crate) const PLACES: u64 = 1 << 32;
+
+/// A set that a renderer holds until it is freed or destroyed.
 #[derive(Clone, Copy, Debug, PartialEq, Eq, Hash)]
 pub struct SetHandle {
     pub(crate) renderer: u64,
-    pub(crate) place: usize,
 
-    /// How many sets the renderer had created before.
-    pub(crate) number: u64,
+    /// The place of the set, and times 2 to the 32 how many sets were there, with this one. So no
+    /// name is 0.
+    pub(crate) name: u64,
 }
 
 /// A set of a frame.
@@ -16,4 +21,30 @@ pub struct DrawHandle {
     pub(crate) renderer: u64,
     pub(crate) frame: u64,
     pub(crate) place: usize,
+}
+
+/// The place of a name.
+#[inline]
+pub(crate) fn place_in(name: u64) -> usize
+    ensures { result ≡ place_of name }
+{
+    (name % PLACES) as usize
+}
+
+/// The generation of a name.
+#[inline]
+pub(crate) fn generation_in(name: u64) -> u64
+    ensures { result ≡ generation_of name }
+{
+    name / PLACES
+}
+
+/// The name of a place in a generation.
+#[inline]
+pub(crate) fn name_at(place: usize, generation: u32) -> u64
+    requires { place < 4294967296 }
+    ensures place { place_of result ≡ place }
+    ensures generation { generation_of result ≡ generation }
+{
+    place as u64 + u64::from(generation) * PLACES
 }

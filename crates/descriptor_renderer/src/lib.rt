@@ -1,13 +1,16 @@
-//! The descriptor sets of a renderer, over a device that it owns: sets of a frame, which go back
-//! once the device is done with that, and sets that are held until they are destroyed.
+//! The descriptor sets of a renderer, over a device that it owns: sets of a frame, which are freed once
+//! the device is done with that, and sets that are held until they are freed or destroyed.
 #![tactic(auto)]
 
-mod device_sets;
 mod errors;
 mod handles;
-mod held_set;
+mod held_sets;
+mod layout_registry;
+mod queue;
 mod renderer;
+mod reserve;
 
 pub use errors::{BeginError, DestroyError, RenderError};
 pub use handles::{DrawHandle, SetHandle};
+pub use layout_registry::{LayoutHandle, LayoutRegistry};
 pub use renderer::Renderer;

@@ -1,14 +1,15 @@
 -- Sessions that can make a step on a device, alone and two on one device.
-use Rattle.std.specs.Prelude.{◌≡◌, ◌≢◌, ℕ, [], Some}
+use Rattle.std.specs.Prelude.{◌≡◌, ◌≢◌, ℕ, All, [], Some}
 use Rattle.std.proofs.Props.{props}
 use Rattle.gpu_descriptor.proofs.callers.OneAgreement.{Agrees-prop}
 use Rattle.gpu_descriptor_types.specs.Ledger.{Ledger}
 use Rattle.gpu_descriptor.specs.Caller.Values.{without_keys}
 use Rattle.gpu_descriptor.specs.Model.Agreement.{State}
 use Rattle.gpu_descriptor.specs.Model.Books.{Key, Entry, entry_at}
+use Rattle.gpu_descriptor.specs.Caller.SetLayouts.{IsMeant}
 use Rattle.gpu_descriptor.specs.Caller.States.{state_of}
 use Rattle.descriptor_script.specs.Scripted.Raw.{pool_id, script_meaning}
-use Rattle.descriptor_script.specs.Sessions.Session.{AreMeant, IsReady, allocator_of, layouts_of, sets_of}
+use Rattle.descriptor_script.specs.Sessions.Session.{IsReady, allocator_of, layouts_of, sets_of}
 use Rattle.descriptor_script.specs.declared.raw.RawPool.{RawPool}
 use Rattle.descriptor_script.specs.declared.raw.RawSet.{RawSet}
 use Rattle.descriptor_script.specs.declared.raw.ScriptLayout.{ScriptLayout}
@@ -24,7 +25,7 @@ pub record IsNewSession (s : Session ScriptLayout RawPool RawSet) : Type 0 where
   pub limit : ℕ
   pub allocator : allocator_of s ≡ without_keys limit
   pub sets : sets_of s ≡ []
-  pub meant : AreMeant script_meaning (layouts_of s)
+  pub meant : All (IsMeant script_meaning) (layouts_of s)
 
 -- no pool of the device stands in both books
 abbrev pub AreApart : State → State → Type 0

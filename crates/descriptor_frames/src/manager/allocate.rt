@@ -5,7 +5,7 @@ ghost use Rattle.gpu_descriptor_types.specs.Side.{side};
 ghost use Rattle.gpu_descriptor.specs.Caller.HandsOut.{HandsOut};
 ghost use Rattle.gpu_descriptor.specs.Caller.Keeps.{Keeps};
 ghost use Rattle.gpu_descriptor.specs.Caller.Flags.{is_marked};
-ghost use Rattle.gpu_descriptor.specs.Caller.Call.{layout_key};
+ghost use Rattle.gpu_descriptor.specs.Caller.Call.{layout_key, map_ok};
 ghost use Rattle.gpu_descriptor.specs.Caller.Sets.{AreOfLayout, items_of};
 ghost use Rattle.gpu_descriptor.specs.Caller.States.{Agrees};
 
@@ -34,8 +34,8 @@ impl<P: Drop, S: Drop> FrameManager<P, S> {
         requires mark { is_marked flags ≡ D.meaning.mark layout.now }
         requires agree { Agrees D.meaning.pool_name (allocator_of self.old) (D.ledger device.old) }
 
-        ensures hands_out { HandsOut D.meaning (layout_key D.meaning layout.now) count result
-            (side (allocator_of self.old) (D.ledger device.old))
+        ensures hands_out { HandsOut D.meaning (layout_key D.meaning layout.now) count
+            (map_ok (λ sets. sets.items) result) (side (allocator_of self.old) (D.ledger device.old))
             (side (allocator_of self.new) (D.ledger device.new)) }
         ensures own { IfOk result (λ sets. AreOfLayout D.meaning layout.now sets.items) }
         ensures keeps { Keeps D.meaning (side (allocator_of self.old) (D.ledger device.old))

@@ -1,12 +1,12 @@
 //! Handing out sets of a layout that is kept with its counts and flags.
-ghost use Rattle.std.specs.Prelude.{[], ◌∷◌, IfOk, OnErr};
+ghost use Rattle.std.specs.Prelude.{◌≡◌, ◌++◌, [], ◌∷◌, IfOk, OnOk, OnErr};
 ghost use Rattle.gpu_descriptor_types.specs.Meaning.{IsOfLayout};
 ghost use Rattle.gpu_descriptor_types.specs.Side.{side};
-ghost use Rattle.gpu_descriptor.specs.Caller.Call.{layout_key};
+ghost use Rattle.gpu_descriptor.specs.Caller.Call.{layout_key, map_ok};
 ghost use Rattle.gpu_descriptor.specs.Caller.HandsOut.{HandsOut};
-ghost use Rattle.gpu_descriptor.specs.Caller.HandsOutOne.{HandsOutOne};
 ghost use Rattle.gpu_descriptor.specs.Caller.Keeps.{Keeps};
 ghost use Rattle.gpu_descriptor.specs.Caller.SetLayouts.{IsMeant};
+ghost use Rattle.gpu_descriptor.specs.Caller.SetLists.{behind};
 ghost use Rattle.gpu_descriptor.specs.Caller.Sets.{AreOfLayout, item_of, items_of, raw_of};
 ghost use Rattle.gpu_descriptor.specs.Caller.States.{Agrees};
 
@@ -29,7 +29,7 @@ impl<P: Drop, S: Drop> FrameManager<P, S> {
         requires agree { Agrees D.meaning.pool_name (allocator_of self.old) (D.ledger device.old) }
 
         ensures hands_out { HandsOut D.meaning (layout_key D.meaning layout.now.layout) count
-            result (side (allocator_of self.old) (D.ledger device.old))
+            (map_ok (λ sets. sets.items) result) (side (allocator_of self.old) (D.ledger device.old))
             (side (allocator_of self.new) (D.ledger device.new)) }
         ensures own { IfOk result (λ sets. AreOfLayout D.meaning layout.now.layout sets.items) }
         ensures keeps { Keeps D.meaning (side (allocator_of self.old) (D.ledger device.old))
@@ -48,6 +48,42 @@ impl<P: Drop, S: Drop> FrameManager<P, S> {
         self.allocate(device, &layout.layout, layout.flags, &layout.counts, count)
     }
 
+    /// Puts sets into a vector, as `DescriptorAllocator::allocate_into` does. The retired sets stay.
+    pub fn allocate_into<L, D: DescriptorDevice<L, P, S>>(
+        &mut self,
+        device: &mut D,
+        layout: &SetLayout<L>,
+        count: u32,
+        sets: &mut Vec<DescriptorSet<S>>,
+    ) -> Result<(), AllocationError>
+        requires meant { IsMeant D.meaning layout.now }
+        requires agree { Agrees D.meaning.pool_name (allocator_of self.old) (D.ledger device.old) }
+
+        ensures hands_out { HandsOut D.meaning (layout_key D.meaning layout.now.layout) count
+            (map_ok (λ done. behind sets.old.items sets.new.items) result)
+            (side (allocator_of self.old) (D.ledger device.old))
+            (side (allocator_of self.new) (D.ledger device.new)) }
+        ensures front { OnOk result (sets.new.items
+            ≡ sets.old.items ++ behind sets.old.items sets.new.items) }
+        ensures own { OnOk result (AreOfLayout D.meaning layout.now.layout
+            (behind sets.old.items sets.new.items)) }
+        ensures sets_stay { OnErr result (sets.new.items ≡ sets.old.items) }
+        ensures keeps { Keeps D.meaning (side (allocator_of self.old) (D.ledger device.old))
+            (side (allocator_of self.new) (D.ledger device.new)) }
+
+        // If the retired sets were outstanding they still are, and only what came comes into use.
+        ensures retired { KeepsRetired D.meaning.pool_name D.meaning.set_name self.old self.new
+            (D.ledger device.old) (D.ledger device.new) }
+        ensures in_use { AreRetiredOut D.meaning.pool_name D.meaning.set_name self.old
+            (D.ledger device.old) → OnOk result (BringsIntoUse D.meaning.pool_name
+            D.meaning.set_name self.old self.new (D.ledger device.old) (D.ledger device.new)
+            (items_of D.meaning.set_name (behind sets.old.items sets.new.items))) }
+        ensures in_use_stay { OnErr result (KeepsInUse D.meaning.pool_name D.meaning.set_name
+            self.old self.new (D.ledger device.old) (D.ledger device.new)) }
+    {
+        self.allocator.allocate_into(device, layout, count, sets)
+    }
+
     /// Allocates one set, as `DescriptorAllocator::allocate_one` does. The retired sets stay.
     pub fn allocate_one<L, D: DescriptorDevice<L, P, S>>(
         &mut self,
@@ -57,8 +93,8 @@ impl<P: Drop, S: Drop> FrameManager<P, S> {
         requires meant { IsMeant D.meaning layout.now }
         requires agree { Agrees D.meaning.pool_name (allocator_of self.old) (D.ledger device.old) }
 
-        ensures hands_out { HandsOutOne D.meaning (layout_key D.meaning layout.now.layout) result
-            (side (allocator_of self.old) (D.ledger device.old))
+        ensures hands_out { HandsOut D.meaning (layout_key D.meaning layout.now.layout) 1
+            (map_ok (λ set. set ∷ []) result) (side (allocator_of self.old) (D.ledger device.old))
             (side (allocator_of self.new) (D.ledger device.new)) }
         ensures own { IfOk result (λ set. IsOfLayout D.meaning layout.now.layout (raw_of set)) }
         ensures keeps { Keeps D.meaning (side (allocator_of self.old) (D.ledger device.old))

@@ -36,7 +36,8 @@ impl<P, S> FrameManager<P, S> {
         ensures count { length (retired_of self.new) + length (due_sets frame self.old)
             ≡ length (retired_of self.old) }
         ensures all { greatest_of self.old ≤ frame → retired_of self.new ≡ [] }
-        ensures reserve { reserve_of self.old ≤ reserve_of self.new }
+        ensures reserve { reserve_of self.new
+            ≡ reserve_of self.old + length (due_sets frame self.old) }
         ensures greatest { greatest_of self.new ≡ greatest_of self.old }
         ensures retired { AreRetiredOut D.meaning.pool_name D.meaning.set_name self.new
             (D.ledger device.new) }

@@ -29,7 +29,7 @@ impl<P, S> FrameManager<P, S> {
         set: DescriptorSet<S>,
     ) -> Result<(), RetireError<DescriptorSet<S>>>
         ensures list { OnOk result (retired_of self.new
-            ≡ with_late frame set (retired_of self.old)) }
+            ≡ with_late frame (set ∷ []) (retired_of self.old)) }
         ensures greatest { OnOk result (greatest_of self.new ≡ max (greatest_of self.old) frame) }
 
         // On any device: a set that was in use is so once less, and the retired ones are still out.
@@ -57,7 +57,7 @@ impl<P, S> FrameManager<P, S> {
     }
 
     /// How many sets were retired at the frame or before.
-    fn place_behind(&self, frame: u64) -> usize
+    pub(super) fn place_behind(&self, frame: u64) -> usize
         ensures within { result ≤ length (retired_of self.now) }
         ensures place { IsPartitionPoint (λ r. r.frame ≤ frame) (λ r. frame < r.frame)
             (retired_of self.now) result }
@@ -67,12 +67,12 @@ impl<P, S> FrameManager<P, S> {
     }
 
     /// Puts a set in at its place, over memory that was reserved.
-    fn put_at(&mut self, place: usize, frame: u64, set: DescriptorSet<S>)
+    pub(super) fn put_at(&mut self, place: usize, frame: u64, set: DescriptorSet<S>)
         requires within { place ≤ length (retired_of self.old) }
         requires place { IsPartitionPoint (λ r. r.frame ≤ frame) (λ r. frame < r.frame)
             (retired_of self.old) place }
         requires reserve { 0 < reserve_of self.old }
-        ensures list { retired_of self.new ≡ with_late frame set (retired_of self.old) }
+        ensures list { retired_of self.new ≡ with_late frame (set ∷ []) (retired_of self.old) }
         ensures besides { HasBesides set (retired_sets (retired_of self.old))
             (retired_sets (retired_of self.new)) }
         ensures count { length (retired_of self.new) ≡ length (retired_of self.old) + 1 }

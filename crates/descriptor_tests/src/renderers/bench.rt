@@ -1,8 +1,7 @@
 //! A renderer over the scripted device, with a plain layout and a marked one.
 use crate::callers::set_layout;
-use descriptor_renderer::{Renderer, SetHandle};
+use descriptor_renderer::{LayoutHandle, Renderer, SetHandle};
 use descriptor_script::{Answer, RawPool, RawSet, ScriptLayout, ScriptedDevice};
-use gpu_descriptor::LayoutHandle;
 use std::alloc::Global;
 use std::process::Abort;
 

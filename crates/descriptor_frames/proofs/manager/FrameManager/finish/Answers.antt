@@ -55,6 +55,8 @@ pub returns-clause-reserve : goal.returns-clause-reserve
 returns-clause-reserve g c =
     let all = went_back g (goal.at.returns-clause-reserve g c).After-end in
     let places = ap deque_capacity c.end.ensures ∙ same_places_then c.free_from.ensures.frees in
+    let due = ap length (took_due c.free_from.ensures.frees c.args.self.now.greatest c.args.self.now.ordered).0 in
+    let ok = c.args.self.now.retired.ok in
     omega arith
 
 -- books and ledger at the call, and when the sets went back

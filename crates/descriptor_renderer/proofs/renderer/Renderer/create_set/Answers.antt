@@ -1,9 +1,56 @@
-use Rattle.std.proofs.Common.{refl}
-use Rattle.descriptor_renderer.specs.DeviceSets.{slots_in}
-use Rattle.descriptor_renderer.proofs.HeldBy.{held_gives, if_some}
+use Rattle.std.proofs.Common.{◌≡◌, [], ◌∷◌, Ok, length, refl, subst, sym, ap, ◌∙◌, arith}
+use Rattle.gpu_descriptor_types.specs.Side.{side}
+use Rattle.gpu_descriptor.specs.Caller.Call.{layout_key}
+use Rattle.gpu_descriptor.specs.Caller.HandsOut.{HandsOut}
+use Rattle.descriptor_frames.specs.Frames.{allocator_of}
+use Rattle.descriptor_renderer.specs.HeldSets.{Comes, held_by, sets_in}
+use Rattle.descriptor_renderer.specs.Holding.{held_of, slots_of}
+use Rattle.descriptor_renderer.proofs.Held.{if_some, ok_then}
+use Rattle.descriptor_renderer.proofs.Using.{came_used, retired_as, used_as}
 use Rattle.descriptor_renderer.proofs.renderer.Renderer.create_set.Goals as goal
 
-pub returns-in-Ok-clause-gives : goal.returns-in-Ok-clause-gives
-returns-in-Ok-clause-gives g c =
-    let self = c.args.self.now in
-    if_some _ c.in-Some.known.now _ c.in-Some.ensures.layout (held_gives self.renderer g.D.DescriptorDevice.meaning c.in-Some.known.now.layout (slots_in self.sets) (slots_in c.hold.new.self) (record { renderer = self.renderer; place = c.in-Ok.place; number = self.created }) refl c.in-Ok.ensures.holds)
+pub invariant_of-self-in-Ok-clause-used : goal.invariant_of-self-in-Ok-clause-used
+invariant_of-self-in-Ok-clause-used g c =
+    let d = g.D.DescriptorDevice in
+    let old = c.args.self.now in
+    let set = c.in-Ok.set in
+    let handle = c.put.result in
+    let before : held_of c.reserve_to_hold.new.held ≡ held_of old.held = λ i. held_by (c.reserve_to_hold.ensures.renderer i) (c.reserve_to_hold.ensures.held i) in
+    let comes = subst (λ h. Comes handle set h (held_of c.put.new.self)) before c.put.ensures.comes in
+    let named = subst (λ r. Comes handle set (held_of old.held) (held_by r (slots_of c.put.new.self))) (c.put.ensures.renderer ∙ c.reserve_to_hold.ensures.renderer) comes in
+    let l = d.ledger old.device in
+    let manager = c.reserve_to_retire.new.manager in
+    let same = c.reserve_to_retire.ensures.allocator in
+    let list = c.reserve_to_retire.ensures.list in
+    let more = c.in-Ok.ensures.in_use (retired_as d.meaning.pool_name d.meaning.set_name old.manager manager l same list old.retired) in
+    came_used d.meaning.set_name old.held.renderer (slots_of old.held) (slots_of c.put.new.self) (handle ∷ []) (set ∷ []) d.meaning.pool_name (held_by old.held.renderer (slots_of c.put.new.self), named, refl) more (used_as d.meaning.pool_name d.meaning.set_name old.manager manager l same list old.used)
+
+pub returns-in-Ok-clause-creates : goal.returns-in-Ok-clause-creates
+returns-in-Ok-clause-creates g c =
+    let d = g.D.DescriptorDevice in
+    let old = c.args.self.now in
+    let set = c.in-Ok.set in
+    let handle = c.put.result in
+    let before : held_of c.reserve_to_hold.new.held ≡ held_of old.held = λ i. held_by (c.reserve_to_hold.ensures.renderer i) (c.reserve_to_hold.ensures.held i) in
+    let comes = subst (λ h. Comes handle set h (held_of c.put.new.self)) before c.put.ensures.comes in
+    let layout = c.in-Some.known.now.layout in
+    let met = subst (λ a. HandsOut d.meaning (layout_key d.meaning layout) 1 (Ok (set ∷ [])) (side a (d.ledger old.device)) (side (allocator_of c.allocate_one.new.self) (d.ledger c.allocate_one.new.device))) c.reserve_to_retire.ensures.allocator c.in-Ok.ensures.hands_out in
+    if_some _ c.in-Some.known.now _ c.in-Some.ensures.layout (set, c.in-Ok.ensures.own, comes, met)
+
+pub invariant_of-self-in-Ok-clause-reserve : goal.invariant_of-self-in-Ok-clause-reserve
+invariant_of-self-in-Ok-clause-reserve g c =
+    let old = c.args.self.now in
+    let asked = ok_then c.reserve_to_retire.result (sym c.is_err.ensures.value ∙ c.if-is_err.false) c.reserve_to_retire.ensures.reserve in
+    let drawn = c.len.ensures in
+    let ok = old.drawn.ok in
+    let held = c.len-2.ensures in
+    let kept = c.in-Ok.ensures.retired.reserve in
+    let same = ap (λ l. length (sets_in l)) c.reserve_to_hold.ensures.held in
+    let more = c.put.ensures.count in
+    omega arith
+
+pub invariant_of-self-in-Ok-clause-can_go : goal.invariant_of-self-in-Ok-clause-can_go
+invariant_of-self-in-Ok-clause-can_go g c =
+    let going = ok_then c.reserve_to_hold.result (sym c.is_err-else-is_err.ensures.value ∙ c.if-is_err-2.false) c.reserve_to_hold.ensures.going in
+    let more = c.put.ensures.count in
+    omega arith

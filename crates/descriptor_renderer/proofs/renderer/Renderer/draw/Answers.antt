@@ -1,15 +1,18 @@
-use Rattle.std.proofs.Common.{refl}
-use Rattle.descriptor_renderer.specs.DeviceSets.{drawn_in}
-use Rattle.descriptor_renderer.proofs.Drawn.{draw_behind, draw_gives}
-use Rattle.descriptor_renderer.proofs.HeldBy.{if_some}
+use Rattle.std.proofs.Common.{[], ◌∷◌, ◌++◌, Ok, ap, ◌∙◌, refl, subst, arith}
+use Rattle.gpu_descriptor_types.specs.Side.{side}
+use Rattle.gpu_descriptor.specs.Caller.Call.{layout_key}
+use Rattle.gpu_descriptor.specs.Caller.HandsOut.{HandsOut}
+use Rattle.descriptor_frames.specs.Frames.{allocator_of}
+use Rattle.descriptor_renderer.proofs.Drawn.{draws}
+use Rattle.descriptor_renderer.proofs.Held.{if_some}
 use Rattle.descriptor_renderer.proofs.renderer.Renderer.draw.Goals as goal
 
-pub returns-in-Ok-clause-gives : goal.returns-in-Ok-clause-gives
-returns-in-Ok-clause-gives g c =
+pub returns-in-Ok-clause-draws : goal.returns-in-Ok-clause-draws
+returns-in-Ok-clause-draws g c =
+    let d = g.D.DescriptorDevice in
     let self = c.args.self.now in
-    if_some _ c.in-Some.known.now _ c.in-Some.ensures.layout (draw_gives self.renderer self.frame g.D.DescriptorDevice.meaning c.in-Some.known.now.layout (drawn_in self.sets) (drawn_in c.draw.new.self) (record { renderer = self.renderer; frame = self.frame; place = c.drawn_count.result }) refl refl c.drawn_count.ensures c.in-Ok.ensures.drawn)
-
-pub returns-in-Ok-clause-behind : goal.returns-in-Ok-clause-behind
-returns-in-Ok-clause-behind g c =
-    let self = c.args.self.now in
-    if_some _ c.in-Some.known.now _ c.in-Some.ensures.layout (draw_behind self.renderer self.frame g.D.DescriptorDevice.meaning c.in-Some.known.now.layout (drawn_in self.sets) (drawn_in c.draw.new.self) c.in-Ok.ensures.drawn)
+    let layout = c.in-Some.known.now.layout in
+    let set = c.in-Ok.set in
+    let drawn = draws self.renderer self.frame self.drawn.items c.push_back_reserved.new.self.items set (record { renderer = self.renderer; frame = self.frame; place = c.len-place.result }) refl refl (let len = c.len-place.ensures in let ok = self.drawn.ok in omega arith) (c.push_back_reserved.ensures.items ∙ ap (λ xs. xs ++ set ∷ []) c.reserve.ensures.items) in
+    let met = subst (λ a. HandsOut d.meaning (layout_key d.meaning layout) 1 (Ok (set ∷ [])) (side a (d.ledger self.device)) (side (allocator_of c.allocate_one.new.self) (d.ledger c.allocate_one.new.device))) c.reserve_to_retire.ensures.allocator c.in-Ok.ensures.hands_out in
+    if_some _ c.in-Some.known.now _ c.in-Some.ensures.layout (set, c.in-Ok.ensures.own, drawn, met)
