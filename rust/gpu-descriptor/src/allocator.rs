@@ -8,6 +8,7 @@ use crate::{
     SetLayout, gpu_descriptor as inner, kit,
 };
 use core::fmt::Debug;
+use core::mem::take;
 use core::ops::Range;
 use std_alloc::vec::Vec;
 
@@ -18,7 +19,7 @@ use std_alloc::vec::Vec;
 /// nothing while the thread still unwinds. So no set is handed out twice. The sets of the request that
 /// panicked are dropped, and their pools stay with the device.
 ///
-/// At a drop with sets outstanding a line on standard error says so.
+/// A drop destroys no pools: see [At a drop](crate#at-a-drop).
 #[derive(Debug)]
 pub struct DescriptorAllocator<P, S> {
     inner: inner::DescriptorAllocator<P, S>,
@@ -29,8 +30,16 @@ pub struct DescriptorAllocator<P, S> {
 impl<P, S> DescriptorAllocator<P, S> {
     /// Create new allocator instance.
     ///
-    /// The argument is the driver's limit `maxUpdateAfterBindDescriptorsInAllPools`. It bounds the
-    /// descriptors of all pools for update-after-bind layouts.
+    /// The argument is the driver's limit `maxUpdateAfterBindDescriptorsInAllPools`. A program without
+    /// update-after-bind layouts may pass 0.
+    ///
+    /// As in Vulkan, it limits the descriptors of the pools for update-after-bind layouts, whether their
+    /// sets are out or not. A new pool is created for at least 64 sets, or for as many as the limit still
+    /// allows, so one set can use up the limit: if that is 500,000, the first set of a layout with 10,000
+    /// descriptors comes from a pool of 50 sets. Requests for update-after-bind layouts with other counts
+    /// then fail with `Fragmentation`, and `cleanup` can't destroy that pool while one of its sets is out.
+    /// Allocate sets of the small layouts first, or give each of two allocators a part of the limit.
+    /// [`update_after_bind_capacity`](Self::update_after_bind_capacity) returns how much is used.
     pub fn new(max_update_after_bind_descriptors_in_all_pools: u32) -> Self {
         let ids = Ids::next();
         DescriptorAllocator {
@@ -56,6 +65,18 @@ impl<P, S> DescriptorAllocator<P, S> {
     ///   one `DescriptorAllocator` instance.
     /// * `flags` must match flags that were used to create the layout.
     /// * `layout_descriptor_count` must match descriptor numbers in the layout.
+    ///
+    /// # Errors
+    ///
+    /// On `OutOfDeviceMemory` or `OutOfHostMemory`, free memory and ask again. `Fragmentation` has three
+    /// causes in practice:
+    ///
+    /// * The limit leaves no room, for update-after-bind layouts alone. Free sets of such layouts, call
+    ///   [`cleanup`](Self::cleanup), and ask again. [`new`](Self::new) says how the limit is used up.
+    /// * The device refused to create a pool, as its memory is fragmented. Free sets and call `cleanup`, or
+    ///   destroy other resources of the device, and ask again.
+    /// * A new pool returned `FragmentedPool` or `OutOfPoolMemory`. It was destroyed, and asking again
+    ///   creates another one. If that fails too, compare the counts and flags with those of the layout.
     ///
     /// # Panics
     ///
@@ -89,9 +110,13 @@ impl<P, S> DescriptorAllocator<P, S> {
     ///
     /// As of [`allocate`](Self::allocate), for what `layout` keeps.
     ///
+    /// # Errors
+    ///
+    /// As of `allocate`.
+    ///
     /// # Panics
     ///
-    /// As `allocate` does.
+    /// As of `allocate`.
     pub unsafe fn allocate_for<L, D: DescriptorDevice<L, P, S>>(
         &mut self,
         device: &D,
@@ -106,15 +131,53 @@ impl<P, S> DescriptorAllocator<P, S> {
         Ok(sets.0)
     }
 
-    /// Allocates one set of a layout that is kept with its flags and counts.
+    /// Allocates sets of a layout that is kept with its flags and counts, and appends them to a vector.
+    ///
+    /// The vector grows only if it has no capacity for `count` more. On an error it has the sets that it
+    /// had. If the device panics, these are dropped too.
     ///
     /// # Safety
     ///
     /// As of [`allocate`](Self::allocate), for what `layout` keeps.
     ///
+    /// # Errors
+    ///
+    /// As of `allocate`.
+    ///
     /// # Panics
     ///
-    /// As `allocate` does.
+    /// As of `allocate`.
+    pub unsafe fn allocate_into<L, D: DescriptorDevice<L, P, S>>(
+        &mut self,
+        device: &D,
+        layout: &SetLayout<L>,
+        count: u32,
+        sets: &mut Vec<DescriptorSet<S>>,
+    ) -> Result<(), AllocationError> {
+        self.poison.check();
+        let device = &mut Adapter { device };
+        let mut inner = kit::vec::Vec(take(sets));
+        let answer = self
+            .poison
+            .guard(|| self.inner.allocate_into(device, layout, count, &mut inner));
+        *sets = inner.0;
+        answer
+    }
+
+    /// Allocates one set of a layout that is kept with its flags and counts, and returns it without a
+    /// vector.
+    ///
+    /// # Safety
+    ///
+    /// As of [`allocate`](Self::allocate), for what `layout` keeps.
+    ///
+    /// # Errors
+    ///
+    /// As of `allocate`.
+    ///
+    /// # Panics
+    ///
+    /// As of `allocate`.
     pub unsafe fn allocate_one<L, D: DescriptorDevice<L, P, S>>(
         &mut self,
         device: &D,
@@ -126,15 +189,18 @@ impl<P, S> DescriptorAllocator<P, S> {
             .guard(|| self.inner.allocate_one(device, layout))
     }
 
-    /// Free descriptor sets. It takes no memory.
+    /// Free descriptor sets. It allocates nothing.
     ///
-    /// Neighbours of one pool go back in one call of the device. The caller's iterator is read during
-    /// that call.
+    /// Neighbours of one pool are freed by one call of the device. The caller's iterator is read during
+    /// that call. Whenever the oldest pools of a key have no set left, they are destroyed, but never the
+    /// key's last pool.
     ///
     /// # Safety
     ///
     /// * Same `device` instance must be passed to all method calls of
     ///   one `DescriptorAllocator` instance.
+    /// * The sets came from this allocator. Sets of others are found (see Panics) if the process creates
+    ///   fewer than 2^24 allocators and managers.
     /// * None of descriptor sets can be referenced in any pending command buffers.
     /// * All command buffers where at least one of descriptor sets referenced
     ///   move to invalid state.
@@ -158,7 +224,7 @@ impl<P, S> DescriptorAllocator<P, S> {
         own.refuse_foreign();
     }
 
-    /// Perform cleanup to allow resources reuse. It takes no memory.
+    /// Perform cleanup to allow resources reuse. It allocates nothing.
     ///
     /// The oldest pools of each key are destroyed up to the first that has a set.
     ///

@@ -14,6 +14,11 @@ use core::marker::PhantomData;
 /// `OutOfPoolMemory`, the next pool is asked. A new pool that returns one of them is destroyed and ends the
 /// request with `Fragmentation`, and every other error ends the request. A result of the driver that has no
 /// name here is best returned as `OutOfHostMemory`; a panic poisons the allocator.
+///
+/// A device may hold a lock or a `RefCell` borrow while it reads `layouts` and extends `sets`, since
+/// neither runs code of a device or of a caller. Reading the sets of a release may: in a call of `free`
+/// it reads the iterator that the caller passed. So the caller's iterator must not take a lock or a borrow
+/// that the device holds in `dealloc_descriptor_sets`.
 pub trait DescriptorDevice<L, P, S> {
     /// Creates a pool for at most `max_sets` sets, which have at most these descriptors altogether.
     ///

@@ -34,17 +34,20 @@ use crate::{
 };
 use core::error::Error;
 use core::fmt;
+use core::mem::take;
 use std_alloc::vec::Vec;
 
-/// Hands out descriptor sets, and gives them back when the frame that used them last is done.
+/// Allocates descriptor sets, and frees them when the frame that used them last is done.
 ///
-/// The device is lent to each call that needs it, and has to be the same each time. `retire` and the
-/// calls beside it make no call of the device, and are safe: what they keep goes back by `finish`,
-/// whose caller says that the device is done with it.
+/// The device is lent to each call that needs it, and has to be the same each time. `retire`,
+/// `retire_late` and `retire_all` make no call of the device, and are safe: the sets are freed by
+/// `finish`, whose caller says that the device is done with them.
 ///
 /// A panic in a device or in an iterator of sets has the same consequences as in
 /// [`DescriptorAllocator`](crate::DescriptorAllocator): from then on calls with a device panic, but those
 /// that give sets or pools back do nothing while the thread panics already.
+///
+/// A drop destroys no pools: see [At a drop](crate#at-a-drop).
 #[derive(Debug)]
 pub struct FrameManager<P, S> {
     inner: inner::FrameManager<P, S>,
@@ -53,7 +56,8 @@ pub struct FrameManager<P, S> {
 }
 
 impl<P, S> FrameManager<P, S> {
-    /// A manager without sets. It takes no memory.
+    /// A manager without sets. It allocates nothing. The limit is that of
+    /// [`DescriptorAllocator::new`](crate::DescriptorAllocator::new).
     pub fn new(max_update_after_bind_descriptors_in_all_pools: u32) -> Self {
         let ids = Ids::next();
         FrameManager {
@@ -75,9 +79,13 @@ impl<P, S> FrameManager<P, S> {
     /// * `flags` must match flags that were used to create the layout.
     /// * `layout_descriptor_count` must match descriptor numbers in the layout.
     ///
+    /// # Errors
+    ///
+    /// As of `DescriptorAllocator::allocate`.
+    ///
     /// # Panics
     ///
-    /// The device granted more or fewer sets than it was asked for, or put sets and refused.
+    /// As of `DescriptorAllocator::allocate`.
     pub unsafe fn allocate<L, D: DescriptorDevice<L, P, S>>(
         &mut self,
         device: &D,
@@ -99,11 +107,15 @@ impl<P, S> FrameManager<P, S> {
     ///
     /// # Safety
     ///
-    /// As of `allocate`, of what `layout` keeps.
+    /// As of `allocate`, for what `layout` keeps.
+    ///
+    /// # Errors
+    ///
+    /// As of `allocate`.
     ///
     /// # Panics
     ///
-    /// As `allocate` does.
+    /// As of `allocate`.
     pub unsafe fn allocate_for<L, D: DescriptorDevice<L, P, S>>(
         &mut self,
         device: &D,
@@ -118,15 +130,53 @@ impl<P, S> FrameManager<P, S> {
         Ok(sets.0)
     }
 
-    /// Allocates one set of a layout that is kept with its flags and counts.
+    /// Allocates sets of a layout that is kept with its flags and counts, and appends them to a vector.
+    ///
+    /// The vector grows only if it has no capacity for `count` more. On an error it has the sets that it
+    /// had. If the device panics, these are dropped too.
     ///
     /// # Safety
     ///
-    /// As of `allocate`, of what `layout` keeps.
+    /// As of `allocate`, for what `layout` keeps.
+    ///
+    /// # Errors
+    ///
+    /// As of `allocate`.
     ///
     /// # Panics
     ///
-    /// As `allocate` does.
+    /// As of `allocate`.
+    pub unsafe fn allocate_into<L, D: DescriptorDevice<L, P, S>>(
+        &mut self,
+        device: &D,
+        layout: &SetLayout<L>,
+        count: u32,
+        sets: &mut Vec<DescriptorSet<S>>,
+    ) -> Result<(), AllocationError> {
+        self.poison.check();
+        let device = &mut Adapter { device };
+        let mut inner = kit::vec::Vec(take(sets));
+        let answer = self
+            .poison
+            .guard(|| self.inner.allocate_into(device, layout, count, &mut inner));
+        *sets = inner.0;
+        answer
+    }
+
+    /// Allocates one set of a layout that is kept with its flags and counts, and returns it without a
+    /// vector.
+    ///
+    /// # Safety
+    ///
+    /// As of `allocate`, for what `layout` keeps.
+    ///
+    /// # Errors
+    ///
+    /// As of `allocate`.
+    ///
+    /// # Panics
+    ///
+    /// As of `allocate`.
     pub unsafe fn allocate_one<L, D: DescriptorDevice<L, P, S>>(
         &mut self,
         device: &D,
@@ -138,8 +188,7 @@ impl<P, S> FrameManager<P, S> {
             .guard(|| self.inner.allocate_one(device, layout))
     }
 
-    /// Reserves memory for so many more retired sets: the next ones are retired without want of
-    /// memory.
+    /// Reserves memory for so many more retired sets, so that retiring them can't fail with `Memory`.
     ///
     /// # Errors
     ///
@@ -149,12 +198,12 @@ impl<P, S> FrameManager<P, S> {
         reserved.map_err(|_| AllocationError::OutOfHostMemory)
     }
 
-    /// Retires a set: it goes back when this frame or a later one is finished.
+    /// Retires a set: it is freed when this frame or a later one is finished.
     ///
     /// # Errors
     ///
-    /// The set comes back, and nothing changed. Frames must not fall: `FrameBack` where the frame is
-    /// below the greatest at which a set was ever retired.
+    /// The error has the set, and nothing changed. `FrameBack`: the frame is less than the greatest at
+    /// which a set was ever retired.
     pub fn retire(
         &mut self,
         frame: u64,
@@ -166,12 +215,12 @@ impl<P, S> FrameManager<P, S> {
 
     /// Retires a set, also at a frame below the greatest.
     ///
-    /// The place among the retired ones is found by halves. Then either the sets of later frames are
-    /// moved, or the others, whichever are fewer.
+    /// Its place among the retired sets is found by binary search. Then the sets of later frames are
+    /// moved, or the others if they are fewer.
     ///
     /// # Errors
     ///
-    /// The set comes back, and nothing changed. It is never `FrameBack`.
+    /// The error has the set, and nothing changed. It is never `FrameBack`.
     pub fn retire_late(
         &mut self,
         frame: u64,
@@ -185,7 +234,8 @@ impl<P, S> FrameManager<P, S> {
     ///
     /// # Errors
     ///
-    /// All sets come back, and nothing changed: as of `retire`, also where there are none.
+    /// The error has the vector, and nothing changed. The errors are those of `retire`; `FrameBack` is
+    /// returned for an empty vector too.
     pub fn retire_all(
         &mut self,
         frame: u64,
@@ -210,22 +260,24 @@ impl<P, S> FrameManager<P, S> {
         }
     }
 
-    /// Gives back all sets that were retired at this frame or before. It takes no memory and can't be
-    /// refused.
+    /// Frees all sets that were retired at this frame or before, and destroys pools as
+    /// [`DescriptorAllocator::free`](crate::DescriptorAllocator::free) does. It allocates nothing and
+    /// can't be refused.
     ///
-    /// It takes about as many steps as sets go back. With none it makes no call of the device.
+    /// The time is linear in the number of sets that are freed. If there are none it makes no call of
+    /// the device.
     ///
     /// # Safety
     ///
     /// * Same `device` instance must be passed to all method calls of one `FrameManager` instance.
     /// * No pending command buffer refers to a set that was retired at this frame or before.
-    /// * The retired sets came from this manager. `retire` sees to that where a process makes fewer than
-    ///   2^24 allocators and managers.
+    /// * The retired sets came from this manager. `retire` returns any other set if the process
+    ///   creates fewer than 2^24 allocators and managers.
     /// * All command buffers where one of them is referenced move to invalid state.
     ///
     /// # Panics
     ///
-    /// The device left sets in the iterator that it was given.
+    /// The manager is poisoned, or the device left sets in the iterator that it was given.
     pub unsafe fn finish<L, D: DescriptorDevice<L, P, S>>(&mut self, device: &D, frame: u64) {
         if self.poison.is_unwinding() {
             return;
@@ -234,8 +286,7 @@ impl<P, S> FrameManager<P, S> {
         self.poison.guard(|| self.inner.finish(device, frame));
     }
 
-    /// Gives back at once sets that no frame has to wait for. It takes no memory. The retired sets
-    /// stay.
+    /// Frees at once sets that no frame uses any more. The retired sets stay.
     ///
     /// # Safety
     ///
@@ -243,8 +294,7 @@ impl<P, S> FrameManager<P, S> {
     ///
     /// # Panics
     ///
-    /// The device left sets in the iterator that it was given. Or a set is of another allocator: those
-    /// before it were freed then.
+    /// As of `DescriptorAllocator::free`.
     pub unsafe fn free<L, D, I>(&mut self, device: &D, sets: I)
     where
         D: DescriptorDevice<L, P, S>,
@@ -259,7 +309,8 @@ impl<P, S> FrameManager<P, S> {
         own.refuse_foreign();
     }
 
-    /// Destroys pools without sets. A pool of a retired set stays. It takes no memory.
+    /// Destroys the oldest pools of each key up to the first that has a set. Retired sets count. It
+    /// allocates nothing.
     ///
     /// # Safety
     ///
@@ -296,10 +347,10 @@ impl<P, S> Drop for FrameManager<P, S> {
     }
 }
 
-/// Why a set, or a vector of sets, was not retired; it returns the set or the vector.
+/// Why a set, or a vector of sets, was not retired. It has the set or the vector.
 #[derive(Clone, Copy, PartialEq, Eq)]
 pub enum RetireError<T> {
-    /// The frame lies before the greatest at which a set was retired.
+    /// The frame is less than the greatest at which a set was retired.
     FrameBack(T),
 
     /// An allocation for the list of retired sets failed.

@@ -65,13 +65,21 @@
 //! # }
 //! ```
 //!
-//! # What is proved
+//! The module [`renderer`] has an example of a frame loop.
 //!
-//! The modules `gpu_descriptor_types`, `gpu_descriptor`, `descriptor_frames` and `descriptor_renderer`
-//! are generated: a tool takes the contracts out of sources that a prover has checked, and writes the
-//! other lines unchanged. Trusted and only tested are that tool, the shim `kit` of the std under which the
-//! sources were proved, the files by hand (this interface), and rustc. See the repository's
-//! docs/PROVED.md.
+//! The crate's README says what is proved.
+//!
+//! # At a drop
+//!
+//! A drop makes no call of the device, so pools stay with it.
+//!
+//! Dropped | What happens
+//! ---|---
+//! a [`DescriptorAllocator`] or a [`FrameManager`](frames::FrameManager) | If sets are out, it prints one line on standard error.
+//! a [`Renderer`](renderer::Renderer) | If it has pools, with sets or without, it prints one line. It drops its device, too. `shutdown` destroys the pools and hands the device back; `into_device` leaves the pools and prints nothing.
+//! a [`DescriptorSet`] | It stays allocated, so its pool is never destroyed.
+//!
+//! Without std it panics instead of printing. With std nothing is printed while the thread unwinds.
 #![cfg_attr(not(feature = "std"), no_std)]
 #![deny(unsafe_op_in_unsafe_fn)]
 #![warn(missing_docs)]

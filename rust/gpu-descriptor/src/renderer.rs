@@ -1,31 +1,86 @@
-//! All descriptor sets of a renderer under handles: those of a frame, which go back once the device is
-//! done with the frame, and those that are held until they are destroyed.
+//! All descriptor sets of a renderer under handles: those of a frame, which are freed once the device is
+//! done with the frame, and those that are held until they are freed or destroyed.
+//!
+//! A frame loop over a device of one's own. A material is replaced while frames that read it are in
+//! flight, so its set is freed once they are done.
 //!
 //! ```
 //! use gpu_descriptor::renderer::Renderer;
-//! use gpu_descriptor::{DescriptorSetLayoutCreateFlags, SetLayout};
-//! # include!(concat!(env!("CARGO_MANIFEST_DIR"), "/tests/numbers/device.rs"));
-//! # fn main() -> Result<(), Box<dyn std::error::Error>> {
-//! # let device = Device::default();
-//! # let counts = DescriptorTotalCount { uniform_buffer: 1, ..Default::default() };
-//! # let limit = 500_000;
-//! let mut renderer = Renderer::new(device, limit);
-//! let layout = SetLayout { layout: 7, counts, flags: DescriptorSetLayoutCreateFlags::empty() };
-//! let layout = unsafe { renderer.add_layout(layout) }?;
-//! let material = renderer.create_set(layout)?;
+//! use gpu_descriptor::*;
+//! use std::cell::Cell;
 //!
-//! let frame = renderer.begin_frame()?;
-//! let draw = renderer.draw(layout)?;
-//! // .. the raw sets `renderer.drawn(draw)` and `renderer.set(material)` are written and bound ..
-//! renderer.end_frame();
-//! renderer.destroy_set(material, frame)?;
-//! // .. the frame is submitted, and its fence is signalled ..
-//! unsafe { renderer.gpu_done(frame) };
-//! assert_eq!(renderer.outstanding(), 0);
+//! /// A device that only numbers its pools and sets, and counts the sets.
+//! #[derive(Default)]
+//! struct Gpu {
+//!     last: Cell<u64>,
+//!     sets: Cell<usize>,
+//! }
+//!
+//! impl Gpu {
+//!     fn number(&self) -> u64 {
+//!         self.last.set(self.last.get() + 1);
+//!         self.last.get()
+//!     }
+//! }
+//!
+//! // The types of a layout, of a pool and of a set.
+//! impl DescriptorDevice<u64, u64, u64> for Gpu {
+//!     unsafe fn create_descriptor_pool(
+//!         &self,
+//!         _counts: &DescriptorTotalCount,
+//!         _max_sets: u32,
+//!         _flags: DescriptorPoolCreateFlags,
+//!     ) -> Result<u64, CreatePoolError> {
+//!         Ok(self.number())
+//!     }
+//!
+//!     unsafe fn destroy_descriptor_pool(&self, _pool: u64) {}
+//!
+//!     unsafe fn alloc_descriptor_sets<'a>(
+//!         &self,
+//!         _pool: &mut u64,
+//!         layouts: impl ExactSizeIterator<Item = &'a u64>,
+//!         sets: &mut impl Extend<u64>,
+//!     ) -> Result<(), DeviceAllocationError> {
+//!         self.sets.set(self.sets.get() + layouts.len());
+//!         sets.extend(layouts.map(|_| self.number()));
+//!         Ok(())
+//!     }
+//!
+//!     unsafe fn dealloc_descriptor_sets(&self, _pool: &mut u64, sets: impl Iterator<Item = u64>) {
+//!         self.sets.set(self.sets.get() - sets.count());
+//!     }
+//! }
+//!
+//! # fn main() -> Result<(), Box<dyn std::error::Error>> {
+//! const IN_FLIGHT: u64 = 2;
+//! let limit = 500_000; // maxUpdateAfterBindDescriptorsInAllPools of the driver
+//! let mut renderer = Renderer::new(Gpu::default(), limit);
+//! let counts = DescriptorTotalCount { uniform_buffer: 1, ..Default::default() };
+//! let flags = DescriptorSetLayoutCreateFlags::empty();
+//! let layout = unsafe { renderer.add_layout(SetLayout { layout: 7, counts, flags }) }?;
+//! let mut materials = renderer.create_sets(layout, 3)?;
+//!
+//! for _ in 0..10 {
+//!     let frame = renderer.begin_frame()?;
+//!     // .. the fence of frame - IN_FLIGHT is waited for ..
+//!     unsafe { renderer.gpu_done(frame.saturating_sub(IN_FLIGHT)) };
+//!     let draw = renderer.draw(layout)?;
+//!     // .. what `drawn` and `set` return is written and bound ..
+//!     assert!(renderer.drawn(draw).is_some() && renderer.set(materials[0]).is_some());
+//!     renderer.end_frame();
+//!     // .. the frame is submitted ..
+//!
+//!     let old = std::mem::replace(&mut materials[0], renderer.create_set(layout)?);
+//!     renderer.destroy_set(old, frame)?;
+//!     assert_eq!(renderer.set(old), None);
+//! }
+//! // Of each of the last two frames a draw and a material wait.
+//! assert_eq!((renderer.held_count(), renderer.retired_count()), (3, 4));
 //!
 //! // .. the device is idle ..
-//! let device = unsafe { renderer.shutdown() };
-//! # drop(device);
+//! let gpu = unsafe { renderer.shutdown() };
+//! assert_eq!(gpu.sets.get(), 0);
 //! # Ok(())
 //! # }
 //! ```
@@ -40,11 +95,11 @@ use crate::{
 use core::error::Error;
 use core::fmt;
 use core::sync::atomic::{AtomicU32, Ordering};
+use std_alloc::vec::Vec;
 
 pub use crate::descriptor_renderer::{
-    BeginError, DestroyError, DrawHandle, RenderError, SetHandle,
+    BeginError, DestroyError, DrawHandle, LayoutHandle, RenderError, SetHandle,
 };
-pub use crate::gpu_descriptor::LayoutHandle;
 
 /// Each renderer has a number, by which its handles are told from those of others.
 static RENDERERS: AtomicU32 = AtomicU32::new(0);
@@ -52,38 +107,44 @@ static RENDERERS: AtomicU32 = AtomicU32::new(0);
 /// The descriptor sets of a renderer, over a device that it owns. `&D` is a device too.
 ///
 /// A frame is opened by `begin_frame`, takes any number of sets by `draw`, and is ended by
-/// `end_frame`. Its sets go back once `gpu_done` is told of the frame or a later one; frames in
-/// between may be in flight. A set by `create_set` is held until `destroy_set`, and goes back once the
-/// frame of its last use is done. Memory to retire a set is reserved before the set is asked for, so
-/// ending a frame and destroying a set take no memory and can't be refused for it.
+/// `end_frame`. Its sets are freed by `gpu_done` of the frame or a later one; frames in
+/// between may be in flight. A set by `create_set` or `create_sets` is held until it is freed at once by
+/// `free_sets`, or destroyed by `destroy_set` or `destroy_sets`: then it is freed once the frame of its
+/// last use is done. Memory to free a set is reserved before the set is asked for, so only `add_layout`,
+/// `draw`, `create_set` and `create_sets` allocate. No handle comes twice, although memory follows the
+/// most sets that were out at a time.
+///
+/// Unlike a `DescriptorAllocator`, a renderer doesn't show its pools, nor how much of the limit they use.
 ///
 /// # Which calls are unsafe
 ///
 /// A wrong device can't be given, and neither can a set that isn't out: handles are checked. What is
-/// left are three promises of which only the caller knows:
+/// left are promises of which only the caller knows:
 ///
 /// * `add_layout`: the layout is what it is said to be, as long as the renderer is there;
 /// * `gpu_done`: the device is done with these frames;
-/// * `shutdown`: the device is done with all of them.
+/// * `free_sets`: the device is done with these sets;
+/// * `free_all` and `shutdown`: the device is done with all of them.
 ///
-/// `destroy_set` is safe, as no set goes back by it. The frame that it is told is the last use is a
-/// part of what `gpu_done` promises.
+/// `destroy_set` and `destroy_sets` are safe, as no set is freed by them. The frame that they are told
+/// is the last use is a part of what `gpu_done` promises.
 ///
 /// # Panics
 ///
 /// If the device panics in a call, or does what it may not (see
 /// [`DescriptorAllocator::allocate`](crate::DescriptorAllocator::allocate)), the renderer is poisoned:
-/// each call that would change something panics, but `gpu_done` and `cleanup` do nothing while the
-/// thread panics already. So no set is handed out twice.
+/// each call that would change something panics, but `gpu_done`, `free_sets`, `free_all` and `cleanup`
+/// do nothing while the thread panics already. So no set is handed out twice.
 ///
-/// At a drop without `shutdown` its pools stay with the device, and one line on standard error says so.
+/// A drop without `shutdown` destroys no pools: see [At a drop](crate#at-a-drop).
 pub struct Renderer<L, P, S, D: DescriptorDevice<L, P, S>> {
     inner: inner::Renderer<L, P, S, Owned<D>>,
     poison: Poison,
 }
 
 impl<L, P, S, D: DescriptorDevice<L, P, S>> Renderer<L, P, S, D> {
-    /// A renderer over a device, without layouts, sets and an open frame. It takes no memory.
+    /// A renderer over a device, without layouts, sets and an open frame. It allocates nothing. The limit
+    /// is that of [`DescriptorAllocator::new`](crate::DescriptorAllocator::new).
     ///
     /// # Panics
     ///
@@ -107,12 +168,12 @@ impl<L, P, S, D: DescriptorDevice<L, P, S>> Renderer<L, P, S, D> {
         }
     }
 
-    /// Adds a layout, and gives its handle. A layout can't be removed, and stays yours to destroy after
+    /// Adds a layout, and returns its handle. A layout can't be removed. Destroy it yourself after
     /// `shutdown`.
     ///
     /// # Errors
     ///
-    /// There was no memory for it. The layout comes back.
+    /// An allocation failed. The error has the layout.
     ///
     /// # Safety
     ///
@@ -127,7 +188,7 @@ impl<L, P, S, D: DescriptorDevice<L, P, S>> Renderer<L, P, S, D> {
         added.map_err(|failed| AddLayoutError(failed.value))
     }
 
-    /// Opens the next frame, and gives its number: they count from 1.
+    /// Opens the next frame, and returns its number: they count from 1.
     ///
     /// # Errors
     ///
@@ -137,8 +198,19 @@ impl<L, P, S, D: DescriptorDevice<L, P, S>> Renderer<L, P, S, D> {
         self.inner.begin_frame()
     }
 
+    /// Skips frames: the next one has a greater number than this. Frames up to the last are skipped
+    /// already. It is for a program that counts its frames itself.
+    ///
+    /// # Errors
+    ///
+    /// A frame is open. Then nothing changed.
+    pub fn skip_to(&mut self, frame: u64) -> Result<(), BeginError> {
+        self.poison.check();
+        self.inner.skip_to(frame)
+    }
+
     /// Takes a set of a layout for the open frame. The handle is good until the frame ends, and the set
-    /// goes back by the `gpu_done` of the frame.
+    /// is freed by the `gpu_done` of the frame.
     ///
     /// # Errors
     ///
@@ -156,10 +228,11 @@ impl<L, P, S, D: DescriptorDevice<L, P, S>> Renderer<L, P, S, D> {
         self.poison.guard(|| self.inner.end_frame())
     }
 
-    /// The device is done with this frame and those before it: the sets that wait for them go back.
-    /// Whenever the oldest pools of their key have no set left, these are destroyed, but never the
-    /// key's last pool. It takes no memory. The sets of the open frame wait for the first `gpu_done`
-    /// after `end_frame`.
+    /// Says that the device is done with this frame and those before it. The sets that wait for these
+    /// frames are freed, and pools are destroyed as by
+    /// [`DescriptorAllocator::free`](crate::DescriptorAllocator::free). It allocates nothing. A call frees
+    /// only sets that wait already, also with `u64::MAX`: the sets of the open frame and of later frames
+    /// need another call, after their `end_frame`.
     ///
     /// # Safety
     ///
@@ -182,7 +255,8 @@ impl<L, P, S, D: DescriptorDevice<L, P, S>> Renderer<L, P, S, D> {
         self.poison.guard(|| self.inner.cleanup())
     }
 
-    /// Creates a set of a layout, which is held until it is destroyed, in a frame or between two.
+    /// Creates a set of a layout, which is held until it is freed or destroyed, in a frame or between
+    /// two.
     ///
     /// # Errors
     ///
@@ -194,16 +268,80 @@ impl<L, P, S, D: DescriptorDevice<L, P, S>> Renderer<L, P, S, D> {
         self.poison.guard(|| self.inner.create_set(layout))
     }
 
-    /// Destroys a set that was last used in a frame, 0 where in none. It goes back by the next
-    /// `gpu_done` of that frame or a later one, and its handle names nothing from now on. It takes no
-    /// memory.
+    /// Creates so many sets of a layout, all or none, each of which is held until it is freed or
+    /// destroyed. Their handles come in the order in which the device allocated the sets.
     ///
     /// # Errors
     ///
-    /// The handle names no set that is held, or the frame was not opened yet.
+    /// As of [`create_set`](Self::create_set).
+    pub fn create_sets(
+        &mut self,
+        layout: LayoutHandle,
+        count: u32,
+    ) -> Result<Vec<SetHandle>, RenderError> {
+        self.poison.check();
+        let mut handles = kit::vec::Vec::new(kit::alloc::Global);
+        self.poison
+            .guard(|| self.inner.create_sets(layout, count, &mut handles))?;
+        Ok(handles.0)
+    }
+
+    /// Frees sets at once, all or none, in the order of the list: neighbours of one pool in one call of
+    /// the device. Their handles name nothing from now on. Pools are destroyed as by
+    /// [`DescriptorAllocator::free`](crate::DescriptorAllocator::free). It allocates nothing.
+    ///
+    /// # Errors
+    ///
+    /// `NoSet`: a handle names no set that is held, or stands in the list twice. Then nothing changed.
+    ///
+    /// # Safety
+    ///
+    /// * No pending command buffer refers to one of the sets.
+    /// * All command buffers where one of them is referenced move to invalid state.
+    pub unsafe fn free_sets(&mut self, sets: &[SetHandle]) -> Result<(), DestroyError> {
+        if self.poison.is_unwinding() {
+            return Ok(());
+        }
+        self.poison.guard(|| self.inner.free_sets(sets))
+    }
+
+    /// Destroys a set that was last used in a frame (0 if in none). It is freed by the next `gpu_done`
+    /// of that frame or a later one, and its handle names nothing from now on. It allocates nothing.
+    ///
+    /// # Errors
+    ///
+    /// The handle names no set that is held, or the frame was not opened yet. Then nothing changed.
     pub fn destroy_set(&mut self, set: SetHandle, last_use: u64) -> Result<(), DestroyError> {
         self.poison.check();
         self.poison.guard(|| self.inner.destroy_set(set, last_use))
+    }
+
+    /// Destroys all sets of the list, or none, which were last used in a frame (0 if in none). They are
+    /// freed by the next `gpu_done` of that frame or a later one, in the order of the list, and their
+    /// handles name nothing from now on. It allocates nothing.
+    ///
+    /// # Errors
+    ///
+    /// `FrameAhead`: the frame was not opened yet. `NoSet`: a handle names no set that is held, or
+    /// stands in the list twice. Then nothing changed.
+    pub fn destroy_sets(&mut self, sets: &[SetHandle], last_use: u64) -> Result<(), DestroyError> {
+        self.poison.check();
+        self.poison
+            .guard(|| self.inner.destroy_sets(sets, last_use))
+    }
+
+    /// Frees all sets at once: those that wait for their frame, those of the open frame, which is ended,
+    /// and those that are held. It allocates nothing.
+    ///
+    /// # Safety
+    ///
+    /// * No pending command buffer refers to a set of the renderer.
+    /// * All command buffers where one of them is referenced move to invalid state.
+    pub unsafe fn free_all(&mut self) {
+        if self.poison.is_unwinding() {
+            return;
+        }
+        self.poison.guard(|| self.inner.free_all())
     }
 
     /// The raw set of a draw of the open frame, to write and to bind. `None` under a handle of another
@@ -214,7 +352,7 @@ impl<L, P, S, D: DescriptorDevice<L, P, S>> Renderer<L, P, S, D> {
     }
 
     /// The raw set of a set that is held, to write and to bind. `None` under the handle of a set that
-    /// was destroyed, and under that of another renderer.
+    /// was freed or destroyed, and under that of another renderer.
     #[inline]
     pub fn set(&self, set: SetHandle) -> Option<&S> {
         self.inner.set(set)
@@ -223,6 +361,11 @@ impl<L, P, S, D: DescriptorDevice<L, P, S>> Renderer<L, P, S, D> {
     /// The layout of a handle. `None` under a handle of another renderer.
     pub fn layout(&self, layout: LayoutHandle) -> Option<&SetLayout<L>> {
         self.inner.layout(layout)
+    }
+
+    /// The layouts, in the order in which they were added.
+    pub fn layouts(&self) -> &[SetLayout<L>] {
+        self.inner.layouts()
     }
 
     /// The device, to write sets and to bind them.
@@ -273,7 +416,7 @@ impl<L, P, S, D: DescriptorDevice<L, P, S>> Renderer<L, P, S, D> {
         adapter.device
     }
 
-    /// Gives all sets back, destroys all pools, and hands the device back. It takes no memory and can't
+    /// Frees all sets, destroys all pools, and hands the device back. It allocates nothing and can't
     /// be refused.
     ///
     /// # Safety

@@ -238,6 +238,73 @@ fn many_keys() {
     }
 }
 
+fn layout(samplers: u32) -> SetLayout<u32> {
+    SetLayout {
+        layout: samplers,
+        counts: DescriptorTotalCount {
+            sampler: samplers,
+            ..Default::default()
+        },
+        flags: DescriptorSetLayoutCreateFlags::empty(),
+    }
+}
+
+#[test]
+fn one_set_takes_memory_for_the_books_alone() {
+    let (device, mut allocator) = (Device::new(), Allocator::new(0));
+    let mut held = Vec::new();
+    // The table, its order, the pools and the list of open ones; then nothing.
+    for wanted in [4, 0, 0] {
+        let (set, growths) = with_refused(u64::MAX, || unsafe {
+            allocator.allocate_one(&device, &layout(1))
+        });
+        held.push(set.unwrap());
+        assert_eq!(growths, wanted);
+    }
+    give_back(allocator, &device, held);
+}
+
+#[test]
+fn sets_go_behind_those_of_a_vector() {
+    let (device, mut allocator) = (Device::new(), Allocator::new(0));
+    let mut held = take(&mut allocator, &device, plain(1, 1)).unwrap();
+    let first = *held[0].raw();
+    held.reserve_exact(2);
+    let room = held.capacity() - held.len();
+    let mut into = |held: &mut Vec<Set>, count, refused| {
+        with_refused(refused, || unsafe {
+            allocator.allocate_into(&device, &layout(1), count, held)
+        })
+    };
+    assert_eq!(into(&mut held, room as u32, 0), (Ok(()), 0), "they fit");
+    assert_eq!((held.len(), *held[0].raw()), (1 + room, first));
+
+    let calls = device.calls.get();
+    let refused = Err(AllocationError::OutOfHostMemory);
+    assert_eq!(into(&mut held, 2, 0), (refused, 1));
+    assert_eq!(device.calls.get(), calls, "the device was not asked");
+    assert_eq!((held.len(), *held[0].raw()), (1 + room, first));
+
+    assert_eq!(into(&mut held, 2, u64::MAX), (Ok(()), 1));
+    assert_eq!((held.len(), *held[0].raw()), (3 + room, first));
+    give_back(allocator, &device, held);
+}
+
+/// The books of a new pool find no memory when some sets came: these go back, and no others.
+#[test]
+fn a_vector_keeps_what_it_had() {
+    let (device, mut allocator) = (Device::new(), Allocator::new(0));
+    let mut held = take(&mut allocator, &device, plain(TWO_A_POOL, 1)).unwrap();
+    let first = *held[0].raw();
+    let (result, _) = with_refused(1, || unsafe {
+        allocator.allocate_into(&device, &layout(TWO_A_POOL), 40, &mut held)
+    });
+    assert_eq!(result, Err(AllocationError::OutOfHostMemory));
+    assert_eq!((held.len(), *held[0].raw()), (1, first));
+    assert_eq!(allocator.outstanding(), 1);
+    give_back(allocator, &device, held);
+}
+
 /// Of the keys that stay, the order is made anew.
 #[test]
 fn cleanup_takes_no_memory_where_keys_stay() {

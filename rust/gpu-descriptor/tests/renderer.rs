@@ -1,5 +1,5 @@
 //! `Renderer` beside a list of what it has to have: each call of the device and each growth of memory is
-//! refused in turn; handles that are stale or foreign; panics; drops.
+//! refused in turn; handles that are stale, foreign or doubled; batches, all or none; panics; drops.
 
 mod gpu;
 mod refuses;
@@ -7,8 +7,8 @@ mod refuses;
 use gpu::{Fault, Gpu, REASONS, Random, Set, layout};
 use gpu_descriptor::AllocationError::{self, *};
 use gpu_descriptor::renderer::*;
-use refuses::{calls, counted, refuse};
-use std::collections::BTreeSet;
+use refuses::{bytes, calls, counted, refuse};
+use std::collections::{BTreeSet, HashSet};
 use std::panic::{AssertUnwindSafe, catch_unwind};
 use std::process::Command;
 
@@ -26,6 +26,9 @@ struct Stage<'a> {
     /// Handles that name nothing any longer.
     old_draws: Vec<DrawHandle>,
     old_sets: Vec<SetHandle>,
+
+    /// All handles of sets that ever came.
+    seen: HashSet<SetHandle>,
     refusals: Vec<AllocationError>,
     layouts_refused: u64,
 }
@@ -49,6 +52,7 @@ impl<'a> Stage<'a> {
             retired: Vec::new(),
             old_draws: Vec::new(),
             old_sets: Vec::new(),
+            seen: HashSet::new(),
             refusals: Vec::new(),
             layouts_refused: 0,
         };
@@ -97,6 +101,8 @@ impl<'a> Stage<'a> {
         for (handle, number) in self.layouts.iter().zip(0..) {
             assert_eq!(it.layout(*handle).map(|it| it.layout), Some(number));
         }
+        let layouts = it.layouts().iter().map(|it| it.layout);
+        assert!(layouts.eq(0..self.layouts.len() as u32));
     }
 
     fn refused(&mut self, error: RenderError) -> bool {
@@ -122,12 +128,61 @@ impl<'a> Stage<'a> {
     fn create(&mut self, layout: usize) -> bool {
         match counted(|| self.renderer.create_set(self.layouts[layout])) {
             Ok(handle) => {
-                let raw = *self.renderer.set(handle).unwrap();
-                self.held.push((handle, raw));
+                self.hold(handle);
                 true
             }
             Err(error) => self.refused(error),
         }
+    }
+
+    fn create_many(&mut self, layout: usize, count: u32) -> bool {
+        match counted(|| self.renderer.create_sets(self.layouts[layout], count)) {
+            Ok(handles) => {
+                assert_eq!(handles.len(), count as usize);
+                handles.into_iter().for_each(|it| self.hold(it));
+                true
+            }
+            Err(error) => self.refused(error),
+        }
+    }
+
+    fn hold(&mut self, handle: SetHandle) {
+        let raw = *self.renderer.set(handle).unwrap();
+        self.held.push((handle, raw));
+        assert!(self.seen.insert(handle), "no handle comes twice");
+    }
+
+    /// The handles of so many held sets from a place on, which are then no longer held.
+    fn take(&mut self, from: usize, count: usize) -> Vec<(SetHandle, Set)> {
+        let taken: Vec<_> = self.held.drain(from..from + count).collect();
+        self.old_sets.extend(taken.iter().map(|it| it.0));
+        taken
+    }
+
+    fn free(&mut self, from: usize, count: usize) {
+        let taken = self.take(from, count);
+        let handles: Vec<_> = taken.iter().map(|it| it.0).collect();
+        // SAFETY: the device sees to it that no frame in flight reads one.
+        let answer = without_memory(|| unsafe { self.renderer.free_sets(&handles) });
+        assert_eq!(answer, Ok(()));
+        assert!(taken.iter().all(|it| !self.gpu.is_live(it.1)));
+    }
+
+    fn destroy_many(&mut self, from: usize, count: usize, last_use: u64) {
+        let taken = self.take(from, count);
+        let handles: Vec<_> = taken.iter().map(|it| it.0).collect();
+        let answer = without_memory(|| self.renderer.destroy_sets(&handles, last_use));
+        assert_eq!(answer, Ok(()));
+        self.retired.extend(taken.iter().map(|it| (last_use, it.1)));
+    }
+
+    fn free_all(&mut self) {
+        self.take(0, self.held.len());
+        self.old_draws.extend(self.drawn.drain(..).map(|it| it.0));
+        self.retired.clear();
+        // SAFETY: the device sees to it that no frame in flight reads one.
+        without_memory(|| unsafe { self.renderer.free_all() });
+        self.check();
     }
 
     fn destroy(&mut self, place: usize, last_use: u64) {
@@ -193,10 +248,14 @@ fn scene(gpu: &Gpu) -> (Vec<AllocationError>, u64) {
         stage.check();
         let layout = frame as usize % 3;
         assert!(stage.create(layout) || stage.create(layout));
+        let count = 3 * frame as u32;
+        assert!(stage.create_many(layout, count) || stage.create_many(layout, count));
+        stage.free(stage.held.len() - 2, 2);
         let held = stage.held.iter().map(|it| it.1);
         gpu.submit(frame, stage.drawn.iter().map(|it| it.1).chain(held));
         stage.end();
         stage.destroy(frame as usize % stage.held.len(), frame);
+        stage.destroy_many(1, frame as usize, frame);
         stage.done(frame.saturating_sub(2));
         if frame == 5 {
             stage.cleanup();
@@ -240,7 +299,7 @@ fn each_growth_is_refused() {
         if number >= calls() {
             assert_eq!((refusals.len(), layouts), (0, 0));
             println!("{number} calls for memory");
-            assert!(number > 50);
+            assert!(number > 10);
             return;
         }
         assert_eq!(refusals.len() as u64 + layouts, 1, "growth {number}");
@@ -263,7 +322,7 @@ fn by_chance() {
             }
             let layout = random.below(3) as usize;
             let frame = stage.frame();
-            match random.below(16) {
+            match random.below(22) {
                 0..5 if stage.renderer.is_frame_open() => _ = stage.draw(layout),
                 5..8 => _ = stage.create(layout),
                 8..11 if !stage.held.is_empty() => {
@@ -274,6 +333,17 @@ fn by_chance() {
                 11..13 => stage.end(),
                 13 => stage.done(random.below(frame + 2)),
                 14 => stage.cleanup(),
+                15..17 => _ = stage.create_many(layout, random.below(9) as u32),
+                17..21 => {
+                    let held = stage.held.len() as u64;
+                    let from = random.below(held + 1);
+                    let count = random.below((held - from).min(6) + 1) as usize;
+                    match random.below(2) {
+                        0 => stage.free(from as usize, count),
+                        _ => stage.destroy_many(from as usize, count, random.below(frame + 1)),
+                    }
+                }
+                _ if random.below(8) == 0 => stage.free_all(),
                 _ => {
                     if let Some(old) = stage.old_sets.last() {
                         let answer = stage.renderer.destroy_set(*old, 0);
@@ -332,12 +402,196 @@ fn foreign_handles() {
     assert!(it.layout(other.layouts[0]).is_none());
     assert_eq!(it.draw(other.layouts[0]), Err(RenderError::NoLayout));
     assert_eq!(it.create_set(other.layouts[0]), Err(RenderError::NoLayout));
+    let answer = it.create_sets(other.layouts[0], 0);
+    assert_eq!(answer, Err(RenderError::NoLayout));
     let answer = it.destroy_set(other.held[0].0, 0);
     assert_eq!(answer, Err(DestroyError::NoSet));
     stage.check();
     other.check();
     stage.shutdown();
     other.shutdown();
+}
+
+/// A list with a wrong handle at any place is refused whole, and after that the sets are as they were.
+#[test]
+fn wrong_handles_in_a_batch() {
+    let (gpu, other_gpu) = (Gpu::new(), Gpu::new());
+    let (mut stage, mut other) = (Stage::new(&gpu), Stage::new(&other_gpu));
+    stage.begin();
+    stage.create_many(0, 7);
+    stage.free(6, 1);
+    stage.create_many(1, 3);
+    stage.destroy_many(8, 1, 1);
+    // At the same places, and at one that is nowhere here.
+    other.create_many(0, 40);
+    let held: Vec<_> = stage.held.iter().map(|it| it.0).collect();
+    let raws: Vec<_> = stage.held.iter().map(|it| it.1).collect();
+    let wrong = [
+        stage.old_sets[0],
+        stage.old_sets[1],
+        other.held[3].0,
+        other.held[39].0,
+    ];
+    for place in 0..held.len() {
+        let doubled = held[(place + 1) % held.len()];
+        for bad in wrong.into_iter().chain([doubled]) {
+            let mut list = held.clone();
+            list[place] = bad;
+            let releases = gpu.releases.get();
+            let answer = without_memory(|| unsafe { stage.renderer.free_sets(&list) });
+            assert_eq!(answer, Err(DestroyError::NoSet));
+            let answer = without_memory(|| stage.renderer.destroy_sets(&list, 0));
+            assert_eq!(answer, Err(DestroyError::NoSet));
+            assert_eq!(gpu.releases.get(), releases);
+            stage.check();
+        }
+        let answer = stage.renderer.destroy_sets(&held, 2);
+        assert_eq!(answer, Err(DestroyError::FrameAhead));
+        stage.check();
+    }
+    let mut twice = held.clone();
+    twice.extend(&held);
+    let answer = without_memory(|| unsafe { stage.renderer.free_sets(&twice) });
+    assert_eq!(answer, Err(DestroyError::NoSet));
+    let now: Vec<_> = held
+        .iter()
+        .map(|it| *stage.renderer.set(*it).unwrap())
+        .collect();
+    assert_eq!(now, raws);
+    // What was refused is granted without the wrong handle, and the other renderer has its sets.
+    stage.free(0, held.len());
+    stage.check();
+    other.check();
+    stage.shutdown();
+    other.shutdown();
+}
+
+/// A request for many sets that is refused leaves none.
+#[test]
+fn a_batch_comes_whole_or_not_at_all() {
+    let gpu = Gpu::new();
+    let mut stage = Stage::new(&gpu);
+    // Five update-after-bind descriptors a set, of 10,000.
+    assert!(!stage.create_many(2, 2_001));
+    assert_eq!(stage.refusals, [Fragmentation]);
+    assert!(stage.create_many(2, 50));
+    // Two sets to a pool: the third pool is refused.
+    gpu.faulty.set(gpu.calls.get() + 4);
+    gpu.fault.set(Fault::Refuses(0));
+    assert!(!stage.create_many(1, 9));
+    assert_eq!(stage.refusals, [Fragmentation, OutOfDeviceMemory]);
+    assert!(stage.create_many(1, 9));
+    assert!(stage.create_many(0, 0));
+    // In the order of the device, and in one call they go back.
+    assert!(stage.create_many(0, 30));
+    let raws: Vec<_> = stage.held[59..].iter().map(|it| it.1).collect();
+    assert!(raws.is_sorted() && raws.len() == 30);
+    let releases = gpu.releases.get();
+    stage.free(59, 30);
+    assert_eq!(gpu.releases.get(), releases + 1);
+    stage.free(0, 0);
+    stage.destroy_many(0, 0, 0);
+    stage.check();
+    stage.shutdown();
+}
+
+/// Slots are used again under other handles, so memory follows the most sets that were held.
+#[test]
+fn slots_are_used_again() {
+    let gpu = Gpu::new();
+    let mut stage = Stage::new(&gpu);
+    let mut seen = HashSet::with_capacity(40_000);
+    let mut most = 0;
+    for round in 0..300 {
+        let mut lists = [Vec::new(), Vec::new()];
+        for at in 0..40 {
+            let layout = stage.layouts[0];
+            let many = stage.renderer.create_sets(layout, 2).unwrap();
+            lists[at % 2].extend(many);
+            lists[at % 2].push(stage.renderer.create_set(layout).unwrap());
+        }
+        assert!(lists.iter().flatten().all(|it| seen.insert(*it)));
+        // SAFETY: the device isn't in use.
+        unsafe { stage.renderer.free_sets(&lists[round % 2]) }.unwrap();
+        let rest = &lists[1 - round % 2];
+        stage.renderer.destroy_sets(rest, 0).unwrap();
+        // SAFETY: as above.
+        unsafe { stage.renderer.gpu_done(0) };
+        drop(lists);
+        if round == 1 {
+            most = bytes();
+        }
+    }
+    assert_eq!(seen.len(), 36_000);
+    assert_eq!(bytes(), most);
+    stage.check();
+    stage.shutdown();
+}
+
+#[test]
+fn all_sets_at_once() {
+    let gpu = Gpu::new();
+    let mut stage = Stage::new(&gpu);
+    stage.free_all();
+    for round in 0..5 {
+        stage.create_many(round % 3, 20);
+        for _ in 0..2 {
+            stage.begin();
+            stage.draw(0);
+            stage.draw(1);
+            stage.end();
+        }
+        stage.destroy_many(3, 8, stage.frame() - 1);
+        stage.begin();
+        stage.draw(2);
+        stage.free_all();
+        assert_eq!(gpu.live_sets(), 0);
+        // The frame is ended: in it a draw would get the handle of one that is gone.
+        assert!(!stage.renderer.is_frame_open());
+        stage.begin();
+        assert!(stage.draw(0));
+        stage.check();
+        stage.end();
+    }
+    assert!(gpu.pools() > 0);
+    stage.free_all();
+    stage.cleanup();
+    assert!(gpu.is_empty());
+    stage.shutdown();
+}
+
+/// A program may count its frames itself.
+#[test]
+fn frames_are_skipped() {
+    let gpu = Gpu::new();
+    let mut stage = Stage::new(&gpu);
+    stage.create_many(0, 4);
+    let ahead = stage.held[0].0;
+    let answer = stage.renderer.destroy_set(ahead, 70);
+    assert_eq!(answer, Err(DestroyError::FrameAhead));
+    assert_eq!(stage.renderer.skip_to(70), Ok(()));
+    assert_eq!((stage.frame(), stage.renderer.is_frame_open()), (70, false));
+    assert_eq!(stage.renderer.skip_to(30), Ok(()));
+    assert_eq!(stage.frame(), 70);
+    stage.destroy_many(0, 2, 70);
+    stage.destroy_many(0, 1, 69);
+    stage.done(69);
+    assert_eq!(gpu.live_sets(), 3);
+    stage.begin();
+    assert_eq!(stage.frame(), 71);
+    assert_eq!(stage.renderer.skip_to(90), Err(BeginError::FrameOpen));
+    assert_eq!(stage.frame(), 71);
+    stage.end();
+    stage.done(70);
+    assert_eq!(gpu.live_sets(), 1);
+    assert_eq!(stage.renderer.skip_to(u64::MAX), Ok(()));
+    let answer = stage.renderer.begin_frame();
+    assert_eq!(answer, Err(BeginError::NoMoreFrames));
+    stage.destroy_many(0, 1, u64::MAX);
+    stage.done(u64::MAX - 1);
+    assert_eq!(gpu.live_sets(), 1);
+    stage.done(u64::MAX);
+    stage.shutdown();
 }
 
 #[test]
@@ -475,7 +729,12 @@ fn a_panic_poisons() {
         assert!(it.is_poisoned());
         panics("draw", || it.draw(layouts[0]));
         panics("create", || it.create_set(layouts[0]));
+        panics("create many", || it.create_sets(layouts[0], 2));
+        panics("free", || unsafe { it.free_sets(&[]) });
+        panics("free all", || unsafe { it.free_all() });
+        panics("destroy", || it.destroy_sets(&[], 0));
         panics("begin", || it.begin_frame());
+        panics("skip", || it.skip_to(9));
         panics("end", || it.end_frame());
         panics("done", || unsafe { it.gpu_done(9) });
         panics("cleanup", || it.cleanup());
@@ -496,7 +755,10 @@ struct Cleans<'a>(Stage<'a>);
 
 impl Drop for Cleans<'_> {
     fn drop(&mut self) {
+        let handle = self.0.held[0].0;
+        unsafe { self.0.renderer.free_sets(&[handle]) }.unwrap();
         unsafe { self.0.renderer.gpu_done(9) };
+        unsafe { self.0.renderer.free_all() };
         self.0.renderer.cleanup();
     }
 }
@@ -506,6 +768,7 @@ fn a_drop_in_a_panic_cleans_up_nothing() {
     let gpu = Gpu::new();
     let ran = catch_unwind(AssertUnwindSafe(|| {
         let mut it = Cleans(Stage::new(&gpu));
+        it.0.create(0);
         it.0.begin();
         it.0.draw(0);
         it.0.end();

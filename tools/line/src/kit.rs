@@ -4,7 +4,7 @@ pub mod string;
 pub mod vec;
 
 pub use crate::crate_kit::*;
-pub use core::{mem, slice, str};
+pub use core::{slice, str};
 
 pub mod io {
     pub use std::io::{Read, Write};

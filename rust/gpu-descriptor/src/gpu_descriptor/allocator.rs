@@ -6,6 +6,7 @@ mod allocate_for;
 mod cleanup;
 mod free;
 mod readers;
+mod serve;
 
 use crate::gpu_descriptor::budget::Budget;
 use crate::gpu_descriptor::key_table::KeyTable;

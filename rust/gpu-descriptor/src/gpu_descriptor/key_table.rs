@@ -3,9 +3,12 @@
 //! is used, so nothing rests on the hint.
 
 use crate::gpu_descriptor::bucket::DescriptorBucket;
-use crate::gpu_descriptor::bucket::request::{Gathered, SetRequest};
+use crate::gpu_descriptor::bucket::allocation::Allocation;
+use crate::gpu_descriptor::bucket::request::SetRequest;
+use crate::gpu_descriptor::bucket::stop::Stop;
 use crate::gpu_descriptor::budget::Budget;
 use crate::gpu_descriptor::errors::AllocationError;
+use crate::gpu_descriptor::places::SetPlaces;
 use crate::gpu_descriptor::set::BucketKey;
 use crate::gpu_descriptor_types::DescriptorDevice;
 use crate::kit::indexmap::IndexMap;
@@ -76,7 +79,7 @@ impl<P> KeyTable<P> {
     fn has_key(&self, place: usize, key: &BucketKey) -> bool
     {
         match self.buckets.get_index(place) {
-            Some((stored, _)) => *stored == *key,
+            Some((stored, _)) => stored.is(key),
             None => false,
         }
     }
@@ -94,16 +97,17 @@ impl<P> KeyTable<P> {
 impl<P> KeyTable<P> {
     /// Takes sets of a key. If the key is absent, it is put last.
     #[inline]
-    pub(crate) fn serve<L, S, D: DescriptorDevice<L, P, S>>(
+    pub(crate) fn serve<'k, L, S, D: DescriptorDevice<L, P, S>, K: SetPlaces<S>>(
         &mut self,
         device: &mut D,
-        request: &SetRequest<'_, L, P, S, D>,
+        request: &'k SetRequest<'_, L, P, S, D>,
         budget: &mut Budget,
-    ) -> Result<Gathered<S>, AllocationError>
+        sink: &mut Allocation<'k, S, K>,
+    ) -> Result<Result<(), Stop>, AllocationError>
     {
         if let Some(place) = self.place_of_key(&request.key) {
             self.last = place;
-            return self.buckets[place].serve(device, request, budget);
+            return self.buckets[place].serve(device, request, budget, sink);
         }
         if self.buckets.reserve(1).is_err() {
             return Err(AllocationError::OutOfHostMemory);
@@ -118,7 +122,7 @@ impl<P> KeyTable<P> {
             listed: VecDeque::new(request.alloc),
             total: 0,
         };
-        let served = bucket.serve(device, request, budget)?;
+        let served = bucket.serve(device, request, budget, sink)?;
         match self.buckets.insert(request.key, bucket) {
             Ok(_) => {
                 self.next_id += 1;

@@ -30,7 +30,7 @@ mod flags;
 mod key;
 mod key_table;
 mod layout;
-mod layout_registry;
+mod places;
 mod set;
 mod view;
 
@@ -42,6 +42,5 @@ pub use crate::gpu_descriptor_types::{
     DeviceAllocationError, Layouts, SetSink, Tally, cut_pool_size, new_pool_size,
 };
 pub use layout::SetLayout;
-pub use layout_registry::{LayoutHandle, LayoutRegistry};
 pub use set::DescriptorSet;
 pub use view::PoolView;

@@ -13,7 +13,65 @@ pub(crate) struct BucketKey {
     pub(crate) update_after_bind: bool,
 }
 
+/// Whether two numbers are these. They are compared as one number of 64 bits.
+#[inline]
+fn are_same(low: u32, high: u32, other_low: u32, other_high: u32) -> bool
+{
+    u64::from(low) + u64::from(high) * 4294967296
+        == u64::from(other_low) + u64::from(other_high) * 4294967296
+}
+
+/// Whether counts are these. The `==` of `DescriptorTotalCount` reads them one by one.
+#[inline]
+fn are_same_counts(a: &DescriptorTotalCount, b: &DescriptorTotalCount) -> bool
+{
+    are_same(
+        a.sampler,
+        a.combined_image_sampler,
+        b.sampler,
+        b.combined_image_sampler,
+    ) && are_same(
+        a.sampled_image,
+        a.storage_image,
+        b.sampled_image,
+        b.storage_image,
+    ) && are_same(
+        a.uniform_texel_buffer,
+        a.storage_texel_buffer,
+        b.uniform_texel_buffer,
+        b.storage_texel_buffer,
+    ) && are_same(
+        a.uniform_buffer,
+        a.storage_buffer,
+        b.uniform_buffer,
+        b.storage_buffer,
+    ) && are_same(
+        a.uniform_buffer_dynamic,
+        a.storage_buffer_dynamic,
+        b.uniform_buffer_dynamic,
+        b.storage_buffer_dynamic,
+    ) && are_same(
+        a.input_attachment,
+        a.acceleration_structure,
+        b.input_attachment,
+        b.acceleration_structure,
+    ) && are_same(
+        a.inline_uniform_block_bytes,
+        a.inline_uniform_block_bindings,
+        b.inline_uniform_block_bytes,
+        b.inline_uniform_block_bindings,
+    )
+}
+
 impl BucketKey {
+    /// Whether it is this key, in fewer instructions than `==`.
+    #[inline]
+    pub(crate) fn is(&self, other: &BucketKey) -> bool
+    {
+        self.update_after_bind == other.update_after_bind
+            && are_same_counts(&self.counts, &other.counts)
+    }
+
     /// How many descriptors so many sets of the key have, if it is marked; else 0.
     #[inline]
     pub(crate) fn marked_descriptors_of_sets(&self, sets: u64) -> u64

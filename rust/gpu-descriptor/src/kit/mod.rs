@@ -8,10 +8,9 @@
 pub mod bitflags;
 pub mod collections;
 pub mod indexmap;
-pub mod slab;
 pub mod vec;
 
-pub use core::{error, fmt, hash, ops};
+pub use core::{error, fmt, hash, mem, ops};
 
 pub mod marker {
     pub use core::marker::PhantomData;

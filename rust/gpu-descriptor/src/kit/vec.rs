@@ -2,7 +2,7 @@
 
 use super::NOT_RESERVED;
 use super::alloc::{AllocError, AllocFailed, Global};
-use core::ops::{Deref, DerefMut};
+use core::ops::{Deref, DerefMut, RangeFrom};
 
 /// A vector that grows only by calls that return a `Result`.
 #[derive(Debug)]
@@ -14,15 +14,39 @@ impl<T> Vec<T> {
         Vec(std_alloc::vec::Vec::new())
     }
 
-    /// `items`, `len`: it is empty. `capacity`: on `Ok` it has at least this capacity. The kit's clause
-    /// `exact`, that it has no more, isn't met: Rust doesn't promise it. The sources keep of a capacity
-    /// only that it is enough.
-    pub fn with_capacity(_: Global, capacity: usize) -> Result<Self, AllocError> {
-        let mut items = std_alloc::vec::Vec::new();
-        match items.try_reserve_exact(capacity) {
-            Ok(()) => Ok(Vec(items)),
-            Err(_) => Err(AllocError),
+    /// The kit's `capacity`.
+    #[inline]
+    pub fn capacity(&self) -> usize {
+        self.0.capacity()
+    }
+
+    /// `items`, `len`: nothing moves out. `ok`: on `Ok` there is capacity for so many more. `succeeds`:
+    /// if there was before, it is `Ok`, and nothing is allocated.
+    #[inline]
+    pub fn reserve(&mut self, additional: usize) -> Result<(), AllocError> {
+        if additional <= self.0.capacity() - self.0.len() {
+            return Ok(());
         }
+        self.grow(additional)
+    }
+
+    #[cold]
+    #[inline(never)]
+    fn grow(&mut self, additional: usize) -> Result<(), AllocError> {
+        self.0.try_reserve(additional).map_err(|_| AllocError)
+    }
+
+    /// As `reserve`. The kit's clause `capacity_exact` isn't met: Rust doesn't promise it. The sources
+    /// keep of a capacity only that it is enough.
+    #[inline]
+    pub fn reserve_exact(&mut self, additional: usize) -> Result<(), AllocError> {
+        self.0.try_reserve_exact(additional).map_err(|_| AllocError)
+    }
+
+    /// `rest`: gives the values from the range's start on, in order. `kept`: those before stay.
+    #[inline]
+    pub fn drain(&mut self, range: RangeFrom<usize>) -> std_alloc::vec::Drain<'_, T> {
+        self.0.drain(range)
     }
 
     /// `items`, `len`: the value is last. `capacity`, `in_place`: nothing moves.
@@ -84,7 +108,8 @@ mod tests {
 
     #[test]
     fn capacity_is_as_asked_and_nothing_moves() {
-        let mut items = Vec::with_capacity(Global, 3).unwrap();
+        let mut items = Vec::new(Global);
+        items.reserve_exact(3).unwrap();
         let (first, capacity) = (items.as_ptr(), items.0.capacity());
         for item in 1..=3 {
             items.push_reserved(item);
@@ -92,6 +117,31 @@ mod tests {
         assert!(capacity >= 3);
         assert_eq!((items.as_ptr(), items.0.capacity()), (first, capacity));
         assert_eq!(*items, [1, 2, 3]);
+    }
+
+    #[test]
+    fn reserved_is_as_much_as_was_asked_for() {
+        let mut items = Vec::new(Global);
+        assert_eq!(items.capacity(), 0);
+        items.reserve_exact(2).unwrap();
+        items.push_reserved(1);
+        items.reserve(2).unwrap();
+        assert!(items.capacity() >= 3);
+        let capacity = items.capacity();
+        items.reserve(2).unwrap();
+        items.reserve_exact(2).unwrap();
+        assert_eq!((items.capacity(), &*items), (capacity, &[1][..]));
+        assert_eq!(items.reserve(usize::MAX), Err(AllocError));
+        assert_eq!(items.reserve_exact(usize::MAX), Err(AllocError));
+        assert_eq!((items.capacity(), &*items), (capacity, &[1][..]));
+    }
+
+    #[test]
+    fn a_drain_takes_those_behind_the_first_in_order() {
+        let mut items = Vec(std_alloc::vec![1, 2, 3, 4]);
+        assert!(items.drain(2..).eq([3, 4]));
+        assert_eq!(*items, [1, 2]);
+        assert!(items.drain(2..).eq([]));
     }
 
     #[test]
@@ -110,10 +160,22 @@ mod tests {
     }
 
     #[test]
-    fn too_great_a_capacity_is_an_error() {
-        assert_eq!(
-            Vec::<u64>::with_capacity(Global, usize::MAX).err(),
-            Some(AllocError)
-        );
+    fn capacity_for_as_many_more_as_were_reserved_and_it_stays() {
+        let mut items = Vec::new(Global);
+        assert_eq!(items.capacity(), 0);
+        items.reserve(3).unwrap();
+        let capacity = items.capacity();
+        (0..capacity).for_each(|_| items.push_reserved(0));
+        assert!(capacity >= 3);
+        items.reserve(0).unwrap();
+        assert_eq!(items.capacity(), capacity);
+        for more in [2, 50] {
+            items.reserve(more).unwrap();
+            (0..more).for_each(|_| items.push_reserved(0));
+        }
+        assert_eq!(items.len(), capacity + 52);
+        items.pop();
+        items.reserve(1).unwrap();
+        items.push_reserved(0);
     }
 }

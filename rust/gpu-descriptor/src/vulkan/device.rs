@@ -18,9 +18,8 @@ const RELEASED_AT_ONCE: usize = 128;
 
 /// A `VkDevice` with the functions that are called on it, as a [`DescriptorDevice`].
 ///
-/// Requests of more than 32 sets take memory for their handles, and are refused with `OutOfHostMemory`
-/// where there is none. Releases take no memory: 128 sets go back with one call of
-/// `vkFreeDescriptorSets`.
+/// Requests of more than 32 sets allocate memory for their handles, and return `OutOfHostMemory` if that
+/// fails. Releases allocate nothing: one call of `vkFreeDescriptorSets` frees at most 128 sets.
 ///
 /// Inline uniform blocks need Vulkan 1.3 or `VK_EXT_inline_uniform_block`, and update-after-bind layouts
 /// need Vulkan 1.2 or `VK_EXT_descriptor_indexing`.

@@ -10,6 +10,12 @@ thread_local! {
     static COUNTS: Cell<bool> = const { Cell::new(false) };
     static CALLS: Cell<u64> = const { Cell::new(0) };
     static REFUSED: Cell<u64> = const { Cell::new(u64::MAX) };
+    static BYTES: Cell<usize> = const { Cell::new(0) };
+}
+
+/// Notes that a block of the thread has another size.
+fn note(from: usize, to: usize) {
+    BYTES.set(BYTES.get().wrapping_sub(from).wrapping_add(to));
 }
 
 fn is_refused() -> bool {
@@ -22,11 +28,13 @@ unsafe impl GlobalAlloc for Memory {
         if is_refused() {
             null_mut()
         } else {
+            note(0, layout.size());
             unsafe { System.alloc(layout) }
         }
     }
 
     unsafe fn dealloc(&self, place: *mut u8, layout: Layout) {
+        note(layout.size(), 0);
         unsafe { System.dealloc(place, layout) }
     }
 
@@ -34,6 +42,7 @@ unsafe impl GlobalAlloc for Memory {
         if is_refused() {
             null_mut()
         } else {
+            note(layout.size(), size);
             unsafe { System.realloc(place, layout, size) }
         }
     }
@@ -59,6 +68,12 @@ pub fn counted<R>(run: impl FnOnce() -> R) -> R {
 /// How many calls for memory were counted.
 pub fn calls() -> u64 {
     CALLS.get()
+}
+
+/// How many bytes the thread has, where no block goes to another.
+#[allow(dead_code)]
+pub fn bytes() -> usize {
+    BYTES.get()
 }
 
 /// Runs it; the call with this number for memory is refused. Returns how many calls there were, too.

@@ -13,16 +13,14 @@ pub fn filled<T: Clone>(alloc: Global, item: T, count: usize) -> Result<Vec<T>, 
 }
 
 impl<T> Vec<T> {
-    pub fn capacity(&self) -> usize {
-        self.0.capacity()
+    pub fn with_capacity(alloc: Global, capacity: usize) -> Result<Self, AllocError> {
+        let mut items = Vec::new(alloc);
+        items.reserve_exact(capacity)?;
+        Ok(items)
     }
 
     pub fn clear(&mut self) {
         self.0.clear()
-    }
-
-    pub fn reserve(&mut self, additional: usize) -> Result<(), AllocError> {
-        self.0.try_reserve(additional).map_err(|_| AllocError)
     }
 }
 

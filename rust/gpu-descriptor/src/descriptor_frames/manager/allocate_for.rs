@@ -17,6 +17,18 @@ impl<P, S> FrameManager<P, S> {
         self.allocate(device, &layout.layout, layout.flags, &layout.counts, count)
     }
 
+    /// Puts sets into a vector, as `DescriptorAllocator::allocate_into` does. The retired sets stay.
+    pub fn allocate_into<L, D: DescriptorDevice<L, P, S>>(
+        &mut self,
+        device: &mut D,
+        layout: &SetLayout<L>,
+        count: u32,
+        sets: &mut Vec<DescriptorSet<S>>,
+    ) -> Result<(), AllocationError>
+    {
+        self.allocator.allocate_into(device, layout, count, sets)
+    }
+
     /// Allocates one set, as `DescriptorAllocator::allocate_one` does. The retired sets stay.
     pub fn allocate_one<L, D: DescriptorDevice<L, P, S>>(
         &mut self,

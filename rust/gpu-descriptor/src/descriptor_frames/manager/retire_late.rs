@@ -28,14 +28,14 @@ impl<P, S> FrameManager<P, S> {
     }
 
     /// How many sets were retired at the frame or before.
-    fn place_behind(&self, frame: u64) -> usize
+    pub(super) fn place_behind(&self, frame: u64) -> usize
     {
         self.retired
             .partition_point(|retired: &Retired<S>| retired.frame <= frame)
     }
 
     /// Puts a set in at its place, over memory that was reserved.
-    fn put_at(&mut self, place: usize, frame: u64, set: DescriptorSet<S>)
+    pub(super) fn put_at(&mut self, place: usize, frame: u64, set: DescriptorSet<S>)
     {
         match self.retired.insert(place, Retired { frame, set }) {
             Ok(()) => self.greatest = self.greatest.max(frame),

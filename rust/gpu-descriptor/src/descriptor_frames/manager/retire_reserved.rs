@@ -14,4 +14,26 @@ impl<P, S> FrameManager<P, S> {
             self.put(frame, set);
         }
     }
+
+    /// Retires all sets of a queue as `retire_reserved` does, also at a frame below the greatest: they
+    /// go back when this frame or a later one is finished.
+    ///
+    /// Below the greatest frame each set is put in as by `retire_late`.
+    pub fn retire_late_reserved(&mut self, frame: u64, sets: &mut VecDeque<DescriptorSet<S>>)
+    {
+        if frame >= self.greatest {
+            self.retire_reserved(frame, sets);
+        } else {
+            self.put_in(frame, sets);
+        }
+    }
+
+    /// Puts the sets of a queue in at their place, over memory that was reserved.
+    fn put_in(&mut self, frame: u64, sets: &mut VecDeque<DescriptorSet<S>>)
+    {
+        while let Some(set) = sets.pop_front() {
+            let place = self.place_behind(frame);
+            self.put_at(place, frame, set);
+        }
+    }
 }

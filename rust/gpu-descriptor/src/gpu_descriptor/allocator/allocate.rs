@@ -2,15 +2,10 @@
 //! Handing sets out, whole or not at all.
 
 use super::DescriptorAllocator;
-use crate::gpu_descriptor::bucket::request::{Gathered, SetRequest};
-use crate::gpu_descriptor::bucket::stop::error_of;
-use crate::gpu_descriptor::bucket::would_exceed_64_bits;
 use crate::gpu_descriptor::errors::AllocationError;
 use crate::gpu_descriptor::flags::DescriptorSetLayoutCreateFlags;
-use crate::gpu_descriptor::set::{BucketKey, DescriptorSet};
-use crate::kit::bitflags::Flags;
+use crate::gpu_descriptor::set::DescriptorSet;
 use crate::gpu_descriptor_types::{DescriptorDevice, DescriptorTotalCount};
-use crate::kit::marker::PhantomData;
 use crate::kit::vec::Vec;
 
 impl<P, S> DescriptorAllocator<P, S> {
@@ -50,63 +45,16 @@ impl<P, S> DescriptorAllocator<P, S> {
         count: u32,
     ) -> Result<Vec<DescriptorSet<S>>, AllocationError>
     {
-        if count == 0 {
-            return Ok(Vec::new(self.alloc));
-        }
-        let update_after_bind = flags.contains(DescriptorSetLayoutCreateFlags::UPDATE_AFTER_BIND);
-        let request = SetRequest {
+        let none = Vec::new(self.alloc);
+        let (sets, answer) = self.allocate_behind(
+            device,
             layout,
-            key: BucketKey {
-                counts: *layout_descriptor_count,
-                update_after_bind,
-            },
+            flags,
+            layout_descriptor_count,
             count,
-            alloc: self.alloc,
-            device: PhantomData,
-        };
-        let Gathered { sets, ended } = self.serve_if_allowed(device, &request)?;
-        match ended {
-            Ok(()) => Ok(sets),
-            Err(stop) => {
-                self.free_all(device, sets);
-                Err(error_of(stop))
-            }
-        }
-    }
-
-    /// Takes the sets of a request and counts those that came, unless all of them would exceed the
-    /// limit or 64 bits. On an error nothing was taken. Where `ended` says that the request stopped
-    /// short, the sets that came are the caller's to give back.
-    ///
-    /// New pools are held against the limit where they are created, by the room in the budget.
-    fn serve_if_allowed<L, D: DescriptorDevice<L, P, S>>(
-        &mut self,
-        device: &mut D,
-        request: &SetRequest<'_, L, P, S, D>,
-    ) -> Result<Gathered<S>, AllocationError>
-    {
-        if self.would_exceed_limit(&request.key, request.count) {
-            return Err(AllocationError::Fragmentation);
-        }
-        if would_exceed_64_bits(self.outstanding, request.count) {
-            return Err(AllocationError::Fragmentation);
-        }
-        let Gathered { sets, ended } = self.table.serve(device, request, &mut self.budget)?;
-        let taken = sets.len() as u64;
-        self.outstanding += taken;
-        let descriptors = request.key.marked_descriptors_of_sets(taken) as u32;
-        self.update_after_bind_descriptors += descriptors;
-        Ok(Gathered { sets, ended })
-    }
-}
-
-impl<P, S> DescriptorAllocator<P, S> {
-    /// Whether `count` sets more would exceed the limit on marked descriptors.
-    fn would_exceed_limit(&self, key: &BucketKey, count: u32) -> bool
-    {
-        let unused = self.max_update_after_bind_descriptors_in_all_pools
-            - self.update_after_bind_descriptors;
-        key.update_after_bind
-            && u128::from(count) * u128::from(key.counts.total_u64()) > u128::from(unused)
+            none,
+        );
+        answer?;
+        Ok(sets)
     }
 }

@@ -6,6 +6,7 @@ use crate::gpu_descriptor::errors::AllocationError;
 use crate::gpu_descriptor::layout::SetLayout;
 use crate::gpu_descriptor::set::DescriptorSet;
 use crate::gpu_descriptor_types::DescriptorDevice;
+use crate::kit::mem::replace;
 use crate::kit::vec::Vec;
 
 impl<P, S> DescriptorAllocator<P, S> {
@@ -20,15 +21,47 @@ impl<P, S> DescriptorAllocator<P, S> {
         self.allocate(device, &layout.layout, layout.flags, &layout.counts, count)
     }
 
-    /// Allocates one set of a layout, as `allocate_for` does. It takes no more memory than that.
+    /// The same as `allocate_for`, but the sets are put behind those of a vector. It takes memory for
+    /// them only if the vector has no capacity for `count` more. If it can't get that, the answer is
+    /// `OutOfHostMemory` before the device is asked. On an error the vector has the sets that it had.
+    pub fn allocate_into<L, D: DescriptorDevice<L, P, S>>(
+        &mut self,
+        device: &mut D,
+        layout: &SetLayout<L>,
+        count: u32,
+        sets: &mut Vec<DescriptorSet<S>>,
+    ) -> Result<(), AllocationError>
+    {
+        let given = replace(sets, Vec::new(self.alloc));
+        let (given, answer) = self.allocate_behind(
+            device,
+            &layout.layout,
+            layout.flags,
+            &layout.counts,
+            count,
+            given,
+        );
+        *sets = given;
+        answer
+    }
+
+    /// Allocates one set of a layout, as `allocate_for` does. It takes no memory for the answer.
     pub fn allocate_one<L, D: DescriptorDevice<L, P, S>>(
         &mut self,
         device: &mut D,
         layout: &SetLayout<L>,
     ) -> Result<DescriptorSet<S>, AllocationError>
     {
-        let mut sets = self.allocate_for(device, layout, 1)?;
-        match sets.pop() {
+        let (set, answer) = self.allocate_behind(
+            device,
+            &layout.layout,
+            layout.flags,
+            &layout.counts,
+            1,
+            None,
+        );
+        answer?;
+        match set {
             Some(set) => Ok(set),
             None => unreachable!(),
         }

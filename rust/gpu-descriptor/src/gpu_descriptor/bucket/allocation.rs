@@ -2,43 +2,49 @@
 //! Where a request puts the sets that come from the device.
 
 use crate::gpu_descriptor::key::SetKey;
+use crate::gpu_descriptor::places::SetPlaces;
 use crate::gpu_descriptor::set::{BucketKey, DescriptorSet};
 use crate::gpu_descriptor_types::SetSink;
-use crate::kit::alloc::{AllocError, Global};
-use crate::kit::vec::Vec;
+use crate::kit::alloc::AllocError;
+use crate::kit::marker::PhantomData;
 
-/// The sets of a request, over memory that was taken before the first device call. Each set that is
-/// put gets the key with its id, and the number of the pool that is asked.
-pub(crate) struct Allocation<'k, S> {
-    pub(crate) sets: Vec<DescriptorSet<S>>,
+/// The sets of a request, over room that was made before the first device call. Each set that is put
+/// gets the key with its id, and the number of the pool that is asked.
+pub(crate) struct Allocation<'k, S, K: SetPlaces<S>> {
+    pub(crate) sets: K,
 
     /// How many sets are left to come.
     pub(crate) left: u32,
     pub(crate) key: &'k BucketKey,
     pub(crate) id: u64,
     pub(crate) number: u64,
+    raw: PhantomData<S>,
 }
 
-impl<'k, S> Allocation<'k, S> {
-    /// A sink with capacity for so many sets of a key, which are all left to come.
-    pub(crate) fn with_capacity(
-        alloc: Global,
-        key: &'k BucketKey,
-        id: u64,
-        count: u32,
-    ) -> Result<Self, AllocError>
+impl<'k, S, K: SetPlaces<S>> Allocation<'k, S, K> {
+    /// A sink that puts its sets here. None are left to come.
+    pub(crate) fn new(sets: K, key: &'k BucketKey) -> Self
     {
-        Ok(Allocation {
-            sets: Vec::with_capacity(alloc, count as usize)?,
-            left: count,
+        Allocation {
+            sets,
+            left: 0,
             key,
-            id,
+            id: 0,
             number: 0,
-        })
+            raw: PhantomData,
+        }
     }
 
-    /// The sets that were put.
-    pub(crate) fn into_sets(self) -> Vec<DescriptorSet<S>>
+    /// Makes room for so many sets, which are then all left to come.
+    pub(crate) fn make_room(&mut self, count: u32) -> Result<(), AllocError>
+    {
+        self.sets.make_room(count)?;
+        self.left = count;
+        Ok(())
+    }
+
+    /// What the sets were put into.
+    pub(crate) fn into_sets(self) -> K
     {
         let Allocation {
             sets,
@@ -46,6 +52,7 @@ impl<'k, S> Allocation<'k, S> {
             key: _,
             id: _,
             number: _,
+            raw: _,
         } = self;
         sets
     }
@@ -60,7 +67,7 @@ impl<'k, S> Allocation<'k, S> {
     }
 }
 
-impl<S> SetSink<S> for Allocation<'_, S> {
+impl<S, K: SetPlaces<S>> SetSink<S> for Allocation<'_, S, K> {
     type Kept = DescriptorSet<S>;
 
     fn left(&self) -> usize {
@@ -69,7 +76,7 @@ impl<S> SetSink<S> for Allocation<'_, S> {
 
     #[inline]
     fn put(&mut self, set: S) {
-        self.sets.push_reserved(DescriptorSet {
+        self.sets.put(DescriptorSet {
             raw: set,
             number: self.number,
             id: self.id,

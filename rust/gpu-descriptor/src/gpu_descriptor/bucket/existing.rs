@@ -5,6 +5,7 @@ use crate::gpu_descriptor::bucket::allocation::Allocation;
 use crate::gpu_descriptor::bucket::reads::OpenPools;
 use crate::gpu_descriptor::bucket::request::SetRequest;
 use crate::gpu_descriptor::bucket::{DescriptorBucket, DescriptorPool};
+use crate::gpu_descriptor::places::SetPlaces;
 use crate::gpu_descriptor_types::{DescriptorDevice, DeviceAllocationError, Layouts, Tally};
 
 /// Whether a refusal speaks of the pool alone, and not of want of memory.
@@ -20,11 +21,11 @@ fn is_of_pool(error: DeviceAllocationError) -> bool
 ///
 /// Where the pool refuses, its places are no longer known, and none came.
 #[inline]
-fn ask<L, P, S, D: DescriptorDevice<L, P, S>>(
+fn ask<L, P, S, D: DescriptorDevice<L, P, S>, K: SetPlaces<S>>(
     device: &mut D,
     pool: &mut DescriptorPool<P>,
     request: &SetRequest<'_, L, P, S, D>,
-    sink: &mut Allocation<'_, S>,
+    sink: &mut Allocation<'_, S, K>,
 ) -> Result<(), DeviceAllocationError>
 {
     let count = sink.left.min(pool.available);
@@ -51,11 +52,11 @@ fn ask<L, P, S, D: DescriptorDevice<L, P, S>>(
 /// Asks the pools for sets that have known free places, the newest first, until none are left to
 /// come.
 #[inline(always)]
-fn walk<'k, L, P, S, D: DescriptorDevice<L, P, S>>(
+fn walk<'k, L, P, S, D: DescriptorDevice<L, P, S>, K: SetPlaces<S>>(
     device: &mut D,
     view: &mut OpenPools<'_, '_, '_, P>,
     request: &'k SetRequest<'_, L, P, S, D>,
-    sink: &mut Allocation<'k, S>,
+    sink: &mut Allocation<'k, S, K>,
 ) -> Result<(), DeviceAllocationError>
 {
     while sink.left > 0 {
@@ -72,12 +73,12 @@ fn walk<'k, L, P, S, D: DescriptorDevice<L, P, S>>(
 
 impl<P> DescriptorBucket<P> {
     /// Takes what the existing pools are known to have.
-    pub(crate) fn take_from_existing<'k, L, S, D: DescriptorDevice<L, P, S>>(
+    pub(crate) fn take_from_existing<'k, L, S, D: DescriptorDevice<L, P, S>, K: SetPlaces<S>>(
         &mut self,
         device: &mut D,
         request: &'k SetRequest<'_, L, P, S, D>,
         looks: &mut Tally,
-        sink: &mut Allocation<'k, S>,
+        sink: &mut Allocation<'k, S, K>,
     ) -> Result<(), DeviceAllocationError>
     {
         let mut view = OpenPools::new(
@@ -88,7 +89,7 @@ impl<P> DescriptorBucket<P> {
             looks,
         );
         let walked = walk(device, &mut view, request, sink);
-        self.total += sink.sets.len() as u64;
+        self.total += u64::from(request.count - sink.left);
         walked
     }
 }

@@ -6,6 +6,7 @@ use crate::gpu_descriptor::bucket::request::SetRequest;
 use crate::gpu_descriptor::bucket::stop::Stop;
 use crate::gpu_descriptor::bucket::{DescriptorBucket, DescriptorPool};
 use crate::gpu_descriptor::budget::Budget;
+use crate::gpu_descriptor::places::SetPlaces;
 use crate::gpu_descriptor::set::BucketKey;
 use crate::kit::bitflags::Flags;
 use crate::gpu_descriptor_types::{
@@ -48,12 +49,12 @@ impl<P> DescriptorBucket<P> {
     ///
     /// A pool of a marked key takes of the room what descriptors it has.
     #[inline(never)]
-    pub(crate) fn take_from_new<'k, L, S, D: DescriptorDevice<L, P, S>>(
+    pub(crate) fn take_from_new<'k, L, S, D: DescriptorDevice<L, P, S>, K: SetPlaces<S>>(
         &mut self,
         device: &mut D,
         request: &'k SetRequest<'_, L, P, S, D>,
         budget: &mut Budget,
-        sink: &mut Allocation<'k, S>,
+        sink: &mut Allocation<'k, S, K>,
     ) -> Result<(), Stop>
     {
         let key = &request.key;

@@ -3,6 +3,7 @@
 
 use crate::gpu_descriptor::bucket::DescriptorPool;
 use crate::gpu_descriptor::bucket::allocation::Allocation;
+use crate::gpu_descriptor::places::SetPlaces;
 use crate::gpu_descriptor::set::BucketKey;
 use crate::gpu_descriptor_types::Tally;
 use crate::kit::collections::VecDeque;
@@ -39,10 +40,10 @@ impl<'a, 'b, 'c, P> OpenPools<'a, 'b, 'c, P> {
 
     /// Reads the books of the newest pool with known free places, and aims a sink at that pool.
     /// This is a look, where there is such a pool.
-    pub(crate) fn newest<'k, S>(
+    pub(crate) fn newest<'k, S, K: SetPlaces<S>>(
         &mut self,
         key: &'k BucketKey,
-        sink: &mut Allocation<'k, S>,
+        sink: &mut Allocation<'k, S, K>,
     ) -> Option<&mut DescriptorPool<P>>
     {
         let Some(number) = last_of(self.listed) else {

@@ -7,11 +7,11 @@ use crate::gpu_descriptor::bucket::stop::Stop;
 use crate::gpu_descriptor::bucket::{DescriptorBucket, would_exceed_64_bits};
 use crate::gpu_descriptor::budget::Budget;
 use crate::gpu_descriptor::errors::AllocationError;
-use crate::gpu_descriptor::set::{BucketKey, DescriptorSet};
+use crate::gpu_descriptor::places::SetPlaces;
+use crate::gpu_descriptor::set::BucketKey;
 use crate::gpu_descriptor_types::DescriptorDevice;
 use crate::kit::alloc::Global;
 use crate::kit::marker::PhantomData;
-use crate::kit::vec::Vec;
 
 /// What a request asks for: so many sets of a layout, whose pools have this key.
 pub(crate) struct SetRequest<'a, L, P, S, D: DescriptorDevice<L, P, S>> {
@@ -19,54 +19,40 @@ pub(crate) struct SetRequest<'a, L, P, S, D: DescriptorDevice<L, P, S>> {
     pub(crate) key: BucketKey,
     pub(crate) count: u32,
 
-    /// Where the answer and the books of new pools take memory.
+    /// Where the books of a new key and of new pools take memory.
     pub(crate) alloc: Global,
     pub(crate) device: PhantomData<(P, S, D)>,
 }
 
-/// What a request gathered, before any of it goes back.
-pub(crate) struct Gathered<S> {
-    /// The sets that came.
-    pub(crate) sets: Vec<DescriptorSet<S>>,
-
-    /// Whether they are all, or why the request stopped.
-    pub(crate) ended: Result<(), Stop>,
-}
-
 impl<P> DescriptorBucket<P> {
-    /// Takes sets for a request. Memory for the answer is taken first.
+    /// Takes sets for a request. On an error nothing was taken. The inner result says whether all
+    /// came, or why the request stopped. Room for the sets is made first.
     #[inline(always)]
-    pub(crate) fn serve<L, S, D: DescriptorDevice<L, P, S>>(
-        &mut self,
-        device: &mut D,
-        request: &SetRequest<'_, L, P, S, D>,
-        budget: &mut Budget,
-    ) -> Result<Gathered<S>, AllocationError>
-    {
-        if would_exceed_64_bits(self.next_number(), request.count) {
-            return Err(AllocationError::Fragmentation);
-        }
-        let Ok(mut sink) = Allocation::with_capacity(
-            request.alloc,
-            &request.key,
-            self.id,
-            request.count,
-        ) else {
-            return Err(AllocationError::OutOfHostMemory);
-        };
-        let ended = self.take(device, request, budget, &mut sink);
-        let sets = sink.into_sets();
-        Ok(Gathered { sets, ended })
-    }
-
-    /// Takes as many sets as the sink has left: from the existing pools, and then from new ones.
-    #[inline(always)]
-    fn take<'k, L, S, D: DescriptorDevice<L, P, S>>(
+    pub(crate) fn serve<'k, L, S, D: DescriptorDevice<L, P, S>, K: SetPlaces<S>>(
         &mut self,
         device: &mut D,
         request: &'k SetRequest<'_, L, P, S, D>,
         budget: &mut Budget,
-        sink: &mut Allocation<'k, S>,
+        sink: &mut Allocation<'k, S, K>,
+    ) -> Result<Result<(), Stop>, AllocationError>
+    {
+        if would_exceed_64_bits(self.next_number(), request.count) {
+            return Err(AllocationError::Fragmentation);
+        }
+        if sink.make_room(request.count).is_err() {
+            return Err(AllocationError::OutOfHostMemory);
+        }
+        Ok(self.take(device, request, budget, sink))
+    }
+
+    /// Takes as many sets as the sink has left: from the existing pools, and then from new ones.
+    #[inline(always)]
+    fn take<'k, L, S, D: DescriptorDevice<L, P, S>, K: SetPlaces<S>>(
+        &mut self,
+        device: &mut D,
+        request: &'k SetRequest<'_, L, P, S, D>,
+        budget: &mut Budget,
+        sink: &mut Allocation<'k, S, K>,
     ) -> Result<(), Stop>
     {
         self.take_from_existing(device, request, &mut budget.looks, sink)

@@ -22,6 +22,7 @@ pub(crate) struct Run<'a, 'b, I, S> {
 impl<S, I: Iterator<Item = DescriptorSet<S>>> Iterator for Run<'_, '_, I, S> {
     type Item = S;
 
+    #[inline]
     fn next(&mut self) -> Option<S> {
         let set = match self.ahead.take() {
             Some(set) => set,
