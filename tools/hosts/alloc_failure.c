@@ -79,7 +79,7 @@ static void run(void) {
         ALLOCATES_NOTHING(gd_free(allocator, sets[at], at * 20));
     ALLOCATES_NOTHING(gd_cleanup(allocator));
     RETRY(gd_allocate(allocator, layouts[3], MOST, more));
-    RETRY(gd_free_after(allocator, more, 100, 1));
+    ALLOCATES_NOTHING(gd_free_after(allocator, more, 100, 1));
     ALLOCATES_NOTHING(gd_free_after(allocator, more + 100, 600, 0));
     RETRY(gd_allocate(allocator, layouts[2], MOST, more));
     ALLOCATES_NOTHING(gd_frame_done(allocator, 0));

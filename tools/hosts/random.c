@@ -43,7 +43,6 @@ static size_t given_count, held_count, given_room, held_room;
 static struct waiting waiting[MOST_FREED];
 static size_t waiting_count;
 static uint64_t frame = 5;
-static bool has_waited;
 static struct names names;
 static uint64_t requests[GD_INTERNAL_ERROR + 1]; // how many ended so
 static uint64_t waited, reentered;
@@ -238,25 +237,19 @@ static void free_later(void) {
     if (count == 0)
         return;
     uint64_t when = frame + random_below(4) - (one_in(3) ? random_below(3) : 0);
-    uint64_t requests_before = memory_requests;
-    for (uint32_t place = 0; place < count; place++)
-        sets[place] = given[tickets[place]].set;
-    driver_forget();
-    gd_status status = GD_OUT_OF_HOST_MEMORY;
-    if (waiting_count + count <= MOST_FREED)
-        status = LIBRARY(gd_free_after(allocator, sets, count, when));
-    else
-        memory_refusals++;
-    CHECK(driver_calls.released == 0 && driver_calls.result_count == 0);
-    CHECK(!has_waited || memory_requests == requests_before);
-    if (status != GD_OK) {
-        CHECK(status == GD_OUT_OF_HOST_MEMORY && memory_refusals > 0);
+    if (waiting_count + count > MOST_FREED) {
         held = grown(held, &held_room, held_count + count, sizeof *held);
         for (uint32_t place = 0; place < count; place++)
             held[held_count++] = tickets[place];
         return;
     }
-    has_waited = true;
+    uint64_t requests_before = memory_requests;
+    for (uint32_t place = 0; place < count; place++)
+        sets[place] = given[tickets[place]].set;
+    driver_forget();
+    CHECK(LIBRARY(gd_free_after(allocator, sets, count, when)) == GD_OK);
+    CHECK(driver_calls.released == 0 && driver_calls.result_count == 0);
+    CHECK(memory_requests == requests_before);
     leave(tickets, sets, count);
     for (uint32_t place = 0; place < count; place++) {
         size_t at = waiting_count++;

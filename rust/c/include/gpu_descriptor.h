@@ -58,7 +58,7 @@ enum {
     GD_OUT_OF_DEVICE_MEMORY = 10,
     GD_OUT_OF_HOST_MEMORY = 11, /* of the driver or of the library */
     GD_FRAGMENTATION = 12,      /* of gd_allocate: the limit is reached, or a new pool failed as
-                                   fragmented or gave no sets; of your functions: memory or the pool is
+                                   fragmented or as full; of your functions: memory or the pool is
                                    fragmented */
     GD_OUT_OF_POOL_MEMORY = 13, /* only of your functions: the pool has no room */
 
@@ -118,13 +118,15 @@ typedef struct gd_pool_info {
  *
  * gd_allocate_sets allocates 'count' sets, at least 1, from a pool. Both arrays have 'count' elements:
  * the layout, each time the same, and zeros for the handles of the sets. It writes all handles, or
- * fails and has allocated no set. If a pool that isn't new fails as fragmented or has no room, the
- * allocator goes on with another pool.
+ * fails and has allocated no set.
  *
  * gd_free_sets frees sets, at least 1, all of this pool.
  *
- * gd_create_pool and gd_allocate_sets return GD_OK or one of the four reasons. Any other status counts
- * as a failure, and gd_allocate returns GD_BAD_RESULT.
+ * gd_create_pool and gd_allocate_sets return GD_OK or one of the four reasons. If gd_allocate_sets
+ * returns GD_FRAGMENTATION or GD_OUT_OF_POOL_MEMORY for an existing pool, the next pool is asked. If it
+ * does so for a new pool, the pool is destroyed, and gd_allocate returns GD_FRAGMENTATION; so it does if
+ * gd_create_pool returns one of them. Each other reason is what gd_allocate returns. For a status that
+ * is no reason it returns GD_BAD_RESULT.
  *
  * They run inside of a call on the allocator, in its thread. They may call other allocators; a call on
  * the same one is GD_BUSY. They must return: not by longjmp, and not by a C++ exception, which would
@@ -224,10 +226,9 @@ gd_status gd_free_all(gd_allocator allocator);
 /*
  * Frees sets, all or none, once a frame is done: they wait, and gd_frame_done frees them. They are no
  * longer yours: freeing one again is GD_BAD_SET. Frames are numbers of your own: a set is freed by the
- * next gd_frame_done with its number or a higher one. Only the first call of an allocator allocates;
- * afterwards gd_allocate reserves the memory. If it fails, the sets are still yours.
+ * next gd_frame_done with its number or a higher one. It allocates nothing.
  *
- * GD_BAD_SET, GD_OUT_OF_HOST_MEMORY, GD_NULL_POINTER, GD_BAD_ALLOCATOR, GD_BUSY, GD_INTERNAL_ERROR.
+ * GD_BAD_SET, GD_NULL_POINTER, GD_BAD_ALLOCATOR, GD_BUSY, GD_INTERNAL_ERROR.
  */
 gd_status gd_free_after(gd_allocator allocator, const gd_set *sets, uint32_t count, uint64_t frame);
 

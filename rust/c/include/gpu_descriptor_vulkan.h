@@ -57,8 +57,9 @@ typedef struct gdv_device {
 /* ---- results ---- */
 
 /*
- * The status for a result of the driver. Any other error ends the request as GD_OUT_OF_HOST_MEMORY, so
- * don't try again for ever: gdv_result tells what the driver returned.
+ * The status for a result of the driver. VK_ERROR_OUT_OF_POOL_MEMORY and VK_ERROR_FRAGMENTED_POOL of an
+ * existing pool end no request: the next pool is asked. Any other error ends the request as
+ * GD_OUT_OF_HOST_MEMORY, so don't try again for ever.
  */
 static inline gd_status gdv_reason(VkResult result) {
     switch (result) {

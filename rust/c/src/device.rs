@@ -6,6 +6,7 @@ use crate::gpu_descriptor_types::{
     DeviceAllocationError, Layouts, SetSink,
 };
 use crate::kit::alloc::AllocError;
+use core::cell::Cell;
 use core::ffi::c_void;
 use std_alloc::vec::Vec;
 
@@ -29,10 +30,10 @@ pub struct HostDevice {
     filled: usize,
 
     /// How many pools exist.
-    pub pools: u64,
+    pub pools: Cell<u64>,
 
     /// A function returned an unknown status. The request ends as if the host had no memory.
-    pub has_bad_result: bool,
+    pub has_bad_result: Cell<bool>,
 }
 
 // SAFETY: `user` is the host's, and the header says that any thread may pass it to the functions.
@@ -51,8 +52,8 @@ impl HostDevice {
             layouts: Vec::new(),
             layout: 0,
             filled: 0,
-            pools: 0,
-            has_bad_result: false,
+            pools: Cell::new(0),
+            has_bad_result: Cell::new(false),
         })
     }
 
@@ -125,7 +126,7 @@ impl DescriptorDevice<u64, u64, u64> for HostDevice {
         let status = unsafe { (self.create_pool)(self.user, &info, &mut pool) };
         match status {
             GdStatus::OK => {
-                self.pools += 1;
+                self.pools.set(self.pools.get() + 1);
                 Ok(pool)
             }
             GdStatus::OUT_OF_DEVICE_MEMORY => Err(CreatePoolError::OutOfDeviceMemory),
@@ -134,14 +135,14 @@ impl DescriptorDevice<u64, u64, u64> for HostDevice {
                 Err(CreatePoolError::Fragmentation)
             }
             _ => {
-                self.has_bad_result = true;
+                self.has_bad_result.set(true);
                 Err(CreatePoolError::OutOfHostMemory)
             }
         }
     }
 
     fn destroy_descriptor_pool(&mut self, pool: u64) {
-        self.pools -= 1;
+        self.pools.set(self.pools.get() - 1);
         // SAFETY: the host created the pool, and it has no sets.
         unsafe { (self.destroy_pool)(self.user, pool) }
     }
@@ -172,7 +173,7 @@ impl DescriptorDevice<u64, u64, u64> for HostDevice {
             GdStatus::FRAGMENTATION => Err(DeviceAllocationError::FragmentedPool),
             GdStatus::OUT_OF_POOL_MEMORY => Err(DeviceAllocationError::OutOfPoolMemory),
             _ => {
-                self.has_bad_result = true;
+                self.has_bad_result.set(true);
                 Err(DeviceAllocationError::OutOfHostMemory)
             }
         }
@@ -183,12 +184,14 @@ impl DescriptorDevice<u64, u64, u64> for HostDevice {
     fn dealloc_descriptor_sets<I: Iterator<Item = u64>>(&mut self, pool: &mut u64, sets: &mut I) {
         let mut count = 0;
         for set in sets {
-            if count == self.handles.len() {
+            if let Some(handle) = self.handles.get_mut(count) {
+                *handle = set;
+                count += 1;
+            } else {
                 self.free_first(*pool, count);
-                count = 0;
+                self.handles[0] = set;
+                count = 1;
             }
-            self.handles[count] = set;
-            count += 1;
         }
         self.free_first(*pool, count);
     }

@@ -216,5 +216,5 @@ pub unsafe extern "C" fn gd_waiting(allocator: GdAllocator, sets: *mut u64) -> G
 #[unsafe(no_mangle)]
 pub unsafe extern "C" fn gd_pool_count(allocator: GdAllocator, pools: *mut u64) -> GdStatus {
     // SAFETY: the header's.
-    unsafe { read(allocator, pools, |it| it.device.pools) }
+    unsafe { read(allocator, pools, Allocator::pools) }
 }

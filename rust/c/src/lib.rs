@@ -1,8 +1,9 @@
 //! The C interface of the allocator. `include/gpu_descriptor.h` says what each function does.
 //!
-//! Generated from proved sources are the modules `gpu_descriptor_types` and `gpu_descriptor`, which are
-//! the files of rust/gpu-descriptor, and `descriptor_script`. By hand are `device`, which calls the host's
-//! functions, `allocator`, a session over it, `slot`, through which each call goes, and `exports`.
+//! Generated from proved sources are the modules `gpu_descriptor_types`, `gpu_descriptor`,
+//! `descriptor_frames` and `descriptor_renderer`, which are the files of rust/gpu-descriptor, as is the
+//! `kit` that they stand on. By hand are `device`, which calls the host's functions, `allocator`, a
+//! renderer over it, `slot`, through which each call goes, and `exports`.
 #![cfg_attr(not(feature = "std"), no_std)]
 #![deny(unsafe_code)]
 
@@ -11,13 +12,16 @@ extern crate alloc as std_alloc;
 #[allow(unsafe_code)]
 mod abi;
 mod allocator;
-#[path = "../../gpu-descriptor/src/kit/mod.rs"]
-#[allow(dead_code, unused_imports)]
-mod crate_kit;
-#[allow(dead_code, clippy::all)]
+#[path = "../../gpu-descriptor/src/descriptor_frames/mod.rs"]
+#[allow(dead_code, unused_imports, clippy::all)]
 #[forbid(unsafe_code)]
 #[rustfmt::skip]
-mod descriptor_script;
+mod descriptor_frames;
+#[path = "../../gpu-descriptor/src/descriptor_renderer/mod.rs"]
+#[allow(dead_code, unused_imports, clippy::all)]
+#[forbid(unsafe_code)]
+#[rustfmt::skip]
+mod descriptor_renderer;
 #[allow(unsafe_code)]
 mod device;
 #[allow(unsafe_code)]
@@ -31,7 +35,8 @@ mod gpu_descriptor;
 #[forbid(unsafe_code)]
 #[rustfmt::skip]
 mod gpu_descriptor_types;
-#[allow(dead_code)]
+#[path = "../../gpu-descriptor/src/kit/mod.rs"]
+#[allow(dead_code, unused_imports)]
 #[forbid(unsafe_code)]
 mod kit;
 #[cfg(not(feature = "std"))]
