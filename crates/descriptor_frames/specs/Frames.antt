@@ -15,7 +15,7 @@ module _ {P S : Type 0} where
   abbrev pub allocator_of : FrameManager P S → Allocations P
   allocator_of m = m.allocator
 
-  -- the retired sets with their frames, in the order in which they go back
+  -- the retired sets with their frames, in the order in which they are freed
   abbrev pub retired_of : FrameManager P S → List (Retired S)
   retired_of m = m.retired.items
 
@@ -56,11 +56,11 @@ module _ {P S : Type 0} where
       abbrev pub in_use : FrameManager P S → Ledger → Item → ℕ
       in_use m l t = outstanding (state_in m l) t - count_of t (retired_items set_name m)
 
-      -- the sets of the list, each as often as it stands there, are in use
+      -- the sets of the list, each as often as it is there, are in use
       pub record AreInUse (items : List Item) (m : FrameManager P S) (l : Ledger) : Type 0 where
         pub used : (t : Item) → count_of t items ≤ in_use m l t
 
-      -- the sets of both lists, each as often as it stands in both together, are in use
+      -- the sets of both lists, each as often as it is in both together, are in use
       pub record AreBothInUse (xs ys : List (DescriptorSet S)) (m : FrameManager P S) (l : Ledger) : Type 0 where
         pub both : (t : Item) → count_of t (items_of set_name xs) + count_of t (items_of set_name ys) ≤ in_use m l t
 

@@ -1,4 +1,4 @@
-//! The sets that go back at the end of a frame.
+//! The sets that are freed when the device is done with a frame.
 ghost use Rattle.std.specs.Prelude.{◌≡◌};
 ghost use Rattle.std.specs.Iterator.{item_count};
 ghost use Rattle.descriptor_frames.specs.Inner.Due.{TakesDue, waiting};

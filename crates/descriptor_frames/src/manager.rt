@@ -1,4 +1,4 @@
-//! The manager: an allocator, and the sets that wait for the end of their frame.
+//! The manager: an allocator, and the sets that wait until the device is done with their frame.
 ghost use Rattle.std.specs.Prelude.{◌≡◌, ℕ, [], length};
 ghost use Rattle.gpu_descriptor_types.specs.Ledger.{Ledger};
 ghost use Rattle.gpu_descriptor.specs.Caller.States.{Agrees, outstanding_of};
@@ -6,14 +6,8 @@ ghost use Rattle.gpu_descriptor.specs.Caller.Values.{without_keys};
 ghost use Rattle.descriptor_frames.specs.Retired.{AreInOrder};
 
 mod allocate;
-mod allocate_for;
-mod cleanup;
-mod finish;
 mod free;
 mod retire;
-mod retire_all;
-mod retire_late;
-mod retire_reserved;
 
 use crate::retired::Retired;
 use gpu_descriptor::DescriptorAllocator;
@@ -21,7 +15,7 @@ use std::alloc::Global;
 use std::collections::VecDeque;
 use std::ops::Range;
 
-/// Hands out descriptor sets, and gives them back when the frame that used them last is done.
+/// Allocates descriptor sets, and frees them when the frame that used them last is done.
 ///
 /// All calls that take a device are made with one. Dropping a manager is silent and destroys no
 /// pool of the device: retire or free all sets, finish their frames and call `cleanup` first.
@@ -40,7 +34,7 @@ impl<P, S> FrameManager<P, S> {
     ghost use Rattle.descriptor_frames.specs.Frames.{retired_of};
 
     /// A manager without sets, whose allocator has this limit on update-after-bind descriptors. It
-    /// takes no memory.
+    /// allocates nothing.
     pub fn new(alloc: Global, max: u32) -> Self
         ensures allocator { allocator_of result ≡ without_keys max }
         ensures list { retired_of result ≡ [] }

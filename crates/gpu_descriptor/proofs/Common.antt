@@ -30,7 +30,7 @@ pub use Rattle.gpu_descriptor_types.proofs.Counting.{IsExact, all_taken_out, any
 pub use Rattle.gpu_descriptor_types.specs.declared.errors.CreatePoolError.{CreatePoolError}
 pub use Rattle.gpu_descriptor_types.specs.declared.errors.DeviceAllocationError.{DeviceAllocationError}
 pub use Rattle.gpu_descriptor.specs.declared.errors.AllocationError.{AllocationError}
-pub use Rattle.gpu_descriptor.specs.declared.set.BucketKey.{BucketKey}
+pub use Rattle.gpu_descriptor.specs.declared.key.BucketKey.{BucketKey}
 pub use Rattle.gpu_descriptor.specs.declared.set.DescriptorSet.{DescriptorSet}
 pub use Rattle.gpu_descriptor.specs.declared.bucket.DescriptorBucket.{DescriptorBucket}
 pub use Rattle.gpu_descriptor.specs.declared.bucket.DescriptorPool.{DescriptorPool}

@@ -1,5 +1,5 @@
 pub mod AtPlaces
-pub mod Behind
+pub mod Appended
 pub mod OpenList
 pub mod OpenNumbers
 pub mod Searching

@@ -4,13 +4,14 @@ ghost use Rattle.std.specs.VecDeque.{deque_capacity};
 ghost use Rattle.gpu_descriptor_types.specs.Bounds.{greatest_u64};
 ghost use Rattle.gpu_descriptor.specs.Inner.OpenNumbers.{free_in, open_numbers};
 
-pub(crate) mod allocation;
 mod existing;
 mod front;
 mod growth;
-mod reads;
+mod numbers;
+mod open_pools;
 mod release;
 pub(crate) mod request;
+pub(crate) mod request_sink;
 mod run;
 mod search;
 pub(crate) mod stop;

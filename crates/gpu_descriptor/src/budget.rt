@@ -1,7 +1,7 @@
-//! What requests use up.
+//! Two numbers of the allocator that the layers below change.
 use gpu_descriptor_types::Tally;
 
-/// What requests use up, which the allocator lends to the layers below.
+/// Two numbers of the allocator, as the layers below change them.
 #[derive(Debug, Drop)]
 pub(crate) struct Budget {
     /// What the limit leaves for descriptors of further pools of marked layouts.

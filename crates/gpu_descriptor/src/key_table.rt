@@ -5,7 +5,7 @@ ghost use Rattle.std.specs.Prelude.{[], IfErr, IfOk, OnErr, OnOk, slice_get, tru
 ghost use Rattle.std.specs.List.{IsDistinct, IsDistinct-prop};
 ghost use Rattle.std.specs.Map.{lookup};
 ghost use Rattle.gpu_descriptor.specs.Caller.Keys.{with_key};
-ghost use Rattle.gpu_descriptor.specs.Caller.SetLists.{behind};
+ghost use Rattle.gpu_descriptor.specs.Caller.SetLists.{appended};
 ghost use Rattle.gpu_descriptor.specs.Caller.Sets.{PutsOfLayout};
 ghost use Rattle.gpu_descriptor.specs.Inner.Buckets.{AreBookedIn};
 ghost use Rattle.gpu_descriptor.specs.Inner.Ids.{is_of, rise_below, stored_ids};
@@ -17,13 +17,13 @@ ghost use Rattle.gpu_descriptor.specs.Model.Books.{key_eq, sum_over};
 ghost use Rattle.gpu_descriptor.specs.Model.Load.{bucket_load, sets_out};
 
 use crate::bucket::DescriptorBucket;
-use crate::bucket::allocation::Allocation;
 use crate::bucket::request::SetRequest;
+use crate::bucket::request_sink::RequestSink;
 use crate::bucket::stop::Stop;
 use crate::budget::Budget;
 use crate::errors::AllocationError;
+use crate::key::BucketKey;
 use crate::places::SetPlaces;
-use crate::set::BucketKey;
 use gpu_descriptor_types::DescriptorDevice;
 use indexmap::IndexMap;
 use std::alloc::Global;
@@ -61,8 +61,8 @@ impl<P> KeyTable<P> {
         }
     }
 
-    /// The place of a key. It is hashed only where neither the last call's place is right nor the
-    /// one behind it, which serves keys that are used in the order in which they first came.
+    /// The place of a key. It is hashed only if neither the last call's place is right nor the
+    /// one after it, which serves keys that are used in the order in which they first came.
     #[inline]
     fn place_of_key(&self, key: &BucketKey) -> Option<usize>
         ensures place { MatchOption result
@@ -80,7 +80,7 @@ impl<P> KeyTable<P> {
         self.buckets.get_index_of(key)
     }
 
-    /// The place of the key with an id. Where neither hint is right it is found by halves, since
+    /// The place of the key with an id. If neither hint is right it is found by halves, since
     /// the ids rise along the table.
     #[inline]
     pub(crate) fn place_of_id(&self, id: u64) -> usize
@@ -122,14 +122,14 @@ impl<P> KeyTable<P> {
 }
 
 impl<P: Drop> KeyTable<P> {
-    /// Takes sets of a key. If the key is absent, it is put last.
+    /// Takes sets of a key. If the key is absent, it is appended.
     #[inline]
     pub(crate) fn serve<'k, L, S, D: DescriptorDevice<L, P, S>, K: SetPlaces<S>>(
         &mut self,
         device: &mut D,
         request: &'k SetRequest<'_, L, P, S, D>,
         budget: &mut Budget,
-        sink: &mut Allocation<'k, S, K>,
+        sink: &mut RequestSink<'k, S, K>,
     ) -> Result<Result<(), Stop>, AllocationError>
         requires booked { AreBookedIn (key_of request.now.key) (D.ledger device.old).pools (books_in
             D.meaning.pool_name (map row_of self.old.buckets.entries)
@@ -138,12 +138,12 @@ impl<P: Drop> KeyTable<P> {
             < 2 ^ 64 }
         ensures served { IfOk result (λ ended. ServesKey D.meaning (key_of request.now.key)
             budget.old.room request.now.count
-            (behind (K.items sink.old.sets) (K.items sink.new.sets)) ended
+            (appended (K.items sink.old.sets) (K.items sink.new.sets)) ended
             (map row_of self.old.buckets.entries) (map row_of self.new.buckets.entries)
             (D.ledger device.old) (D.ledger device.new)) }
         ensures front { OnOk result (K.items sink.new.sets ≡ K.items sink.old.sets
-            ++ behind (K.items sink.old.sets) (K.items sink.new.sets)) }
-        ensures left { OnOk result (length (behind (K.items sink.old.sets) (K.items sink.new.sets))
+            ++ appended (K.items sink.old.sets) (K.items sink.new.sets)) }
+        ensures left { OnOk result (length (appended (K.items sink.old.sets) (K.items sink.new.sets))
             + sink.new.left ≡ request.now.count) }
         ensures own { OnOk result (PutsOfLayout D.meaning request.now.layout.now
             (K.items sink.old.sets) (K.items sink.new.sets)) }
@@ -164,6 +164,46 @@ impl<P: Drop> KeyTable<P> {
             self.last = place;
             return self.buckets[place].serve(device, request, budget, sink);
         }
+        self.serve_absent(device, request, budget, sink)
+    }
+
+    /// Takes sets of a key that is absent, and appends it. It is out of line, because most requests
+    /// find their key.
+    #[inline(never)]
+    fn serve_absent<'k, L, S, D: DescriptorDevice<L, P, S>, K: SetPlaces<S>>(
+        &mut self,
+        device: &mut D,
+        request: &'k SetRequest<'_, L, P, S, D>,
+        budget: &mut Budget,
+        sink: &mut RequestSink<'k, S, K>,
+    ) -> Result<Result<(), Stop>, AllocationError>
+        requires absent { lookup (is_of (key_of request.now.key)) self.old.buckets.entries ≡ None }
+        requires bound { sum_over sets_out (map row_of self.old.buckets.entries) + request.now.count
+            < 2 ^ 64 }
+        ensures served { IfOk result (λ ended. ServesKey D.meaning (key_of request.now.key)
+            budget.old.room request.now.count
+            (appended (K.items sink.old.sets) (K.items sink.new.sets)) ended
+            (map row_of self.old.buckets.entries) (map row_of self.new.buckets.entries)
+            (D.ledger device.old) (D.ledger device.new)) }
+        ensures front { OnOk result (K.items sink.new.sets ≡ K.items sink.old.sets
+            ++ appended (K.items sink.old.sets) (K.items sink.new.sets)) }
+        ensures left { OnOk result (length (appended (K.items sink.old.sets) (K.items sink.new.sets))
+            + sink.new.left ≡ request.now.count) }
+        ensures own { OnOk result (PutsOfLayout D.meaning request.now.layout.now
+            (K.items sink.old.sets) (K.items sink.new.sets)) }
+        ensures sets { OnErr result (K.items sink.new.sets ≡ K.items sink.old.sets) }
+        ensures refused { IfErr result (λ e. IsUnserved request.now.count e (books_in
+            D.meaning.pool_name (map row_of self.old.buckets.entries) (key_of request.now.key))) }
+        ensures looks { CountsLooks budget.old.looks.count budget.new.looks.count
+            (D.ledger device.old) (D.ledger device.new) }
+        ensures room { budget.new.room + sum_over bucket_load (map row_of self.new.buckets.entries)
+            ≡ budget.old.room + sum_over bucket_load (map row_of self.old.buckets.entries) }
+        ensures keys { OnOk result (stored_keys self.new.buckets.entries
+            ≡ with_key (key_of request.now.key) (stored_keys self.old.buckets.entries)) }
+        ensures entries { OnErr result (self.new.buckets.entries ≡ self.old.buckets.entries) }
+        ensures budget { OnErr result (budget.new ≡ budget.old) }
+        ensures ledger { OnErr result (D.ledger device.new ≡ D.ledger device.old) }
+    {
         if self.buckets.reserve(1).is_err() {
             return Err(AllocationError::OutOfHostMemory);
         }

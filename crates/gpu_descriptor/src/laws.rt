@@ -34,7 +34,7 @@ use crate::flags::DescriptorSetLayoutCreateFlags;
 use crate::view::PoolView;
 use std::hash::Hash;
 
-/// Sets that go back in parts, and in any order, leave what they leave at once.
+/// Sets that are freed in parts, and in any order, leave what they leave at once.
 pub fn release_parts()
     ensures parts { (m n : List Item) (s : State) → Agree s → AreOutstanding (m ++ n) s → released n
         (released m s) ≡ released (m ++ n) s }
@@ -57,7 +57,7 @@ pub fn release_parts()
     ensures outstanding { (m : List Item) (s : State) → Agree s → AreOutstanding m s → (t : Item)
         → outstanding (released m s) t + count_of t m ≡ outstanding s t }
 
-    // Keys of which no set goes back keep their pools as they are.
+    // Keys of which no set is freed keep their pools as they are.
     ensures other_keys { (m : List Item) (s : State) → Agree s → (k : Key) → list_any
         (λ t. key_eq t.key k) m ≡ false → IsUntouched k s (released m s) }
 {}

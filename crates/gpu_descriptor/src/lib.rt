@@ -19,7 +19,7 @@
 //! allocator.cleanup(&mut device);
 //! ```
 //!
-//! README.md has the same as a crate by itself, with its contract. CALLING.md has more callers.
+//! CALLING.md has the same with its contract, and more callers.
 #![tactic(auto)]
 
 mod allocator;
@@ -33,6 +33,7 @@ pub mod laws;
 mod layout;
 mod places;
 mod set;
+mod set_key;
 mod view;
 
 pub use allocator::DescriptorAllocator;

@@ -1,6 +1,6 @@
 //! What a request puts its sets into.
 ghost use Rattle.std.specs.Prelude.{◌≡◌, ◌+◌, ◌-◌, ◌<◌, ◌≤◌, ◌∷◌, ◌++◌, [], List, ℕ};
-ghost use Rattle.std.specs.Prelude.{length, take, drop, OnOk, if◌then◌else◌, ◌==◌, None};
+ghost use Rattle.std.specs.Prelude.{length, take, drop, IsOk, OnOk, if◌then◌else◌, ◌==◌, None};
 ghost use Rattle.std.specs.Prelude.{vec_len, vec_capacity};
 ghost use Rattle.std.specs.Option.{option_to_list};
 ghost use Rattle.gpu_descriptor_types.specs.Side.{side};
@@ -17,7 +17,7 @@ use gpu_descriptor_types::DescriptorDevice;
 use std::alloc::AllocError;
 use std::vec::Vec;
 
-/// A list of sets, behind whose last a request puts its sets.
+/// A list of sets, to which a request appends its sets.
 pub(crate) trait SetPlaces<S> {
     /// The sets, in order, and how many more fit.
     ghost items: { Self → List (DescriptorSet S) };
@@ -28,20 +28,21 @@ pub(crate) trait SetPlaces<S> {
     fn count(&self) -> usize
         ensures { result ≡ length (items self.now) };
 
-    /// Makes room for so many more sets. It takes no memory if they fit already.
+    /// Makes room for so many more sets. It succeeds, and allocates nothing, if they fit already.
     fn make_room(&mut self, count: u32) -> Result<(), AllocError>
         ensures items { items self.new ≡ items self.old }
         ensures more { places self.old ≤ places self.new }
-        ensures room { OnOk result (count ≤ places self.new) };
+        ensures room { OnOk result (count ≤ places self.new) }
+        ensures fits { count ≤ places self.old → IsOk result };
 
-    /// Puts a set behind the others.
+    /// Appends a set.
     fn put(&mut self, set: DescriptorSet<S>)
         requires { 0 < places self.old }
         ensures items { items self.new ≡ items self.old ++ set ∷ [] }
         ensures places { places self.new + 1 ≡ places self.old };
 
-    /// Gives the sets behind the first ones back, as `free` does.
-    fn give_back<L, P, D: DescriptorDevice<L, P, S>>(
+    /// Frees the sets after the first ones, as `free` does.
+    fn free_after<L, P, D: DescriptorDevice<L, P, S>>(
         &mut self,
         first: usize,
         allocator: &mut DescriptorAllocator<P, S>,
@@ -89,7 +90,7 @@ impl<S: Drop> SetPlaces<S> for Vec<DescriptorSet<S>> {
         self.push_reserved(set);
     }
 
-    fn give_back<L, P, D: DescriptorDevice<L, P, S>>(
+    fn free_after<L, P, D: DescriptorDevice<L, P, S>>(
         &mut self,
         first: usize,
         allocator: &mut DescriptorAllocator<P, S>,
@@ -137,19 +138,19 @@ impl<S: Drop> SetPlaces<S> for Option<DescriptorSet<S>> {
         *self = Some(set);
     }
 
-    fn give_back<L, P, D: DescriptorDevice<L, P, S>>(
+    fn free_after<L, P, D: DescriptorDevice<L, P, S>>(
         &mut self,
         first: usize,
         allocator: &mut DescriptorAllocator<P, S>,
         device: &mut D,
     ) {
-        let mut back = take_behind(self, first).into_iter();
+        let mut back = split_off(self, first).into_iter();
         allocator.free_from(device, &mut back);
     }
 }
 
 /// Takes the set out, unless it is the first one of those that stay.
-fn take_behind<S>(set: &mut Option<DescriptorSet<S>>, first: usize) -> Option<DescriptorSet<S>>
+fn split_off<S>(set: &mut Option<DescriptorSet<S>>, first: usize) -> Option<DescriptorSet<S>>
     ensures out { option_to_list result ≡ drop first (option_to_list set.old) }
     ensures stays { option_to_list set.new ≡ take first (option_to_list set.old) }
 {

@@ -1,114 +1,12 @@
-//! Sets that were handed out, and the keys under which they went.
-ghost use Rattle.std.specs.Prelude.{◌≡◌, ◌<◌, ◌^◌, ◌&&◌, nat_le, nat_lt, IsTrue};
-ghost use Rattle.gpu_descriptor_types.specs.Counts.{kinds};
+//! Sets that were handed out.
+ghost use Rattle.std.specs.Prelude.{◌≡◌, ◌&&◌, nat_le, nat_lt};
 ghost use Rattle.std.specs.Borrow.{sem};
-ghost use Rattle.gpu_descriptor.specs.Model.Load.{set_descriptors, pool_descriptors};
-ghost use Rattle.gpu_descriptor.specs.Inner.KeyOf.{key_of};
 ghost use Rattle.gpu_descriptor.specs.Caller.SetLends.{LendsRaw};
 ghost use Rattle.gpu_descriptor.specs.Inner.RunSteps.{at_place};
 ghost use Rattle.gpu_descriptor.specs.Caller.Sets.{id_of, raw_of};
 
-use crate::key::SetKey;
-use gpu_descriptor_types::DescriptorTotalCount;
+use crate::set_key::SetKey;
 use std::ops::Range;
-
-/// The counts of a layout, and whether it is marked as update-after-bind. Layouts of one key share
-/// pools.
-#[derive(Clone, Copy, Debug, PartialEq, Eq, Hash)]
-pub(crate) struct BucketKey {
-    pub(crate) counts: DescriptorTotalCount,
-    pub(crate) update_after_bind: bool,
-}
-
-/// Whether two numbers are these. They are compared as one number of 64 bits.
-#[inline]
-fn are_same(low: u32, high: u32, other_low: u32, other_high: u32) -> bool
-    ensures { IsTrue result → (low ≡ other_low) × (high ≡ other_high) }
-{
-    u64::from(low) + u64::from(high) * 4294967296
-        == u64::from(other_low) + u64::from(other_high) * 4294967296
-}
-
-/// Whether counts are these. The `==` of `DescriptorTotalCount` reads them one by one.
-#[inline]
-fn are_same_counts(a: &DescriptorTotalCount, b: &DescriptorTotalCount) -> bool
-    ensures { IsTrue result → kinds a.now ≡ kinds b.now }
-{
-    are_same(
-        a.sampler,
-        a.combined_image_sampler,
-        b.sampler,
-        b.combined_image_sampler,
-    ) && are_same(
-        a.sampled_image,
-        a.storage_image,
-        b.sampled_image,
-        b.storage_image,
-    ) && are_same(
-        a.uniform_texel_buffer,
-        a.storage_texel_buffer,
-        b.uniform_texel_buffer,
-        b.storage_texel_buffer,
-    ) && are_same(
-        a.uniform_buffer,
-        a.storage_buffer,
-        b.uniform_buffer,
-        b.storage_buffer,
-    ) && are_same(
-        a.uniform_buffer_dynamic,
-        a.storage_buffer_dynamic,
-        b.uniform_buffer_dynamic,
-        b.storage_buffer_dynamic,
-    ) && are_same(
-        a.input_attachment,
-        a.acceleration_structure,
-        b.input_attachment,
-        b.acceleration_structure,
-    ) && are_same(
-        a.inline_uniform_block_bytes,
-        a.inline_uniform_block_bindings,
-        b.inline_uniform_block_bytes,
-        b.inline_uniform_block_bindings,
-    )
-}
-
-impl BucketKey {
-    /// Whether it is this key, in fewer instructions than `==`.
-    #[inline]
-    pub(crate) fn is(&self, other: &BucketKey) -> bool
-        ensures { IsTrue result → key_of self.now ≡ key_of other.now }
-    {
-        self.update_after_bind == other.update_after_bind
-            && are_same_counts(&self.counts, &other.counts)
-    }
-
-    /// How many descriptors so many sets of the key have, if it is marked; else 0.
-    #[inline]
-    pub(crate) fn marked_descriptors_of_sets(&self, sets: u64) -> u64
-        requires { set_descriptors (key_of self.now) sets < 2 ^ 64 }
-        ensures { result ≡ set_descriptors (key_of self.now) sets }
-    {
-        if self.update_after_bind {
-            sets * self.counts.total_u64()
-        } else {
-            0
-        }
-    }
-
-    /// How many descriptors a pool of so many sets has, if the key is marked; else 0. A pool for
-    /// sets without descriptors has one.
-    #[inline]
-    pub(crate) fn marked_descriptors_of_pool(&self, sets: u32) -> u32
-        requires { pool_descriptors (key_of self.now) sets < 2 ^ 32 }
-        ensures { result ≡ pool_descriptors (key_of self.now) sets }
-    {
-        if self.update_after_bind {
-            (u64::from(sets) * self.counts.total_u64()).max(1) as u32
-        } else {
-            0
-        }
-    }
-}
 
 /// A descriptor set from the allocator. It stays outstanding until it is given to `free`, also
 /// where it is dropped.

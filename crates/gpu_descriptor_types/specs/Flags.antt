@@ -12,7 +12,7 @@ free_descriptor_set = 1
 abbrev pub update_after_bind : ℕ
 update_after_bind = 2
 
--- those of a pool whose sets go back singly, for sets of marked layouts or of others
+-- those of a pool whose sets are freed singly, for sets of marked layouts or of others
 abbrev pub pool_flags : Bool → ℕ
 pool_flags marked = if marked then free_descriptor_set + update_after_bind else free_descriptor_set
 

@@ -1,5 +1,5 @@
 -- What a device owes: its live pools with their live sets, and how often each thing was done. What
--- each call asks of the ledger, and what it leaves.
+-- each call requires of the ledger, and what it leaves.
 use Rattle.std.specs.Prelude.{◌≡◌, ℕ, ◌+◌, ◌-◌, ◌*◌, ◌≤◌, List, ◌++◌, map, length, Bool, IsTrue, Option, Some, None, nat_eq, slice_index, sum_by, IfSome, All}
 use Rattle.std.specs.Map.{update}
 use Rattle.std.specs.Option.{option_map}
@@ -107,7 +107,7 @@ after_release name gone l = record {
   counters = record l.counters { released = l.counters.released + 1 };
 }
 
--- ---- what each call asks
+-- ---- what each call requires
 
 pub record HasNoSets (name : ℕ) (l : Ledger) : Type 0 where
   pub pool : Pool
@@ -119,7 +119,7 @@ pub record CanGive (name n : ℕ) (counts : List ℕ) (mark : Bool) (l : Ledger)
   pub pool : Pool
   pub is_live : l.pools name ≡ Some pool
   pub marked : IsTrue mark → IsUpdateAfterBind pool.flags
-  -- whatever list spells the live sets; where none does, nothing is asked
+  -- whatever list spells the live sets; if none does, nothing is required
   pub places : (sets : List LiveSet) → Spells sets pool.live → length sets + n ≤ pool.capacity
   pub each_kind : (sets : List LiveSet) → Spells sets pool.live → (k : ℕ) → sum_by (λ s. slice_index s.counts k) sets + n * slice_index counts k ≤ slice_index pool.counts k
 
@@ -128,7 +128,7 @@ pub record AreLive (name : ℕ) (names : List ℕ) (l : Ledger) : Type 0 where
   pub pool : Pool
   pub is_live : l.pools name ≡ Some pool
   pub can_free : CanFree pool.flags
-  -- the sets. Where one name is live with two counts, they may be chosen
+  -- the sets. If one name is live with two counts, they may be chosen
   pub gone : List LiveSet
   pub named : map (λ s. s.name) gone ≡ names
   pub live : AreIn gone pool.live

@@ -10,7 +10,7 @@ pub record LiveSet : Type 0 where
 abbrev pub set_eq : LiveSet → LiveSet → Bool
 set_eq x y = (x.name == y.name) && pointwise nat_eq x.counts y.counts
 
--- how often a set stands in a list
+-- how often a set is in a list
 abbrev pub times : List LiveSet → LiveSet → ℕ
 times sets x = count_by (λ y. set_eq y x) sets
 
@@ -22,6 +22,6 @@ Spells sets live = (x : LiveSet) → times sets x ≡ live x
 abbrev pub HasSize : (LiveSet → ℕ) → ℕ → Type 0
 HasSize live n = (sets : List LiveSet) × (length sets ≡ n) × Spells sets live
 
--- each set of the list is live, as often as it stands there
+-- each set of the list is live, as often as it is there
 abbrev pub AreIn : List LiveSet → (LiveSet → ℕ) → Type 0
 AreIn sets live = (x : LiveSet) → times sets x ≤ live x

@@ -26,7 +26,7 @@ pub record IsLeastPower (start power : ℕ) : Type 0 where
   pub reaches : start ≤ power
   pub least : (k : ℕ) → start ≤ 2 ^ k → power ≤ 2 ^ k
 
--- start rounded up to a power of two, or 2147483647 where the power passes 32 bits
+-- start rounded up to a power of two, or 2147483647 if the power passes 32 bits
 pub record IsRounded (start size : ℕ) : Type 0 where
   pub power : ℕ
   pub rounded : IsLeastPower start power
@@ -36,13 +36,13 @@ pub record IsRounded (start size : ℕ) : Type 0 where
 abbrev pub sets_of_kind : ℕ → ℕ
 sets_of_kind count = greatest_u32 / max 1 count
 
--- how many sets a new pool of these counts holds, where total sets are outstanding and wanted are wanting
+-- how many sets a new pool of these counts holds, if total sets are outstanding and wanted are wanting
 pub record IsPoolSize (counts : List ℕ) (total wanted sets : ℕ) : Type 0 where
   pub start : ℕ
   pub rounded : IsRounded (start_size total wanted) start
   pub is_least : sets ≡ fold min start (map sets_of_kind counts)
 
--- how many of so many sets a pool may hold where room is left for so many descriptors, of which each set has as many as each says. Sets without descriptors all fit, if there is room for one descriptor
+-- how many of so many sets a pool may hold if room is left for so many descriptors, of which each set has as many as each says. Sets without descriptors all fit, if there is room for one descriptor
 abbrev pub sets_in_room : (room each sets : ℕ) → ℕ
 sets_in_room room each sets = if each == 0 then (if room == 0 then 0 else sets) else min sets (room / each)
 

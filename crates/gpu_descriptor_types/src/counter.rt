@@ -4,7 +4,7 @@ ghost use Rattle.std.specs.Borrow.{ftrue};
 
 use std::marker::Model;
 
-/// A number without a greatest value, which only proofs read. It takes no memory, and its methods
+/// A number without a greatest value, which only proofs read. It has no bytes, and its methods
 /// do nothing at run time.
 #[derive(Debug, Drop)]
 pub struct Tally {

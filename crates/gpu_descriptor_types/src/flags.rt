@@ -3,7 +3,7 @@ ghost use Rattle.std.specs.Prelude.{⊤, [], ◌∷◌, codes};
 
 use bitflags::{Flag, Flags, bitflag_items};
 
-/// Flags of a new pool. `bitflags::Flags` has their calls.
+/// Flags of a new pool, joined by `|`.
 ///
 /// The bits are this crate's own.
 #[derive(Clone, Copy, Debug, PartialEq, Eq, Hash)]

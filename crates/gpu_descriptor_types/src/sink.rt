@@ -19,7 +19,7 @@ pub trait SetSink<S> {
     fn left(&self) -> usize
         ensures { result ≡ sink.left self.now };
 
-    /// Puts a set behind the others.
+    /// Appends a set.
     fn put(&mut self, set: S)
         requires { 0 < sink.left self.old }
         ensures kept { sink.kept self.new ≡ sink.kept self.old ++ sink.kept_as self.old set ∷ [] }

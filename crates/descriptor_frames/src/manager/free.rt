@@ -1,21 +1,27 @@
-//! Giving back sets in use that no frame has to wait for.
+//! Freeing sets, at once or when their frames are done, and destroying pools without sets.
 ghost use Rattle.std.specs.Iterator.{HoldsAlong, IsFinite};
 ghost use Rattle.gpu_descriptor_types.specs.Side.{side};
 ghost use Rattle.gpu_descriptor.specs.Caller.Frees.{Frees, Returns};
 ghost use Rattle.gpu_descriptor.specs.Caller.Keeps.{Keeps};
 ghost use Rattle.gpu_descriptor.specs.Caller.Sets.{items_of};
 ghost use Rattle.gpu_descriptor.specs.Caller.States.{Agrees};
+ghost use Rattle.std.specs.Prelude.{◌≡◌, ◌+◌, ◌≤◌, [], length};
+ghost use Rattle.descriptor_frames.specs.Retired.{later};
+ghost use Rattle.gpu_descriptor.specs.Caller.CleansUp.{CleansUp};
 
 use super::FrameManager;
+use crate::due::Due;
 use gpu_descriptor::{DescriptorDevice, DescriptorSet};
 use std::vec::Vec;
 
 impl<P, S> FrameManager<P, S> {
     ghost use Rattle.descriptor_frames.specs.Frames.{AreInUse, KeepsRetired, LeavesUse};
-    ghost use Rattle.descriptor_frames.specs.Frames.{allocator_of};
+    ghost use Rattle.descriptor_frames.specs.Frames.{allocator_of, AreRetiredOut, ManagerStays};
+    ghost use Rattle.descriptor_frames.specs.Frames.{KeepsInUse, due_sets, greatest_of, retired_of};
+    ghost use Rattle.descriptor_frames.specs.Frames.{reserve_of};
 
-    /// Gives back at once the sets in use that the iterator gives up to its end, as
-    /// `DescriptorAllocator::free_from` does. It takes no memory. The retired sets stay. Nothing
+    /// Frees at once the sets in use that the iterator yields up to its end, as
+    /// `DescriptorAllocator::free_from` does. It allocates nothing. The retired sets stay. Nothing
     /// that uses one of the sets may have been submitted, or the device must be done with it: no
     /// contract sees that.
     pub fn free_from<L, D: DescriptorDevice<L, P, S>, I: Iterator<Item = DescriptorSet<S>>>(
@@ -41,13 +47,52 @@ impl<P, S> FrameManager<P, S> {
     {
         self.allocator.free_from(device, sets);
     }
+
+    /// Frees all sets that were retired at this frame or before, those of earlier frames first.
+    /// It allocates nothing and can't fail. The device must be done with the work
+    /// of these frames: no contract sees that.
+    ///
+    /// It takes about as many steps as sets are freed; the others are not moved. With none it makes
+    /// no call of the device and changes nothing.
+    pub fn finish<L, D: DescriptorDevice<L, P, S>>(&mut self, device: &mut D, frame: u64)
+        requires agree { Agrees D.meaning.pool_name (allocator_of self.old) (D.ledger device.old) }
+        requires retired { AreRetiredOut D.meaning.pool_name D.meaning.set_name self.old
+            (D.ledger device.old) }
+
+        ensures returns { Returns D.meaning (due_sets frame self.old)
+            (side (allocator_of self.old) (D.ledger device.old))
+            (side (allocator_of self.new) (D.ledger device.new)) }
+        ensures keeps { Keeps D.meaning (side (allocator_of self.old) (D.ledger device.old))
+            (side (allocator_of self.new) (D.ledger device.new)) }
+
+        ensures rest { retired_of self.new ≡ later frame (retired_of self.old) }
+        ensures count { length (retired_of self.new) + length (due_sets frame self.old)
+            ≡ length (retired_of self.old) }
+        ensures all { greatest_of self.old ≤ frame → retired_of self.new ≡ [] }
+        ensures reserve { reserve_of self.new
+            ≡ reserve_of self.old + length (due_sets frame self.old) }
+        ensures greatest { greatest_of self.new ≡ greatest_of self.old }
+        ensures retired { AreRetiredOut D.meaning.pool_name D.meaning.set_name self.new
+            (D.ledger device.new) }
+        ensures in_use { KeepsInUse D.meaning.pool_name D.meaning.set_name self.old self.new
+            (D.ledger device.old) (D.ledger device.new) }
+        ensures none { due_sets frame self.old ≡ [] → ManagerStays D.meaning.pool_name self.old
+            self.new (D.ledger device.old) (D.ledger device.new) }
+    {
+        let mut due = Due {
+            retired: &mut self.retired,
+            frame,
+        };
+        self.allocator.free_from(device, &mut due);
+        due.end();
+    }
 }
 
 impl<P, S: Drop> FrameManager<P, S> {
     ghost use Rattle.descriptor_frames.specs.Frames.{AreInUse, KeepsRetired, LeavesUse};
     ghost use Rattle.descriptor_frames.specs.Frames.{allocator_of};
 
-    /// Gives back sets in use at once, as `DescriptorAllocator::free_all` does. The retired sets
+    /// Frees sets in use at once, as `DescriptorAllocator::free_all` does. The retired sets
     /// stay. Nothing that uses one of the sets may have been submitted, or the device must be done
     /// with it: no contract sees that.
     pub fn free_all<L, D: DescriptorDevice<L, P, S>>(
@@ -71,5 +116,26 @@ impl<P, S: Drop> FrameManager<P, S> {
             (D.ledger device.old) (D.ledger device.new) (items_of D.meaning.set_name sets.items) }
     {
         self.allocator.free_all(device, sets);
+    }
+}
+
+impl<P: Drop, S> FrameManager<P, S> {
+    ghost use Rattle.descriptor_frames.specs.Frames.{KeepsInUse, KeepsRetired, allocator_of};
+
+    /// Destroys pools without sets, as `DescriptorAllocator::cleanup` does. A pool of a retired set
+    /// stays.
+    pub fn cleanup<L, D: DescriptorDevice<L, P, S>>(&mut self, device: &mut D)
+        requires agree { Agrees D.meaning.pool_name (allocator_of self.old) (D.ledger device.old) }
+        ensures cleans_up { CleansUp D.meaning (side (allocator_of self.old) (D.ledger device.old))
+            (side (allocator_of self.new) (D.ledger device.new)) }
+        ensures keeps { Keeps D.meaning (side (allocator_of self.old) (D.ledger device.old))
+            (side (allocator_of self.new) (D.ledger device.new)) }
+
+        ensures retired { KeepsRetired D.meaning.pool_name D.meaning.set_name self.old self.new
+            (D.ledger device.old) (D.ledger device.new) }
+        ensures in_use { KeepsInUse D.meaning.pool_name D.meaning.set_name self.old self.new
+            (D.ledger device.old) (D.ledger device.new) }
+    {
+        self.allocator.cleanup(device);
     }
 }

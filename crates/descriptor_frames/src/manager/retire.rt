@@ -1,16 +1,22 @@
-//! Retiring a set, over memory that may be reserved before.
-ghost use Rattle.std.specs.Prelude.{◌≡◌, ℕ, ◌+◌, ◌<◌, ◌≤◌, ◌↔◌, [], ◌∷◌, ◌++◌};
-ghost use Rattle.std.specs.Prelude.{IfErr, IsErrOf, IsOk, OnErr, OnOk};
+//! Retiring sets, over memory that may be reserved before.
+ghost use Rattle.std.specs.Prelude.{◌≡◌, ℕ, ◌+◌, ◌<◌, ◌≤◌, ◌↔◌, [], ◌∷◌, ◌++◌, IfErr, IsErrOf};
+ghost use Rattle.std.specs.Prelude.{IsOk, OnErr, OnOk, length, map, max};
 ghost use Rattle.gpu_descriptor_types.specs.Ledger.{Ledger};
-ghost use Rattle.gpu_descriptor.specs.Caller.Sets.{item_of};
+ghost use Rattle.gpu_descriptor.specs.Caller.Sets.{item_of, items_of};
 ghost use Rattle.descriptor_frames.specs.Errors.{handed_back};
-ghost use Rattle.descriptor_frames.specs.Retired.{at_frame};
+ghost use Rattle.descriptor_frames.specs.Retired.{at_frame, retired_sets, with_late};
+ghost use Rattle.std.specs.List.Sorted.{IsPartitionPoint};
+ghost use Rattle.gpu_descriptor.specs.Caller.SetLists.{HasBesides};
+ghost use Rattle.std.specs.VecDeque.{deque_capacity};
+ghost use Rattle.gpu_descriptor.specs.Model.Agreement.{Item, count_of};
 
 use super::FrameManager;
 use crate::errors::RetireError;
 use crate::retired::Retired;
 use gpu_descriptor::DescriptorSet;
 use std::alloc::AllocError;
+use std::collections::VecDeque;
+use std::vec::Vec;
 
 impl<P, S> FrameManager<P, S> {
     ghost use Rattle.descriptor_frames.specs.Frames.{AreInUse, AreRetiredOut, Retires};
@@ -30,11 +36,11 @@ impl<P, S> FrameManager<P, S> {
         self.retired.reserve(additional)
     }
 
-    /// Retires a set: it goes back when this frame or a later one is finished.
+    /// Retires a set: it is freed when this frame or a later one is finished.
     ///
-    /// Frames must not fall: `FrameBack` where the frame is below the greatest at which a set was
-    /// ever retired, also when all these have gone back since. `Memory` where there is no memory for
-    /// one more. Either hands the set back, and nothing changed.
+    /// Frames must not fall: `FrameBack` if the frame is below the greatest at which a set was
+    /// ever retired, also if all these have been freed since. `Memory` if an allocation for one more
+    /// fails. Either returns the set, and nothing changed.
     pub fn retire(
         &mut self,
         frame: u64,
@@ -81,5 +87,225 @@ impl<P, S> FrameManager<P, S> {
     {
         self.retired.push_back_reserved(Retired { frame, set });
         self.greatest = frame;
+    }
+
+    /// Retires a set, also at a frame below the greatest: it is freed when this frame or a later
+    /// one is finished.
+    ///
+    /// The place in the list is found by halves. Then either the sets of later frames are moved, or
+    /// the others, whichever are fewer. `Memory` if an allocation for one more fails: the set is
+    /// returned, and nothing changed. It never returns `FrameBack`.
+    pub fn retire_late(
+        &mut self,
+        frame: u64,
+        set: DescriptorSet<S>,
+    ) -> Result<(), RetireError<DescriptorSet<S>>>
+        ensures list { OnOk result (retired_of self.new
+            ≡ with_late frame (set ∷ []) (retired_of self.old)) }
+        ensures greatest { OnOk result (greatest_of self.new ≡ max (greatest_of self.old) frame) }
+
+        // On any device: a set that was in use is so once less, and the retired ones are still out.
+        ensures in_use { OnOk result ((pool_name : P → ℕ) (set_name : S → ℕ) (l : Ledger)
+            → AreRetiredOut pool_name set_name self.old l
+            → AreInUse pool_name set_name (item_of set_name set ∷ []) self.old l
+            → Retires pool_name set_name (item_of set_name set ∷ []) self.old self.new l) }
+
+        ensures fits { 0 < reserve_of self.old → IsOk result }
+        ensures reserve { OnOk result (reserve_of self.old ≤ reserve_of self.new + 1) }
+        ensures count { OnOk result (length (retired_of self.new)
+            ≡ length (retired_of self.old) + 1) }
+        ensures back { IfErr result (λ e. e ≡ RetireError.Memory set) }
+        ensures list_stays { OnErr result (retired_of self.new ≡ retired_of self.old) }
+        ensures greatest_stays { OnErr result (greatest_of self.new ≡ greatest_of self.old) }
+        ensures reserve_stays { OnErr result (reserve_of self.old ≤ reserve_of self.new) }
+        ensures allocator { allocator_of self.new ≡ allocator_of self.old }
+    {
+        if self.reserve(1).is_err() {
+            return Err(RetireError::Memory(set));
+        }
+        let place = self.place_behind(frame);
+        self.put_at(place, frame, set);
+        Ok(())
+    }
+
+    /// How many sets were retired at the frame or before.
+    pub(super) fn place_behind(&self, frame: u64) -> usize
+        ensures within { result ≤ length (retired_of self.now) }
+        ensures place { IsPartitionPoint (λ r. r.frame ≤ frame) (λ r. frame < r.frame)
+            (retired_of self.now) result }
+    {
+        self.retired
+            .partition_point(|retired: &Retired<S>| retired.frame <= frame)
+    }
+
+    /// Puts a set in at its place, over memory that was reserved.
+    pub(super) fn put_at(&mut self, place: usize, frame: u64, set: DescriptorSet<S>)
+        requires within { place ≤ length (retired_of self.old) }
+        requires place { IsPartitionPoint (λ r. r.frame ≤ frame) (λ r. frame < r.frame)
+            (retired_of self.old) place }
+        requires reserve { 0 < reserve_of self.old }
+        ensures list { retired_of self.new ≡ with_late frame (set ∷ []) (retired_of self.old) }
+        ensures besides { HasBesides set (retired_sets (retired_of self.old))
+            (retired_sets (retired_of self.new)) }
+        ensures count { length (retired_of self.new) ≡ length (retired_of self.old) + 1 }
+        ensures greatest { greatest_of self.new ≡ max (greatest_of self.old) frame }
+        ensures reserve { reserve_of self.old ≤ reserve_of self.new + 1 }
+        ensures allocator { allocator_of self.new ≡ allocator_of self.old }
+    {
+        match self.retired.insert(place, Retired { frame, set }) {
+            Ok(()) => self.greatest = self.greatest.max(frame),
+            Err(_) => unreachable!(),
+        }
+    }
+
+    /// Retires all sets of a queue, in their order, over memory that `reserve` took. It can't be
+    /// refused. The queue is empty afterwards, and keeps its memory.
+    pub fn retire_reserved(&mut self, frame: u64, sets: &mut VecDeque<DescriptorSet<S>>)
+        requires rising { greatest_of self.old ≤ frame }
+        requires reserve { length sets.old.items ≤ reserve_of self.old }
+        ensures last { retired_of self.new
+            ≡ retired_of self.old ++ map (at_frame frame) sets.old.items }
+        ensures emptied { sets.new.items ≡ [] }
+        ensures capacity { deque_capacity sets.new ≡ deque_capacity sets.old }
+        ensures greatest { 0 < length sets.old.items → greatest_of self.new ≡ frame }
+        ensures none { length sets.old.items ≡ 0 → greatest_of self.new ≡ greatest_of self.old }
+        ensures rising { greatest_of self.new ≤ frame }
+
+        // On any device: sets that were in use are so no longer, and the retired ones are still
+        // out.
+        ensures in_use { (pool_name : P → ℕ) (set_name : S → ℕ) (l : Ledger)
+            → AreRetiredOut pool_name set_name self.old l
+            → AreInUse pool_name set_name (items_of set_name sets.old.items) self.old l
+            → Retires pool_name set_name (items_of set_name sets.old.items) self.old self.new l }
+
+        ensures reserve { reserve_of self.new + length sets.old.items ≡ reserve_of self.old }
+        ensures allocator { allocator_of self.new ≡ allocator_of self.old }
+    {
+        while let Some(set) = sets.pop_front() {
+            self.put(frame, set);
+        }
+    }
+
+    /// Retires all sets of a queue as `retire_reserved` does, also at a frame below the greatest: they
+    /// are freed when this frame or a later one is finished.
+    ///
+    /// Below the greatest frame each set is put in as by `retire_late`.
+    pub fn retire_late_reserved(&mut self, frame: u64, sets: &mut VecDeque<DescriptorSet<S>>)
+        requires reserve { length sets.old.items ≤ reserve_of self.old }
+        ensures list { retired_of self.new
+            ≡ with_late frame sets.old.items (retired_of self.old) }
+        ensures emptied { sets.new.items ≡ [] }
+        ensures capacity { deque_capacity sets.new ≡ deque_capacity sets.old }
+        ensures count { length (retired_of self.new)
+            ≡ length (retired_of self.old) + length sets.old.items }
+        ensures greatest { 0 < length sets.old.items → greatest_of self.new
+            ≡ max (greatest_of self.old) frame }
+        ensures none { length sets.old.items ≡ 0 → greatest_of self.new ≡ greatest_of self.old }
+        ensures rising { greatest_of self.new ≤ max (greatest_of self.old) frame }
+
+        // On any device: sets that were in use are so no longer, and the retired ones are still
+        // out.
+        ensures in_use { (pool_name : P → ℕ) (set_name : S → ℕ) (l : Ledger)
+            → AreRetiredOut pool_name set_name self.old l
+            → AreInUse pool_name set_name (items_of set_name sets.old.items) self.old l
+            → Retires pool_name set_name (items_of set_name sets.old.items) self.old self.new l }
+
+        ensures reserve { reserve_of self.old ≤ reserve_of self.new + length sets.old.items }
+        ensures allocator { allocator_of self.new ≡ allocator_of self.old }
+    {
+        if frame >= self.greatest {
+            self.retire_reserved(frame, sets);
+        } else {
+            self.put_in(frame, sets);
+        }
+    }
+
+    /// Puts the sets of a queue in at their place, before those of later frames, over memory that was
+    /// reserved.
+    fn put_in(&mut self, frame: u64, sets: &mut VecDeque<DescriptorSet<S>>)
+        requires late { frame < greatest_of self.old }
+        requires reserve { length sets.old.items ≤ reserve_of self.old }
+        ensures list { retired_of self.new
+            ≡ with_late frame sets.old.items (retired_of self.old) }
+        ensures besides { (set_name : S → ℕ) (t : Item)
+            → count_of t (items_of set_name (retired_sets (retired_of self.new)))
+            ≡ count_of t (items_of set_name (retired_sets (retired_of self.old)))
+            + count_of t (items_of set_name sets.old.items) }
+        ensures emptied { sets.new.items ≡ [] }
+        ensures capacity { deque_capacity sets.new ≡ deque_capacity sets.old }
+        ensures count { length (retired_of self.new)
+            ≡ length (retired_of self.old) + length sets.old.items }
+        ensures greatest { greatest_of self.new ≡ greatest_of self.old }
+        ensures reserve { reserve_of self.old ≤ reserve_of self.new + length sets.old.items }
+        ensures allocator { allocator_of self.new ≡ allocator_of self.old }
+    {
+        while let Some(set) = sets.pop_front() {
+            let place = self.place_behind(frame);
+            self.put_at(place, frame, set);
+        }
+    }
+}
+
+impl<P, S: Drop> FrameManager<P, S> {
+    ghost use Rattle.descriptor_frames.specs.Frames.{AreInUse, AreRetiredOut, Retires};
+    ghost use Rattle.descriptor_frames.specs.Frames.{allocator_of, greatest_of, retired_of};
+    ghost use Rattle.descriptor_frames.specs.Frames.{reserve_of};
+
+    /// Retires the sets of a vector, in their order: all, or none.
+    ///
+    /// It is refused as `retire` is: `FrameBack` for the frame, also if no set is given, and
+    /// `Memory` if an allocation for all fails. Either returns the vector, and nothing changed.
+    pub fn retire_all(
+        &mut self,
+        frame: u64,
+        sets: Vec<DescriptorSet<S>>,
+    ) -> Result<(), RetireError<Vec<DescriptorSet<S>>>>
+        ensures last { OnOk result (retired_of self.new
+            ≡ retired_of self.old ++ map (at_frame frame) sets.items) }
+        ensures greatest { OnOk result (0 < length sets.items → greatest_of self.new ≡ frame) }
+        ensures none { length sets.items ≡ 0 → greatest_of self.new ≡ greatest_of self.old }
+
+        // On any device: sets that were in use are so no longer, and the retired ones are still
+        // out.
+        ensures in_use { OnOk result ((pool_name : P → ℕ) (set_name : S → ℕ) (l : Ledger)
+            → AreRetiredOut pool_name set_name self.old l
+            → AreInUse pool_name set_name (items_of set_name sets.items) self.old l
+            → Retires pool_name set_name (items_of set_name sets.items) self.old self.new l) }
+
+        ensures fits { greatest_of self.old ≤ frame → length sets.items ≤ reserve_of self.old
+            → IsOk result }
+        ensures reserve { OnOk result (reserve_of self.old ≤ reserve_of self.new + length sets.items) }
+        ensures frame_back { (IsErrOf result (RetireError.FrameBack sets))
+            ↔ (frame < greatest_of self.old) }
+        ensures back { IfErr result (λ e. handed_back e ≡ sets) }
+        ensures list_stays { OnErr result (retired_of self.new ≡ retired_of self.old) }
+        ensures greatest_stays { OnErr result (greatest_of self.new ≡ greatest_of self.old) }
+        ensures reserve_stays { OnErr result (reserve_of self.old ≤ reserve_of self.new) }
+        ensures allocator { allocator_of self.new ≡ allocator_of self.old }
+    {
+        if frame < self.greatest {
+            return Err(RetireError::FrameBack(sets));
+        }
+        if self.reserve(sets.len()).is_err() {
+            return Err(RetireError::Memory(sets));
+        }
+        self.put_all(frame, sets);
+        Ok(())
+    }
+
+    /// Puts sets last in the list, over memory that was reserved.
+    fn put_all(&mut self, frame: u64, sets: Vec<DescriptorSet<S>>)
+        requires rising { greatest_of self.old ≤ frame }
+        requires reserve { length sets.items ≤ reserve_of self.old }
+        ensures list { retired_of self.new
+            ≡ retired_of self.old ++ map (at_frame frame) sets.items }
+        ensures greatest { 0 < length sets.items → greatest_of self.new ≡ frame }
+        ensures none { length sets.items ≡ 0 → greatest_of self.new ≡ greatest_of self.old }
+        ensures reserve { reserve_of self.new + length sets.items ≡ reserve_of self.old }
+        ensures allocator { allocator_of self.new ≡ allocator_of self.old }
+    {
+        for set in sets {
+            self.put(frame, set);
+        }
     }
 }

@@ -27,13 +27,13 @@ released_same m s name foreign =
     let elsewhere : (t : Item) → lies_in s.books name t ≡ false = λ t. false_from_ne_true (lies_in s.books name t) (λ lies. (let f = lies_in-found s.books name t lies in foreign t.key t.number f.0 f.1 f.2)) in
     let kept : (λ (x : LiveSet). count_by (λ t. lies_in s.books name t && set_eq (set_of t) x) m) ≡ (λ x. 0) = fun_ext (λ x.
     ap (λ (f : Item → Bool). count_by f m) (fun_ext (λ t. ap (λ (b : Bool). b && set_eq (set_of t) x) (elsewhere t))) ∙ none_of m) in
-    let behind : (t : Item) → (let b = (given_back m s).books t.key in in_front (spent_front b) b name) ≡ false = λ t. false_from_ne_true _ (λ front.
+    let appended : (t : Item) → (let b = (given_back m s).books t.key in in_front (spent_front b) b name) ≡ false = λ t. false_from_ne_true _ (λ front.
     let b = (given_back m s).books t.key in
     let f = front_found b.pools (spent_front b) name front in
     let at : entry_at b (b.offset + f.0) ≡ Some f.1 = entry_at-from b (b.offset + f.0) f.1 (omega arith) (ap (slice_get b.pools) (let n : b.offset + f.0 - b.offset ≡ f.0 = omega arith in n) ∙ f.3) in
     let d = some_before _ (entry_at (s.books t.key) (b.offset + f.0)) f.1 (sym (entry_at-less (back m s) (s.books t.key) (b.offset + f.0)) ∙ at) in
     foreign t.key (b.offset + f.0) d.0 d.1 (ap (λ (e : Entry). e.pool) d.2 ∙ f.4)) in
-    ap (λ (b : Bool). if b then None else (given_back m s).ledger name) (any_none _ behind m)
+    ap (λ (b : Bool). if b then None else (given_back m s).ledger name) (any_none _ appended m)
     ∙ ap (λ (f : LiveSet → ℕ). option_map (pool_less f) (s.ledger name)) kept
     ∙ ap (λ (w : State). w.ledger name) (none_back s)
 

@@ -124,13 +124,13 @@ module _ {L P S : Type 0} (means : Meaning L P S) where
       pub few : now.comparisons ≤ old.comparisons + run_digits (state_of means.pool_name old before) (items sets)
       pub comes : Comes first sets ahead rest
 
-    behind : (first : T) (xs : List (DescriptorSet S)) (y : DescriptorSet S) (zs : List (DescriptorSet S)) (rest t : T) → Yields steps first (xs ++ y ∷ []) rest → Yields steps rest zs t → Yields steps first (xs ++ y ∷ zs) t
-    behind first xs y zs rest t a b = subst (λ vs. Yields steps first vs t) (append_assoc xs (y ∷ []) zs) (both steps (xs ++ y ∷ []) zs first rest t a b)
+    appended : (first : T) (xs : List (DescriptorSet S)) (y : DescriptorSet S) (zs : List (DescriptorSet S)) (rest t : T) → Yields steps first (xs ++ y ∷ []) rest → Yields steps rest zs t → Yields steps first (xs ++ y ∷ zs) t
+    appended first xs y zs rest t a b = subst (λ vs. Yields steps first vs t) (append_assoc xs (y ∷ []) zs) (both steps (xs ++ y ∷ []) zs first rest t a b)
 
     module _ (first : T) (old : Allocations P) (before : Ledger) (now : Allocations P) (mid : Ledger) (x : DescriptorSet S) (rest : T) (agree : Agree (state_of means.pool_name old before)) (out : HoldsAlong steps first (λ xs. AreOutstanding (items xs) (state_of means.pool_name old before))) (r : Freed first old before now mid (Some x) rest) where
       -- what is to come is outstanding together with what came
       all_out : (zs : List (DescriptorSet S)) (t : T) → Yields steps rest zs t → AreOutstanding (items r.sets ++ items (x ∷ zs)) (state_of means.pool_name old before)
-      all_out zs t z = subst (λ m. AreOutstanding m (state_of means.pool_name old before)) (items-append r.sets (x ∷ zs)) (out (r.sets ++ x ∷ zs) t (behind first r.sets x zs rest t r.comes.0 z))
+      all_out zs t z = subst (λ m. AreOutstanding m (state_of means.pool_name old before)) (items-append r.sets (x ∷ zs)) (out (r.sets ++ x ∷ zs) t (appended first r.sets x zs rest t r.comes.0 z))
 
       came_out : (zs : List (DescriptorSet S)) (t : T) → Yields steps rest zs t → AreOutstanding (items r.sets) (state_of means.pool_name old before)
       came_out zs t z u = grind arith
@@ -174,7 +174,7 @@ module _ {L P S : Type 0} (means : Meaning L P S) where
               ∙ ap (λ (t : State). run_digits s (items r.sets) + binary_digits (open_pools (t.books x.key.is))) (sym r.back.state)
 
           came : Yields steps first (r.sets ++ x ∷ xs) run.came.1.0
-          came = behind first r.sets x xs rest run.came.1.0 r.comes.0 run.came.1.1
+          came = appended first r.sets x xs rest run.came.1.0 r.comes.0 run.came.1.1
 
           parted : (y : DescriptorSet S) → lies_at x.key.is x.number y ≡ false → Splits (r.sets ++ x ∷ xs) y
           parted y b zs =

@@ -3,7 +3,7 @@ use Rattle.gpu_descriptor.proofs.Common.{◌≡◌, ◌++◌, ◌+◌, ◌-◌, 
 use Rattle.std.proofs.Math.Seq.{drop-append-add}
 use Rattle.std.proofs.lemmas.List.{drop-append-le}
 use Rattle.std.proofs.lemmas.List.Elements.{All-drop, All-map}
-use Rattle.gpu_descriptor.specs.Caller.SetLists.{behind}
+use Rattle.gpu_descriptor.specs.Caller.SetLists.{appended}
 use Rattle.gpu_descriptor.specs.Caller.Sets.{PutsOfLayout}
 
 -- what holds of the rest of a list and of all that is put behind it holds of the rest of both
@@ -27,5 +27,5 @@ module _ {L P S : Type 0} (means : Meaning L P S) (layout : L) where
   none_own is first = subst (λ (xs : List (DescriptorSet S)). AreOfLayout means layout (drop first xs)) (sym is)
 
   -- all that is behind
-  pub own_behind : {old new : List (DescriptorSet S)} → PutsOfLayout means layout old new → AreOfLayout means layout (behind old new)
+  pub own_behind : {old new : List (DescriptorSet S)} → PutsOfLayout means layout old new → AreOfLayout means layout (appended old new)
   own_behind {old} puts = puts (length old) (subst (AreOfLayout means layout) (sym (drop_all (length old) old (omega arith))) (λ i x within. absurd (omega arith)))

@@ -101,7 +101,7 @@ table_out : (ledger : ℕ → Option Pool) (table : List (Key × Bucket)) → Ha
 table_out ledger [] distinct booked = ∣ ([], refl, (λ t. sym (out_of_none ledger t)), refl) ∣₁
 table_out ledger (row ∷ table) distinct booked =
     ∥∥₁_elim (key_out row.0 row.1.id row.1.offset row.1.pools ledger (λ i e at. booked row.0 i e (ap (λ (b : Bucket). slice_get b.pools i) (first_books row table) ∙ at))) ∥∥₁_prop (λ here.
-    ∥∥₁_map (table_out ledger table distinct.1 (λ k i e at. booked k i e (behind k i e at))) (λ rest. (
+    ∥∥₁_map (table_out ledger table distinct.1 (λ k i e at. booked k i e (appended k i e at))) (λ rest. (
       here.items ++ rest.0,
       (let both = length-append here.items rest.0 in let whole = sum_by-cons (λ (r : Key × Bucket). sets_out r.0 r.1) row table in omega arith),
       (λ t.
@@ -126,8 +126,8 @@ table_out ledger (row ∷ table) distinct booked =
           omega arith),
     )))
   where
-    behind : (k : Key) (i : ℕ) (e : Entry) → slice_get (books_of table k).pools i ≡ Some e → slice_get (books_of (row ∷ table) k).pools i ≡ Some e
-    behind k i e at = elim (cases_Bool (key_eq row.0 k)) [
+    appended : (k : Key) (i : ℕ) (e : Entry) → slice_get (books_of table k).pools i ≡ Some e → slice_get (books_of (row ∷ table) k).pools i ≡ Some e
+    appended k i e at = elim (cases_Bool (key_eq row.0 k)) [
       | inl same ↦ absurd (let bad : ◌≡◌ {A = Option Entry} None (Some e) = ap (λ (b : Bucket). slice_get b.pools i) (sym (none_behind row table distinct k same)) ∙ at in cc)
       | inr other ↦ rw other at
     ]

@@ -9,7 +9,7 @@ use Rattle.gpu_descriptor.specs.Caller.States.{state_of}
 use Rattle.gpu_descriptor.specs.Caller.Values.{Allocations}
 use Rattle.gpu_descriptor.specs.Model.Outcomes.{Call}
 
--- what f makes of the value of an answer, or the same error
+-- what f makes of the value of a result, or the same error
 abbrev pub map_ok : {A B : Type 0} → (A → B) → Result A AllocationError → Result B AllocationError
 map_ok f (Ok x) = Ok (f x)
 map_ok f (Err e) = Err e

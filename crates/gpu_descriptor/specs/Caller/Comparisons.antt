@@ -1,4 +1,4 @@
--- How many comparisons giving a list of sets back may take: the binary digits of how many pools are open.
+-- How many comparisons freeing a list of sets may take: the binary digits of how many pools are open.
 use Rattle.std.specs.Prelude.{ℕ, zero, suc, ◌/◌, ◌+◌, nat_lt, if◌then◌else◌, List, [], ◌∷◌, ◌++◌, count_by}
 use Rattle.gpu_descriptor.specs.Model.Books.{Bucket}
 use Rattle.gpu_descriptor.specs.Model.Agreement.{State, Item}
@@ -20,11 +20,11 @@ abbrev pub open_pools : Bucket → ℕ
 open_pools b = count_by (λ e. nat_lt 0 e.available) b.pools
 
 module _ (s : State) where
-  -- the binary digits of the number of open pools of t's key, once the sets before t have gone back
+  -- the binary digits of the number of open pools of t's key, once the sets before t are freed
   abbrev pub digits_at : List Item → Item → ℕ
   digits_at before t = binary_digits (open_pools ((released before s).books t.key))
 
-  -- those at each set behind last that begins a run
+  -- those at each set after last that begins a run
   abbrev pub digits_behind : List Item → Item → List Item → ℕ
   digits_behind before last [] = 0
   digits_behind before last (t ∷ rest) = (if is_beside last t then 0 else digits_at before t) + digits_behind (before ++ t ∷ []) t rest

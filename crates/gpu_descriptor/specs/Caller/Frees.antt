@@ -1,4 +1,4 @@
--- What giving sets back leaves of an allocator and of the ledger, and how often it calls the device.
+-- What freeing sets leaves of an allocator and of the ledger, and how often it calls the device.
 use Rattle.std.specs.Prelude.{◌≡◌, ℕ, ◌+◌, ◌≤◌, List, [], length, sum_by, Option, None}
 use Rattle.std.specs.Iterator.{YieldsThen}
 use Rattle.gpu_descriptor_types.specs.Meaning.{Meaning}
@@ -19,7 +19,7 @@ abbrev pub marked_descriptors : List Item → ℕ
 marked_descriptors m = sum_by (λ t. set_descriptors t.key 1) m
 
 module _ {L P S : Type 0} (means : Meaning L P S) where
-  -- these sets have gone back, in so many release calls
+  -- these sets are freed, in so many release calls
   pub record GivesBack (sets : List (DescriptorSet S)) (calls : ℕ) (old new : Side (Allocations P)) : Type 0 where
     -- the state is released of exactly these sets, whatever their order
     pub state : state_of means.pool_name new.value new.ledger ≡ released (items_of means.set_name sets) (state_of means.pool_name old.value old.ledger)
@@ -34,19 +34,19 @@ module _ {L P S : Type 0} (means : Meaning L P S) where
     -- if there were none, all is as it was
     pub none : sets ≡ [] → (new.value ≡ old.value) × (new.ledger ≡ old.ledger)
 
-  -- these sets have gone back, in one release call for each run
+  -- these sets are freed, in one release call for each run
   pub record Returns (sets : List (DescriptorSet S)) (old new : Side (Allocations P)) : Type 0 where
     pub back : GivesBack sets (runs (items_of means.set_name sets)) old new
     -- the keys keep their order
     pub keys : keys_of new.value ≡ keys_of old.value
     -- no pool is looked at
     pub looks_stay : new.value.looks ≡ old.value.looks
-    -- for each run at most as many as the number of its key's open pools has binary digits, once the runs before it went back
+    -- for each run at most as many as the number of its key's open pools has binary digits, once the runs before it are freed
     pub comparisons : new.value.comparisons ≤ old.value.comparisons + run_digits (state_of means.pool_name old.value old.ledger) (items_of means.set_name sets)
     -- the number of comparisons never falls
     pub compared : old.value.comparisons ≤ new.value.comparisons
 
-  -- the iterator gave sets up to its end, and these have gone back
+  -- the iterator gave sets up to its end, and these are freed
   pub record Frees {T : Type 0} (steps : T → Option (DescriptorSet S) → T → Type 0) (given left : T) (old new : Side (Allocations P)) : Type 0 where
     -- what the iterator gave
     pub sets : List (DescriptorSet S)

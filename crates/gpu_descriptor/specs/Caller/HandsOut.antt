@@ -16,7 +16,7 @@ use Rattle.gpu_descriptor.specs.Caller.Sets.{items_of}
 use Rattle.gpu_descriptor.specs.Caller.States.{keys_of, marked_load_of, outstanding_of, state_of}
 use Rattle.gpu_descriptor.specs.Caller.Values.{Allocations}
 
--- a request of so many sets of a key was answered
+-- a request of so many sets of a key returned
 pub record HandsOut {L P S : Type 0} (means : Meaning L P S) (k : Key) (count : ℕ) (answer : Result (List (DescriptorSet S)) AllocationError) (old new : Side (Allocations P)) : Type 0 where
   -- everything at once: which of its outcomes the request had
   pub outcome : Allocates (call_of means k count old new (map_ok (items_of means.set_name) answer))
@@ -24,13 +24,13 @@ pub record HandsOut {L P S : Type 0} (means : Meaning L P S) (k : Key) (count : 
   pub nothing : count ≡ 0 → (new.value ≡ old.value) × (new.ledger ≡ old.ledger)
   -- as many sets as were asked for
   pub many : IfOk answer (λ sets. length sets ≡ count)
-  -- exactly the sets of the answer are outstanding besides those before
+  -- exactly the sets of the result are outstanding besides those before
   pub given : IfOk answer (λ sets. AreOutBesides (items_of means.set_name sets) (state_of means.pool_name old.value old.ledger) (state_of means.pool_name new.value new.ledger))
   -- each has the counts and the mark of the layout
   pub of_key : IfOk answer (λ sets. AreOfKey k (items_of means.set_name sets))
   -- the number of sets that are out and the marked load rise by what was handed out
   pub totals : IfOk answer (λ sets. (outstanding_of new.value ≡ outstanding_of old.value + count) × (marked_load_of new.value ≡ marked_load_of old.value + set_descriptors k count))
-  -- a refusal gives back what it took
+  -- a refused request frees what it took
   pub totals_stay : OnErr answer ((outstanding_of new.value ≡ outstanding_of old.value) × (marked_load_of new.value ≡ marked_load_of old.value))
   -- the same sets are outstanding as before
   pub back : OnErr answer (KeepsOutstanding (state_of means.pool_name old.value old.ledger) (state_of means.pool_name new.value new.ledger))

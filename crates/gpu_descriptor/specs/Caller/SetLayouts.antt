@@ -15,10 +15,10 @@ module _ {L P S : Type 0} (means : Meaning L P S) where
     pub counted : kinds l.counts ≡ means.counts l.layout
     pub marked : is_marked l.flags ≡ means.mark l.layout
 
-  -- so many sets of the layout, and of its key, were put behind those of a list
+  -- so many sets of the layout, and of its key, were appended to a list
   pub record Adds (layout : L) (count : ℕ) (old new : List (DescriptorSet S)) : Type 0 where
     pub sets : List (DescriptorSet S)
     pub many : length sets ≡ count
     pub own : AreOfLayout means layout sets
     pub of_key : AreOfKey (layout_key means layout) (items_of means.set_name sets)
-    pub behind : new ≡ old ++ sets
+    pub appended : new ≡ old ++ sets

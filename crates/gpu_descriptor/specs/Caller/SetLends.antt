@@ -1,4 +1,4 @@
--- The loan of a set's raw set.
+-- The borrow of a set's raw set.
 use Rattle.std.specs.Borrow.{Lends, MutBor, Fml, RattleType}
 use Rattle.gpu_descriptor.specs.declared.set.DescriptorSet.{DescriptorSet}
 use Rattle.gpu_descriptor.specs.contracts.set.DescriptorSet.{the_row}

@@ -1,4 +1,4 @@
--- One key's pools over a ledger: how they stand in it, and what a run and a front that goes do to both.
+-- One key's pools over a ledger: how they are in it, and what a run and a front that is destroyed do to both.
 use Rattle.std.specs.Prelude.{Bool, not, ◌==◌, ◌≡◌, ℕ, ◌-◌, if◌then◌else◌, min, List, length, slice_get, Option, None, Some}
 use Rattle.gpu_descriptor_types.specs.Ledger.{Pool, Ledger}
 use Rattle.gpu_descriptor.specs.declared.bucket.DescriptorBucket.{DescriptorBucket}
@@ -12,13 +12,13 @@ pub record IsBookedIn (k : Key) (pools : ℕ → Option Pool) (e : Entry) : Type
   pub is_live : pools e.pool ≡ Some pool
   pub booked : IsAsBooked k pool e
 
--- one key's part of the agreement: its pools stand in the ledger as the books say
+-- one key's part of the agreement: its pools are in the ledger as the books say
 pub record AreBookedIn (k : Key) (pools : ℕ → Option Pool) (entries : List Entry) : Type 0 where
-  -- no name stands at two places
+  -- no name is at two places
   pub distinct : (i j : ℕ) (d e : Entry) → slice_get entries i ≡ Some d → slice_get entries j ≡ Some e → d.pool ≡ e.pool → i ≡ j
   pub each : (i : ℕ) (e : Entry) → slice_get entries i ≡ Some e → IsBookedIn k pools e
 
--- how many empty pools may go from the front, if so many pools are to stay
+-- how many empty pools of the front may be destroyed, if so many pools are to stay
 abbrev pub front_but : ℕ → Bucket → ℕ
 front_but keep b = min (empty_front b) (length b.pools - keep)
 

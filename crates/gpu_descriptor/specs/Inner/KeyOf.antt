@@ -1,6 +1,6 @@
 -- The key of the code as the books have it.
 use Rattle.gpu_descriptor_types.specs.Counts.{kinds}
-use Rattle.gpu_descriptor.specs.declared.set.BucketKey.{BucketKey}
+use Rattle.gpu_descriptor.specs.declared.key.BucketKey.{BucketKey}
 use Rattle.gpu_descriptor.specs.Model.Books.{Key}
 
 abbrev pub key_of : BucketKey → Key

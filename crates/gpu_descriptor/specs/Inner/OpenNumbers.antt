@@ -12,7 +12,7 @@ open_numbers first (suc n ∷ free) = first ∷ open_numbers (suc first) free
 abbrev pub free_in : {P : Type 0} → List (DescriptorPool P) → List ℕ
 free_in pools = map (λ p. p.available) pools
 
--- a number came in at its place: behind those below it
+-- a number came in at its place: after those below it
 pub record IsEntered (number : ℕ) (old new : List ℕ) : Type 0 where
   pub place : ℕ
   pub within : place ≤ length old

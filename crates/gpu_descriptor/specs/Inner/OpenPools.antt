@@ -8,9 +8,9 @@ use Rattle.gpu_descriptor_types.specs.Ledger.{Ledger}
 use Rattle.gpu_descriptor.specs.Inner.OpenNumbers.{open_numbers, free_in}
 use Rattle.gpu_descriptor.specs.Model.Books.{Bucket}
 use Rattle.gpu_descriptor.specs.declared.bucket.DescriptorPool.{DescriptorPool}
-use Rattle.gpu_descriptor.specs.declared.bucket.reads.OpenPools.{OpenPools}
+use Rattle.gpu_descriptor.specs.declared.bucket.open_pools.OpenPools.{OpenPools}
 use Rattle.gpu_descriptor.specs.contracts.bucket.DescriptorPool as pool
-use Rattle.gpu_descriptor.specs.contracts.bucket.reads.OpenPools as open_pools
+use Rattle.gpu_descriptor.specs.contracts.bucket.open_pools.OpenPools as open_pools
 
 -- looks rose as often as pools were asked
 abbrev pub CountsLooks : ℕ → ℕ → Ledger → Ledger → Type 0

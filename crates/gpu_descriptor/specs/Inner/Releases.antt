@@ -1,4 +1,4 @@
--- How one run goes back: at its key's pools, and at the allocator.
+-- How one run is freed: at its key's pools, and at the allocator.
 use Rattle.std.specs.Prelude.{◌≡◌, ℕ, List, ◌∷◌, length, Option, ◌-◌, ◌≤◌, map, set, Some}
 use Rattle.gpu_descriptor_types.specs.Ledger.{Ledger, Pool, after_release, live_sets}
 use Rattle.gpu_descriptor.specs.declared.set.DescriptorSet.{DescriptorSet}
@@ -19,11 +19,11 @@ pub record IsTakenAt (k : Key) (number : ℕ) (names : List ℕ) (b : Bucket) (p
   pub fits : length names ≤ entry.allocated
   pub live : (x : LiveSet) → times (live_sets k.counts names) x ≤ live_in pools entry.pool x
 
--- the bucket once n sets of the pool with the number came back
+-- the bucket once n sets of the pool with the number are freed
 abbrev pub bucket_back : Bucket → ℕ → ℕ → Entry → Bucket
 bucket_back b number n e = record b { pools = set b.pools (number - b.offset) (entry_less n e) }
 
--- sets of these names went back: the entry of their pool has as many fewer, and the ledger's pool lacks them
+-- sets of these names are freed: the entry of their pool has as many fewer, and the ledger's pool lacks them
 pub record Releases (k : Key) (number : ℕ) (names : List ℕ) (old : Bucket) (before : Ledger) (new : Bucket) (after : Ledger) : Type 0 where
   pub entry : Entry
   pub at : entry_at old number ≡ Some entry
@@ -34,9 +34,9 @@ pub record Releases (k : Key) (number : ℕ) (names : List ℕ) (old : Bucket) (
 abbrev pub names_of : {S : Type 0} → (S → ℕ) → List (DescriptorSet S) → List ℕ
 names_of name xs = map (λ x. name x.raw) xs
 
--- one run came, from first to before the set ahead, and went back to the allocator
+-- one run came, from first to before the set ahead, and was freed by the allocator
 pub record FreesRun {L P S T : Type 0} (steps : T → Option (DescriptorSet S) → T → Type 0) (means : Meaning L P S) (first : DescriptorSet S) (given : T) (ahead : Option (DescriptorSet S)) (left : T) (old new : Side (Allocations P)) : Type 0 where
-  -- the sets behind first
+  -- the sets after first
   pub sets : List (DescriptorSet S)
   pub came : EndsRun steps (lies_at first.key.is first.number) given sets ahead left
   pub back : GivesBack means (first ∷ sets) 1 old new

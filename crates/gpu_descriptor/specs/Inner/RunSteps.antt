@@ -30,7 +30,7 @@ module _ {T S : Type 0} (steps : T → Option (DescriptorSet S) → T → Type 0
   EndsRun test s xs r t = AllPass test xs × YieldsThen steps s xs r t × IfSome r (λ y. test y ≡ false)
 
   module _ (can : T → Type 0) (left : T → Count) where
-    -- o is the set ahead, and where there is none the answer of the source
+    -- o is the set ahead, and if there is none the result of the source
     abbrev pub Looks : T → Option (DescriptorSet S) → Option (DescriptorSet S) → T → Type 0
     Looks s ahead o t = MatchOption ahead (steps s o t × MakesProgress can left s o t) (λ x. (o ≡ Some x) × (t ≡ s))
 

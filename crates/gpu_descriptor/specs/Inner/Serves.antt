@@ -1,4 +1,4 @@
--- What a request took of one key, before any of it goes back: in the bucket, in the table, and of an allocator.
+-- What a request took of one key, before any of it is freed: in the bucket, in the table, and of an allocator.
 use Rattle.gpu_descriptor_types.specs.Bounds.{greatest_u64}
 use Rattle.std.specs.Prelude.{◌≡◌, ℕ, ◌+◌, ◌-◌, ◌*◌, ◌<◌, ◌≤◌, ◌⊎◌, true, if◌then◌else◌, List, length, sum, Result, OnOk, None}
 use Rattle.gpu_descriptor_types.specs.Ledger.{Ledger}
@@ -50,6 +50,6 @@ module _ {L P S : Type 0} (means : Meaning L P S) where
 abbrev pub IsDeclined : Call → Type 0
 IsDeclined c = (outcome : Allocates c) × (taken_by outcome ≡ None)
 
--- nothing was taken: memory was wanting, or the numbers of the key's pools would pass 64 bits
+-- nothing was taken: an allocation failed, or the numbers of the key's pools would pass 64 bits
 abbrev pub IsUnserved : ℕ → AllocationError → Bucket → Type 0
 IsUnserved count e b = ((e ≡ OutOfHostMemory) × (next_number b + count ≤ greatest_u64)) ⊎ ((e ≡ Fragmentation) × (greatest_u64 < next_number b + count))

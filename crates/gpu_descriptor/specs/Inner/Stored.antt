@@ -1,6 +1,6 @@
 -- The table of keys, as the code has it.
 use Rattle.std.specs.Prelude.{◌≡◌, ℕ, ◌+◌, ◌≤◌, List, map, sum_by}
-use Rattle.gpu_descriptor.specs.declared.set.BucketKey.{BucketKey}
+use Rattle.gpu_descriptor.specs.declared.key.BucketKey.{BucketKey}
 use Rattle.gpu_descriptor.specs.declared.bucket.DescriptorPool.{DescriptorPool}
 use Rattle.gpu_descriptor.specs.declared.bucket.DescriptorBucket.{DescriptorBucket}
 use Rattle.gpu_descriptor.specs.Model.Books.{Key, EntryOf, BucketOf, Entry, Bucket, books_of, sum_over}

@@ -10,7 +10,7 @@ use Rattle.gpu_descriptor.specs.Model.Shares.{rest}
 use Rattle.gpu_descriptor.specs.Model.Grants.{Grant, IsGrantOf, items_in, bucket_with, ledger_with, pool_with}
 use Rattle.gpu_descriptor.specs.Model.Outcomes.{risen, grant_rise, stop_rise}
 
--- a pool was asked for what it has of so many sets, or skipped where it has no places or none are wanted
+-- a pool was asked for what it has of so many sets, or skipped if it has no places or none are wanted
 pub record IsAsked (k : Key) (wanted : ℕ) (names : List ℕ) (old new : Entry) (before after : Ledger) : Type 0 where
   pub refused : Bool
   pub refusing : refused ≡ true → nat_lt 0 old.available && nat_lt 0 wanted ≡ true
@@ -24,7 +24,7 @@ pub record IsRefused (why : Stop) (before after : Ledger) : Type 0 where
   pub pools : after.pools ≡ before.pools
   pub counters : after.counters ≡ risen (stop_rise why) before.counters
 
--- a pool that was asked answered want of memory
+-- a pool that was asked returned an error of memory
 pub record IsNoMemory (wanted : ℕ) (e : Entry) (error : DeviceAllocationError) (before after : Ledger) : Type 0 where
   pub asked : nat_lt 0 e.available && nat_lt 0 wanted ≡ true
   pub memory : pool_refusals error ≡ 0

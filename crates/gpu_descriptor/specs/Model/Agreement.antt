@@ -36,7 +36,7 @@ item_eq s t = key_eq s.key t.key && (s.number == t.number) && (s.name == t.name)
 abbrev pub set_of : Item → LiveSet
 set_of t = record { name = t.name; counts = t.key.counts }
 
--- how often a set stands in a list
+-- how often a set is in a list
 abbrev pub count_of : Item → List Item → ℕ
 count_of s m = count_by (λ t. item_eq t s) m
 
@@ -52,13 +52,13 @@ live_at ledger b t = option_map_or (λ e. live_in ledger e.pool (set_of t)) (ent
 abbrev pub outstanding : State → Item → ℕ
 outstanding s t = if (s.books t.key).id == t.id then live_at s.ledger (s.books t.key) t else 0
 
--- the sets of the list, each as often as it stands there, are outstanding
+-- the sets of the list, each as often as it is there, are outstanding
 abbrev pub AreOutstanding : List Item → State → Type 0
 AreOutstanding m s = (t : Item) → count_of t m ≤ outstanding s t
 
 -- ---- agreement
 
--- sets go back singly, and UPDATE_AFTER_BIND stands exactly for a marked key
+-- sets are freed singly, and UPDATE_AFTER_BIND is there exactly for a marked key
 abbrev pub flags_of : Key → ℕ
 flags_of k = pool_flags k.marked
 

@@ -14,6 +14,6 @@ pub record IsCleaned (old new : State) : Type 0 where
   pub gone : (k : Key) (pool : ℕ) → in_front (empty_front (old.books k)) (old.books k) pool ≡ true → new.ledger pool ≡ None
   pub kept : (pool : ℕ) → ((k : Key) → in_front (empty_front (old.books k)) (old.books k) pool ≡ false) → new.ledger pool ≡ old.ledger pool
 
--- how many pools of these keys go
+-- how many pools of these keys are destroyed
 abbrev pub pools_cleaned : List Key → State → ℕ
 pools_cleaned keys s = sum_by (λ k. empty_front (s.books k)) keys

@@ -38,7 +38,7 @@ pub record IsGrantOf (n : ℕ) (b : Bucket) (ledger : ℕ → Option Pool) (g : 
 abbrev pub items_at : Key → ℕ → ℕ → List ℕ → List Item
 items_at k id number names = map (λ name. record { key = k; id = id; number = number; name = name }) names
 
--- the sets of the answer
+-- the sets of the result
 abbrev pub items_in : Key → ℕ → List Part → List Item
 items_in k id parts = flat_map (λ p. items_at k id p.number p.names) parts
 
@@ -55,7 +55,7 @@ abbrev pub fresh_or : Key → List Fresh → ℕ → Option Pool → Option Pool
 fresh_or k [] name old = old
 fresh_or k (f ∷ pools) name old = if f.pool == name then Some (fresh (pool_counts k.counts f.size) f.size (flags_of k)) else fresh_or k pools name old
 
--- the pool with more sets, and with one refusal more where it refused
+-- the pool with more sets, and with one refusal more if it refused
 abbrev pub pool_with : List LiveSet → Bool → Pool → Pool
 pool_with sets refused p = record p { live = λ x. p.live x + times sets x; refusals = if refused then p.refusals + 1 else p.refusals }
 

@@ -54,7 +54,7 @@ grant_rise n g pools = let asked = drop g.skipped pools in record no_rise {
   pool_refused = refused_count g.refused asked;
 }
 
--- by giving the sets of a request back
+-- by freeing the sets of a request
 abbrev pub rollback_rise : List Item → Key → State → Counters
 rollback_rise items k t = record no_rise { released = runs items; destroyed = pools_gone (k ∷ []) items t }
 
@@ -74,7 +74,7 @@ pub record Call : Type 0 where
 
 -- ---- why a request stops
 
--- what the request answers then
+-- what the request returns then
 abbrev pub stop_error : Stop → AllocationError
 stop_error (stop.ExistingPoolRefused error) = error_of_alloc error
 stop_error stop.NoRoomUnderLimit = Fragmentation
@@ -90,7 +90,7 @@ stop_rise stop.NoMemoryForPool = no_rise
 stop_rise (stop.PoolNotCreated e) = create_refused e no_rise
 stop_rise (stop.NewPoolRefused e) = let asked = alloc_refused e no_rise in record asked { created = 1; destroyed = 1 }
 
--- what a request of n sets took of these pools ends at one that was asked and answered a memory error. The newer ones were asked before it, where they had places
+-- what a request of n sets took of these pools ends at one that was asked and returned a memory error. The newer ones were asked before it, if they had places
 pub record EndsAtPool (n : ℕ) (pools : List Entry) (error : DeviceAllocationError) (g : Grant) : Type 0 where
   pub older : List Entry
   pub pool : Entry
@@ -101,7 +101,7 @@ pub record EndsAtPool (n : ℕ) (pools : List Entry) (error : DeviceAllocationEr
   pub asked : is_asked g.refused n newer pool ≡ true
   pub memory : pool_refusals error ≡ 0
 
--- no new pool came: for want of room exactly where not even one of one set fits
+-- no new pool came: for want of room exactly if not even one of one set fits
 abbrev pub StopsAtNew : Stop → Key → ℕ → Type 0
 StopsAtNew (stop.ExistingPoolRefused e) k room = ⊥
 StopsAtNew why k room = (why ≡ stop.NoRoomUnderLimit) ↔ (room < pool_descriptors k 1)
@@ -168,7 +168,7 @@ module _ (c : Call) where
     pub state : c.new ≡ granted c.key c.count grant c.old
     pub counters : c.after ≡ risen (grant_rise c.count grant (c.old.books c.key).pools) c.before
 
-  -- a request stopped when it had taken so much: the sets went back
+  -- a request stopped when it had taken so much: the sets are freed
   pub record IsBack (grant : Grant) (why : Stop) : Type 0 where
     pub taken : IsGrant grant
     pub answer : c.answer ≡ Err (stop_error why)

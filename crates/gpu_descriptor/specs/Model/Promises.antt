@@ -26,7 +26,7 @@ KeepsOutstanding old new = (t : Item) → outstanding new t ≡ outstanding old 
 abbrev pub AreOfKey : Key → List Item → Type 0
 AreOfKey k items = (t : Item) → 0 < count_of t items → t.key ≡ k
 
--- new pools in order. At the first, out sets of the key are out, and wanted are wanting. Each comes only where some are wanting, and has fewer sets than twice the start size of its moment
+-- new pools in order. At the first, out sets of the key are out, and wanted are wanting. Each comes only if some are wanting, and has fewer sets than twice the start size of its moment
 abbrev pub AreBelowTwice : (out wanted : ℕ) → List Fresh → Type 0
 AreBelowTwice out wanted [] = Unit {0}
 AreBelowTwice out wanted (f ∷ later) = (0 < wanted) × (f.size < 2 * start_size out wanted) × AreBelowTwice (out + f.given) (wanted - f.given) later
@@ -40,10 +40,10 @@ module _ (c : Call) where
     pool_not_created : (s : IsStopped c) → s.why ≡ stop.PoolNotCreated create_error.Fragmentation → c.before.fragmentation < c.after.fragmentation → IsFragmentation
     new_pool_refused : (s : IsStopped c) (e : DeviceAllocationError) → s.why ≡ stop.NewPoolRefused e → pool_refusals e ≡ 1 → c.before.pool_refused < c.after.pool_refused → IsFragmentation
 
-  -- the three causes of OutOfHostMemory: the device said so, or a growth was refused or no id left, which no counter shows
+  -- the three causes of OutOfHostMemory: the device returned it, or an allocation failed or no id was left, which no counter shows
   pub data IsHostMemory : Type 0 where
     device_refused : c.before.host_memory < c.after.host_memory → IsHostMemory
-    -- no memory for the answer or the key, or no id left: nothing changed
+    -- an allocation for the result or the key failed, or no id was left: nothing changed
     no_memory_at_start : Proceeds c → Stays c → IsHostMemory
     -- for the books of a new pool
     no_memory_for_pool : (s : IsStopped c) → s.why ≡ stop.NoMemoryForPool → IsHostMemory
@@ -65,7 +65,7 @@ HasCause OutOfDeviceMemory c = c.before.device_memory < c.after.device_memory
 HasCause OutOfHostMemory c = IsHostMemory c
 HasCause Fragmentation c = IsFragmentation c
 
--- a pool is created only where the key's existing pools don't do
+-- a pool is created only if the key's existing pools don't do
 abbrev pub CreatesOnlyWhereShort : {c : Call} → Allocates c → Type 0
 CreatesOnlyWhereShort {c} outcome = c.before.created < c.after.created → (g : Grant) × (taken_by outcome ≡ Some g) × IsShort c g
 

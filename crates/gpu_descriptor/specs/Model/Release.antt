@@ -1,4 +1,4 @@
--- What giving sets back leaves of books and ledger: each pool loses its part, and then empty pools go from the front.
+-- What freeing sets leaves of books and ledger: each pool loses its part, and then empty pools of the front are destroyed.
 use Rattle.std.specs.Prelude.{sum_by, ◌∷◌, ℕ, ◌+◌, ◌-◌, Bool, false, ◌==◌, ◌&&◌, if◌then◌else◌, min, List, [], length, map, drop, take, count_by, None, option_map}
 use Rattle.std.specs.Option.{option_map_or}
 use Rattle.std.specs.List.{list_any, prefix_len}
@@ -11,15 +11,15 @@ use Rattle.gpu_descriptor.specs.Model.Agreement.{State, Item, set_of}
 abbrev pub lies_in : (Key → Bucket) → ℕ → Item → Bool
 lies_in books pool t = option_map_or (λ e. e.pool == pool) (entry_at (books t.key) t.number) false
 
--- the entry after n sets came back
+-- the entry after n sets are freed
 abbrev pub entry_less : ℕ → Entry → Entry
 entry_less n e = record e { allocated = e.allocated - n; available = e.available + n }
 
--- the bucket after as many sets came back as back says of each pool
+-- the bucket after as many sets are freed as back says of each pool
 abbrev pub bucket_less : (ℕ → ℕ) → Bucket → Bucket
 bucket_less back b = record b { pools = map (λ e. entry_less (back e.pool) e) b.pools }
 
--- the pool after as many of each set came back
+-- the pool after as many of each set are freed
 abbrev pub pool_less : (LiveSet → ℕ) → Pool → Pool
 pool_less back p = record p { live = λ x. p.live x - back x }
 
@@ -33,11 +33,11 @@ given_back m s = record {
 abbrev pub is_empty : Entry → Bool
 is_empty e = e.allocated == 0
 
--- how many empty pools stand at the front
+-- how many empty pools are at the front
 abbrev pub empty_front : Bucket → ℕ
 empty_front b = prefix_len is_empty b.pools
 
--- as many of them as may go: the last pool stays
+-- as many of them as may be destroyed: the last pool stays
 abbrev pub spent_front : Bucket → ℕ
 spent_front b = min (empty_front b) (length b.pools - 1)
 
@@ -56,11 +56,11 @@ fronts_gone m s = record {
   ledger = λ pool. if list_any (λ t. let b = s.books t.key in in_front (spent_front b) b pool) m then None else s.ledger pool;
 }
 
--- what giving the sets of the list back leaves
+-- what freeing the sets of the list leaves
 abbrev pub released : List Item → State → State
 released m s = fronts_gone m (given_back m s)
 
--- what giving lists back one after another leaves
+-- what freeing lists one after another leaves
 abbrev pub released_each : List (List Item) → State → State
 released_each [] s = s
 released_each (m ∷ ms) s = released_each ms (released m s)
@@ -69,7 +69,7 @@ released_each (m ∷ ms) s = released_each ms (released m s)
 abbrev pub singly : List Item → List (List Item)
 singly m = map (λ t. t ∷ []) m
 
--- how many pools of these keys go when the list goes back
+-- how many pools of these keys are destroyed when the list is freed
 abbrev pub pools_gone : List Key → List Item → State → ℕ
 pools_gone keys m s = sum_by (λ k. if list_any (λ t. key_eq t.key k) m then spent_front ((given_back m s).books k) else 0) keys
 

@@ -1,5 +1,5 @@
 -- What each pool of a key gives of a request, in the end. refused says of a pool's name whether it refused.
--- The pools of a list are oldest first, so the newer ones stand behind.
+-- The pools of a list are oldest first, so the newer ones come later.
 use Rattle.std.specs.Prelude.{◌≡◌, ℕ, ◌+◌, ◌-◌, Bool, true, false, ◌==◌, ◌&&◌, ◌||◌, nat_lt, if◌then◌else◌, min, List, [], ◌∷◌, ◌++◌, sum_by}
 use Rattle.gpu_descriptor.specs.Model.Books.{Entry}
 
@@ -10,7 +10,7 @@ pub record Portion : Type 0 where
   pub given : ℕ
 
 module _ (refused : ℕ → Bool) where
-  -- the places that a pool offers: none where it refused, else those known to be free
+  -- the places that a pool offers: none if it refused, else those known to be free
   abbrev pub offer : Entry → ℕ
   offer e = if refused e.pool then 0 else e.available
 
@@ -23,7 +23,7 @@ module _ (refused : ℕ → Bool) where
     abbrev pub rest : List Entry → ℕ
     rest pools = n - sum_by offer pools
 
-    -- a pool is asked where it has places, and sets are wanting after the newer ones
+    -- a pool is asked if it has places, and sets are wanting after the newer ones
     abbrev pub is_asked : List Entry → Entry → Bool
     is_asked newer e = nat_lt 0 e.available && nat_lt 0 (rest newer)
 

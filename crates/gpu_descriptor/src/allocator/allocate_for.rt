@@ -6,7 +6,7 @@ ghost use Rattle.gpu_descriptor.specs.Caller.Call.{layout_key, map_ok};
 ghost use Rattle.gpu_descriptor.specs.Caller.HandsOut.{HandsOut};
 ghost use Rattle.gpu_descriptor.specs.Caller.Keeps.{Keeps};
 ghost use Rattle.gpu_descriptor.specs.Caller.SetLayouts.{IsMeant};
-ghost use Rattle.gpu_descriptor.specs.Caller.SetLists.{behind};
+ghost use Rattle.gpu_descriptor.specs.Caller.SetLists.{appended};
 ghost use Rattle.gpu_descriptor.specs.Caller.Sets.{AreOfLayout, raw_of};
 ghost use Rattle.gpu_descriptor.specs.Caller.States.{Agrees};
 
@@ -38,9 +38,9 @@ impl<P: Drop, S: Drop> DescriptorAllocator<P, S> {
         self.allocate(device, &layout.layout, layout.flags, &layout.counts, count)
     }
 
-    /// The same as `allocate_for`, but the sets are put behind those of a vector. It takes memory for
-    /// them only if the vector has no capacity for `count` more. If it can't get that, the answer is
-    /// `OutOfHostMemory` before the device is asked. On an error the vector has the sets that it had.
+    /// The same as `allocate_for`, but the sets are appended to a vector. It grows only if it has no
+    /// capacity for `count` more. If that allocation fails, the call returns `OutOfHostMemory` before
+    /// the device is asked. On an error the vector has the sets that it had.
     pub fn allocate_into<L, D: DescriptorDevice<L, P, S>>(
         &mut self,
         device: &mut D,
@@ -51,20 +51,20 @@ impl<P: Drop, S: Drop> DescriptorAllocator<P, S> {
         requires meant { IsMeant D.meaning layout.now }
         requires agree { Agrees D.meaning.pool_name self.old (D.ledger device.old) }
 
-        // The request's sets are those behind what the vector had.
+        // The request's sets are those that were appended.
         ensures hands_out { HandsOut D.meaning (layout_key D.meaning layout.now.layout) count
-            (map_ok (λ done. behind sets.old.items sets.new.items) result)
+            (map_ok (λ done. appended sets.old.items sets.new.items) result)
             (side self.old (D.ledger device.old)) (side self.new (D.ledger device.new)) }
         ensures front { OnOk result (sets.new.items
-            ≡ sets.old.items ++ behind sets.old.items sets.new.items) }
+            ≡ sets.old.items ++ appended sets.old.items sets.new.items) }
         ensures own { OnOk result (AreOfLayout D.meaning layout.now.layout
-            (behind sets.old.items sets.new.items)) }
+            (appended sets.old.items sets.new.items)) }
         ensures sets_stay { OnErr result (sets.new.items ≡ sets.old.items) }
         ensures keeps { Keeps D.meaning (side self.old (D.ledger device.old))
             (side self.new (D.ledger device.new)) }
     {
         let given = replace(sets, Vec::new(self.alloc));
-        let (given, answer) = self.allocate_behind(
+        let (given, answer) = self.append_sets(
             device,
             &layout.layout,
             layout.flags,
@@ -76,7 +76,7 @@ impl<P: Drop, S: Drop> DescriptorAllocator<P, S> {
         answer
     }
 
-    /// Allocates one set of a layout, as `allocate_for` does. It takes no memory for the answer.
+    /// Allocates one set of a layout, as `allocate_for` does, and returns it without a vector.
     pub fn allocate_one<L, D: DescriptorDevice<L, P, S>>(
         &mut self,
         device: &mut D,
@@ -91,7 +91,7 @@ impl<P: Drop, S: Drop> DescriptorAllocator<P, S> {
         ensures keeps { Keeps D.meaning (side self.old (D.ledger device.old))
             (side self.new (D.ledger device.new)) }
     {
-        let (set, answer) = self.allocate_behind(
+        let (set, answer) = self.append_sets(
             device,
             &layout.layout,
             layout.flags,

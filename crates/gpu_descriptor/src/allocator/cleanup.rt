@@ -8,12 +8,12 @@ ghost use Rattle.gpu_descriptor.specs.Caller.States.{Agrees};
 
 use super::DescriptorAllocator;
 use crate::bucket::DescriptorBucket;
-use crate::set::BucketKey;
+use crate::key::BucketKey;
 use gpu_descriptor_types::DescriptorDevice;
 
 impl<P: Drop, S> DescriptorAllocator<P, S> {
     /// Destroys the oldest pools of each key up to the first that has a set, the last pool too, and
-    /// forgets the keys that then have none. It takes no memory and can't be refused.
+    /// forgets the keys that then have none. It allocates nothing and can't fail.
     ///
     /// The keys are gone through in the order in which they came. A key that was forgotten numbers
     /// its pools from 0 again. `device` must be that of all other calls.

@@ -1,4 +1,4 @@
-//! What the allocator tells of itself. The readers take no memory.
+//! Readers of the allocator. They allocate nothing.
 ghost use Rattle.std.specs.Prelude.{◌≡◌, ◌≤◌, length};
 ghost use Rattle.gpu_descriptor_types.specs.Counts.{kinds};
 ghost use Rattle.gpu_descriptor.specs.Model.Books.{books_of};
@@ -6,7 +6,7 @@ ghost use Rattle.gpu_descriptor.specs.Caller.States.{marked_load_of, outstanding
 ghost use Rattle.gpu_descriptor.specs.Caller.Views.{view_in};
 
 use super::DescriptorAllocator;
-use crate::set::BucketKey;
+use crate::key::BucketKey;
 use crate::view::PoolView;
 use gpu_descriptor_types::DescriptorTotalCount;
 

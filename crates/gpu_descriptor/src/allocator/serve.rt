@@ -1,4 +1,4 @@
-//! How a request is served: whether the limit allows it, and what goes back if it can't be met.
+//! How a request is served: whether the limit allows it, and what is freed if it can't be met.
 ghost use Rattle.std.specs.Prelude.{◌≡◌, ◌+◌, ◌*◌, ◌<◌, ◌++◌, ◌&&◌, nat_lt, sum, Err};
 ghost use Rattle.std.specs.Prelude.{IfOk, IfErr, OnOk, OnErr};
 ghost use Rattle.gpu_descriptor_types.specs.Counts.{kinds};
@@ -8,7 +8,7 @@ ghost use Rattle.gpu_descriptor.specs.Caller.Flags.{is_marked};
 ghost use Rattle.gpu_descriptor.specs.Caller.HandsOut.{HandsOut};
 ghost use Rattle.gpu_descriptor.specs.Caller.Keeps.{Keeps};
 ghost use Rattle.gpu_descriptor.specs.Caller.Keys.{with_key};
-ghost use Rattle.gpu_descriptor.specs.Caller.SetLists.{behind};
+ghost use Rattle.gpu_descriptor.specs.Caller.SetLists.{appended};
 ghost use Rattle.gpu_descriptor.specs.Caller.Sets.{AreOfLayout, PutsOfLayout};
 ghost use Rattle.gpu_descriptor.specs.Caller.States.{Agrees, keys_of, marked_load_of};
 ghost use Rattle.gpu_descriptor.specs.Inner.KeyOf.{key_of};
@@ -16,23 +16,23 @@ ghost use Rattle.gpu_descriptor.specs.Inner.OpenPools.{CountsLooks};
 ghost use Rattle.gpu_descriptor.specs.Inner.Serves.{IsDeclined, IsSound, Takes};
 
 use super::DescriptorAllocator;
-use crate::bucket::allocation::Allocation;
 use crate::bucket::request::SetRequest;
+use crate::bucket::request_sink::RequestSink;
 use crate::bucket::stop::{Stop, error_of};
 use crate::bucket::would_exceed_64_bits;
 use crate::errors::AllocationError;
 use crate::flags::DescriptorSetLayoutCreateFlags;
+use crate::key::BucketKey;
 use crate::places::SetPlaces;
-use crate::set::BucketKey;
 use bitflags::Flags;
 use gpu_descriptor_types::{DescriptorDevice, DescriptorTotalCount};
 use std::marker::PhantomData;
 
 impl<P: Drop, S> DescriptorAllocator<P, S> {
-    /// Puts the sets of a request behind those of a list, and hands that back. On an error it has
-    /// the sets that it had. See `allocate`.
+    /// Appends the sets of a request to a list, and returns that. On an error it has the sets that it
+    /// had. See `allocate`.
     #[inline]
-    pub(super) fn allocate_behind<L, D: DescriptorDevice<L, P, S>, K: SetPlaces<S>>(
+    pub(super) fn append_sets<L, D: DescriptorDevice<L, P, S>, K: SetPlaces<S>>(
         &mut self,
         device: &mut D,
         layout: &L,
@@ -46,12 +46,12 @@ impl<P: Drop, S> DescriptorAllocator<P, S> {
         requires agree { Agrees D.meaning.pool_name self.old (D.ledger device.old) }
 
         ensures hands_out { HandsOut D.meaning (layout_key D.meaning layout.now) count
-            (map_ok (λ done. behind (K.items sets) (K.items result.0)) result.1)
+            (map_ok (λ done. appended (K.items sets) (K.items result.0)) result.1)
             (side self.old (D.ledger device.old)) (side self.new (D.ledger device.new)) }
         ensures front { OnOk result.1 (K.items result.0
-            ≡ K.items sets ++ behind (K.items sets) (K.items result.0)) }
+            ≡ K.items sets ++ appended (K.items sets) (K.items result.0)) }
         ensures own { OnOk result.1 (AreOfLayout D.meaning layout.now
-            (behind (K.items sets) (K.items result.0))) }
+            (appended (K.items sets) (K.items result.0))) }
         ensures sets { OnErr result.1 (K.items result.0 ≡ K.items sets) }
         ensures keeps { Keeps D.meaning (side self.old (D.ledger device.old))
             (side self.new (D.ledger device.new)) }
@@ -79,7 +79,7 @@ impl<P: Drop, S> DescriptorAllocator<P, S> {
         self.fill(device, &request, sets)
     }
 
-    /// Puts the sets of a request behind those of a list, or gives back those that came.
+    /// Appends the sets of a request to a list, or frees those that came.
     #[inline]
     fn fill<L, D: DescriptorDevice<L, P, S>, K: SetPlaces<S>>(
         &mut self,
@@ -91,25 +91,25 @@ impl<P: Drop, S> DescriptorAllocator<P, S> {
         requires agree { Agrees D.meaning.pool_name self.old (D.ledger device.old) }
         ensures hands_out { HandsOut D.meaning (layout_key D.meaning request.now.layout.now)
             request.now.count
-            (map_ok (λ done. behind (K.items sets) (K.items result.0)) result.1)
+            (map_ok (λ done. appended (K.items sets) (K.items result.0)) result.1)
             (side self.old (D.ledger device.old)) (side self.new (D.ledger device.new)) }
         ensures front { OnOk result.1 (K.items result.0
-            ≡ K.items sets ++ behind (K.items sets) (K.items result.0)) }
+            ≡ K.items sets ++ appended (K.items sets) (K.items result.0)) }
         ensures own { OnOk result.1 (AreOfLayout D.meaning request.now.layout.now
-            (behind (K.items sets) (K.items result.0))) }
+            (appended (K.items sets) (K.items result.0))) }
         ensures sets { OnErr result.1 (K.items result.0 ≡ K.items sets) }
         ensures keeps { Keeps D.meaning (side self.old (D.ledger device.old))
             (side self.new (D.ledger device.new)) }
     {
         let first = sets.count();
-        let mut sink = Allocation::new(sets, &request.key);
+        let mut sink = RequestSink::new(sets, &request.key);
         let served = self.serve_if_allowed(device, request, &mut sink);
         let mut sets = sink.into_sets();
         match served {
             Ok(ended) => match ended {
                 Ok(()) => (sets, Ok(())),
                 Err(stop) => {
-                    sets.give_back(first, self, device);
+                    sets.free_after(first, self, device);
                     (sets, Err(error_of(stop)))
                 }
             },
@@ -119,22 +119,22 @@ impl<P: Drop, S> DescriptorAllocator<P, S> {
 
     /// Takes the sets of a request and counts those that came, unless all of them would exceed the
     /// limit or 64 bits. On an error nothing was taken. Where the inner result says that the request
-    /// stopped short, the sets that came are the caller's to give back.
+    /// stopped short, the sets that came are the caller's to free.
     ///
     /// New pools are held against the limit where they are created, by the room in the budget.
     fn serve_if_allowed<'k, L, D: DescriptorDevice<L, P, S>, K: SetPlaces<S>>(
         &mut self,
         device: &mut D,
         request: &'k SetRequest<'_, L, P, S, D>,
-        sink: &mut Allocation<'k, S, K>,
+        sink: &mut RequestSink<'k, S, K>,
     ) -> Result<Result<(), Stop>, AllocationError>
         requires some { 0 < request.now.count }
         requires agree { Agrees D.meaning.pool_name self.old (D.ledger device.old) }
         ensures taken { IfOk result (λ ended. Takes D.meaning (key_of request.now.key)
-            request.now.count (behind (K.items sink.old.sets) (K.items sink.new.sets)) ended
+            request.now.count (appended (K.items sink.old.sets) (K.items sink.new.sets)) ended
             (side self.old (D.ledger device.old)) (side self.new (D.ledger device.new))) }
         ensures front { OnOk result (K.items sink.new.sets ≡ K.items sink.old.sets
-            ++ behind (K.items sink.old.sets) (K.items sink.new.sets)) }
+            ++ appended (K.items sink.old.sets) (K.items sink.new.sets)) }
         ensures own { OnOk result (PutsOfLayout D.meaning request.now.layout.now
             (K.items sink.old.sets) (K.items sink.new.sets)) }
         ensures sets { OnErr result (K.items sink.new.sets ≡ K.items sink.old.sets) }

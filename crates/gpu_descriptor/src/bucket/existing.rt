@@ -1,11 +1,10 @@
 //! How a request takes sets from the existing pools of its key.
 ghost use Rattle.std.specs.Prelude.{◌≡◌, ◌+◌, ◌<◌, ◌≤◌, ◌++◌, ◌^◌, List, length, map};
-ghost use Rattle.std.specs.Prelude.{if◌then◌else◌, IfErr, OnOk, Err};
+ghost use Rattle.std.specs.Prelude.{IfErr, OnOk, Err};
 ghost use Rattle.std.specs.VecDeque.{deque_capacity};
-ghost use Rattle.gpu_descriptor_types.specs.Ledger.{pool_refusals};
 ghost use Rattle.gpu_descriptor.specs.declared.set.DescriptorSet.{DescriptorSet};
 ghost use Rattle.gpu_descriptor.specs.declared.bucket.stop.Stop.TheVariants.{ExistingPoolRefused};
-ghost use Rattle.gpu_descriptor.specs.Caller.SetLists.{behind};
+ghost use Rattle.gpu_descriptor.specs.Caller.SetLists.{appended};
 ghost use Rattle.gpu_descriptor.specs.Caller.Sets.{PutsOfLayout, items_of};
 ghost use Rattle.gpu_descriptor.specs.Inner.Buckets.{IsBookedIn, AreBookedIn};
 ghost use Rattle.gpu_descriptor.specs.Inner.Grow.{IsTaken};
@@ -15,22 +14,13 @@ ghost use Rattle.gpu_descriptor.specs.Inner.SetAt.{set_at};
 ghost use Rattle.gpu_descriptor.specs.Inner.Stored.{KeepsNumbers, bucket_of, entry_of};
 ghost use Rattle.gpu_descriptor.specs.Inner.Walk.{IsAsked, IsNoMemory, IsWalked};
 
-use crate::bucket::allocation::Allocation;
-use crate::bucket::reads::OpenPools;
+use crate::bucket::open_pools::OpenPools;
 use crate::bucket::request::SetRequest;
+use crate::bucket::request_sink::RequestSink;
+use crate::bucket::stop::is_of_pool;
 use crate::bucket::{DescriptorBucket, DescriptorPool};
 use crate::places::SetPlaces;
 use gpu_descriptor_types::{DescriptorDevice, DeviceAllocationError, Layouts, Tally};
-
-/// Whether a refusal speaks of the pool alone, and not of want of memory.
-fn is_of_pool(error: DeviceAllocationError) -> bool
-    ensures { pool_refusals error ≡ (if result then 1 else 0) }
-{
-    match error {
-        DeviceAllocationError::FragmentedPool | DeviceAllocationError::OutOfPoolMemory => true,
-        DeviceAllocationError::OutOfDeviceMemory | DeviceAllocationError::OutOfHostMemory => false,
-    }
-}
 
 /// Asks a pool for what it has of the sets that are left to come.
 ///
@@ -40,7 +30,7 @@ fn ask<L, P, S, D: DescriptorDevice<L, P, S>, K: SetPlaces<S>>(
     device: &mut D,
     pool: &mut DescriptorPool<P>,
     request: &SetRequest<'_, L, P, S, D>,
-    sink: &mut Allocation<'_, S, K>,
+    sink: &mut RequestSink<'_, S, K>,
 ) -> Result<(), DeviceAllocationError>
     requires booked { IsBookedIn (key_of request.now.key) (D.ledger device.old).pools
         (entry_of D.meaning.pool_name pool.old) }
@@ -85,7 +75,7 @@ fn walk<'k, L, P, S, D: DescriptorDevice<L, P, S>, K: SetPlaces<S>>(
     device: &mut D,
     view: &mut OpenPools<'_, '_, '_, P>,
     request: &'k SetRequest<'_, L, P, S, D>,
-    sink: &mut Allocation<'k, S, K>,
+    sink: &mut RequestSink<'k, S, K>,
 ) -> Result<(), DeviceAllocationError>
     requires booked { AreBookedIn (key_of request.now.key) (D.ledger device.old).pools
         (map (entry_of D.meaning.pool_name) view.old.pools.now.items) }
@@ -131,7 +121,7 @@ impl<P> DescriptorBucket<P> {
         device: &mut D,
         request: &'k SetRequest<'_, L, P, S, D>,
         looks: &mut Tally,
-        sink: &mut Allocation<'k, S, K>,
+        sink: &mut RequestSink<'k, S, K>,
     ) -> Result<(), DeviceAllocationError>
         requires booked { AreBookedIn (key_of request.now.key) (D.ledger device.old).pools
             (bucket_of D.meaning.pool_name self.old).pools }
@@ -139,23 +129,23 @@ impl<P> DescriptorBucket<P> {
         requires left { sink.old.left ≡ request.now.count }
         ensures walked { OnOk result (IsWalked (key_of request.now.key) request.now.count
             sink.new.left (items_of D.meaning.set_name
-            (behind (K.items sink.old.sets) (K.items sink.new.sets)))
+            (appended (K.items sink.old.sets) (K.items sink.new.sets)))
             (bucket_of D.meaning.pool_name self.old) (bucket_of D.meaning.pool_name self.new)
             (D.ledger device.old) (D.ledger device.new)) }
         ensures stopped { IfErr result (λ e. IsTaken (Err (ExistingPoolRefused e))
             (key_of request.now.key) 0 request.now.count
             (items_of D.meaning.set_name
-            (behind (K.items sink.old.sets) (K.items sink.new.sets)))
+            (appended (K.items sink.old.sets) (K.items sink.new.sets)))
             (bucket_of D.meaning.pool_name self.old) (bucket_of D.meaning.pool_name self.new)
             (D.ledger device.old) (D.ledger device.new)) }
         ensures own { PutsOfLayout D.meaning request.now.layout.now (K.items sink.old.sets)
             (K.items sink.new.sets) }
         ensures numbers_stay { KeepsNumbers self.old self.new }
         ensures front { K.items sink.new.sets ≡ K.items sink.old.sets
-            ++ behind (K.items sink.old.sets) (K.items sink.new.sets) }
+            ++ appended (K.items sink.old.sets) (K.items sink.new.sets) }
         ensures total { self.new.total ≡ self.old.total
-            + length (behind (K.items sink.old.sets) (K.items sink.new.sets)) }
-        ensures left { length (behind (K.items sink.old.sets) (K.items sink.new.sets))
+            + length (appended (K.items sink.old.sets) (K.items sink.new.sets)) }
+        ensures left { length (appended (K.items sink.old.sets) (K.items sink.new.sets))
             + sink.new.left ≡ request.now.count }
         ensures looks { CountsLooks looks.old.count looks.new.count
             (D.ledger device.old) (D.ledger device.new) }

@@ -6,7 +6,7 @@ ghost use Rattle.gpu_descriptor.specs.Inner.KeyOf.{key_of};
 ghost use Rattle.gpu_descriptor.specs.Inner.Stored.{bucket_of, stored_load};
 
 use super::DescriptorBucket;
-use crate::set::BucketKey;
+use crate::key::BucketKey;
 use gpu_descriptor_types::DescriptorDevice;
 
 impl<P> DescriptorBucket<P> {

@@ -16,13 +16,13 @@ ghost use Rattle.gpu_descriptor.specs.Model.FreshPools.{IsNextSize};
 ghost use Rattle.gpu_descriptor.specs.Model.Load.{pool_descriptors};
 ghost use Rattle.gpu_descriptor.specs.Model.Outcomes.{StopsAtNew};
 
-use crate::bucket::allocation::Allocation;
 use crate::bucket::request::SetRequest;
+use crate::bucket::request_sink::RequestSink;
 use crate::bucket::stop::Stop;
 use crate::bucket::{DescriptorBucket, DescriptorPool};
 use crate::budget::Budget;
+use crate::key::BucketKey;
 use crate::places::SetPlaces;
-use crate::set::BucketKey;
 use bitflags::Flags;
 use gpu_descriptor_types::{
     DescriptorDevice, DescriptorPoolCreateFlags, DescriptorTotalCount, Layouts, Tally,
@@ -31,7 +31,7 @@ use gpu_descriptor_types::{
 use std::alloc::AllocError;
 use std::collections::VecDeque;
 
-/// The flags of a new pool: sets go back singly, and it takes marked sets if its key is marked.
+/// The flags of a new pool: sets are freed singly, and it takes marked sets if its key is marked.
 fn pool_flags(update_after_bind: bool) -> DescriptorPoolCreateFlags
     ensures { bits result ≡ pool_flags_of update_after_bind }
 {
@@ -77,7 +77,7 @@ impl<P> DescriptorBucket<P> {
         device: &mut D,
         request: &'k SetRequest<'_, L, P, S, D>,
         budget: &mut Budget,
-        sink: &mut Allocation<'k, S, K>,
+        sink: &mut RequestSink<'k, S, K>,
     ) -> Result<(), Stop>
         requires some { 0 < sink.old.left }
         requires numbers { self.old.offset + length self.old.pools.items + sink.old.left < 2 ^ 64 }
@@ -162,7 +162,7 @@ impl<P> DescriptorBucket<P> {
         self.listed.reserve(wanting)
     }
 
-    /// Puts a new pool behind the others.
+    /// Appends a new pool.
     fn push(&mut self, pool: DescriptorPool<P>)
         requires numbers { self.old.offset + length self.old.pools.items + 1 < 2 ^ 64 }
         requires bound { self.old.total + pool.allocated < 2 ^ 64 }

@@ -1,8 +1,8 @@
-//! A request for sets of one key: what it asks for, what it answers, and how the key's bucket serves
+//! A request for sets of one key: what it asks for, what it returns, and how the key's bucket serves
 //! it.
 ghost use Rattle.std.specs.Prelude.{◌≡◌, ◌+◌, ◌<◌, ◌^◌, ◌++◌, length, IfOk, IfErr, OnOk, OnErr};
 ghost use Rattle.gpu_descriptor.specs.Caller.Call.{layout_key};
-ghost use Rattle.gpu_descriptor.specs.Caller.SetLists.{behind};
+ghost use Rattle.gpu_descriptor.specs.Caller.SetLists.{appended};
 ghost use Rattle.gpu_descriptor.specs.Caller.Sets.{PutsOfLayout, items_of};
 ghost use Rattle.gpu_descriptor.specs.Inner.Buckets.{AreBookedIn};
 ghost use Rattle.gpu_descriptor.specs.Inner.Grow.{IsTaken};
@@ -12,13 +12,13 @@ ghost use Rattle.gpu_descriptor.specs.Inner.Serves.{IsServed, IsUnserved};
 ghost use Rattle.gpu_descriptor.specs.Inner.Stored.{KeepsNumbers, bucket_of, stored_load};
 ghost use Rattle.gpu_descriptor.specs.Model.Books.{next_number};
 
-use crate::bucket::allocation::Allocation;
+use crate::bucket::request_sink::RequestSink;
 use crate::bucket::stop::Stop;
 use crate::bucket::{DescriptorBucket, would_exceed_64_bits};
 use crate::budget::Budget;
 use crate::errors::AllocationError;
+use crate::key::BucketKey;
 use crate::places::SetPlaces;
-use crate::set::BucketKey;
 use gpu_descriptor_types::DescriptorDevice;
 use std::alloc::Global;
 use std::marker::PhantomData;
@@ -45,20 +45,20 @@ impl<P: Drop> DescriptorBucket<P> {
         device: &mut D,
         request: &'k SetRequest<'_, L, P, S, D>,
         budget: &mut Budget,
-        sink: &mut Allocation<'k, S, K>,
+        sink: &mut RequestSink<'k, S, K>,
     ) -> Result<Result<(), Stop>, AllocationError>
         requires booked { AreBookedIn (key_of request.now.key) (D.ledger device.old).pools
             (bucket_of D.meaning.pool_name self.old).pools }
         requires bound { self.old.total + request.now.count < 2 ^ 64 }
         ensures served { IfOk result (λ ended. IsServed D.meaning (key_of request.now.key)
             budget.old.room request.now.count
-            (behind (K.items sink.old.sets) (K.items sink.new.sets)) ended
+            (appended (K.items sink.old.sets) (K.items sink.new.sets)) ended
             (bucket_of D.meaning.pool_name self.old) (bucket_of D.meaning.pool_name self.new)
             (D.ledger device.old) (D.ledger device.new) × (self.new.total ≡ self.old.total
-            + length (behind (K.items sink.old.sets) (K.items sink.new.sets)))) }
+            + length (appended (K.items sink.old.sets) (K.items sink.new.sets)))) }
         ensures front { OnOk result (K.items sink.new.sets ≡ K.items sink.old.sets
-            ++ behind (K.items sink.old.sets) (K.items sink.new.sets)) }
-        ensures left { OnOk result (length (behind (K.items sink.old.sets) (K.items sink.new.sets))
+            ++ appended (K.items sink.old.sets) (K.items sink.new.sets)) }
+        ensures left { OnOk result (length (appended (K.items sink.old.sets) (K.items sink.new.sets))
             + sink.new.left ≡ request.now.count) }
         ensures own { OnOk result (PutsOfLayout D.meaning request.now.layout.now
             (K.items sink.old.sets) (K.items sink.new.sets)) }
@@ -90,7 +90,7 @@ impl<P: Drop> DescriptorBucket<P> {
         device: &mut D,
         request: &'k SetRequest<'_, L, P, S, D>,
         budget: &mut Budget,
-        sink: &mut Allocation<'k, S, K>,
+        sink: &mut RequestSink<'k, S, K>,
     ) -> Result<(), Stop>
         requires booked { AreBookedIn (key_of request.now.key) (D.ledger device.old).pools
             (bucket_of D.meaning.pool_name self.old).pools }
@@ -100,17 +100,17 @@ impl<P: Drop> DescriptorBucket<P> {
         requires left { sink.old.left ≡ request.now.count }
         ensures taken { IsTaken result (key_of request.now.key) budget.old.room request.now.count
             (items_of D.meaning.set_name
-            (behind (K.items sink.old.sets) (K.items sink.new.sets)))
+            (appended (K.items sink.old.sets) (K.items sink.new.sets)))
             (bucket_of D.meaning.pool_name self.old) (bucket_of D.meaning.pool_name self.new)
             (D.ledger device.old) (D.ledger device.new) }
         ensures own { PutsOfLayout D.meaning request.now.layout.now (K.items sink.old.sets)
             (K.items sink.new.sets) }
         ensures numbers_stay { KeepsNumbers self.old self.new }
         ensures front { K.items sink.new.sets ≡ K.items sink.old.sets
-            ++ behind (K.items sink.old.sets) (K.items sink.new.sets) }
+            ++ appended (K.items sink.old.sets) (K.items sink.new.sets) }
         ensures total { self.new.total ≡ self.old.total
-            + length (behind (K.items sink.old.sets) (K.items sink.new.sets)) }
-        ensures left { length (behind (K.items sink.old.sets) (K.items sink.new.sets))
+            + length (appended (K.items sink.old.sets) (K.items sink.new.sets)) }
+        ensures left { length (appended (K.items sink.old.sets) (K.items sink.new.sets))
             + sink.new.left ≡ request.now.count }
         ensures all { OnOk result (sink.new.left ≡ 0) }
         ensures room { budget.new.room + stored_load (key_of request.now.key) self.new.pools.items

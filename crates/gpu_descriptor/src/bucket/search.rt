@@ -5,7 +5,7 @@ ghost use Rattle.std.specs.List.Sorted.{IsNonDecreasing, IsPartitionPoint};
 ghost use Rattle.gpu_descriptor.specs.Caller.Comparisons.{binary_digits};
 ghost use Rattle.gpu_descriptor.specs.Inner.OpenNumbers.{IsEntered};
 
-use crate::bucket::reads::Numbers;
+use crate::bucket::numbers::Numbers;
 use gpu_descriptor_types::Tally;
 use std::collections::VecDeque;
 
@@ -53,7 +53,7 @@ fn enter(listed: &mut VecDeque<u64>, number: u64, comparisons: &mut Tally)
     }
 }
 
-/// Puts a number in at its place where it isn't there yet, into an empty list without a search. The
+/// Puts a number in at its place if it isn't there yet, into an empty list without a search. The
 /// test is an argument: with an `if` around the call, each promise of the caller would want two
 /// proofs.
 #[inline]

@@ -1,5 +1,6 @@
-//! Why a request stops that came to the pools of its key, and what it answers then.
-ghost use Rattle.std.specs.Prelude.{◌≡◌};
+//! Why a request stops that came to the pools of its key, and what it returns then.
+ghost use Rattle.std.specs.Prelude.{◌≡◌, if◌then◌else◌};
+ghost use Rattle.gpu_descriptor_types.specs.Ledger.{pool_refusals};
 ghost use Rattle.gpu_descriptor.specs.Model.Outcomes.{error_of_alloc, stop_error};
 
 use crate::errors::AllocationError;
@@ -8,13 +9,13 @@ use gpu_descriptor_types::{CreatePoolError, DeviceAllocationError};
 /// Why a request stops that came to the pools of its key.
 #[derive(Clone, Copy)]
 pub(crate) enum Stop {
-    /// An existing pool answered want of memory.
+    /// An existing pool returned that memory is wanting.
     ExistingPoolRefused(DeviceAllocationError),
 
     /// The limit leaves no room for a new pool.
     NoRoomUnderLimit,
 
-    /// There was no memory for the books of a new pool.
+    /// An allocation failed, for the books of a new pool.
     NoMemoryForPool,
 
     /// The device created no new pool.
@@ -24,7 +25,7 @@ pub(crate) enum Stop {
     NewPoolRefused(DeviceAllocationError),
 }
 
-/// What a request answers that stopped so.
+/// What a request returns that stopped so.
 pub(crate) fn error_of(stop: Stop) -> AllocationError
     ensures { result ≡ stop_error stop }
 {
@@ -47,5 +48,15 @@ fn error_of_pool(error: DeviceAllocationError) -> AllocationError
         DeviceAllocationError::FragmentedPool | DeviceAllocationError::OutOfPoolMemory => {
             AllocationError::Fragmentation
         }
+    }
+}
+
+/// Whether a refusal is of the pool alone, and not for want of memory.
+pub(crate) fn is_of_pool(error: DeviceAllocationError) -> bool
+    ensures { pool_refusals error ≡ (if result then 1 else 0) }
+{
+    match error {
+        DeviceAllocationError::FragmentedPool | DeviceAllocationError::OutOfPoolMemory => true,
+        DeviceAllocationError::OutOfDeviceMemory | DeviceAllocationError::OutOfHostMemory => false,
     }
 }

@@ -12,7 +12,7 @@ pub enum RetireError<T> {
     /// The frame lies before the greatest at which a set was retired.
     FrameBack(T),
 
-    /// There was no memory for the list of retired sets.
+    /// An allocation failed, for the list of retired sets.
     Memory(T),
 }
 

@@ -21,7 +21,7 @@ use crate::kit::ops::Range;
 /// the pools that it created there.
 ///
 /// Dropping it is silent and destroys no pool of the device: free all sets and call `cleanup`
-/// first. `outstanding` tells how many sets are still out.
+/// first. `outstanding` returns how many sets are still out.
 #[derive(Debug)]
 pub struct DescriptorAllocator<P, S> {
     alloc: Global,
@@ -40,8 +40,8 @@ pub struct DescriptorAllocator<P, S> {
 
 impl<P, S> DescriptorAllocator<P, S> {
     /// An allocator without keys, under a limit on the update-after-bind descriptors of all
-    /// outstanding sets, and of all pools for such sets. It agrees with every device, and takes no
-    /// memory.
+    /// outstanding sets, and of all pools for such sets. It agrees with every device, and
+    /// allocates nothing.
     pub fn new(alloc: Global, max_update_after_bind_descriptors_in_all_pools: u32) -> Self
     {
         DescriptorAllocator::with_ids(

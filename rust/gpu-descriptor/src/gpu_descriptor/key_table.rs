@@ -3,13 +3,13 @@
 //! is used, so nothing rests on the hint.
 
 use crate::gpu_descriptor::bucket::DescriptorBucket;
-use crate::gpu_descriptor::bucket::allocation::Allocation;
 use crate::gpu_descriptor::bucket::request::SetRequest;
+use crate::gpu_descriptor::bucket::request_sink::RequestSink;
 use crate::gpu_descriptor::bucket::stop::Stop;
 use crate::gpu_descriptor::budget::Budget;
 use crate::gpu_descriptor::errors::AllocationError;
+use crate::gpu_descriptor::key::BucketKey;
 use crate::gpu_descriptor::places::SetPlaces;
-use crate::gpu_descriptor::set::BucketKey;
 use crate::gpu_descriptor_types::DescriptorDevice;
 use crate::kit::indexmap::IndexMap;
 use crate::kit::alloc::Global;
@@ -43,8 +43,8 @@ impl<P> KeyTable<P> {
         }
     }
 
-    /// The place of a key. It is hashed only where neither the last call's place is right nor the
-    /// one behind it, which serves keys that are used in the order in which they first came.
+    /// The place of a key. It is hashed only if neither the last call's place is right nor the
+    /// one after it, which serves keys that are used in the order in which they first came.
     #[inline]
     fn place_of_key(&self, key: &BucketKey) -> Option<usize>
     {
@@ -58,7 +58,7 @@ impl<P> KeyTable<P> {
         self.buckets.get_index_of(key)
     }
 
-    /// The place of the key with an id. Where neither hint is right it is found by halves, since
+    /// The place of the key with an id. If neither hint is right it is found by halves, since
     /// the ids rise along the table.
     #[inline]
     pub(crate) fn place_of_id(&self, id: u64) -> usize
@@ -95,20 +95,34 @@ impl<P> KeyTable<P> {
 }
 
 impl<P> KeyTable<P> {
-    /// Takes sets of a key. If the key is absent, it is put last.
+    /// Takes sets of a key. If the key is absent, it is appended.
     #[inline]
     pub(crate) fn serve<'k, L, S, D: DescriptorDevice<L, P, S>, K: SetPlaces<S>>(
         &mut self,
         device: &mut D,
         request: &'k SetRequest<'_, L, P, S, D>,
         budget: &mut Budget,
-        sink: &mut Allocation<'k, S, K>,
+        sink: &mut RequestSink<'k, S, K>,
     ) -> Result<Result<(), Stop>, AllocationError>
     {
         if let Some(place) = self.place_of_key(&request.key) {
             self.last = place;
             return self.buckets[place].serve(device, request, budget, sink);
         }
+        self.serve_absent(device, request, budget, sink)
+    }
+
+    /// Takes sets of a key that is absent, and appends it. It is out of line, because most requests
+    /// find their key.
+    #[inline(never)]
+    fn serve_absent<'k, L, S, D: DescriptorDevice<L, P, S>, K: SetPlaces<S>>(
+        &mut self,
+        device: &mut D,
+        request: &'k SetRequest<'_, L, P, S, D>,
+        budget: &mut Budget,
+        sink: &mut RequestSink<'k, S, K>,
+    ) -> Result<Result<(), Stop>, AllocationError>
+    {
         if self.buckets.reserve(1).is_err() {
             return Err(AllocationError::OutOfHostMemory);
         }

@@ -20,7 +20,7 @@
 //! allocator.cleanup(&mut device);
 //! ```
 //!
-//! README.md has the same as a crate by itself, with its contract. CALLING.md has more callers.
+//! CALLING.md has the same with its contract, and more callers.
 
 mod allocator;
 mod bucket;
@@ -32,6 +32,7 @@ mod key_table;
 mod layout;
 mod places;
 mod set;
+mod set_key;
 mod view;
 
 pub use allocator::DescriptorAllocator;

@@ -7,19 +7,19 @@ use crate::gpu_descriptor_types::DescriptorDevice;
 use crate::kit::alloc::AllocError;
 use crate::kit::vec::Vec;
 
-/// A list of sets, behind whose last a request puts its sets.
+/// A list of sets, to which a request appends its sets.
 pub(crate) trait SetPlaces<S> {
     /// How many sets there are.
     fn count(&self) -> usize;
 
-    /// Makes room for so many more sets. It takes no memory if they fit already.
+    /// Makes room for so many more sets. It succeeds, and allocates nothing, if they fit already.
     fn make_room(&mut self, count: u32) -> Result<(), AllocError>;
 
-    /// Puts a set behind the others.
+    /// Appends a set.
     fn put(&mut self, set: DescriptorSet<S>);
 
-    /// Gives the sets behind the first ones back, as `free` does.
-    fn give_back<L, P, D: DescriptorDevice<L, P, S>>(
+    /// Frees the sets after the first ones, as `free` does.
+    fn free_after<L, P, D: DescriptorDevice<L, P, S>>(
         &mut self,
         first: usize,
         allocator: &mut DescriptorAllocator<P, S>,
@@ -49,7 +49,7 @@ impl<S> SetPlaces<S> for Vec<DescriptorSet<S>> {
         self.push_reserved(set);
     }
 
-    fn give_back<L, P, D: DescriptorDevice<L, P, S>>(
+    fn free_after<L, P, D: DescriptorDevice<L, P, S>>(
         &mut self,
         first: usize,
         allocator: &mut DescriptorAllocator<P, S>,
@@ -89,19 +89,19 @@ impl<S> SetPlaces<S> for Option<DescriptorSet<S>> {
         *self = Some(set);
     }
 
-    fn give_back<L, P, D: DescriptorDevice<L, P, S>>(
+    fn free_after<L, P, D: DescriptorDevice<L, P, S>>(
         &mut self,
         first: usize,
         allocator: &mut DescriptorAllocator<P, S>,
         device: &mut D,
     ) {
-        let mut back = take_behind(self, first).into_iter();
+        let mut back = split_off(self, first).into_iter();
         allocator.free_from(device, &mut back);
     }
 }
 
 /// Takes the set out, unless it is the first one of those that stay.
-fn take_behind<S>(set: &mut Option<DescriptorSet<S>>, first: usize) -> Option<DescriptorSet<S>>
+fn split_off<S>(set: &mut Option<DescriptorSet<S>>, first: usize) -> Option<DescriptorSet<S>>
 {
     if first == 0 { set.take() } else { None }
 }

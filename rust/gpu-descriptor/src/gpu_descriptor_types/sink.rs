@@ -13,6 +13,6 @@ pub trait SetSink<S> {
     /// How many more sets fit.
     fn left(&self) -> usize;
 
-    /// Puts a set behind the others.
+    /// Appends a set.
     fn put(&mut self, set: S);
 }

@@ -21,9 +21,9 @@ impl<P, S> DescriptorAllocator<P, S> {
         self.allocate(device, &layout.layout, layout.flags, &layout.counts, count)
     }
 
-    /// The same as `allocate_for`, but the sets are put behind those of a vector. It takes memory for
-    /// them only if the vector has no capacity for `count` more. If it can't get that, the answer is
-    /// `OutOfHostMemory` before the device is asked. On an error the vector has the sets that it had.
+    /// The same as `allocate_for`, but the sets are appended to a vector. It grows only if it has no
+    /// capacity for `count` more. If that allocation fails, the call returns `OutOfHostMemory` before
+    /// the device is asked. On an error the vector has the sets that it had.
     pub fn allocate_into<L, D: DescriptorDevice<L, P, S>>(
         &mut self,
         device: &mut D,
@@ -33,7 +33,7 @@ impl<P, S> DescriptorAllocator<P, S> {
     ) -> Result<(), AllocationError>
     {
         let given = replace(sets, Vec::new(self.alloc));
-        let (given, answer) = self.allocate_behind(
+        let (given, answer) = self.append_sets(
             device,
             &layout.layout,
             layout.flags,
@@ -45,14 +45,14 @@ impl<P, S> DescriptorAllocator<P, S> {
         answer
     }
 
-    /// Allocates one set of a layout, as `allocate_for` does. It takes no memory for the answer.
+    /// Allocates one set of a layout, as `allocate_for` does, and returns it without a vector.
     pub fn allocate_one<L, D: DescriptorDevice<L, P, S>>(
         &mut self,
         device: &mut D,
         layout: &SetLayout<L>,
     ) -> Result<DescriptorSet<S>, AllocationError>
     {
-        let (set, answer) = self.allocate_behind(
+        let (set, answer) = self.append_sets(
             device,
             &layout.layout,
             layout.flags,

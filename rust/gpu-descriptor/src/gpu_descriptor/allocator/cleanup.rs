@@ -3,12 +3,12 @@
 
 use super::DescriptorAllocator;
 use crate::gpu_descriptor::bucket::DescriptorBucket;
-use crate::gpu_descriptor::set::BucketKey;
+use crate::gpu_descriptor::key::BucketKey;
 use crate::gpu_descriptor_types::DescriptorDevice;
 
 impl<P, S> DescriptorAllocator<P, S> {
     /// Destroys the oldest pools of each key up to the first that has a set, the last pool too, and
-    /// forgets the keys that then have none. It takes no memory and can't be refused.
+    /// forgets the keys that then have none. It allocates nothing and can't fail.
     ///
     /// The keys are gone through in the order in which they came. A key that was forgotten numbers
     /// its pools from 0 again. `device` must be that of all other calls.

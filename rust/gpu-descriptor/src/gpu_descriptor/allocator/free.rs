@@ -7,9 +7,9 @@ use crate::gpu_descriptor_types::DescriptorDevice;
 use crate::kit::vec::Vec;
 
 impl<P, S> DescriptorAllocator<P, S> {
-    /// Gives sets back. It takes no memory and can't be refused.
+    /// Frees sets. It allocates nothing and can't fail.
     ///
-    /// Neighbours of one pool go back in one call of the device. Whenever the oldest pools of their
+    /// Neighbours of one pool are freed by one call of the device. Whenever the oldest pools of their
     /// key have no set left, these are destroyed, but never the key's last pool.
     ///
     /// `device` must be that of all other calls. It must be done with all work that uses one of the
@@ -24,7 +24,7 @@ impl<P, S> DescriptorAllocator<P, S> {
         self.free_from(device, &mut sets);
     }
 
-    /// The same as `free`, for the sets that the iterator gives up to its end.
+    /// The same as `free`, for the sets that the iterator yields up to its end.
     #[inline]
     pub fn free_from<L, D: DescriptorDevice<L, P, S>, I: Iterator<Item = DescriptorSet<S>>>(
         &mut self,

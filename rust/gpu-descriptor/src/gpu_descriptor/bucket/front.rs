@@ -2,7 +2,7 @@
 //! The front of a bucket: its oldest pools, which go when they have no sets.
 
 use super::DescriptorBucket;
-use crate::gpu_descriptor::set::BucketKey;
+use crate::gpu_descriptor::key::BucketKey;
 use crate::gpu_descriptor_types::DescriptorDevice;
 
 impl<P> DescriptorBucket<P> {

@@ -26,7 +26,7 @@ loop-set-preserved g c =
       count = (let was = inv.count in let now = c.put_at.ensures.count in omega arith);
       few = (let few = inv.few in omega arith);
       capacity = c.in-Some.ensures.capacity ∙ inv.capacity;
-      greatest = (let up = inv.greatest in let now = c.put_at.ensures.greatest in omega arith);
+      greatest = (let up = inv.greatest in let now = c.put_at.ensures.greatest in let late = c.requires.late in omega arith);
       reserve = (let was = inv.reserve in let now = c.put_at.ensures.reserve in omega arith);
       allocator = c.put_at.ensures.allocator ∙ inv.allocator;
     }

@@ -1,4 +1,4 @@
-use Rattle.std.proofs.Common.{◌≡◌, ℕ, ◌+◌, ◌≤◌, length, max}
+use Rattle.std.proofs.Common.{◌≡◌, ℕ, ◌+◌, ◌≤◌, length}
 use Rattle.std.specs.VecDeque.{deque_capacity}
 use Rattle.gpu_descriptor.specs.Model.Agreement.{Item, count_of}
 use Rattle.gpu_descriptor.specs.Caller.Sets.{items_of}
@@ -14,7 +14,7 @@ invariant-loop-set g l = record {
   count : length (retired_of l.self) + length l.sets.items ≡ length (retired_of l.fn.self) + length l.fn.sets.items;
   few : length l.sets.items ≤ length l.fn.sets.items;
   capacity : deque_capacity l.sets ≡ deque_capacity l.fn.sets;
-  greatest : greatest_of l.self ≤ max (greatest_of l.fn.self) l.frame;
+  greatest : greatest_of l.self ≡ greatest_of l.fn.self;
   reserve : reserve_of l.fn.self + length l.sets.items ≤ reserve_of l.self + length l.fn.sets.items;
   allocator : allocator_of l.self ≡ allocator_of l.fn.self;
 }

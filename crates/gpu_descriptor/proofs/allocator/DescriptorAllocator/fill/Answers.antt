@@ -1,20 +1,20 @@
 use Rattle.gpu_descriptor.proofs.Common.{◌≡◌, ℕ, List, drop, subst, sym, Err, side, DescriptorSet, Key, items_of, call_of, layout_key, with_key, AreOutstanding, AreOfLayout, state_of, IsDeclined, Takes, Returns}
-use Rattle.gpu_descriptor.specs.Caller.SetLists.{behind}
+use Rattle.gpu_descriptor.specs.Caller.SetLists.{appended}
 use Rattle.gpu_descriptor.specs.Caller.States.{keys_of}
 use Rattle.gpu_descriptor.proofs.request.Outcomes.{taken_agree, taken_given}
 use Rattle.gpu_descriptor.proofs.request.HandedOut.{hands_all, hands_back, hands_none, keeps_all, keeps_back}
 use Rattle.gpu_descriptor.proofs.request.OwnLayout.{own_behind}
 use Rattle.gpu_descriptor.proofs.callers.Unchanged.{keeps_still}
-use Rattle.gpu_descriptor.proofs.allocator.DescriptorAllocator.fill.Goals.{After-give_back, In-Ok}
+use Rattle.gpu_descriptor.proofs.allocator.DescriptorAllocator.fill.Goals.{After-free_after, In-Ok}
 use Rattle.gpu_descriptor.proofs.allocator.DescriptorAllocator.fill.Goals as goal
 
 -- what came
 module _ (g : _) (c : In-Ok g) where
   abbrev came : List (DescriptorSet g.row.S.Denot)
-  came = behind (g.K.SetPlaces.items c.args.sets) (g.K.SetPlaces.items c.into_sets-sets.result)
+  came = appended (g.K.SetPlaces.items c.args.sets) (g.K.SetPlaces.items c.into_sets-sets.result)
 
-  is_put : behind (g.K.SetPlaces.items c.new-sink.result.sets) (g.K.SetPlaces.items c.serve_if_allowed-served.new.sink.sets) ≡ came
-  is_put = λ i. behind (g.K.SetPlaces.items (c.new-sink.ensures i)) (g.K.SetPlaces.items (sym c.into_sets-sets.ensures i))
+  is_put : appended (g.K.SetPlaces.items c.new-sink.result.sets) (g.K.SetPlaces.items c.serve_if_allowed-served.new.sink.sets) ≡ came
+  is_put = λ i. appended (g.K.SetPlaces.items (c.new-sink.ensures i)) (g.K.SetPlaces.items (sym c.into_sets-sets.ensures i))
 
   -- under the layout's key
   taken : Takes g.D.DescriptorDevice.meaning (layout_key g.D.DescriptorDevice.meaning c.args.request.now.layout.now) c.args.request.now.count came c.in-Ok.ended (side c.args.self.now (g.D.DescriptorDevice.ledger c.args.device.now)) (side c.serve_if_allowed-served.new.self (g.D.DescriptorDevice.ledger c.serve_if_allowed-served.new.device))
@@ -25,15 +25,15 @@ module _ (g : _) (c : In-Ok g) where
   gained = subst (λ (k : Key). keys_of c.serve_if_allowed-served.new.self ≡ with_key k (keys_of c.args.self.now)) c.args.request.now.same c.in-Ok.ensures.keys
 
 -- and went back
-returned : (g : _) (c : After-give_back g) → Returns g.D.DescriptorDevice.meaning (came g (goal.at-After-give_back g c).In-Ok) (side c.serve_if_allowed-served.new.self (g.D.DescriptorDevice.ledger c.serve_if_allowed-served.new.device)) (side c.give_back.new.allocator (g.D.DescriptorDevice.ledger c.give_back.new.device))
-returned g c = subst (λ (n : ℕ). Returns g.D.DescriptorDevice.meaning (drop n (g.K.SetPlaces.items c.into_sets-sets.result)) (side c.serve_if_allowed-served.new.self (g.D.DescriptorDevice.ledger c.serve_if_allowed-served.new.device)) (side c.give_back.new.allocator (g.D.DescriptorDevice.ledger c.give_back.new.device))) c.count-first.ensures c.give_back.ensures.returns
+returned : (g : _) (c : After-free_after g) → Returns g.D.DescriptorDevice.meaning (came g (goal.at-After-free_after g c).In-Ok) (side c.serve_if_allowed-served.new.self (g.D.DescriptorDevice.ledger c.serve_if_allowed-served.new.device)) (side c.free_after.new.allocator (g.D.DescriptorDevice.ledger c.free_after.new.device))
+returned g c = subst (λ (n : ℕ). Returns g.D.DescriptorDevice.meaning (drop n (g.K.SetPlaces.items c.into_sets-sets.result)) (side c.serve_if_allowed-served.new.self (g.D.DescriptorDevice.ledger c.serve_if_allowed-served.new.device)) (side c.free_after.new.allocator (g.D.DescriptorDevice.ledger c.free_after.new.device))) c.count-first.ensures c.free_after.ensures.returns
 
-pub give_back-requires-clause-agree : goal.give_back-requires-clause-agree
-give_back-requires-clause-agree g c = record { rows = c.in-Ok.ensures.within.rows; books = taken_agree c.in-Ok.ensures.taken c.requires.agree.books }
+pub free_after-requires-clause-agree : goal.free_after-requires-clause-agree
+free_after-requires-clause-agree g c = record { rows = c.in-Ok.ensures.within.rows; books = taken_agree c.in-Ok.ensures.taken c.requires.agree.books }
 
-pub give_back-requires-clause-outstanding : goal.give_back-requires-clause-outstanding
-give_back-requires-clause-outstanding g c =
-    subst (λ (n : ℕ). AreOutstanding (items_of g.D.DescriptorDevice.meaning.set_name (drop n (g.K.SetPlaces.items c.into_sets-sets.result))) (state_of g.D.DescriptorDevice.meaning.pool_name c.serve_if_allowed-served.new.self (g.D.DescriptorDevice.ledger c.serve_if_allowed-served.new.device))) (sym c.count-first.ensures) (taken_given (taken g (goal.at.give_back-requires-clause-outstanding g c).In-Ok) c.requires.agree.books)
+pub free_after-requires-clause-outstanding : goal.free_after-requires-clause-outstanding
+free_after-requires-clause-outstanding g c =
+    subst (λ (n : ℕ). AreOutstanding (items_of g.D.DescriptorDevice.meaning.set_name (drop n (g.K.SetPlaces.items c.into_sets-sets.result))) (state_of g.D.DescriptorDevice.meaning.pool_name c.serve_if_allowed-served.new.self (g.D.DescriptorDevice.ledger c.serve_if_allowed-served.new.device))) (sym c.count-first.ensures) (taken_given (taken g (goal.at.free_after-requires-clause-outstanding g c).In-Ok) c.requires.agree.books)
 
 pub returns-in-Err-clause-hands_out : goal.returns-in-Err-clause-hands_out
 returns-in-Err-clause-hands_out g c =
@@ -60,9 +60,9 @@ returns-in-Ok-ended-clause-keeps g c =
 pub returns-in-Err-ended-clause-hands_out : goal.returns-in-Err-ended-clause-hands_out
 returns-in-Err-ended-clause-hands_out g c =
     let r = (goal.at.returns-in-Err-ended-clause-hands_out g c).In-Ok in
-    rw c.error_of.ensures (hands_back (came g r) (taken g r) c.requires.agree (gained g r) c.in-Ok.ensures.looks c.in-Ok.ensures.comparisons_stay c.requires.some c.in-Ok.ensures.within.rows (returned g (goal.at.returns-in-Err-ended-clause-hands_out g c).After-give_back) c.in-Err-ended.is)
+    rw c.error_of.ensures (hands_back (came g r) (taken g r) c.requires.agree (gained g r) c.in-Ok.ensures.looks c.in-Ok.ensures.comparisons_stay c.requires.some c.in-Ok.ensures.within.rows (returned g (goal.at.returns-in-Err-ended-clause-hands_out g c).After-free_after) c.in-Err-ended.is)
 
 pub returns-in-Err-ended-clause-keeps : goal.returns-in-Err-ended-clause-keeps
 returns-in-Err-ended-clause-keeps g c =
     let at = goal.at.returns-in-Err-ended-clause-keeps g c in
-    keeps_back (taken g at.In-Ok) c.requires.agree.books (returned g at.After-give_back) c.in-Ok.ensures.limit c.give_back.ensures.keeps
+    keeps_back (taken g at.In-Ok) c.requires.agree.books (returned g at.After-free_after) c.in-Ok.ensures.limit c.free_after.ensures.keeps

@@ -3,7 +3,7 @@ use Rattle.gpu_descriptor.proofs.Common.{greatest_u64, ◌≡◌, ◌+◌, ◌�
 use Rattle.gpu_descriptor.proofs.request.StateAgrees.{booked_of}
 use Rattle.gpu_descriptor.proofs.cleanup.KeyOrder.{keys_seen}
 use Rattle.gpu_descriptor.proofs.request.Requested.{keeps_limit, seen, seen_again, table_is, books_at, declined_by_limit, declined_by_bound, declined_unserved, given_fits, counted_now, takes_of}
-use Rattle.gpu_descriptor.specs.Caller.SetLists.{behind}
+use Rattle.gpu_descriptor.specs.Caller.SetLists.{appended}
 use Rattle.gpu_descriptor.proofs.request.Passed.{passed}
 use Rattle.gpu_descriptor.proofs.allocator.DescriptorAllocator.serve_if_allowed.Goals.{After-from-taken, After-marked_descriptors_of_sets-descriptors}
 use Rattle.gpu_descriptor.proofs.allocator.DescriptorAllocator.serve_if_allowed.Goals as goal
@@ -35,7 +35,7 @@ returns-in_err-ended-clause-declined g c =
     c.would_exceed_64_bits.ensures c.if-would_exceed_64_bits.false (seen_again _ c.self.view_is _ c.in_err-ended.ensures.entries (ap (λ b. b.looks.count) c.in_err-ended.ensures.budget)) c.in_err-ended.ensures.ledger c.in_err-ended.field-0.0 c.in_err-ended.ensures.refused)
 
 -- so many came
-many : (g : _) (c : After-from-taken g) → c.from-taken.result ≡ length (behind (g.K.SetPlaces.items c.args.sink.now.sets) (g.K.SetPlaces.items c.serve.new.sink.sets))
+many : (g : _) (c : After-from-taken g) → c.from-taken.result ≡ length (appended (g.K.SetPlaces.items c.args.sink.now.sets) (g.K.SetPlaces.items c.serve.new.sink.sets))
 many g c = (let left = c.in_ok-ended.ensures.left in let came = c.from-taken.ensures in omega arith)
 
 -- the descriptors of what came keep the limit

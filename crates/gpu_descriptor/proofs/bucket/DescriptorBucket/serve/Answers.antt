@@ -1,6 +1,6 @@
 use Rattle.gpu_descriptor.proofs.Common.{greatest_u64, ◌≡◌, ◌≤◌, ◌+◌, List, length, arith, sym, ◌∙◌, subst, ltb-false, length-map, Ledger, DescriptorSet, Key, key_of, bucket_of, entry_of, IsServed}
 use Rattle.std.proofs.lemmas.Result.{on_ok_weaker}
-use Rattle.gpu_descriptor.specs.Caller.SetLists.{behind}
+use Rattle.gpu_descriptor.specs.Caller.SetLists.{appended}
 use Rattle.gpu_descriptor.proofs.bucket.DescriptorBucket.serve.Goals as goal
 
 pub returns-clause-served : goal.returns-clause-served
@@ -9,7 +9,7 @@ returns-clause-served g c =
     let l : Ledger = g.D.DescriptorDevice.ledger c.args.device.now in
     let m : Ledger = g.D.DescriptorDevice.ledger c.take.new.device in
     let name = g.D.DescriptorDevice.meaning.pool_name in
-    subst (λ (was : List (DescriptorSet g.row.S.Denot)). IsServed g.D.DescriptorDevice.meaning key c.args.budget.now.room c.args.request.now.count (behind was (g.K.SetPlaces.items c.take.new.sink.sets)) c.take.result (bucket_of name c.args.self.now) (bucket_of name c.take.new.self) l m × (c.take.new.self.total ≡ c.args.self.now.total + length (behind was (g.K.SetPlaces.items c.take.new.sink.sets)))) c.make_room.ensures.sets (
+    subst (λ (was : List (DescriptorSet g.row.S.Denot)). IsServed g.D.DescriptorDevice.meaning key c.args.budget.now.room c.args.request.now.count (appended was (g.K.SetPlaces.items c.take.new.sink.sets)) c.take.result (bucket_of name c.args.self.now) (bucket_of name c.take.new.self) l m × (c.take.new.self.total ≡ c.args.self.now.total + length (appended was (g.K.SetPlaces.items c.take.new.sink.sets)))) c.make_room.ensures.sets (
       record {
         numbers = (
             let below : c.next_number.result + c.args.request.now.count ≤ greatest_u64 = ltb-false greatest_u64 (c.next_number.result + c.args.request.now.count) (sym c.would_exceed_64_bits.ensures ∙ c.if-would_exceed_64_bits.false) in

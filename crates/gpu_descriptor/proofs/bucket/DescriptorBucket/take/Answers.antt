@@ -3,8 +3,8 @@ use Rattle.std.specs.Result.{is_ok}
 use mathlib.Core.Bool.{true≢false}
 use Rattle.gpu_descriptor.proofs.sums.PoolsLoad.{pools_load}
 use Rattle.gpu_descriptor.specs.declared.bucket.stop.Stop.TheVariants.{ExistingPoolRefused}
-use Rattle.gpu_descriptor.proofs.lists.Behind.{behind_more, front_more}
-use Rattle.gpu_descriptor.specs.Caller.SetLists.{behind}
+use Rattle.gpu_descriptor.proofs.lists.Appended.{appended_more, front_more}
+use Rattle.gpu_descriptor.specs.Caller.SetLists.{appended}
 use Rattle.gpu_descriptor.proofs.table.Exact.{bucket}
 use Rattle.gpu_descriptor.proofs.request.Growing.{grow_start, grow_more, grow_end, grow_stop, taken_long, load_more, load_walked}
 use Rattle.gpu_descriptor.proofs.sums.StoredPools.{allocated_entries, load_entries}
@@ -59,7 +59,7 @@ pub returns-in_err-take_from_new-clause-taken : goal.returns-in_err-take_from_ne
 returns-in_err-take_from_new-clause-taken g c =
     let inv = c.loop-sink.invariant in
     let err = c.in_err-take_from_new.ensures.err in
-    rw (passed c.from_residual-in_err-take_from_new.result c.in_err-take_from_new.field-0.0 c.from_residual-in_err-take_from_new.ensures.1) (grow_stop c.in_err-take_from_new.field-0.0 c.loop-sink-test.true inv.growing (ap (λ (xs : List (DescriptorSet g.row.S.Denot)). items_of g.D.DescriptorDevice.meaning.set_name (behind (g.K.SetPlaces.items c.args.sink.now.sets) xs)) err.0) (ap (map (entry_of g.D.DescriptorDevice.meaning.pool_name)) err.2) (c.in_err-take_from_new.ensures.numbers_stay.id ∙ inv.numbers_stay.id) (c.in_err-take_from_new.ensures.numbers_stay.offset ∙ inv.numbers_stay.offset) err.5 err.6)
+    rw (passed c.from_residual-in_err-take_from_new.result c.in_err-take_from_new.field-0.0 c.from_residual-in_err-take_from_new.ensures.1) (grow_stop c.in_err-take_from_new.field-0.0 c.loop-sink-test.true inv.growing (ap (λ (xs : List (DescriptorSet g.row.S.Denot)). items_of g.D.DescriptorDevice.meaning.set_name (appended (g.K.SetPlaces.items c.args.sink.now.sets) xs)) err.0) (ap (map (entry_of g.D.DescriptorDevice.meaning.pool_name)) err.2) (c.in_err-take_from_new.ensures.numbers_stay.id ∙ inv.numbers_stay.id) (c.in_err-take_from_new.ensures.numbers_stay.offset ∙ inv.numbers_stay.offset) err.5 err.6)
 
 pub loop-sink-preserved : goal.loop-sink-preserved
 loop-sink-preserved g c =
@@ -71,15 +71,15 @@ loop-sink-preserved g c =
     let new : List Entry = map (entry_of g.D.DescriptorDevice.meaning.pool_name) items in
     let new' : List Entry = map (entry_of g.D.DescriptorDevice.meaning.pool_name) c.take_from_new.new.self.pools.items in
     let was : List (DescriptorSet g.row.S.Denot) = g.K.SetPlaces.items c.args.sink.now.sets in
-    let sets : List (DescriptorSet g.row.S.Denot) = behind was (g.K.SetPlaces.items c.loop-sink.sink.sets) in
+    let sets : List (DescriptorSet g.row.S.Denot) = appended was (g.K.SetPlaces.items c.loop-sink.sink.sets) in
     let put : List Item = items_of g.D.DescriptorDevice.meaning.set_name sets in
     let more : List ℕ = map g.D.DescriptorDevice.meaning.set_name got.0 in
     let given : length got.0 ≡ length more = sym (length-map got.0 g.D.DescriptorDevice.meaning.set_name) in
     let few : length more ≤ c.loop-sink.sink.left = (let a = grown.many in let b = grown.given in omega arith) in
     let number : ℕ = c.loop-sink.self.offset + length items in
     let fresh : List (DescriptorSet g.row.S.Denot) = map (set_at key c.loop-sink.self.id number) got.0 in
-    let came : behind was (g.K.SetPlaces.items c.take_from_new.new.sink.sets) ≡ sets ++ fresh = behind_more was (g.K.SetPlaces.items c.loop-sink.sink.sets) fresh inv.front got.1 in
-    let seen : items_of g.D.DescriptorDevice.meaning.set_name (behind was (g.K.SetPlaces.items c.take_from_new.new.sink.sets)) ≡ put ++ items_at key c.args.self.now.id number more =
+    let came : appended was (g.K.SetPlaces.items c.take_from_new.new.sink.sets) ≡ sets ++ fresh = appended_more was (g.K.SetPlaces.items c.loop-sink.sink.sets) fresh inv.front got.1 in
+    let seen : items_of g.D.DescriptorDevice.meaning.set_name (appended was (g.K.SetPlaces.items c.take_from_new.new.sink.sets)) ≡ put ++ items_at key c.args.self.now.id number more =
     ap (items_of g.D.DescriptorDevice.meaning.set_name) came ∙ map-append _ sets fresh ∙ ap (λ x. put ++ x) (items_of-sets_at g.D.DescriptorDevice.meaning.set_name key c.loop-sink.self.id number got.0 ∙ ap (λ i. items_at key i number more) inv.numbers_stay.id) in
     let long = ap length came ∙ length-append sets fresh in
     let raws = length-map got.0 (λ raw. set_at key c.loop-sink.self.id number raw) in

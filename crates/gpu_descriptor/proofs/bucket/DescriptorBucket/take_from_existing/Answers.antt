@@ -3,22 +3,22 @@ use Rattle.std.specs.declared.collections.VecDeque.{VecDeque}
 use Rattle.std.proofs.lemmas.Result.{IfErr-weaker, on_ok_weaker}
 use Rattle.gpu_descriptor.specs.declared.bucket.stop.Stop.TheVariants.{ExistingPoolRefused}
 use Rattle.gpu_descriptor.proofs.request.Growing.{allocated_walked}
-use Rattle.gpu_descriptor.proofs.lists.Behind.{behind_is}
-use Rattle.gpu_descriptor.specs.Caller.SetLists.{behind}
+use Rattle.gpu_descriptor.proofs.lists.Appended.{appended_is}
+use Rattle.gpu_descriptor.specs.Caller.SetLists.{appended}
 use Rattle.gpu_descriptor.proofs.table.Exact.{bucket}
 use Rattle.gpu_descriptor.proofs.sums.StoredPools.{allocated_entries}
 use Rattle.gpu_descriptor.proofs.bucket.DescriptorBucket.take_from_existing.Goals.{After-walk-walked}
 use Rattle.gpu_descriptor.proofs.bucket.DescriptorBucket.take_from_existing.Goals as goal
 
 module _ {S : Type 0} (name : S → ℕ) (was : List (DescriptorSet S)) {now : List (DescriptorSet S)} (put : List (DescriptorSet S)) (is : now ≡ was ++ put) where
-  all : put ≡ behind was now
-  all = sym (behind_is was put is)
+  all : put ≡ appended was now
+  all = sym (appended_is was put is)
 
   module _ {k : Key} {n : ℕ} {old older new newer : Bucket} {l m : Ledger} (first : old ≡ older) (last : new ≡ newer) where
-    walked_as : {wanting : ℕ} → IsWalked k n wanting (items_of name put) old new l m → IsWalked k n wanting (items_of name (behind was now)) older newer l m
+    walked_as : {wanting : ℕ} → IsWalked k n wanting (items_of name put) old new l m → IsWalked k n wanting (items_of name (appended was now)) older newer l m
     walked_as w = rw (sym first, sym last, sym all) w
 
-    stopped_as : {error : DeviceAllocationError} → IsTaken (Err (ExistingPoolRefused error)) k 0 n (items_of name put) old new l m → IsTaken (Err (ExistingPoolRefused error)) k 0 n (items_of name (behind was now)) older newer l m
+    stopped_as : {error : DeviceAllocationError} → IsTaken (Err (ExistingPoolRefused error)) k 0 n (items_of name put) old new l m → IsTaken (Err (ExistingPoolRefused error)) k 0 n (items_of name (appended was now)) older newer l m
     stopped_as t = rw (sym first, sym last, sym all) t
 
 -- the bucket before and after, as the view has it
@@ -43,14 +43,14 @@ returns-clause-stopped g c =
 
 -- as many more are allocated as came
 module _ {S : Type 0} (name : S → ℕ) (was now : List (DescriptorSet S)) where
-  long : (put : List (DescriptorSet S)) → now ≡ was ++ put → length (items_of name put) ≡ length (behind was now)
+  long : (put : List (DescriptorSet S)) → now ≡ was ++ put → length (items_of name put) ≡ length (appended was now)
   long put is = length-map put (item_of name) ∙ ap length (all name was put is)
 
   module _ (k : Key) (n left : ℕ) (old new : Bucket) (l m : Ledger) where
     more : (r : Result (Unit {0}) DeviceAllocationError)
         → OnOk r ((put : List (DescriptorSet S)) × (now ≡ was ++ put) × (length put + left ≡ n) × IsWalked k n left (items_of name put) old new l m)
         → IfErr r (λ e. (put : List (DescriptorSet S)) × (now ≡ was ++ put) × (length put + left ≡ n) × IsTaken (Err (ExistingPoolRefused e)) k 0 n (items_of name put) old new l m)
-        → (allocated_in new.pools ≡ allocated_in old.pools + length (behind was now)) × (length (behind was now) + left ≡ n)
+        → (allocated_in new.pools ≡ allocated_in old.pools + length (appended was now)) × (length (appended was now) + left ≡ n)
     more (Ok done) walked stopped = (allocated_walked k n walked.3.grant old new l m _ walked.3.taken walked.3.no_fresh ∙ ap (λ j. allocated_in old.pools + j) (long walked.0 walked.1), ap (λ (xs : List (DescriptorSet S)). length xs + left) (sym (all name was walked.0 walked.1)) ∙ walked.2)
     more (Err e) walked stopped = (allocated_walked k n stopped.3.0 old new l _ _ stopped.3.2 stopped.3.3.no_fresh ∙ ap (λ j. allocated_in old.pools + j) (long stopped.0 stopped.1), ap (λ (xs : List (DescriptorSet S)). length xs + left) (sym (all name was stopped.0 stopped.1)) ∙ stopped.2)
 
