@@ -1,8 +1,8 @@
 -- The sets that are held by handle, when one comes to a slot or leaves it.
-use Rattle.std.proofs.Common.{◌≡◌, ◌≢◌, ℕ, zero, suc, ◌+◌, ◌<◌, ◌≤◌, ◌==◌, ◌&&◌, Bool, true, false, nat_le, nat_lt, List, [], length, if◌then◌else◌, Option, None, Some, IsSome, IfSome, is_some, Bor, OnOk, Result, Ok, Err, is_err, inl, inr, refl, sym, ap, subst, ◌∙◌, arith, eq-eqb, ne_eqb}
+use Rattle.std.proofs.Common.{◌≡◌, ◌≢◌, ℕ, zero, suc, ◌+◌, ◌<◌, ◌==◌, ◌&&◌, Bool, true, false, nat_le, nat_lt, List, [], length, if◌then◌else◌, Option, None, Some, IsSome, IfSome, is_some, Bor, OnOk, Result, Ok, Err, is_err, inl, inr, refl, sym, ap, subst, ◌∙◌, arith, eq-eqb, ne_eqb}
 use Rattle.std.proofs.Math.Nat.{mod-add-div'}
 use Rattle.std.specs.Option.{option_copied}
-use Rattle.std.proofs.lemmas.Bool.{and_parts, cases_eq}
+use Rattle.std.proofs.lemmas.Bool.{cases_eq}
 use Rattle.gpu_descriptor.specs.Caller.SetLists.{HasBesides}
 use Rattle.gpu_descriptor.specs.declared.set.DescriptorSet.{DescriptorSet}
 use Rattle.descriptor_renderer.specs.HeldSets.{Comes, Leaves, generation_of, held_by, is_given, place_of, set_named, sets_in, slot_at}
@@ -25,6 +25,10 @@ one_name n m place generation =
 
 same_handle : (a b : SetHandle) → a.renderer ≡ b.renderer → a.name ≡ b.name → a ≡ b
 same_handle a b renderer name = λ i. record { renderer = renderer i; name = name i }
+
+-- what is not the next number is at most that if it is at most the one before
+le_next : (x next n : ℕ) → next ≡ n + 1 → x ≢ next → nat_le x next ≡ nat_le x n
+le_next x next n is apart = grind (arith, is, apart)
 
 module _ {S : Type 0} where
   -- what a name has in a slot
@@ -97,17 +101,12 @@ module _ {S : Type 0} where
         record {
           never = given_here old handle mine ∙ rw (later, some) refl;
           given = given_here new handle mine ∙ rw (least, some) refl;
-          stay = λ other was. elim (cases_eq other.renderer renderer) [
-            | inr foreign ↦ absurd (let bad : false ≡ true = sym (given_nowhere old other foreign) ∙ was in cc)
-            | inl own ↦ (
-                let parts = and_parts (nat_lt 0 (generation_of other.name)) (nat_le (generation_of other.name) (slot_at old (place_of other.name)).generation) (sym (given_here old other own) ∙ was) in
-                let risen : (slot_at old (place_of other.name)).generation ≤ (slot_at new (place_of other.name)).generation = elim (cases_eq (place_of other.name) place) [
-                  | inr elsewhere ↦ (let same = ap (λ (s : Slot S). s.generation) (c.others (place_of other.name) elsewhere) in omega arith)
-                  | inl there ↦ (let a = ap (λ p. (slot_at old p).generation) there in let b = ap (λ p. (slot_at new p).generation) there in omega arith)
-                ] in
-                let below = parts.1 in
-                let still : nat_le (generation_of other.name) (slot_at new (place_of other.name)).generation ≡ true = grind (arith, below, risen) in
-                given_here new other own ∙ rw (still, parts.0) refl)
+          stay = λ other apart. elim (cases_eq other.renderer renderer) [
+            | inr foreign ↦ given_nowhere new other foreign ∙ sym (given_nowhere old other foreign)
+            | inl own ↦ given_here new other own ∙ elim (cases_eq (place_of other.name) place) [
+              | inr elsewhere ↦ ap (λ (s : Slot S). nat_lt 0 (generation_of other.name) && nat_le (generation_of other.name) s.generation) (c.others (place_of other.name) elsewhere)
+              | inl there ↦ ap (λ b. nat_lt 0 (generation_of other.name) && b) (le_next (generation_of other.name) (slot_at new (place_of other.name)).generation (slot_at old (place_of other.name)).generation (let a = ap (λ p. (slot_at new p).generation) there in let b = ap (λ p. (slot_at old p).generation) there in omega arith) (λ same. apart (same_handle other handle (own ∙ sym mine) (one_name other.name handle.name there (same ∙ ap (λ p. (slot_at new p).generation) there ∙ sym now)))))
+            ] ∙ sym (given_here old other own)
           ];
           fresh = held_here old handle mine ∙ named_past old handle.name (λ same. (let up = next in omega arith));
           named = held_here new handle mine ∙ named_now new handle.name now ∙ ap (λ (s : Slot S). s.set) c.here;

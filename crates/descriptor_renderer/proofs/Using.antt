@@ -1,5 +1,5 @@
 -- What is in use, when held sets come and leave.
-use Rattle.std.proofs.Common.{◌≡◌, ℕ, ◌+◌, List, [], ◌∷◌, length, ap, arith}
+use Rattle.std.proofs.Common.{◌≡◌, ℕ, ◌+◌, ◌++◌, List, [], ◌∷◌, length, ap, arith}
 use Rattle.gpu_descriptor_types.specs.Ledger.{Ledger}
 use Rattle.gpu_descriptor.specs.Caller.Sets.{items_of}
 use Rattle.gpu_descriptor.specs.Model.Agreement.{Item, count_of, outstanding}
@@ -89,3 +89,15 @@ module _ {P S : Type 0} (pool_name : P → ℕ) (set_name : S → ℕ) (old new 
 
   pub used_as : {xs ys : List (DescriptorSet S)} → AreBothInUse pool_name set_name xs ys old l → AreBothInUse pool_name set_name xs ys new l
   used_as used = record { both = λ t. (let a = as_before t in let b = used.both t in omega arith) }
+
+module _ {P S : Type 0} (pool_name : P → ℕ) (set_name : S → ℕ) where
+  -- a set more was drawn
+  pub drawn_used : {m n : FrameManager P S} {before after : Ledger} {xs ys more : List (DescriptorSet S)} (x : DescriptorSet S) → more ≡ ys ++ x ∷ [] → BringsIntoUse pool_name set_name m n before after (items_of set_name (x ∷ [])) → AreBothInUse pool_name set_name xs ys m before → AreBothInUse pool_name set_name xs more n after
+  drawn_used {ys = ys} x is brought used = record {
+    both = λ t. (
+        let a = ap (λ zs. count_of t (items_of set_name zs)) is in
+        let b = count_parts set_name ys (x ∷ []) t in
+        let c = brought t in
+        let d = used.both t in
+        omega arith);
+  }

@@ -19,7 +19,7 @@ module _ {S : Type 0} where
   pub record Comes (handle : SetHandle) (set : DescriptorSet S) (old new : Held S) : Type 0 where
     pub never : old.given handle ≡ false
     pub given : new.given handle ≡ true
-    pub stay : (other : SetHandle) → old.given other ≡ true → new.given other ≡ true
+    pub stay : (other : SetHandle) → other ≢ handle → new.given other ≡ old.given other
     pub fresh : old.set handle ≡ None
     pub named : new.set handle ≡ Some set
     pub others : (other : SetHandle) → other ≢ handle → new.set other ≡ old.set other
@@ -48,7 +48,7 @@ module _ {S : Type 0} where
   LeaveEach (handle ∷ handles) (set ∷ sets) old new = (next : Held S) × Leaves handle set old next × LeaveEach handles sets next new
   LeaveEach _ _ old new = ⊥
 
-  -- each handle has a set, and none stands twice
+  -- each handle has a set, and none is there twice
   pub record AreHeldOnce (held : Held S) (handles : List SetHandle) : Type 0 where
     pub named : (i : ℕ) (d : SetHandle) → i < length handles → IsSome (held.set (slice_index_or handles i d))
     pub once : (i j : ℕ) (d : SetHandle) → i < j → j < length handles → slice_index_or handles i d ≢ slice_index_or handles j d

@@ -12,7 +12,7 @@ module _ {S : Type 0} where
   abbrev pub held_of : HeldSets S → Held S
   held_of h = held_by h.renderer (slots_of h)
 
-  -- so many sets more can be held without memory
+  -- so many sets more can be held without an allocation
   pub record HasSlots (n : ℕ) (h : HeldSets S) : Type 0 where
     pub slots : length (slots_of h) + n ≤ vec_capacity h.slots
     pub places : length (slots_of h) + n ≤ 4294967296

@@ -14,7 +14,7 @@ module _ {L P S D : Type 0} {d : Ghosts D L P S} where
   abbrev pub layouts_of : LayoutRegistry L P S D d → List (SetLayout L)
   layouts_of r = r.layouts.items
 
-  -- the layout of a handle. None where another registry gave the handle
+  -- the layout of a handle. None if another registry gave the handle
   abbrev pub layout_at : LayoutRegistry L P S D d → LayoutHandle → Option (SetLayout L)
   layout_at r h = if h.registry == registry_of r then slice_get (layouts_of r) h.place else None
 

@@ -17,16 +17,36 @@ use Rattle.descriptor_frames.specs.declared.retired.Retired.{Retired}
 use Rattle.descriptor_renderer.specs.DrawnSets.{Drawn, drawn_by}
 use Rattle.descriptor_renderer.specs.HeldSets.{Held, sets_in}
 use Rattle.descriptor_renderer.specs.Holding.{HasSlots, held_of, slots_of}
-use Rattle.descriptor_renderer.specs.LayoutRegistries.{layout_at, layouts_of, registry_of}
+use Rattle.descriptor_renderer.specs.LayoutRegistries.{capacity_of, layout_at, layouts_of}
 use Rattle.descriptor_renderer.specs.declared.layout_registry.LayoutHandle.{LayoutHandle}
 use Rattle.descriptor_renderer.specs.declared.renderer.Renderer.{Renderer}
 
+-- what a caller sees of a renderer
+pub record Rendering (L S : Type 0) : Type 0 where
+  pub number : ℕ
+  pub layouts : LayoutHandle → Option (SetLayout L)
+  pub frame : ℕ
+  pub is_open : Bool
+  pub drawn : Drawn S
+  pub held : Held S
+  pub retired : List (Retired S)
+  pub pools_besides : ℕ → Option Pool
+  pub limit : ℕ
+
 module _ {L P S D : Type 0} {d : Ghosts D L P S} where
+  -- the number that its handles have, of draws, of sets and of layouts
+  abbrev pub number_of : Renderer L P S D d → ℕ
+  number_of r = r.renderer
+
   -- the layouts, in the order in which they were added
   abbrev pub layouts_in : Renderer L P S D d → List (SetLayout L)
   layouts_in r = layouts_of r.layouts
 
-  -- the layout of a handle. None where the renderer did not give the handle
+  -- so many layouts fit without an allocation
+  abbrev pub layout_capacity : Renderer L P S D d → ℕ
+  layout_capacity r = capacity_of r.layouts
+
+  -- the layout of a handle. None if the renderer did not give the handle
   abbrev pub layout_of : Renderer L P S D d → LayoutHandle → Option (SetLayout L)
   layout_of r = layout_at r.layouts
 
@@ -68,11 +88,19 @@ module _ {L P S D : Type 0} {d : Ghosts D L P S} where
   abbrev pub limit_of : Renderer L P S D d → ℕ
   limit_of r = (allocator_of r.manager).limit
 
-  -- the number that tells the renderer's handles from those of others: of draws, of sets and of layouts
-  pub record HasNumber (number : ℕ) (r : Renderer L P S D d) : Type 0 where
-    pub draws : r.renderer ≡ number
-    pub sets : r.held.renderer ≡ number
-    pub layouts : registry_of r.layouts ≡ number
+  -- what stays at a call is said of all of it at once, but for the fields that the call may change
+  abbrev pub seen : Renderer L P S D d → Rendering L S
+  seen r = record {
+    number = number_of r;
+    layouts = layout_of r;
+    frame = frame_of r;
+    is_open = is_open r;
+    drawn = drawn_in r;
+    held = held_in r;
+    retired = retired_in r;
+    pools_besides = pools_besides r;
+    limit = limit_of r;
+  }
 
   -- memory is reserved to retire so many sets more
   abbrev pub CanRetire : ℕ → Renderer L P S D d → Type 0

@@ -1,4 +1,4 @@
-//! Why a renderer declines.
+//! Why a call of a renderer fails.
 ghost use Rattle.std.specs.Prelude.{Some};
 ghost use Rattle.descriptor_renderer.specs.Errors.{begin_text, destroy_text, render_text};
 
@@ -40,8 +40,8 @@ pub enum RenderError {
     /// The handle names no layout of the renderer.
     NoLayout,
 
-    /// The allocator refused, or there was no memory for the renderer's own lists, which is
-    /// `OutOfHostMemory`.
+    /// The allocator refused, or an allocation failed, for the renderer's lists or for the handles,
+    /// which is `OutOfHostMemory`.
     Allocation(AllocationError),
 }
 
@@ -61,7 +61,7 @@ impl fmt::Display for RenderError {
 
 impl Error for RenderError {}
 
-/// Why no set was destroyed.
+/// Why no set was freed or destroyed.
 #[derive(Clone, Copy, Debug, PartialEq, Eq)]
 pub enum DestroyError {
     /// The handle names no set that the renderer holds.

@@ -44,7 +44,7 @@ impl<S> HeldSets<S> {
     ghost use Rattle.descriptor_renderer.specs.declared.held_sets.Slot.{Slot};
     ghost use Rattle.descriptor_renderer.specs.declared.handles.SetHandle.{SetHandle};
 
-    /// No sets. Their handles have the number of the renderer. It takes no memory.
+    /// No sets. Their handles have the number of the renderer. It allocates nothing.
     pub(crate) fn new(alloc: Global, renderer: u64) -> Self
         ensures slots { slots_of result ≡ [] }
         ensures renderer { result.renderer ≡ renderer }
@@ -334,16 +334,21 @@ impl<S: Drop> HeldSets<S> {
     ghost use Rattle.descriptor_renderer.specs.declared.handles.SetHandle.{SetHandle};
 
     /// Puts sets into slots, over memory that was reserved, and appends their handles.
-    pub(crate) fn put_each(&mut self, sets: Vec<DescriptorSet<S>>, handles: &mut Vec<SetHandle>)
-        requires slots { HasSlots (length sets.items) self.old }
-        requires handles { vec_len handles.old + length sets.items ≤ vec_capacity handles.old }
+    pub(crate) fn put_each(
+        &mut self,
+        sets: &mut Vec<DescriptorSet<S>>,
+        handles: &mut Vec<SetHandle>,
+    )
+        requires slots { HasSlots (length sets.old.items) self.old }
+        requires handles { vec_len handles.old + length sets.old.items ≤ vec_capacity handles.old }
         ensures come { (given : List SetHandle) × (handles.new.items ≡ handles.old.items ++ given)
-            × ComeEach given sets.items (held_of self.old) (held_of self.new) }
+            × ComeEach given sets.old.items (held_of self.old) (held_of self.new) }
         ensures count { length (sets_in (slots_of self.new))
-            ≡ length (sets_in (slots_of self.old)) + length sets.items }
+            ≡ length (sets_in (slots_of self.old)) + length sets.old.items }
+        ensures emptied { sets.new.items ≡ [] }
         ensures renderer { self.new.renderer ≡ self.old.renderer }
     {
-        for set in sets {
+        for set in sets.drain(..) {
             let handle = self.put(set);
             handles.push_reserved(handle);
         }

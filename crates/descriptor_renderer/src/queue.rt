@@ -1,4 +1,4 @@
-//! The sets of a queue that go back.
+//! The sets of a queue that are freed.
 ghost use Rattle.std.specs.Prelude.{◌≡◌};
 ghost use Rattle.std.specs.Iterator.{item_count};
 ghost use Rattle.descriptor_renderer.specs.Queue.{TakesFirst, waiting};

@@ -1,5 +1,5 @@
 //! The renderer: layouts that are added as it runs, sets of a frame, and sets that are held.
-ghost use Rattle.std.specs.Prelude.{◌≡◌, ◌+◌, ◌<◌, ◌≤◌, [], length, option_map};
+ghost use Rattle.std.specs.Prelude.{◌≡◌, ◌+◌, ◌<◌, ◌≤◌, ◌++◌, [], ◌∷◌, length, option_map};
 ghost use Rattle.std.specs.Prelude.{IfErr, IfOk, IsOk, None, OnErr, OnOk, Some, false};
 ghost use Rattle.std.specs.Option.{option_copied};
 ghost use Rattle.std.specs.VecDeque.{deque_capacity};
@@ -11,6 +11,7 @@ ghost use Rattle.gpu_descriptor.proofs.callers.OneAgreement.{Agrees-prop};
 ghost use Rattle.descriptor_frames.specs.Frames.{AreBothInUse, AreRetiredOut, allocator_of};
 ghost use Rattle.descriptor_frames.specs.Frames.{greatest_of, reserve_of, retired_of};
 ghost use Rattle.descriptor_renderer.specs.HeldSets.{sets_in};
+ghost use Rattle.descriptor_renderer.specs.LayoutRegistries.{registry_of};
 
 mod frames;
 mod sets;
@@ -22,17 +23,18 @@ use descriptor_frames::FrameManager;
 use gpu_descriptor::{DescriptorDevice, DescriptorSet, SetLayout};
 use std::alloc::{AllocFailed, Global};
 use std::collections::VecDeque;
+use std::vec::Vec;
 
 /// The descriptor sets of a renderer, over a device that it owns.
 ///
 /// A frame is opened by `begin_frame`, takes any number of sets by `draw`, and is ended by
-/// `end_frame`. Its sets are freed once `gpu_done` is told of the frame or a later one; frames in
+/// `end_frame`. Its sets are freed once `gpu_done` is called with the frame or a later one; frames in
 /// between may be in flight. A set by `create_set` or `create_sets` is held until it is freed at once
-/// by `free_sets`, or destroyed by `destroy_set` or `destroy_sets`: then it is freed once the frame of
-/// its last use is done. Memory to free a set is reserved before the set is asked for, so all of these
-/// but `draw`, `create_set` and `create_sets` take no memory.
+/// by `free_sets`, or destroyed by `destroy_set` or `destroy_sets`: then it is freed by the next
+/// `gpu_done` of the frame of its last use or a later one. Memory to free a set is reserved before the set is asked for, so all of these
+/// but `draw`, `create_set` and `create_sets` allocate nothing.
 ///
-/// The raw set of a handle is lent, as the device is, to be written and bound. Do not allocate or
+/// The raw set of a handle is borrowed, as the device is, to be written and bound. Do not allocate or
 /// free on the device in the meantime: only the renderer does.
 #[derive(Drop)]
 pub struct Renderer<L, P, S, D: DescriptorDevice<L, P, S>> {
@@ -49,6 +51,9 @@ pub struct Renderer<L, P, S, D: DescriptorDevice<L, P, S>> {
     drawn: VecDeque<DescriptorSet<S>>,
     held: HeldSets<S>,
 
+    /// Sets of a batch before they have handles, during a call.
+    coming: Vec<DescriptorSet<S>>,
+
     /// Held sets on their way back, during a call.
     going: VecDeque<DescriptorSet<S>>,
     ghost agree: { Agrees D.meaning.pool_name (allocator_of manager) (D.ledger device) } by { Agrees-prop D.meaning.pool_name (allocator_of manager) (D.ledger device) },
@@ -61,7 +66,10 @@ pub struct Renderer<L, P, S, D: DescriptorDevice<L, P, S>> {
     ghost reserve: { length drawn.items + length (sets_in held.slots.items)
         ≤ reserve_of manager },
     ghost rising: { greatest_of manager ≤ frame },
+    ghost numbers_sets: { held.renderer ≡ renderer },
+    ghost numbers_layouts: { registry_of layouts ≡ renderer },
     ghost idle: { is_open ≡ false → drawn.items ≡ [] },
+    ghost none_coming: { coming.items ≡ [] },
     ghost none_going: { going.items ≡ [] },
     ghost can_go: { length (sets_in held.slots.items) ≤ deque_capacity going },
 }
@@ -69,14 +77,14 @@ pub struct Renderer<L, P, S, D: DescriptorDevice<L, P, S>> {
 impl<L: Drop, P: Drop, S: Drop, D: DescriptorDevice<L, P, S>> Renderer<L, P, S, D> {
     ghost use Rattle.gpu_descriptor.specs.declared.layout.SetLayout.{SetLayout};
     ghost use Rattle.descriptor_renderer.specs.declared.layout_registry.LayoutHandle.{LayoutHandle};
-    ghost use Rattle.descriptor_renderer.specs.LayoutRegistries.{capacity_of};
     ghost use Rattle.descriptor_renderer.specs.declared.handles.SetHandle.{SetHandle};
-    ghost use Rattle.descriptor_renderer.specs.Renderers.{HasNumber, drawn_in, frame_of, held_in};
-    ghost use Rattle.descriptor_renderer.specs.Renderers.{is_open, layout_of, layouts_in, ledger_in};
+    ghost use Rattle.descriptor_renderer.specs.Renderers.{drawn_in, frame_of, number_of};
+    ghost use Rattle.descriptor_renderer.specs.Renderers.{held_in, is_open, layout_capacity};
+    ghost use Rattle.descriptor_renderer.specs.Renderers.{layout_of, layouts_in, ledger_in};
     ghost use Rattle.descriptor_renderer.specs.Renderers.{limit_of, pools_besides, pools_in};
-    ghost use Rattle.descriptor_renderer.specs.Renderers.{retired_in, side_of};
+    ghost use Rattle.descriptor_renderer.specs.Renderers.{retired_in, seen, side_of};
 
-    /// A renderer over a device, without layouts, sets and an open frame. It takes no memory.
+    /// A renderer over a device, without layouts, sets and an open frame. It allocates nothing.
     ///
     /// `limit` is the driver's, on the update-after-bind descriptors of all pools. By `renderer` its
     /// handles are told from those of other renderers: give each of a program a number of its own.
@@ -91,7 +99,8 @@ impl<L: Drop, P: Drop, S: Drop, D: DescriptorDevice<L, P, S>> Renderer<L, P, S, 
         ensures retired { retired_in result ≡ [] }
         ensures pools { pools_besides result ≡ (D.ledger device).pools }
         ensures limit { limit_of result ≡ limit }
-        ensures number { HasNumber renderer result }
+        ensures ledger { ledger_in result ≡ D.ledger device }
+        ensures number { number_of result ≡ renderer }
     {
         Renderer {
             device,
@@ -102,31 +111,27 @@ impl<L: Drop, P: Drop, S: Drop, D: DescriptorDevice<L, P, S>> Renderer<L, P, S, 
             is_open: false,
             drawn: VecDeque::new(alloc),
             held: HeldSets::new(alloc, renderer),
+            coming: Vec::new(alloc),
             going: VecDeque::new(alloc),
         }
     }
 
-    /// Adds a layout, and gives its handle. If an allocation fails the layout comes back, and nothing
-    /// changed.
+    /// Adds a layout, and returns its handle. If an allocation fails the layout is returned, and
+    /// nothing changed.
     pub fn add_layout(
         &mut self,
         layout: SetLayout<L>,
     ) -> Result<LayoutHandle, AllocFailed<SetLayout<L>>>
         requires { IsMeant D.meaning layout }
         ensures added { IfOk result (λ handle. layout_of self.new handle ≡ Some layout) }
+        ensures list { OnOk result (layouts_in self.new ≡ layouts_in self.old ++ layout ∷ []) }
         ensures fresh { IfOk result (λ handle. layout_of self.old handle ≡ None) }
         ensures kept { (handle : LayoutHandle) (known : SetLayout L) → layout_of self.old handle
             ≡ Some known → layout_of self.new handle ≡ Some known }
-        ensures fits { length (layouts_in self.old) < capacity_of self.old.layouts → IsOk result }
+        ensures fits { length (layouts_in self.old) < layout_capacity self.old → IsOk result }
         ensures stay { OnErr result (layouts_in self.new ≡ layouts_in self.old) }
         ensures back { IfErr result (λ failed. failed.value ≡ layout) }
-        ensures frame { frame_of self.new ≡ frame_of self.old }
-        ensures open { is_open self.new ≡ is_open self.old }
-        ensures drawn { drawn_in self.new ≡ drawn_in self.old }
-        ensures held { held_in self.new ≡ held_in self.old }
-        ensures retired { retired_in self.new ≡ retired_in self.old }
-        ensures pools { pools_besides self.new ≡ pools_besides self.old }
-        ensures limit { limit_of self.new ≡ limit_of self.old }
+        ensures rest { seen self.new ≡ record (seen self.old) { layouts = layout_of self.new } }
         ensures device { side_of self.new ≡ side_of self.old }
     {
         self.layouts.add(layout)
@@ -139,14 +144,7 @@ impl<L: Drop, P: Drop, S: Drop, D: DescriptorDevice<L, P, S>> Renderer<L, P, S, 
         ensures emptied { length (drawn_in self.old).all + length (held_in self.old).all
             + length (retired_in self.old) ≡ 0 → pools_in self.new ≡ pools_besides self.old }
         ensures cleans_up { CleansUp D.meaning (side_of self.old) (side_of self.new) }
-        ensures layouts { layout_of self.new ≡ layout_of self.old }
-        ensures frame { frame_of self.new ≡ frame_of self.old }
-        ensures open { is_open self.new ≡ is_open self.old }
-        ensures drawn { drawn_in self.new ≡ drawn_in self.old }
-        ensures held { held_in self.new ≡ held_in self.old }
-        ensures retired { retired_in self.new ≡ retired_in self.old }
-        ensures pools { pools_besides self.new ≡ pools_besides self.old }
-        ensures limit { limit_of self.new ≡ limit_of self.old }
+        ensures rest { seen self.new ≡ seen self.old }
     {
         self.manager.cleanup(&mut self.device);
     }
@@ -242,6 +240,7 @@ impl<L: Drop, P: Drop, S: Drop, D: DescriptorDevice<L, P, S>> Renderer<L, P, S, 
             is_open: _,
             drawn: _,
             held: _,
+            coming: _,
             going: _,
         } = self;
         device

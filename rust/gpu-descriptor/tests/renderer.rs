@@ -495,6 +495,21 @@ fn a_batch_comes_whole_or_not_at_all() {
     stage.shutdown();
 }
 
+/// A batch as large as one before finds all memory but that of the handles which it returns.
+#[test]
+fn a_batch_allocates_its_handles_alone() {
+    let gpu = Gpu::new();
+    let mut stage = Stage::new(&gpu);
+    for _ in 0..2 {
+        assert!(stage.create_many(0, 50));
+        stage.free(0, 50);
+    }
+    let before = calls();
+    assert!(stage.create_many(0, 50));
+    assert_eq!(calls(), before + 1);
+    stage.shutdown();
+}
+
 /// Slots are used again under other handles, so memory follows the most sets that were held.
 #[test]
 fn slots_are_used_again() {

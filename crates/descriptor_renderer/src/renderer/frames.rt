@@ -1,9 +1,8 @@
 //! Frames, and the sets that are drawn with in one.
-ghost use Rattle.std.specs.Prelude.{◌≡◌, ℕ, ◌+◌, ◌<◌, ◌^◌, ◌++◌, ◌↔◌, [], ◌∷◌, map, max};
+ghost use Rattle.std.specs.Prelude.{◌≡◌, ℕ, ◌+◌, ◌<◌, ◌^◌, ◌++◌, ◌↔◌, ◌⊎◌, [], ◌∷◌, map, max};
 ghost use Rattle.std.specs.Prelude.{IfErr, IfOk, IfSome, IsErrOf, IsOk, IsSome, None, OnErr, OnOk};
 ghost use Rattle.std.specs.Prelude.{false, option_map, slice_get, true};
 ghost use Rattle.std.specs.Option.{option_copied};
-ghost use Rattle.std.specs.VecDeque.{deque_capacity};
 ghost use Rattle.gpu_descriptor_types.specs.Meaning.{IsOfLayout};
 ghost use Rattle.gpu_descriptor.specs.Caller.Frees.{Returns};
 ghost use Rattle.gpu_descriptor.specs.Caller.Sets.{raw_of};
@@ -21,9 +20,8 @@ impl<L: Drop, P: Drop, S: Drop, D: DescriptorDevice<L, P, S>> Renderer<L, P, S, 
     ghost use Rattle.gpu_descriptor.specs.declared.errors.AllocationError.{AllocationError};
     ghost use Rattle.gpu_descriptor.specs.declared.set.DescriptorSet.{DescriptorSet};
     ghost use Rattle.descriptor_renderer.specs.Renderers.{CanCreate, CanDraw, FailsInAllocator, IsMetBy};
-    ghost use Rattle.descriptor_renderer.specs.Renderers.{Fails, drawn_in, frame_of, held_in};
-    ghost use Rattle.descriptor_renderer.specs.Renderers.{is_open, layout_of, limit_of};
-    ghost use Rattle.descriptor_renderer.specs.Renderers.{pools_besides, retired_in, side_of};
+    ghost use Rattle.descriptor_renderer.specs.Renderers.{Fails, drawn_in, frame_of};
+    ghost use Rattle.descriptor_renderer.specs.Renderers.{is_open, layout_of, retired_in, seen, side_of};
 
     /// Opens the next frame and returns its number. The first frame has number 1.
     ///
@@ -39,11 +37,8 @@ impl<L: Drop, P: Drop, S: Drop, D: DescriptorDevice<L, P, S>> Renderer<L, P, S, 
             ≡ false) × (frame_of self.old ≡ u64.MAX)) }
         ensures stays { OnErr result (self.new ≡ self.old) }
         ensures drawn { OnOk result ((drawn_in self.new).all ≡ []) }
-        ensures layouts { layout_of self.new ≡ layout_of self.old }
-        ensures held { held_in self.new ≡ held_in self.old }
-        ensures retired { retired_in self.new ≡ retired_in self.old }
-        ensures pools { pools_besides self.new ≡ pools_besides self.old }
-        ensures limit { limit_of self.new ≡ limit_of self.old }
+        ensures rest { seen self.new ≡ record (seen self.old)
+            { frame = frame_of self.new; is_open = is_open self.new; drawn = drawn_in self.new } }
         ensures device { side_of self.new ≡ side_of self.old }
         ensures can_draw { CanDraw self.old → CanDraw self.new }
         ensures can_create { (n : ℕ) → CanCreate n self.old → CanCreate n self.new }
@@ -71,12 +66,8 @@ impl<L: Drop, P: Drop, S: Drop, D: DescriptorDevice<L, P, S>> Renderer<L, P, S, 
             × (is_open self.old ≡ true)) }
         ensures stays { OnErr result (self.new ≡ self.old) }
         ensures drawn { OnOk result ((drawn_in self.new).all ≡ []) }
-        ensures layouts { layout_of self.new ≡ layout_of self.old }
-        ensures open { is_open self.new ≡ is_open self.old }
-        ensures held { held_in self.new ≡ held_in self.old }
-        ensures retired { retired_in self.new ≡ retired_in self.old }
-        ensures pools { pools_besides self.new ≡ pools_besides self.old }
-        ensures limit { limit_of self.new ≡ limit_of self.old }
+        ensures rest { seen self.new ≡ record (seen self.old)
+            { frame = frame_of self.new; drawn = drawn_in self.new } }
         ensures device { side_of self.new ≡ side_of self.old }
         ensures can_draw { CanDraw self.old → CanDraw self.new }
         ensures can_create { (n : ℕ) → CanCreate n self.old → CanCreate n self.new }
@@ -88,7 +79,8 @@ impl<L: Drop, P: Drop, S: Drop, D: DescriptorDevice<L, P, S>> Renderer<L, P, S, 
         Ok(())
     }
 
-    /// Takes a set of a layout, which is in use until the frame ends.
+    /// Draws with a new set of a layout. Its handle names it until the frame ends, and the set is freed
+    /// once the device is done with the frame.
     pub fn draw(&mut self, layout: LayoutHandle) -> Result<DrawHandle, RenderError>
         ensures draws { IfOk result (λ handle. IfSome (layout_of self.old layout) (λ known.
             (set : DescriptorSet S) × IsOfLayout D.meaning known.layout (raw_of set)
@@ -105,13 +97,9 @@ impl<L: Drop, P: Drop, S: Drop, D: DescriptorDevice<L, P, S>> Renderer<L, P, S, 
             (RenderError.Allocation error) → IfSome (layout_of self.old layout) (λ known.
             FailsInAllocator known.layout 1 self.old self.new error) }
         ensures stay { OnErr result (drawn_in self.new ≡ drawn_in self.old) }
-        ensures layouts { layout_of self.new ≡ layout_of self.old }
-        ensures frame { frame_of self.new ≡ frame_of self.old }
-        ensures open { is_open self.new ≡ is_open self.old }
-        ensures held { held_in self.new ≡ held_in self.old }
-        ensures retired { retired_in self.new ≡ retired_in self.old }
-        ensures pools { pools_besides self.new ≡ pools_besides self.old }
-        ensures limit { limit_of self.new ≡ limit_of self.old }
+        ensures device { ((IsErrOf result RenderError.NoFrame) ⊎ (IsErrOf result
+            RenderError.NoLayout)) → side_of self.new ≡ side_of self.old }
+        ensures rest { seen self.new ≡ record (seen self.old) { drawn = drawn_in self.new } }
     {
         if !self.is_open {
             return Err(RenderError::NoFrame);
@@ -144,15 +132,11 @@ impl<L: Drop, P: Drop, S: Drop, D: DescriptorDevice<L, P, S>> Renderer<L, P, S, 
         ensures retired { retired_in self.new ≡ retired_in self.old
             ++ map (at_frame (frame_of self.old)) (drawn_in self.old).all }
         ensures drawn { (drawn_in self.new).all ≡ [] }
-        ensures open { is_open self.new ≡ false }
-        ensures layouts { layout_of self.new ≡ layout_of self.old }
-        ensures frame { frame_of self.new ≡ frame_of self.old }
-        ensures held { held_in self.new ≡ held_in self.old }
-        ensures pools { pools_besides self.new ≡ pools_besides self.old }
-        ensures limit { limit_of self.new ≡ limit_of self.old }
+        ensures rest { seen self.new ≡ record (seen self.old)
+            { is_open = false; drawn = drawn_in self.new; retired = retired_in self.new } }
         ensures device { side_of self.new ≡ side_of self.old }
         ensures can_create { (n : ℕ) → CanCreate n self.old → CanCreate n self.new }
-        ensures capacity { deque_capacity self.new.drawn ≡ deque_capacity self.old.drawn }
+        ensures can_draw { CanDraw self.old → CanDraw self.new }
     {
         self.manager.retire_reserved(self.frame, &mut self.drawn);
         self.is_open = false;
@@ -164,14 +148,8 @@ impl<L: Drop, P: Drop, S: Drop, D: DescriptorDevice<L, P, S>> Renderer<L, P, S, 
     pub fn gpu_done(&mut self, frame: u64)
         ensures returns { Returns D.meaning (retired_sets (due frame (retired_in self.old)))
             (side_of self.old) (side_of self.new) }
-        ensures retired { retired_in self.new ≡ later frame (retired_in self.old) }
-        ensures layouts { layout_of self.new ≡ layout_of self.old }
-        ensures frame { frame_of self.new ≡ frame_of self.old }
-        ensures open { is_open self.new ≡ is_open self.old }
-        ensures drawn { drawn_in self.new ≡ drawn_in self.old }
-        ensures held { held_in self.new ≡ held_in self.old }
-        ensures pools { pools_besides self.new ≡ pools_besides self.old }
-        ensures limit { limit_of self.new ≡ limit_of self.old }
+        ensures rest { seen self.new ≡ record (seen self.old)
+            { retired = later frame (retired_in self.old) } }
         ensures can_draw { CanDraw self.old → CanDraw self.new }
         ensures can_create { (n : ℕ) → CanCreate n self.old → CanCreate n self.new }
     {

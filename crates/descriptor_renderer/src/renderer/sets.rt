@@ -25,8 +25,7 @@ impl<L: Drop, P: Drop, S: Drop, D: DescriptorDevice<L, P, S>> Renderer<L, P, S, 
     ghost use Rattle.descriptor_renderer.specs.declared.handles.SetHandle.{SetHandle};
     ghost use Rattle.descriptor_renderer.specs.Renderers.{CanCreate, CanDraw, FailsInAllocator, IsMetBy};
     ghost use Rattle.descriptor_renderer.specs.Renderers.{Fails, drawn_in, frame_of, held_in};
-    ghost use Rattle.descriptor_renderer.specs.Renderers.{is_open, layout_of, limit_of};
-    ghost use Rattle.descriptor_renderer.specs.Renderers.{pools_besides, retired_in, side_of};
+    ghost use Rattle.descriptor_renderer.specs.Renderers.{is_open, layout_of, retired_in, seen, side_of};
 
     /// Creates a set of a layout, which is held until it is freed or destroyed, in a frame or between
     /// two.
@@ -46,13 +45,8 @@ impl<L: Drop, P: Drop, S: Drop, D: DescriptorDevice<L, P, S>> Renderer<L, P, S, 
             (RenderError.Allocation error) → IfSome (layout_of self.old layout) (λ known.
             FailsInAllocator known.layout 1 self.old self.new error) }
         ensures stay { OnErr result (held_in self.new ≡ held_in self.old) }
-        ensures layouts { layout_of self.new ≡ layout_of self.old }
-        ensures frame { frame_of self.new ≡ frame_of self.old }
-        ensures open { is_open self.new ≡ is_open self.old }
-        ensures drawn { drawn_in self.new ≡ drawn_in self.old }
-        ensures retired { retired_in self.new ≡ retired_in self.old }
-        ensures pools { pools_besides self.new ≡ pools_besides self.old }
-        ensures limit { limit_of self.new ≡ limit_of self.old }
+        ensures device { IsErrOf result RenderError.NoLayout → side_of self.new ≡ side_of self.old }
+        ensures rest { seen self.new ≡ record (seen self.old) { held = held_in self.new } }
     {
         let Some(known) = self.layouts.get(layout) else {
             return Err(RenderError::NoLayout);
@@ -96,13 +90,8 @@ impl<L: Drop, P: Drop, S: Drop, D: DescriptorDevice<L, P, S>> Renderer<L, P, S, 
             FailsInAllocator known.layout count self.old self.new error) }
         ensures stay { OnErr result (held_in self.new ≡ held_in self.old) }
         ensures handles { OnErr result (handles.new.items ≡ handles.old.items) }
-        ensures layouts { layout_of self.new ≡ layout_of self.old }
-        ensures frame { frame_of self.new ≡ frame_of self.old }
-        ensures open { is_open self.new ≡ is_open self.old }
-        ensures drawn { drawn_in self.new ≡ drawn_in self.old }
-        ensures retired { retired_in self.new ≡ retired_in self.old }
-        ensures pools { pools_besides self.new ≡ pools_besides self.old }
-        ensures limit { limit_of self.new ≡ limit_of self.old }
+        ensures device { IsErrOf result RenderError.NoLayout → side_of self.new ≡ side_of self.old }
+        ensures rest { seen self.new ≡ record (seen self.old) { held = held_in self.new } }
     {
         let Some(known) = self.layouts.get(layout) else {
             return Err(RenderError::NoLayout);
@@ -118,9 +107,12 @@ impl<L: Drop, P: Drop, S: Drop, D: DescriptorDevice<L, P, S>> Renderer<L, P, S, 
         {
             return Err(RenderError::Allocation(AllocationError::OutOfHostMemory));
         }
-        match self.manager.allocate_for(&mut self.device, known, count) {
-            Ok(sets) => {
-                self.held.put_each(sets, handles);
+        match self
+            .manager
+            .allocate_into(&mut self.device, known, count, &mut self.coming)
+        {
+            Ok(()) => {
+                self.held.put_each(&mut self.coming, handles);
                 Ok(())
             }
             Err(error) => Err(RenderError::Allocation(error)),
@@ -128,10 +120,10 @@ impl<L: Drop, P: Drop, S: Drop, D: DescriptorDevice<L, P, S>> Renderer<L, P, S, 
     }
 
     /// Frees sets at once, all or none, in the order of the list: neighbours of one pool in one call
-    /// of the device. Their handles name nothing from now on. It takes no memory. The device must be
+    /// of the device. Their handles name nothing from now on. It allocates nothing. The device must be
     /// done with the work that uses them: no contract sees that.
     ///
-    /// It returns `NoSet` if a handle names no set that the renderer holds, or stands in the list
+    /// It returns `NoSet` if a handle names no set that the renderer holds, or is in the list
     /// twice. Then nothing changed.
     pub fn free_sets(&mut self, sets: &[SetHandle]) -> Result<(), DestroyError>
         ensures frees { OnOk result ((freed : List (DescriptorSet S))
@@ -142,13 +134,7 @@ impl<L: Drop, P: Drop, S: Drop, D: DescriptorDevice<L, P, S>> Renderer<L, P, S, 
             × ¬ (AreHeldOnce (held_in self.old) sets.now)) }
         ensures stay { OnErr result ((held_in self.new ≡ held_in self.old)
             × (side_of self.new ≡ side_of self.old)) }
-        ensures layouts { layout_of self.new ≡ layout_of self.old }
-        ensures frame { frame_of self.new ≡ frame_of self.old }
-        ensures open { is_open self.new ≡ is_open self.old }
-        ensures drawn { drawn_in self.new ≡ drawn_in self.old }
-        ensures retired { retired_in self.new ≡ retired_in self.old }
-        ensures pools { pools_besides self.new ≡ pools_besides self.old }
-        ensures limit { limit_of self.new ≡ limit_of self.old }
+        ensures rest { seen self.new ≡ record (seen self.old) { held = held_in self.new } }
         ensures can_draw { CanDraw self.old → CanDraw self.new }
     {
         if !self.held.take_each(sets, &mut self.going) {
@@ -172,23 +158,20 @@ impl<L: Drop, P: Drop, S: Drop, D: DescriptorDevice<L, P, S>> Renderer<L, P, S, 
             × ((held_in self.old).set set ≡ None)) }
         ensures stay { OnErr result ((held_in self.new ≡ held_in self.old)
             × (retired_in self.new ≡ retired_in self.old)) }
-        ensures layouts { layout_of self.new ≡ layout_of self.old }
-        ensures frame { frame_of self.new ≡ frame_of self.old }
-        ensures open { is_open self.new ≡ is_open self.old }
-        ensures drawn { drawn_in self.new ≡ drawn_in self.old }
-        ensures pools { pools_besides self.new ≡ pools_besides self.old }
-        ensures limit { limit_of self.new ≡ limit_of self.old }
+        ensures rest { seen self.new ≡ record (seen self.old)
+            { held = held_in self.new; retired = retired_in self.new } }
         ensures device { side_of self.new ≡ side_of self.old }
         ensures can_draw { CanDraw self.old → CanDraw self.new }
     {
         self.destroy_sets(&[set], last_use)
     }
 
-    /// Destroys sets that were last used in a frame, 0 if in none, all or none: they are freed once
-    /// that frame is done, and their handles name nothing from now on. It takes no memory.
+    /// Destroys sets that were last used in a frame, 0 if in none, all or none: they are freed by the
+    /// next `gpu_done` of that frame or a later one, and their handles name nothing from now on. It
+    /// allocates nothing.
     ///
     /// It returns `FrameAhead` if the frame was not opened yet, and otherwise `NoSet` if a handle
-    /// names no set that the renderer holds, or stands in the list twice. Then nothing changed.
+    /// names no set that the renderer holds, or is in the list twice. Then nothing changed.
     pub fn destroy_sets(&mut self, sets: &[SetHandle], last_use: u64) -> Result<(), DestroyError>
         ensures gone { OnOk result ((gone : List (DescriptorSet S))
             × LeaveEach sets.now gone (held_in self.old) (held_in self.new)
@@ -199,12 +182,8 @@ impl<L: Drop, P: Drop, S: Drop, D: DescriptorDevice<L, P, S>> Renderer<L, P, S, 
             × ¬ (AreHeldOnce (held_in self.old) sets.now)) }
         ensures stay { OnErr result ((held_in self.new ≡ held_in self.old)
             × (retired_in self.new ≡ retired_in self.old)) }
-        ensures layouts { layout_of self.new ≡ layout_of self.old }
-        ensures frame { frame_of self.new ≡ frame_of self.old }
-        ensures open { is_open self.new ≡ is_open self.old }
-        ensures drawn { drawn_in self.new ≡ drawn_in self.old }
-        ensures pools { pools_besides self.new ≡ pools_besides self.old }
-        ensures limit { limit_of self.new ≡ limit_of self.old }
+        ensures rest { seen self.new ≡ record (seen self.old)
+            { held = held_in self.new; retired = retired_in self.new } }
         ensures device { side_of self.new ≡ side_of self.old }
         ensures can_draw { CanDraw self.old → CanDraw self.new }
     {
@@ -219,7 +198,7 @@ impl<L: Drop, P: Drop, S: Drop, D: DescriptorDevice<L, P, S>> Renderer<L, P, S, 
     }
 
     /// Frees all sets at once: those that wait for a frame, those of the open frame, which is ended,
-    /// and those that are held. It takes no memory. The device must be done with the work that uses
+    /// and those that are held. It allocates nothing. The device must be done with the work that uses
     /// them: no contract sees that.
     pub fn free_all(&mut self)
         ensures none { (length (drawn_in self.new).all ≡ 0) × (length (held_in self.new).all ≡ 0)
@@ -229,11 +208,8 @@ impl<L: Drop, P: Drop, S: Drop, D: DescriptorDevice<L, P, S>> Renderer<L, P, S, 
         ensures returns { Returns D.meaning (retired_sets (retired_in self.old)
             ++ (drawn_in self.old).all ++ (held_in self.old).all) (side_of self.old)
             (side_of self.new) }
-        ensures open { is_open self.new ≡ false }
-        ensures layouts { layout_of self.new ≡ layout_of self.old }
-        ensures frame { frame_of self.new ≡ frame_of self.old }
-        ensures pools { pools_besides self.new ≡ pools_besides self.old }
-        ensures limit { limit_of self.new ≡ limit_of self.old }
+        ensures rest { seen self.new ≡ record (seen self.old)
+            { is_open = false; drawn = drawn_in self.new; held = held_in self.new; retired = [] } }
     {
         self.end_frame();
         self.held.take_all(&mut self.going);

@@ -29,7 +29,7 @@ pub(crate) struct HeldSets<S> {
 }
 
 impl<S> HeldSets<S> {
-    /// No sets. Their handles have the number of the renderer. It takes no memory.
+    /// No sets. Their handles have the number of the renderer. It allocates nothing.
     pub(crate) fn new(alloc: Global, renderer: u64) -> Self
     {
         HeldSets {
@@ -237,9 +237,13 @@ impl<S> HeldSets<S> {
 
 impl<S> HeldSets<S> {
     /// Puts sets into slots, over memory that was reserved, and appends their handles.
-    pub(crate) fn put_each(&mut self, sets: Vec<DescriptorSet<S>>, handles: &mut Vec<SetHandle>)
+    pub(crate) fn put_each(
+        &mut self,
+        sets: &mut Vec<DescriptorSet<S>>,
+        handles: &mut Vec<SetHandle>,
+    )
     {
-        for set in sets {
+        for set in sets.drain(..) {
             let handle = self.put(set);
             handles.push_reserved(handle);
         }

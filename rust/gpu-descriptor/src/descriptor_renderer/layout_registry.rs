@@ -6,7 +6,7 @@ use crate::kit::alloc::{AllocFailed, Global};
 use crate::kit::marker::PhantomData;
 use crate::kit::vec::Vec;
 
-/// A layout of a registry: the number of the registry, and the layout's place there.
+/// The handle of a layout. Only the renderer, or the registry, that gave it has the layout.
 #[derive(Clone, Copy, Debug, PartialEq, Eq, Hash)]
 pub struct LayoutHandle {
     pub(crate) registry: u64,
@@ -15,7 +15,7 @@ pub struct LayoutHandle {
 
 /// The layouts of a device, each under a handle. No layout is ever taken out.
 ///
-/// A handle of another registry is told apart by the number that the registry was made with: give
+/// A handle of another registry is refused by the number that the registry was made with: give
 /// each registry of a program a number of its own. Under equal numbers a handle of one registry
 /// names a layout of the other.
 pub struct LayoutRegistry<L, P, S, D: DescriptorDevice<L, P, S>> {
@@ -25,7 +25,7 @@ pub struct LayoutRegistry<L, P, S, D: DescriptorDevice<L, P, S>> {
 }
 
 impl<L, P, S, D: DescriptorDevice<L, P, S>> LayoutRegistry<L, P, S, D> {
-    /// A registry without layouts, with the number that tells it from others. It takes no memory.
+    /// A registry without layouts, with the number that tells it from others. It allocates nothing.
     pub fn new(alloc: Global, registry: u64) -> Self
     {
         LayoutRegistry {
@@ -35,8 +35,8 @@ impl<L, P, S, D: DescriptorDevice<L, P, S>> LayoutRegistry<L, P, S, D> {
         }
     }
 
-    /// Puts a layout behind the others, and gives its handle. Where there is no memory the layout
-    /// comes back, and nothing changed.
+    /// Appends a layout, and returns its handle. If an allocation fails the layout is returned, and
+    /// nothing changed.
     pub fn add(&mut self, layout: SetLayout<L>) -> Result<LayoutHandle, AllocFailed<SetLayout<L>>>
     {
         let handle = LayoutHandle {

@@ -11,17 +11,18 @@ use crate::descriptor_frames::FrameManager;
 use crate::gpu_descriptor::{DescriptorDevice, DescriptorSet, SetLayout};
 use crate::kit::alloc::{AllocFailed, Global};
 use crate::kit::collections::VecDeque;
+use crate::kit::vec::Vec;
 
 /// The descriptor sets of a renderer, over a device that it owns.
 ///
 /// A frame is opened by `begin_frame`, takes any number of sets by `draw`, and is ended by
-/// `end_frame`. Its sets are freed once `gpu_done` is told of the frame or a later one; frames in
+/// `end_frame`. Its sets are freed once `gpu_done` is called with the frame or a later one; frames in
 /// between may be in flight. A set by `create_set` or `create_sets` is held until it is freed at once
-/// by `free_sets`, or destroyed by `destroy_set` or `destroy_sets`: then it is freed once the frame of
-/// its last use is done. Memory to free a set is reserved before the set is asked for, so all of these
-/// but `draw`, `create_set` and `create_sets` take no memory.
+/// by `free_sets`, or destroyed by `destroy_set` or `destroy_sets`: then it is freed by the next
+/// `gpu_done` of the frame of its last use or a later one. Memory to free a set is reserved before the set is asked for, so all of these
+/// but `draw`, `create_set` and `create_sets` allocate nothing.
 ///
-/// The raw set of a handle is lent, as the device is, to be written and bound. Do not allocate or
+/// The raw set of a handle is borrowed, as the device is, to be written and bound. Do not allocate or
 /// free on the device in the meantime: only the renderer does.
 pub struct Renderer<L, P, S, D: DescriptorDevice<L, P, S>> {
     device: D,
@@ -37,12 +38,15 @@ pub struct Renderer<L, P, S, D: DescriptorDevice<L, P, S>> {
     drawn: VecDeque<DescriptorSet<S>>,
     held: HeldSets<S>,
 
+    /// Sets of a batch before they have handles, during a call.
+    coming: Vec<DescriptorSet<S>>,
+
     /// Held sets on their way back, during a call.
     going: VecDeque<DescriptorSet<S>>,
 }
 
 impl<L, P, S, D: DescriptorDevice<L, P, S>> Renderer<L, P, S, D> {
-    /// A renderer over a device, without layouts, sets and an open frame. It takes no memory.
+    /// A renderer over a device, without layouts, sets and an open frame. It allocates nothing.
     ///
     /// `limit` is the driver's, on the update-after-bind descriptors of all pools. By `renderer` its
     /// handles are told from those of other renderers: give each of a program a number of its own.
@@ -57,12 +61,13 @@ impl<L, P, S, D: DescriptorDevice<L, P, S>> Renderer<L, P, S, D> {
             is_open: false,
             drawn: VecDeque::new(alloc),
             held: HeldSets::new(alloc, renderer),
+            coming: Vec::new(alloc),
             going: VecDeque::new(alloc),
         }
     }
 
-    /// Adds a layout, and gives its handle. If an allocation fails the layout comes back, and nothing
-    /// changed.
+    /// Adds a layout, and returns its handle. If an allocation fails the layout is returned, and
+    /// nothing changed.
     pub fn add_layout(
         &mut self,
         layout: SetLayout<L>,
@@ -154,6 +159,7 @@ impl<L, P, S, D: DescriptorDevice<L, P, S>> Renderer<L, P, S, D> {
             is_open: _,
             drawn: _,
             held: _,
+            coming: _,
             going: _,
         } = self;
         device

@@ -12,7 +12,7 @@ use core::ops::{Index, IndexMut};
 pub struct VecDeque<T>(std_alloc::collections::VecDeque<T>);
 
 impl<T> VecDeque<T> {
-    /// `items`, `len`: it is empty. `capacity`: it takes no memory.
+    /// `items`, `len`: it is empty. `capacity`: it allocates nothing.
     pub fn new(_: Global) -> Self {
         VecDeque(std_alloc::collections::VecDeque::new())
     }

@@ -15,7 +15,7 @@ pub struct IndexMap<K, V> {
     order: Vec<(u64, usize)>,
 }
 
-/// Hashes eight bytes at a time. Keys with the same hash are told apart by `Eq`, so nothing but time
+/// Hashes eight bytes at a time. `Eq` distinguishes keys with the same hash, so nothing but time
 /// rests on it.
 struct Mix(u64);
 
@@ -56,7 +56,7 @@ fn hash_of<K: Hash>(key: &K) -> u64 {
 }
 
 impl<K, V> IndexMap<K, V> {
-    /// `empty`, `len`: it has no pair. It takes no memory.
+    /// `empty`, `len`: it has no pair. It allocates nothing.
     pub fn new(_: Global) -> Self {
         IndexMap {
             entries: Vec::new(),
@@ -89,8 +89,8 @@ impl<K, V> IndexMap<K, V> {
             .partition_point(|(key, value)| pred(key, value))
     }
 
-    /// `entries`: nothing changes. `ok`: so many inserts need no memory. `succeeds`: if they needed none
-    /// before, it takes none.
+    /// `entries`: nothing changes. `ok`: so many inserts need no allocation. `succeeds`: if they needed
+    /// none before, it allocates nothing.
     pub fn reserve(&mut self, additional: usize) -> Result<(), AllocError> {
         let entries = self.entries.try_reserve(additional);
         match entries.and_then(|()| self.order.try_reserve(additional)) {
@@ -118,7 +118,7 @@ impl<K: Eq + Hash, V> IndexMap<K, V> {
 
     /// `entries`, `old`: a new key goes last, and a key that is there gets the value.
     /// `value_returned`, `err`: if an allocation failed, nothing changed. `succeeds`: if there is
-    /// room, it takes no memory.
+    /// room, it allocates nothing.
     pub fn insert(&mut self, key: K, value: V) -> Result<Option<V>, AllocFailed<(K, V)>> {
         if let Some(place) = self.get_index_of(&key) {
             return Ok(Some(core::mem::replace(&mut self.entries[place].1, value)));
@@ -135,8 +135,8 @@ impl<K: Eq + Hash, V> IndexMap<K, V> {
         Ok(None)
     }
 
-    /// `filtered`: the pairs for which `keep` is true stay, in their order. `room`: it takes no memory
-    /// and gives none back, since the sort is in place.
+    /// `filtered`: the pairs for which `keep` is true stay, in their order. `room`: it allocates and
+    /// frees nothing, since the sort is in place.
     pub fn retain(&mut self, mut keep: impl FnMut(&K, &mut V) -> bool) {
         let before = self.entries.len();
         self.entries.retain_mut(|(key, value)| keep(key, value));

@@ -25,7 +25,7 @@ pub mod alloc {
     #[derive(Clone, Copy, Debug, PartialEq, Eq)]
     pub struct AllocError;
 
-    /// An allocation for a value failed, which comes back.
+    /// An allocation for a value failed. It returns the value.
     #[derive(Clone, Copy, Debug, PartialEq, Eq)]
     pub struct AllocFailed<T> {
         pub value: T,

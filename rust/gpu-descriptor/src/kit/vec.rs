@@ -2,14 +2,14 @@
 
 use super::NOT_RESERVED;
 use super::alloc::{AllocError, AllocFailed, Global};
-use core::ops::{Deref, DerefMut, RangeFrom};
+use core::ops::{Deref, DerefMut, RangeBounds};
 
 /// A vector that grows only by calls that return a `Result`.
 #[derive(Debug)]
 pub struct Vec<T>(pub std_alloc::vec::Vec<T>);
 
 impl<T> Vec<T> {
-    /// `items`, `len`: it is empty. `capacity`: it takes no memory.
+    /// `items`, `len`: it is empty. `capacity`: it allocates nothing.
     pub fn new(_: Global) -> Self {
         Vec(std_alloc::vec::Vec::new())
     }
@@ -43,9 +43,9 @@ impl<T> Vec<T> {
         self.0.try_reserve_exact(additional).map_err(|_| AllocError)
     }
 
-    /// `rest`: gives the values from the range's start on, in order. `kept`: those before stay.
+    /// `rest`: gives the values of the range, in order. `kept`: the others stay.
     #[inline]
-    pub fn drain(&mut self, range: RangeFrom<usize>) -> std_alloc::vec::Drain<'_, T> {
+    pub fn drain<R: RangeBounds<usize>>(&mut self, range: R) -> std_alloc::vec::Drain<'_, T> {
         self.0.drain(range)
     }
 
@@ -63,7 +63,7 @@ impl<T> Vec<T> {
     }
 
     /// `items`, `len`: the value is last; or, if an allocation failed, nothing changed and the value
-    /// comes back.
+    /// is returned.
     pub fn push(&mut self, value: T) -> Result<(), AllocFailed<T>> {
         match self.0.try_reserve(1) {
             Ok(()) => {
@@ -137,11 +137,13 @@ mod tests {
     }
 
     #[test]
-    fn a_drain_takes_those_behind_the_first_in_order() {
+    fn a_drain_takes_a_range_in_order() {
         let mut items = Vec(std_alloc::vec![1, 2, 3, 4]);
         assert!(items.drain(2..).eq([3, 4]));
         assert_eq!(*items, [1, 2]);
         assert!(items.drain(2..).eq([]));
+        assert!(items.drain(..).eq([1, 2]));
+        assert!(items.is_empty());
     }
 
     #[test]

@@ -39,7 +39,8 @@ impl<L, P, S, D: DescriptorDevice<L, P, S>> Renderer<L, P, S, D> {
         Ok(())
     }
 
-    /// Takes a set of a layout, which is in use until the frame ends.
+    /// Draws with a new set of a layout. Its handle names it until the frame ends, and the set is freed
+    /// once the device is done with the frame.
     pub fn draw(&mut self, layout: LayoutHandle) -> Result<DrawHandle, RenderError>
     {
         if !self.is_open {

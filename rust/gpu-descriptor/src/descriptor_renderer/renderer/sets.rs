@@ -53,9 +53,12 @@ impl<L, P, S, D: DescriptorDevice<L, P, S>> Renderer<L, P, S, D> {
         {
             return Err(RenderError::Allocation(AllocationError::OutOfHostMemory));
         }
-        match self.manager.allocate_for(&mut self.device, known, count) {
-            Ok(sets) => {
-                self.held.put_each(sets, handles);
+        match self
+            .manager
+            .allocate_into(&mut self.device, known, count, &mut self.coming)
+        {
+            Ok(()) => {
+                self.held.put_each(&mut self.coming, handles);
                 Ok(())
             }
             Err(error) => Err(RenderError::Allocation(error)),
@@ -63,10 +66,10 @@ impl<L, P, S, D: DescriptorDevice<L, P, S>> Renderer<L, P, S, D> {
     }
 
     /// Frees sets at once, all or none, in the order of the list: neighbours of one pool in one call
-    /// of the device. Their handles name nothing from now on. It takes no memory. The device must be
+    /// of the device. Their handles name nothing from now on. It allocates nothing. The device must be
     /// done with the work that uses them: no contract sees that.
     ///
-    /// It returns `NoSet` if a handle names no set that the renderer holds, or stands in the list
+    /// It returns `NoSet` if a handle names no set that the renderer holds, or is in the list
     /// twice. Then nothing changed.
     pub fn free_sets(&mut self, sets: &[SetHandle]) -> Result<(), DestroyError>
     {
@@ -87,11 +90,12 @@ impl<L, P, S, D: DescriptorDevice<L, P, S>> Renderer<L, P, S, D> {
         self.destroy_sets(&[set], last_use)
     }
 
-    /// Destroys sets that were last used in a frame, 0 if in none, all or none: they are freed once
-    /// that frame is done, and their handles name nothing from now on. It takes no memory.
+    /// Destroys sets that were last used in a frame, 0 if in none, all or none: they are freed by the
+    /// next `gpu_done` of that frame or a later one, and their handles name nothing from now on. It
+    /// allocates nothing.
     ///
     /// It returns `FrameAhead` if the frame was not opened yet, and otherwise `NoSet` if a handle
-    /// names no set that the renderer holds, or stands in the list twice. Then nothing changed.
+    /// names no set that the renderer holds, or is in the list twice. Then nothing changed.
     pub fn destroy_sets(&mut self, sets: &[SetHandle], last_use: u64) -> Result<(), DestroyError>
     {
         if last_use > self.frame {
@@ -105,7 +109,7 @@ impl<L, P, S, D: DescriptorDevice<L, P, S>> Renderer<L, P, S, D> {
     }
 
     /// Frees all sets at once: those that wait for a frame, those of the open frame, which is ended,
-    /// and those that are held. It takes no memory. The device must be done with the work that uses
+    /// and those that are held. It allocates nothing. The device must be done with the work that uses
     /// them: no contract sees that.
     pub fn free_all(&mut self)
     {

@@ -31,7 +31,7 @@ returns-clause-returns g c =
     let m = c.retire_reserved.new.self in
     let retired = c.end_frame.ensures.retired ∙ ap (λ xs. retired_of old.manager ++ map (at_frame old.frame) xs) (all_drawn old.renderer old.frame old.drawn.items) in
     let drawn = sets_behind old.frame (retired_of old.manager) (retired_of ended.manager) old.drawn.items retired ∙ ap (λ xs. retired_sets (retired_of old.manager) ++ xs) (sym (all_drawn old.renderer old.frame old.drawn.items)) in
-    let held = c.take_all.ensures.going ∙ sym (all_held ended.held.renderer (slots_of ended.held)) ∙ ap (λ h. h.all) c.end_frame.ensures.held in
+    let held = c.take_all.ensures.going ∙ sym (all_held ended.held.renderer (slots_of ended.held)) ∙ ap (λ s. s.held.all) c.end_frame.ensures.rest in
     let parts = sets_behind ended.frame (retired_of ended.manager) (retired_of m) c.take_all.new.going.items c.retire_reserved.ensures.last ∙ (λ i. drawn i ++ held i) in
     let early : All (λ r. r.frame ≤ ended.frame) (retired_of m) = λ i d lt. (let within = m.ordered.within i d lt in let rising = c.retire_reserved.ensures.rising in omega arith) in
     let sets = ap retired_sets (all_due ended.frame (retired_of m) early) ∙ parts in
