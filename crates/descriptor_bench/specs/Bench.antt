@@ -1,4 +1,4 @@
--- What a bench stands at.
+-- The state of a bench.
 use Rattle.gpu_descriptor.specs.Model.Agreement.{State}
 use Rattle.gpu_descriptor.specs.Caller.States.{state_of}
 use Rattle.descriptor_bench.specs.Device.{ledger_of, name_of}

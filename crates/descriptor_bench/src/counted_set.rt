@@ -12,7 +12,7 @@ pub struct CountedSet {
     pub made: Made,
 }
 
-/// The number of the layout with which a set was made. It takes no memory.
+/// The number of the layout with which a set was made. It has no bytes.
 #[derive(Drop)]
 pub struct Made {
     pub ghost layout: { ℕ },

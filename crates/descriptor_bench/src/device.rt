@@ -19,7 +19,7 @@ use gpu_descriptor::{
 use gpu_descriptor_types::Tally;
 
 /// A device of counters, with a checksum of what is released and destroyed. Pools and sets are
-/// numbered from 0 up. What it owes takes no memory.
+/// numbered from 0 up. What it owes has no bytes.
 #[derive(Drop)]
 pub struct CountingDevice {
     next_pool: u64,

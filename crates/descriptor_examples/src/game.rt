@@ -144,7 +144,7 @@ fn bind_material(renderer: &GameRenderer, material: SetHandle, score: &mut Score
     }
 }
 
-/// Draws with a set of a layout, where there is one.
+/// Draws with a set of a layout, if there is one.
 fn draw(renderer: &mut GameRenderer, layout: LayoutHandle, score: &mut Score)
     ensures { pools_besides renderer.new ≡ pools_besides renderer.old }
 {

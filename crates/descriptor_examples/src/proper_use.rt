@@ -1,4 +1,4 @@
-//! Sets and pools as they are to be used: each while it is out, and each goes back once.
+//! Sets and pools as they are to be used: each while it is out, and each is freed once.
 ghost use Rattle.std.specs.Prelude.{◌≡◌, ◌+◌, IfOk, OnOk};
 ghost use Rattle.gpu_descriptor.specs.Caller.States.{Agrees, outstanding_of};
 ghost use Rattle.descriptor_script.specs.Scripted.Raw.{pool_id};

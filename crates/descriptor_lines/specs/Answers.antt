@@ -1,4 +1,4 @@
--- What the output says.
+-- The texts of the output.
 use Rattle.std.specs.Prelude.{◌≡◌, ◌≤◌, ◌+◌, ℕ, List, [], ◌∷◌, ◌++◌, length, codes, String, string_bytes, string_capacity, if◌then◌else◌, ◌==◌}
 use Rattle.std.specs.Fmt.{decimal}
 use Rattle.std.specs.List.{flat_map, zip}
@@ -8,7 +8,7 @@ use Rattle.descriptor_words.specs.declared.fault.Fault.{Fault}
 use Rattle.descriptor_words.specs.Fault.{words_of_fault}
 use Rattle.descriptor_words.specs.Kinds.{kind_names}
 
--- so many bytes may go after the text without memory
+-- so many bytes may be appended to the text without an allocation
 abbrev pub HasReserveFor : {Z : Type 0} → ℕ → String Z → Type 0
 HasReserveFor more text = length (string_bytes text) + more ≤ string_capacity text
 
@@ -20,7 +20,7 @@ limit_answer max = codes "limit " ++ decimal max ++ 10 ∷ []
 abbrev pub layout_answer : List ℕ → ℕ → List ℕ
 layout_answer name total = codes "layout " ++ name ++ codes " total " ++ decimal total ++ 10 ∷ []
 
--- a kind with its count, where that is not 0
+-- a kind with its count, if that is not 0
 abbrev pub kind_answer : List ℕ × ℕ → List ℕ
 kind_answer (name, count) =
     if count == 0 then [] else codes " " ++ name ++ codes "=" ++ decimal count
@@ -57,7 +57,7 @@ device_answer created destroyed asked released =
 abbrev pub held_answer : ℕ → ℕ → List ℕ
 held_answer held marked = codes "held " ++ decimal held ++ codes " marked " ++ decimal marked ++ 10 ∷ []
 
--- the answer where there was no memory to run a line
+-- the answer if an allocation to run a line failed
 abbrev pub no_memory : List ℕ
 no_memory = codes "refused: no memory" ++ 10 ∷ []
 

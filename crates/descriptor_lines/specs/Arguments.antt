@@ -24,7 +24,7 @@ use Rattle.descriptor_words.specs.declared.fault.Fault.TheVariants.{UnknownComma
 use Rattle.descriptor_words.specs.declared.fault.Refusal.{Refusal}
 use Rattle.descriptor_lines.specs.declared.layouts.Layouts.{Layouts}
 
--- what is wrong with the words of `limit`, which comes too late where a line had a command
+-- what is wrong with the words of `limit`, which comes too late if a line had a command
 abbrev pub IsFaultOfLimit : Bool → List (List ℕ) → Fault → Type 0
 IsFaultOfLimit true words fault = fault ≡ LimitNotFirst
 IsFaultOfLimit false (word ∷ []) fault = (fault ≡ BadNumber) × ¬ WritesNumberWithin greatest_u32 word
@@ -76,7 +76,7 @@ module _ (layouts : Layouts) where
       pub counts_are : GiveCounts words (kinds layout.counts)
 
   module _ (has_begun : Bool) where
-    -- what is wrong with the words after that of a command, of which `limit` may come only where no line had one: memory can be wanting for `script` and `free` alone
+    -- what is wrong with the words after that of a command, of which `limit` may come only if no line had one: an allocation can fail for `script` and `free` alone
     abbrev pub IsRefusalOfWords : Keyword → List (List ℕ) → Refusal → Type 0
     IsRefusalOfWords keyword.Limit words reason = IsFaultAnd reason (IsFaultOfLimit has_begun words)
     IsRefusalOfWords keyword.Layout (name ∷ mark ∷ words) reason =

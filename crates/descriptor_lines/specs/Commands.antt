@@ -13,7 +13,7 @@ use Rattle.descriptor_lines.specs.declared.layouts.Layouts.{Layouts}
 abbrev pub most_sets : ℕ
 most_sets = 1000000
 
--- the command can be run where these layouts are
+-- the command can be run with these layouts
 abbrev pub IsRunnable : Layouts → Command → Type 0
 IsRunnable layouts (Limit max) = layout_count layouts ≡ 0
 IsRunnable layouts (Layout name layout) = layout_named layouts name.now ≡ None
@@ -30,7 +30,7 @@ abbrev pub IsNumberOf : List (List ℕ) → ℕ → Type 0
 IsNumberOf (word ∷ []) number = WritesNumberWithin greatest_u32 word × (number ≡ value_of word)
 IsNumberOf _ number = ⊥
 
--- the session has the layout that the command asks for, where there are so many
+-- the session, with so many layouts, has the one that the command asks for
 abbrev pub IsKnown : ℕ → session.Command → Type 0
 IsKnown layouts (step.Allocate layout count) = layout < layouts
 IsKnown layouts _ = Unit {0}

@@ -21,6 +21,6 @@ abbrev pub unread : LineBuffer → Option (List ℕ) → Option (List ℕ)
 unread buffer known =
     if buffer.is_at_end then Some (buffered buffer) else prepend_known (buffered buffer) known
 
--- the buffer has seen the end of a reader only where that has nothing left
+-- the buffer has seen the end of a reader only if that has nothing left
 abbrev pub SeesEndOf : LineBuffer → Option (List ℕ) → Type 0
 SeesEndOf buffer known = IsTrue buffer.is_at_end → IsAtEnd known

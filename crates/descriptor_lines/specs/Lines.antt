@@ -25,7 +25,7 @@ without_empty_last [] = []
 without_empty_last ([] ∷ []) = []
 without_empty_last (piece ∷ pieces) = piece ∷ without_empty_last pieces
 
--- the lines of the bytes: what stands before each end of a line, and what is left after the last, where that is not empty
+-- the lines of the bytes: what is before each end of a line, and what is left after the last, if that is not empty
 unfoldable pub lines_of : List ℕ → List (List ℕ)
 lines_of bytes = without_empty_last (slice_split (is_byte 10) bytes)
 

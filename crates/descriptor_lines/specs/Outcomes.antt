@@ -1,4 +1,4 @@
--- What the output says of a line that was run.
+-- What is written of a line that was run.
 use Rattle.std.specs.Prelude.{◌≡◌, List, ℕ, Option, ◌++◌, Result, Ok, Err, IfErr}
 use Rattle.std.specs.Io.KnownBytes.{Appends}
 use Rattle.descriptor_lines.specs.Answers.{fault_line, no_memory}
@@ -6,11 +6,11 @@ use Rattle.descriptor_words.specs.declared.fault.Fault.{Fault}
 use Rattle.descriptor_words.specs.declared.fault.Refusal.{Refusal}
 use Rattle.descriptor_words.specs.declared.fault.Refusal.TheVariants as refusal
 
--- the line is not faulty: it ran, or there was no memory to run it
+-- the line is not faulty: it ran, or an allocation to run it failed
 abbrev pub IsNoFault : Result Unit Refusal → Type 0
 IsNoFault outcome = IfErr outcome (λ reason. reason ≡ refusal.NoMemory)
 
--- what there is to say of the line: the text that it made, or why it made none
+-- what is to be written of the line: the text that it made, or why it made none
 abbrev pub said_of : ℕ → Result Unit Refusal → List ℕ → List ℕ
 said_of number (Ok done) text = text
 said_of number (Err refusal.NoMemory) text = no_memory

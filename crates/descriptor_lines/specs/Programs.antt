@@ -81,13 +81,13 @@ pub record Does (command : Command) (text : List ℕ) (old new : LineState) : Ty
   pub reply : Reply
   pub said : text ≡ text_of_reply (sets_of new.session) reply
   pub step : StepsTo script_meaning command reply (side old.session old.ledger) (side new.session new.ledger)
-  -- no word is read where the device is not asked
+  -- no word is read if the device is not asked
   pub turned_away : IsTurnedAway reply → new.script ≡ old.script
   -- limit and layouts stay
   pub keeps : KeepsSession script_meaning (side old.session old.ledger) (side new.session new.ledger)
   pub layouts : SameLayouts old.layouts new.layouts
 
--- what the command of a line does, and its answer, where memory is there
+-- what the command of a line does, and its answer, if no allocation fails
 abbrev pub DoesCommand : line.Command → List ℕ → LineState → LineState → Type 0
 DoesCommand (step.Limit max) text old new = Begins max old new × (text ≡ limit_answer max)
 DoesCommand (step.Layout name layout) text old new =
@@ -101,7 +101,7 @@ DoesCommand (step.Free tickets) text old new = Does (Free tickets) text old new
 DoesCommand step.Cleanup text old new = Does Cleanup text old new
 DoesCommand step.Show text old new = (new ≡ old) × (text ≡ show_answer old)
 
--- why a line is not run: a fault of its words; or there was no memory to read them, or to run the command that they give
+-- why a line is not run: a fault of its words; or an allocation failed, to read them or to run the command that they give
 abbrev pub IsReasonFor : LineState → List (List ℕ) → Refusal → Type 0
 IsReasonFor p words (refusal.Fault fault) = IsRefusalOf p.layouts p.has_begun words (faulty fault)
 IsReasonFor p words refusal.NoMemory =
@@ -111,7 +111,7 @@ IsReasonFor p words refusal.NoMemory =
 abbrev pub begun : LineState → LineState
 begun p = record p { has_begun = true }
 
--- what a line does, and its answer, where memory is there: nothing where it is silent, and else what its command does
+-- what a line does, and its answer, if no allocation fails: nothing if it is silent, and else what its command does
 abbrev pub DoesLine : List (List ℕ) → List ℕ → LineState → LineState → Type 0
 DoesLine words text old new =
     (IsTrue (is_silent words) × (text ≡ []) × (new ≡ old))

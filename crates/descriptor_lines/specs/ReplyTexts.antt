@@ -16,7 +16,7 @@ use Rattle.descriptor_lines.specs.Replies.{pool_at}
 abbrev pub front_of : ℕ → List ℕ → ℕ
 front_of pool pools = prefix_len (λ next. next == pool) pools
 
--- the stretches that begin after this pool: one begins where the pool is another than before, and is the longest front of its pool
+-- the stretches that begin after this pool: one begins at each pool that is another than before, and is the longest front of its pool
 unfoldable pub stretches_behind : ℕ → List ℕ → List (ℕ × ℕ)
 stretches_behind pool [] = []
 stretches_behind pool (next ∷ rest) =
@@ -43,7 +43,7 @@ range_text first last = codes "sets " ++ decimal first ++ (codes "-" ++ decimal 
 abbrev pub refused_text : AllocationError → List ℕ
 refused_text error = codes "refused: " ++ error_text error ++ codes "\n"
 
--- how many sets went back
+-- how many sets were freed
 abbrev pub freed_text : ℕ → List ℕ
 freed_text count = codes "freed " ++ decimal count ++ codes "\n"
 
@@ -58,7 +58,7 @@ module _ (slots : List (Option (DescriptorSet RawSet))) where
   sets_text first (suc more) =
       range_text first (first + more) ++ stretches_text (pools_from first (suc more)) ++ codes "\n"
 
-  -- the answer to a reply, where these are the sets afterwards. A layout that isn't there has none
+  -- the answer to a reply, if these are the sets afterwards. A layout that isn't there has none
   abbrev pub text_of_reply : Reply → List ℕ
   text_of_reply (Sets first count) = sets_text first count
   text_of_reply (Refused error) = refused_text error
@@ -78,6 +78,6 @@ abbrev pub sets_given : Reply → ℕ
 sets_given (Sets first count) = count
 sets_given _ = 0
 
--- the most bytes of an answer, where so many sets are handed out: a stretch of one set has at most 23
+-- the most bytes of an answer, if so many sets are handed out: a stretch of one set has at most 23
 abbrev pub most_bytes : ℕ → ℕ
 most_bytes sets = 64 + 23 * sets

@@ -1,4 +1,4 @@
--- Rows: what runs over given bytes write, where memory is there and reads and writes are good.
+-- Rows: what runs over given bytes write, if no allocation fails and reads and writes are good.
 use Rattle.std.specs.Prelude.{◌≡◌, ◌≢◌, ◌⊎◌, ℕ, List, [], ◌∷◌, ◌++◌}
 use Rattle.std.specs.List.{flat_map}
 use Rattle.descriptor_lines.specs.Answers.{no_memory}
@@ -13,7 +13,7 @@ use Rattle.descriptor_lines.specs.declared.exit.Exit.TheVariants.{Done, BadLine}
 abbrev pub in_lines : List (List ℕ) → List ℕ
 in_lines lines = flat_map (λ line. line ++ 10 ∷ []) lines
 
--- a text says nowhere that memory was wanting
+-- no line of a text is `refused: no memory`
 abbrev pub HadMemory : List ℕ → Type 0
 HadMemory text = (before after : List ℕ) → text ≢ before ++ no_memory ++ after
 

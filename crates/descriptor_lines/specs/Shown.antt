@@ -1,4 +1,4 @@
--- What `show` says.
+-- What `show` prints.
 use Rattle.std.specs.Prelude.{ℕ, ◌-◌, ◌^◌, List, ◌++◌, length, map, min}
 use Rattle.std.specs.List.{enumerate_from, flat_map}
 use Rattle.gpu_descriptor_types.specs.Ledger.{Counters}
@@ -34,7 +34,7 @@ shown count = min count (2 ^ 64 - 1)
 abbrev pub calls_answer : Counters → List ℕ
 calls_answer n = device_answer (shown n.created) (shown n.destroyed) (shown n.asked) (shown n.released)
 
--- what `show` says: the pools of each layout that is the first with its counts and mark, the calls that the device had, and the sets that are out
+-- what `show` prints: the pools of each layout that is the first with its counts and mark, the calls that the device had, and the sets that are out
 unfoldable pub show_answer : LineState → List ℕ
 show_answer p =
     let allocator = allocator_of p.session in

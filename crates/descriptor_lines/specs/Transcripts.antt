@@ -23,7 +23,7 @@ use Rattle.descriptor_lines.specs.declared.exit.Exit.TheVariants.{Done, BadLine,
 abbrev pub words_in : List ℕ → List (List ℕ)
 words_in line = words (strip_last 13 line)
 
--- there was no memory to run a line of these words
+-- an allocation to run a line of these words failed
 pub record LacksMemory (words : List (List ℕ)) (text : List ℕ) (old new : LineState) : Type 0 where
   pub speaks : IsFalse (is_silent words)
   pub reason : IsReasonFor old words refusal.NoMemory
@@ -31,7 +31,7 @@ pub record LacksMemory (words : List (List ℕ)) (text : List ℕ) (old new : Li
   pub unchanged : IsUnchanged old new
   pub begun : IsTrue new.has_begun
 
--- a line is answered by a text: it does what its words say, or there was no memory to run it
+-- a line is answered by a text: it does what its words say, or an allocation to run it failed
 pub record IsAnswered (line text : List ℕ) (old new : LineState) : Type 0 where
   pub short : length line ≤ longest_line
   pub answer : DoesLine (words_in line) text old new ⊎ LacksMemory (words_in line) text old new
@@ -70,7 +70,7 @@ pub record ComesTo (Says : ℕ → List ℕ → List ℕ → LineState → Type 
   pub whole : text ≡ answers ++ said
   pub says : Says (length before + 1) line said program
 
--- what a run of these lines wrote, by how it ended, and the state that it left: at a faulty line the fault is said last, and where a write failed a prefix of what there is to say of a line
+-- what a run of these lines wrote, by how it ended, and the state that it left: at a faulty line the fault comes last, and if a write failed a prefix of what was to be written of a line
 abbrev pub Wrote : List (List ℕ) → LineState → Exit → List ℕ → LineState → Type 0
 Wrote lines start Done text last = AreAnswered lines text start last
 Wrote lines start BadLine text last =
@@ -86,7 +86,7 @@ abbrev pub Writes : Option (List ℕ) → LineState → Exit → Option (List �
 Writes known start exit old new last =
     IfSome known (λ bytes. (text : List ℕ) × Wrote (lines_of bytes) start exit text last × Appends old new text)
 
--- so it is from a program on that no line was run on before, and its device is left with this ledger and this script; a run for whose buffers there is no memory writes nothing, and its device is as it was
+-- so it is from a program on that no line was run on before, and its device is left with this ledger and this script; a run for whose buffers an allocation fails writes nothing, and its device is as it was
 abbrev pub WritesFromStart : Option (List ℕ) → Exit → Option (List ℕ) → Option (List ℕ) → Ledger → List Answer → Type 0
 WritesFromStart known NoMemory old new ledger script = Keeps old new × (ledger ≡ empty_ledger) × (script ≡ [])
 WritesFromStart known exit old new ledger script =

@@ -30,8 +30,8 @@ use std::vec::Vec;
 /// what it granted.
 ///
 /// Before it reads the word of a create or an alloc it reserves memory for that call and for those that
-/// end what it begins, so a release and a destroy take no memory. Where memory is wanting the
-/// call is refused for want of host memory, and no word is read. A refused call and a release of no
+/// end what it begins, so a release and a destroy allocate nothing. If that allocation fails the
+/// call is refused as out of host memory, and no word is read. A refused call and a release of no
 /// set are not listed.
 #[derive(Drop)]
 pub struct LogDevice {

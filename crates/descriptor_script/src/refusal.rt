@@ -7,7 +7,7 @@ use std::alloc::{AllocError, Global};
 use std::vec::{self, Vec};
 
 /// The script of a device that answers so at one of its calls: so many words `Ok`, and then
-/// `answer`. Behind it each word is `Ok` again. `place` counts from 0 the calls that create a pool
+/// `answer`. After it each word is `Ok` again. `place` counts from 0 the calls that create a pool
 /// or allocate sets.
 ///
 /// An error is want of memory, as for a script that is longer than a vector can be.

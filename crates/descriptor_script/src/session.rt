@@ -14,6 +14,7 @@ mod step;
 use crate::slots::Slots;
 use gpu_descriptor::{DescriptorAllocator, DescriptorSet, SetLayout};
 use std::alloc::{AllocFailed, Global};
+use std::vec::Vec;
 
 /// Runs commands on an allocator, and keeps the sets that are out.
 ///
@@ -33,7 +34,7 @@ impl<L, P, S> Session<L, P, S> {
     ghost use Rattle.descriptor_script.specs.Sessions.Session.{allocator_of, layouts_of, sets_of};
 
     /// A session without layouts and sets, whose allocator has this limit on update-after-bind
-    /// descriptors, and agrees with every device. It takes no memory.
+    /// descriptors, and agrees with every device. It allocates nothing.
     pub fn new(alloc: Global, max: u32) -> Self
         ensures allocator { allocator_of result ≡ without_keys max }
         ensures agree { (name : P → ℕ) (ledger : Ledger)

@@ -8,6 +8,7 @@ ghost use Rattle.descriptor_script.specs.Sessions.Tickets.{AreHeldOnce, held_set
 use crate::marks::{clear_each, mark_each};
 use gpu_descriptor::DescriptorSet;
 use std::alloc::{AllocError, Global};
+use std::vec::Vec;
 
 /// A slot for each ticket that was given, with its set until that is freed.
 #[derive(Drop)]
@@ -28,7 +29,7 @@ pub(crate) struct Slots<S> {
 impl<S> Slots<S> {
     ghost use Rattle.descriptor_script.specs.Inner.Slots.{HasSpareSlots, slots_of};
 
-    /// No ticket was given. It takes no memory.
+    /// No ticket was given. It allocates nothing.
     pub(crate) fn new(alloc: Global) -> Self
         ensures { slots_of result ≡ [] }
     {

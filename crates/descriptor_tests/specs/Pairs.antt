@@ -27,7 +27,7 @@ pub record IsNewSession (s : Session ScriptLayout RawPool RawSet) : Type 0 where
   pub sets : sets_of s ≡ []
   pub meant : All (IsMeant script_meaning) (layouts_of s)
 
--- no pool of the device stands in both books
+-- no pool of the device is in both books
 abbrev pub AreApart : State → State → Type 0
 AreApart s t = (k l : Key) (m n : ℕ) (d e : Entry) → entry_at (s.books k) m ≡ Some d → entry_at (t.books l) n ≡ Some e → d.pool ≢ e.pool
 

@@ -1,4 +1,4 @@
--- The lines of a trace (docs/LINES.md): what each says of its call, and of what the device answered.
+-- The lines of a trace (docs/LINES.md): what each says of its call, and of what the device returned.
 use Rattle.std.specs.Prelude.{ℕ, List, [], ◌++◌, ◌==◌, Bool, if◌then◌else◌, codes, sum, bit_and, Result, Ok, Err}
 use Rattle.std.specs.Fmt.{decimal}
 use Rattle.gpu_descriptor_types.specs.declared.errors.CreatePoolError.{CreatePoolError}
@@ -25,24 +25,24 @@ answer_of_alloc alloc.OutOfHostMemory = Host
 answer_of_alloc alloc.FragmentedPool = Frag
 answer_of_alloc alloc.OutOfPoolMemory = Pool
 
--- the name of a new pool, and `-` where it was refused
+-- the name of a new pool, and `-` if it was refused
 abbrev pub new_name : Result RawPool CreatePoolError → List ℕ
 new_name (Ok pool) = decimal (pool_id pool)
 new_name (Err error) = codes "-"
 
--- `no release`, where a pool was asked for without the flag by which its sets may be released
+-- `no release`, if a pool was asked for without the flag by which its sets may be released
 abbrev pub release_part : ℕ → List ℕ
 release_part flags = if bit_and flags 1 == 1 then [] else codes ", no release"
 
--- `mark`, where the layout is marked, or the pool is for sets of marked layouts
+-- `mark`, if the layout is marked, or the pool is for sets of marked layouts
 abbrev pub mark_part : Bool → List ℕ
 mark_part mark = if mark then codes ", mark" else []
 
--- a comma and the counts that aren't 0, in the order of the fields, where there is one
+-- a comma and the counts that aren't 0, in the order of the fields, if there is one
 abbrev pub counts_part : List ℕ → List ℕ
 counts_part counts = if sum counts == 0 then [] else codes "," ++ kinds_answer counts
 
--- the end of a line: nothing more where the call was granted, and where not, the word of a script that refuses so
+-- the end of a line: nothing more if the call was granted, and if not, the word of a script that refuses so
 abbrev pub line_end : {R E : Type 0} → (E → Answer) → Result R E → List ℕ
 line_end answer_of (Ok done) = codes "\n"
 line_end answer_of (Err error) = codes ", refused: " ++ word_of_answer (answer_of error) ++ codes "\n"
@@ -57,7 +57,7 @@ abbrev pub alloc_line : ℕ → ℕ → Bool → List ℕ → Result Unit Device
 alloc_line pool sets mark counts answer =
     codes "alloc " ++ decimal pool ++ codes ": " ++ decimal sets ++ mark_part mark ++ counts_part counts ++ line_end answer_of_alloc answer
 
--- so many sets went back to a pool
+-- so many sets of a pool were freed
 abbrev pub release_line : ℕ → ℕ → List ℕ
 release_line pool sets = codes "release " ++ decimal pool ++ codes ": " ++ decimal sets ++ codes "\n"
 

@@ -25,7 +25,7 @@ words_of_fault TooManyLayouts = codes "too many layouts"
 abbrev pub faulty : Fault → Refusal
 faulty fault = refusal.Fault fault
 
--- where it is for a fault, this holds of the fault
+-- if it is for a fault, this holds of the fault
 abbrev pub IfFault : Refusal → (Fault → Type 0) → Type 0
 IfFault (refusal.Fault fault) P = P fault
 IfFault refusal.NoMemory P = Unit {0}

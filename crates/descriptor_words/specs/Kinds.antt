@@ -12,11 +12,11 @@ abbrev pub kind_names : List (List ℕ)
 kind_names =
     codes "sampler" ∷ codes "combined_image_sampler" ∷ codes "sampled_image" ∷ codes "storage_image" ∷ codes "uniform_texel_buffer" ∷ codes "storage_texel_buffer" ∷ codes "uniform_buffer" ∷ codes "storage_buffer" ∷ codes "uniform_buffer_dynamic" ∷ codes "storage_buffer_dynamic" ∷ codes "input_attachment" ∷ codes "acceleration_structure" ∷ codes "inline_uniform_block_bytes" ∷ codes "inline_uniform_block_bindings" ∷ []
 
--- what stands before the first `=` of a word
+-- what is before the first `=` of a word
 abbrev pub kind_of : List ℕ → List ℕ
 kind_of word = before_first (is_byte 61) word
 
--- what stands after it
+-- what is after it
 abbrev pub count_in : List ℕ → List ℕ
 count_in word = after_first (is_byte 61) word
 
@@ -52,7 +52,7 @@ IsFaultOfKinds words _ = ⊥
 abbrev pub IsKindAt : ℕ → List ℕ → Type 0
 IsKindAt place name = slice_get kind_names place ≡ Some name
 
--- the words give these counts, and 0 where no word names the kind
+-- the words give these counts, and 0 if no word names the kind
 pub record GiveCounts (words : List (List ℕ)) (counts : List ℕ) : Type 0 where
   pub named : All (λ word. (place : ℕ) → IsKindAt place (kind_of word) → slice_index counts place ≡ value_of (count_in word)) words
   pub unnamed : (place : ℕ) (name : List ℕ) → IsKindAt place name → ¬ Contains (map kind_of words) name → slice_index counts place ≡ 0

@@ -1,4 +1,4 @@
--- The tickets of a line that gives sets back.
+-- The tickets of a line that frees sets.
 use Rattle.std.specs.Prelude.{ℕ, ◌+◌, ◌-◌, ◌<◌, ◌≤◌, List, [], ◌∷◌, ◌++◌, All, length, reverse, position, is_some, if◌then◌else◌, nat_le}
 use Rattle.std.specs.List.{flat_map, range_with_len, before_first, after_first}
 use Rattle.gpu_descriptor_types.specs.Bounds.{greatest_u64}
@@ -7,11 +7,11 @@ use Rattle.descriptor_words.specs.Words.{AtWord, is_byte}
 use Rattle.descriptor_words.specs.declared.fault.Fault.{Fault}
 use Rattle.descriptor_words.specs.declared.fault.Fault.TheVariants.{BadNumber, TooManyTickets}
 
--- what stands before the first `-`, or the word where it has none
+-- what is before the first `-`, or the word if it has none
 abbrev pub first_side : List ℕ → List ℕ
 first_side word = before_first (is_byte 45) word
 
--- what stands after it, or the word where it has none
+-- what is after it, or the word if it has none
 abbrev pub last_side : List ℕ → List ℕ
 last_side word =
     if is_some (position (is_byte 45) word) then after_first (is_byte 45) word else word

@@ -265,7 +265,7 @@ fn one_set_takes_memory_for_the_books_alone() {
 }
 
 #[test]
-fn sets_go_behind_those_of_a_vector() {
+fn sets_are_appended_to_a_vector() {
     let (device, mut allocator) = (Device::new(), Allocator::new(0));
     let mut held = take(&mut allocator, &device, plain(1, 1)).unwrap();
     let first = *held[0].raw();

@@ -1,4 +1,4 @@
--- Marks at tickets, with which it is seen that none stands twice.
+-- Marks at tickets, which show that none is there twice.
 use Rattle.std.specs.Prelude.{◌≡◌, ℕ, ◌<◌, Bool, true, false, List, length, slice_index, slice_index_or}
 
 -- no mark is set

@@ -1,4 +1,4 @@
--- What a scripted device owes, and what it is to answer.
+-- What a scripted device owes, and what it is to return.
 use Rattle.std.specs.Prelude.{List, None}
 use Rattle.std.specs.Vec.Iter.{into_iter_items}
 use Rattle.gpu_descriptor_types.specs.Ledger.{Ledger, no_rise}

@@ -24,7 +24,7 @@ script_logged d = script_of d.device
 abbrev pub calls_of : LogDevice → List Call
 calls_of d = d.log.calls.items
 
--- a refused call answers its word, or there was no memory for the list and none was read
+-- a refused call returns the error of its word, or an allocation for the list failed and no word was read
 abbrev pub IsErrorOfCall : {E : Type 0} → (Answer → E) → E → E → List Answer → List Answer → Type 0
 IsErrorOfCall error_of no_memory error old new =
     ((error ≡ error_of (next_word old)) × (new ≡ rest_words old))

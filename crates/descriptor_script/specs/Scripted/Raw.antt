@@ -15,7 +15,7 @@ pool_id pool = pool.id
 abbrev pub set_id : RawSet → ℕ
 set_id set = set.id
 
--- pools and sets have the names that they carry, layouts their counts and their mark, which are all that tells one from another
+-- pools and sets have the names that they carry, layouts their counts and their mark, by which alone one differs from another
 abbrev pub script_meaning : Meaning ScriptLayout RawPool RawSet
 script_meaning = record { pool_name = pool_id; set_name = set_id; counts = λ l. kinds l.counts; mark = λ l. l.mark; layout_name = λ l. 0; set_layout = λ set. 0 }
 

@@ -12,7 +12,7 @@ abbrev pub next_word : List Answer → Answer
 next_word [] = Ok
 next_word (word ∷ words) = word
 
--- the words behind it
+-- the words after it
 abbrev pub rest_words : List Answer → List Answer
 rest_words [] = []
 rest_words (word ∷ words) = words
@@ -21,7 +21,7 @@ rest_words (word ∷ words) = words
 abbrev pub refusing_at : ℕ → Answer → List Answer
 refusing_at place answer = replicate place Ok ++ answer ∷ []
 
--- the error of a create that isn't granted at this word. At Ok names or memory are wanting
+-- the error of a create that isn't granted at this word. At Ok names ran out or an allocation failed
 abbrev pub create_error : Answer → CreatePoolError
 create_error Ok = create.OutOfHostMemory
 create_error Device = create.OutOfDeviceMemory
@@ -29,7 +29,7 @@ create_error Host = create.OutOfHostMemory
 create_error Frag = create.Fragmentation
 create_error Pool = create.Fragmentation
 
--- the error of an alloc that isn't granted at this word. At Ok names or memory are wanting
+-- the error of an alloc that isn't granted at this word. At Ok names ran out or an allocation failed
 abbrev pub alloc_error : Answer → DeviceAllocationError
 alloc_error Ok = alloc.OutOfHostMemory
 alloc_error Device = alloc.OutOfDeviceMemory

@@ -16,7 +16,7 @@ use Rattle.descriptor_script.specs.declared.command.Reply.TheVariants.{Sets, Ref
 use Rattle.descriptor_script.specs.declared.session.Session.{Session}
 
 module _ {L P S : Type 0} (means : Meaning L P S) where
-  -- the sets of these tickets went back with one call of the device for each run, and left is what freeing them one by one leaves, in whatever order
+  -- the sets of these tickets were freed with one call of the device for each run, and left is what freeing them one by one leaves, in whatever order
   pub record GoBack (tickets : List ℕ) (many : ℕ) (old new : Side (Session L P S)) : Type 0 where
     pub gives_up : GivesUp means tickets old new many
     pub one_call_a_run : new.ledger.counters.released ≡ old.ledger.counters.released + runs (items_of means.set_name gives_up.given)

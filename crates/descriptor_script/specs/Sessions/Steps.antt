@@ -72,7 +72,7 @@ module _ {L P S : Type 0} (means : Meaning L P S) where
       -- the held sets stay
       pub sets : sets_of new.value ≡ sets_of old.value
 
-    -- what a request for so many sets of the layout at a place may reply. A request for none finds memory
+    -- what a request for so many sets of the layout at a place may reply. A request for none is not refused for memory
     abbrev pub AllocatesTo : Reply → Type 0
     AllocatesTo (Sets first many) = HoldsAnswer first many
     AllocatesTo (Refused error) = Refuses error
@@ -81,7 +81,7 @@ module _ {L P S : Type 0} (means : Meaning L P S) where
     AllocatesTo _ = ⊥
 
   module _ (tickets : List ℕ) (old new : Side (Session L P S)) where
-    -- the sets of these tickets, in the order of the list, have gone back, one release call for each run, and are held no longer
+    -- the sets of these tickets, in the order of the list, are freed, one release call for each run, and are held no longer
     pub record GivesUp (many : ℕ) : Type 0 where
       pub good : AreHeldOnce (sets_of old.value) tickets
       pub all : many ≡ length tickets
@@ -90,7 +90,7 @@ module _ {L P S : Type 0} (means : Meaning L P S) where
       pub back : Returns means given (allocator_on old) (allocator_on new)
       pub sets : sets_of new.value ≡ emptied (sets_of old.value) tickets
 
-    -- what a free of these tickets may reply: that one is bad exactly where one isn't held or stands twice
+    -- what a free of these tickets may reply: that one is bad exactly if one isn't held or is there twice
     abbrev pub FreesTo : Reply → Type 0
     FreesTo (Freed many) = GivesUp many
     FreesTo BadTicket = (¬ AreHeldOnce (sets_of old.value) tickets) × IsAsBefore old new

@@ -17,7 +17,7 @@ module _ {X : Type 0} where
   emptied slots [] = slots
   emptied slots (ticket ∷ tickets) = emptied (slice_set slots ticket None) tickets
 
-  -- each ticket has a set, and none stands twice
+  -- each ticket has a set, and none is there twice
   pub record AreHeldOnce (slots : List (Option X)) (tickets : List ℕ) : Type 0 where
     pub held : (i : ℕ) → i < length tickets → IsSome (set_at slots (slice_index tickets i))
     pub once : (i j : ℕ) → i < j → j < length tickets → slice_index tickets i ≢ slice_index tickets j

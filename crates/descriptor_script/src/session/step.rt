@@ -13,7 +13,7 @@ use gpu_descriptor::DescriptorDevice;
 use std::mem;
 
 impl<L, P: Drop, S: Drop> Session<L, P, S> {
-    /// Does what a command says. `Free` and `Cleanup` take no memory.
+    /// Does what a command says. `Free` and `Cleanup` allocate nothing.
     ///
     /// A reply of `BadTicket`, `BadLayout` or `NoMemory` says that nothing changed, and that the
     /// device was not asked.
