@@ -18,7 +18,7 @@
  * Statuses: every function returns a gd_status. If it isn't GD_OK, the call changed no set and no
  * count of sets. A failed gd_allocate may have created pools, which are empty, or destroyed empty
  * ones; any other failed call changed nothing of the allocator. Outputs may be zeroed, as their function
- * says. Of GD_INTERNAL_ERROR none of this holds. If several statuses apply, any of them may be returned.
+ * states. Of GD_INTERNAL_ERROR none of this holds. If several statuses apply, any of them may be returned.
  *
  * Ownership: gd_destroy frees the library's memory of an allocator and destroys its pools. The values
  * gd_allocator, gd_layout and gd_set own nothing: copy them as you like. Layouts are yours: destroy

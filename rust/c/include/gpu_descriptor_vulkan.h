@@ -57,9 +57,9 @@ typedef struct gdv_device {
 /* ---- results ---- */
 
 /*
- * The status for a result of the driver. VK_ERROR_OUT_OF_POOL_MEMORY and VK_ERROR_FRAGMENTED_POOL of an
- * existing pool end no request: the next pool is asked. Any other error ends the request as
- * GD_OUT_OF_HOST_MEMORY, so don't try again for ever.
+ * The status for a result of the driver. VK_ERROR_OUT_OF_POOL_MEMORY, VK_ERROR_FRAGMENTED_POOL and
+ * VK_ERROR_FRAGMENTATION of an existing pool end no request: the next pool is asked. An error without a
+ * name of its own, as VK_ERROR_DEVICE_LOST, is GD_OUT_OF_HOST_MEMORY: don't try again for ever.
  */
 static inline gd_status gdv_reason(VkResult result) {
     switch (result) {

@@ -32,7 +32,7 @@ pub struct HostDevice {
     /// How many pools exist.
     pub pools: Cell<u64>,
 
-    /// A function returned an unknown status. The request ends as if the host had no memory.
+    /// A function returned an unknown status. The request ends as if an allocation of the host had failed.
     pub has_bad_result: Cell<bool>,
 }
 

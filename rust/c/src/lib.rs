@@ -1,8 +1,8 @@
-//! The C interface of the allocator. `include/gpu_descriptor.h` says what each function does.
+//! The C interface of the allocator. `include/gpu_descriptor.h` states what each function does.
 //!
 //! Generated from proved sources are the modules `gpu_descriptor_types`, `gpu_descriptor`,
 //! `descriptor_frames` and `descriptor_renderer`, which are the files of rust/gpu-descriptor, as is the
-//! `kit` that they stand on. By hand are `device`, which calls the host's functions, `allocator`, a
+//! `kit` that they use. By hand are `device`, which calls the host's functions, `allocator`, a
 //! renderer over it, `slot`, through which each call goes, and `exports`.
 #![cfg_attr(not(feature = "std"), no_std)]
 #![deny(unsafe_code)]

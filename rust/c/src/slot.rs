@@ -126,7 +126,7 @@ fn new_slot() -> Result<&'static Slot, AllocError> {
     Ok(&slots.leak()[0])
 }
 
-/// Creates an allocator, which is told its id.
+/// Creates an allocator, which gets its id.
 pub fn create(allocator: impl FnOnce(u64) -> Allocator) -> Result<GdAllocator, AllocError> {
     let slot = match FREE.pop() {
         Some(slot) => slot,

@@ -30,8 +30,8 @@ pub struct DescriptorAllocator<P, S> {
 impl<P, S> DescriptorAllocator<P, S> {
     /// Create new allocator instance.
     ///
-    /// The argument is the driver's limit `maxUpdateAfterBindDescriptorsInAllPools`. A program without
-    /// update-after-bind layouts may pass 0.
+    /// The argument is the driver's limit `maxUpdateAfterBindDescriptorsInAllPools`; with a greater one
+    /// the pools may exceed what the driver allows. A program without update-after-bind layouts may pass 0.
     ///
     /// As in Vulkan, it limits the descriptors of the pools for update-after-bind layouts, whether their
     /// sets are out or not. A new pool is created for at least 64 sets, or for as many as the limit still
@@ -56,8 +56,8 @@ impl<P, S> DescriptorAllocator<P, S> {
     /// Allocate descriptor set with specified layout.
     ///
     /// The existing pools for the layout's counts and flags are asked first, from the newest to the
-    /// oldest, and then new pools are created. If the request can't be met, all sets that it took go
-    /// back to the device.
+    /// oldest, and then new pools are created. If the request can't be met, all sets that it took are
+    /// freed.
     ///
     /// # Safety
     ///
@@ -68,8 +68,9 @@ impl<P, S> DescriptorAllocator<P, S> {
     ///
     /// # Errors
     ///
-    /// On `OutOfDeviceMemory` or `OutOfHostMemory`, free memory and ask again. `Fragmentation` has three
-    /// causes in practice:
+    /// On `OutOfDeviceMemory` or `OutOfHostMemory`, free memory and ask again, but not for ever: a device
+    /// may report other errors as `OutOfHostMemory`, as `vulkan::Device` does if the device is lost.
+    /// `Fragmentation` has three causes in practice:
     ///
     /// * The limit leaves no room, for update-after-bind layouts alone. Free sets of such layouts, call
     ///   [`cleanup`](Self::cleanup), and ask again. [`new`](Self::new) says how the limit is used up.
@@ -134,7 +135,7 @@ impl<P, S> DescriptorAllocator<P, S> {
     /// Allocates sets of a layout that is kept with its flags and counts, and appends them to a vector.
     ///
     /// The vector grows only if it has no capacity for `count` more. On an error it has the sets that it
-    /// had. If the device panics, these are dropped too.
+    /// had. If the call panics, these are dropped too.
     ///
     /// # Safety
     ///

@@ -99,7 +99,7 @@ impl<L, P, S, D: DescriptorDevice<L, P, S>> DescriptorDevice<L, P, S> for &D {
 }
 
 /// A device as the proved sources call it. Their proofs rest on the contract of that trait. The adapter
-/// sees to what it says of numbers of sets, and the rest is up to the device.
+/// ensures what the contract requires of numbers of sets, and the rest is up to the device.
 pub(crate) struct Adapter<D> {
     pub(crate) device: D,
 }
@@ -158,7 +158,7 @@ impl<L, P, S, D: DescriptorDevice<L, P, S>> inner::DescriptorDevice<L, P, S> for
             sets,
             is_at_end: false,
         };
-        // SAFETY: as above; it is proved that the sets are of this pool, if each comes back once.
+        // SAFETY: as above; it is proved that the sets are of this pool, if each is freed once.
         unsafe { self.device.dealloc_descriptor_sets(pool, &mut taken) };
         if !taken.is_at_end {
             taken.refuse_rest();

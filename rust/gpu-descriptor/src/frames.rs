@@ -1,7 +1,7 @@
 //! A manager of descriptor sets that are freed once the frame that used them last is done.
 //!
 //! A set that the device's work may still read is retired with the frame of that work. When the frame
-//! is finished, the sets that were retired at it or before go back to their pools.
+//! is finished, the sets that were retired at it or before are freed.
 //!
 //! ```
 //! use gpu_descriptor::frames::FrameManager;
@@ -39,13 +39,13 @@ use std_alloc::vec::Vec;
 
 /// Allocates descriptor sets, and frees them when the frame that used them last is done.
 ///
-/// The device is lent to each call that needs it, and has to be the same each time. `retire`,
+/// Each call that needs the device borrows it, and it has to be the same each time. `retire`,
 /// `retire_late` and `retire_all` make no call of the device, and are safe: the sets are freed by
-/// `finish`, whose caller says that the device is done with them.
+/// `finish`, whose caller promises that the device is done with them.
 ///
 /// A panic in a device or in an iterator of sets has the same consequences as in
 /// [`DescriptorAllocator`](crate::DescriptorAllocator): from then on calls with a device panic, but those
-/// that give sets or pools back do nothing while the thread panics already.
+/// that free sets or destroy pools do nothing while the thread panics already.
 ///
 /// A drop destroys no pools: see [At a drop](crate#at-a-drop).
 #[derive(Debug)]

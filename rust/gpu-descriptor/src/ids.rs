@@ -1,4 +1,4 @@
-//! Ids by which the sets of one allocator are told from those of another.
+//! Ids that distinguish the sets of one allocator from those of another.
 
 use crate::DescriptorSet;
 use core::ops::Range;

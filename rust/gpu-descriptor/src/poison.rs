@@ -26,8 +26,8 @@ impl Poison {
         assert!(!self.is_set, "an earlier call of this allocator panicked");
     }
 
-    /// Whether an earlier call panicked and the thread still unwinds, so that a `Drop` which gives sets
-    /// back doesn't abort the program. Otherwise as `check`.
+    /// Whether an earlier call panicked and the thread still unwinds, so that a `Drop` which frees
+    /// sets doesn't abort the program. Otherwise as `check`.
     #[inline]
     pub(crate) fn is_unwinding(&self) -> bool {
         if self.is_set && is_panicking() {
@@ -48,7 +48,7 @@ fn is_panicking() -> bool {
     false
 }
 
-/// Warns at a drop that something was not given back, unless the thread panics: a line on standard
+/// Warns at a drop that something was not freed, unless the thread panics: a line on standard
 /// error, and a panic without the feature `std`, as in gpu-descriptor 0.3.2.
 pub(crate) fn warn(what: &str) {
     if is_panicking() {

@@ -101,18 +101,18 @@ pub use crate::descriptor_renderer::{
     BeginError, DestroyError, DrawHandle, LayoutHandle, RenderError, SetHandle,
 };
 
-/// Each renderer has a number, by which its handles are told from those of others.
+/// Each renderer has a number, which distinguishes its handles from those of others.
 static RENDERERS: AtomicU32 = AtomicU32::new(0);
 
 /// The descriptor sets of a renderer, over a device that it owns. `&D` is a device too.
 ///
-/// A frame is opened by `begin_frame`, takes any number of sets by `draw`, and is ended by
+/// A frame is opened by `begin_frame`, gets any number of sets by `draw`, and is ended by
 /// `end_frame`. Its sets are freed by `gpu_done` of the frame or a later one; frames in
 /// between may be in flight. A set by `create_set` or `create_sets` is held until it is freed at once by
-/// `free_sets`, or destroyed by `destroy_set` or `destroy_sets`: then it is freed once the frame of its
-/// last use is done. Memory to free a set is reserved before the set is asked for, so only `add_layout`,
-/// `draw`, `create_set` and `create_sets` allocate. No handle comes twice, although memory follows the
-/// most sets that were out at a time.
+/// `free_sets`, or destroyed by `destroy_set` or `destroy_sets`: then it is freed by the next
+/// `gpu_done` of the frame of its last use or a later one. Memory to free a set is reserved before the
+/// set is asked for, so only `add_layout`, `draw`, `create_set` and `create_sets` allocate. No handle
+/// comes twice, although memory follows the most sets that were out at a time.
 ///
 /// Unlike a `DescriptorAllocator`, a renderer doesn't show its pools, nor how much of the limit they use.
 ///
@@ -126,8 +126,8 @@ static RENDERERS: AtomicU32 = AtomicU32::new(0);
 /// * `free_sets`: the device is done with these sets;
 /// * `free_all` and `shutdown`: the device is done with all of them.
 ///
-/// `destroy_set` and `destroy_sets` are safe, as no set is freed by them. The frame that they are told
-/// is the last use is a part of what `gpu_done` promises.
+/// `destroy_set` and `destroy_sets` are safe, as no set is freed by them. The promise of `gpu_done` is
+/// also about the last use that they are given.
 ///
 /// # Panics
 ///
@@ -209,13 +209,13 @@ impl<L, P, S, D: DescriptorDevice<L, P, S>> Renderer<L, P, S, D> {
         self.inner.skip_to(frame)
     }
 
-    /// Takes a set of a layout for the open frame. The handle is good until the frame ends, and the set
+    /// Allocates a set of a layout for the open frame. The handle is good until the frame ends, and the set
     /// is freed by the `gpu_done` of the frame.
     ///
     /// # Errors
     ///
-    /// No frame is open, the handle names no layout, or the device or memory refused. The renderer has
-    /// the sets that it had.
+    /// No frame is open, the handle names no layout, or the request was refused. The renderer has the
+    /// sets that it had.
     #[inline]
     pub fn draw(&mut self, layout: LayoutHandle) -> Result<DrawHandle, RenderError> {
         self.poison.check();
@@ -228,7 +228,7 @@ impl<L, P, S, D: DescriptorDevice<L, P, S>> Renderer<L, P, S, D> {
         self.poison.guard(|| self.inner.end_frame())
     }
 
-    /// Says that the device is done with this frame and those before it. The sets that wait for these
+    /// States that the device is done with this frame and those before it. The sets that wait for these
     /// frames are freed, and pools are destroyed as by
     /// [`DescriptorAllocator::free`](crate::DescriptorAllocator::free). It allocates nothing. A call frees
     /// only sets that wait already, also with `u64::MAX`: the sets of the open frame and of later frames
@@ -260,8 +260,8 @@ impl<L, P, S, D: DescriptorDevice<L, P, S>> Renderer<L, P, S, D> {
     ///
     /// # Errors
     ///
-    /// The handle names no layout, or the device or memory refused. The renderer has the sets that it
-    /// had. It is never `NoFrame`.
+    /// The handle names no layout, or the request was refused. The renderer has the sets that it had. It
+    /// is never `NoFrame`.
     #[inline]
     pub fn create_set(&mut self, layout: LayoutHandle) -> Result<SetHandle, RenderError> {
         self.poison.check();
@@ -292,7 +292,7 @@ impl<L, P, S, D: DescriptorDevice<L, P, S>> Renderer<L, P, S, D> {
     ///
     /// # Errors
     ///
-    /// `NoSet`: a handle names no set that is held, or stands in the list twice. Then nothing changed.
+    /// `NoSet`: a handle names no set that is held, or is in the list twice. Then nothing changed.
     ///
     /// # Safety
     ///
@@ -323,7 +323,7 @@ impl<L, P, S, D: DescriptorDevice<L, P, S>> Renderer<L, P, S, D> {
     /// # Errors
     ///
     /// `FrameAhead`: the frame was not opened yet. `NoSet`: a handle names no set that is held, or
-    /// stands in the list twice. Then nothing changed.
+    /// is in the list twice. Then nothing changed.
     pub fn destroy_sets(&mut self, sets: &[SetHandle], last_use: u64) -> Result<(), DestroyError> {
         self.poison.check();
         self.poison

@@ -34,8 +34,7 @@
 //! ```
 //!
 //! `max_update_after_bind_descriptors_in_all_pools` is the field of that name in
-//! `VkPhysicalDeviceDescriptorIndexingProperties` or `VkPhysicalDeviceVulkan12Properties`. A program
-//! without update-after-bind layouts may pass 0.
+//! `VkPhysicalDeviceDescriptorIndexingProperties` or `VkPhysicalDeviceVulkan12Properties`.
 //!
 //! # Results
 //!

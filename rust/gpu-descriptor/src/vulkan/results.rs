@@ -13,7 +13,9 @@ pub(super) fn of_create(result: i32) -> Result<(), CreatePoolError> {
     match result {
         SUCCESS => Ok(()),
         ERROR_OUT_OF_DEVICE_MEMORY => Err(CreatePoolError::OutOfDeviceMemory),
-        ERROR_FRAGMENTATION | ERROR_FRAGMENTED_POOL => Err(CreatePoolError::Fragmentation),
+        ERROR_FRAGMENTATION | ERROR_FRAGMENTED_POOL | ERROR_OUT_OF_POOL_MEMORY => {
+            Err(CreatePoolError::Fragmentation)
+        }
         _ => Err(CreatePoolError::OutOfHostMemory),
     }
 }

@@ -1,8 +1,8 @@
-//! Arrays of handles for one call, without an abort where memory is lacking.
+//! Arrays of handles for one call, without an abort if an allocation fails.
 
 use std_alloc::vec::Vec;
 
-/// So many handles need no memory of the heap.
+/// So many handles need no allocation.
 const FEW: usize = 32;
 
 /// An array of default values.
@@ -12,7 +12,7 @@ pub(super) enum Scratch<T> {
 }
 
 impl<T: Copy + Default> Scratch<T> {
-    /// An array of `len` values, or `None` where memory is lacking.
+    /// An array of `len` values, or `None` if an allocation fails.
     pub(super) fn new(len: usize) -> Option<Self> {
         if len <= FEW {
             return Some(Scratch::Few([T::default(); FEW], len));

@@ -40,7 +40,7 @@ const ROWS: [Row; 15] = [
     ),
     (
         -1_000_069_000, // VK_ERROR_OUT_OF_POOL_MEMORY
-        CreatePoolError::OutOfHostMemory,
+        CreatePoolError::Fragmentation,
         DeviceAllocationError::OutOfPoolMemory,
         AllocationError::Fragmentation,
     ),

@@ -57,8 +57,8 @@ fn a_release_is_split_after_128_sets() {
         }
         let mut rest = sets.as_slice();
         let calls = parts.into_iter().map(|part| {
-            let (first, behind) = rest.split_at(part);
-            rest = behind;
+            let (first, others) = rest.split_at(part);
+            rest = others;
             Call::Free(5, first.to_vec())
         });
         assert_eq!(driver.take_calls(), calls.collect::<Vec<_>>());
