@@ -169,7 +169,8 @@ typedef struct gd_set {
 /*
  * Creates an allocator. The device is copied; what 'user' points to must stay valid until gd_destroy.
  * All pools for update-after-bind layouts together have at most 'limit' descriptors: in Vulkan this is
- * maxUpdateAfterBindDescriptorsInAllPools. If it fails, 'allocator' is zeroed.
+ * maxUpdateAfterBindDescriptorsInAllPools; with a greater one the pools may exceed what the driver
+ * allows. If it fails, 'allocator' is zeroed.
  *
  * A few hundred bytes of a destroyed allocator are kept for the next one.
  *

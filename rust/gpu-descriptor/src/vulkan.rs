@@ -44,7 +44,7 @@
 //! `VK_ERROR_OUT_OF_HOST_MEMORY` | `OutOfHostMemory` | `OutOfHostMemory`
 //! `VK_ERROR_OUT_OF_DEVICE_MEMORY` | `OutOfDeviceMemory` | `OutOfDeviceMemory`
 //! `VK_ERROR_FRAGMENTATION`, `VK_ERROR_FRAGMENTED_POOL` | `Fragmentation` | `FragmentedPool`
-//! `VK_ERROR_OUT_OF_POOL_MEMORY` | `OutOfHostMemory` | `OutOfPoolMemory`
+//! `VK_ERROR_OUT_OF_POOL_MEMORY` | `Fragmentation` | `OutOfPoolMemory`
 //! any other | `OutOfHostMemory` | `OutOfHostMemory`
 //!
 //! Vulkan lists no other result for these calls, but a driver may return `VK_ERROR_UNKNOWN`, and some
