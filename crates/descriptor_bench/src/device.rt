@@ -80,11 +80,11 @@ fn layout_of(mut layouts: Layouts<'_, Layout>) -> Layout
 /// Puts so many sets of a layout.
 fn fill<K: SetSink<CountedSet>>(first: u64, many: u32, layout: &Layout, sink: &mut K)
     requires names { first + many < 2 ^ 64 }
-    requires sink_left { many ≤ K.sink.left sink.old }
+    requires room { many ≤ K.sink.room sink.old }
     ensures kept { K.sink.kept sink.new ≡ K.sink.kept sink.old
         ++ map (K.sink.kept_as sink.old) (counted_sets layout.now.number first many) }
     ensures alike { K.sink.kept_as sink.new ≡ K.sink.kept_as sink.old }
-    ensures sink_left { K.sink.left sink.new + many ≡ K.sink.left sink.old }
+    ensures room { K.sink.room sink.new + many ≡ K.sink.room sink.old }
 {
     for name in first..first + u64::from(many) {
         sink.put(CountedSet {
@@ -161,7 +161,7 @@ impl DescriptorDevice<Layout, u64, CountedSet> for CountingDevice {
     ) -> Result<(), DeviceAllocationError>
         requires fits { CanGive pool.old (left layouts) (kinds (layout layouts).counts)
             (layout layouts).mark (ledger_of self.old) }
-        requires sink_left { left layouts ≤ K.sink.left sets.old }
+        requires room { left layouts ≤ K.sink.room sets.old }
         ensures name { pool.new ≡ pool.old }
         ensures ok { OnOk result (Puts K.sink bench_meaning (layout layouts.entry) pool.old
             (left layouts.entry) sets.old sets.new (ledger_of self.old) (ledger_of self.new)) }

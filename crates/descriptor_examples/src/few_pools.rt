@@ -86,7 +86,7 @@ impl<const MOST: u32> DescriptorDevice<ScriptLayout, RawPool, RawSet> for FewPoo
     ) -> Result<(), DeviceAllocationError>
         requires fits { CanGive (pool_id pool.old) (left layouts) (kinds (layout layouts).counts)
             (layout layouts).mark (few_ledger self.old) }
-        requires sink_left { left layouts ≤ K.sink.left sets.old }
+        requires room { left layouts ≤ K.sink.room sets.old }
         ensures name { pool_id pool.new ≡ pool_id pool.old }
         ensures ok { OnOk result (Puts K.sink script_meaning (layout layouts.entry)
             (pool_id pool.old) (left layouts.entry) sets.old sets.new (few_ledger self.old)

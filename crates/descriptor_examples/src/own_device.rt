@@ -96,7 +96,7 @@ impl DescriptorDevice<DescriptorTotalCount, u64, u64> for OnePool {
     ) -> Result<(), DeviceAllocationError>
         requires fits { CanGive pool.old (left layouts) (kinds (layout layouts)) false
             (owed_of self.old) }
-        requires sink_left { left layouts ≤ K.sink.left sets.old }
+        requires room { left layouts ≤ K.sink.room sets.old }
         ensures name { pool.new ≡ pool.old }
         ensures ok { OnOk result (Puts K.sink one_meaning (layout layouts.entry) pool.old
             (left layouts.entry) sets.old sets.new (owed_of self.old) (owed_of self.new)) }

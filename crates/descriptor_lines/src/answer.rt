@@ -33,7 +33,7 @@ pub fn layout_answer(
     ensures { OnOk result (string_bytes answer.new ≡ string_bytes answer.old
         ++ says.layout_answer name.now (sum (kinds counts.now))) }
 {
-    let total = counts.total_u64();
+    let total = counts.total();
     writeln!(answer, "layout {name} total {total}")
 }
 

@@ -18,16 +18,16 @@ same_ledger a b pools counters = λ i. record { pools = pools i; counters = coun
 
 module _ {K X : Type 0} (sink : Sink K RawSet X) (before after : K) where
   -- pools that grant, and a call counted as asked
-  pub puts : (old new : ScriptedDevice) (layout : ScriptLayout) (name many : ℕ) → sink.kept after ≡ sink.kept before ++ map (sink.kept_as before) (raw_sets name (next_names old.pools).sets many) → sink.kept_as after ≡ sink.kept_as before → sink.left after + many ≡ sink.left before
+  pub puts : (old new : ScriptedDevice) (layout : ScriptLayout) (name many : ℕ) → sink.kept after ≡ sink.kept before ++ map (sink.kept_as before) (raw_sets name (next_names old.pools).sets many) → sink.kept_as after ≡ sink.kept_as before → sink.room after + many ≡ sink.room before
       → pools_of new.pools ≡ on_pool name (λ pool. record pool { live = λ x. pool.live x + times (live_sets (kinds layout.counts) (map set_id (raw_sets name (next_names old.pools).sets many))) x }) (pools_of old.pools)
       → counters_of new.counters ≡ record (counters_of old.counters) { asked = (counters_of old.counters).asked + 1 } → Puts sink script_meaning layout name many before after (ledger_of old) (ledger_of new)
-  puts old new layout name many kept alike left pools asked = record {
+  puts old new layout name many kept alike room pools asked = record {
     sets = raw_sets name (next_names old.pools).sets many;
     many = length-map-range_with_len (raw_set name) (next_names old.pools).sets many;
     own = λ k d lt. refl;
     kept = kept;
     alike = alike;
-    left = left;
+    room = room;
     ledger = same_ledger _ _ pools asked;
   }
 
@@ -44,6 +44,6 @@ module _ {K X : Type 0} (sink : Sink K RawSet X) (before after : K) where
   puts_none old middle new name e untouched counted refused = record {
     kept = ap sink.kept untouched.same_sink;
     alike = ap sink.kept_as untouched.same_sink;
-    left = ap sink.left untouched.same_sink;
+    room = ap sink.room untouched.same_sink;
     ledger = same_ledger _ _ (refused ∙ ap (on_pool name (λ p. record p { refusals = p.refusals + pool_refusals e })) untouched.pools) (counted ∙ ap (alloc_refused e) untouched.counters);
   }

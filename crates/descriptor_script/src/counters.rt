@@ -6,7 +6,7 @@ ghost use Rattle.descriptor_script.specs.Inner.Counters.{counters_of};
 use gpu_descriptor_types::{Counter, CreatePoolError, DeviceAllocationError};
 
 /// The counters of a ledger.
-#[derive(Drop)]
+#[derive(Debug, Drop)]
 pub struct Counters {
     pub created: Counter,
     pub destroyed: Counter,

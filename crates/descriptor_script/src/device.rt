@@ -35,7 +35,7 @@ use std::vec::Vec;
 ///
 /// Pools and sets are named from 0 up, and no name is given twice. The greatest is
 /// 18446744073709551614.
-#[derive(Drop)]
+#[derive(Debug, Drop)]
 pub struct ScriptedDevice {
     script: Script,
     pools: Pools,
@@ -167,7 +167,7 @@ impl DescriptorDevice<ScriptLayout, RawPool, RawSet> for ScriptedDevice {
     ) -> Result<(), DeviceAllocationError>
         requires fits { CanGive (pool_id pool.old) (left layouts) (kinds (layout layouts).counts)
             (layout layouts).mark (ledger_of self.old) }
-        requires sink_left { left layouts ≤ K.sink.left sets.old }
+        requires room { left layouts ≤ K.sink.room sets.old }
         ensures name { pool_id pool.new ≡ pool_id pool.old }
         ensures ok { OnOk result (Puts K.sink script_meaning (layout layouts.entry)
             (pool_id pool.old) (left layouts.entry) sets.old sets.new (ledger_of self.old)

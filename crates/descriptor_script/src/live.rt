@@ -17,7 +17,7 @@ use indexmap::IndexMap;
 pub type LiveSets = IndexMap<u64, DescriptorTotalCount>;
 
 /// A live pool, as it was created, with its live sets.
-#[derive(Drop)]
+#[derive(Debug, Drop)]
 pub struct LivePool {
     pub counts: DescriptorTotalCount,
     pub max_sets: u32,
@@ -38,7 +38,7 @@ pub fn fill<K: SetSink<RawSet>>(
     requires space { left layouts ≤ spare live.old }
     requires names { first + left layouts < 2 ^ 64 }
     requires fresh { (n : ℕ) → first ≤ n → get nat_eq live.old n ≡ None }
-    requires sink_left { left layouts ≤ K.sink.left sink.old }
+    requires room { left layouts ≤ K.sink.room sink.old }
     ensures live { live.new.entries ≡ live.old.entries
         ++ map (λ name. (name, (layout layouts.entry).counts))
         (range_with_len first (left layouts.entry)) }
@@ -46,7 +46,7 @@ pub fn fill<K: SetSink<RawSet>>(
     ensures sets { K.sink.kept sink.new ≡ K.sink.kept sink.old
         ++ map (K.sink.kept_as sink.old) (raw_sets pool first (left layouts.entry)) }
     ensures alike { K.sink.kept_as sink.new ≡ K.sink.kept_as sink.old }
-    ensures sink_left { K.sink.left sink.new + left layouts.entry ≡ K.sink.left sink.old }
+    ensures room { K.sink.room sink.new + left layouts.entry ≡ K.sink.room sink.old }
 {
     let mut name = first;
     for layout in layouts {

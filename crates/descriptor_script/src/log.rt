@@ -22,7 +22,7 @@ pub enum Call {
 }
 
 /// Calls in their order, with memory for those that can't be refused.
-#[derive(Drop)]
+#[derive(Debug, Drop)]
 pub(crate) struct Log {
     pub(crate) calls: Vec<Call>,
 

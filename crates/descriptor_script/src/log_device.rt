@@ -33,7 +33,7 @@ use std::vec::Vec;
 /// end what it begins, so a release and a destroy allocate nothing. If that allocation fails the
 /// call is refused as out of host memory, and no word is read. A refused call and a release of no
 /// set are not listed.
-#[derive(Drop)]
+#[derive(Debug, Drop)]
 pub struct LogDevice {
     device: ScriptedDevice,
     log: Log,
@@ -180,7 +180,7 @@ impl DescriptorDevice<ScriptLayout, RawPool, RawSet> for LogDevice {
     ) -> Result<(), DeviceAllocationError>
         requires fits { CanGive (pool_id pool.old) (left layouts) (kinds (layout layouts).counts)
             (layout layouts).mark (ledger_logged self.old) }
-        requires sink_left { left layouts ≤ K.sink.left sets.old }
+        requires room { left layouts ≤ K.sink.room sets.old }
         ensures name { pool_id pool.new ≡ pool_id pool.old }
         ensures ok { OnOk result (Puts K.sink script_meaning (layout layouts.entry)
             (pool_id pool.old) (left layouts.entry) sets.old sets.new (ledger_logged self.old)

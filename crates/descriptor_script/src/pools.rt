@@ -24,7 +24,7 @@ use std::alloc::Global;
 pub struct Wanting;
 
 /// The live pools, and the names that come next.
-#[derive(Drop)]
+#[derive(Debug, Drop)]
 pub struct Pools {
     alloc: Global,
     live: IndexMap<u64, LivePool>,
@@ -141,7 +141,7 @@ impl Pools {
         sink: &mut K,
     ) -> Result<(), Wanting>
         requires live { IsSome (pools_of self.old pool) }
-        requires sink_left { left layouts ≤ K.sink.left sink.old }
+        requires room { left layouts ≤ K.sink.room sink.old }
         ensures pools { OnOk result (pools_of self.new ≡ on_pool pool (λ p.
             record p {
               live = λ x. p.live x + times (live_sets (kinds (layout layouts.entry).counts)
@@ -157,8 +157,8 @@ impl Pools {
             ++ map (K.sink.kept_as sink.old)
             (raw_sets pool (next_names self.old).sets (left layouts.entry))) }
         ensures alike { OnOk result (K.sink.kept_as sink.new ≡ K.sink.kept_as sink.old) }
-        ensures sink_left { OnOk result (K.sink.left sink.new + left layouts.entry
-            ≡ K.sink.left sink.old) }
+        ensures room { OnOk result (K.sink.room sink.new + left layouts.entry
+            ≡ K.sink.room sink.old) }
 
         // Without names or memory nothing is done.
         ensures err { OnErr result (pools_of self.new ≡ pools_of self.old) }

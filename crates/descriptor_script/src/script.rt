@@ -7,7 +7,7 @@ use crate::answer::Answer;
 use std::vec::{IntoIter, Vec};
 
 /// A script, read word by word. After its end each word is `Ok`.
-#[derive(Drop)]
+#[derive(Debug, Drop)]
 pub struct Script {
     words: IntoIter<Answer>,
 }

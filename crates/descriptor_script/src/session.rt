@@ -12,15 +12,17 @@ mod run;
 mod step;
 
 use crate::slots::Slots;
-use gpu_descriptor::{DescriptorAllocator, DescriptorSet, SetLayout};
-use std::alloc::{AllocFailed, Global};
+use gpu_descriptor::{
+    DescriptorAllocator, DescriptorSet, DescriptorSetLayoutCreateFlags, DescriptorTotalCount, SetLayout,
+};
+use std::alloc::Global;
 use std::vec::Vec;
 
 /// Runs commands on an allocator, and keeps the sets that are out.
 ///
 /// Each set has a ticket. Tickets begin at 0, and none is used again: a session keeps a slot for
 /// each ticket that it ever gave. All steps of a session are made with one device.
-#[derive(Drop)]
+#[derive(Debug, Drop)]
 pub struct Session<L, P, S> {
     pub(crate) allocator: DescriptorAllocator<P, S>,
     pub(crate) layouts: Vec<SetLayout<L>>,
@@ -49,19 +51,34 @@ impl<L, P, S> Session<L, P, S> {
         }
     }
 
-    /// Puts a layout last, and returns its place. If an allocation fails the layout comes back, and
-    /// nothing has changed.
-    pub fn add_layout(&mut self, layout: SetLayout<L>) -> Result<usize, AllocFailed<SetLayout<L>>>
+    /// Puts a layout last, with the counts and the flags that it was made with, and returns its
+    /// place. If an allocation fails the layout is returned, and nothing changed.
+    pub fn add_layout(
+        &mut self,
+        layout: L,
+        counts: DescriptorTotalCount,
+        flags: DescriptorSetLayoutCreateFlags,
+    ) -> Result<usize, L>
         ensures place { IfOk result (λ place. place ≡ length (layouts_of self.old)) }
-        ensures last { OnOk result (layouts_of self.new ≡ layouts_of self.old ++ layout ∷ []) }
-        ensures back { IfErr result (λ failed. failed.value ≡ layout) }
+        ensures last { OnOk result (layouts_of self.new ≡ layouts_of self.old ++ record {
+          layout = layout;
+          counts = counts;
+          flags = flags;
+        } ∷ []) }
+        ensures back { IfErr result (λ returned. returned ≡ layout) }
         ensures layouts { OnErr result (layouts_of self.new ≡ layouts_of self.old) }
         ensures allocator { allocator_of self.new ≡ allocator_of self.old }
         ensures sets { sets_of self.new ≡ sets_of self.old }
     {
         let place = self.layouts.len();
-        self.layouts.push(layout)?;
-        Ok(place)
+        match self.layouts.push(SetLayout {
+            layout,
+            counts,
+            flags,
+        }) {
+            Ok(()) => Ok(place),
+            Err(failed) => Err(failed.value.layout),
+        }
     }
 
     /// The layout at a place.

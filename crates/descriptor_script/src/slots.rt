@@ -11,7 +11,7 @@ use std::alloc::{AllocError, Global};
 use std::vec::Vec;
 
 /// A slot for each ticket that was given, with its set until that is freed.
-#[derive(Drop)]
+#[derive(Debug, Drop)]
 pub(crate) struct Slots<S> {
     pub(crate) alloc: Global,
     pub(crate) sets: Vec<Option<DescriptorSet<S>>>,

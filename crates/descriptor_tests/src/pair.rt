@@ -24,7 +24,7 @@ pub fn one_layout(alloc: Global) -> Result<Session<ScriptLayout, RawPool, RawSet
 {
     let layout = layout_of(1, false);
     let mut session = Session::new(alloc, 0);
-    match session.add_layout(layout.to_set_layout()) {
+    match session.add_layout(layout, layout.counts, layout.flags()) {
         Ok(_) => Ok(session),
         Err(_) => Err(Fail::new("no memory for a layout")),
     }

@@ -112,7 +112,7 @@ fn counts_part(text: &mut String, counts: &DescriptorTotalCount) -> Result<(), A
     ensures { OnOk result (string_bytes text.new ≡ string_bytes text.old
         ++ says.counts_part (kinds counts.now)) }
 {
-    if counts.total_u64() == 0 {
+    if counts.total() == 0 {
         return Ok(());
     }
     text.push(',')?;

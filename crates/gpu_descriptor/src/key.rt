@@ -83,7 +83,7 @@ impl BucketKey {
         ensures { result ≡ set_descriptors (key_of self.now) sets }
     {
         if self.update_after_bind {
-            sets * self.counts.total_u64()
+            sets * self.counts.total()
         } else {
             0
         }
@@ -97,7 +97,7 @@ impl BucketKey {
         ensures { result ≡ pool_descriptors (key_of self.now) sets }
     {
         if self.update_after_bind {
-            (u64::from(sets) * self.counts.total_u64()).max(1) as u32
+            (u64::from(sets) * self.counts.total()).max(1) as u32
         } else {
             0
         }

@@ -139,7 +139,7 @@ pub record AreLive (name : ℕ) (names : List ℕ) (l : Ledger) : Type 0 where
 pub record Sink (K S X : Type 0) : Type 0 where
   pub kept : K → List X
   pub kept_as : K → S → X
-  pub left : K → ℕ
+  pub room : K → ℕ
 
 module _ {K S X : Type 0} (sink : Sink K S X) where
   -- exactly n sets of the layout were put, and are live in the pool
@@ -149,14 +149,14 @@ module _ {K S X : Type 0} (sink : Sink K S X) where
     pub own : All (IsOfLayout means layout) sets
     pub kept : sink.kept new ≡ sink.kept old ++ map (sink.kept_as old) sets
     pub alike : sink.kept_as new ≡ sink.kept_as old
-    pub left : sink.left new + n ≡ sink.left old
+    pub room : sink.room new + n ≡ sink.room old
     pub ledger : after ≡ after_alloc name (live_sets (means.counts layout) (map means.set_name sets)) before
 
   -- nothing was put, and the error was counted
   pub record PutsNone (name : ℕ) (e : DeviceAllocationError) (old new : K) (before after : Ledger) : Type 0 where
     pub kept : sink.kept new ≡ sink.kept old
     pub alike : sink.kept_as new ≡ sink.kept_as old
-    pub left : sink.left new ≡ sink.left old
+    pub room : sink.room new ≡ sink.room old
     pub ledger : after ≡ after_no_alloc name e before
 
 -- the iterator gave its items, up to its end, and these have left the pool

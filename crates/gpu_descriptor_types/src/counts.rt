@@ -1,9 +1,9 @@
 //! How many descriptors a layout, a set or a pool has.
-ghost use Rattle.std.specs.Prelude.{◌≡◌, ◌+◌, ◌*◌, ◌^◌, ◌<◌, ◌≤◌, ◌++◌, min, sum, slice_set};
+ghost use Rattle.std.specs.Prelude.{◌≡◌, ◌+◌, ◌*◌, ◌^◌, ◌<◌, ◌≤◌, ◌++◌, sum, slice_set};
 ghost use Rattle.std.proofs.Common.{rules};
 ghost use Rattle.std.specs.Hash as fed;
 ghost use Rattle.std.specs.Cmp.Rules.{hashing};
-ghost use Rattle.gpu_descriptor_types.specs.Bounds.{greatest_total, greatest_u32};
+ghost use Rattle.gpu_descriptor_types.specs.Bounds.{greatest_total};
 ghost use Rattle.gpu_descriptor_types.specs.Counts.{kinds};
 
 use std::hash::{Hash, Hasher};
@@ -56,19 +56,9 @@ pub struct DescriptorTotalCount {
 }
 
 impl DescriptorTotalCount {
-    /// How many descriptors there are of all kinds together, or `u32::MAX` if there are more. Bytes
-    /// of inline uniform blocks count as descriptors.
-    ///
-    /// In the original the sum wraps, or panics with overflow checks.
-    pub fn total(&self) -> u32
-        ensures { result ≡ min (sum (kinds self.now)) greatest_u32 }
-    {
-        self.total_u64().min(u64::from(u32::MAX)) as u32
-    }
-
-    /// How many descriptors there are of all kinds together, at most 60129542130. The limit is
-    /// compared with this number. The original has no such reader.
-    pub fn total_u64(&self) -> u64
+    /// How many descriptors there are of all kinds together, at most 60129542130. Bytes of inline
+    /// uniform blocks count as descriptors. The limit is compared with this number.
+    pub fn total(&self) -> u64
         ensures sum { result ≡ sum (kinds self.now) }
         ensures at_most { result ≤ greatest_total }
     {

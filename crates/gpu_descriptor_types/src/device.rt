@@ -55,7 +55,7 @@ pub trait DescriptorDevice<L, P, S> {
     ) -> Result<(), DeviceAllocationError>
         requires fits { CanGive (meaning.pool_name pool.old) (left layouts) (meaning.counts (layout
             layouts)) (meaning.mark (layout layouts)) (ledger self.old) }
-        requires sink_left { left layouts ≤ K.sink.left sets.old }
+        requires room { left layouts ≤ K.sink.room sets.old }
         ensures name { meaning.pool_name pool.new ≡ meaning.pool_name pool.old }
         ensures ok { OnOk result (Puts K.sink meaning (layout layouts.entry) (meaning.pool_name
             pool.old) (left layouts.entry) sets.old sets.new (ledger self.old) (ledger self.new)) }

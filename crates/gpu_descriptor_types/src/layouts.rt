@@ -4,7 +4,7 @@ ghost use Rattle.std.specs.Iterator.{YieldsFirst, item_count};
 ghost use Rattle.gpu_descriptor_types.specs.Layouts.{layout as layout_of, left as left_of, to_come};
 
 /// Gives the same layout a number of times: one for each set that is to be allocated.
-#[derive(Drop)]
+#[derive(Debug, Drop)]
 pub struct Layouts<'a, L> {
     layout: &'a L,
     left: u32,

@@ -67,7 +67,7 @@ pub fn cut_pool_size(
         → max 1 (sets * sum (kinds_of counts.now)) ≤ room → IfSome result (λ pool. pool.1 ≡ sets) }
 {
     let (_, whole) = new_pool_size(counts, total, wanted);
-    let sets = sets_in_room(room, counts.total_u64(), whole);
+    let sets = sets_in_room(room, counts.total(), whole);
     if sets == 0 {
         return None;
     }

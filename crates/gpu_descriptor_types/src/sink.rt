@@ -16,13 +16,13 @@ pub trait SetSink<S> {
     ghost sink: { Sink Self S Self.Kept };
 
     /// How many more sets fit.
-    fn left(&self) -> usize
-        ensures { result ≡ sink.left self.now };
+    fn room(&self) -> usize
+        ensures { result ≡ sink.room self.now };
 
     /// Appends a set.
     fn put(&mut self, set: S)
-        requires { 0 < sink.left self.old }
+        requires { 0 < sink.room self.old }
         ensures kept { sink.kept self.new ≡ sink.kept self.old ++ sink.kept_as self.old set ∷ [] }
         ensures alike { sink.kept_as self.new ≡ sink.kept_as self.old }
-        ensures left { sink.left self.new + 1 ≡ sink.left self.old };
+        ensures room { sink.room self.new + 1 ≡ sink.room self.old };
 }

@@ -130,7 +130,7 @@ impl<L, P, S, D: DescriptorDevice<L, P, S>> inner::DescriptorDevice<L, P, S> for
         sets: &mut K,
     ) -> Result<(), DeviceAllocationError> {
         let layout = layouts.layout();
-        let before = sets.left();
+        let before = sets.room();
         let floor = before - layouts.len() as usize;
         let mut puts = Puts {
             sink: sets,
@@ -144,10 +144,10 @@ impl<L, P, S, D: DescriptorDevice<L, P, S>> inner::DescriptorDevice<L, P, S> for
         };
         match result {
             Ok(()) => assert!(
-                sets.left() == floor,
+                sets.room() == floor,
                 "a device granted fewer sets than were asked for"
             ),
-            Err(_) => assert!(sets.left() == before, "a device put sets, and refused"),
+            Err(_) => assert!(sets.room() == before, "a device put sets, and refused"),
         }
         result
     }
@@ -180,7 +180,7 @@ impl<S, K: SetSink<S>> Extend<S> for Puts<'_, K, S> {
     fn extend<T: IntoIterator<Item = S>>(&mut self, iter: T) {
         iter.into_iter().for_each(|set| {
             assert!(
-                self.sink.left() > self.floor,
+                self.sink.room() > self.floor,
                 "a device gave more sets than were asked for"
             );
             self.sink.put(set);

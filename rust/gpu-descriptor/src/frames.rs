@@ -244,8 +244,17 @@ impl<P, S> FrameManager<P, S> {
         if !sets.iter().all(|set| self.ids.has(set)) {
             return Err(RetireError::Foreign(sets));
         }
-        let retired = self.inner.retire_all(frame, kit::vec::Vec(sets));
-        retired.map_err(|error| RetireError::from(error).map(|sets| sets.0))
+        if frame < self.inner.greatest() {
+            return Err(RetireError::FrameBack(sets));
+        }
+        if self.inner.reserve(sets.len()).is_err() {
+            return Err(RetireError::Memory(sets));
+        }
+        for set in sets {
+            let retired = self.inner.retire(frame, set);
+            assert!(retired.is_ok(), "the frame was tested, and memory reserved for all");
+        }
+        Ok(())
     }
 
     /// The set, if it came from this manager.
@@ -367,18 +376,10 @@ impl<T> RetireError<T> {
             RetireError::FrameBack(it) | RetireError::Memory(it) | RetireError::Foreign(it) => it,
         }
     }
-
-    fn map<U>(self, change: impl FnOnce(T) -> U) -> RetireError<U> {
-        match self {
-            RetireError::FrameBack(it) => RetireError::FrameBack(change(it)),
-            RetireError::Memory(it) => RetireError::Memory(change(it)),
-            RetireError::Foreign(it) => RetireError::Foreign(change(it)),
-        }
-    }
 }
 
-impl<T> From<inner::RetireError<T>> for RetireError<T> {
-    fn from(error: inner::RetireError<T>) -> Self {
+impl<S> From<inner::RetireError<S>> for RetireError<DescriptorSet<S>> {
+    fn from(error: inner::RetireError<S>) -> Self {
         match error {
             inner::RetireError::FrameBack(it) => RetireError::FrameBack(it),
             inner::RetireError::Memory(it) => RetireError::Memory(it),

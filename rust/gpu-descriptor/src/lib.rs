@@ -87,6 +87,8 @@
 extern crate alloc as std_alloc;
 
 mod allocator;
+#[forbid(unsafe_code)]
+mod counts;
 #[allow(dead_code, unused_imports, clippy::all, missing_docs)]
 #[warn(clippy::incompatible_msrv)]
 #[forbid(unsafe_code)]

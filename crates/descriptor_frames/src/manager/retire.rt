@@ -16,7 +16,6 @@ use crate::retired::Retired;
 use gpu_descriptor::DescriptorSet;
 use std::alloc::AllocError;
 use std::collections::VecDeque;
-use std::vec::Vec;
 
 impl<P, S> FrameManager<P, S> {
     ghost use Rattle.descriptor_frames.specs.Frames.{AreInUse, AreRetiredOut, Retires};
@@ -45,7 +44,7 @@ impl<P, S> FrameManager<P, S> {
         &mut self,
         frame: u64,
         set: DescriptorSet<S>,
-    ) -> Result<(), RetireError<DescriptorSet<S>>>
+    ) -> Result<(), RetireError<S>>
         ensures last { OnOk result (retired_of self.new
             ≡ retired_of self.old ++ at_frame frame set ∷ []) }
         ensures greatest { OnOk result (greatest_of self.new ≡ frame) }
@@ -99,7 +98,7 @@ impl<P, S> FrameManager<P, S> {
         &mut self,
         frame: u64,
         set: DescriptorSet<S>,
-    ) -> Result<(), RetireError<DescriptorSet<S>>>
+    ) -> Result<(), RetireError<S>>
         ensures list { OnOk result (retired_of self.new
             ≡ with_late frame (set ∷ []) (retired_of self.old)) }
         ensures greatest { OnOk result (greatest_of self.new ≡ max (greatest_of self.old) frame) }
@@ -242,70 +241,6 @@ impl<P, S> FrameManager<P, S> {
         while let Some(set) = sets.pop_front() {
             let place = self.place_behind(frame);
             self.put_at(place, frame, set);
-        }
-    }
-}
-
-impl<P, S: Drop> FrameManager<P, S> {
-    ghost use Rattle.descriptor_frames.specs.Frames.{AreInUse, AreRetiredOut, Retires};
-    ghost use Rattle.descriptor_frames.specs.Frames.{allocator_of, greatest_of, retired_of};
-    ghost use Rattle.descriptor_frames.specs.Frames.{reserve_of};
-
-    /// Retires the sets of a vector, in their order: all, or none.
-    ///
-    /// It is refused as `retire` is: `FrameBack` for the frame, also if no set is given, and
-    /// `Memory` if an allocation for all fails. Either returns the vector, and nothing changed.
-    pub fn retire_all(
-        &mut self,
-        frame: u64,
-        sets: Vec<DescriptorSet<S>>,
-    ) -> Result<(), RetireError<Vec<DescriptorSet<S>>>>
-        ensures last { OnOk result (retired_of self.new
-            ≡ retired_of self.old ++ map (at_frame frame) sets.items) }
-        ensures greatest { OnOk result (0 < length sets.items → greatest_of self.new ≡ frame) }
-        ensures none { length sets.items ≡ 0 → greatest_of self.new ≡ greatest_of self.old }
-
-        // On any device: sets that were in use are so no longer, and the retired ones are still
-        // out.
-        ensures in_use { OnOk result ((pool_name : P → ℕ) (set_name : S → ℕ) (l : Ledger)
-            → AreRetiredOut pool_name set_name self.old l
-            → AreInUse pool_name set_name (items_of set_name sets.items) self.old l
-            → Retires pool_name set_name (items_of set_name sets.items) self.old self.new l) }
-
-        ensures fits { greatest_of self.old ≤ frame → length sets.items ≤ reserve_of self.old
-            → IsOk result }
-        ensures reserve { OnOk result (reserve_of self.old ≤ reserve_of self.new + length sets.items) }
-        ensures frame_back { (IsErrOf result (RetireError.FrameBack sets))
-            ↔ (frame < greatest_of self.old) }
-        ensures back { IfErr result (λ e. handed_back e ≡ sets) }
-        ensures list_stays { OnErr result (retired_of self.new ≡ retired_of self.old) }
-        ensures greatest_stays { OnErr result (greatest_of self.new ≡ greatest_of self.old) }
-        ensures reserve_stays { OnErr result (reserve_of self.old ≤ reserve_of self.new) }
-        ensures allocator { allocator_of self.new ≡ allocator_of self.old }
-    {
-        if frame < self.greatest {
-            return Err(RetireError::FrameBack(sets));
-        }
-        if self.reserve(sets.len()).is_err() {
-            return Err(RetireError::Memory(sets));
-        }
-        self.put_all(frame, sets);
-        Ok(())
-    }
-
-    /// Puts sets last in the list, over memory that was reserved.
-    fn put_all(&mut self, frame: u64, sets: Vec<DescriptorSet<S>>)
-        requires rising { greatest_of self.old ≤ frame }
-        requires reserve { length sets.items ≤ reserve_of self.old }
-        ensures list { retired_of self.new
-            ≡ retired_of self.old ++ map (at_frame frame) sets.items }
-        ensures greatest { 0 < length sets.items → greatest_of self.new ≡ frame }
-        ensures none { length sets.items ≡ 0 → greatest_of self.new ≡ greatest_of self.old }
-        ensures reserve { reserve_of self.new + length sets.items ≡ reserve_of self.old }
-        ensures allocator { allocator_of self.new ≡ allocator_of self.old }
-    {
-        for set in sets {
-            self.put(frame, set);
         }
     }
 }

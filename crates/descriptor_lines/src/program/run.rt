@@ -100,7 +100,7 @@ impl<D: LineDevice> Program<D> {
         self.layouts.reserve()?;
         let Layout { counts, mark } = layout;
         let scripted = ScriptLayout { counts, mark };
-        match self.session.add_layout(scripted.to_set_layout()) {
+        match self.session.add_layout(scripted, counts, scripted.flags()) {
             Ok(_) => {
                 self.layouts.push(name, layout);
                 Ok(())

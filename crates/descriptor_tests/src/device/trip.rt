@@ -38,10 +38,10 @@ impl<S> SetSink<S> for BoundedSets<S> {
     ghost sink = { record {
       kept = λ r. r.sets.items;
       kept_as = λ r s. s;
-      left = λ r. r.left;
+      room = λ r. r.left;
     } };
 
-    fn left(&self) -> usize {
+    fn room(&self) -> usize {
         self.left
     }
 

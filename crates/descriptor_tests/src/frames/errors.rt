@@ -26,11 +26,5 @@ fn texts_of_sets_that_come_back(rt: HostRuntime) -> Result<(), Fail> {
     let one = RetireError::Memory(one.into_inner());
     let said = format!(in rt.alloc(); "{one}")?;
     assert_eq!(rt; said.as_str(), "Host memory exhausted");
-    let all = RetireError::FrameBack(Vec::from(sets));
-    let said = format!(in rt.alloc(); "{all}")?;
-    assert_eq!(rt; said.as_str(), "Frame before the last one");
-    let all = RetireError::Memory(all.into_inner());
-    let said = format!(in rt.alloc(); "{all}")?;
-    assert_eq!(rt; said.as_str(), "Host memory exhausted");
     Ok(())
 }

@@ -41,29 +41,3 @@ fn sets_are_retired_where_memory_is_wanting(rt: HostRuntime) -> Result<(), Fail>
         Err(_) => Ok(()),
     }
 }
-
-/// Retires all nine sets at once, and once more where memory was wanting, which changed nothing.
-fn expect_nine_at_once(rt: &impl Abort, trial: &mut Trial) -> Result<(), Fail> {
-    let first = trial.in_use.front().map(|set| set.raw().id());
-    let outcome = trial.retire_all(3);
-    if let Outcome::Memory(back) = outcome {
-        assert_eq!(rt; Some(back), first);
-        assert_eq!(rt; trial.in_use.len(), 9);
-        expect_sets(rt, trial, 9, 0);
-        assert_eq!(rt; trial.retire_all(3), Outcome::Retired);
-    } else {
-        assert_eq!(rt; outcome, Outcome::Retired);
-    }
-    expect_sets(rt, trial, 9, 9);
-    trial.finish(3);
-    expect_sets(rt, trial, 0, 0);
-    Ok(())
-}
-
-#[test]
-fn sets_are_retired_at_once_where_memory_is_wanting(rt: HostRuntime) -> Result<(), Fail> {
-    match Trial::new(rt.alloc(), 9) {
-        Ok(mut trial) => expect_nine_at_once(&rt, &mut trial),
-        Err(_) => Ok(()),
-    }
-}

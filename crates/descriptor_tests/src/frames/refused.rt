@@ -1,7 +1,7 @@
 //! Pairs of tests with as many allocations, which `tools/allocation-failures` compares: what the second
 //! of a pair does besides allocates nothing.
 use crate::frames::trial::FrameAct::{
-    Cleanup, Device, Finish, FreeAll, Pools, Reserve, Retire, RetireAll, Sets,
+    Cleanup, Device, Finish, FreeAll, Pools, Reserve, Retire, Sets,
 };
 use crate::frames::trial::{FrameAct, Outcome, Trial, play};
 use std::alloc::Global;
@@ -58,7 +58,9 @@ fn memory_is_reserved_and_used(rt: HostRuntime) -> Result<(), Fail> {
         Reserve(5),
         Retire(1, Outcome::Retired),
         Retire(1, Outcome::Retired),
-        RetireAll(2, Outcome::Retired),
+        Retire(2, Outcome::Retired),
+        Retire(2, Outcome::Retired),
+        Retire(2, Outcome::Retired),
         Sets(5, 5),
         Finish(1),
         FreeAll,

@@ -1,6 +1,6 @@
 //! What no clause says: that sets are retired, and go back, where memory is there. And beside the
 //! proofs what the readers show then, at three sets and two frames.
-use crate::frames::trial::FrameAct::{Cleanup, Device, Finish, Pools, Retire, RetireAll, Sets};
+use crate::frames::trial::FrameAct::{Cleanup, Device, Finish, Pools, Retire, Sets};
 use crate::frames::trial::{Outcome, Trial, play};
 use std::test::Fail;
 
@@ -41,15 +41,14 @@ fn sets_go_back_with_their_frames(rt: HostRuntime) -> Result<(), Fail> {
 #[test]
 fn memory_is_found_for_a_thousand(rt: HostRuntime) -> Result<(), Fail> {
     let mut trial = Trial::new(rt.alloc(), 1000)?;
-    for frame in 1..=500 {
+    for frame in 1..=1000 {
         play(&rt, &mut trial, &[Retire(frame, Outcome::Retired)])?;
     }
     let acts = [
-        RetireAll(501, Outcome::Retired),
         Sets(1000, 1000),
         Finish(300),
         Sets(700, 700),
-        Finish(501),
+        Finish(1000),
         Sets(0, 0),
         Device(0, 2),
     ];

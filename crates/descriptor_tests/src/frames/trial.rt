@@ -86,30 +86,6 @@ impl Trial {
         }
     }
 
-    /// Retires all sets in use at once. Those that come back are in use again.
-    pub fn retire_all(&mut self, frame: u64) -> Outcome {
-        let sets = mem::replace(&mut self.in_use, VecDeque::new(self.alloc));
-        match self.manager.retire_all(frame, Vec::from(sets)) {
-            Ok(()) => Outcome::Retired,
-            Err(RetireError::FrameBack(sets)) => {
-                self.in_use = VecDeque::from(sets);
-                Outcome::FrameBack(self.first())
-            }
-            Err(RetireError::Memory(sets)) => {
-                self.in_use = VecDeque::from(sets);
-                Outcome::Memory(self.first())
-            }
-        }
-    }
-
-    /// The name of the first set in use, and the greatest number where there is none.
-    fn first(&self) -> u64 {
-        match self.in_use.front() {
-            Some(set) => set.raw().id(),
-            None => u64::MAX,
-        }
-    }
-
     /// Gives all sets in use back at once.
     pub fn free_all(&mut self) {
         let sets = mem::replace(&mut self.in_use, VecDeque::new(self.alloc));
@@ -130,8 +106,6 @@ impl Trial {
 pub enum FrameAct<'a> {
     /// The first of the sets in use is retired at this frame, with this outcome.
     Retire(u64, Outcome),
-    /// All sets in use are retired at this frame at once, with this outcome.
-    RetireAll(u64, Outcome),
     /// All sets in use go back at once.
     FreeAll,
     /// Memory is reserved for so many sets.
@@ -167,9 +141,6 @@ fn make(rt: &impl Abort, trial: &mut Trial, next: FrameAct<'_>) -> Result<(), Fa
             wanted,
             "at {frame}"
         ),
-        FrameAct::RetireAll(frame, wanted) => {
-            assert_eq!(rt; trial.retire_all(frame), wanted, "at {frame}");
-        }
         FrameAct::FreeAll => trial.free_all(),
         FrameAct::Reserve(count) => trial.manager.reserve(count)?,
         FrameAct::Finish(frame) => trial.finish(frame),

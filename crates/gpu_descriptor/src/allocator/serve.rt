@@ -175,6 +175,6 @@ impl<P, S> DescriptorAllocator<P, S> {
         let unused = self.max_update_after_bind_descriptors_in_all_pools
             - self.update_after_bind_descriptors;
         key.update_after_bind
-            && u128::from(count) * u128::from(key.counts.total_u64()) > u128::from(unused)
+            && u128::from(count) * u128::from(key.counts.total()) > u128::from(unused)
     }
 }

@@ -88,10 +88,10 @@ impl<S, K: SetPlaces<S>> SetSink<S> for RequestSink<'_, S, K> {
     ghost sink = { record {
       kept = λ sink. K.items sink.sets;
       kept_as = λ sink raw. set_at (key_of sink.key.now) sink.id sink.number raw;
-      left = λ sink. sink.left;
+      room = λ sink. sink.left;
     } };
 
-    fn left(&self) -> usize {
+    fn room(&self) -> usize {
         self.left as usize
     }
 

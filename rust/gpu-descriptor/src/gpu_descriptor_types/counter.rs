@@ -22,6 +22,7 @@ impl Tally {
 /// Counts without a greatest value, and shows the count up to the greatest `u64`.
 ///
 /// A device's ledger is what the device's fields say, and its counters have no greatest value.
+#[derive(Debug)]
 pub struct Counter {
     pub tally: Tally,
     shown: u64,

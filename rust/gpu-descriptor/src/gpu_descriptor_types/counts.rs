@@ -51,17 +51,8 @@ pub struct DescriptorTotalCount {
 }
 
 impl DescriptorTotalCount {
-    /// How many descriptors there are of all kinds together, or `u32::MAX` if there are more. Bytes
-    /// of inline uniform blocks count as descriptors.
-    ///
-    /// In the original the sum wraps, or panics with overflow checks.
-    pub fn total(&self) -> u32
-    {
-        self.total_u64().min(u64::from(u32::MAX)) as u32
-    }
-
-    /// How many descriptors there are of all kinds together, at most 60129542130. The limit is
-    /// compared with this number. The original has no such reader.
+    /// How many descriptors there are of all kinds together, at most 60129542130. Bytes of inline
+    /// uniform blocks count as descriptors. The limit is compared with this number.
     pub fn total_u64(&self) -> u64
     {
         self.to_array().iter().map(|kind| u64::from(*kind)).sum()

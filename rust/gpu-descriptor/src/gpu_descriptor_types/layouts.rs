@@ -2,6 +2,7 @@
 //! One layout, a number of times.
 
 /// Gives the same layout a number of times: one for each set that is to be allocated.
+#[derive(Debug)]
 pub struct Layouts<'a, L> {
     layout: &'a L,
     left: u32,

@@ -11,7 +11,7 @@ pub trait SetSink<S> {
     type Kept;
 
     /// How many more sets fit.
-    fn left(&self) -> usize;
+    fn room(&self) -> usize;
 
     /// Appends a set.
     fn put(&mut self, set: S);

@@ -30,5 +30,5 @@ loop-layout-preserved g c =
       fresh = λ m above. changes m ∙ none_above n m _ _ above (i.fresh m (omega arith));
       sets = kept_grown (g.K.SetSink.sink.kept_as c.args.sink.now) _ _ _ _ c.args.pool c.args.first _ _ n c.put.ensures.kept i.sets at (ap (λ f. f (raw_set c.args.pool n)) i.alike) more;
       alike = c.put.ensures.alike ∙ i.alike;
-      sink_left = (let r = i.sink_left in let p = c.put.ensures.left in omega arith);
+      room = (let r = i.room in let p = c.put.ensures.room in omega arith);
     }

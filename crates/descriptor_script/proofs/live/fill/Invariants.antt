@@ -16,5 +16,5 @@ invariant-loop-layout g l = record {
   fresh : (n : ℕ) → l.name ≤ n → get nat_eq l.live n ≡ None;
   sets : g.K.SetSink.sink.kept l.sink ≡ g.K.SetSink.sink.kept l.fn.sink ++ map (g.K.SetSink.sink.kept_as l.fn.sink) (raw_sets l.fn.pool l.fn.first (length l.yielded));
   alike : g.K.SetSink.sink.kept_as l.sink ≡ g.K.SetSink.sink.kept_as l.fn.sink;
-  sink_left : g.K.SetSink.sink.left l.sink + length l.yielded ≡ g.K.SetSink.sink.left l.fn.sink;
+  room : g.K.SetSink.sink.room l.sink + length l.yielded ≡ g.K.SetSink.sink.room l.fn.sink;
 }

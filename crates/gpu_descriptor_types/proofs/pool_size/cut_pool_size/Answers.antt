@@ -17,13 +17,13 @@ pub returns-clause-sets : goal.returns-clause-sets
 returns-clause-sets c = record {
   whole = c.new_pool_size-whole.result.1;
   is_whole = c.new_pool_size-whole.ensures.sets;
-  cut = c.sets_in_room-sets.ensures.sets ∙ ap (λ each. sets_in_room_of c.args.room each c.new_pool_size-whole.result.1) c.total_u64.ensures.sum;
+  cut = c.sets_in_room-sets.ensures.sets ∙ ap (λ each. sets_in_room_of c.args.room each c.new_pool_size-whole.result.1) c.total.ensures.sum;
   some = (let some = c.if-sets-eq0.false in omega arith);
 }
 
 pub returns-clause-within : goal.returns-clause-within
 returns-clause-within c =
-    let cut = c.sets_in_room-sets.ensures.sets ∙ ap (λ each. sets_in_room_of c.args.room each c.new_pool_size-whole.result.1) c.total_u64.ensures.sum in
+    let cut = c.sets_in_room-sets.ensures.sets ∙ ap (λ each. sets_in_room_of c.args.room each c.new_pool_size-whole.result.1) c.total.ensures.sum in
     let some = c.if-sets-eq0.false in
     let fits = fits_in_room c.args.room (sum (kinds_of c.args.counts.now)) c.new_pool_size-whole.result.1 c.sets_in_room-sets.result cut (omega arith) in
     let all = ap sum c.counts_of_sets.ensures ∙ pool_counts_sum (kinds_of c.args.counts.now) c.sets_in_room-sets.result (omega arith) in
@@ -31,7 +31,7 @@ returns-clause-within c =
 
 pub returns-clause-whole : goal.returns-clause-whole
 returns-clause-whole c = λ sets is fits.
-    let cut = c.sets_in_room-sets.ensures.sets ∙ ap (λ each. sets_in_room_of c.args.room each c.new_pool_size-whole.result.1) c.total_u64.ensures.sum in
+    let cut = c.sets_in_room-sets.ensures.sets ∙ ap (λ each. sets_in_room_of c.args.room each c.new_pool_size-whole.result.1) c.total.ensures.sum in
     let same = pool_size_once (kinds_of c.args.counts.now) c.args.total c.args.wanted c.new_pool_size-whole.result.1 sets c.new_pool_size-whole.ensures.sets is in
     let room : max 1 (c.new_pool_size-whole.result.1 * sum (kinds_of c.args.counts.now)) ≤ c.args.room = subst (λ n. max 1 (n * sum (kinds_of c.args.counts.now)) ≤ c.args.room) (sym same) fits in
     cut ∙ all_in_room c.args.room (sum (kinds_of c.args.counts.now)) c.new_pool_size-whole.result.1 room ∙ same

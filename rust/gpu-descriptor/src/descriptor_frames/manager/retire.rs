@@ -7,7 +7,6 @@ use crate::descriptor_frames::retired::Retired;
 use crate::gpu_descriptor::DescriptorSet;
 use crate::kit::alloc::AllocError;
 use crate::kit::collections::VecDeque;
-use crate::kit::vec::Vec;
 
 impl<P, S> FrameManager<P, S> {
     /// Reserves memory for so many more retired sets: the next ones are retired without want of
@@ -26,7 +25,7 @@ impl<P, S> FrameManager<P, S> {
         &mut self,
         frame: u64,
         set: DescriptorSet<S>,
-    ) -> Result<(), RetireError<DescriptorSet<S>>>
+    ) -> Result<(), RetireError<S>>
     {
         if frame < self.greatest {
             return Err(RetireError::FrameBack(set));
@@ -55,7 +54,7 @@ impl<P, S> FrameManager<P, S> {
         &mut self,
         frame: u64,
         set: DescriptorSet<S>,
-    ) -> Result<(), RetireError<DescriptorSet<S>>>
+    ) -> Result<(), RetireError<S>>
     {
         if self.reserve(1).is_err() {
             return Err(RetireError::Memory(set));
@@ -110,36 +109,6 @@ impl<P, S> FrameManager<P, S> {
         while let Some(set) = sets.pop_front() {
             let place = self.place_behind(frame);
             self.put_at(place, frame, set);
-        }
-    }
-}
-
-impl<P, S> FrameManager<P, S> {
-    /// Retires the sets of a vector, in their order: all, or none.
-    ///
-    /// It is refused as `retire` is: `FrameBack` for the frame, also if no set is given, and
-    /// `Memory` if an allocation for all fails. Either returns the vector, and nothing changed.
-    pub fn retire_all(
-        &mut self,
-        frame: u64,
-        sets: Vec<DescriptorSet<S>>,
-    ) -> Result<(), RetireError<Vec<DescriptorSet<S>>>>
-    {
-        if frame < self.greatest {
-            return Err(RetireError::FrameBack(sets));
-        }
-        if self.reserve(sets.len()).is_err() {
-            return Err(RetireError::Memory(sets));
-        }
-        self.put_all(frame, sets);
-        Ok(())
-    }
-
-    /// Puts sets last in the list, over memory that was reserved.
-    fn put_all(&mut self, frame: u64, sets: Vec<DescriptorSet<S>>)
-    {
-        for set in sets {
-            self.put(frame, set);
         }
     }
 }

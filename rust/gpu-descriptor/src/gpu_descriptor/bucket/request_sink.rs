@@ -71,7 +71,7 @@ impl<'k, S, K: SetPlaces<S>> RequestSink<'k, S, K> {
 impl<S, K: SetPlaces<S>> SetSink<S> for RequestSink<'_, S, K> {
     type Kept = DescriptorSet<S>;
 
-    fn left(&self) -> usize {
+    fn room(&self) -> usize {
         self.left as usize
     }
 

@@ -1,4 +1,4 @@
-use Rattle.std.proofs.Common.{◌∷◌, ◌++◌, [], sym, ◌∙◌}
+use Rattle.std.proofs.Common.{◌∷◌, ◌++◌, [], ap, refl, sym, ◌∙◌}
 use Rattle.std.proofs.lemmas.List.{map-append}
 use Rattle.std.proofs.lemmas.List.Elements.{All-push}
 use Rattle.gpu_descriptor.specs.Caller.SetLayouts.{IsMeant}
@@ -24,7 +24,7 @@ returns-in-Ok-clause-ready g c =
     let old = c.requires.ready in
     let added = c.add_layout.ensures in
     record {
-      ready = same_is_ready c.args.self.now.session c.add_layout.new.self _ old.ready added.allocator added.sets (rw c.in-Ok.ensures.last (All-push (IsMeant script_meaning) (layouts_of c.args.self.now.session) _ old.ready.meant c.to_set_layout.ensures.meant));
-      layouts = rw (c.in-Ok.ensures.last, c.push.ensures.layouts, c.reserve.ensures.same) (map-append (λ k. k.layout) (layouts_of c.args.self.now.session) _ ∙ (λ i. old.layouts i ++ c.to_set_layout.ensures.layout i ∷ []) ∙ sym (map-append (λ l. scripted l.1) (layouts_in c.args.self.now.layouts) _));
+      ready = same_is_ready c.args.self.now.session c.add_layout.new.self _ old.ready added.allocator added.sets (rw c.in-Ok.ensures.last (All-push (IsMeant script_meaning) (layouts_of c.args.self.now.session) _ old.ready.meant (record { counted = refl; marked = c.flags.ensures })));
+      layouts = rw (c.in-Ok.ensures.last, c.push.ensures.layouts, c.reserve.ensures.same) (map-append (λ k. k.layout) (layouts_of c.args.self.now.session) _ ∙ ap (λ ls. ls ++ scripted c.args.layout ∷ []) old.layouts ∙ sym (map-append (λ l. scripted l.1) (layouts_in c.args.self.now.layouts) _));
       fresh = λ unbegun. (let begun = c.requires.begun in cc);
     }

@@ -14,7 +14,7 @@ returns-in-Ok-clause-ok g c =
     let shown : Sink g.row.K.Denot RawSet g.row.K-Kept.Denot = g.K.SetSink.sink in
     let old : ScriptedDevice = c.args.self.now in
     let new : ScriptedDevice = record { script = c.read-word.new.self; pools = c.grant.new.self; counters = record old.counters { asked = c.rise.new.self } } in
-    puts shown c.args.sets.now c.grant.new.sink old new (layout c.args.layouts) c.args.pool.now.id (left c.args.layouts) c.in-Ok.ensures.sets c.in-Ok.ensures.alike c.in-Ok.ensures.sink_left c.in-Ok.ensures.pools (ap (λ n. record (counters_of old.counters) { asked = n }) c.rise.ensures)
+    puts shown c.args.sets.now c.grant.new.sink old new (layout c.args.layouts) c.args.pool.now.id (left c.args.layouts) c.in-Ok.ensures.sets c.in-Ok.ensures.alike c.in-Ok.ensures.room c.in-Ok.ensures.pools (ap (λ n. record (counters_of old.counters) { asked = n }) c.rise.ensures)
 
 pub returns-clause-err : goal.returns-clause-err
 returns-clause-err g c =

@@ -61,7 +61,7 @@ returns-in-Err-alloc_descriptor_sets-clause-err g c =
     let m'' : Ledger = g.D.DescriptorDevice.ledger c.destroy_descriptor_pool.new.self in
     let gone : m'' ≡ after_destroy (name g d) m' = c.destroy_descriptor_pool.ensures ∙ ap (λ q. after_destroy q m') c.in-Err-alloc_descriptor_sets.ensures.name in
     let err = c.in-Err-alloc_descriptor_sets.ensures.err in
-    (err.kept ∙ ap g.K.SetPlaces.items c.aim.ensures.sets, err.left ∙ c.aim.ensures.left, c.reserve_pool.ensures.pools, c.reserve_pool.ensures.total, refl, not_grown (key g d) (size g d) (name g d) c.in-Err-alloc_descriptor_sets.error (before g d) (created g d) m' m'' c.in-Ok.ensures.new_name (made g d) err.ledger gone, had_room (λ is. absurd (cc)) (fits g d))
+    (err.kept ∙ ap g.K.SetPlaces.items c.aim.ensures.sets, err.room ∙ c.aim.ensures.left, c.reserve_pool.ensures.pools, c.reserve_pool.ensures.total, refl, not_grown (key g d) (size g d) (name g d) c.in-Err-alloc_descriptor_sets.error (before g d) (created g d) m' m'' c.in-Ok.ensures.new_name (made g d) err.ledger gone, had_room (λ is. absurd (cc)) (fits g d))
 
 pub returns-in-Ok-alloc_descriptor_sets-clause-grown : goal.returns-in-Ok-alloc_descriptor_sets-clause-grown
 returns-in-Ok-alloc_descriptor_sets-clause-grown g c =
@@ -80,7 +80,7 @@ returns-in-Ok-alloc_descriptor_sets-clause-grown g c =
     ap (map (entry_of g.D.DescriptorDevice.meaning.pool_name)) (c.push.ensures.pools ∙ ap (λ x. x ++ value ∷ []) c.reserve_pool.ensures.pools)
     ∙ map-append (entry_of g.D.DescriptorDevice.meaning.pool_name) c.args.self.now.pools.items (value ∷ [])
     ∙ ap (λ (e : Entry). old ++ e ∷ []) (same_entry (entry_of g.D.DescriptorDevice.meaning.pool_name value) _ c.in-Ok-alloc_descriptor_sets.ensures.name refl count (ap (λ n. c.in-Some.size - n) count)) in
-    let room : c.alloc_descriptor_sets.new.sets.left + length put.sets ≡ c.args.sink.now.left = (let r = put.left in let n = c.new.ensures.left in let a = c.aim.ensures.left in omega arith) in
+    let room : c.alloc_descriptor_sets.new.sets.left + length put.sets ≡ c.args.sink.now.left = (let r = put.room in let n = c.new.ensures.left in let a = c.aim.ensures.left in omega arith) in
     let total : c.push.new.self.total ≡ c.args.self.now.total + length put.sets = (let pushed = c.push.ensures.total in let kept = c.reserve_pool.ensures.total in omega arith) in
     (put.sets, kept g (goal.at.returns-in-Ok-alloc_descriptor_sets-clause-grown g c).In-Ok-alloc_descriptor_sets, room, total, grown (key g d) c.args.budget.now.room _ c.args.self.now.total c.args.sink.now.left (size g d) (name g d) names old new (before g d) (created g d) m' c.in-Some.ensures.sets (let fits = c.in-Some.ensures.room.0 in let load = c.marked_descriptors_of_pool.ensures in omega arith) long c.in-Ok.ensures.new_name (made g d) is now)
 
