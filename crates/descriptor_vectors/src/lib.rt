@@ -1,5 +1,5 @@
-//! Whole runs of the program over readers and writers that stop, wait and watch. Tests alone. Rows of
-//! lines and their answers stand in the folder `rows`.
+//! The public interface, and whole runs of the line program over readers and writers that stop, wait
+//! and watch. Tests alone.
 #![tactic(auto)]
 
 #[cfg(test)]
@@ -8,6 +8,8 @@ mod cuts;
 mod dialogues;
 #[cfg(test)]
 mod ends;
+#[cfg(test)]
+mod interface;
 #[cfg(test)]
 mod reads;
 #[cfg(test)]

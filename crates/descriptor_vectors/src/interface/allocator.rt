@@ -1,0 +1,166 @@
+//! The allocator, its sets and its errors.
+ghost use Rattle.std.specs.Prelude.{◌≡◌};
+ghost use Rattle.std.specs.Iterator.{HoldsAlong, IsFinite};
+ghost use Rattle.gpu_descriptor_types.specs.Counts.{kinds};
+ghost use Rattle.gpu_descriptor.specs.Model.Agreement.{AreOutstanding};
+ghost use Rattle.gpu_descriptor.specs.Caller.Flags.{is_marked};
+ghost use Rattle.gpu_descriptor.specs.Caller.Sets.{items_of};
+ghost use Rattle.gpu_descriptor.specs.Caller.States.{Agrees, state_of};
+
+use super::{is_debug, is_hashed_value, is_value};
+use bitflags::Flags;
+// The items of `gpu_descriptor_types` are items of this crate, too.
+use gpu_descriptor::{
+    AllocationError, CreatePoolError, DescriptorAllocator, DescriptorDevice,
+    DescriptorPoolCreateFlags, DescriptorSet, DescriptorSetLayoutCreateFlags, DescriptorTotalCount,
+    DeviceAllocationError, Layouts, PoolView, SetSink, cut_pool_size, laws, new_pool_size,
+};
+use std::alloc::Global;
+use std::error::Error;
+use std::test::Fail;
+
+#[test]
+fn flags_of_a_layout(rt: HostRuntime) {
+    is_hashed_value::<DescriptorSetLayoutCreateFlags>();
+    let flags: DescriptorSetLayoutCreateFlags = DescriptorSetLayoutCreateFlags::UPDATE_AFTER_BIND;
+    let both: DescriptorSetLayoutCreateFlags = flags | DescriptorSetLayoutCreateFlags::empty();
+    let bits: u32 = both.bits();
+    assert_eq!(rt; bits, 0x2);
+}
+
+fn number_of_error(error: AllocationError) -> u8 {
+    match error {
+        AllocationError::OutOfDeviceMemory => 1,
+        AllocationError::OutOfHostMemory => 2,
+        AllocationError::Fragmentation => 3,
+    }
+}
+
+fn is_error<E: Error>() {}
+
+#[test]
+fn errors_of_requests(rt: HostRuntime) -> Result<(), Fail> {
+    is_value::<AllocationError>();
+    is_error::<AllocationError>();
+    for (from, error, text) in [
+        (
+            CreatePoolError::OutOfDeviceMemory,
+            AllocationError::OutOfDeviceMemory,
+            "Device memory exhausted",
+        ),
+        (
+            CreatePoolError::OutOfHostMemory,
+            AllocationError::OutOfHostMemory,
+            "Host memory exhausted",
+        ),
+        (
+            CreatePoolError::Fragmentation,
+            AllocationError::Fragmentation,
+            "Fragmentation",
+        ),
+    ] {
+        assert_eq!(rt; AllocationError::from(from), error);
+        let said = format!(in rt.alloc(); "{error}")?;
+        assert_eq!(rt; said.as_str(), text);
+    }
+    assert_eq!(rt; number_of_error(AllocationError::Fragmentation), 3);
+    Ok(())
+}
+
+fn raw<S>(set: &DescriptorSet<S>) -> &S {
+    set.raw()
+}
+
+#[test]
+fn books_of_a_pool(rt: HostRuntime) {
+    is_value::<PoolView>();
+    let view = PoolView {
+        number: u64::MAX,
+        allocated: u32::MAX,
+        available: u32::MAX,
+    };
+    let PoolView {
+        number,
+        allocated,
+        available,
+    } = view;
+    assert_eq!(rt;
+        (number, allocated, available),
+        (u64::MAX, u32::MAX, u32::MAX)
+    );
+}
+
+#[test]
+fn readers_of_an_allocator(rt: HostRuntime) {
+    is_debug::<DescriptorSet<u8>>();
+    is_debug::<DescriptorAllocator<u8, u8>>();
+    let allocator: DescriptorAllocator<u8, u8> = DescriptorAllocator::new(rt.alloc(), u32::MAX);
+    let counts = DescriptorTotalCount::default();
+    let sets: u64 = allocator.outstanding();
+    let descriptors: u32 = allocator.update_after_bind_descriptors();
+    let capacity: u32 = allocator.update_after_bind_capacity();
+    let pools: usize = allocator.pool_count(&counts, true);
+    let view: Option<PoolView> = allocator.pool(&counts, false, 0);
+    assert_eq!(rt; (sets, descriptors, capacity, pools), (0, 0, 0, 0));
+    assert_eq!(rt; view, None);
+}
+
+fn allocate<L, P: Drop, S: Drop, D: DescriptorDevice<L, P, S>>(
+    allocator: &mut DescriptorAllocator<P, S>,
+    device: &mut D,
+    layout: &L,
+    flags: DescriptorSetLayoutCreateFlags,
+    layout_descriptor_count: &DescriptorTotalCount,
+    count: u32,
+) -> Result<Vec<DescriptorSet<S>>, AllocationError>
+    requires counts { kinds layout_descriptor_count.now ≡ D.meaning.counts layout.now }
+    requires mark { is_marked flags ≡ D.meaning.mark layout.now }
+    requires agree { Agrees D.meaning.pool_name allocator.old (D.ledger device.old) }
+{
+    allocator.allocate(device, layout, flags, layout_descriptor_count, count)
+}
+
+fn free<L, P, S, D: DescriptorDevice<L, P, S>, I: IntoIterator<Item = DescriptorSet<S>>>(
+    allocator: &mut DescriptorAllocator<P, S>,
+    device: &mut D,
+    sets: I,
+)
+    requires can { (iter : I.IntoIter) → I.into_iter_gives sets iter → I.IntoIter.can_next iter }
+    requires ends { (iter : I.IntoIter) → I.into_iter_gives sets iter
+        → IsFinite (I.IntoIter.remaining iter) }
+    requires agree { Agrees D.meaning.pool_name allocator.old (D.ledger device.old) }
+    requires outstanding { (iter : I.IntoIter) → I.into_iter_gives sets iter → HoldsAlong
+        I.IntoIter.next_gives iter (λ xs. AreOutstanding (items_of D.meaning.set_name xs)
+        (state_of D.meaning.pool_name allocator.old (D.ledger device.old))) }
+{
+    allocator.free(device, sets)
+}
+
+fn free_from<L, P, S, D: DescriptorDevice<L, P, S>, I: Iterator<Item = DescriptorSet<S>>>(
+    allocator: &mut DescriptorAllocator<P, S>,
+    device: &mut D,
+    sets: &mut I,
+)
+    requires can { I.can_next sets.old }
+    requires ends { IsFinite (I.remaining sets.old) }
+    requires agree { Agrees D.meaning.pool_name allocator.old (D.ledger device.old) }
+    requires outstanding { HoldsAlong I.next_gives sets.old (λ xs. AreOutstanding
+        (items_of D.meaning.set_name xs)
+        (state_of D.meaning.pool_name allocator.old (D.ledger device.old))) }
+{
+    allocator.free_from(device, sets)
+}
+
+fn cleanup<L, P: Drop, S, D: DescriptorDevice<L, P, S>>(
+    allocator: &mut DescriptorAllocator<P, S>,
+    device: &mut D,
+)
+    requires agree { Agrees D.meaning.pool_name allocator.old (D.ledger device.old) }
+{
+    allocator.cleanup(device)
+}
+
+fn laws_that_are_called() {
+    laws::release_parts();
+    laws::clean_again();
+}

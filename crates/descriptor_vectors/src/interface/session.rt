@@ -1,0 +1,139 @@
+//! The scripted device, the device that lists its calls, and sessions.
+ghost use Rattle.gpu_descriptor_types.specs.Side.{side};
+ghost use Rattle.descriptor_script.specs.Sessions.Session.{IsReady};
+
+use super::{is_compared, is_debug, is_plain, is_value};
+use descriptor_script::{
+    Answer, Command, LogDevice, RawPool, RawSet, Reply, ScriptLayout, ScriptedDevice, Session,
+    refuse_at,
+};
+use gpu_descriptor::{
+    AllocationError, DescriptorAllocator, DescriptorDevice, DescriptorSet,
+    DescriptorSetLayoutCreateFlags, DescriptorTotalCount,
+};
+use std::alloc::{AllocError, Global};
+use std::test::Fail;
+
+fn number_of_answer(answer: Answer) -> u8 {
+    match answer {
+        Answer::Ok => 0,
+        Answer::Device => 1,
+        Answer::Host => 2,
+        Answer::Frag => 3,
+        Answer::Pool => 4,
+    }
+}
+
+fn script(alloc: Global) -> Result<Vec<Answer>, AllocError> {
+    refuse_at(alloc, 3, Answer::Pool)
+}
+
+fn names(pool: &RawPool, set: &RawSet) -> (u64, u64, u64) {
+    (pool.id(), set.id(), set.pool())
+}
+
+#[test]
+fn scripted_devices(rt: HostRuntime) -> Result<(), Fail> {
+    is_value::<Answer>();
+    is_plain::<ScriptLayout>();
+    is_debug::<RawPool>();
+    is_debug::<RawSet>();
+    is_debug::<ScriptedDevice>();
+    is_debug::<LogDevice>();
+    let mut device: ScriptedDevice = ScriptedDevice::new(rt.alloc(), script(rt.alloc())?);
+    device.load(Vec::new(rt.alloc()));
+    let counters: [u64; 4] = [
+        device.created(),
+        device.destroyed(),
+        device.asked(),
+        device.released(),
+    ];
+    assert_eq!(rt; counters, [0; 4]);
+    assert_eq!(rt; number_of_answer(Answer::Pool), 4);
+    Ok(())
+}
+
+fn number_of_command(command: &Command) -> u8 {
+    match command {
+        Command::Allocate { layout, count } => {
+            let (_layout, _count): (usize, u32) = (*layout, *count);
+            0
+        }
+        Command::Free { tickets } => {
+            let _tickets: &Vec<usize> = tickets;
+            1
+        }
+        Command::Cleanup => 2,
+    }
+}
+
+fn number_of_reply(reply: Reply) -> u8 {
+    match reply {
+        Reply::Sets { first, count } => {
+            let (_first, _count): (usize, u32) = (first, count);
+            0
+        }
+        Reply::Refused(error) => {
+            let _error: AllocationError = error;
+            1
+        }
+        Reply::Freed(count) => {
+            let _count: usize = count;
+            2
+        }
+        Reply::BadTicket => 3,
+        Reply::BadLayout => 4,
+        Reply::NoMemory => 5,
+        Reply::Clean => 6,
+    }
+}
+
+fn add_layout<L, P, S>(
+    session: &mut Session<L, P, S>,
+    layout: L,
+    counts: DescriptorTotalCount,
+    flags: DescriptorSetLayoutCreateFlags,
+) -> Result<usize, L> {
+    session.add_layout(layout, counts, flags)
+}
+
+fn step<L, P: Drop, S: Drop, D: DescriptorDevice<L, P, S>>(
+    session: &mut Session<L, P, S>,
+    device: &mut D,
+    command: &Command,
+) -> Reply
+    requires { IsReady D.meaning (side session.old (D.ledger device.old)) }
+{
+    session.step(device, command)
+}
+
+fn run<L, P: Drop, S: Drop, D: DescriptorDevice<L, P, S>>(
+    session: &mut Session<L, P, S>,
+    device: &mut D,
+    commands: &[Command],
+) -> Result<Vec<Reply>, AllocError>
+    requires { IsReady D.meaning (side session.old (D.ledger device.old)) }
+{
+    session.run(device, commands)
+}
+
+fn allocator<L, P, S>(session: &Session<L, P, S>) -> &DescriptorAllocator<P, S> {
+    session.allocator()
+}
+
+fn set<L, P, S>(session: &Session<L, P, S>, ticket: usize) -> Option<&DescriptorSet<S>> {
+    session.set(ticket)
+}
+
+#[test]
+fn sessions(rt: HostRuntime) {
+    is_compared::<Command>();
+    is_value::<Reply>();
+    is_debug::<Session<u8, u8, u8>>();
+    let session: Session<u8, u8, u8> = Session::new(rt.alloc(), u32::MAX);
+    let held: u64 = session.held();
+    let next: usize = session.next_ticket();
+    assert_eq!(rt; (held, next), (0, 0));
+    assert_eq!(rt; number_of_command(&Command::Cleanup), 2);
+    assert_eq!(rt; number_of_reply(Reply::Clean), 6);
+}
