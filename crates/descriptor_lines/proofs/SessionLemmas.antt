@@ -67,14 +67,14 @@ Steps command reply old new before after = StepsTo script_meaning command reply 
 -- the one step of a run of one command
 pub step_of_one : (command : Command) (replies : List Reply) (reply : Reply) (old new : LineSession) (before after : Ledger) → RunsTo script_meaning (command ∷ []) replies (side old before) (side new after) → reply ≡ slice_index_or replies 0 reply → Steps command reply old new before after
 step_of_one command [] reply old new before after run is = absurd run
-step_of_one command (r ∷ []) reply old new before after run is = subst (λ (s : Side LineSession). StepsTo script_meaning command reply (side old before) s) (sym run.3) (rw is run.1)
-step_of_one command (r ∷ s ∷ rest) reply old new before after run is = absurd run.3
+step_of_one command (r ∷ []) reply old new before after run is = subst (λ (s : Side LineSession). StepsTo script_meaning command reply (side old before) s) (sym run.2) (rw is run.1.0)
+step_of_one command (r ∷ s ∷ rest) reply old new before after run is = absurd run.2
 
 -- so all replies of the run are turned away where its reply is
 pub all_turned_away : (command : Command) (replies : List Reply) (reply : Reply) (old new : LineSession) (before after : Ledger) → RunsTo script_meaning (command ∷ []) replies (side old before) (side new after) → reply ≡ slice_index_or replies 0 reply → IsTurnedAway reply → All IsTurnedAway replies
 all_turned_away command [] reply old new before after run is away = absurd run
 all_turned_away command (r ∷ []) reply old new before after run is away = All-cons IsTurnedAway r [] (rw (← is) away) (All-nil IsTurnedAway)
-all_turned_away command (r ∷ s ∷ rest) reply old new before after run is away = absurd run.3
+all_turned_away command (r ∷ s ∷ rest) reply old new before after run is away = absurd run.2
 
 -- a reply that memory is wanting changes nothing
 pub no_memory_changes_nothing : (command : Command) (old new : LineSession) (before after : Ledger) → Steps command NoMemory old new before after → IsAsBefore (side old before) (side new after)

@@ -1,20 +1,27 @@
 -- The parts of the headline hold at each step of a run.
-use Rattle.std.proofs.Common.{ℕ, List, [], ◌∷◌, sym, ap, ◌∙◌}
+use Rattle.std.proofs.Common.{ℕ, List, [], ◌∷◌, sym, ap, subst, ◌∙◌}
 use Rattle.gpu_descriptor_types.specs.Ledger.{Counters}
 use Rattle.gpu_descriptor_types.specs.Meaning.{Meaning}
 use Rattle.gpu_descriptor_types.specs.Side.{Side}
+use Rattle.gpu_descriptor.proofs.Common.{◌≡◌, ◌≤◌, descriptors_out, marked_descriptors, marked_load_of}
+use Rattle.gpu_descriptor.proofs.sums.OutSets.{load_is_descriptors}
+use Rattle.gpu_descriptor.proofs.sums.TableSums.{adds_up, marked_load_of-table}
+use Rattle.gpu_descriptor.specs.Caller.Call.{layout_key}
 use Rattle.gpu_descriptor.specs.Caller.Sets.{items_of}
 use Rattle.gpu_descriptor.specs.Caller.States.{state_of}
+use Rattle.gpu_descriptor.specs.declared.errors.AllocationError.{AllocationError}
+use Rattle.gpu_descriptor.proofs.release.FreedOne.{freed_is}
 use Rattle.gpu_descriptor.proofs.release.ReleaseAgrees.{one_by_one}
-use Rattle.descriptor_script.specs.Sessions.Headline.{GoBack, HoldsWhatIsOut, KeepsAll}
-use Rattle.descriptor_script.specs.Sessions.Session.{IsReady, allocator_of, sets_of}
-use Rattle.descriptor_script.specs.Sessions.SessionRun.{RunsKeeping, RunsTo}
-use Rattle.descriptor_script.specs.Sessions.Steps.{GivesUp, StepsTo}
+use Rattle.descriptor_script.specs.Sessions.Headline.{GoBack, IsMet, IsRefused, IsReply, KeepsAll, held_items}
+use Rattle.descriptor_script.specs.Sessions.Session.{IsReady, allocator_of, allocator_on, sets_of, state_on}
+use Rattle.descriptor_script.specs.Sessions.SessionRun.{Runs, RunsTo}
+use Rattle.descriptor_script.specs.Sessions.Steps.{GivesUp, HoldsAnswer, Refuses, StepsTo}
 use Rattle.descriptor_script.specs.declared.command.Command.{Command}
 use Rattle.descriptor_script.specs.declared.command.Command.TheVariants.{Allocate, Free, Cleanup}
 use Rattle.descriptor_script.specs.declared.command.Reply.{Reply}
 use Rattle.descriptor_script.specs.declared.command.Reply.TheVariants.{Sets, Refused, Freed, BadTicket, BadLayout, NoMemory, Clean}
 use Rattle.descriptor_script.specs.declared.session.Session.{Session}
+use Rattle.gpu_descriptor.proofs.request.Causes.{because, request_own, wants_some}
 use Rattle.descriptor_script.proofs.Emptied.{listed_out}
 
 module _ {L P S : Type 0} (means : Meaning L P S) where
@@ -25,31 +32,63 @@ module _ {L P S : Type 0} (means : Meaning L P S) where
         let out = listed_out means.set_name (sets_of old.value) tickets h.given start h.good h.each ready.held in
         let back = h.back.back in
         record {
-          gives_up = h;
+          good = h.good;
+          all = h.all;
+          given = h.given;
+          each = h.each;
+          sets = h.sets;
           one_call_a_run = ap (λ (c : Counters). c.released) back.counters;
-          one_by_one = λ order alike. back.state ∙ sym (one_by_one (items_of means.set_name h.given) order start ready.agree.books out alike);
+          one_by_one = λ order alike. back.state ∙ sym (one_by_one (items_of means.set_name h.given) order start ready.agree.books out alike) ∙ sym (freed_is order start);
         }
 
-    what_is_out : (command : Command) (reply : Reply) → StepsTo means command reply old new → HoldsWhatIsOut means command reply old new
-    what_is_out (Allocate layout count) (Sets first many) h = h
-    what_is_out (Allocate layout count) (Refused e) h = h
-    what_is_out (Allocate layout count) BadLayout h = h.1.sets
-    what_is_out (Allocate layout count) NoMemory h = h.2.sets
-    what_is_out (Free tickets) (Freed n) h = gone_back tickets.items n h
-    what_is_out (Free tickets) BadTicket h = h.1.sets
-    what_is_out Cleanup Clean h = h.sets
-    what_is_out _ _ h = absurd h
+    met : (layout count first many : ℕ) → HoldsAnswer means layout count old new first many → IsMet means layout count old new first many
+    met layout count first many h = record {
+      known = h.known;
+      at = h.at;
+      given = h.given;
+      all = (h.asked, h.all_given);
+      own = h.own;
+      keys = request_own _ h.outcome;
+      next = h.first;
+      sets = h.sets;
+    }
+
+    refused : (layout count : ℕ) (error : AllocationError) → Refuses means layout count old new error → IsRefused means layout count old new error
+    refused layout count error h = record {
+      known = h.known;
+      at = h.at;
+      some = wants_some _ h.outcome;
+      cause = because means (layout_key means h.known.layout) count (allocator_on old) (allocator_on new) ready.agree (held_items means old) (λ t. sym (ready.held t)) error h.cause;
+      sets = h.sets;
+    }
+
+    replied : (command : Command) (reply : Reply) → StepsTo means command reply old new → IsReply means command reply old new
+    replied (Allocate layout count) (Sets first many) h = met layout count first many h
+    replied (Allocate layout count) (Refused e) h = refused layout count e h
+    replied (Allocate layout count) BadLayout h = h
+    replied (Allocate layout count) NoMemory h = h
+    replied (Free tickets) (Freed n) h = gone_back tickets.items n h
+    replied (Free tickets) BadTicket h = h
+    replied Cleanup Clean h = h.sets
+    replied _ _ h = absurd h
+
+  -- the marked load is that of the held sets
+  held_load : (s : Side (Session L P S)) → IsReady means s → marked_descriptors (held_items means s) ≡ marked_load_of (allocator_of s.value)
+  held_load s ready = load_is_descriptors (state_on means s) _ ready.agree.books (adds_up means.pool_name (allocator_of s.value) descriptors_out ready.agree.rows (marked_load_of-table means.pool_name (allocator_of s.value))) (held_items means s) (λ t. sym (ready.held t))
 
   -- a run keeps all parts at each of its steps
-  pub all_kept : (commands : List Command) (replies : List Reply) (old new : Side (Session L P S)) → IsReady means old → RunsTo means commands replies old new → RunsKeeping means (KeepsAll means) commands replies old new
+  pub all_kept : (commands : List Command) (replies : List Reply) (old new : Side (Session L P S)) → IsReady means old → RunsTo means commands replies old new → Runs (KeepsAll means) commands replies old new
   all_kept [] [] old new ready run = run
   all_kept (c ∷ cs) (r ∷ rs) old new ready run =
-      let keeps = run.2 in
+      let keeps = run.1.1 in
       let all : KeepsAll means c r old run.0 = record {
         exactly = keeps.ready.held;
-        handed_out = what_is_out old run.0 ready c r run.1;
-        limit = (keeps.allocator.load, keeps.allocator.pool_load);
-        keeps = keeps;
+        handed_out = replied old run.0 ready c r run.1.0;
+        sets_within = subst (λ n. n ≤ (allocator_of run.0.value).limit) (sym (held_load run.0 keeps.ready)) keeps.allocator.load;
+        pools_within = keeps.allocator.pool_load;
+        limit_stays = keeps.allocator.limit;
+        layouts = keeps.layouts;
+        others = keeps.allocator.others;
       } in
-      (run.0, run.1, all, all_kept cs rs run.0 new keeps.ready run.3)
+      (run.0, all, all_kept cs rs run.0 new keeps.ready run.2)
   all_kept _ _ old new ready run = absurd run

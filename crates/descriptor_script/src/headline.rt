@@ -6,7 +6,7 @@ ghost use Rattle.std.specs.Prelude.{◌≡◌, IfOk, OnErr};
 ghost use Rattle.gpu_descriptor_types.specs.Side.{side};
 ghost use Rattle.descriptor_script.specs.Sessions.Headline.{KeepsAll};
 ghost use Rattle.descriptor_script.specs.Sessions.Session.{IsReady, KeepsSession};
-ghost use Rattle.descriptor_script.specs.Sessions.SessionRun.{RunsKeeping};
+ghost use Rattle.descriptor_script.specs.Sessions.SessionRun.{Runs, RunsTo};
 
 use crate::{Command, Reply, Session};
 use gpu_descriptor::DescriptorDevice;
@@ -15,10 +15,10 @@ use std::vec::Vec;
 
 /// Runs commands as `Session::run` does. Its contract is the headline.
 ///
-/// What `RunsKeeping` says holds after each command of the list, refused ones too: there are states
-/// from the first to the last, each by a step from the one before, with the promise at each. The
-/// conditions are those of `Session::run`: a session that was just made meets them, with layouts as
-/// the device means them, and each call leaves them met.
+/// What `KeepsAll` says holds after each command of the list, refused ones too: there are states
+/// from the first to the last, with the promise at each step. The condition is that of
+/// `Session::run`: a session that was just made meets it, with layouts as the device means them, and
+/// each call leaves it met.
 pub fn headline<L, P: Drop, S: Drop, D: DescriptorDevice<L, P, S>>(
     session: &mut Session<L, P, S>,
     device: &mut D,
@@ -27,17 +27,22 @@ pub fn headline<L, P: Drop, S: Drop, D: DescriptorDevice<L, P, S>>(
     requires ready { IsReady D.meaning (side session.old (D.ledger device.old)) }
 
     // At each command of the list all parts of the headline hold, which are the fields of `KeepsAll`.
-    ensures together { IfOk result (λ replies. RunsKeeping D.meaning (KeepsAll D.meaning)
-        commands.now replies.items (side session.old (D.ledger device.old))
-        (side session.new (D.ledger device.new))) }
+    ensures together { IfOk result (λ replies. Runs (KeepsAll D.meaning) commands.now replies.items
+        (side session.old (D.ledger device.old)) (side session.new (D.ledger device.new))) }
 
     // Without memory for the replies nothing is done.
     ensures session { OnErr result (session.new ≡ session.old) }
     ensures ledger { OnErr result (D.ledger device.new ≡ D.ledger device.old) }
 
-    // Pools of others stay over the whole run, none is lost, and the next call may be made.
+    // The next call may be made.
+    ensures ready { IsReady D.meaning (side session.new (D.ledger device.new)) }
+
+    // In the words of the model: over the whole run the pools of others stay and no pool is lost, and
+    // each step is one that the model allows, which also says what pools are asked, created and destroyed.
     ensures keeps { KeepsSession D.meaning (side session.old (D.ledger device.old))
         (side session.new (D.ledger device.new)) }
+    ensures runs { IfOk result (λ replies. RunsTo D.meaning commands.now replies.items
+        (side session.old (D.ledger device.old)) (side session.new (D.ledger device.new))) }
 {
     session.run(device, commands)
 }

@@ -2,6 +2,7 @@ pub mod BucketRun
 pub mod Comparisons
 pub mod Digits
 pub mod Freed
+pub mod FreedOne
 pub mod FrontPool
 pub mod Fronts
 pub mod LentRow

@@ -1,4 +1,5 @@
 pub mod Asks
+pub mod Causes
 pub mod Growing
 pub mod HandedOut
 pub mod InTable

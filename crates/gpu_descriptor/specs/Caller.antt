@@ -1,5 +1,6 @@
 -- What public clauses say beside the model: the allocator's value and its state, the call, sets, layouts, frees, flags, errors, views.
 pub mod Call
+pub mod Causes
 pub mod CleansUp
 pub mod Comparisons
 pub mod Errors

@@ -6,6 +6,7 @@ pub mod Foreign
 pub mod FreshPools
 pub mod Grants
 pub mod Load
+pub mod OneByOne
 pub mod Outcomes
 pub mod Promises
 pub mod Release

@@ -1,41 +1,85 @@
--- The parts of the headline: what holds after each command of a run.
-use Rattle.std.specs.Prelude.{◌≡◌, ℕ, ◌+◌, ◌≤◌, List}
+-- The headline: what holds after each command of a run.
+use Rattle.std.specs.Prelude.{◌≡◌, ℕ, ◌+◌, ◌<◌, ◌≤◌, All, List, [], ◌∷◌, ◌++◌, length, map, slice_get, Some}
 use Rattle.gpu_descriptor_types.specs.Meaning.{Meaning}
 use Rattle.gpu_descriptor_types.specs.Side.{Side}
+use Rattle.gpu_descriptor.specs.Caller.Call.{layout_key}
+use Rattle.gpu_descriptor.specs.Caller.Causes.{IsBecause}
+use Rattle.gpu_descriptor.specs.Caller.Frees.{marked_descriptors}
+use Rattle.gpu_descriptor.specs.Caller.Others.{others_of}
+use Rattle.gpu_descriptor.specs.Caller.Sets.{AreOfLayout, items_of}
+use Rattle.gpu_descriptor.specs.Caller.States.{pool_load_of}
 use Rattle.gpu_descriptor.specs.Model.Agreement.{Item, count_of}
-use Rattle.gpu_descriptor.specs.Model.Release.{released_each, singly}
+use Rattle.gpu_descriptor.specs.Model.OneByOne.{freed_each}
 use Rattle.gpu_descriptor.specs.Model.Runs.{runs}
-use Rattle.gpu_descriptor.specs.Caller.Sets.{items_of}
-use Rattle.gpu_descriptor.specs.Caller.States.{marked_load_of, pool_load_of}
-use Rattle.descriptor_script.specs.Sessions.Session.{AreAllHeld, KeepsSession, allocator_of, sets_of, state_on}
-use Rattle.descriptor_script.specs.Sessions.Steps.{GivesUp, HoldsAnswer, OfStep, Refuses}
+use Rattle.gpu_descriptor.specs.declared.errors.AllocationError.{AllocationError}
+use Rattle.gpu_descriptor.specs.declared.layout.SetLayout.{SetLayout}
+use Rattle.gpu_descriptor.specs.declared.set.DescriptorSet.{DescriptorSet}
+use Rattle.descriptor_script.specs.Sessions.Session.{AreAllHeld, allocator_of, allocator_on, layouts_of, sets_of, state_on}
+use Rattle.descriptor_script.specs.Sessions.Steps.{IsAsBefore, OfStep}
+use Rattle.descriptor_script.specs.Sessions.Tickets.{AreHeldOnce, emptied, held_sets, set_at}
 use Rattle.descriptor_script.specs.declared.command.Command.{Command}
-use Rattle.descriptor_script.specs.declared.command.Command.TheVariants.{Allocate, Free}
+use Rattle.descriptor_script.specs.declared.command.Command.TheVariants.{Allocate, Free, Cleanup}
 use Rattle.descriptor_script.specs.declared.command.Reply.{Reply}
-use Rattle.descriptor_script.specs.declared.command.Reply.TheVariants.{Sets, Refused, Freed}
+use Rattle.descriptor_script.specs.declared.command.Reply.TheVariants.{Sets, Refused, Freed, BadTicket, BadLayout, NoMemory, Clean}
 use Rattle.descriptor_script.specs.declared.session.Session.{Session}
 
 module _ {L P S : Type 0} (means : Meaning L P S) where
-  -- the sets of these tickets were freed with one call of the device for each run, and left is what freeing them one by one leaves, in whatever order
-  pub record GoBack (tickets : List ℕ) (many : ℕ) (old new : Side (Session L P S)) : Type 0 where
-    pub gives_up : GivesUp means tickets old new many
-    pub one_call_a_run : new.ledger.counters.released ≡ old.ledger.counters.released + runs (items_of means.set_name gives_up.given)
-    pub one_by_one : (order : List Item) → ((t : Item) → count_of t order ≡ count_of t (items_of means.set_name gives_up.given)) → state_on means new ≡ released_each (singly order) (state_on means old)
+  -- the sets that are held, as the books see them
+  abbrev pub held_items : Side (Session L P S) → List Item
+  held_items s = items_of means.set_name (held_sets (sets_of s.value))
 
-  -- what is held is what the replies handed out, under the next tickets, less what was freed, and a request that the allocator refused has a named cause
-  abbrev pub HoldsWhatIsOut : OfStep L P S
-  HoldsWhatIsOut (Allocate layout count) (Sets first many) old new = HoldsAnswer means layout count old new first many
-  HoldsWhatIsOut (Allocate layout count) (Refused error) old new = Refuses means layout count old new error
-  HoldsWhatIsOut (Free tickets) (Freed many) old new = GoBack tickets.items many old new
-  HoldsWhatIsOut _ _ old new = sets_of new.value ≡ sets_of old.value
+  module _ (layout count : ℕ) (old new : Side (Session L P S)) where
+    -- as many sets as were asked for, of the layout, are held under the next tickets, in their order
+    pub record IsMet (first many : ℕ) : Type 0 where
+      pub known : SetLayout L
+      -- the layout at the command's place
+      pub at : slice_get (layouts_of old.value) layout ≡ Some known
+      pub given : List (DescriptorSet S)
+      pub all : (many ≡ count) × (length given ≡ count)
+      pub own : AreOfLayout means known.layout given
+      pub keys : All (λ t. t.key ≡ layout_key means known.layout) (items_of means.set_name given)
+      pub next : first ≡ length (sets_of old.value)
+      pub sets : sets_of new.value ≡ sets_of old.value ++ map Some given
+
+    -- the request failed for a named cause, and the same sets are held
+    pub record IsRefused (error : AllocationError) : Type 0 where
+      pub known : SetLayout L
+      pub at : slice_get (layouts_of old.value) layout ≡ Some known
+      pub some : 0 < count
+      pub cause : IsBecause means (layout_key means known.layout) count (length (held_items old)) (marked_descriptors (held_items old)) (allocator_on old) (allocator_on new) error
+      pub sets : sets_of new.value ≡ sets_of old.value
+
+  -- the sets of these tickets are held no longer. They were freed with one call of the device for each run, and left is what freeing them one by one leaves, in whatever order
+  pub record GoBack (tickets : List ℕ) (many : ℕ) (old new : Side (Session L P S)) : Type 0 where
+    pub good : AreHeldOnce (sets_of old.value) tickets
+    pub all : many ≡ length tickets
+    pub given : List (DescriptorSet S)
+    pub each : map Some given ≡ map (set_at (sets_of old.value)) tickets
+    pub sets : sets_of new.value ≡ emptied (sets_of old.value) tickets
+    pub one_call_a_run : new.ledger.counters.released ≡ old.ledger.counters.released + runs (items_of means.set_name given)
+    pub one_by_one : (order : List Item) → ((t : Item) → count_of t order ≡ count_of t (items_of means.set_name given)) → state_on means new ≡ freed_each order (state_on means old)
+
+  -- what is held is what the replies handed out, less what was freed, and a request fails only for a named cause
+  abbrev pub IsReply : OfStep L P S
+  IsReply (Allocate layout count) (Sets first many) old new = IsMet layout count old new first many
+  IsReply (Allocate layout count) (Refused error) old new = IsRefused layout count old new error
+  IsReply (Allocate layout count) BadLayout old new = (length (layouts_of old.value) ≤ layout) × IsAsBefore old new
+  IsReply (Allocate layout count) NoMemory old new = (layout < length (layouts_of old.value)) × (0 < count) × IsAsBefore old new
+  IsReply (Free tickets) (Freed many) old new = GoBack tickets.items many old new
+  IsReply (Free tickets) BadTicket old new = (¬ AreHeldOnce (sets_of old.value) tickets.items) × IsAsBefore old new
+  IsReply Cleanup Clean old new = sets_of new.value ≡ sets_of old.value
+  IsReply _ _ old new = ⊥
 
   -- the parts of the headline, at one step
   pub record KeepsAll (command : Command) (reply : Reply) (old new : Side (Session L P S)) : Type 0 where
     -- the pools hold exactly the sets that are held
     pub exactly : AreAllHeld means.set_name (sets_of new.value) (state_on means new)
     -- and these are the sets that were handed out and not returned
-    pub handed_out : HoldsWhatIsOut command reply old new
-    -- neither marked sets nor marked pools have more descriptors than the limit
-    pub limit : let after = allocator_of new.value in (marked_load_of after ≤ after.limit) × (pool_load_of after ≤ after.limit)
-    -- pools of others stay, none is lost, and the next command may be run
-    pub keeps : KeepsSession means old new
+    pub handed_out : IsReply command reply old new
+    -- neither marked sets nor marked pools have more descriptors than the limit, which stays
+    pub sets_within : marked_descriptors (held_items new) ≤ (allocator_of new.value).limit
+    pub pools_within : pool_load_of (allocator_of new.value) ≤ (allocator_of new.value).limit
+    pub limit_stays : (allocator_of new.value).limit ≡ (allocator_of old.value).limit
+    -- the layouts and the pools of others stay
+    pub layouts : layouts_of new.value ≡ layouts_of old.value
+    pub others : others_of means.pool_name (allocator_of new.value) new.ledger ≡ others_of means.pool_name (allocator_of old.value) old.ledger

@@ -8,17 +8,18 @@ use Rattle.descriptor_script.specs.declared.command.Command.{Command}
 use Rattle.descriptor_script.specs.declared.command.Reply.{Reply}
 use Rattle.descriptor_script.specs.declared.session.Session.{Session}
 
-module _ {L P S : Type 0} (means : Meaning L P S) where
-  -- the commands were done in order, each with the reply at its place: there are states between them, from the first to the last, each comes of the one before it by a step, as the reply says, and at each the promise is kept
-  abbrev pub RunsKeeping : OfStep L P S → List Command → List Reply → Side (Session L P S) → Side (Session L P S) → Type 0
-  RunsKeeping promise [] [] old new = new ≡ old
-  RunsKeeping promise (command ∷ commands) (reply ∷ replies) old new =
-      (next : Side (Session L P S)) × StepsTo means command reply old next × promise command reply old next × RunsKeeping promise commands replies next new
-  RunsKeeping promise _ _ old new = ⊥
+module _ {L P S : Type 0} where
+  -- the commands were done in order, each with the reply at its place: there are states from the first to the last, and at each step from one to the next the promise is kept
+  abbrev pub Runs : OfStep L P S → List Command → List Reply → Side (Session L P S) → Side (Session L P S) → Type 0
+  Runs promise [] [] old new = new ≡ old
+  Runs promise (command ∷ commands) (reply ∷ replies) old new =
+      (next : Side (Session L P S)) × promise command reply old next × Runs promise commands replies next new
+  Runs promise _ _ old new = ⊥
 
-  -- and at each there is what every command keeps
+module _ {L P S : Type 0} (means : Meaning L P S) where
+  -- each state comes of the one before it by a step, as the reply says, and has what every command keeps
   abbrev pub RunsTo : List Command → List Reply → Side (Session L P S) → Side (Session L P S) → Type 0
-  RunsTo = RunsKeeping (λ command reply. KeepsSession means)
+  RunsTo = Runs (λ command reply old new. StepsTo means command reply old new × KeepsSession means old new)
 
   -- the commands were run, and then the session cleaned up
   abbrev pub VisitsTo : List Command → List Reply → Side (Session L P S) → Side (Session L P S) → Type 0
