@@ -1,17 +1,21 @@
 -- What comparisons the runs of a list may take: a run more adds the digits at its first set.
-use Rattle.gpu_descriptor.proofs.Common.{◌≡◌, ℕ, zero, suc, ◌+◌, Bool, true, false, List, [], ◌∷◌, ◌++◌, map, length, count_by, refl, sym, ap, ◌∙◌, arith, append_assoc, lt-ltb, append-nil, nat_lt, if◌then◌else◌, count_by_no, count_by_yes, DescriptorPool, State, Item, Entry, digits_at, digits_behind, run_digits, open_numbers, free_in, breaks, runs, entry_of}
+use Rattle.gpu_descriptor.proofs.Common.{◌≡◌, ℕ, zero, suc, ◌+◌, ◌<◌, Bool, true, false, List, [], ◌∷◌, ◌++◌, map, length, count_by, refl, sym, ap, ◌∙◌, arith, append_assoc, lt-ltb, append-nil, nat_lt, if◌then◌else◌, count_by_no, count_by_yes, DescriptorPool, State, Item, Entry, digits_at, digits_behind, run_digits, open_numbers, free_in, runs, entry_of}
 
 none_of : (b : Bool) → ◌≡◌ {A = ℕ} (if b then 0 else 1) 1 → b ≡ false
 none_of true h = absurd (omega arith)
 none_of false h = refl
 
-module _ (state : State) where
-  -- where no neighbours differ no run begins
-  digits_none : (before : List Item) (s : Item) (rest : List Item) → breaks s rest ≡ 0 → digits_behind state before s rest ≡ 0
-  digits_none before s [] h = refl
-  digits_none before s (t ∷ rest) h = grind (arith, (digits_none (before ++ t ∷ []) t rest))
+runs_some : (s : Item) (rest : List Item) → 0 < runs (s ∷ rest)
+runs_some s [] = omega arith
+runs_some s (t ∷ rest) = let some = runs_some t rest in omega arith
 
-  digits_more : (before : List Item) (s : Item) (ys : List Item) (y : Item) (zs : List Item) → breaks s (ys ++ y ∷ zs) ≡ breaks s ys + 1 → breaks y zs ≡ 0
+module _ (state : State) where
+  -- in one run no other begins
+  digits_none : (before : List Item) (s : Item) (rest : List Item) → runs (s ∷ rest) ≡ 1 → digits_behind state before s rest ≡ 0
+  digits_none before s [] h = refl
+  digits_none before s (t ∷ rest) h = grind (arith, (runs_some t rest), (digits_none (before ++ t ∷ []) t rest))
+
+  digits_more : (before : List Item) (s : Item) (ys : List Item) (y : Item) (zs : List Item) → runs (s ∷ (ys ++ y ∷ zs)) ≡ runs (s ∷ ys) + 1 → runs (y ∷ zs) ≡ 1
       → digits_behind state before s (ys ++ y ∷ zs) ≡ digits_behind state before s ys + digits_at state (before ++ ys) y
   digits_more before s [] y zs h alone = grind (arith, append-nil, digits_none)
   digits_more before s (t ∷ ys) y zs h alone = grind (arith, append_assoc, (digits_more (before ++ t ∷ []) t ys y zs))
@@ -19,8 +23,8 @@ module _ (state : State) where
   -- a run behind a list, of which it is no part
   pub run_digits_more : (xs : List Item) (y : Item) (zs : List Item) → runs (xs ++ y ∷ zs) ≡ runs xs + 1 → runs (y ∷ zs) ≡ 1
       → run_digits state (xs ++ y ∷ zs) ≡ run_digits state xs + digits_at state xs y
-  run_digits_more [] y zs h alone = (let none = digits_none (y ∷ []) y zs (omega (arith, alone)) in omega (arith, none))
-  run_digits_more (x ∷ xs) y zs h alone = (let more = digits_more (x ∷ []) x xs y zs (omega (arith, h)) (omega (arith, alone)) in omega (arith, more))
+  run_digits_more [] y zs h alone = (let none = digits_none (y ∷ []) y zs alone in omega (arith, none))
+  run_digits_more (x ∷ xs) y zs h alone = (let more = digits_more (x ∷ []) x xs y zs h alone in omega (arith, more))
 
 -- ---- the list of open pools is as long as there are open pools
 

@@ -7,12 +7,8 @@ use Rattle.gpu_descriptor.specs.Model.Agreement.{Item}
 abbrev pub is_beside : Item → Item → Bool
 is_beside s t = key_eq s.key t.key && (s.number == t.number)
 
--- how many neighbours differ, from s on
-abbrev pub breaks : Item → List Item → ℕ
-breaks s [] = 0
-breaks s (t ∷ rest) = (if is_beside s t then 0 else 1) + breaks t rest
-
 -- how many runs a list has
 abbrev pub runs : List Item → ℕ
 runs [] = 0
-runs (s ∷ rest) = 1 + breaks s rest
+runs (s ∷ []) = 1
+runs (s ∷ t ∷ rest) = (if is_beside s t then 0 else 1) + runs (t ∷ rest)
