@@ -1,9 +1,10 @@
 //! A struct that owns its device and its allocator, which always agree.
-ghost use Rattle.std.specs.Prelude.{◌≡◌, length, Err, IfErr, IfOk, OnErr};
+ghost use Rattle.std.specs.Prelude.{◌≡◌, length, IfErr, IfOk, OnErr};
 ghost use Rattle.gpu_descriptor.specs.Model.Agreement.{AreOutstanding};
-ghost use Rattle.gpu_descriptor.specs.Model.Promises.{AreOfKey, AreOutBesides, HasCause};
+ghost use Rattle.gpu_descriptor.specs.Model.Promises.{AreOfKey, AreOutBesides};
 ghost use Rattle.gpu_descriptor.specs.Model.Promises.{KeepsOutstanding};
-ghost use Rattle.gpu_descriptor.specs.Caller.Call.{call_of, layout_key};
+ghost use Rattle.gpu_descriptor.specs.Caller.Call.{layout_key};
+ghost use Rattle.gpu_descriptor.specs.Caller.Causes.{HasCause};
 ghost use Rattle.gpu_descriptor.specs.Caller.CleansUp.{CleansUp};
 ghost use Rattle.gpu_descriptor.specs.Caller.SetLayouts.{IsMeant};
 ghost use Rattle.gpu_descriptor.specs.Caller.Sets.{AreOfLayout, items_of};
@@ -57,8 +58,8 @@ impl<L, P: Drop, S: Drop, D: DescriptorDevice<L, P, S>> OwnedAllocator<L, P, S, 
         ensures given { IfOk result (λ sets. AreOutBesides (items_of D.meaning.set_name sets.items)
             (state_in self.old) (state_in self.new)) }
         ensures back { OnErr result (KeepsOutstanding (state_in self.old) (state_in self.new)) }
-        ensures cause { IfErr result (λ e. HasCause e (call_of D.meaning (layout_key D.meaning
-            layout.now.layout) count (side_in self.old) (side_in self.new) (Err e))) }
+        ensures cause { IfErr result (HasCause D.meaning (layout_key D.meaning layout.now.layout)
+            count (side_in self.old) (side_in self.new)) }
         ensures limit { limit_of self.new ≡ limit_of self.old }
         ensures others { pools_besides self.new ≡ pools_besides self.old }
     {

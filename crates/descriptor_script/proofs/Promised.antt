@@ -3,16 +3,17 @@ use Rattle.std.proofs.Common.{ℕ, List, [], ◌∷◌, sym, ap, subst, ◌∙�
 use Rattle.gpu_descriptor_types.specs.Ledger.{Counters}
 use Rattle.gpu_descriptor_types.specs.Meaning.{Meaning}
 use Rattle.gpu_descriptor_types.specs.Side.{Side}
-use Rattle.gpu_descriptor.proofs.Common.{◌≡◌, ◌≤◌, descriptors_out, marked_descriptors, marked_load_of}
-use Rattle.gpu_descriptor.proofs.sums.OutSets.{load_is_descriptors}
-use Rattle.gpu_descriptor.proofs.sums.TableSums.{adds_up, marked_load_of-table}
+use Rattle.gpu_descriptor.proofs.Common.{◌≡◌, ◌≤◌, descriptors_out, length, marked_descriptors, marked_load_of, outstanding_of, sets_out}
+use Rattle.gpu_descriptor.proofs.sums.OutSets.{load_is_descriptors, out_is_length}
+use Rattle.gpu_descriptor.proofs.sums.TableSums.{adds_up, marked_load_of-table, outstanding_of-table}
 use Rattle.gpu_descriptor.specs.Caller.Call.{layout_key}
+use Rattle.gpu_descriptor.specs.Caller.Causes.{IsBecause}
 use Rattle.gpu_descriptor.specs.Caller.Sets.{items_of}
 use Rattle.gpu_descriptor.specs.Caller.States.{state_of}
 use Rattle.gpu_descriptor.specs.declared.errors.AllocationError.{AllocationError}
 use Rattle.gpu_descriptor.proofs.release.FreedOne.{freed_is}
 use Rattle.gpu_descriptor.proofs.release.ReleaseAgrees.{one_by_one}
-use Rattle.descriptor_script.specs.Sessions.Headline.{GoBack, IsMet, IsRefused, IsReply, KeepsAll, held_items}
+use Rattle.descriptor_script.specs.Sessions.Headline.{GoBack, HoldsWhatIsOut, IsMet, IsRefused, KeepsAll, held_items}
 use Rattle.descriptor_script.specs.Sessions.Session.{IsReady, allocator_of, allocator_on, sets_of, state_on}
 use Rattle.descriptor_script.specs.Sessions.SessionRun.{Runs, RunsTo}
 use Rattle.descriptor_script.specs.Sessions.Steps.{GivesUp, HoldsAnswer, Refuses, StepsTo}
@@ -21,10 +22,18 @@ use Rattle.descriptor_script.specs.declared.command.Command.TheVariants.{Allocat
 use Rattle.descriptor_script.specs.declared.command.Reply.{Reply}
 use Rattle.descriptor_script.specs.declared.command.Reply.TheVariants.{Sets, Refused, Freed, BadTicket, BadLayout, NoMemory, Clean}
 use Rattle.descriptor_script.specs.declared.session.Session.{Session}
-use Rattle.gpu_descriptor.proofs.request.Causes.{because, request_own, wants_some}
+use Rattle.gpu_descriptor.proofs.request.Causes.{request_own, wants_some}
 use Rattle.descriptor_script.proofs.Emptied.{listed_out}
 
 module _ {L P S : Type 0} (means : Meaning L P S) where
+  -- as many sets are outstanding as are held
+  held_count : (s : Side (Session L P S)) → IsReady means s → length (held_items means s) ≡ outstanding_of (allocator_of s.value)
+  held_count s ready = out_is_length (state_on means s) _ ready.agree.books (adds_up means.pool_name (allocator_of s.value) sets_out ready.agree.rows (outstanding_of-table means.pool_name (allocator_of s.value))) (held_items means s) (λ t. sym (ready.held t))
+
+  -- the marked load is that of the held sets
+  held_load : (s : Side (Session L P S)) → IsReady means s → marked_descriptors (held_items means s) ≡ marked_load_of (allocator_of s.value)
+  held_load s ready = load_is_descriptors (state_on means s) _ ready.agree.books (adds_up means.pool_name (allocator_of s.value) descriptors_out ready.agree.rows (marked_load_of-table means.pool_name (allocator_of s.value))) (held_items means s) (λ t. sym (ready.held t))
+
   module _ (old new : Side (Session L P S)) (ready : IsReady means old) where
     gone_back : (tickets : List ℕ) (many : ℕ) → GivesUp means tickets old new many → GoBack means tickets many old new
     gone_back tickets many h =
@@ -46,7 +55,8 @@ module _ {L P S : Type 0} (means : Meaning L P S) where
       known = h.known;
       at = h.at;
       given = h.given;
-      all = (h.asked, h.all_given);
+      asked = h.asked;
+      all_given = h.all_given;
       own = h.own;
       keys = request_own _ h.outcome;
       next = h.first;
@@ -54,15 +64,15 @@ module _ {L P S : Type 0} (means : Meaning L P S) where
     }
 
     refused : (layout count : ℕ) (error : AllocationError) → Refuses means layout count old new error → IsRefused means layout count old new error
-    refused layout count error h = record {
+    refused layout count error h = let k = layout_key means h.known.layout in let marked = marked_descriptors (held_items means old) in record {
       known = h.known;
       at = h.at;
       some = wants_some _ h.outcome;
-      cause = because means (layout_key means h.known.layout) count (allocator_on old) (allocator_on new) ready.agree (held_items means old) (λ t. sym (ready.held t)) error h.cause;
+      cause = subst (λ out. IsBecause means k count out marked (allocator_on old) (allocator_on new) error) (sym (held_count old ready)) (subst (λ load. IsBecause means k count (outstanding_of (allocator_of old.value)) load (allocator_on old) (allocator_on new) error) (sym (held_load old ready)) h.cause);
       sets = h.sets;
     }
 
-    replied : (command : Command) (reply : Reply) → StepsTo means command reply old new → IsReply means command reply old new
+    replied : (command : Command) (reply : Reply) → StepsTo means command reply old new → HoldsWhatIsOut means command reply old new
     replied (Allocate layout count) (Sets first many) h = met layout count first many h
     replied (Allocate layout count) (Refused e) h = refused layout count e h
     replied (Allocate layout count) BadLayout h = h
@@ -71,10 +81,6 @@ module _ {L P S : Type 0} (means : Meaning L P S) where
     replied (Free tickets) BadTicket h = h
     replied Cleanup Clean h = h.sets
     replied _ _ h = absurd h
-
-  -- the marked load is that of the held sets
-  held_load : (s : Side (Session L P S)) → IsReady means s → marked_descriptors (held_items means s) ≡ marked_load_of (allocator_of s.value)
-  held_load s ready = load_is_descriptors (state_on means s) _ ready.agree.books (adds_up means.pool_name (allocator_of s.value) descriptors_out ready.agree.rows (marked_load_of-table means.pool_name (allocator_of s.value))) (held_items means s) (λ t. sym (ready.held t))
 
   -- a run keeps all parts at each of its steps
   pub all_kept : (commands : List Command) (replies : List Reply) (old new : Side (Session L P S)) → IsReady means old → RunsTo means commands replies old new → Runs (KeepsAll means) commands replies old new
@@ -86,7 +92,7 @@ module _ {L P S : Type 0} (means : Meaning L P S) where
         handed_out = replied old run.0 ready c r run.1.0;
         sets_within = subst (λ n. n ≤ (allocator_of run.0.value).limit) (sym (held_load run.0 keeps.ready)) keeps.allocator.load;
         pools_within = keeps.allocator.pool_load;
-        limit_stays = keeps.allocator.limit;
+        limit = keeps.allocator.limit;
         layouts = keeps.layouts;
         others = keeps.allocator.others;
       } in

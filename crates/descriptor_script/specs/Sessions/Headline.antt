@@ -1,5 +1,5 @@
 -- The headline: what holds after each command of a run.
-use Rattle.std.specs.Prelude.{◌≡◌, ℕ, ◌+◌, ◌<◌, ◌≤◌, All, List, [], ◌∷◌, ◌++◌, length, map, slice_get, Some}
+use Rattle.std.specs.Prelude.{◌≡◌, ℕ, ◌+◌, ◌<◌, ◌≤◌, All, List, ◌++◌, length, map, slice_get, Some}
 use Rattle.gpu_descriptor_types.specs.Meaning.{Meaning}
 use Rattle.gpu_descriptor_types.specs.Side.{Side}
 use Rattle.gpu_descriptor.specs.Caller.Call.{layout_key}
@@ -29,57 +29,66 @@ module _ {L P S : Type 0} (means : Meaning L P S) where
   held_items s = items_of means.set_name (held_sets (sets_of s.value))
 
   module _ (layout count : ℕ) (old new : Side (Session L P S)) where
-    -- as many sets as were asked for, of the layout, are held under the next tickets, in their order
+    -- a request was met: its sets are held under the next tickets
     pub record IsMet (first many : ℕ) : Type 0 where
       pub known : SetLayout L
       -- the layout at the command's place
       pub at : slice_get (layouts_of old.value) layout ≡ Some known
       pub given : List (DescriptorSet S)
-      pub all : (many ≡ count) × (length given ≡ count)
+      -- as many sets as were asked for
+      pub asked : many ≡ count
+      pub all_given : length given ≡ count
+      -- each is of the layout, and has its counts and its mark
       pub own : AreOfLayout means known.layout given
       pub keys : All (λ t. t.key ≡ layout_key means known.layout) (items_of means.set_name given)
+      -- they are in the next slots, in their order
       pub next : first ≡ length (sets_of old.value)
       pub sets : sets_of new.value ≡ sets_of old.value ++ map Some given
 
-    -- the request failed for a named cause, and the same sets are held
+    -- a request was refused: the same sets are held
     pub record IsRefused (error : AllocationError) : Type 0 where
       pub known : SetLayout L
       pub at : slice_get (layouts_of old.value) layout ≡ Some known
+      -- it was for some sets
       pub some : 0 < count
+      -- the error has one of its causes. How many sets were out before, and how many descriptors of marked ones, is read off the held sets
       pub cause : IsBecause means (layout_key means known.layout) count (length (held_items old)) (marked_descriptors (held_items old)) (allocator_on old) (allocator_on new) error
       pub sets : sets_of new.value ≡ sets_of old.value
 
-  -- the sets of these tickets are held no longer. They were freed with one call of the device for each run, and left is what freeing them one by one leaves, in whatever order
+  -- the sets of these tickets were freed, and are held no longer
   pub record GoBack (tickets : List ℕ) (many : ℕ) (old new : Side (Session L P S)) : Type 0 where
     pub good : AreHeldOnce (sets_of old.value) tickets
     pub all : many ≡ length tickets
+    -- their sets, in the order of the list
     pub given : List (DescriptorSet S)
     pub each : map Some given ≡ map (set_at (sets_of old.value)) tickets
     pub sets : sets_of new.value ≡ emptied (sets_of old.value) tickets
+    -- by one release call for each run
     pub one_call_a_run : new.ledger.counters.released ≡ old.ledger.counters.released + runs (items_of means.set_name given)
+    -- books and pools are left as by freeing the sets one by one, in whatever order
     pub one_by_one : (order : List Item) → ((t : Item) → count_of t order ≡ count_of t (items_of means.set_name given)) → state_on means new ≡ freed_each order (state_on means old)
 
   -- what is held is what the replies handed out, less what was freed, and a request fails only for a named cause
-  abbrev pub IsReply : OfStep L P S
-  IsReply (Allocate layout count) (Sets first many) old new = IsMet layout count old new first many
-  IsReply (Allocate layout count) (Refused error) old new = IsRefused layout count old new error
-  IsReply (Allocate layout count) BadLayout old new = (length (layouts_of old.value) ≤ layout) × IsAsBefore old new
-  IsReply (Allocate layout count) NoMemory old new = (layout < length (layouts_of old.value)) × (0 < count) × IsAsBefore old new
-  IsReply (Free tickets) (Freed many) old new = GoBack tickets.items many old new
-  IsReply (Free tickets) BadTicket old new = (¬ AreHeldOnce (sets_of old.value) tickets.items) × IsAsBefore old new
-  IsReply Cleanup Clean old new = sets_of new.value ≡ sets_of old.value
-  IsReply _ _ old new = ⊥
+  abbrev pub HoldsWhatIsOut : OfStep L P S
+  HoldsWhatIsOut (Allocate layout count) (Sets first many) old new = IsMet layout count old new first many
+  HoldsWhatIsOut (Allocate layout count) (Refused error) old new = IsRefused layout count old new error
+  HoldsWhatIsOut (Allocate layout count) BadLayout old new = (length (layouts_of old.value) ≤ layout) × IsAsBefore old new
+  HoldsWhatIsOut (Allocate layout count) NoMemory old new = (layout < length (layouts_of old.value)) × (0 < count) × IsAsBefore old new
+  HoldsWhatIsOut (Free tickets) (Freed many) old new = GoBack tickets.items many old new
+  HoldsWhatIsOut (Free tickets) BadTicket old new = (¬ AreHeldOnce (sets_of old.value) tickets.items) × IsAsBefore old new
+  HoldsWhatIsOut Cleanup Clean old new = sets_of new.value ≡ sets_of old.value
+  HoldsWhatIsOut _ _ old new = ⊥
 
   -- the parts of the headline, at one step
   pub record KeepsAll (command : Command) (reply : Reply) (old new : Side (Session L P S)) : Type 0 where
     -- the pools hold exactly the sets that are held
     pub exactly : AreAllHeld means.set_name (sets_of new.value) (state_on means new)
     -- and these are the sets that were handed out and not returned
-    pub handed_out : IsReply command reply old new
-    -- neither marked sets nor marked pools have more descriptors than the limit, which stays
+    pub handed_out : HoldsWhatIsOut command reply old new
+    -- neither the held marked sets nor the marked pools have more descriptors than the limit, which stays
     pub sets_within : marked_descriptors (held_items new) ≤ (allocator_of new.value).limit
     pub pools_within : pool_load_of (allocator_of new.value) ≤ (allocator_of new.value).limit
-    pub limit_stays : (allocator_of new.value).limit ≡ (allocator_of old.value).limit
-    -- the layouts and the pools of others stay
+    pub limit : (allocator_of new.value).limit ≡ (allocator_of old.value).limit
+    -- the layouts stay, and so does each live pool of others
     pub layouts : layouts_of new.value ≡ layouts_of old.value
     pub others : others_of means.pool_name (allocator_of new.value) new.ledger ≡ others_of means.pool_name (allocator_of old.value) old.ledger

@@ -6,8 +6,8 @@ use Rattle.gpu_descriptor.specs.Caller.CleansUp.{CleansUp}
 use Rattle.gpu_descriptor.specs.Caller.Frees.{Returns}
 use Rattle.gpu_descriptor.specs.Model.Agreement.{Item}
 use Rattle.gpu_descriptor.specs.Model.Outcomes.{Allocates, Call}
-use Rattle.gpu_descriptor.specs.Model.Promises.{HasCause}
 use Rattle.gpu_descriptor.specs.Caller.Call.{call_of, layout_key}
+use Rattle.gpu_descriptor.specs.Caller.Causes.{HasCause}
 use Rattle.gpu_descriptor.specs.Caller.Sets.{AreOfLayout, items_of}
 use Rattle.gpu_descriptor.specs.declared.errors.AllocationError.{AllocationError}
 use Rattle.gpu_descriptor.specs.declared.layout.SetLayout.{SetLayout}
@@ -68,7 +68,7 @@ module _ {L P S : Type 0} (means : Meaning L P S) where
       -- which of its outcomes the request had
       pub outcome : Allocates (request_of known (Err error))
       -- the error has one of its causes
-      pub cause : HasCause error (request_of known (Err error))
+      pub cause : HasCause means (layout_key means known.layout) count (allocator_on old) (allocator_on new) error
       -- the held sets stay
       pub sets : sets_of new.value ≡ sets_of old.value
 

@@ -4,7 +4,8 @@ use Rattle.gpu_descriptor.specs.Caller.HandsOut.{HandsOut}
 use Rattle.gpu_descriptor.specs.Caller.Keeps.{Keeps}
 use Rattle.gpu_descriptor.specs.Caller.States.{keys_of}
 use Rattle.gpu_descriptor.proofs.request.Outcomes.{taken_agree, taken_out, taken_own, taken_others, taken_leaves, taken_loses_none, taken_others_of, went_back, back_out, back_leaves, back_loses_none, back_others, back_others_of, back_totals, kept, kept_many, kept_totals}
-use Rattle.gpu_descriptor.proofs.request.Promises.{has_cause, short}
+use Rattle.gpu_descriptor.proofs.request.Causes.{has_cause}
+use Rattle.gpu_descriptor.proofs.request.Promises.{short}
 
 module _ {L P S : Type 0} {means : Meaning L P S} {k : Key} {count : ℕ} {sets : List (DescriptorSet S)} {ended : Result (Unit {0}) Stop} {old new : Allocations P} {before after : Ledger}
     (t : Takes means k count sets ended (side old before) (side new after)) (agree : Agree (state_of means.pool_name old before)) where
@@ -75,7 +76,7 @@ module _ {L P S : Type 0} {means : Meaning L P S} {k : Key} {count : ℕ} (sets 
         totals = tt;
         totals_stay = back_totals t agree.books r.back;
         back = back_out t agree.books r.back;
-        cause = has_cause _ outcome;
+        cause = has_cause means k count _ _ agree (Err _) outcome;
         creates = short _ outcome;
         other_keys = back_others t agree.books r.back;
         keys = rw went.2 (r.keys ∙ keys);
@@ -88,8 +89,8 @@ module _ {L P S : Type 0} {means : Meaning L P S} {k : Key} {count : ℕ} (sets 
 
 -- the request was declined, and nothing changed
 module _ {L P S : Type 0} {means : Meaning L P S} {k : Key} {count : ℕ} {old new : Allocations P} {before after : Ledger} (same : new ≡ old) (ledger : after ≡ before) where
-  pub hands_none : (error : AllocationError) → 0 < count → IsDeclined (call_of means k count (side old before) (side new after) (Err error)) → HandsOut means k count (Err error) (side old before) (side new after)
-  hands_none error some declined = let outcome = declined.0 in record {
+  pub hands_none : Agrees means.pool_name old before → (error : AllocationError) → 0 < count → IsDeclined (call_of means k count (side old before) (side new after) (Err error)) → HandsOut means k count (Err error) (side old before) (side new after)
+  hands_none agree error some declined = let outcome = declined.0 in record {
     outcome = outcome;
     nothing = λ zero. absurd (omega arith);
     many = tt;
@@ -98,7 +99,7 @@ module _ {L P S : Type 0} {means : Meaning L P S} {k : Key} {count : ℕ} {old n
     totals = tt;
     totals_stay = (λ i. outstanding_of (same i), λ i. marked_load_of (same i));
     back = λ u i. outstanding (state_of means.pool_name (same i) (ledger i)) u;
-    cause = has_cause _ outcome;
+    cause = has_cause means k count _ _ agree (Err _) outcome;
     creates = short _ outcome;
     other_keys = λ l other. record { books = λ i. (state_of means.pool_name (same i) (ledger i)).books l; pools = λ n e at i. (state_of means.pool_name (same i) (ledger i)).ledger e.pool };
     keys = rw declined.1 (ap keys_of same);

@@ -1,13 +1,9 @@
 -- What every outcome of a request promises.
-use Rattle.gpu_descriptor.proofs.Common.{◌≡◌, ◌≢◌, ℕ, suc, ◌+◌, ◌-◌, ◌*◌, ◌<◌, ◌≤◌, Bool, List, [], ◌∷◌, map, length, sum_by, inl, inr, Result, Err, refl, sym, ap, ◌∙◌, subst, arith, length-map, length-append, sum_by-cons, sum_by-append, pool_size_floor, ◌↔◌, min, OnOk, IfErr, Counters, create_refused, alloc_refused, pool_refusals, no_rise, CreatePoolError, DeviceAllocationError, AllocationError, Stop, Item, Key, Entry, cases_lt, ◌⊎◌, error_of_alloc, Allocates, Call, IsBack, IsDone, IsStopped, StopsAt, out_then, stop_error, stop_rise, wanting, Fresh, IsFreshPrefix, IsNextSize, room_after, AreSized, AreFull, IsFreshList, given_by, Grant, Part, portion_of, items_at, items_in, AreBelowTwice, HasCause, IsShort, CreatesOnlyWhereShort, pool_descriptors, Portion, offer, rest, portions_of}
+use Rattle.gpu_descriptor.proofs.Common.{◌≡◌, ◌≢◌, ℕ, suc, ◌+◌, ◌-◌, ◌*◌, ◌<◌, ◌≤◌, Bool, List, [], ◌∷◌, map, length, sum_by, inl, inr, Result, Err, refl, sym, ap, ◌∙◌, subst, arith, length-map, length-append, sum_by-cons, sum_by-append, pool_size_floor, ◌↔◌, min, OnOk, IfErr, Counters, create_refused, alloc_refused, pool_refusals, no_rise, CreatePoolError, DeviceAllocationError, AllocationError, Stop, Item, Key, Entry, cases_lt, ◌⊎◌, error_of_alloc, Allocates, Call, IsBack, IsDone, IsStopped, StopsAt, out_then, stop_error, stop_rise, wanting, Fresh, IsFreshPrefix, IsNextSize, room_after, AreSized, AreFull, IsFreshList, given_by, Grant, Part, portion_of, items_at, items_in, AreBelowTwice, IsShort, CreatesOnlyWhereShort, pool_descriptors, Portion, offer, rest, portions_of}
 use Rattle.gpu_descriptor_types.proofs.Sizes.{pool_size_some}
-use Rattle.gpu_descriptor_types.specs.declared.errors.CreatePoolError.TheVariants as create_error
-use Rattle.gpu_descriptor_types.specs.declared.errors.DeviceAllocationError.TheVariants as alloc_error
 use Rattle.gpu_descriptor.specs.declared.bucket.stop.Stop.TheVariants as stop
 use Rattle.gpu_descriptor.specs.Model.Outcomes.Allocates.{none, above_limit as was_above_limit, past_bound as was_past_bound, no_memory_at_start as had_no_memory, done, stopped}
 use Rattle.gpu_descriptor.specs.Model.FreshPools.IsFreshList.{none as no_fresh, some as some_fresh}
-use Rattle.gpu_descriptor.specs.Model.Promises.IsFragmentation.{above_limit, past_bound, no_room_under_limit, pool_not_created, new_pool_refused}
-use Rattle.gpu_descriptor.specs.Model.Promises.IsHostMemory.{device_refused, no_memory_at_start, no_memory_for_pool}
 use Rattle.gpu_descriptor.proofs.request.NextSize.{next_whole, one_fits, last_fits}
 use Rattle.gpu_descriptor.proofs.request.NewPools.{AreFilled, shares_used, done_filled, prefix_below, list_below}
 
@@ -34,30 +30,6 @@ shares_sum refused n number (e ∷ newer) =
     let b = sum_by-cons (offer refused) e newer in
     let more = shares_sum refused n (number + 1) newer in
     omega arith
-
--- ---- the causes
-
--- a memory error of a pool, which the device counted
-memory_cause : (c : Call) (g : Grant) (why : Stop) → IsBack c g why → (e : DeviceAllocationError) → pool_refusals e ≡ 0 → (stop_rise why).device_memory ≡ (alloc_refused e no_rise).device_memory → (stop_rise why).host_memory ≡ (alloc_refused e no_rise).host_memory → HasCause (error_of_alloc e) c
-memory_cause c g why back alloc_error.OutOfDeviceMemory memory device host = (let n = ap (λ (k : Counters). k.device_memory) back.counters in omega arith)
-memory_cause c g why back alloc_error.OutOfHostMemory memory device host = (let n = ap (λ (k : Counters). k.host_memory) back.counters in device_refused (omega arith))
-memory_cause c g why back alloc_error.FragmentedPool memory device host = absurd (omega arith)
-memory_cause c g why back alloc_error.OutOfPoolMemory memory device host = absurd (omega arith)
-
-abbrev Stops : Call → Stop → Grant → ℕ → Type 0
-Stops c why g pooled = StopsAt why c.key (c.limit - pooled) c.count g (c.old.books c.key).pools
-
-stop_cause : (c : Call) (s : IsStopped c) (why : Stop) → s.why ≡ why → IsBack c s.grant why → Stops c why s.grant s.pooled → HasCause (stop_error why) c
-stop_cause c s (stop.ExistingPoolRefused e) is back at = memory_cause c s.grant (stop.ExistingPoolRefused e) back e at.memory refl refl
-stop_cause c s stop.NoRoomUnderLimit is back at = no_room_under_limit s is
-stop_cause c s stop.NoMemoryForPool is back at = no_memory_for_pool s is
-stop_cause c s (stop.PoolNotCreated create_error.OutOfDeviceMemory) is back at = (let n = ap (λ (k : Counters). k.device_memory) back.counters in omega arith)
-stop_cause c s (stop.PoolNotCreated create_error.OutOfHostMemory) is back at = (let n = ap (λ (k : Counters). k.host_memory) back.counters in device_refused (omega arith))
-stop_cause c s (stop.PoolNotCreated create_error.Fragmentation) is back at = (let n = ap (λ (k : Counters). k.fragmentation) back.counters in pool_not_created s is (omega arith))
-stop_cause c s (stop.NewPoolRefused alloc_error.OutOfDeviceMemory) is back at = memory_cause c s.grant _ back alloc_error.OutOfDeviceMemory refl refl refl
-stop_cause c s (stop.NewPoolRefused alloc_error.OutOfHostMemory) is back at = memory_cause c s.grant _ back alloc_error.OutOfHostMemory refl refl refl
-stop_cause c s (stop.NewPoolRefused alloc_error.FragmentedPool) is back at = (let n = ap (λ (k : Counters). k.pool_refused) back.counters in new_pool_refused s alloc_error.FragmentedPool is refl (omega arith))
-stop_cause c s (stop.NewPoolRefused alloc_error.OutOfPoolMemory) is back at = (let n = ap (λ (k : Counters). k.pool_refused) back.counters in new_pool_refused s alloc_error.OutOfPoolMemory is refl (omega arith))
 
 -- ---- pools are created only where the existing ones don't do
 
@@ -126,19 +98,7 @@ fits : {why : Stop} {one room : ℕ} → (why ≡ stop.NoRoomUnderLimit) ↔ (ro
 fits {one = one} {room = room} told other = elim (cases_lt room one) [ inl lt ↦ absurd (other (told.1 lt)) | inr le ↦ le ]
 
 module _ (c : Call) where
-  answered : (e : AllocationError) → c.answer ≡ Err e → HasCause e c → IfErr c.answer (λ f. HasCause f c)
-  answered e is cause = subst (λ (r : Result (List Item) AllocationError). IfErr r (λ f. HasCause f c)) (sym is) cause
-
-  -- each error has its cause
-  pub has_cause : Allocates c → IfErr c.answer (λ e. HasCause e c)
-  has_cause (none zero_count answer stays) = rw answer tt
-  has_cause (was_above_limit some above answer stays) = answered _ answer (above_limit above)
-  has_cause (was_past_bound some within past answer stays) = answered _ answer (past_bound past)
-  has_cause (had_no_memory p answer stays) = answered _ answer (no_memory_at_start p stays)
-  has_cause (done p d) = rw d.answer tt
-  has_cause (stopped p s) = answered _ s.back.answer (stop_cause c s s.why refl s.back s.at)
-
-  stop_short : (s : IsStopped c) (why : Stop) → IsBack c s.grant why → Stops c why s.grant s.pooled → c.before.created < c.after.created → IsShort c s.grant
+  stop_short : (s : IsStopped c) (why : Stop) → IsBack c s.grant why → StopsAt why c.key (c.limit - s.pooled) c.count s.grant (c.old.books c.key).pools → c.before.created < c.after.created → IsShort c s.grant
   stop_short s (stop.ExistingPoolRefused e) back at more =
       let n = ap (λ (k : Counters). k.created) back.counters in
       let none = alloc_creates e in

@@ -8,8 +8,9 @@ use Rattle.gpu_descriptor.specs.declared.set.DescriptorSet.{DescriptorSet}
 use Rattle.gpu_descriptor.specs.Model.Books.{Key}
 use Rattle.gpu_descriptor.specs.Model.Load.{set_descriptors}
 use Rattle.gpu_descriptor.specs.Model.Outcomes.{Allocates, taken_by}
-use Rattle.gpu_descriptor.specs.Model.Promises.{AreOfKey, AreOutBesides, CreatesOnlyWhereShort, HasCause, KeepsOtherKeys, KeepsOutstanding}
+use Rattle.gpu_descriptor.specs.Model.Promises.{AreOfKey, AreOutBesides, CreatesOnlyWhereShort, KeepsOtherKeys, KeepsOutstanding}
 use Rattle.gpu_descriptor.specs.Caller.Call.{call_of, map_ok}
+use Rattle.gpu_descriptor.specs.Caller.Causes.{HasCause}
 use Rattle.gpu_descriptor.specs.Caller.Comparisons.{run_digits}
 use Rattle.gpu_descriptor.specs.Caller.Keys.{with_key}
 use Rattle.gpu_descriptor.specs.Caller.Sets.{items_of}
@@ -35,7 +36,7 @@ pub record HandsOut {L P S : Type 0} (means : Meaning L P S) (k : Key) (count : 
   -- the same sets are outstanding as before
   pub back : OnErr answer (KeepsOutstanding (state_of means.pool_name old.value old.ledger) (state_of means.pool_name new.value new.ledger))
   -- the error has one of its causes
-  pub cause : IfErr answer (λ e. HasCause e (call_of means k count old new (map_ok (items_of means.set_name) answer)))
+  pub cause : IfErr answer (HasCause means k count old new)
   -- a new pool comes only if the key's existing pools don't do, and so many at most
   pub creates : CreatesOnlyWhereShort outcome
   -- the pools of other keys are untouched, in the books and on the device

@@ -2,17 +2,11 @@
 use Rattle.gpu_descriptor.specs.Model.Grants.{Grant}
 use Rattle.gpu_descriptor.specs.Model.FreshPools.{Fresh}
 use Rattle.std.specs.Prelude.{◌≡◌, ℕ, ◌+◌, ◌-◌, ◌*◌, ◌<◌, List, [], ◌∷◌, length, take, sum_by, All, Some, OnOk, false}
-use Rattle.gpu_descriptor_types.specs.Ledger.{pool_refusals}
 use Rattle.gpu_descriptor_types.specs.PoolSize.{pool_size_floor, start_size}
-use Rattle.gpu_descriptor.specs.declared.errors.AllocationError.{AllocationError}
-use Rattle.gpu_descriptor.specs.declared.errors.AllocationError.TheVariants.{OutOfDeviceMemory, OutOfHostMemory, Fragmentation}
-use Rattle.gpu_descriptor_types.specs.declared.errors.DeviceAllocationError.{DeviceAllocationError}
-use Rattle.gpu_descriptor.specs.declared.bucket.stop.Stop.TheVariants as stop
 use Rattle.gpu_descriptor.specs.Model.Books.{Key, Entry, entry_at, key_eq}
 use Rattle.gpu_descriptor.specs.Model.Agreement.{State, Item, count_of, outstanding}
-use Rattle.gpu_descriptor.specs.Model.Outcomes.{Call, IsAboveLimit, IsPastBound, IsStopped, Proceeds, Stays, taken_by, out_then, wanting, Allocates}
+use Rattle.gpu_descriptor.specs.Model.Outcomes.{Call, taken_by, out_then, wanting, Allocates}
 use Rattle.gpu_descriptor.specs.Model.Shares.{offer, all_shared}
-use Rattle.gpu_descriptor_types.specs.declared.errors.CreatePoolError.TheVariants as create_error
 
 -- exactly these sets are outstanding besides those before
 abbrev pub AreOutBesides : List Item → State → State → Type 0
@@ -32,22 +26,6 @@ AreBelowTwice out wanted [] = Unit {0}
 AreBelowTwice out wanted (f ∷ later) = (0 < wanted) × (f.size < 2 * start_size out wanted) × AreBelowTwice (out + f.given) (wanted - f.given) later
 
 module _ (c : Call) where
-  -- the five causes of Fragmentation
-  pub data IsFragmentation : Type 0 where
-    above_limit : IsAboveLimit c → IsFragmentation
-    past_bound : IsPastBound c → IsFragmentation
-    no_room_under_limit : (s : IsStopped c) → s.why ≡ stop.NoRoomUnderLimit → IsFragmentation
-    pool_not_created : (s : IsStopped c) → s.why ≡ stop.PoolNotCreated create_error.Fragmentation → c.before.fragmentation < c.after.fragmentation → IsFragmentation
-    new_pool_refused : (s : IsStopped c) (e : DeviceAllocationError) → s.why ≡ stop.NewPoolRefused e → pool_refusals e ≡ 1 → c.before.pool_refused < c.after.pool_refused → IsFragmentation
-
-  -- the three causes of OutOfHostMemory: the device returned it, or an allocation failed or no id was left, which no counter shows
-  pub data IsHostMemory : Type 0 where
-    device_refused : c.before.host_memory < c.after.host_memory → IsHostMemory
-    -- an allocation for the result or the key failed, or no id was left: nothing changed
-    no_memory_at_start : Proceeds c → Stays c → IsHostMemory
-    -- for the books of a new pool
-    no_memory_for_pool : (s : IsStopped c) → s.why ≡ stop.NoMemoryForPool → IsHostMemory
-
   -- the existing pools don't do: those that refused aside, they have fewer known free places than are wanted. A new pool that refused was destroyed at once: few counts it, below_twice does not
   pub record IsShort (g : Grant) : Type 0 where
     pub short : sum_by (offer g.refused) (c.old.books c.key).pools < c.count
@@ -58,12 +36,6 @@ module _ (c : Call) where
     pub below_twice : AreBelowTwice (out_then c g) (wanting c g) g.fresh
     -- at most as many new pools as what is wanting divided by the floor of a pool's size, rounded up
     pub few : let floor = pool_size_floor c.key.counts in (c.after.created - c.before.created) * floor < wanting c g + floor
-
--- what each error says of the call
-abbrev pub HasCause : AllocationError → Call → Type 0
-HasCause OutOfDeviceMemory c = c.before.device_memory < c.after.device_memory
-HasCause OutOfHostMemory c = IsHostMemory c
-HasCause Fragmentation c = IsFragmentation c
 
 -- a pool is created only if the key's existing pools don't do
 abbrev pub CreatesOnlyWhereShort : {c : Call} → Allocates c → Type 0

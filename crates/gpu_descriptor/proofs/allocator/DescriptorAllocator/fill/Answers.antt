@@ -37,7 +37,7 @@ free_after-requires-clause-outstanding g c =
 
 pub returns-in-Err-clause-hands_out : goal.returns-in-Err-clause-hands_out
 returns-in-Err-clause-hands_out g c =
-    hands_none c.in-Err.ensures.allocator c.in-Err.ensures.ledger c.in-Err.error c.requires.some
+    hands_none c.in-Err.ensures.allocator c.in-Err.ensures.ledger c.requires.agree c.in-Err.error c.requires.some
     (subst (λ (k : Key). IsDeclined (call_of g.D.DescriptorDevice.meaning k c.args.request.now.count (side c.args.self.now (g.D.DescriptorDevice.ledger c.args.device.now)) (side c.serve_if_allowed-served.new.self (g.D.DescriptorDevice.ledger c.serve_if_allowed-served.new.device)) (Err c.in-Err.error))) c.args.request.now.same c.in-Err.ensures.declined)
 
 pub returns-in-Err-clause-keeps : goal.returns-in-Err-clause-keeps
