@@ -8,13 +8,13 @@ use Rattle.gpu_descriptor.specs.Caller.Frees.{marked_descriptors}
 use Rattle.gpu_descriptor.specs.Caller.Others.{others_of}
 use Rattle.gpu_descriptor.specs.Caller.Sets.{AreOfLayout, items_of}
 use Rattle.gpu_descriptor.specs.Caller.States.{pool_load_of}
-use Rattle.gpu_descriptor.specs.Model.Agreement.{Item, count_of}
+use Rattle.gpu_descriptor.specs.Model.Agreement.{Item, count_of, outstanding}
 use Rattle.gpu_descriptor.specs.Model.OneByOne.{freed_each}
 use Rattle.gpu_descriptor.specs.Model.Runs.{runs}
 use Rattle.gpu_descriptor.specs.declared.errors.AllocationError.{AllocationError}
 use Rattle.gpu_descriptor.specs.declared.layout.SetLayout.{SetLayout}
 use Rattle.gpu_descriptor.specs.declared.set.DescriptorSet.{DescriptorSet}
-use Rattle.descriptor_script.specs.Sessions.Session.{AreAllHeld, allocator_of, allocator_on, layouts_of, sets_of, state_on}
+use Rattle.descriptor_script.specs.Sessions.Session.{allocator_of, allocator_on, layouts_of, sets_of, state_on}
 use Rattle.descriptor_script.specs.Sessions.Steps.{IsAsBefore, OfStep}
 use Rattle.descriptor_script.specs.Sessions.Tickets.{AreHeldOnce, emptied, held_sets, set_at}
 use Rattle.descriptor_script.specs.declared.command.Command.{Command}
@@ -81,8 +81,8 @@ module _ {L P S : Type 0} (means : Meaning L P S) where
 
   -- the parts of the headline, at one step
   pub record KeepsAll (command : Command) (reply : Reply) (old new : Side (Session L P S)) : Type 0 where
-    -- the pools hold exactly the sets that are held
-    pub exactly : AreAllHeld means.set_name (sets_of new.value) (state_on means new)
+    -- the pools hold exactly the sets that are held: each is outstanding as often as it is held
+    pub exactly : (t : Item) → outstanding (state_on means new) t ≡ count_of t (held_items new)
     -- and these are the sets that were handed out and not returned
     pub handed_out : HoldsWhatIsOut command reply old new
     -- neither the held marked sets nor the marked pools have more descriptors than the limit, which stays

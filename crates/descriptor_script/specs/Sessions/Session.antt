@@ -15,10 +15,11 @@ use Rattle.descriptor_script.specs.Sessions.Tickets.{held_sets}
 use Rattle.descriptor_script.specs.declared.session.Session.{Session}
 
 module _ {L P S : Type 0} where
+  -- the value of its allocator
   abbrev pub allocator_of : Session L P S → Allocations P
   allocator_of s = s.allocator
 
-  -- the same, on the ledger of the session
+  -- and with the ledger of the device
   abbrev pub allocator_on : Side (Session L P S) → Side (Allocations P)
   allocator_on s = side (allocator_of s.value) s.ledger
 

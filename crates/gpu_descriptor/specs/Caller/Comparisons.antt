@@ -1,9 +1,8 @@
 -- How many comparisons freeing a list of sets may take: the binary digits of how many pools are open.
-use Rattle.std.specs.Prelude.{ℕ, zero, suc, ◌/◌, ◌+◌, nat_lt, if◌then◌else◌, List, [], ◌∷◌, ◌++◌, count_by}
-use Rattle.gpu_descriptor.specs.Model.Books.{Bucket}
+use Rattle.std.specs.Prelude.{ℕ, zero, suc, ◌/◌, ◌+◌, ◌==◌, ◌&&◌, nat_lt, if◌then◌else◌, List, [], ◌∷◌, ◌++◌, count_by}
+use Rattle.gpu_descriptor.specs.Model.Books.{Bucket, key_eq}
 use Rattle.gpu_descriptor.specs.Model.Agreement.{State, Item}
 use Rattle.gpu_descriptor.specs.Model.Release.{released}
-use Rattle.gpu_descriptor.specs.Model.Runs.{is_beside}
 
 -- counted by halving, at most so often: 0 has none, and a number one more than its half
 abbrev pub digits_within : ℕ → ℕ → ℕ
@@ -27,7 +26,7 @@ module _ (s : State) where
   -- those at each set after last that begins a run
   abbrev pub digits_behind : List Item → Item → List Item → ℕ
   digits_behind before last [] = 0
-  digits_behind before last (t ∷ rest) = (if is_beside last t then 0 else digits_at before t) + digits_behind (before ++ t ∷ []) t rest
+  digits_behind before last (t ∷ rest) = (if key_eq last.key t.key && (last.number == t.number) then 0 else digits_at before t) + digits_behind (before ++ t ∷ []) t rest
 
   -- those of all runs of a list
   abbrev pub run_digits : List Item → ℕ

@@ -17,6 +17,7 @@ module _ {S : Type 0} where
   abbrev pub item_of : (S → ℕ) → DescriptorSet S → Item
   item_of name x = record { key = x.key.is; id = x.id; number = x.number; name = name x.raw }
 
+  -- and a list of sets
   abbrev pub items_of : (S → ℕ) → List (DescriptorSet S) → List Item
   items_of name xs = map (item_of name) xs
 

@@ -11,6 +11,7 @@ module _ {P : Type 0} (name : P → ℕ) where
   abbrev pub named : EntryOf P → Entry
   named e = record { pool = name e.pool; capacity = e.capacity; allocated = e.allocated; available = e.available }
 
+  -- and a bucket, and a row
   abbrev pub named_bucket : BucketOf P → Bucket
   named_bucket b = record { id = b.id; offset = b.offset; pools = map named b.pools }
 

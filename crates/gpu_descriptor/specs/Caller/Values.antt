@@ -2,6 +2,7 @@
 use Rattle.std.specs.Prelude.{ℕ, List, []}
 use Rattle.gpu_descriptor.specs.Model.Books.{Key, BucketOf}
 
+-- the value of an allocator
 pub record Allocations (P : Type 0) : Type 0 where
   pub limit : ℕ
   pub table : List (Key × BucketOf P)

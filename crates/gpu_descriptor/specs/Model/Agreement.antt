@@ -29,6 +29,7 @@ pub record Item : Type 0 where
   pub number : ℕ
   pub name : ℕ
 
+-- the same in all four
 abbrev pub item_eq : Item → Item → Bool
 item_eq s t = key_eq s.key t.key && (s.number == t.number) && (s.name == t.name) && (s.id == t.id)
 

@@ -4,7 +4,7 @@ use Rattle.std.specs.List.{list_any}
 use lib.Pointwise.{pointwise}
 use mathlib.Core.Bool.{beq}
 
--- the counts of a layout, and whether it is marked
+-- the counts of a layout, and whether it is marked: made with the flag update-after-bind
 pub record Key : Type 0 where
   pub counts : List ℕ
   pub marked : Bool
@@ -25,7 +25,7 @@ pub record BucketOf (X : Type 0) : Type 0 where
   pub offset : ℕ
   pub pools : List (EntryOf X)
 
--- as the device names the pools
+-- with the names that the device gives to pools
 abbrev pub Entry : Type 0
 Entry = EntryOf ℕ
 

@@ -24,6 +24,7 @@ module _ {X : Type 0} where
   abbrev pub descriptors_out : Key → BucketOf X → ℕ
   descriptors_out k b = set_descriptors k (allocated_in b.pools)
 
+  -- of all pools of a key
   abbrev pub bucket_load : Key → BucketOf X → ℕ
   bucket_load k b = sum_by (λ e. pool_descriptors k e.capacity) b.pools
 

@@ -30,6 +30,7 @@ given_back m s = record {
   ledger = λ pool. option_map (pool_less (λ x. count_by (λ t. lies_in s.books pool t && set_eq (set_of t) x) m)) (s.ledger pool);
 }
 
+-- no set is allocated from it
 abbrev pub is_empty : Entry → Bool
 is_empty e = e.allocated == 0
 
