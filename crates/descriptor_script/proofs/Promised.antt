@@ -1,13 +1,18 @@
 -- The parts of the headline hold at each step of a run.
 use Rattle.std.proofs.Common.{ℕ, List, [], ◌∷◌, sym, ap, subst, ◌∙◌}
-use Rattle.gpu_descriptor_types.specs.Ledger.{Counters}
+use Rattle.std.specs.Prelude.{◌<◌, Option, Some}
+use Rattle.std.specs.Option.{option_map_or}
+use Rattle.gpu_descriptor_types.specs.Ledger.{Counters, Pool}
 use Rattle.gpu_descriptor_types.specs.Meaning.{Meaning}
+use Rattle.gpu_descriptor_types.specs.Multiset.{LiveSet}
 use Rattle.gpu_descriptor_types.specs.Side.{Side}
 use Rattle.gpu_descriptor.proofs.Common.{◌≡◌, ◌≤◌, descriptors_out, length, marked_descriptors, marked_load_of, outstanding_of, sets_out}
 use Rattle.gpu_descriptor.proofs.sums.OutSets.{load_is_descriptors, out_is_length}
 use Rattle.gpu_descriptor.proofs.sums.TableSums.{adds_up, marked_load_of-table, outstanding_of-table}
 use Rattle.gpu_descriptor.specs.Caller.Call.{layout_key}
 use Rattle.gpu_descriptor.specs.Caller.Causes.{IsBecause}
+use Rattle.gpu_descriptor.specs.Model.Agreement.{live_in}
+use Rattle.gpu_descriptor.specs.Model.Books.{Entry, Key, entry_at}
 use Rattle.gpu_descriptor.specs.Caller.Sets.{items_of}
 use Rattle.gpu_descriptor.specs.Caller.States.{state_of}
 use Rattle.gpu_descriptor.specs.declared.errors.AllocationError.{AllocationError}
@@ -33,6 +38,10 @@ module _ {L P S : Type 0} (means : Meaning L P S) where
   -- the marked load is that of the held sets
   held_load : (s : Side (Session L P S)) → IsReady means s → marked_descriptors (held_items means s) ≡ marked_load_of (allocator_of s.value)
   held_load s ready = load_is_descriptors (state_on means s) _ ready.agree.books (adds_up means.pool_name (allocator_of s.value) descriptors_out ready.agree.rows (marked_load_of-table means.pool_name (allocator_of s.value))) (held_items means s) (λ t. sym (ready.held t))
+
+  -- a set that lives in a pool of the books has the counts of the pool's key
+  nothing_else : (s : Side (Session L P S)) → IsReady means s → (k : Key) (n : ℕ) (e : Entry) (x : LiveSet) → entry_at ((state_on means s).books k) n ≡ Some e → 0 < live_in s.ledger.pools e.pool x → x.counts ≡ k.counts
+  nothing_else s ready k n e x at lives = (let b = ready.agree.books.booked k n e at in b.2.sets x (subst (λ (o : Option Pool). 0 < option_map_or (λ (p : Pool). p.live x) o 0) b.1 lives))
 
   module _ (old new : Side (Session L P S)) (ready : IsReady means old) where
     gone_back : (tickets : List ℕ) (many : ℕ) → GivesUp means tickets old new many → GoBack means tickets many old new
@@ -89,6 +98,7 @@ module _ {L P S : Type 0} (means : Meaning L P S) where
       let keeps = run.1.1 in
       let all : KeepsAll means c r old run.0 = record {
         exactly = keeps.ready.held;
+        nothing_else = nothing_else run.0 keeps.ready;
         handed_out = replied old run.0 ready c r run.1.0;
         sets_within = subst (λ n. n ≤ (allocator_of run.0.value).limit) (sym (held_load run.0 keeps.ready)) keeps.allocator.load;
         pools_within = keeps.allocator.pool_load;
