@@ -1,5 +1,6 @@
 pub mod Bounds
 pub mod Counts
+pub mod Errors
 pub mod Flags
 pub mod Layouts
 pub mod Ledger

@@ -1,5 +1,5 @@
 //! How many descriptors a layout, a set or a pool has.
-ghost use Rattle.std.specs.Prelude.{◌≡◌, ◌+◌, ◌*◌, ◌^◌, ◌<◌, ◌≤◌, ◌++◌, sum, slice_set};
+ghost use Rattle.std.specs.Prelude.{◌≡◌, ◌+◌, ◌*◌, ◌^◌, ◌<◌, ◌≤◌, ◌++◌, sum, slice_set, nat_lt};
 ghost use Rattle.std.proofs.Common.{rules};
 ghost use Rattle.std.specs.Hash as fed;
 ghost use Rattle.std.specs.Cmp.Rules.{hashing};
@@ -87,10 +87,11 @@ impl DescriptorTotalCount {
         ]
     }
 
-    /// Sets the count of one kind, by its place in the order of the fields.
-    pub fn set_kind(&mut self, place: usize, count: u32)
-        requires { place < 14 }
-        ensures { kinds self.new ≡ slice_set (kinds self.old) place count }
+    /// Sets the count of one kind, by its place in the order of the fields. It returns whether there
+    /// is such a kind; past the fourteenth nothing changes.
+    pub fn set_kind(&mut self, place: usize, count: u32) -> bool
+        ensures kinds { kinds self.new ≡ slice_set (kinds self.old) place count }
+        ensures known { result ≡ nat_lt place 14 }
     {
         match place {
             0 => self.sampler = count,
@@ -107,8 +108,9 @@ impl DescriptorTotalCount {
             11 => self.acceleration_structure = count,
             12 => self.inline_uniform_block_bytes = count,
             13 => self.inline_uniform_block_bindings = count,
-            _ => unreachable!(),
+            _ => return false,
         }
+        true
     }
 }
 

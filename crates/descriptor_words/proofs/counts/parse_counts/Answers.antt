@@ -62,7 +62,7 @@ loop-word-preserved c =
     let count : c.in_ok-kind.count.now ≡ count_in word = rw c.in_ok-kind.ensures.ok_part at c.around.ensures.after in
     let gives : GivesCount word = rw (← count) (c.in_ok-parse_u32.ensures.accepted.0 refl) in
     let new : ¬ IsAgain words word = c.loop-word.invariant.marks.unmarked c.in_ok-kind-2.kind (kind_of word) place c.if-is_named-kind.false in
-    let counts : kinds c.set_kind.new.self ≡ set (kinds c.loop-word.counts) c.in_ok-kind-2.kind (value_of (count_in word)) = c.set_kind.ensures ∙ ap (set (kinds c.loop-word.counts) c.in_ok-kind-2.kind) (c.in_ok-parse_u32.ensures.value ∙ ap value_of count) in
+    let counts : kinds c.set_kind.new.self ≡ set (kinds c.loop-word.counts) c.in_ok-kind-2.kind (value_of (count_in word)) = c.set_kind.ensures.kinds ∙ ap (set (kinds c.loop-word.counts) c.in_ok-kind-2.kind) (c.in_ok-parse_u32.ensures.value ∙ ap value_of count) in
     let more : map (λ word. word.now) (c.loop-word.yielded ++ c.in-Some.word ∷ []) ≡ words ++ word ∷ [] = map-append (λ word. word.now) c.loop-word.yielded (c.in-Some.word ∷ []) in
     record {
       are = rw more (kinds_more words word c.loop-word.invariant.are names gives new);
