@@ -128,7 +128,7 @@ fn draw_each(
     layouts: &[LayoutHandle; DRAWN_LAYOUTS],
 ) -> Result<(), RenderError> {
     for draw in 0..DRAWS {
-        renderer.draw(layouts[draw as usize % DRAWN_LAYOUTS])?;
+        let _drawn = renderer.draw(layouts[draw as usize % DRAWN_LAYOUTS])?;
     }
     Ok(())
 }

@@ -6,6 +6,7 @@ ghost use Rattle.descriptor_renderer.specs.HeldSets.{generation_of, place_of};
 pub(crate) const PLACES: u64 = 1 << 32;
 
 /// A set that a renderer holds until it is freed or destroyed.
+#[must_use = "the set is held until it is freed or destroyed by its handle"]
 #[derive(Clone, Copy, Debug, PartialEq, Eq, Hash)]
 pub struct SetHandle {
     pub(crate) renderer: u64,
@@ -16,6 +17,7 @@ pub struct SetHandle {
 }
 
 /// A set of a frame.
+#[must_use = "the set is reached only by its handle"]
 #[derive(Clone, Copy, Debug, PartialEq, Eq, Hash)]
 pub struct DrawHandle {
     pub(crate) renderer: u64,

@@ -38,7 +38,6 @@ use std::vec::Vec;
 /// free on the device in the meantime: only the renderer does.
 #[derive(Drop)]
 pub struct Renderer<L, P, S, D: DescriptorDevice<L, P, S>> {
-    device: D,
     manager: FrameManager<P, S>,
     layouts: LayoutRegistry<L, P, S, D>,
 
@@ -56,6 +55,9 @@ pub struct Renderer<L, P, S, D: DescriptorDevice<L, P, S>> {
 
     /// Held sets on their way back, during a call.
     going: VecDeque<DescriptorSet<S>>,
+
+    /// The last field, as it is dropped last.
+    device: D,
     ghost agree: { Agrees D.meaning.pool_name (allocator_of manager) (D.ledger device) } by { Agrees-prop D.meaning.pool_name (allocator_of manager) (D.ledger device) },
     ghost retired: { AreRetiredOut D.meaning.pool_name D.meaning.set_name manager
         (D.ledger device) },

@@ -7,6 +7,7 @@ use crate::kit::marker::PhantomData;
 use crate::kit::vec::Vec;
 
 /// The handle of a layout. Only the renderer, or the registry, that gave it has the layout.
+#[must_use = "sets of the layout are asked for by its handle"]
 #[derive(Clone, Copy, Debug, PartialEq, Eq, Hash)]
 pub struct LayoutHandle {
     pub(crate) registry: u64,

@@ -25,7 +25,6 @@ use crate::kit::vec::Vec;
 /// The raw set of a handle is borrowed, as the device is, to be written and bound. Do not allocate or
 /// free on the device in the meantime: only the renderer does.
 pub struct Renderer<L, P, S, D: DescriptorDevice<L, P, S>> {
-    device: D,
     manager: FrameManager<P, S>,
     layouts: LayoutRegistry<L, P, S, D>,
 
@@ -43,6 +42,9 @@ pub struct Renderer<L, P, S, D: DescriptorDevice<L, P, S>> {
 
     /// Held sets on their way back, during a call.
     going: VecDeque<DescriptorSet<S>>,
+
+    /// The last field, as it is dropped last.
+    device: D,
 }
 
 impl<L, P, S, D: DescriptorDevice<L, P, S>> Renderer<L, P, S, D> {

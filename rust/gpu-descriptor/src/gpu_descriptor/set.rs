@@ -6,6 +6,7 @@ use crate::kit::ops::Range;
 
 /// A descriptor set from the allocator. It stays outstanding until it is given to `free`, also
 /// where it is dropped.
+#[must_use = "it stays allocated until it is freed"]
 #[derive(Debug)]
 pub struct DescriptorSet<S> {
     pub(crate) raw: S,
@@ -20,13 +21,18 @@ pub struct DescriptorSet<S> {
 
 impl<S> DescriptorSet<S> {
     /// The raw set.
+    #[must_use]
     pub fn raw(&self) -> &S
     {
         &self.raw
     }
 
-    /// The raw set, to write. A set whose raw set was replaced by another can't be given to `free`,
-    /// unless the other is outstanding under the same key from the same pool.
+    /// The raw set, to write.
+    ///
+    /// # Safety
+    ///
+    /// The raw set must not be replaced by another: `free` would give that one back to the device.
+    #[must_use]
     #[allow(unsafe_code)]
     pub unsafe fn raw_mut(&mut self) -> &mut S
     {
@@ -35,6 +41,7 @@ impl<S> DescriptorSet<S> {
 
     /// Whether the id of its key is in this range. All sets of an allocator that was made with these
     /// ids have theirs there.
+    #[must_use]
     pub fn has_id_in(&self, ids: &Range<u64>) -> bool
     {
         ids.start <= self.id && self.id < ids.end

@@ -79,8 +79,9 @@ impl DescriptorTotalCount {
         ]
     }
 
-    /// Sets the count of one kind, by its place in the order of the fields.
-    pub fn set_kind(&mut self, place: usize, count: u32)
+    /// Sets the count of one kind, by its place in the order of the fields. It returns whether there
+    /// is such a kind; past the fourteenth nothing changes.
+    pub fn set_kind(&mut self, place: usize, count: u32) -> bool
     {
         match place {
             0 => self.sampler = count,
@@ -97,8 +98,9 @@ impl DescriptorTotalCount {
             11 => self.acceleration_structure = count,
             12 => self.inline_uniform_block_bytes = count,
             13 => self.inline_uniform_block_bindings = count,
-            _ => unreachable!(),
+            _ => return false,
         }
+        true
     }
 }
 
