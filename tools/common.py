@@ -135,6 +135,10 @@ def golden_tests():
             yield f"{name}-{counts[name]}", lines, answers
 
 
+# Before a command that might wait for ever, such as a test. Its exit code then is 124.
+TIMED = ["timeout", "--kill-after=10", "900"]
+
+
 class BadEdit(Exception):
     """An edit that reads as none, or that no longer applies."""
 
