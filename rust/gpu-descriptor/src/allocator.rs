@@ -2,7 +2,7 @@
 
 use crate::device::{Adapter, DescriptorDevice};
 use crate::ids::Ids;
-use crate::poison::{Poison, SETS_LEFT, warn};
+use crate::poison::{Guarded, SETS_LEFT, warn};
 use crate::{
     AllocationError, DescriptorSet, DescriptorSetLayoutCreateFlags, DescriptorTotalCount, PoolView,
     SetLayout, gpu_descriptor as inner, kit,
@@ -22,9 +22,8 @@ use std_alloc::vec::Vec;
 /// A drop destroys no pools: see [At a drop](crate#at-a-drop).
 #[derive(Debug)]
 pub struct DescriptorAllocator<P, S> {
-    inner: inner::DescriptorAllocator<P, S>,
+    inner: Guarded<inner::DescriptorAllocator<P, S>>,
     ids: Ids,
-    poison: Poison,
 }
 
 impl<P, S> DescriptorAllocator<P, S> {
@@ -40,16 +39,16 @@ impl<P, S> DescriptorAllocator<P, S> {
     /// then fail with `Fragmentation`, and `cleanup` can't destroy that pool while one of its sets is out.
     /// Allocate sets of the small layouts first, or give each of two allocators a part of the limit.
     /// [`update_after_bind_capacity`](Self::update_after_bind_capacity) returns how much is used.
+    #[must_use]
     pub fn new(max_update_after_bind_descriptors_in_all_pools: u32) -> Self {
         let ids = Ids::next();
         DescriptorAllocator {
-            inner: inner::DescriptorAllocator::with_ids(
+            inner: Guarded::new(inner::DescriptorAllocator::with_ids(
                 kit::alloc::Global,
                 max_update_after_bind_descriptors_in_all_pools,
                 ids.0.clone(),
-            ),
+            )),
             ids,
-            poison: Poison::default(),
         }
     }
 
@@ -96,12 +95,10 @@ impl<P, S> DescriptorAllocator<P, S> {
         L: Debug,
         D: DescriptorDevice<L, P, S>,
     {
-        self.poison.check();
         let device = &mut Adapter { device };
-        let sets = self.poison.guard(|| {
-            self.inner
-                .allocate(device, layout, flags, layout_descriptor_count, count)
-        })?;
+        let sets = self
+            .inner
+            .call(|inner| inner.allocate(device, layout, flags, layout_descriptor_count, count))?;
         Ok(sets.0)
     }
 
@@ -124,11 +121,10 @@ impl<P, S> DescriptorAllocator<P, S> {
         layout: &SetLayout<L>,
         count: u32,
     ) -> Result<Vec<DescriptorSet<S>>, AllocationError> {
-        self.poison.check();
         let device = &mut Adapter { device };
         let sets = self
-            .poison
-            .guard(|| self.inner.allocate_for(device, layout, count))?;
+            .inner
+            .call(|inner| inner.allocate_for(device, layout, count))?;
         Ok(sets.0)
     }
 
@@ -155,14 +151,13 @@ impl<P, S> DescriptorAllocator<P, S> {
         count: u32,
         sets: &mut Vec<DescriptorSet<S>>,
     ) -> Result<(), AllocationError> {
-        self.poison.check();
         let device = &mut Adapter { device };
-        let mut inner = kit::vec::Vec(take(sets));
-        let answer = self
-            .poison
-            .guard(|| self.inner.allocate_into(device, layout, count, &mut inner));
-        *sets = inner.0;
-        answer
+        self.inner.call(|inner| {
+            let mut appended = kit::vec::Vec(take(sets));
+            let answer = inner.allocate_into(device, layout, count, &mut appended);
+            *sets = appended.0;
+            answer
+        })
     }
 
     /// Allocates one set of a layout that is kept with its flags and counts, and returns it without a
@@ -184,10 +179,8 @@ impl<P, S> DescriptorAllocator<P, S> {
         device: &D,
         layout: &SetLayout<L>,
     ) -> Result<DescriptorSet<S>, AllocationError> {
-        self.poison.check();
         let device = &mut Adapter { device };
-        self.poison
-            .guard(|| self.inner.allocate_one(device, layout))
+        self.inner.call(|inner| inner.allocate_one(device, layout))
     }
 
     /// Free descriptor sets. It allocates nothing.
@@ -202,6 +195,7 @@ impl<P, S> DescriptorAllocator<P, S> {
     ///   one `DescriptorAllocator` instance.
     /// * The sets came from this allocator. Sets of others are found (see Panics) if the process creates
     ///   fewer than 2^24 allocators and managers.
+    /// * The raw set of none was replaced.
     /// * None of descriptor sets can be referenced in any pending command buffers.
     /// * All command buffers where at least one of descriptor sets referenced
     ///   move to invalid state.
@@ -210,18 +204,17 @@ impl<P, S> DescriptorAllocator<P, S> {
     ///
     /// A set is of another allocator: the sets before it were freed, it is dropped, and the allocator
     /// can still be used. Or the allocator is poisoned, or the device left sets in the iterator that it
-    /// was given.
+    /// was given. While the thread unwinds a poisoned allocator does nothing instead; without std it panics,
+    /// which ends the program.
     pub unsafe fn free<L, D, I>(&mut self, device: &D, sets: I)
     where
         D: DescriptorDevice<L, P, S>,
         I: IntoIterator<Item = DescriptorSet<S>>,
     {
-        if self.poison.is_unwinding() {
-            return;
-        }
         let mut own = self.ids.own(sets.into_iter());
         let device = &mut Adapter { device };
-        self.poison.guard(|| self.inner.free_from(device, &mut own));
+        self.inner
+            .call_in_drop(|inner| inner.free_from(device, &mut own));
         own.refuse_foreign();
     }
 
@@ -233,60 +226,69 @@ impl<P, S> DescriptorAllocator<P, S> {
     ///
     /// * Same `device` instance must be passed to all method calls of
     ///   one `DescriptorAllocator` instance.
+    ///
+    /// # Panics
+    ///
+    /// The allocator is poisoned. While the thread unwinds it does nothing instead; without std it panics,
+    /// which ends the program.
     pub unsafe fn cleanup<L>(&mut self, device: &impl DescriptorDevice<L, P, S>) {
-        if self.poison.is_unwinding() {
-            return;
-        }
         let device = &mut Adapter { device };
-        self.poison.guard(|| self.inner.cleanup(device));
+        self.inner.call_in_drop(|inner| inner.cleanup(device));
     }
 
     /// How many sets are outstanding.
+    #[must_use]
     pub fn outstanding(&self) -> u64 {
-        self.inner.outstanding()
+        self.inner.get().outstanding()
     }
 
     /// How many descriptors the outstanding sets of update-after-bind layouts have.
+    #[must_use]
     pub fn update_after_bind_descriptors(&self) -> u32 {
-        self.inner.update_after_bind_descriptors()
+        self.inner.get().update_after_bind_descriptors()
     }
 
     /// How many descriptors the pools for update-after-bind layouts have. So much of the limit is used.
+    #[must_use]
     pub fn update_after_bind_capacity(&self) -> u32 {
-        self.inner.update_after_bind_capacity()
+        self.inner.get().update_after_bind_capacity()
     }
 
     /// How many pools there are for sets of layouts with these counts and this flag.
+    #[must_use]
     pub fn pool_count(&self, counts: &DescriptorTotalCount, update_after_bind: bool) -> usize {
-        self.inner.pool_count(counts, update_after_bind)
+        self.inner.get().pool_count(counts, update_after_bind)
     }
 
     /// The books of the pool at this place among those for sets of layouts with these counts and this
     /// flag, oldest first; `None` past the last.
+    #[must_use]
     pub fn pool(
         &self,
         counts: &DescriptorTotalCount,
         update_after_bind: bool,
         index: usize,
     ) -> Option<PoolView> {
-        self.inner.pool(counts, update_after_bind, index)
+        self.inner.get().pool(counts, update_after_bind, index)
     }
 
     /// The ids of this allocator: `set.has_id_in(&allocator.ids())` is whether a set is of it. After
     /// 16,777,216 allocators of a program they begin again.
+    #[must_use]
     pub fn ids(&self) -> Range<u64> {
         self.ids.0.clone()
     }
 
     /// Whether a call panicked. Then only readers can be called.
+    #[must_use]
     pub fn is_poisoned(&self) -> bool {
-        self.poison.is_set()
+        self.inner.is_poisoned()
     }
 }
 
 impl<P, S> Drop for DescriptorAllocator<P, S> {
     fn drop(&mut self) {
-        if self.inner.outstanding() > 0 {
+        if self.inner.get().outstanding() > 0 {
             warn(SETS_LEFT);
         }
     }

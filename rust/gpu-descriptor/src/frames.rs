@@ -27,9 +27,9 @@
 
 use crate::device::{Adapter, DescriptorDevice};
 use crate::ids::Ids;
-use crate::poison::{Poison, SETS_LEFT, warn};
+use crate::poison::{Guarded, SETS_LEFT, warn};
 use crate::{
-    AllocationError, DescriptorSet, DescriptorSetLayoutCreateFlags, DescriptorTotalCount,
+    AllocationError, DescriptorSet, DescriptorSetLayoutCreateFlags, DescriptorTotalCount, PoolView,
     SetLayout, descriptor_frames as inner, kit,
 };
 use core::error::Error;
@@ -44,30 +44,29 @@ use std_alloc::vec::Vec;
 /// `finish`, whose caller promises that the device is done with them.
 ///
 /// A panic in a device or in an iterator of sets has the same consequences as in
-/// [`DescriptorAllocator`](crate::DescriptorAllocator): from then on calls with a device panic, but those
-/// that free sets or destroy pools do nothing while the thread panics already.
+/// [`DescriptorAllocator`](crate::DescriptorAllocator): from then on calls with a device panic, but
+/// `finish`, `free` and `cleanup` do nothing while the thread unwinds.
 ///
 /// A drop destroys no pools: see [At a drop](crate#at-a-drop).
 #[derive(Debug)]
 pub struct FrameManager<P, S> {
-    inner: inner::FrameManager<P, S>,
+    inner: Guarded<inner::FrameManager<P, S>>,
     ids: Ids,
-    poison: Poison,
 }
 
 impl<P, S> FrameManager<P, S> {
     /// A manager without sets. It allocates nothing. The limit is that of
     /// [`DescriptorAllocator::new`](crate::DescriptorAllocator::new).
+    #[must_use]
     pub fn new(max_update_after_bind_descriptors_in_all_pools: u32) -> Self {
         let ids = Ids::next();
         FrameManager {
-            inner: inner::FrameManager::with_ids(
+            inner: Guarded::new(inner::FrameManager::with_ids(
                 kit::alloc::Global,
                 max_update_after_bind_descriptors_in_all_pools,
                 ids.0.clone(),
-            ),
+            )),
             ids,
-            poison: Poison::default(),
         }
     }
 
@@ -94,12 +93,10 @@ impl<P, S> FrameManager<P, S> {
         layout_descriptor_count: &DescriptorTotalCount,
         count: u32,
     ) -> Result<Vec<DescriptorSet<S>>, AllocationError> {
-        self.poison.check();
         let device = &mut Adapter { device };
-        let sets = self.poison.guard(|| {
-            self.inner
-                .allocate(device, layout, flags, layout_descriptor_count, count)
-        })?;
+        let sets = self
+            .inner
+            .call(|inner| inner.allocate(device, layout, flags, layout_descriptor_count, count))?;
         Ok(sets.0)
     }
 
@@ -122,11 +119,10 @@ impl<P, S> FrameManager<P, S> {
         layout: &SetLayout<L>,
         count: u32,
     ) -> Result<Vec<DescriptorSet<S>>, AllocationError> {
-        self.poison.check();
         let device = &mut Adapter { device };
         let sets = self
-            .poison
-            .guard(|| self.inner.allocate_for(device, layout, count))?;
+            .inner
+            .call(|inner| inner.allocate_for(device, layout, count))?;
         Ok(sets.0)
     }
 
@@ -153,14 +149,13 @@ impl<P, S> FrameManager<P, S> {
         count: u32,
         sets: &mut Vec<DescriptorSet<S>>,
     ) -> Result<(), AllocationError> {
-        self.poison.check();
         let device = &mut Adapter { device };
-        let mut inner = kit::vec::Vec(take(sets));
-        let answer = self
-            .poison
-            .guard(|| self.inner.allocate_into(device, layout, count, &mut inner));
-        *sets = inner.0;
-        answer
+        self.inner.call(|inner| {
+            let mut appended = kit::vec::Vec(take(sets));
+            let answer = inner.allocate_into(device, layout, count, &mut appended);
+            *sets = appended.0;
+            answer
+        })
     }
 
     /// Allocates one set of a layout that is kept with its flags and counts, and returns it without a
@@ -182,10 +177,8 @@ impl<P, S> FrameManager<P, S> {
         device: &D,
         layout: &SetLayout<L>,
     ) -> Result<DescriptorSet<S>, AllocationError> {
-        self.poison.check();
         let device = &mut Adapter { device };
-        self.poison
-            .guard(|| self.inner.allocate_one(device, layout))
+        self.inner.call(|inner| inner.allocate_one(device, layout))
     }
 
     /// Reserves memory for so many more retired sets, so that retiring them can't fail with `Memory`.
@@ -194,7 +187,7 @@ impl<P, S> FrameManager<P, S> {
     ///
     /// `OutOfHostMemory`, and nothing changed.
     pub fn reserve(&mut self, additional: usize) -> Result<(), AllocationError> {
-        let reserved = self.inner.reserve(additional);
+        let reserved = self.inner.get_mut().reserve(additional);
         reserved.map_err(|_| AllocationError::OutOfHostMemory)
     }
 
@@ -210,7 +203,7 @@ impl<P, S> FrameManager<P, S> {
         set: DescriptorSet<S>,
     ) -> Result<(), RetireError<DescriptorSet<S>>> {
         let set = self.own(set)?;
-        Ok(self.inner.retire(frame, set)?)
+        Ok(self.inner.get_mut().retire(frame, set)?)
     }
 
     /// Retires a set, also at a frame below the greatest.
@@ -227,7 +220,7 @@ impl<P, S> FrameManager<P, S> {
         set: DescriptorSet<S>,
     ) -> Result<(), RetireError<DescriptorSet<S>>> {
         let set = self.own(set)?;
-        Ok(self.inner.retire_late(frame, set)?)
+        Ok(self.inner.get_mut().retire_late(frame, set)?)
     }
 
     /// Retires sets, in their order: all, or none.
@@ -244,14 +237,15 @@ impl<P, S> FrameManager<P, S> {
         if !sets.iter().all(|set| self.ids.has(set)) {
             return Err(RetireError::Foreign(sets));
         }
-        if frame < self.inner.greatest() {
+        let inner = self.inner.get_mut();
+        if frame < inner.greatest() {
             return Err(RetireError::FrameBack(sets));
         }
-        if self.inner.reserve(sets.len()).is_err() {
+        if inner.reserve(sets.len()).is_err() {
             return Err(RetireError::Memory(sets));
         }
         for set in sets {
-            let retired = self.inner.retire(frame, set);
+            let retired = inner.retire(frame, set);
             assert!(retired.is_ok(), "the frame was tested, and memory reserved for all");
         }
         Ok(())
@@ -282,17 +276,16 @@ impl<P, S> FrameManager<P, S> {
     /// * No pending command buffer refers to a set that was retired at this frame or before.
     /// * The retired sets came from this manager. `retire` returns any other set if the process
     ///   creates fewer than 2^24 allocators and managers.
+    /// * The raw set of none was replaced.
     /// * All command buffers where one of them is referenced move to invalid state.
     ///
     /// # Panics
     ///
-    /// The manager is poisoned, or the device left sets in the iterator that it was given.
+    /// The manager is poisoned, or the device left sets in the iterator that it was given. While the thread
+    /// unwinds a poisoned manager does nothing instead; without std it panics, which ends the program.
     pub unsafe fn finish<L, D: DescriptorDevice<L, P, S>>(&mut self, device: &D, frame: u64) {
-        if self.poison.is_unwinding() {
-            return;
-        }
         let device = &mut Adapter { device };
-        self.poison.guard(|| self.inner.finish(device, frame));
+        self.inner.call_in_drop(|inner| inner.finish(device, frame));
     }
 
     /// Frees at once sets that no frame uses any more. The retired sets stay.
@@ -309,12 +302,10 @@ impl<P, S> FrameManager<P, S> {
         D: DescriptorDevice<L, P, S>,
         I: IntoIterator<Item = DescriptorSet<S>>,
     {
-        if self.poison.is_unwinding() {
-            return;
-        }
         let mut own = self.ids.own(sets.into_iter());
         let device = &mut Adapter { device };
-        self.poison.guard(|| self.inner.free_from(device, &mut own));
+        self.inner
+            .call_in_drop(|inner| inner.free_from(device, &mut own));
         own.refuse_foreign();
     }
 
@@ -324,33 +315,69 @@ impl<P, S> FrameManager<P, S> {
     /// # Safety
     ///
     /// Same `device` instance must be passed to all method calls of one `FrameManager` instance.
+    ///
+    /// # Panics
+    ///
+    /// The manager is poisoned. While the thread unwinds it does nothing instead; without std it panics,
+    /// which ends the program.
     pub unsafe fn cleanup<L>(&mut self, device: &impl DescriptorDevice<L, P, S>) {
-        if self.poison.is_unwinding() {
-            return;
-        }
         let device = &mut Adapter { device };
-        self.poison.guard(|| self.inner.cleanup(device));
+        self.inner.call_in_drop(|inner| inner.cleanup(device));
     }
 
     /// How many sets are in use or retired.
+    #[must_use]
     pub fn outstanding(&self) -> u64 {
-        self.inner.outstanding()
+        self.inner.get().outstanding()
+    }
+
+    /// How many descriptors the pools for update-after-bind layouts have. So much of the limit is used.
+    #[must_use]
+    pub fn update_after_bind_capacity(&self) -> u32 {
+        self.inner.get().allocator().update_after_bind_capacity()
+    }
+
+    /// How many pools there are for sets of layouts with these counts and this flag.
+    #[must_use]
+    pub fn pool_count(&self, counts: &DescriptorTotalCount, update_after_bind: bool) -> usize {
+        let allocator = self.inner.get().allocator();
+        allocator.pool_count(counts, update_after_bind)
+    }
+
+    /// The books of a pool, as of [`DescriptorAllocator::pool`](crate::DescriptorAllocator::pool).
+    #[must_use]
+    pub fn pool(
+        &self,
+        counts: &DescriptorTotalCount,
+        update_after_bind: bool,
+        index: usize,
+    ) -> Option<PoolView> {
+        let allocator = self.inner.get().allocator();
+        allocator.pool(counts, update_after_bind, index)
     }
 
     /// How many sets are retired.
+    #[must_use]
     pub fn retired(&self) -> u64 {
-        self.inner.retired()
+        self.inner.get().retired()
     }
 
     /// The greatest frame at which a set was ever retired, and 0 before the first.
+    #[must_use]
     pub fn greatest(&self) -> u64 {
-        self.inner.greatest()
+        self.inner.get().greatest()
+    }
+
+    /// Whether a call panicked. Then no call that takes the device can be made.
+    #[must_use]
+    pub fn is_poisoned(&self) -> bool {
+        self.inner.is_poisoned()
     }
 }
 
 impl<P, S> Drop for FrameManager<P, S> {
     fn drop(&mut self) {
-        if self.inner.outstanding() > 0 {
+        if self.inner.get().outstanding() > 0 {
             warn(SETS_LEFT);
         }
     }
@@ -371,6 +398,7 @@ pub enum RetireError<T> {
 
 impl<T> RetireError<T> {
     /// The set or the vector that was not retired.
+    #[must_use]
     pub fn into_inner(self) -> T {
         match self {
             RetireError::FrameBack(it) | RetireError::Memory(it) | RetireError::Foreign(it) => it,

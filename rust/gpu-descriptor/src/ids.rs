@@ -1,6 +1,7 @@
 //! Ids that distinguish the sets of one allocator from those of another.
 
 use crate::DescriptorSet;
+use crate::poison::is_panicking;
 use core::ops::Range;
 use core::sync::atomic::{AtomicU32, Ordering};
 
@@ -27,40 +28,41 @@ impl Ids {
     }
 
     /// The sets up to the first one of another allocator.
-    pub(crate) fn own<I>(&self, sets: I) -> Own<'_, I> {
+    pub(crate) fn own<S, I>(&self, sets: I) -> Own<'_, S, I> {
         Own {
             sets,
             ids: self,
-            is_foreign: false,
+            foreign: None,
         }
     }
 }
 
-/// The sets of an iterator up to the first one of another allocator.
-pub(crate) struct Own<'a, I> {
+/// The sets of an iterator up to the first one of another allocator, which is kept: it is dropped once
+/// the call is over, so a panic of its `Drop` poisons nothing.
+pub(crate) struct Own<'a, S, I> {
     sets: I,
     ids: &'a Ids,
-    is_foreign: bool,
+    foreign: Option<DescriptorSet<S>>,
 }
 
-impl<I> Own<'_, I> {
-    /// Panics if it ended at a set of another allocator.
+impl<S, I> Own<'_, S, I> {
+    /// Panics if it ended at a set of another allocator, unless the thread panics already.
     pub(crate) fn refuse_foreign(self) {
-        assert!(
-            !self.is_foreign,
-            "Set must be allocated from this allocator"
-        );
+        if let Some(foreign) = self.foreign {
+            drop(foreign);
+            assert!(is_panicking(), "Set must be allocated from this allocator");
+        }
     }
 }
 
-impl<S, I: Iterator<Item = DescriptorSet<S>>> Iterator for Own<'_, I> {
+impl<S, I: Iterator<Item = DescriptorSet<S>>> Iterator for Own<'_, S, I> {
     type Item = DescriptorSet<S>;
 
     #[inline]
     fn next(&mut self) -> Option<DescriptorSet<S>> {
         let set = self.sets.next()?;
         if !self.ids.has(&set) {
-            self.is_foreign = true;
+            self.foreign = Some(set);
             return None;
         }
         Some(set)

@@ -76,13 +76,14 @@
 //! Dropped | What happens
 //! ---|---
 //! a [`DescriptorAllocator`] or a [`FrameManager`](frames::FrameManager) | If sets are out, it prints one line on standard error.
-//! a [`Renderer`](renderer::Renderer) | If it has pools, with sets or without, it prints one line. It drops its device, too. `shutdown` destroys the pools and hands the device back; `into_device` leaves the pools and prints nothing.
+//! a [`Renderer`](renderer::Renderer) | If it has pools, with sets or without, it prints one line. It drops its device, after all else. `shutdown` destroys the pools and hands the device back; `into_device` leaves the pools and prints nothing.
 //! a [`DescriptorSet`] | It stays allocated, so its pool is never destroyed.
 //!
-//! Without std it panics instead of printing. With std nothing is printed while the thread unwinds.
+//! Nothing is printed while the thread unwinds. Without std a panic takes the place of the line, also while
+//! the thread unwinds, which ends the program.
 #![cfg_attr(not(feature = "std"), no_std)]
 #![deny(unsafe_op_in_unsafe_fn)]
-#![warn(missing_docs)]
+#![warn(missing_docs, clippy::missing_panics_doc)]
 
 extern crate alloc as std_alloc;
 
@@ -90,24 +91,24 @@ mod allocator;
 #[forbid(unsafe_code)]
 mod counts;
 #[allow(dead_code, unused_imports, clippy::all, missing_docs)]
-#[warn(clippy::incompatible_msrv)]
+#[warn(clippy::incompatible_msrv, clippy::missing_panics_doc, clippy::missing_safety_doc)]
 #[forbid(unsafe_code)]
 #[rustfmt::skip]
 mod descriptor_frames;
 #[allow(dead_code, unused_imports, clippy::all, missing_docs)]
-#[warn(clippy::incompatible_msrv)]
+#[warn(clippy::incompatible_msrv, clippy::missing_panics_doc, clippy::missing_safety_doc)]
 #[forbid(unsafe_code)]
 #[rustfmt::skip]
 mod descriptor_renderer;
 mod device;
 pub mod frames;
 #[allow(dead_code, unused_imports, clippy::all, missing_docs)]
-#[warn(clippy::incompatible_msrv)]
+#[warn(clippy::incompatible_msrv, clippy::missing_panics_doc, clippy::missing_safety_doc)]
 #[deny(unsafe_code)]
 #[rustfmt::skip]
 mod gpu_descriptor;
 #[allow(dead_code, unused_imports, clippy::all, missing_docs)]
-#[warn(clippy::incompatible_msrv)]
+#[warn(clippy::incompatible_msrv, clippy::missing_panics_doc, clippy::missing_safety_doc)]
 #[forbid(unsafe_code)]
 #[rustfmt::skip]
 mod gpu_descriptor_types;

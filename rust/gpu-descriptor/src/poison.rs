@@ -1,50 +1,78 @@
 //! What holds after a panic. Nothing unwinds in the language of the proofs, so they don't speak of it.
 
-/// Set while a call with a device is under way. A panic leaves it set.
-#[derive(Debug, Default)]
-pub(crate) struct Poison {
-    is_set: bool,
+/// A value that is poisoned if a call of it panics. Each access says what it does after that.
+#[derive(Debug)]
+pub(crate) struct Guarded<T> {
+    value: T,
+
+    /// Set while a call is under way. A panic leaves it set.
+    is_poisoned: bool,
 }
 
-impl Poison {
-    /// Makes a call.
+impl<T> Guarded<T> {
+    pub(crate) fn new(value: T) -> Self {
+        Guarded {
+            value,
+            is_poisoned: false,
+        }
+    }
+
+    /// Makes a call. Panics if an earlier one panicked.
     #[inline]
-    pub(crate) fn guard<R>(&mut self, call: impl FnOnce() -> R) -> R {
-        self.is_set = true;
-        let result = call();
-        self.is_set = false;
+    pub(crate) fn call<R>(&mut self, call: impl FnOnce(&mut T) -> R) -> R {
+        if self.is_poisoned {
+            refuse();
+        }
+        self.is_poisoned = true;
+        let result = call(&mut self.value);
+        self.is_poisoned = false;
         result
     }
 
-    pub(crate) fn is_set(&self) -> bool {
-        self.is_set
-    }
-
-    /// Panics if an earlier call panicked.
+    /// Makes a call that a `Drop` may make. It is `call`, but makes none if an earlier one panicked and the
+    /// thread still unwinds: a panic would abort the program.
     #[inline]
-    pub(crate) fn check(&self) {
-        assert!(!self.is_set, "an earlier call of this allocator panicked");
-    }
-
-    /// Whether an earlier call panicked and the thread still unwinds, so that a `Drop` which frees
-    /// sets doesn't abort the program. Otherwise as `check`.
-    #[inline]
-    pub(crate) fn is_unwinding(&self) -> bool {
-        if self.is_set && is_panicking() {
-            return true;
+    pub(crate) fn call_in_drop<R>(&mut self, call: impl FnOnce(&mut T) -> R) -> Option<R> {
+        if self.is_poisoned && is_panicking() {
+            return None;
         }
-        self.check();
-        false
+        Some(self.call(call))
+    }
+
+    pub(crate) fn is_poisoned(&self) -> bool {
+        self.is_poisoned
+    }
+
+    /// To read, also after a panic.
+    #[inline]
+    pub(crate) fn get(&self) -> &T {
+        &self.value
+    }
+
+    /// To change what no device sees, also after a panic.
+    #[inline]
+    pub(crate) fn get_mut(&mut self) -> &mut T {
+        &mut self.value
+    }
+
+    pub(crate) fn into_inner(self) -> T {
+        self.value
     }
 }
 
+/// Panics, since an earlier call did.
+#[cold]
+pub(crate) fn refuse() -> ! {
+    panic!("an earlier call of this allocator panicked")
+}
+
 #[cfg(feature = "std")]
-fn is_panicking() -> bool {
+pub(crate) fn is_panicking() -> bool {
     std::thread::panicking()
 }
 
 #[cfg(not(feature = "std"))]
-fn is_panicking() -> bool {
+pub(crate) fn is_panicking() -> bool {
     false
 }
 

@@ -87,7 +87,7 @@
 
 use crate::device::{Adapter, DescriptorDevice};
 use crate::gpu_descriptor_types::{self as types, Layouts, SetSink};
-use crate::poison::{Poison, warn};
+use crate::poison::{Guarded, is_panicking, refuse, warn};
 use crate::{
     CreatePoolError, DescriptorPoolCreateFlags, DescriptorTotalCount, DeviceAllocationError,
     SetLayout, descriptor_renderer as inner, kit,
@@ -133,13 +133,14 @@ static RENDERERS: AtomicU32 = AtomicU32::new(0);
 ///
 /// If the device panics in a call, or does what it may not (see
 /// [`DescriptorAllocator::allocate`](crate::DescriptorAllocator::allocate)), the renderer is poisoned:
-/// each call that would change something panics, but `gpu_done`, `free_sets`, `free_all` and `cleanup`
-/// do nothing while the thread panics already. So no set is handed out twice.
+/// each call that would change something panics. So no set is handed out twice. The calls that a `Drop`
+/// of yours may make don't panic while the thread unwinds: `end_frame`, `gpu_done`, `cleanup`,
+/// `free_sets`, `free_all`, `destroy_set` and `destroy_sets` do nothing, and `shutdown` is `into_device`.
 ///
-/// A drop without `shutdown` destroys no pools: see [At a drop](crate#at-a-drop).
+/// A drop without `shutdown` destroys no pools: see [At a drop](crate#at-a-drop). The raw layouts, pools
+/// and sets are dropped before the device.
 pub struct Renderer<L, P, S, D: DescriptorDevice<L, P, S>> {
-    inner: inner::Renderer<L, P, S, Owned<D>>,
-    poison: Poison,
+    inner: Guarded<inner::Renderer<L, P, S, Owned<D>>>,
 }
 
 impl<L, P, S, D: DescriptorDevice<L, P, S>> Renderer<L, P, S, D> {
@@ -149,22 +150,22 @@ impl<L, P, S, D: DescriptorDevice<L, P, S>> Renderer<L, P, S, D> {
     /// # Panics
     ///
     /// So many were made before in this process that there is no number left, 2^32 - 1.
+    #[must_use]
     pub fn new(device: D, max_update_after_bind_descriptors_in_all_pools: u32) -> Self {
         let number = RENDERERS.fetch_update(Ordering::Relaxed, Ordering::Relaxed, |number| {
             number.checked_add(1)
         });
         let device = Owned {
-            adapter: Adapter { device },
             pools: Pools(0),
+            adapter: Adapter { device },
         };
         Renderer {
-            inner: inner::Renderer::new(
+            inner: Guarded::new(inner::Renderer::new(
                 kit::alloc::Global,
                 device,
                 max_update_after_bind_descriptors_in_all_pools,
                 u64::from(number.expect("no number is left for a renderer")),
-            ),
-            poison: Poison::default(),
+            )),
         }
     }
 
@@ -183,8 +184,7 @@ impl<L, P, S, D: DescriptorDevice<L, P, S>> Renderer<L, P, S, D> {
         &mut self,
         layout: SetLayout<L>,
     ) -> Result<LayoutHandle, AddLayoutError<L>> {
-        self.poison.check();
-        let added = self.inner.add_layout(layout);
+        let added = self.inner.call(|inner| inner.add_layout(layout));
         added.map_err(|failed| AddLayoutError(failed.value))
     }
 
@@ -194,8 +194,7 @@ impl<L, P, S, D: DescriptorDevice<L, P, S>> Renderer<L, P, S, D> {
     ///
     /// A frame is open, or there were as many as a `u64` can count.
     pub fn begin_frame(&mut self) -> Result<u64, BeginError> {
-        self.poison.check();
-        self.inner.begin_frame()
+        self.inner.call(|inner| inner.begin_frame())
     }
 
     /// Skips frames: the next one has a greater number than this. Frames up to the last are skipped
@@ -205,8 +204,7 @@ impl<L, P, S, D: DescriptorDevice<L, P, S>> Renderer<L, P, S, D> {
     ///
     /// A frame is open. Then nothing changed.
     pub fn skip_to(&mut self, frame: u64) -> Result<(), BeginError> {
-        self.poison.check();
-        self.inner.skip_to(frame)
+        self.inner.call(|inner| inner.skip_to(frame))
     }
 
     /// Allocates a set of a layout for the open frame. The handle is good until the frame ends, and the set
@@ -218,14 +216,17 @@ impl<L, P, S, D: DescriptorDevice<L, P, S>> Renderer<L, P, S, D> {
     /// sets that it had.
     #[inline]
     pub fn draw(&mut self, layout: LayoutHandle) -> Result<DrawHandle, RenderError> {
-        self.poison.check();
-        self.poison.guard(|| self.inner.draw(layout))
+        self.inner.call(|inner| inner.draw(layout))
     }
 
     /// Ends the frame, if one is open: its sets wait for the device.
+    ///
+    /// # Panics
+    ///
+    /// The renderer is poisoned. While the thread unwinds the call then does nothing instead; without std
+    /// it panics, which ends the program.
     pub fn end_frame(&mut self) {
-        self.poison.check();
-        self.poison.guard(|| self.inner.end_frame())
+        self.inner.call_in_drop(|inner| inner.end_frame());
     }
 
     /// States that the device is done with this frame and those before it. The sets that wait for these
@@ -239,20 +240,24 @@ impl<L, P, S, D: DescriptorDevice<L, P, S>> Renderer<L, P, S, D> {
     /// * No pending command buffer refers to a set of a frame up to this one, nor to a set that was
     ///   destroyed with a last use up to this one.
     /// * All command buffers where one of them is referenced move to invalid state.
+    ///
+    /// # Panics
+    ///
+    /// The renderer is poisoned. While the thread unwinds the call then does nothing instead; without std
+    /// it panics, which ends the program.
     pub unsafe fn gpu_done(&mut self, frame: u64) {
-        if self.poison.is_unwinding() {
-            return;
-        }
-        self.poison.guard(|| self.inner.gpu_done(frame))
+        self.inner.call_in_drop(|inner| inner.gpu_done(frame));
     }
 
     /// Destroys the oldest pools of each key up to the first that has a set, the last pool too. Call
     /// it between levels, or when memory is short.
+    ///
+    /// # Panics
+    ///
+    /// The renderer is poisoned. While the thread unwinds the call then does nothing instead; without std
+    /// it panics, which ends the program.
     pub fn cleanup(&mut self) {
-        if self.poison.is_unwinding() {
-            return;
-        }
-        self.poison.guard(|| self.inner.cleanup())
+        self.inner.call_in_drop(|inner| inner.cleanup());
     }
 
     /// Creates a set of a layout, which is held until it is freed or destroyed, in a frame or between
@@ -264,8 +269,7 @@ impl<L, P, S, D: DescriptorDevice<L, P, S>> Renderer<L, P, S, D> {
     /// is never `NoFrame`.
     #[inline]
     pub fn create_set(&mut self, layout: LayoutHandle) -> Result<SetHandle, RenderError> {
-        self.poison.check();
-        self.poison.guard(|| self.inner.create_set(layout))
+        self.inner.call(|inner| inner.create_set(layout))
     }
 
     /// Creates so many sets of a layout, all or none, each of which is held until it is freed or
@@ -279,10 +283,9 @@ impl<L, P, S, D: DescriptorDevice<L, P, S>> Renderer<L, P, S, D> {
         layout: LayoutHandle,
         count: u32,
     ) -> Result<Vec<SetHandle>, RenderError> {
-        self.poison.check();
         let mut handles = kit::vec::Vec::new(kit::alloc::Global);
-        self.poison
-            .guard(|| self.inner.create_sets(layout, count, &mut handles))?;
+        self.inner
+            .call(|inner| inner.create_sets(layout, count, &mut handles))?;
         Ok(handles.0)
     }
 
@@ -298,11 +301,14 @@ impl<L, P, S, D: DescriptorDevice<L, P, S>> Renderer<L, P, S, D> {
     ///
     /// * No pending command buffer refers to one of the sets.
     /// * All command buffers where one of them is referenced move to invalid state.
+    ///
+    /// # Panics
+    ///
+    /// The renderer is poisoned. While the thread unwinds the call then does nothing and returns `Ok`; without
+    /// std it panics, which ends the program.
     pub unsafe fn free_sets(&mut self, sets: &[SetHandle]) -> Result<(), DestroyError> {
-        if self.poison.is_unwinding() {
-            return Ok(());
-        }
-        self.poison.guard(|| self.inner.free_sets(sets))
+        let answer = self.inner.call_in_drop(|inner| inner.free_sets(sets));
+        answer.unwrap_or(Ok(()))
     }
 
     /// Destroys a set that was last used in a frame (0 if in none). It is freed by the next `gpu_done`
@@ -311,9 +317,16 @@ impl<L, P, S, D: DescriptorDevice<L, P, S>> Renderer<L, P, S, D> {
     /// # Errors
     ///
     /// The handle names no set that is held, or the frame was not opened yet. Then nothing changed.
+    ///
+    /// # Panics
+    ///
+    /// The renderer is poisoned. While the thread unwinds the call then does nothing and returns `Ok`; without
+    /// std it panics, which ends the program.
     pub fn destroy_set(&mut self, set: SetHandle, last_use: u64) -> Result<(), DestroyError> {
-        self.poison.check();
-        self.poison.guard(|| self.inner.destroy_set(set, last_use))
+        let answer = self
+            .inner
+            .call_in_drop(|inner| inner.destroy_set(set, last_use));
+        answer.unwrap_or(Ok(()))
     }
 
     /// Destroys all sets of the list, or none, which were last used in a frame (0 if in none). They are
@@ -324,10 +337,16 @@ impl<L, P, S, D: DescriptorDevice<L, P, S>> Renderer<L, P, S, D> {
     ///
     /// `FrameAhead`: the frame was not opened yet. `NoSet`: a handle names no set that is held, or
     /// is in the list twice. Then nothing changed.
+    ///
+    /// # Panics
+    ///
+    /// The renderer is poisoned. While the thread unwinds the call then does nothing and returns `Ok`; without
+    /// std it panics, which ends the program.
     pub fn destroy_sets(&mut self, sets: &[SetHandle], last_use: u64) -> Result<(), DestroyError> {
-        self.poison.check();
-        self.poison
-            .guard(|| self.inner.destroy_sets(sets, last_use))
+        let answer = self
+            .inner
+            .call_in_drop(|inner| inner.destroy_sets(sets, last_use));
+        answer.unwrap_or(Ok(()))
     }
 
     /// Frees all sets at once: those that wait for their frame, those of the open frame, which is ended,
@@ -337,81 +356,95 @@ impl<L, P, S, D: DescriptorDevice<L, P, S>> Renderer<L, P, S, D> {
     ///
     /// * No pending command buffer refers to a set of the renderer.
     /// * All command buffers where one of them is referenced move to invalid state.
+    ///
+    /// # Panics
+    ///
+    /// The renderer is poisoned. While the thread unwinds the call then does nothing instead; without std
+    /// it panics, which ends the program.
     pub unsafe fn free_all(&mut self) {
-        if self.poison.is_unwinding() {
-            return;
-        }
-        self.poison.guard(|| self.inner.free_all())
+        self.inner.call_in_drop(|inner| inner.free_all());
     }
 
     /// The raw set of a draw of the open frame, to write and to bind. `None` under a handle of another
     /// frame or of another renderer.
     #[inline]
+    #[must_use]
     pub fn drawn(&self, draw: DrawHandle) -> Option<&S> {
-        self.inner.drawn(draw)
+        self.inner.get().drawn(draw)
     }
 
     /// The raw set of a set that is held, to write and to bind. `None` under the handle of a set that
     /// was freed or destroyed, and under that of another renderer.
     #[inline]
+    #[must_use]
     pub fn set(&self, set: SetHandle) -> Option<&S> {
-        self.inner.set(set)
+        self.inner.get().set(set)
     }
 
     /// The layout of a handle. `None` under a handle of another renderer.
+    #[must_use]
     pub fn layout(&self, layout: LayoutHandle) -> Option<&SetLayout<L>> {
-        self.inner.layout(layout)
+        self.inner.get().layout(layout)
     }
 
     /// The layouts, in the order in which they were added.
+    #[must_use]
     pub fn layouts(&self) -> &[SetLayout<L>] {
-        self.inner.layouts()
+        self.inner.get().layouts()
     }
 
     /// The device, to write sets and to bind them.
+    #[must_use]
     pub fn device(&self) -> &D {
-        &self.inner.device().adapter.device
+        &self.inner.get().device().adapter.device
     }
 
     /// The frame that was opened last, 0 before the first.
+    #[must_use]
     pub fn frame(&self) -> u64 {
-        self.inner.frame()
+        self.inner.get().frame()
     }
 
     /// Whether a frame is open.
+    #[must_use]
     pub fn is_frame_open(&self) -> bool {
-        self.inner.is_frame_open()
+        self.inner.get().is_frame_open()
     }
 
     /// Whether a call panicked. Then `shutdown` panics too, and `into_device` hands the device back.
+    #[must_use]
     pub fn is_poisoned(&self) -> bool {
-        self.poison.is_set()
+        self.inner.is_poisoned()
     }
 
     /// How many sets the open frame has.
+    #[must_use]
     pub fn drawn_count(&self) -> usize {
-        self.inner.drawn_count()
+        self.inner.get().drawn_count()
     }
 
     /// How many sets are held.
+    #[must_use]
     pub fn held_count(&self) -> usize {
-        self.inner.held_count()
+        self.inner.get().held_count()
     }
 
     /// How many sets wait for their frame.
+    #[must_use]
     pub fn retired_count(&self) -> u64 {
-        self.inner.retired_count()
+        self.inner.get().retired_count()
     }
 
     /// How many sets are out: of the open frame, held, or retired.
+    #[must_use]
     pub fn outstanding(&self) -> u64 {
-        self.inner.outstanding()
+        self.inner.get().outstanding()
     }
 
     /// Hands the device back without a call of it. Pools and sets stay with the device, and nobody
     /// destroys them. It is for a device that is lost, and for a poisoned renderer.
     pub fn into_device(self) -> D {
-        let Owned { adapter, pools } = self.inner.into_device();
+        let Owned { adapter, pools } = self.inner.into_inner().into_device();
         core::mem::forget(pools);
         adapter.device
     }
@@ -426,11 +459,19 @@ impl<L, P, S, D: DescriptorDevice<L, P, S>> Renderer<L, P, S, D> {
     ///
     /// # Panics
     ///
-    /// The renderer is poisoned: its pools stay with the device. [`into_device`](Self::into_device) hands
-    /// the device back even so.
+    /// The renderer is poisoned: its pools stay with the device, and [`into_device`](Self::into_device)
+    /// hands it back even so. While the thread unwinds the call then is `into_device`; without std it
+    /// panics, which ends the program.
     pub unsafe fn shutdown(self) -> D {
-        self.poison.check();
-        self.inner.shutdown().adapter.device
+        if !self.inner.is_poisoned() {
+            return self.inner.into_inner().shutdown().adapter.device;
+        }
+        // The pools aren't dropped, which without std is a panic too.
+        let device = self.into_device();
+        if !is_panicking() {
+            refuse();
+        }
+        device
     }
 }
 
@@ -449,8 +490,8 @@ impl<L, P, S, D: DescriptorDevice<L, P, S>> fmt::Debug for Renderer<L, P, S, D> 
 
 /// The device of a renderer, and how many pools it has for it.
 struct Owned<D> {
-    adapter: Adapter<D>,
     pools: Pools,
+    adapter: Adapter<D>,
 }
 
 struct Pools(u64);
@@ -501,6 +542,7 @@ pub struct AddLayoutError<L>(SetLayout<L>);
 
 impl<L> AddLayoutError<L> {
     /// The layout that was not added.
+    #[must_use]
     pub fn into_inner(self) -> SetLayout<L> {
         self.0
     }

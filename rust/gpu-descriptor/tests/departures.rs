@@ -153,6 +153,43 @@ fn calls_of_flags() {
     assert_eq!(name.unwrap().0, "UPDATE_AFTER_BIND");
 }
 
+/// Flags with bits of no flag, as the documentation of bitflags 2 has them, over which the original isn't
+/// tried.
+macro_rules! unknown_bits_are_kept {
+    ($flags:ident, $all:expr) => {{
+        let (all, rest) = ($flags::all(), $flags::from_bits_retain(1 << 31 | 4));
+        let both = all | rest;
+        assert_eq!((all.bits(), both.bits()), ($all, $all | 1 << 31 | 4));
+        // All flags are set, whatever else is, and the complement has flags alone.
+        assert!(both.is_all() && all.is_all() && !rest.is_all());
+        assert_eq!(
+            (!both, both.complement()),
+            ($flags::empty(), $flags::empty())
+        );
+        assert_eq!((!rest, rest.complement()), (all, all));
+        assert_eq!((both - all, both.difference(all)), (rest, rest));
+        assert_eq!((both & rest, both ^ rest), (rest, all));
+        assert!(both.contains(rest) && both.intersects(rest) && !all.intersects(rest));
+        assert_eq!($flags::from_bits(both.bits()), None);
+        assert_eq!($flags::from_bits_truncate(both.bits()), all);
+        // They come last, and together.
+        assert_eq!(both.iter().last(), Some(rest));
+        assert_eq!(both.iter().count(), all.iter().count() + 1);
+        assert_eq!(both.iter().collect::<$flags>(), both);
+        assert!(both.iter_names().eq(all.iter_names()));
+        let mut changed = both;
+        changed.remove($flags::from_bits_retain(4));
+        changed.toggle(all);
+        assert_eq!(changed.bits(), 1 << 31);
+    }};
+}
+
+#[test]
+fn flags_with_unknown_bits() {
+    unknown_bits_are_kept!(DescriptorPoolCreateFlags, 3);
+    unknown_bits_are_kept!(DescriptorSetLayoutCreateFlags, 2);
+}
+
 /// A device that is lent to it is one, as `&Device` and `&&Device` are.
 #[test]
 fn a_lent_device() {
@@ -174,6 +211,53 @@ fn errors_are_values() {
     is_value::<CreatePoolError>();
     is_value::<DeviceAllocationError>();
     is_error::<AllocationError>();
+    is_error::<CreatePoolError>();
+    is_error::<DeviceAllocationError>();
+}
+
+/// The texts of a device's errors, of which a request's are the same.
+#[test]
+fn texts_of_errors() {
+    for error in [
+        CreatePoolError::OutOfDeviceMemory,
+        CreatePoolError::OutOfHostMemory,
+        CreatePoolError::Fragmentation,
+    ] {
+        assert_eq!(error.to_string(), AllocationError::from(error).to_string());
+    }
+    for (error, text) in [
+        (
+            DeviceAllocationError::OutOfDeviceMemory,
+            "Device memory exhausted",
+        ),
+        (
+            DeviceAllocationError::OutOfHostMemory,
+            "Host memory exhausted",
+        ),
+        (DeviceAllocationError::FragmentedPool, "Fragmented pool"),
+        (
+            DeviceAllocationError::OutOfPoolMemory,
+            "Pool memory exhausted",
+        ),
+    ] {
+        assert_eq!(error.to_string(), text);
+    }
+}
+
+/// There are fourteen kinds, in the order of the fields.
+#[test]
+fn counts_by_kind() {
+    let mut counts = DescriptorTotalCount::default();
+    for kind in 0..14 {
+        assert!(counts.set_kind(kind, kind as u32 + 1));
+    }
+    let before = counts;
+    assert!(!counts.set_kind(14, 1) && !counts.set_kind(usize::MAX, 1));
+    assert_eq!(
+        (counts, counts.sampler, counts.inline_uniform_block_bindings),
+        (before, 1, 14)
+    );
+    assert!(counts.to_array().into_iter().eq(1..=14));
 }
 
 /// The original warns once for each key with sets that are out.

@@ -314,6 +314,63 @@ fn a_set_of_another_allocator() {
     }
 }
 
+/// A raw set whose drop panics, if it is a foreign one, poisons nothing.
+#[test]
+fn a_foreign_set_that_panics_at_its_drop() {
+    #[derive(Debug)]
+    struct Raw(bool);
+
+    impl Drop for Raw {
+        fn drop(&mut self) {
+            assert!(!self.0, "{PANICKED}");
+        }
+    }
+
+    struct Gives;
+
+    impl DescriptorDevice<bool, (), Raw> for Gives {
+        unsafe fn create_descriptor_pool(
+            &self,
+            _: &DescriptorTotalCount,
+            _: u32,
+            _: DescriptorPoolCreateFlags,
+        ) -> Result<(), CreatePoolError> {
+            Ok(())
+        }
+
+        unsafe fn destroy_descriptor_pool(&self, _: ()) {}
+
+        unsafe fn alloc_descriptor_sets<'a>(
+            &self,
+            _: &mut (),
+            layouts: impl ExactSizeIterator<Item = &'a bool>,
+            sets: &mut impl Extend<Raw>,
+        ) -> Result<(), DeviceAllocationError> {
+            sets.extend(layouts.map(|panics| Raw(*panics)));
+            Ok(())
+        }
+
+        unsafe fn dealloc_descriptor_sets(&self, _: &mut (), sets: impl Iterator<Item = Raw>) {
+            sets.for_each(drop);
+        }
+    }
+
+    let layout = |panics| SetLayout {
+        layout: panics,
+        counts: DescriptorTotalCount::default(),
+        flags: DescriptorSetLayoutCreateFlags::empty(),
+    };
+    let (mut allocator, mut other) = (DescriptorAllocator::new(0), DescriptorAllocator::new(0));
+    let set = unsafe { allocator.allocate_one(&Gives, &layout(false)) }.unwrap();
+    let foreign = unsafe { other.allocate_one(&Gives, &layout(true)) }.unwrap();
+    let free = || unsafe { allocator.free(&Gives, [set, foreign]) };
+    assert_eq!(panic_of(free), PANICKED);
+    assert!(!allocator.is_poisoned());
+    assert_eq!(allocator.outstanding(), 0);
+    unsafe { allocator.cleanup(&Gives) };
+    assert_eq!(allocator.pool_count(&layout(false).counts, false), 0);
+}
+
 /// Gives back and cleans up when it is dropped, as the devices of programs do.
 struct Owner<'a>(Allocator, &'a Device, Sets);
 

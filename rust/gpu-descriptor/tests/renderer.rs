@@ -1,5 +1,5 @@
 //! `Renderer` beside a list of what it has to have: each call of the device and each growth of memory is
-//! refused in turn; handles that are stale, foreign or doubled; batches, all or none; panics; drops.
+//! refused in turn; handles that are stale, foreign or doubled; batches, all or none; panics.
 
 mod gpu;
 mod refuses;
@@ -10,7 +10,6 @@ use gpu_descriptor::renderer::*;
 use refuses::{bytes, calls, counted, refuse};
 use std::collections::{BTreeSet, HashSet};
 use std::panic::{AssertUnwindSafe, catch_unwind};
-use std::process::Command;
 
 type Sets<'a> = Renderer<u32, usize, Set, &'a Gpu>;
 
@@ -765,35 +764,6 @@ fn a_panic_poisons() {
     assert!(tried > 3);
 }
 
-/// Cleans up at its drop, as programs do.
-struct Cleans<'a>(Stage<'a>);
-
-impl Drop for Cleans<'_> {
-    fn drop(&mut self) {
-        let handle = self.0.held[0].0;
-        unsafe { self.0.renderer.free_sets(&[handle]) }.unwrap();
-        unsafe { self.0.renderer.gpu_done(9) };
-        unsafe { self.0.renderer.free_all() };
-        self.0.renderer.cleanup();
-    }
-}
-
-#[test]
-fn a_drop_in_a_panic_cleans_up_nothing() {
-    let gpu = Gpu::new();
-    let ran = catch_unwind(AssertUnwindSafe(|| {
-        let mut it = Cleans(Stage::new(&gpu));
-        it.0.create(0);
-        it.0.begin();
-        it.0.draw(0);
-        it.0.end();
-        gpu.panics_at_release.set(true);
-        unsafe { it.0.renderer.gpu_done(1) };
-    }));
-    assert!(ran.is_err());
-    assert_eq!(gpu.releases.get(), 1, "the device is asked no more");
-}
-
 fn is_sent<T: Send>(it: T) -> T {
     it
 }
@@ -803,7 +773,7 @@ fn is_sent<T: Send>(it: T) -> T {
 fn owns_a_device() {
     let mut renderer = is_sent(Renderer::new(Gpu::new(), 0));
     let handle = unsafe { renderer.add_layout(layout(0)) }.unwrap();
-    renderer.create_set(handle).unwrap();
+    let _held = renderer.create_set(handle).unwrap();
     assert_eq!(renderer.device().live_sets(), 1);
     assert_eq!(
         format!("{renderer:?}"),
@@ -812,31 +782,4 @@ fn owns_a_device() {
     );
     let gpu = unsafe { renderer.shutdown() };
     assert!(gpu.is_empty());
-}
-
-#[test]
-fn drops() {
-    let how = std::env::var("DROPS").unwrap_or_default();
-    if !how.is_empty() {
-        let gpu = Gpu::new();
-        let mut stage = Stage::new(&gpu);
-        if how != "unused" {
-            stage.create(0);
-        }
-        if how == "shut" {
-            stage.shutdown();
-        }
-        return;
-    }
-    for (how, lines) in [("unused", 0), ("shut", 0), ("left", 1)] {
-        let ran = Command::new(std::env::current_exe().unwrap())
-            .args(["drops", "--exact", "--nocapture"])
-            .env("DROPS", how)
-            .output()
-            .unwrap();
-        let said = String::from_utf8(ran.stderr).unwrap();
-        let seen = said.matches("Descriptor pools were not destroyed").count();
-        assert!(ran.status.success());
-        assert_eq!(seen, lines, "{how}: {said}");
-    }
 }

@@ -139,12 +139,14 @@ macro_rules! bitflag_items {
                 $name(!self.0 & $name::all().0)
             }
 
-            /// The flags that are set, one by one.
+            /// The flags that are set, one by one, and then the other bits, if one is set.
             pub fn iter(&self) -> impl Iterator<Item = Self> + use<> {
-                self.iter_names().map(|(_, flag)| flag)
+                let rest = self.difference($name::all());
+                let flags = self.iter_names().map(|(_, flag)| flag);
+                flags.chain((!rest.is_empty()).then_some(rest))
             }
 
-            /// The flags that are set, one by one, with their names.
+            /// The flags that are set, one by one, with their names. Bits of no flag are left out.
             pub fn iter_names(&self) -> impl Iterator<Item = (&'static str, Self)> + use<> {
                 let all = *self;
                 let set = $name::FLAGS.iter().filter(move |flag| all.contains(flag.value));

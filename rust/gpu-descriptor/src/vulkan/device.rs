@@ -122,6 +122,7 @@ impl Device {
     }
 
     /// The `VkDevice`.
+    #[must_use]
     pub const fn handle(&self) -> DeviceHandle {
         self.handle
     }

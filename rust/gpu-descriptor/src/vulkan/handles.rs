@@ -25,6 +25,7 @@ pub struct DeviceHandle(pub *mut c_void);
 
 impl DeviceHandle {
     /// A handle that a binding has as a number, as `ash::vk::Handle::as_raw` returns it.
+    #[must_use]
     pub fn from_raw(raw: u64) -> Self {
         DeviceHandle(ptr::with_exposed_provenance_mut(raw as usize))
     }

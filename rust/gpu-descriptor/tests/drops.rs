@@ -1,0 +1,218 @@
+//! What a drop says: a line on standard error, or without std a panic. And what is dropped before what.
+
+use gpu_descriptor::frames::FrameManager;
+use gpu_descriptor::renderer::Renderer;
+use gpu_descriptor::*;
+
+include!("numbers/device.rs");
+
+const SETS: &str = "Descriptor sets were not deallocated";
+const POOLS: &str = "Descriptor pools were not destroyed";
+
+fn layout() -> SetLayout<u64> {
+    let counts = DescriptorTotalCount {
+        sampler: 1,
+        ..Default::default()
+    };
+    SetLayout {
+        layout: 0,
+        counts,
+        flags: DescriptorSetLayoutCreateFlags::empty(),
+    }
+}
+
+type Allocator = DescriptorAllocator<u64, u64>;
+type Manager = FrameManager<u64, u64>;
+type Sets = Renderer<u64, u64, u64, Device>;
+
+/// An allocator of which one set is out.
+fn allocator() -> (Allocator, Device, DescriptorSet<u64>) {
+    let (mut allocator, device) = (Allocator::new(0), Device::default());
+    let set = unsafe { allocator.allocate_one(&device, &layout()) }.unwrap();
+    (allocator, device, set)
+}
+
+/// A manager of which one set is out.
+fn manager() -> (Manager, Device, DescriptorSet<u64>) {
+    let (mut manager, device) = (Manager::new(0), Device::default());
+    let set = unsafe { manager.allocate_one(&device, &layout()) }.unwrap();
+    (manager, device, set)
+}
+
+/// A renderer with one pool and no set.
+fn renderer() -> Sets {
+    let mut renderer = Renderer::new(Device::default(), 0);
+    let layout = unsafe { renderer.add_layout(layout()) }.unwrap();
+    let set = renderer.create_set(layout).unwrap();
+    unsafe { renderer.free_sets(&[set]) }.unwrap();
+    renderer
+}
+
+/// Drops, each with what it says.
+const DROPS: [(fn(), Option<&str>); 9] = [
+    (|| drop(allocator()), Some(SETS)),
+    (
+        || {
+            // The pool stays.
+            let (mut allocator, device, set) = allocator();
+            unsafe { allocator.free(&device, [set]) };
+        },
+        None,
+    ),
+    (|| drop(manager()), Some(SETS)),
+    (
+        || {
+            let (mut manager, _, set) = manager();
+            manager.retire(1, set).unwrap();
+        },
+        Some(SETS),
+    ),
+    (
+        || {
+            let (mut manager, device, set) = manager();
+            manager.retire(1, set).unwrap();
+            unsafe { manager.finish(&device, 1) };
+        },
+        None,
+    ),
+    (|| drop(renderer()), Some(POOLS)),
+    (
+        || {
+            let _device = unsafe { renderer().shutdown() };
+        },
+        None,
+    ),
+    (
+        || {
+            let _device = renderer().into_device();
+        },
+        None,
+    ),
+    (
+        || {
+            let _unused = Sets::new(Device::default(), 0);
+        },
+        None,
+    ),
+];
+
+#[cfg(feature = "std")]
+#[test]
+fn what_a_drop_writes() {
+    if let Ok(place) = std::env::var("DROPPED") {
+        return DROPS[place.parse::<usize>().unwrap()].0();
+    }
+    for (place, (_, line)) in DROPS.iter().enumerate() {
+        let ran = std::process::Command::new(std::env::current_exe().unwrap())
+            .args(["what_a_drop_writes", "--exact", "--nocapture"])
+            .env("DROPPED", place.to_string())
+            .output()
+            .unwrap();
+        assert!(ran.status.success(), "{place}");
+        let errors = String::from_utf8(ran.stderr).unwrap();
+        let lines = errors.lines().filter(|it| [SETS, POOLS].contains(it));
+        assert!(lines.eq(*line), "{place}: {errors}");
+    }
+}
+
+#[cfg(not(feature = "std"))]
+#[test]
+fn when_a_drop_panics() {
+    for (place, (run, text)) in DROPS.iter().enumerate() {
+        let said = std::panic::catch_unwind(run).err().map(|panic| {
+            let text = panic.downcast_ref::<String>().expect("a text");
+            text.clone()
+        });
+        assert_eq!(said.as_deref(), *text, "{place}");
+    }
+}
+
+/// Raw values and a device that note their drops. Without std the drop of pools is a panic.
+#[cfg(feature = "std")]
+mod order {
+    use super::*;
+    use std::cell::RefCell;
+    use std::rc::Rc;
+
+    type Log = Rc<RefCell<Vec<&'static str>>>;
+
+    #[derive(Debug)]
+    struct Noted(&'static str, Log);
+
+    impl Drop for Noted {
+        fn drop(&mut self) {
+            self.1.borrow_mut().push(self.0);
+        }
+    }
+
+    /// A device that holds what notes its drop.
+    struct Gpu(Noted);
+
+    impl DescriptorDevice<Noted, Noted, Noted> for Gpu {
+        unsafe fn create_descriptor_pool(
+            &self,
+            _: &DescriptorTotalCount,
+            _: u32,
+            _: DescriptorPoolCreateFlags,
+        ) -> Result<Noted, CreatePoolError> {
+            Ok(Noted("pool", self.0.1.clone()))
+        }
+
+        unsafe fn destroy_descriptor_pool(&self, _: Noted) {}
+
+        unsafe fn alloc_descriptor_sets<'a>(
+            &self,
+            _: &mut Noted,
+            layouts: impl ExactSizeIterator<Item = &'a Noted>,
+            sets: &mut impl Extend<Noted>,
+        ) -> Result<(), DeviceAllocationError> {
+            sets.extend(layouts.map(|_| Noted("set", self.0.1.clone())));
+            Ok(())
+        }
+
+        unsafe fn dealloc_descriptor_sets(&self, _: &mut Noted, sets: impl Iterator<Item = Noted>) {
+            sets.for_each(drop);
+        }
+    }
+
+    /// A renderer with a layout, a pool, and sets that are drawn, held and retired.
+    fn renderer(log: &Log) -> Renderer<Noted, Noted, Noted, Gpu> {
+        let mut renderer = Renderer::new(Gpu(Noted("device", log.clone())), 0);
+        let SetLayout { counts, flags, .. } = layout();
+        let layout = SetLayout {
+            layout: Noted("layout", log.clone()),
+            counts,
+            flags,
+        };
+        let layout = unsafe { renderer.add_layout(layout) }.unwrap();
+        let sets = renderer.create_sets(layout, 2).unwrap();
+        renderer.destroy_set(sets[0], 0).unwrap();
+        renderer.begin_frame().unwrap();
+        let _drawn = renderer.draw(layout).unwrap();
+        renderer
+    }
+
+    /// Nothing is dropped after the device that it came from.
+    #[test]
+    fn the_device_is_dropped_last() {
+        let log = Log::default();
+        drop(renderer(&log));
+        let mut noted = log.take();
+        assert_eq!(noted.pop(), Some("device"));
+        noted.sort();
+        assert_eq!(noted, ["layout", "pool", "set", "set", "set"]);
+        // The device that is handed back isn't dropped.
+        for shuts_down in [false, true] {
+            let renderer = renderer(&log);
+            let gpu = match shuts_down {
+                true => unsafe { renderer.shutdown() },
+                false => renderer.into_device(),
+            };
+            let mut noted = log.take();
+            noted.sort();
+            assert_eq!(noted, ["layout", "pool", "set", "set", "set"]);
+            drop(gpu);
+            assert_eq!(log.take(), ["device"]);
+        }
+    }
+}
