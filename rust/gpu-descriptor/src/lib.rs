@@ -88,6 +88,8 @@
 extern crate alloc as std_alloc;
 
 mod allocator;
+#[cfg(doctest)]
+mod compile_fail;
 #[forbid(unsafe_code)]
 mod counts;
 #[allow(dead_code, unused_imports, clippy::all, missing_docs)]

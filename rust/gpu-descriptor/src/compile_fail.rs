@@ -1,0 +1,144 @@
+//! What must not compile. Beside each text stands one that differs in a word or two and compiles, so the
+//! first fails for no other reason.
+//!
+//! A set that is dropped unnoticed, of an allocator:
+//!
+//! ```compile_fail
+//! #![deny(unused_must_use)]
+//! use gpu_descriptor::{AllocationError, DescriptorAllocator, SetLayout};
+//! # include!(concat!(env!("CARGO_MANIFEST_DIR"), "/tests/numbers/device.rs"));
+//! # fn main() {}
+//! # fn f(device: &Device, layout: &SetLayout<u64>) -> Result<(), AllocationError> {
+//! let mut allocator = DescriptorAllocator::new(0);
+//! unsafe { allocator.allocate_one(device, layout)? };
+//! # Ok(())
+//! # }
+//! ```
+//!
+//! ```
+//! #![deny(unused_must_use)]
+//! use gpu_descriptor::{AllocationError, DescriptorAllocator, SetLayout};
+//! # include!(concat!(env!("CARGO_MANIFEST_DIR"), "/tests/numbers/device.rs"));
+//! # fn main() {}
+//! # fn f(device: &Device, layout: &SetLayout<u64>) -> Result<(), AllocationError> {
+//! let mut allocator = DescriptorAllocator::new(0);
+//! let _set = unsafe { allocator.allocate_one(device, layout)? };
+//! # Ok(())
+//! # }
+//! ```
+//!
+//! And of a renderer: its handle.
+//!
+//! ```compile_fail
+//! #![deny(unused_must_use)]
+//! use gpu_descriptor::renderer::{LayoutHandle, RenderError, Renderer};
+//! # include!(concat!(env!("CARGO_MANIFEST_DIR"), "/tests/numbers/device.rs"));
+//! # fn main() {}
+//! # type Sets = Renderer<u64, u64, u64, Device>;
+//! # fn f(renderer: &mut Sets, layout: LayoutHandle) -> Result<(), RenderError> {
+//! renderer.create_set(layout)?;
+//! # Ok(())
+//! # }
+//! ```
+//!
+//! ```compile_fail
+//! #![deny(unused_must_use)]
+//! use gpu_descriptor::renderer::{LayoutHandle, RenderError, Renderer};
+//! # include!(concat!(env!("CARGO_MANIFEST_DIR"), "/tests/numbers/device.rs"));
+//! # fn main() {}
+//! # type Sets = Renderer<u64, u64, u64, Device>;
+//! # fn f(renderer: &mut Sets, layout: LayoutHandle) -> Result<(), RenderError> {
+//! renderer.draw(layout)?;
+//! # Ok(())
+//! # }
+//! ```
+//!
+//! A number that nobody reads:
+//!
+//! ```compile_fail
+//! #![deny(unused_must_use)]
+//! use gpu_descriptor::renderer::{LayoutHandle, RenderError, Renderer};
+//! # include!(concat!(env!("CARGO_MANIFEST_DIR"), "/tests/numbers/device.rs"));
+//! # fn main() {}
+//! # type Sets = Renderer<u64, u64, u64, Device>;
+//! # fn f(renderer: &mut Sets, layout: LayoutHandle) -> Result<(), RenderError> {
+//! renderer.outstanding();
+//! # Ok(())
+//! # }
+//! ```
+//!
+//! ```
+//! #![deny(unused_must_use)]
+//! use gpu_descriptor::renderer::{LayoutHandle, RenderError, Renderer};
+//! # include!(concat!(env!("CARGO_MANIFEST_DIR"), "/tests/numbers/device.rs"));
+//! # fn main() {}
+//! # type Sets = Renderer<u64, u64, u64, Device>;
+//! # fn f(renderer: &mut Sets, layout: LayoutHandle) -> Result<(), RenderError> {
+//! let _set = renderer.create_set(layout)?;
+//! let _drawn = renderer.draw(layout)?;
+//! let _count = renderer.outstanding();
+//! # Ok(())
+//! # }
+//! ```
+//!
+//! An allocator, a manager or a renderer in another thread, if its pools or sets can't go there:
+//!
+//! ```compile_fail
+//! # use gpu_descriptor::{DescriptorAllocator, frames::FrameManager};
+//! # use std::{rc::Rc, sync::Arc};
+//! fn is_sent<T: Send>() {}
+//! is_sent::<DescriptorAllocator<Rc<u8>, u64>>();
+//! ```
+//!
+//! ```compile_fail
+//! # use gpu_descriptor::{DescriptorAllocator, frames::FrameManager};
+//! # use std::{rc::Rc, sync::Arc};
+//! fn is_sent<T: Send>() {}
+//! is_sent::<FrameManager<u64, Rc<u8>>>();
+//! ```
+//!
+//! ```
+//! # use gpu_descriptor::{DescriptorAllocator, frames::FrameManager};
+//! # use std::{rc::Rc, sync::Arc};
+//! fn is_sent<T: Send>() {}
+//! is_sent::<DescriptorAllocator<Arc<u8>, u64>>();
+//! is_sent::<FrameManager<u64, Arc<u8>>>();
+//! ```
+//!
+//! A device of its own beside a borrowed one, which is a device already (E0119):
+//!
+//! ```compile_fail
+//! # use gpu_descriptor::*;
+//! struct Gpu;
+//! # macro_rules! device_for { ($type:ty) => { impl DescriptorDevice<u64, u64, u64> for $type {
+//! #     unsafe fn create_descriptor_pool(
+//! #         &self, _: &DescriptorTotalCount, _: u32, _: DescriptorPoolCreateFlags,
+//! #     ) -> Result<u64, CreatePoolError> { Ok(1) }
+//! #     unsafe fn destroy_descriptor_pool(&self, _: u64) {}
+//! #     unsafe fn alloc_descriptor_sets<'a>(
+//! #         &self, _: &mut u64, _: impl ExactSizeIterator<Item = &'a u64>, _: &mut impl Extend<u64>,
+//! #     ) -> Result<(), DeviceAllocationError> { Ok(()) }
+//! #     unsafe fn dealloc_descriptor_sets(&self, _: &mut u64, _: impl Iterator<Item = u64>) {}
+//! # } } }
+//! device_for!(Gpu);
+//! device_for!(&Gpu);
+//! ```
+//!
+//! ```
+//! # use gpu_descriptor::*;
+//! struct Gpu;
+//! struct Borrowed;
+//! # macro_rules! device_for { ($type:ty) => { impl DescriptorDevice<u64, u64, u64> for $type {
+//! #     unsafe fn create_descriptor_pool(
+//! #         &self, _: &DescriptorTotalCount, _: u32, _: DescriptorPoolCreateFlags,
+//! #     ) -> Result<u64, CreatePoolError> { Ok(1) }
+//! #     unsafe fn destroy_descriptor_pool(&self, _: u64) {}
+//! #     unsafe fn alloc_descriptor_sets<'a>(
+//! #         &self, _: &mut u64, _: impl ExactSizeIterator<Item = &'a u64>, _: &mut impl Extend<u64>,
+//! #     ) -> Result<(), DeviceAllocationError> { Ok(()) }
+//! #     unsafe fn dealloc_descriptor_sets(&self, _: &mut u64, _: impl Iterator<Item = u64>) {}
+//! # } } }
+//! device_for!(Gpu);
+//! // Without an impl for the type itself.
+//! device_for!(&Borrowed);
+//! ```
