@@ -48,8 +48,11 @@ fn renderer() -> Sets {
     renderer
 }
 
+/// Makes something and drops it.
+type Drops = fn();
+
 /// Drops, each with what it says.
-const DROPS: [(fn(), Option<&str>); 9] = [
+const DROPS: [(Drops, Option<&str>); 9] = [
     (|| drop(allocator()), Some(SETS)),
     (
         || {
