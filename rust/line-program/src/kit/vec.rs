@@ -18,10 +18,6 @@ impl<T> Vec<T> {
         items.reserve_exact(capacity)?;
         Ok(items)
     }
-
-    pub fn clear(&mut self) {
-        self.0.clear()
-    }
 }
 
 impl<T: PartialEq> PartialEq for Vec<T> {
