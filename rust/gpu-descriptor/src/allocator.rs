@@ -12,7 +12,7 @@ use core::mem::take;
 use core::ops::Range;
 use std_alloc::vec::Vec;
 
-/// Descriptor allocator. Can be used to allocate descriptor sets for any layout.
+/// Allocates descriptor sets of any layouts, from pools that it creates, sizes and destroys.
 ///
 /// If a device, or an iterator of sets, panics in a call, nobody knows what the device did. The
 /// allocator is poisoned from then on: `allocate` panics, and `free` and `cleanup` panic too, or do
@@ -27,7 +27,7 @@ pub struct DescriptorAllocator<P, S> {
 }
 
 impl<P, S> DescriptorAllocator<P, S> {
-    /// Create new allocator instance.
+    /// An allocator without pools. It allocates nothing.
     ///
     /// The argument is the driver's limit `maxUpdateAfterBindDescriptorsInAllPools`; with a greater one
     /// the pools may exceed what the driver allows. A program without update-after-bind layouts may pass 0.
@@ -52,18 +52,16 @@ impl<P, S> DescriptorAllocator<P, S> {
         }
     }
 
-    /// Allocate descriptor set with specified layout.
+    /// Allocates `count` sets of a layout.
     ///
-    /// The existing pools for the layout's counts and flags are asked first, from the newest to the
-    /// oldest, and then new pools are created. If the request can't be met, all sets that it took are
+    /// The existing pools of the layout's [key](crate) are asked first, from the newest to the oldest, and
+    /// then new pools are created. If the request can't be met, all sets that it took are
     /// freed.
     ///
     /// # Safety
     ///
-    /// * Same `device` instance must be passed to all method calls of
-    ///   one `DescriptorAllocator` instance.
-    /// * `flags` must match flags that were used to create the layout.
-    /// * `layout_descriptor_count` must match descriptor numbers in the layout.
+    /// * Every call of this allocator gets the same device.
+    /// * `flags` and `layout_descriptor_count` are those of the layout.
     ///
     /// # Errors
     ///
@@ -183,7 +181,7 @@ impl<P, S> DescriptorAllocator<P, S> {
         self.inner.call(|inner| inner.allocate_one(device, layout))
     }
 
-    /// Free descriptor sets. It allocates nothing.
+    /// Frees sets. It allocates nothing.
     ///
     /// Neighbours of one pool are freed by one call of the device. The caller's iterator is read during
     /// that call. Whenever the oldest pools of a key have no set left, they are destroyed, but never the
@@ -191,14 +189,12 @@ impl<P, S> DescriptorAllocator<P, S> {
     ///
     /// # Safety
     ///
-    /// * Same `device` instance must be passed to all method calls of
-    ///   one `DescriptorAllocator` instance.
+    /// * Every call of this allocator gets the same device.
     /// * The sets came from this allocator. Sets of others are found (see Panics) if the process creates
     ///   fewer than 2^24 allocators and managers.
     /// * The raw set of none was replaced.
-    /// * None of descriptor sets can be referenced in any pending command buffers.
-    /// * All command buffers where at least one of descriptor sets referenced
-    ///   move to invalid state.
+    /// * No command buffer into which one of the sets was bound is pending, or is submitted again before it
+    ///   is recorded anew.
     ///
     /// # Panics
     ///
@@ -218,14 +214,11 @@ impl<P, S> DescriptorAllocator<P, S> {
         own.refuse_foreign();
     }
 
-    /// Perform cleanup to allow resources reuse. It allocates nothing.
-    ///
-    /// The oldest pools of each key are destroyed up to the first that has a set.
+    /// Destroys the oldest pools of each [key](crate), up to the first that has a set. It allocates nothing.
     ///
     /// # Safety
     ///
-    /// * Same `device` instance must be passed to all method calls of
-    ///   one `DescriptorAllocator` instance.
+    /// Every call of this allocator gets the same device.
     ///
     /// # Panics
     ///

@@ -74,9 +74,8 @@ impl<P, S> FrameManager<P, S> {
     ///
     /// # Safety
     ///
-    /// * Same `device` instance must be passed to all method calls of one `FrameManager` instance.
-    /// * `flags` must match flags that were used to create the layout.
-    /// * `layout_descriptor_count` must match descriptor numbers in the layout.
+    /// * Every call of this manager gets the same device.
+    /// * `flags` and `layout_descriptor_count` are those of the layout.
     ///
     /// # Errors
     ///
@@ -272,12 +271,12 @@ impl<P, S> FrameManager<P, S> {
     ///
     /// # Safety
     ///
-    /// * Same `device` instance must be passed to all method calls of one `FrameManager` instance.
-    /// * No pending command buffer refers to a set that was retired at this frame or before.
+    /// * Every call of this manager gets the same device.
+    /// * No command buffer into which a set was bound that was retired at this frame or before is pending,
+    ///   or is submitted again before it is recorded anew.
     /// * The retired sets came from this manager. `retire` returns any other set if the process
     ///   creates fewer than 2^24 allocators and managers.
     /// * The raw set of none was replaced.
-    /// * All command buffers where one of them is referenced move to invalid state.
     ///
     /// # Panics
     ///
@@ -309,12 +308,12 @@ impl<P, S> FrameManager<P, S> {
         own.refuse_foreign();
     }
 
-    /// Destroys the oldest pools of each key up to the first that has a set. Retired sets count. It
-    /// allocates nothing.
+    /// Destroys the oldest pools of each [key](crate), up to the first that has a set,
+    /// retired or not. It allocates nothing.
     ///
     /// # Safety
     ///
-    /// Same `device` instance must be passed to all method calls of one `FrameManager` instance.
+    /// Every call of this manager gets the same device.
     ///
     /// # Panics
     ///

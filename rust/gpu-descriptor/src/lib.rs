@@ -6,6 +6,10 @@
 //! last is done, and [`renderer::Renderer`] owns a device and keeps all descriptor sets of a renderer
 //! under handles. With the feature `vulkan` there is a device over the functions of Vulkan.
 //!
+//! The *key* of a layout is its descriptor counts, and whether it is update-after-bind. Layouts of one key
+//! share pools, and a pool has sets of one key. Where these docs say *the original*, they mean
+//! gpu-descriptor 0.3.2.
+//!
 //! ```
 //! use gpu_descriptor::{
 //!     CreatePoolError, DescriptorAllocator, DescriptorDevice, DescriptorPoolCreateFlags,

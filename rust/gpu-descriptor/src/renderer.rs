@@ -249,7 +249,7 @@ impl<L, P, S, D: DescriptorDevice<L, P, S>> Renderer<L, P, S, D> {
         self.inner.call_in_drop(|inner| inner.gpu_done(frame));
     }
 
-    /// Destroys the oldest pools of each key up to the first that has a set, the last pool too. Call
+    /// Destroys the oldest pools of each [key](crate) up to the first that has a set, the last pool too. Call
     /// it between levels, or when memory is short.
     ///
     /// # Panics
