@@ -71,6 +71,11 @@ fn raw<S>(set: &DescriptorSet<S>) -> &S {
     set.raw()
 }
 
+fn write<S: Drop>(set: &mut DescriptorSet<S>, raw: S) {
+    let place: &mut S = set.raw_mut();
+    *place = raw;
+}
+
 #[test]
 fn books_of_a_pool(rt: HostRuntime) {
     is_value::<PoolView>();
