@@ -168,8 +168,9 @@ macro_rules! unknown_bits_are_kept {
         );
         assert_eq!((!rest, rest.complement()), (all, all));
         assert_eq!((both - all, both.difference(all)), (rest, rest));
-        assert_eq!((both & rest, both ^ rest), (rest, all));
-        assert!(both.contains(rest) && both.intersects(rest) && !all.intersects(rest));
+        assert_eq!((both & rest, both ^ rest, all ^ rest), (rest, all, both));
+        assert!(both.contains(rest) && both.intersects(rest));
+        assert!(!all.contains(rest) && !all.intersects(rest));
         assert_eq!($flags::from_bits(both.bits()), None);
         assert_eq!($flags::from_bits_truncate(both.bits()), all);
         // They come last, and together.
@@ -181,6 +182,8 @@ macro_rules! unknown_bits_are_kept {
         changed.remove($flags::from_bits_retain(4));
         changed.toggle(all);
         assert_eq!(changed.bits(), 1 << 31);
+        changed.insert(rest);
+        assert_eq!(changed, rest);
     }};
 }
 

@@ -85,6 +85,7 @@ fn pools_of_a_manager() {
         (it.pool_count(&counts, false), it.pool_count(&counts, true)),
         (1, 0)
     );
+    assert_eq!(it.update_after_bind_capacity(), 0);
     let view = PoolView {
         number: 0,
         allocated: 3,
@@ -96,4 +97,9 @@ fn pools_of_a_manager() {
         (None, None)
     );
     unsafe { it.free(&device, sets) };
+    // One set of 64 is out.
+    let (mut it, layout) = (FrameManager::new(1000), self::layout());
+    let set = unsafe { it.allocate_one(&device, &layout) }.unwrap();
+    assert_eq!(it.update_after_bind_capacity(), 64);
+    unsafe { it.free(&device, [set]) };
 }
