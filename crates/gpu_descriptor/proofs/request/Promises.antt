@@ -1,5 +1,5 @@
 -- What every outcome of a request promises.
-use Rattle.gpu_descriptor.proofs.Common.{◌≡◌, ◌≢◌, ℕ, suc, ◌+◌, ◌-◌, ◌*◌, ◌<◌, ◌≤◌, Bool, List, [], ◌∷◌, map, length, sum_by, inl, inr, Result, Err, refl, sym, ap, ◌∙◌, subst, arith, length-map, length-append, sum_by-cons, sum_by-append, pool_size_floor, ◌↔◌, min, OnOk, IfErr, Counters, create_refused, alloc_refused, pool_refusals, no_rise, CreatePoolError, DeviceAllocationError, AllocationError, Stop, Item, Key, Entry, cases_lt, ◌⊎◌, error_of_alloc, Allocates, Call, IsBack, IsDone, IsStopped, StopsAt, out_then, stop_error, stop_rise, wanting, Fresh, IsFreshPrefix, IsNextSize, room_after, AreSized, AreFull, IsFreshList, given_by, Grant, Part, portion_of, items_at, items_in, AreBelowTwice, IsShort, CreatesOnlyWhereShort, pool_descriptors, Portion, offer, rest, portions_of}
+use Rattle.gpu_descriptor.proofs.Common.{◌≡◌, ◌≢◌, ℕ, suc, ◌+◌, ◌-◌, ◌*◌, ◌<◌, ◌≤◌, Bool, List, [], ◌∷◌, map, length, sum_by, inl, inr, refl, sym, ap, ◌∙◌, subst, arith, length-map, length-append, sum_by-cons, sum_by-append, pool_size_floor, ◌↔◌, min, OnOk, Counters, create_refused, alloc_refused, no_rise, CreatePoolError, DeviceAllocationError, Stop, Item, Key, Entry, cases_lt, ◌⊎◌, Allocates, Call, IsBack, IsDone, IsStopped, StopsAt, out_then, stop_rise, wanting, Fresh, IsFreshPrefix, IsNextSize, room_after, AreSized, AreFull, IsFreshList, given_by, Grant, Part, portion_of, items_at, items_in, AreBelowTwice, IsShort, CreatesOnlyWhereShort, pool_descriptors, Portion, offer, rest, portions_of}
 use Rattle.gpu_descriptor_types.proofs.Sizes.{pool_size_some}
 use Rattle.gpu_descriptor.specs.declared.bucket.stop.Stop.TheVariants as stop
 use Rattle.gpu_descriptor.specs.Model.Outcomes.Allocates.{none, above_limit as was_above_limit, past_bound as was_past_bound, no_memory_at_start as had_no_memory, done, stopped}
