@@ -16,7 +16,6 @@ ghost use Rattle.descriptor_renderer.specs.LayoutRegistries.{registry_of};
 mod frames;
 mod sets;
 
-use crate::handles::{DrawHandle, SetHandle};
 use crate::held_sets::HeldSets;
 use crate::layout_registry::{LayoutHandle, LayoutRegistry};
 use descriptor_frames::FrameManager;
@@ -219,7 +218,7 @@ impl<L: Drop, P: Drop, S: Drop, D: DescriptorDevice<L, P, S>> Renderer<L, P, S, 
     }
 
     /// Frees all sets, destroys all pools, and hands the device back. It can't be refused. The
-    /// device must be done with all work: no contract sees that.
+    /// device must be done with all work.
     pub fn shutdown(mut self) -> D
         ensures { (D.ledger result).pools ≡ pools_besides self }
     {

@@ -3,7 +3,8 @@ ghost use Rattle.std.specs.Prelude.{◌≡◌};
 ghost use Rattle.gpu_descriptor_types.specs.Ledger.{alloc_refused, create_refused, no_rise};
 ghost use Rattle.descriptor_script.specs.Inner.Counters.{counters_of};
 
-use gpu_descriptor_types::{Counter, CreatePoolError, DeviceAllocationError};
+use crate::counter::Counter;
+use gpu_descriptor_types::{CreatePoolError, DeviceAllocationError};
 
 /// The counters of a ledger.
 #[derive(Debug, Drop)]

@@ -45,7 +45,7 @@ impl<L, P, S> Session<L, P, S> {
         ensures sets { sets_of result ≡ [] }
     {
         Session {
-            allocator: DescriptorAllocator::new(alloc, max),
+            allocator: DescriptorAllocator::with_ids(alloc, max, 0..u64::MAX),
             layouts: Vec::new(alloc),
             slots: Slots::new(alloc),
         }

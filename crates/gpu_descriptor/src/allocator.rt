@@ -61,9 +61,7 @@ impl<P, S> Model for DescriptorAllocator<P, S> {
 }
 
 impl<P, S> DescriptorAllocator<P, S> {
-    /// An allocator without keys, under a limit on the update-after-bind descriptors of all
-    /// outstanding sets, and of all pools for such sets. It agrees with every device, and
-    /// allocates nothing.
+    /// The same as `with_ids`, with a range of all ids.
     pub fn new(alloc: Global, max_update_after_bind_descriptors_in_all_pools: u32) -> Self
         ensures value { result ≡ without_keys max_update_after_bind_descriptors_in_all_pools }
         ensures agree { (name : P → ℕ) (ledger : Ledger) → Agrees name result ledger }
@@ -75,9 +73,12 @@ impl<P, S> DescriptorAllocator<P, S> {
         )
     }
 
-    /// The same as `new`, but the ids of its keys are taken from this range. Each set bears the id of
-    /// its key, so sets of allocators whose ranges are disjoint can be told apart. A request for a new
-    /// key for which no id is left is refused as out of host memory.
+    /// An allocator without keys, under a limit on the update-after-bind descriptors of all
+    /// outstanding sets, and of all pools for such sets. It allocates nothing.
+    ///
+    /// The ids of its keys are taken from this range. Each set bears the id of its key, so sets of
+    /// allocators whose ranges are disjoint can be told apart. A request for a new key for which no
+    /// id is left is refused as out of host memory.
     pub fn with_ids(
         alloc: Global,
         max_update_after_bind_descriptors_in_all_pools: u32,

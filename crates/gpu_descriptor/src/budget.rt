@@ -1,7 +1,7 @@
-//! Two numbers of the allocator that the layers below change.
+//! What the layers below change of the allocator.
 use gpu_descriptor_types::Tally;
 
-/// Two numbers of the allocator, as the layers below change them.
+/// What the layers below change of the allocator.
 #[derive(Debug, Drop)]
 pub(crate) struct Budget {
     /// What the limit leaves for descriptors of further pools of marked layouts.

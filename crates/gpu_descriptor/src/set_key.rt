@@ -1,4 +1,4 @@
-//! The key of a set that was handed out, as proofs have it.
+//! The key of a set that was handed out, for contracts.
 ghost use Rattle.std.specs.Prelude.{◌≡◌};
 ghost use Rattle.std.specs.Borrow.{ftrue};
 ghost use Rattle.gpu_descriptor.specs.Model.Books.{Key};
@@ -6,7 +6,7 @@ ghost use Rattle.gpu_descriptor.specs.Model.Books.{Key};
 use crate::key::BucketKey;
 use std::marker::Model;
 
-/// The key under which a set went out, which only proofs read. It has no bytes.
+/// The key under which a set went out, for contracts. It has no bytes.
 #[derive(Debug, Drop)]
 pub(crate) struct SetKey {
     pub(crate) ghost is: { Key },

@@ -17,15 +17,14 @@ use crate::sink::SetSink;
 
 /// A device with layouts `L`, raw pools `P` and raw sets `S`.
 ///
-/// An implementation says what its values mean: names of pools, sets and layouts, counts and marks
-/// of layouts, the layout of a set, and a ledger of its live pools and of what was done. Each call says by one equation on
-/// the ledger what it leaves, so whatever it does not name stays. Refusals are free: each call that
-/// answers a `Result` may refuse whenever it likes.
+/// Each call that returns a `Result` may refuse whenever it likes.
 pub trait DescriptorDevice<L, P, S> {
-    /// What its pools, sets and layouts mean.
+    /// What its values mean: the names of pools, sets and layouts, the counts and marks of layouts,
+    /// and the layout of a set.
     ghost meaning: { Meaning L P S };
 
-    /// What the device owes.
+    /// Its live pools, and what was done. Each call states by one equation what it leaves, so what that
+    /// doesn't name stays.
     ghost ledger: { Self → Ledger };
 
     /// Creates a pool of at most `max_sets` sets, which together have at most these counts.

@@ -1,8 +1,7 @@
 //! What a descriptor set allocator and its device share: counts of descriptors, the size of a new
-//! pool, and the interface of a device, said over a ledger of what it owes.
+//! pool, and the interface of a device.
 #![tactic(auto)]
 
-mod counter;
 mod counts;
 mod device;
 mod errors;
@@ -11,8 +10,8 @@ pub mod laws;
 mod layouts;
 mod pool_size;
 mod sink;
+mod tally;
 
-pub use counter::{Counter, Tally};
 pub use counts::DescriptorTotalCount;
 pub use device::DescriptorDevice;
 pub use errors::{CreatePoolError, DeviceAllocationError};
@@ -20,3 +19,4 @@ pub use flags::DescriptorPoolCreateFlags;
 pub use layouts::Layouts;
 pub use pool_size::{cut_pool_size, new_pool_size};
 pub use sink::SetSink;
+pub use tally::Tally;

@@ -3,10 +3,6 @@ ghost use Rattle.std.specs.Prelude.{◌≡◌, ◌+◌, ◌<◌, [], ◌∷◌, 
 ghost use Rattle.gpu_descriptor_types.specs.Ledger.{Sink};
 
 /// Takes sets, as long as some more fit.
-///
-/// A sink is lent to the device, which hands it back in a state of which its caller knows what the
-/// clauses of `put` say. So they say the whole of it: what is kept of each set, and that this
-/// stays.
 pub trait SetSink<S> {
     /// What a sink keeps of a set.
     type Kept;
@@ -21,6 +17,8 @@ pub trait SetSink<S> {
 
     /// Appends a set.
     fn put(&mut self, set: S)
+        // A device returns the borrowed sink in a state of which its caller knows what these clauses
+        // say. So they say the whole of it: what is kept of each set, and that this stays.
         requires { 0 < sink.room self.old }
         ensures kept { sink.kept self.new ≡ sink.kept self.old ++ sink.kept_as self.old set ∷ [] }
         ensures alike { sink.kept_as self.new ≡ sink.kept_as self.old }

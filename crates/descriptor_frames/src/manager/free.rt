@@ -22,8 +22,7 @@ impl<P, S> FrameManager<P, S> {
 
     /// Frees at once the sets in use that the iterator yields up to its end, as
     /// `DescriptorAllocator::free_from` does. It allocates nothing. The retired sets stay. Nothing
-    /// that uses one of the sets may have been submitted, or the device must be done with it: no
-    /// contract sees that.
+    /// that uses one of the sets may have been submitted, or the device must be done with it.
     pub fn free_from<L, D: DescriptorDevice<L, P, S>, I: Iterator<Item = DescriptorSet<S>>>(
         &mut self,
         device: &mut D,
@@ -49,8 +48,7 @@ impl<P, S> FrameManager<P, S> {
     }
 
     /// Frees all sets that were retired at this frame or before, those of earlier frames first.
-    /// It allocates nothing and can't fail. The device must be done with the work
-    /// of these frames: no contract sees that.
+    /// It allocates nothing and can't fail. The device must be done with the work of these frames.
     ///
     /// It takes about as many steps as sets are freed; the others are not moved. With none it makes
     /// no call of the device and changes nothing.
@@ -94,7 +92,7 @@ impl<P, S: Drop> FrameManager<P, S> {
 
     /// Frees sets in use at once, as `DescriptorAllocator::free_all` does. The retired sets
     /// stay. Nothing that uses one of the sets may have been submitted, or the device must be done
-    /// with it: no contract sees that.
+    /// with it.
     pub fn free_all<L, D: DescriptorDevice<L, P, S>>(
         &mut self,
         device: &mut D,

@@ -121,7 +121,7 @@ impl<L: Drop, P: Drop, S: Drop, D: DescriptorDevice<L, P, S>> Renderer<L, P, S, 
 
     /// Frees sets at once, all or none, in the order of the list: neighbours of one pool in one call
     /// of the device. Their handles name nothing from now on. It allocates nothing. The device must be
-    /// done with the work that uses them: no contract sees that.
+    /// done with the work that uses them.
     ///
     /// It returns `NoSet` if a handle names no set that the renderer holds, or is in the list
     /// twice. Then nothing changed.
@@ -199,7 +199,7 @@ impl<L: Drop, P: Drop, S: Drop, D: DescriptorDevice<L, P, S>> Renderer<L, P, S, 
 
     /// Frees all sets at once: those that wait for a frame, those of the open frame, which is ended,
     /// and those that are held. It allocates nothing. The device must be done with the work that uses
-    /// them: no contract sees that.
+    /// them.
     pub fn free_all(&mut self)
         ensures none { (length (drawn_in self.new).all ≡ 0) × (length (held_in self.new).all ≡ 0)
             × (length (retired_in self.new) ≡ 0) }

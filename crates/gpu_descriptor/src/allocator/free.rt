@@ -16,13 +16,7 @@ use gpu_descriptor_types::DescriptorDevice;
 use std::vec::Vec;
 
 impl<P, S> DescriptorAllocator<P, S> {
-    /// Frees sets. It allocates nothing and can't fail.
-    ///
-    /// Neighbours of one pool are freed by one call of the device. Whenever the oldest pools of their
-    /// key have no set left, these are destroyed, but never the key's last pool.
-    ///
-    /// `device` must be that of all other calls. It must be done with all work that uses one of the
-    /// sets, and what was recorded with them is not to be submitted again: no contract sees that.
+    /// Frees sets, as `free_from` does.
     pub fn free<L, D: DescriptorDevice<L, P, S>, I: IntoIterator<Item = DescriptorSet<S>>>(
         &mut self,
         device: &mut D,
@@ -46,7 +40,13 @@ impl<P, S> DescriptorAllocator<P, S> {
         self.free_from(device, &mut sets);
     }
 
-    /// The same as `free`, for the sets that the iterator yields up to its end.
+    /// Frees the sets that the iterator yields up to its end. It allocates nothing and can't fail.
+    ///
+    /// Neighbours of one pool are freed by one call of the device. Whenever the oldest pools of their
+    /// key have no set left, these are destroyed, but never the key's last pool.
+    ///
+    /// `device` must be that of all other calls, and done with all work that uses one of the sets.
+    /// What was recorded with them must not be submitted again.
     #[inline]
     pub fn free_from<L, D: DescriptorDevice<L, P, S>, I: Iterator<Item = DescriptorSet<S>>>(
         &mut self,
@@ -117,13 +117,13 @@ impl<P, S> DescriptorAllocator<P, S> {
 }
 
 impl<P, S: Drop> DescriptorAllocator<P, S> {
-    /// The same as `free`, for the sets of a vector. What it asks of them is one clause on their
-    /// list, which `allocate` leaves met.
+    /// Frees the sets of a vector, as `free_from` does.
     pub fn free_all<L, D: DescriptorDevice<L, P, S>>(
         &mut self,
         device: &mut D,
         sets: Vec<DescriptorSet<S>>,
     )
+        // Of the sets it asks one fact about their list, which `allocate` leaves true.
         requires agree { Agrees D.meaning.pool_name self.old (D.ledger device.old) }
         requires outstanding { AreOutstanding (items_of D.meaning.set_name sets.items)
             (state_of D.meaning.pool_name self.old (D.ledger device.old)) }

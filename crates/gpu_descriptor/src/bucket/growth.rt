@@ -29,7 +29,6 @@ use gpu_descriptor_types::{
     cut_pool_size, new_pool_size,
 };
 use std::alloc::AllocError;
-use std::collections::VecDeque;
 
 /// The flags of a new pool: sets are freed singly, and it takes marked sets if its key is marked.
 fn pool_flags(update_after_bind: bool) -> DescriptorPoolCreateFlags

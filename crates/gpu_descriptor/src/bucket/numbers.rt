@@ -1,13 +1,15 @@
-//! A view of numbers that counts each read as a comparison.
+//! A view of numbers that are read one at a time.
 ghost use Rattle.std.specs.Prelude.{◌≡◌, ◌+◌, ◌<◌, length, nat_lt, slice_index};
 
 use gpu_descriptor_types::Tally;
 use std::collections::VecDeque;
 
-/// Numbers that are read one at a time, and each read counts as a comparison.
+/// Numbers that are read one at a time.
 #[derive(Drop)]
 pub(crate) struct Numbers<'a, 'b> {
     numbers: &'a VecDeque<u64>,
+
+    /// Each read counts as a comparison.
     comparisons: &'b mut Tally,
 }
 
@@ -23,7 +25,7 @@ impl<'a, 'b> Numbers<'a, 'b> {
         }
     }
 
-    /// How many numbers there are. This compares none.
+    /// How many numbers there are.
     pub(crate) fn len(&self) -> usize
         ensures { result ≡ length self.now.numbers.now.items }
     {

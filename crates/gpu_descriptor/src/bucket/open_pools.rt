@@ -1,4 +1,4 @@
-//! A view of a key's pools and of the list of those with known free places, which counts the looks.
+//! A view of a key's pools and of the list of those with known free places.
 ghost use Rattle.std.specs.Prelude.{◌≡◌, ◌-◌, ◌++◌, ◌∷◌, [], length, take, slice_get};
 ghost use Rattle.std.specs.Prelude.{IfSome, IfNone, OnSome, Some};
 ghost use Rattle.std.specs.VecDeque.{deque_capacity};
@@ -21,6 +21,8 @@ pub(crate) struct OpenPools<'a, 'b, 'c, P> {
     offset: u64,
     pools: &'a mut VecDeque<DescriptorPool<P>>,
     listed: &'b mut VecDeque<u64>,
+
+    /// Each read of a pool's books counts as a look.
     looks: &'c mut Tally,
 }
 
@@ -53,7 +55,6 @@ impl<'a, 'b, 'c, P> OpenPools<'a, 'b, 'c, P> {
     }
 
     /// Reads the books of the newest pool with known free places, and aims a sink at that pool.
-    /// This is a look, if there is such a pool.
     pub(crate) fn newest<'k, S, K: SetPlaces<S>>(
         &mut self,
         key: &'k BucketKey,

@@ -64,9 +64,10 @@ impl<'k, S, K: SetPlaces<S>> RequestSink<'k, S, K> {
         sets
     }
 
-    /// The next sets come from the pool of this key that has this number. Key and id are set again,
-    /// since of a sink that was with the device no more is known than what it keeps of a set.
+    /// The next sets come from the pool of this key that has this number.
     pub(crate) fn aim(&mut self, key: &'k BucketKey, id: u64, number: u64)
+        // Key and id are set again, since of a sink that was with the device no more is known than what
+        // it keeps of a set.
         ensures sets { self.new.sets ≡ self.old.sets }
         ensures left { self.new.left ≡ self.old.left }
         ensures key { self.new.key.now ≡ key.now }

@@ -53,9 +53,7 @@ fn enter(listed: &mut VecDeque<u64>, number: u64, comparisons: &mut Tally)
     }
 }
 
-/// Puts a number in at its place if it isn't there yet, into an empty list without a search. The
-/// test is an argument: with an `if` around the call, each promise of the caller would want two
-/// proofs.
+/// Puts a number in at its place if it is new. An empty list needs no search.
 #[inline]
 pub(crate) fn enter_new(
     listed: &mut VecDeque<u64>,
@@ -63,6 +61,7 @@ pub(crate) fn enter_new(
     number: u64,
     comparisons: &mut Tally,
 )
+    // The test is an argument, since with an `if` around the call the prover has two states to carry on.
     requires rising { IsNonDecreasing listed.old.items }
     requires fits { is_new ≡ true → length listed.old.items < deque_capacity listed.old }
     ensures entered { is_new ≡ true → IsEntered number listed.old.items listed.new.items }

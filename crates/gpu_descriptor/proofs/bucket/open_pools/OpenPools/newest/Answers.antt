@@ -1,5 +1,5 @@
 use Rattle.gpu_descriptor.proofs.Common.{◌≡◌, ◌+◌, ◌-◌, ◌<◌, ◌++◌, ◌∷◌, [], inl, refl, ℕ, length, take, slice_get, arith, ap, sym, ◌∙◌, length-map, slice_get_read, slice_get_within, free_in, looked_at}
-use Rattle.gpu_descriptor_types.specs.declared.counter.Tally.{Tally}
+use Rattle.gpu_descriptor_types.specs.declared.tally.Tally.{Tally}
 use Rattle.gpu_descriptor.specs.declared.bucket.open_pools.OpenPools.{OpenPools}
 use Rattle.gpu_descriptor.proofs.lists.OpenNumbers.{IsNewestOpen, newest_open}
 use Rattle.gpu_descriptor.proofs.bucket.open_pools.OpenPools.newest.Goals.{In-Some}

@@ -26,11 +26,11 @@ use denote.Triple.Entry.{on_entry, alive, Args}
 use denote.Triple.Spec.{Meets, triple_of}
 use denote.Triple.Table.{entered}
 use denote.Triple.Walked.{says, stay_none_ref, Stays, walk_of, Walks, ends_at, walked, Goes-none_ref, walk_Meets}
-use Rattle.gpu_descriptor_types.specs.contracts.counter.Tally.next.Key.{name as key}
-use Rattle.gpu_descriptor_types.specs.contracts.counter.Tally.next as f
-use Rattle.gpu_descriptor_types.proofs.counter.Tally.next.Statement as stated
-use Rattle.gpu_descriptor_types.proofs.counter.Tally.next.Code as code
-use Rattle.gpu_descriptor_types.specs.contracts.counter.Tally as trail
+use Rattle.gpu_descriptor_types.specs.contracts.tally.Tally.next.Key.{name as key}
+use Rattle.gpu_descriptor_types.specs.contracts.tally.Tally.next as f
+use Rattle.gpu_descriptor_types.proofs.tally.Tally.next.Statement as stated
+use Rattle.gpu_descriptor_types.proofs.tally.Tally.next.Code as code
+use Rattle.gpu_descriptor_types.specs.contracts.tally.Tally as trail
 use Prim.Native.Nat.{◌+◌}
 
 abbrev stayed : Stays (f.ended).signature.params (f.ended).kept

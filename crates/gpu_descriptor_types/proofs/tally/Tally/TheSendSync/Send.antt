@@ -1,6 +1,6 @@
 -- A tally owns nothing, so it may go to another thread.
 use denote.Param.Send.{IsSend, owning_send}
-use Rattle.gpu_descriptor_types.specs.contracts.counter.Tally.{the_row, the_type}
+use Rattle.gpu_descriptor_types.specs.contracts.tally.Tally.{the_row, the_type}
 
 pub send : IsSend the_row
 send = owning_send the_type tt (λ d. tt) (λ k x w. tt)

@@ -20,11 +20,11 @@ use denote.Triple.Entry.{on_entry, alive}
 use denote.Triple.Spec.{Meets, triple_of}
 use denote.Triple.Table.{entered}
 use denote.Triple.Walked.{says, Stays, walk_of, Walks, ends_at, walked, walk_Meets}
-use Rattle.gpu_descriptor_types.specs.contracts.counter.Tally.zero.Key.{name as key}
-use Rattle.gpu_descriptor_types.specs.contracts.counter.Tally.zero as f
-use Rattle.gpu_descriptor_types.proofs.counter.Tally.zero.Statement as stated
-use Rattle.gpu_descriptor_types.proofs.counter.Tally.zero.Code as code
-use Rattle.gpu_descriptor_types.specs.contracts.counter.Tally as made
+use Rattle.gpu_descriptor_types.specs.contracts.tally.Tally.zero.Key.{name as key}
+use Rattle.gpu_descriptor_types.specs.contracts.tally.Tally.zero as f
+use Rattle.gpu_descriptor_types.proofs.tally.Tally.zero.Statement as stated
+use Rattle.gpu_descriptor_types.proofs.tally.Tally.zero.Code as code
+use Rattle.gpu_descriptor_types.specs.contracts.tally.Tally as made
 
 abbrev stayed : Stays (f.ended).signature.params (f.ended).kept
 stayed = tt

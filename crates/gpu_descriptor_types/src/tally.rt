@@ -1,0 +1,30 @@
+//! A counter without bytes.
+ghost use Rattle.std.specs.Prelude.{◌≡◌, ℕ, ◌+◌};
+ghost use Rattle.std.specs.Borrow.{ftrue};
+
+use std::marker::Model;
+
+/// A number without a greatest value, for contracts. It has no bytes, and its functions do nothing
+/// when a program runs.
+#[derive(Debug, Drop)]
+pub struct Tally {
+    pub ghost count: { ℕ },
+}
+
+impl Model for Tally {
+    ghost also_owns = { λ _. ftrue };
+}
+
+impl Tally {
+    pub fn zero() -> Tally
+        ensures { result.count ≡ 0 }
+    {
+        Tally {}
+    }
+
+    pub fn next(_before: &Tally) -> Tally
+        ensures { result.count ≡ _before.now.count + 1 }
+    {
+        Tally {}
+    }
+}
