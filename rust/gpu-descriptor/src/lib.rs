@@ -96,31 +96,30 @@ mod allocator;
 mod compile_fail;
 #[forbid(unsafe_code)]
 mod counts;
-#[allow(dead_code, unused_imports, clippy::all, missing_docs)]
+#[allow(clippy::all, missing_docs)]
 #[warn(clippy::incompatible_msrv, clippy::missing_panics_doc, clippy::missing_safety_doc)]
 #[forbid(unsafe_code)]
 #[rustfmt::skip]
 mod descriptor_frames;
-#[allow(dead_code, unused_imports, clippy::all, missing_docs)]
+#[allow(clippy::all, missing_docs)]
 #[warn(clippy::incompatible_msrv, clippy::missing_panics_doc, clippy::missing_safety_doc)]
 #[forbid(unsafe_code)]
 #[rustfmt::skip]
 mod descriptor_renderer;
 mod device;
 pub mod frames;
-#[allow(dead_code, unused_imports, clippy::all, missing_docs)]
+#[allow(clippy::all, missing_docs)]
 #[warn(clippy::incompatible_msrv, clippy::missing_panics_doc, clippy::missing_safety_doc)]
 #[deny(unsafe_code)]
 #[rustfmt::skip]
 mod gpu_descriptor;
-#[allow(dead_code, unused_imports, clippy::all, missing_docs)]
+#[allow(clippy::all, missing_docs)]
 #[warn(clippy::incompatible_msrv, clippy::missing_panics_doc, clippy::missing_safety_doc)]
 #[forbid(unsafe_code)]
 #[rustfmt::skip]
 mod gpu_descriptor_types;
 #[forbid(unsafe_code)]
 mod ids;
-#[allow(dead_code)]
 #[forbid(unsafe_code)]
 mod kit;
 #[forbid(unsafe_code)]

@@ -19,7 +19,7 @@ mod macros;
 #[forbid(unsafe_code)]
 #[rustfmt::skip]
 mod descriptor_lines;
-#[allow(dead_code, unused_imports, clippy::all)]
+#[allow(dead_code, unused_imports, unused_variables, clippy::all)]
 #[forbid(unsafe_code)]
 #[rustfmt::skip]
 mod descriptor_script;

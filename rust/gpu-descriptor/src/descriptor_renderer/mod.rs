@@ -12,5 +12,5 @@ mod reserve;
 
 pub use errors::{BeginError, DestroyError, RenderError};
 pub use handles::{DrawHandle, SetHandle};
-pub use layout_registry::{LayoutHandle, LayoutRegistry};
+pub use layout_registry::LayoutHandle;
 pub use renderer::Renderer;

@@ -4,7 +4,6 @@
 mod frames;
 mod sets;
 
-use crate::descriptor_renderer::handles::{DrawHandle, SetHandle};
 use crate::descriptor_renderer::held_sets::HeldSets;
 use crate::descriptor_renderer::layout_registry::{LayoutHandle, LayoutRegistry};
 use crate::descriptor_frames::FrameManager;
@@ -140,7 +139,7 @@ impl<L, P, S, D: DescriptorDevice<L, P, S>> Renderer<L, P, S, D> {
     }
 
     /// Frees all sets, destroys all pools, and hands the device back. It can't be refused. The
-    /// device must be done with all work: no contract sees that.
+    /// device must be done with all work.
     pub fn shutdown(mut self) -> D
     {
         self.free_all();

@@ -10,9 +10,8 @@ mod serve;
 
 use crate::gpu_descriptor::budget::Budget;
 use crate::gpu_descriptor::key_table::KeyTable;
-use crate::gpu_descriptor_types::Tally;
 use crate::kit::alloc::Global;
-use crate::kit::marker::{PhantomData};
+use crate::kit::marker::PhantomData;
 use crate::kit::ops::Range;
 
 /// Allocates descriptor sets for any layout.
@@ -33,27 +32,16 @@ pub struct DescriptorAllocator<P, S> {
     outstanding: u64,
     budget: Budget,
 
-    /// How often a release compared numbers.
-    comparisons: Tally,
     sets: PhantomData<S>,
 }
 
 impl<P, S> DescriptorAllocator<P, S> {
     /// An allocator without keys, under a limit on the update-after-bind descriptors of all
-    /// outstanding sets, and of all pools for such sets. It agrees with every device, and
-    /// allocates nothing.
-    pub fn new(alloc: Global, max_update_after_bind_descriptors_in_all_pools: u32) -> Self
-    {
-        DescriptorAllocator::with_ids(
-            alloc,
-            max_update_after_bind_descriptors_in_all_pools,
-            0..u64::MAX,
-        )
-    }
-
-    /// The same as `new`, but the ids of its keys are taken from this range. Each set bears the id of
-    /// its key, so sets of allocators whose ranges are disjoint can be told apart. A request for a new
-    /// key for which no id is left is refused as out of host memory.
+    /// outstanding sets, and of all pools for such sets. It allocates nothing.
+    ///
+    /// The ids of its keys are taken from this range. Each set bears the id of its key, so sets of
+    /// allocators whose ranges are disjoint can be told apart. A request for a new key for which no
+    /// id is left is refused as out of host memory.
     pub fn with_ids(
         alloc: Global,
         max_update_after_bind_descriptors_in_all_pools: u32,
@@ -68,9 +56,7 @@ impl<P, S> DescriptorAllocator<P, S> {
             outstanding: 0,
             budget: Budget {
                 room: max_update_after_bind_descriptors_in_all_pools,
-                looks: Tally::zero(),
             },
-            comparisons: Tally::zero(),
             sets: PhantomData,
         }
     }

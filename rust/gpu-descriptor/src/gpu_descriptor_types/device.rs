@@ -9,10 +9,7 @@ use crate::gpu_descriptor_types::sink::SetSink;
 
 /// A device with layouts `L`, raw pools `P` and raw sets `S`.
 ///
-/// An implementation says what its values mean: names of pools, sets and layouts, counts and marks
-/// of layouts, the layout of a set, and a ledger of its live pools and of what was done. Each call says by one equation on
-/// the ledger what it leaves, so whatever it does not name stays. Refusals are free: each call that
-/// answers a `Result` may refuse whenever it likes.
+/// Each call that returns a `Result` may refuse whenever it likes.
 pub trait DescriptorDevice<L, P, S> {
     /// Creates a pool of at most `max_sets` sets, which together have at most these counts.
     fn create_descriptor_pool(

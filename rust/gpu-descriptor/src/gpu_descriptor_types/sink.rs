@@ -2,10 +2,6 @@
 //! Where a device puts the sets that it allocates.
 
 /// Takes sets, as long as some more fit.
-///
-/// A sink is lent to the device, which hands it back in a state of which its caller knows what the
-/// clauses of `put` say. So they say the whole of it: what is kept of each set, and that this
-/// stays.
 pub trait SetSink<S> {
     /// What a sink keeps of a set.
     type Kept;

@@ -6,19 +6,9 @@ pub struct Flag<B> {
     pub value: B,
 }
 
-/// The trait that the sources implement. Its other calls are inherent, as in the crate bitflags.
-pub trait Flags: Sized {
-    type Bits;
-
-    fn flags<'a>() -> &'a [Flag<Self>];
-
-    fn bits(&self) -> Self::Bits;
-
-    fn from_bits_retain(bits: Self::Bits) -> Self;
-}
-
-/// The names of a type's flags, its operators, and the calls that the crate bitflags gives it. The
-/// kit's clauses: `contains`: whether all bits of the other are set; `set`: they are set, or cleared.
+/// The names of a type's flags, its operators, and the calls that the crate bitflags gives it, which are
+/// inherent as there. The kit's clauses: `contains`: whether all bits of the other are set; `set`: they are
+/// set, or cleared.
 macro_rules! bitflag_items {
     (impl $name:ident: $bits:ty {
         $($(#[$($attr:tt)*])* const $flag:ident = $value:expr;)*

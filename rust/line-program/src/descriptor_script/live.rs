@@ -3,7 +3,7 @@
 
 use crate::descriptor_script::raw::{RawSet, ScriptLayout};
 use crate::gpu_descriptor_types::{
-    DescriptorPoolCreateFlags, DescriptorTotalCount, Layouts, SetSink, Tally,
+    DescriptorPoolCreateFlags, DescriptorTotalCount, Layouts, SetSink,
 };
 use crate::indexmap::IndexMap;
 
@@ -17,7 +17,6 @@ pub struct LivePool {
     pub max_sets: u32,
     pub flags: DescriptorPoolCreateFlags,
     pub sets: LiveSets,
-    pub refusals: Tally,
 }
 
 /// Puts a set of this pool for each layout, under names from `first` up, among the live sets and

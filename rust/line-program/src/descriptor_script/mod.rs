@@ -4,6 +4,7 @@
 
 mod answer;
 mod command;
+mod counter;
 mod counters;
 mod device;
 pub mod headline;

@@ -4,7 +4,7 @@
 use crate::descriptor_script::live::{LivePool, fill, take_back};
 use crate::descriptor_script::raw::{RawSet, ScriptLayout};
 use crate::gpu_descriptor_types::{
-    DescriptorPoolCreateFlags, DescriptorTotalCount, DeviceAllocationError, Layouts, SetSink, Tally,
+    DescriptorPoolCreateFlags, DescriptorTotalCount, DeviceAllocationError, Layouts, SetSink,
 };
 use crate::indexmap::IndexMap;
 use crate::kit::alloc::Global;
@@ -51,7 +51,6 @@ impl Pools {
             max_sets,
             flags,
             sets: IndexMap::new(self.alloc),
-            refusals: Tally::zero(),
         };
         match self.live.insert(name, pool) {
             Ok(_) => {
@@ -91,7 +90,6 @@ impl Pools {
     fn count_refusal(&mut self, pool: u64)
     {
         if let Some(live) = self.live.get_mut(&pool) {
-            live.refusals = Tally::next(&live.refusals);
         }
     }
 

@@ -28,7 +28,7 @@ impl<L, P, S> Session<L, P, S> {
     pub fn new(alloc: Global, max: u32) -> Self
     {
         Session {
-            allocator: DescriptorAllocator::new(alloc, max),
+            allocator: DescriptorAllocator::with_ids(alloc, max, 0..u64::MAX),
             layouts: Vec::new(alloc),
             slots: Slots::new(alloc),
         }

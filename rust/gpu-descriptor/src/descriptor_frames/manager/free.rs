@@ -4,13 +4,11 @@
 use super::FrameManager;
 use crate::descriptor_frames::due::Due;
 use crate::gpu_descriptor::{DescriptorDevice, DescriptorSet};
-use crate::kit::vec::Vec;
 
 impl<P, S> FrameManager<P, S> {
     /// Frees at once the sets in use that the iterator yields up to its end, as
     /// `DescriptorAllocator::free_from` does. It allocates nothing. The retired sets stay. Nothing
-    /// that uses one of the sets may have been submitted, or the device must be done with it: no
-    /// contract sees that.
+    /// that uses one of the sets may have been submitted, or the device must be done with it.
     pub fn free_from<L, D: DescriptorDevice<L, P, S>, I: Iterator<Item = DescriptorSet<S>>>(
         &mut self,
         device: &mut D,
@@ -21,8 +19,7 @@ impl<P, S> FrameManager<P, S> {
     }
 
     /// Frees all sets that were retired at this frame or before, those of earlier frames first.
-    /// It allocates nothing and can't fail. The device must be done with the work
-    /// of these frames: no contract sees that.
+    /// It allocates nothing and can't fail. The device must be done with the work of these frames.
     ///
     /// It takes about as many steps as sets are freed; the others are not moved. With none it makes
     /// no call of the device and changes nothing.
@@ -34,20 +31,6 @@ impl<P, S> FrameManager<P, S> {
         };
         self.allocator.free_from(device, &mut due);
         due.end();
-    }
-}
-
-impl<P, S> FrameManager<P, S> {
-    /// Frees sets in use at once, as `DescriptorAllocator::free_all` does. The retired sets
-    /// stay. Nothing that uses one of the sets may have been submitted, or the device must be done
-    /// with it: no contract sees that.
-    pub fn free_all<L, D: DescriptorDevice<L, P, S>>(
-        &mut self,
-        device: &mut D,
-        sets: Vec<DescriptorSet<S>>,
-    )
-    {
-        self.allocator.free_all(device, sets);
     }
 }
 

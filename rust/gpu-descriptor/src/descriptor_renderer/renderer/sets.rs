@@ -67,7 +67,7 @@ impl<L, P, S, D: DescriptorDevice<L, P, S>> Renderer<L, P, S, D> {
 
     /// Frees sets at once, all or none, in the order of the list: neighbours of one pool in one call
     /// of the device. Their handles name nothing from now on. It allocates nothing. The device must be
-    /// done with the work that uses them: no contract sees that.
+    /// done with the work that uses them.
     ///
     /// It returns `NoSet` if a handle names no set that the renderer holds, or is in the list
     /// twice. Then nothing changed.
@@ -110,7 +110,7 @@ impl<L, P, S, D: DescriptorDevice<L, P, S>> Renderer<L, P, S, D> {
 
     /// Frees all sets at once: those that wait for a frame, those of the open frame, which is ended,
     /// and those that are held. It allocates nothing. The device must be done with the work that uses
-    /// them: no contract sees that.
+    /// them.
     pub fn free_all(&mut self)
     {
         self.end_frame();

@@ -4,27 +4,15 @@
 use super::DescriptorAllocator;
 use crate::gpu_descriptor::set::DescriptorSet;
 use crate::gpu_descriptor_types::DescriptorDevice;
-use crate::kit::vec::Vec;
 
 impl<P, S> DescriptorAllocator<P, S> {
-    /// Frees sets. It allocates nothing and can't fail.
+    /// Frees the sets that the iterator yields up to its end. It allocates nothing and can't fail.
     ///
     /// Neighbours of one pool are freed by one call of the device. Whenever the oldest pools of their
     /// key have no set left, these are destroyed, but never the key's last pool.
     ///
-    /// `device` must be that of all other calls. It must be done with all work that uses one of the
-    /// sets, and what was recorded with them is not to be submitted again: no contract sees that.
-    pub fn free<L, D: DescriptorDevice<L, P, S>, I: IntoIterator<Item = DescriptorSet<S>>>(
-        &mut self,
-        device: &mut D,
-        sets: I,
-    )
-    {
-        let mut sets = sets.into_iter();
-        self.free_from(device, &mut sets);
-    }
-
-    /// The same as `free`, for the sets that the iterator yields up to its end.
+    /// `device` must be that of all other calls, and done with all work that uses one of the sets.
+    /// What was recorded with them must not be submitted again.
     #[inline]
     pub fn free_from<L, D: DescriptorDevice<L, P, S>, I: Iterator<Item = DescriptorSet<S>>>(
         &mut self,
@@ -52,26 +40,12 @@ impl<P, S> DescriptorAllocator<P, S> {
         self.table.last = place;
         let (key, bucket) = self.table.buckets.pair_mut(place);
         let before = bucket.total;
-        let ahead = bucket.release_sets(device, first, sets, &mut self.comparisons);
+        let ahead = bucket.release_sets(device, first, sets);
         bucket.destroy_empty_front(device, key, &mut self.budget.room, 1);
         let released = before - bucket.total;
         self.outstanding -= released;
         let descriptors = key.marked_descriptors_of_sets(released) as u32;
         self.update_after_bind_descriptors -= descriptors;
         ahead
-    }
-}
-
-impl<P, S> DescriptorAllocator<P, S> {
-    /// The same as `free`, for the sets of a vector. What it asks of them is one clause on their
-    /// list, which `allocate` leaves met.
-    pub fn free_all<L, D: DescriptorDevice<L, P, S>>(
-        &mut self,
-        device: &mut D,
-        sets: Vec<DescriptorSet<S>>,
-    )
-    {
-        let mut back = sets.into_iter();
-        self.free_from(device, &mut back);
     }
 }

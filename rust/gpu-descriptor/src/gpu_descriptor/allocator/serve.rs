@@ -10,7 +10,6 @@ use crate::gpu_descriptor::errors::AllocationError;
 use crate::gpu_descriptor::flags::DescriptorSetLayoutCreateFlags;
 use crate::gpu_descriptor::key::BucketKey;
 use crate::gpu_descriptor::places::SetPlaces;
-use crate::kit::bitflags::Flags;
 use crate::gpu_descriptor_types::{DescriptorDevice, DescriptorTotalCount};
 use crate::kit::marker::PhantomData;
 

@@ -7,7 +7,7 @@ use crate::gpu_descriptor::bucket::request_sink::RequestSink;
 use crate::gpu_descriptor::bucket::stop::is_of_pool;
 use crate::gpu_descriptor::bucket::{DescriptorBucket, DescriptorPool};
 use crate::gpu_descriptor::places::SetPlaces;
-use crate::gpu_descriptor_types::{DescriptorDevice, DeviceAllocationError, Layouts, Tally};
+use crate::gpu_descriptor_types::{DescriptorDevice, DeviceAllocationError, Layouts};
 
 /// Asks a pool for what it has of the sets that are left to come.
 ///
@@ -46,7 +46,7 @@ fn ask<L, P, S, D: DescriptorDevice<L, P, S>, K: SetPlaces<S>>(
 #[inline(always)]
 fn walk<'k, L, P, S, D: DescriptorDevice<L, P, S>, K: SetPlaces<S>>(
     device: &mut D,
-    view: &mut OpenPools<'_, '_, '_, P>,
+    view: &mut OpenPools<'_, '_, P>,
     request: &'k SetRequest<'_, L, P, S, D>,
     sink: &mut RequestSink<'k, S, K>,
 ) -> Result<(), DeviceAllocationError>
@@ -69,7 +69,6 @@ impl<P> DescriptorBucket<P> {
         &mut self,
         device: &mut D,
         request: &'k SetRequest<'_, L, P, S, D>,
-        looks: &mut Tally,
         sink: &mut RequestSink<'k, S, K>,
     ) -> Result<(), DeviceAllocationError>
     {
@@ -78,7 +77,6 @@ impl<P> DescriptorBucket<P> {
             self.offset,
             &mut self.pools,
             &mut self.listed,
-            looks,
         );
         let walked = walk(device, &mut view, request, sink);
         self.total += u64::from(request.count - sink.left);

@@ -8,13 +8,11 @@ use crate::gpu_descriptor::bucket::{DescriptorBucket, DescriptorPool};
 use crate::gpu_descriptor::budget::Budget;
 use crate::gpu_descriptor::key::BucketKey;
 use crate::gpu_descriptor::places::SetPlaces;
-use crate::kit::bitflags::Flags;
 use crate::gpu_descriptor_types::{
-    DescriptorDevice, DescriptorPoolCreateFlags, DescriptorTotalCount, Layouts, Tally,
+    DescriptorDevice, DescriptorPoolCreateFlags, DescriptorTotalCount, Layouts,
     cut_pool_size, new_pool_size,
 };
 use crate::kit::alloc::AllocError;
-use crate::kit::collections::VecDeque;
 
 /// The flags of a new pool: sets are freed singly, and it takes marked sets if its key is marked.
 fn pool_flags(update_after_bind: bool) -> DescriptorPoolCreateFlags
@@ -71,7 +69,6 @@ impl<P> DescriptorBucket<P> {
         };
         let given = size.min(sink.left);
         sink.aim(key, self.id, self.next_number());
-        budget.looks = Tally::next(&budget.looks);
         match device.alloc_descriptor_sets(&mut raw, Layouts::new(request.layout, given), sink) {
             Ok(()) => {
                 self.push(DescriptorPool {

@@ -5,7 +5,7 @@ use crate::gpu_descriptor::bucket::DescriptorBucket;
 use crate::gpu_descriptor::bucket::run::Run;
 use crate::gpu_descriptor::bucket::search::enter_new;
 use crate::gpu_descriptor::set::DescriptorSet;
-use crate::gpu_descriptor_types::{DescriptorDevice, Tally};
+use crate::gpu_descriptor_types::DescriptorDevice;
 
 impl<P> DescriptorBucket<P> {
     /// Gives back the sets of one run of this key in one device call.
@@ -22,7 +22,6 @@ impl<P> DescriptorBucket<P> {
         device: &mut D,
         first: DescriptorSet<S>,
         sets: &mut I,
-        comparisons: &mut Tally,
     ) -> Option<DescriptorSet<S>>
     {
         let id = first.id;
@@ -43,7 +42,7 @@ impl<P> DescriptorBucket<P> {
         pool.allocated -= count;
         pool.available += count;
         self.total -= u64::from(count);
-        enter_new(&mut self.listed, was_closed, number, comparisons);
+        enter_new(&mut self.listed, was_closed, number);
         ahead
     }
 }

@@ -55,7 +55,7 @@ impl<P> DescriptorBucket<P> {
         sink: &mut RequestSink<'k, S, K>,
     ) -> Result<(), Stop>
     {
-        self.take_from_existing(device, request, &mut budget.looks, sink)
+        self.take_from_existing(device, request, sink)
             .map_err(Stop::ExistingPoolRefused)?;
         while sink.left > 0 {
             self.take_from_new(device, request, budget, sink)?;

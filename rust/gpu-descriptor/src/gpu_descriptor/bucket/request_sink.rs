@@ -4,7 +4,6 @@
 use crate::gpu_descriptor::key::BucketKey;
 use crate::gpu_descriptor::places::SetPlaces;
 use crate::gpu_descriptor::set::DescriptorSet;
-use crate::gpu_descriptor::set_key::SetKey;
 use crate::gpu_descriptor_types::SetSink;
 use crate::kit::alloc::AllocError;
 use crate::kit::marker::PhantomData;
@@ -58,8 +57,7 @@ impl<'k, S, K: SetPlaces<S>> RequestSink<'k, S, K> {
         sets
     }
 
-    /// The next sets come from the pool of this key that has this number. Key and id are set again,
-    /// since of a sink that was with the device no more is known than what it keeps of a set.
+    /// The next sets come from the pool of this key that has this number.
     pub(crate) fn aim(&mut self, key: &'k BucketKey, id: u64, number: u64)
     {
         self.key = key;
@@ -81,7 +79,6 @@ impl<S, K: SetPlaces<S>> SetSink<S> for RequestSink<'_, S, K> {
             raw: set,
             number: self.number,
             id: self.id,
-            key: SetKey::of(self.key),
         });
         self.left -= 1;
     }

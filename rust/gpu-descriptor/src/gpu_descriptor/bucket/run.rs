@@ -34,7 +34,6 @@ impl<S, I: Iterator<Item = DescriptorSet<S>>> Iterator for Run<'_, '_, I, S> {
                 raw,
                 number: _,
                 id: _,
-                key: _,
             } = set;
             return Some(raw);
         }

@@ -2,11 +2,10 @@
 //! The place of a number in the list of the pools with known free places.
 
 use crate::gpu_descriptor::bucket::numbers::Numbers;
-use crate::gpu_descriptor_types::Tally;
 use crate::kit::collections::VecDeque;
 
 /// The place of a number among others that rise: how many are below it.
-pub(crate) fn place_of(view: &mut Numbers<'_, '_>, number: u64) -> usize
+pub(crate) fn place_of(view: &mut Numbers<'_>, number: u64) -> usize
 {
     let mut low = 0;
     let mut size = view.len();
@@ -24,9 +23,9 @@ pub(crate) fn place_of(view: &mut Numbers<'_, '_>, number: u64) -> usize
 
 /// Puts a number in at its place. There is capacity for it.
 #[inline(never)]
-fn enter(listed: &mut VecDeque<u64>, number: u64, comparisons: &mut Tally)
+fn enter(listed: &mut VecDeque<u64>, number: u64)
 {
-    let mut view = Numbers::new(listed, comparisons);
+    let mut view = Numbers::new(listed);
     let place = place_of(&mut view, number);
     match listed.insert(place, number) {
         Ok(()) => {}
@@ -34,15 +33,12 @@ fn enter(listed: &mut VecDeque<u64>, number: u64, comparisons: &mut Tally)
     }
 }
 
-/// Puts a number in at its place if it isn't there yet, into an empty list without a search. The
-/// test is an argument: with an `if` around the call, each promise of the caller would want two
-/// proofs.
+/// Puts a number in at its place if it is new. An empty list needs no search.
 #[inline]
 pub(crate) fn enter_new(
     listed: &mut VecDeque<u64>,
     is_new: bool,
     number: u64,
-    comparisons: &mut Tally,
 )
 {
     if !is_new {
@@ -52,5 +48,5 @@ pub(crate) fn enter_new(
         listed.push_back_reserved(number);
         return;
     }
-    enter(listed, number, comparisons);
+    enter(listed, number);
 }

@@ -3,7 +3,7 @@
 
 use super::Command;
 use crate::descriptor_lines::layouts::{Layout, Layouts};
-use crate::descriptor_words::{Fault, Keyword, Refusal, Words, parse_counts};
+use crate::descriptor_words::{Fault, Refusal, Words, parse_counts};
 
 /// `layout NAME plain` or `mark`, and the kinds with their counts.
 pub fn parse_layout<'a>(mut words: Words<'a>, layouts: &Layouts) -> Result<Command<'a>, Refusal>

@@ -15,7 +15,6 @@ pub fn answer_line<W: Write>(
     number: u64,
     outcome: Result<(), Refusal>,
 ) -> Result<(), Exit>
-    // Where the line is not faulty.
 {
     match outcome {
         Ok(()) => write_text(output, answer.as_str())?,
