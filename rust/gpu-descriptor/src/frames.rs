@@ -244,8 +244,9 @@ impl<P, S> FrameManager<P, S> {
             return Err(RetireError::Memory(sets));
         }
         for set in sets {
-            let retired = inner.retire(frame, set);
-            assert!(retired.is_ok(), "the frame was tested, and memory reserved for all");
+            if inner.retire(frame, set).is_err() {
+                unreachable!("the frame was tested, and memory reserved for all");
+            }
         }
         Ok(())
     }
