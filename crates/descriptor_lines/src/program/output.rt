@@ -36,8 +36,8 @@ pub fn answer_line<W: Write>(
         Err(Refusal::NoMemory) => write_text(output, answer::NO_MEMORY)?,
         Err(Refusal::Fault(fault)) => {
             answer.clear();
-            // Memory for it is reserved since the start. But no clause says that a formatted write
-            // succeeds, and a run that ends at a fault has always written the fault's line.
+            // Memory for it is reserved since the start. If the text fails all the same, the line of the
+            // fault isn't written, as if a write fails.
             answer::fault_line(answer, number, fault).map_err(|_| Exit::WriteFault)?;
             write_text(output, answer.as_str())?;
             return Err(Exit::BadLine);

@@ -9,8 +9,7 @@ use crate::kit::vec::{self, Vec};
 /// The greatest length of a line, in bytes without its end.
 pub const MAX_LINE_LEN: usize = 4096;
 
-/// The most read calls that a run may make. A test of `descriptor_vectors` counts them, and no clause:
-/// of any reader only the bytes that are left have a name.
+/// The most read calls that a run may make.
 pub const MAX_READS: u32 = 100_000_000;
 
 /// The most bytes that a read call asks for.

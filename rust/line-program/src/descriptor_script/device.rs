@@ -18,9 +18,8 @@ use crate::kit::vec::Vec;
 /// A device that answers by a script.
 ///
 /// Each call that creates a pool or allocates sets reads one word. It is granted only at `Ok`, and
-/// at any other word refused as that says. At `Ok` it is refused where names or memory are wanting,
-/// as want of host memory; that it is granted where both are there no clause says, but tests show
-/// it. After the end of the script each word is `Ok`.
+/// at any other word refused as that says. At `Ok` it is refused as out of host memory if names or
+/// memory are wanting. After the end of the script each word is `Ok`.
 ///
 /// Pools and sets are named from 0 up, and no name is given twice. The greatest is
 /// 18446744073709551614.
