@@ -19,6 +19,9 @@ TOOL = os.path.basename(sys.argv[0])
 REGISTRY = "/usr/share/cargo/registry"
 PACKAGES = {"bitflags-1": "librust-bitflags-dev", "hashbrown-0.12": "librust-hashbrown-dev"}
 
+# The exit code of a tool that can do nothing, because something is missing. Its output says what.
+SKIPPED = 3
+
 # The error of a tool that was given no file of the original.
 NO_ORIGINAL = (
     "it takes src/allocator.rs of gpu-descriptor 0.3.2, which is not in this repository: "
@@ -37,9 +40,15 @@ def refuse(why, status=2):
     sys.exit(status)
 
 
+def skip(why):
+    """Ends the tool: for all that it does something is missing."""
+    print(f"skipped: {why}")
+    sys.exit(SKIPPED)
+
+
 def need(command, why):
     if shutil.which(command) is None:
-        refuse(f"the command {command} is missing: {why}")
+        skip(f"the command {command} is missing: {why}")
 
 
 def is_built(file):
@@ -60,12 +69,17 @@ def original_source(path):
     return text.replace(DERIVES + NAME, NAME)
 
 
+def missing_crates():
+    """Which crates of Debian's are missing, and the packages that have them; empty if none is."""
+    missing = {crate: package for crate, package in PACKAGES.items() if not glob.glob(f"{REGISTRY}/{crate}*")}
+    return f"no {' and no '.join(missing)}: apt-get install {' '.join(missing.values())}" if missing else ""
+
+
 def write_package(source, folder, files):
     """A package for cargo without a network: a folder of this repository, and files of these texts."""
     need("cargo", "it builds the original")
-    for crate, package in PACKAGES.items():
-        if not glob.glob(f"{REGISTRY}/{crate}*"):
-            refuse(f"the crate {crate} is missing: apt-get install {package}")
+    if missing := missing_crates():
+        skip(missing)
     shutil.copytree(source, folder, dirs_exist_ok=True)
     os.makedirs(f"{folder}/.cargo", exist_ok=True)
     registry = f'[source.crates-io]\nreplace-with = "debian"\n[source.debian]\ndirectory = "{REGISTRY}"\n'
