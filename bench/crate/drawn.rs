@@ -41,7 +41,7 @@ impl<'a> Scene<'a> {
         *old = self.renderer.create_set(self.material).unwrap();
         for draw in 0..DRAWS {
             let layout = self.drawn[draw as usize % self.drawn.len()];
-            self.renderer.draw(layout).unwrap();
+            let _drawn = self.renderer.draw(layout).unwrap();
         }
         self.renderer.end_frame();
         // SAFETY: the device only counts.
