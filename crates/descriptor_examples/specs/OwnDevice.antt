@@ -12,7 +12,7 @@ use Rattle.descriptor_examples.specs.declared.own_device.OnlyPool.{OnlyPool}
 abbrev pub one_meaning : Meaning DescriptorTotalCount ℕ ℕ
 one_meaning = record { pool_name = λ pool. pool; set_name = λ set. set; counts = kinds; mark = λ layout. false; layout_name = λ layout. 0; set_layout = λ set. 0 }
 
--- the pool as it was created: none of its sets is ever live, and it refuses none for its own sake
+-- the pool as it was created: none of its sets is ever live, and it refuses none as fragmented or full
 abbrev pub as_created : Option OnlyPool → Option Pool
 as_created None = None
 as_created (Some p) = Some (fresh (kinds p.counts) p.max_sets (bits p.flags))

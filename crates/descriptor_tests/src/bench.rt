@@ -45,7 +45,10 @@ impl<D: DescriptorDevice<ScriptLayout, RawPool, RawSet>> Bench<D> {
         requires counts { D.meaning.counts layout ≡ kinds layout.counts }
         requires mark { D.meaning.mark layout ≡ layout.mark }
     {
-        match self.session.add_layout(layout, layout.counts, layout.flags()) {
+        match self
+            .session
+            .add_layout(layout, layout.counts, layout.flags())
+        {
             Ok(place) => Ok(place),
             Err(_) => Err("no memory for a layout"),
         }

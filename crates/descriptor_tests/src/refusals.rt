@@ -115,7 +115,7 @@ fn run(
     run_at(rt, alloc, &mut bench, plan)
 }
 
-/// Whether the word at this place costs no request: an existing pool that refuses for its own sake
+/// Whether the word at this place costs no request: an existing pool that refuses as fragmented or full
 /// is passed over.
 fn is_passed_over(plan: &Plan<'_>, place: usize, refusal: Refusal) -> bool {
     refusal.error == AllocationError::Fragmentation && plan.existing.contains(&place)

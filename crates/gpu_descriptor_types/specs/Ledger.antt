@@ -12,7 +12,7 @@ use Rattle.gpu_descriptor_types.specs.Flags.{CanFree, IsUpdateAfterBind}
 use Rattle.gpu_descriptor_types.specs.Meaning.{Meaning, IsOfLayout}
 use Rattle.gpu_descriptor_types.specs.Multiset.{LiveSet, times, Spells, AreIn}
 
--- a live pool. live says how often each set is live in it, refusals how often it refused for its own sake
+-- a live pool. live says how often each set is live in it, as two sets may have one name and equal counts; refusals how often it refused as fragmented or full
 pub record Pool : Type 0 where
   pub counts : List ℕ
   pub capacity : ℕ
@@ -20,7 +20,7 @@ pub record Pool : Type 0 where
   pub refusals : ℕ
   pub live : LiveSet → ℕ
 
--- how often each thing was done. None has a greatest value
+-- how often each thing was done: calls that created or destroyed a pool, asked for sets or released some, and refusals of four kinds. No counter has a greatest value
 pub record Counters : Type 0 where
   pub created : ℕ
   pub destroyed : ℕ

@@ -85,7 +85,7 @@ module _ {L P S : Type 0} (means : Meaning L P S) where
   pub record KeepsAll (command : Command) (reply : Reply) (old new : Side (Session L P S)) : Type 0 where
     -- the pools hold exactly the sets that are held: each is outstanding as often as it is held
     pub exactly : (t : Item) → outstanding (state_on means new) t ≡ count_of t (held_items new)
-    -- and no other set lives in them: all have the counts of the pool's key
+    -- and no set of other counts lives in them, which `outstanding` doesn't see
     pub nothing_else : (k : Key) (n : ℕ) (e : Entry) (x : LiveSet) → entry_at ((state_on means new).books k) n ≡ Some e → 0 < live_in new.ledger.pools e.pool x → x.counts ≡ k.counts
     -- and these are the sets that were handed out and not returned
     pub handed_out : HoldsWhatIsOut command reply old new

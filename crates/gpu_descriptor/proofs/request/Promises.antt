@@ -31,7 +31,7 @@ shares_sum refused n number (e ∷ newer) =
     let more = shares_sum refused n (number + 1) newer in
     omega arith
 
--- ---- pools are created only where the existing ones don't do
+-- ---- pools are created only where the existing ones fall short
 
 -- a pool that was not cut, gave all it has, and didn't do gave the least that a pool holds
 whole_gave : (k : Key) (room total wanted : ℕ) (f : Fresh) → IsNextSize k room total wanted f.size → pool_descriptors k 1 ≤ room - pool_descriptors k f.size → f.given ≡ f.size → f.given < wanted → pool_size_floor k.counts ≤ f.given
@@ -109,7 +109,7 @@ module _ (c : Call) where
   stop_short s (stop.PoolNotCreated e) back at more = prefix_short c s (stop.PoolNotCreated e) _ back at.1 (inl (ap (λ n. n * pool_size_floor c.key.counts) (create_creates e) ∙ (omega arith)))
   stop_short s (stop.NewPoolRefused e) back at more = prefix_short c s (stop.NewPoolRefused e) _ back at.1 (inr ((omega arith), fits at.2 (λ same. absurd (cc))))
 
-  -- a pool is created only where the existing ones don't do
+  -- a pool is created only where the existing ones fall short
   pub short : (outcome : Allocates c) → CreatesOnlyWhereShort outcome
   short (none zero_count answer stays) more = (let n = ap (λ (k : Counters). k.created) stays.counters in absurd (omega arith))
   short (was_above_limit some above answer stays) more = (let n = ap (λ (k : Counters). k.created) stays.counters in absurd (omega arith))

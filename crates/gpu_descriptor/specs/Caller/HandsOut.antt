@@ -37,7 +37,7 @@ pub record HandsOut {L P S : Type 0} (means : Meaning L P S) (k : Key) (count : 
   pub back : OnErr answer (KeepsOutstanding (state_of means.pool_name old.value old.ledger) (state_of means.pool_name new.value new.ledger))
   -- the error has one of its causes
   pub cause : IfErr answer (HasCause means k count old new)
-  -- a new pool comes only if the key's existing pools don't do, and so many at most
+  -- a new pool comes only if the key's existing pools fall short, and so many at most
   pub creates : CreatesOnlyWhereShort outcome
   -- the pools of other keys are untouched, in the books and on the device
   pub other_keys : KeepsOtherKeys k (state_of means.pool_name old.value old.ledger) (state_of means.pool_name new.value new.ledger)

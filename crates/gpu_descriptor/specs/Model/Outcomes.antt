@@ -25,7 +25,7 @@ error_of_create create_error.OutOfDeviceMemory = OutOfDeviceMemory
 error_of_create create_error.OutOfHostMemory = OutOfHostMemory
 error_of_create create_error.Fragmentation = Fragmentation
 
--- a pool that refuses for its own sake counts as fragmentation
+-- a pool that refuses as fragmented or full counts as fragmentation
 abbrev pub error_of_alloc : DeviceAllocationError → AllocationError
 error_of_alloc alloc_error.OutOfDeviceMemory = OutOfDeviceMemory
 error_of_alloc alloc_error.OutOfHostMemory = OutOfHostMemory

@@ -26,7 +26,7 @@ AreBelowTwice out wanted [] = Unit {0}
 AreBelowTwice out wanted (f ∷ later) = (0 < wanted) × (f.size < 2 * start_size out wanted) × AreBelowTwice (out + f.given) (wanted - f.given) later
 
 module _ (c : Call) where
-  -- the existing pools don't do: those that refused aside, they have fewer known free places than are wanted. A new pool that refused was destroyed at once: few counts it, below_twice does not
+  -- the existing pools fall short: those that refused aside, they have fewer known free places than are wanted. A new pool that refused was destroyed at once: few counts it, below_twice does not
   pub record IsShort (g : Grant) : Type 0 where
     pub short : sum_by (offer g.refused) (c.old.books c.key).pools < c.count
     -- so they have no known free place left when the first new one comes
@@ -37,7 +37,7 @@ module _ (c : Call) where
     -- at most as many new pools as what is wanting divided by the floor of a pool's size, rounded up
     pub few : let floor = pool_size_floor c.key.counts in (c.after.created - c.before.created) * floor < wanting c g + floor
 
--- a pool is created only if the key's existing pools don't do
+-- a pool is created only if the key's existing pools fall short
 abbrev pub CreatesOnlyWhereShort : {c : Call} → Allocates c → Type 0
 CreatesOnlyWhereShort {c} outcome = c.before.created < c.after.created → (g : Grant) × (taken_by outcome ≡ Some g) × IsShort c g
 

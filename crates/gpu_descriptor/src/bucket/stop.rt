@@ -38,7 +38,7 @@ pub(crate) fn error_of(stop: Stop) -> AllocationError
     }
 }
 
-/// A pool that refuses for its own sake counts as fragmentation.
+/// A pool that refuses as fragmented or full counts as fragmentation.
 fn error_of_pool(error: DeviceAllocationError) -> AllocationError
     ensures { result ≡ error_of_alloc error }
 {

@@ -35,7 +35,7 @@ pub(crate) fn error_of(stop: Stop) -> AllocationError
     }
 }
 
-/// A pool that refuses for its own sake counts as fragmentation.
+/// A pool that refuses as fragmented or full counts as fragmentation.
 fn error_of_pool(error: DeviceAllocationError) -> AllocationError
 {
     match error {
