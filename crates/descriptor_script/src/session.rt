@@ -13,7 +13,8 @@ mod step;
 
 use crate::slots::Slots;
 use gpu_descriptor::{
-    DescriptorAllocator, DescriptorSet, DescriptorSetLayoutCreateFlags, DescriptorTotalCount, SetLayout,
+    DescriptorAllocator, DescriptorSet, DescriptorSetLayoutCreateFlags, DescriptorTotalCount,
+    SetLayout,
 };
 use std::alloc::Global;
 use std::vec::Vec;

@@ -40,11 +40,7 @@ impl<P, S> FrameManager<P, S> {
     /// Frames must not fall: `FrameBack` if the frame is below the greatest at which a set was
     /// ever retired, also if all these have been freed since. `Memory` if an allocation for one more
     /// fails. Either returns the set, and nothing changed.
-    pub fn retire(
-        &mut self,
-        frame: u64,
-        set: DescriptorSet<S>,
-    ) -> Result<(), RetireError<S>>
+    pub fn retire(&mut self, frame: u64, set: DescriptorSet<S>) -> Result<(), RetireError<S>>
         ensures last { OnOk result (retired_of self.new
             ≡ retired_of self.old ++ at_frame frame set ∷ []) }
         ensures greatest { OnOk result (greatest_of self.new ≡ frame) }
@@ -94,11 +90,7 @@ impl<P, S> FrameManager<P, S> {
     /// The place in the list is found by halves. Then either the sets of later frames are moved, or
     /// the others, whichever are fewer. `Memory` if an allocation for one more fails: the set is
     /// returned, and nothing changed. It never returns `FrameBack`.
-    pub fn retire_late(
-        &mut self,
-        frame: u64,
-        set: DescriptorSet<S>,
-    ) -> Result<(), RetireError<S>>
+    pub fn retire_late(&mut self, frame: u64, set: DescriptorSet<S>) -> Result<(), RetireError<S>>
         ensures list { OnOk result (retired_of self.new
             ≡ with_late frame (set ∷ []) (retired_of self.old)) }
         ensures greatest { OnOk result (greatest_of self.new ≡ max (greatest_of self.old) frame) }

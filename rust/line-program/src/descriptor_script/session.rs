@@ -6,7 +6,8 @@ mod step;
 
 use crate::descriptor_script::slots::Slots;
 use crate::gpu_descriptor::{
-    DescriptorAllocator, DescriptorSet, DescriptorSetLayoutCreateFlags, DescriptorTotalCount, SetLayout,
+    DescriptorAllocator, DescriptorSet, DescriptorSetLayoutCreateFlags, DescriptorTotalCount,
+    SetLayout,
 };
 use crate::kit::alloc::Global;
 use crate::kit::vec::Vec;
