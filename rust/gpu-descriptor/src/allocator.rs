@@ -192,16 +192,16 @@ impl<P, S> DescriptorAllocator<P, S> {
     /// * Every call of this allocator gets the same device.
     /// * The sets came from this allocator. Sets of others are found (see Panics) if the process creates
     ///   fewer than 2^24 allocators and managers.
-    /// * The raw set of none was replaced.
+    /// * No raw set was replaced through `raw_mut`.
     /// * No command buffer into which one of the sets was bound is pending, or is submitted again before it
     ///   is recorded anew.
     ///
     /// # Panics
     ///
-    /// A set is of another allocator: the sets before it were freed, it is dropped, and the allocator
-    /// can still be used. Or the allocator is poisoned, or the device left sets in the iterator that it
-    /// was given. While the thread unwinds a poisoned allocator does nothing instead; without std it panics,
-    /// which ends the program.
+    /// A set is of another allocator: the sets before it were freed, it is dropped, and the allocator can
+    /// still be used. Or the allocator is poisoned, or the device left sets in the iterator that it was
+    /// given. While the thread unwinds a poisoned allocator does nothing instead; without std it panics
+    /// even then, which ends the program.
     pub unsafe fn free<L, D, I>(&mut self, device: &D, sets: I)
     where
         D: DescriptorDevice<L, P, S>,
@@ -222,8 +222,8 @@ impl<P, S> DescriptorAllocator<P, S> {
     ///
     /// # Panics
     ///
-    /// The allocator is poisoned. While the thread unwinds it does nothing instead; without std it panics,
-    /// which ends the program.
+    /// The allocator is poisoned. While the thread unwinds it does nothing instead; without std it panics
+    /// even then, which ends the program.
     pub unsafe fn cleanup<L>(&mut self, device: &impl DescriptorDevice<L, P, S>) {
         let device = &mut Adapter { device };
         self.inner.call_in_drop(|inner| inner.cleanup(device));

@@ -277,12 +277,13 @@ impl<P, S> FrameManager<P, S> {
     ///   or is submitted again before it is recorded anew.
     /// * The retired sets came from this manager. `retire` returns any other set if the process
     ///   creates fewer than 2^24 allocators and managers.
-    /// * The raw set of none was replaced.
+    /// * No raw set was replaced through `raw_mut`.
     ///
     /// # Panics
     ///
     /// The manager is poisoned, or the device left sets in the iterator that it was given. While the thread
-    /// unwinds a poisoned manager does nothing instead; without std it panics, which ends the program.
+    /// unwinds a poisoned manager does nothing instead; without std it panics even then, which ends the
+    /// program.
     pub unsafe fn finish<L, D: DescriptorDevice<L, P, S>>(&mut self, device: &D, frame: u64) {
         let device = &mut Adapter { device };
         self.inner.call_in_drop(|inner| inner.finish(device, frame));
@@ -318,8 +319,8 @@ impl<P, S> FrameManager<P, S> {
     ///
     /// # Panics
     ///
-    /// The manager is poisoned. While the thread unwinds it does nothing instead; without std it panics,
-    /// which ends the program.
+    /// The manager is poisoned. While the thread unwinds it does nothing instead; without std it panics
+    /// even then, which ends the program.
     pub unsafe fn cleanup<L>(&mut self, device: &impl DescriptorDevice<L, P, S>) {
         let device = &mut Adapter { device };
         self.inner.call_in_drop(|inner| inner.cleanup(device));

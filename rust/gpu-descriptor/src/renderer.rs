@@ -136,6 +136,7 @@ static RENDERERS: AtomicU32 = AtomicU32::new(0);
 /// each call that would change something panics. So no set is handed out twice. The calls that a `Drop`
 /// of yours may make don't panic while the thread unwinds: `end_frame`, `gpu_done`, `cleanup`,
 /// `free_sets`, `free_all`, `destroy_set` and `destroy_sets` do nothing, and `shutdown` is `into_device`.
+/// Without std nobody sees that a thread unwinds, so there they panic, which ends the program.
 ///
 /// A drop without `shutdown` destroys no pools: see [At a drop](crate#at-a-drop). The raw layouts, pools
 /// and sets are dropped before the device.
@@ -224,7 +225,7 @@ impl<L, P, S, D: DescriptorDevice<L, P, S>> Renderer<L, P, S, D> {
     /// # Panics
     ///
     /// The renderer is poisoned. While the thread unwinds the call then does nothing instead; without std
-    /// it panics, which ends the program.
+    /// it panics even then, which ends the program.
     pub fn end_frame(&mut self) {
         self.inner.call_in_drop(|inner| inner.end_frame());
     }
@@ -244,7 +245,7 @@ impl<L, P, S, D: DescriptorDevice<L, P, S>> Renderer<L, P, S, D> {
     /// # Panics
     ///
     /// The renderer is poisoned. While the thread unwinds the call then does nothing instead; without std
-    /// it panics, which ends the program.
+    /// it panics even then, which ends the program.
     pub unsafe fn gpu_done(&mut self, frame: u64) {
         self.inner.call_in_drop(|inner| inner.gpu_done(frame));
     }
@@ -255,7 +256,7 @@ impl<L, P, S, D: DescriptorDevice<L, P, S>> Renderer<L, P, S, D> {
     /// # Panics
     ///
     /// The renderer is poisoned. While the thread unwinds the call then does nothing instead; without std
-    /// it panics, which ends the program.
+    /// it panics even then, which ends the program.
     pub fn cleanup(&mut self) {
         self.inner.call_in_drop(|inner| inner.cleanup());
     }
@@ -304,8 +305,8 @@ impl<L, P, S, D: DescriptorDevice<L, P, S>> Renderer<L, P, S, D> {
     ///
     /// # Panics
     ///
-    /// The renderer is poisoned. While the thread unwinds the call then does nothing and returns `Ok`; without
-    /// std it panics, which ends the program.
+    /// The renderer is poisoned. While the thread unwinds the call then does nothing and returns `Ok`;
+    /// without std it panics even then, which ends the program.
     pub unsafe fn free_sets(&mut self, sets: &[SetHandle]) -> Result<(), DestroyError> {
         let answer = self.inner.call_in_drop(|inner| inner.free_sets(sets));
         answer.unwrap_or(Ok(()))
@@ -320,8 +321,8 @@ impl<L, P, S, D: DescriptorDevice<L, P, S>> Renderer<L, P, S, D> {
     ///
     /// # Panics
     ///
-    /// The renderer is poisoned. While the thread unwinds the call then does nothing and returns `Ok`; without
-    /// std it panics, which ends the program.
+    /// The renderer is poisoned. While the thread unwinds the call then does nothing and returns `Ok`;
+    /// without std it panics even then, which ends the program.
     pub fn destroy_set(&mut self, set: SetHandle, last_use: u64) -> Result<(), DestroyError> {
         let answer = self
             .inner
@@ -340,8 +341,8 @@ impl<L, P, S, D: DescriptorDevice<L, P, S>> Renderer<L, P, S, D> {
     ///
     /// # Panics
     ///
-    /// The renderer is poisoned. While the thread unwinds the call then does nothing and returns `Ok`; without
-    /// std it panics, which ends the program.
+    /// The renderer is poisoned. While the thread unwinds the call then does nothing and returns `Ok`;
+    /// without std it panics even then, which ends the program.
     pub fn destroy_sets(&mut self, sets: &[SetHandle], last_use: u64) -> Result<(), DestroyError> {
         let answer = self
             .inner
@@ -360,7 +361,7 @@ impl<L, P, S, D: DescriptorDevice<L, P, S>> Renderer<L, P, S, D> {
     /// # Panics
     ///
     /// The renderer is poisoned. While the thread unwinds the call then does nothing instead; without std
-    /// it panics, which ends the program.
+    /// it panics even then, which ends the program.
     pub unsafe fn free_all(&mut self) {
         self.inner.call_in_drop(|inner| inner.free_all());
     }
@@ -461,7 +462,7 @@ impl<L, P, S, D: DescriptorDevice<L, P, S>> Renderer<L, P, S, D> {
     ///
     /// The renderer is poisoned: its pools stay with the device, and [`into_device`](Self::into_device)
     /// hands it back even so. While the thread unwinds the call then is `into_device`; without std it
-    /// panics, which ends the program.
+    /// panics even then, which ends the program.
     pub unsafe fn shutdown(self) -> D {
         if !self.inner.is_poisoned() {
             return self.inner.into_inner().shutdown().adapter.device;
