@@ -6,6 +6,7 @@ impl DescriptorTotalCount {
     ///
     /// In gpu-descriptor 0.3.2 the sum wraps, or panics with overflow checks.
     /// [`total_u64`](DescriptorTotalCount::total_u64) is exact.
+    #[must_use]
     pub fn total(&self) -> u32 {
         u32::try_from(self.total_u64()).unwrap_or(u32::MAX)
     }
