@@ -1,0 +1,185 @@
+-- The lists of slots, by the code's chains.
+use Rattle.std.proofs.Common.{◌≡◌, ◌≢◌, ℕ, zero, suc, ◌+◌, ◌-◌, ◌<◌, ◌≤◌, ◌==◌, ◌&&◌, Bool, true, false, not, nat_lt, List, [], ◌∷◌, length, get_or, set, slice_get, Option, None, Some, is_some, inl, inr, refl, sym, ap, subst, ◌∙◌, arith, ne_eqb, eqb-true}
+use Rattle.std.proofs.lemmas.List.{get_or-set_other, get_or-set_same, get_or_read, length-set}
+use Rattle.descriptor_table.specs.Places.{walk}
+use Rattle.descriptor_table.specs.Slots.{AreFew, AreFramed, AreLinked, HasLists, chain_at, chain_of, in_list, is_in, is_of, slot_at, waits_for}
+use Rattle.descriptor_table.specs.Tables.{used_for}
+use Rattle.descriptor_table.specs.declared.slot.Use.{Use}
+use Rattle.descriptor_table.specs.declared.slot.Use.TheVariants.{Held, Drawn, Waits, Kept, Going, Taken, Vacant}
+use Rattle.descriptor_table.specs.declared.slot.Slot.{Slot}
+use Rattle.descriptor_table.specs.declared.slot.Chain.{Chain}
+use Rattle.descriptor_table.specs.declared.slot.FrameChain.{FrameChain}
+use Rattle.descriptor_table.proofs.Counting.{same_or}
+use Rattle.descriptor_table.proofs.Listed.{IsApart, PassesNone, first_in, first_within, linked, none_in, one_more, other_slots, slot_set, still_linked, stay_linked, unlinked}
+
+pub and_true : (a b : Bool) → (a && b) ≡ true → (a ≡ true) × (b ≡ true)
+and_true true true e = (refl, refl)
+and_true true false e = (refl, e)
+and_true false true e = (e, refl)
+and_true false false e = (e, e)
+
+-- a slot is in one list
+apart_from : (j k l : ℕ) (more : Bool) → ((k == l) && more) ≡ true → j ≢ k → ((j == l) && more) ≡ false
+apart_from j k l more e ne =
+    let same : k ≡ l = eqb-true k l (and_true (k == l) more e).0 in
+    ap (λ b. b && more) (ne_eqb j l (λ f. ne (f ∙ sym same)))
+
+one_list : (j k : ℕ) (u : Use) (layout generation : ℕ) (full : Bool) → in_list k u layout generation full ≡ true → j ≢ k → in_list j u layout generation full ≡ false
+one_list j k Held layout generation full e ne = refl
+one_list j k (Drawn frame) layout generation full e ne = refl
+one_list j k (Waits frame) layout generation full e ne = refl
+one_list j k Kept layout generation full e ne = apart_from j k (layout + 2) (nat_lt generation 4294967295 && full) e ne
+one_list j k Going layout generation full e ne = apart_from j k 1 full e ne
+one_list j k Taken layout generation full e ne = refl
+one_list j k Vacant layout generation full e ne = apart_from j k 0 (nat_lt generation 4294967295 && not full) e ne
+
+one_frame : (j k : ℕ) (u : Use) (full : Bool) → (waits_for k u && full) ≡ true → j ≢ k → (waits_for j u && full) ≡ false
+one_frame j k Held full e ne = refl
+one_frame j k (Drawn frame) full e ne = apart_from j k frame full e ne
+one_frame j k (Waits frame) full e ne = apart_from j k frame full e ne
+one_frame j k Kept full e ne = refl
+one_frame j k Going full e ne = refl
+one_frame j k Taken full e ne = refl
+one_frame j k Vacant full e ne = refl
+
+-- a set in a list waits for no frame
+listed_no_frame : (f k : ℕ) (u : Use) (layout generation : ℕ) (full : Bool) → in_list k u layout generation full ≡ true → (waits_for f u && full) ≡ false
+listed_no_frame f k Held layout generation full e = refl
+listed_no_frame f k (Drawn frame) layout generation full e = absurd (cc)
+listed_no_frame f k (Waits frame) layout generation full e = absurd (cc)
+listed_no_frame f k Kept layout generation full e = refl
+listed_no_frame f k Going layout generation full e = refl
+listed_no_frame f k Taken layout generation full e = refl
+listed_no_frame f k Vacant layout generation full e = refl
+
+-- a set that waits for a frame is in no list
+pub framed_not_listed : (f k : ℕ) (u : Use) (layout generation : ℕ) (full : Bool) → (waits_for f u && full) ≡ true → in_list k u layout generation full ≡ false
+framed_not_listed f k Held layout generation full e = refl
+framed_not_listed f k (Drawn frame) layout generation full e = refl
+framed_not_listed f k (Waits frame) layout generation full e = refl
+framed_not_listed f k Kept layout generation full e = absurd (cc)
+framed_not_listed f k Going layout generation full e = absurd (cc)
+framed_not_listed f k Taken layout generation full e = refl
+framed_not_listed f k Vacant layout generation full e = absurd (cc)
+
+pub lists_apart : {T : Type 0} → IsApart {T = T} is_in
+lists_apart j k s e ne = one_list j k s.used s.layout s.generation (is_some s.set) e ne
+
+pub frames_apart : {T : Type 0} → IsApart {T = T} is_of
+frames_apart j k s e ne = one_frame j k s.used (is_some s.set) e ne
+
+pub lists_none : (T : Type 0) → PassesNone {T = T} is_in
+lists_none T k = refl
+
+pub frames_none : (T : Type 0) → PassesNone {T = T} is_of
+frames_none T k = refl
+
+module _ {T : Type 0} where
+  pub in_no_frame : (k : ℕ) (s : Slot T) → is_in k s ≡ true → (f : ℕ) → is_of f s ≡ false
+  in_no_frame k s e f = listed_no_frame f k s.used s.layout s.generation (is_some s.set) e
+
+  pub in_no_list : (f : ℕ) (s : Slot T) → is_of f s ≡ true → (k : ℕ) → is_in k s ≡ false
+  in_no_list f s e k = framed_not_listed f k s.used s.layout s.generation (is_some s.set) e
+
+  pub taken_no_list : (s : Slot T) → s.used ≡ Taken → (k : ℕ) → is_in k s ≡ false
+  taken_no_list s e k = ap (λ u. in_list k u s.layout s.generation (is_some s.set)) e
+
+  pub taken_no_frame : (s : Slot T) → s.used ≡ Taken → (f : ℕ) → is_of f s ≡ false
+  taken_no_frame s e f = ap (λ u. waits_for f u && is_some s.set) e
+
+pub chain_set : (chains : List Chain) (k : ℕ) (c : Chain) → k < length chains → chain_at (set chains k c) k ≡ c
+chain_set chains k c within = get_or-set_same chains k c (record { first = 0; count = 0 }) within
+
+pub other_chains : (chains : List Chain) (k : ℕ) (c : Chain) (j : ℕ) → j ≢ k → chain_at (set chains k c) j ≡ chain_at chains j
+other_chains chains k c j ne = get_or-set_other chains k j c (record { first = 0; count = 0 }) ne
+
+pub read_chain : (chains : List Chain) (k : ℕ) (c : Chain) → k < length chains → c ≡ get_or chains k c → c ≡ chain_at chains k
+read_chain chains k c within is = get_or_read chains k c within is (record { first = 0; count = 0 })
+
+-- a list of kept sets got shorter, or another list longer
+pub few_set : (most : ℕ) (chains : List Chain) (k : ℕ) (c : Chain) → AreFew most chains → k < length chains → (2 ≤ k → c.count ≤ most) → AreFew most (set chains k c)
+few_set most chains k c few within le j two = elim (same_or j k) [
+  | inl e ↦ subst (λ j. (chain_at (set chains k c) j).count ≤ most) (sym e) (subst (λ (d : Chain). d.count ≤ most) (sym (chain_set chains k c within)) (le (omega arith)))
+  | inr ne ↦ subst (λ (d : Chain). d.count ≤ most) (sym (other_chains chains k c j ne)) (few j two)
+]
+
+module _ {T : Type 0} where
+  -- a slot keeps its layout
+  pub known_set : (slots : List (Slot T)) (p : ℕ) (s : Slot T) (lists : ℕ) → HasLists slots lists → p < length slots → s.layout ≡ (slot_at slots p).layout → HasLists (set slots p s) lists
+  known_set slots p s lists known within same q lt =
+      let size = length-set slots p s in
+      let was = known q (omega arith) in
+      let now : (slot_at (set slots p s) q).layout ≡ (slot_at slots q).layout = elim (same_or q p) [
+        | inl e ↦ subst (λ q. (slot_at (set slots p s) q).layout ≡ (slot_at slots q).layout) (sym e) (ap (λ (w : Slot T). w.layout) (slot_set slots p s within) ∙ same)
+        | inr ne ↦ ap (λ (w : Slot T). w.layout) (other_slots slots p s q ne)
+      ] in
+      omega arith
+
+-- what the code reads
+pub got_chain : (chains : List Chain) (k : ℕ) (c : Chain) → Some c ≡ slice_get chains k → (k < length chains) × (chain_at chains k ≡ c)
+got_chain [] k c e = absurd (let bad : ◌≡◌ {A = Option Chain} (Some c) None = e in cc)
+got_chain (d ∷ chains) zero c e = (omega arith, (let same : ◌≡◌ {A = Option Chain} (Some c) (Some d) = e in cc))
+got_chain (d ∷ chains) (suc k) c e = let rest = got_chain chains k c e in ((let lt = rest.0 in omega arith), rest.1)
+
+one_before : (n : ℕ) → n ≢ 0 → n ≡ n - 1 + 1
+one_before n some = omega arith
+
+pub split_chain : (d c : Chain) → d ≡ c → c.count ≢ 0 → d ≡ record { first = c.first; count = c.count - 1 + 1 }
+split_chain d c e some = e ∙ (λ i. record { first = c.first; count = one_before c.count some i })
+
+module _ {T : Type 0} (slots : List (Slot T)) (next : List ℕ) (chains : List Chain) (k : ℕ) (c : Chain) (linked_all : AreLinked slots next chains) (is : chain_at chains k ≡ c) where
+  -- the first slot of a list, as the code has it
+  pub picked : c.count ≢ 0 → (c.first < length slots) × (is_in k (slot_at slots c.first) ≡ true)
+  picked some = (first_within is_in slots next (chain_at chains) linked_all (lists_none T) k (c.count - 1) c.first (split_chain (chain_at chains k) c is some), first_in is_in slots next (chain_at chains) linked_all k (c.count - 1) c.first (split_chain (chain_at chains k) c is some))
+
+  pub pick_linked : (was : Slot T) (after : ℕ) → c.count ≢ 0 → k < length chains → after ≡ get_or next c.first 0 → AreLinked (set slots c.first (used_for Taken was)) next (set chains k (record { first = after; count = c.count - 1 }))
+  pick_linked was after some within told =
+      let d : Chain = record { first = after; count = c.count - 1 } in
+      unlinked is_in slots next (chain_at chains) linked_all (lists_none T) lists_apart (chain_at (set chains k d)) k (c.count - 1) c.first (used_for Taken was) (split_chain (chain_at chains k) c is some) (ap (λ (d : Chain). walk d.count next d.first) (chain_set chains k d within) ∙ ap (walk (c.count - 1) next) told) (other_chains chains k d) (λ j. refl)
+
+  pub link_linked : (p : ℕ) (s : Slot T) → p < length slots → length next ≡ length slots → k < length chains → (slot_at slots p).used ≡ Taken → is_in k s ≡ true → AreLinked (set slots p s) (set next p c.first) (set chains k (record { first = p; count = c.count + 1 }))
+  link_linked p s inside long within taken goes =
+      let d : Chain = record { first = p; count = c.count + 1 } in
+      linked is_in slots next (chain_at chains) linked_all lists_apart (chain_at (set chains k d)) k p c s is inside long (chain_set chains k d within) (other_chains chains k d) (taken_no_list (slot_at slots p) taken) goes
+
+  pub link_more : (p : ℕ) (s : Slot T) → p < length slots → (slot_at slots p).used ≡ Taken → is_in k s ≡ true → c.count + 1 ≤ length slots
+  link_more p s inside taken goes =
+      let more = one_more is_in slots next (chain_at chains) linked_all (lists_none T) k p s inside (taken_no_list (slot_at slots p) taken) goes in
+      let same = ap (λ (d : Chain). d.count) is in
+      omega arith
+
+  pub pick_none : c.count ≡ 0 → (p : ℕ) → is_in k (slot_at slots p) ≡ false
+  pick_none none = none_in is_in slots next (chain_at chains) linked_all k (ap (λ (d : Chain). d.count) is ∙ none)
+
+-- a list past the end has no slot
+pub past_none : {T : Type 0} (slots : List (Slot T)) (next : List ℕ) (chains : List Chain) (k : ℕ) → AreLinked slots next chains → slice_get chains k ≡ None → (p : ℕ) → is_in k (slot_at slots p) ≡ false
+past_none slots next chains k h e = none_in is_in slots next (chain_at chains) h k (past chains k e)
+  where
+    past : (chains : List Chain) (k : ℕ) → slice_get chains k ≡ None → (chain_at chains k).count ≡ 0
+    past [] k e = refl
+    past (d ∷ chains) zero e = absurd (let bad : ◌≡◌ {A = Option Chain} (Some d) None = e in cc)
+    past (d ∷ chains) (suc k) e = past chains k e
+
+-- a slot that leaves a list, or comes to one, waits for no frame before and after
+module _ {T : Type 0} (slots : List (Slot T)) (next : List ℕ) (frames : List FrameChain) (framed : AreFramed slots next frames) (p : ℕ) (s : Slot T) where
+  pub pick_framed : p < length slots → ((f : ℕ) → is_of f (slot_at slots p) ≡ false) → ((f : ℕ) → is_of f s ≡ false) → AreFramed (set slots p s) next frames
+  pick_framed within was now = stay_linked is_of slots next (chain_of frames) framed p s within (λ f. now f ∙ sym (was f))
+
+  pub link_framed : (x : ℕ) → p < length slots → ((f : ℕ) → is_of f (slot_at slots p) ≡ false) → ((f : ℕ) → is_of f s ≡ false) → AreFramed (set slots p s) (set next p x) frames
+  link_framed x within was now = still_linked is_of slots next (chain_of frames) framed p x s within was now
+
+module _ {T : Type 0} (slots : List (Slot T)) (next : List ℕ) (chains : List Chain) (h : AreLinked slots next chains) (p : ℕ) (s : Slot T) where
+  pub wait_linked : (x : ℕ) → p < length slots → (slot_at slots p).used ≡ Taken → ((k : ℕ) → is_in k s ≡ false) → AreLinked (set slots p s) (set next p x) chains
+  wait_linked x within taken now = still_linked is_in slots next (chain_at chains) h p x s within (taken_no_list (slot_at slots p) taken) now
+
+  pub out_linked : p < length slots → ((k : ℕ) → is_in k (slot_at slots p) ≡ false) → ((k : ℕ) → is_in k s ≡ false) → AreLinked (set slots p s) next chains
+  out_linked within was now = stay_linked is_in slots next (chain_at chains) h p s within (λ k. now k ∙ sym (was k))
+
+-- a list that has a slot is there
+pub count_within : (chains : List Chain) (k : ℕ) → (chain_at chains k).count ≢ 0 → k < length chains
+count_within [] k some = absurd (some refl)
+count_within (d ∷ chains) zero some = omega arith
+count_within (d ∷ chains) (suc k) some = let h = count_within chains k some in omega arith
+
+pub known_chains : {T : Type 0} (slots : List (Slot T)) (chains : List Chain) (k : ℕ) (d : Chain) → HasLists slots (length chains) → HasLists slots (length (set chains k d))
+known_chains slots chains k d known = subst (HasLists slots) (sym (length-set chains k d)) known

@@ -1,0 +1,56 @@
+-- How many slots pass a test.
+use Rattle.std.proofs.Common.{◌≡◌, ℕ, zero, suc, ◌+◌, ◌<◌, ◌≤◌, Bool, true, false, if◌then◌else◌, List, [], ◌∷◌, length, set, None, refl, sym, ap, ◌∙◌, arith}
+use Rattle.std.proofs.lemmas.List.{get_or_past}
+use Rattle.descriptor_table.specs.Places.{times, walk}
+use Rattle.descriptor_table.specs.Slots.{AreLinked, Lists, chain_at, is_in, slot_at}
+use Rattle.descriptor_table.specs.Tables.{count}
+use Rattle.descriptor_table.specs.declared.slot.Use.TheVariants.{Taken}
+use Rattle.descriptor_table.specs.declared.slot.Slot.{Slot}
+use Rattle.descriptor_table.specs.declared.slot.Chain.{Chain}
+use Rattle.descriptor_table.proofs.Counting.{places_total, total, total_as, total_first}
+use Rattle.descriptor_table.proofs.Listed.{walk_length}
+
+-- 1 if the test holds
+abbrev pub bit : Bool → ℕ
+bit b = if b then 1 else 0
+
+module _ {T : Type 0} where
+  pub count_set : (test : Slot T → Bool) (slots : List (Slot T)) (p : ℕ) (s : Slot T) → p < length slots → count test (set slots p s) + (if test (slot_at slots p) then 1 else 0) ≡ count test slots + (if test s then 1 else 0)
+  count_set test [] p s within = absurd (omega arith)
+  count_set test (y ∷ slots) zero s within = omega arith
+  count_set test (y ∷ slots) (suc p) s within = let h = count_set test slots p s (omega arith) in omega arith
+
+  pub same_count : (test : Slot T → Bool) (slots : List (Slot T)) (p : ℕ) (s : Slot T) → p < length slots → test s ≡ test (slot_at slots p) → count test (set slots p s) ≡ count test slots
+  same_count test slots p s within same = let h = count_set test slots p s within in let e = ap bit same in omega arith
+
+  -- as many slots as places in a list
+  listed_count : (test : Slot T → Bool) (slots : List (Slot T)) (l : List ℕ) → test (record { generation = 0; layout = 0; used = Taken; leaves = false; set = None }) ≡ false → Lists test slots l → length l ≡ count test slots
+  listed_count test slots l none h =
+      places_total (length slots) l (λ p past. h p ∙ ap (λ x. if test x then 1 else 0) (get_or_past slots p (record { generation = 0; layout = 0; used = Taken; leaves = false; set = None }) past) ∙ ap bit none)
+      ∙ total_as (λ p. times p l) (λ p. if test (slot_at slots p) then 1 else 0) (length slots) h
+      ∙ all_count slots
+    where
+      all_count : (slots : List (Slot T)) → total (λ p. if test (slot_at slots p) then 1 else 0) (length slots) ≡ count test slots
+      all_count [] = refl
+      all_count (s ∷ slots) = total_first (λ p. if test (slot_at (s ∷ slots) p) then 1 else 0) (length slots) ∙ ap (λ n. (if test s then 1 else 0) + n) (all_count slots)
+
+  -- a list has as many slots as it counts
+  pub chain_count : (slots : List (Slot T)) (next : List ℕ) (chains : List Chain) → AreLinked slots next chains → (k : ℕ) → (chain_at chains k).count ≡ count (is_in k) slots
+  chain_count slots next chains h k = sym (walk_length (chain_at chains k).count next (chain_at chains k).first) ∙ listed_count (is_in k) slots (walk (chain_at chains k).count next (chain_at chains k).first) refl (h k)
+
+  pub none_count : (test : Slot T → Bool) (slots : List (Slot T)) → ((p : ℕ) → test (slot_at slots p) ≡ false) → count test slots ≡ 0
+  none_count test [] none = refl
+  none_count test (s ∷ slots) none = ap (λ b. (if b then 1 else 0) + count test slots) (none 0) ∙ (let h = none_count test slots (λ p. none (suc p)) in omega arith)
+
+  pub count_none : (test : Slot T → Bool) (slots : List (Slot T)) → test (record { generation = 0; layout = 0; used = Taken; leaves = false; set = None }) ≡ false → count test slots ≡ 0 → (p : ℕ) → test (slot_at slots p) ≡ false
+  count_none test [] none zero_count p = none
+  count_none test (s ∷ slots) none zero_count zero = by_test (test s) zero_count
+    where
+      by_test : (b : Bool) → bit b + count test slots ≡ 0 → b ≡ false
+      by_test true e = absurd (omega arith)
+      by_test false e = refl
+  count_none test (s ∷ slots) none zero_count (suc p) = count_none test slots none (let b = few (test s) in omega arith) p
+    where
+      few : (b : Bool) → 0 ≤ bit b
+      few true = omega arith
+      few false = omega arith

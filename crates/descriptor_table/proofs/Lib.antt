@@ -1,0 +1,11 @@
+pub mod Chains
+pub mod Coming
+pub mod Counting
+pub mod Counts
+pub mod Frames
+pub mod Growing
+pub mod Holding
+pub mod Leaving
+pub mod Listed
+pub mod Renewing
+pub mod Turning

@@ -1,0 +1,96 @@
+-- A set that comes into a slot, gets a handle, or leaves.
+use Rattle.std.proofs.Common.{◌≡◌, ℕ, ◌+◌, ◌<◌, ◌≤◌, ◌==◌, ◌&&◌, true, false, not, nat_lt, List, length, set, Option, Some, None, is_some, inl, refl, sym, ap, ◌∙◌, arith, eqb-true, ltb-true}
+use Rattle.std.proofs.lemmas.List.{length-set, set-set}
+use Rattle.descriptor_table.specs.Slots.{in_list, is_in, slot_at}
+use Rattle.descriptor_table.specs.Tables.{Gives, HasRoom, Puts, Renews, Stays, is_usable, renewed, slots_of, used_for, vacated, with_use}
+use Rattle.descriptor_table.specs.declared.handle.SetHandle.{SetHandle}
+use Rattle.descriptor_table.specs.declared.set_table.SetTable.{SetTable}
+use Rattle.descriptor_table.specs.declared.slot.Use.{Use}
+use Rattle.descriptor_table.specs.declared.slot.Use.TheVariants.{Held, Drawn, Waits, Kept, Going, Taken, Vacant}
+use Rattle.descriptor_table.specs.declared.slot.Slot.{Slot}
+use Rattle.descriptor_table.proofs.Chains.{and_true}
+use Rattle.descriptor_table.proofs.Listed.{other_slots, slot_set}
+
+module _ {T : Type 0} where
+  -- what is known of a vacant slot
+  pub vacant_is : (s : Slot T) → is_usable s ≡ true → (s.set ≡ None) × (s.generation < 4294967295)
+  vacant_is s e = by_use s.used s.set e
+    where
+      by_use : (u : Use) (o : Option T) → in_list 0 u s.layout s.generation (is_some o) ≡ true → (o ≡ None) × (s.generation < 4294967295)
+      by_use Held o e = absurd (cc)
+      by_use (Drawn frame) o e = absurd (cc)
+      by_use (Waits frame) o e = absurd (cc)
+      by_use Kept o e = absurd (let z = eqb-true 0 (s.layout + 2) (and_true (0 == (s.layout + 2)) (nat_lt s.generation 4294967295 && is_some o) e).0 in omega arith)
+      by_use Going o e = absurd (let z : (0 == 1) && is_some o ≡ true = e in cc)
+      by_use Taken o e = absurd (cc)
+      by_use Vacant None e = (refl, ltb-true s.generation 4294967295 (and_true (nat_lt s.generation 4294967295) true e).0)
+      by_use Vacant (Some x) e = absurd (let z = (and_true (nat_lt s.generation 4294967295) false e).1 in cc)
+
+  -- a set came to a vacant slot
+  pub puts_again : (layout p : ℕ) (x : T) (old mid new : List (Slot T)) → p < length old → is_usable (slot_at old p) ≡ true → mid ≡ with_use p Taken old → new ≡ set mid p (record { generation = (slot_at mid p).generation; layout = layout; used = Taken; leaves = false; set = Some x }) → Puts layout x p old new
+  puts_again layout p x old mid new within was left is =
+      let o = slot_at old p in
+      let s : Slot T = record { generation = o.generation; layout = layout; used = Taken; leaves = false; set = Some x } in
+      let slot : slot_at mid p ≡ used_for Taken o = ap (λ l. slot_at l p) left ∙ slot_set old p (used_for Taken o) within in
+      let all : new ≡ set old p s = is ∙ ap (λ (w : Slot T). set mid p (record { generation = w.generation; layout = layout; used = Taken; leaves = false; set = Some x })) slot ∙ ap (λ l. set l p s) left ∙ set-set old p (used_for Taken o) s in
+      let long = ap length all ∙ length-set old p s in
+      record {
+        empty = (vacant_is o was).0;
+        within = omega arith;
+        next = (vacant_is o was).1;
+        here = ap (λ l. slot_at l p) all ∙ slot_set old p s within;
+        others = λ q ne. ap (λ l. slot_at l q) all ∙ other_slots old p s q ne;
+        grows = inl long;
+      }
+
+  -- room that is kept
+  pub room_stays : (n : ℕ) (a b : SetTable T) → Stays a b → length (slots_of b) ≡ length (slots_of a) → HasRoom n a → HasRoom n b
+  room_stays n a b stays long room =
+      let slots = stays.slots in
+      let next = stays.next in
+      let frames = stays.frames in
+      record { few = (let h = room.few in omega arith); slots = (let h = room.slots in omega arith); next = (let h = room.next in omega arith); frames = (let h = room.frames in omega arith) }
+
+  pub room_less : (n : ℕ) (a : SetTable T) → HasRoom (n + 1) a → HasRoom n a
+  room_less n a room = record { few = (let h = room.few in omega arith); slots = (let h = room.slots in omega arith); next = (let h = room.next in omega arith); frames = (let h = room.frames in omega arith) }
+
+  -- a set under a new handle is in use for something else
+  pub renews_then : (number p : ℕ) (u : Use) (handle : SetHandle) (old mid new : List (Slot T)) → p < length old → Renews number p Taken handle old mid → new ≡ with_use p u mid → Renews number p u handle old new
+  renews_then number p u handle old mid new within r is =
+      let o = slot_at old p in
+      let slot = ap (λ l. slot_at l p) r.slots ∙ slot_set old p (renewed Taken o) within in
+      record { is = r.is; slots = is ∙ ap (λ s. set mid p (used_for u s)) slot ∙ ap (λ l. set l p (renewed u o)) r.slots ∙ set-set old p (renewed Taken o) (renewed u o) }
+
+  -- a set left its list, then its slot, which is vacant
+  pub gives : (k p : ℕ) (x : T) (old one two new : List (Slot T)) → p < length old → is_in k (slot_at old p) ≡ true → one ≡ with_use p Taken old → (slot_at one p).set ≡ Some x → two ≡ set one p (record (slot_at one p) { set = None }) → new ≡ with_use p Vacant two → Gives k x old new
+  gives k p x old one two new within was left full taken is =
+      let o = slot_at old p in
+      let slot : slot_at one p ≡ used_for Taken o = ap (λ l. slot_at l p) left ∙ slot_set old p (used_for Taken o) within in
+      let empty : Slot T = record (used_for Taken o) { set = None } in
+      let two_is : two ≡ set old p empty = taken ∙ ap (λ (s : Slot T). set one p (record s { set = None })) slot ∙ ap (λ l. set l p empty) left ∙ set-set old p (used_for Taken o) empty in
+      let slot_two : slot_at two p ≡ empty = ap (λ l. slot_at l p) two_is ∙ slot_set old p empty within in
+      record {
+        place = p;
+        within = within;
+        was = was;
+        full = sym (ap (λ (s : Slot T). s.set) slot) ∙ full;
+        slots = is ∙ ap (λ (s : Slot T). set two p (used_for Vacant s)) slot_two ∙ ap (λ l. set l p (vacated o)) two_is ∙ set-set old p empty (vacated o);
+      }
+
+  -- a kept set is there, and its place has a generation left
+  pub kept_is : (k : ℕ) (s : Slot T) → 2 ≤ k → is_in k s ≡ true → (s.generation < 4294967295) × (is_some s.set ≡ true)
+  kept_is k s two e = by_use s.used e
+    where
+      by_use : (u : Use) → in_list k u s.layout s.generation (is_some s.set) ≡ true → (s.generation < 4294967295) × (is_some s.set ≡ true)
+      by_use Held e = absurd (cc)
+      by_use (Drawn frame) e = absurd (cc)
+      by_use (Waits frame) e = absurd (cc)
+      by_use Kept e =
+          let both = and_true (nat_lt s.generation 4294967295) (is_some s.set) (and_true (k == (s.layout + 2)) (nat_lt s.generation 4294967295 && is_some s.set) e).1 in
+          (ltb-true s.generation 4294967295 both.0, both.1)
+      by_use Going e = absurd (let z = eqb-true k 1 (and_true (k == 1) (is_some s.set) e).0 in omega arith)
+      by_use Taken e = absurd (cc)
+      by_use Vacant e = absurd (let z = eqb-true k 0 (and_true (k == 0) (nat_lt s.generation 4294967295 && not (is_some s.set)) e).0 in omega arith)
+
+  pub kept_full : (s : Slot T) → is_in (s.layout + 2) s ≡ true → is_some s.set ≡ true
+  kept_full s e = (kept_is (s.layout + 2) s (omega arith) e).1

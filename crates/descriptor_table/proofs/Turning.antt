@@ -1,0 +1,314 @@
+-- Slots that pass a test are changed, one after another.
+use Rattle.std.proofs.Common.{◌≡◌, ◌≢◌, ℕ, zero, suc, ◌+◌, ◌<◌, ◌≤◌, ◌⊎◌, ◌==◌, ◌&&◌, not, nat_lt, Bool, true, false, if◌then◌else◌, List, [], ◌∷◌, length, set, Option, Some, None, ne_eqb, is_some, inl, inr, refl, sym, ap, subst, ◌∙◌, arith, eq-eqb, eqb-true}
+use Rattle.std.proofs.lemmas.List.{length-set, set-set}
+use Rattle.std.proofs.lemmas.Bool.{ltb-false}
+use Rattle.descriptor_table.specs.Slots.{in_list, is_due, is_in, slot_at, waits_until}
+use Rattle.descriptor_table.specs.Tables.{IsSettled, MayGo, PicksAbove, PicksFirst, Stays, Turns, WaitsFor, count, if_taken, is_kept, is_taken, is_taken_use, may_stay, next_use, stays, used_for, with_use}
+use Rattle.descriptor_table.specs.declared.set_table.SetTable.{SetTable}
+use Rattle.descriptor_table.specs.declared.slot.Use.{Use}
+use Rattle.descriptor_table.specs.declared.slot.Use.TheVariants.{Held, Drawn, Waits, Kept, Going, Taken, Vacant}
+use Rattle.descriptor_table.specs.declared.slot.Slot.{Slot}
+use Rattle.descriptor_table.proofs.Chains.{and_true, lists_apart}
+use Rattle.descriptor_table.proofs.Counting.{same_or}
+use Rattle.descriptor_table.proofs.Counts.{bit, count_set, none_count, same_count}
+use Rattle.descriptor_table.proofs.Listed.{other_slots, slot_set, test_within}
+
+taken_use : (u : Use) → is_taken_use u ≡ true → u ≡ Taken
+taken_use Held e = absurd (cc)
+taken_use (Drawn f) e = absurd (cc)
+taken_use (Waits f) e = absurd (cc)
+taken_use Kept e = absurd (cc)
+taken_use Going e = absurd (cc)
+taken_use Taken e = refl
+taken_use Vacant e = absurd (cc)
+
+module _ {T : Type 0} where
+  -- a slot in use for one thing after another
+  pub use_again : (slots : List (Slot T)) (p : ℕ) (u v : Use) → p < length slots → with_use p v (with_use p u slots) ≡ with_use p v slots
+  use_again slots p u v within = set-set slots p (used_for u (slot_at slots p)) (used_for v (slot_at (with_use p u slots) p)) ∙ ap (λ s. set slots p (used_for v s)) (slot_set slots p (used_for u (slot_at slots p)) within)
+
+  -- some of the slots that pass the test have turned
+  pub record Turning (test : Slot T → Bool) (becomes : List (Slot T) → Slot T → Slot T → Type 0) (old now : List (Slot T)) : Type 0 where
+    pub long : length now ≡ length old
+    pub each : (p : ℕ) → (slot_at now p ≡ slot_at old p) ⊎ ((test (slot_at old p) ≡ true) × becomes now (slot_at old p) (slot_at now p))
+
+  module _ (test : Slot T → Bool) (becomes : List (Slot T) → Slot T → Slot T → Type 0) where
+    pub turn_start : (old : List (Slot T)) → Turning test becomes old old
+    turn_start old = record { long = refl; each = λ p. inl refl }
+
+    -- the slot at a place turned, which passed the test
+    pub turn_step : (old now new : List (Slot T)) (p : ℕ) (s : Slot T) → Turning test becomes old now → p < length now → test (slot_at now p) ≡ true → new ≡ set now p s → ((o n : Slot T) → becomes now o n → becomes new o n) → ((o n : Slot T) → becomes now o n → test n ≡ false) → becomes new (slot_at now p) s → Turning test becomes old new
+    turn_step old now new p s turning within was is grows done turned =
+        let here : slot_at new p ≡ s = ap (λ l. slot_at l p) is ∙ slot_set now p s within in
+        let stayed : slot_at now p ≡ slot_at old p = elim (turning.each p) [
+          | inl same ↦ same
+          | inr both ↦ absurd (let bad = sym was ∙ done (slot_at old p) (slot_at now p) both.1 in let no : true ≡ false = bad in cc)
+        ] in
+        record {
+          long = ap length is ∙ length-set now p s ∙ turning.long;
+          each = λ q. elim (same_or q p) [
+            | inl e ↦ inr (subst (λ q. test (slot_at old q) ≡ true) (sym e) (ap test (sym stayed) ∙ was), subst (λ q. becomes new (slot_at old q) (slot_at new q)) (sym e) (subst (λ o. becomes new o (slot_at new p)) stayed (subst (becomes new (slot_at now p)) (sym here) turned)))
+            | inr ne ↦ (let other : slot_at new q ≡ slot_at now q = ap (λ l. slot_at l q) is ∙ other_slots now p s q ne in elim (turning.each q) [
+              | inl same ↦ inl (other ∙ same)
+              | inr both ↦ inr (both.0, subst (becomes new (slot_at old q)) (sym other) (grows (slot_at old q) (slot_at now q) both.1))
+            ])
+          ];
+        }
+
+    -- no slot is left that passes the test
+    pub turn_end : (old now : List (Slot T)) → Turning test becomes old now → ((p : ℕ) → test (slot_at now p) ≡ false) → Turns test becomes old now
+    turn_end old now turning none = record {
+      long = turning.long;
+      rest = λ p out. elim (turning.each p) [
+        | inl same ↦ same
+        | inr both ↦ absurd (let no : true ≡ false = sym both.0 ∙ out in cc)
+      ];
+      here = λ p is. elim (turning.each p) [
+        | inl same ↦ absurd (let no : true ≡ false = sym is ∙ ap test (sym same) ∙ none p in cc)
+        | inr both ↦ both.1
+      ];
+    }
+
+  -- the number of kept sets does not fall when a set settles that is in no list
+  kept_grows : (k p : ℕ) (now : List (Slot T)) (s : Slot T) → p < length now → is_in k (slot_at now p) ≡ false → count (is_in k) now ≤ count (is_in k) (set now p s)
+  kept_grows k p now s within out = (let h = count_set (is_in k) now p s within in let b = ap bit out in omega arith)
+
+  -- a set of a slot that is in no list settled
+  module _ (most : ℕ) (now mid new : List (Slot T)) (p : ℕ) (within : p < length now) (out : (k : ℕ) → is_in k (slot_at now p) ≡ false) (left : mid ≡ with_use p Taken now) (is : new ≡ with_use p (next_use most mid p) mid) where
+    pub settled_set : new ≡ set now p (used_for (next_use most mid p) (slot_at now p))
+    settled_set = is ∙ ap (λ l. with_use p (next_use most mid p) l) left ∙ use_again now p Taken (next_use most mid p) within
+
+    pub settled_grows : (o n : Slot T) → IsSettled most now o n → IsSettled most new o n
+    settled_grows o n (inl kept) = inl kept
+    settled_grows o n (inr goes) = inr (goes.0, λ may. (let a = goes.1 may in let b = kept_grows (o.layout + 2) p now (used_for (next_use most mid p) (slot_at now p)) within (out (o.layout + 2)) in let c = ap (count (is_in (o.layout + 2))) settled_set in omega arith))
+
+    pub settled_here : IsSettled most new (slot_at now p) (used_for (next_use most mid p) (slot_at now p))
+    settled_here = by_test (may_stay most mid (slot_at mid p)) refl
+      where
+        o : Slot T
+        o = slot_at now p
+
+        slot : slot_at mid p ≡ used_for Taken (slot_at now p)
+        slot = ap (λ l. slot_at l p) left ∙ slot_set now p (used_for Taken (slot_at now p)) within
+
+        both : may_stay most mid (slot_at mid p) ≡ (stays (slot_at now p) && nat_lt (count (is_in ((slot_at now p).layout + 2)) mid) most)
+        both = ap (may_stay most mid) slot
+
+        by_test : (b : Bool) → may_stay most mid (slot_at mid p) ≡ b → IsSettled most new (slot_at now p) (used_for (if b then Kept else Going) (slot_at now p))
+        by_test true e = inl (refl, (and_true (stays (slot_at now p)) (nat_lt (count (is_in ((slot_at now p).layout + 2)) mid) most) (sym both ∙ e)).0)
+        by_test false e = inr (
+          refl,
+          λ may.
+              let k = (slot_at now p).layout + 2 in
+              let full = ltb-false (count (is_in k) mid) most (sym (ap (λ b. b && nat_lt (count (is_in k) mid) most) may) ∙ sym both ∙ e) in
+              let a = kept_grows k p now (used_for (next_use most mid p) (slot_at now p)) within (out k) in
+              let b = ap (count (is_in k)) settled_set in
+              let c = same_count (is_in k) now p (used_for Taken (slot_at now p)) within (sym (out k)) in
+              let d = ap (count (is_in k)) left in
+              omega arith,
+        )
+
+  -- a set that settled waits no longer, and no call has it
+  pub settled_not_due : (frame most : ℕ) (l : List (Slot T)) (o n : Slot T) → IsSettled most l o n → is_due frame n ≡ false
+  settled_not_due frame most l o n (inl kept) = ap (is_due frame) kept.0
+  settled_not_due frame most l o n (inr goes) = ap (is_due frame) goes.0
+
+  pub settled_not_taken : (most : ℕ) (l : List (Slot T)) (o n : Slot T) → IsSettled most l o n → is_taken n ≡ false
+  settled_not_taken most l o n (inl kept) = ap is_taken kept.0
+  settled_not_taken most l o n (inr goes) = ap is_taken goes.0
+
+  -- a set that waits, or that a call has, is in no list
+  pub due_not_listed : (frame : ℕ) (s : Slot T) → is_due frame s ≡ true → (k : ℕ) → is_in k s ≡ false
+  due_not_listed frame s e k = by_use s.used e
+    where
+      by_use : (u : Use) → (waits_until frame u && is_some s.set) ≡ true → in_list k u s.layout s.generation (is_some s.set) ≡ false
+      by_use Held e = refl
+      by_use (Drawn f) e = refl
+      by_use (Waits f) e = refl
+      by_use Kept e = absurd (cc)
+      by_use Going e = absurd (cc)
+      by_use Taken e = refl
+      by_use Vacant e = absurd (cc)
+
+  pub due_full : (frame : ℕ) (s : Slot T) → is_due frame s ≡ true → is_some s.set ≡ true
+  due_full frame s e = (and_true (waits_until frame s.used) (is_some s.set) e).1
+
+  pub taken_is : (s : Slot T) → is_taken s ≡ true → (s.used ≡ Taken) × (is_some s.set ≡ true)
+  taken_is s e = let both = and_true (is_taken_use s.used) (is_some s.set) e in (taken_use s.used both.0, both.1)
+
+  pub taken_inside : (slots : List (Slot T)) (p : ℕ) → is_taken (slot_at slots p) ≡ true → p < length slots
+  taken_inside slots p e = test_within is_taken slots p refl e
+
+  -- a slot in use as before
+  pub same_use : (slots : List (Slot T)) (p : ℕ) → (slot_at slots p).used ≡ Taken → p < length slots → with_use p Taken slots ≡ slots
+  same_use [] p e lt = refl
+  same_use (s ∷ slots) zero e lt = ap (λ u. used_for u s ∷ slots) (sym e)
+  same_use (s ∷ slots) (suc p) e lt = ap (λ l. s ∷ l) (same_use slots p e (omega arith))
+
+  pub stays_more : (a b c : SetTable T) → Stays a b → Stays b c → Stays a c
+  stays_more a b c one two = record {
+    number = two.number ∙ one.number;
+    most = two.most ∙ one.most;
+    lists = two.lists ∙ one.lists;
+    slots = two.slots ∙ one.slots;
+    next = two.next ∙ one.next;
+    frames = two.frames ∙ one.frames;
+  }
+
+  -- a slot that passed the test doesn't any more
+  pub one_fewer : (test : Slot T → Bool) (now new : List (Slot T)) (p : ℕ) (s : Slot T) → p < length now → test (slot_at now p) ≡ true → test s ≡ false → new ≡ set now p s → count test new < count test now
+  one_fewer test now new p s within was gone is =
+      let h = count_set test now p s within in
+      let a = ap bit was in
+      let b = ap bit gone in
+      let c = ap (count test) is in
+      omega arith
+
+  -- a set in use for the other is not taken
+  settled_out : (b : Bool) (s : Slot T) → is_taken (used_for (if b then Kept else Going) s) ≡ false
+  settled_out true s = refl
+  settled_out false s = refl
+
+  -- what becomes of the slots when a slot turns, if a call has its set
+  pub record TurnsOne (becomes : List (Slot T) → Slot T → Slot T → Type 0) (old now new : List (Slot T)) (p : ℕ) : Type 0 where
+    pub turning : Turning is_taken becomes old new
+    pub here : is_taken (slot_at new p) ≡ false
+    pub others : (q : ℕ) → is_taken (slot_at now q) ≡ false → is_taken (slot_at new q) ≡ false
+
+  turn_one : (becomes : List (Slot T) → Slot T → Slot T → Type 0) (old now new : List (Slot T)) (p : ℕ) (u : Use) → Turning is_taken becomes old now → p < length now → new ≡ if_taken p u now → (is_taken (slot_at now p) ≡ true → Turning is_taken becomes old new) → is_taken (used_for u (slot_at now p)) ≡ false → TurnsOne becomes old now new p
+  turn_one becomes old now new p u turning within is step out = by_test (is_taken (slot_at now p)) refl
+    where
+      by_test : (b : Bool) → is_taken (slot_at now p) ≡ b → TurnsOne becomes old now new p
+      by_test true e =
+          let all : new ≡ with_use p u now = is ∙ ap (λ b. if b then with_use p u now else now) e in
+          let here : is_taken (slot_at new p) ≡ false = ap (λ l. is_taken (slot_at l p)) all ∙ ap is_taken (slot_set now p (used_for u (slot_at now p)) within) ∙ out in
+          record {
+            turning = step e;
+            here = here;
+            others = λ q none. elim (same_or q p) [
+              | inl same ↦ subst (λ q. is_taken (slot_at new q) ≡ false) (sym same) here
+              | inr ne ↦ ap (λ l. is_taken (slot_at l q)) all ∙ ap is_taken (other_slots now p (used_for u (slot_at now p)) q ne) ∙ none
+            ];
+          }
+      by_test false e =
+          let all : new ≡ now = is ∙ ap (λ b. if b then with_use p u now else now) e in
+          record {
+            turning = subst (Turning is_taken becomes old) (sym all) turning;
+            here = ap (λ l. is_taken (slot_at l p)) all ∙ e;
+            others = λ q none. ap (λ l. is_taken (slot_at l q)) all ∙ none;
+          }
+
+  pub settle_one : (most : ℕ) (old now new : List (Slot T)) (p : ℕ) → Turning is_taken (IsSettled most) old now → p < length now → new ≡ if_taken p (next_use most now p) now → TurnsOne (IsSettled most) old now new p
+  settle_one most old now new p turning within is = turn_one (IsSettled most) old now new p (next_use most now p) turning within is step (settled_out (may_stay most now (slot_at now p)) (slot_at now p))
+    where
+      step : is_taken (slot_at now p) ≡ true → Turning is_taken (IsSettled most) old new
+      step e =
+          let taken = taken_is (slot_at now p) e in
+          let all : new ≡ with_use p (next_use most now p) now = is ∙ ap (λ b. if b then with_use p (next_use most now p) now else now) e in
+          let left : now ≡ with_use p Taken now = sym (same_use now p taken.0 within) in
+          let out : (k : ℕ) → is_in k (slot_at now p) ≡ false = (λ k. ap (λ u. in_list k u (slot_at now p).layout (slot_at now p).generation (is_some (slot_at now p).set)) taken.0) in
+          turn_step is_taken (IsSettled most) old now new p (used_for (next_use most now p) (slot_at now p)) turning within e (settled_set most now now new p within out left all) (settled_grows most now now new p within out left all) (settled_not_taken most now) (settled_here most now now new p within out left all)
+
+  pub wait_one : (frame : ℕ) (old now new : List (Slot T)) (p : ℕ) → Turning is_taken (WaitsFor frame) old now → p < length now → new ≡ if_taken p (Waits frame) now → TurnsOne (WaitsFor frame) old now new p
+  wait_one frame old now new p turning within is = turn_one (WaitsFor frame) old now new p (Waits frame) turning within is step refl
+    where
+      step : is_taken (slot_at now p) ≡ true → Turning is_taken (WaitsFor frame) old new
+      step e =
+          let all : new ≡ with_use p (Waits frame) now = is ∙ ap (λ b. if b then with_use p (Waits frame) now else now) e in
+          turn_step is_taken (WaitsFor frame) old now new p (used_for (Waits frame) (slot_at now p)) turning within e all (λ o n w. w) (λ o n w. ap is_taken w) refl
+
+  -- all sets that were taken have turned, since each is that of a handle
+  pub none_taken : (becomes : List (Slot T) → Slot T → Slot T → Type 0) (n : ℕ) (place : ℕ → ℕ) (old now : List (Slot T)) → Turning is_taken becomes old now → ((o m : Slot T) → becomes now o m → is_taken m ≡ false) → ((p : ℕ) → is_taken (slot_at old p) ≡ true → (i : ℕ) × (i < n) × (place i ≡ p)) → ((i : ℕ) → i < n → is_taken (slot_at now (place i)) ≡ false) → (p : ℕ) → is_taken (slot_at now p) ≡ false
+  none_taken becomes n place old now turning done named each p = by_test (is_taken (slot_at now p)) refl
+    where
+      by_test : (b : Bool) → is_taken (slot_at now p) ≡ b → b ≡ false
+      by_test false e = refl
+      by_test true e = elim (turning.each p) [
+        | inl same ↦ (let i = named p (ap is_taken (sym same) ∙ e) in sym e ∙ subst (λ q. is_taken (slot_at now q) ≡ false) i.2 (each i.0 i.1))
+        | inr both ↦ sym e ∙ done (slot_at old p) (slot_at now p) both.1
+      ]
+
+  -- a kept set goes
+  abbrev pub Goes : List (Slot T) → Slot T → Slot T → Type 0
+  Goes l o n = n ≡ used_for Going o
+
+  -- some of the slots that pass the test go
+  pub turn_some : (test : Slot T → Bool) (old now : List (Slot T)) → Turning test Goes old now → Turns test MayGo old now
+  turn_some test old now turning = record {
+    long = turning.long;
+    rest = λ p out. elim (turning.each p) [
+      | inl same ↦ same
+      | inr both ↦ absurd (let no : true ≡ false = sym both.0 ∙ out in cc)
+    ];
+    here = λ p is. elim (turning.each p) [
+      | inl same ↦ inl same
+      | inr both ↦ inr both.1
+    ];
+  }
+
+  pub above_of : (k most : ℕ) (r : Option ℕ) (old new : List (Slot T)) → PicksFirst (is_in k) r old new → PicksAbove k most r old new
+  above_of k most None old new picks = (let h = none_count (is_in k) old picks.none in omega arith, picks.slots)
+  above_of k most (Some p) old new picks = picks
+
+  -- a set in a list is in no other
+  pub going_out : (k : ℕ) (s : Slot T) → 2 ≤ k → is_in k (used_for Going s) ≡ false
+  going_out k s two = ap (λ b. b && is_some s.set) (ne_eqb k 1 (λ e. omega arith))
+
+  pub stays_same : (a : SetTable T) → Stays a a
+  stays_same a = record { number = refl; most = refl; lists = refl; slots = refl; next = refl; frames = refl }
+
+  pub count_same : (test : Slot T → Bool) (l m : List (Slot T)) → length m ≡ length l → ((p : ℕ) → test (slot_at m p) ≡ test (slot_at l p)) → count test m ≡ count test l
+  count_same test [] [] long same = refl
+  count_same test [] (y ∷ m) long same = absurd (omega arith)
+  count_same test (x ∷ l) [] long same = absurd (omega arith)
+  count_same test (x ∷ l) (y ∷ m) long same = let a = ap bit (same 0) in let h = count_same test l m (omega arith) (λ p. same (suc p)) in omega arith
+
+  kept_of : (k : ℕ) (s : Slot T) → 2 ≤ k → is_in k s ≡ true → is_kept s ≡ true
+  kept_of k s two e = by_use s.used e
+    where
+      by_use : (u : Use) → in_list k u s.layout s.generation (is_some s.set) ≡ true → in_list (s.layout + 2) u s.layout s.generation (is_some s.set) ≡ true
+      by_use Held e = absurd (cc)
+      by_use (Drawn f) e = absurd (cc)
+      by_use (Waits f) e = absurd (cc)
+      by_use Kept e = ap (λ b. b && (nat_lt s.generation 4294967295 && is_some s.set)) (eq-eqb (s.layout + 2) (s.layout + 2) refl) ∙ (and_true (k == (s.layout + 2)) (nat_lt s.generation 4294967295 && is_some s.set) e).1
+      by_use Going e = absurd (let z = eqb-true k 1 (and_true (k == 1) (is_some s.set) e).0 in omega arith)
+      by_use Taken e = absurd (cc)
+      by_use Vacant e = absurd (let z = eqb-true k 0 (and_true (k == 0) (nat_lt s.generation 4294967295 && not (is_some s.set)) e).0 in omega arith)
+
+  module _ (k : ℕ) (two : 2 ≤ k) (now new : List (Slot T)) (turns : Turns (is_in k) MayGo now new) where
+    -- sets of one list more go
+    pub trim_more : (old : List (Slot T)) → Turning is_kept Goes old now → Turning is_kept Goes old new
+    trim_more old turning = record {
+      long = turns.long ∙ turning.long;
+      each = λ p. by_test p (is_in k (slot_at now p)) refl;
+    }
+      where
+        gone : (p : ℕ) → is_in k (slot_at now p) ≡ true → slot_at new p ≡ used_for Going (slot_at now p) → (slot_at new p ≡ slot_at old p) ⊎ ((is_kept (slot_at old p) ≡ true) × (slot_at new p ≡ used_for Going (slot_at old p)))
+        gone p e goes = elim (turning.each p) [
+          | inl same ↦ inr (ap is_kept (sym same) ∙ kept_of k (slot_at now p) two e, goes ∙ ap (used_for Going) same)
+          | inr both ↦ absurd (let no : true ≡ false = sym e ∙ ap (is_in k) both.1 ∙ going_out k (slot_at old p) two in cc)
+        ]
+
+        by_test : (p : ℕ) (b : Bool) → is_in k (slot_at now p) ≡ b → (slot_at new p ≡ slot_at old p) ⊎ ((is_kept (slot_at old p) ≡ true) × (slot_at new p ≡ used_for Going (slot_at old p)))
+        by_test p false e = elim (turning.each p) [
+          | inl same ↦ inl (turns.rest p e ∙ same)
+          | inr both ↦ inr (both.0, turns.rest p e ∙ both.1)
+        ]
+        by_test p true e = elim (turns.here p e) [
+          | inl same ↦ elim (turning.each p) [
+            | inl was ↦ inl (same ∙ was)
+            | inr both ↦ inr (both.0, same ∙ both.1)
+          ]
+          | inr goes ↦ gone p e goes
+        ]
+
+    -- the other lists of kept sets stay
+    pub trim_others : (j : ℕ) → 2 ≤ j → j ≢ k → count (is_in j) new ≡ count (is_in j) now
+    trim_others j two' ne = count_same (is_in j) now new turns.long (λ p. by_test p (is_in k (slot_at now p)) refl)
+      where
+        by_test : (p : ℕ) (b : Bool) → is_in k (slot_at now p) ≡ b → is_in j (slot_at new p) ≡ is_in j (slot_at now p)
+        by_test p false e = ap (is_in j) (turns.rest p e)
+        by_test p true e = elim (turns.here p e) [
+          | inl same ↦ ap (is_in j) same
+          | inr goes ↦ ap (is_in j) goes ∙ going_out j (slot_at now p) two' ∙ sym (lists_apart j k (slot_at now p) e ne)
+        ]

@@ -1,0 +1,44 @@
+use Rattle.std.proofs.Common.{◌+◌, ap, ◌∙◌, arith}
+use Rattle.descriptor_table.specs.Slots.{frame_at, is_of, slot_at}
+use Rattle.descriptor_table.specs.Tables.{used_for}
+use Rattle.descriptor_table.specs.declared.slot.FrameChain.{FrameChain}
+use Rattle.descriptor_table.specs.declared.slot.Slot.{Slot}
+use Rattle.descriptor_table.proofs.Chains.{in_no_list, known_set, wait_linked}
+use Rattle.descriptor_table.proofs.Frames.{has_set, join_framed, join_more, read_frame}
+use Rattle.descriptor_table.proofs.Listed.{read_slot}
+use Rattle.descriptor_table.proofs.set_table.SetTable.join.Goals as goal
+
+pub overflow_add-count : goal.overflow_add-count
+overflow_add-count g c =
+    let s = c.args.self.now in
+    let few = s.sized.few in
+    let is = read_frame s.frames.items c.args.at c.index.result.now c.requires.within c.index.ensures in
+    let more = join_more s.slots.items s.next.items s.frames.items s.framed s.rising c.args.at c.args.place c.index.result.now (used_for c.args.used (slot_at s.slots.items c.args.place)) c.requires.within is c.requires.taken.taken.within c.requires.taken.taken.taken (ap (λ (d : FrameChain). is_of d.frame (used_for c.args.used (slot_at s.slots.items c.args.place))) is ∙ c.requires.goes) in
+    omega arith
+
+pub invariant_of-self-clause-linked : goal.invariant_of-self-clause-linked
+invariant_of-self-clause-linked g c =
+    let s = c.args.self.now in
+    let is = read_frame s.frames.items c.args.at c.index.result.now c.requires.within c.index.ensures in
+    let read = read_slot s.slots.items c.args.place c.index_mut-3.result.now c.requires.taken.taken.within c.index_mut-3.ensures.value in
+    let new = used_for c.args.used c.index_mut-3.result.now in
+    wait_linked s.slots.items s.next.items s.chains.items s.linked c.args.place new c.index.result.now.first c.requires.taken.taken.within c.requires.taken.taken.taken (in_no_list (frame_at s.frames.items c.args.at).frame new (ap (λ w. is_of (frame_at s.frames.items c.args.at).frame (used_for c.args.used w)) read ∙ c.requires.goes))
+
+pub invariant_of-self-clause-framed : goal.invariant_of-self-clause-framed
+invariant_of-self-clause-framed g c =
+    let s = c.args.self.now in
+    let is = read_frame s.frames.items c.args.at c.index.result.now c.requires.within c.index.ensures in
+    let read = read_slot s.slots.items c.args.place c.index_mut-3.result.now c.requires.taken.taken.within c.index_mut-3.ensures.value in
+    let new = used_for c.args.used c.index_mut-3.result.now in
+    join_framed s.slots.items s.next.items s.frames.items s.framed s.rising c.args.at c.args.place c.index.result.now new c.requires.within is c.requires.taken.taken.within s.sized.links c.requires.taken.taken.taken (ap (λ (d : FrameChain). is_of d.frame new) is ∙ ap (λ w. is_of (frame_at s.frames.items c.args.at).frame (used_for c.args.used w)) read ∙ c.requires.goes)
+
+pub invariant_of-self-clause-rising : goal.invariant_of-self-clause-rising
+invariant_of-self-clause-rising g c =
+    let s = c.args.self.now in
+    let is = read_frame s.frames.items c.args.at c.index.result.now c.requires.within c.index.ensures in
+    has_set s.frames.items c.args.at (record { frame = c.index.result.now.frame; first = c.args.place; count = c.index.result.now.count + 1 }) s.rising c.requires.within (ap (λ (d : FrameChain). d.frame) is) (omega arith)
+
+pub invariant_of-self-clause-known : goal.invariant_of-self-clause-known
+invariant_of-self-clause-known g c =
+    let s = c.args.self.now in
+    known_set s.slots.items c.args.place (used_for c.args.used c.index_mut-3.result.now) _ s.known c.requires.taken.taken.within (ap (λ (w : Slot g.row.T.Denot). w.layout) (read_slot s.slots.items c.args.place c.index_mut-3.result.now c.requires.taken.taken.within c.index_mut-3.ensures.value))

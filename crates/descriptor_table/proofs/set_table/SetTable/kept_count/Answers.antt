@@ -1,0 +1,9 @@
+use Rattle.std.proofs.Common.{◌+◌, ◌∙◌, ap}
+use Rattle.descriptor_table.specs.declared.slot.Chain.{Chain}
+use Rattle.descriptor_table.proofs.Counts.{chain_count}
+use Rattle.descriptor_table.proofs.set_table.SetTable.kept_count.Goals as goal
+
+pub returns-clause-count : goal.returns-clause-count
+returns-clause-count g c =
+    let s = c.args.self.now in
+    ap (λ (d : Chain). d.count) c.chain.ensures ∙ chain_count s.slots.items s.next.items s.chains.items s.linked (c.args.layout + 2)

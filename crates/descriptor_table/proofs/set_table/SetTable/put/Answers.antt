@@ -1,0 +1,17 @@
+use Rattle.std.proofs.Common.{◌+◌, subst, ap, length}
+use Rattle.descriptor_table.specs.Tables.{Puts, slots_of}
+use Rattle.descriptor_table.proofs.Renewing.{puts_again, room_stays}
+use Rattle.descriptor_table.proofs.set_table.SetTable.put.Goals as goal
+
+pub returns-clause-reserve : goal.returns-clause-reserve
+returns-clause-reserve g c = λ n room. c.push.ensures.reserve n (room_stays (n + 1) c.args.self.now c.pick.new.self c.in_default.ensures.stays (ap length c.in_default.ensures.picks.slots) room)
+
+pub returns-in-Some-clause-puts : goal.returns-in-Some-clause-puts
+returns-in-Some-clause-puts g c =
+    let picks = c.in-Some.ensures.picks in
+    puts_again c.args.layout c.in-Some.place c.args.set (slots_of c.args.self.now) (slots_of c.pick.new.self) (slots_of c.fill.new.self) picks.within picks.was picks.slots c.fill.ensures.slots
+
+pub returns-clause-puts : goal.returns-clause-puts
+returns-clause-puts g c =
+    let none = c.in_default.ensures.picks.slots in
+    subst (λ l. Puts c.args.layout c.args.set c.push.result l (slots_of c.push.new.self)) none c.push.ensures.puts

@@ -1,0 +1,47 @@
+use Rattle.std.proofs.Common.{◌≡◌, false, length, inl, inr, sym, subst, arith}
+use Rattle.descriptor_table.specs.Slots.{slot_at}
+use Rattle.descriptor_table.specs.Tables.{IsSettled, if_taken, is_taken, next_use, place_at, slots_of}
+use Rattle.descriptor_table.proofs.Counting.{same_or}
+use Rattle.descriptor_table.proofs.Turning.{none_taken, settle_one, settled_not_taken, stays_more, stays_same, turn_end, turn_start}
+use Rattle.descriptor_table.proofs.set_table.SetTable.settle_each.Goals as goal
+
+pub loop-index-init : goal.loop-index-init
+loop-index-init g c = record {
+  turning = turn_start is_taken (IsSettled c.args.self.now.most) (slots_of c.args.self.now);
+  done = λ i lt. absurd (omega arith);
+  stays = stays_same c.args.self.now;
+}
+
+pub settle_taken-requires : goal.settle_taken-requires
+settle_taken-requires g c =
+    let lt = c.requires.within c.loop-index.index c.loop-index-test.true in
+    let long = c.loop-index.invariant.turning.long in
+    omega arith
+
+pub loop-index-preserved : goal.loop-index-preserved
+loop-index-preserved g c =
+    let inv = c.loop-index.invariant in
+    let old = slots_of c.args.self.now in
+    let now = slots_of c.loop-index.self in
+    let new = slots_of c.settle_taken.new.self in
+    let p = place_at c.args.handles.now c.loop-index.index in
+    let lt = c.requires.within c.loop-index.index c.loop-index-test.true in
+    let long = inv.turning.long in
+    let made = subst (λ m. slots_of c.settle_taken.new.self ≡ if_taken p (next_use m now p) now) inv.stays.most c.settle_taken.ensures.slots in
+    let one = settle_one c.args.self.now.most old now new p inv.turning (omega arith) made in
+    record {
+      turning = one.turning;
+      done = λ i less. elim (same_or i c.loop-index.index) [
+        | inl e ↦ subst (λ i. is_taken (slot_at new (place_at c.args.handles.now i)) ≡ false) (sym e) one.here
+        | inr ne ↦ one.others (place_at c.args.handles.now i) (inv.done i (omega arith))
+      ];
+      stays = stays_more c.args.self.now c.loop-index.self c.settle_taken.new.self inv.stays c.settle_taken.ensures.stays;
+    }
+
+pub returns-clause-turns : goal.returns-clause-turns
+returns-clause-turns g c =
+    let inv = c.loop-index.invariant in
+    let old = slots_of c.args.self.now in
+    let now = slots_of c.loop-index.self in
+    let end = c.loop-index-test.false in
+    turn_end is_taken (IsSettled c.args.self.now.most) old now inv.turning (none_taken (IsSettled c.args.self.now.most) (length c.args.handles.now) (place_at c.args.handles.now) old now inv.turning (settled_not_taken c.args.self.now.most (slots_of c.loop-index.self)) c.requires.taken (λ i lt. inv.done i (omega arith)))

@@ -1,0 +1,54 @@
+use Rattle.std.proofs.Common.{◌<◌, length, refl, sym, ap, set, subst, ◌∙◌, arith}
+use Rattle.descriptor_table.specs.Slots.{AreFramed, HasFrames, is_of, slot_at}
+use Rattle.descriptor_table.specs.Tables.{used_for}
+use Rattle.descriptor_table.specs.declared.slot.Slot.{Slot}
+use Rattle.descriptor_table.proofs.Chains.{in_no_list, known_set, out_linked, taken_no_list}
+use Rattle.descriptor_table.proofs.Frames.{few_frames, has_put, start_framed}
+use Rattle.descriptor_table.proofs.Listed.{read_slot}
+use Rattle.descriptor_table.proofs.set_table.SetTable.start.Goals.{After-insert}
+use Rattle.descriptor_table.proofs.set_table.SetTable.start.Goals as goal
+
+-- there is memory for one list more
+few : (g : _) (c : After-insert g) → length c.args.self.now.frames.items < length c.args.self.now.slots.items
+few g c =
+    let s = c.args.self.now in
+    few_frames s.slots.items s.next.items s.frames.items s.framed s.rising c.args.place c.requires.taken.taken.within c.requires.taken.taken.taken
+
+pub unreachable-requires : goal.unreachable-requires
+unreachable-requires g c =
+    let s = c.args.self.now in
+    let few = few g (goal.at.unreachable-requires g c).After-insert in
+    let room = s.sized.room in
+    let full = c.in-Err.ensures.full in
+    omega arith
+
+pub invariant_of-self-clause-linked : goal.invariant_of-self-clause-linked
+invariant_of-self-clause-linked g c =
+    let s = c.args.self.now in
+    let read = read_slot s.slots.items c.args.place c.index_mut.result.now c.requires.taken.taken.within c.index_mut.ensures.value in
+    let new = used_for c.args.used c.index_mut.result.now in
+    out_linked s.slots.items s.next.items s.chains.items s.linked c.args.place new c.requires.taken.taken.within (taken_no_list (slot_at s.slots.items c.args.place) c.requires.taken.taken.taken) (in_no_list c.args.frame new (ap (λ w. is_of c.args.frame (used_for c.args.used w)) read ∙ c.requires.goes))
+
+pub invariant_of-self-clause-framed : goal.invariant_of-self-clause-framed
+invariant_of-self-clause-framed g c =
+    let s = c.args.self.now in
+    let read = read_slot s.slots.items c.args.place c.index_mut.result.now c.requires.taken.taken.within c.index_mut.ensures.value in
+    let new = used_for c.args.used c.index_mut.result.now in
+    subst (λ l. AreFramed (set s.slots.items c.args.place new) s.next.items l) (sym c.in-Ok.ensures.items) (start_framed s.slots.items s.next.items s.frames.items s.framed s.rising c.args.at c.args.place c.args.frame new c.requires.within c.requires.later c.requires.earlier c.requires.taken.taken.within c.requires.taken.taken.taken (ap (λ w. is_of c.args.frame (used_for c.args.used w)) read ∙ c.requires.goes))
+
+pub invariant_of-self-clause-rising : goal.invariant_of-self-clause-rising
+invariant_of-self-clause-rising g c =
+    let s = c.args.self.now in
+    subst HasFrames (sym c.in-Ok.ensures.items) (has_put s.frames.items c.args.at (record { frame = c.args.frame; first = c.args.place; count = 1 }) s.rising c.requires.within (omega arith) c.requires.later c.requires.earlier)
+
+pub invariant_of-self-clause-known : goal.invariant_of-self-clause-known
+invariant_of-self-clause-known g c =
+    let s = c.args.self.now in
+    known_set s.slots.items c.args.place (used_for c.args.used c.index_mut.result.now) _ s.known c.requires.taken.taken.within (ap (λ (w : Slot g.row.T.Denot). w.layout) (read_slot s.slots.items c.args.place c.index_mut.result.now c.requires.taken.taken.within c.index_mut.ensures.value))
+
+pub returns-clause-stays : goal.returns-clause-stays
+returns-clause-stays g c =
+    let few = few g (goal.at.returns-clause-stays g c).After-insert in
+    let room = c.args.self.now.sized.room in
+    let block = c.in-Ok.ensures.in_place (omega arith) in
+    record { number = refl; most = refl; lists = refl; slots = refl; next = refl; frames = block.1.0 }

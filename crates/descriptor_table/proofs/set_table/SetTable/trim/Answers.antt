@@ -1,0 +1,50 @@
+use Rattle.std.proofs.Common.{◌≤◌, ◌+◌, length, inl, inr, sym, subst, ap, arith}
+use Rattle.std.proofs.lemmas.List.{get_or_past}
+use Rattle.descriptor_table.specs.Slots.{is_in}
+use Rattle.descriptor_table.specs.Tables.{count, is_kept, slots_of}
+use Rattle.descriptor_table.specs.declared.slot.Chain.{Chain}
+use Rattle.descriptor_table.proofs.Counting.{below_or, same_or}
+use Rattle.descriptor_table.proofs.Counts.{chain_count}
+use Rattle.descriptor_table.proofs.Turning.{Goes, stays_more, stays_same, trim_more, trim_others, turn_some, turn_start}
+use Rattle.descriptor_table.proofs.set_table.SetTable.trim.Goals as goal
+
+pub loop-list-init : goal.loop-list-init
+loop-list-init g c = record {
+  turning = turn_start is_kept Goes (slots_of c.args.self.now);
+  few = λ k two lt. absurd (omega arith);
+  stays = stays_same c.args.self.now;
+}
+
+pub loop-list-preserved : goal.loop-list-preserved
+loop-list-preserved g c =
+    let inv = c.loop-list.invariant in
+    let k = c.loop-list.list in
+    let old = slots_of c.args.self.now in
+    let now = slots_of c.loop-list.self in
+    let new = slots_of c.trim_list.new.self in
+    let e = c.trim_list.ensures in
+    let two = c.loop-list.auto.list in
+    record {
+      turning = trim_more k two now new e.turns old inv.turning;
+      few = λ j two' lt. elim (same_or j k) [
+        | inl same ↦ subst (λ j. count (is_in j) new ≤ c.args.most) (sym same) e.few
+        | inr ne ↦ (let a = trim_others k two now new e.turns j two' ne in let b = inv.few j two' (omega arith) in omega arith)
+      ];
+      stays = stays_more c.args.self.now c.loop-list.self c.trim_list.new.self inv.stays e.stays;
+    }
+
+pub returns-clause-turns : goal.returns-clause-turns
+returns-clause-turns g c = turn_some is_kept (slots_of c.args.self.now) (slots_of c.loop-list.self) c.loop-list.invariant.turning
+
+pub returns-clause-few : goal.returns-clause-few
+returns-clause-few g c = λ layout.
+    let s = c.loop-list.self in
+    let inv = c.loop-list.invariant in
+    let end = c.loop-list-test.false in
+    let n = c.len-list-end.ensures in
+    let ok = c.args.self.now.chains.ok.0 in
+    let lists = inv.stays.lists in
+    elim (below_or (layout + 2) (length s.chains.items)) [
+      | inl lt ↦ inv.few (layout + 2) (omega arith) (omega arith)
+      | inr past ↦ (let none = ap (λ (d : Chain). d.count) (get_or_past s.chains.items (layout + 2) (record { first = 0; count = 0 }) past) in let all = chain_count s.slots.items s.next.items s.chains.items s.linked (layout + 2) in omega arith)
+    ]

@@ -1,0 +1,62 @@
+-- What a caller sees of the slots: sets by handle.
+use Rattle.std.specs.Prelude.{◌≡◌, ◌≢◌, ℕ, ◌<◌, ◌==◌, ◌&&◌, nat_le, nat_lt, Bool, true, false, List, [], ◌∷◌, length, slice_index_or, is_some, if◌then◌else◌, Option, Some, None}
+use Rattle.descriptor_table.specs.Slots.{is_live, slot_at}
+use Rattle.descriptor_table.specs.Tables.{is_held_use}
+use Rattle.descriptor_table.specs.declared.handle.SetHandle.{SetHandle}
+use Rattle.descriptor_table.specs.declared.slot.Slot.{Slot}
+
+-- a set, if there is one, before others
+abbrev pub joined : {T : Type 0} → Option T → List T → List T
+joined None sets = sets
+joined (Some set) sets = set ∷ sets
+
+-- the sets by handle
+pub record Sets (T : Type 0) : Type 0 where
+  -- the set that a handle names
+  pub set : SetHandle → Option T
+  -- whether a handle was ever given
+  pub given : SetHandle → Bool
+
+module _ {T : Type 0} where
+  -- all sets, in the order of their slots
+  abbrev pub sets_in : List (Slot T) → List T
+  sets_in [] = []
+  sets_in (s ∷ slots) = joined s.set (sets_in slots)
+
+  module _ (number : ℕ) where
+    -- whether a handle is the last one that was given for its slot
+    abbrev pub is_last : List (Slot T) → SetHandle → Bool
+    is_last slots h = (h.renderer == number) && (h.generation == (slot_at slots h.place).generation)
+
+    -- the set that a handle names, in this frame if one is open
+    abbrev pub find : ℕ → Bool → List (Slot T) → SetHandle → Option T
+    find frame opened slots h = if is_last slots h && is_live frame opened (slot_at slots h.place).used then (slot_at slots h.place).set else None
+
+    -- whether a handle was ever given
+    abbrev pub is_given : List (Slot T) → SetHandle → Bool
+    is_given slots h = (h.renderer == number) && (nat_lt 0 h.generation && nat_le h.generation (slot_at slots h.place).generation)
+
+    -- whether a handle has a held set
+    abbrev pub is_held : List (Slot T) → SetHandle → Bool
+    is_held slots h = is_last slots h && (is_held_use (slot_at slots h.place).used && is_some (slot_at slots h.place).set)
+
+    abbrev pub sets_of : ℕ → Bool → List (Slot T) → Sets T
+    sets_of frame opened slots = record { set = find frame opened slots; given = is_given slots }
+
+  -- the handle, which was never given, names the set, and each other handle names what it named
+  pub record Names (handle : SetHandle) (x : T) (old new : Sets T) : Type 0 where
+    pub never : old.given handle ≡ false
+    pub given : new.given handle ≡ true
+    pub given_others : (other : SetHandle) → other ≢ handle → new.given other ≡ old.given other
+    pub named : new.set handle ≡ Some x
+    pub others : (other : SetHandle) → other ≢ handle → new.set other ≡ old.set other
+
+  -- each handle has a held set, and none is there twice
+  pub record AreHeldOnce (number : ℕ) (slots : List (Slot T)) (handles : List SetHandle) : Type 0 where
+    pub held : (i : ℕ) (d : SetHandle) → i < length handles → is_held number slots (slice_index_or handles i d) ≡ true
+    pub once : (i j : ℕ) (d : SetHandle) → i < j → j < length handles → slice_index_or handles i d ≢ slice_index_or handles j d
+
+-- whether a handle of the list is of the place
+abbrev pub names_place : List SetHandle → ℕ → Bool
+names_place [] p = false
+names_place (h ∷ handles) p = if p == h.place then true else names_place handles p

@@ -1,0 +1,138 @@
+-- Slots, and the lists that they are in.
+use Rattle.std.specs.Prelude.{◌≡◌, ℕ, ◌+◌, ◌<◌, ◌≤◌, ◌==◌, ◌&&◌, nat_le, nat_lt, Bool, true, false, List, [], ◌∷◌, length, ⊤, slice_index_or, if◌then◌else◌, None, is_some, not}
+use Rattle.descriptor_table.specs.Places.{times, walk}
+use Rattle.descriptor_table.specs.declared.slot.Use.{Use}
+use Rattle.descriptor_table.specs.declared.slot.Use.TheVariants.{Held, Drawn, Waits, Kept, Going, Taken, Vacant}
+use Rattle.descriptor_table.specs.declared.slot.Slot.{Slot}
+use Rattle.descriptor_table.specs.declared.slot.Chain.{Chain}
+use Rattle.descriptor_table.specs.declared.slot.FrameChain.{FrameChain}
+
+-- whether the handle of such a set names it, in this frame if one is open
+abbrev pub is_live : ℕ → Bool → Use → Bool
+is_live frame opened Held = true
+is_live frame opened (Drawn drawn) = opened && (drawn == frame)
+is_live frame opened (Waits waits) = false
+is_live frame opened Kept = false
+is_live frame opened Going = false
+is_live frame opened Taken = false
+is_live frame opened Vacant = false
+
+-- whether a slot is in the list with this number: 0 vacant, 1 going, 2 and more kept of each layout
+abbrev pub in_list : ℕ → Use → ℕ → ℕ → Bool → Bool
+in_list k Held layout generation full = false
+in_list k (Drawn frame) layout generation full = false
+in_list k (Waits frame) layout generation full = false
+in_list k Kept layout generation full = (k == (layout + 2)) && (nat_lt generation 4294967295 && full)
+in_list k Going layout generation full = (k == 1) && full
+in_list k Taken layout generation full = false
+in_list k Vacant layout generation full = (k == 0) && (nat_lt generation 4294967295 && not full)
+
+-- whether a set waits for this frame
+abbrev pub waits_for : ℕ → Use → Bool
+waits_for f Held = false
+waits_for f (Drawn frame) = f == frame
+waits_for f (Waits frame) = f == frame
+waits_for f Kept = false
+waits_for f Going = false
+waits_for f Taken = false
+waits_for f Vacant = false
+
+-- whether a set waits for a frame up to this one
+abbrev pub waits_until : ℕ → Use → Bool
+waits_until f Held = false
+waits_until f (Drawn frame) = nat_le frame f
+waits_until f (Waits frame) = nat_le frame f
+waits_until f Kept = false
+waits_until f Going = false
+waits_until f Taken = false
+waits_until f Vacant = false
+
+-- a set in such a use is in no list, and waits for no frame
+abbrev pub IsNowhere : Use → Type 0
+IsNowhere Held = ⊤
+IsNowhere (Drawn frame) = ⊥
+IsNowhere (Waits frame) = ⊥
+IsNowhere Kept = ⊥
+IsNowhere Going = ⊥
+IsNowhere Taken = ⊤
+IsNowhere Vacant = ⊥
+
+-- the frame that a set waits for, or 0
+abbrev pub frame_in : Use → ℕ
+frame_in Held = 0
+frame_in (Drawn frame) = frame
+frame_in (Waits frame) = frame
+frame_in Kept = 0
+frame_in Going = 0
+frame_in Taken = 0
+frame_in Vacant = 0
+
+abbrev pub chain_at : List Chain → ℕ → Chain
+chain_at chains k = slice_index_or chains k (record { first = 0; count = 0 })
+
+abbrev pub frame_at : List FrameChain → ℕ → FrameChain
+frame_at frames i = slice_index_or frames i (record { frame = 0; first = 0; count = 0 })
+
+-- the list of a frame
+abbrev pub chain_of : List FrameChain → ℕ → Chain
+chain_of [] f = record { first = 0; count = 0 }
+chain_of (c ∷ frames) f = if f == c.frame then record { first = c.first; count = c.count } else chain_of frames f
+
+-- how many slots there are, and nexts, and for how many frames there is memory
+pub record AreSized (slots nexts frames : ℕ) : Type 0 where
+  pub few : slots < 4294967296
+  pub links : nexts ≡ slots
+  pub room : slots ≤ frames
+
+-- the lists of frames: none is empty, and later frames come first
+pub record HasFrames (frames : List FrameChain) : Type 0 where
+  pub some : (i : ℕ) → i < length frames → 0 < (frame_at frames i).count
+  pub falls : (i j : ℕ) → i < j → j < length frames → (frame_at frames j).frame < (frame_at frames i).frame
+
+-- at most so many sets of a layout are kept
+abbrev pub AreFew : ℕ → List Chain → Type 0
+AreFew most chains = (k : ℕ) → 2 ≤ k → (chain_at chains k).count ≤ most
+
+module _ {T : Type 0} where
+  -- the slot at a place. Past the end no set ever was
+  abbrev pub slot_at : List (Slot T) → ℕ → Slot T
+  slot_at slots place = slice_index_or slots place (record { generation = 0; layout = 0; used = Taken; leaves = false; set = None })
+
+  -- whether a slot is in the list
+  abbrev pub is_in : ℕ → Slot T → Bool
+  is_in k s = in_list k s.used s.layout s.generation (is_some s.set)
+
+  -- whether a slot has a set that waits for this frame
+  abbrev pub is_of : ℕ → Slot T → Bool
+  is_of f s = waits_for f s.used && is_some s.set
+
+  -- whether a slot has a set that waits for a frame up to this one
+  abbrev pub is_due : ℕ → Slot T → Bool
+  is_due f s = waits_until f s.used && is_some s.set
+
+  -- the frame that a slot's set waits for, or 0
+  abbrev pub frame_of : Slot T → ℕ
+  frame_of s = frame_in s.used
+
+  -- the list has the place of each slot that passes the test once, and no other
+  abbrev pub Lists : (Slot T → Bool) → List (Slot T) → List ℕ → Type 0
+  Lists test slots places = (p : ℕ) → times p places ≡ (if test (slot_at slots p) then 1 else 0)
+
+  -- each list, by its first place and its count, has the slots that pass its test
+  abbrev pub HasChains : (ℕ → Slot T → Bool) → List (Slot T) → List ℕ → (ℕ → Chain) → Type 0
+  HasChains test slots next heads = (k : ℕ) → Lists (test k) slots (walk (heads k).count next (heads k).first)
+
+  abbrev pub AreLinked : List (Slot T) → List ℕ → List Chain → Type 0
+  AreLinked slots next chains = HasChains is_in slots next (chain_at chains)
+
+  -- each frame has the sets that wait for it
+  abbrev pub AreFramed : List (Slot T) → List ℕ → List FrameChain → Type 0
+  AreFramed slots next frames = HasChains is_of slots next (chain_of frames)
+
+  -- the layout of each slot has its list
+  abbrev pub HasLists : List (Slot T) → ℕ → Type 0
+  HasLists slots lists = (p : ℕ) → p < length slots → (slot_at slots p).layout + 2 < lists
+
+  -- each slot is so
+  abbrev pub AllSlots : (Slot T → Type 0) → List (Slot T) → Type 0
+  AllSlots P slots = (p : ℕ) → P (slot_at slots p)

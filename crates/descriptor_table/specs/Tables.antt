@@ -1,0 +1,209 @@
+-- What becomes of the slots of a table.
+use Rattle.std.specs.Prelude.{◌≡◌, ◌≢◌, ℕ, zero, suc, ◌+◌, ◌<◌, ◌≤◌, ◌⊎◌, ◌&&◌, nat_lt, Bool, true, false, not, List, [], ◌∷◌, length, slice_index_or, slice_set, vec_capacity, is_some, if◌then◌else◌, Option, Some, None, MatchOption}
+use Rattle.descriptor_table.specs.Slots.{chain_at, is_in, slot_at}
+use Rattle.descriptor_table.specs.declared.handle.SetHandle.{SetHandle}
+use Rattle.descriptor_table.specs.declared.set_table.SetTable.{SetTable}
+use Rattle.descriptor_table.specs.declared.slot.Use.{Use}
+use Rattle.descriptor_table.specs.declared.slot.Use.TheVariants.{Held, Drawn, Waits, Kept, Going, Taken, Vacant}
+use Rattle.descriptor_table.specs.declared.slot.Slot.{Slot}
+
+abbrev pub is_taken_use : Use → Bool
+is_taken_use Held = false
+is_taken_use (Drawn frame) = false
+is_taken_use (Waits frame) = false
+is_taken_use Kept = false
+is_taken_use Going = false
+is_taken_use Taken = true
+is_taken_use Vacant = false
+
+abbrev pub is_held_use : Use → Bool
+is_held_use Held = true
+is_held_use (Drawn frame) = false
+is_held_use (Waits frame) = false
+is_held_use Kept = false
+is_held_use Going = false
+is_held_use Taken = false
+is_held_use Vacant = false
+
+-- the place of the handle at a place of a list
+abbrev pub place_at : List SetHandle → ℕ → ℕ
+place_at handles i = (slice_index_or handles i (record { renderer = 0; place = 0; generation = 0 })).place
+
+-- how many lists there are with one layout more: the first comes with those that are of no layout
+abbrev pub lists_with : ℕ → ℕ
+lists_with zero = 3
+lists_with (suc n) = suc n + 1
+
+module _ {T : Type 0} where
+  -- whether another set can come to a slot
+  abbrev pub is_usable : Slot T → Bool
+  is_usable s = is_in 0 s
+
+  -- the slot, in use for this
+  abbrev pub used_for : Use → Slot T → Slot T
+  used_for u s = record s { used = u }
+
+  -- the slots, with one in use for this
+  abbrev pub with_use : ℕ → Use → List (Slot T) → List (Slot T)
+  with_use p u slots = slice_set slots p (used_for u (slot_at slots p))
+
+  -- how many slots pass the test
+  abbrev pub count : (Slot T → Bool) → List (Slot T) → ℕ
+  count test [] = 0
+  count test (s ∷ slots) = (if test s then 1 else 0) + count test slots
+
+  abbrev pub slots_of : SetTable T → List (Slot T)
+  slots_of t = t.slots.items
+
+  abbrev pub lists_of : SetTable T → ℕ
+  lists_of t = length t.chains.items
+
+  -- how many slots are in the list
+  abbrev pub count_of : ℕ → SetTable T → ℕ
+  count_of k t = (chain_at t.chains.items k).count
+
+  -- the number, the layouts, the most that is kept, and memory are as they were
+  pub record Stays (old new : SetTable T) : Type 0 where
+    pub number : new.number ≡ old.number
+    pub most : new.most ≡ old.most
+    pub lists : lists_of new ≡ lists_of old
+    pub slots : vec_capacity new.slots ≡ vec_capacity old.slots
+    pub next : vec_capacity new.next ≡ vec_capacity old.next
+    pub frames : vec_capacity new.frames ≡ vec_capacity old.frames
+
+  -- so many sets more can be put without an allocation
+  pub record HasRoom (n : ℕ) (t : SetTable T) : Type 0 where
+    pub few : length (slots_of t) + n < 4294967296
+    pub slots : length (slots_of t) + n ≤ vec_capacity t.slots
+    pub next : length (slots_of t) + n ≤ vec_capacity t.next
+    pub frames : length (slots_of t) + n ≤ vec_capacity t.frames
+
+  -- a slot that is in no list
+  pub record IsTaken (p : ℕ) (slots : List (Slot T)) : Type 0 where
+    pub within : p < length slots
+    pub taken : (slot_at slots p).used ≡ Taken
+
+  -- a set that is in no list
+  pub record HasTaken (p : ℕ) (slots : List (Slot T)) : Type 0 where
+    pub taken : IsTaken p slots
+    pub full : is_some (slot_at slots p).set ≡ true
+
+  -- the slot was in the list, or had its set wait, and left
+  pub record Picks (test : Slot T → Bool) (p : ℕ) (old new : List (Slot T)) : Type 0 where
+    pub was : test (slot_at old p) ≡ true
+    pub within : p < length old
+    pub slots : new ≡ with_use p Taken old
+
+  -- there is no such slot
+  pub record PicksNone (test : Slot T → Bool) (old new : List (Slot T)) : Type 0 where
+    pub none : (p : ℕ) → test (slot_at old p) ≡ false
+    pub slots : new ≡ old
+
+  abbrev pub PicksFirst : (Slot T → Bool) → Option ℕ → List (Slot T) → List (Slot T) → Type 0
+  PicksFirst test result old new = MatchOption result (PicksNone test old new) (λ p. Picks test p old new)
+
+  -- whether a call has a set
+  abbrev pub is_taken : Slot T → Bool
+  is_taken s = is_taken_use s.used && is_some s.set
+
+  -- whether a set may be kept: it came after the last cleanup, and its place has a generation left
+  abbrev pub stays : Slot T → Bool
+  stays s = not s.leaves && nat_lt s.generation 4294967295
+
+  -- whether a set is kept, if at most so many of its layout are
+  abbrev pub may_stay : ℕ → List (Slot T) → Slot T → Bool
+  may_stay most slots s = stays s && nat_lt (count (is_in (s.layout + 2)) slots) most
+
+  -- what a set that comes back is in use for
+  abbrev pub next_use : ℕ → List (Slot T) → ℕ → Use
+  next_use most slots p = if may_stay most slots (slot_at slots p) then Kept else Going
+
+  -- a set that came back is kept, or goes back to its pool. If it may be kept, it goes only if as many are kept as may be
+  abbrev pub IsSettled : ℕ → List (Slot T) → Slot T → Slot T → Type 0
+  IsSettled most new o n = ((n ≡ used_for Kept o) × (stays o ≡ true)) ⊎ ((n ≡ used_for Going o) × (stays o ≡ true → most ≤ count (is_in (o.layout + 2)) new))
+
+  -- a set waits for the frame
+  abbrev pub WaitsFor : ℕ → List (Slot T) → Slot T → Slot T → Type 0
+  WaitsFor frame new o n = n ≡ used_for (Waits frame) o
+
+  -- each slot that passes the test became what the relation says, in the new slots. All others are as they were
+  pub record Turns (test : Slot T → Bool) (becomes : List (Slot T) → Slot T → Slot T → Type 0) (old new : List (Slot T)) : Type 0 where
+    pub long : length new ≡ length old
+    pub rest : (p : ℕ) → test (slot_at old p) ≡ false → slot_at new p ≡ slot_at old p
+    pub here : (p : ℕ) → test (slot_at old p) ≡ true → becomes new (slot_at old p) (slot_at new p)
+
+  -- the slots, with one in use for this if a call has its set
+  abbrev pub if_taken : ℕ → Use → List (Slot T) → List (Slot T)
+  if_taken p u slots = if is_taken (slot_at slots p) then with_use p u slots else slots
+
+  -- a kept set goes, or is still kept
+  abbrev pub MayGo : List (Slot T) → Slot T → Slot T → Type 0
+  MayGo new o n = (n ≡ o) ⊎ (n ≡ used_for Going o)
+
+  -- whether a set is kept
+  abbrev pub is_kept : Slot T → Bool
+  is_kept s = is_in (s.layout + 2) s
+
+  -- a kept set left its list, and as many as so are left, or no more than that were there
+  abbrev pub PicksAbove : ℕ → ℕ → Option ℕ → List (Slot T) → List (Slot T) → Type 0
+  PicksAbove k most result old new = MatchOption result ((count (is_in k) old ≤ most) × (new ≡ old)) (λ p. Picks (is_in k) p old new)
+
+  -- the slots without the flag of new sets
+  abbrev pub aged : Slot T → Slot T
+  aged s = record s { leaves = true }
+
+  -- a set came into a slot that had none, and has no handle there yet
+  pub record Puts (layout : ℕ) (set : T) (p : ℕ) (old new : List (Slot T)) : Type 0 where
+    pub empty : (slot_at old p).set ≡ None
+    pub within : p < length new
+    pub next : (slot_at old p).generation < 4294967295
+    pub here : slot_at new p ≡ record { generation = (slot_at old p).generation; layout = layout; used = Taken; leaves = false; set = Some set }
+    pub others : (q : ℕ) → q ≢ p → slot_at new q ≡ slot_at old q
+    -- the table grows only if each slot has a set, or had its last generation
+    pub grows : (length new ≡ length old) ⊎ ((length new ≡ length old + 1) × ((q : ℕ) → q < length old → is_usable (slot_at old q) ≡ false))
+
+  -- a slot in its next generation, in use for this
+  abbrev pub renewed : Use → Slot T → Slot T
+  renewed u s = record s { generation = s.generation + 1; used = u }
+
+  -- the set at a place has the handle, the next one of the place, and is in use for this
+  pub record Renews (number p : ℕ) (u : Use) (handle : SetHandle) (old new : List (Slot T)) : Type 0 where
+    pub is : handle ≡ record { renderer = number; place = p; generation = (slot_at old p).generation + 1 }
+    pub slots : new ≡ slice_set old p (renewed u (slot_at old p))
+
+  -- a slot whose set was taken out
+  abbrev pub vacated : Slot T → Slot T
+  vacated s = record s { used = Vacant; set = None }
+
+  -- a set of the list was taken out of its slot
+  pub record Gives (k : ℕ) (x : T) (old new : List (Slot T)) : Type 0 where
+    pub place : ℕ
+    pub within : place < length old
+    pub was : is_in k (slot_at old place) ≡ true
+    pub full : (slot_at old place).set ≡ Some x
+    pub slots : new ≡ slice_set old place (vacated (slot_at old place))
+
+  -- no set is in the list
+  pub record GivesNone (k : ℕ) (old new : List (Slot T)) : Type 0 where
+    pub none : (p : ℕ) → is_in k (slot_at old p) ≡ false
+    pub slots : new ≡ old
+
+  abbrev pub GivesFirst : ℕ → Option T → List (Slot T) → List (Slot T) → Type 0
+  GivesFirst k result old new = MatchOption result (GivesNone k old new) (λ x. Gives k x old new)
+
+  -- the held sets of the first handles were taken, and all else is as it was
+  pub record TookEach (handles : List SetHandle) (n : ℕ) (old new : List (Slot T)) : Type 0 where
+    pub long : length new ≡ length old
+    pub held : (i : ℕ) → i < n → (slot_at old (place_at handles i)).used ≡ Held
+    pub within : (i : ℕ) → i < n → place_at handles i < length old
+    pub named : (i : ℕ) → i < n → slot_at new (place_at handles i) ≡ used_for Taken (slot_at old (place_at handles i))
+    pub rest : (p : ℕ) → ((i : ℕ) → i < n → place_at handles i ≢ p) → slot_at new p ≡ slot_at old p
+
+  -- each slot has lost the flag of new sets
+  pub record AreAged (old new : List (Slot T)) : Type 0 where
+    pub long : length new ≡ length old
+    pub each : (p : ℕ) → p < length old → slot_at new p ≡ aged (slot_at old p)
+
+  -- a set was taken out of its slot
+  abbrev pub Vacates : List (Slot T) → Slot T → Slot T → Type 0
+  Vacates new o n = n ≡ vacated o

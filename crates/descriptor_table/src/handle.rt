@@ -1,0 +1,12 @@
+//! The handles of sets.
+
+/// A set of a renderer: one that is held until it is freed or destroyed, or one of a frame. Only the
+/// renderer that gave it has the set, and it names no other set later.
+#[derive(Clone, Copy, Debug, PartialEq, Eq, Hash)]
+pub struct SetHandle {
+    pub(crate) renderer: u64,
+    pub(crate) place: u32,
+
+    /// How many handles were given for the place, with this one. So it is never 0.
+    pub(crate) generation: u32,
+}

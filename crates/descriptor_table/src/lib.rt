@@ -1,0 +1,12 @@
+//! The table of a renderer's descriptor sets: each is in a slot, where it stays while it is used again
+//! and again.
+#![tactic(auto)]
+
+mod giving;
+mod handle;
+mod set_table;
+mod slot;
+
+pub use giving::Giving;
+pub use handle::SetHandle;
+pub use set_table::SetTable;

@@ -1,0 +1,134 @@
+//! The table of a renderer's sets: each is in a slot, where it stays while it is used again and again.
+ghost use Rattle.std.specs.Prelude.{◌≡◌, ℕ, ◌+◌, ◌<◌, ◌≤◌, List, [], length, IsOk, OnOk, vec_capacity};
+ghost use Rattle.std.specs.Option.{option_copied};
+ghost use Rattle.descriptor_table.specs.Slots.{AreFew, AreFramed, AreLinked, AreSized};
+ghost use Rattle.descriptor_table.specs.Slots.{HasFrames, HasLists};
+
+mod back;
+mod frames;
+mod handles;
+mod layouts;
+mod lists;
+mod sets;
+
+use crate::handle::SetHandle;
+use crate::slot::{Chain, FrameChain, Slot, Use};
+use std::alloc::{AllocError, Global};
+use std::vec::Vec;
+
+/// How many slots there may be.
+const MOST: u64 = u32::MAX as u64;
+
+/// The list of the slots without a set.
+pub(crate) const VACANT: usize = 0;
+
+/// The list of the sets that go back to their pools.
+pub(crate) const GOING: usize = 1;
+
+/// The list of the kept sets of the first layout.
+pub(crate) const KEPT: usize = 2;
+
+/// The sets, each in a slot.
+#[derive(Drop)]
+pub struct SetTable<T> {
+    /// The number of the renderer, which tells its handles from those of others.
+    pub(crate) number: u64,
+    pub(crate) slots: Vec<Slot<T>>,
+
+    /// For each slot the next of the list that it is in.
+    pub(crate) next: Vec<u32>,
+
+    /// The lists, but for those of sets that wait.
+    pub(crate) chains: Vec<Chain>,
+
+    /// The lists of sets that wait, by falling frames. None is empty.
+    pub(crate) frames: Vec<FrameChain>,
+
+    /// How many sets of a layout are kept at most.
+    pub(crate) most: u32,
+    ghost sized: { AreSized (length slots.items) (length next.items) (vec_capacity frames) },
+    ghost linked: { AreLinked slots.items next.items chains.items },
+    ghost framed: { AreFramed slots.items next.items frames.items },
+    ghost rising: { HasFrames frames.items },
+    ghost known: { HasLists slots.items (length chains.items) },
+    ghost few: { AreFew most chains.items },
+}
+
+impl<T> SetTable<T> {
+    ghost use Rattle.descriptor_table.specs.Sets.{find, is_held};
+    ghost use Rattle.descriptor_table.specs.Tables.{HasRoom, Stays, lists_of, slots_of};
+
+    /// No sets, and no layouts. It allocates nothing.
+    pub fn new(alloc: Global, number: u64) -> Self
+        ensures slots { slots_of result ≡ [] }
+        ensures lists { lists_of result ≡ 0 }
+        ensures number { result.number ≡ number }
+        ensures most { result.most ≡ u32.MAX }
+    {
+        SetTable {
+            number,
+            slots: Vec::new(alloc),
+            next: Vec::new(alloc),
+            chains: Vec::new(alloc),
+            frames: Vec::new(alloc),
+            most: u32::MAX,
+        }
+    }
+
+    /// The set of a handle, in this frame if one is open.
+    #[inline]
+    pub fn get(&self, handle: SetHandle, frame: u64, is_open: bool) -> Option<&T>
+        ensures { option_copied result ≡ find self.now.number frame is_open (slots_of self.now)
+            handle }
+    {
+        if handle.renderer != self.number {
+            return None;
+        }
+        let slot = self.slots.get(handle.place as usize)?;
+        if slot.generation != handle.generation || !slot.used.is_live(frame, is_open) {
+            return None;
+        }
+        slot.set.as_ref()
+    }
+
+    /// Whether a handle has a held set.
+    #[inline]
+    fn holds(&self, handle: SetHandle) -> bool
+        ensures { result ≡ is_held self.now.number (slots_of self.now) handle }
+    {
+        if handle.renderer != self.number {
+            return false;
+        }
+        let Some(slot) = self.slots.get(handle.place as usize) else {
+            return false;
+        };
+        if slot.generation != handle.generation {
+            return false;
+        }
+        match slot.used {
+            Use::Held => slot.set.is_some(),
+            Use::Drawn(_) | Use::Waits(_) | Use::Kept | Use::Going | Use::Taken | Use::Vacant =>
+                false,
+        }
+    }
+
+    /// Reserves memory for so many sets more, so that nothing else allocates.
+    pub fn reserve(&mut self, additional: u32) -> Result<(), AllocError>
+        ensures room { OnOk result (HasRoom additional self.new) }
+        ensures fits { HasRoom additional self.old → IsOk result }
+        ensures slots { slots_of self.new ≡ slots_of self.old }
+        ensures lists { lists_of self.new ≡ lists_of self.old }
+        ensures number { self.new.number ≡ self.old.number }
+        ensures most { self.new.most ≡ self.old.most }
+    {
+        let places = self.slots.len() as u64 + u64::from(additional);
+        if places > MOST {
+            return Err(AllocError);
+        }
+        self.slots.reserve(additional as usize)?;
+        self.next.reserve(additional as usize)?;
+        let places = places as usize;
+        self.frames
+            .reserve(places.saturating_sub(self.frames.len()))
+    }
+}

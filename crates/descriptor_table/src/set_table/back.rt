@@ -1,0 +1,158 @@
+//! Sets that come back: they are kept, or go back to their pools.
+ghost use Rattle.std.specs.Prelude.{◌≡◌, ◌+◌, ◌<◌, ◌≤◌, ℕ, IsTrue, true, length};
+
+use super::{GOING, KEPT, SetTable};
+use crate::handle::SetHandle;
+use crate::slot::Use;
+
+impl<T> SetTable<T> {
+    ghost use Rattle.descriptor_table.specs.Slots.{is_due, is_in, slot_at};
+    ghost use Rattle.descriptor_table.specs.Tables.{HasTaken, MayGo, PicksAbove, Stays, Turns};
+    ghost use Rattle.descriptor_table.specs.Tables.{IsSettled, WaitsFor, count, if_taken};
+    ghost use Rattle.descriptor_table.specs.Tables.{is_kept, is_taken, lists_of, may_stay, next_use};
+    ghost use Rattle.descriptor_table.specs.Tables.{place_at, slots_of, with_use};
+
+    /// Whether a set that comes back is kept.
+    #[inline]
+    fn stays(&self, place: usize) -> bool
+        requires { place < length (slots_of self.now) }
+        ensures { result ≡ may_stay self.now.most (slots_of self.now)
+            (slot_at (slots_of self.now) place) }
+    {
+        let slot = &self.slots[place];
+        !slot.leaves && slot.generation < u32::MAX && self.kept_count(slot.layout) < self.most
+    }
+
+    /// Keeps a set that a call has, or lets it go.
+    #[inline]
+    fn settle(&mut self, place: usize)
+        requires { HasTaken place (slots_of self.old) }
+        ensures slots { slots_of self.new ≡ with_use place
+            (next_use self.old.most (slots_of self.old) place) (slots_of self.old) }
+        ensures stays { Stays self.old self.new }
+    {
+        if self.stays(place) {
+            let list = self.slots[place].layout as usize + KEPT;
+            self.link(list, place, Use::Kept);
+            return;
+        }
+        self.link(GOING, place, Use::Going);
+    }
+
+    /// The sets that wait for a frame up to this one are kept or go.
+    pub fn settle_due(&mut self, frame: u64)
+        ensures turns { Turns (is_due frame) (IsSettled self.old.most) (slots_of self.old)
+            (slots_of self.new) }
+        ensures stays { Stays self.old self.new }
+    {
+        while let Some(place) = self.pick_due(frame) {
+            self.settle(place);
+        }
+    }
+
+    /// The set of a slot is kept or goes, if a call has it.
+    #[inline]
+    fn settle_taken(&mut self, place: usize)
+        requires { place < length (slots_of self.old) }
+        ensures slots { slots_of self.new ≡ if_taken place
+            (next_use self.old.most (slots_of self.old) place) (slots_of self.old) }
+        ensures stays { Stays self.old self.new }
+    {
+        if !self.has_taken(place) {
+            return;
+        }
+        self.settle(place);
+    }
+
+    /// Whether a call has the set of a slot.
+    #[inline]
+    fn has_taken(&self, place: usize) -> bool
+        requires { place < length (slots_of self.now) }
+        ensures { result ≡ is_taken (slot_at (slots_of self.now) place) }
+    {
+        let slot = &self.slots[place];
+        match slot.used {
+            Use::Taken => slot.set.is_some(),
+            Use::Held | Use::Drawn(_) | Use::Waits(_) | Use::Kept | Use::Going | Use::Vacant =>
+                false,
+        }
+    }
+
+    /// The sets of handles, which were taken, are kept or go. There are no others that were taken.
+    pub fn settle_each(&mut self, handles: &[SetHandle])
+        requires within { (i : ℕ) → i < length handles.now → place_at handles.now i
+            < length (slots_of self.old) }
+        requires taken { (p : ℕ) → is_taken (slot_at (slots_of self.old) p) ≡ true → (i : ℕ)
+            × (i < length handles.now) × (place_at handles.now i ≡ p) }
+        ensures turns { Turns is_taken (IsSettled self.old.most) (slots_of self.old)
+            (slots_of self.new) }
+        ensures stays { Stays self.old self.new }
+    {
+        for index in 0..handles.len() {
+            self.settle_taken(handles[index].place as usize);
+        }
+    }
+
+    /// The set of a slot waits for a frame, if a call has it.
+    #[inline]
+    fn wait_taken(&mut self, place: usize, frame: u64)
+        requires { place < length (slots_of self.old) }
+        ensures slots { slots_of self.new ≡ if_taken place (Use.Waits frame) (slots_of self.old) }
+        ensures stays { Stays self.old self.new }
+    {
+        if !self.has_taken(place) {
+            return;
+        }
+        self.wait(place, frame, Use::Waits(frame));
+    }
+
+    /// The sets of handles, which were taken, wait for a frame. There are no others that were taken.
+    pub fn wait_each(&mut self, handles: &[SetHandle], frame: u64)
+        requires within { (i : ℕ) → i < length handles.now → place_at handles.now i
+            < length (slots_of self.old) }
+        requires taken { (p : ℕ) → is_taken (slot_at (slots_of self.old) p) ≡ true → (i : ℕ)
+            × (i < length handles.now) × (place_at handles.now i ≡ p) }
+        ensures turns { Turns is_taken (WaitsFor frame) (slots_of self.old) (slots_of self.new) }
+        ensures stays { Stays self.old self.new }
+    {
+        for index in 0..handles.len() {
+            self.wait_taken(handles[index].place as usize, frame);
+        }
+    }
+
+    /// Takes a kept set of a list, if more than so many are kept.
+    #[inline]
+    fn pick_above(&mut self, list: usize, most: u32) -> Option<usize>
+        ensures picks { PicksAbove list most result (slots_of self.old) (slots_of self.new) }
+        ensures stays { Stays self.old self.new }
+    {
+        if self.chain(list).count <= most {
+            return None;
+        }
+        self.pick(list)
+    }
+
+    /// Lets kept sets of a layout go, but so many.
+    fn trim_list(&mut self, list: usize, most: u32)
+        requires list { 2 ≤ list }
+        requires within { list < lists_of self.old }
+        ensures turns { Turns (is_in list) MayGo (slots_of self.old) (slots_of self.new) }
+        ensures few { count (is_in list) (slots_of self.new) ≤ most }
+        ensures stays { Stays self.old self.new }
+    {
+        while let Some(place) = self.pick_above(list, most) {
+            self.link(GOING, place, Use::Going);
+        }
+    }
+
+    /// Lets kept sets go, but so many of each layout.
+    pub fn trim(&mut self, most: u32)
+        ensures turns { Turns is_kept MayGo (slots_of self.old) (slots_of self.new) }
+        ensures few { (layout : ℕ) → count (is_in (layout + 2)) (slots_of self.new) ≤ most }
+        ensures stays { Stays self.old self.new }
+    {
+        for list in KEPT..self.chains.len() {
+            self.trim_list(list, most);
+        }
+    }
+}

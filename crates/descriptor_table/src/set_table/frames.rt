@@ -1,0 +1,176 @@
+//! The lists of sets that wait for a frame.
+ghost use Rattle.std.specs.Prelude.{◌≡◌, ℕ, ◌+◌, ◌<◌, ◌≤◌, ◌-◌, ◌↔◌, IsTrue, true, false, length};
+ghost use Rattle.std.specs.List.Sorted.{IsPartitionPoint};
+
+use super::SetTable;
+use crate::slot::{FrameChain, Use};
+
+impl<T> SetTable<T> {
+    ghost use Rattle.descriptor_table.specs.Slots.{frame_at, is_due, is_of, slot_at};
+    ghost use Rattle.descriptor_table.specs.Tables.{HasTaken, Picks, PicksFirst, Stays};
+    ghost use Rattle.descriptor_table.specs.Tables.{slots_of, used_for, with_use};
+
+    /// How many lists are of later frames.
+    fn place_of_frame(&self, frame: u64) -> usize
+        ensures within { result ≤ length self.now.frames.items }
+        ensures place { IsPartitionPoint (λ c. frame < c.frame) (λ c. c.frame ≤ frame)
+            self.now.frames.items result }
+    {
+        self.frames
+            .partition_point(|chain: &FrameChain| chain.frame > frame)
+    }
+
+    /// Lets a set wait for a frame. The list of the open frame is the first.
+    #[inline]
+    pub(super) fn wait(&mut self, place: usize, frame: u64, used: Use)
+        requires taken { HasTaken place (slots_of self.old) }
+        requires goes { is_of frame (used_for used (slot_at (slots_of self.old) place)) ≡ true }
+        ensures slots { slots_of self.new ≡ with_use place used (slots_of self.old) }
+        ensures stays { Stays self.old self.new }
+    {
+        if self.is_of_frame(0, frame) {
+            self.join(0, place, used);
+            return;
+        }
+        self.wait_before(place, frame, used);
+    }
+
+    /// Lets a set wait for a frame, whose list is looked for.
+    fn wait_before(&mut self, place: usize, frame: u64, used: Use)
+        requires taken { HasTaken place (slots_of self.old) }
+        requires goes { is_of frame (used_for used (slot_at (slots_of self.old) place)) ≡ true }
+        ensures slots { slots_of self.new ≡ with_use place used (slots_of self.old) }
+        ensures stays { Stays self.old self.new }
+    {
+        let at = self.place_of_frame(frame);
+        if self.is_of_frame(at, frame) {
+            self.join(at, place, used);
+            return;
+        }
+        self.start(at, place, frame, used);
+    }
+
+    /// Whether the list at a place is of a frame.
+    #[inline]
+    fn is_of_frame(&self, at: usize, frame: u64) -> bool
+        ensures { IsTrue result ↔ ((at < length self.now.frames.items)
+            × ((frame_at self.now.frames.items at).frame ≡ frame)) }
+    {
+        match self.frames.get(at) {
+            Some(chain) => chain.frame == frame,
+            None => false,
+        }
+    }
+
+    /// Puts a slot first in the list of its frame.
+    #[inline]
+    fn join(&mut self, at: usize, place: usize, used: Use)
+        requires within { at < length self.old.frames.items }
+        requires taken { HasTaken place (slots_of self.old) }
+        requires goes { is_of (frame_at self.old.frames.items at).frame
+            (used_for used (slot_at (slots_of self.old) place)) ≡ true }
+        ensures slots { slots_of self.new ≡ with_use place used (slots_of self.old) }
+        ensures stays { Stays self.old self.new }
+    {
+        let FrameChain {
+            frame,
+            first,
+            count,
+        } = self.frames[at];
+        self.next[place] = first;
+        self.frames[at] = FrameChain {
+            frame,
+            first: place as u32,
+            count: count + 1,
+        };
+        self.slots[place].used = used;
+    }
+
+    /// Begins the list of a frame with a slot.
+    fn start(&mut self, at: usize, place: usize, frame: u64, used: Use)
+        requires within { at ≤ length self.old.frames.items }
+        requires later { (i : ℕ) → i < at → frame < (frame_at self.old.frames.items i).frame }
+        requires earlier { (i : ℕ) → at ≤ i → i < length self.old.frames.items
+            → (frame_at self.old.frames.items i).frame < frame }
+        requires taken { HasTaken place (slots_of self.old) }
+        requires goes { is_of frame (used_for used (slot_at (slots_of self.old) place)) ≡ true }
+        ensures slots { slots_of self.new ≡ with_use place used (slots_of self.old) }
+        ensures stays { Stays self.old self.new }
+    {
+        let chain = FrameChain {
+            frame,
+            first: place as u32,
+            count: 1,
+        };
+        match self.frames.insert(at, chain) {
+            Ok(()) => self.slots[place].used = used,
+            Err(_) => unreachable!(),
+        }
+    }
+
+    /// Takes a set that waits for a frame up to this one, if there is one.
+    #[inline]
+    pub(super) fn pick_due(&mut self, frame: u64) -> Option<usize>
+        ensures picks { PicksFirst (is_due frame) result (slots_of self.old) (slots_of self.new) }
+        ensures stays { Stays self.old self.new }
+    {
+        let count = self.frames.len();
+        if count == 0 {
+            return None;
+        }
+        let chain = self.frames[count - 1];
+        if chain.frame > frame {
+            return None;
+        }
+        if chain.count == 1 {
+            return Some(self.pick_last());
+        }
+        Some(self.pick_first())
+    }
+
+    /// Takes the only set of the earliest frame, whose list goes.
+    #[inline]
+    fn pick_last(&mut self) -> usize
+        requires some { 0 < length self.old.frames.items }
+        requires one { (frame_at self.old.frames.items (length self.old.frames.items - 1)).count ≡ 1 }
+        ensures picks { Picks (is_of (frame_at self.old.frames.items
+            (length self.old.frames.items - 1)).frame) result (slots_of self.old)
+            (slots_of self.new) }
+        ensures stays { Stays self.old self.new }
+    {
+        match self.frames.pop() {
+            Some(chain) => {
+                let place = chain.first as usize;
+                self.slots[place].used = Use::Taken;
+                place
+            }
+            None => unreachable!(),
+        }
+    }
+
+    /// Takes a set of the earliest frame, which has more.
+    #[inline]
+    fn pick_first(&mut self) -> usize
+        requires some { 0 < length self.old.frames.items }
+        requires more { 1 < (frame_at self.old.frames.items (length self.old.frames.items - 1)).count }
+        ensures picks { Picks (is_of (frame_at self.old.frames.items
+            (length self.old.frames.items - 1)).frame) result (slots_of self.old)
+            (slots_of self.new) }
+        ensures stays { Stays self.old self.new }
+    {
+        let last = self.frames.len() - 1;
+        let FrameChain {
+            frame,
+            first,
+            count,
+        } = self.frames[last];
+        let place = first as usize;
+        self.frames[last] = FrameChain {
+            frame,
+            first: self.next[place],
+            count: count - 1,
+        };
+        self.slots[place].used = Use::Taken;
+        place
+    }
+}

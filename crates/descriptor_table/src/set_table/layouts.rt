@@ -1,0 +1,97 @@
+//! Layouts that are added, and sets that get old.
+ghost use Rattle.std.specs.Prelude.{◌≡◌, ◌+◌, ◌<◌, ◌≤◌, ℕ, IsFalse, IsOk, OnOk, false, length, slice_set, vec_capacity};
+
+use super::{KEPT, SetTable};
+use crate::slot::Chain;
+use std::alloc::AllocError;
+
+impl<T> SetTable<T> {
+    ghost use Rattle.descriptor_table.specs.Slots.{chain_at, slot_at};
+    ghost use Rattle.descriptor_table.specs.Tables.{AreAged, Stays, aged, lists_of, lists_with};
+    ghost use Rattle.descriptor_table.specs.Tables.{is_kept, slots_of};
+
+    /// Reserves memory for one layout more.
+    pub fn reserve_layout(&mut self) -> Result<(), AllocError>
+        ensures room { OnOk result (lists_of self.new + 3 ≤ vec_capacity self.new.chains) }
+        ensures fits { lists_of self.old + 3 ≤ vec_capacity self.old.chains → IsOk result }
+        ensures slots { self.new.slots ≡ self.old.slots }
+        ensures lists { lists_of self.new ≡ lists_of self.old }
+        ensures number { self.new.number ≡ self.old.number }
+        ensures most { self.new.most ≡ self.old.most }
+    {
+        self.chains.reserve(KEPT + 1)
+    }
+
+    /// Adds a list without slots, over memory that was reserved.
+    fn add_list(&mut self)
+        requires room { lists_of self.old < vec_capacity self.old.chains }
+        ensures lists { lists_of self.new ≡ lists_of self.old + 1 }
+        ensures room { vec_capacity self.new.chains ≡ vec_capacity self.old.chains }
+        ensures slots { self.new.slots ≡ self.old.slots }
+        ensures number { self.new.number ≡ self.old.number }
+        ensures most { self.new.most ≡ self.old.most }
+    {
+        self.chains.push_reserved(Chain { first: 0, count: 0 });
+    }
+
+    /// Adds a layout, over memory that was reserved.
+    pub fn add_layout(&mut self)
+        requires room { lists_of self.old + 3 ≤ vec_capacity self.old.chains }
+        ensures lists { lists_of self.new ≡ lists_with (lists_of self.old) }
+        ensures slots { self.new.slots ≡ self.old.slots }
+        ensures number { self.new.number ≡ self.old.number }
+        ensures most { self.new.most ≡ self.old.most }
+    {
+        if self.chains.len() > 0 {
+            self.add_list();
+            return;
+        }
+        self.add_list();
+        self.add_list();
+        self.add_list();
+    }
+
+    /// The set of a slot isn't kept when it comes back.
+    #[inline]
+    fn age_at(&mut self, place: usize)
+        requires { place < length (slots_of self.old) }
+        ensures slots { slots_of self.new ≡ slice_set (slots_of self.old) place
+            (aged (slot_at (slots_of self.old) place)) }
+        ensures stays { Stays self.old self.new }
+    {
+        self.slots[place].leaves = true;
+    }
+
+    /// The sets that there are aren't kept when they come back.
+    pub fn age(&mut self)
+        ensures aged { AreAged (slots_of self.old) (slots_of self.new) }
+        ensures stays { Stays self.old self.new }
+    {
+        for place in 0..self.slots.len() {
+            self.age_at(place);
+        }
+    }
+
+    /// Keeps at most so many sets of a layout from now on. No more are kept now.
+    pub fn set_most(&mut self, most: u32)
+        requires { (k : ℕ) → 2 ≤ k → (chain_at self.old.chains.items k).count ≤ most }
+        ensures most { self.new.most ≡ most }
+        ensures slots { self.new.slots ≡ self.old.slots }
+        ensures lists { lists_of self.new ≡ lists_of self.old }
+        ensures number { self.new.number ≡ self.old.number }
+    {
+        self.most = most;
+    }
+
+    /// Whether a set is kept. It goes over the layouts.
+    pub fn keeps_some(&self) -> bool
+        ensures { IsFalse result → (p : ℕ) → is_kept (slot_at (slots_of self.now) p) ≡ false }
+    {
+        for list in KEPT..self.chains.len() {
+            if self.chain(list).count > 0 {
+                return true;
+            }
+        }
+        false
+    }
+}

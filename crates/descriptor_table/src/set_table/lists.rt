@@ -1,0 +1,87 @@
+//! The lists of slots without a set, of sets that go back, and of kept sets.
+ghost use Rattle.std.specs.Prelude.{◌≡◌, ◌+◌, ◌<◌, ◌≤◌, IsTrue, true, false, ℕ};
+
+use super::{GOING, KEPT, SetTable};
+use crate::slot::{Chain, Use};
+
+impl<T> SetTable<T> {
+    ghost use Rattle.descriptor_table.specs.Slots.{chain_at, is_in, slot_at};
+    ghost use Rattle.descriptor_table.specs.Tables.{IsTaken, PicksFirst, Stays, count, count_of};
+    ghost use Rattle.descriptor_table.specs.Tables.{lists_of, slots_of, used_for, with_use};
+
+    /// A list by its number. One that there isn't has no slots.
+    #[inline]
+    pub(super) fn chain(&self, list: usize) -> Chain
+        ensures { result ≡ chain_at self.now.chains.items list }
+    {
+        match self.chains.get(list) {
+            Some(chain) => *chain,
+            None => Chain { first: 0, count: 0 },
+        }
+    }
+
+    /// Takes the first slot of a list out of it.
+    #[inline]
+    pub(super) fn pick(&mut self, list: usize) -> Option<usize>
+        ensures picks { PicksFirst (is_in list) result (slots_of self.old) (slots_of self.new) }
+        ensures stays { Stays self.old self.new }
+    {
+        let Chain { first, count } = self.chain(list);
+        if count == 0 {
+            return None;
+        }
+        let place = first as usize;
+        self.chains[list] = Chain {
+            first: self.next[place],
+            count: count - 1,
+        };
+        self.slots[place].used = Use::Taken;
+        Some(place)
+    }
+
+    /// Puts a slot first in a list.
+    #[inline]
+    pub(super) fn link(&mut self, list: usize, place: usize, used: Use)
+        requires list { list < lists_of self.old }
+        requires taken { IsTaken place (slots_of self.old) }
+        requires goes { is_in list (used_for used (slot_at (slots_of self.old) place)) ≡ true }
+        requires few { 2 ≤ list → count_of list self.old < self.old.most }
+        ensures slots { slots_of self.new ≡ with_use place used (slots_of self.old) }
+        ensures stays { Stays self.old self.new }
+    {
+        let Chain { first, count } = self.chains[list];
+        self.next[place] = first;
+        self.chains[list] = Chain {
+            first: place as u32,
+            count: count + 1,
+        };
+        self.slots[place].used = used;
+    }
+
+    /// Takes a kept set of a layout.
+    #[inline]
+    pub fn take_kept(&mut self, layout: u32) -> Option<usize>
+        ensures picks { PicksFirst (is_in (layout + 2)) result (slots_of self.old)
+            (slots_of self.new) }
+        ensures stays { Stays self.old self.new }
+    {
+        self.pick(layout as usize + KEPT)
+    }
+
+    /// How many sets of a layout are kept.
+    #[inline]
+    pub fn kept_count(&self, layout: u32) -> u32
+        ensures count { result ≡ count (is_in (layout + 2)) (slots_of self.now) }
+        ensures few { result ≤ self.now.most }
+    {
+        self.chain(layout as usize + KEPT).count
+    }
+
+    /// Whether no set goes back to its pool.
+    #[inline]
+    pub fn none_goes(&self) -> bool
+        ensures { IsTrue result → (p : ℕ) → is_in 1 (slot_at (slots_of self.now) p) ≡ false }
+    {
+        self.chain(GOING).count == 0
+    }
+}

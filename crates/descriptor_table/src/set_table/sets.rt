@@ -1,0 +1,178 @@
+//! Sets that come into slots, get handles, and leave.
+ghost use Rattle.std.specs.Prelude.{◌≡◌, ℕ, ◌+◌, ◌<◌, ◌≤◌, true, false, length, slice_set, None, Some};
+
+use super::{SetTable, VACANT};
+use crate::handle::SetHandle;
+use crate::slot::{Slot, Use};
+use std::mem;
+
+impl<T> SetTable<T> {
+    ghost use Rattle.descriptor_table.specs.Slots.{IsNowhere, is_in, slot_at};
+    ghost use Rattle.descriptor_table.specs.Tables.{GivesFirst, HasRoom, HasTaken, IsTaken};
+    ghost use Rattle.descriptor_table.specs.Tables.{Puts, Renews, Stays, is_usable, lists_of};
+    ghost use Rattle.descriptor_table.specs.Tables.{renewed, slots_of, with_use};
+
+    /// Puts a set into a slot, over memory that was reserved. Gives its place.
+    #[inline]
+    pub fn put(&mut self, layout: u32, set: T) -> usize
+        requires room { HasRoom 1 self.old }
+        requires layout { layout + 2 < lists_of self.old }
+        ensures puts { Puts layout set result (slots_of self.old) (slots_of self.new) }
+        ensures reserve { (n : ℕ) → HasRoom (n + 1) self.old → HasRoom n self.new }
+        ensures number { self.new.number ≡ self.old.number }
+        ensures most { self.new.most ≡ self.old.most }
+        ensures lists { lists_of self.new ≡ lists_of self.old }
+    {
+        if let Some(place) = self.pick(VACANT) {
+            self.fill(place, layout, set);
+            return place;
+        }
+        self.push(layout, set)
+    }
+
+    /// Puts a set into a slot that has none.
+    #[inline]
+    fn fill(&mut self, place: usize, layout: u32, set: T)
+        requires taken { IsTaken place (slots_of self.old) }
+        requires empty { (slot_at (slots_of self.old) place).set ≡ None }
+        requires layout { layout + 2 < lists_of self.old }
+        ensures slots { slots_of self.new ≡ slice_set (slots_of self.old) place
+            (record {
+              generation = (slot_at (slots_of self.old) place).generation;
+              layout = layout;
+              used = Use.Taken;
+              leaves = false;
+              set = Some set;
+            }) }
+        ensures stays { Stays self.old self.new }
+    {
+        let slot = Slot {
+            generation: self.slots[place].generation,
+            layout,
+            used: Use::Taken,
+            leaves: false,
+            set: Some(set),
+        };
+        let Slot {
+            generation: _,
+            layout: _,
+            used: _,
+            leaves: _,
+            set: before,
+        } = mem::replace(&mut self.slots[place], slot);
+        match before {
+            None => {}
+            Some(_) => unreachable!(),
+        }
+    }
+
+    /// Puts a set into a new slot.
+    #[inline]
+    fn push(&mut self, layout: u32, set: T) -> usize
+        requires room { HasRoom 1 self.old }
+        requires layout { layout + 2 < lists_of self.old }
+        requires full { (q : ℕ) → is_usable (slot_at (slots_of self.old) q) ≡ false }
+        ensures puts { Puts layout set result (slots_of self.old) (slots_of self.new) }
+        ensures reserve { (n : ℕ) → HasRoom (n + 1) self.old → HasRoom n self.new }
+        ensures number { self.new.number ≡ self.old.number }
+        ensures most { self.new.most ≡ self.old.most }
+        ensures lists { lists_of self.new ≡ lists_of self.old }
+    {
+        let place = self.slots.len();
+        self.slots.push_reserved(Slot {
+            generation: 0,
+            layout,
+            used: Use::Taken,
+            leaves: false,
+            set: Some(set),
+        });
+        self.next.push_reserved(0);
+        place
+    }
+
+    /// The next handle of a place.
+    #[inline]
+    fn renew(&mut self, place: usize, used: Use) -> SetHandle
+        requires taken { IsTaken place (slots_of self.old) }
+        requires next { (slot_at (slots_of self.old) place).generation < 4294967295 }
+        requires used { IsNowhere used }
+        ensures renews { Renews self.old.number place used result (slots_of self.old)
+            (slots_of self.new) }
+        ensures stays { Stays self.old self.new }
+    {
+        let slot = &mut self.slots[place];
+        slot.generation += 1;
+        slot.used = used;
+        SetHandle {
+            renderer: self.number,
+            place: place as u32,
+            generation: slot.generation,
+        }
+    }
+
+    /// The set at a place, which a call has, is held from now on.
+    #[inline]
+    pub fn hold(&mut self, place: usize) -> SetHandle
+        requires taken { IsTaken place (slots_of self.old) }
+        requires next { (slot_at (slots_of self.old) place).generation < 4294967295 }
+        ensures renews { Renews self.old.number place Use.Held result (slots_of self.old)
+            (slots_of self.new) }
+        ensures stays { Stays self.old self.new }
+    {
+        self.renew(place, Use::Held)
+    }
+
+    /// The set at a place, which a call has, is one of a frame from now on.
+    #[inline]
+    pub fn draw(&mut self, place: usize, frame: u64) -> SetHandle
+        requires taken { HasTaken place (slots_of self.old) }
+        requires next { (slot_at (slots_of self.old) place).generation < 4294967295 }
+        ensures renews { Renews self.old.number place (Use.Drawn frame) result (slots_of self.old)
+            (slots_of self.new) }
+        ensures stays { Stays self.old self.new }
+    {
+        let handle = self.renew(place, Use::Taken);
+        self.wait(place, frame, Use::Drawn(frame));
+        handle
+    }
+
+    /// Takes the set out of a slot.
+    #[inline]
+    fn empty(&mut self, place: usize) -> Option<T>
+        requires taken { IsTaken place (slots_of self.old) }
+        ensures set { result ≡ (slot_at (slots_of self.old) place).set }
+        ensures slots { slots_of self.new ≡ slice_set (slots_of self.old) place
+            (record (slot_at (slots_of self.old) place) { set = None }) }
+        ensures stays { Stays self.old self.new }
+    {
+        self.slots[place].set.take()
+    }
+
+    /// A slot whose set was taken out is vacant, and used again but after its last generation.
+    #[inline]
+    fn vacate(&mut self, place: usize)
+        requires taken { IsTaken place (slots_of self.old) }
+        requires empty { (slot_at (slots_of self.old) place).set ≡ None }
+        ensures slots { slots_of self.new ≡ with_use place Use.Vacant (slots_of self.old) }
+        ensures stays { Stays self.old self.new }
+    {
+        if self.slots[place].generation < u32::MAX {
+            self.link(VACANT, place, Use::Vacant);
+        } else {
+            self.slots[place].used = Use::Vacant;
+        }
+    }
+
+    /// Takes the first set of a list out of its slot.
+    #[inline]
+    pub fn take_out(&mut self, list: usize) -> Option<T>
+        requires list { 1 ≤ list }
+        ensures gives { GivesFirst list result (slots_of self.old) (slots_of self.new) }
+        ensures stays { Stays self.old self.new }
+    {
+        let place = self.pick(list)?;
+        let set = self.empty(place)?;
+        self.vacate(place);
+        Some(set)
+    }
+}
