@@ -4,7 +4,7 @@
 //! `descriptor_frames` and `descriptor_renderer`, which are the files of rust/gpu-descriptor, as is the
 //! `kit` that they use. By hand are `device`, which calls the host's functions, `allocator`, a
 //! renderer over it, `slot`, through which each call goes, and `exports`.
-#![cfg_attr(not(feature = "std"), no_std)]
+#![cfg_attr(not(any(feature = "std", test)), no_std)]
 #![deny(unsafe_code)]
 
 extern crate alloc as std_alloc;
@@ -39,7 +39,8 @@ mod gpu_descriptor_types;
 #[allow(dead_code, unused_imports)]
 #[forbid(unsafe_code)]
 mod kit;
-#[cfg(not(feature = "std"))]
+// Tests have an allocator and a panic handler of std.
+#[cfg(not(any(feature = "std", test)))]
 #[allow(unsafe_code)]
 mod memory;
 #[allow(unsafe_code)]

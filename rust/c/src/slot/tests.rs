@@ -34,7 +34,9 @@ fn created() -> GdAllocator {
     create(|id| Allocator::new(id, device, 0)).unwrap()
 }
 
-/// A panic is a status, and so is each later call. Another allocator is not touched.
+/// A panic is a status, and so is each later call. Another allocator is not touched. Without std a panic
+/// ends the program.
+#[cfg(feature = "std")]
 #[test]
 fn a_panic_is_a_status() {
     let (poisoned, other) = (created(), created());
