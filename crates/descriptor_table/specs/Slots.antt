@@ -102,6 +102,14 @@ module _ {T : Type 0} where
   abbrev pub is_in : ℕ → Slot T → Bool
   is_in k s = in_list k s.used s.layout s.generation (is_some s.set)
 
+  -- whether a slot has a set that goes back to its pool
+  abbrev pub goes : Slot T → Bool
+  goes = is_in 1
+
+  -- whether a slot has a kept set of the layout
+  abbrev pub is_kept_of : ℕ → Slot T → Bool
+  is_kept_of layout = is_in (layout + 2)
+
   -- whether a slot has a set that waits for this frame
   abbrev pub is_of : ℕ → Slot T → Bool
   is_of f s = waits_for f s.used && is_some s.set

@@ -1,6 +1,6 @@
 -- What becomes of the slots of a table.
 use Rattle.std.specs.Prelude.{◌≡◌, ◌≢◌, ℕ, zero, suc, ◌+◌, ◌<◌, ◌≤◌, ◌⊎◌, ◌&&◌, nat_lt, Bool, true, false, not, List, [], ◌∷◌, length, slice_index_or, slice_set, vec_capacity, is_some, if◌then◌else◌, Option, Some, None, MatchOption}
-use Rattle.descriptor_table.specs.Slots.{chain_at, is_in, slot_at}
+use Rattle.descriptor_table.specs.Slots.{chain_at, is_in, is_kept_of, slot_at}
 use Rattle.descriptor_table.specs.declared.handle.SetHandle.{SetHandle}
 use Rattle.descriptor_table.specs.declared.set_table.SetTable.{SetTable}
 use Rattle.descriptor_table.specs.declared.slot.Use.{Use}
@@ -112,7 +112,7 @@ module _ {T : Type 0} where
 
   -- whether a set is kept, if at most so many of its layout are
   abbrev pub may_stay : ℕ → List (Slot T) → Slot T → Bool
-  may_stay most slots s = stays s && nat_lt (count (is_in (s.layout + 2)) slots) most
+  may_stay most slots s = stays s && nat_lt (count (is_kept_of s.layout) slots) most
 
   -- what a set that comes back is in use for
   abbrev pub next_use : ℕ → List (Slot T) → ℕ → Use
@@ -120,7 +120,7 @@ module _ {T : Type 0} where
 
   -- a set that came back is kept, or goes back to its pool. If it may be kept, it goes only if as many are kept as may be
   abbrev pub IsSettled : ℕ → List (Slot T) → Slot T → Slot T → Type 0
-  IsSettled most new o n = ((n ≡ used_for Kept o) × (stays o ≡ true)) ⊎ ((n ≡ used_for Going o) × (stays o ≡ true → most ≤ count (is_in (o.layout + 2)) new))
+  IsSettled most new o n = ((n ≡ used_for Kept o) × (stays o ≡ true)) ⊎ ((n ≡ used_for Going o) × (stays o ≡ true → most ≤ count (is_kept_of o.layout) new))
 
   -- a set waits for the frame
   abbrev pub WaitsFor : ℕ → List (Slot T) → Slot T → Slot T → Type 0
@@ -142,7 +142,7 @@ module _ {T : Type 0} where
 
   -- whether a set is kept
   abbrev pub is_kept : Slot T → Bool
-  is_kept s = is_in (s.layout + 2) s
+  is_kept s = is_kept_of s.layout s
 
   -- a kept set left its list, and as many as so are left, or no more than that were there
   abbrev pub PicksAbove : ℕ → ℕ → Option ℕ → List (Slot T) → List (Slot T) → Type 0

@@ -6,7 +6,7 @@ use crate::handle::SetHandle;
 use crate::slot::Use;
 
 impl<T> SetTable<T> {
-    ghost use Rattle.descriptor_table.specs.Slots.{is_due, is_in, slot_at};
+    ghost use Rattle.descriptor_table.specs.Slots.{is_due, is_in, is_kept_of, slot_at};
     ghost use Rattle.descriptor_table.specs.Tables.{HasTaken, MayGo, PicksAbove, Stays, Turns};
     ghost use Rattle.descriptor_table.specs.Tables.{IsSettled, WaitsFor, count, if_taken};
     ghost use Rattle.descriptor_table.specs.Tables.{is_kept, is_taken, lists_of, may_stay, next_use};
@@ -148,7 +148,7 @@ impl<T> SetTable<T> {
     /// Lets kept sets go, but so many of each layout.
     pub fn trim(&mut self, most: u32)
         ensures turns { Turns is_kept MayGo (slots_of self.old) (slots_of self.new) }
-        ensures few { (layout : ℕ) → count (is_in (layout + 2)) (slots_of self.new) ≤ most }
+        ensures few { (layout : ℕ) → count (is_kept_of layout) (slots_of self.new) ≤ most }
         ensures stays { Stays self.old self.new }
     {
         for list in KEPT..self.chains.len() {

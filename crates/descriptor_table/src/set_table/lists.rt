@@ -5,7 +5,7 @@ use super::{GOING, KEPT, SetTable};
 use crate::slot::{Chain, Use};
 
 impl<T> SetTable<T> {
-    ghost use Rattle.descriptor_table.specs.Slots.{chain_at, is_in, slot_at};
+    ghost use Rattle.descriptor_table.specs.Slots.{chain_at, goes, is_in, is_kept_of, slot_at};
     ghost use Rattle.descriptor_table.specs.Tables.{IsTaken, PicksFirst, Stays, count, count_of};
     ghost use Rattle.descriptor_table.specs.Tables.{lists_of, slots_of, used_for, with_use};
 
@@ -61,7 +61,7 @@ impl<T> SetTable<T> {
     /// Takes a kept set of a layout.
     #[inline]
     pub fn take_kept(&mut self, layout: u32) -> Option<usize>
-        ensures picks { PicksFirst (is_in (layout + 2)) result (slots_of self.old)
+        ensures picks { PicksFirst (is_kept_of layout) result (slots_of self.old)
             (slots_of self.new) }
         ensures stays { Stays self.old self.new }
     {
@@ -71,7 +71,7 @@ impl<T> SetTable<T> {
     /// How many sets of a layout are kept.
     #[inline]
     pub fn kept_count(&self, layout: u32) -> u32
-        ensures count { result ≡ count (is_in (layout + 2)) (slots_of self.now) }
+        ensures count { result ≡ count (is_kept_of layout) (slots_of self.now) }
         ensures few { result ≤ self.now.most }
     {
         self.chain(layout as usize + KEPT).count
@@ -80,7 +80,7 @@ impl<T> SetTable<T> {
     /// Whether no set goes back to its pool.
     #[inline]
     pub fn none_goes(&self) -> bool
-        ensures { IsTrue result → (p : ℕ) → is_in 1 (slot_at (slots_of self.now) p) ≡ false }
+        ensures { IsTrue result → (p : ℕ) → goes (slot_at (slots_of self.now) p) ≡ false }
     {
         self.chain(GOING).count == 0
     }
