@@ -1,0 +1,5 @@
+pub mod Back
+pub mod Cleaned
+pub mod Given
+pub mod Listed
+pub mod Results
