@@ -1,5 +1,5 @@
 -- What the store of a renderer has: the table of its sets, and the allocator over a device.
-use Rattle.std.specs.Prelude.{◌≡◌, ◌≢◌, ℕ, ◌<◌, ◌≤◌, ◌⊎◌, true, Bool, List, [], ◌∷◌, length, false, if◌then◌else◌, Option, Result, Ok, Err, Vec}
+use Rattle.std.specs.Prelude.{◌≡◌, ◌≢◌, ℕ, ◌+◌, ◌<◌, ◌≤◌, ◌⊎◌, true, Bool, List, [], ◌∷◌, length, false, if◌then◌else◌, Option, Result, Ok, Err, Vec}
 use Rattle.std.specs.declared.alloc.Global.{Global}
 use Rattle.gpu_descriptor_types.specs.Ledger.{Ledger, Pool}
 use Rattle.gpu_descriptor.specs.Caller.Others.{others_of}
@@ -66,6 +66,10 @@ module _ {L P S D : Type 0} {d : Ghosts D L P S} where
   -- how many lists the table has
   abbrev pub lists_in : Store L P S D d → ℕ
   lists_in s = lists_of s.table
+
+  -- the layout of this number was added to the table
+  abbrev pub HasLayout : ℕ → Store L P S D d → Type 0
+  HasLayout layout s = layout + 2 < lists_in s
 
   -- the sets that a request has before they are in the table
   abbrev pub coming_in : Store L P S D d → Vec (DescriptorSet S) Global

@@ -42,7 +42,7 @@ impl<L: Drop, P: Drop, S: Drop, D: DescriptorDevice<L, P, S>> Store<L, P, S, D> 
     ghost use Rattle.descriptor_store.specs.Stores.{GetsAtLast, GivesBack, IsRefused, IsRefusedAtLast};
     ghost use Rattle.descriptor_store.specs.Stores.{TableStays, TakesKept, Trims, WaitEach, coming_in};
     ghost use Rattle.descriptor_store.specs.Stores.{ledger_of, limit_of, lists_in, most_of, number_of};
-    ghost use Rattle.descriptor_store.specs.Stores.{pools_besides, side_of, slots_in};
+    ghost use Rattle.descriptor_store.specs.Stores.{HasLayout, pools_besides, side_of, slots_in};
 
     /// No sets and no layouts, for the renderer of this number, over a new allocator with this limit on
     /// update-after-bind descriptors. It allocates nothing.
@@ -101,7 +101,7 @@ impl<L: Drop, P: Drop, S: Drop, D: DescriptorDevice<L, P, S>> Store<L, P, S, D> 
     #[inline]
     fn ask(&mut self, known: &SetLayout<L>, layout: u32) -> Result<usize, AllocationError>
         requires meant { IsMeant D.meaning known.now }
-        requires layout { layout + 2 < lists_in self.old }
+        requires layout { HasLayout layout self.old }
         ensures gets { IfOk result (λ place. Gets known.now.layout layout place self.old self.new) }
         ensures refused { IfErr result (λ error. IsRefused known.now.layout error self.old self.new) }
         ensures besides { pools_besides self.new ≡ pools_besides self.old }
@@ -124,7 +124,7 @@ impl<L: Drop, P: Drop, S: Drop, D: DescriptorDevice<L, P, S>> Store<L, P, S, D> 
     /// pools are destroyed, and it is asked for once more. Gives its place.
     fn take_new(&mut self, known: &SetLayout<L>, layout: u32) -> Result<usize, AllocationError>
         requires meant { IsMeant D.meaning known.now }
-        requires layout { layout + 2 < lists_in self.old }
+        requires layout { HasLayout layout self.old }
         requires none_goes { (p : ℕ) → goes (slot_at (slots_in self.old) p) ≡ false }
         ensures gets { IfOk result (λ place. GetsAtLast known.now.layout layout place self.old
             self.new) }
@@ -154,7 +154,7 @@ impl<L: Drop, P: Drop, S: Drop, D: DescriptorDevice<L, P, S>> Store<L, P, S, D> 
     #[inline]
     pub fn take(&mut self, known: &SetLayout<L>, layout: u32) -> Result<usize, AllocationError>
         requires meant { IsMeant D.meaning known.now }
-        requires layout { layout + 2 < lists_in self.old }
+        requires layout { HasLayout layout self.old }
         requires none_goes { (p : ℕ) → goes (slot_at (slots_in self.old) p) ≡ false }
         ensures refused { IfErr result (λ error. IsRefusedAtLast known.now.layout error self.old
             self.new) }
