@@ -25,6 +25,15 @@ is_held_use Going = false
 is_held_use Taken = false
 is_held_use Vacant = false
 
+abbrev pub is_waiting_use : Use → Bool
+is_waiting_use Held = false
+is_waiting_use (Drawn frame) = true
+is_waiting_use (Waits frame) = true
+is_waiting_use Kept = false
+is_waiting_use Going = false
+is_waiting_use Taken = false
+is_waiting_use Vacant = false
+
 -- the place of the handle at a place of a list
 abbrev pub place_at : List SetHandle → ℕ → ℕ
 place_at handles i = (slice_index_or handles i (record { renderer = 0; place = 0; generation = 0 })).place
@@ -136,6 +145,18 @@ module _ {T : Type 0} where
   abbrev pub if_taken : ℕ → Use → List (Slot T) → List (Slot T)
   if_taken p u slots = if is_taken (slot_at slots p) then with_use p u slots else slots
 
+  -- whether a slot has a set that is held
+  abbrev pub holds : Slot T → Bool
+  holds s = is_held_use s.used && is_some s.set
+
+  -- the slots, with one in use for this if its set is held
+  abbrev pub if_held : ℕ → Use → List (Slot T) → List (Slot T)
+  if_held p u slots = if holds (slot_at slots p) then with_use p u slots else slots
+
+  -- whether a slot has a set that waits for a frame
+  abbrev pub waits : Slot T → Bool
+  waits s = is_waiting_use s.used && is_some s.set
+
   -- a kept set goes, or is still kept
   abbrev pub MayGo : List (Slot T) → Slot T → Slot T → Type 0
   MayGo new o n = (n ≡ o) ⊎ (n ≡ used_for Going o)
@@ -175,21 +196,21 @@ module _ {T : Type 0} where
   abbrev pub vacated : Slot T → Slot T
   vacated s = record s { used = Vacant; set = None }
 
-  -- a set of the list was taken out of its slot
-  pub record Gives (k : ℕ) (x : T) (old new : List (Slot T)) : Type 0 where
+  -- a set that passes the test was taken out of its slot
+  pub record Gives (test : Slot T → Bool) (x : T) (old new : List (Slot T)) : Type 0 where
     pub place : ℕ
     pub within : place < length old
-    pub was : is_in k (slot_at old place) ≡ true
+    pub was : test (slot_at old place) ≡ true
     pub full : (slot_at old place).set ≡ Some x
     pub slots : new ≡ slice_set old place (vacated (slot_at old place))
 
-  -- no set is in the list
-  pub record GivesNone (k : ℕ) (old new : List (Slot T)) : Type 0 where
-    pub none : (p : ℕ) → is_in k (slot_at old p) ≡ false
+  -- no set passes the test
+  pub record GivesNone (test : Slot T → Bool) (old new : List (Slot T)) : Type 0 where
+    pub none : (p : ℕ) → test (slot_at old p) ≡ false
     pub slots : new ≡ old
 
-  abbrev pub GivesFirst : ℕ → Option T → List (Slot T) → List (Slot T) → Type 0
-  GivesFirst k result old new = MatchOption result (GivesNone k old new) (λ x. Gives k x old new)
+  abbrev pub GivesFirst : (Slot T → Bool) → Option T → List (Slot T) → List (Slot T) → Type 0
+  GivesFirst test result old new = MatchOption result (GivesNone test old new) (λ x. Gives test x old new)
 
   -- the held sets of the first handles were taken, and all else is as it was
   pub record TookEach (handles : List SetHandle) (n : ℕ) (old new : List (Slot T)) : Type 0 where
@@ -203,6 +224,10 @@ module _ {T : Type 0} where
   pub record AreAged (old new : List (Slot T)) : Type 0 where
     pub long : length new ≡ length old
     pub each : (p : ℕ) → p < length old → slot_at new p ≡ aged (slot_at old p)
+
+  -- a set goes
+  abbrev pub Leaves : List (Slot T) → Slot T → Slot T → Type 0
+  Leaves new o n = n ≡ used_for Going o
 
   -- a set was taken out of its slot
   abbrev pub Vacates : List (Slot T) → Slot T → Slot T → Type 0

@@ -3,12 +3,14 @@ ghost use Rattle.std.specs.Prelude.{◌≡◌};
 ghost use Rattle.std.specs.Iterator.{at_most};
 ghost use Rattle.descriptor_table.specs.Giving.{GivesNext, sets_left};
 
-use crate::set_table::{GOING, SetTable};
+use crate::set_table::SetTable;
 
-/// Takes the sets that go back to their pools out of their slots, up to the last.
+/// Takes the sets that go back to their pools out of their slots, up to the last: those that wait for
+/// a frame up to this one, or, without a frame, those that were let go.
 #[derive(Drop)]
 pub struct Giving<'a, T> {
     pub table: &'a mut SetTable<T>,
+    pub due: Option<u64>,
 }
 
 impl<T> Iterator for Giving<'_, T> {
@@ -20,7 +22,10 @@ impl<T> Iterator for Giving<'_, T> {
 
     #[inline]
     fn next(&mut self) -> Option<T> {
-        self.table.take_out(GOING)
+        match self.due {
+            None => self.table.take_going(),
+            Some(frame) => self.table.take_due(frame),
+        }
     }
 }
 

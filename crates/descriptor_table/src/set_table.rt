@@ -5,6 +5,7 @@ ghost use Rattle.descriptor_table.specs.Slots.{AreFew, AreFramed, AreLinked, Are
 ghost use Rattle.descriptor_table.specs.Slots.{HasFrames, HasLists};
 
 mod back;
+mod counts;
 mod frames;
 mod handles;
 mod layouts;

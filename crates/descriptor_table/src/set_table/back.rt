@@ -7,8 +7,8 @@ use crate::slot::Use;
 
 impl<T> SetTable<T> {
     ghost use Rattle.descriptor_table.specs.Slots.{is_due, is_in, is_kept_of, slot_at};
-    ghost use Rattle.descriptor_table.specs.Tables.{HasTaken, MayGo, PicksAbove, Stays, Turns};
-    ghost use Rattle.descriptor_table.specs.Tables.{IsSettled, WaitsFor, count, if_taken};
+    ghost use Rattle.descriptor_table.specs.Tables.{HasTaken, Leaves, MayGo, PicksAbove, Stays, Turns};
+    ghost use Rattle.descriptor_table.specs.Tables.{IsSettled, WaitsFor, count, holds, if_held, if_taken};
     ghost use Rattle.descriptor_table.specs.Tables.{is_kept, is_taken, lists_of, may_stay, next_use};
     ghost use Rattle.descriptor_table.specs.Tables.{place_at, slots_of, with_use};
 
@@ -117,6 +117,37 @@ impl<T> SetTable<T> {
     {
         for index in 0..handles.len() {
             self.wait_taken(handles[index].place as usize, frame);
+        }
+    }
+
+    /// Lets the set of a slot go, if it is held.
+    #[inline]
+    fn let_go_at(&mut self, place: usize)
+        requires { place < length (slots_of self.old) }
+        ensures slots { slots_of self.new ≡ if_held place Use.Going (slots_of self.old) }
+        ensures stays { Stays self.old self.new }
+    {
+        let slot = &mut self.slots[place];
+        match slot.used {
+            Use::Held => {
+                if slot.set.is_none() {
+                    return;
+                }
+                slot.used = Use::Taken;
+            }
+            Use::Drawn(_) | Use::Waits(_) | Use::Kept | Use::Going | Use::Taken | Use::Vacant =>
+                return,
+        }
+        self.link(GOING, place, Use::Going);
+    }
+
+    /// Lets all held sets go.
+    pub fn let_held_go(&mut self)
+        ensures turns { Turns holds Leaves (slots_of self.old) (slots_of self.new) }
+        ensures stays { Stays self.old self.new }
+    {
+        for place in 0..self.slots.len() {
+            self.let_go_at(place);
         }
     }
 

@@ -1,5 +1,5 @@
 //! Layouts that are added, and sets that get old.
-ghost use Rattle.std.specs.Prelude.{◌≡◌, ◌+◌, ◌<◌, ◌≤◌, ℕ, IsFalse, IsOk, OnOk, false, length, slice_set, vec_capacity};
+ghost use Rattle.std.specs.Prelude.{◌≡◌, ◌+◌, ◌<◌, ◌≤◌, ℕ, IsOk, OnOk, length, slice_set, vec_capacity};
 
 use super::{KEPT, SetTable};
 use crate::slot::Chain;
@@ -8,7 +8,7 @@ use std::alloc::AllocError;
 impl<T> SetTable<T> {
     ghost use Rattle.descriptor_table.specs.Slots.{chain_at, slot_at};
     ghost use Rattle.descriptor_table.specs.Tables.{AreAged, Stays, aged, lists_of, lists_with};
-    ghost use Rattle.descriptor_table.specs.Tables.{is_kept, slots_of};
+    ghost use Rattle.descriptor_table.specs.Tables.{slots_of};
 
     /// Reserves memory for one layout more.
     pub fn reserve_layout(&mut self) -> Result<(), AllocError>
@@ -38,6 +38,8 @@ impl<T> SetTable<T> {
     pub fn add_layout(&mut self)
         requires room { lists_of self.old + 3 ≤ vec_capacity self.old.chains }
         ensures lists { lists_of self.new ≡ lists_with (lists_of self.old) }
+        ensures known { (p : ℕ) → p < length (slots_of self.old)
+            → (slot_at (slots_of self.old) p).layout + 2 < lists_of self.old }
         ensures slots { self.new.slots ≡ self.old.slots }
         ensures number { self.new.number ≡ self.old.number }
         ensures most { self.new.most ≡ self.old.most }
@@ -81,17 +83,5 @@ impl<T> SetTable<T> {
         ensures number { self.new.number ≡ self.old.number }
     {
         self.most = most;
-    }
-
-    /// Whether a set is kept. It goes over the layouts.
-    pub fn keeps_some(&self) -> bool
-        ensures { IsFalse result → (p : ℕ) → is_kept (slot_at (slots_of self.now) p) ≡ false }
-    {
-        for list in KEPT..self.chains.len() {
-            if self.chain(list).count > 0 {
-                return true;
-            }
-        }
-        false
     }
 }

@@ -1,15 +1,15 @@
 //! Sets that come into slots, get handles, and leave.
-ghost use Rattle.std.specs.Prelude.{◌≡◌, ℕ, ◌+◌, ◌<◌, ◌≤◌, true, false, length, slice_set, None, Some};
+ghost use Rattle.std.specs.Prelude.{◌≡◌, ℕ, ◌+◌, ◌<◌, ◌≤◌, true, false, length, slice_set, IsSome, None, Some};
 
-use super::{SetTable, VACANT};
+use super::{GOING, SetTable, VACANT};
 use crate::handle::SetHandle;
 use crate::slot::{Slot, Use};
 use std::mem;
 
 impl<T> SetTable<T> {
-    ghost use Rattle.descriptor_table.specs.Slots.{IsNowhere, is_in, slot_at};
+    ghost use Rattle.descriptor_table.specs.Slots.{IsNowhere, goes, is_due, slot_at};
     ghost use Rattle.descriptor_table.specs.Tables.{GivesFirst, HasRoom, HasTaken, IsTaken};
-    ghost use Rattle.descriptor_table.specs.Tables.{Puts, Renews, Stays, is_usable, lists_of};
+    ghost use Rattle.descriptor_table.specs.Tables.{Puts, Renews, Stays, is_usable, lists_of, vacated};
     ghost use Rattle.descriptor_table.specs.Tables.{renewed, slots_of, with_use};
 
     /// Puts a set into a slot, over memory that was reserved. Gives its place.
@@ -163,16 +163,37 @@ impl<T> SetTable<T> {
         }
     }
 
-    /// Takes the first set of a list out of its slot.
+    /// Takes the set out of a slot that a call has, and leaves the slot vacant.
     #[inline]
-    pub fn take_out(&mut self, list: usize) -> Option<T>
-        requires list { 1 ≤ list }
-        ensures gives { GivesFirst list result (slots_of self.old) (slots_of self.new) }
+    fn take_out(&mut self, place: usize) -> Option<T>
+        requires taken { IsTaken place (slots_of self.old) }
+        ensures set { result ≡ (slot_at (slots_of self.old) place).set }
+        ensures slots { IsSome result → slots_of self.new ≡ slice_set (slots_of self.old) place
+            (vacated (slot_at (slots_of self.old) place)) }
         ensures stays { Stays self.old self.new }
     {
-        let place = self.pick(list)?;
         let set = self.empty(place)?;
         self.vacate(place);
         Some(set)
+    }
+
+    /// Takes a set that was let go out of its slot.
+    #[inline]
+    pub(crate) fn take_going(&mut self) -> Option<T>
+        ensures gives { GivesFirst goes result (slots_of self.old) (slots_of self.new) }
+        ensures stays { Stays self.old self.new }
+    {
+        let place = self.pick(GOING)?;
+        self.take_out(place)
+    }
+
+    /// Takes a set that waits for a frame up to this one out of its slot.
+    #[inline]
+    pub(crate) fn take_due(&mut self, frame: u64) -> Option<T>
+        ensures gives { GivesFirst (is_due frame) result (slots_of self.old) (slots_of self.new) }
+        ensures stays { Stays self.old self.new }
+    {
+        let place = self.pick_due(frame)?;
+        self.take_out(place)
     }
 }

@@ -1,0 +1,37 @@
+use Rattle.std.proofs.Common.{length, ap, arith}
+use Rattle.gpu_descriptor.specs.Caller.Sets.{items_of}
+use Rattle.gpu_descriptor.specs.Model.Agreement.{count_of}
+use Rattle.descriptor_table.specs.Slots.{is_due}
+use Rattle.descriptor_table.specs.Tables.{slots_of}
+use Rattle.descriptor_table.proofs.Turning.{due_full}
+use Rattle.descriptor_renderer.proofs.Back.{back_not_due, came_back, settled_sets}
+use Rattle.descriptor_renderer.proofs.store.Store.finish.Goals as goal
+
+pub invariant_of-self-clause-exact : goal.invariant_of-self-clause-exact
+invariant_of-self-clause-exact g c = λ t.
+    let name = g.D.DescriptorDevice.meaning.set_name in
+    let same = settled_sets (is_due c.args.frame) c.args.self.now.table.most (slots_of c.args.self.now.table) (slots_of c.settle_due.new.self) c.settle_due.ensures.turns in
+    let count = ap (λ l. count_of t (items_of name l)) same in
+    let was = c.args.self.now.exact t in
+    omega arith
+
+pub invariant_of-self-clause-accounted : goal.invariant_of-self-clause-accounted
+invariant_of-self-clause-accounted g c =
+    let same = settled_sets (is_due c.args.frame) c.args.self.now.table.most (slots_of c.args.self.now.table) (slots_of c.settle_due.new.self) c.settle_due.ensures.turns in
+    let count = ap length same in
+    let was = c.args.self.now.accounted in
+    omega arith
+
+pub returns-clause-back : goal.returns-clause-back
+returns-clause-back g c =
+    let gives = c.give_back.ensures.gives in
+    record {
+      turns = came_back (is_due c.args.frame) c.args.self.now.table.most (slots_of c.args.self.now.table) (slots_of c.settle_due.new.self) (slots_of c.give_back.new.self.table) (due_full c.args.frame) c.requires.none_goes c.settle_due.ensures.turns gives.turns;
+      sets = gives.sets;
+      returns = gives.returns;
+    }
+
+pub returns-clause-none_due : goal.returns-clause-none_due
+returns-clause-none_due g c =
+    let gives = c.give_back.ensures.gives in
+    back_not_due c.args.frame c.args.self.now.table.most (slots_of c.args.self.now.table) (slots_of c.give_back.new.self.table) (came_back (is_due c.args.frame) c.args.self.now.table.most (slots_of c.args.self.now.table) (slots_of c.settle_due.new.self) (slots_of c.give_back.new.self.table) (due_full c.args.frame) c.requires.none_goes c.settle_due.ensures.turns gives.turns)

@@ -1,2 +1,0 @@
-pub mod Exact
-pub mod Stores
