@@ -1,6 +1,0 @@
-mod Drawn
-mod Held
-mod Queued
-mod Slots
-mod Taking
-mod Using

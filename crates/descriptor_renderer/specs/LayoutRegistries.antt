@@ -1,5 +1,5 @@
 -- The layouts of a registry, and which a handle names.
-use Rattle.std.specs.Prelude.{ℕ, ◌==◌, if◌then◌else◌, List, slice_get, Option, None, vec_capacity}
+use Rattle.std.specs.Prelude.{ℕ, ◌==◌, if◌then◌else◌, List, slice_get, Option, None}
 use Rattle.gpu_descriptor_types.specs.declared.device.DescriptorDevice.{Ghosts}
 use Rattle.gpu_descriptor.specs.declared.layout.SetLayout.{SetLayout}
 use Rattle.descriptor_renderer.specs.declared.layout_registry.LayoutHandle.{LayoutHandle}
@@ -17,7 +17,3 @@ module _ {L P S D : Type 0} {d : Ghosts D L P S} where
   -- the layout of a handle. None if another registry gave the handle
   abbrev pub layout_at : LayoutRegistry L P S D d → LayoutHandle → Option (SetLayout L)
   layout_at r h = if h.registry == registry_of r then slice_get (layouts_of r) h.place else None
-
-  -- so many layouts fit without an allocation
-  abbrev pub capacity_of : LayoutRegistry L P S D d → ℕ
-  capacity_of r = vec_capacity r.layouts

@@ -1,8 +1,5 @@
-pub mod DrawnSets
 pub mod Errors
-pub mod HeldSets
-pub mod Holding
+pub mod Exact
 pub mod LayoutRegistries
-pub mod Queue
 pub mod Renderers
-pub mod Slots
+pub mod Stores

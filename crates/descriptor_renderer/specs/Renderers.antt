@@ -1,25 +1,23 @@
 -- What a renderer has: layouts, frames, sets by handle, and the pools of its device.
-use Rattle.std.specs.Prelude.{◌≡◌, ℕ, ◌+◌, ◌<◌, ◌≤◌, ◌⊎◌, Bool, List, length, Option, Ok, Err, vec_capacity}
-use Rattle.std.specs.VecDeque.{deque_capacity}
+use Rattle.std.specs.Prelude.{◌≡◌, ℕ, ◌-◌, ◌<◌, Bool, List, length, Option, Some, min, slice_get, slice_index_or, if◌then◌else◌}
 use Rattle.gpu_descriptor_types.specs.Ledger.{Ledger, Pool}
-use Rattle.gpu_descriptor_types.specs.Side.{Side, side}
+use Rattle.gpu_descriptor_types.specs.Meaning.{IsOfLayout}
+use Rattle.gpu_descriptor_types.specs.Side.{Side}
 use Rattle.gpu_descriptor_types.specs.declared.device.DescriptorDevice.{Ghosts}
-use Rattle.gpu_descriptor.specs.Caller.Call.{layout_key}
-use Rattle.gpu_descriptor.specs.Caller.HandsOut.{HandsOut}
-use Rattle.gpu_descriptor.specs.Caller.Others.{others_of}
 use Rattle.gpu_descriptor.specs.Caller.Values.{Allocations}
 use Rattle.gpu_descriptor.specs.declared.errors.AllocationError.{AllocationError}
 use Rattle.gpu_descriptor.specs.declared.errors.AllocationError.TheVariants.{OutOfHostMemory}
 use Rattle.gpu_descriptor.specs.declared.layout.SetLayout.{SetLayout}
 use Rattle.gpu_descriptor.specs.declared.set.DescriptorSet.{DescriptorSet}
-use Rattle.descriptor_frames.specs.Frames.{allocator_of, reserve_of, retired_of}
-use Rattle.descriptor_frames.specs.declared.retired.Retired.{Retired}
-use Rattle.descriptor_renderer.specs.DrawnSets.{Drawn, drawn_by}
-use Rattle.descriptor_renderer.specs.HeldSets.{Held, sets_in}
-use Rattle.descriptor_renderer.specs.Holding.{HasSlots, held_of, slots_of}
-use Rattle.descriptor_renderer.specs.LayoutRegistries.{capacity_of, layout_at, layouts_of}
+use Rattle.descriptor_table.specs.Sets.{NameEach, Names, Sets, find, sets_of}
+use Rattle.descriptor_table.specs.Slots.{slot_at}
+use Rattle.descriptor_table.specs.declared.handle.SetHandle.{SetHandle}
+use Rattle.descriptor_table.specs.declared.slot.Slot.{Slot}
+use Rattle.descriptor_renderer.specs.LayoutRegistries.{layout_at, layouts_of}
+use Rattle.descriptor_renderer.specs.Stores as stores
 use Rattle.descriptor_renderer.specs.declared.layout_registry.LayoutHandle.{LayoutHandle}
 use Rattle.descriptor_renderer.specs.declared.renderer.Renderer.{Renderer}
+use Rattle.descriptor_renderer.specs.declared.store.Store.{Store}
 
 -- what a caller sees of a renderer
 pub record Rendering (L S : Type 0) : Type 0 where
@@ -27,24 +25,29 @@ pub record Rendering (L S : Type 0) : Type 0 where
   pub layouts : LayoutHandle → Option (SetLayout L)
   pub frame : ℕ
   pub is_open : Bool
-  pub drawn : Drawn S
-  pub held : Held S
-  pub retired : List (Retired S)
+  -- the slots of its sets, each with its layout and what it is in use for
+  pub slots : List (Slot (DescriptorSet S))
+  -- how many sets of a layout are kept at most
+  pub most : ℕ
   pub pools_besides : ℕ → Option Pool
   pub limit : ℕ
 
 module _ {L P S D : Type 0} {d : Ghosts D L P S} where
-  -- the number that its handles have, of draws, of sets and of layouts
+  -- the set in each slot is of the layout that the slot names
+  abbrev pub AreOwn : List (SetLayout L) → List (Slot (DescriptorSet S)) → Type 0
+  AreOwn layouts slots = (p : ℕ) (x : DescriptorSet S) (known : SetLayout L) → (slot_at slots p).set ≡ Some x → slice_get layouts (slot_at slots p).layout ≡ Some known → IsOfLayout d.meaning known.layout x.raw
+
+  -- the sets, the allocator and the device
+  abbrev pub store_of : Renderer L P S D d → Store L P S D d
+  store_of r = r.store
+
+  -- the number that its handles have, of sets and of layouts
   abbrev pub number_of : Renderer L P S D d → ℕ
   number_of r = r.renderer
 
   -- the layouts, in the order in which they were added
   abbrev pub layouts_in : Renderer L P S D d → List (SetLayout L)
   layouts_in r = layouts_of r.layouts
-
-  -- so many layouts fit without an allocation
-  abbrev pub layout_capacity : Renderer L P S D d → ℕ
-  layout_capacity r = capacity_of r.layouts
 
   -- the layout of a handle. None if the renderer did not give the handle
   abbrev pub layout_of : Renderer L P S D d → LayoutHandle → Option (SetLayout L)
@@ -57,36 +60,44 @@ module _ {L P S D : Type 0} {d : Ghosts D L P S} where
   abbrev pub is_open : Renderer L P S D d → Bool
   is_open r = r.is_open
 
-  -- the sets of the open frame
-  abbrev pub drawn_in : Renderer L P S D d → Drawn S
-  drawn_in r = drawn_by r.renderer r.frame r.drawn.items
+  -- the slots of all sets
+  abbrev pub slots_of : Renderer L P S D d → List (Slot (DescriptorSet S))
+  slots_of r = stores.slots_in r.store
 
-  -- the sets that were created and neither freed nor destroyed
-  abbrev pub held_in : Renderer L P S D d → Held S
-  held_in r = held_of r.held
+  -- the sets by handle: those that are held, and those of the open frame
+  abbrev pub sets_by : Renderer L P S D d → Sets (DescriptorSet S)
+  sets_by r = sets_of r.renderer r.frame r.is_open (slots_of r)
 
-  -- the sets that wait for their frame, in the order in which they are freed
-  abbrev pub retired_in : Renderer L P S D d → List (Retired S)
-  retired_in r = retired_of r.manager
+  -- how many sets of a layout are kept
+  abbrev pub kept_of : LayoutHandle → Renderer L P S D d → ℕ
+  kept_of layout r = stores.kept_of layout.place r.store
+
+  -- how many sets of a layout are kept at most
+  abbrev pub most_of : Renderer L P S D d → ℕ
+  most_of r = stores.most_of r.store
 
   -- the ledger of the device
   abbrev pub ledger_in : Renderer L P S D d → Ledger
-  ledger_in r = d.ledger r.device
+  ledger_in r = d.ledger r.store.device
 
   -- the live pools of the device, and those of them that are none of the renderer's
   abbrev pub pools_in : Renderer L P S D d → ℕ → Option Pool
   pools_in r = (ledger_in r).pools
 
   abbrev pub pools_besides : Renderer L P S D d → ℕ → Option Pool
-  pools_besides r = others_of d.meaning.pool_name (allocator_of r.manager) (ledger_in r)
+  pools_besides r = stores.pools_besides r.store
 
   -- the allocator, and the ledger of the device
   abbrev pub side_of : Renderer L P S D d → Side (Allocations P)
-  side_of r = side (allocator_of r.manager) (ledger_in r)
+  side_of r = stores.side_of r.store
 
   -- the limit on update-after-bind descriptors
   abbrev pub limit_of : Renderer L P S D d → ℕ
-  limit_of r = (allocator_of r.manager).limit
+  limit_of r = stores.limit_of r.store
+
+  -- the last frame that the device can be done with, of those up to this one: the open frame is none of them
+  abbrev pub done_of : ℕ → Renderer L P S D d → ℕ
+  done_of frame r = if r.is_open then min frame (r.frame - 1) else frame
 
   -- what stays at a call is said of all of it at once, but for the fields that the call may change
   abbrev pub seen : Renderer L P S D d → Rendering L S
@@ -95,38 +106,25 @@ module _ {L P S D : Type 0} {d : Ghosts D L P S} where
     layouts = layout_of r;
     frame = frame_of r;
     is_open = is_open r;
-    drawn = drawn_in r;
-    held = held_in r;
-    retired = retired_in r;
+    slots = slots_of r;
+    most = most_of r;
     pools_besides = pools_besides r;
     limit = limit_of r;
   }
 
-  -- memory is reserved to retire so many sets more
-  abbrev pub CanRetire : ℕ → Renderer L P S D d → Type 0
-  CanRetire n r = length r.drawn.items + length (sets_in (slots_of r.held)) + n ≤ reserve_of r.manager
+  -- a set of the layout has the handle, which was never given; each other handle names what it named
+  pub record Comes (layout : L) (handle : SetHandle) (old new : Renderer L P S D d) : Type 0 where
+    pub set : DescriptorSet S
+    pub own : IsOfLayout d.meaning layout set.raw
+    pub names : Names handle set (sets_by old) (sets_by new)
 
-  -- a set more can be drawn with, without an allocation of the renderer's own
-  pub record CanDraw (r : Renderer L P S D d) : Type 0 where
-    pub drawn : length r.drawn.items < deque_capacity r.drawn
-    pub retire : CanRetire 1 r
+  -- sets of the layout have the handles, none of which was ever given; each other handle names what it named
+  pub record ComeEach (layout : L) (handles : List SetHandle) (old new : Renderer L P S D d) : Type 0 where
+    pub names : NameEach handles (sets_by old) (sets_by new)
+    pub own : (i : ℕ) (e : SetHandle) (x : DescriptorSet S) → i < length handles → (sets_by new).set (slice_index_or handles i e) ≡ Some x → IsOfLayout d.meaning layout x.raw
 
-  -- so many sets more can be held, without an allocation of the renderer's own
-  pub record CanCreate (n : ℕ) (r : Renderer L P S D d) : Type 0 where
-    pub slots : HasSlots n r.held
-    pub vacant : length (slots_of r.held) + n ≤ vec_capacity r.held.vacant
-    pub going : length (sets_in (slots_of r.held)) + n ≤ deque_capacity r.going
-    pub retire : CanRetire n r
-
-  module _ (layout : L) (count : ℕ) (old new : Renderer L P S D d) where
-    -- the allocator met a request for so many sets of the layout by these
-    abbrev pub IsMetBy : List (DescriptorSet S) → Type 0
-    IsMetBy sets = HandsOut d.meaning (layout_key d.meaning layout) count (Ok sets) (side_of old) (side_of new)
-
-    -- the allocator refused it
-    abbrev pub FailsInAllocator : AllocationError → Type 0
-    FailsInAllocator error = HandsOut d.meaning (layout_key d.meaning layout) count (Err error) (side_of old) (side_of new)
-
-    -- the allocator refused it, or an allocation of the renderer's own failed before it was asked
-    abbrev pub Fails : AllocationError → Type 0
-    Fails error = FailsInAllocator error ⊎ ((error ≡ OutOfHostMemory) × (side_of new ≡ side_of old))
+  -- an allocation failed before the allocator was asked, and nothing changed
+  pub record HasNoMemory (error : AllocationError) (old new : Renderer L P S D d) : Type 0 where
+    pub error : error ≡ OutOfHostMemory
+    pub seen : seen new ≡ seen old
+    pub side : side_of new ≡ side_of old

@@ -1,5 +1,5 @@
 -- What the store of a renderer has: the table of its sets, and the allocator over a device.
-use Rattle.std.specs.Prelude.{◌≡◌, ◌≢◌, ℕ, ◌+◌, ◌<◌, ◌≤◌, ◌⊎◌, true, Bool, List, [], ◌∷◌, length, false, if◌then◌else◌, Option, Result, Ok, Err, Vec}
+use Rattle.std.specs.Prelude.{◌≡◌, ◌≢◌, ℕ, zero, suc, ◌+◌, ◌-◌, ◌<◌, ◌≤◌, ◌⊎◌, ◌||◌, true, not, Bool, List, [], ◌∷◌, length, slice_index_or, false, if◌then◌else◌, is_some, Option, Result, Some, Ok, Err, IsOk, None, Vec, vec_capacity}
 use Rattle.std.specs.declared.alloc.Global.{Global}
 use Rattle.gpu_descriptor_types.specs.Ledger.{Ledger, Pool}
 use Rattle.gpu_descriptor.specs.Caller.Others.{others_of}
@@ -10,14 +10,18 @@ use Rattle.gpu_descriptor.specs.Caller.Call.{layout_key}
 use Rattle.gpu_descriptor.specs.Caller.CleansUp.{CleansUp}
 use Rattle.gpu_descriptor.specs.Caller.Frees.{Returns}
 use Rattle.gpu_descriptor.specs.Caller.HandsOut.{HandsOut}
+use Rattle.gpu_descriptor.specs.Caller.Sets.{AreOfLayout}
 use Rattle.gpu_descriptor.specs.Caller.Values.{Allocations}
 use Rattle.gpu_descriptor.specs.declared.errors.AllocationError.{AllocationError}
 use Rattle.gpu_descriptor.specs.declared.errors.AllocationError.TheVariants.{OutOfHostMemory}
 use Rattle.gpu_descriptor.specs.declared.set.DescriptorSet.{DescriptorSet}
-use Rattle.descriptor_table.specs.Slots.{goes, is_kept_of, slot_at}
-use Rattle.descriptor_table.specs.Tables.{Picks, Puts, Stays, Turns, Vacates, aged, count, is_kept, place_at, lists_of, slots_of, stays, used_for, vacated}
+use Rattle.descriptor_table.specs.Giving.{is_given_back}
+use Rattle.descriptor_table.specs.Sets.{NameEach, Names, sets_of}
+use Rattle.descriptor_table.specs.Slots.{frame_of, is_kept_of, is_live, slot_at}
+use Rattle.descriptor_table.specs.Tables.{Picks, Puts, Renews, Turns, Vacates, aged, count, holds, is_kept, place_at, lists_of, slots_of, stays, used_for, vacated, waits}
 use Rattle.descriptor_table.specs.declared.handle.SetHandle.{SetHandle}
 use Rattle.descriptor_table.specs.declared.slot.Slot.{Slot}
+use Rattle.descriptor_table.specs.declared.slot.Use.{Use}
 use Rattle.descriptor_table.specs.declared.slot.Use.TheVariants.{Kept, Waits}
 use Rattle.descriptor_renderer.specs.declared.store.Store.{Store}
 
@@ -29,6 +33,14 @@ IsBack most new o n = ((n ≡ used_for Kept o) × (stays o ≡ true)) ⊎ ((n �
 abbrev pub MayLeave : {T : Type 0} → List (Slot T) → Slot T → Slot T → Type 0
 MayLeave new o n = (n ≡ o) ⊎ (n ≡ vacated o)
 
+-- whether a slot has no set, or a set that is held, that waits for a frame, or that is kept
+abbrev pub is_placed : {T : Type 0} → Slot T → Bool
+is_placed s = not (is_some s.set) || (holds s || (waits s || is_kept s))
+
+-- no set waits for a later frame
+abbrev pub IsUpTo : {T : Type 0} → ℕ → List (Slot T) → Type 0
+IsUpTo frame slots = (p : ℕ) → frame_of (slot_at slots p) ≤ frame
+
 -- the sets of the handles wait for the frame, and all else is as it was
 pub record WaitEach {T : Type 0} (handles : List SetHandle) (frame : ℕ) (old new : List (Slot T)) : Type 0 where
   pub long : length new ≡ length old
@@ -39,6 +51,37 @@ pub record WaitEach {T : Type 0} (handles : List SetHandle) (frame : ℕ) (old n
 pub record AreCleaned {T : Type 0} (old new : List (Slot T)) : Type 0 where
   pub long : length new ≡ length old
   pub each : (p : ℕ) → p < length old → slot_at new p ≡ (if is_kept (slot_at old p) then vacated (aged (slot_at old p)) else aged (slot_at old p))
+
+-- a set has the handle, which was never given, and is in use for this; each other handle names what it named, in whatever frame
+pub record IsNamed {T : Type 0} (number layout : ℕ) (u : Use) (handle : SetHandle) (old new : List (Slot T)) : Type 0 where
+  pub set : T
+  pub layout : (slot_at new handle.place).layout ≡ layout
+  pub here : (slot_at new handle.place).set ≡ Some set
+  pub names : (frame : ℕ) (opened : Bool) → is_live frame opened u ≡ true → Names handle set (sets_of number frame opened old) (sets_of number frame opened new)
+
+-- whether another set can come to the slot, or a kept one is in it
+abbrev pub is_free : {T : Type 0} → Slot T → Bool
+is_free s = is_kept s || not (is_some s.set)
+
+-- sets that were kept, or came, are held by the next handles of their slots, and all else is as it was
+pub record HoldEach {T : Type 0} (number layout : ℕ) (handles : List SetHandle) (old new : List (Slot T)) : Type 0 where
+  pub apart : (i j : ℕ) → i < j → j < length handles → place_at handles i ≢ place_at handles j
+  pub was : (i : ℕ) → i < length handles → is_free (slot_at old (place_at handles i)) ≡ true
+  pub is : (i : ℕ) (e : SetHandle) → i < length handles → slice_index_or handles i e ≡ record { renderer = number; place = place_at handles i; generation = (slot_at old (place_at handles i)).generation + 1 }
+  pub generation : (i : ℕ) → i < length handles → (slot_at new (place_at handles i)).generation ≡ (slot_at old (place_at handles i)).generation + 1
+  pub layout : (i : ℕ) → i < length handles → (slot_at new (place_at handles i)).layout ≡ layout
+  pub held : (i : ℕ) → i < length handles → holds (slot_at new (place_at handles i)) ≡ true
+  pub rest : (p : ℕ) → ((i : ℕ) → i < length handles → place_at handles i ≢ p) → slot_at new p ≡ slot_at old p
+
+-- so many sets, each held, have handles that were never given
+pub record AreNamed {T : Type 0} (number layout : ℕ) (handles : List SetHandle) (old new : List (Slot T)) : Type 0 where
+  pub layout : (i : ℕ) → i < length handles → (slot_at new (place_at handles i)).layout ≡ layout
+  pub names : (frame : ℕ) (opened : Bool) → NameEach handles (sets_of number frame opened old) (sets_of number frame opened new)
+
+-- how many lists a table has for so many layouts
+abbrev pub lists_for : ℕ → ℕ
+lists_for zero = 0
+lists_for (suc n) = n + 3
 
 module _ {L P S D : Type 0} {d : Ghosts D L P S} where
   abbrev pub slots_in : Store L P S D d → List (Slot (DescriptorSet S))
@@ -71,23 +114,54 @@ module _ {L P S D : Type 0} {d : Ghosts D L P S} where
   abbrev pub HasLayout : ℕ → Store L P S D d → Type 0
   HasLayout layout s = layout + 2 < lists_in s
 
+  -- a layout more fits without an allocation
+  abbrev pub HasListRoom : Store L P S D d → Type 0
+  HasListRoom s = lists_in s + 3 ≤ vec_capacity s.table.chains
+
   -- the sets that a request has before they are in the table
   abbrev pub coming_in : Store L P S D d → Vec (DescriptorSet S) Global
   coming_in s = s.coming
 
-  -- number, layouts, the most that is kept, and memory of the table are as they were
-  abbrev pub TableStays : Store L P S D d → Store L P S D d → Type 0
-  TableStays old new = Stays old.table new.table
-
-  -- the sets that go were given back, in one call, or there were none
-  pub record GivesBack (old new : Store L P S D d) : Type 0 where
-    pub sets : List (DescriptorSet S)
-    pub returns : Returns d.meaning sets (side_of old) (side_of new)
-    pub turns : Turns goes Vacates (slots_in old) (slots_in new)
-
   -- the live pools of the device that are none of the allocator's
   abbrev pub pools_besides : Store L P S D d → ℕ → Option Pool
   pools_besides s = others_of d.meaning.pool_name s.allocator (d.ledger s.device)
+
+  -- how many sets of the layout are kept
+  abbrev pub kept_of : ℕ → Store L P S D d → ℕ
+  kept_of layout s = count (is_kept_of layout) (slots_in s)
+
+  -- no set is on its way, and each is held, waits for a frame, or is kept
+  pub record IsAtRest (s : Store L P S D d) : Type 0 where
+    pub none_coming : (coming_in s).items ≡ []
+    pub placed : (p : ℕ) → is_placed (slot_at (slots_in s) p) ≡ true
+
+  -- number, lists, and what is none of the allocator's are as they were, and as many sets are kept at most as this
+  pub record StoreStays (most : ℕ) (old new : Store L P S D d) : Type 0 where
+    pub number : number_of new ≡ number_of old
+    pub lists : lists_in new ≡ lists_in old
+    pub limit : limit_of new ≡ limit_of old
+    pub besides : pools_besides new ≡ pools_besides old
+    pub most : most_of new ≡ most
+
+  -- each set was in its slot before, under its layout, or passes the test; none is on its way, and none waits for a frame later than before, and than this one
+  pub record Settles (comes : ℕ → DescriptorSet S → Type 0) (frame : ℕ) (old new : Store L P S D d) : Type 0 where
+    pub sets : (p : ℕ) (x : DescriptorSet S) → (slot_at (slots_in new) p).set ≡ Some x → (((slot_at (slots_in old) p).set ≡ Some x) × ((slot_at (slots_in new) p).layout ≡ (slot_at (slots_in old) p).layout)) ⊎ comes (slot_at (slots_in new) p).layout x
+    pub rest : IsAtRest new
+    pub frames : (f : ℕ) → frame ≤ f → IsUpTo f (slots_in old) → IsUpTo f (slots_in new)
+
+  -- no set comes
+  abbrev pub NoneComes : ℕ → DescriptorSet S → Type 0
+  NoneComes layout x = ⊥
+
+  -- only sets of this layout come
+  abbrev pub ComesOf : L → ℕ → ℕ → DescriptorSet S → Type 0
+  ComesOf layout number other x = (other ≡ number) × IsOfLayout d.meaning layout x.raw
+
+  -- the sets that are given back left their slots, in one call, or there were none
+  pub record GivesBack (due : Option ℕ) (old new : Store L P S D d) : Type 0 where
+    pub sets : List (DescriptorSet S)
+    pub returns : Returns d.meaning sets (side_of old) (side_of new)
+    pub turns : Turns (is_given_back due) Vacates (slots_in old) (slots_in new)
 
   -- sets were given back, and then empty pools went
   pub record Cleans (old new : Store L P S D d) : Type 0 where
@@ -96,6 +170,24 @@ module _ {L P S D : Type 0} {d : Ghosts D L P S} where
     pub returns : Returns d.meaning sets (side_of old) mid
     pub cleans : CleansUp d.meaning mid (side_of new)
 
+  -- the allocator refused so many sets, or an allocation of the table's own failed before it was asked. All slots are as they were
+  pub record IsRefused (layout : L) (many : ℕ) (error : AllocationError) (old new : Store L P S D d) : Type 0 where
+    pub slots : slots_in new ≡ slots_in old
+    pub why : HandsOut d.meaning (layout_key d.meaning layout) many (Err error) (side_of old) (side_of new) ⊎ ((error ≡ OutOfHostMemory) × (side_of new ≡ side_of old))
+
+  -- so many sets were refused, and then all kept sets were given back, and empty pools went
+  pub record IsCleared (layout : L) (many : ℕ) (old new : Store L P S D d) : Type 0 where
+    pub refused : Store L P S D d
+    pub error : AllocationError
+    pub first : IsRefused layout many error old refused
+    pub cleaned : AreCleaned (slots_in refused) (slots_in new)
+    pub cleans : Cleans refused new
+
+  -- no set is kept, and so many sets were refused, after which it was asked for this many
+  pub record IsRefusedAtLast (layout : L) (first last : ℕ) (error : AllocationError) (old new : Store L P S D d) : Type 0 where
+    pub none : count is_kept (slots_in new) ≡ 0
+    pub why : IsRefused layout first error old new ⊎ ((mid : Store L P S D d) × IsCleared layout first old mid × IsRefused layout last error mid new)
+
   -- a set of the layout came from the allocator, and is at the place
   pub record Gets (layout : L) (number place : ℕ) (old new : Store L P S D d) : Type 0 where
     pub set : DescriptorSet S
@@ -103,19 +195,19 @@ module _ {L P S D : Type 0} {d : Ghosts D L P S} where
     pub own : IsOfLayout d.meaning layout set.raw
     pub hands_out : HandsOut d.meaning (layout_key d.meaning layout) 1 (Ok (set ∷ [])) (side_of old) (side_of new)
 
-  -- the allocator refused a set, or an allocation of the table's own failed before it was asked. The table is as it was
-  pub record IsRefused (layout : L) (error : AllocationError) (old new : Store L P S D d) : Type 0 where
-    pub slots : slots_in new ≡ slots_in old
-    pub why : HandsOut d.meaning (layout_key d.meaning layout) 1 (Err error) (side_of old) (side_of new) ⊎ ((error ≡ OutOfHostMemory) × (side_of new ≡ side_of old))
-
   -- a set came from the allocator, at once, or after all kept sets were given back
   abbrev pub GetsAtLast : L → ℕ → ℕ → Store L P S D d → Store L P S D d → Type 0
-  GetsAtLast layout number place old new = Gets layout number place old new ⊎ ((refused mid : Store L P S D d) × (error : AllocationError) × IsRefused layout error old refused × AreCleaned (slots_in refused) (slots_in mid) × Cleans refused mid × Gets layout number place mid new)
+  GetsAtLast layout number place old new = Gets layout number place old new ⊎ ((mid : Store L P S D d) × IsCleared layout 1 old mid × Gets layout number place mid new)
 
-  -- no set is kept, and the allocator refused
-  pub record IsRefusedAtLast (layout : L) (error : AllocationError) (old new : Store L P S D d) : Type 0 where
-    pub none : (p : ℕ) → is_kept (slot_at (slots_in new) p) ≡ false
-    pub last : IsRefused layout error old new ⊎ ((refused mid : Store L P S D d) × (first : AllocationError) × IsRefused layout first old refused × AreCleaned (slots_in refused) (slots_in mid) × Cleans refused mid × IsRefused layout error mid new)
+  -- a new set has the handle, and is in use for this
+  abbrev pub HandlesNew : L → ℕ → Use → SetHandle → Store L P S D d → Store L P S D d → Type 0
+  HandlesNew layout number u handle old new = (mid : Store L P S D d) × GetsAtLast layout number handle.place old mid × Renews (number_of old) handle.place u handle (slots_in mid) (slots_in new) × (side_of new ≡ side_of mid)
+
+  -- a kept set of the layout has the handle, and is in use for this. The device isn't called
+  pub record HandlesKept (number : ℕ) (u : Use) (handle : SetHandle) (old new : Store L P S D d) : Type 0 where
+    pub was : is_kept_of number (slot_at (slots_in old) handle.place) ≡ true
+    pub renews : Renews (number_of old) handle.place u handle (slots_in old) (slots_in new)
+    pub side : side_of new ≡ side_of old
 
   -- a kept set of the layout was taken, without a call of the device
   pub record TakesKept (number : ℕ) (result : Result ℕ AllocationError) (old new : Store L P S D d) : Type 0 where
@@ -123,6 +215,16 @@ module _ {L P S D : Type 0} {d : Ghosts D L P S} where
     pub is : result ≡ Ok place
     pub picks : Picks (is_kept_of number) place (slots_in old) (slots_in new)
     pub side : side_of new ≡ side_of old
+
+  -- so many sets of the layout came from the allocator, and are on their way to their slots
+  pub record Asks (layout : L) (many : ℕ) (old new : Store L P S D d) : Type 0 where
+    pub slots : slots_in new ≡ slots_in old
+    pub own : AreOfLayout d.meaning layout (coming_in new).items
+    pub hands_out : HandsOut d.meaning (layout_key d.meaning layout) many (Ok (coming_in new).items) (side_of old) (side_of new)
+
+  -- so many sets came from the allocator, at once, or, after all kept sets were given back, as many as all
+  abbrev pub AsksAtLast : L → ℕ → ℕ → Store L P S D d → Store L P S D d → Type 0
+  AsksAtLast layout first last old new = Asks layout first old new ⊎ ((mid : Store L P S D d) × IsCleared layout first old mid × Asks layout last mid new)
 
   -- the sets that pass the test came back, and those that are not kept were given back in one call, if there were any
   pub record ComeBack (test : Slot (DescriptorSet S) → Bool) (old new : Store L P S D d) : Type 0 where
@@ -141,5 +243,13 @@ module _ {L P S D : Type 0} {d : Ghosts D L P S} where
   -- kept sets were given back in one call, if there were any, and all else is as it was
   pub record Trims (old new : Store L P S D d) : Type 0 where
     pub turns : Turns is_kept MayLeave (slots_in old) (slots_in new)
+    pub sets : List (DescriptorSet S)
+    pub returns : Returns d.meaning sets (side_of old) (side_of new)
+
+  -- all sets were given back in one call, if there were any, and no handle is given again
+  pub record FreesAll (old new : Store L P S D d) : Type 0 where
+    pub long : length (slots_in new) ≡ length (slots_in old)
+    pub none : (p : ℕ) → (slot_at (slots_in new) p).set ≡ None
+    pub given : (p : ℕ) → (slot_at (slots_in new) p).generation ≡ (slot_at (slots_in old) p).generation
     pub sets : List (DescriptorSet S)
     pub returns : Returns d.meaning sets (side_of old) (side_of new)

@@ -1,6 +1,6 @@
 //! Layouts under handles.
 ghost use Rattle.std.specs.Prelude.{◌≡◌, ◌++◌, [], ◌∷◌, All, length, IfErr, IfOk, IfSome, None};
-ghost use Rattle.std.specs.Prelude.{◌<◌, IsOk, OnErr, OnOk, Some};
+ghost use Rattle.std.specs.Prelude.{OnErr, OnOk, Some};
 ghost use Rattle.std.specs.Option.{option_copied};
 ghost use Rattle.gpu_descriptor.specs.Caller.SetLayouts.{IsMeant};
 
@@ -14,10 +14,11 @@ use std::vec::Vec;
 #[derive(Clone, Copy, Debug, PartialEq, Eq, Hash)]
 pub struct LayoutHandle {
     pub(crate) registry: u64,
-    pub(crate) place: usize,
+    pub(crate) place: u32,
 }
 
-/// The layouts of a device, each under a handle. No layout is ever taken out.
+/// The layouts of a device, each under a handle. No layout is ever taken out. There are at most
+/// `u32::MAX`.
 ///
 /// A handle of another registry is refused by the number that the registry was made with: give
 /// each registry of a program a number of its own. Under equal numbers a handle of one registry
@@ -31,14 +32,13 @@ pub struct LayoutRegistry<L, P, S, D: DescriptorDevice<L, P, S>> {
 }
 
 impl<L, P, S, D: DescriptorDevice<L, P, S>> LayoutRegistry<L, P, S, D> {
-    ghost use Rattle.descriptor_renderer.specs.LayoutRegistries.{capacity_of, layout_at};
+    ghost use Rattle.descriptor_renderer.specs.LayoutRegistries.{layout_at};
     ghost use Rattle.descriptor_renderer.specs.LayoutRegistries.{layouts_of, registry_of};
     ghost use Rattle.gpu_descriptor.specs.declared.layout.SetLayout.{SetLayout};
     ghost use Rattle.descriptor_renderer.specs.declared.layout_registry.LayoutHandle.{LayoutHandle};
 
     /// A registry without layouts, with the number that tells it from others. It allocates nothing.
     pub fn new(alloc: Global, registry: u64) -> Self
-        ensures no_memory { capacity_of result ≡ 0 }
         ensures layouts { layouts_of result ≡ [] }
         ensures registry { registry_of result ≡ registry }
     {
@@ -58,14 +58,16 @@ impl<L, P, S, D: DescriptorDevice<L, P, S>> LayoutRegistry<L, P, S, D> {
         ensures fresh { IfOk result (λ handle. layout_at self.old handle ≡ None) }
         ensures kept { (handle : LayoutHandle) (known : SetLayout L) → layout_at self.old handle
             ≡ Some known → layout_at self.new handle ≡ Some known }
-        ensures fits { length (layouts_of self.old) < capacity_of self.old → IsOk result }
         ensures stay { OnErr result (layouts_of self.new ≡ layouts_of self.old) }
         ensures back { IfErr result (λ failed. failed.value ≡ layout) }
         ensures registry { registry_of self.new ≡ registry_of self.old }
     {
+        if self.layouts.len() >= u32::MAX as usize {
+            return Err(AllocFailed { value: layout });
+        }
         let handle = LayoutHandle {
             registry: self.registry,
-            place: self.layouts.len(),
+            place: self.layouts.len() as u32,
         };
         match self.layouts.push(layout) {
             Ok(()) => Ok(handle),
@@ -81,7 +83,7 @@ impl<L, P, S, D: DescriptorDevice<L, P, S>> LayoutRegistry<L, P, S, D> {
         if handle.registry != self.registry {
             return None;
         }
-        self.layouts.get(handle.place)
+        self.layouts.get(handle.place as usize)
     }
 
     /// The layouts, in the order in which they came.

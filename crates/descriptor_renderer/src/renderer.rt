@@ -1,43 +1,54 @@
 //! The renderer: layouts that are added as it runs, sets of a frame, and sets that are held.
-ghost use Rattle.std.specs.Prelude.{◌≡◌, ◌+◌, ◌<◌, ◌≤◌, ◌++◌, [], ◌∷◌, length, option_map};
-ghost use Rattle.std.specs.Prelude.{IfErr, IfOk, IsOk, None, OnErr, OnOk, Some, false};
+ghost use Rattle.std.specs.Prelude.{◌≡◌, ◌≤◌, ◌++◌, [], ◌∷◌, length};
+ghost use Rattle.std.specs.Prelude.{IfErr, IfOk, IsSome, None, OnErr, OnOk, Some, false};
 ghost use Rattle.std.specs.Option.{option_copied};
-ghost use Rattle.std.specs.VecDeque.{deque_capacity};
-ghost use Rattle.gpu_descriptor.specs.Caller.CleansUp.{CleansUp};
 ghost use Rattle.gpu_descriptor.specs.Caller.SetLayouts.{IsMeant};
-ghost use Rattle.gpu_descriptor.specs.Caller.Sets.{raw_of};
-ghost use Rattle.gpu_descriptor.specs.Caller.States.{Agrees, outstanding_of};
-ghost use Rattle.gpu_descriptor.proofs.callers.OneAgreement.{Agrees-prop};
-ghost use Rattle.descriptor_frames.specs.Frames.{AreBothInUse, AreRetiredOut, allocator_of};
-ghost use Rattle.descriptor_frames.specs.Frames.{greatest_of, reserve_of, retired_of};
-ghost use Rattle.descriptor_renderer.specs.HeldSets.{sets_in};
-ghost use Rattle.descriptor_renderer.specs.LayoutRegistries.{registry_of};
+ghost use Rattle.descriptor_table.specs.Sets.{KeepNames};
+ghost use Rattle.descriptor_table.specs.Tables.{count, holds, is_kept, waits};
+ghost use Rattle.descriptor_renderer.specs.LayoutRegistries.{layouts_of, registry_of};
+ghost use Rattle.descriptor_renderer.specs.Renderers.{AreOwn};
+ghost use Rattle.descriptor_renderer.specs.Stores.{AreCleaned, Cleans, IsAtRest, IsUpTo, Trims};
+ghost use Rattle.descriptor_renderer.specs.Stores.{lists_for, lists_in, slots_in};
+ghost use Rattle.descriptor_renderer.specs.Stores as stores;
 
 mod frames;
 mod sets;
 
-use crate::held_sets::HeldSets;
 use crate::layout_registry::{LayoutHandle, LayoutRegistry};
-use descriptor_frames::FrameManager;
-use gpu_descriptor::{DescriptorDevice, DescriptorSet, SetLayout};
+use crate::store::Store;
+use gpu_descriptor::{DescriptorDevice, SetLayout};
 use std::alloc::{AllocFailed, Global};
-use std::collections::VecDeque;
-use std::vec::Vec;
+
+/// How many sets a renderer has.
+#[derive(Clone, Copy, Debug, PartialEq, Eq)]
+pub struct Counts {
+    /// Sets that are held.
+    pub held: u64,
+
+    /// Sets that wait for a frame, those of the open frame among them.
+    pub waiting: u64,
+
+    /// Sets that are kept.
+    pub kept: u64,
+}
 
 /// The descriptor sets of a renderer, over a device that it owns.
 ///
 /// A frame is opened by `begin_frame`, takes any number of sets by `draw`, and is ended by
-/// `end_frame`. Its sets are freed once `gpu_done` is called with the frame or a later one; frames in
+/// `end_frame`. Its sets come back once `gpu_done` is called with the frame or a later one; frames in
 /// between may be in flight. A set by `create_set` or `create_sets` is held until it is freed at once
-/// by `free_sets`, or destroyed by `destroy_set` or `destroy_sets`: then it is freed by the next
-/// `gpu_done` of the frame of its last use or a later one. Memory to free a set is reserved before the set is asked for, so all of these
-/// but `draw`, `create_set` and `create_sets` allocate nothing.
+/// by `free_sets`, or destroyed by `destroy_set` or `destroy_sets`: then it comes back at the next
+/// `gpu_done` of the frame of its last use or a later one.
+///
+/// A set that comes back is kept, as long as no more of its layout are kept than `set_keep` says, at
+/// first all. Kept sets are handed out again before the device is asked for a new one. They have the
+/// contents that they had. `cleanup` gives them back. Only `draw`, `create_set`, `create_sets` and
+/// `add_layout` allocate.
 ///
 /// The raw set of a handle is borrowed, as the device is, to be written and bound. Do not allocate or
 /// free on the device in the meantime: only the renderer does.
 #[derive(Drop)]
 pub struct Renderer<L, P, S, D: DescriptorDevice<L, P, S>> {
-    manager: FrameManager<P, S>,
     layouts: LayoutRegistry<L, P, S, D>,
 
     /// The number that tells the renderer's handles from those of others.
@@ -45,80 +56,50 @@ pub struct Renderer<L, P, S, D: DescriptorDevice<L, P, S>> {
     frame: u64,
     is_open: bool,
 
-    /// The sets of the open frame.
-    drawn: VecDeque<DescriptorSet<S>>,
-    held: HeldSets<S>,
-
-    /// Sets of a batch before they have handles, during a call.
-    coming: Vec<DescriptorSet<S>>,
-
-    /// Held sets on their way back, during a call.
-    going: VecDeque<DescriptorSet<S>>,
-
-    /// The last field, as it is dropped last.
-    device: D,
-    ghost agree: { Agrees D.meaning.pool_name (allocator_of manager) (D.ledger device) } by { Agrees-prop D.meaning.pool_name (allocator_of manager) (D.ledger device) },
-    ghost retired: { AreRetiredOut D.meaning.pool_name D.meaning.set_name manager
-        (D.ledger device) },
-    ghost used: { AreBothInUse D.meaning.pool_name D.meaning.set_name
-        (sets_in held.slots.items) drawn.items manager (D.ledger device) },
-    ghost accounted: { outstanding_of (allocator_of manager) ≡ length drawn.items
-        + length (sets_in held.slots.items) + length (retired_of manager) },
-    ghost reserve: { length drawn.items + length (sets_in held.slots.items)
-        ≤ reserve_of manager },
-    ghost rising: { greatest_of manager ≤ frame },
-    ghost numbers_sets: { held.renderer ≡ renderer },
+    /// The last field, as the device in it is dropped last.
+    store: Store<L, P, S, D>,
+    ghost rest: { IsAtRest store },
+    ghost own: { AreOwn {d = D} (layouts_of layouts) (slots_in store) },
+    ghost rising: { IsUpTo frame (slots_in store) },
+    ghost lists: { lists_in store ≡ lists_for (length (layouts_of layouts)) },
+    ghost numbers_sets: { stores.number_of store ≡ renderer },
     ghost numbers_layouts: { registry_of layouts ≡ renderer },
-    ghost idle: { is_open ≡ false → drawn.items ≡ [] },
-    ghost none_coming: { coming.items ≡ [] },
-    ghost none_going: { going.items ≡ [] },
-    ghost can_go: { length (sets_in held.slots.items) ≤ deque_capacity going },
 }
 
 impl<L: Drop, P: Drop, S: Drop, D: DescriptorDevice<L, P, S>> Renderer<L, P, S, D> {
     ghost use Rattle.gpu_descriptor.specs.declared.layout.SetLayout.{SetLayout};
     ghost use Rattle.descriptor_renderer.specs.declared.layout_registry.LayoutHandle.{LayoutHandle};
-    ghost use Rattle.descriptor_renderer.specs.declared.handles.SetHandle.{SetHandle};
-    ghost use Rattle.descriptor_renderer.specs.Renderers.{drawn_in, frame_of, number_of};
-    ghost use Rattle.descriptor_renderer.specs.Renderers.{held_in, is_open, layout_capacity};
-    ghost use Rattle.descriptor_renderer.specs.Renderers.{layout_of, layouts_in, ledger_in};
-    ghost use Rattle.descriptor_renderer.specs.Renderers.{limit_of, pools_besides, pools_in};
-    ghost use Rattle.descriptor_renderer.specs.Renderers.{retired_in, seen, side_of};
+    ghost use Rattle.descriptor_renderer.specs.Renderers.{frame_of, is_open, kept_of, layout_of};
+    ghost use Rattle.descriptor_renderer.specs.Renderers.{layouts_in, ledger_in, limit_of, most_of};
+    ghost use Rattle.descriptor_renderer.specs.Renderers.{number_of, pools_besides, pools_in, seen};
+    ghost use Rattle.descriptor_renderer.specs.Renderers.{sets_by, side_of, slots_of, store_of};
 
     /// A renderer over a device, without layouts, sets and an open frame. It allocates nothing.
     ///
     /// `limit` is the driver's, on the update-after-bind descriptors of all pools. By `renderer` its
     /// handles are told from those of other renderers: give each of a program a number of its own.
-    #[tactic(auto, unfolding(crate::specs::DrawnSets::drawn_by, crate::specs::HeldSets::held_by))]
     pub fn new(alloc: Global, device: D, limit: u32, renderer: u64) -> Self
         ensures layouts { (handle : LayoutHandle) → layout_of result handle ≡ None }
         ensures frame { frame_of result ≡ 0 }
         ensures open { is_open result ≡ false }
-        ensures drawn { (drawn_in result).all ≡ [] }
-        ensures held { (held_in result).all ≡ [] }
-        ensures given { (handle : SetHandle) → (held_in result).given handle ≡ false }
-        ensures retired { retired_in result ≡ [] }
+        ensures slots { slots_of result ≡ [] }
+        ensures most { most_of result ≡ u32.MAX }
         ensures pools { pools_besides result ≡ (D.ledger device).pools }
         ensures limit { limit_of result ≡ limit }
         ensures ledger { ledger_in result ≡ D.ledger device }
         ensures number { number_of result ≡ renderer }
     {
         Renderer {
-            device,
-            manager: FrameManager::new(alloc, limit),
+            store: Store::new(alloc, device, limit, renderer),
             layouts: LayoutRegistry::new(alloc, renderer),
             renderer,
             frame: 0,
             is_open: false,
-            drawn: VecDeque::new(alloc),
-            held: HeldSets::new(alloc, renderer),
-            coming: Vec::new(alloc),
-            going: VecDeque::new(alloc),
         }
     }
 
-    /// Adds a layout, and returns its handle. If an allocation fails the layout is returned, and
-    /// nothing changed.
+    /// Adds a layout, and returns its handle. If an allocation fails, or if there are `u32::MAX`, the
+    /// layout is returned, and nothing changed.
     pub fn add_layout(
         &mut self,
         layout: SetLayout<L>,
@@ -129,25 +110,48 @@ impl<L: Drop, P: Drop, S: Drop, D: DescriptorDevice<L, P, S>> Renderer<L, P, S, 
         ensures fresh { IfOk result (λ handle. layout_of self.old handle ≡ None) }
         ensures kept { (handle : LayoutHandle) (known : SetLayout L) → layout_of self.old handle
             ≡ Some known → layout_of self.new handle ≡ Some known }
-        ensures fits { length (layouts_in self.old) < layout_capacity self.old → IsOk result }
         ensures stay { OnErr result (layouts_in self.new ≡ layouts_in self.old) }
         ensures back { IfErr result (λ failed. failed.value ≡ layout) }
         ensures rest { seen self.new ≡ record (seen self.old) { layouts = layout_of self.new } }
         ensures device { side_of self.new ≡ side_of self.old }
     {
-        self.layouts.add(layout)
+        if self.store.reserve_layout().is_err() {
+            return Err(AllocFailed { value: layout });
+        }
+        match self.layouts.add(layout) {
+            Ok(handle) => {
+                self.store.add_layout();
+                Ok(handle)
+            }
+            Err(failed) => Err(failed),
+        }
     }
 
-    /// Destroys the oldest pools of each key up to the first that has a set, the last pool too. Call
-    /// it between levels, or when memory is short.
-    #[tactic(auto, unfolding(crate::specs::DrawnSets::drawn_by, crate::specs::HeldSets::held_by))]
+    /// Gives all kept sets back, and destroys the oldest pools of each key up to the first that has a
+    /// set, the last pool too. Sets that are in use aren't kept when they come back. Call it between
+    /// levels, or when memory is short.
     pub fn cleanup(&mut self)
-        ensures emptied { length (drawn_in self.old).all + length (held_in self.old).all
-            + length (retired_in self.old) ≡ 0 → pools_in self.new ≡ pools_besides self.old }
-        ensures cleans_up { CleansUp D.meaning (side_of self.old) (side_of self.new) }
-        ensures rest { seen self.new ≡ seen self.old }
+        ensures emptied { count holds (slots_of self.old) ≡ 0 → count waits (slots_of self.old) ≡ 0
+            → pools_in self.new ≡ pools_besides self.old }
+        ensures none_kept { count is_kept (slots_of self.new) ≡ 0 }
+        ensures names { KeepNames (sets_by self.old) (sets_by self.new) }
+        ensures cleaned { AreCleaned (slots_of self.old) (slots_of self.new) }
+        ensures cleans { Cleans (store_of self.old) (store_of self.new) }
+        ensures rest { seen self.new ≡ record (seen self.old) { slots = slots_of self.new } }
     {
-        self.manager.cleanup(&mut self.device);
+        self.store.cleanup();
+    }
+
+    /// Keeps at most so many sets of a layout from now on. Those above are given back.
+    pub fn set_keep(&mut self, most: u32)
+        ensures most { most_of self.new ≡ most }
+        ensures few { (layout : LayoutHandle) → kept_of layout self.new ≤ most }
+        ensures names { KeepNames (sets_by self.old) (sets_by self.new) }
+        ensures trims { Trims (store_of self.old) (store_of self.new) }
+        ensures rest { seen self.new ≡ record (seen self.old)
+            { slots = slots_of self.new; most = most } }
+    {
+        self.store.set_keep(most);
     }
 
     /// The layout of a handle. None under a handle of another renderer.
@@ -168,7 +172,7 @@ impl<L: Drop, P: Drop, S: Drop, D: DescriptorDevice<L, P, S>> Renderer<L, P, S, 
     pub fn device(&self) -> &D
         ensures { D.ledger result.now ≡ ledger_in self.now }
     {
-        &self.device
+        self.store.device()
     }
 
     /// The frame that was opened last, 0 before the first.
@@ -185,36 +189,29 @@ impl<L: Drop, P: Drop, S: Drop, D: DescriptorDevice<L, P, S>> Renderer<L, P, S, 
         self.is_open
     }
 
-    /// How many sets the open frame has.
-    #[tactic(auto, unfolding(crate::specs::DrawnSets::drawn_by, crate::specs::HeldSets::held_by))]
-    pub fn drawn_count(&self) -> usize
-        ensures { result ≡ length (drawn_in self.now).all }
+    /// How many sets are held, how many wait, and how many are kept. It goes over the layouts, and over
+    /// the frames that sets wait for.
+    pub fn counts(&self) -> Counts
+        ensures held { result.held ≡ count holds (slots_of self.now) }
+        ensures waiting { result.waiting ≡ count waits (slots_of self.now) }
+        ensures kept { result.kept ≡ count is_kept (slots_of self.now) }
     {
-        self.drawn.len()
+        Counts {
+            held: self.store.held(),
+            waiting: self.store.waiting(),
+            kept: self.store.kept(),
+        }
     }
 
-    /// How many sets are held.
-    #[tactic(auto, unfolding(crate::specs::DrawnSets::drawn_by, crate::specs::HeldSets::held_by))]
-    pub fn held_count(&self) -> usize
-        ensures { result ≡ length (held_in self.now).all }
+    /// How many sets of a layout are kept. 0 under a handle of another renderer.
+    pub fn kept_count(&self, layout: LayoutHandle) -> u32
+        ensures kept { IsSome (layout_of self.now layout) → result ≡ kept_of layout self.now }
+        ensures none { layout_of self.now layout ≡ None → result ≡ 0 }
     {
-        self.held.len()
-    }
-
-    /// How many sets wait for their frame.
-    pub fn retired_count(&self) -> u64
-        ensures { result ≡ length (retired_in self.now) }
-    {
-        self.manager.retired()
-    }
-
-    /// How many sets are outstanding: of the open frame, held, or retired.
-    #[tactic(auto, unfolding(crate::specs::DrawnSets::drawn_by, crate::specs::HeldSets::held_by))]
-    pub fn outstanding(&self) -> u64
-        ensures { result ≡ length (drawn_in self.now).all + length (held_in self.now).all
-            + length (retired_in self.now) }
-    {
-        self.manager.outstanding()
+        match self.layouts.get(layout) {
+            Some(_) => self.store.kept_count(layout.place),
+            None => 0,
+        }
     }
 
     /// Frees all sets, destroys all pools, and hands the device back. It can't be refused. The
@@ -233,17 +230,12 @@ impl<L: Drop, P: Drop, S: Drop, D: DescriptorDevice<L, P, S>> Renderer<L, P, S, 
         ensures { D.ledger result ≡ ledger_in self }
     {
         let Renderer {
-            device,
-            manager: _,
             layouts: _,
             renderer: _,
             frame: _,
             is_open: _,
-            drawn: _,
-            held: _,
-            coming: _,
-            going: _,
+            store,
         } = self;
-        device
+        store.into_device()
     }
 }

@@ -1,31 +1,36 @@
 //! The table of a renderer's sets over an allocator and a device.
-ghost use Rattle.std.specs.Prelude.{◌≡◌, ℕ, ◌+◌, ◌<◌, ◌≤◌, [], ◌↔◌, length, false, IfErr, IfOk, IsFalse, IsTrue};
-ghost use Rattle.gpu_descriptor.specs.Caller.SetLayouts.{IsMeant};
-ghost use Rattle.gpu_descriptor.specs.Caller.Keeps.{Keeps};
+ghost use Rattle.std.specs.Prelude.{◌≡◌, ℕ, ◌+◌, ◌<◌, ◌≤◌, [], length, OnOk, vec_capacity, option_map};
+ghost use Rattle.std.specs.Option.{option_copied};
+ghost use Rattle.gpu_descriptor.specs.Caller.Sets.{raw_of};
 ghost use Rattle.gpu_descriptor.specs.Caller.States.{Agrees, outstanding_of, state_of};
 ghost use Rattle.gpu_descriptor.proofs.callers.OneAgreement.{Agrees-prop};
-ghost use Rattle.descriptor_table.specs.Sets.{sets_in};
-ghost use Rattle.descriptor_table.specs.Tables.{slots_of};
+ghost use Rattle.descriptor_table.specs.Sets.{find, sets_in};
+ghost use Rattle.descriptor_table.specs.Slots.{slot_at};
+ghost use Rattle.descriptor_table.specs.Tables.{count, holds, is_kept, lists_with, slots_of, waits};
 ghost use Rattle.descriptor_renderer.specs.Exact.{AreExactly};
 
-use descriptor_table::{Giving, SetHandle, SetTable};
-use gpu_descriptor::{
-    AllocationError, DescriptorAllocator, DescriptorDevice, DescriptorSet, SetLayout,
-};
-use std::alloc::Global;
+mod back;
+mod batch;
+mod take;
+
+use descriptor_table::{SetHandle, SetTable};
+use gpu_descriptor::{DescriptorAllocator, DescriptorDevice, DescriptorSet};
+use std::alloc::{AllocError, Global};
 use std::marker::PhantomData;
 use std::vec::Vec;
 
 /// The sets of a renderer, an allocator and a device. What the allocator handed out is in the table.
 #[derive(Drop)]
-pub struct Store<L, P, S, D: DescriptorDevice<L, P, S>> {
-    pub(crate) device: D,
-    pub(crate) allocator: DescriptorAllocator<P, S>,
-    pub(crate) table: SetTable<DescriptorSet<S>>,
+pub(crate) struct Store<L, P, S, D: DescriptorDevice<L, P, S>> {
+    allocator: DescriptorAllocator<P, S>,
+    table: SetTable<DescriptorSet<S>>,
 
     /// Sets of a request before they are in the table, during a call.
-    pub(crate) coming: Vec<DescriptorSet<S>>,
-    pub(crate) layout: PhantomData<L>,
+    coming: Vec<DescriptorSet<S>>,
+    layout: PhantomData<L>,
+
+    /// The last field, as it is dropped last.
+    device: D,
     ghost agree: { Agrees D.meaning.pool_name allocator (D.ledger device) } by { Agrees-prop
         D.meaning.pool_name allocator (D.ledger device) },
     ghost exact: { AreExactly D.meaning.set_name (slots_of table) coming.items
@@ -35,24 +40,21 @@ pub struct Store<L, P, S, D: DescriptorDevice<L, P, S>> {
 }
 
 impl<L: Drop, P: Drop, S: Drop, D: DescriptorDevice<L, P, S>> Store<L, P, S, D> {
-    ghost use Rattle.descriptor_table.specs.Slots.{goes, is_due, is_kept_of, slot_at};
-    ghost use Rattle.descriptor_table.specs.Sets.{AreHeldOnce};
-    ghost use Rattle.descriptor_table.specs.Tables.{count, is_taken};
-    ghost use Rattle.descriptor_renderer.specs.Stores.{AreCleaned, Cleans, ComeBack, FreesEach, Gets};
-    ghost use Rattle.descriptor_renderer.specs.Stores.{GetsAtLast, GivesBack, IsRefused, IsRefusedAtLast};
-    ghost use Rattle.descriptor_renderer.specs.Stores.{TableStays, TakesKept, Trims, WaitEach, coming_in};
-    ghost use Rattle.descriptor_renderer.specs.Stores.{ledger_of, limit_of, lists_in, most_of, number_of};
-    ghost use Rattle.descriptor_renderer.specs.Stores.{HasLayout, pools_besides, side_of, slots_in};
+    ghost use Rattle.descriptor_renderer.specs.Stores.{HasListRoom, IsAtRest, StoreStays, coming_in, kept_of, ledger_of};
+    ghost use Rattle.descriptor_renderer.specs.Stores.{limit_of, lists_in, most_of, number_of};
+    ghost use Rattle.descriptor_renderer.specs.Stores.{pools_besides, side_of, slots_in};
 
     /// No sets and no layouts, for the renderer of this number, over a new allocator with this limit on
     /// update-after-bind descriptors. It allocates nothing.
-    pub fn new(alloc: Global, device: D, limit: u32, number: u64) -> Self
+    pub(crate) fn new(alloc: Global, device: D, limit: u32, number: u64) -> Self
         ensures slots { slots_in result ≡ [] }
         ensures ledger { ledger_of result ≡ D.ledger device }
+        ensures besides { pools_besides result ≡ (D.ledger device).pools }
         ensures limit { limit_of result ≡ limit }
         ensures number { number_of result ≡ number }
         ensures most { most_of result ≡ u32.MAX }
         ensures lists { lists_in result ≡ 0 }
+        ensures rest { IsAtRest result }
     {
         Store {
             device,
@@ -63,188 +65,89 @@ impl<L: Drop, P: Drop, S: Drop, D: DescriptorDevice<L, P, S>> Store<L, P, S, D> 
         }
     }
 
-    /// Gives the sets that go back to their pools.
-    #[inline]
-    fn give_back(&mut self)
-        ensures gives { GivesBack self.old self.new }
-        ensures keeps { Keeps D.meaning (side_of self.old) (side_of self.new) }
-        ensures stays { TableStays self.old self.new }
-        ensures coming { coming_in self.new ≡ coming_in self.old }
-    {
-        let mut giving = Giving {
-            table: &mut self.table,
-        };
-        self.allocator.free_from(&mut self.device, &mut giving);
-        giving.end();
-    }
-
-    /// Gives all kept sets back, and destroys empty pools. Sets that are in use aren't kept later.
-    #[cold]
-    pub fn cleanup(&mut self)
-        requires none_goes { (p : ℕ) → goes (slot_at (slots_in self.old) p) ≡ false }
-        ensures cleaned { AreCleaned (slots_in self.old) (slots_in self.new) }
-        ensures emptied { length (sets_in (slots_in self.new)) + length (coming_in self.new).items ≡ 0
-            → (ledger_of self.new).pools ≡ pools_besides self.old }
-        ensures sides { Cleans self.old self.new }
-        ensures besides { pools_besides self.new ≡ pools_besides self.old }
-        ensures limit { limit_of self.new ≡ limit_of self.old }
-        ensures stays { TableStays self.old self.new }
-        ensures coming { coming_in self.new ≡ coming_in self.old }
-    {
-        self.table.age();
-        self.table.trim(0);
-        self.give_back();
-        self.allocator.cleanup(&mut self.device);
-    }
-
-    /// Asks the allocator for a set of a layout, and puts it into the table. Gives its place.
-    #[inline]
-    fn ask(&mut self, known: &SetLayout<L>, layout: u32) -> Result<usize, AllocationError>
-        requires meant { IsMeant D.meaning known.now }
-        requires layout { HasLayout layout self.old }
-        ensures gets { IfOk result (λ place. Gets known.now.layout layout place self.old self.new) }
-        ensures refused { IfErr result (λ error. IsRefused known.now.layout error self.old self.new) }
-        ensures besides { pools_besides self.new ≡ pools_besides self.old }
-        ensures limit { limit_of self.new ≡ limit_of self.old }
-        ensures number { number_of self.new ≡ number_of self.old }
-        ensures most { most_of self.new ≡ most_of self.old }
-        ensures lists { lists_in self.new ≡ lists_in self.old }
-        ensures coming { coming_in self.new ≡ coming_in self.old }
-    {
-        if self.table.reserve(1).is_err() {
-            return Err(AllocationError::OutOfHostMemory);
-        }
-        match self.allocator.allocate_one(&mut self.device, known) {
-            Ok(set) => Ok(self.table.put(layout, set)),
-            Err(error) => Err(error),
-        }
-    }
-
-    /// Takes a new set of a layout. If it is refused while sets are kept, they are given back, empty
-    /// pools are destroyed, and it is asked for once more. Gives its place.
-    fn take_new(&mut self, known: &SetLayout<L>, layout: u32) -> Result<usize, AllocationError>
-        requires meant { IsMeant D.meaning known.now }
-        requires layout { HasLayout layout self.old }
-        requires none_goes { (p : ℕ) → goes (slot_at (slots_in self.old) p) ≡ false }
-        ensures gets { IfOk result (λ place. GetsAtLast known.now.layout layout place self.old
-            self.new) }
-        ensures refused { IfErr result (λ error. IsRefusedAtLast known.now.layout error self.old
-            self.new) }
-        ensures besides { pools_besides self.new ≡ pools_besides self.old }
-        ensures limit { limit_of self.new ≡ limit_of self.old }
-        ensures number { number_of self.new ≡ number_of self.old }
-        ensures most { most_of self.new ≡ most_of self.old }
-        ensures lists { lists_in self.new ≡ lists_in self.old }
-        ensures coming { coming_in self.new ≡ coming_in self.old }
-    {
-        match self.ask(known, layout) {
-            Ok(place) => Ok(place),
-            Err(error) => {
-                if !self.table.keeps_some() {
-                    return Err(error);
-                }
-                self.cleanup();
-                self.ask(known, layout)
-            }
-        }
-    }
-
-    /// Takes a set of a layout: the last one that was kept, or else a new one. Gives its place. An error
-    /// is one of `DescriptorAllocator::allocate_one`, and comes only if no set is kept of any layout.
-    #[inline]
-    pub fn take(&mut self, known: &SetLayout<L>, layout: u32) -> Result<usize, AllocationError>
-        requires meant { IsMeant D.meaning known.now }
-        requires layout { HasLayout layout self.old }
-        requires none_goes { (p : ℕ) → goes (slot_at (slots_in self.old) p) ≡ false }
-        ensures refused { IfErr result (λ error. IsRefusedAtLast known.now.layout error self.old
-            self.new) }
-        ensures kept { 0 < count (is_kept_of layout) (slots_in self.old)
-            → TakesKept layout result self.old self.new }
-        ensures comes { count (is_kept_of layout) (slots_in self.old) ≡ 0 → IfOk result (λ place.
-            GetsAtLast known.now.layout layout place self.old self.new) }
-        ensures besides { pools_besides self.new ≡ pools_besides self.old }
-        ensures limit { limit_of self.new ≡ limit_of self.old }
-        ensures number { number_of self.new ≡ number_of self.old }
-        ensures most { most_of self.new ≡ most_of self.old }
-        ensures lists { lists_in self.new ≡ lists_in self.old }
-        ensures coming { coming_in self.new ≡ coming_in self.old }
-    {
-        if self.table.kept_count(layout) == 0 {
-            return self.take_new(known, layout);
-        }
-        match self.table.take_kept(layout) {
-            Some(place) => Ok(place),
-            None => unreachable!(),
-        }
-    }
-
-    /// The sets that wait for a frame up to this one are kept, or go back to their pools.
-    pub fn finish(&mut self, frame: u64)
-        requires none_goes { (p : ℕ) → goes (slot_at (slots_in self.old) p) ≡ false }
-        ensures back { ComeBack (is_due frame) self.old self.new }
-        ensures none_due { (p : ℕ) → is_due frame (slot_at (slots_in self.new) p) ≡ false }
-        ensures keeps { Keeps D.meaning (side_of self.old) (side_of self.new) }
-        ensures stays { TableStays self.old self.new }
-        ensures coming { coming_in self.new ≡ coming_in self.old }
-    {
-        self.table.settle_due(frame);
-        self.give_back();
-    }
-
-    /// Frees the held sets of handles at once: they are kept, or go back to their pools. If a handle
-    /// has none, or is in the list twice, nothing changes, and it returns `false`.
-    pub fn free_each(&mut self, handles: &[SetHandle]) -> bool
-        requires none_goes { (p : ℕ) → goes (slot_at (slots_in self.old) p) ≡ false }
-        requires none_taken { (p : ℕ) → is_taken (slot_at (slots_in self.old) p) ≡ false }
-        ensures once { IsTrue result ↔ AreHeldOnce (number_of self.old) (slots_in self.old)
-            handles.now }
-        ensures frees { IsTrue result → FreesEach handles.now self.old self.new }
-        ensures none { IsFalse result → (slots_in self.new ≡ slots_in self.old)
-            × (side_of self.new ≡ side_of self.old) }
-        ensures stays { TableStays self.old self.new }
-        ensures coming { coming_in self.new ≡ coming_in self.old }
-    {
-        if !self.table.take_each(handles) {
-            return false;
-        }
-        self.table.settle_each(handles);
-        self.give_back();
-        true
-    }
-
-    /// Lets the held sets of handles wait for a frame. If a handle has none, or is in the list twice,
-    /// nothing changes, and it returns `false`.
-    pub fn wait_each(&mut self, handles: &[SetHandle], frame: u64) -> bool
-        requires none_taken { (p : ℕ) → is_taken (slot_at (slots_in self.old) p) ≡ false }
-        ensures once { IsTrue result ↔ AreHeldOnce (number_of self.old) (slots_in self.old)
-            handles.now }
-        ensures waits { IsTrue result → WaitEach handles.now frame (slots_in self.old)
-            (slots_in self.new) }
-        ensures none { IsFalse result → slots_in self.new ≡ slots_in self.old }
+    /// Reserves memory for one layout more.
+    pub(crate) fn reserve_layout(&mut self) -> Result<(), AllocError>
+        ensures room { OnOk result (HasListRoom self.new) }
+        ensures slots { slots_in self.new ≡ slots_in self.old }
         ensures side { side_of self.new ≡ side_of self.old }
-        ensures stays { TableStays self.old self.new }
         ensures coming { coming_in self.new ≡ coming_in self.old }
+        ensures stays { StoreStays (most_of self.old) self.old self.new }
     {
-        if !self.table.take_each(handles) {
-            return false;
-        }
-        self.table.wait_each(handles, frame);
-        true
+        self.table.reserve_layout()
     }
 
-    /// Keeps at most so many sets of a layout from now on. Those above are given back.
-    pub fn set_keep(&mut self, most: u32)
-        requires none_goes { (p : ℕ) → goes (slot_at (slots_in self.old) p) ≡ false }
-        ensures trims { Trims self.old self.new }
-        ensures most { most_of self.new ≡ most }
-        ensures few { (layout : ℕ) → count (is_kept_of layout) (slots_in self.new) ≤ most }
-        ensures keeps { Keeps D.meaning (side_of self.old) (side_of self.new) }
+    /// Adds a layout, over memory that was reserved.
+    pub(crate) fn add_layout(&mut self)
+        requires { HasListRoom self.old }
+        ensures lists { lists_in self.new ≡ lists_with (lists_in self.old) }
+        ensures known { (p : ℕ) → p < length (slots_in self.old)
+            → (slot_at (slots_in self.old) p).layout + 2 < lists_in self.old }
+        ensures slots { slots_in self.new ≡ slots_in self.old }
+        ensures side { side_of self.new ≡ side_of self.old }
         ensures number { number_of self.new ≡ number_of self.old }
-        ensures lists { lists_in self.new ≡ lists_in self.old }
+        ensures most { most_of self.new ≡ most_of self.old }
         ensures coming { coming_in self.new ≡ coming_in self.old }
     {
-        self.table.trim(most);
-        self.table.set_most(most);
-        self.give_back();
+        self.table.add_layout();
+    }
+
+    /// The raw set of a handle, in this frame if one is open.
+    #[inline]
+    pub(crate) fn get(&self, handle: SetHandle, frame: u64, is_open: bool) -> Option<&S>
+        ensures { option_copied result ≡ option_map raw_of (find (number_of self.now) frame is_open
+            (slots_in self.now) handle) }
+    {
+        let set = self.table.get(handle, frame, is_open)?;
+        Some(set.raw())
+    }
+
+    /// How many sets of a layout are kept.
+    pub(crate) fn kept_count(&self, layout: u32) -> u32
+        ensures { result ≡ kept_of layout self.now }
+    {
+        self.table.kept_count(layout)
+    }
+
+    /// How many sets are kept. It goes over the layouts.
+    pub(crate) fn kept(&self) -> u64
+        ensures { result ≡ count is_kept (slots_in self.now) }
+    {
+        self.table.kept_total()
+    }
+
+    /// How many sets wait for a frame. It goes over these frames.
+    pub(crate) fn waiting(&self) -> u64
+        ensures { result ≡ count waits (slots_in self.now) }
+    {
+        self.table.waiting_total()
+    }
+
+    /// How many sets are held.
+    pub(crate) fn held(&self) -> u64
+        requires { IsAtRest self.now }
+        ensures { result ≡ count holds (slots_in self.now) }
+    {
+        self.allocator.outstanding() - self.waiting() - self.kept()
+    }
+
+    /// The device.
+    pub(crate) fn device(&self) -> &D
+        ensures { D.ledger result.now ≡ ledger_of self.now }
+    {
+        &self.device
+    }
+
+    /// Returns the device without any call of it.
+    pub(crate) fn into_device(self) -> D
+        ensures { D.ledger result ≡ ledger_of self }
+    {
+        let Store {
+            device,
+            allocator: _,
+            table: _,
+            coming: _,
+            layout: _,
+        } = self;
+        device
     }
 }

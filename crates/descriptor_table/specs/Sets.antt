@@ -1,5 +1,5 @@
 -- What a caller sees of the slots: sets by handle.
-use Rattle.std.specs.Prelude.{◌≡◌, ◌≢◌, ℕ, ◌<◌, ◌==◌, ◌&&◌, nat_le, nat_lt, Bool, true, false, List, [], ◌∷◌, length, slice_index_or, is_some, if◌then◌else◌, Option, Some, None}
+use Rattle.std.specs.Prelude.{◌≡◌, ◌≢◌, ℕ, ◌<◌, ◌==◌, ◌&&◌, nat_le, nat_lt, Bool, true, false, List, [], ◌∷◌, length, slice_index_or, is_some, if◌then◌else◌, Option, Some, None, IsSome}
 use Rattle.descriptor_table.specs.Slots.{is_live, slot_at}
 use Rattle.descriptor_table.specs.Tables.{is_held_use}
 use Rattle.descriptor_table.specs.declared.handle.SetHandle.{SetHandle}
@@ -50,6 +50,25 @@ module _ {T : Type 0} where
     pub given_others : (other : SetHandle) → other ≢ handle → new.given other ≡ old.given other
     pub named : new.set handle ≡ Some x
     pub others : (other : SetHandle) → other ≢ handle → new.set other ≡ old.set other
+
+  -- the handles, none of which was ever given, name sets, and each other handle names what it named
+  pub record NameEach (handles : List SetHandle) (old new : Sets T) : Type 0 where
+    pub never : (i : ℕ) (d : SetHandle) → i < length handles → old.given (slice_index_or handles i d) ≡ false
+    pub once : (i j : ℕ) (d : SetHandle) → i < j → j < length handles → slice_index_or handles i d ≢ slice_index_or handles j d
+    pub given : (i : ℕ) (d : SetHandle) → i < length handles → new.given (slice_index_or handles i d) ≡ true
+    pub named : (i : ℕ) (d : SetHandle) → i < length handles → IsSome (new.set (slice_index_or handles i d))
+    pub others : (other : SetHandle) → ((i : ℕ) (d : SetHandle) → i < length handles → slice_index_or handles i d ≢ other) → (new.set other ≡ old.set other) × (new.given other ≡ old.given other)
+
+  -- each handle names what it named
+  pub record KeepNames (old new : Sets T) : Type 0 where
+    pub set : (h : SetHandle) → new.set h ≡ old.set h
+    pub given : (h : SetHandle) → new.given h ≡ old.given h
+
+  -- the handles name nothing, and each other handle names what it named
+  pub record LoseNames (handles : List SetHandle) (old new : Sets T) : Type 0 where
+    pub gone : (i : ℕ) (d : SetHandle) → i < length handles → new.set (slice_index_or handles i d) ≡ None
+    pub others : (other : SetHandle) → ((i : ℕ) (d : SetHandle) → i < length handles → slice_index_or handles i d ≢ other) → new.set other ≡ old.set other
+    pub given : (h : SetHandle) → new.given h ≡ old.given h
 
   -- each handle has a held set, and none is there twice
   pub record AreHeldOnce (number : ℕ) (slots : List (Slot T)) (handles : List SetHandle) : Type 0 where

@@ -1,0 +1,137 @@
+//! Sets that come back: they are kept, or go back to their pools.
+ghost use Rattle.std.specs.Prelude.{◌≡◌, ℕ, ◌+◌, ◌≤◌, ◌↔◌, length, false, IsFalse, IsTrue, Option};
+ghost use Rattle.gpu_descriptor.specs.Caller.Keeps.{Keeps};
+
+use super::Store;
+use descriptor_table::{Giving, SetHandle};
+use gpu_descriptor::DescriptorDevice;
+
+impl<L: Drop, P: Drop, S: Drop, D: DescriptorDevice<L, P, S>> Store<L, P, S, D> {
+    ghost use Rattle.descriptor_table.specs.Giving.{is_given_back};
+    ghost use Rattle.descriptor_table.specs.Sets.{AreHeldOnce, sets_in};
+    ghost use Rattle.descriptor_table.specs.Slots.{is_due, slot_at};
+    ghost use Rattle.descriptor_renderer.specs.Stores.{AreCleaned, Cleans, ComeBack, FreesAll, FreesEach};
+    ghost use Rattle.descriptor_renderer.specs.Stores.{GivesBack, IsAtRest, IsUpTo, NoneComes, Settles};
+    ghost use Rattle.descriptor_renderer.specs.Stores.{StoreStays, Trims, WaitEach, coming_in, kept_of};
+    ghost use Rattle.descriptor_renderer.specs.Stores.{ledger_of, most_of, number_of, pools_besides};
+    ghost use Rattle.descriptor_renderer.specs.Stores.{side_of, slots_in};
+
+    /// Gives sets back to their pools: those that wait for a frame up to this one, or, without a frame,
+    /// those that were let go.
+    #[inline]
+    fn give(&mut self, due: Option<u64>)
+        ensures gives { GivesBack due self.old self.new }
+        ensures keeps { Keeps D.meaning (side_of self.old) (side_of self.new) }
+        ensures stays { StoreStays (most_of self.old) self.old self.new }
+        ensures coming { coming_in self.new ≡ coming_in self.old }
+    {
+        let mut giving = Giving {
+            table: &mut self.table,
+            due,
+        };
+        self.allocator.free_from(&mut self.device, &mut giving);
+        giving.end();
+    }
+
+    /// Gives all kept sets back, and destroys empty pools. Sets that are in use aren't kept later.
+    #[cold]
+    pub(crate) fn cleanup(&mut self)
+        requires rest { IsAtRest self.old }
+        ensures cleaned { AreCleaned (slots_in self.old) (slots_in self.new) }
+        ensures emptied { length (sets_in (slots_in self.new)) ≡ 0
+            → (ledger_of self.new).pools ≡ pools_besides self.old }
+        ensures cleans { Cleans self.old self.new }
+        ensures settles { Settles NoneComes 0 self.old self.new }
+        ensures stays { StoreStays (most_of self.old) self.old self.new }
+    {
+        self.table.age();
+        self.table.trim(0);
+        self.give(None);
+        self.allocator.cleanup(&mut self.device);
+    }
+
+    /// The sets that wait for a frame up to this one are kept, or go back to their pools.
+    pub(crate) fn finish(&mut self, frame: u64)
+        requires rest { IsAtRest self.old }
+        ensures back { ComeBack (is_due frame) self.old self.new }
+        ensures none_due { (p : ℕ) → is_due frame (slot_at (slots_in self.new) p) ≡ false }
+        ensures settles { Settles NoneComes 0 self.old self.new }
+        ensures stays { StoreStays (most_of self.old) self.old self.new }
+    {
+        if self.table.most() == 0 {
+            self.give(Some(frame));
+            return;
+        }
+        self.table.settle_due(frame);
+        self.give(None);
+    }
+
+    /// Frees the held sets of handles at once: they are kept, or go back to their pools. If a handle
+    /// has none, or is in the list twice, nothing changes, and it returns `false`.
+    pub(crate) fn free_each(&mut self, handles: &[SetHandle]) -> bool
+        requires rest { IsAtRest self.old }
+        ensures once { IsTrue result ↔ AreHeldOnce (number_of self.old) (slots_in self.old)
+            handles.now }
+        ensures frees { IsTrue result → FreesEach handles.now self.old self.new }
+        ensures none { IsFalse result → (slots_in self.new ≡ slots_in self.old)
+            × (side_of self.new ≡ side_of self.old) }
+        ensures settles { Settles NoneComes 0 self.old self.new }
+        ensures stays { StoreStays (most_of self.old) self.old self.new }
+    {
+        if !self.table.take_each(handles) {
+            return false;
+        }
+        self.table.settle_each(handles);
+        self.give(None);
+        true
+    }
+
+    /// Lets the held sets of handles wait for a frame. If a handle has none, or is in the list twice,
+    /// nothing changes, and it returns `false`.
+    pub(crate) fn wait_each(&mut self, handles: &[SetHandle], frame: u64) -> bool
+        requires rest { IsAtRest self.old }
+        ensures once { IsTrue result ↔ AreHeldOnce (number_of self.old) (slots_in self.old)
+            handles.now }
+        ensures waits { IsTrue result → WaitEach handles.now frame (slots_in self.old)
+            (slots_in self.new) }
+        ensures none { IsFalse result → slots_in self.new ≡ slots_in self.old }
+        ensures side { side_of self.new ≡ side_of self.old }
+        ensures settles { Settles NoneComes frame self.old self.new }
+        ensures stays { StoreStays (most_of self.old) self.old self.new }
+    {
+        if !self.table.take_each(handles) {
+            return false;
+        }
+        self.table.wait_each(handles, frame);
+        true
+    }
+
+    /// Keeps at most so many sets of a layout from now on. Those above are given back.
+    pub(crate) fn set_keep(&mut self, most: u32)
+        requires rest { IsAtRest self.old }
+        ensures trims { Trims self.old self.new }
+        ensures few { (layout : ℕ) → kept_of layout self.new ≤ most }
+        ensures settles { Settles NoneComes 0 self.old self.new }
+        ensures stays { StoreStays most self.old self.new }
+    {
+        self.table.trim(most);
+        self.table.set_most(most);
+        self.give(None);
+    }
+
+    /// Gives all sets back: those that are held, those that wait for a frame, which is up to this one,
+    /// and those that are kept.
+    pub(crate) fn free_all(&mut self, frame: u64)
+        requires rest { IsAtRest self.old }
+        requires frames { IsUpTo frame (slots_in self.old) }
+        ensures frees { FreesAll self.old self.new }
+        ensures settles { Settles NoneComes 0 self.old self.new }
+        ensures stays { StoreStays (most_of self.old) self.old self.new }
+    {
+        self.table.age();
+        self.table.settle_due(frame);
+        self.table.let_held_go();
+        self.table.trim(0);
+        self.give(None);
+    }
+}

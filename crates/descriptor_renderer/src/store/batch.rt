@@ -1,0 +1,144 @@
+//! Sets that are taken for handles, many at once: kept ones first.
+ghost use Rattle.std.specs.Prelude.{◌≡◌, ◌+◌, ◌-◌, ◌<◌, ◌≤◌, ◌++◌, [], List, length, IfErr, OnErr, OnOk, Ok};
+ghost use Rattle.std.specs.Prelude.{vec_capacity, vec_len};
+ghost use Rattle.gpu_descriptor.specs.Caller.SetLayouts.{IsMeant};
+
+use super::Store;
+use descriptor_table::SetHandle;
+use gpu_descriptor::{AllocationError, DescriptorDevice, SetLayout};
+use std::vec::Vec;
+
+impl<L: Drop, P: Drop, S: Drop, D: DescriptorDevice<L, P, S>> Store<L, P, S, D> {
+    ghost use Rattle.descriptor_table.specs.Tables.{HasRoom};
+    ghost use Rattle.descriptor_table.specs.declared.handle.SetHandle.{SetHandle};
+    ghost use Rattle.descriptor_renderer.specs.declared.store.Store.{Store};
+    ghost use Rattle.descriptor_renderer.specs.Stores.{AreNamed, Asks, AsksAtLast, ComesOf, HasLayout, HoldEach};
+    ghost use Rattle.descriptor_renderer.specs.Stores.{IsAtRest, IsRefused, IsRefusedAtLast, Settles};
+    ghost use Rattle.descriptor_renderer.specs.Stores.{StoreStays, coming_in, kept_of, most_of};
+    ghost use Rattle.descriptor_renderer.specs.Stores.{number_of, side_of, slots_in};
+
+    /// Asks the allocator for so many sets of a layout, and for memory to put them into the table.
+    fn ask_for(&mut self, known: &SetLayout<L>, many: u32) -> Result<(), AllocationError>
+        requires meant { IsMeant D.meaning known.now }
+        requires none { (coming_in self.old).items ≡ [] }
+        ensures asks { OnOk result (Asks known.now.layout many self.old self.new) }
+        ensures refused { IfErr result (λ error. IsRefused known.now.layout many error self.old
+            self.new) }
+        ensures none { OnErr result ((coming_in self.new).items ≡ []) }
+        ensures stays { StoreStays (most_of self.old) self.old self.new }
+    {
+        if self.table.reserve(many).is_err() {
+            return Err(AllocationError::OutOfHostMemory);
+        }
+        self.allocator
+            .allocate_into(&mut self.device, known, many, &mut self.coming)
+    }
+
+    /// Asks for the sets that a request for so many needs besides the kept ones. If they are refused
+    /// while sets are kept, these are given back, empty pools are destroyed, and all are asked for.
+    fn bring(
+        &mut self,
+        known: &SetLayout<L>,
+        layout: u32,
+        many: u32,
+    ) -> Result<(), AllocationError>
+        requires meant { IsMeant D.meaning known.now }
+        requires layout { HasLayout layout self.old }
+        requires rest { IsAtRest self.old }
+        ensures kept { many ≤ kept_of layout self.old → (result ≡ Ok ()) × (self.new ≡ self.old) }
+        ensures asks { kept_of layout self.old < many → OnOk result (AsksAtLast known.now.layout
+            (many - kept_of layout self.old) many self.old self.new) }
+        ensures refused { IfErr result (λ error. IsRefusedAtLast known.now.layout
+            (many - kept_of layout self.old) many error self.old self.new) }
+        ensures none { OnErr result ((coming_in self.new).items ≡ []) }
+        ensures stays { StoreStays (most_of self.old) self.old self.new }
+    {
+        let kept = self.table.kept_count(layout);
+        if many <= kept {
+            return Ok(());
+        }
+        match self.ask_for(known, many - kept) {
+            Ok(()) => Ok(()),
+            Err(error) => {
+                if self.table.kept_total() == 0 {
+                    return Err(error);
+                }
+                self.cleanup();
+                self.ask_for(known, many)
+            }
+        }
+    }
+
+    /// Holds kept sets of a layout, and appends their handles, over memory that was reserved.
+    fn hold_kept(&mut self, layout: u32, many: u32, handles: &mut Vec<SetHandle>)
+        requires kept { many ≤ kept_of layout self.old }
+        requires room { vec_len handles.old + many ≤ vec_capacity handles.old }
+        ensures holds { (given : List SetHandle) × (handles.new.items ≡ handles.old.items ++ given)
+            × (length given ≡ many) × HoldEach (number_of self.old) layout given
+            (slots_in self.old) (slots_in self.new) }
+        ensures room { vec_capacity handles.new ≡ vec_capacity handles.old }
+        ensures side { side_of self.new ≡ side_of self.old }
+        ensures coming { coming_in self.new ≡ coming_in self.old }
+        ensures stays { StoreStays (most_of self.old) self.old self.new }
+    {
+        for _ in 0..many {
+            match self.table.take_kept(layout) {
+                Some(place) => handles.push_reserved(self.table.hold(place)),
+                None => unreachable!(),
+            }
+        }
+    }
+
+    /// Holds the sets that are on their way, and appends their handles, over memory that was reserved.
+    fn hold_coming(&mut self, layout: u32, handles: &mut Vec<SetHandle>)
+        requires layout { HasLayout layout self.old }
+        requires table { HasRoom (length (coming_in self.old).items) self.old.table }
+        requires room { vec_len handles.old + length (coming_in self.old).items
+            ≤ vec_capacity handles.old }
+        ensures holds { (given : List SetHandle) × (handles.new.items ≡ handles.old.items ++ given)
+            × (length given ≡ length (coming_in self.old).items)
+            × HoldEach (number_of self.old) layout given (slots_in self.old) (slots_in self.new) }
+        ensures none { (coming_in self.new).items ≡ [] }
+        ensures side { side_of self.new ≡ side_of self.old }
+        ensures stays { StoreStays (most_of self.old) self.old self.new }
+    {
+        while let Some(set) = self.coming.pop() {
+            let place = self.table.put(layout, set);
+            handles.push_reserved(self.table.hold(place));
+        }
+    }
+
+    /// Takes so many sets of a layout, kept ones first, which are held, and appends their handles, over
+    /// memory that was reserved. On an error none is taken.
+    pub(crate) fn create_each(
+        &mut self,
+        known: &SetLayout<L>,
+        layout: u32,
+        many: u32,
+        handles: &mut Vec<SetHandle>,
+    ) -> Result<(), AllocationError>
+        requires meant { IsMeant D.meaning known.now }
+        requires layout { HasLayout layout self.old }
+        requires rest { IsAtRest self.old }
+        requires room { vec_len handles.old + many ≤ vec_capacity handles.old }
+        ensures creates { OnOk result ((given : List SetHandle)
+            × (handles.new.items ≡ handles.old.items ++ given) × (length given ≡ many)
+            × AreNamed (number_of self.old) layout given (slots_in self.old) (slots_in self.new)) }
+        ensures kept { many ≤ kept_of layout self.old → (result ≡ Ok ())
+            × (side_of self.new ≡ side_of self.old) }
+        ensures comes { kept_of layout self.old < many → OnOk result ((mid : Store L P S D)
+            × AsksAtLast known.now.layout (many - kept_of layout self.old) many self.old mid
+            × (side_of self.new ≡ side_of mid)) }
+        ensures refused { IfErr result (λ error. IsRefusedAtLast known.now.layout
+            (many - kept_of layout self.old) many error self.old self.new) }
+        ensures handles { OnErr result (handles.new.items ≡ handles.old.items) }
+        ensures settles { Settles (ComesOf known.now.layout layout) 0 self.old self.new }
+        ensures stays { StoreStays (most_of self.old) self.old self.new }
+    {
+        self.bring(known, layout, many)?;
+        let kept = many - self.coming.len() as u32;
+        self.hold_kept(layout, kept, handles);
+        self.hold_coming(layout, handles);
+        Ok(())
+    }
+}

@@ -1,0 +1,137 @@
+//! Sets that are taken for handles, one by one: kept ones, or else new ones.
+ghost use Rattle.std.specs.Prelude.{◌≡◌, ℕ, ◌+◌, ◌<◌, IfErr, IfOk, OnOk, Ok};
+ghost use Rattle.gpu_descriptor.specs.Caller.SetLayouts.{IsMeant};
+
+use super::Store;
+use descriptor_table::SetHandle;
+use gpu_descriptor::{AllocationError, DescriptorDevice, SetLayout};
+
+impl<L: Drop, P: Drop, S: Drop, D: DescriptorDevice<L, P, S>> Store<L, P, S, D> {
+    ghost use Rattle.descriptor_table.specs.declared.handle.SetHandle.{SetHandle};
+    ghost use Rattle.descriptor_table.specs.declared.slot.Use.{Use};
+    ghost use Rattle.descriptor_renderer.specs.Stores.{ComesOf, Gets, GetsAtLast, HandlesKept};
+    ghost use Rattle.descriptor_renderer.specs.Stores.{HandlesNew, HasLayout, IsAtRest, IsNamed};
+    ghost use Rattle.descriptor_renderer.specs.Stores.{IsRefused, IsRefusedAtLast, Settles, StoreStays};
+    ghost use Rattle.descriptor_renderer.specs.Stores.{TakesKept, coming_in, kept_of, most_of};
+    ghost use Rattle.descriptor_renderer.specs.Stores.{number_of, slots_in};
+
+    /// Asks the allocator for a set of a layout, and puts it into the table. Gives its place.
+    #[inline]
+    fn ask(&mut self, known: &SetLayout<L>, layout: u32) -> Result<usize, AllocationError>
+        requires meant { IsMeant D.meaning known.now }
+        requires layout { HasLayout layout self.old }
+        ensures gets { IfOk result (λ place. Gets known.now.layout layout place self.old self.new) }
+        ensures refused { IfErr result (λ error. IsRefused known.now.layout 1 error self.old
+            self.new) }
+        ensures stays { StoreStays (most_of self.old) self.old self.new }
+        ensures coming { coming_in self.new ≡ coming_in self.old }
+    {
+        if self.table.reserve(1).is_err() {
+            return Err(AllocationError::OutOfHostMemory);
+        }
+        match self.allocator.allocate_one(&mut self.device, known) {
+            Ok(set) => Ok(self.table.put(layout, set)),
+            Err(error) => Err(error),
+        }
+    }
+
+    /// Takes a new set of a layout. If it is refused while sets are kept, they are given back, empty
+    /// pools are destroyed, and it is asked for once more. Gives its place.
+    fn take_new(&mut self, known: &SetLayout<L>, layout: u32) -> Result<usize, AllocationError>
+        requires meant { IsMeant D.meaning known.now }
+        requires layout { HasLayout layout self.old }
+        requires rest { IsAtRest self.old }
+        ensures gets { IfOk result (λ place. GetsAtLast known.now.layout layout place self.old
+            self.new) }
+        ensures refused { IfErr result (λ error. IsRefusedAtLast known.now.layout 1 1 error self.old
+            self.new) }
+        ensures stays { StoreStays (most_of self.old) self.old self.new }
+        ensures coming { coming_in self.new ≡ coming_in self.old }
+    {
+        match self.ask(known, layout) {
+            Ok(place) => Ok(place),
+            Err(error) => {
+                if self.table.kept_total() == 0 {
+                    return Err(error);
+                }
+                self.cleanup();
+                self.ask(known, layout)
+            }
+        }
+    }
+
+    /// Takes a set of a layout: the last one that was kept, or else a new one. Gives its place. An error
+    /// is one of `DescriptorAllocator::allocate_one`, and comes only if no set is kept of any layout.
+    #[inline]
+    fn take(&mut self, known: &SetLayout<L>, layout: u32) -> Result<usize, AllocationError>
+        requires meant { IsMeant D.meaning known.now }
+        requires layout { HasLayout layout self.old }
+        requires rest { IsAtRest self.old }
+        ensures refused { IfErr result (λ error. IsRefusedAtLast known.now.layout 1 1 error self.old
+            self.new) }
+        ensures kept { 0 < kept_of layout self.old → TakesKept layout result self.old self.new }
+        ensures comes { kept_of layout self.old ≡ 0 → IfOk result (λ place.
+            GetsAtLast known.now.layout layout place self.old self.new) }
+        ensures stays { StoreStays (most_of self.old) self.old self.new }
+        ensures coming { coming_in self.new ≡ coming_in self.old }
+    {
+        if self.table.kept_count(layout) == 0 {
+            return self.take_new(known, layout);
+        }
+        match self.table.take_kept(layout) {
+            Some(place) => Ok(place),
+            None => unreachable!(),
+        }
+    }
+
+    /// Takes a set of a layout, the last one that was kept, or else a new one, for a frame.
+    #[inline]
+    pub(crate) fn draw(
+        &mut self,
+        known: &SetLayout<L>,
+        layout: u32,
+        frame: u64,
+    ) -> Result<SetHandle, AllocationError>
+        requires meant { IsMeant D.meaning known.now }
+        requires layout { HasLayout layout self.old }
+        requires rest { IsAtRest self.old }
+        ensures named { IfOk result (λ handle. IsNamed (number_of self.old) layout (Use.Drawn frame)
+            handle (slots_in self.old) (slots_in self.new)) }
+        ensures kept { 0 < kept_of layout self.old → (handle : SetHandle) × (result ≡ Ok handle)
+            × HandlesKept layout (Use.Drawn frame) handle self.old self.new }
+        ensures comes { kept_of layout self.old ≡ 0 → IfOk result (λ handle.
+            HandlesNew known.now.layout layout (Use.Drawn frame) handle self.old self.new) }
+        ensures refused { IfErr result (λ error. IsRefusedAtLast known.now.layout 1 1 error self.old
+            self.new) }
+        ensures settles { Settles (ComesOf known.now.layout layout) frame self.old self.new }
+        ensures stays { StoreStays (most_of self.old) self.old self.new }
+    {
+        let place = self.take(known, layout)?;
+        Ok(self.table.draw(place, frame))
+    }
+
+    /// Takes a set of a layout, the last one that was kept, or else a new one, which is held.
+    #[inline]
+    pub(crate) fn create(
+        &mut self,
+        known: &SetLayout<L>,
+        layout: u32,
+    ) -> Result<SetHandle, AllocationError>
+        requires meant { IsMeant D.meaning known.now }
+        requires layout { HasLayout layout self.old }
+        requires rest { IsAtRest self.old }
+        ensures named { IfOk result (λ handle. IsNamed (number_of self.old) layout Use.Held handle
+            (slots_in self.old) (slots_in self.new)) }
+        ensures kept { 0 < kept_of layout self.old → (handle : SetHandle) × (result ≡ Ok handle)
+            × HandlesKept layout Use.Held handle self.old self.new }
+        ensures comes { kept_of layout self.old ≡ 0 → IfOk result (λ handle.
+            HandlesNew known.now.layout layout Use.Held handle self.old self.new) }
+        ensures refused { IfErr result (λ error. IsRefusedAtLast known.now.layout 1 1 error self.old
+            self.new) }
+        ensures settles { Settles (ComesOf known.now.layout layout) 0 self.old self.new }
+        ensures stays { StoreStays (most_of self.old) self.old self.new }
+    {
+        let place = self.take(known, layout)?;
+        Ok(self.table.hold(place))
+    }
+}
