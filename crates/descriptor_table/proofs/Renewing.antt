@@ -1,8 +1,8 @@
 -- A set that comes into a slot, gets a handle, or leaves.
-use Rattle.std.proofs.Common.{◌≡◌, ℕ, ◌+◌, ◌<◌, ◌≤◌, ◌==◌, ◌&&◌, true, false, not, nat_lt, List, length, set, Option, Some, None, is_some, inl, refl, sym, ap, ◌∙◌, arith, eqb-true, ltb-true}
+use Rattle.std.proofs.Common.{◌≡◌, ℕ, ◌+◌, ◌<◌, ◌≤◌, ◌==◌, ◌&&◌, Bool, true, false, not, nat_lt, List, length, set, Option, Some, None, is_some, inl, refl, sym, ap, ◌∙◌, arith, eqb-true, ltb-true}
 use Rattle.std.proofs.lemmas.List.{length-set, set-set}
-use Rattle.descriptor_table.specs.Slots.{in_list, is_in, slot_at}
-use Rattle.descriptor_table.specs.Tables.{Gives, HasRoom, Puts, Renews, Stays, is_usable, renewed, slots_of, used_for, vacated, with_use}
+use Rattle.descriptor_table.specs.Slots.{goes, in_list, is_in, slot_at}
+use Rattle.descriptor_table.specs.Tables.{GivesFirst, HasRoom, Picks, Puts, Renews, Stays, is_usable, renewed, slots_of, used_for, vacated, with_use}
 use Rattle.descriptor_table.specs.declared.handle.SetHandle.{SetHandle}
 use Rattle.descriptor_table.specs.declared.set_table.SetTable.{SetTable}
 use Rattle.descriptor_table.specs.declared.slot.Use.{Use}
@@ -61,21 +61,42 @@ module _ {T : Type 0} where
       let slot = ap (λ l. slot_at l p) r.slots ∙ slot_set old p (renewed Taken o) within in
       record { is = r.is; slots = is ∙ ap (λ s. set mid p (used_for u s)) slot ∙ ap (λ l. set l p (renewed u o)) r.slots ∙ set-set old p (renewed Taken o) (renewed u o) }
 
-  -- a set left its list, then its slot, which is vacant
-  pub gives : (k p : ℕ) (x : T) (old one two new : List (Slot T)) → p < length old → is_in k (slot_at old p) ≡ true → one ≡ with_use p Taken old → (slot_at one p).set ≡ Some x → two ≡ set one p (record (slot_at one p) { set = None }) → new ≡ with_use p Vacant two → Gives k x old new
-  gives k p x old one two new within was left full taken is =
+  -- a slot whose set was taken is vacant
+  pub leaves_vacant : (p : ℕ) (old mid new : List (Slot T)) → p < length old → mid ≡ set old p (record (slot_at old p) { set = None }) → new ≡ with_use p Vacant mid → new ≡ set old p (vacated (slot_at old p))
+  leaves_vacant p old mid new within taken is =
+      let empty : Slot T = record (slot_at old p) { set = None } in
+      let slot = ap (λ l. slot_at l p) taken ∙ slot_set old p empty within in
+      is ∙ ap (λ (s : Slot T). set mid p (used_for Vacant s)) slot ∙ ap (λ l. set l p (vacated (slot_at old p))) taken ∙ set-set old p empty (vacated (slot_at old p))
+
+  -- a set that passes the test left its list, then its slot
+  pub gives : (test : Slot T → Bool) (p : ℕ) (r : Option T) (old mid new : List (Slot T)) → Picks test p old mid → is_some (slot_at old p).set ≡ true → r ≡ (slot_at mid p).set → (is_some r ≡ true → new ≡ set mid p (vacated (slot_at mid p))) → GivesFirst test r old new
+  gives test p None old mid new picks full taken is =
+      let slot = ap (λ l. slot_at l p) picks.slots ∙ slot_set old p (used_for Taken (slot_at old p)) picks.within in
+      let none : None ≡ (slot_at old p).set = taken ∙ ap (λ (s : Slot T). s.set) slot in
+      absurd (let no : false ≡ true = ap is_some none ∙ full in cc)
+  gives test p (Some x) old mid new picks full taken is =
       let o = slot_at old p in
-      let slot : slot_at one p ≡ used_for Taken o = ap (λ l. slot_at l p) left ∙ slot_set old p (used_for Taken o) within in
-      let empty : Slot T = record (used_for Taken o) { set = None } in
-      let two_is : two ≡ set old p empty = taken ∙ ap (λ (s : Slot T). set one p (record s { set = None })) slot ∙ ap (λ l. set l p empty) left ∙ set-set old p (used_for Taken o) empty in
-      let slot_two : slot_at two p ≡ empty = ap (λ l. slot_at l p) two_is ∙ slot_set old p empty within in
+      let slot : slot_at mid p ≡ used_for Taken o = ap (λ l. slot_at l p) picks.slots ∙ slot_set old p (used_for Taken o) picks.within in
       record {
         place = p;
-        within = within;
-        was = was;
-        full = sym (ap (λ (s : Slot T). s.set) slot) ∙ full;
-        slots = is ∙ ap (λ (s : Slot T). set two p (used_for Vacant s)) slot_two ∙ ap (λ l. set l p (vacated o)) two_is ∙ set-set old p empty (vacated o);
+        within = picks.within;
+        was = picks.was;
+        full = sym (taken ∙ ap (λ (s : Slot T). s.set) slot);
+        slots = is refl ∙ ap (λ (s : Slot T). set mid p (vacated s)) slot ∙ ap (λ l. set l p (vacated o)) picks.slots ∙ set-set old p (used_for Taken o) (vacated o);
       }
+
+  -- a slot of the sets that go has one
+  pub goes_full : (s : Slot T) → goes s ≡ true → is_some s.set ≡ true
+  goes_full s e = by_use s.used e
+    where
+      by_use : (u : Use) → in_list 1 u s.layout s.generation (is_some s.set) ≡ true → is_some s.set ≡ true
+      by_use Held e = absurd (cc)
+      by_use (Drawn frame) e = absurd (cc)
+      by_use (Waits frame) e = absurd (cc)
+      by_use Kept e = absurd (let z = eqb-true 1 (s.layout + 2) (and_true (1 == (s.layout + 2)) (nat_lt s.generation 4294967295 && is_some s.set) e).0 in omega arith)
+      by_use Going e = e
+      by_use Taken e = absurd (cc)
+      by_use Vacant e = absurd (cc)
 
   -- a kept set is there, and its place has a generation left
   pub kept_is : (k : ℕ) (s : Slot T) → 2 ≤ k → is_in k s ≡ true → (s.generation < 4294967295) × (is_some s.set ≡ true)
