@@ -2,17 +2,21 @@
 use Rattle.std.proofs.Common.{◌≡◌, ℕ, zero, suc, ◌+◌, ◌<◌, ◌≤◌, Bool, true, false, if◌then◌else◌, List, [], ◌∷◌, length, set, None, refl, sym, ap, ◌∙◌, arith}
 use Rattle.std.proofs.lemmas.List.{get_or_past}
 use Rattle.descriptor_table.specs.Places.{times, walk}
-use Rattle.descriptor_table.specs.Slots.{AreLinked, Lists, chain_at, is_in, slot_at}
+use Rattle.descriptor_table.specs.Slots.{AreLinked, HasChains, Lists, chain_at, is_in, slot_at}
 use Rattle.descriptor_table.specs.Tables.{count}
 use Rattle.descriptor_table.specs.declared.slot.Use.TheVariants.{Taken}
 use Rattle.descriptor_table.specs.declared.slot.Slot.{Slot}
 use Rattle.descriptor_table.specs.declared.slot.Chain.{Chain}
 use Rattle.descriptor_table.proofs.Counting.{places_total, total, total_as, total_first}
-use Rattle.descriptor_table.proofs.Listed.{walk_length}
+use Rattle.descriptor_table.proofs.Listed.{PassesNone, walk_length}
 
 -- 1 if the test holds
 abbrev pub bit : Bool → ℕ
 bit b = if b then 1 else 0
+
+bit_few : (b : Bool) → bit b ≤ 1
+bit_few true = omega arith
+bit_few false = omega arith
 
 module _ {T : Type 0} where
   pub count_set : (test : Slot T → Bool) (slots : List (Slot T)) (p : ℕ) (s : Slot T) → p < length slots → count test (set slots p s) + (if test (slot_at slots p) then 1 else 0) ≡ count test slots + (if test s then 1 else 0)
@@ -35,8 +39,27 @@ module _ {T : Type 0} where
       all_count (s ∷ slots) = total_first (λ p. if test (slot_at (s ∷ slots) p) then 1 else 0) (length slots) ∙ ap (λ n. (if test s then 1 else 0) + n) (all_count slots)
 
   -- a list has as many slots as it counts
+  pub heads_count : (test : ℕ → Slot T → Bool) (slots : List (Slot T)) (next : List ℕ) (heads : ℕ → Chain) → PassesNone test → HasChains test slots next heads → (k : ℕ) → (heads k).count ≡ count (test k) slots
+  heads_count test slots next heads none h k =
+      let l = walk (heads k).count next (heads k).first in
+      sym (walk_length (heads k).count next (heads k).first) ∙ listed_count (test k) slots l (none k) (h k)
+
   pub chain_count : (slots : List (Slot T)) (next : List ℕ) (chains : List Chain) → AreLinked slots next chains → (k : ℕ) → (chain_at chains k).count ≡ count (is_in k) slots
-  chain_count slots next chains h k = sym (walk_length (chain_at chains k).count next (chain_at chains k).first) ∙ listed_count (is_in k) slots (walk (chain_at chains k).count next (chain_at chains k).first) refl (h k)
+  chain_count slots next chains h k = heads_count is_in slots next (chain_at chains) (λ j. refl) h k
+
+  -- each slot that passes a test passes one of two others
+  pub count_split : (all a b : Slot T → Bool) (slots : List (Slot T)) → ((s : Slot T) → bit (all s) ≡ bit (a s) + bit (b s)) → count all slots ≡ count a slots + count b slots
+  count_split all a b [] each = omega arith
+  count_split all a b (s ∷ slots) each = let e = each s in let h = count_split all a b slots each in omega arith
+
+  -- a slot passes both tests or none
+  pub count_as : (a b : Slot T → Bool) (slots : List (Slot T)) → ((p : ℕ) → p < length slots → a (slot_at slots p) ≡ b (slot_at slots p)) → count a slots ≡ count b slots
+  count_as a b [] same = refl
+  count_as a b (s ∷ slots) same = let e = ap bit (same 0 (omega arith)) in let h = count_as a b slots (λ p lt. same (suc p) (omega arith)) in omega arith
+
+  pub count_few : (test : Slot T → Bool) (slots : List (Slot T)) → count test slots ≤ length slots
+  count_few test [] = omega arith
+  count_few test (s ∷ slots) = let b = bit_few (test s) in let h = count_few test slots in omega arith
 
   pub none_count : (test : Slot T → Bool) (slots : List (Slot T)) → ((p : ℕ) → test (slot_at slots p) ≡ false) → count test slots ≡ 0
   none_count test [] none = refl

@@ -8,4 +8,5 @@ pub mod Holding
 pub mod Leaving
 pub mod Listed
 pub mod Renewing
+pub mod Totals
 pub mod Turning
