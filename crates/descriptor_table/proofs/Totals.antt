@@ -1,7 +1,6 @@
 -- How many slots there are in several lists together.
-use Rattle.std.proofs.Common.{◌≡◌, ◌≢◌, ℕ, zero, suc, ◌+◌, ◌<◌, ◌≤◌, ◌==◌, ◌&&◌, ◌||◌, nat_lt, not, Bool, true, false, if◌then◌else◌, List, [], ◌∷◌, length, None, is_some, inl, inr, refl, sym, ap, subst, ◌∙◌, arith, eq-eqb, ne_eqb}
+use Rattle.std.proofs.Common.{◌≡◌, ◌≢◌, ℕ, zero, suc, ◌+◌, ◌<◌, ◌≤◌, ◌==◌, ◌&&◌, ◌||◌, nat_lt, not, Bool, true, false, List, length, is_some, inl, inr, refl, sym, ap, subst, ◌∙◌, arith, eq-eqb, ne_eqb}
 use Rattle.std.proofs.lemmas.Bool.{and_right, cases_order, le-ltb, lt-ltb, or_from, or_left, or_right}
-use Rattle.std.proofs.lemmas.List.{get_or_past}
 use Rattle.descriptor_table.specs.Slots.{AreFramed, AreLinked, HasFrames, HasLists, chain_at, chain_of, frame_at, in_list, is_in, is_of, slot_at, waits_for}
 use Rattle.descriptor_table.specs.Tables.{count, is_kept, is_waiting_use, waits}
 use Rattle.descriptor_table.specs.declared.slot.Use.{Use}
@@ -10,8 +9,8 @@ use Rattle.descriptor_table.specs.declared.slot.Slot.{Slot}
 use Rattle.descriptor_table.specs.declared.slot.Chain.{Chain}
 use Rattle.descriptor_table.specs.declared.slot.FrameChain.{FrameChain}
 use Rattle.descriptor_table.proofs.Chains.{frames_apart, frames_none}
-use Rattle.descriptor_table.proofs.Counting.{below_or, same_or}
-use Rattle.descriptor_table.proofs.Counts.{bit, chain_count, count_as, count_few, count_split, heads_count, none_count}
+use Rattle.descriptor_table.proofs.Counting.{same_or}
+use Rattle.descriptor_table.proofs.Counts.{bit, chain_count, count_as, count_split, heads_count, none_count}
 use Rattle.descriptor_table.proofs.Frames.{chain_here, none_of}
 use Rattle.descriptor_table.proofs.Holding.{named_or}
 use Rattle.descriptor_table.proofs.Listed.{none_in}

@@ -3,7 +3,7 @@ use Rattle.std.proofs.Common.{◌≡◌, ◌≢◌, ℕ, zero, suc, ◌+◌, ◌
 use Rattle.std.proofs.lemmas.List.{length-set, set-set}
 use Rattle.std.proofs.lemmas.Bool.{ltb-false}
 use Rattle.descriptor_table.specs.Slots.{in_list, is_due, is_in, slot_at, waits_until}
-use Rattle.descriptor_table.specs.Tables.{IsSettled, MayGo, PicksAbove, PicksFirst, Stays, Turns, WaitsFor, count, if_taken, is_kept, is_taken, is_taken_use, may_stay, next_use, stays, used_for, with_use}
+use Rattle.descriptor_table.specs.Tables.{IsSettled, Leaves, MayGo, PicksAbove, PicksFirst, Stays, Turns, WaitsFor, count, holds, if_held, if_taken, is_held_use, is_kept, is_taken, is_taken_use, may_stay, next_use, stays, used_for, with_use}
 use Rattle.descriptor_table.specs.declared.set_table.SetTable.{SetTable}
 use Rattle.descriptor_table.specs.declared.slot.Use.{Use}
 use Rattle.descriptor_table.specs.declared.slot.Use.TheVariants.{Held, Drawn, Waits, Kept, Going, Taken, Vacant}
@@ -169,37 +169,37 @@ module _ {T : Type 0} where
   settled_out true s = refl
   settled_out false s = refl
 
-  -- what becomes of the slots when a slot turns, if a call has its set
-  pub record TurnsOne (becomes : List (Slot T) → Slot T → Slot T → Type 0) (old now new : List (Slot T)) (p : ℕ) : Type 0 where
-    pub turning : Turning is_taken becomes old new
-    pub here : is_taken (slot_at new p) ≡ false
-    pub others : (q : ℕ) → is_taken (slot_at now q) ≡ false → is_taken (slot_at new q) ≡ false
+  -- what becomes of the slots when a slot turns, if it passes the test
+  pub record TurnsOne (test : Slot T → Bool) (becomes : List (Slot T) → Slot T → Slot T → Type 0) (old now new : List (Slot T)) (p : ℕ) : Type 0 where
+    pub turning : Turning test becomes old new
+    pub here : test (slot_at new p) ≡ false
+    pub others : (q : ℕ) → test (slot_at now q) ≡ false → test (slot_at new q) ≡ false
 
-  turn_one : (becomes : List (Slot T) → Slot T → Slot T → Type 0) (old now new : List (Slot T)) (p : ℕ) (u : Use) → Turning is_taken becomes old now → p < length now → new ≡ if_taken p u now → (is_taken (slot_at now p) ≡ true → Turning is_taken becomes old new) → is_taken (used_for u (slot_at now p)) ≡ false → TurnsOne becomes old now new p
-  turn_one becomes old now new p u turning within is step out = by_test (is_taken (slot_at now p)) refl
+  turn_one : (test : Slot T → Bool) (becomes : List (Slot T) → Slot T → Slot T → Type 0) (old now new : List (Slot T)) (p : ℕ) (u : Use) → Turning test becomes old now → p < length now → new ≡ (if test (slot_at now p) then with_use p u now else now) → (test (slot_at now p) ≡ true → Turning test becomes old new) → test (used_for u (slot_at now p)) ≡ false → TurnsOne test becomes old now new p
+  turn_one test becomes old now new p u turning within is step out = by_test (test (slot_at now p)) refl
     where
-      by_test : (b : Bool) → is_taken (slot_at now p) ≡ b → TurnsOne becomes old now new p
+      by_test : (b : Bool) → test (slot_at now p) ≡ b → TurnsOne test becomes old now new p
       by_test true e =
           let all : new ≡ with_use p u now = is ∙ ap (λ b. if b then with_use p u now else now) e in
-          let here : is_taken (slot_at new p) ≡ false = ap (λ l. is_taken (slot_at l p)) all ∙ ap is_taken (slot_set now p (used_for u (slot_at now p)) within) ∙ out in
+          let here : test (slot_at new p) ≡ false = ap (λ l. test (slot_at l p)) all ∙ ap test (slot_set now p (used_for u (slot_at now p)) within) ∙ out in
           record {
             turning = step e;
             here = here;
             others = λ q none. elim (same_or q p) [
-              | inl same ↦ subst (λ q. is_taken (slot_at new q) ≡ false) (sym same) here
-              | inr ne ↦ ap (λ l. is_taken (slot_at l q)) all ∙ ap is_taken (other_slots now p (used_for u (slot_at now p)) q ne) ∙ none
+              | inl same ↦ subst (λ q. test (slot_at new q) ≡ false) (sym same) here
+              | inr ne ↦ ap (λ l. test (slot_at l q)) all ∙ ap test (other_slots now p (used_for u (slot_at now p)) q ne) ∙ none
             ];
           }
       by_test false e =
           let all : new ≡ now = is ∙ ap (λ b. if b then with_use p u now else now) e in
           record {
-            turning = subst (Turning is_taken becomes old) (sym all) turning;
-            here = ap (λ l. is_taken (slot_at l p)) all ∙ e;
-            others = λ q none. ap (λ l. is_taken (slot_at l q)) all ∙ none;
+            turning = subst (Turning test becomes old) (sym all) turning;
+            here = ap (λ l. test (slot_at l p)) all ∙ e;
+            others = λ q none. ap (λ l. test (slot_at l q)) all ∙ none;
           }
 
-  pub settle_one : (most : ℕ) (old now new : List (Slot T)) (p : ℕ) → Turning is_taken (IsSettled most) old now → p < length now → new ≡ if_taken p (next_use most now p) now → TurnsOne (IsSettled most) old now new p
-  settle_one most old now new p turning within is = turn_one (IsSettled most) old now new p (next_use most now p) turning within is step (settled_out (may_stay most now (slot_at now p)) (slot_at now p))
+  pub settle_one : (most : ℕ) (old now new : List (Slot T)) (p : ℕ) → Turning is_taken (IsSettled most) old now → p < length now → new ≡ if_taken p (next_use most now p) now → TurnsOne is_taken (IsSettled most) old now new p
+  settle_one most old now new p turning within is = turn_one is_taken (IsSettled most) old now new p (next_use most now p) turning within is step (settled_out (may_stay most now (slot_at now p)) (slot_at now p))
     where
       step : is_taken (slot_at now p) ≡ true → Turning is_taken (IsSettled most) old new
       step e =
@@ -209,13 +209,34 @@ module _ {T : Type 0} where
           let out : (k : ℕ) → is_in k (slot_at now p) ≡ false = (λ k. ap (λ u. in_list k u (slot_at now p).layout (slot_at now p).generation (is_some (slot_at now p).set)) taken.0) in
           turn_step is_taken (IsSettled most) old now new p (used_for (next_use most now p) (slot_at now p)) turning within e (settled_set most now now new p within out left all) (settled_grows most now now new p within out left all) (settled_not_taken most now) (settled_here most now now new p within out left all)
 
-  pub wait_one : (frame : ℕ) (old now new : List (Slot T)) (p : ℕ) → Turning is_taken (WaitsFor frame) old now → p < length now → new ≡ if_taken p (Waits frame) now → TurnsOne (WaitsFor frame) old now new p
-  wait_one frame old now new p turning within is = turn_one (WaitsFor frame) old now new p (Waits frame) turning within is step refl
+  pub wait_one : (frame : ℕ) (old now new : List (Slot T)) (p : ℕ) → Turning is_taken (WaitsFor frame) old now → p < length now → new ≡ if_taken p (Waits frame) now → TurnsOne is_taken (WaitsFor frame) old now new p
+  wait_one frame old now new p turning within is = turn_one is_taken (WaitsFor frame) old now new p (Waits frame) turning within is step refl
     where
       step : is_taken (slot_at now p) ≡ true → Turning is_taken (WaitsFor frame) old new
       step e =
           let all : new ≡ with_use p (Waits frame) now = is ∙ ap (λ b. if b then with_use p (Waits frame) now else now) e in
           turn_step is_taken (WaitsFor frame) old now new p (used_for (Waits frame) (slot_at now p)) turning within e all (λ o n w. w) (λ o n w. ap is_taken w) refl
+
+  -- a slot whose set is held goes
+  pub held_goes : (old mid new : List (Slot T)) (p : ℕ) (u : Use) (s : Slot T) → p < length old → s ≡ slot_at old p → s.used ≡ Held → is_some s.set ≡ true → mid ≡ set old p (used_for Taken s) → new ≡ with_use p u mid → new ≡ if_held p u old
+  held_goes old mid new p u s within is held full taken goes =
+      let was : holds (slot_at old p) ≡ true = ap holds (sym is) ∙ ap (λ u. is_held_use u && is_some s.set) held ∙ full in
+      let left : mid ≡ with_use p Taken old = taken ∙ ap (λ (s : Slot T). set old p (used_for Taken s)) is in
+      goes ∙ ap (with_use p u) left ∙ use_again old p Taken u within ∙ sym (ap (λ b. if b then with_use p u old else old) was)
+
+  pub leave_one : (old now new : List (Slot T)) (p : ℕ) → Turning holds Leaves old now → p < length now → new ≡ if_held p Going now → TurnsOne holds Leaves old now new p
+  leave_one old now new p turning within is = turn_one holds Leaves old now new p Going turning within is step refl
+    where
+      step : holds (slot_at now p) ≡ true → Turning holds Leaves old new
+      step e =
+          let all : new ≡ with_use p Going now = is ∙ ap (λ b. if b then with_use p Going now else now) e in
+          turn_step holds Leaves old now new p (used_for Going (slot_at now p)) turning within e all (λ o n w. w) (λ o n w. ap holds w) refl
+
+  -- a test that no slot passes, nor one past the end
+  pub none_passes : (test : Slot T → Bool) (slots : List (Slot T)) → test (record { generation = 0; layout = 0; used = Taken; leaves = false; set = None }) ≡ false → ((p : ℕ) → p < length slots → test (slot_at slots p) ≡ false) → (p : ℕ) → test (slot_at slots p) ≡ false
+  none_passes test [] past none p = past
+  none_passes test (s ∷ slots) past none zero = none 0 (omega arith)
+  none_passes test (s ∷ slots) past none (suc p) = none_passes test slots past (λ q lt. none (suc q) (omega arith)) p
 
   -- all sets that were taken have turned, since each is that of a handle
   pub none_taken : (becomes : List (Slot T) → Slot T → Slot T → Type 0) (n : ℕ) (place : ℕ → ℕ) (old now : List (Slot T)) → Turning is_taken becomes old now → ((o m : Slot T) → becomes now o m → is_taken m ≡ false) → ((p : ℕ) → is_taken (slot_at old p) ≡ true → (i : ℕ) × (i < n) × (place i ≡ p)) → ((i : ℕ) → i < n → is_taken (slot_at now (place i)) ≡ false) → (p : ℕ) → is_taken (slot_at now p) ≡ false
