@@ -1,5 +1,5 @@
 -- What a renderer has: layouts, frames, sets by handle, and the pools of its device.
-use Rattle.std.specs.Prelude.{◌≡◌, ℕ, ◌-◌, ◌<◌, Bool, List, length, Option, Some, min, slice_get, slice_index_or, if◌then◌else◌}
+use Rattle.std.specs.Prelude.{◌≡◌, ℕ, ◌-◌, ◌<◌, Bool, List, length, Option, Some, min, slice_index_or, if◌then◌else◌}
 use Rattle.gpu_descriptor_types.specs.Ledger.{Ledger, Pool}
 use Rattle.gpu_descriptor_types.specs.Meaning.{IsOfLayout}
 use Rattle.gpu_descriptor_types.specs.Side.{Side}
@@ -10,7 +10,6 @@ use Rattle.gpu_descriptor.specs.declared.errors.AllocationError.TheVariants.{Out
 use Rattle.gpu_descriptor.specs.declared.layout.SetLayout.{SetLayout}
 use Rattle.gpu_descriptor.specs.declared.set.DescriptorSet.{DescriptorSet}
 use Rattle.descriptor_table.specs.Sets.{NameEach, Names, Sets, find, sets_of}
-use Rattle.descriptor_table.specs.Slots.{slot_at}
 use Rattle.descriptor_table.specs.declared.handle.SetHandle.{SetHandle}
 use Rattle.descriptor_table.specs.declared.slot.Slot.{Slot}
 use Rattle.descriptor_renderer.specs.LayoutRegistries.{layout_at, layouts_of}
@@ -33,10 +32,6 @@ pub record Rendering (L S : Type 0) : Type 0 where
   pub limit : ℕ
 
 module _ {L P S D : Type 0} {d : Ghosts D L P S} where
-  -- the set in each slot is of the layout that the slot names
-  abbrev pub AreOwn : List (SetLayout L) → List (Slot (DescriptorSet S)) → Type 0
-  AreOwn layouts slots = (p : ℕ) (x : DescriptorSet S) (known : SetLayout L) → (slot_at slots p).set ≡ Some x → slice_get layouts (slot_at slots p).layout ≡ Some known → IsOfLayout d.meaning known.layout x.raw
-
   -- the sets, the allocator and the device
   abbrev pub store_of : Renderer L P S D d → Store L P S D d
   store_of r = r.store
@@ -125,6 +120,6 @@ module _ {L P S D : Type 0} {d : Ghosts D L P S} where
 
   -- an allocation failed before the allocator was asked, and nothing changed
   pub record HasNoMemory (error : AllocationError) (old new : Renderer L P S D d) : Type 0 where
-    pub error : error ≡ OutOfHostMemory
+    pub is : error ≡ OutOfHostMemory
     pub seen : seen new ≡ seen old
     pub side : side_of new ≡ side_of old

@@ -3,7 +3,7 @@ use Rattle.std.specs.Prelude.{◌≡◌, ◌≢◌, ℕ, zero, suc, ◌+◌, ◌
 use Rattle.std.specs.declared.alloc.Global.{Global}
 use Rattle.gpu_descriptor_types.specs.Ledger.{Ledger, Pool}
 use Rattle.gpu_descriptor.specs.Caller.Others.{others_of}
-use Rattle.gpu_descriptor_types.specs.Meaning.{IsOfLayout}
+use Rattle.gpu_descriptor_types.specs.Meaning.{IsOfLayout, Meaning}
 use Rattle.gpu_descriptor_types.specs.Side.{Side, side}
 use Rattle.gpu_descriptor_types.specs.declared.device.DescriptorDevice.{Ghosts}
 use Rattle.gpu_descriptor.specs.Caller.Call.{layout_key}
@@ -55,7 +55,7 @@ pub record AreCleaned {T : Type 0} (old new : List (Slot T)) : Type 0 where
 -- a set has the handle, which was never given, and is in use for this; each other handle names what it named, in whatever frame
 pub record IsNamed {T : Type 0} (number layout : ℕ) (u : Use) (handle : SetHandle) (old new : List (Slot T)) : Type 0 where
   pub set : T
-  pub layout : (slot_at new handle.place).layout ≡ layout
+  pub of_layout : (slot_at new handle.place).layout ≡ layout
   pub here : (slot_at new handle.place).set ≡ Some set
   pub names : (frame : ℕ) (opened : Bool) → is_live frame opened u ≡ true → Names handle set (sets_of number frame opened old) (sets_of number frame opened new)
 
@@ -69,14 +69,22 @@ pub record HoldEach {T : Type 0} (number layout : ℕ) (handles : List SetHandle
   pub was : (i : ℕ) → i < length handles → is_free (slot_at old (place_at handles i)) ≡ true
   pub is : (i : ℕ) (e : SetHandle) → i < length handles → slice_index_or handles i e ≡ record { renderer = number; place = place_at handles i; generation = (slot_at old (place_at handles i)).generation + 1 }
   pub generation : (i : ℕ) → i < length handles → (slot_at new (place_at handles i)).generation ≡ (slot_at old (place_at handles i)).generation + 1
-  pub layout : (i : ℕ) → i < length handles → (slot_at new (place_at handles i)).layout ≡ layout
+  pub of_layout : (i : ℕ) → i < length handles → (slot_at new (place_at handles i)).layout ≡ layout
   pub held : (i : ℕ) → i < length handles → holds (slot_at new (place_at handles i)) ≡ true
   pub rest : (p : ℕ) → ((i : ℕ) → i < length handles → place_at handles i ≢ p) → slot_at new p ≡ slot_at old p
 
 -- so many sets, each held, have handles that were never given
 pub record AreNamed {T : Type 0} (number layout : ℕ) (handles : List SetHandle) (old new : List (Slot T)) : Type 0 where
-  pub layout : (i : ℕ) → i < length handles → (slot_at new (place_at handles i)).layout ≡ layout
+  pub of_layout : (i : ℕ) → i < length handles → (slot_at new (place_at handles i)).layout ≡ layout
   pub names : (frame : ℕ) (opened : Bool) → NameEach handles (sets_of number frame opened old) (sets_of number frame opened new)
+
+-- no set comes
+abbrev pub NoneComes : {S : Type 0} → ℕ → DescriptorSet S → Type 0
+NoneComes layout x = ⊥
+
+-- only sets of this layout come
+abbrev pub ComesOf : {L P S : Type 0} → Meaning L P S → L → ℕ → ℕ → DescriptorSet S → Type 0
+ComesOf means layout number other x = (other ≡ number) × IsOfLayout means layout x.raw
 
 -- how many lists a table has for so many layouts
 abbrev pub lists_for : ℕ → ℕ
@@ -141,21 +149,13 @@ module _ {L P S D : Type 0} {d : Ghosts D L P S} where
     pub lists : lists_in new ≡ lists_in old
     pub limit : limit_of new ≡ limit_of old
     pub besides : pools_besides new ≡ pools_besides old
-    pub most : most_of new ≡ most
+    pub keeps : most_of new ≡ most
 
   -- each set was in its slot before, under its layout, or passes the test; none is on its way, and none waits for a frame later than before, and than this one
   pub record Settles (comes : ℕ → DescriptorSet S → Type 0) (frame : ℕ) (old new : Store L P S D d) : Type 0 where
     pub sets : (p : ℕ) (x : DescriptorSet S) → (slot_at (slots_in new) p).set ≡ Some x → (((slot_at (slots_in old) p).set ≡ Some x) × ((slot_at (slots_in new) p).layout ≡ (slot_at (slots_in old) p).layout)) ⊎ comes (slot_at (slots_in new) p).layout x
     pub rest : IsAtRest new
     pub frames : (f : ℕ) → frame ≤ f → IsUpTo f (slots_in old) → IsUpTo f (slots_in new)
-
-  -- no set comes
-  abbrev pub NoneComes : ℕ → DescriptorSet S → Type 0
-  NoneComes layout x = ⊥
-
-  -- only sets of this layout come
-  abbrev pub ComesOf : L → ℕ → ℕ → DescriptorSet S → Type 0
-  ComesOf layout number other x = (other ≡ number) × IsOfLayout d.meaning layout x.raw
 
   -- the sets that are given back left their slots, in one call, or there were none
   pub record GivesBack (due : Option ℕ) (old new : Store L P S D d) : Type 0 where
@@ -225,6 +225,10 @@ module _ {L P S D : Type 0} {d : Ghosts D L P S} where
   -- so many sets came from the allocator, at once, or, after all kept sets were given back, as many as all
   abbrev pub AsksAtLast : L → ℕ → ℕ → Store L P S D d → Store L P S D d → Type 0
   AsksAtLast layout first last old new = Asks layout first old new ⊎ ((mid : Store L P S D d) × IsCleared layout first old mid × Asks layout last mid new)
+
+  -- so many sets came, and the device was not called after that
+  abbrev pub BringsAtLast : L → ℕ → ℕ → Store L P S D d → Store L P S D d → Type 0
+  BringsAtLast layout first last old new = (mid : Store L P S D d) × AsksAtLast layout first last old mid × (side_of new ≡ side_of mid)
 
   -- the sets that pass the test came back, and those that are not kept were given back in one call, if there were any
   pub record ComeBack (test : Slot (DescriptorSet S) → Bool) (old new : Store L P S D d) : Type 0 where

@@ -6,7 +6,7 @@ ghost use Rattle.gpu_descriptor.specs.Caller.SetLayouts.{IsMeant};
 ghost use Rattle.descriptor_table.specs.Sets.{KeepNames};
 ghost use Rattle.descriptor_table.specs.Tables.{count, holds, is_kept, waits};
 ghost use Rattle.descriptor_renderer.specs.LayoutRegistries.{layouts_of, registry_of};
-ghost use Rattle.descriptor_renderer.specs.Renderers.{AreOwn};
+ghost use Rattle.descriptor_renderer.specs.Own.{AreOwn};
 ghost use Rattle.descriptor_renderer.specs.Stores.{AreCleaned, Cleans, IsAtRest, IsUpTo, Trims};
 ghost use Rattle.descriptor_renderer.specs.Stores.{lists_for, lists_in, slots_in};
 ghost use Rattle.descriptor_renderer.specs.Stores as stores;
@@ -59,7 +59,7 @@ pub struct Renderer<L, P, S, D: DescriptorDevice<L, P, S>> {
     /// The last field, as the device in it is dropped last.
     store: Store<L, P, S, D>,
     ghost rest: { IsAtRest store },
-    ghost own: { AreOwn {d = D} (layouts_of layouts) (slots_in store) },
+    ghost own: { AreOwn D.meaning (layouts_of layouts) (slots_in store) },
     ghost rising: { IsUpTo frame (slots_in store) },
     ghost lists: { lists_in store ≡ lists_for (length (layouts_of layouts)) },
     ghost numbers_sets: { stores.number_of store ≡ renderer },

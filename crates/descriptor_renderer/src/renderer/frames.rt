@@ -125,7 +125,8 @@ impl<L: Drop, P: Drop, S: Drop, D: DescriptorDevice<L, P, S>> Renderer<L, P, S, 
         ensures names { KeepNames (sets_by self.old) (sets_by self.new) }
         ensures rest { seen self.new ≡ record (seen self.old) { slots = slots_of self.new } }
     {
-        self.store.finish(self.done(frame));
+        let done = self.done(frame);
+        self.store.finish(done);
     }
 
     /// The last frame that the device can be done with, of those up to this one.

@@ -5,9 +5,8 @@ ghost use Rattle.std.specs.Prelude.{option_map};
 ghost use Rattle.std.specs.Option.{option_copied};
 ghost use Rattle.gpu_descriptor.specs.Caller.Sets.{raw_of};
 ghost use Rattle.descriptor_table.specs.Sets.{AreHeldOnce, KeepNames, LoseNames};
-ghost use Rattle.descriptor_renderer.specs.Stores.{AsksAtLast, FreesAll, FreesEach, HandlesKept};
+ghost use Rattle.descriptor_renderer.specs.Stores.{BringsAtLast, FreesAll, FreesEach, HandlesKept};
 ghost use Rattle.descriptor_renderer.specs.Stores.{HandlesNew, IsRefusedAtLast, WaitEach};
-ghost use Rattle.descriptor_renderer.specs.Stores as stores;
 
 use super::Renderer;
 use crate::errors::{DestroyError, RenderError};
@@ -20,7 +19,6 @@ impl<L: Drop, P: Drop, S: Drop, D: DescriptorDevice<L, P, S>> Renderer<L, P, S, 
     ghost use Rattle.gpu_descriptor.specs.declared.errors.AllocationError.{AllocationError};
     ghost use Rattle.descriptor_table.specs.declared.handle.SetHandle.{SetHandle};
     ghost use Rattle.descriptor_table.specs.declared.slot.Use.{Use};
-    ghost use Rattle.descriptor_renderer.specs.declared.store.Store.{Store};
     ghost use Rattle.descriptor_renderer.specs.Renderers.{ComeEach, Comes, HasNoMemory, frame_of};
     ghost use Rattle.descriptor_renderer.specs.Renderers.{kept_of, layout_of, number_of, seen, sets_by};
     ghost use Rattle.descriptor_renderer.specs.Renderers.{side_of, slots_of, store_of};
@@ -73,9 +71,8 @@ impl<L: Drop, P: Drop, S: Drop, D: DescriptorDevice<L, P, S>> Renderer<L, P, S, 
             × (length given ≡ many) × ComeEach known.layout given self.old self.new)) }
         ensures kept { many ≤ kept_of layout self.old → side_of self.new ≡ side_of self.old }
         ensures comes { kept_of layout self.old < many → OnOk result (IfSome
-            (layout_of self.old layout) (λ known. (mid : Store L P S D) × AsksAtLast known.layout
-            (many - kept_of layout self.old) many (store_of self.old) mid × (side_of self.new
-            ≡ stores.side_of mid))) }
+            (layout_of self.old layout) (λ known. BringsAtLast known.layout
+            (many - kept_of layout self.old) many (store_of self.old) (store_of self.new))) }
         ensures known { OnOk result (IsSome (layout_of self.old layout)) }
         ensures needs_no_frame { ¬ (IsErrOf result RenderError.NoFrame) }
         ensures no_layout { (IsErrOf result RenderError.NoLayout) ↔ (layout_of self.old layout

@@ -11,8 +11,7 @@ use std::vec::Vec;
 impl<L: Drop, P: Drop, S: Drop, D: DescriptorDevice<L, P, S>> Store<L, P, S, D> {
     ghost use Rattle.descriptor_table.specs.Tables.{HasRoom};
     ghost use Rattle.descriptor_table.specs.declared.handle.SetHandle.{SetHandle};
-    ghost use Rattle.descriptor_renderer.specs.declared.store.Store.{Store};
-    ghost use Rattle.descriptor_renderer.specs.Stores.{AreNamed, Asks, AsksAtLast, ComesOf, HasLayout, HoldEach};
+    ghost use Rattle.descriptor_renderer.specs.Stores.{AreNamed, Asks, AsksAtLast, BringsAtLast, ComesOf, HasLayout, HoldEach};
     ghost use Rattle.descriptor_renderer.specs.Stores.{IsAtRest, IsRefused, IsRefusedAtLast, Settles};
     ghost use Rattle.descriptor_renderer.specs.Stores.{StoreStays, coming_in, kept_of, most_of};
     ghost use Rattle.descriptor_renderer.specs.Stores.{number_of, side_of, slots_in};
@@ -36,16 +35,11 @@ impl<L: Drop, P: Drop, S: Drop, D: DescriptorDevice<L, P, S>> Store<L, P, S, D> 
 
     /// Asks for the sets that a request for so many needs besides the kept ones. If they are refused
     /// while sets are kept, these are given back, empty pools are destroyed, and all are asked for.
-    fn bring(
-        &mut self,
-        known: &SetLayout<L>,
-        layout: u32,
-        many: u32,
-    ) -> Result<(), AllocationError>
+    fn bring(&mut self, known: &SetLayout<L>, layout: u32, many: u32) -> Result<(), AllocationError>
         requires meant { IsMeant D.meaning known.now }
         requires layout { HasLayout layout self.old }
         requires rest { IsAtRest self.old }
-        ensures kept { many ≤ kept_of layout self.old → (result ≡ Ok ()) × (self.new ≡ self.old) }
+        ensures kept { many ≤ kept_of layout self.old → (result ≡ Ok tt) × (self.new ≡ self.old) }
         ensures asks { kept_of layout self.old < many → OnOk result (AsksAtLast known.now.layout
             (many - kept_of layout self.old) many self.old self.new) }
         ensures refused { IfErr result (λ error. IsRefusedAtLast known.now.layout
@@ -124,15 +118,14 @@ impl<L: Drop, P: Drop, S: Drop, D: DescriptorDevice<L, P, S>> Store<L, P, S, D> 
         ensures creates { OnOk result ((given : List SetHandle)
             × (handles.new.items ≡ handles.old.items ++ given) × (length given ≡ many)
             × AreNamed (number_of self.old) layout given (slots_in self.old) (slots_in self.new)) }
-        ensures kept { many ≤ kept_of layout self.old → (result ≡ Ok ())
+        ensures kept { many ≤ kept_of layout self.old → (result ≡ Ok tt)
             × (side_of self.new ≡ side_of self.old) }
-        ensures comes { kept_of layout self.old < many → OnOk result ((mid : Store L P S D)
-            × AsksAtLast known.now.layout (many - kept_of layout self.old) many self.old mid
-            × (side_of self.new ≡ side_of mid)) }
+        ensures comes { kept_of layout self.old < many → OnOk result (BringsAtLast known.now.layout
+            (many - kept_of layout self.old) many self.old self.new) }
         ensures refused { IfErr result (λ error. IsRefusedAtLast known.now.layout
             (many - kept_of layout self.old) many error self.old self.new) }
         ensures handles { OnErr result (handles.new.items ≡ handles.old.items) }
-        ensures settles { Settles (ComesOf known.now.layout layout) 0 self.old self.new }
+        ensures settles { Settles (ComesOf D.meaning known.now.layout layout) 0 self.old self.new }
         ensures stays { StoreStays (most_of self.old) self.old self.new }
     {
         self.bring(known, layout, many)?;

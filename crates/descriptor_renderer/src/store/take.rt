@@ -103,7 +103,7 @@ impl<L: Drop, P: Drop, S: Drop, D: DescriptorDevice<L, P, S>> Store<L, P, S, D> 
             HandlesNew known.now.layout layout (Use.Drawn frame) handle self.old self.new) }
         ensures refused { IfErr result (λ error. IsRefusedAtLast known.now.layout 1 1 error self.old
             self.new) }
-        ensures settles { Settles (ComesOf known.now.layout layout) frame self.old self.new }
+        ensures settles { Settles (ComesOf D.meaning known.now.layout layout) frame self.old self.new }
         ensures stays { StoreStays (most_of self.old) self.old self.new }
     {
         let place = self.take(known, layout)?;
@@ -128,7 +128,7 @@ impl<L: Drop, P: Drop, S: Drop, D: DescriptorDevice<L, P, S>> Store<L, P, S, D> 
             HandlesNew known.now.layout layout Use.Held handle self.old self.new) }
         ensures refused { IfErr result (λ error. IsRefusedAtLast known.now.layout 1 1 error self.old
             self.new) }
-        ensures settles { Settles (ComesOf known.now.layout layout) 0 self.old self.new }
+        ensures settles { Settles (ComesOf D.meaning known.now.layout layout) 0 self.old self.new }
         ensures stays { StoreStays (most_of self.old) self.old self.new }
     {
         let place = self.take(known, layout)?;
