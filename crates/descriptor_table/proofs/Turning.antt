@@ -175,28 +175,29 @@ module _ {T : Type 0} where
     pub here : test (slot_at new p) ≡ false
     pub others : (q : ℕ) → test (slot_at now q) ≡ false → test (slot_at new q) ≡ false
 
-  turn_one : (test : Slot T → Bool) (becomes : List (Slot T) → Slot T → Slot T → Type 0) (old now new : List (Slot T)) (p : ℕ) (u : Use) → Turning test becomes old now → p < length now → new ≡ (if test (slot_at now p) then with_use p u now else now) → (test (slot_at now p) ≡ true → Turning test becomes old new) → test (used_for u (slot_at now p)) ≡ false → TurnsOne test becomes old now new p
-  turn_one test becomes old now new p u turning within is step out = by_test (test (slot_at now p)) refl
-    where
-      by_test : (b : Bool) → test (slot_at now p) ≡ b → TurnsOne test becomes old now new p
-      by_test true e =
-          let all : new ≡ with_use p u now = is ∙ ap (λ b. if b then with_use p u now else now) e in
-          let here : test (slot_at new p) ≡ false = ap (λ l. test (slot_at l p)) all ∙ ap test (slot_set now p (used_for u (slot_at now p)) within) ∙ out in
-          record {
-            turning = step e;
-            here = here;
-            others = λ q none. elim (same_or q p) [
-              | inl same ↦ subst (λ q. test (slot_at new q) ≡ false) (sym same) here
-              | inr ne ↦ ap (λ l. test (slot_at l q)) all ∙ ap test (other_slots now p (used_for u (slot_at now p)) q ne) ∙ none
-            ];
-          }
-      by_test false e =
-          let all : new ≡ now = is ∙ ap (λ b. if b then with_use p u now else now) e in
-          record {
-            turning = subst (Turning test becomes old) (sym all) turning;
-            here = ap (λ l. test (slot_at l p)) all ∙ e;
-            others = λ q none. ap (λ l. test (slot_at l q)) all ∙ none;
-          }
+  module _ (test : Slot T → Bool) (becomes : List (Slot T) → Slot T → Slot T → Type 0) (old now new : List (Slot T)) (p : ℕ) (u : Use) (turning : Turning test becomes old now) (within : p < length now) where
+    turn_one : new ≡ (if test (slot_at now p) then with_use p u now else now) → (test (slot_at now p) ≡ true → Turning test becomes old new) → test (used_for u (slot_at now p)) ≡ false → TurnsOne test becomes old now new p
+    turn_one is step out = by_test (test (slot_at now p)) refl
+      where
+        by_test : (b : Bool) → test (slot_at now p) ≡ b → TurnsOne test becomes old now new p
+        by_test true e =
+            let all : new ≡ with_use p u now = is ∙ ap (λ b. if b then with_use p u now else now) e in
+            let here : test (slot_at new p) ≡ false = ap (λ l. test (slot_at l p)) all ∙ ap test (slot_set now p (used_for u (slot_at now p)) within) ∙ out in
+            record {
+              turning = step e;
+              here = here;
+              others = λ q none. elim (same_or q p) [
+                | inl same ↦ subst (λ q. test (slot_at new q) ≡ false) (sym same) here
+                | inr ne ↦ ap (λ l. test (slot_at l q)) all ∙ ap test (other_slots now p (used_for u (slot_at now p)) q ne) ∙ none
+              ];
+            }
+        by_test false e =
+            let all : new ≡ now = is ∙ ap (λ b. if b then with_use p u now else now) e in
+            record {
+              turning = subst (Turning test becomes old) (sym all) turning;
+              here = ap (λ l. test (slot_at l p)) all ∙ e;
+              others = λ q none. ap (λ l. test (slot_at l q)) all ∙ none;
+            }
 
   pub settle_one : (most : ℕ) (old now new : List (Slot T)) (p : ℕ) → Turning is_taken (IsSettled most) old now → p < length now → new ≡ if_taken p (next_use most now p) now → TurnsOne is_taken (IsSettled most) old now new p
   settle_one most old now new p turning within is = turn_one is_taken (IsSettled most) old now new p (next_use most now p) turning within is step (settled_out (may_stay most now (slot_at now p)) (slot_at now p))

@@ -67,6 +67,14 @@ module _ {T : Type 0} where
   abbrev pub lists_of : SetTable T → ℕ
   lists_of t = length t.chains.items
 
+  -- the number of the renderer, which its handles have
+  abbrev pub number_of : SetTable T → ℕ
+  number_of t = t.number
+
+  -- how many sets of a layout are kept at most
+  abbrev pub most_of : SetTable T → ℕ
+  most_of t = t.most
+
   -- how many slots are in the list
   abbrev pub count_of : ℕ → SetTable T → ℕ
   count_of k t = (chain_at t.chains.items k).count

@@ -57,14 +57,14 @@ pub struct SetTable<T> {
 
 impl<T> SetTable<T> {
     ghost use Rattle.descriptor_table.specs.Sets.{find, is_held};
-    ghost use Rattle.descriptor_table.specs.Tables.{HasRoom, Stays, lists_of, slots_of};
+    ghost use Rattle.descriptor_table.specs.Tables.{HasRoom, Stays, lists_of, most_of, number_of, slots_of};
 
     /// No sets, and no layouts. It allocates nothing.
     pub fn new(alloc: Global, number: u64) -> Self
         ensures slots { slots_of result ≡ [] }
         ensures lists { lists_of result ≡ 0 }
-        ensures number { result.number ≡ number }
-        ensures most { result.most ≡ u32.MAX }
+        ensures number { number_of result ≡ number }
+        ensures most { most_of result ≡ u32.MAX }
     {
         SetTable {
             number,
@@ -79,7 +79,7 @@ impl<T> SetTable<T> {
     /// The set of a handle, in this frame if one is open.
     #[inline]
     pub fn get(&self, handle: SetHandle, frame: u64, is_open: bool) -> Option<&T>
-        ensures { option_copied result ≡ find self.now.number frame is_open (slots_of self.now)
+        ensures { option_copied result ≡ find (number_of self.now) frame is_open (slots_of self.now)
             handle }
     {
         if handle.renderer != self.number {
@@ -95,7 +95,7 @@ impl<T> SetTable<T> {
     /// Whether a handle has a held set.
     #[inline]
     fn holds(&self, handle: SetHandle) -> bool
-        ensures { result ≡ is_held self.now.number (slots_of self.now) handle }
+        ensures { result ≡ is_held (number_of self.now) (slots_of self.now) handle }
     {
         if handle.renderer != self.number {
             return false;
@@ -119,8 +119,8 @@ impl<T> SetTable<T> {
         ensures fits { HasRoom additional self.old → IsOk result }
         ensures slots { slots_of self.new ≡ slots_of self.old }
         ensures lists { lists_of self.new ≡ lists_of self.old }
-        ensures number { self.new.number ≡ self.old.number }
-        ensures most { self.new.most ≡ self.old.most }
+        ensures number { number_of self.new ≡ number_of self.old }
+        ensures most { most_of self.new ≡ most_of self.old }
     {
         let places = self.slots.len() as u64 + u64::from(additional);
         if places > MOST {

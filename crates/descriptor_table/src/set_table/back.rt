@@ -10,13 +10,13 @@ impl<T> SetTable<T> {
     ghost use Rattle.descriptor_table.specs.Tables.{HasTaken, Leaves, MayGo, PicksAbove, Stays, Turns};
     ghost use Rattle.descriptor_table.specs.Tables.{IsSettled, WaitsFor, count, holds, if_held, if_taken};
     ghost use Rattle.descriptor_table.specs.Tables.{is_kept, is_taken, lists_of, may_stay, next_use};
-    ghost use Rattle.descriptor_table.specs.Tables.{place_at, slots_of, with_use};
+    ghost use Rattle.descriptor_table.specs.Tables.{most_of, place_at, slots_of, with_use};
 
     /// Whether a set that comes back is kept.
     #[inline]
     fn stays(&self, place: usize) -> bool
         requires { place < length (slots_of self.now) }
-        ensures { result ≡ may_stay self.now.most (slots_of self.now)
+        ensures { result ≡ may_stay (most_of self.now) (slots_of self.now)
             (slot_at (slots_of self.now) place) }
     {
         let slot = &self.slots[place];
@@ -28,7 +28,7 @@ impl<T> SetTable<T> {
     fn settle(&mut self, place: usize)
         requires { HasTaken place (slots_of self.old) }
         ensures slots { slots_of self.new ≡ with_use place
-            (next_use self.old.most (slots_of self.old) place) (slots_of self.old) }
+            (next_use (most_of self.old) (slots_of self.old) place) (slots_of self.old) }
         ensures stays { Stays self.old self.new }
     {
         if self.stays(place) {
@@ -41,7 +41,7 @@ impl<T> SetTable<T> {
 
     /// The sets that wait for a frame up to this one are kept or go.
     pub fn settle_due(&mut self, frame: u64)
-        ensures turns { Turns (is_due frame) (IsSettled self.old.most) (slots_of self.old)
+        ensures turns { Turns (is_due frame) (IsSettled (most_of self.old)) (slots_of self.old)
             (slots_of self.new) }
         ensures stays { Stays self.old self.new }
     {
@@ -55,7 +55,7 @@ impl<T> SetTable<T> {
     fn settle_taken(&mut self, place: usize)
         requires { place < length (slots_of self.old) }
         ensures slots { slots_of self.new ≡ if_taken place
-            (next_use self.old.most (slots_of self.old) place) (slots_of self.old) }
+            (next_use (most_of self.old) (slots_of self.old) place) (slots_of self.old) }
         ensures stays { Stays self.old self.new }
     {
         if !self.has_taken(place) {
@@ -84,7 +84,7 @@ impl<T> SetTable<T> {
             < length (slots_of self.old) }
         requires taken { (p : ℕ) → is_taken (slot_at (slots_of self.old) p) ≡ true → (i : ℕ)
             × (i < length handles.now) × (place_at handles.now i ≡ p) }
-        ensures turns { Turns is_taken (IsSettled self.old.most) (slots_of self.old)
+        ensures turns { Turns is_taken (IsSettled (most_of self.old)) (slots_of self.old)
             (slots_of self.new) }
         ensures stays { Stays self.old self.new }
     {

@@ -4,12 +4,12 @@ ghost use Rattle.std.specs.Prelude.{◌≡◌};
 use super::{KEPT, SetTable};
 
 impl<T> SetTable<T> {
-    ghost use Rattle.descriptor_table.specs.Tables.{count, is_kept, slots_of, waits};
+    ghost use Rattle.descriptor_table.specs.Tables.{count, is_kept, most_of, slots_of, waits};
 
     /// How many sets of a layout are kept at most.
     #[inline]
     pub fn most(&self) -> u32
-        ensures { result ≡ self.now.most }
+        ensures { result ≡ most_of self.now }
     {
         self.most
     }

@@ -9,7 +9,7 @@ impl<T> SetTable<T> {
     ghost use Rattle.descriptor_table.specs.declared.slot.Slot.{Slot};
     ghost use Rattle.descriptor_table.specs.Sets.{AreHeldOnce};
     ghost use Rattle.descriptor_table.specs.Slots.{IsNowhere, slot_at};
-    ghost use Rattle.descriptor_table.specs.Tables.{Stays, TookEach, place_at, slots_of, with_use};
+    ghost use Rattle.descriptor_table.specs.Tables.{Stays, TookEach, number_of, place_at, slots_of, with_use};
 
     /// The set of a slot that is in no list is in use for something else, and in none then.
     #[inline]
@@ -26,7 +26,7 @@ impl<T> SetTable<T> {
     /// Takes the held sets of handles. If a handle has none, or is in the list twice, no set is
     /// taken.
     pub fn take_each(&mut self, handles: &[SetHandle]) -> bool
-        ensures once { IsTrue result ↔ AreHeldOnce self.old.number (slots_of self.old)
+        ensures once { IsTrue result ↔ AreHeldOnce (number_of self.old) (slots_of self.old)
             handles.now }
         ensures took { IsTrue result → TookEach handles.now (length handles.now)
             (slots_of self.old) (slots_of self.new) }

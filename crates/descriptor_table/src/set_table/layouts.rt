@@ -8,7 +8,7 @@ use std::alloc::AllocError;
 impl<T> SetTable<T> {
     ghost use Rattle.descriptor_table.specs.Slots.{chain_at, slot_at};
     ghost use Rattle.descriptor_table.specs.Tables.{AreAged, Stays, aged, lists_of, lists_with};
-    ghost use Rattle.descriptor_table.specs.Tables.{slots_of};
+    ghost use Rattle.descriptor_table.specs.Tables.{most_of, number_of, slots_of};
 
     /// Reserves memory for one layout more.
     pub fn reserve_layout(&mut self) -> Result<(), AllocError>
@@ -16,8 +16,8 @@ impl<T> SetTable<T> {
         ensures fits { lists_of self.old + 3 ≤ vec_capacity self.old.chains → IsOk result }
         ensures slots { self.new.slots ≡ self.old.slots }
         ensures lists { lists_of self.new ≡ lists_of self.old }
-        ensures number { self.new.number ≡ self.old.number }
-        ensures most { self.new.most ≡ self.old.most }
+        ensures number { number_of self.new ≡ number_of self.old }
+        ensures most { most_of self.new ≡ most_of self.old }
     {
         self.chains.reserve(KEPT + 1)
     }
@@ -28,8 +28,8 @@ impl<T> SetTable<T> {
         ensures lists { lists_of self.new ≡ lists_of self.old + 1 }
         ensures room { vec_capacity self.new.chains ≡ vec_capacity self.old.chains }
         ensures slots { self.new.slots ≡ self.old.slots }
-        ensures number { self.new.number ≡ self.old.number }
-        ensures most { self.new.most ≡ self.old.most }
+        ensures number { number_of self.new ≡ number_of self.old }
+        ensures most { most_of self.new ≡ most_of self.old }
     {
         self.chains.push_reserved(Chain { first: 0, count: 0 });
     }
@@ -41,8 +41,8 @@ impl<T> SetTable<T> {
         ensures known { (p : ℕ) → p < length (slots_of self.old)
             → (slot_at (slots_of self.old) p).layout + 2 < lists_of self.old }
         ensures slots { self.new.slots ≡ self.old.slots }
-        ensures number { self.new.number ≡ self.old.number }
-        ensures most { self.new.most ≡ self.old.most }
+        ensures number { number_of self.new ≡ number_of self.old }
+        ensures most { most_of self.new ≡ most_of self.old }
     {
         if self.chains.len() > 0 {
             self.add_list();
@@ -77,10 +77,10 @@ impl<T> SetTable<T> {
     /// Keeps at most so many sets of a layout from now on. No more are kept now.
     pub fn set_most(&mut self, most: u32)
         requires { (k : ℕ) → 2 ≤ k → (chain_at self.old.chains.items k).count ≤ most }
-        ensures most { self.new.most ≡ most }
+        ensures most { most_of self.new ≡ most }
         ensures slots { self.new.slots ≡ self.old.slots }
         ensures lists { lists_of self.new ≡ lists_of self.old }
-        ensures number { self.new.number ≡ self.old.number }
+        ensures number { number_of self.new ≡ number_of self.old }
     {
         self.most = most;
     }

@@ -7,7 +7,7 @@ use crate::slot::{Chain, Use};
 impl<T> SetTable<T> {
     ghost use Rattle.descriptor_table.specs.Slots.{chain_at, goes, is_in, is_kept_of, slot_at};
     ghost use Rattle.descriptor_table.specs.Tables.{IsTaken, PicksFirst, Stays, count, count_of};
-    ghost use Rattle.descriptor_table.specs.Tables.{lists_of, slots_of, used_for, with_use};
+    ghost use Rattle.descriptor_table.specs.Tables.{lists_of, most_of, slots_of, used_for, with_use};
 
     /// A list by its number. One that there isn't has no slots.
     #[inline]
@@ -45,7 +45,7 @@ impl<T> SetTable<T> {
         requires list { list < lists_of self.old }
         requires taken { IsTaken place (slots_of self.old) }
         requires goes { is_in list (used_for used (slot_at (slots_of self.old) place)) ≡ true }
-        requires few { 2 ≤ list → count_of list self.old < self.old.most }
+        requires few { 2 ≤ list → count_of list self.old < most_of self.old }
         ensures slots { slots_of self.new ≡ with_use place used (slots_of self.old) }
         ensures stays { Stays self.old self.new }
     {
@@ -72,7 +72,7 @@ impl<T> SetTable<T> {
     #[inline]
     pub fn kept_count(&self, layout: u32) -> u32
         ensures count { result ≡ count (is_kept_of layout) (slots_of self.now) }
-        ensures few { result ≤ self.now.most }
+        ensures few { result ≤ most_of self.now }
     {
         self.chain(layout as usize + KEPT).count
     }

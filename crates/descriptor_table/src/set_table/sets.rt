@@ -10,7 +10,7 @@ impl<T> SetTable<T> {
     ghost use Rattle.descriptor_table.specs.Slots.{IsNowhere, goes, is_due, slot_at};
     ghost use Rattle.descriptor_table.specs.Tables.{GivesFirst, HasRoom, HasTaken, IsTaken};
     ghost use Rattle.descriptor_table.specs.Tables.{Puts, Renews, Stays, is_usable, lists_of, vacated};
-    ghost use Rattle.descriptor_table.specs.Tables.{renewed, slots_of, with_use};
+    ghost use Rattle.descriptor_table.specs.Tables.{most_of, number_of, renewed, slots_of, with_use};
 
     /// Puts a set into a slot, over memory that was reserved. Gives its place.
     #[inline]
@@ -19,8 +19,8 @@ impl<T> SetTable<T> {
         requires layout { layout + 2 < lists_of self.old }
         ensures puts { Puts layout set result (slots_of self.old) (slots_of self.new) }
         ensures reserve { (n : ℕ) → HasRoom (n + 1) self.old → HasRoom n self.new }
-        ensures number { self.new.number ≡ self.old.number }
-        ensures most { self.new.most ≡ self.old.most }
+        ensures number { number_of self.new ≡ number_of self.old }
+        ensures most { most_of self.new ≡ most_of self.old }
         ensures lists { lists_of self.new ≡ lists_of self.old }
     {
         if let Some(place) = self.pick(VACANT) {
@@ -74,8 +74,8 @@ impl<T> SetTable<T> {
         requires full { (q : ℕ) → is_usable (slot_at (slots_of self.old) q) ≡ false }
         ensures puts { Puts layout set result (slots_of self.old) (slots_of self.new) }
         ensures reserve { (n : ℕ) → HasRoom (n + 1) self.old → HasRoom n self.new }
-        ensures number { self.new.number ≡ self.old.number }
-        ensures most { self.new.most ≡ self.old.most }
+        ensures number { number_of self.new ≡ number_of self.old }
+        ensures most { most_of self.new ≡ most_of self.old }
         ensures lists { lists_of self.new ≡ lists_of self.old }
     {
         let place = self.slots.len();
@@ -96,7 +96,7 @@ impl<T> SetTable<T> {
         requires taken { IsTaken place (slots_of self.old) }
         requires next { (slot_at (slots_of self.old) place).generation < 4294967295 }
         requires used { IsNowhere used }
-        ensures renews { Renews self.old.number place used result (slots_of self.old)
+        ensures renews { Renews (number_of self.old) place used result (slots_of self.old)
             (slots_of self.new) }
         ensures stays { Stays self.old self.new }
     {
@@ -115,7 +115,7 @@ impl<T> SetTable<T> {
     pub fn hold(&mut self, place: usize) -> SetHandle
         requires taken { IsTaken place (slots_of self.old) }
         requires next { (slot_at (slots_of self.old) place).generation < 4294967295 }
-        ensures renews { Renews self.old.number place Use.Held result (slots_of self.old)
+        ensures renews { Renews (number_of self.old) place Use.Held result (slots_of self.old)
             (slots_of self.new) }
         ensures stays { Stays self.old self.new }
     {
@@ -127,7 +127,7 @@ impl<T> SetTable<T> {
     pub fn draw(&mut self, place: usize, frame: u64) -> SetHandle
         requires taken { HasTaken place (slots_of self.old) }
         requires next { (slot_at (slots_of self.old) place).generation < 4294967295 }
-        ensures renews { Renews self.old.number place (Use.Drawn frame) result (slots_of self.old)
+        ensures renews { Renews (number_of self.old) place (Use.Drawn frame) result (slots_of self.old)
             (slots_of self.new) }
         ensures stays { Stays self.old self.new }
     {
