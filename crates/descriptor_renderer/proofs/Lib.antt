@@ -1,1 +1,4 @@
+mod Emptied
+mod Owned
 mod Settling
+mod Showing

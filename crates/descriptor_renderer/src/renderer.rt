@@ -1,6 +1,6 @@
 //! The renderer: layouts that are added as it runs, sets of a frame, and sets that are held.
 ghost use Rattle.std.specs.Prelude.{◌≡◌, ◌≤◌, ◌++◌, [], ◌∷◌, length};
-ghost use Rattle.std.specs.Prelude.{IfErr, IfOk, IsSome, None, OnErr, OnOk, Some, false};
+ghost use Rattle.std.specs.Prelude.{IfErr, IfOk, IsSome, None, OnErr, OnOk, Some, false, true};
 ghost use Rattle.std.specs.Option.{option_copied};
 ghost use Rattle.gpu_descriptor.specs.Caller.SetLayouts.{IsMeant};
 ghost use Rattle.descriptor_table.specs.Sets.{KeepNames};
@@ -60,6 +60,7 @@ pub struct Renderer<L, P, S, D: DescriptorDevice<L, P, S>> {
     store: Store<L, P, S, D>,
     ghost rest: { IsAtRest store },
     ghost own: { AreOwn D.meaning (layouts_of layouts) (slots_in store) },
+    ghost begun: { is_open ≡ true → 1 ≤ frame },
     ghost rising: { IsUpTo frame (slots_in store) },
     ghost lists: { lists_in store ≡ lists_for (length (layouts_of layouts)) },
     ghost numbers_sets: { stores.number_of store ≡ renderer },

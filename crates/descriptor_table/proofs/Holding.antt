@@ -57,7 +57,7 @@ named_or (suc n) place p = elim (same_or (place n) p) [
   ]
 ]
 
-same_default : (l : List SetHandle) (i : ℕ) (d e : SetHandle) → i < length l → get_or l i d ≡ get_or l i e
+pub same_default : (l : List SetHandle) (i : ℕ) (d e : SetHandle) → i < length l → get_or l i d ≡ get_or l i e
 same_default [] i d e lt = absurd (omega arith)
 same_default (x ∷ l) zero d e lt = refl
 same_default (x ∷ l) (suc i) d e lt = same_default l i d e (omega arith)

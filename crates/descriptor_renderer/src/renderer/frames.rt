@@ -91,7 +91,8 @@ impl<L: Drop, P: Drop, S: Drop, D: DescriptorDevice<L, P, S>> Renderer<L, P, S, 
             (store_of self.old) (store_of self.new)) }
         ensures stay { OnErr result (KeepNames (sets_by self.old) (sets_by self.new)) }
         ensures early { ((IsErrOf result RenderError.NoFrame) ⊎ (IsErrOf result
-            RenderError.NoLayout)) → self.new ≡ self.old }
+            RenderError.NoLayout)) → (slots_of self.new ≡ slots_of self.old) × (side_of self.new
+            ≡ side_of self.old) }
         ensures rest { seen self.new ≡ record (seen self.old) { slots = slots_of self.new } }
     {
         if !self.is_open {

@@ -42,7 +42,8 @@ impl<L: Drop, P: Drop, S: Drop, D: DescriptorDevice<L, P, S>> Renderer<L, P, S, 
             → IfSome (layout_of self.old layout) (λ known. IsRefusedAtLast known.layout 1 1 error
             (store_of self.old) (store_of self.new)) }
         ensures stay { OnErr result (KeepNames (sets_by self.old) (sets_by self.new)) }
-        ensures early { IsErrOf result RenderError.NoLayout → self.new ≡ self.old }
+        ensures early { IsErrOf result RenderError.NoLayout → (slots_of self.new
+            ≡ slots_of self.old) × (side_of self.new ≡ side_of self.old) }
         ensures rest { seen self.new ≡ record (seen self.old) { slots = slots_of self.new } }
     {
         let Some(known) = self.layouts.get(layout) else {
@@ -83,7 +84,8 @@ impl<L: Drop, P: Drop, S: Drop, D: DescriptorDevice<L, P, S>> Renderer<L, P, S, 
             (store_of self.old) (store_of self.new)) }
         ensures stay { OnErr result (KeepNames (sets_by self.old) (sets_by self.new)) }
         ensures handles { OnErr result (handles.new.items ≡ handles.old.items) }
-        ensures early { IsErrOf result RenderError.NoLayout → self.new ≡ self.old }
+        ensures early { IsErrOf result RenderError.NoLayout → (slots_of self.new
+            ≡ slots_of self.old) × (side_of self.new ≡ side_of self.old) }
         ensures rest { seen self.new ≡ record (seen self.old) { slots = slots_of self.new } }
     {
         let Some(known) = self.layouts.get(layout) else {

@@ -1,0 +1,58 @@
+-- What is left after a cleanup.
+use Rattle.std.proofs.Common.{◌≡◌, ℕ, zero, suc, ◌+◌, ◌<◌, ◌≤◌, ◌&&◌, ◌||◌, nat_lt, Bool, true, false, not, List, [], ◌∷◌, length, if◌then◌else◌, Option, Some, None, is_some, inl, inr, refl, sym, ap, ◌∙◌, arith}
+use Rattle.std.proofs.lemmas.Bool.{ne_eqb}
+use Rattle.std.proofs.lemmas.List.{get_or_past}
+use Rattle.descriptor_table.specs.Sets.{joined, sets_in}
+use Rattle.descriptor_table.specs.Slots.{slot_at}
+use Rattle.descriptor_table.specs.Tables.{aged, count, holds, is_held_use, is_kept, is_waiting_use, vacated, waits}
+use Rattle.descriptor_table.specs.declared.slot.Slot.{Slot}
+use Rattle.descriptor_table.proofs.Counting.{below_or}
+use Rattle.descriptor_table.proofs.Counts.{count_none, none_count}
+use Rattle.descriptor_renderer.specs.Stores.{AreCleaned, is_placed}
+
+module _ {T : Type 0} where
+  -- no slot has a set
+  pub no_sets : (slots : List (Slot T)) → ((p : ℕ) → p < length slots → (slot_at slots p).set ≡ None) → sets_in slots ≡ []
+  no_sets [] none = refl
+  no_sets (s ∷ slots) none = ap (λ o. joined o (sets_in slots)) (none 0 (omega arith)) ∙ no_sets slots (λ p within. none (suc p) (omega arith))
+
+  not_kept : (s : Slot T) → is_kept (vacated s) ≡ false
+  not_kept s = ap (λ b. b && (nat_lt s.generation 4294967295 && true)) (ne_eqb (s.layout + 2) 0 (λ e. omega arith))
+
+  -- no set is kept
+  pub cleaned_kept : (old new : List (Slot T)) → AreCleaned old new → count is_kept new ≡ 0
+  cleaned_kept old new cleaned = none_count is_kept new (λ p. elim (below_or p (length old)) [
+    | inl within ↦ ap is_kept (cleaned.each p within) ∙ by_test (slot_at old p) (is_kept (slot_at old p)) refl
+    | inr past ↦ ap is_kept (get_or_past new p _ (let long = cleaned.long in omega arith))
+  ])
+    where
+      by_test : (o : Slot T) (b : Bool) → is_kept o ≡ b → is_kept (if b then vacated (aged o) else aged o) ≡ false
+      by_test o true e = not_kept (aged o)
+      by_test o false e = e
+
+  -- with none held, and none that waits, no set is left
+  pub cleaned_empty : (old new : List (Slot T)) → ((p : ℕ) → is_placed (slot_at old p) ≡ true) → AreCleaned old new → count holds old ≡ 0 → count waits old ≡ 0 → length (sets_in new) ≡ 0
+  cleaned_empty old new placed cleaned held waiting = ap length (no_sets new (λ p within. (
+      let long = cleaned.long in
+      let inside : p < length old = omega arith in
+      ap (λ (s : Slot T). s.set) (cleaned.each p inside) ∙ by_kept (slot_at old p) (is_kept (slot_at old p)) (slot_at old p).set refl refl (placed p) (count_none holds old refl held p) (count_none waits old refl waiting p)
+  )))
+    where
+      by_kept : (o : Slot T) (b : Bool) (x : Option T) → is_kept o ≡ b → o.set ≡ x → is_placed o ≡ true → holds o ≡ false → waits o ≡ false → (if b then vacated (aged o) else aged o).set ≡ None
+      by_kept o true x e is at h w = refl
+      by_kept o false None e is at h w = is
+      by_kept o false (Some x) e is at h w = absurd (
+          let no : is_placed o ≡ false = ap (λ y. not (is_some y) || (holds o || (waits o || is_kept o))) is ∙ ap (λ b. b || (waits o || is_kept o)) h ∙ ap (λ b. b || is_kept o) w ∙ e in
+          let both = sym at ∙ no in
+          cc)
+
+  -- a slot without a set has none that is held, or that waits
+  and_none : (b : Bool) → (b && false) ≡ false
+  and_none true = refl
+  and_none false = refl
+
+  pub none_held : (slots : List (Slot T)) → ((p : ℕ) → (slot_at slots p).set ≡ None) → count holds slots ≡ 0
+  none_held slots none = none_count holds slots (λ p. let s = slot_at slots p in ap (λ x. is_held_use s.used && is_some x) (none p) ∙ and_none (is_held_use s.used))
+
+  pub none_waits : (slots : List (Slot T)) → ((p : ℕ) → (slot_at slots p).set ≡ None) → count waits slots ≡ 0
+  none_waits slots none = none_count waits slots (λ p. let s = slot_at slots p in ap (λ x. is_waiting_use s.used && is_some x) (none p) ∙ and_none (is_waiting_use s.used))

@@ -1,0 +1,26 @@
+use Rattle.std.proofs.Common.{arith}
+use Rattle.descriptor_renderer.specs.LayoutRegistries.{layouts_of}
+use Rattle.descriptor_renderer.specs.Stores.{slots_in}
+use Rattle.descriptor_renderer.proofs.Owned.{own_stays}
+use Rattle.descriptor_renderer.proofs.Showing.{cleaned_names}
+use Rattle.descriptor_renderer.proofs.Emptied.{cleaned_empty, cleaned_kept}
+use Rattle.descriptor_renderer.proofs.renderer.Renderer.cleanup.Goals as goal
+
+pub invariant_of-self-clause-own : goal.invariant_of-self-clause-own
+invariant_of-self-clause-own g c = own_stays 0 (layouts_of c.args.self.now.layouts) c.args.self.now.store c.cleanup.new.self c.cleanup.ensures.settles c.args.self.now.own
+
+pub invariant_of-self-clause-rising : goal.invariant_of-self-clause-rising
+invariant_of-self-clause-rising g c = c.cleanup.ensures.settles.frames c.args.self.now.frame (omega arith) c.args.self.now.rising
+
+pub returns-clause-emptied : goal.returns-clause-emptied
+returns-clause-emptied g c = λ held waiting.
+    let old = c.args.self.now.store in
+    c.cleanup.ensures.emptied (cleaned_empty (slots_in old) (slots_in c.cleanup.new.self) c.args.self.now.rest.placed c.cleanup.ensures.cleaned held waiting)
+
+pub returns-clause-none_kept : goal.returns-clause-none_kept
+returns-clause-none_kept g c = cleaned_kept (slots_in c.args.self.now.store) (slots_in c.cleanup.new.self) c.cleanup.ensures.cleaned
+
+pub returns-clause-names : goal.returns-clause-names
+returns-clause-names g c =
+    let old = c.args.self.now in
+    cleaned_names old.frame old.is_open old.renderer (slots_in old.store) (slots_in c.cleanup.new.self) c.cleanup.ensures.cleaned

@@ -1,0 +1,49 @@
+use Rattle.std.proofs.Common.{◌+◌, ◌<◌, ◌++◌, slice_get, slice_index_or, sym, ap, subst, ◌∙◌, refl, arith}
+use Rattle.descriptor_table.specs.Sets.{NameEach, sets_of}
+use Rattle.descriptor_table.specs.declared.handle.SetHandle.{SetHandle}
+use Rattle.descriptor_table.proofs.Holding.{same_default}
+use Rattle.descriptor_table.specs.Slots.{slot_at}
+use Rattle.descriptor_renderer.specs.LayoutRegistries.{layouts_of}
+use Rattle.descriptor_renderer.specs.Stores.{slots_in}
+use Rattle.descriptor_renderer.proofs.Owned.{found_set, if_some, layout_here, layout_listed, own_comes, refused_names}
+use Rattle.descriptor_renderer.proofs.renderer.Renderer.create_sets.Goals as goal
+
+pub create_each-requires-clause-layout : goal.create_each-requires-clause-layout
+create_each-requires-clause-layout g c =
+    let old = c.args.self.now in
+    let here = layout_here old.layouts c.args.layout c.in-Some.known.now (sym c.in-Some.ensures.layout) in
+    subst (λ n. c.args.layout.place + 2 < n) (sym old.lists) (layout_listed (layouts_of old.layouts) c.args.layout.place c.in-Some.known.now here)
+
+pub invariant_of-self-2-clause-own : goal.invariant_of-self-2-clause-own
+invariant_of-self-2-clause-own g c =
+    let old = c.args.self.now in
+    let known = c.in-Some.known.now in
+    let here = layout_here old.layouts c.args.layout known (sym c.in-Some.ensures.layout) in
+    own_comes 0 c.args.layout.place (layouts_of old.layouts) known old.store c.create_each.new.self here c.create_each.ensures.settles old.own
+
+pub invariant_of-self-2-clause-rising : goal.invariant_of-self-2-clause-rising
+invariant_of-self-2-clause-rising g c = c.create_each.ensures.settles.frames c.args.self.now.frame (omega arith) c.args.self.now.rising
+
+pub returns-in-Ok-clause-creates : goal.returns-in-Ok-clause-creates
+returns-in-Ok-clause-creates g c =
+    let old = c.args.self.now in
+    let known = c.in-Some.known.now in
+    let here = layout_here old.layouts c.args.layout known (sym c.in-Some.ensures.layout) in
+    let own = own_comes 0 c.args.layout.place (layouts_of old.layouts) known old.store c.create_each.new.self here c.create_each.ensures.settles old.own in
+    let creates = c.in-Ok.ensures.creates in
+    let given = creates.0 in
+    let named = creates.1.2.1 in
+    let new = slots_in c.create_each.new.self in
+    let names = subst (λ n. NameEach given (sets_of n old.frame old.is_open (slots_in old.store)) (sets_of n old.frame old.is_open new)) old.numbers_sets (named.names old.frame old.is_open) in
+    if_some _ known _ c.in-Some.ensures.layout (given, creates.1.0 ∙ ap (λ l. l ++ given) c.reserve.ensures.items, creates.1.1, record {
+      names = names;
+      own = λ i e x lt found.
+          let h = slice_index_or given i e in
+          let same = ap (λ (h : SetHandle). h.place) (same_default given i e (record { renderer = 0; place = 0; generation = 0 }) lt) in
+          own h.place x known (found_set old.renderer old.frame old.is_open new h x found) (ap (λ p. slice_get (layouts_of old.layouts) (slot_at new p).layout) same ∙ ap (slice_get (layouts_of old.layouts)) (named.of_layout i lt) ∙ here);
+    })
+
+pub returns-in-Err-clause-stay : goal.returns-in-Err-clause-stay
+returns-in-Err-clause-stay g c =
+    let old = c.args.self.now in
+    refused_names c.in-Some.known.now.layout _ c.args.many c.in-Err.error old.store c.create_each.new.self c.in-Err.ensures.refused old.renderer old.frame old.is_open

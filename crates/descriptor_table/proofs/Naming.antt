@@ -1,0 +1,91 @@
+-- What handles name once slots changed.
+use Rattle.std.proofs.Common.{◌≡◌, ◌≢◌, ℕ, ◌<◌, ◌==◌, ◌&&◌, nat_le, nat_lt, Bool, true, false, List, length, slice_index_or, if◌then◌else◌, Option, None, inl, inr, refl, sym, ap, subst, ◌∙◌, eqb-true}
+use Rattle.descriptor_table.specs.Sets.{AreHeldOnce, KeepNames, LoseNames, find, is_last, sets_of}
+use Rattle.descriptor_table.specs.Slots.{is_live, slot_at}
+use Rattle.descriptor_table.specs.Tables.{place_at}
+use Rattle.descriptor_table.specs.declared.handle.SetHandle.{SetHandle}
+use Rattle.descriptor_table.specs.declared.slot.Slot.{Slot}
+use Rattle.descriptor_table.proofs.Chains.{and_true}
+use Rattle.descriptor_table.proofs.Holding.{held_is, named_or, same_default}
+
+if_both : {T : Type 0} (a b : Bool) (x : Option T) → (if a && b then x else None) ≡ (if a then (if b then x else None) else None)
+if_both true b x = refl
+if_both false b x = refl
+
+if_neither : {T : Type 0} (a b : Bool) (x : Option T) → b ≡ false → (if a && b then x else None) ≡ None
+if_neither true b x e = ap (λ c. if c then x else None) e
+if_neither false b x e = refl
+
+if_not : {T : Type 0} (a b : Bool) (x : Option T) → a ≡ false → (if a && b then x else None) ≡ None
+if_not a b x e = ap (λ c. if c && b then x else None) e
+
+handle_is : (a b : SetHandle) → a.renderer ≡ b.renderer → a.place ≡ b.place → a.generation ≡ b.generation → a ≡ b
+handle_is a b r p g =
+    ap (λ n. record { renderer = n; place = a.place; generation = a.generation }) r
+    ∙ ap (λ n. record { renderer = b.renderer; place = n; generation = a.generation }) p
+    ∙ ap (λ n. record { renderer = b.renderer; place = b.place; generation = n }) g
+
+module _ {T : Type 0} where
+  -- what the last handle of a slot names, in this frame if one is open
+  abbrev pub shown : ℕ → Bool → Slot T → Option T
+  shown frame opened s = if is_live frame opened s.used then s.set else None
+
+  -- the last handle of a slot is the same, and names what it named
+  pub record ShowsSame (frame : ℕ) (opened : Bool) (o n : Slot T) : Type 0 where
+    pub generation : n.generation ≡ o.generation
+    pub set : shown frame opened n ≡ shown frame opened o
+
+  pub names_kept : (number frame : ℕ) (opened : Bool) (old new : List (Slot T)) → ((p : ℕ) → ShowsSame frame opened (slot_at old p) (slot_at new p)) → KeepNames (sets_of number frame opened old) (sets_of number frame opened new)
+  names_kept number frame opened old new same = record {
+    set = λ h.
+        let o = slot_at old h.place in
+        let n = slot_at new h.place in
+        if_both (is_last number new h) (is_live frame opened n.used) n.set
+        ∙ ap (λ g. if (h.renderer == number) && (h.generation == g) then shown frame opened n else None) (same h.place).generation
+        ∙ ap (λ x. if is_last number old h then x else None) (same h.place).set
+        ∙ sym (if_both (is_last number old h) (is_live frame opened o.used) o.set);
+    given = λ h. ap (λ g. (h.renderer == number) && (nat_lt 0 h.generation && nat_le h.generation g)) (same h.place).generation;
+  }
+
+  -- sets that were held have no handle any more
+  module _ (number frame : ℕ) (opened : Bool) (handles : List SetHandle) (old new : List (Slot T)) (once : AreHeldOnce number old handles) (quiet : (i : ℕ) → i < length handles → is_live frame opened (slot_at new (place_at handles i)).used ≡ false) (generation : (i : ℕ) → i < length handles → (slot_at new (place_at handles i)).generation ≡ (slot_at old (place_at handles i)).generation) (rest : (p : ℕ) → ((i : ℕ) → i < length handles → place_at handles i ≢ p) → slot_at new p ≡ slot_at old p) where
+    abbrev zero_handle : SetHandle
+    zero_handle = record { renderer = 0; place = 0; generation = 0 }
+
+    abbrev handle_at : ℕ → SetHandle
+    handle_at i = slice_index_or handles i zero_handle
+
+    generations : (p : ℕ) → (slot_at new p).generation ≡ (slot_at old p).generation
+    generations p = elim (named_or (length handles) (place_at handles) p) [
+      | inl found ↦ subst (λ p. (slot_at new p).generation ≡ (slot_at old p).generation) found.2 (generation found.0 found.1)
+      | inr apart ↦ ap (λ (s : Slot T). s.generation) (rest p apart)
+    ]
+
+    not_last : (other : SetHandle) → ((i : ℕ) (e : SetHandle) → i < length handles → slice_index_or handles i e ≢ other) → (i : ℕ) → i < length handles → place_at handles i ≡ other.place → (b : Bool) → is_last number old other ≡ b → b ≡ false
+    not_last other apart i lt e false l = refl
+    not_last other apart i lt e true l =
+        let h = held_is number old (handle_at i) (once.held i zero_handle lt) in
+        let mine = and_true (other.renderer == number) (other.generation == (slot_at old other.place).generation) l in
+        let r = eqb-true other.renderer number mine.0 in
+        let g = eqb-true other.generation (slot_at old other.place).generation mine.1 in
+        absurd (apart i zero_handle lt (handle_is (handle_at i) other (h.renderer ∙ sym r) e (h.generation ∙ ap (λ p. (slot_at old p).generation) e ∙ sym g)))
+
+    abbrev finds : ℕ → Slot T → SetHandle → Option T
+    finds n s h = if ((h.renderer == number) && (h.generation == n)) && is_live frame opened s.used then s.set else None
+
+    pub names_lost : LoseNames handles (sets_of number frame opened old) (sets_of number frame opened new)
+    names_lost = record {
+      gone = λ i e lt.
+          let s = slot_at new (place_at handles i) in
+          ap (find number frame opened new) (same_default handles i e zero_handle lt) ∙ if_neither (is_last number new (handle_at i)) (is_live frame opened s.used) s.set (quiet i lt);
+      others = λ other apart. elim (named_or (length handles) (place_at handles) other.place) [
+        | inl found ↦
+          let no = not_last other apart found.0 found.1 found.2 (is_last number old other) refl in
+          let n = slot_at new other.place in
+          let o = slot_at old other.place in
+          if_not (is_last number new other) (is_live frame opened n.used) n.set (ap (λ g. (other.renderer == number) && (other.generation == g)) (generations other.place) ∙ no)
+          ∙ sym (if_not (is_last number old other) (is_live frame opened o.used) o.set no)
+        | inr none ↦ ap (λ (s : Slot T). finds s.generation s other) (rest other.place none)
+      ];
+      given = λ h. ap (λ g. (h.renderer == number) && (nat_lt 0 h.generation && nat_le h.generation g)) (generations h.place);
+    }
