@@ -1,4 +1,5 @@
 mod Emptied
 mod Owned
+mod Returned
 mod Settling
 mod Showing
