@@ -1,5 +1,9 @@
 mod Emptied
 mod Owned
+mod Back
+mod Cleaned
+mod Following
+mod Listed
 mod Returned
 mod Settling
 mod Showing

@@ -1,0 +1,116 @@
+-- Each kind of change of a slot follows what it was.
+use Rattle.std.proofs.Common.{◌≡◌, ◌≢◌, ℕ, ◌+◌, ◌<◌, ◌≤◌, ◌==◌, ◌&&◌, ◌||◌, nat_lt, not, Bool, true, false, List, [], length, is_some, inl, inr, refl, sym, ap, subst, ◌∙◌, arith, eq-eqb, ne_eqb}
+use Rattle.descriptor_table.specs.Slots.{frame_of, goes, in_list, is_in, slot_at}
+use Rattle.descriptor_table.specs.Tables.{Turns, Vacates, aged, holds, is_held_use, is_kept, is_taken, is_taken_use, is_waiting_use, place_at, stays, used_for, vacated, waits}
+use Rattle.descriptor_table.specs.declared.handle.SetHandle.{SetHandle}
+use Rattle.descriptor_table.specs.declared.slot.Slot.{Slot}
+use Rattle.descriptor_table.specs.declared.slot.Use.{Use}
+use Rattle.descriptor_table.specs.declared.slot.Use.TheVariants.{Held, Drawn, Waits, Kept, Going, Taken, Vacant}
+use Rattle.descriptor_table.proofs.Chains.{and_true}
+use Rattle.descriptor_table.proofs.Holding.{named_or}
+use Rattle.descriptor_renderer.specs.Stores.{IsBack, MayLeave, WaitEach, is_placed}
+use Rattle.descriptor_renderer.proofs.Settling.{Follows}
+
+-- what is_placed asks of a use
+abbrev placed_use : Use → ℕ → ℕ → Bool → Bool
+placed_use u layout generation full = not full || ((is_held_use u && full) || ((is_waiting_use u && full) || in_list (layout + 2) u layout generation full))
+
+going_use : (u : Use) (layout generation : ℕ) (full : Bool) → placed_use u layout generation full ≡ true → in_list 1 u layout generation full ≡ false
+going_use Held layout generation full e = refl
+going_use (Drawn f) layout generation full e = refl
+going_use (Waits f) layout generation full e = refl
+going_use Kept layout generation full e = ap (λ b. b && (nat_lt generation 4294967295 && full)) (ne_eqb 1 (layout + 2) (λ e. omega arith))
+going_use Going layout generation false e = refl
+going_use Going layout generation true e = absurd (let no : true ≡ false = sym e ∙ ap (λ b. b && true) (ne_eqb (layout + 2) 1 (λ e. omega arith)) in cc)
+going_use Taken layout generation full e = refl
+going_use Vacant layout generation full e = refl
+
+taken_use : (u : Use) (layout generation : ℕ) (full : Bool) → placed_use u layout generation full ≡ true → (is_taken_use u && full) ≡ false
+taken_use Held layout generation full e = refl
+taken_use (Drawn f) layout generation full e = refl
+taken_use (Waits f) layout generation full e = refl
+taken_use Kept layout generation full e = refl
+taken_use Going layout generation full e = refl
+taken_use Taken layout generation false e = refl
+taken_use Taken layout generation true e = absurd (cc)
+taken_use Vacant layout generation full e = refl
+
+module _ {T : Type 0} where
+  -- a set that is placed doesn't go, and no call has it
+  pub placed_stays : (s : Slot T) → is_placed s ≡ true → goes s ≡ false
+  placed_stays s e = going_use s.used s.layout s.generation (is_some s.set) e
+
+  pub placed_left : (s : Slot T) → is_placed s ≡ true → is_taken s ≡ false
+  placed_left s e = taken_use s.used s.layout s.generation (is_some s.set) e
+
+  module _ (f : ℕ) where
+    pub follows_same : (o n : Slot T) → n ≡ o → Follows f o n
+    follows_same o n e = record {
+      set = inr (ap (λ (s : Slot T). s.set) e, ap (λ (s : Slot T). s.layout) e);
+      placed = λ h. ap is_placed e ∙ h;
+      frame = λ g le up. (let same = ap frame_of e in omega arith);
+    }
+
+    pub follows_aged : (o n : Slot T) → n ≡ aged o → Follows f o n
+    follows_aged o n e = record {
+      set = inr (ap (λ (s : Slot T). s.set) e, ap (λ (s : Slot T). s.layout) e);
+      placed = λ h. ap is_placed e ∙ h;
+      frame = λ g le up. (let same = ap frame_of e in omega arith);
+    }
+
+    pub follows_vacated : (o n : Slot T) → n ≡ vacated o → Follows f o n
+    follows_vacated o n e = record {
+      set = inl (ap (λ (s : Slot T). s.set) e);
+      placed = λ h. ap is_placed e;
+      frame = λ g le up. (let same = ap frame_of e in omega arith);
+    }
+
+    -- a set that may stay is kept
+    pub follows_kept : (o n : Slot T) → n ≡ used_for Kept o → stays o ≡ true → Follows f o n
+    follows_kept o n e may = record {
+      set = inr (ap (λ (s : Slot T). s.set) e, ap (λ (s : Slot T). s.layout) e);
+      placed = λ h. ap is_placed e ∙ by_full (is_some o.set);
+      frame = λ g le up. (let same = ap frame_of e in omega arith);
+    }
+      where
+        by_full : (full : Bool) → placed_use Kept o.layout o.generation full ≡ true
+        by_full false = refl
+        by_full true = ap (λ b. b && (nat_lt o.generation 4294967295 && true)) (eq-eqb (o.layout + 2) (o.layout + 2) refl) ∙ ap (λ b. b && true) (and_true (not o.leaves) (nat_lt o.generation 4294967295) may).1
+
+    pub follows_back : (most : ℕ) (new : List (Slot T)) (o n : Slot T) → IsBack most new o n → Follows f o n
+    follows_back most new o n (inl kept) = follows_kept o n kept.0 kept.1
+    follows_back most new o n (inr gone) = follows_vacated o n gone.0
+
+    pub follows_left : (new : List (Slot T)) (o n : Slot T) → MayLeave new o n → Follows f o n
+    follows_left new o n (inl same) = follows_same o n same
+    follows_left new o n (inr gone) = follows_vacated o n gone
+
+    -- each slot follows, since those that turn do
+    pub follow_turns : (test : Slot T → Bool) (becomes : List (Slot T) → Slot T → Slot T → Type 0) (old new : List (Slot T)) → Turns test becomes old new → ((o n : Slot T) → becomes new o n → Follows f o n) → (p : ℕ) → Follows f (slot_at old p) (slot_at new p)
+    follow_turns test becomes old new turns each p = by_test (test (slot_at old p)) refl
+      where
+        by_test : (b : Bool) → test (slot_at old p) ≡ b → Follows f (slot_at old p) (slot_at new p)
+        by_test false e = follows_same (slot_at old p) (slot_at new p) (turns.rest p e)
+        by_test true e = each (slot_at old p) (slot_at new p) (turns.here p e)
+
+  -- a set waits for the frame
+  pub follows_waits : (f : ℕ) (o n : Slot T) → n ≡ used_for (Waits f) o → Follows f o n
+  follows_waits f o n e = record {
+    set = inr (ap (λ (s : Slot T). s.set) e, ap (λ (s : Slot T). s.layout) e);
+    placed = λ h. ap is_placed e ∙ by_full (is_some o.set);
+    frame = λ g le up. (let same = ap frame_of e in omega arith);
+  }
+    where
+      by_full : (full : Bool) → placed_use (Waits f) o.layout o.generation full ≡ true
+      by_full false = refl
+      by_full true = refl
+
+  -- the slots of handles follow, and so do all others, as they are as they were
+  pub follow_each : (f : ℕ) (handles : List SetHandle) (old new : List (Slot T)) → ((i : ℕ) → i < length handles → Follows f (slot_at old (place_at handles i)) (slot_at new (place_at handles i))) → ((p : ℕ) → ((i : ℕ) → i < length handles → place_at handles i ≢ p) → slot_at new p ≡ slot_at old p) → (p : ℕ) → Follows f (slot_at old p) (slot_at new p)
+  follow_each f handles old new named rest p = elim (named_or (length handles) (place_at handles) p) [
+    | inl found ↦ subst (λ p. Follows f (slot_at old p) (slot_at new p)) found.2 (named found.0 found.1)
+    | inr apart ↦ follows_same f (slot_at old p) (slot_at new p) (rest p apart)
+  ]
+
+  pub follow_same : (f : ℕ) (old new : List (Slot T)) → new ≡ old → (p : ℕ) → Follows f (slot_at old p) (slot_at new p)
+  follow_same f old new e p = follows_same f (slot_at old p) (slot_at new p) (ap (λ l. slot_at l p) e)

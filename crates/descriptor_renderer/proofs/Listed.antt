@@ -1,0 +1,55 @@
+-- Held sets that come back by their handles.
+use Rattle.std.proofs.Common.{◌≡◌, ◌≢◌, ℕ, ◌<◌, ◌&&◌, Bool, true, false, List, length, is_some, inl, inr, sym, ap, subst, ◌∙◌}
+use Rattle.descriptor_table.specs.Sets.{AreHeldOnce, sets_in}
+use Rattle.descriptor_table.specs.Slots.{is_in, slot_at}
+use Rattle.descriptor_table.specs.Tables.{TookEach, Turns, WaitsFor, is_held_use, is_taken, place_at, used_for}
+use Rattle.descriptor_table.specs.declared.handle.SetHandle.{SetHandle}
+use Rattle.descriptor_table.specs.declared.slot.Slot.{Slot}
+use Rattle.descriptor_table.specs.declared.slot.Use.TheVariants.{Waits}
+use Rattle.descriptor_table.proofs.Chains.{and_true}
+use Rattle.descriptor_table.proofs.Holding.{named_or}
+use Rattle.descriptor_table.proofs.Leaving.{same_sets}
+use Rattle.descriptor_renderer.specs.Stores.{WaitEach}
+
+module _ {T : Type 0} (handles : List SetHandle) (old now : List (Slot T)) (took : TookEach handles (length handles) old now) where
+  -- those that were taken are those of the handles
+  pub took_named : ((p : ℕ) → is_taken (slot_at old p) ≡ false) → (p : ℕ) → is_taken (slot_at now p) ≡ true → (i : ℕ) × (i < length handles) × (place_at handles i ≡ p)
+  took_named none p e = elim (named_or (length handles) (place_at handles) p) [
+    | inl found ↦ found
+    | inr apart ↦ absurd (let no : true ≡ false = sym e ∙ ap is_taken (took.rest p apart) ∙ none p in cc)
+  ]
+
+  pub took_sets : sets_in now ≡ sets_in old
+  took_sets = same_sets old now took.long (λ p. elim (named_or (length handles) (place_at handles) p) [
+    | inl found ↦ subst (λ p. (slot_at now p).set ≡ (slot_at old p).set) found.2 (ap (λ (s : Slot T). s.set) (took.named found.0 found.1))
+    | inr apart ↦ ap (λ (s : Slot T). s.set) (took.rest p apart)
+  ])
+
+  -- none goes
+  pub took_none : ((p : ℕ) → is_in 1 (slot_at old p) ≡ false) → (p : ℕ) → is_in 1 (slot_at now p) ≡ false
+  took_none none p = elim (named_or (length handles) (place_at handles) p) [
+    | inl found ↦ subst (λ p. is_in 1 (slot_at now p) ≡ false) found.2 (ap (is_in 1) (took.named found.0 found.1))
+    | inr apart ↦ ap (is_in 1) (took.rest p apart) ∙ none p
+  ]
+
+  -- each set of a handle was taken
+  pub took_full : (number : ℕ) → AreHeldOnce number old handles → (i : ℕ) → i < length handles → is_taken (slot_at now (place_at handles i)) ≡ true
+  took_full number once i lt =
+      let z : SetHandle = record { renderer = 0; place = 0; generation = 0 } in
+      let held = once.held i z lt in
+      ap is_taken (took.named i lt) ∙ full (slot_at old (place_at handles i)) _ held
+    where
+      full : (s : Slot T) (b : Bool) → (b && (is_held_use s.used && is_some s.set)) ≡ true → is_some s.set ≡ true
+      full s b e = (and_true (is_held_use s.used) (is_some s.set) (and_true b (is_held_use s.used && is_some s.set) e).1).1
+
+  -- all others were not
+  pub took_rest : ((p : ℕ) → is_taken (slot_at old p) ≡ false) → (p : ℕ) → ((i : ℕ) → i < length handles → place_at handles i ≢ p) → is_taken (slot_at now p) ≡ false
+  took_rest none p apart = ap is_taken (took.rest p apart) ∙ none p
+
+  -- those that wait are those of the handles
+  pub waited : (number frame : ℕ) (new : List (Slot T)) → AreHeldOnce number old handles → ((p : ℕ) → is_taken (slot_at old p) ≡ false) → Turns is_taken (WaitsFor frame) now new → WaitEach handles frame old new
+  waited number frame new once none turns = record {
+    long = turns.long ∙ took.long;
+    named = λ i lt. turns.here (place_at handles i) (took_full number once i lt) ∙ ap (used_for (Waits frame)) (took.named i lt);
+    rest = λ p apart. turns.rest p (took_rest none p apart) ∙ took.rest p apart;
+  }
