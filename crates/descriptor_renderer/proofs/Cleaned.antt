@@ -11,6 +11,8 @@ use Rattle.descriptor_table.proofs.Counts.{count_none}
 use Rattle.descriptor_table.proofs.Leaving.{same_sets}
 use Rattle.descriptor_table.proofs.Renewing.{kept_full}
 use Rattle.descriptor_renderer.specs.Stores.{AreCleaned}
+use Rattle.descriptor_renderer.proofs.Following.{follows_aged, follows_same, follows_then, follows_vacated}
+use Rattle.descriptor_renderer.proofs.Settling.{Follows}
 
 module _ {T : Type 0} where
   past : (l : List (Slot T)) (p : ℕ) → length l ≤ p → slot_at l p ≡ record { generation = 0; layout = 0; used = Taken; leaves = false; set = None }
@@ -68,3 +70,18 @@ module _ {T : Type 0} where
       by_test : (b : Bool) → is_kept (slot_at old p) ≡ b → is_kept (if b then vacated (aged (slot_at old p)) else aged (slot_at old p)) ≡ false
       by_test true e = vacant_out (aged (slot_at old p))
       by_test false e = e
+
+  pub follow_cleaned : (f : ℕ) (old new : List (Slot T)) → AreCleaned old new → (p : ℕ) → Follows f (slot_at old p) (slot_at new p)
+  follow_cleaned f old new c p = elim (below_or p (length old)) [
+    | inl lt ↦ by_test (is_kept (slot_at old p)) refl (c.each p lt)
+    | inr le ↦ (let long = c.long in follows_same f (slot_at old p) (slot_at new p) (past new p (omega arith) ∙ sym (past old p le)))
+  ]
+    where
+      by_test : (b : Bool) → is_kept (slot_at old p) ≡ b → slot_at new p ≡ (if is_kept (slot_at old p) then vacated (aged (slot_at old p)) else aged (slot_at old p)) → Follows f (slot_at old p) (slot_at new p)
+      by_test true e is =
+          let o = slot_at old p in
+          let gone : slot_at new p ≡ vacated (aged o) = is ∙ ap (λ c. if c then vacated (aged o) else aged o) e in
+          follows_then f o (aged o) (slot_at new p) (follows_aged f o (aged o) refl) (follows_vacated f (aged o) (slot_at new p) gone)
+      by_test false e is =
+          let o = slot_at old p in
+          follows_aged f o (slot_at new p) (is ∙ ap (λ c. if c then vacated (aged o) else aged o) e)

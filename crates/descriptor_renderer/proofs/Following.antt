@@ -65,6 +65,19 @@ module _ {T : Type 0} where
       frame = λ g le up. (let same = ap frame_of e in omega arith);
     }
 
+    pub follows_then : (o m n : Slot T) → Follows f o m → Follows f m n → Follows f o n
+    follows_then o m n one two = record {
+      set = elim two.set [
+        | inl gone ↦ inl gone
+        | inr same ↦ elim one.set [
+          | inl gone ↦ inl (same.0 ∙ gone)
+          | inr was ↦ inr (same.0 ∙ was.0, same.1 ∙ was.1)
+        ]
+      ];
+      placed = λ h. two.placed (one.placed h);
+      frame = λ g le up. two.frame g le (one.frame g le up);
+    }
+
     -- a set that may stay is kept
     pub follows_kept : (o n : Slot T) → n ≡ used_for Kept o → stays o ≡ true → Follows f o n
     follows_kept o n e may = record {
