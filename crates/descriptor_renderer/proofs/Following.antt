@@ -36,12 +36,13 @@ taken_use Taken layout generation true e = absurd (cc)
 taken_use Vacant layout generation full e = refl
 
 module _ {T : Type 0} where
-  -- a set that is placed doesn't go, and no call has it
-  pub placed_stays : (s : Slot T) → is_placed s ≡ true → goes s ≡ false
-  placed_stays s e = going_use s.used s.layout s.generation (is_some s.set) e
+  -- no set goes that is placed, and no call has one
+  module _ (slots : List (Slot T)) (placed : (p : ℕ) → is_placed (slot_at slots p) ≡ true) where
+    pub none_goes : (p : ℕ) → goes (slot_at slots p) ≡ false
+    none_goes p = let s = slot_at slots p in going_use s.used s.layout s.generation (is_some s.set) (placed p)
 
-  pub placed_left : (s : Slot T) → is_placed s ≡ true → is_taken s ≡ false
-  placed_left s e = taken_use s.used s.layout s.generation (is_some s.set) e
+    pub none_taken : (p : ℕ) → is_taken (slot_at slots p) ≡ false
+    none_taken p = let s = slot_at slots p in taken_use s.used s.layout s.generation (is_some s.set) (placed p)
 
   module _ (f : ℕ) where
     pub follows_same : (o n : Slot T) → n ≡ o → Follows f o n

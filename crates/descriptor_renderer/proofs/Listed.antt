@@ -1,15 +1,23 @@
 -- Held sets that come back by their handles.
 use Rattle.std.proofs.Common.{◌≡◌, ◌≢◌, ℕ, ◌<◌, ◌&&◌, Bool, true, false, List, length, is_some, inl, inr, sym, ap, subst, ◌∙◌}
 use Rattle.descriptor_table.specs.Sets.{AreHeldOnce, sets_in}
-use Rattle.descriptor_table.specs.Slots.{is_in, slot_at}
-use Rattle.descriptor_table.specs.Tables.{TookEach, Turns, WaitsFor, is_held_use, is_taken, place_at, used_for}
+use Rattle.descriptor_table.specs.Slots.{goes, is_in, slot_at}
+use Rattle.descriptor_table.specs.Tables.{IsSettled, TookEach, Turns, Vacates, WaitsFor, is_held_use, is_taken, place_at, used_for}
 use Rattle.descriptor_table.specs.declared.handle.SetHandle.{SetHandle}
 use Rattle.descriptor_table.specs.declared.slot.Slot.{Slot}
 use Rattle.descriptor_table.specs.declared.slot.Use.TheVariants.{Waits}
 use Rattle.descriptor_table.proofs.Chains.{and_true}
 use Rattle.descriptor_table.proofs.Holding.{named_or}
 use Rattle.descriptor_table.proofs.Leaving.{same_sets}
-use Rattle.descriptor_renderer.specs.Stores.{WaitEach}
+use Rattle.descriptor_table.proofs.Turning.{taken_is}
+use Rattle.descriptor_renderer.specs.Stores.{IsBack, WaitEach}
+use Rattle.descriptor_renderer.proofs.Back.{came_back}
+
+-- the sets of the handles came back, and all else is as it was
+pub record BackEach {T : Type 0} (handles : List SetHandle) (most : ℕ) (old new : List (Slot T)) : Type 0 where
+  pub long : length new ≡ length old
+  pub named : (i : ℕ) → i < length handles → IsBack most new (slot_at old (place_at handles i)) (slot_at new (place_at handles i))
+  pub rest : (p : ℕ) → ((i : ℕ) → i < length handles → place_at handles i ≢ p) → slot_at new p ≡ slot_at old p
 
 module _ {T : Type 0} (handles : List SetHandle) (old now : List (Slot T)) (took : TookEach handles (length handles) old now) where
   -- those that were taken are those of the handles
@@ -53,3 +61,13 @@ module _ {T : Type 0} (handles : List SetHandle) (old now : List (Slot T)) (took
     named = λ i lt. turns.here (place_at handles i) (took_full number once i lt) ∙ ap (used_for (Waits frame)) (took.named i lt);
     rest = λ p apart. turns.rest p (took_rest none p apart) ∙ took.rest p apart;
   }
+
+  -- those that settled came back, and those of them that went were given back
+  pub back_each : (number most : ℕ) (mid new : List (Slot T)) → AreHeldOnce number old handles → ((p : ℕ) → is_taken (slot_at old p) ≡ false) → ((p : ℕ) → goes (slot_at old p) ≡ false) → Turns is_taken (IsSettled most) now mid → Turns goes Vacates mid new → BackEach handles most old new
+  back_each number most mid new once none none_go settles gives =
+      let back = came_back is_taken most now mid new (λ s e. (taken_is s e).1) (took_none none_go) settles gives in
+      record {
+        long = back.long ∙ took.long;
+        named = λ i lt. (let p = place_at handles i in subst (λ o. IsBack most new o (slot_at new p)) (took.named i lt) (back.here p (took_full number once i lt)));
+        rest = λ p apart. back.rest p (took_rest none p apart) ∙ took.rest p apart;
+      }

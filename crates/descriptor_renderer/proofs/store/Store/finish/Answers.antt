@@ -6,7 +6,7 @@ use Rattle.descriptor_table.specs.Tables.{slots_of}
 use Rattle.descriptor_table.proofs.Turning.{due_full}
 use Rattle.descriptor_renderer.specs.Stores.{IsBack}
 use Rattle.descriptor_renderer.proofs.Back.{back_not_due, came_back, settled_sets}
-use Rattle.descriptor_renderer.proofs.Following.{follow_turns, follows_back, placed_stays}
+use Rattle.descriptor_renderer.proofs.Following.{follow_turns, follows_back, none_goes}
 use Rattle.descriptor_renderer.proofs.Settling.{settled}
 use Rattle.descriptor_renderer.proofs.store.Store.finish.Goals as goal
 
@@ -30,7 +30,7 @@ returns-clause-back g c =
     let old = slots_of c.args.self.now.table in
     let gives = c.give-2.ensures.gives in
     record {
-      turns = came_back (is_due c.args.frame) c.args.self.now.table.most old (slots_of c.settle_due.new.self) (slots_of c.give-2.new.self.table) (due_full c.args.frame) (λ p. placed_stays (slot_at old p) (c.requires.rest.placed p)) c.settle_due.ensures.turns gives.turns;
+      turns = came_back (is_due c.args.frame) c.args.self.now.table.most old (slots_of c.settle_due.new.self) (slots_of c.give-2.new.self.table) (due_full c.args.frame) (none_goes old c.requires.rest.placed) c.settle_due.ensures.turns gives.turns;
       sets = gives.sets;
       returns = gives.returns;
     }
@@ -40,12 +40,12 @@ returns-clause-none_due g c =
     let old = slots_of c.args.self.now.table in
     let new = slots_of c.give-2.new.self.table in
     let most = c.args.self.now.table.most in
-    back_not_due c.args.frame most old new (came_back (is_due c.args.frame) most old (slots_of c.settle_due.new.self) new (due_full c.args.frame) (λ p. placed_stays (slot_at old p) (c.requires.rest.placed p)) c.settle_due.ensures.turns c.give-2.ensures.gives.turns)
+    back_not_due c.args.frame most old new (came_back (is_due c.args.frame) most old (slots_of c.settle_due.new.self) new (due_full c.args.frame) (none_goes old c.requires.rest.placed) c.settle_due.ensures.turns c.give-2.ensures.gives.turns)
 
 pub returns-clause-settles : goal.returns-clause-settles
 returns-clause-settles g c =
     let old = slots_of c.args.self.now.table in
     let new = slots_of c.give-2.new.self.table in
     let most = c.args.self.now.table.most in
-    let turns = came_back (is_due c.args.frame) most old (slots_of c.settle_due.new.self) new (due_full c.args.frame) (λ p. placed_stays (slot_at old p) (c.requires.rest.placed p)) c.settle_due.ensures.turns c.give-2.ensures.gives.turns in
+    let turns = came_back (is_due c.args.frame) most old (slots_of c.settle_due.new.self) new (due_full c.args.frame) (none_goes old c.requires.rest.placed) c.settle_due.ensures.turns c.give-2.ensures.gives.turns in
     settled 0 c.args.self.now c.give-2.new.self (follow_turns 0 (is_due c.args.frame) (IsBack most) old new turns (follows_back 0 most new)) (ap (λ v. v.items) c.give-2.ensures.coming ∙ c.requires.rest.none_coming) c.requires.rest
