@@ -2,7 +2,7 @@
 use Rattle.std.proofs.Common.{◌≡◌, ℕ, ◌+◌, ◌<◌, ◌≤◌, ◌&&◌, nat_lt, ne_eqb, Bool, true, false, if◌then◌else◌, List, length, None, inl, inr, refl, sym, ap, ◌∙◌, arith}
 use Rattle.std.proofs.lemmas.List.{get_or_past}
 use Rattle.descriptor_table.specs.Sets.{sets_in}
-use Rattle.descriptor_table.specs.Slots.{is_in, slot_at}
+use Rattle.descriptor_table.specs.Slots.{goes, is_in, slot_at}
 use Rattle.descriptor_table.specs.Tables.{AreAged, MayGo, Turns, Vacates, aged, count, is_kept, used_for, vacated}
 use Rattle.descriptor_table.specs.declared.slot.Use.TheVariants.{Going, Taken}
 use Rattle.descriptor_table.specs.declared.slot.Slot.{Slot}
@@ -11,11 +11,12 @@ use Rattle.descriptor_table.proofs.Counts.{count_none}
 use Rattle.descriptor_table.proofs.Leaving.{same_sets}
 use Rattle.descriptor_table.proofs.Renewing.{kept_full}
 use Rattle.descriptor_renderer.specs.Stores.{AreCleaned}
+use Rattle.descriptor_renderer.proofs.Back.{turned_sets}
 use Rattle.descriptor_renderer.proofs.Following.{follows_aged, follows_same, follows_then, follows_vacated}
 use Rattle.descriptor_renderer.proofs.Settling.{Follows}
 
 module _ {T : Type 0} where
-  past : (l : List (Slot T)) (p : ℕ) → length l ≤ p → slot_at l p ≡ record { generation = 0; layout = 0; used = Taken; leaves = false; set = None }
+  pub past : (l : List (Slot T)) (p : ℕ) → length l ≤ p → slot_at l p ≡ record { generation = 0; layout = 0; used = Taken; leaves = false; set = None }
   past l p le = get_or_past l p (record { generation = 0; layout = 0; used = Taken; leaves = false; set = None }) le
 
   pub aged_sets : (old new : List (Slot T)) → AreAged old new → sets_in new ≡ sets_in old
@@ -25,16 +26,12 @@ module _ {T : Type 0} where
   ])
 
   pub gone_sets : (test : Slot T → Bool) (old new : List (Slot T)) → Turns test MayGo old new → sets_in new ≡ sets_in old
-  gone_sets test old new t = same_sets old new t.long (λ p. by_test p (test (slot_at old p)) refl)
-    where
-      by_test : (p : ℕ) (b : Bool) → test (slot_at old p) ≡ b → (slot_at new p).set ≡ (slot_at old p).set
-      by_test p false e = ap (λ (s : Slot T). s.set) (t.rest p e)
-      by_test p true e = elim (t.here p e) [
-        | inl same ↦ ap (λ (s : Slot T). s.set) same
-        | inr goes ↦ ap (λ (s : Slot T). s.set) goes
-      ]
+  gone_sets test old new t = turned_sets test MayGo old new t (λ o n may. elim may [
+    | inl same ↦ ap (λ (s : Slot T). s.set) same
+    | inr going ↦ ap (λ (s : Slot T). s.set) going
+  ])
 
-  pub cleaned : (old a b new : List (Slot T)) → ((p : ℕ) → is_in 1 (slot_at old p) ≡ false) → AreAged old a → Turns is_kept MayGo a b → ((layout : ℕ) → count (is_in (layout + 2)) b ≤ 0) → Turns (is_in 1) Vacates b new → AreCleaned old new
+  pub cleaned : (old a b new : List (Slot T)) → ((p : ℕ) → goes (slot_at old p) ≡ false) → AreAged old a → Turns is_kept MayGo a b → ((layout : ℕ) → count (is_in (layout + 2)) b ≤ 0) → Turns goes Vacates b new → AreCleaned old new
   cleaned old a b new none aged_all trims few gives = record {
     long = gives.long ∙ trims.long ∙ aged_all.long;
     each = λ p lt. by_test p lt (is_kept (slot_at old p)) refl;
@@ -44,32 +41,18 @@ module _ {T : Type 0} where
       by_test p lt false e =
           let here = aged_all.each p lt in
           let same : slot_at b p ≡ slot_at a p = trims.rest p (ap is_kept here ∙ e) in
-          let stays : slot_at new p ≡ slot_at b p = gives.rest p (ap (is_in 1) (same ∙ here) ∙ none p) in
+          let stays : slot_at new p ≡ slot_at b p = gives.rest p (ap goes (same ∙ here) ∙ none p) in
           stays ∙ same ∙ here ∙ sym (ap (λ c. if c then vacated (aged (slot_at old p)) else aged (slot_at old p)) e)
       by_test p lt true e =
           let here = aged_all.each p lt in
           let kept : is_kept (slot_at a p) ≡ true = ap is_kept here ∙ e in
-          let goes : slot_at b p ≡ used_for Going (slot_at a p) = elim (trims.here p kept) [
+          let leaves : slot_at b p ≡ used_for Going (slot_at a p) = elim (trims.here p kept) [
             | inl same ↦ absurd (let k = (slot_at a p).layout in let out = count_none (is_in (k + 2)) b refl (let f = few k in omega arith) p in let no : true ≡ false = sym kept ∙ ap (is_in (k + 2)) (sym same) ∙ out in cc)
             | inr going ↦ going
           ] in
           let full = kept_full (slot_at a p) kept in
-          let gone : slot_at new p ≡ vacated (slot_at b p) = gives.here p (ap (is_in 1) goes ∙ full) in
-          gone ∙ ap vacated (goes ∙ ap (used_for Going) here) ∙ sym (ap (λ c. if c then vacated (aged (slot_at old p)) else aged (slot_at old p)) e)
-
-  -- no set is kept then
-  pub none_kept : (old new : List (Slot T)) → AreCleaned old new → (p : ℕ) → is_kept (slot_at new p) ≡ false
-  none_kept old new c p = elim (below_or p (length old)) [
-    | inl lt ↦ ap is_kept (c.each p lt) ∙ by_test (is_kept (slot_at old p)) refl
-    | inr le ↦ (let long = c.long in ap is_kept (past new p (omega arith)))
-  ]
-    where
-      vacant_out : (s : Slot T) → is_kept (vacated s) ≡ false
-      vacant_out s = ap (λ b. b && (nat_lt s.generation 4294967295 && true)) (ne_eqb (s.layout + 2) 0 (λ e. omega arith))
-
-      by_test : (b : Bool) → is_kept (slot_at old p) ≡ b → is_kept (if b then vacated (aged (slot_at old p)) else aged (slot_at old p)) ≡ false
-      by_test true e = vacant_out (aged (slot_at old p))
-      by_test false e = e
+          let gone : slot_at new p ≡ vacated (slot_at b p) = gives.here p (ap goes leaves ∙ full) in
+          gone ∙ ap vacated (leaves ∙ ap (used_for Going) here) ∙ sym (ap (λ c. if c then vacated (aged (slot_at old p)) else aged (slot_at old p)) e)
 
   pub follow_cleaned : (f : ℕ) (old new : List (Slot T)) → AreCleaned old new → (p : ℕ) → Follows f (slot_at old p) (slot_at new p)
   follow_cleaned f old new c p = elim (below_or p (length old)) [

@@ -1,7 +1,7 @@
 -- Held sets that come back by their handles.
 use Rattle.std.proofs.Common.{◌≡◌, ◌≢◌, ℕ, ◌<◌, ◌&&◌, Bool, true, false, List, length, is_some, inl, inr, sym, ap, subst, ◌∙◌}
 use Rattle.descriptor_table.specs.Sets.{AreHeldOnce, sets_in}
-use Rattle.descriptor_table.specs.Slots.{goes, is_in, slot_at}
+use Rattle.descriptor_table.specs.Slots.{goes, slot_at}
 use Rattle.descriptor_table.specs.Tables.{IsSettled, TookEach, Turns, Vacates, WaitsFor, is_held_use, is_taken, place_at, used_for}
 use Rattle.descriptor_table.specs.declared.handle.SetHandle.{SetHandle}
 use Rattle.descriptor_table.specs.declared.slot.Slot.{Slot}
@@ -34,10 +34,10 @@ module _ {T : Type 0} (handles : List SetHandle) (old now : List (Slot T)) (took
   ])
 
   -- none goes
-  pub took_none : ((p : ℕ) → is_in 1 (slot_at old p) ≡ false) → (p : ℕ) → is_in 1 (slot_at now p) ≡ false
+  pub took_none : ((p : ℕ) → goes (slot_at old p) ≡ false) → (p : ℕ) → goes (slot_at now p) ≡ false
   took_none none p = elim (named_or (length handles) (place_at handles) p) [
-    | inl found ↦ subst (λ p. is_in 1 (slot_at now p) ≡ false) found.2 (ap (is_in 1) (took.named found.0 found.1))
-    | inr apart ↦ ap (is_in 1) (took.rest p apart) ∙ none p
+    | inl found ↦ subst (λ p. goes (slot_at now p) ≡ false) found.2 (ap goes (took.named found.0 found.1))
+    | inr apart ↦ ap goes (took.rest p apart) ∙ none p
   ]
 
   -- each set of a handle was taken
