@@ -5,5 +5,8 @@ mod Cleaned
 mod Following
 mod Listed
 mod Returned
+mod Cleared
+mod Given
+mod Results
 mod Settling
 mod Showing

@@ -43,6 +43,7 @@ impl<L: Drop, P: Drop, S: Drop, D: DescriptorDevice<L, P, S>> Store<L, P, S, D> 
         ensures cleans { Cleans self.old self.new }
         ensures settles { Settles NoneComes 0 self.old self.new }
         ensures stays { StoreStays (most_of self.old) self.old self.new }
+        ensures coming { coming_in self.new ≡ coming_in self.old }
     {
         self.table.age();
         self.table.trim(0);

@@ -1,0 +1,53 @@
+-- Sets that come into slots, or are taken out of a list.
+use Rattle.std.proofs.Common.{◌≡◌, ℕ, ◌+◌, Bool, List, [], ◌∷◌, length, Option, None, Some, inl, inr, refl, sym, ap, subst, ◌∙◌, arith}
+use Rattle.std.proofs.lemmas.List.{length-set}
+use Rattle.gpu_descriptor.specs.Caller.Sets.{item_of, items_of}
+use Rattle.gpu_descriptor.specs.Model.Agreement.{Item, count_of}
+use Rattle.gpu_descriptor.specs.declared.set.DescriptorSet.{DescriptorSet}
+use Rattle.gpu_descriptor.proofs.callers.HeldSets.{count_parts}
+use Rattle.descriptor_table.specs.Sets.{sets_in}
+use Rattle.descriptor_table.specs.Slots.{slot_at}
+use Rattle.descriptor_table.specs.Tables.{Picks, PicksFirst, Puts, used_for}
+use Rattle.descriptor_table.specs.declared.slot.Slot.{Slot}
+use Rattle.descriptor_table.specs.declared.slot.Use.TheVariants.{Taken}
+use Rattle.descriptor_table.proofs.Coming.{put_weigh}
+use Rattle.descriptor_table.proofs.Counting.{same_or}
+use Rattle.descriptor_table.proofs.Leaving.{same_sets, tally, tally_length}
+use Rattle.descriptor_table.proofs.Listed.{other_slots, slot_set}
+
+module _ {S : Type 0} (name : S → ℕ) where
+  weight : Item → DescriptorSet S → ℕ
+  weight t x = count_of t (item_of name x ∷ [])
+
+  counts : (t : Item) (l : List (DescriptorSet S)) → count_of t (items_of name l) ≡ tally (weight t) l
+  unfolding weight
+  counts t [] = refl
+  counts t (x ∷ l) = count_parts name (x ∷ []) l t ∙ ap (λ n. count_of t (item_of name x ∷ []) + n) (counts t l)
+
+  -- a set came into a slot that had none
+  pub put_count : (layout p : ℕ) (x : DescriptorSet S) (old new : List (Slot (DescriptorSet S))) → Puts layout x p old new → (t : Item) → count_of t (items_of name (sets_in new)) ≡ count_of t (items_of name (sets_in old)) + count_of t (items_of name (x ∷ []))
+  put_count layout p x old new puts t =
+      let h = put_weigh (weight t) layout p x old new puts in
+      let a = counts t (sets_in old) in
+      let b = counts t (sets_in new) in
+      let c = counts t (x ∷ []) in
+      omega arith
+
+module _ {T : Type 0} where
+  pub put_many : (layout p : ℕ) (x : T) (old new : List (Slot T)) → Puts layout x p old new → length (sets_in new) ≡ length (sets_in old) + 1
+  put_many layout p x old new puts =
+      let h = put_weigh (λ x. 1) layout p x old new puts in
+      let a = tally_length (sets_in old) in
+      let b = tally_length (sets_in new) in
+      omega arith
+
+  -- a set that was taken is there
+  pub picked_sets : (test : Slot T → Bool) (p : ℕ) (old new : List (Slot T)) → Picks test p old new → sets_in new ≡ sets_in old
+  picked_sets test p old new picks = same_sets old new (ap length picks.slots ∙ length-set old p (used_for Taken (slot_at old p))) (λ q. elim (same_or q p) [
+    | inl e ↦ subst (λ q. (slot_at new q).set ≡ (slot_at old q).set) (sym e) (ap (λ l. (slot_at l p).set) picks.slots ∙ ap (λ (s : Slot T). s.set) (slot_set old p (used_for Taken (slot_at old p)) picks.within))
+    | inr ne ↦ ap (λ l. (slot_at l q).set) picks.slots ∙ ap (λ (s : Slot T). s.set) (other_slots old p (used_for Taken (slot_at old p)) q ne)
+  ])
+
+  pub first_sets : (test : Slot T → Bool) (r : Option ℕ) (old new : List (Slot T)) → PicksFirst test r old new → sets_in new ≡ sets_in old
+  first_sets test None old new picks = ap sets_in picks.slots
+  first_sets test (Some p) old new picks = picked_sets test p old new picks

@@ -1,0 +1,10 @@
+-- What is said of a result's value.
+use Rattle.std.specs.Prelude.{IfErr, IfOk, Result, Ok, Err}
+
+pub if_ok : {X E : Type 0} (P Q : X → Type 0) (r : Result X E) → IfOk r P → ((x : X) → P x → Q x) → IfOk r Q
+if_ok P Q (Ok x) h f = f x h
+if_ok P Q (Err e) h f = tt
+
+pub if_err : {X E : Type 0} (P Q : E → Type 0) (r : Result X E) → IfErr r P → ((e : E) → P e → Q e) → IfErr r Q
+if_err P Q (Ok x) h f = tt
+if_err P Q (Err e) h f = f e h
