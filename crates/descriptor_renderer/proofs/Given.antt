@@ -1,19 +1,18 @@
 -- Sets that come into slots, or are taken out of a list.
-use Rattle.std.proofs.Common.{◌≡◌, ℕ, ◌+◌, Bool, List, [], ◌∷◌, length, Option, None, Some, inl, inr, refl, sym, ap, subst, ◌∙◌, arith}
-use Rattle.std.proofs.lemmas.List.{length-set}
+use Rattle.std.proofs.Common.{◌≡◌, ℕ, zero, suc, ◌+◌, Bool, List, [], ◌∷◌, length, set, Option, None, Some, refl, ap, ◌∙◌, arith}
 use Rattle.gpu_descriptor.specs.Caller.Sets.{item_of, items_of}
 use Rattle.gpu_descriptor.specs.Model.Agreement.{Item, count_of}
 use Rattle.gpu_descriptor.specs.declared.set.DescriptorSet.{DescriptorSet}
 use Rattle.gpu_descriptor.proofs.callers.HeldSets.{count_parts}
-use Rattle.descriptor_table.specs.Sets.{sets_in}
+use Rattle.descriptor_table.specs.Sets.{joined, sets_in}
 use Rattle.descriptor_table.specs.Slots.{slot_at}
-use Rattle.descriptor_table.specs.Tables.{Picks, PicksFirst, Puts, used_for}
+use Rattle.descriptor_table.specs.Tables.{Picks, PicksFirst, Puts, Renews, renewed, used_for}
+use Rattle.descriptor_table.specs.declared.handle.SetHandle.{SetHandle}
 use Rattle.descriptor_table.specs.declared.slot.Slot.{Slot}
+use Rattle.descriptor_table.specs.declared.slot.Use.{Use}
 use Rattle.descriptor_table.specs.declared.slot.Use.TheVariants.{Taken}
 use Rattle.descriptor_table.proofs.Coming.{put_weigh}
-use Rattle.descriptor_table.proofs.Counting.{same_or}
-use Rattle.descriptor_table.proofs.Leaving.{same_sets, tally, tally_length}
-use Rattle.descriptor_table.proofs.Listed.{other_slots, slot_set}
+use Rattle.descriptor_table.proofs.Leaving.{tally, tally_length}
 
 module _ {S : Type 0} (name : S → ℕ) where
   weight : Item → DescriptorSet S → ℕ
@@ -41,12 +40,17 @@ module _ {T : Type 0} where
       let b = tally_length (sets_in new) in
       omega arith
 
-  -- a set that was taken is there
+  -- a slot changed, and its set is there
+  pub set_sets : (l : List (Slot T)) (p : ℕ) (s : Slot T) → s.set ≡ (slot_at l p).set → sets_in (set l p s) ≡ sets_in l
+  set_sets [] p s same = refl
+  set_sets (y ∷ l) zero s same = ap (λ o. joined o (sets_in l)) same
+  set_sets (y ∷ l) (suc p) s same = ap (joined y.set) (set_sets l p s same)
+
+  pub renewed_sets : (number p : ℕ) (u : Use) (handle : SetHandle) (old new : List (Slot T)) → Renews number p u handle old new → sets_in new ≡ sets_in old
+  renewed_sets number p u handle old new renews = ap sets_in renews.slots ∙ set_sets old p (renewed u (slot_at old p)) refl
+
   pub picked_sets : (test : Slot T → Bool) (p : ℕ) (old new : List (Slot T)) → Picks test p old new → sets_in new ≡ sets_in old
-  picked_sets test p old new picks = same_sets old new (ap length picks.slots ∙ length-set old p (used_for Taken (slot_at old p))) (λ q. elim (same_or q p) [
-    | inl e ↦ subst (λ q. (slot_at new q).set ≡ (slot_at old q).set) (sym e) (ap (λ l. (slot_at l p).set) picks.slots ∙ ap (λ (s : Slot T). s.set) (slot_set old p (used_for Taken (slot_at old p)) picks.within))
-    | inr ne ↦ ap (λ l. (slot_at l q).set) picks.slots ∙ ap (λ (s : Slot T). s.set) (other_slots old p (used_for Taken (slot_at old p)) q ne)
-  ])
+  picked_sets test p old new picks = ap sets_in picks.slots ∙ set_sets old p (used_for Taken (slot_at old p)) refl
 
   pub first_sets : (test : Slot T → Bool) (r : Option ℕ) (old new : List (Slot T)) → PicksFirst test r old new → sets_in new ≡ sets_in old
   first_sets test None old new picks = ap sets_in picks.slots

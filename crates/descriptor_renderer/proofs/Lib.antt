@@ -5,8 +5,11 @@ mod Cleaned
 mod Following
 mod Listed
 mod Returned
+mod Arriving
 mod Cleared
 mod Given
+mod Handing
+mod Naming
 mod Results
 mod Settling
 mod Showing

@@ -1,0 +1,69 @@
+-- What slots may become when sets come to them.
+use Rattle.std.proofs.Common.{◌≡◌, ℕ, ◌+◌, ◌≤◌, ◌⊎◌, ◌&&◌, ◌||◌, not, Bool, true, false, List, [], Option, Some, None, is_some, inl, inr, refl, sym, ap, subst, ◌∙◌, arith}
+use Rattle.gpu_descriptor_types.specs.declared.device.DescriptorDevice.{Ghosts}
+use Rattle.gpu_descriptor.specs.declared.set.DescriptorSet.{DescriptorSet}
+use Rattle.descriptor_table.specs.Slots.{frame_in, frame_of, in_list, slot_at}
+use Rattle.descriptor_table.specs.Tables.{is_held_use, is_waiting_use}
+use Rattle.descriptor_table.specs.declared.slot.Slot.{Slot}
+use Rattle.descriptor_table.specs.declared.slot.Use.{Use}
+use Rattle.descriptor_renderer.specs.Stores.{IsAtRest, Settles, coming_in, is_placed, slots_in}
+use Rattle.descriptor_renderer.specs.declared.store.Store.{Store}
+use Rattle.descriptor_renderer.proofs.Cleared.{Clears}
+
+-- a slot's set was there under the same layout, or passes the test, and waits for no frame later than before, and than this one. If the slot was placed, it is
+pub record Arrives {T : Type 0} (comes : ℕ → T → Type 0) (f : ℕ) (o n : Slot T) : Type 0 where
+  pub set : (x : T) → n.set ≡ Some x → ((o.set ≡ Some x) × (n.layout ≡ o.layout)) ⊎ comes n.layout x
+  pub placed : is_placed o ≡ true → is_placed n ≡ true
+  pub frame : (g : ℕ) → f ≤ g → frame_of o ≤ g → frame_of n ≤ g
+
+module _ {T : Type 0} where
+  -- whether a set in such a use is placed
+  abbrev placed_in : Use → Option T → ℕ → ℕ → Bool
+  placed_in u o layout generation = not (is_some o) || ((is_held_use u && is_some o) || ((is_waiting_use u && is_some o) || in_list (layout + 2) u layout generation (is_some o)))
+
+  pub used_placed : (s : Slot T) (x : T) → s.set ≡ Some x → (is_held_use s.used || is_waiting_use s.used) ≡ true → is_placed s ≡ true
+  used_placed s x full e = ap (λ o. placed_in s.used o s.layout s.generation) full ∙ by_use (is_held_use s.used) (is_waiting_use s.used) (in_list (s.layout + 2) s.used s.layout s.generation true) e
+    where
+      by_use : (a b c : Bool) → (a || b) ≡ true → ((a && true) || ((b && true) || c)) ≡ true
+      by_use true b c f = refl
+      by_use false true c f = refl
+      by_use false false c f = absurd (cc)
+
+  module _ (comes : ℕ → T → Type 0) (f : ℕ) where
+    pub clears_arrives : (o n : Slot T) → Clears o n → Arrives comes f o n
+    clears_arrives o n c = elim c.is [
+      | inl same ↦ record {
+        set = λ x e. inl (sym same.1 ∙ e, c.layout);
+        placed = λ was. ap (λ u. placed_in u n.set n.layout n.generation) same.0 ∙ ap (λ x. placed_in o.used x n.layout n.generation) same.1 ∙ ap (λ l. placed_in o.used o.set l n.generation) c.layout ∙ ap (placed_in o.used o.set o.layout) c.generation ∙ was;
+        frame = λ g le up. subst (λ u. frame_in u ≤ g) (sym same.0) up;
+      }
+      | inr gone ↦ record {
+        set = λ x e. absurd (let no : Some x ≡ None = sym e ∙ gone.2 in cc);
+        placed = λ was. ap (λ x. placed_in n.used x n.layout n.generation) gone.2;
+        frame = λ g le up. subst (λ u. frame_in u ≤ g) (sym gone.1) (omega arith);
+      }
+    ]
+
+    pub arrives_then : (o m n : Slot T) → Arrives comes f o m → Arrives comes f m n → Arrives comes f o n
+    arrives_then o m n a b = record {
+      set = λ x e. elim (b.set x e) [
+        | inl stays ↦ elim (a.set x stays.0) [
+          | inl was ↦ inl (was.0, stays.1 ∙ was.1)
+          | inr came ↦ inr (subst (λ l. comes l x) (sym stays.1) came)
+        ]
+        | inr came ↦ inr came
+      ];
+      placed = λ was. b.placed (a.placed was);
+      frame = λ g le up. b.frame g le (a.frame g le up);
+    }
+
+    pub same_arrives : (o n : Slot T) → n ≡ o → Arrives comes f o n
+    same_arrives o n e = subst (Arrives comes f o) (sym e) (record { set = λ x is. inl (is, refl); placed = λ was. was; frame = λ g le up. up })
+
+module _ {L P S D : Type 0} {d : Ghosts D L P S} where
+  pub arrived : (comes : ℕ → DescriptorSet S → Type 0) (f : ℕ) (old new : Store L P S D d) → ((p : ℕ) → Arrives comes f (slot_at (slots_in old) p) (slot_at (slots_in new) p)) → (coming_in new).items ≡ [] → IsAtRest old → Settles comes f old new
+  arrived comes f old new arrives none rest = record {
+    sets = λ p x e. (arrives p).set x e;
+    rest = record { none_coming = none; placed = λ p. (arrives p).placed (rest.placed p) };
+    frames = λ g le up p. (arrives p).frame g le (up p);
+  }
