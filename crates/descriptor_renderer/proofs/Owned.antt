@@ -5,12 +5,14 @@ use Rattle.gpu_descriptor_types.specs.declared.device.DescriptorDevice.{Ghosts}
 use Rattle.gpu_descriptor.specs.declared.errors.AllocationError.{AllocationError}
 use Rattle.gpu_descriptor.specs.declared.layout.SetLayout.{SetLayout}
 use Rattle.gpu_descriptor.specs.declared.set.DescriptorSet.{DescriptorSet}
+use Rattle.std.proofs.lemmas.List.{get_or_past}
 use Rattle.std.proofs.lemmas.Option.{slice_get_within}
 use Rattle.descriptor_table.specs.Sets.{KeepNames, find, is_last, sets_of}
 use Rattle.descriptor_table.specs.Slots.{is_live, slot_at}
 use Rattle.descriptor_table.specs.Tables.{lists_with}
 use Rattle.descriptor_table.specs.declared.handle.SetHandle.{SetHandle}
 use Rattle.descriptor_table.specs.declared.slot.Slot.{Slot}
+use Rattle.descriptor_table.proofs.Counting.{below_or}
 use Rattle.descriptor_renderer.specs.LayoutRegistries.{layout_at, layouts_of, registry_of}
 use Rattle.descriptor_renderer.specs.Own.{AreOwn}
 use Rattle.descriptor_renderer.specs.Stores.{ComesOf, IsRefused, IsRefusedAtLast, NoneComes, Settles, lists_for, slots_in}
@@ -103,3 +105,11 @@ pub layout_before : {X : Type 0} (layouts : List X) (last : X) (n : ℕ) → n <
 layout_before [] last n lt = absurd (omega arith)
 layout_before (x ∷ layouts) last zero lt = refl
 layout_before (x ∷ layouts) last (suc n) lt = layout_before layouts last n (omega arith)
+
+module _ {L P S : Type 0} (means : Meaning L P S) where
+  -- with one layout more, the sets that are there are of theirs
+  pub own_added : (layouts : List (SetLayout L)) (last : SetLayout L) (slots : List (Slot (DescriptorSet S))) → ((p : ℕ) → p < length slots → (slot_at slots p).layout + 2 < lists_for (length layouts)) → AreOwn means layouts slots → AreOwn means (layouts ++ last ∷ []) slots
+  own_added layouts last slots listed own p x known full is = elim (below_or p (length slots)) [
+    | inl within ↦ own p x known full (sym (layout_before layouts last (slot_at slots p).layout (listed_before (slot_at slots p).layout (length layouts) (listed p within))) ∙ is)
+    | inr past ↦ absurd (let no : None ≡ Some x = sym (ap (λ (s : Slot (DescriptorSet S)). s.set) (get_or_past slots p _ past)) ∙ full in cc)
+  ]

@@ -3,7 +3,7 @@ use Rattle.descriptor_renderer.specs.LayoutRegistries.{layouts_of}
 use Rattle.descriptor_renderer.specs.Stores.{slots_in}
 use Rattle.descriptor_renderer.proofs.Owned.{own_stays}
 use Rattle.descriptor_renderer.proofs.Showing.{cleaned_names}
-use Rattle.descriptor_renderer.proofs.Emptied.{cleaned_empty, cleaned_kept}
+use Rattle.descriptor_renderer.proofs.Remaining.{cleaned_empty, cleaned_kept}
 use Rattle.descriptor_renderer.proofs.renderer.Renderer.cleanup.Goals as goal
 
 pub invariant_of-self-clause-own : goal.invariant_of-self-clause-own

@@ -1,7 +1,10 @@
 use Rattle.std.proofs.Common.{ap, ◌∙◌}
-use Rattle.descriptor_renderer.specs.Stores.{slots_in}
-use Rattle.descriptor_renderer.proofs.Emptied.{none_held, none_waits}
+use Rattle.descriptor_renderer.specs.Renderers.{Rendering, slots_of}
+use Rattle.descriptor_renderer.proofs.Remaining.{none_held, none_waits}
 use Rattle.descriptor_renderer.proofs.renderer.Renderer.shutdown.Goals as goal
 
 pub returns : goal.returns
-returns g c = ?
+returns g c =
+    let none = c.free_all.ensures.frees.none in
+    let slots = slots_of c.free_all.new.self in
+    ap (λ l. l.pools) c.into_device.ensures ∙ c.cleanup.ensures.emptied (none_held slots none) (none_waits slots none) ∙ ap (λ (r : Rendering g.row.L.Denot g.row.S.Denot). r.pools_besides) c.free_all.ensures.rest

@@ -10,6 +10,10 @@ use Rattle.descriptor_table.proofs.Counting.{below_or}
 use Rattle.descriptor_table.proofs.Counts.{count_none, none_count}
 use Rattle.descriptor_renderer.specs.Stores.{AreCleaned, is_placed}
 
+and_none : (b : Bool) → (b && false) ≡ false
+and_none true = refl
+and_none false = refl
+
 module _ {T : Type 0} where
   -- no slot has a set
   pub no_sets : (slots : List (Slot T)) → ((p : ℕ) → p < length slots → (slot_at slots p).set ≡ None) → sets_in slots ≡ []
@@ -46,11 +50,7 @@ module _ {T : Type 0} where
           let both = sym at ∙ no in
           cc)
 
-  -- a slot without a set has none that is held, or that waits
-  and_none : (b : Bool) → (b && false) ≡ false
-  and_none true = refl
-  and_none false = refl
-
+  -- without a set none is held, and none waits
   pub none_held : (slots : List (Slot T)) → ((p : ℕ) → (slot_at slots p).set ≡ None) → count holds slots ≡ 0
   none_held slots none = none_count holds slots (λ p. let s = slot_at slots p in ap (λ x. is_held_use s.used && is_some x) (none p) ∙ and_none (is_held_use s.used))
 
