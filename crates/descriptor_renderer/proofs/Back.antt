@@ -2,7 +2,7 @@
 use Rattle.std.proofs.Common.{◌≡◌, ℕ, ◌+◌, ◌≤◌, ◌&&◌, nat_lt, ne_eqb, Bool, true, false, List, length, is_some, inl, inr, refl, sym, ap, ◌∙◌, arith}
 use Rattle.descriptor_table.specs.Sets.{sets_in}
 use Rattle.descriptor_table.specs.Slots.{goes, is_due, is_in, slot_at}
-use Rattle.descriptor_table.specs.Tables.{IsSettled, MayGo, Turns, Vacates, WaitsFor, count, is_kept, used_for, vacated}
+use Rattle.descriptor_table.specs.Tables.{IsSettled, Leaves, MayGo, Turns, Vacates, WaitsFor, count, is_kept, used_for, vacated}
 use Rattle.descriptor_table.specs.declared.slot.Use.TheVariants.{Kept}
 use Rattle.descriptor_table.specs.declared.slot.Slot.{Slot}
 use Rattle.descriptor_table.proofs.Chains.{lists_apart}
@@ -28,6 +28,9 @@ module _ {T : Type 0} where
 
   pub waiting_sets : (test : Slot T → Bool) (frame : ℕ) (old new : List (Slot T)) → Turns test (WaitsFor frame) old new → sets_in new ≡ sets_in old
   waiting_sets test frame old new t = turned_sets test (WaitsFor frame) old new t (λ o n waits. ap (λ (s : Slot T). s.set) waits)
+
+  pub leaving_sets : (test : Slot T → Bool) (old new : List (Slot T)) → Turns test Leaves old new → sets_in new ≡ sets_in old
+  leaving_sets test old new t = turned_sets test Leaves old new t (λ o n going. ap (λ (s : Slot T). s.set) going)
 
   -- as many are kept when sets that go are given back
   pub given_kept : (mid new : List (Slot T)) → Turns goes Vacates mid new → (k : ℕ) → 2 ≤ k → count (is_in k) new ≡ count (is_in k) mid

@@ -3,6 +3,7 @@ mod Back
 mod Cleaned
 mod Cleared
 mod Remaining
+mod Emptied
 mod Following
 mod Given
 mod Handing

@@ -1,0 +1,176 @@
+-- All sets leave.
+use Rattle.std.proofs.Common.{◌≡◌, ℕ, ◌+◌, ◌<◌, ◌≤◌, ◌⊎◌, ◌==◌, ◌&&◌, ◌||◌, nat_le, nat_lt, not, ne_eqb, Bool, true, false, List, length, Option, None, Some, is_some, inl, inr, refl, sym, ap, ◌∙◌, arith, le-leb}
+use Rattle.descriptor_table.specs.Slots.{frame_in, frame_of, goes, in_list, is_due, is_in, slot_at, waits_until}
+use Rattle.descriptor_table.specs.Tables.{AreAged, IsSettled, Leaves, MayGo, Turns, Vacates, aged, count, holds, is_held_use, is_kept, is_waiting_use, stays, used_for, vacated, waits}
+use Rattle.descriptor_table.specs.declared.slot.Slot.{Slot}
+use Rattle.descriptor_table.specs.declared.slot.Use.{Use}
+use Rattle.descriptor_table.specs.declared.slot.Use.TheVariants.{Held, Drawn, Waits, Kept, Going, Taken, Vacant}
+use Rattle.descriptor_table.proofs.Counting.{below_or}
+use Rattle.descriptor_table.proofs.Counts.{count_none}
+use Rattle.descriptor_table.proofs.Renewing.{kept_full}
+use Rattle.descriptor_table.proofs.Turning.{due_full, going_out}
+use Rattle.descriptor_renderer.specs.Stores.{IsUpTo, is_placed}
+use Rattle.descriptor_renderer.proofs.Cleaned.{past}
+use Rattle.descriptor_renderer.proofs.Following.{follows_aged, follows_same, follows_then, follows_vacated, none_goes}
+use Rattle.descriptor_renderer.proofs.Settling.{Follows}
+
+-- one of the four ways to be placed
+placed_or : (a b c d : Bool) → (not a || (b || (c || d))) ≡ true → (a ≡ false) ⊎ ((b ≡ true) ⊎ ((c ≡ true) ⊎ (d ≡ true)))
+placed_or false b c d e = inl refl
+placed_or true true c d e = inr (inl refl)
+placed_or true false true d e = inr (inr (inl refl))
+placed_or true false false d e = inr (inr (inr e))
+
+held_not_due : (frame : ℕ) (u : Use) (full : Bool) → (is_held_use u && full) ≡ true → (waits_until frame u && full) ≡ false
+held_not_due frame Held full e = refl
+held_not_due frame (Drawn f) full e = absurd (cc)
+held_not_due frame (Waits f) full e = absurd (cc)
+held_not_due frame Kept full e = refl
+held_not_due frame Going full e = refl
+held_not_due frame Taken full e = refl
+held_not_due frame Vacant full e = refl
+
+kept_not_due : (frame : ℕ) (u : Use) (layout generation : ℕ) (full : Bool) → in_list (layout + 2) u layout generation full ≡ true → ((waits_until frame u && full) ≡ false) × ((is_held_use u && full) ≡ false)
+kept_not_due frame Held layout generation full e = absurd (cc)
+kept_not_due frame (Drawn f) layout generation full e = absurd (cc)
+kept_not_due frame (Waits f) layout generation full e = absurd (cc)
+kept_not_due frame Kept layout generation full e = (refl, refl)
+kept_not_due frame Going layout generation full e = (refl, refl)
+kept_not_due frame Taken layout generation full e = (refl, refl)
+kept_not_due frame Vacant layout generation full e = (refl, refl)
+
+waiting_due : (frame : ℕ) (u : Use) (full : Bool) → frame_in u ≤ frame → (is_waiting_use u && full) ≡ true → (waits_until frame u && full) ≡ true
+waiting_due frame Held full le e = absurd (cc)
+waiting_due frame (Drawn f) full le e = ap (λ b. b && full) (le-leb f frame le) ∙ e
+waiting_due frame (Waits f) full le e = ap (λ b. b && full) (le-leb f frame le) ∙ e
+waiting_due frame Kept full le e = absurd (cc)
+waiting_due frame Going full le e = absurd (cc)
+waiting_due frame Taken full le e = absurd (cc)
+waiting_due frame Vacant full le e = absurd (cc)
+
+empty_none : {T : Type 0} (o : Option T) → is_some o ≡ false → o ≡ None
+empty_none None e = refl
+empty_none (Some x) e = absurd (cc)
+
+empty_out : (a full : Bool) → full ≡ false → (a && full) ≡ false
+empty_out true full e = e
+empty_out false full e = refl
+
+empty_kept : {T : Type 0} (s : Slot T) → is_some s.set ≡ false → is_kept s ≡ false
+empty_kept s e = by_kept (is_kept s) refl
+  where
+    by_kept : (b : Bool) → is_kept s ≡ b → b ≡ false
+    by_kept false k = refl
+    by_kept true k = sym (kept_full s k) ∙ e
+
+module _ {T : Type 0} (frame most : ℕ) (a b c d new : List (Slot T)) (settles : Turns (is_due frame) (IsSettled most) a b) (leave : Turns holds Leaves b c) (trims : Turns is_kept MayGo c d) (few : (layout : ℕ) → count (is_in (layout + 2)) d ≤ 0) (gives : Turns goes Vacates d new) where
+  -- a set that goes was given back
+  given : (p : ℕ) (s : Slot T) → is_some s.set ≡ true → slot_at d p ≡ used_for Going s → slot_at new p ≡ vacated s
+  given p s full e = gives.here p (ap goes e ∙ full) ∙ ap vacated e
+
+  -- a set that goes before the kept ones do
+  going : (p : ℕ) (s : Slot T) → is_some s.set ≡ true → slot_at c p ≡ used_for Going s → slot_at new p ≡ vacated s
+  going p s full e = given p s full (trims.rest p (ap is_kept e ∙ going_out (s.layout + 2) s (omega arith)) ∙ e)
+
+  empty_stays : (p : ℕ) → goes (slot_at a p) ≡ false → is_some (slot_at a p).set ≡ false → slot_at new p ≡ slot_at a p
+  empty_stays p none e =
+      let s = slot_at a p in
+      let one : slot_at b p ≡ s = settles.rest p (empty_out (waits_until frame s.used) (is_some s.set) e) in
+      let two : slot_at c p ≡ s = leave.rest p (ap holds one ∙ empty_out (is_held_use s.used) (is_some s.set) e) ∙ one in
+      let three : slot_at d p ≡ s = trims.rest p (ap is_kept two ∙ empty_kept s e) ∙ two in
+      gives.rest p (ap goes three ∙ none) ∙ three
+
+  held_leaves : (p : ℕ) → holds (slot_at a p) ≡ true → is_some (slot_at a p).set ≡ true → slot_at new p ≡ vacated (slot_at a p)
+  held_leaves p e full =
+      let s = slot_at a p in
+      let one : slot_at b p ≡ s = settles.rest p (held_not_due frame s.used (is_some s.set) e) in
+      let two : slot_at c p ≡ used_for Going s = leave.here p (ap holds one ∙ e) ∙ ap (used_for Going) one in
+      going p s full two
+
+  waiting_leaves : (p : ℕ) → waits (slot_at a p) ≡ true → is_some (slot_at a p).set ≡ true → frame_of (slot_at a p) ≤ frame → stays (slot_at a p) ≡ false → slot_at new p ≡ vacated (slot_at a p)
+  waiting_leaves p e full up old =
+      let s = slot_at a p in
+      let one : slot_at b p ≡ used_for Going s = elim (settles.here p (waiting_due frame s.used (is_some s.set) up e)) [
+        | inl kept ↦ absurd (let no : true ≡ false = sym kept.1 ∙ old in cc)
+        | inr leaves ↦ leaves.0
+      ] in
+      going p s full (leave.rest p (ap holds one) ∙ one)
+
+  kept_leaves : (p : ℕ) → is_kept (slot_at a p) ≡ true → slot_at new p ≡ vacated (slot_at a p)
+  kept_leaves p e =
+      let s = slot_at a p in
+      let out = kept_not_due frame s.used s.layout s.generation (is_some s.set) e in
+      let one : slot_at b p ≡ s = settles.rest p out.0 in
+      let two : slot_at c p ≡ s = leave.rest p (ap holds one ∙ out.1) ∙ one in
+      let kept : is_kept (slot_at c p) ≡ true = ap is_kept two ∙ e in
+      let three : slot_at d p ≡ used_for Going s = elim (trims.here p kept) [
+        | inl same ↦ absurd (let k = s.layout in let none = count_none (is_in (k + 2)) d refl (let f = few k in omega arith) p in let no : true ≡ false = sym e ∙ ap (is_in (k + 2)) (sym (same ∙ two)) ∙ none in cc)
+        | inr leaves ↦ leaves ∙ ap (used_for Going) two
+      ] in
+      given p s (kept_full s e) three
+
+  -- a slot has no set, and is as it was, or its set left
+  all_leave : (p : ℕ) → is_placed (slot_at a p) ≡ true → goes (slot_at a p) ≡ false → frame_of (slot_at a p) ≤ frame → (stays (slot_at a p) ≡ false) ⊎ ((slot_at a p).set ≡ None) → ((slot_at new p ≡ slot_at a p) × ((slot_at a p).set ≡ None)) ⊎ (slot_at new p ≡ vacated (slot_at a p))
+  all_leave p placed none up old = by_full (is_some (slot_at a p).set) refl
+    where
+      s : Slot T
+      s = slot_at a p
+
+      by_full : (full : Bool) → is_some s.set ≡ full → ((slot_at new p ≡ s) × (s.set ≡ None)) ⊎ (slot_at new p ≡ vacated s)
+      by_full false e = inl (empty_stays p none e, empty_none s.set e)
+      by_full true full = elim (placed_or (is_some s.set) (holds s) (waits s) (is_kept s) placed) [
+        | inl empty ↦ absurd (let no : true ≡ false = sym full ∙ empty in cc)
+        | inr one ↦ elim one [
+          | inl held ↦ inr (held_leaves p held full)
+          | inr two ↦ elim two [
+            | inl waiting ↦ inr (waiting_leaves p waiting full up (elim old [
+              | inl leaves ↦ leaves
+              | inr empty ↦ absurd (let no : true ≡ false = sym full ∙ ap is_some empty in cc)
+            ]))
+            | inr kept ↦ inr (kept_leaves p kept)
+          ]
+        ]
+      ]
+
+-- no set is left, and no handle is given again
+pub record IsEmptied {T : Type 0} (o n : Slot T) : Type 0 where
+  pub none : n.set ≡ None
+  pub given : n.generation ≡ o.generation
+  pub follows : Follows 0 o n
+
+module _ {T : Type 0} (frame most : ℕ) (old a b c d new : List (Slot T)) (placed : (p : ℕ) → is_placed (slot_at old p) ≡ true) (up : IsUpTo frame old) where
+  pub emptied : AreAged old a → Turns (is_due frame) (IsSettled most) a b → Turns holds Leaves b c → Turns is_kept MayGo c d → ((layout : ℕ) → count (is_in (layout + 2)) d ≤ 0) → Turns goes Vacates d new → (p : ℕ) → IsEmptied (slot_at old p) (slot_at new p)
+  emptied ages settles leave trims few gives p = elim (below_or p (length old)) [
+    | inl lt ↦ elim (at_place lt) [
+      | inl same ↦ record {
+        none = ap (λ (s : Slot T). s.set) same.0 ∙ same.1;
+        given = ap (λ (s : Slot T). s.generation) same.0 ∙ ap (λ (s : Slot T). s.generation) (ages.each p lt);
+        follows = follows_then 0 o (slot_at a p) n (follows_aged 0 o (slot_at a p) (ages.each p lt)) (follows_same 0 (slot_at a p) n same.0);
+      }
+      | inr gone ↦ record {
+        none = ap (λ (s : Slot T). s.set) gone;
+        given = ap (λ (s : Slot T). s.generation) gone ∙ ap (λ (s : Slot T). s.generation) (ages.each p lt);
+        follows = follows_then 0 o (slot_at a p) n (follows_aged 0 o (slot_at a p) (ages.each p lt)) (follows_vacated 0 (slot_at a p) n gone);
+      }
+    ]
+    | inr le ↦ (let end : slot_at new p ≡ slot_at old p = past new p (long le) ∙ sym (past old p le) in record {
+      none = ap (λ (s : Slot T). s.set) (past new p (long le));
+      given = ap (λ (s : Slot T). s.generation) end;
+      follows = follows_same 0 o n end;
+    })
+  ]
+    where
+      o : Slot T
+      o = slot_at old p
+
+      n : Slot T
+      n = slot_at new p
+
+      long : length old ≤ p → length new ≤ p
+      long le = let all = gives.long ∙ trims.long ∙ leave.long ∙ settles.long ∙ ages.long in omega arith
+
+      at_place : p < length old → ((n ≡ slot_at a p) × ((slot_at a p).set ≡ None)) ⊎ (n ≡ vacated (slot_at a p))
+      at_place lt =
+          let here = ages.each p lt in
+          let frames = ap frame_of here in
+          all_leave frame most a b c d new settles leave trims few gives p (ap is_placed here ∙ placed p) (ap goes here ∙ none_goes old placed p) (let below = up p in omega arith) (inl (ap stays here))
