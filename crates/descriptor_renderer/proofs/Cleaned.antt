@@ -1,5 +1,5 @@
 -- Kept sets that all go.
-use Rattle.std.proofs.Common.{◌≡◌, ℕ, ◌+◌, ◌<◌, ◌≤◌, ◌&&◌, nat_lt, ne_eqb, Bool, true, false, if◌then◌else◌, List, length, None, inl, inr, refl, sym, ap, ◌∙◌, arith}
+use Rattle.std.proofs.Common.{◌≡◌, ℕ, ◌+◌, ◌<◌, ◌≤◌, Bool, true, false, if◌then◌else◌, List, length, None, inl, inr, refl, sym, ap, ◌∙◌, arith}
 use Rattle.std.proofs.lemmas.List.{get_or_past}
 use Rattle.descriptor_table.specs.Sets.{sets_in}
 use Rattle.descriptor_table.specs.Slots.{goes, is_in, slot_at}
@@ -12,7 +12,7 @@ use Rattle.descriptor_table.proofs.Leaving.{same_sets}
 use Rattle.descriptor_table.proofs.Renewing.{kept_full}
 use Rattle.descriptor_renderer.specs.Stores.{AreCleaned}
 use Rattle.descriptor_renderer.proofs.Back.{turned_sets}
-use Rattle.descriptor_renderer.proofs.Following.{follows_aged, follows_same, follows_then, follows_vacated}
+use Rattle.descriptor_renderer.proofs.Following.{ArePlaced, follows_aged, follows_same, follows_then, follows_vacated, none_goes}
 use Rattle.descriptor_renderer.proofs.Settling.{Follows}
 
 module _ {T : Type 0} where
@@ -31,8 +31,8 @@ module _ {T : Type 0} where
     | inr going ↦ ap (λ (s : Slot T). s.set) going
   ])
 
-  pub cleaned : (old a b new : List (Slot T)) → ((p : ℕ) → goes (slot_at old p) ≡ false) → AreAged old a → Turns is_kept MayGo a b → ((layout : ℕ) → count (is_in (layout + 2)) b ≤ 0) → Turns goes Vacates b new → AreCleaned old new
-  cleaned old a b new none aged_all trims few gives = record {
+  pub cleaned : (old a b new : List (Slot T)) → ArePlaced old → AreAged old a → Turns is_kept MayGo a b → ((layout : ℕ) → count (is_in (layout + 2)) b ≤ 0) → Turns goes Vacates b new → AreCleaned old new
+  cleaned old a b new placed aged_all trims few gives = record {
     long = gives.long ∙ trims.long ∙ aged_all.long;
     each = λ p lt. by_test p lt (is_kept (slot_at old p)) refl;
   }
@@ -41,7 +41,7 @@ module _ {T : Type 0} where
       by_test p lt false e =
           let here = aged_all.each p lt in
           let same : slot_at b p ≡ slot_at a p = trims.rest p (ap is_kept here ∙ e) in
-          let stays : slot_at new p ≡ slot_at b p = gives.rest p (ap goes (same ∙ here) ∙ none p) in
+          let stays : slot_at new p ≡ slot_at b p = gives.rest p (ap goes (same ∙ here) ∙ none_goes old placed p) in
           stays ∙ same ∙ here ∙ sym (ap (λ c. if c then vacated (aged (slot_at old p)) else aged (slot_at old p)) e)
       by_test p lt true e =
           let here = aged_all.each p lt in

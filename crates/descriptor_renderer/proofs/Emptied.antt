@@ -1,17 +1,17 @@
 -- All sets leave.
-use Rattle.std.proofs.Common.{◌≡◌, ℕ, ◌+◌, ◌<◌, ◌≤◌, ◌⊎◌, ◌==◌, ◌&&◌, ◌||◌, nat_le, nat_lt, not, ne_eqb, Bool, true, false, List, length, Option, None, Some, is_some, inl, inr, refl, sym, ap, ◌∙◌, arith, le-leb}
+use Rattle.std.proofs.Common.{◌≡◌, ℕ, ◌+◌, ◌<◌, ◌≤◌, ◌⊎◌, ◌&&◌, ◌||◌, not, Bool, true, false, List, length, Option, None, Some, is_some, inl, inr, refl, sym, ap, ◌∙◌, arith, le-leb}
 use Rattle.descriptor_table.specs.Slots.{frame_in, frame_of, goes, in_list, is_due, is_in, slot_at, waits_until}
-use Rattle.descriptor_table.specs.Tables.{AreAged, IsSettled, Leaves, MayGo, Turns, Vacates, aged, count, holds, is_held_use, is_kept, is_waiting_use, stays, used_for, vacated, waits}
+use Rattle.descriptor_table.specs.Tables.{AreAged, IsSettled, Leaves, MayGo, Turns, Vacates, count, holds, is_held_use, is_kept, is_waiting_use, stays, used_for, vacated, waits}
 use Rattle.descriptor_table.specs.declared.slot.Slot.{Slot}
 use Rattle.descriptor_table.specs.declared.slot.Use.{Use}
 use Rattle.descriptor_table.specs.declared.slot.Use.TheVariants.{Held, Drawn, Waits, Kept, Going, Taken, Vacant}
 use Rattle.descriptor_table.proofs.Counting.{below_or}
 use Rattle.descriptor_table.proofs.Counts.{count_none}
 use Rattle.descriptor_table.proofs.Renewing.{kept_full}
-use Rattle.descriptor_table.proofs.Turning.{due_full, going_out}
+use Rattle.descriptor_table.proofs.Turning.{going_out}
 use Rattle.descriptor_renderer.specs.Stores.{IsUpTo, is_placed}
 use Rattle.descriptor_renderer.proofs.Cleaned.{past}
-use Rattle.descriptor_renderer.proofs.Following.{follows_aged, follows_same, follows_then, follows_vacated, none_goes}
+use Rattle.descriptor_renderer.proofs.Following.{ArePlaced, follows_aged, follows_same, follows_then, follows_vacated, none_goes}
 use Rattle.descriptor_renderer.proofs.Settling.{Follows}
 
 -- one of the four ways to be placed
@@ -63,6 +63,10 @@ empty_kept s e = by_kept (is_kept s) refl
     by_kept false k = refl
     by_kept true k = sym (kept_full s k) ∙ e
 
+-- a slot has no set, and is as it was, or its set left
+abbrev HasLeft : {T : Type 0} → Slot T → Slot T → Type 0
+HasLeft o n = ((n ≡ o) × (o.set ≡ None)) ⊎ (n ≡ vacated o)
+
 module _ {T : Type 0} (frame most : ℕ) (a b c d new : List (Slot T)) (settles : Turns (is_due frame) (IsSettled most) a b) (leave : Turns holds Leaves b c) (trims : Turns is_kept MayGo c d) (few : (layout : ℕ) → count (is_in (layout + 2)) d ≤ 0) (gives : Turns goes Vacates d new) where
   -- a set that goes was given back
   given : (p : ℕ) (s : Slot T) → is_some s.set ≡ true → slot_at d p ≡ used_for Going s → slot_at new p ≡ vacated s
@@ -109,24 +113,20 @@ module _ {T : Type 0} (frame most : ℕ) (a b c d new : List (Slot T)) (settles 
       ] in
       given p s (kept_full s e) three
 
-  -- a slot has no set, and is as it was, or its set left
-  all_leave : (p : ℕ) → is_placed (slot_at a p) ≡ true → goes (slot_at a p) ≡ false → frame_of (slot_at a p) ≤ frame → (stays (slot_at a p) ≡ false) ⊎ ((slot_at a p).set ≡ None) → ((slot_at new p ≡ slot_at a p) × ((slot_at a p).set ≡ None)) ⊎ (slot_at new p ≡ vacated (slot_at a p))
+  all_leave : (p : ℕ) → is_placed (slot_at a p) ≡ true → goes (slot_at a p) ≡ false → frame_of (slot_at a p) ≤ frame → stays (slot_at a p) ≡ false → HasLeft (slot_at a p) (slot_at new p)
   all_leave p placed none up old = by_full (is_some (slot_at a p).set) refl
     where
       s : Slot T
       s = slot_at a p
 
-      by_full : (full : Bool) → is_some s.set ≡ full → ((slot_at new p ≡ s) × (s.set ≡ None)) ⊎ (slot_at new p ≡ vacated s)
+      by_full : (full : Bool) → is_some s.set ≡ full → HasLeft s (slot_at new p)
       by_full false e = inl (empty_stays p none e, empty_none s.set e)
       by_full true full = elim (placed_or (is_some s.set) (holds s) (waits s) (is_kept s) placed) [
         | inl empty ↦ absurd (let no : true ≡ false = sym full ∙ empty in cc)
         | inr one ↦ elim one [
           | inl held ↦ inr (held_leaves p held full)
           | inr two ↦ elim two [
-            | inl waiting ↦ inr (waiting_leaves p waiting full up (elim old [
-              | inl leaves ↦ leaves
-              | inr empty ↦ absurd (let no : true ≡ false = sym full ∙ ap is_some empty in cc)
-            ]))
+            | inl waiting ↦ inr (waiting_leaves p waiting full up old)
             | inr kept ↦ inr (kept_leaves p kept)
           ]
         ]
@@ -138,7 +138,7 @@ pub record IsEmptied {T : Type 0} (o n : Slot T) : Type 0 where
   pub given : n.generation ≡ o.generation
   pub follows : Follows 0 o n
 
-module _ {T : Type 0} (frame most : ℕ) (old a b c d new : List (Slot T)) (placed : (p : ℕ) → is_placed (slot_at old p) ≡ true) (up : IsUpTo frame old) where
+module _ {T : Type 0} (frame most : ℕ) (old a b c d new : List (Slot T)) (placed : ArePlaced old) (up : IsUpTo frame old) where
   pub emptied : AreAged old a → Turns (is_due frame) (IsSettled most) a b → Turns holds Leaves b c → Turns is_kept MayGo c d → ((layout : ℕ) → count (is_in (layout + 2)) d ≤ 0) → Turns goes Vacates d new → (p : ℕ) → IsEmptied (slot_at old p) (slot_at new p)
   emptied ages settles leave trims few gives p = elim (below_or p (length old)) [
     | inl lt ↦ elim (at_place lt) [
@@ -169,8 +169,8 @@ module _ {T : Type 0} (frame most : ℕ) (old a b c d new : List (Slot T)) (plac
       long : length old ≤ p → length new ≤ p
       long le = let all = gives.long ∙ trims.long ∙ leave.long ∙ settles.long ∙ ages.long in omega arith
 
-      at_place : p < length old → ((n ≡ slot_at a p) × ((slot_at a p).set ≡ None)) ⊎ (n ≡ vacated (slot_at a p))
+      at_place : p < length old → HasLeft (slot_at a p) n
       at_place lt =
           let here = ages.each p lt in
           let frames = ap frame_of here in
-          all_leave frame most a b c d new settles leave trims few gives p (ap is_placed here ∙ placed p) (ap goes here ∙ none_goes old placed p) (let below = up p in omega arith) (inl (ap stays here))
+          all_leave frame most a b c d new settles leave trims few gives p (ap is_placed here ∙ placed p) (ap goes here ∙ none_goes old placed p) (let below = up p in omega arith) (ap stays here)

@@ -1,14 +1,14 @@
 -- Each kind of change of a slot follows what it was.
-use Rattle.std.proofs.Common.{◌≡◌, ◌≢◌, ℕ, ◌+◌, ◌<◌, ◌≤◌, ◌==◌, ◌&&◌, ◌||◌, nat_lt, not, Bool, true, false, List, [], length, is_some, inl, inr, refl, sym, ap, subst, ◌∙◌, arith, eq-eqb, ne_eqb}
-use Rattle.descriptor_table.specs.Slots.{frame_of, goes, in_list, is_in, slot_at}
-use Rattle.descriptor_table.specs.Tables.{Turns, Vacates, aged, holds, is_held_use, is_kept, is_taken, is_taken_use, is_waiting_use, place_at, stays, used_for, vacated, waits}
+use Rattle.std.proofs.Common.{◌≡◌, ◌≢◌, ℕ, ◌+◌, ◌<◌, ◌&&◌, ◌||◌, nat_lt, not, Bool, true, false, List, length, is_some, inl, inr, refl, sym, ap, subst, ◌∙◌, arith, eq-eqb, ne_eqb}
+use Rattle.descriptor_table.specs.Slots.{frame_of, goes, in_list, slot_at}
+use Rattle.descriptor_table.specs.Tables.{Turns, aged, is_held_use, is_taken, is_taken_use, is_waiting_use, place_at, stays, used_for, vacated}
 use Rattle.descriptor_table.specs.declared.handle.SetHandle.{SetHandle}
 use Rattle.descriptor_table.specs.declared.slot.Slot.{Slot}
 use Rattle.descriptor_table.specs.declared.slot.Use.{Use}
 use Rattle.descriptor_table.specs.declared.slot.Use.TheVariants.{Held, Drawn, Waits, Kept, Going, Taken, Vacant}
 use Rattle.descriptor_table.proofs.Chains.{and_true}
 use Rattle.descriptor_table.proofs.Holding.{named_or}
-use Rattle.descriptor_renderer.specs.Stores.{IsBack, MayLeave, WaitEach, is_placed}
+use Rattle.descriptor_renderer.specs.Stores.{IsBack, MayLeave, is_placed}
 use Rattle.descriptor_renderer.proofs.Settling.{Follows}
 
 -- what is_placed asks of a use
@@ -36,8 +36,11 @@ taken_use Taken layout generation true e = absurd (cc)
 taken_use Vacant layout generation full e = refl
 
 module _ {T : Type 0} where
+  abbrev pub ArePlaced : List (Slot T) → Type 0
+  ArePlaced slots = (p : ℕ) → is_placed (slot_at slots p) ≡ true
+
   -- no set goes that is placed, and no call has one
-  module _ (slots : List (Slot T)) (placed : (p : ℕ) → is_placed (slot_at slots p) ≡ true) where
+  module _ (slots : List (Slot T)) (placed : ArePlaced slots) where
     pub none_goes : (p : ℕ) → goes (slot_at slots p) ≡ false
     none_goes p = let s = slot_at slots p in going_use s.used s.layout s.generation (is_some s.set) (placed p)
 
@@ -120,11 +123,9 @@ module _ {T : Type 0} where
       by_full true = refl
 
   -- the slots of handles follow, and so do all others, as they are as they were
-  pub follow_each : (f : ℕ) (handles : List SetHandle) (old new : List (Slot T)) → ((i : ℕ) → i < length handles → Follows f (slot_at old (place_at handles i)) (slot_at new (place_at handles i))) → ((p : ℕ) → ((i : ℕ) → i < length handles → place_at handles i ≢ p) → slot_at new p ≡ slot_at old p) → (p : ℕ) → Follows f (slot_at old p) (slot_at new p)
-  follow_each f handles old new named rest p = elim (named_or (length handles) (place_at handles) p) [
-    | inl found ↦ subst (λ p. Follows f (slot_at old p) (slot_at new p)) found.2 (named found.0 found.1)
-    | inr apart ↦ follows_same f (slot_at old p) (slot_at new p) (rest p apart)
-  ]
-
-  pub follow_same : (f : ℕ) (old new : List (Slot T)) → new ≡ old → (p : ℕ) → Follows f (slot_at old p) (slot_at new p)
-  follow_same f old new e p = follows_same f (slot_at old p) (slot_at new p) (ap (λ l. slot_at l p) e)
+  module _ (f : ℕ) (handles : List SetHandle) (old new : List (Slot T)) (named : (i : ℕ) → i < length handles → Follows f (slot_at old (place_at handles i)) (slot_at new (place_at handles i))) where
+    pub follow_each : ((p : ℕ) → ((i : ℕ) → i < length handles → place_at handles i ≢ p) → slot_at new p ≡ slot_at old p) → (p : ℕ) → Follows f (slot_at old p) (slot_at new p)
+    follow_each rest p = elim (named_or (length handles) (place_at handles) p) [
+      | inl found ↦ subst (λ p. Follows f (slot_at old p) (slot_at new p)) found.2 (named found.0 found.1)
+      | inr apart ↦ follows_same f (slot_at old p) (slot_at new p) (rest p apart)
+    ]

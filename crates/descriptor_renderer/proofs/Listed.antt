@@ -12,6 +12,7 @@ use Rattle.descriptor_table.proofs.Leaving.{same_sets}
 use Rattle.descriptor_table.proofs.Turning.{taken_is}
 use Rattle.descriptor_renderer.specs.Stores.{IsBack, WaitEach}
 use Rattle.descriptor_renderer.proofs.Back.{came_back}
+use Rattle.descriptor_renderer.proofs.Following.{ArePlaced, none_goes, none_taken}
 
 -- the sets of the handles came back, and all else is as it was
 pub record BackEach {T : Type 0} (handles : List SetHandle) (most : ℕ) (old new : List (Slot T)) : Type 0 where
@@ -21,10 +22,10 @@ pub record BackEach {T : Type 0} (handles : List SetHandle) (most : ℕ) (old ne
 
 module _ {T : Type 0} (handles : List SetHandle) (old now : List (Slot T)) (took : TookEach handles (length handles) old now) where
   -- those that were taken are those of the handles
-  pub took_named : ((p : ℕ) → is_taken (slot_at old p) ≡ false) → (p : ℕ) → is_taken (slot_at now p) ≡ true → (i : ℕ) × (i < length handles) × (place_at handles i ≡ p)
-  took_named none p e = elim (named_or (length handles) (place_at handles) p) [
+  pub took_named : ArePlaced old → (p : ℕ) → is_taken (slot_at now p) ≡ true → (i : ℕ) × (i < length handles) × (place_at handles i ≡ p)
+  took_named placed p e = elim (named_or (length handles) (place_at handles) p) [
     | inl found ↦ found
-    | inr apart ↦ absurd (let no : true ≡ false = sym e ∙ ap is_taken (took.rest p apart) ∙ none p in cc)
+    | inr apart ↦ absurd (let no : true ≡ false = sym e ∙ ap is_taken (took.rest p apart) ∙ none_taken old placed p in cc)
   ]
 
   pub took_sets : sets_in now ≡ sets_in old
@@ -34,14 +35,14 @@ module _ {T : Type 0} (handles : List SetHandle) (old now : List (Slot T)) (took
   ])
 
   -- none goes
-  pub took_none : ((p : ℕ) → goes (slot_at old p) ≡ false) → (p : ℕ) → goes (slot_at now p) ≡ false
-  took_none none p = elim (named_or (length handles) (place_at handles) p) [
+  took_none : ArePlaced old → (p : ℕ) → goes (slot_at now p) ≡ false
+  took_none placed p = elim (named_or (length handles) (place_at handles) p) [
     | inl found ↦ subst (λ p. goes (slot_at now p) ≡ false) found.2 (ap goes (took.named found.0 found.1))
-    | inr apart ↦ ap goes (took.rest p apart) ∙ none p
+    | inr apart ↦ ap goes (took.rest p apart) ∙ none_goes old placed p
   ]
 
   -- each set of a handle was taken
-  pub took_full : (number : ℕ) → AreHeldOnce number old handles → (i : ℕ) → i < length handles → is_taken (slot_at now (place_at handles i)) ≡ true
+  took_full : (number : ℕ) → AreHeldOnce number old handles → (i : ℕ) → i < length handles → is_taken (slot_at now (place_at handles i)) ≡ true
   took_full number once i lt =
       let z : SetHandle = record { renderer = 0; place = 0; generation = 0 } in
       let held = once.held i z lt in
@@ -51,23 +52,23 @@ module _ {T : Type 0} (handles : List SetHandle) (old now : List (Slot T)) (took
       full s b e = (and_true (is_held_use s.used) (is_some s.set) (and_true b (is_held_use s.used && is_some s.set) e).1).1
 
   -- all others were not
-  pub took_rest : ((p : ℕ) → is_taken (slot_at old p) ≡ false) → (p : ℕ) → ((i : ℕ) → i < length handles → place_at handles i ≢ p) → is_taken (slot_at now p) ≡ false
-  took_rest none p apart = ap is_taken (took.rest p apart) ∙ none p
+  took_rest : ArePlaced old → (p : ℕ) → ((i : ℕ) → i < length handles → place_at handles i ≢ p) → is_taken (slot_at now p) ≡ false
+  took_rest placed p apart = ap is_taken (took.rest p apart) ∙ none_taken old placed p
 
   -- those that wait are those of the handles
-  pub waited : (number frame : ℕ) (new : List (Slot T)) → AreHeldOnce number old handles → ((p : ℕ) → is_taken (slot_at old p) ≡ false) → Turns is_taken (WaitsFor frame) now new → WaitEach handles frame old new
-  waited number frame new once none turns = record {
+  pub waited : (number frame : ℕ) (new : List (Slot T)) → AreHeldOnce number old handles → ArePlaced old → Turns is_taken (WaitsFor frame) now new → WaitEach handles frame old new
+  waited number frame new once placed turns = record {
     long = turns.long ∙ took.long;
     named = λ i lt. turns.here (place_at handles i) (took_full number once i lt) ∙ ap (used_for (Waits frame)) (took.named i lt);
-    rest = λ p apart. turns.rest p (took_rest none p apart) ∙ took.rest p apart;
+    rest = λ p apart. turns.rest p (took_rest placed p apart) ∙ took.rest p apart;
   }
 
   -- those that settled came back, and those of them that went were given back
-  pub back_each : (number most : ℕ) (mid new : List (Slot T)) → AreHeldOnce number old handles → ((p : ℕ) → is_taken (slot_at old p) ≡ false) → ((p : ℕ) → goes (slot_at old p) ≡ false) → Turns is_taken (IsSettled most) now mid → Turns goes Vacates mid new → BackEach handles most old new
-  back_each number most mid new once none none_go settles gives =
-      let back = came_back is_taken most now mid new (λ s e. (taken_is s e).1) (took_none none_go) settles gives in
+  pub back_each : (number most : ℕ) (mid new : List (Slot T)) → AreHeldOnce number old handles → ArePlaced old → Turns is_taken (IsSettled most) now mid → Turns goes Vacates mid new → BackEach handles most old new
+  back_each number most mid new once placed settles gives =
+      let back = came_back is_taken most now mid new (λ s e. (taken_is s e).1) (took_none placed) settles gives in
       record {
         long = back.long ∙ took.long;
         named = λ i lt. (let p = place_at handles i in subst (λ o. IsBack most new o (slot_at new p)) (took.named i lt) (back.here p (took_full number once i lt)));
-        rest = λ p apart. back.rest p (took_rest none p apart) ∙ took.rest p apart;
+        rest = λ p apart. back.rest p (took_rest placed p apart) ∙ took.rest p apart;
       }

@@ -1,10 +1,8 @@
 use Rattle.std.proofs.Common.{◌∙◌, length, ap, arith}
 use Rattle.gpu_descriptor.specs.Caller.Sets.{items_of}
 use Rattle.gpu_descriptor.specs.Model.Agreement.{count_of}
-use Rattle.descriptor_table.specs.Slots.{slot_at}
 use Rattle.descriptor_table.specs.Tables.{is_kept, slots_of}
 use Rattle.descriptor_renderer.proofs.Cleaned.{aged_sets, cleaned, follow_cleaned, gone_sets}
-use Rattle.descriptor_renderer.proofs.Following.{none_goes}
 use Rattle.descriptor_renderer.proofs.Settling.{settled}
 use Rattle.descriptor_renderer.proofs.store.Store.cleanup.Goals as goal
 
@@ -26,11 +24,11 @@ invariant_of-self-clause-accounted g c =
 pub returns-clause-cleaned : goal.returns-clause-cleaned
 returns-clause-cleaned g c =
     let old = slots_of c.args.self.now.table in
-    cleaned old (slots_of c.age.new.self) (slots_of c.trim.new.self) (slots_of c.give.new.self.table) (none_goes old c.requires.rest.placed) c.age.ensures.aged c.trim.ensures.turns c.trim.ensures.few c.give.ensures.gives.turns
+    cleaned old (slots_of c.age.new.self) (slots_of c.trim.new.self) (slots_of c.give.new.self.table) c.requires.rest.placed c.age.ensures.aged c.trim.ensures.turns c.trim.ensures.few c.give.ensures.gives.turns
 
 pub returns-clause-settles : goal.returns-clause-settles
 returns-clause-settles g c =
     let old = slots_of c.args.self.now.table in
     let new = slots_of c.give.new.self.table in
-    let all = cleaned old (slots_of c.age.new.self) (slots_of c.trim.new.self) new (none_goes old c.requires.rest.placed) c.age.ensures.aged c.trim.ensures.turns c.trim.ensures.few c.give.ensures.gives.turns in
+    let all = cleaned old (slots_of c.age.new.self) (slots_of c.trim.new.self) new c.requires.rest.placed c.age.ensures.aged c.trim.ensures.turns c.trim.ensures.few c.give.ensures.gives.turns in
     settled 0 _ _ (follow_cleaned 0 old new all) (ap (λ v. v.items) c.give.ensures.coming ∙ c.requires.rest.none_coming) c.requires.rest

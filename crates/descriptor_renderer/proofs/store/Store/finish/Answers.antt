@@ -1,7 +1,7 @@
 use Rattle.std.proofs.Common.{◌∙◌, length, ap, arith}
 use Rattle.gpu_descriptor.specs.Caller.Sets.{items_of}
 use Rattle.gpu_descriptor.specs.Model.Agreement.{count_of}
-use Rattle.descriptor_table.specs.Slots.{is_due, slot_at}
+use Rattle.descriptor_table.specs.Slots.{is_due}
 use Rattle.descriptor_table.specs.Tables.{slots_of}
 use Rattle.descriptor_table.proofs.Turning.{due_full}
 use Rattle.descriptor_renderer.specs.Stores.{IsBack}

@@ -4,7 +4,7 @@ use Rattle.gpu_descriptor.specs.Model.Agreement.{count_of}
 use Rattle.descriptor_table.specs.Slots.{slot_at}
 use Rattle.descriptor_table.specs.Tables.{is_taken, place_at, slots_of}
 use Rattle.descriptor_renderer.proofs.Back.{settled_sets}
-use Rattle.descriptor_renderer.proofs.Following.{follow_each, follows_back, none_goes, none_taken}
+use Rattle.descriptor_renderer.proofs.Following.{follow_each, follows_back}
 use Rattle.descriptor_renderer.proofs.Listed.{BackEach, back_each, took_named, took_sets}
 use Rattle.descriptor_renderer.proofs.Settling.{settled}
 use Rattle.descriptor_renderer.proofs.store.Store.free_each.Goals as goal
@@ -12,7 +12,7 @@ use Rattle.descriptor_renderer.proofs.store.Store.free_each.Goals as goal
 pub settle_each-requires-clause-taken : goal.settle_each-requires-clause-taken
 settle_each-requires-clause-taken g c =
     let old = slots_of c.args.self.now.table in
-    took_named c.args.handles.now old (slots_of c.take_each.new.self) (c.if-not-take_each.ensures.took refl) (none_taken old c.requires.rest.placed)
+    took_named c.args.handles.now old (slots_of c.take_each.new.self) (c.if-not-take_each.ensures.took refl) c.requires.rest.placed
 
 pub invariant_of-self-2-clause-exact : goal.invariant_of-self-2-clause-exact
 invariant_of-self-2-clause-exact g c = λ t.
@@ -39,7 +39,7 @@ returns-clause-frees g c = λ t.
     let took = c.if-not-take_each.ensures.took refl in
     let once = c.if-not-take_each.ensures.once.0 refl in
     let gives = c.give.ensures.gives in
-    let each = back_each handles old (slots_of c.take_each.new.self) took c.args.self.now.table.number c.take_each.new.self.most (slots_of c.settle_each.new.self) new once (none_taken old c.requires.rest.placed) (none_goes old c.requires.rest.placed) c.settle_each.ensures.turns gives.turns in
+    let each = back_each handles old (slots_of c.take_each.new.self) took c.args.self.now.table.number c.take_each.new.self.most (slots_of c.settle_each.new.self) new once c.requires.rest.placed c.settle_each.ensures.turns gives.turns in
     let back = subst (λ most. BackEach handles most old new) c.take_each.ensures.stays.most each in
     record { long = back.long; named = back.named; rest = back.rest; sets = gives.sets; returns = gives.returns }
 
@@ -51,5 +51,5 @@ returns-clause-settles g c =
     let most = c.take_each.new.self.most in
     let took = c.if-not-take_each.ensures.took refl in
     let once = c.if-not-take_each.ensures.once.0 refl in
-    let back = back_each handles old (slots_of c.take_each.new.self) took c.args.self.now.table.number most (slots_of c.settle_each.new.self) new once (none_taken old c.requires.rest.placed) (none_goes old c.requires.rest.placed) c.settle_each.ensures.turns c.give.ensures.gives.turns in
+    let back = back_each handles old (slots_of c.take_each.new.self) took c.args.self.now.table.number most (slots_of c.settle_each.new.self) new once c.requires.rest.placed c.settle_each.ensures.turns c.give.ensures.gives.turns in
     settled 0 c.args.self.now c.give.new.self (follow_each 0 handles old new (λ i lt. let p = place_at handles i in follows_back 0 most new (slot_at old p) (slot_at new p) (back.named i lt)) back.rest) (ap (λ v. v.items) c.give.ensures.coming ∙ c.requires.rest.none_coming) c.requires.rest

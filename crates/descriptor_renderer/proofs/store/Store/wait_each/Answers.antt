@@ -4,7 +4,7 @@ use Rattle.gpu_descriptor.specs.Model.Agreement.{count_of}
 use Rattle.descriptor_table.specs.Slots.{slot_at}
 use Rattle.descriptor_table.specs.Tables.{is_taken, place_at, slots_of}
 use Rattle.descriptor_renderer.proofs.Back.{waiting_sets}
-use Rattle.descriptor_renderer.proofs.Following.{follow_each, follows_waits, none_taken}
+use Rattle.descriptor_renderer.proofs.Following.{follow_each, follows_waits}
 use Rattle.descriptor_renderer.proofs.Listed.{took_named, took_sets, waited}
 use Rattle.descriptor_renderer.proofs.Settling.{settled}
 use Rattle.descriptor_renderer.proofs.store.Store.wait_each.Goals as goal
@@ -12,7 +12,7 @@ use Rattle.descriptor_renderer.proofs.store.Store.wait_each.Goals as goal
 pub wait_each-requires-clause-taken : goal.wait_each-requires-clause-taken
 wait_each-requires-clause-taken g c =
     let old = slots_of c.args.self.now.table in
-    took_named c.args.handles.now old (slots_of c.take_each.new.self) (c.if-not-take_each.ensures.took refl) (none_taken old c.requires.rest.placed)
+    took_named c.args.handles.now old (slots_of c.take_each.new.self) (c.if-not-take_each.ensures.took refl) c.requires.rest.placed
 
 pub invariant_of-self-2-clause-exact : goal.invariant_of-self-2-clause-exact
 invariant_of-self-2-clause-exact g c = λ t.
@@ -36,7 +36,7 @@ returns-clause-waits g c = λ t.
     let old = slots_of c.args.self.now.table in
     let took = c.if-not-take_each.ensures.took refl in
     let once = c.if-not-take_each.ensures.once.0 refl in
-    waited c.args.handles.now old (slots_of c.take_each.new.self) took c.args.self.now.table.number c.args.frame (slots_of c.wait_each.new.self) once (none_taken old c.requires.rest.placed) c.wait_each.ensures.turns
+    waited c.args.handles.now old (slots_of c.take_each.new.self) took c.args.self.now.table.number c.args.frame (slots_of c.wait_each.new.self) once c.requires.rest.placed c.wait_each.ensures.turns
 
 pub returns-clause-settles : goal.returns-clause-settles
 returns-clause-settles g c =
@@ -45,5 +45,5 @@ returns-clause-settles g c =
     let new = slots_of c.wait_each.new.self in
     let took = c.if-not-take_each.ensures.took refl in
     let once = c.if-not-take_each.ensures.once.0 refl in
-    let w = waited handles old (slots_of c.take_each.new.self) took c.args.self.now.table.number c.args.frame new once (none_taken old c.requires.rest.placed) c.wait_each.ensures.turns in
+    let w = waited handles old (slots_of c.take_each.new.self) took c.args.self.now.table.number c.args.frame new once c.requires.rest.placed c.wait_each.ensures.turns in
     settled c.args.frame _ _ (follow_each c.args.frame handles old new (λ i lt. let p = place_at handles i in follows_waits c.args.frame (slot_at old p) (slot_at new p) (w.named i lt)) w.rest) c.requires.rest.none_coming c.requires.rest
