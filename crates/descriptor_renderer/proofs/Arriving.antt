@@ -18,7 +18,7 @@ pub record Arrives {T : Type 0} (comes : ℕ → T → Type 0) (f : ℕ) (o n : 
 
 module _ {T : Type 0} where
   -- whether a set in such a use is placed
-  abbrev placed_in : Use → Option T → ℕ → ℕ → Bool
+  abbrev pub placed_in : Use → Option T → ℕ → ℕ → Bool
   placed_in u o layout generation = not (is_some o) || ((is_held_use u && is_some o) || ((is_waiting_use u && is_some o) || in_list (layout + 2) u layout generation (is_some o)))
 
   pub used_placed : (s : Slot T) (x : T) → s.set ≡ Some x → (is_held_use s.used || is_waiting_use s.used) ≡ true → is_placed s ≡ true

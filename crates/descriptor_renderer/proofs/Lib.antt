@@ -10,6 +10,7 @@ mod Handing
 mod Listed
 mod Naming
 mod Owned
+mod Resting
 mod Results
 mod Returned
 mod Settling

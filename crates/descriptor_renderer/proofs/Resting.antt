@@ -1,0 +1,57 @@
+-- How many sets there are if each is held, waits or is kept.
+use Rattle.std.proofs.Common.{◌≡◌, ℕ, suc, ◌+◌, ◌==◌, ◌&&◌, nat_lt, not, Bool, true, false, List, [], ◌∷◌, length, Option, None, Some, is_some, refl, ap, ◌∙◌, arith, eqb-true, ne_eqb}
+use Rattle.std.proofs.lemmas.Bool.{and_left, and_right}
+use Rattle.descriptor_table.specs.Sets.{joined, sets_in}
+use Rattle.descriptor_table.specs.Slots.{in_list, slot_at}
+use Rattle.descriptor_table.specs.Tables.{count, holds, is_held_use, is_kept, is_waiting_use, waits}
+use Rattle.descriptor_table.specs.declared.slot.Slot.{Slot}
+use Rattle.descriptor_table.specs.declared.slot.Use.{Use}
+use Rattle.descriptor_table.specs.declared.slot.Use.TheVariants.{Held, Drawn, Waits, Kept, Going, Taken, Vacant}
+use Rattle.descriptor_table.proofs.Chains.{and_true}
+use Rattle.descriptor_table.proofs.Counts.{bit}
+use Rattle.descriptor_renderer.specs.Stores.{is_placed}
+use Rattle.descriptor_renderer.proofs.Arriving.{placed_in}
+
+-- no set is kept where there is none
+none_kept : (u : Use) (l g : ℕ) → in_list (l + 2) u l g false ≡ false
+none_kept Held l g = refl
+none_kept (Drawn f) l g = refl
+none_kept (Waits f) l g = refl
+none_kept Kept l g = and_right ((l + 2) == (l + 2)) (nat_lt g 4294967295 && false) (and_right (nat_lt g 4294967295) false refl)
+none_kept Going l g = and_right ((l + 2) == 1) false refl
+none_kept Taken l g = refl
+none_kept Vacant l g = and_left ((l + 2) == 0) (nat_lt g 4294967295 && true) (ne_eqb (l + 2) 0 (λ e. omega arith))
+
+-- a set is held, waits or is kept, and only one of these
+one_of : {T : Type 0} (x : T) (u : Use) (l g : ℕ) → placed_in u (Some x) l g ≡ true → 1 ≡ bit (is_held_use u && true) + (bit (is_waiting_use u && true) + bit (in_list (l + 2) u l g true))
+one_of x Held l g e = refl
+one_of x (Drawn f) l g e = refl
+one_of x (Waits f) l g e = refl
+one_of x Kept l g e = let kept : in_list (l + 2) Kept l g true ≡ true = e in let b = ap bit kept in omega arith
+one_of x Going l g e = absurd (let z = eqb-true (l + 2) 1 (and_true ((l + 2) == 1) true e).0 in omega arith)
+one_of x Taken l g e = absurd (cc)
+one_of x Vacant l g e = absurd (let z = eqb-true (l + 2) 0 (and_true ((l + 2) == 0) (nat_lt g 4294967295 && false) e).0 in omega arith)
+
+module _ {T : Type 0} where
+  placed_bits : (s : Slot T) → is_placed s ≡ true → bit (is_some s.set) ≡ bit (holds s) + (bit (waits s) + bit (is_kept s))
+  placed_bits s e = by_set s.set e
+    where
+      by_set : (o : Option T) → placed_in s.used o s.layout s.generation ≡ true → bit (is_some o) ≡ bit (is_held_use s.used && is_some o) + (bit (is_waiting_use s.used && is_some o) + bit (in_list (s.layout + 2) s.used s.layout s.generation (is_some o)))
+      by_set None f =
+          let a = ap bit (and_right (is_held_use s.used) false refl) in
+          let b = ap bit (and_right (is_waiting_use s.used) false refl) in
+          let c = ap bit (none_kept s.used s.layout s.generation) in
+          omega arith
+      by_set (Some x) f = one_of x s.used s.layout s.generation f
+
+  joined_length : (o : Option T) (l : List T) → length (joined o l) ≡ bit (is_some o) + length l
+  joined_length None l = omega arith
+  joined_length (Some x) l = omega arith
+
+  pub placed_count : (slots : List (Slot T)) → ((p : ℕ) → is_placed (slot_at slots p) ≡ true) → length (sets_in slots) ≡ count holds slots + (count waits slots + count is_kept slots)
+  placed_count [] placed = refl
+  placed_count (s ∷ slots) placed =
+      let a = joined_length s.set (sets_in slots) in
+      let b = placed_bits s (placed 0) in
+      let h = placed_count slots (λ p. placed (suc p)) in
+      omega arith
