@@ -2,7 +2,6 @@ mod Arriving
 mod Back
 mod Cleaned
 mod Cleared
-mod Remaining
 mod Emptied
 mod Following
 mod Given
@@ -10,6 +9,7 @@ mod Handing
 mod Listed
 mod Naming
 mod Owned
+mod Remaining
 mod Resting
 mod Results
 mod Returned
