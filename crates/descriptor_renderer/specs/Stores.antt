@@ -86,6 +86,10 @@ NoneComes layout x = ⊥
 abbrev pub ComesOf : {L P S : Type 0} → Meaning L P S → L → ℕ → ℕ → DescriptorSet S → Type 0
 ComesOf means layout number other x = (other ≡ number) × IsOfLayout means layout x.raw
 
+-- each set was in its slot before, under its layout, or passes the test
+abbrev pub SetsCome : {S : Type 0} → (ℕ → DescriptorSet S → Type 0) → List (Slot (DescriptorSet S)) → List (Slot (DescriptorSet S)) → Type 0
+SetsCome comes old new = (p : ℕ) (x : _) → (slot_at new p).set ≡ Some x → (((slot_at old p).set ≡ Some x) × ((slot_at new p).layout ≡ (slot_at old p).layout)) ⊎ comes (slot_at new p).layout x
+
 -- how many lists a table has for so many layouts
 abbrev pub lists_for : ℕ → ℕ
 lists_for zero = 0
@@ -153,7 +157,7 @@ module _ {L P S D : Type 0} {d : Ghosts D L P S} where
 
   -- each set was in its slot before, under its layout, or passes the test; none is on its way, and none waits for a frame later than before, and than this one
   pub record Settles (comes : ℕ → DescriptorSet S → Type 0) (frame : ℕ) (old new : Store L P S D d) : Type 0 where
-    pub sets : (p : ℕ) (x : DescriptorSet S) → (slot_at (slots_in new) p).set ≡ Some x → (((slot_at (slots_in old) p).set ≡ Some x) × ((slot_at (slots_in new) p).layout ≡ (slot_at (slots_in old) p).layout)) ⊎ comes (slot_at (slots_in new) p).layout x
+    pub sets : SetsCome comes (slots_in old) (slots_in new)
     pub rest : IsAtRest new
     pub frames : (f : ℕ) → frame ≤ f → IsUpTo f (slots_in old) → IsUpTo f (slots_in new)
 

@@ -1,7 +1,8 @@
 //! Sets that are taken for handles, many at once: kept ones first.
-ghost use Rattle.std.specs.Prelude.{◌≡◌, ◌+◌, ◌-◌, ◌<◌, ◌≤◌, ◌++◌, [], List, length, IfErr, OnErr, OnOk, Ok};
+ghost use Rattle.std.specs.Prelude.{◌≡◌, ℕ, ◌+◌, ◌-◌, ◌<◌, ◌≤◌, ◌++◌, [], List, length, IfErr, OnErr, OnOk, Ok};
 ghost use Rattle.std.specs.Prelude.{vec_capacity, vec_len};
 ghost use Rattle.gpu_descriptor.specs.Caller.SetLayouts.{IsMeant};
+ghost use Rattle.gpu_descriptor.specs.Caller.Sets.{AreOfLayout};
 
 use super::Store;
 use descriptor_table::SetHandle;
@@ -12,7 +13,7 @@ impl<L: Drop, P: Drop, S: Drop, D: DescriptorDevice<L, P, S>> Store<L, P, S, D> 
     ghost use Rattle.descriptor_table.specs.Tables.{HasRoom};
     ghost use Rattle.descriptor_table.specs.declared.handle.SetHandle.{SetHandle};
     ghost use Rattle.descriptor_renderer.specs.Stores.{AreNamed, Asks, AsksAtLast, BringsAtLast, ComesOf, HasLayout, HoldEach};
-    ghost use Rattle.descriptor_renderer.specs.Stores.{IsAtRest, IsRefused, IsRefusedAtLast, Settles};
+    ghost use Rattle.descriptor_renderer.specs.Stores.{IsAtRest, IsRefused, IsRefusedAtLast, NoneComes, SetsCome, Settles};
     ghost use Rattle.descriptor_renderer.specs.Stores.{StoreStays, coming_in, kept_of, most_of};
     ghost use Rattle.descriptor_renderer.specs.Stores.{number_of, side_of, slots_in};
 
@@ -24,6 +25,7 @@ impl<L: Drop, P: Drop, S: Drop, D: DescriptorDevice<L, P, S>> Store<L, P, S, D> 
         ensures refused { IfErr result (λ error. IsRefused known.now.layout many error self.old
             self.new) }
         ensures none { OnErr result ((coming_in self.new).items ≡ []) }
+        ensures table { OnOk result (HasRoom many self.new.table) }
         ensures stays { StoreStays (most_of self.old) self.old self.new }
     {
         if self.table.reserve(many).is_err() {
@@ -45,6 +47,7 @@ impl<L: Drop, P: Drop, S: Drop, D: DescriptorDevice<L, P, S>> Store<L, P, S, D> 
         ensures refused { IfErr result (λ error. IsRefusedAtLast known.now.layout
             (many - kept_of layout self.old) many error self.old self.new) }
         ensures none { OnErr result ((coming_in self.new).items ≡ []) }
+        ensures table { OnOk result (HasRoom (length (coming_in self.new).items) self.new.table) }
         ensures stays { StoreStays (most_of self.old) self.old self.new }
     {
         let kept = self.table.kept_count(layout);
@@ -73,6 +76,8 @@ impl<L: Drop, P: Drop, S: Drop, D: DescriptorDevice<L, P, S>> Store<L, P, S, D> 
         ensures room { vec_capacity handles.new ≡ vec_capacity handles.old }
         ensures side { side_of self.new ≡ side_of self.old }
         ensures coming { coming_in self.new ≡ coming_in self.old }
+        ensures sets { SetsCome NoneComes (slots_in self.old) (slots_in self.new) }
+        ensures reserve { (n : ℕ) → HasRoom n self.old.table → HasRoom n self.new.table }
         ensures stays { StoreStays (most_of self.old) self.old self.new }
     {
         for _ in 0..many {
@@ -94,6 +99,8 @@ impl<L: Drop, P: Drop, S: Drop, D: DescriptorDevice<L, P, S>> Store<L, P, S, D> 
             × HoldEach (number_of self.old) layout given (slots_in self.old) (slots_in self.new) }
         ensures none { (coming_in self.new).items ≡ [] }
         ensures side { side_of self.new ≡ side_of self.old }
+        ensures sets { (known : L) → AreOfLayout D.meaning known (coming_in self.old).items
+            → SetsCome (ComesOf D.meaning known layout) (slots_in self.old) (slots_in self.new) }
         ensures stays { StoreStays (most_of self.old) self.old self.new }
     {
         while let Some(set) = self.coming.pop() {
