@@ -66,7 +66,8 @@ fn play_frames(renderer: &mut GameRenderer) -> Result<Score, RenderError>
     Ok(score)
 }
 
-/// Ends a level: its water dries up, and once the device is done the empty pools are destroyed.
+/// Ends a level: its water dries up, and once the device is done the sets of the level go back and the
+/// empty pools are destroyed.
 fn end_level(renderer: &mut GameRenderer, water: SetHandle, last_frame: u64)
     ensures { pools_besides renderer.new ≡ pools_besides renderer.old }
 {
@@ -150,7 +151,7 @@ fn draw(renderer: &mut GameRenderer, layout: LayoutHandle, score: &mut Score)
 {
     match renderer.draw(layout) {
         Ok(draw) => {
-            if let Some(raw) = renderer.drawn(draw) {
+            if let Some(raw) = renderer.set(draw) {
                 bind(renderer.device(), raw, score);
             }
         }

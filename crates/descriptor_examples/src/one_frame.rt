@@ -36,7 +36,7 @@ fn draw_frame<L: Drop, P: Drop, S: Drop, D: DescriptorDevice<L, P, S>>(
         return Err(RenderError::NoFrame);
     };
     let draw = renderer.draw(layout)?;
-    if let (Some(_material), Some(_set)) = (renderer.set(material), renderer.drawn(draw)) {
+    if let (Some(_material), Some(_set)) = (renderer.set(material), renderer.set(draw)) {
         // .. `renderer.device()` writes both and binds them ..
     }
     renderer.end_frame();

@@ -1,6 +1,7 @@
 //! A renderer over the scripted device, with a plain layout and a marked one.
+use crate::bench::expect_same;
 use crate::callers::set_layout;
-use descriptor_renderer::{LayoutHandle, Renderer, SetHandle};
+use descriptor_renderer::{Counts, LayoutHandle, Renderer, SetHandle};
 use descriptor_script::{Answer, RawPool, RawSet, ScriptLayout, ScriptedDevice};
 use std::alloc::Global;
 use std::process::Abort;
@@ -46,6 +47,11 @@ pub fn hold(rt: &impl Abort, stage: &mut Stage) -> SetHandle {
     stage.renderer.create_set(stage.marked).expect(rt, "a set")
 }
 
+/// A plain set of the open frame.
+pub fn draw(rt: &impl Abort, stage: &mut Stage) -> SetHandle {
+    stage.renderer.draw(stage.plain).expect(rt, "a set")
+}
+
 /// Opens a frame and draws so many plain sets.
 pub fn draw_sets(rt: &impl Abort, stage: &mut Stage, count: u32) {
     assert!(rt; stage.renderer.begin_frame().is_ok());
@@ -58,4 +64,32 @@ pub fn draw_sets(rt: &impl Abort, stage: &mut Stage, count: u32) {
 pub fn draw_frame(rt: &impl Abort, stage: &mut Stage, count: u32) {
     draw_sets(rt, stage, count);
     stage.renderer.end_frame();
+}
+
+/// Compares how many pools were created and destroyed, and how many calls asked for sets and released
+/// some.
+pub fn expect_device(rt: &impl Abort, stage: &Stage, calls: [u64; 4]) {
+    let device = stage.renderer.device();
+    let seen = [
+        device.created(),
+        device.destroyed(),
+        device.asked(),
+        device.released(),
+    ];
+    expect_same(rt, seen, calls);
+}
+
+/// Compares how many sets are held, wait, and are kept.
+pub fn expect_sets(rt: &impl Abort, stage: &Stage, held: u64, waiting: u64, kept: u64) {
+    let wanted = Counts {
+        held,
+        waiting,
+        kept,
+    };
+    expect_same(rt, stage.renderer.counts(), wanted);
+}
+
+/// Sees that a handle names a set, or that it names none.
+pub fn expect_named(rt: &impl Abort, stage: &Stage, handle: SetHandle, named: bool) {
+    expect_same(rt, stage.renderer.set(handle).is_some(), named);
 }

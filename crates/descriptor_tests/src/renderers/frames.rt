@@ -1,7 +1,8 @@
 //! Frames: that they are drawn where memory and places are there, and what they call of the device.
-use super::bench::{Stage, ample, draw_frame, hold};
+use super::bench::{
+    Stage, ample, draw, draw_frame, draw_sets, expect_device, expect_named, expect_sets,
+};
 use crate::bench::expect_same;
-use std::process::Abort;
 
 /// Draws so many frames with so many sets of each layout, and finishes each three frames later. The
 /// last one stays open. Tells how many draws were refused.
@@ -29,38 +30,36 @@ fn renderer_draws_frames(rt: HostRuntime) {
     expect_same(&rt, draw_frames(&mut stage, 50, 9), 0);
 }
 
-/// Sees how many pools were created and destroyed.
-fn expect_created_destroyed(rt: &impl Abort, stage: &Stage, created: u64, destroyed: u64) {
-    let device = stage.renderer.device();
-    expect_same(
-        rt,
-        (device.created(), device.destroyed()),
-        (created, destroyed),
-    );
-}
-
-/// The pool of the first frame serves the third, although no set is out in between. `cleanup`
-/// destroys that pool, and leaves the pool of a set that is held.
+/// A frame that is open is never done: its set is still found. Once it has ended its handle names
+/// nothing, and the set comes back when the device is done with the frame.
 #[test]
-fn pool_serves_later_frames(rt: HostRuntime) {
+fn open_frame_is_not_done(rt: HostRuntime) {
     let mut stage = ample(&rt, rt.alloc());
-    for frame in 1..4 {
-        draw_frame(&rt, &mut stage, 1);
-        stage.renderer.gpu_done(frame);
-    }
-    expect_created_destroyed(&rt, &stage, 1, 0);
-    let _held = hold(&rt, &mut stage);
-    stage.renderer.cleanup();
-    expect_created_destroyed(&rt, &stage, 2, 1);
+    draw_sets(&rt, &mut stage, 0);
+    let drawn = draw(&rt, &mut stage);
+    stage.renderer.gpu_done(u64::MAX);
+    expect_named(&rt, &stage, drawn, true);
+    expect_sets(&rt, &stage, 0, 1, 0);
+    stage.renderer.end_frame();
+    expect_named(&rt, &stage, drawn, false);
+    expect_sets(&rt, &stage, 0, 1, 0);
+    stage.renderer.gpu_done(1);
+    expect_sets(&rt, &stage, 0, 0, 1);
 }
 
-/// The sets of two frames that are done at once go back in one call of the device.
+/// If no set is kept, those of two frames that are done at once go back in one call of the device.
+/// The pool stays, and serves the next frame.
 #[test]
 fn frames_go_back_in_one_call(rt: HostRuntime) {
     let mut stage = ample(&rt, rt.alloc());
+    stage.renderer.set_keep(0);
     for count in [1, 2, 1] {
         draw_frame(&rt, &mut stage, count);
     }
     stage.renderer.gpu_done(2);
-    expect_same(&rt, stage.renderer.device().released(), 1);
+    expect_sets(&rt, &stage, 0, 1, 0);
+    expect_device(&rt, &stage, [1, 0, 4, 1]);
+    stage.renderer.gpu_done(3);
+    draw_frame(&rt, &mut stage, 1);
+    expect_device(&rt, &stage, [1, 0, 5, 2]);
 }

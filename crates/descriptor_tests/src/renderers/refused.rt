@@ -1,5 +1,7 @@
 //! Refusals of the device, and allocations: failures, and how many there are.
-use super::bench::{ample, draw_frame, draw_sets, hold, make_stage, scripted};
+use super::bench::{
+    Stage, ample, draw_frame, draw_sets, expect_device, expect_sets, hold, make_stage, scripted,
+};
 use super::frames::draw_frames;
 use crate::bench::expect_same;
 use descriptor_renderer::RenderError;
@@ -15,13 +17,49 @@ fn refused_at(rt: &impl Abort, alloc: Global, call: usize) -> Result<u64, Fail> 
     Ok(draw_frames(&mut stage, 5, 3))
 }
 
-/// Each call of the device is refused once: each draw asks it once, and two create a pool too.
+/// Each call of the device is refused once. Each draw of the first three frames asks it once, and two
+/// create a pool too. The last two frames draw with the sets of the first two, and ask for none.
 #[test]
 fn renderer_outlives_a_refusal(rt: HostRuntime) -> Result<(), Fail> {
-    for call in 0..32 {
+    for call in 0..20 {
         expect_same(&rt, refused_at(&rt, rt.alloc(), call)?, 1);
     }
-    expect_same(&rt, refused_at(&rt, rt.alloc(), 32)?, 0);
+    expect_same(&rt, refused_at(&rt, rt.alloc(), 20)?, 0);
+    Ok(())
+}
+
+/// Keeps two plain sets, and then creates two sets of the marked layout, on a device that answers so
+/// when it is asked for a pool of these.
+fn create_beside_kept(
+    rt: &impl Abort,
+    alloc: Global,
+    words: &[Answer],
+) -> Result<(Stage, Result<(), RenderError>), Fail> {
+    let mut script = [Answer::Ok; 3].to_vec(alloc)?;
+    script.extend_from_slice(words)?;
+    let mut stage = scripted(rt, alloc, script);
+    draw_frame(rt, &mut stage, 2);
+    stage.renderer.gpu_done(1);
+    expect_sets(rt, &stage, 0, 0, 2);
+    let mut handles = Vec::new(alloc);
+    let result = stage.renderer.create_sets(stage.marked, 2, &mut handles);
+    Ok((stage, result))
+}
+
+/// The kept sets go back, the empty pool is destroyed, and the device is asked once more. If it refuses
+/// again, that is the error.
+#[test]
+fn refusal_beside_kept_sets(rt: HostRuntime) -> Result<(), Fail> {
+    let (stage, result) = create_beside_kept(&rt, rt.alloc(), &[Answer::Device])?;
+    expect_same(&rt, result, Ok(()));
+    expect_sets(&rt, &stage, 2, 0, 0);
+    expect_device(&rt, &stage, [2, 1, 3, 1]);
+    let words = [Answer::Device, Answer::Host];
+    let (stage, result) = create_beside_kept(&rt, rt.alloc(), &words)?;
+    let error = AllocationError::OutOfHostMemory;
+    expect_same(&rt, result, Err(RenderError::Allocation(error)));
+    expect_sets(&rt, &stage, 0, 0, 0);
+    expect_device(&rt, &stage, [1, 1, 2, 1]);
     Ok(())
 }
 
