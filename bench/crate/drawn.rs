@@ -1,4 +1,4 @@
-//! The workload `renderer` over the crate's own `Renderer`, by the calls of `rendering.rt`.
+//! The workloads `renderer` and `unkept` over the crate's own `Renderer`, by the calls of `rendering.rt`.
 
 use crate::device::CountingDevice;
 use crate::workloads::{DRAWN_LAYOUTS, DRAWS, MATERIALS};
@@ -15,8 +15,11 @@ struct Scene<'a> {
 
 impl<'a> Scene<'a> {
     /// A renderer with its layouts and materials.
-    fn new(device: &'a CountingDevice) -> Self {
+    fn new(device: &'a CountingDevice, keeps: bool) -> Self {
         let mut renderer = Renderer::new(device, u32::MAX);
+        if !keeps {
+            renderer.set_keep(0);
+        }
         let drawn = (0..DRAWN_LAYOUTS)
             .map(|samplers| add_layout(&mut renderer, samplers))
             .collect();
@@ -83,8 +86,8 @@ fn add_layout(
 }
 
 /// Draws N frames.
-pub fn renderer(device: &CountingDevice, n: u32) -> Duration {
-    let mut scene = Scene::new(device);
+pub fn renderer(device: &CountingDevice, n: u32, keeps: bool) -> Duration {
+    let mut scene = Scene::new(device, keeps);
     let start = Instant::now();
     for _ in 0..n {
         scene.draw_frame();

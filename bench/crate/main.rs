@@ -17,5 +17,5 @@ mod types {
 mod workloads;
 
 fn main() {
-    workloads::run::<subject::Subject>(|bench, n| drawn::renderer(&bench.device, n));
+    workloads::run::<subject::Subject>(|bench, n, keeps| drawn::renderer(&bench.device, n, keeps));
 }

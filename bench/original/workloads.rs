@@ -147,8 +147,9 @@ fn shuffle<S>(held: &mut [S]) {
     }
 }
 
-/// Runs the workload that the arguments name, and reports what it did. `renderer` draws N frames.
-pub fn run<B: Bench>(renderer: impl FnOnce(&mut B, u32) -> Duration) {
+/// Runs the workload that the arguments name, and reports what it did. `renderer` draws N frames, and is
+/// told whether sets are kept.
+pub fn run<B: Bench>(renderer: impl FnOnce(&mut B, u32, bool) -> Duration) {
     let words: Vec<String> = std::env::args().skip(1).collect();
     let [name, number] = &words[..] else {
         panic!("the arguments are a workload and a number");
@@ -176,9 +177,9 @@ pub fn run<B: Bench>(renderer: impl FnOnce(&mut B, u32) -> Duration) {
             full(&mut bench, n)
         }
         "drained" => drained(&mut bench, n),
-        "renderer" => {
+        "renderer" | "unkept" => {
             operations *= u64::from(DRAWS);
-            renderer(&mut bench, n)
+            renderer(&mut bench, n, name == "renderer")
         }
         _ => panic!("no workload has this name"),
     };

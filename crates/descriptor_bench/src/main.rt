@@ -50,9 +50,11 @@ fn run_named(rt: &HostRuntime, name: &str, n: u32) -> Result<bool, anyhow::Error
             is_known = true;
         }
     }
-    if is_asked_for(name, rendering::NAME) {
-        rendering::render(rt, rt.alloc(), n)?.write(rt, rendering::NAME, n)?;
-        is_known = true;
+    for (workload, keep) in rendering::WORKLOADS {
+        if is_asked_for(name, workload) {
+            rendering::render(rt, rt.alloc(), keep, n)?.write(rt, workload, n)?;
+            is_known = true;
+        }
     }
     Ok(is_known)
 }

@@ -11,8 +11,8 @@ use gpu_descriptor::{AllocationError, SetLayout};
 use std::alloc::Global;
 use std::time::{Clock, Instant};
 
-/// The name of the workload: N frames are drawn.
-pub const NAME: &str = "renderer";
+/// The workloads by name, with how many sets of a layout are kept at most: N frames are drawn.
+pub const WORKLOADS: [(&str, u32); 2] = [("renderer", u32::MAX), ("unkept", 0)];
 
 /// How many sets a frame draws.
 const DRAWS: u32 = 10_000;
@@ -34,9 +34,15 @@ struct Scene {
 }
 
 /// Draws N frames, and gives all sets back. The frames are timed.
-pub fn render(clock: &impl Clock, alloc: Global, n: u32) -> Result<Outcome, anyhow::Error> {
+pub fn render(
+    clock: &impl Clock,
+    alloc: Global,
+    keep: u32,
+    n: u32,
+) -> Result<Outcome, anyhow::Error> {
     let device = CountingDevice::new(u64::MAX);
     let mut renderer = Renderer::new(alloc, device, u32::MAX, 0);
+    renderer.set_keep(keep);
     let mut scene = load(&mut renderer)?;
     let start = Instant::now(clock)?;
     render_frames(&mut renderer, &mut scene, n)?;
