@@ -60,10 +60,6 @@ module _ {P S : Type 0} where
       pub record AreInUse (items : List Item) (m : FrameManager P S) (l : Ledger) : Type 0 where
         pub used : (t : Item) → count_of t items ≤ in_use m l t
 
-      -- the sets of both lists, each as often as it is in both together, are in use
-      pub record AreBothInUse (xs ys : List (DescriptorSet S)) (m : FrameManager P S) (l : Ledger) : Type 0 where
-        pub both : (t : Item) → count_of t (items_of set_name xs) + count_of t (items_of set_name ys) ≤ in_use m l t
-
       module _ (old new : FrameManager P S) (before after : Ledger) where
         -- the list, its reserve and the greatest frame stay, and retired sets that were outstanding still are
         pub record KeepsRetired : Type 0 where
