@@ -17,8 +17,27 @@ pub struct Allocator {
     id: u64,
     renderer: Renderer<u64, u64, u64, HostDevice>,
 
+    /// How many sets are held.
+    held: usize,
+
     /// The handles of a call. There is capacity for all sets that are held.
     handles: Vec<SetHandle>,
+}
+
+/// The name of a set in C: 64 bits, which no other set of the allocator gets.
+#[inline]
+fn name_of(handle: SetHandle) -> u64 {
+    u64::from(handle.generation) << 32 | u64::from(handle.place)
+}
+
+/// The handle of a set with this name.
+#[inline]
+fn handle_of(owner: u64, name: u64) -> SetHandle {
+    SetHandle {
+        renderer: owner,
+        place: name as u32,
+        generation: (name >> 32) as u32,
+    }
 }
 
 impl Allocator {
@@ -31,18 +50,19 @@ impl Allocator {
         Allocator {
             id,
             renderer,
+            held: 0,
             handles: Vec::new(Global),
         }
     }
 
-    /// How many sets are outstanding, those that wait included.
+    /// How many sets are outstanding: those that wait included, and those that are kept not.
     pub fn outstanding(&self) -> u64 {
-        self.renderer.outstanding()
+        self.held as u64 + self.waiting()
     }
 
     /// How many sets wait.
     pub fn waiting(&self) -> u64 {
-        self.renderer.retired_count()
+        self.renderer.counts().waiting
     }
 
     /// How many pools exist.
@@ -78,7 +98,7 @@ impl Allocator {
         });
         match added {
             Ok(LayoutHandle { registry, place }) => Ok(GdLayout {
-                index: place as u64,
+                index: u64::from(place),
                 owner: registry,
             }),
             Err(_) => Err(GdStatus::OUT_OF_HOST_MEMORY),
@@ -93,7 +113,7 @@ impl Allocator {
         count: u32,
         put: impl Fn(usize, GdSet),
     ) -> GdStatus {
-        let Ok(place) = usize::try_from(layout.index) else {
+        let Ok(place) = u32::try_from(layout.index) else {
             return GdStatus::BAD_LAYOUT;
         };
         let registry = layout.owner;
@@ -119,14 +139,16 @@ impl Allocator {
         }
         if count == 1 {
             let handle = self.renderer.create_set(layout)?;
-            put(0, self.shown(handle.name));
+            self.held += 1;
+            put(0, self.shown(handle));
             return Ok(());
         }
         self.handles.0.clear();
         self.renderer
             .create_sets(layout, count, &mut self.handles)?;
+        self.held += count as usize;
         for (at, handle) in self.handles.iter().enumerate() {
-            put(at, self.shown(handle.name));
+            put(at, self.shown(*handle));
         }
         Ok(())
     }
@@ -134,7 +156,7 @@ impl Allocator {
     /// Reserves memory for the handles of the held sets and of so many more.
     #[inline]
     fn reserve(&mut self, count: u32) -> Result<(), AllocError> {
-        let wanted = self.renderer.held_count().checked_add(count as usize);
+        let wanted = self.held.checked_add(count as usize);
         let wanted = wanted.ok_or(AllocError)?;
         if wanted > self.handles.capacity() {
             self.handles.0.clear();
@@ -143,15 +165,14 @@ impl Allocator {
         Ok(())
     }
 
-    /// The set of a name that is held, as the host gets it.
+    /// A set that is held, as the host gets it.
     #[inline]
-    fn shown(&self, name: u64) -> GdSet {
-        let (renderer, owner) = (self.id, self.id);
-        let handle = self.renderer.set(SetHandle { renderer, name }).copied();
+    fn shown(&self, set: SetHandle) -> GdSet {
+        let handle = self.renderer.set(set).copied();
         GdSet {
             handle: handle.expect("a set that was created is held"),
-            name,
-            owner,
+            name: name_of(set),
+            owner: self.id,
         }
     }
 
@@ -175,9 +196,12 @@ impl Allocator {
     #[inline]
     fn note(&mut self, count: u32, get: impl Fn(usize) -> GdSet) -> bool {
         let Allocator {
-            renderer, handles, ..
+            renderer,
+            handles,
+            held,
+            ..
         } = self;
-        if count as usize > renderer.held_count() {
+        if count as usize > *held {
             return false;
         }
         assert!(
@@ -192,10 +216,7 @@ impl Allocator {
                 name,
                 owner,
             } = get(at);
-            let set = SetHandle {
-                renderer: owner,
-                name,
-            };
+            let set = handle_of(owner, name);
             if renderer.set(set) != Some(&handle) {
                 are_same = false;
             }
@@ -211,14 +232,18 @@ impl Allocator {
             return GdStatus::BAD_SET;
         }
         match self.renderer.free_sets(&self.handles) {
-            Ok(()) => GdStatus::OK,
+            Ok(()) => {
+                self.held -= count as usize;
+                GdStatus::OK
+            }
             Err(_) => GdStatus::BAD_SET,
         }
     }
 
-    /// Frees all sets, those that wait too. It allocates nothing.
+    /// Frees all sets, those that wait and those that are kept too. It allocates nothing.
     pub fn free_all(&mut self) {
         self.renderer.free_all();
+        self.held = 0;
     }
 
     /// Lets sets wait for the end of a frame. It allocates nothing.
@@ -227,17 +252,25 @@ impl Allocator {
             return GdStatus::BAD_SET;
         }
         match self.renderer.destroy_sets(&self.handles, frame) {
-            Ok(()) => GdStatus::OK,
+            Ok(()) => {
+                self.held -= count as usize;
+                GdStatus::OK
+            }
             Err(_) => GdStatus::BAD_SET,
         }
     }
 
-    /// Frees the sets that wait for this frame or an earlier one. It allocates nothing.
+    /// Keeps or frees the sets that wait for this frame or an earlier one. It allocates nothing.
     pub fn frame_done(&mut self, frame: u64) {
         self.renderer.gpu_done(frame);
     }
 
-    /// Destroys empty pools. It allocates nothing.
+    /// Keeps at most so many sets of a layout from now on. It allocates nothing.
+    pub fn keep(&mut self, most: u32) {
+        self.renderer.set_keep(most);
+    }
+
+    /// Frees kept sets, and destroys empty pools. It allocates nothing.
     pub fn cleanup(&mut self) {
         self.renderer.cleanup();
     }

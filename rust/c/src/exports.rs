@@ -173,6 +173,17 @@ pub unsafe extern "C" fn gd_frame_done(allocator: GdAllocator, frame: u64) -> Gd
 }
 
 #[unsafe(no_mangle)]
+pub unsafe extern "C" fn gd_keep(allocator: GdAllocator, most: u32) -> GdStatus {
+    // SAFETY: the header's.
+    unsafe {
+        slot::enter(allocator, |it| {
+            it.keep(most);
+            GdStatus::OK
+        })
+    }
+}
+
+#[unsafe(no_mangle)]
 pub unsafe extern "C" fn gd_cleanup(allocator: GdAllocator) -> GdStatus {
     // SAFETY: the header's.
     unsafe {

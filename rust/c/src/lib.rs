@@ -1,7 +1,7 @@
 //! The C interface of the allocator. `include/gpu_descriptor.h` states what each function does.
 //!
 //! Generated from proved sources are the modules `gpu_descriptor_types`, `gpu_descriptor`,
-//! `descriptor_frames` and `descriptor_renderer`, which are the files of rust/gpu-descriptor, as is the
+//! `descriptor_table` and `descriptor_renderer`, which are the files of rust/gpu-descriptor, as is the
 //! `kit` that they use. By hand are `device`, which calls the host's functions, `allocator`, a
 //! renderer over it, `slot`, through which each call goes, and `exports`.
 #![cfg_attr(not(any(feature = "std", test)), no_std)]
@@ -12,16 +12,16 @@ extern crate alloc as std_alloc;
 #[allow(unsafe_code)]
 mod abi;
 mod allocator;
-#[path = "../../gpu-descriptor/src/descriptor_frames/mod.rs"]
-#[allow(dead_code, unused_imports, clippy::all)]
-#[forbid(unsafe_code)]
-#[rustfmt::skip]
-mod descriptor_frames;
 #[path = "../../gpu-descriptor/src/descriptor_renderer/mod.rs"]
 #[allow(dead_code, unused_imports, clippy::all)]
 #[forbid(unsafe_code)]
 #[rustfmt::skip]
 mod descriptor_renderer;
+#[path = "../../gpu-descriptor/src/descriptor_table/mod.rs"]
+#[allow(dead_code, unused_imports, clippy::all)]
+#[forbid(unsafe_code)]
+#[rustfmt::skip]
+mod descriptor_table;
 #[allow(unsafe_code)]
 mod device;
 #[allow(unsafe_code)]

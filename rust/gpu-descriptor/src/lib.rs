@@ -106,6 +106,11 @@ mod descriptor_frames;
 #[forbid(unsafe_code)]
 #[rustfmt::skip]
 mod descriptor_renderer;
+#[allow(clippy::all, missing_docs)]
+#[warn(clippy::incompatible_msrv, clippy::missing_panics_doc, clippy::missing_safety_doc)]
+#[forbid(unsafe_code)]
+#[rustfmt::skip]
+mod descriptor_table;
 mod device;
 pub mod frames;
 #[allow(clippy::all, missing_docs)]

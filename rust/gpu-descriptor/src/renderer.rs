@@ -1,11 +1,12 @@
-//! All descriptor sets of a renderer under handles: those of a frame, which are freed once the device is
-//! done with the frame, and those that are held until they are freed or destroyed.
+//! All descriptor sets of a renderer under handles: those of a frame, which come back once the device is
+//! done with the frame, and those that are held until they are freed or destroyed. What comes back is
+//! handed out again.
 //!
 //! A frame loop over a device of one's own. A material is replaced while frames that read it are in
-//! flight, so its set is freed once they are done.
+//! flight, so its set comes back once they are done.
 //!
 //! ```
-//! use gpu_descriptor::renderer::Renderer;
+//! use gpu_descriptor::renderer::{Counts, Renderer};
 //! use gpu_descriptor::*;
 //! use std::cell::Cell;
 //!
@@ -66,8 +67,8 @@
 //!     // .. the fence of frame - IN_FLIGHT is waited for ..
 //!     unsafe { renderer.gpu_done(frame.saturating_sub(IN_FLIGHT)) };
 //!     let draw = renderer.draw(layout)?;
-//!     // .. what `drawn` and `set` return is written and bound ..
-//!     assert!(renderer.drawn(draw).is_some() && renderer.set(materials[0]).is_some());
+//!     // .. the sets that `set` returns are written and bound ..
+//!     assert!(renderer.set(draw).is_some() && renderer.set(materials[0]).is_some());
 //!     renderer.end_frame();
 //!     // .. the frame is submitted ..
 //!
@@ -76,7 +77,9 @@
 //!     assert_eq!(renderer.set(old), None);
 //! }
 //! // Of each of the last two frames a draw and a material wait.
-//! assert_eq!((renderer.held_count(), renderer.retired_count()), (3, 4));
+//! assert_eq!(renderer.counts(), Counts { held: 3, waiting: 4, kept: 0 });
+//! // These are all sets that the device ever made: in each later frame two came back, and came again.
+//! assert_eq!(renderer.device().sets.get(), 7);
 //!
 //! // .. the device is idle ..
 //! let gpu = unsafe { renderer.shutdown() };
@@ -98,7 +101,7 @@ use core::sync::atomic::{AtomicU32, Ordering};
 use std_alloc::vec::Vec;
 
 pub use crate::descriptor_renderer::{
-    BeginError, DestroyError, DrawHandle, LayoutHandle, RenderError, SetHandle,
+    BeginError, Counts, DestroyError, LayoutHandle, RenderError, SetHandle,
 };
 
 /// Each renderer has a number, which distinguishes its handles from those of others.
@@ -107,14 +110,28 @@ static RENDERERS: AtomicU32 = AtomicU32::new(0);
 /// The descriptor sets of a renderer, over a device that it owns. `&D` is a device too.
 ///
 /// A frame is opened by `begin_frame`, gets any number of sets by `draw`, and is ended by
-/// `end_frame`. Its sets are freed by `gpu_done` of the frame or a later one; frames in
+/// `end_frame`. Its sets come back at the `gpu_done` of the frame or a later one; frames in
 /// between may be in flight. A set by `create_set` or `create_sets` is held until it is freed at once by
-/// `free_sets`, or destroyed by `destroy_set` or `destroy_sets`: then it is freed by the next
-/// `gpu_done` of the frame of its last use or a later one. Memory to free a set is reserved before the
-/// set is asked for, so only `add_layout`, `draw`, `create_set` and `create_sets` allocate. No handle
-/// comes twice, although memory follows the most sets that were out at a time.
+/// `free_sets`, or destroyed by `destroy_set` or `destroy_sets`: then it comes back at the next
+/// `gpu_done` of the frame of its last use or a later one. Memory for a set to come back is reserved before
+/// the set is asked for, so only `add_layout`, `draw`, `create_set` and `create_sets` allocate. No handle
+/// comes twice, although memory follows the most sets that there were at a time.
 ///
 /// Unlike a `DescriptorAllocator`, a renderer doesn't show its pools, nor how much of the limit they use.
+///
+/// # Kept sets
+///
+/// A set that comes back is kept, if no more sets of its layout are kept than [`set_keep`](Self::set_keep)
+/// says, at first all; otherwise the device frees it. `draw`, `create_set` and `create_sets` hand kept
+/// sets of the layout out again, under new handles, before they ask the device for new ones. So in a frame
+/// loop the device soon allocates and frees no set.
+///
+/// The descriptors of a kept set are those that were written to it last, and what they refer to may be
+/// destroyed by now. So write each set that you get, before you bind it. A new set has no descriptors,
+/// and a validation layer reports that it is bound without; of a kept one it can't. So call `set_keep(0)`
+/// in a debug build: it keeps none, and the layer reports a set that isn't written.
+///
+/// The device frees the kept sets at a `cleanup`, `free_all` or `shutdown`, and before a request is refused.
 ///
 /// # Which calls are unsafe
 ///
@@ -208,19 +225,23 @@ impl<L, P, S, D: DescriptorDevice<L, P, S>> Renderer<L, P, S, D> {
         self.inner.call(|inner| inner.skip_to(frame))
     }
 
-    /// Allocates a set of a layout for the open frame. The handle is good until the frame ends, and the set
-    /// is freed by the `gpu_done` of the frame.
+    /// A set of a layout for the open frame: the last one that was kept, or else a new one. The handle is
+    /// good until the frame ends, and the set comes back at the `gpu_done` of the frame.
+    ///
+    /// If a new set is refused while sets are kept, of whatever layout, the kept sets are freed and empty
+    /// pools destroyed, as by [`cleanup`](Self::cleanup), and it is asked for once more.
     ///
     /// # Errors
     ///
     /// No frame is open, the handle names no layout, or the request was refused. The renderer has the
-    /// sets that it had.
+    /// sets in use that it had.
     #[inline]
-    pub fn draw(&mut self, layout: LayoutHandle) -> Result<DrawHandle, RenderError> {
+    pub fn draw(&mut self, layout: LayoutHandle) -> Result<SetHandle, RenderError> {
         self.inner.call(|inner| inner.draw(layout))
     }
 
-    /// Ends the frame, if one is open: its sets wait for the device.
+    /// Ends the frame, if one is open: its sets wait for the device, and their handles name nothing from now
+    /// on.
     ///
     /// # Panics
     ///
@@ -231,10 +252,11 @@ impl<L, P, S, D: DescriptorDevice<L, P, S>> Renderer<L, P, S, D> {
     }
 
     /// States that the device is done with this frame and those before it. The sets that wait for these
-    /// frames are freed, and pools are destroyed as by
-    /// [`DescriptorAllocator::free`](crate::DescriptorAllocator::free). It allocates nothing. A call frees
-    /// only sets that wait already, also with `u64::MAX`: the sets of the open frame and of later frames
-    /// need another call, after their `end_frame`.
+    /// frames come back: they are kept, or freed, and then pools are destroyed as by
+    /// [`DescriptorAllocator::free`](crate::DescriptorAllocator::free). It allocates nothing.
+    ///
+    /// The device is never done with an open frame, also with `u64::MAX`: its sets, and those destroyed
+    /// with it as their last use, need another call, after its `end_frame`. So do sets of later frames.
     ///
     /// # Safety
     ///
@@ -250,8 +272,9 @@ impl<L, P, S, D: DescriptorDevice<L, P, S>> Renderer<L, P, S, D> {
         self.inner.call_in_drop(|inner| inner.gpu_done(frame));
     }
 
-    /// Destroys the oldest pools of each [key](crate) up to the first that has a set, the last pool too. Call
-    /// it between levels, or when memory is short.
+    /// Frees all kept sets, and destroys the oldest pools of each [key](crate) up to the first that has a set,
+    /// the last pool too. Call it between levels, or when memory is short. The sets that are out aren't
+    /// kept when they come back, so that their pools become empty. Sets that come later are kept again.
     ///
     /// # Panics
     ///
@@ -261,20 +284,29 @@ impl<L, P, S, D: DescriptorDevice<L, P, S>> Renderer<L, P, S, D> {
         self.inner.call_in_drop(|inner| inner.cleanup());
     }
 
+    /// From now on keeps at most `most` sets of each layout; the device frees those above. At first it
+    /// is `u32::MAX`, and 0 keeps none. It allocates nothing. See [Kept sets](Self#kept-sets).
+    pub fn set_keep(&mut self, most: u32) {
+        self.inner.call(|inner| inner.set_keep(most));
+    }
+
     /// Creates a set of a layout, which is held until it is freed or destroyed, in a frame or between
-    /// two.
+    /// two: the last one that was kept, or else a new one, as [`draw`](Self::draw) does.
     ///
     /// # Errors
     ///
-    /// The handle names no layout, or the request was refused. The renderer has the sets that it had. It
-    /// is never `NoFrame`.
+    /// The handle names no layout, or the request was refused. The renderer has the sets in use that it
+    /// had. It is never `NoFrame`.
     #[inline]
     pub fn create_set(&mut self, layout: LayoutHandle) -> Result<SetHandle, RenderError> {
         self.inner.call(|inner| inner.create_set(layout))
     }
 
     /// Creates so many sets of a layout, all or none, each of which is held until it is freed or
-    /// destroyed. Their handles come in the order in which the device allocated the sets.
+    /// destroyed: kept ones first, the others new, in one request.
+    ///
+    /// If the new sets are refused while sets are kept, of whatever layout, the kept sets are freed and
+    /// empty pools destroyed, as by [`cleanup`](Self::cleanup), and all `count` are asked for.
     ///
     /// # Errors
     ///
@@ -290,9 +322,10 @@ impl<L, P, S, D: DescriptorDevice<L, P, S>> Renderer<L, P, S, D> {
         Ok(handles.0)
     }
 
-    /// Frees sets at once, all or none, in the order of the list: neighbours of one pool in one call of
-    /// the device. Their handles name nothing from now on. Pools are destroyed as by
-    /// [`DescriptorAllocator::free`](crate::DescriptorAllocator::free). It allocates nothing.
+    /// Frees sets at once, all or none: they are kept, or the device frees them, neighbours of one pool in
+    /// one call, and then pools are destroyed as by
+    /// [`DescriptorAllocator::free`](crate::DescriptorAllocator::free). Their handles name nothing from now
+    /// on. It allocates nothing.
     ///
     /// # Errors
     ///
@@ -312,7 +345,7 @@ impl<L, P, S, D: DescriptorDevice<L, P, S>> Renderer<L, P, S, D> {
         answer.unwrap_or(Ok(()))
     }
 
-    /// Destroys a set that was last used in a frame (0 if in none). It is freed by the next `gpu_done`
+    /// Destroys a set that was last used in a frame (0 if in none). It comes back at the next `gpu_done`
     /// of that frame or a later one, and its handle names nothing from now on. It allocates nothing.
     ///
     /// # Errors
@@ -330,9 +363,9 @@ impl<L, P, S, D: DescriptorDevice<L, P, S>> Renderer<L, P, S, D> {
         answer.unwrap_or(Ok(()))
     }
 
-    /// Destroys all sets of the list, or none, which were last used in a frame (0 if in none). They are
-    /// freed by the next `gpu_done` of that frame or a later one, in the order of the list, and their
-    /// handles name nothing from now on. It allocates nothing.
+    /// Destroys all sets of the list, or none, which were last used in a frame (0 if in none). They come
+    /// back at the next `gpu_done` of that frame or a later one, and their handles name nothing from now on.
+    /// It allocates nothing.
     ///
     /// # Errors
     ///
@@ -351,7 +384,7 @@ impl<L, P, S, D: DescriptorDevice<L, P, S>> Renderer<L, P, S, D> {
     }
 
     /// Frees all sets at once: those that wait for their frame, those of the open frame, which is ended,
-    /// and those that are held. It allocates nothing.
+    /// those that are held, and those that are kept. It keeps none, and allocates nothing.
     ///
     /// # Safety
     ///
@@ -366,16 +399,8 @@ impl<L, P, S, D: DescriptorDevice<L, P, S>> Renderer<L, P, S, D> {
         self.inner.call_in_drop(|inner| inner.free_all());
     }
 
-    /// The raw set of a draw of the open frame, to write and to bind. `None` under a handle of another
-    /// frame or of another renderer.
-    #[inline]
-    #[must_use]
-    pub fn drawn(&self, draw: DrawHandle) -> Option<&S> {
-        self.inner.get().drawn(draw)
-    }
-
-    /// The raw set of a set that is held, to write and to bind. `None` under the handle of a set that
-    /// was freed or destroyed, and under that of another renderer.
+    /// The raw set of a set that is held or of the open frame, to write and to bind. `None` under the
+    /// handle of a set that was freed or destroyed, of another frame, and of another renderer.
     #[inline]
     #[must_use]
     pub fn set(&self, set: SetHandle) -> Option<&S> {
@@ -418,28 +443,24 @@ impl<L, P, S, D: DescriptorDevice<L, P, S>> Renderer<L, P, S, D> {
         self.inner.is_poisoned()
     }
 
-    /// How many sets the open frame has.
+    /// How many sets are held, how many wait for a frame, those of the open frame among them, and how many
+    /// are kept. The time is linear in the number of layouts, and of frames that sets wait for.
     #[must_use]
-    pub fn drawn_count(&self) -> usize {
-        self.inner.get().drawn_count()
+    pub fn counts(&self) -> Counts {
+        self.inner.get().counts()
     }
 
-    /// How many sets are held.
+    /// How many sets of a layout are kept; 0 under a handle of another renderer.
     #[must_use]
-    pub fn held_count(&self) -> usize {
-        self.inner.get().held_count()
+    pub fn kept_count(&self, layout: LayoutHandle) -> u32 {
+        self.inner.get().kept_count(layout)
     }
 
-    /// How many sets wait for their frame.
-    #[must_use]
-    pub fn retired_count(&self) -> u64 {
-        self.inner.get().retired_count()
-    }
-
-    /// How many sets are out: of the open frame, held, or retired.
+    /// How many sets are out: held or waiting, and not kept. The time is that of `counts`.
     #[must_use]
     pub fn outstanding(&self) -> u64 {
-        self.inner.get().outstanding()
+        let counts = self.counts();
+        counts.held + counts.waiting
     }
 
     /// Hands the device back without a call of it. Pools and sets stay with the device, and nobody
@@ -450,8 +471,8 @@ impl<L, P, S, D: DescriptorDevice<L, P, S>> Renderer<L, P, S, D> {
         adapter.device
     }
 
-    /// Frees all sets, destroys all pools, and hands the device back. It allocates nothing and can't
-    /// be refused.
+    /// Frees all sets, kept ones too, destroys all pools, and hands the device back. It allocates nothing
+    /// and can't be refused.
     ///
     /// # Safety
     ///
@@ -482,9 +503,7 @@ impl<L, P, S, D: DescriptorDevice<L, P, S>> fmt::Debug for Renderer<L, P, S, D> 
             .field("frame", &self.frame())
             .field("is_frame_open", &self.is_frame_open())
             .field("is_poisoned", &self.is_poisoned())
-            .field("drawn_count", &self.drawn_count())
-            .field("held_count", &self.held_count())
-            .field("retired_count", &self.retired_count())
+            .field("counts", &self.counts())
             .finish_non_exhaustive()
     }
 }

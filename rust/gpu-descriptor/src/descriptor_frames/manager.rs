@@ -25,13 +25,6 @@ pub struct FrameManager<P, S> {
 }
 
 impl<P, S> FrameManager<P, S> {
-    /// A manager without sets, whose allocator has this limit on update-after-bind descriptors. It
-    /// allocates nothing.
-    pub fn new(alloc: Global, max: u32) -> Self
-    {
-        FrameManager::with_ids(alloc, max, 0..u64::MAX)
-    }
-
     /// The same as `new`, but the ids of its allocator's keys are taken from this range, as by
     /// `DescriptorAllocator::with_ids`.
     pub fn with_ids(alloc: Global, max: u32, ids: Range<u64>) -> Self

@@ -11,10 +11,11 @@ use crate::kit::vec::Vec;
 #[derive(Clone, Copy, Debug, PartialEq, Eq, Hash)]
 pub struct LayoutHandle {
     pub(crate) registry: u64,
-    pub(crate) place: usize,
+    pub(crate) place: u32,
 }
 
-/// The layouts of a device, each under a handle. No layout is ever taken out.
+/// The layouts of a device, each under a handle. No layout is ever taken out. There are at most
+/// `u32::MAX`.
 ///
 /// A handle of another registry is refused by the number that the registry was made with: give
 /// each registry of a program a number of its own. Under equal numbers a handle of one registry
@@ -40,9 +41,12 @@ impl<L, P, S, D: DescriptorDevice<L, P, S>> LayoutRegistry<L, P, S, D> {
     /// nothing changed.
     pub fn add(&mut self, layout: SetLayout<L>) -> Result<LayoutHandle, AllocFailed<SetLayout<L>>>
     {
+        if self.layouts.len() >= u32::MAX as usize {
+            return Err(AllocFailed { value: layout });
+        }
         let handle = LayoutHandle {
             registry: self.registry,
-            place: self.layouts.len(),
+            place: self.layouts.len() as u32,
         };
         match self.layouts.push(layout) {
             Ok(()) => Ok(handle),
@@ -56,7 +60,7 @@ impl<L, P, S, D: DescriptorDevice<L, P, S>> LayoutRegistry<L, P, S, D> {
         if handle.registry != self.registry {
             return None;
         }
-        self.layouts.get(handle.place)
+        self.layouts.get(handle.place as usize)
     }
 
     /// The layouts, in the order in which they came.

@@ -4,46 +4,50 @@
 mod frames;
 mod sets;
 
-use crate::descriptor_renderer::held_sets::HeldSets;
 use crate::descriptor_renderer::layout_registry::{LayoutHandle, LayoutRegistry};
-use crate::descriptor_frames::FrameManager;
-use crate::gpu_descriptor::{DescriptorDevice, DescriptorSet, SetLayout};
+use crate::descriptor_renderer::store::Store;
+use crate::gpu_descriptor::{DescriptorDevice, SetLayout};
 use crate::kit::alloc::{AllocFailed, Global};
-use crate::kit::collections::VecDeque;
-use crate::kit::vec::Vec;
+
+/// How many sets a renderer has.
+#[derive(Clone, Copy, Debug, PartialEq, Eq)]
+pub struct Counts {
+    /// Sets that are held.
+    pub held: u64,
+
+    /// Sets that wait for a frame, those of the open frame among them.
+    pub waiting: u64,
+
+    /// Sets that are kept.
+    pub kept: u64,
+}
 
 /// The descriptor sets of a renderer, over a device that it owns.
 ///
 /// A frame is opened by `begin_frame`, takes any number of sets by `draw`, and is ended by
-/// `end_frame`. Its sets are freed once `gpu_done` is called with the frame or a later one; frames in
+/// `end_frame`. Its sets come back once `gpu_done` is called with the frame or a later one; frames in
 /// between may be in flight. A set by `create_set` or `create_sets` is held until it is freed at once
-/// by `free_sets`, or destroyed by `destroy_set` or `destroy_sets`: then it is freed by the next
-/// `gpu_done` of the frame of its last use or a later one. Memory to free a set is reserved before the set is asked for, so all of these
-/// but `draw`, `create_set` and `create_sets` allocate nothing.
+/// by `free_sets`, or destroyed by `destroy_set` or `destroy_sets`: then it comes back at the next
+/// `gpu_done` of the frame of its last use or a later one.
+///
+/// A set that comes back is kept, as long as no more of its layout are kept than `set_keep` says, at
+/// first all. Kept sets are handed out again before the device is asked for a new one. They have the
+/// contents that they had. `cleanup` gives them back. Only `draw`, `create_set`, `create_sets` and
+/// `add_layout` allocate.
 ///
 /// The raw set of a handle is borrowed, as the device is, to be written and bound. Do not allocate or
 /// free on the device in the meantime: only the renderer does.
 pub struct Renderer<L, P, S, D: DescriptorDevice<L, P, S>> {
-    manager: FrameManager<P, S>,
     layouts: LayoutRegistry<L, P, S, D>,
 
     /// The number that tells the renderer's handles from those of others.
+    #[expect(dead_code)]
     renderer: u64,
     frame: u64,
     is_open: bool,
 
-    /// The sets of the open frame.
-    drawn: VecDeque<DescriptorSet<S>>,
-    held: HeldSets<S>,
-
-    /// Sets of a batch before they have handles, during a call.
-    coming: Vec<DescriptorSet<S>>,
-
-    /// Held sets on their way back, during a call.
-    going: VecDeque<DescriptorSet<S>>,
-
-    /// The last field, as it is dropped last.
-    device: D,
+    /// The last field, as the device in it is dropped last.
+    store: Store<L, P, S, D>,
 }
 
 impl<L, P, S, D: DescriptorDevice<L, P, S>> Renderer<L, P, S, D> {
@@ -54,34 +58,45 @@ impl<L, P, S, D: DescriptorDevice<L, P, S>> Renderer<L, P, S, D> {
     pub fn new(alloc: Global, device: D, limit: u32, renderer: u64) -> Self
     {
         Renderer {
-            device,
-            manager: FrameManager::new(alloc, limit),
+            store: Store::new(alloc, device, limit, renderer),
             layouts: LayoutRegistry::new(alloc, renderer),
             renderer,
             frame: 0,
             is_open: false,
-            drawn: VecDeque::new(alloc),
-            held: HeldSets::new(alloc, renderer),
-            coming: Vec::new(alloc),
-            going: VecDeque::new(alloc),
         }
     }
 
-    /// Adds a layout, and returns its handle. If an allocation fails the layout is returned, and
-    /// nothing changed.
+    /// Adds a layout, and returns its handle. If an allocation fails, or if there are `u32::MAX`, the
+    /// layout is returned, and nothing changed.
     pub fn add_layout(
         &mut self,
         layout: SetLayout<L>,
     ) -> Result<LayoutHandle, AllocFailed<SetLayout<L>>>
     {
-        self.layouts.add(layout)
+        if self.store.reserve_layout().is_err() {
+            return Err(AllocFailed { value: layout });
+        }
+        match self.layouts.add(layout) {
+            Ok(handle) => {
+                self.store.add_layout();
+                Ok(handle)
+            }
+            Err(failed) => Err(failed),
+        }
     }
 
-    /// Destroys the oldest pools of each key up to the first that has a set, the last pool too. Call
-    /// it between levels, or when memory is short.
+    /// Gives all kept sets back, and destroys the oldest pools of each key up to the first that has a
+    /// set, the last pool too. Sets that are in use aren't kept when they come back. Call it between
+    /// levels, or when memory is short.
     pub fn cleanup(&mut self)
     {
-        self.manager.cleanup(&mut self.device);
+        self.store.cleanup();
+    }
+
+    /// Keeps at most so many sets of a layout from now on. Those above are given back.
+    pub fn set_keep(&mut self, most: u32)
+    {
+        self.store.set_keep(most);
     }
 
     /// The layout of a handle. None under a handle of another renderer.
@@ -99,7 +114,7 @@ impl<L, P, S, D: DescriptorDevice<L, P, S>> Renderer<L, P, S, D> {
     /// The device, to write sets and to bind them.
     pub fn device(&self) -> &D
     {
-        &self.device
+        self.store.device()
     }
 
     /// The frame that was opened last, 0 before the first.
@@ -114,28 +129,24 @@ impl<L, P, S, D: DescriptorDevice<L, P, S>> Renderer<L, P, S, D> {
         self.is_open
     }
 
-    /// How many sets the open frame has.
-    pub fn drawn_count(&self) -> usize
+    /// How many sets are held, how many wait, and how many are kept. It goes over the layouts, and over
+    /// the frames that sets wait for.
+    pub fn counts(&self) -> Counts
     {
-        self.drawn.len()
+        Counts {
+            held: self.store.held(),
+            waiting: self.store.waiting(),
+            kept: self.store.kept(),
+        }
     }
 
-    /// How many sets are held.
-    pub fn held_count(&self) -> usize
+    /// How many sets of a layout are kept. 0 under a handle of another renderer.
+    pub fn kept_count(&self, layout: LayoutHandle) -> u32
     {
-        self.held.len()
-    }
-
-    /// How many sets wait for their frame.
-    pub fn retired_count(&self) -> u64
-    {
-        self.manager.retired()
-    }
-
-    /// How many sets are outstanding: of the open frame, held, or retired.
-    pub fn outstanding(&self) -> u64
-    {
-        self.manager.outstanding()
+        match self.layouts.get(layout) {
+            Some(_) => self.store.kept_count(layout.place),
+            None => 0,
+        }
     }
 
     /// Frees all sets, destroys all pools, and hands the device back. It can't be refused. The
@@ -152,17 +163,12 @@ impl<L, P, S, D: DescriptorDevice<L, P, S>> Renderer<L, P, S, D> {
     pub fn into_device(self) -> D
     {
         let Renderer {
-            device,
-            manager: _,
             layouts: _,
             renderer: _,
             frame: _,
             is_open: _,
-            drawn: _,
-            held: _,
-            coming: _,
-            going: _,
+            store,
         } = self;
-        device
+        store.into_device()
     }
 }

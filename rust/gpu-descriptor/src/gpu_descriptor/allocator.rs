@@ -36,6 +36,16 @@ pub struct DescriptorAllocator<P, S> {
 }
 
 impl<P, S> DescriptorAllocator<P, S> {
+    /// The same as `with_ids`, with a range of all ids.
+    pub fn new(alloc: Global, max_update_after_bind_descriptors_in_all_pools: u32) -> Self
+    {
+        DescriptorAllocator::with_ids(
+            alloc,
+            max_update_after_bind_descriptors_in_all_pools,
+            0..u64::MAX,
+        )
+    }
+
     /// An allocator without keys, under a limit on the update-after-bind descriptors of all
     /// outstanding sets, and of all pools for such sets. It allocates nothing.
     ///

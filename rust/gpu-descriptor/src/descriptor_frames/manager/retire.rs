@@ -6,7 +6,6 @@ use crate::descriptor_frames::errors::RetireError;
 use crate::descriptor_frames::retired::Retired;
 use crate::gpu_descriptor::DescriptorSet;
 use crate::kit::alloc::AllocError;
-use crate::kit::collections::VecDeque;
 
 impl<P, S> FrameManager<P, S> {
     /// Reserves memory for so many more retired sets: the next ones are retired without want of
@@ -69,38 +68,6 @@ impl<P, S> FrameManager<P, S> {
         match self.retired.insert(place, Retired { frame, set }) {
             Ok(()) => self.greatest = self.greatest.max(frame),
             Err(_) => unreachable!(),
-        }
-    }
-
-    /// Retires all sets of a queue, in their order, over memory that `reserve` took. It can't be
-    /// refused. The queue is empty afterwards, and keeps its memory.
-    pub fn retire_reserved(&mut self, frame: u64, sets: &mut VecDeque<DescriptorSet<S>>)
-    {
-        while let Some(set) = sets.pop_front() {
-            self.put(frame, set);
-        }
-    }
-
-    /// Retires all sets of a queue as `retire_reserved` does, also at a frame below the greatest: they
-    /// are freed when this frame or a later one is finished.
-    ///
-    /// Below the greatest frame each set is put in as by `retire_late`.
-    pub fn retire_late_reserved(&mut self, frame: u64, sets: &mut VecDeque<DescriptorSet<S>>)
-    {
-        if frame >= self.greatest {
-            self.retire_reserved(frame, sets);
-        } else {
-            self.put_in(frame, sets);
-        }
-    }
-
-    /// Puts the sets of a queue in at their place, before those of later frames, over memory that was
-    /// reserved.
-    fn put_in(&mut self, frame: u64, sets: &mut VecDeque<DescriptorSet<S>>)
-    {
-        while let Some(set) = sets.pop_front() {
-            let place = self.place_behind(frame);
-            self.put_at(place, frame, set);
         }
     }
 }

@@ -3,10 +3,9 @@
 
 use super::Renderer;
 use crate::descriptor_renderer::errors::{BeginError, RenderError};
-use crate::descriptor_renderer::handles::DrawHandle;
 use crate::descriptor_renderer::layout_registry::LayoutHandle;
-use crate::descriptor_renderer::reserve::reserve_to_retire;
-use crate::gpu_descriptor::{AllocationError, DescriptorDevice, DescriptorSet};
+use crate::descriptor_table::SetHandle;
+use crate::gpu_descriptor::DescriptorDevice;
 
 impl<L, P, S, D: DescriptorDevice<L, P, S>> Renderer<L, P, S, D> {
     /// Opens the next frame and returns its number. The first frame has number 1.
@@ -39,9 +38,12 @@ impl<L, P, S, D: DescriptorDevice<L, P, S>> Renderer<L, P, S, D> {
         Ok(())
     }
 
-    /// Draws with a new set of a layout. Its handle names it until the frame ends, and the set is freed
-    /// once the device is done with the frame.
-    pub fn draw(&mut self, layout: LayoutHandle) -> Result<DrawHandle, RenderError>
+    /// Draws with a set of a layout: the last one that was kept, or else a new one. Its handle names it
+    /// until the frame ends, and the set comes back once the device is done with the frame.
+    ///
+    /// If a new set is refused while sets are kept, of whatever layout, all kept sets are given back and
+    /// empty pools are destroyed, as by `cleanup`, and it is asked for once more.
+    pub fn draw(&mut self, layout: LayoutHandle) -> Result<SetHandle, RenderError>
     {
         if !self.is_open {
             return Err(RenderError::NoFrame);
@@ -49,54 +51,35 @@ impl<L, P, S, D: DescriptorDevice<L, P, S>> Renderer<L, P, S, D> {
         let Some(known) = self.layouts.get(layout) else {
             return Err(RenderError::NoLayout);
         };
-        let place = self.drawn.len();
-        if reserve_to_retire(&mut self.manager, place, self.held.len(), 1).is_err()
-            || self.drawn.reserve(1).is_err()
-        {
-            return Err(RenderError::Allocation(AllocationError::OutOfHostMemory));
-        }
-        match self.manager.allocate_one(&mut self.device, known) {
-            Ok(set) => {
-                self.drawn.push_back_reserved(set);
-                Ok(DrawHandle {
-                    renderer: self.renderer,
-                    frame: self.frame,
-                    place,
-                })
-            }
+        match self.store.draw(known, layout.place, self.frame) {
+            Ok(handle) => Ok(handle),
             Err(error) => Err(RenderError::Allocation(error)),
         }
     }
 
-    /// Ends the frame: its sets are retired. It can't be refused.
+    /// Ends the frame: its handles name nothing from now on. It can't be refused.
     pub fn end_frame(&mut self)
     {
-        self.manager.retire_reserved(self.frame, &mut self.drawn);
         self.is_open = false;
     }
 
-    /// The device is done with this frame and those before it: the sets that wait for them are freed.
-    /// Whenever the oldest pools of their key have no set left, these are destroyed, but never the
-    /// key's last pool.
+    /// The device is done with this frame and those before it, but not with an open one: the sets that
+    /// wait for them are kept, or go back to their pools. Whenever the oldest pools of their key have no
+    /// set left, these are destroyed, but never the key's last pool.
     pub fn gpu_done(&mut self, frame: u64)
     {
-        self.manager.finish(&mut self.device, frame);
+        let done = self.done(frame);
+        self.store.finish(done);
     }
 
-    /// The raw set of a draw of the open frame, to write and to bind. None under a handle of another
-    /// frame or of another renderer.
-    pub fn drawn(&self, draw: DrawHandle) -> Option<&S>
+    /// The last frame that the device can be done with, of those up to this one.
+    #[inline]
+    fn done(&self, frame: u64) -> u64
     {
-        if draw.renderer != self.renderer || draw.frame != self.frame {
-            return None;
+        if self.is_open {
+            frame.min(self.frame.saturating_sub(1))
+        } else {
+            frame
         }
-        let set = self.drawn_at(draw.place)?;
-        Some(set.raw())
-    }
-
-    /// The set at a place among those of the frame.
-    fn drawn_at(&self, place: usize) -> Option<&DescriptorSet<S>>
-    {
-        self.drawn.get(place)
     }
 }

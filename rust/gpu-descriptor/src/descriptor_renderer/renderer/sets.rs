@@ -3,84 +3,61 @@
 
 use super::Renderer;
 use crate::descriptor_renderer::errors::{DestroyError, RenderError};
-use crate::descriptor_renderer::handles::SetHandle;
 use crate::descriptor_renderer::layout_registry::LayoutHandle;
-use crate::descriptor_renderer::queue::Queue;
-use crate::descriptor_renderer::reserve::{reserve_to_hold, reserve_to_retire};
+use crate::descriptor_table::SetHandle;
 use crate::gpu_descriptor::{AllocationError, DescriptorDevice};
 use crate::kit::vec::Vec;
 
 impl<L, P, S, D: DescriptorDevice<L, P, S>> Renderer<L, P, S, D> {
     /// Creates a set of a layout, which is held until it is freed or destroyed, in a frame or between
-    /// two.
+    /// two: the last one that was kept, or else a new one, as `draw` does.
     pub fn create_set(&mut self, layout: LayoutHandle) -> Result<SetHandle, RenderError>
     {
         let Some(known) = self.layouts.get(layout) else {
             return Err(RenderError::NoLayout);
         };
-        if reserve_to_retire(&mut self.manager, self.drawn.len(), self.held.len(), 1).is_err()
-            || reserve_to_hold(&mut self.held, &mut self.going, 1).is_err()
-        {
-            return Err(RenderError::Allocation(AllocationError::OutOfHostMemory));
-        }
-        match self.manager.allocate_one(&mut self.device, known) {
-            Ok(set) => Ok(self.held.put(set)),
+        match self.store.create(known, layout.place) {
+            Ok(handle) => Ok(handle),
             Err(error) => Err(RenderError::Allocation(error)),
         }
     }
 
-    /// Creates `count` sets of a layout, all or none, each held until it is freed or destroyed. Their
-    /// handles are appended to `handles`, in the order in which the sets came from the device. On an
-    /// error `handles` has what it had.
+    /// Creates `many` sets of a layout, all or none, each held until it is freed or destroyed: kept ones
+    /// first, the others new, in one request. Their handles are appended to `handles`. On an error
+    /// `handles` has what it had.
+    ///
+    /// If the new sets are refused while sets are kept, of whatever layout, all kept sets are given back
+    /// and empty pools are destroyed, as by `cleanup`, and all are asked for.
     pub fn create_sets(
         &mut self,
         layout: LayoutHandle,
-        count: u32,
+        many: u32,
         handles: &mut Vec<SetHandle>,
     ) -> Result<(), RenderError>
     {
         let Some(known) = self.layouts.get(layout) else {
             return Err(RenderError::NoLayout);
         };
-        if handles.reserve(count as usize).is_err()
-            || reserve_to_retire(
-                &mut self.manager,
-                self.drawn.len(),
-                self.held.len(),
-                count,
-            ).is_err()
-            || reserve_to_hold(&mut self.held, &mut self.going, count).is_err()
-        {
+        if handles.reserve(many as usize).is_err() {
             return Err(RenderError::Allocation(AllocationError::OutOfHostMemory));
         }
-        match self
-            .manager
-            .allocate_into(&mut self.device, known, count, &mut self.coming)
-        {
-            Ok(()) => {
-                self.held.put_each(&mut self.coming, handles);
-                Ok(())
-            }
+        match self.store.create_each(known, layout.place, many, handles) {
+            Ok(()) => Ok(()),
             Err(error) => Err(RenderError::Allocation(error)),
         }
     }
 
-    /// Frees sets at once, all or none, in the order of the list: neighbours of one pool in one call
-    /// of the device. Their handles name nothing from now on. It allocates nothing. The device must be
-    /// done with the work that uses them.
+    /// Frees sets at once, all or none: they are kept, or go back to their pools, neighbours of one pool
+    /// in one call of the device. Their handles name nothing from now on. It allocates nothing. The
+    /// device must be done with the work that uses them.
     ///
     /// It returns `NoSet` if a handle names no set that the renderer holds, or is in the list
     /// twice. Then nothing changed.
     pub fn free_sets(&mut self, sets: &[SetHandle]) -> Result<(), DestroyError>
     {
-        if !self.held.take_each(sets, &mut self.going) {
+        if !self.store.free_each(sets) {
             return Err(DestroyError::NoSet);
         }
-        let mut queue = Queue {
-            sets: &mut self.going,
-        };
-        self.manager.free_from(&mut self.device, &mut queue);
-        queue.end();
         Ok(())
     }
 
@@ -90,7 +67,7 @@ impl<L, P, S, D: DescriptorDevice<L, P, S>> Renderer<L, P, S, D> {
         self.destroy_sets(&[set], last_use)
     }
 
-    /// Destroys sets that were last used in a frame, 0 if in none, all or none: they are freed by the
+    /// Destroys sets that were last used in a frame, 0 if in none, all or none: they come back at the
     /// next `gpu_done` of that frame or a later one, and their handles name nothing from now on. It
     /// allocates nothing.
     ///
@@ -101,29 +78,25 @@ impl<L, P, S, D: DescriptorDevice<L, P, S>> Renderer<L, P, S, D> {
         if last_use > self.frame {
             return Err(DestroyError::FrameAhead);
         }
-        if !self.held.take_each(sets, &mut self.going) {
+        if !self.store.wait_each(sets, last_use) {
             return Err(DestroyError::NoSet);
         }
-        self.manager.retire_late_reserved(last_use, &mut self.going);
         Ok(())
     }
 
-    /// Frees all sets at once: those that wait for a frame, those of the open frame, which is ended,
-    /// and those that are held. It allocates nothing. The device must be done with the work that uses
-    /// them.
+    /// Gives all sets back to their pools at once: those that wait for a frame, those of the open frame,
+    /// which is ended, those that are held, and those that are kept. It allocates nothing. The device
+    /// must be done with the work that uses them.
     pub fn free_all(&mut self)
     {
-        self.end_frame();
-        self.held.take_all(&mut self.going);
-        self.manager.retire_reserved(self.frame, &mut self.going);
-        self.manager.finish(&mut self.device, self.frame);
+        self.is_open = false;
+        self.store.free_all(self.frame);
     }
 
-    /// The raw set of a set that is held, to write and to bind. None under the handle of a set that
-    /// was freed or destroyed, and under that of another renderer.
+    /// The raw set of a handle, to write and to bind: one that is held, or one of the open frame. None
+    /// under the handle of a set that was freed or destroyed, of another frame, and of another renderer.
     pub fn set(&self, set: SetHandle) -> Option<&S>
     {
-        let set = self.held.get(set)?;
-        Some(set.raw())
+        self.store.get(set, self.frame, self.is_open)
     }
 }
