@@ -90,7 +90,7 @@ fn draw(renderer: &mut Sets, layout: LayoutHandle) -> Result<u32, RenderError> {
         }
         answer => answer?,
     };
-    Ok(*renderer.drawn(handle).expect("the frame is open"))
+    Ok(*renderer.set(handle).expect("the frame is open"))
 }
 
 fn main() -> Result<(), Box<dyn std::error::Error>> {
@@ -131,8 +131,9 @@ fn main() -> Result<(), Box<dyn std::error::Error>> {
                 Err(error) => return Err(error.into()),
             }
         }
+        let drawn = used.len();
         used.extend(materials.iter().filter_map(|it| renderer.set(*it)));
-        assert_eq!(used.len(), renderer.drawn_count() + 5);
+        assert_eq!(used.len(), drawn + 5);
         renderer.end_frame();
         gpu.submitted.borrow_mut().insert(frame, used);
 

@@ -131,7 +131,7 @@ static RENDERERS: AtomicU32 = AtomicU32::new(0);
 /// and a validation layer reports that it is bound without; of a kept one it can't. So call `set_keep(0)`
 /// in a debug build: it keeps none, and the layer reports a set that isn't written.
 ///
-/// The device frees the kept sets at a `cleanup`, `free_all` or `shutdown`, and before a request is refused.
+/// The device frees the kept sets at a `cleanup`, `free_all` or `shutdown`, and if it refuses a new set.
 ///
 /// # Which calls are unsafe
 ///

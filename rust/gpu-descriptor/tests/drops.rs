@@ -39,7 +39,7 @@ fn manager() -> (Manager, Device, DescriptorSet<u64>) {
     (manager, device, set)
 }
 
-/// A renderer with one pool and no set.
+/// A renderer with one pool and a kept set.
 fn renderer() -> Sets {
     let mut renderer = Renderer::new(Device::default(), 0);
     let layout = unsafe { renderer.add_layout(layout()) }.unwrap();
@@ -178,7 +178,7 @@ mod order {
         }
     }
 
-    /// A renderer with a layout, a pool, and sets that are drawn, held and retired.
+    /// A renderer with a layout, a pool, and sets that are drawn, held, waiting and kept.
     fn renderer(log: &Log) -> Renderer<Noted, Noted, Noted, Gpu> {
         let mut renderer = Renderer::new(Gpu(Noted("device", log.clone())), 0);
         let SetLayout { counts, flags, .. } = layout();
@@ -188,8 +188,11 @@ mod order {
             flags,
         };
         let layout = unsafe { renderer.add_layout(layout) }.unwrap();
-        let sets = renderer.create_sets(layout, 2).unwrap();
-        renderer.destroy_set(sets[0], 0).unwrap();
+        let sets = renderer.create_sets(layout, 4).unwrap();
+        renderer.destroy_sets(&sets[..2], 0).unwrap();
+        // SAFETY: the device isn't in use.
+        unsafe { renderer.gpu_done(0) };
+        renderer.destroy_set(sets[2], 0).unwrap();
         renderer.begin_frame().unwrap();
         let _drawn = renderer.draw(layout).unwrap();
         renderer
@@ -203,7 +206,7 @@ mod order {
         let mut noted = log.take();
         assert_eq!(noted.pop(), Some("device"));
         noted.sort();
-        assert_eq!(noted, ["layout", "pool", "set", "set", "set"]);
+        assert_eq!(noted, ["layout", "pool", "set", "set", "set", "set"]);
         // The device that is handed back isn't dropped.
         for shuts_down in [false, true] {
             let renderer = renderer(&log);
@@ -213,7 +216,7 @@ mod order {
             };
             let mut noted = log.take();
             noted.sort();
-            assert_eq!(noted, ["layout", "pool", "set", "set", "set"]);
+            assert_eq!(noted, ["layout", "pool", "set", "set", "set", "set"]);
             drop(gpu);
             assert_eq!(log.take(), ["device"]);
         }

@@ -7,7 +7,7 @@
 mod hostile_device;
 
 use gpu_descriptor::frames::FrameManager;
-use gpu_descriptor::renderer::{DrawHandle, LayoutHandle, Renderer, SetHandle};
+use gpu_descriptor::renderer::{LayoutHandle, Renderer, SetHandle};
 use gpu_descriptor::*;
 use hostile_device::{Device, Fault, Set};
 use std::any::Any;
@@ -264,7 +264,7 @@ struct Rendering {
     it: Option<Renderer<String, u64, Set, &'static Device>>,
     device: &'static Device,
     layout: LayoutHandle,
-    drawn: DrawHandle,
+    drawn: SetHandle,
     held: SetHandle,
 }
 
@@ -303,6 +303,7 @@ fn calls_of_a_renderer() -> Vec<Call<Rendering>> {
         Panics (on.it.as_mut().unwrap()).add_layout(layout());
         Panics (on.it.as_mut().unwrap()).begin_frame();
         Panics (on.it.as_mut().unwrap()).skip_to(9);
+        Panics (on.it.as_mut().unwrap()).set_keep(0);
         Panics (on.it.as_mut().unwrap()).draw(on.layout);
         Panics (on.it.as_mut().unwrap()).create_set(on.layout);
         Panics (on.it.as_mut().unwrap()).create_sets(on.layout, 0);
@@ -315,7 +316,7 @@ fn calls_of_a_renderer() -> Vec<Call<Rendering>> {
         PanicsButInADrop (on.it.as_mut().unwrap()).free_all();
         PanicsButInADrop (on.it.take().unwrap()).shutdown();
         Answers (on.it.take().unwrap()).into_device();
-        Answers (on.it.as_mut().unwrap()).drawn(on.drawn).unwrap();
+        Answers (on.it.as_mut().unwrap()).set(on.drawn).unwrap();
         Answers (on.it.as_mut().unwrap()).set(on.held).unwrap();
         Answers (on.it.as_mut().unwrap()).layout(on.layout).unwrap();
         Answers (on.it.as_mut().unwrap()).layouts();
@@ -323,9 +324,8 @@ fn calls_of_a_renderer() -> Vec<Call<Rendering>> {
         Answers (on.it.as_mut().unwrap()).frame();
         Answers (on.it.as_mut().unwrap()).is_frame_open();
         Answers (on.it.as_mut().unwrap()).is_poisoned();
-        Answers (on.it.as_mut().unwrap()).drawn_count();
-        Answers (on.it.as_mut().unwrap()).held_count();
-        Answers (on.it.as_mut().unwrap()).retired_count();
+        Answers (on.it.as_mut().unwrap()).counts();
+        Answers (on.it.as_mut().unwrap()).kept_count(on.layout);
         Answers (on.it.as_mut().unwrap()).outstanding();
     }
 }

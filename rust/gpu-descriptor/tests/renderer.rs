@@ -1,5 +1,6 @@
 //! `Renderer` beside a list of what it has to have: each call of the device and each growth of memory is
-//! refused in turn; handles that are stale, foreign or doubled; batches, all or none; panics.
+//! refused in turn; handles that are stale, foreign or doubled; batches, all or none; panics. What it
+//! keeps is only counted here: kept.rs has a model of that.
 
 mod gpu;
 mod refuses;
@@ -13,17 +14,21 @@ use std::panic::{AssertUnwindSafe, catch_unwind};
 
 type Sets<'a> = Renderer<u32, usize, Set, &'a Gpu>;
 
+/// How many sets of a layout are kept.
+const KEEPS: [u32; 4] = [0, 1, 7, u32::MAX];
+
 /// A renderer, and what it has to have.
 struct Stage<'a> {
     gpu: &'a Gpu,
     renderer: Sets<'a>,
+    keep: u32,
     layouts: Vec<LayoutHandle>,
-    drawn: Vec<(DrawHandle, Set)>,
+    drawn: Vec<(SetHandle, Set)>,
     held: Vec<(SetHandle, Set)>,
     retired: Vec<(u64, Set)>,
 
     /// Handles that name nothing any longer.
-    old_draws: Vec<DrawHandle>,
+    old_draws: Vec<SetHandle>,
     old_sets: Vec<SetHandle>,
 
     /// All handles of sets that ever came.
@@ -41,10 +46,12 @@ fn without_memory<R>(run: impl FnOnce() -> R) -> R {
 }
 
 impl<'a> Stage<'a> {
+    /// It keeps all.
     fn new(gpu: &'a Gpu) -> Self {
         let mut stage = Stage {
             gpu,
             renderer: without_memory(|| Renderer::new(gpu, 10_000)),
+            keep: u32::MAX,
             layouts: Vec::new(),
             drawn: Vec::new(),
             held: Vec::new(),
@@ -71,21 +78,42 @@ impl<'a> Stage<'a> {
         stage
     }
 
+    fn with_keep(gpu: &'a Gpu, keep: u32) -> Self {
+        let mut stage = Stage::new(gpu);
+        stage.set_keep(keep);
+        stage
+    }
+
+    fn set_keep(&mut self, keep: u32) {
+        without_memory(|| self.renderer.set_keep(keep));
+        self.keep = keep;
+        self.check();
+    }
+
     fn frame(&self) -> u64 {
         self.renderer.frame()
     }
 
+    fn kept(&self) -> u64 {
+        let kept = |it: &LayoutHandle| u64::from(self.renderer.kept_count(*it));
+        self.layouts.iter().map(kept).sum()
+    }
+
+    /// How many sets of the device aren't kept.
+    fn live(&self) -> usize {
+        self.gpu.live_sets() - self.kept() as usize
+    }
+
     fn check(&self) {
         let it = &self.renderer;
-        assert_eq!(it.drawn_count(), self.drawn.len());
-        assert_eq!(it.held_count(), self.held.len());
-        assert_eq!(it.retired_count(), self.retired.len() as u64);
+        let counts = Counts {
+            held: self.held.len() as u64,
+            waiting: (self.drawn.len() + self.retired.len()) as u64,
+            kept: self.kept(),
+        };
+        assert_eq!(it.counts(), counts);
         let mut all = BTreeSet::new();
-        for (handle, raw) in &self.drawn {
-            assert_eq!(it.drawn(*handle), Some(raw));
-            all.insert(*raw);
-        }
-        for (handle, raw) in &self.held {
+        for (handle, raw) in self.drawn.iter().chain(&self.held) {
             assert_eq!(it.set(*handle), Some(raw));
             all.insert(*raw);
         }
@@ -93,12 +121,13 @@ impl<'a> Stage<'a> {
         assert!(all.iter().all(|raw| self.gpu.is_live(*raw)));
         let count = self.drawn.len() + self.held.len() + self.retired.len();
         assert_eq!(all.len(), count, "no set is there twice");
-        assert_eq!(self.gpu.live_sets(), count, "and no other one");
+        assert_eq!(self.live(), count, "and no other one");
         assert_eq!(it.outstanding(), count as u64);
-        assert!(self.old_draws.iter().all(|old| it.drawn(*old).is_none()));
-        assert!(self.old_sets.iter().all(|old| it.set(*old).is_none()));
+        let old = self.old_draws.iter().chain(&self.old_sets);
+        assert!(old.into_iter().all(|old| it.set(*old).is_none()));
         for (handle, number) in self.layouts.iter().zip(0..) {
             assert_eq!(it.layout(*handle).map(|it| it.layout), Some(number));
+            assert!(it.kept_count(*handle) <= self.keep);
         }
         let layouts = it.layouts().iter().map(|it| it.layout);
         assert!(layouts.eq(0..self.layouts.len() as u32));
@@ -116,7 +145,7 @@ impl<'a> Stage<'a> {
     fn draw(&mut self, layout: usize) -> bool {
         match counted(|| self.renderer.draw(self.layouts[layout])) {
             Ok(handle) => {
-                let raw = *self.renderer.drawn(handle).unwrap();
+                let raw = self.come(handle);
                 self.drawn.push((handle, raw));
                 true
             }
@@ -145,10 +174,17 @@ impl<'a> Stage<'a> {
         }
     }
 
-    fn hold(&mut self, handle: SetHandle) {
+    /// The set of a new handle.
+    fn come(&mut self, handle: SetHandle) -> Set {
         let raw = *self.renderer.set(handle).unwrap();
-        self.held.push((handle, raw));
+        assert!(!self.gpu.is_read(raw), "a frame in flight reads it");
         assert!(self.seen.insert(handle), "no handle comes twice");
+        raw
+    }
+
+    fn hold(&mut self, handle: SetHandle) {
+        let raw = self.come(handle);
+        self.held.push((handle, raw));
     }
 
     /// The handles of so many held sets from a place on, which are then no longer held.
@@ -164,7 +200,7 @@ impl<'a> Stage<'a> {
         // SAFETY: the device sees to it that no frame in flight reads one.
         let answer = without_memory(|| unsafe { self.renderer.free_sets(&handles) });
         assert_eq!(answer, Ok(()));
-        assert!(taken.iter().all(|it| !self.gpu.is_live(it.1)));
+        assert!(self.keep > 0 || taken.iter().all(|it| !self.gpu.is_live(it.1)));
     }
 
     fn destroy_many(&mut self, from: usize, count: usize, last_use: u64) {
@@ -181,6 +217,7 @@ impl<'a> Stage<'a> {
         self.retired.clear();
         // SAFETY: the device sees to it that no frame in flight reads one.
         without_memory(|| unsafe { self.renderer.free_all() });
+        assert_eq!(self.gpu.live_sets(), 0);
         self.check();
     }
 
@@ -215,12 +252,16 @@ impl<'a> Stage<'a> {
         self.gpu.wait(frame);
         // SAFETY: the device sees to it that no frame in flight reads a set that goes back.
         without_memory(|| unsafe { self.renderer.gpu_done(frame) });
-        self.retired.retain(|it| it.0 > frame);
+        // An open frame isn't done.
+        let is_open = u64::from(self.renderer.is_frame_open());
+        let done = frame.min(self.frame() - is_open);
+        self.retired.retain(|it| it.0 > done);
         self.check();
     }
 
     fn cleanup(&mut self) {
         without_memory(|| self.renderer.cleanup());
+        assert_eq!(self.kept(), 0);
         self.check();
     }
 
@@ -234,8 +275,8 @@ impl<'a> Stage<'a> {
 
 /// A scene of eight frames, three of them in flight. A call that is refused is made again, and granted.
 /// Ends with the refusals.
-fn scene(gpu: &Gpu) -> (Vec<AllocationError>, u64) {
-    let mut stage = Stage::new(gpu);
+fn scene(gpu: &Gpu, keep: u32) -> (Vec<AllocationError>, u64) {
+    let mut stage = Stage::with_keep(gpu, keep);
     for number in 0..4 {
         assert!(stage.create(number % 3) || stage.create(number % 3));
     }
@@ -265,44 +306,50 @@ fn scene(gpu: &Gpu) -> (Vec<AllocationError>, u64) {
     refusals
 }
 
+/// A refusal that comes while sets are kept isn't the end: they are freed, and it is asked once more.
 #[test]
 fn the_device_refuses_each_call() {
-    let gpu = Gpu::new();
-    assert_eq!(scene(&gpu), (vec![], 0));
-    let all = gpu.calls.get();
-    println!("{all} calls");
-    assert!(all > 50);
-    for reason in 0..REASONS {
-        let mut seen = 0;
-        for call in 0..all {
-            let gpu = Gpu::with_fault(call, Fault::Refuses(reason));
-            let (refusals, _) = scene(&gpu);
-            assert!(gpu.calls.get() > call, "the call was made");
-            assert!(refusals.len() <= 1);
-            let wanted = [OutOfDeviceMemory, OutOfHostMemory, Fragmentation];
-            if reason < 2 {
-                assert_eq!(refusals, [wanted[reason]]);
+    for keep in KEEPS {
+        let gpu = Gpu::new();
+        assert_eq!(scene(&gpu, keep), (vec![], 0));
+        let all = gpu.calls.get();
+        println!("{all} calls");
+        assert!(all > 30);
+        for reason in 0..REASONS {
+            let mut seen = 0;
+            for call in 0..all {
+                let gpu = Gpu::with_fault(call, Fault::Refuses(reason));
+                let (refusals, _) = scene(&gpu, keep);
+                assert!(gpu.calls.get() > call, "the call was made");
+                assert!(refusals.len() <= 1);
+                let wanted = [OutOfDeviceMemory, OutOfHostMemory, Fragmentation];
+                if reason < 2 && (keep == 0 || !refusals.is_empty()) {
+                    assert_eq!(refusals, [wanted[reason]]);
+                }
+                seen += refusals.len();
             }
-            seen += refusals.len();
+            println!("{all} calls refused for reason {reason}, keep {keep}: {seen} refusals");
+            assert!(seen > 0);
         }
-        println!("{all} calls refused for reason {reason}: {seen} refusals");
-        assert!(seen > 0);
     }
 }
 
 #[test]
 fn each_growth_is_refused() {
-    for number in 0.. {
-        refuse(number);
-        let (refusals, layouts) = scene(&Gpu::new());
-        if number >= calls() {
-            assert_eq!((refusals.len(), layouts), (0, 0));
-            println!("{number} calls for memory");
-            assert!(number > 10);
-            return;
+    for keep in KEEPS {
+        for number in 0.. {
+            refuse(number);
+            let (refusals, layouts) = scene(&Gpu::new(), keep);
+            if number >= calls() {
+                assert_eq!((refusals.len(), layouts), (0, 0));
+                println!("{number} calls for memory");
+                assert!(number > 10);
+                break;
+            }
+            let seen = refusals.len() as u64 + layouts;
+            assert!(seen == 1 || keep > 0 && seen == 0, "growth {number}");
+            assert!(refusals.iter().all(|it| *it == OutOfHostMemory));
         }
-        assert_eq!(refusals.len() as u64 + layouts, 1, "growth {number}");
-        assert!(refusals.iter().all(|it| *it == OutOfHostMemory));
     }
 }
 
@@ -310,9 +357,9 @@ fn each_growth_is_refused() {
 fn by_chance() {
     let mut random = Random(1);
     let mut refusals = 0;
-    for _ in 0..300 {
+    for round in 0..600 {
         let gpu = Gpu::new();
-        let mut stage = Stage::new(&gpu);
+        let mut stage = Stage::with_keep(&gpu, KEEPS[round % 4]);
         for _ in 0..200 {
             if random.below(10) == 0 {
                 gpu.faulty.set(gpu.calls.get() + random.below(3));
@@ -343,6 +390,7 @@ fn by_chance() {
                     }
                 }
                 _ if random.below(8) == 0 => stage.free_all(),
+                _ if random.below(8) == 0 => stage.set_keep(KEEPS[layout]),
                 _ => {
                     if let Some(old) = stage.old_sets.last() {
                         let answer = stage.renderer.destroy_set(*old, 0);
@@ -373,15 +421,23 @@ fn stale_handles() {
     assert_eq!(stage.renderer.set(old), None);
     let answer = stage.renderer.destroy_set(old, 0);
     assert_eq!(answer, Err(DestroyError::NoSet));
-    // A draw of an older frame, at the same place.
+    // A draw of an older frame, whose set comes again.
     stage.begin();
     stage.draw(0);
+    let (draw, raw) = stage.drawn[0];
+    // It isn't held.
+    let answer = stage.renderer.destroy_set(draw, 0);
+    assert_eq!(answer, Err(DestroyError::NoSet));
+    // SAFETY: the device isn't in use.
+    let answer = unsafe { stage.renderer.free_sets(&[draw]) };
+    assert_eq!(answer, Err(DestroyError::NoSet));
     stage.end();
-    let old = stage.old_draws[0];
-    assert_eq!(stage.renderer.drawn(old), None);
+    assert_eq!(stage.renderer.set(draw), None);
     stage.begin();
+    stage.done(1);
     stage.draw(0);
-    assert_eq!(stage.renderer.drawn(old), None);
+    assert_eq!(stage.drawn[0].1, raw);
+    assert_eq!(stage.renderer.set(draw), None);
     stage.check();
     stage.shutdown();
 }
@@ -396,9 +452,10 @@ fn foreign_handles() {
         it.create(0);
     }
     let it = &mut stage.renderer;
-    assert_eq!(it.drawn(other.drawn[0].0), None);
+    assert_eq!(it.set(other.drawn[0].0), None);
     assert_eq!(it.set(other.held[0].0), None);
     assert!(it.layout(other.layouts[0]).is_none());
+    assert_eq!(it.kept_count(other.layouts[0]), 0);
     assert_eq!(it.draw(other.layouts[0]), Err(RenderError::NoLayout));
     assert_eq!(it.create_set(other.layouts[0]), Err(RenderError::NoLayout));
     let answer = it.create_sets(other.layouts[0], 0);
@@ -481,10 +538,9 @@ fn a_batch_comes_whole_or_not_at_all() {
     assert_eq!(stage.refusals, [Fragmentation, OutOfDeviceMemory]);
     assert!(stage.create_many(1, 9));
     assert!(stage.create_many(0, 0));
-    // In the order of the device, and in one call they go back.
+    // In one call they go back.
+    stage.set_keep(0);
     assert!(stage.create_many(0, 30));
-    let raws: Vec<_> = stage.held[59..].iter().map(|it| it.1).collect();
-    assert!(raws.is_sorted() && raws.len() == 30);
     let releases = gpu.releases.get();
     stage.free(59, 30);
     assert_eq!(gpu.releases.get(), releases + 1);
@@ -497,49 +553,84 @@ fn a_batch_comes_whole_or_not_at_all() {
 /// A batch as large as one before finds all memory but that of the handles which it returns.
 #[test]
 fn a_batch_allocates_its_handles_alone() {
-    let gpu = Gpu::new();
-    let mut stage = Stage::new(&gpu);
-    for _ in 0..2 {
+    for keep in KEEPS {
+        let gpu = Gpu::new();
+        let mut stage = Stage::with_keep(&gpu, keep);
+        for _ in 0..2 {
+            assert!(stage.create_many(0, 50));
+            stage.free(0, 50);
+        }
+        let before = calls();
         assert!(stage.create_many(0, 50));
-        stage.free(0, 50);
+        assert_eq!(calls(), before + 1);
+        stage.shutdown();
     }
-    let before = calls();
-    assert!(stage.create_many(0, 50));
-    assert_eq!(calls(), before + 1);
-    stage.shutdown();
 }
 
-/// Slots are used again under other handles, so memory follows the most sets that were held.
+/// Slots are used again under other handles, so memory follows the most sets that there were.
 #[test]
 fn slots_are_used_again() {
-    let gpu = Gpu::new();
-    let mut stage = Stage::new(&gpu);
-    let mut seen = HashSet::with_capacity(40_000);
-    let mut most = 0;
-    for round in 0..300 {
-        let mut lists = [Vec::new(), Vec::new()];
-        for at in 0..40 {
-            let layout = stage.layouts[0];
-            let many = stage.renderer.create_sets(layout, 2).unwrap();
-            lists[at % 2].extend(many);
-            lists[at % 2].push(stage.renderer.create_set(layout).unwrap());
+    for keep in KEEPS {
+        let gpu = Gpu::new();
+        let mut stage = Stage::with_keep(&gpu, keep);
+        let mut seen = HashSet::with_capacity(40_000);
+        let mut most = 0;
+        for round in 0..300 {
+            let mut lists = [Vec::new(), Vec::new()];
+            for at in 0..40 {
+                let layout = stage.layouts[0];
+                let many = stage.renderer.create_sets(layout, 2).unwrap();
+                lists[at % 2].extend(many);
+                lists[at % 2].push(stage.renderer.create_set(layout).unwrap());
+            }
+            assert!(lists.iter().flatten().all(|it| seen.insert(*it)));
+            // SAFETY: the device isn't in use.
+            unsafe { stage.renderer.free_sets(&lists[round % 2]) }.unwrap();
+            let rest = &lists[1 - round % 2];
+            stage.renderer.destroy_sets(rest, 0).unwrap();
+            // SAFETY: as above.
+            unsafe { stage.renderer.gpu_done(0) };
+            drop(lists);
+            if round == 1 {
+                most = bytes();
+            }
         }
-        assert!(lists.iter().flatten().all(|it| seen.insert(*it)));
-        // SAFETY: the device isn't in use.
-        unsafe { stage.renderer.free_sets(&lists[round % 2]) }.unwrap();
-        let rest = &lists[1 - round % 2];
-        stage.renderer.destroy_sets(rest, 0).unwrap();
-        // SAFETY: as above.
-        unsafe { stage.renderer.gpu_done(0) };
-        drop(lists);
-        if round == 1 {
-            most = bytes();
-        }
+        assert_eq!(seen.len(), 36_000);
+        assert_eq!(bytes(), most);
+        stage.check();
+        stage.shutdown();
     }
-    assert_eq!(seen.len(), 36_000);
-    assert_eq!(bytes(), most);
-    stage.check();
-    stage.shutdown();
+}
+
+/// The places of sets that are gone are free for sets of other layouts.
+#[test]
+fn memory_follows_the_most_sets_of_all_layouts() {
+    for keep in KEEPS {
+        let gpu = Gpu::new();
+        let mut stage = Stage::with_keep(&gpu, keep);
+        let mut asked = |layout, count| {
+            let before = calls();
+            assert!(stage.create_many(layout, count));
+            let asked = calls() - before;
+            stage.destroy_many(0, count as usize, 0);
+            stage.done(0);
+            // What was kept goes, but not the last pool, with its memory.
+            stage.set_keep(0);
+            stage.set_keep(keep);
+            asked
+        };
+        // Memory for the pools of both.
+        asked(0, 20);
+        asked(2, 20);
+        // And for the sets: places that are free don't count at the next request.
+        assert!(asked(0, 60) > 1);
+        asked(0, 60);
+        for _ in 0..9 {
+            // That of the list of handles alone.
+            assert_eq!((asked(2, 60), asked(0, 60)), (1, 1));
+        }
+        stage.shutdown();
+    }
 }
 
 #[test]
@@ -558,8 +649,8 @@ fn all_sets_at_once() {
         stage.destroy_many(3, 8, stage.frame() - 1);
         stage.begin();
         stage.draw(2);
+        stage.done(stage.frame() - 1);
         stage.free_all();
-        assert_eq!(gpu.live_sets(), 0);
         // The frame is ended: in it a draw would get the handle of one that is gone.
         assert!(!stage.renderer.is_frame_open());
         stage.begin();
@@ -590,20 +681,20 @@ fn frames_are_skipped() {
     stage.destroy_many(0, 2, 70);
     stage.destroy_many(0, 1, 69);
     stage.done(69);
-    assert_eq!(gpu.live_sets(), 3);
+    assert_eq!(stage.live(), 3);
     stage.begin();
     assert_eq!(stage.frame(), 71);
     assert_eq!(stage.renderer.skip_to(90), Err(BeginError::FrameOpen));
     assert_eq!(stage.frame(), 71);
     stage.end();
     stage.done(70);
-    assert_eq!(gpu.live_sets(), 1);
+    assert_eq!(stage.live(), 1);
     assert_eq!(stage.renderer.skip_to(u64::MAX), Ok(()));
     let answer = stage.renderer.begin_frame();
     assert_eq!(answer, Err(BeginError::NoMoreFrames));
     stage.destroy_many(0, 1, u64::MAX);
     stage.done(u64::MAX - 1);
-    assert_eq!(gpu.live_sets(), 1);
+    assert_eq!(stage.live(), 1);
     stage.done(u64::MAX);
     stage.shutdown();
 }
@@ -621,14 +712,21 @@ fn frames_out_of_turn() {
     stage.create(0);
     let answer = stage.renderer.destroy_set(stage.held[0].0, 2);
     assert_eq!(answer, Err(DestroyError::FrameAhead));
-    // The sets of the open frame stay, whatever is done.
+    // The sets of the open frame stay, and those that were used last in it, whatever is done.
+    stage.create(0);
+    stage.destroy(1, 1);
+    stage.create(0);
+    stage.destroy(1, 0);
+    assert_eq!(stage.live(), 4);
     stage.done(u64::MAX);
-    assert_eq!(stage.drawn.len(), 1);
+    assert_eq!((stage.drawn.len(), stage.retired.len()), (1, 1));
+    stage.done(1);
+    assert_eq!(stage.live(), 3);
     stage.end();
     stage.end();
     assert_eq!(stage.renderer.draw(layout), Err(RenderError::NoFrame));
     stage.done(1);
-    assert_eq!(gpu.live_sets(), 1);
+    assert_eq!(stage.live(), 1);
     let texts = [
         RenderError::NoFrame.to_string(),
         RenderError::Allocation(OutOfHostMemory).to_string(),
@@ -651,7 +749,7 @@ fn frames_out_of_turn() {
 #[test]
 fn destroyed_in_flight() {
     let gpu = Gpu::new();
-    let mut stage = Stage::new(&gpu);
+    let mut stage = Stage::with_keep(&gpu, 0);
     stage.create(0);
     let raw = stage.held[0].1;
     for frame in 1..=3 {
@@ -669,18 +767,22 @@ fn destroyed_in_flight() {
     assert!(is_seen.is_err());
     std::mem::forget(stage);
 
-    let gpu = Gpu::new();
-    let mut stage = Stage::new(&gpu);
-    stage.create(0);
-    let raw = stage.held[0].1;
-    stage.begin();
-    gpu.submit(1, [raw].into_iter());
-    stage.end();
-    stage.destroy(0, 1);
-    assert!(gpu.is_live(raw));
-    stage.done(1);
-    assert!(!gpu.is_live(raw));
-    stage.shutdown();
+    for keep in [0, 1] {
+        let gpu = Gpu::new();
+        let mut stage = Stage::with_keep(&gpu, keep);
+        stage.create(0);
+        let raw = stage.held[0].1;
+        stage.begin();
+        gpu.submit(1, [raw].into_iter());
+        stage.end();
+        stage.destroy(0, 1);
+        // It isn't handed out again, as the device would see.
+        stage.create(0);
+        assert!(gpu.is_live(raw));
+        stage.done(1);
+        assert_eq!(gpu.is_live(raw), keep == 1);
+        stage.shutdown();
+    }
 }
 
 /// A set whose last use is before that of sets which wait already goes back with its own frame.
@@ -702,7 +804,7 @@ fn retired_late() {
     }
     for (done, left) in [(0, 10), (1, 8), (2, 5), (3, 4), (4, 2), (5, 0)] {
         stage.done(done);
-        assert_eq!(gpu.live_sets(), left);
+        assert_eq!(stage.live(), left);
     }
     stage.shutdown();
 }
@@ -718,11 +820,11 @@ fn panics<R>(what: &str, run: impl FnOnce() -> R) {
 #[test]
 fn a_panic_poisons() {
     let without = Gpu::new();
-    scene(&without);
+    scene(&without, 1);
     let mut tried = 0;
     for call in (0..without.calls.get()).step_by(7) {
         let gpu = Gpu::with_fault(call, Fault::Panics);
-        let mut stage = Stage::new(&gpu);
+        let mut stage = Stage::with_keep(&gpu, 1);
         let ran = catch_unwind(AssertUnwindSafe(|| {
             for _ in 0..4 {
                 stage.begin();
@@ -752,6 +854,7 @@ fn a_panic_poisons() {
         panics("end", || it.end_frame());
         panics("done", || unsafe { it.gpu_done(9) });
         panics("cleanup", || it.cleanup());
+        panics("keep", || it.set_keep(0));
         panics("add", || unsafe { it.add_layout(layout(0)) });
         // Readers still answer.
         for (handle, raw) in &stage.held {
@@ -777,8 +880,8 @@ fn owns_a_device() {
     assert_eq!(renderer.device().live_sets(), 1);
     assert_eq!(
         format!("{renderer:?}"),
-        "Renderer { frame: 0, is_frame_open: false, is_poisoned: false, drawn_count: 0, \
-         held_count: 1, retired_count: 0, .. }"
+        "Renderer { frame: 0, is_frame_open: false, is_poisoned: false, \
+         counts: Counts { held: 1, waiting: 0, kept: 0 }, .. }"
     );
     let gpu = unsafe { renderer.shutdown() };
     assert!(gpu.is_empty());

@@ -65,6 +65,11 @@ impl Gpu {
         self.live.borrow()[set.0][set.1]
     }
 
+    /// Whether a frame in flight reads the set.
+    pub fn is_read(&self, set: Set) -> bool {
+        self.reads.borrow().iter().any(|it| it.1 == set)
+    }
+
     pub fn live_sets(&self) -> usize {
         self.live_sets.get()
     }
@@ -155,9 +160,7 @@ impl DescriptorDevice<u32, usize, Set> for Gpu {
         for set in sets {
             assert_eq!(set.0, *pool, "it goes to its pool");
             assert!(self.is_live(set), "it goes back once");
-            let reads = self.reads.borrow();
-            let is_read = reads.iter().any(|it| it.1 == set);
-            assert!(!is_read, "a frame in flight reads it");
+            assert!(!self.is_read(set), "a frame in flight reads it");
             self.live.borrow_mut()[set.0][set.1] = false;
             self.live_sets.set(self.live_sets() - 1);
         }

@@ -1,0 +1,957 @@
+//! What a `Renderer` keeps: sets that come back are handed out again. First by hand, each case of it, then
+//! at random beside a plain model, a list of all sets with what each is in use for.
+//!
+//! `STEPS=1000000 cargo test --release --test kept` runs so many steps with each `keep`.
+
+mod refuses;
+
+use gpu_descriptor::AllocationError::*;
+use gpu_descriptor::renderer::*;
+use gpu_descriptor::*;
+use refuses::{bytes, calls, counted};
+use std::cell::{Cell, RefCell};
+use std::collections::{BTreeMap, HashMap, HashSet};
+
+/// How many sets of a layout are kept.
+const KEEPS: [u32; 4] = [0, 1, 7, u32::MAX];
+
+/// The limit on update-after-bind descriptors.
+const LIMIT: u32 = 400;
+
+/// The layouts: the first two have the same key, of the third two sets go to a pool, and the last is
+/// marked, with so many descriptors a set.
+const LAYOUTS: usize = 4;
+const MARKED: usize = 3;
+const DESCRIPTORS: u32 = 5;
+
+#[derive(Default)]
+struct Pool {
+    key: (u32, bool),
+    max_sets: usize,
+    live: usize,
+}
+
+/// A device that gives no number twice, to a pool or to a set, and refuses as many calls as it is told.
+#[derive(Default)]
+struct Gpu {
+    last: Cell<u64>,
+    pools: RefCell<BTreeMap<u64, Pool>>,
+
+    /// The pool and the layout of each set.
+    sets: RefCell<HashMap<u64, (u64, u32)>>,
+
+    /// How many calls there were, and how many sets it ever made.
+    calls: Cell<u64>,
+    made: Cell<usize>,
+
+    /// How many calls of the next are refused, after how many, and with which reason.
+    refuses: Cell<u64>,
+    after: Cell<u64>,
+    reason: Cell<usize>,
+    refused: Cell<u64>,
+}
+
+impl Gpu {
+    fn number(&self) -> u64 {
+        self.last.set(self.last.get() + 1);
+        self.last.get()
+    }
+
+    fn live(&self) -> usize {
+        self.sets.borrow().len()
+    }
+
+    fn is_live(&self, set: u64) -> bool {
+        self.sets.borrow().contains_key(&set)
+    }
+
+    fn is_empty(&self) -> bool {
+        self.pools.borrow().is_empty() && self.live() == 0
+    }
+
+    /// Refuses so many calls for pools and sets, after so many.
+    fn refuse(&self, count: u64, after: u64, reason: usize) {
+        self.refuses.set(count);
+        self.after.set(after);
+        self.reason.set(reason);
+    }
+
+    fn is_refused(&self) -> bool {
+        self.calls.set(self.calls.get() + 1);
+        if self.refuses.get() == 0 {
+            return false;
+        }
+        if self.after.get() > 0 {
+            self.after.set(self.after.get() - 1);
+            return false;
+        }
+        self.refuses.set(self.refuses.get() - 1);
+        self.refused.set(self.refused.get() + 1);
+        true
+    }
+
+    /// Of each key the oldest pool has sets.
+    fn check_front(&self) {
+        let mut keys = HashSet::new();
+        for pool in self.pools.borrow().values() {
+            if keys.insert(pool.key) {
+                assert!(pool.live > 0, "an empty pool at the front");
+            }
+        }
+    }
+}
+
+impl DescriptorDevice<u32, u64, u64> for Gpu {
+    unsafe fn create_descriptor_pool(
+        &self,
+        counts: &DescriptorTotalCount,
+        max_sets: u32,
+        flags: DescriptorPoolCreateFlags,
+    ) -> Result<u64, CreatePoolError> {
+        if self.is_refused() {
+            return Err(match self.reason.get() {
+                0 => CreatePoolError::OutOfDeviceMemory,
+                1 => CreatePoolError::OutOfHostMemory,
+                _ => CreatePoolError::Fragmentation,
+            });
+        }
+        let number = self.number();
+        let is_marked = flags.contains(DescriptorPoolCreateFlags::UPDATE_AFTER_BIND);
+        let pool = Pool {
+            key: (counts.sampler / max_sets, is_marked),
+            max_sets: max_sets as usize,
+            live: 0,
+        };
+        self.pools.borrow_mut().insert(number, pool);
+        Ok(number)
+    }
+
+    unsafe fn destroy_descriptor_pool(&self, pool: u64) {
+        self.calls.set(self.calls.get() + 1);
+        let pool = self.pools.borrow_mut().remove(&pool).expect("a pool");
+        assert_eq!(pool.live, 0);
+    }
+
+    unsafe fn alloc_descriptor_sets<'a>(
+        &self,
+        pool: &mut u64,
+        layouts: impl ExactSizeIterator<Item = &'a u32>,
+        sets: &mut impl Extend<u64>,
+    ) -> Result<(), DeviceAllocationError> {
+        if self.is_refused() {
+            return Err(match self.reason.get() {
+                0 => DeviceAllocationError::OutOfDeviceMemory,
+                1 => DeviceAllocationError::OutOfHostMemory,
+                2 => DeviceAllocationError::FragmentedPool,
+                _ => DeviceAllocationError::OutOfPoolMemory,
+            });
+        }
+        let mut pools = self.pools.borrow_mut();
+        let it = pools.get_mut(pool).expect("a pool");
+        it.live += layouts.len();
+        assert!(it.live <= it.max_sets);
+        self.made.set(self.made.get() + layouts.len());
+        sets.extend(layouts.map(|layout| {
+            let set = self.number();
+            self.sets.borrow_mut().insert(set, (*pool, *layout));
+            set
+        }));
+        Ok(())
+    }
+
+    unsafe fn dealloc_descriptor_sets(&self, pool: &mut u64, sets: impl Iterator<Item = u64>) {
+        self.calls.set(self.calls.get() + 1);
+        for set in sets {
+            let (of, _) = self.sets.borrow_mut().remove(&set).expect("a set");
+            assert_eq!(of, *pool, "it goes to its pool");
+            self.pools.borrow_mut().get_mut(pool).expect("a pool").live -= 1;
+        }
+    }
+}
+
+fn layout(number: usize) -> SetLayout<u32> {
+    let mut flags = DescriptorSetLayoutCreateFlags::empty();
+    flags.set(
+        DescriptorSetLayoutCreateFlags::UPDATE_AFTER_BIND,
+        number == MARKED,
+    );
+    let counts = DescriptorTotalCount {
+        sampler: [1, 1, u32::MAX / 2, DESCRIPTORS][number],
+        ..Default::default()
+    };
+    SetLayout {
+        layout: number as u32,
+        counts,
+        flags,
+    }
+}
+
+type Sets<'a> = Renderer<u32, u64, u64, &'a Gpu>;
+
+fn renderer<'a>(gpu: &'a Gpu, keep: u32) -> (Sets<'a>, [LayoutHandle; LAYOUTS]) {
+    let mut it = Renderer::new(gpu, LIMIT);
+    it.set_keep(keep);
+    // SAFETY: they are the device's, and stay.
+    let layouts = [0, 1, 2, 3].map(|at| unsafe { it.add_layout(layout(at)) }.unwrap());
+    (it, layouts)
+}
+
+/// Frees sets. The device isn't in use.
+fn free(it: &mut Sets, sets: &[SetHandle]) {
+    // SAFETY: as above.
+    unsafe { it.free_sets(sets) }.unwrap();
+}
+
+fn done(it: &mut Sets, frame: u64) {
+    // SAFETY: as above.
+    unsafe { it.gpu_done(frame) };
+}
+
+fn shutdown(it: Sets) {
+    // SAFETY: as above.
+    let gpu = unsafe { it.shutdown() };
+    assert!(gpu.is_empty());
+}
+
+/// The raw set of a handle.
+fn raw(it: &Sets, handle: SetHandle) -> u64 {
+    *it.set(handle).expect("a set")
+}
+
+fn counts(held: u64, waiting: u64, kept: u64) -> Counts {
+    Counts {
+        held,
+        waiting,
+        kept,
+    }
+}
+
+/// Of ten sets as many are kept as are to be, and the others are new the next time.
+#[test]
+fn as_many_are_kept_as_are_to_be() {
+    for keep in KEEPS {
+        let gpu = Gpu::default();
+        let (mut it, layouts) = renderer(&gpu, keep);
+        let kept = keep.min(10);
+        let sets = it.create_sets(layouts[0], 10).unwrap();
+        let first: HashSet<_> = sets.iter().map(|set| raw(&it, *set)).collect();
+        free(&mut it, &sets);
+        assert_eq!(
+            (it.kept_count(layouts[0]), gpu.live()),
+            (kept, kept as usize)
+        );
+        assert_eq!(it.counts(), counts(0, 0, u64::from(kept)));
+        assert_eq!(it.outstanding(), 0);
+
+        let calls = gpu.calls.get();
+        let sets = it.create_sets(layouts[0], 10).unwrap();
+        let again = sets.iter().filter(|set| first.contains(&raw(&it, **set)));
+        assert_eq!(
+            (again.count(), gpu.made.get()),
+            (kept as usize, 20 - kept as usize)
+        );
+        assert_eq!(gpu.calls.get() == calls, kept == 10);
+        assert_eq!(it.counts(), counts(10, 0, 0));
+
+        // The same, one by one and after a frame.
+        it.begin_frame().unwrap();
+        for set in sets {
+            it.destroy_set(set, 1).unwrap();
+            let _draw = it.draw(layouts[0]).unwrap();
+        }
+        it.end_frame();
+        assert_eq!(it.counts(), counts(0, 20, 0));
+        let kept = keep.min(20);
+        done(&mut it, 1);
+        assert_eq!(it.counts(), counts(0, 0, u64::from(kept)));
+        assert_eq!(gpu.live(), kept as usize);
+        shutdown(it);
+    }
+}
+
+#[test]
+fn the_last_one_that_was_kept_comes_first() {
+    let gpu = Gpu::default();
+    let (mut it, layouts) = renderer(&gpu, 2);
+    let sets = it.create_sets(layouts[0], 3).unwrap();
+    let raws: Vec<_> = sets.iter().map(|set| raw(&it, *set)).collect();
+    for set in &sets {
+        free(&mut it, &[*set]);
+    }
+    // Two were kept, so the third went back.
+    assert!(!gpu.is_live(raws[2]));
+    for expected in [raws[1], raws[0]] {
+        let set = it.create_set(layouts[0]).unwrap();
+        assert_eq!(raw(&it, set), expected);
+    }
+    shutdown(it);
+}
+
+/// Also not if the layouts share pools.
+#[test]
+fn a_kept_set_of_another_layout_is_not_handed_out() {
+    let gpu = Gpu::default();
+    let (mut it, layouts) = renderer(&gpu, u32::MAX);
+    let set = it.create_set(layouts[0]).unwrap();
+    let kept = raw(&it, set);
+    free(&mut it, &[set]);
+    let mut others = it.create_sets(layouts[1], 2).unwrap();
+    others.push(it.create_set(layouts[1]).unwrap());
+    it.begin_frame().unwrap();
+    others.push(it.draw(layouts[1]).unwrap());
+    for set in others {
+        assert_ne!(raw(&it, set), kept);
+        assert_eq!(gpu.sets.borrow()[&raw(&it, set)].1, 1);
+    }
+    assert_eq!(
+        (it.kept_count(layouts[0]), it.kept_count(layouts[1])),
+        (1, 0)
+    );
+    let set = it.draw(layouts[0]).unwrap();
+    assert_eq!(raw(&it, set), kept);
+    shutdown(it);
+}
+
+#[test]
+fn an_old_handle_finds_nothing_after_its_set_was_handed_out_again() {
+    let gpu = Gpu::default();
+    let (mut it, layouts) = renderer(&gpu, u32::MAX);
+    let mut old = Vec::new();
+    let mut set = it.create_set(layouts[0]).unwrap();
+    let kept = raw(&it, set);
+    for frame in 1..=20 {
+        old.push(set);
+        it.destroy_set(set, 0).unwrap();
+        done(&mut it, 0);
+        it.begin_frame().unwrap();
+        let draw = it.draw(layouts[0]).unwrap();
+        assert_eq!(raw(&it, draw), kept);
+        old.push(draw);
+        it.end_frame();
+        done(&mut it, frame);
+        set = it.create_set(layouts[0]).unwrap();
+        assert_eq!(raw(&it, set), kept);
+        for handle in &old {
+            assert_eq!(it.set(*handle), None);
+            assert_eq!(it.destroy_set(*handle, 0), Err(DestroyError::NoSet));
+            // SAFETY: the device isn't in use.
+            let answer = unsafe { it.free_sets(&[*handle]) };
+            assert_eq!(answer, Err(DestroyError::NoSet));
+        }
+    }
+    assert_eq!(gpu.made.get(), 1);
+    shutdown(it);
+}
+
+/// A refusal while sets are kept gives these back, lets empty pools go, and asks once more.
+#[test]
+fn a_refusal_while_sets_are_kept() {
+    let reasons = [
+        (0, OutOfDeviceMemory),
+        (1, OutOfHostMemory),
+        (2, Fragmentation),
+    ];
+    for (reason, error) in reasons {
+        for count in [1, 2] {
+            let gpu = Gpu::default();
+            let (mut it, layouts) = renderer(&gpu, u32::MAX);
+            let kept = it.create_sets(layouts[0], 5).unwrap();
+            let held = it.create_set(layouts[2]).unwrap();
+            free(&mut it, &kept);
+            assert_eq!((gpu.pools.borrow().len(), gpu.live()), (2, 6));
+            // The first pool of the layout.
+            gpu.refuse(count, 0, reason);
+            let answer = it.create_set(layouts[3]);
+            match count {
+                1 => assert_eq!(gpu.sets.borrow()[&raw(&it, answer.unwrap())].1, 3),
+                _ => assert_eq!(answer, Err(RenderError::Allocation(error))),
+            }
+            // Those that were kept are gone, and their pool, but what is held stays.
+            let new = usize::from(count == 1);
+            assert_eq!(it.counts(), counts(1 + new as u64, 0, 0));
+            assert_eq!((gpu.pools.borrow().len(), gpu.live()), (1 + new, 1 + new));
+            assert!(gpu.is_live(raw(&it, held)));
+            // It was there, so it isn't kept; what came later is.
+            free(&mut it, &[held]);
+            assert_eq!(it.kept_count(layouts[2]), 0);
+            if let Ok(set) = answer {
+                free(&mut it, &[set]);
+                assert_eq!(it.kept_count(layouts[3]), 1);
+            }
+            shutdown(it);
+        }
+    }
+}
+
+/// If nothing is kept the refusal is returned at once, and no set gets old by it.
+#[test]
+fn a_refusal_while_none_is_kept() {
+    let gpu = Gpu::default();
+    let (mut it, layouts) = renderer(&gpu, u32::MAX);
+    let held = it.create_set(layouts[2]).unwrap();
+    gpu.refuse(1, 0, 0);
+    let answer = it.create_set(layouts[3]);
+    assert_eq!(answer, Err(RenderError::Allocation(OutOfDeviceMemory)));
+    free(&mut it, &[held]);
+    assert_eq!(it.kept_count(layouts[2]), 1);
+    shutdown(it);
+}
+
+/// A batch takes kept sets first. If the others are refused, all of it are new.
+#[test]
+fn a_batch_that_is_refused_while_sets_are_kept() {
+    let gpu = Gpu::default();
+    let (mut it, layouts) = renderer(&gpu, u32::MAX);
+    let two = it.create_sets(layouts[0], 2).unwrap();
+    let raws = two.iter().map(|set| raw(&it, *set)).collect::<Vec<_>>();
+    free(&mut it, &two);
+    let five = it.create_sets(layouts[0], 5).unwrap();
+    let again = five.iter().filter(|set| raws.contains(&raw(&it, **set)));
+    assert_eq!((again.count(), gpu.made.get(), gpu.live()), (2, 5, 5));
+    free(&mut it, &five);
+    assert_eq!((it.kept_count(layouts[0]), gpu.live()), (5, 5));
+
+    gpu.refuse(1, 0, 0);
+    let seven = it.create_sets(layouts[0], 7).unwrap();
+    assert_eq!((gpu.made.get(), gpu.live()), (5 + 7, 7));
+    assert_eq!(it.counts(), counts(7, 0, 0));
+    free(&mut it, &seven);
+
+    gpu.refuse(2, 0, 0);
+    let answer = it.create_sets(layouts[0], 8);
+    assert_eq!(answer, Err(RenderError::Allocation(OutOfDeviceMemory)));
+    assert_eq!((it.counts(), gpu.is_empty()), (counts(0, 0, 0), true));
+    shutdown(it);
+}
+
+/// Kept sets hold the limit until they are wanted elsewhere.
+#[test]
+fn the_limit_while_sets_are_kept() {
+    let gpu = Gpu::default();
+    let (mut it, layouts) = renderer(&gpu, u32::MAX);
+    // One pool takes all that the limit allows.
+    let many = LIMIT / DESCRIPTORS;
+    let sets = it.create_sets(layouts[MARKED], many).unwrap();
+    let mut other = layout(MARKED);
+    other.counts.sampler = DESCRIPTORS + 1;
+    // SAFETY: it is the device's, and stays.
+    let other = unsafe { it.add_layout(other) }.unwrap();
+    let refused = Err(RenderError::Allocation(Fragmentation));
+    assert_eq!(it.create_set(other), refused);
+    free(&mut it, &sets);
+    assert_eq!(it.kept_count(layouts[MARKED]), many);
+    let set = it.create_set(other).unwrap();
+    assert_eq!((it.counts(), gpu.live()), (counts(1, 0, 0), 1));
+    free(&mut it, &[set]);
+    shutdown(it);
+}
+
+/// An open frame isn't done, whatever is said.
+#[test]
+fn the_open_frame_is_not_done() {
+    for keep in KEEPS {
+        let gpu = Gpu::default();
+        let (mut it, layouts) = renderer(&gpu, keep);
+        it.skip_to(6).unwrap();
+        let sets = it.create_sets(layouts[0], 2).unwrap();
+        let frame = it.begin_frame().unwrap();
+        let draw = it.draw(layouts[0]).unwrap();
+        it.destroy_set(sets[0], frame).unwrap();
+        it.destroy_set(sets[1], frame - 1).unwrap();
+        for say in [0, frame - 2] {
+            done(&mut it, say);
+            assert_eq!(it.counts(), counts(0, 3, 0));
+        }
+        let kept = u64::from(keep.min(1));
+        for say in [frame, u64::MAX, frame - 1] {
+            done(&mut it, say);
+            assert_eq!(it.counts(), counts(0, 2, kept));
+            assert!(it.set(draw).is_some());
+        }
+        it.end_frame();
+        assert_eq!(it.set(draw), None);
+        assert_eq!(it.counts(), counts(0, 2, kept));
+        let kept = u64::from(keep.min(3));
+        done(&mut it, frame);
+        assert_eq!(it.counts(), counts(0, 0, kept));
+        shutdown(it);
+    }
+}
+
+/// The sets that are out at a cleanup aren't kept when they come back, so pools become empty.
+#[test]
+fn a_cleanup_while_sets_are_out() {
+    let gpu = Gpu::default();
+    let (mut it, layouts) = renderer(&gpu, u32::MAX);
+    let sets = it.create_sets(layouts[0], 4).unwrap();
+    it.begin_frame().unwrap();
+    let _draw = it.draw(layouts[0]).unwrap();
+    free(&mut it, &sets[..1]);
+    it.destroy_set(sets[1], 0).unwrap();
+    assert_eq!((it.counts(), gpu.live()), (counts(2, 2, 1), 5));
+    it.cleanup();
+    assert_eq!((it.counts(), gpu.live()), (counts(2, 2, 0), 4));
+    // What comes after it is kept.
+    let later = it.create_set(layouts[0]).unwrap();
+    done(&mut it, 0);
+    free(&mut it, &sets[2..3]);
+    it.end_frame();
+    done(&mut it, 1);
+    assert_eq!((it.counts(), gpu.live()), (counts(2, 0, 0), 2));
+    free(&mut it, &[later]);
+    assert_eq!((it.counts(), gpu.live()), (counts(1, 0, 1), 2));
+    // A set that is kept and comes again is a new one.
+    let later = it.create_set(layouts[0]).unwrap();
+    free(&mut it, &[later, sets[3]]);
+    assert_eq!((it.counts(), gpu.live()), (counts(0, 0, 1), 1));
+    it.cleanup();
+    assert!(gpu.is_empty());
+    shutdown(it);
+}
+
+#[test]
+fn fewer_are_kept_from_now_on() {
+    let gpu = Gpu::default();
+    let (mut it, layouts) = renderer(&gpu, u32::MAX);
+    for layout in layouts {
+        let sets = it.create_sets(layout, 9).unwrap();
+        free(&mut it, &sets);
+    }
+    for keep in [9, 4, 6, 1, 0] {
+        it.set_keep(keep);
+        let kept = keep.min(4 + 5 * u32::from(keep == 9));
+        assert!(layouts.iter().all(|at| it.kept_count(*at) == kept));
+        assert_eq!(gpu.live(), 4 * kept as usize);
+    }
+    it.set_keep(u32::MAX);
+    let set = it.create_set(layouts[0]).unwrap();
+    free(&mut it, &[set]);
+    assert_eq!(it.kept_count(layouts[0]), 1);
+    // SAFETY: the device isn't in use.
+    unsafe { it.free_all() };
+    assert_eq!((it.counts(), gpu.live()), (counts(0, 0, 0), 0));
+    shutdown(it);
+}
+
+/// In a frame loop neither the device nor the allocator of memory is asked for anything, once all frames
+/// in flight have had their sets.
+#[test]
+fn a_frame_loop_asks_for_nothing() {
+    let gpu = Gpu::default();
+    let (mut it, layouts) = renderer(&gpu, u32::MAX);
+    let mut before = (0, 0, 0);
+    let mut materials = it.create_sets(layouts[1], 8).unwrap();
+    for turn in 0..200 {
+        let frame = it.begin_frame().unwrap();
+        done(&mut it, frame.saturating_sub(3));
+        for at in 0..50 {
+            let layout = layouts[[0, 2, 0][at % 3]];
+            let draw = counted(|| it.draw(layout)).unwrap();
+            assert!(it.set(draw).is_some());
+        }
+        it.end_frame();
+        let new = counted(|| it.create_set(layouts[1])).unwrap();
+        let old = std::mem::replace(&mut materials[turn % 8], new);
+        it.destroy_set(old, frame).unwrap();
+        let now = (gpu.calls.get(), calls(), bytes());
+        if turn >= 5 {
+            assert_eq!(now, before);
+        }
+        before = now;
+    }
+    assert_eq!(gpu.made.get(), 8 + 50 * 3 + 3);
+    shutdown(it);
+}
+
+#[derive(Clone, Copy, Debug, PartialEq)]
+enum Use {
+    Held,
+    Drawn(u64),
+    Waits(u64),
+    Kept,
+}
+
+/// A set that the renderer has to have.
+#[derive(Debug)]
+struct Known {
+    raw: u64,
+    layout: usize,
+    handle: Option<SetHandle>,
+    used: Use,
+
+    /// Whether it was there at a cleanup.
+    leaves: bool,
+}
+
+/// A renderer beside the list of its sets.
+struct Model<'a> {
+    gpu: &'a Gpu,
+    it: Sets<'a>,
+    layouts: [LayoutHandle; LAYOUTS],
+    keep: u32,
+    sets: Vec<Known>,
+    old: Vec<SetHandle>,
+    seen: HashSet<SetHandle>,
+    refusals: usize,
+    again: usize,
+}
+
+impl Model<'_> {
+    fn count(&self, is_it: impl Fn(&Known) -> bool) -> usize {
+        self.sets.iter().filter(|set| is_it(set)).count()
+    }
+
+    fn kept(&self, layout: usize) -> usize {
+        self.count(|set| set.layout == layout && set.used == Use::Kept)
+    }
+
+    fn handles(&self) -> Vec<SetHandle> {
+        let held = self.sets.iter().filter(|set| set.used == Use::Held);
+        held.map(|set| set.handle.unwrap()).collect()
+    }
+
+    /// A new handle has come: that of a kept set of the layout, or of one that wasn't there.
+    fn come(&mut self, layout: usize, handle: SetHandle, used: Use) -> bool {
+        assert!(self.seen.insert(handle), "no handle comes twice");
+        let raw = raw(&self.it, handle);
+        assert_eq!(self.gpu.sets.borrow()[&raw].1, layout as u32);
+        if let Some(known) = self.sets.iter_mut().find(|set| set.raw == raw) {
+            assert_eq!((known.layout, known.used), (layout, Use::Kept));
+            known.used = used;
+            known.handle = Some(handle);
+            return true;
+        }
+        self.sets.push(Known {
+            raw,
+            layout,
+            handle: Some(handle),
+            used,
+            leaves: false,
+        });
+        false
+    }
+
+    /// The sets for which it holds have come back. Which of a layout are kept isn't said, only how many.
+    fn come_back(&mut self, is_it: impl Fn(&Known) -> bool) {
+        let mut room: [usize; LAYOUTS] =
+            std::array::from_fn(|at| (self.keep as usize).saturating_sub(self.kept(at)));
+        let mut may_stay = [0; LAYOUTS];
+        let mut stay = [0; LAYOUTS];
+        let (gpu, old) = (self.gpu, &mut self.old);
+        self.sets.retain_mut(|set| {
+            if !is_it(set) {
+                return true;
+            }
+            old.extend(set.handle.take());
+            set.used = Use::Kept;
+            may_stay[set.layout] += usize::from(!set.leaves);
+            let is_live = gpu.is_live(set.raw);
+            assert!(!(is_live && set.leaves), "it was there at a cleanup");
+            stay[set.layout] += usize::from(is_live);
+            is_live
+        });
+        for at in 0..LAYOUTS {
+            room[at] = room[at].min(may_stay[at]);
+        }
+        assert_eq!(stay, room);
+    }
+
+    /// All kept sets are gone, and the others get old.
+    fn clean(&mut self) {
+        self.sets.retain(|set| set.used != Use::Kept);
+        for set in &mut self.sets {
+            set.leaves = true;
+        }
+    }
+
+    /// What a request for sets does, with all that it may do.
+    fn request(
+        &mut self,
+        layout: usize,
+        many: usize,
+        used: Use,
+        ask: impl FnOnce(&mut Sets, LayoutHandle) -> Result<Vec<SetHandle>, RenderError>,
+    ) {
+        let (kept, refused, calls) = (
+            self.kept(layout),
+            self.gpu.refused.get(),
+            self.gpu.calls.get(),
+        );
+        let all_kept: Vec<u64> = self
+            .sets
+            .iter()
+            .filter(|set| set.used == Use::Kept)
+            .map(|set| set.raw)
+            .collect();
+        let answer = ask(&mut self.it, self.layouts[layout]);
+        let was_refused = self.gpu.refused.get() > refused;
+        if many <= kept {
+            assert_eq!(self.gpu.calls.get(), calls, "enough are kept");
+        }
+        let gone = all_kept
+            .iter()
+            .filter(|raw| !self.gpu.is_live(**raw))
+            .count();
+        match answer {
+            Ok(handles) => {
+                assert_eq!(handles.len(), many);
+                assert!(gone == 0 || gone == all_kept.len());
+                let mut first = kept.min(many);
+                if gone > 0 {
+                    assert!(was_refused || layout == MARKED);
+                    self.clean();
+                    first = 0;
+                }
+                let mut again = 0;
+                for handle in handles {
+                    again += usize::from(self.come(layout, handle, used));
+                }
+                assert_eq!(again, first);
+                self.again += again;
+            }
+            Err(RenderError::Allocation(error)) => {
+                assert!(was_refused || (layout, error) == (MARKED, Fragmentation));
+                assert!(many > kept);
+                assert_eq!(gone, all_kept.len());
+                if gone > 0 {
+                    self.clean();
+                }
+                self.refusals += 1;
+            }
+            Err(error) => panic!("{error}"),
+        }
+    }
+
+    fn draw(&mut self, layout: usize) {
+        let used = Use::Drawn(self.it.frame());
+        self.request(layout, 1, used, |it, layout| Ok(vec![it.draw(layout)?]));
+    }
+
+    fn create(&mut self, layout: usize) {
+        self.request(layout, 1, Use::Held, |it, layout| {
+            Ok(vec![it.create_set(layout)?])
+        });
+    }
+
+    fn create_many(&mut self, layout: usize, many: usize) {
+        self.request(layout, many, Use::Held, |it, layout| {
+            it.create_sets(layout, many as u32)
+        });
+    }
+
+    fn free(&mut self, handles: &[SetHandle]) {
+        free(&mut self.it, handles);
+        self.come_back(|set| set.handle.is_some_and(|it| handles.contains(&it)));
+    }
+
+    fn destroy(&mut self, handles: &[SetHandle], last_use: u64) {
+        self.it.destroy_sets(handles, last_use).unwrap();
+        for set in &mut self.sets {
+            if set.handle.is_some_and(|it| handles.contains(&it)) {
+                set.used = Use::Waits(last_use);
+                self.old.extend(set.handle.take());
+            }
+        }
+    }
+
+    fn end(&mut self) {
+        self.it.end_frame();
+        for set in &mut self.sets {
+            if let Use::Drawn(frame) = set.used {
+                set.used = Use::Waits(frame);
+                self.old.extend(set.handle.take());
+            }
+        }
+    }
+
+    fn done(&mut self, frame: u64) {
+        done(&mut self.it, frame);
+        // An open frame isn't done.
+        let last = self.it.frame() - u64::from(self.it.is_frame_open());
+        let frame = frame.min(last);
+        self.come_back(|set| matches!(set.used, Use::Waits(it) | Use::Drawn(it) if it <= frame));
+    }
+
+    fn set_keep(&mut self, keep: u32) {
+        self.it.set_keep(keep);
+        self.keep = keep;
+        let before: [usize; LAYOUTS] = std::array::from_fn(|at| self.kept(at));
+        let gpu = self.gpu;
+        self.sets
+            .retain(|set| set.used != Use::Kept || gpu.is_live(set.raw));
+        for (at, before) in before.into_iter().enumerate() {
+            assert_eq!(self.kept(at), before.min(keep as usize));
+        }
+    }
+
+    fn cleanup(&mut self) {
+        self.it.cleanup();
+        self.clean();
+        self.gpu.check_front();
+    }
+
+    fn free_all(&mut self) {
+        // SAFETY: the device isn't in use.
+        unsafe { self.it.free_all() };
+        self.old
+            .extend(self.sets.drain(..).filter_map(|set| set.handle));
+        assert!(!self.it.is_frame_open());
+    }
+
+    /// All is as the list says.
+    fn check(&self) {
+        assert_eq!(self.gpu.live(), self.sets.len(), "no other set");
+        for set in &self.sets {
+            assert!(self.gpu.is_live(set.raw));
+            match set.handle {
+                Some(handle) => assert_eq!(self.it.set(handle), Some(&set.raw)),
+                None => assert!(!matches!(set.used, Use::Held | Use::Drawn(_))),
+            }
+        }
+        let held = self.count(|set| set.used == Use::Held) as u64;
+        let kept = self.count(|set| set.used == Use::Kept) as u64;
+        let waiting = self.sets.len() as u64 - held - kept;
+        assert_eq!(self.it.counts(), counts(held, waiting, kept));
+        assert_eq!(self.it.outstanding(), held + waiting);
+        for (at, layout) in self.layouts.iter().enumerate() {
+            assert_eq!(self.it.kept_count(*layout), self.kept(at) as u32);
+        }
+        for old in self.old.iter().rev().take(8) {
+            assert_eq!(self.it.set(*old), None);
+        }
+    }
+}
+
+/// Numbers by chance.
+struct Random(u64);
+
+impl Random {
+    fn below(&mut self, end: usize) -> usize {
+        self.0 = self
+            .0
+            .wrapping_mul(6364136223846793005)
+            .wrapping_add(1442695040888963407);
+        ((self.0 >> 33) % end as u64) as usize
+    }
+
+    /// Some of the handles, at most so many, in any order.
+    fn some(&mut self, mut handles: Vec<SetHandle>, most: usize) -> Vec<SetHandle> {
+        let count = self.below(most.min(handles.len()) + 1);
+        (0..count)
+            .map(|_| handles.swap_remove(self.below(handles.len())))
+            .collect()
+    }
+}
+
+fn step(model: &mut Model, random: &mut Random, changes_keep: bool) {
+    if random.below(25) == 0 {
+        let count = 1 + random.below(3) as u64;
+        let (after, reason) = (random.below(3) as u64, random.below(4));
+        model.gpu.refuse(count, after, reason);
+    }
+    let layout = random.below(LAYOUTS);
+    let frame = model.it.frame();
+    let is_open = model.it.is_frame_open();
+    let held = model.handles();
+    match random.below(40) {
+        0..9 if is_open => model.draw(layout),
+        9..12 => model.create(layout),
+        12..15 => model.create_many(layout, random.below(9)),
+        15..19 => {
+            let some = random.some(held, 6);
+            model.free(&some);
+        }
+        19..24 => {
+            let some = random.some(held, 6);
+            model.destroy(&some, random.below(frame as usize + 1) as u64);
+        }
+        24..31 if is_open => model.end(),
+        24..31 => assert_eq!(model.it.begin_frame(), Ok(frame + 1)),
+        31..36 => {
+            let ago = random.below(4) as u64;
+            model.done((frame + 1).saturating_sub(ago));
+        }
+        36 if random.below(8) == 0 => model.cleanup(),
+        37 if random.below(20) == 0 => model.free_all(),
+        38 if random.below(8) == 0 && changes_keep => {
+            model.set_keep(KEEPS[random.below(KEEPS.len())]);
+        }
+        39 if random.below(4) == 0 && !is_open => {
+            let to = frame + random.below(3) as u64;
+            model.it.skip_to(to).unwrap();
+        }
+        _ => {
+            // A list with an old handle, or with one twice, is refused whole.
+            let mut list = random.some(held, 3);
+            let bad = model.old.len().checked_sub(1 + random.below(20));
+            let bad = bad.map(|at| model.old[at]).or(list.first().copied());
+            list.extend(bad);
+            if !list.is_empty() {
+                let at = random.below(list.len());
+                let last = list.len() - 1;
+                list.swap(at, last);
+                assert_eq!(model.it.destroy_sets(&list, 0), Err(DestroyError::NoSet));
+                // SAFETY: the device isn't in use.
+                let answer = unsafe { model.it.free_sets(&list) };
+                assert_eq!(answer, Err(DestroyError::NoSet));
+                let answer = model.it.destroy_sets(&list, frame + 1);
+                assert_eq!(answer, Err(DestroyError::FrameAhead));
+            }
+        }
+    }
+}
+
+/// Runs so many steps. Ends with how many requests were refused, and how many sets came again.
+fn run(keep: u32, changes_keep: bool, steps: usize) -> (usize, usize) {
+    let gpu = Gpu::default();
+    let (it, layouts) = renderer(&gpu, keep);
+    let mut model = Model {
+        gpu: &gpu,
+        it,
+        layouts,
+        keep,
+        sets: Vec::new(),
+        old: Vec::new(),
+        seen: HashSet::new(),
+        refusals: 0,
+        again: 0,
+    };
+    let mut random = Random(u64::from(keep) + 1);
+    for number in 0..steps {
+        step(&mut model, &mut random, changes_keep);
+        model.check();
+        // Frames that are never done would make the list long.
+        if model.sets.len() > 150 {
+            model.destroy(&model.handles(), 0);
+            model.done(model.it.frame());
+        }
+        if model.old.len() > 1000 {
+            model.old.drain(..900);
+        }
+        if number % 10_000 == 0 {
+            model.seen.retain(|it| model.it.set(*it).is_some());
+        }
+    }
+    let Model {
+        it,
+        refusals,
+        again,
+        ..
+    } = model;
+    shutdown(it);
+    (refusals, again)
+}
+
+#[test]
+fn beside_a_model() {
+    let steps = std::env::var("STEPS").map_or(20_000, |it| it.parse().unwrap());
+    for keep in KEEPS {
+        let (refusals, again) = run(keep, false, steps);
+        println!("keep {keep}: {refusals} refusals, {again} sets came again");
+        assert!(refusals > steps / 500);
+        assert_eq!(again > 0, keep > 0);
+    }
+    let (refusals, again) = run(0, true, steps);
+    println!("any keep: {refusals} refusals, {again} sets came again");
+    assert!(refusals > steps / 500 && again > steps / 100);
+}
