@@ -1,6 +1,7 @@
 // Allocation-failure injection: a run of calls in which the n-th allocation of the library fails, for each
 // n. The call returns GD_OUT_OF_HOST_MEMORY and changes nothing: counts and the driver's sets are as
-// before, and the same call succeeds when it is made again.
+// before, and the same call succeeds when it is made again. The same with kept sets: while there are
+// some, the call may succeed all the same.
 #include "gpu_descriptor.h"
 #include "host.h"
 #include "memory.h"
@@ -38,6 +39,7 @@ static void free_sets(void *user, uint64_t pool, uint32_t count, const uint64_t 
 
 static gd_allocator allocator;
 static uint64_t refused_calls;
+static uint32_t keep;
 
 // Makes a call again if it fails, and checks that it changed nothing.
 #define RETRY(call)                                                                                \
@@ -51,7 +53,7 @@ static uint64_t refused_calls;
         refused_calls++;                                                                           \
         CHECK(sets_alive == before);                                                               \
         CHECK(allocator.id == 0 || gd_outstanding(allocator, &out) == GD_OK);                      \
-        CHECK(out == sets_alive);                                                                  \
+        CHECK(keep == 0 ? out == sets_alive : out <= sets_alive);                                  \
         CHECK(LIBRARY(call) == GD_OK);                                                             \
     } while (0)
 
@@ -69,6 +71,7 @@ static void run(void) {
     gd_device device = {NULL, create_pool, destroy_pool, allocate_sets, free_sets};
     memset(&allocator, 0, sizeof allocator);
     RETRY(gd_create(&device, 1000000, &allocator));
+    ALLOCATES_NOTHING(gd_keep(allocator, keep));
     for (uint32_t at = 0; at < LAYOUTS; at++) {
         uint32_t counts[GD_KINDS] = {at + 1, at == 7 ? 40000000 : 0};
         uint32_t flags = at % 2 == 0 ? 0 : GD_UPDATE_AFTER_BIND;
@@ -77,7 +80,8 @@ static void run(void) {
     }
     for (uint32_t at = 0; at < LAYOUTS; at++)
         ALLOCATES_NOTHING(gd_free(allocator, sets[at], at * 20));
-    ALLOCATES_NOTHING(gd_cleanup(allocator));
+    if (keep == 0)
+        ALLOCATES_NOTHING(gd_cleanup(allocator));
     RETRY(gd_allocate(allocator, layouts[3], MOST, more));
     ALLOCATES_NOTHING(gd_free_after(allocator, more, 100, 1));
     ALLOCATES_NOTHING(gd_free_after(allocator, more + 100, 600, 0));
@@ -88,7 +92,11 @@ static void run(void) {
         ALLOCATES_NOTHING(gd_free_after(allocator, sets[at] + at * 20, at * 40 + 1, 2 + at % 3));
     ALLOCATES_NOTHING(gd_frame_done(allocator, 3));
     ALLOCATES_NOTHING(gd_frame_done(allocator, UINT64_MAX));
-    CHECK(sets_alive == 0);
+    CHECK((sets_alive == 0) == (keep == 0));
+    for (uint32_t at = 0; at < LAYOUTS; at++)
+        RETRY(gd_allocate(allocator, layouts[at], MOST, sets[at]));
+    for (uint32_t at = 0; at < LAYOUTS; at++)
+        ALLOCATES_NOTHING(gd_free(allocator, sets[at], MOST));
     RETRY(gd_allocate(allocator, layouts[4], MOST, more));
     ALLOCATES_NOTHING(gd_free_after(allocator, more, 100, 1));
     ALLOCATES_NOTHING(gd_free_all(allocator));
@@ -97,7 +105,7 @@ static void run(void) {
     CHECK(pools == 0 && memory_blocks == 1); // the slot
 }
 
-int main(void) {
+static uint64_t refuse_each(void) {
     uint64_t requests_before, refusals, turns = 0;
     do {
         requests_before = memory_requests;
@@ -105,7 +113,18 @@ int main(void) {
         memory_refuses_at = requests_before + ++turns;
         run();
     } while (memory_refusals > refusals);
+    return turns - 1;
+}
+
+int main(void) {
+    static const uint32_t KEEPS[] = {0, 7, UINT32_MAX};
+    uint64_t turns = 0;
+    for (int at = 0; at < 3; at++) {
+        keep = KEEPS[at];
+        turns += refuse_each();
+        CHECK(keep == 0 ? refused_calls == turns : refused_calls < turns);
+    }
     printf("each of %" PRIu64 " allocations failed in turn: %" PRIu64 " calls failed, nothing lost\n",
-           turns - 1, refused_calls);
+           turns, refused_calls);
     return 0;
 }

@@ -71,10 +71,18 @@ static struct pool *pool_of(uint64_t handle) {
     return pool;
 }
 
-static struct set *set_of(uint64_t handle) {
+size_t driver_set_number(uint64_t handle) {
     CHECK(handle >= FIRST_SET && (handle - FIRST_SET) % 2 == 0);
     CHECK((handle - FIRST_SET) / 2 < set_count);
-    return &sets[(handle - FIRST_SET) / 2];
+    return (size_t)(handle - FIRST_SET) / 2;
+}
+
+static struct set *set_of(uint64_t handle) {
+    return &sets[driver_set_number(handle)];
+}
+
+uint32_t driver_layout_of(uint64_t set) {
+    return set_of(set)->layout;
 }
 
 bool driver_is_alive(uint64_t set) {

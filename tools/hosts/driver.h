@@ -57,6 +57,10 @@ uint64_t driver_pool_number(uint64_t pool);
 
 bool driver_is_alive(uint64_t set);
 
+// The number of a set, which counts from 0 up, and its layout.
+size_t driver_set_number(uint64_t set);
+uint32_t driver_layout_of(uint64_t set);
+
 void driver_end(void);
 
 #endif

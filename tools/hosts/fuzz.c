@@ -1,7 +1,8 @@
 // A target of libFuzzer: the bytes choose calls on two allocators and what the driver returns. The driver
 // checks each of its calls, and after each call of the library counts and statuses are as they have to be.
 //
-// Sets are freed that are held, that were freed before, and that are made of parts of others.
+// Sets are freed that are held, that were freed before, and that are made of parts of others. None is
+// kept, or some, or all.
 #include "gpu_descriptor.h"
 #include "host.h"
 #include <string.h>
@@ -29,7 +30,8 @@ struct side {
     gd_allocator allocator;
     gd_layout layouts[LAYOUTS];
     uint64_t pools, sets; // of the driver
-    uint64_t waiting;
+    uint64_t out, waiting;
+    uint32_t keep;
 };
 
 static struct side sides[ALLOCATORS];
@@ -104,9 +106,16 @@ static void free_sets(void *user, uint64_t pool, uint32_t count, const uint64_t 
 
 // ---- the calls ----
 
+static void set_keep(struct side *side) {
+    static const uint32_t KEEPS[] = {0, 1, 7, UINT32_MAX};
+    side->keep = KEEPS[next_byte() % 4];
+    CHECK(gd_keep(side->allocator, side->keep) == GD_OK);
+}
+
 static void create(struct side *side) {
     gd_device device = {side, create_pool, destroy_pool, allocate_sets, free_sets};
     CHECK(gd_create(&device, 5000, &side->allocator) == GD_OK);
+    set_keep(side);
     for (uint32_t at = 0; at < LAYOUTS; at++) {
         uint32_t counts[GD_KINDS] = {at, at == 3 ? 300000000 : 1};
         CHECK(gd_add_layout(side->allocator, at, counts, at == 1 ? GD_UPDATE_AFTER_BIND : 0,
@@ -118,16 +127,16 @@ static void allocate(struct side *side) {
     gd_set sets[MOST_SETS];
     uint8_t which = next_byte();
     uint32_t count = next_byte() % 40;
-    uint64_t before = side->sets;
     gd_layout layout = side->layouts[which % LAYOUTS];
     layout.index += which >= 250 ? which : 0;
     if (held_count + count > MOST_SETS)
         return;
     gd_status status = gd_allocate(side->allocator, layout, count, sets);
     CHECK((status == GD_BAD_LAYOUT) == (which >= 250));
-    CHECK(side->sets == before + (status == GD_OK ? count : 0));
+    side->out += status == GD_OK ? count : 0;
     for (uint32_t at = 0; at < count; at++) {
         CHECK((sets[at].owner == 0) == (status != GD_OK));
+        CHECK(status != GD_OK || pool_of[sets[at].handle] > 0);
         if (status != GD_OK)
             continue;
         held[held_count] = sets[at];
@@ -146,7 +155,6 @@ static void forget(uint32_t at) {
 static void free_some(struct side *side, bool is_later) {
     gd_set sets[MOST_SETS];
     uint32_t wanted = 1 + next_byte() % 20, first = next_byte(), count = 0;
-    uint64_t before = side->sets;
     for (uint32_t step = held_count; step > 0 && count < wanted; step--) {
         uint32_t at = (first + step) % held_count;
         if (&sides[held_side[at]] == side) {
@@ -159,8 +167,8 @@ static void free_some(struct side *side, bool is_later) {
         side->waiting += count;
     } else {
         CHECK(gd_free(side->allocator, sets, count) == GD_OK);
+        side->out -= count;
     }
-    CHECK(side->sets == before - (is_later ? 0 : count));
 }
 
 static bool is_held(const struct side *side, gd_set set) {
@@ -188,16 +196,16 @@ static void free_wrongly(struct side *side) {
 }
 
 static void frame_done(struct side *side) {
-    uint64_t waiting = 0, before = side->sets;
+    uint64_t waiting = 0;
     CHECK(gd_frame_done(side->allocator, next_byte()) == GD_OK);
     CHECK(gd_waiting(side->allocator, &waiting) == GD_OK && waiting <= side->waiting);
-    CHECK(side->sets == before - (side->waiting - waiting));
+    side->out -= side->waiting - waiting;
     side->waiting = waiting;
 }
 
 static void free_all(struct side *side) {
     CHECK(gd_free_all(side->allocator) == GD_OK && side->sets == 0);
-    side->waiting = 0;
+    side->out = side->waiting = 0;
     for (uint32_t at = held_count; at > 0; at--)
         if (&sides[held_side[at - 1]] == side)
             forget(at - 1);
@@ -207,10 +215,10 @@ static void free_all(struct side *side) {
 static void renew(struct side *side) {
     gd_allocator old = side->allocator;
     gd_status status = gd_destroy(old);
-    CHECK(status == (side->sets > 0 ? GD_OUTSTANDING : GD_OK));
+    CHECK(status == (side->out > 0 ? GD_OUTSTANDING : GD_OK));
     if (status != GD_OK)
         return;
-    CHECK(side->pools == 0 && gd_destroy(old) == GD_BAD_ALLOCATOR);
+    CHECK(side->pools == 0 && side->sets == 0 && gd_destroy(old) == GD_BAD_ALLOCATOR);
     create(side);
     CHECK(gd_cleanup(old) == GD_BAD_ALLOCATOR);
 }
@@ -223,21 +231,27 @@ static void pass_null(struct side *side) {
     CHECK(gd_pool_count(side->allocator, NULL) == GD_NULL_POINTER);
 }
 
+static void clean_up(struct side *side) {
+    CHECK(gd_cleanup(side->allocator) == GD_OK && side->sets == side->out);
+}
+
 static void act(void) {
     uint8_t byte = next_byte();
     struct side *side = &sides[byte >> 7];
     uint64_t outstanding = 0, pools = 0;
-    switch (byte % 11) {
+    switch (byte % 12) {
     case 0: case 1: case 2: allocate(side); break;
     case 3: case 4: free_some(side, false); break;
     case 5: free_some(side, true); break;
     case 6: free_wrongly(side); break;
     case 7: frame_done(side); break;
-    case 8: CHECK(gd_cleanup(side->allocator) == GD_OK); break;
+    case 8: clean_up(side); break;
     case 9: byte & 16 ? free_all(side) : renew(side); break;
+    case 10: set_keep(side); break;
     default: pass_null(side);
     }
-    CHECK(gd_outstanding(side->allocator, &outstanding) == GD_OK && outstanding == side->sets);
+    CHECK(gd_outstanding(side->allocator, &outstanding) == GD_OK && outstanding == side->out);
+    CHECK(side->keep == 0 ? side->sets == side->out : side->sets >= side->out);
     CHECK(gd_pool_count(side->allocator, &pools) == GD_OK && pools == side->pools);
 }
 

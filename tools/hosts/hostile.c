@@ -1,8 +1,9 @@
 // A device that gives any handles, also one twice or 0, and returns any status; and a caller that passes
 // sets and layouts made up of parts of others, to two allocators over the same device. No call
-// breaks the library, each status is one that the header names, and the counts stay right.
+// breaks the library, each status is one that the header names, and the counts stay right. KEEP is how
+// many sets are kept, at first all.
 //
-// usage: liar OPERATIONS SEED
+// usage: hostile OPERATIONS SEED [KEEP]
 #include "gpu_descriptor.h"
 #include "host.h"
 #include <string.h>
@@ -19,6 +20,7 @@ struct side {
 static struct side sides[ALLOCATORS];
 static gd_set known[KNOWN]; // any sets that there ever were
 static uint64_t statuses[GD_INTERNAL_ERROR + 2];
+static uint32_t keep;
 
 static uint64_t any_handle(void) {
     return one_in(4) ? 0 : one_in(2) ? random_below(50) : (uint64_t)random_below(UINT32_MAX) << 20;
@@ -88,7 +90,7 @@ static void act(struct side *side) {
         gd_layout layout = sides[one_in(10) ? 1 : side - sides].layouts[random_below(LAYOUTS)];
         layout.index += one_in(20) ? random_below(UINT32_MAX) : 0;
         bool is_met = note(gd_allocate(side->allocator, layout, count, sets)) == GD_OK;
-        CHECK(side->alive == before + (is_met ? count : 0));
+        CHECK(keep > 0 || side->alive == before + (is_met ? count : 0));
         side->out += is_met ? count : 0;
         for (uint32_t place = 0; is_met && place < count; place++)
             known[random_below(KNOWN)] = sets[place];
@@ -106,33 +108,37 @@ static void act(struct side *side) {
                                          : gd_free(side->allocator, sets, count));
         uint32_t freed = status == GD_OK && !is_later ? count : 0;
         CHECK(status == GD_OK || status == GD_BAD_SET);
-        CHECK(side->alive == before - freed);
+        CHECK(keep > 0 || side->alive == before - freed);
         side->out -= freed;
         break;
     }
     case 8:
         CHECK(gd_waiting(side->allocator, &waiting) == GD_OK);
         CHECK(note(gd_frame_done(side->allocator, frame)) == GD_OK);
-        CHECK(side->alive == before - waiting);
+        CHECK(keep > 0 || side->alive == before - waiting);
         side->out -= waiting;
         break;
     default:
-        CHECK(note(gd_cleanup(side->allocator)) == GD_OK);
+        CHECK(note(gd_cleanup(side->allocator)) == GD_OK && side->alive == side->out);
+        if (keep > 0 && one_in(10))
+            CHECK(note(gd_keep(side->allocator, one_in(2) ? random_below(4) : UINT32_MAX)) == GD_OK);
         if (one_in(200)) {
             CHECK(note(gd_free_all(side->allocator)) == GD_OK && side->alive == 0);
             side->out = 0;
         }
     }
     CHECK(gd_outstanding(side->allocator, &out) == GD_OK);
-    CHECK(out == side->out && out == side->alive);
+    CHECK(out == side->out && (keep > 0 ? out <= side->alive : out == side->alive));
 }
 
 int main(int words, char **word) {
     uint64_t operations = number_at(words, word, 1, 100000);
     seed = number_at(words, word, 2, 1);
+    keep = (uint32_t)number_at(words, word, 3, UINT32_MAX);
     for (uint32_t at = 0; at < ALLOCATORS; at++) {
         gd_device device = {&sides[at], create_pool, destroy_pool, allocate_sets, free_sets};
         CHECK(gd_create(&device, 2000, &sides[at].allocator) == GD_OK);
+        CHECK(gd_keep(sides[at].allocator, keep) == GD_OK);
         for (uint32_t layout = 0; layout < LAYOUTS; layout++) {
             uint32_t counts[GD_KINDS] = {layout, layout == 3 ? 100000000 : 1};
             CHECK(gd_add_layout(sides[at].allocator, layout / 2, counts, layout == 1 ? 2 : 0,

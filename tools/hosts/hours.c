@@ -3,9 +3,9 @@
 // gives the handles of freed sets and destroyed pools again, as real drivers do.
 //
 // The resident size is printed at ten points. At the last one it may be little more than at the
-// first. No name comes twice, and names have few places.
+// first. No name comes twice, and names have few places. KEEP is how many sets are kept, at first all.
 //
-// usage: hours SETS SEED
+// usage: hours SETS SEED [KEEP]
 #include "gpu_descriptor.h"
 #include "host.h"
 #include <string.h>
@@ -43,6 +43,7 @@ static uint32_t held_count;
 static uint32_t uses[PLACES];  // how often a place was used
 static uint64_t strange_names; // that have none of these places
 static uint64_t met, refused, calls, most_held, frame = 10;
+static uint32_t keep;
 
 // ---- the driver ----
 
@@ -152,7 +153,7 @@ static void free_some(uint32_t count) {
     }
     CHECK(gd_free(allocator, back, count) == GD_OK);
     for (uint32_t place = 0; place < count; place++)
-        CHECK(!sets.given[back[place].handle].is_alive);
+        CHECK(keep > 0 || !sets.given[back[place].handle].is_alive);
 }
 
 static void clean_up(void) {
@@ -177,6 +178,7 @@ static uint64_t resident(void) {
 static void open_all(void) {
     gd_device device = {NULL, create_pool, destroy_pool, allocate_sets, free_sets};
     CHECK(gd_create(&device, 200000, &allocator) == GD_OK);
+    CHECK(gd_keep(allocator, keep) == GD_OK);
     for (uint32_t layout = 0; layout < LAYOUTS; layout++) {
         uint32_t counts[GD_KINDS] = {[GD_SAMPLER] = layout, [GD_UNIFORM_BUFFER] = 1};
         CHECK(gd_add_layout(allocator, layout, counts, layout == 2 ? GD_UPDATE_AFTER_BIND : 0,
@@ -211,6 +213,7 @@ static void act(void) {
 int main(int words, char **word) {
     uint64_t count = number_at(words, word, 1, 10000000), first = 0, last = 0;
     seed = number_at(words, word, 2, 1);
+    keep = (uint32_t)number_at(words, word, 3, UINT32_MAX);
     open_all();
     printf("resident, in kilobytes:");
     for (uint64_t point = 1; point <= POINTS; point++) {

@@ -1,4 +1,5 @@
-// Each misuse that can be seen is a status, and changes nothing.
+// Each misuse that can be seen is a status, and changes nothing. All is done twice: all sets are kept,
+// and none is.
 #include "gpu_descriptor.h"
 #include "host.h"
 #include <string.h>
@@ -16,6 +17,11 @@ struct world {
     uint64_t called_back;
 };
 
+static uint32_t keep;
+
+// How many sets there are, if none is kept and if all are.
+#define EITHER(none, all) (keep == 0 ? (none) : (all))
+
 static const uint64_t UNTOUCHED = 0x756e746f75636864;
 
 // Each function that takes an allocator returns this status, and writes nothing, but that a failed
@@ -30,7 +36,7 @@ static void expect_of_each(gd_status wanted, gd_allocator it, gd_layout known, g
     CHECK(gd_free(it, &any, 1) == wanted && gd_free(it, &any, 0) == wanted);
     CHECK(gd_free_after(it, &any, 1, 1) == wanted && gd_free_after(it, NULL, 0, 1) == wanted);
     CHECK(gd_free_all(it) == wanted && gd_frame_done(it, UINT64_MAX) == wanted);
-    CHECK(gd_cleanup(it) == wanted && gd_destroy(it) == wanted);
+    CHECK(gd_cleanup(it) == wanted && gd_destroy(it) == wanted && gd_keep(it, 0) == wanted);
     CHECK(gd_add_layout(it, 1, counts, 0, &layout) == wanted);
     CHECK(layout.index == UNTOUCHED && layout.owner == UNTOUCHED);
     CHECK(gd_outstanding(it, &number) == wanted && gd_waiting(it, &number) == wanted);
@@ -100,6 +106,11 @@ static gd_device device_of(struct world *world) {
     return device;
 }
 
+static void create(const gd_device *device, uint32_t limit, gd_allocator *allocator) {
+    CHECK(gd_create(device, limit, allocator) == GD_OK);
+    CHECK(gd_keep(*allocator, keep) == GD_OK);
+}
+
 static void expect(struct world *world, gd_allocator allocator, uint64_t sets, uint64_t pools) {
     uint64_t said = UNTOUCHED;
     CHECK(world->sets == sets && world->pools == pools);
@@ -130,7 +141,7 @@ static void pass_null(void) {
         allocator.id = 77;
         CHECK(gd_create(&it, 0, &allocator) == GD_NULL_POINTER && allocator.id == 0);
     }
-    CHECK(gd_create(&device, 100, &allocator) == GD_OK);
+    create(&device, 100, &allocator);
     CHECK(gd_add_layout(allocator, 1, NULL, 0, &layout) == GD_NULL_POINTER);
     CHECK(gd_add_layout(allocator, 1, counts, 0, NULL) == GD_NULL_POINTER);
     CHECK(gd_add_layout(allocator, 1, counts, 1, &layout) == GD_BAD_FLAGS);
@@ -166,7 +177,7 @@ static void use_destroyed(void) {
     gd_layout layout, known;
     gd_set set = {0, 0, 0}, old;
     uint32_t counts[GD_KINDS] = {1};
-    CHECK(gd_create(&device, 100, &first) == GD_OK);
+    create(&device, 100, &first);
     CHECK(gd_add_layout(first, 1, counts, 0, &layout) == GD_OK);
     CHECK(gd_allocate(first, layout, 1, &old) == GD_OK);
     CHECK(gd_destroy(first) == GD_OUTSTANDING);
@@ -178,7 +189,7 @@ static void use_destroyed(void) {
         CHECK(world.calls == calls);
         if (turn > 0)
             break;
-        CHECK(gd_create(&device, 100, &second) == GD_OK);
+        create(&device, 100, &second);
         CHECK(second.slot == first.slot && second.id != first.id);
         CHECK(gd_add_layout(second, 1, counts, 0, &known) == GD_OK);
         CHECK(gd_allocate(second, known, 1, &set) == GD_OK);
@@ -197,7 +208,8 @@ static void pass_wrong_sets(void) {
     gd_layout layout, foreign, none = {0, 0}, beyond;
     gd_set sets[8], strange[8], back[9], zeroed = {0, 0, 0};
     uint32_t counts[GD_KINDS] = {1};
-    CHECK(gd_create(&device, 100, &one) == GD_OK && gd_create(&device, 100, &other) == GD_OK);
+    create(&device, 100, &one);
+    create(&device, 100, &other);
     CHECK(gd_add_layout(one, 1, counts, 0, &layout) == GD_OK);
     CHECK(gd_add_layout(other, 1, counts, 0, &foreign) == GD_OK);
     beyond = layout;
@@ -246,7 +258,7 @@ static void pass_wrong_sets(void) {
     CHECK(world.calls == calls && world.sets == 16);
     CHECK(gd_free(one, sets, 3) == GD_OK);
     CHECK(gd_free(one, sets, 1) == GD_BAD_SET && gd_free(one, sets, 8) == GD_BAD_SET);
-    CHECK(gd_free_after(one, &sets[3], 2, 7) == GD_OK && world.sets == 13);
+    CHECK(gd_free_after(one, &sets[3], 2, 7) == GD_OK && world.sets == EITHER(13, 16));
     CHECK(gd_free(one, &sets[3], 1) == GD_BAD_SET);
     CHECK(gd_free_after(one, &sets[4], 1, 8) == GD_BAD_SET);
     gd_set again[5];
@@ -255,9 +267,11 @@ static void pass_wrong_sets(void) {
         CHECK(gd_free(one, &sets[at], 1) == GD_BAD_SET);
     CHECK(gd_free(one, again, 5) == GD_OK && gd_free(one, &sets[5], 3) == GD_OK);
     CHECK(gd_destroy(one) == GD_OUTSTANDING); // two wait
-    CHECK(gd_frame_done(one, 6) == GD_OK && gd_destroy(one) == GD_OUTSTANDING && world.sets == 10);
-    CHECK(gd_frame_done(one, 7) == GD_OK && world.sets == 8);
-    CHECK(gd_destroy(one) == GD_OK && gd_free(other, strange, 8) == GD_OK);
+    CHECK(gd_frame_done(one, 6) == GD_OK && gd_destroy(one) == GD_OUTSTANDING);
+    // Of five new ones three were kept.
+    CHECK(world.sets == EITHER(10, 18));
+    CHECK(gd_frame_done(one, 7) == GD_OK && world.sets == EITHER(8, 18));
+    CHECK(gd_destroy(one) == GD_OK && world.sets == 8 && gd_free(other, strange, 8) == GD_OK);
     CHECK(gd_destroy(other) == GD_OK && world.pools == 0);
 }
 
@@ -270,7 +284,7 @@ static void return_unknown_statuses(void) {
     gd_allocator allocator;
     gd_layout layout;
     uint32_t counts[GD_KINDS] = {[GD_SAMPLER] = 100000000}; // a pool has few
-    CHECK(gd_create(&device, 100, &allocator) == GD_OK);
+    create(&device, 100, &allocator);
     CHECK(gd_add_layout(allocator, 1, counts, 0, &layout) == GD_OK);
     for (uint32_t at = 0; at < 6; at++) {
         for (uint32_t wrong = 0; wrong < 8; wrong++) {
@@ -305,7 +319,7 @@ static void call_allocators_back(void) {
     gd_layout layout;
     gd_allocator allocator;
     uint32_t counts[GD_KINDS] = {1};
-    CHECK(gd_create(&device, 100, &allocator) == GD_OK);
+    create(&device, 100, &allocator);
     CHECK(gd_add_layout(allocator, 1, counts, 0, &layout) == GD_OK);
     CHECK(gd_allocate(allocator, layout, 1, &world.any) == GD_OK);
     world.back = allocator;
@@ -330,7 +344,7 @@ static void free_all(void) {
     gd_device device = device_of(&world);
     gd_layout layouts[3];
     gd_allocator allocator;
-    CHECK(gd_create(&device, UINT32_MAX, &allocator) == GD_OK);
+    create(&device, UINT32_MAX, &allocator);
     CHECK(gd_free_all(allocator) == GD_OK && gd_frame_done(allocator, 1) == GD_OK);
     for (uint32_t at = 0; at < 3; at++) {
         uint32_t counts[GD_KINDS] = {at + 1};
@@ -372,12 +386,84 @@ static void free_in_one_call(void) {
     gd_allocator allocator;
     gd_set sets[64];
     uint32_t counts[GD_KINDS] = {1};
-    CHECK(gd_create(&device, 100, &allocator) == GD_OK);
+    create(&device, 100, &allocator);
     CHECK(gd_add_layout(allocator, 1, counts, 0, &layout) == GD_OK);
     for (uint32_t at = 0; at < 64; at++)
         CHECK(gd_allocate(allocator, layout, 1, &sets[at]) == GD_OK);
-    CHECK(gd_free(allocator, sets, 64) == GD_OK && world.releases == 1 && world.pools == 1);
+    CHECK(gd_free(allocator, sets, 64) == GD_OK && world.releases == EITHER(1, 0));
+    CHECK(gd_keep(allocator, 0) == GD_OK && world.releases == 1 && world.pools == 1);
     CHECK(gd_destroy(allocator) == GD_OK && world.pools == 0);
+}
+
+// Sets of a layout are kept, and come again under other names. They aren't outstanding.
+static void keep_some(void) {
+    struct world world = {0};
+    gd_device device = device_of(&world);
+    gd_layout layouts[2];
+    gd_allocator allocator;
+    gd_set old[10], sets[10];
+    uint32_t counts[GD_KINDS] = {1};
+    uint64_t out = 1;
+    CHECK(gd_create(&device, 100, &allocator) == GD_OK); // all are kept
+    for (uint32_t at = 0; at < 2; at++)
+        CHECK(gd_add_layout(allocator, at + 1, counts, 0, &layouts[at]) == GD_OK);
+    CHECK(gd_allocate(allocator, layouts[0], 10, old) == GD_OK);
+    CHECK(gd_free(allocator, old, 5) == GD_OK && gd_free_after(allocator, old + 5, 5, 3) == GD_OK);
+    CHECK(gd_frame_done(allocator, 3) == GD_OK && world.sets == 10);
+    CHECK(gd_outstanding(allocator, &out) == GD_OK && out == 0);
+    uint64_t calls = world.calls;
+    CHECK(gd_allocate(allocator, layouts[0], 10, sets) == GD_OK && world.calls == calls);
+    for (uint32_t at = 0; at < 10; at++) {
+        CHECK(gd_free(allocator, &old[at], 1) == GD_BAD_SET);
+        for (uint32_t other = 0; other < 10; other++)
+            CHECK(sets[at].name != old[other].name);
+    }
+    CHECK(gd_free(allocator, sets, 10) == GD_OK && gd_keep(allocator, 7) == GD_OK && world.sets == 7);
+    CHECK(gd_allocate(allocator, layouts[1], 2, sets) == GD_OK && world.sets == 9); // of another layout
+    // A refusal: what is kept goes, and it is asked for once more.
+    world.results[0] = GD_OUT_OF_DEVICE_MEMORY;
+    world.result_count = 1;
+    CHECK(gd_allocate(allocator, layouts[0], 8, sets + 2) == GD_OK && world.sets == 10);
+    // Twice.
+    CHECK(gd_free(allocator, sets + 2, 8) == GD_OK && world.sets == 9);
+    world.results[1] = GD_OUT_OF_DEVICE_MEMORY;
+    world.result_count = 2;
+    world.used = 0;
+    CHECK(gd_allocate(allocator, layouts[0], 8, sets + 2) == GD_OUT_OF_DEVICE_MEMORY && world.sets == 2);
+    // What was outstanding then isn't kept.
+    CHECK(gd_free(allocator, sets, 2) == GD_OK && world.sets == 0);
+    CHECK(gd_allocate(allocator, layouts[0], 8, sets) == GD_OK);
+    CHECK(gd_free(allocator, sets, 8) == GD_OK && world.sets == 7);
+    // A frame that is said to be done, in any order, and one that isn't.
+    CHECK(gd_allocate(allocator, layouts[1], 6, sets) == GD_OK);
+    for (uint32_t at = 0; at < 6; at++)
+        CHECK(gd_free_after(allocator, &sets[at], 1, (at * 5 + 2) % 6) == GD_OK);
+    for (uint64_t frame = 0; frame < 6; frame++) {
+        CHECK(gd_frame_done(allocator, frame) == GD_OK && gd_waiting(allocator, &out) == GD_OK);
+        CHECK(out == 5 - frame);
+    }
+    CHECK(gd_keep(allocator, 0) == GD_OK && world.sets == 0);
+    CHECK(gd_destroy(allocator) == GD_OK && world.pools == 0);
+}
+
+// An unknown status, and then what is kept is freed and the request met. A later refusal has its own
+// status, also if the driver isn't asked for it.
+static void return_unknown_statuses_while_sets_are_kept(void) {
+    struct world world = {0};
+    gd_device device = device_of(&world);
+    gd_allocator allocator;
+    gd_layout layout, marked;
+    gd_set set, many[9];
+    uint32_t counts[GD_KINDS] = {[GD_SAMPLER] = 20};
+    CHECK(gd_create(&device, 100, &allocator) == GD_OK);
+    CHECK(gd_add_layout(allocator, 1, counts, 0, &layout) == GD_OK);
+    CHECK(gd_add_layout(allocator, 2, counts, GD_UPDATE_AFTER_BIND, &marked) == GD_OK);
+    CHECK(gd_allocate(allocator, layout, 1, &set) == GD_OK && gd_free(allocator, &set, 1) == GD_OK);
+    world.results[0] = 99;
+    world.result_count = 1;
+    CHECK(gd_allocate(allocator, marked, 2, many) == GD_OK && world.used == 1);
+    CHECK(gd_allocate(allocator, marked, 7, many + 2) == GD_FRAGMENTATION);
+    CHECK(gd_free_all(allocator) == GD_OK && gd_destroy(allocator) == GD_OK);
 }
 
 // Many allocators, one after the other and at once.
@@ -396,13 +482,19 @@ static void make_many(void) {
 }
 
 int main(void) {
-    pass_null();
-    use_destroyed();
-    pass_wrong_sets();
-    return_unknown_statuses();
-    call_allocators_back();
-    free_all();
-    free_in_one_call();
+    static const uint32_t KEEPS[] = {0, UINT32_MAX};
+    for (int at = 0; at < 2; at++) {
+        keep = KEEPS[at];
+        pass_null();
+        use_destroyed();
+        pass_wrong_sets();
+        return_unknown_statuses();
+        call_allocators_back();
+        free_all();
+        free_in_one_call();
+    }
+    keep_some();
+    return_unknown_statuses_while_sets_are_kept();
     make_many();
     printf("each misuse is a status and changes nothing\n");
     return 0;

@@ -2,14 +2,16 @@
 //
 // The host writes its requests as a program for the line program (docs/LINES.md), and the output that it
 // expects of it. The line program has the same allocator over a scripted device, so the two agree in the
-// pool of each set, in each failure, and in the number of calls. The host counts the sets that it got, and
-// writes these numbers as tickets. Sets that wait for a frame are freed in the program at the end of their
-// frame, in the order in which they began to wait.
+// pool of each set, in each failure, and in the number of calls. The host counts the sets that it got, in
+// the order in which the driver allocated them, and writes these numbers as tickets. Sets that wait for a
+// frame are freed in the program at the end of their frame, in the order in which the driver frees them.
 //
 // Without a program to write, the driver also returns unknown statuses. With failing allocations, one in
-// so many, the program is worth nothing. gd_free, gd_frame_done and gd_cleanup never allocate.
+// so many, the program is worth nothing. gd_free, gd_frame_done, gd_keep and gd_cleanup never allocate.
+// KEEP is how many sets are kept. If that isn't 0 the line program knows nothing of it, and the host
+// changes the number now and then.
 //
-// usage: random OPERATIONS SEED LIMIT DRIVER_REFUSES_ONE_IN MEMORY_REFUSED_ONE_IN [PROGRAM EXPECTED]
+// usage: random OPERATIONS SEED LIMIT DRIVER_REFUSES_ONE_IN MEMORY_REFUSED_ONE_IN KEEP [PROGRAM EXPECTED]
 #include "driver.h"
 #include "gpu_descriptor.h"
 #include "host.h"
@@ -44,6 +46,9 @@ static struct waiting waiting[MOST_FREED];
 static size_t waiting_count;
 static uint64_t frame = 5;
 static struct names names;
+static bool *in_use; // which sets of the driver are held or wait
+static size_t in_use_count, in_use_room;
+static uint32_t keep;
 static uint64_t requests[GD_INTERNAL_ERROR + 1]; // how many ended so
 static uint64_t waited, reentered;
 
@@ -90,18 +95,52 @@ static void write_sets(uint32_t count) {
     fprintf(expected, "\n");
 }
 
-// Holds the sets of a request: exactly those that the driver gave, in its order.
+// Notes that a set of the driver is in use. It wasn't before, and is one of the layout.
+static void use(uint64_t set, uint32_t layout) {
+    size_t number = driver_set_number(set);
+    in_use = grown(in_use, &in_use_room, number + 1, sizeof *in_use);
+    while (in_use_count <= number)
+        in_use[in_use_count++] = false;
+    CHECK(driver_is_alive(set) && driver_layout_of(set) == layout && !in_use[number]);
+    in_use[number] = true;
+}
+
+static void unuse(size_t ticket) {
+    in_use[driver_set_number(given[ticket].set.handle)] = false;
+}
+
+// Of the sets of a request that with a handle, which is looked for from a place on, backwards.
+static const gd_set *set_with(uint64_t handle, const gd_set *sets, uint32_t count, uint32_t from) {
+    for (uint32_t step = 0; step < count; step++) {
+        const gd_set *set = &sets[(from + count - step) % count];
+        if (set->handle == handle)
+            return set;
+    }
+    CHECK(!"the driver's sets are those of the request");
+    return NULL;
+}
+
+static void hold_one(const gd_set *set, uint32_t layout, uint64_t pool) {
+    use(set->handle, layout);
+    names_give(&names, set->name);
+    given[given_count] = (struct given){*set, layout, pool, true, false};
+    held[held_count++] = given_count++;
+}
+
+// Holds the sets of a request. If none is kept they are exactly those that the driver gave.
 static void hold(uint32_t layout, uint32_t count, const gd_set *sets) {
-    CHECK(driver_calls.set_count == count && driver_calls.released == 0);
-    write_sets(count);
     given = grown(given, &given_room, given_count + count, sizeof *given);
     held = grown(held, &held_room, held_count + count, sizeof *held);
-    for (uint32_t place = 0; place < count; place++) {
-        CHECK(sets[place].handle == driver_calls.sets[place]);
-        names_give(&names, sets[place].name);
-        given[given_count] = (struct given){sets[place], layout, driver_calls.pools[place], true, false};
-        held[held_count++] = given_count++;
+    if (keep > 0) {
+        for (uint32_t place = 0; place < count; place++)
+            hold_one(&sets[place], layout, 0);
+        return;
     }
+    CHECK(driver_calls.set_count == count && driver_calls.released == 0);
+    write_sets(count);
+    for (uint32_t place = 0; place < count; place++)
+        hold_one(set_with(driver_calls.sets[place], sets, count, count - 1 - place), layout,
+                 driver_calls.pools[place]);
 }
 
 // Writes why a request was refused. The driver said so last, or the library has no memory.
@@ -120,9 +159,18 @@ static void write_refusal(gd_status status) {
         break;
     default:
         CHECK(status == GD_BAD_RESULT && driver.invalid_one_in > 0);
-        uint32_t last = driver_calls.results[driver_calls.result_count - 1];
-        CHECK(last != GD_OK && (last < GD_OUT_OF_DEVICE_MEMORY || last > GD_OUT_OF_POOL_MEMORY));
+        uint32_t unknown = 0;
+        for (size_t at = 0; at < driver_calls.result_count; at++)
+            unknown += driver_calls.results[at] != GD_OK &&
+                       (driver_calls.results[at] < GD_OUT_OF_DEVICE_MEMORY ||
+                        driver_calls.results[at] > GD_OUT_OF_POOL_MEMORY);
+        CHECK(unknown > 0);
     }
+}
+
+// How many sets the driver has, if none is kept.
+static bool is_number_of_sets(uint64_t sets) {
+    return keep == 0 ? driver.sets == sets : driver.sets >= sets;
 }
 
 // Mostly few sets, sometimes many, and never very many of the layout whose pools hold few.
@@ -149,7 +197,11 @@ static void allocate(void) {
     }
     for (uint32_t place = 0; place < count; place++)
         CHECK(sets[place].handle == 0 && sets[place].name == 0 && sets[place].owner == 0);
-    CHECK(driver_calls.released == driver_calls.set_count && driver.sets == before);
+    // Kept ones are gone, unless the list of handles got no memory.
+    if (keep == 0)
+        CHECK(driver_calls.released == driver_calls.set_count && driver.sets == before);
+    else
+        CHECK(memory_refused_one_in > 0 || driver.sets == held_count + waiting_count);
     write_refusal(status);
 }
 
@@ -161,7 +213,8 @@ static gd_status free_now(const gd_set *sets, uint32_t count) {
     driver_forget();
     gd_status status = LIBRARY(gd_free(allocator, sets, count));
     CHECK(memory_requests == requests_before);
-    CHECK(driver_calls.released == (status == GD_OK ? count : 0));
+    uint32_t freed = status == GD_OK ? count : 0;
+    CHECK(keep == 0 ? driver_calls.released == freed : driver_calls.released <= freed);
     return status;
 }
 
@@ -173,16 +226,34 @@ static void write_free(const size_t *tickets, size_t count) {
     fprintf(expected, "freed %zu\n", count);
 }
 
-// The sets went back in this order, neighbours of one pool in one call.
-static void check_order(const size_t *tickets, size_t count) {
+// These sets went back, neighbours of one pool in one call. Then the tickets are in the order in which they
+// went. Those that are kept don't go.
+static void check_freed(size_t *tickets, size_t count) {
     size_t runs = 0;
+    if (keep > 0) {
+        CHECK(driver_calls.released <= count);
+        return;
+    }
     CHECK(driver_calls.released == count);
     for (size_t place = 0; place < count; place++) {
-        const struct given *it = &given[tickets[place]];
-        CHECK(driver_calls.freed[place] == it->set.handle && !driver_is_alive(it->set.handle));
-        runs += place == 0 || given[tickets[place - 1]].pool != it->pool;
+        size_t at = place;
+        while (at < count && given[tickets[at]].set.handle != driver_calls.freed[place])
+            at++;
+        CHECK(at < count && !driver_is_alive(driver_calls.freed[place]));
+        size_t ticket = tickets[at];
+        tickets[at] = tickets[place];
+        tickets[place] = ticket;
+        runs += place == 0 || given[tickets[place - 1]].pool != given[ticket].pool;
     }
     CHECK(driver_calls.releases == runs);
+}
+
+// The runs of a list, which the driver is to free by as many calls.
+static size_t runs_of(const size_t *tickets, size_t count) {
+    size_t runs = 0;
+    for (size_t place = 0; place < count; place++)
+        runs += place == 0 || given[tickets[place - 1]].pool != given[tickets[place]].pool;
+    return runs;
 }
 
 // Some tickets leave the list of those that are held: neighbours, or any.
@@ -224,9 +295,12 @@ static void free_some(void) {
     if (count == 0)
         return;
     leave(tickets, sets, count);
+    for (uint32_t place = 0; place < count; place++)
+        unuse(tickets[place]);
     write_free(tickets, count);
     CHECK(free_now(sets, count) == GD_OK);
-    check_order(tickets, count);
+    CHECK(keep > 0 || driver_calls.releases == runs_of(tickets, count));
+    check_freed(tickets, count);
 }
 
 // Lets sets wait for a frame, mostly this one, sometimes an earlier or a later one.
@@ -270,12 +344,13 @@ static void end_frame(uint64_t done) {
         tickets[count] = waiting[count].ticket;
         CHECK(driver_is_alive(given[tickets[count]].set.handle));
         given[tickets[count]].waits = false;
+        unuse(tickets[count]);
         count++;
     }
     driver_forget();
     CHECK(LIBRARY(gd_frame_done(allocator, done)) == GD_OK);
     CHECK(memory_requests == requests_before);
-    check_order(tickets, count);
+    check_freed(tickets, count);
     if (count > 0)
         write_free(tickets, count);
     waiting_count -= count;
@@ -314,7 +389,12 @@ static void clean_up(void) {
     uint64_t requests_before = memory_requests;
     driver_forget();
     CHECK(LIBRARY(gd_cleanup(allocator)) == GD_OK);
-    CHECK(memory_requests == requests_before && driver_calls.released == 0);
+    CHECK(memory_requests == requests_before && (keep > 0 || driver_calls.released == 0));
+    CHECK(driver.sets == held_count + waiting_count);
+    if (keep > 0) {
+        keep = one_in(2) ? 1 + random_below(9) : UINT32_MAX;
+        CHECK(LIBRARY(gd_keep(allocator, keep)) == GD_OK && memory_requests == requests_before);
+    }
     fprintf(program, "cleanup\n");
     fprintf(expected, "clean\n");
 }
@@ -327,7 +407,7 @@ static void look(void) {
     CHECK(LIBRARY(gd_outstanding(allocator, &sets)) == GD_OK);
     CHECK(LIBRARY(gd_waiting(allocator, &waits)) == GD_OK);
     CHECK(LIBRARY(gd_pool_count(allocator, &pools)) == GD_OK);
-    CHECK(sets == held_count + waiting_count && sets == driver.sets);
+    CHECK(sets == held_count + waiting_count && is_number_of_sets(sets));
     CHECK(waits == waiting_count && pools == driver.pools);
     for (size_t place = 0; place < sets; place++) {
         size_t ticket = place < held_count ? held[place] : waiting[place - held_count].ticket;
@@ -344,7 +424,7 @@ static void look(void) {
 
 static void destroy_too_early(void) {
     driver_forget();
-    if (driver.sets > 0)
+    if (held_count + waiting_count > 0)
         CHECK(LIBRARY(gd_destroy(allocator)) == GD_OUTSTANDING);
     CHECK(driver_calls.destroyed == 0);
 }
@@ -375,6 +455,7 @@ static void open_all(uint32_t limit) {
         status = LIBRARY(gd_create(&device, limit, &allocator));
         CHECK(status == GD_OK || (status == GD_OUT_OF_HOST_MEMORY && memory_refused_one_in > 0));
     } while (status != GD_OK);
+    CHECK(LIBRARY(gd_keep(allocator, keep)) == GD_OK);
     memset(&device, 0, sizeof device); // it was copied
     fprintf(program, "limit %u\n", limit);
     fprintf(expected, "limit %u\n", limit);
@@ -403,7 +484,7 @@ static void act(void) {
         destroy_too_early();
     else
         look();
-    CHECK(driver.sets == held_count + waiting_count);
+    CHECK(is_number_of_sets(held_count + waiting_count));
 }
 
 static void close_all(void) {
@@ -423,6 +504,7 @@ static void close_all(void) {
     CHECK(fclose(program) == 0 && fclose(expected) == 0);
     free(given);
     free(held);
+    free(in_use);
     names_end(&names);
     driver_end();
 }
@@ -446,10 +528,11 @@ int main(int words, char **word) {
     driver.limit = limit;
     driver.refuses_one_in = (uint32_t)number_at(words, word, 4, 6);
     memory_refused_one_in = (uint32_t)number_at(words, word, 5, 0);
-    program = fopen(words > 7 ? word[6] : "/dev/null", "w");
-    expected = fopen(words > 7 ? word[7] : "/dev/null", "w");
-    CHECK(program != NULL && expected != NULL);
-    driver.invalid_one_in = words > 7 ? 0 : 6;
+    keep = (uint32_t)number_at(words, word, 6, UINT32_MAX);
+    program = fopen(words > 8 ? word[7] : "/dev/null", "w");
+    expected = fopen(words > 8 ? word[8] : "/dev/null", "w");
+    CHECK(program != NULL && expected != NULL && (keep == 0 || words <= 8));
+    driver.invalid_one_in = words > 8 ? 0 : 6;
     driver_inside = call_back;
     open_all(limit);
     for (operation = 0; operation < operations; operation++)

@@ -6,11 +6,11 @@
 // fifty, and once in four while an allocator is opened, which a new one is every few hundred
 // operations. A free asks for no memory. On a device of 1.3 there are marked layouts and inline
 // uniform blocks; on one of 1.0 there are none, and there the layer reports a pool that is asked for
-// more than it has left.
+// more than it has left. KEEP is how many sets are kept, at first all.
 //
 // The exit code is 3 if there is no layer or no driver.
 //
-// usage: vulkan OPERATIONS SEED [1.0]
+// usage: vulkan OPERATIONS SEED [VERSION [KEEP]]
 #include "host.h"
 #include "layer.h"
 #include "memory.h"
@@ -90,6 +90,7 @@ static VkSampler sampler;
 static uint64_t live_pools, live_sets, live_blocks, pools_created, calls_refused, asked_count;
 static uint64_t statuses[GD_INTERNAL_ERROR + 1];
 static uint64_t frame = 10, waiting;
+static uint32_t keep;
 
 // ---- in front of the driver ----
 
@@ -382,7 +383,7 @@ static void act(void) {
         CHECK(LIBRARY(gd_cleanup(allocator)) == GD_OK);
     else
         make_mistakes();
-    CHECK(live_sets == held_count + waiting);
+    CHECK(keep == 0 ? live_sets == held_count + waiting : live_sets >= held_count + waiting);
 }
 
 // What the header makes of the driver's errors and of the library's statuses.
@@ -430,6 +431,7 @@ static void open_allocator(bool is_old) {
         status = LIBRARY(gdv_create(&vulkan, is_old ? 0 : layer.limit, &allocator));
         CHECK(status == GD_OK || status == GD_OUT_OF_HOST_MEMORY);
     } while (status != GD_OK);
+    CHECK(LIBRARY(gd_keep(allocator, keep)) == GD_OK);
     for (uint32_t place = 0; place < layout_count; place++)
         make_layout(&layouts[place]);
     memory_refused_one_in = MEMORY_ONE_IN;
@@ -479,6 +481,7 @@ int main(int words, char **word) {
     uint64_t operations = number_at(words, word, 1, 10000);
     bool is_old = words > 3 && strcmp(word[3], "1.0") == 0;
     seed = number_at(words, word, 2, 1);
+    keep = (uint32_t)number_at(words, word, 4, UINT32_MAX);
     check_mappings();
     open_device(is_old);
     while (operation < operations) {

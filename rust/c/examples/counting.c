@@ -63,7 +63,10 @@ int main(void) {
     }
     if (gd_free(allocator, sets, held) != GD_OK)
         return 1;
-    printf("freed %u: %u pools, %u sets\n", held, device.pools, device.sets);
+    printf("freed %u, which are kept: %u pools, %u sets\n", held, device.pools, device.sets);
+    if (gd_cleanup(allocator) != GD_OK)
+        return 1;
+    printf("cleaned up: %u pools, %u sets\n", device.pools, device.sets);
     if (gd_destroy(allocator) != GD_OK)
         return 1;
     printf("destroyed: %u pools, %u sets after %u calls\n", device.pools, device.sets, device.calls);

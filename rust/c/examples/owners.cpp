@@ -1,5 +1,5 @@
 // Owners of sets over a device that only counts: sets are freed at the end of their scope, or after a
-// frame. It checks the counts and prints them.
+// frame, and kept. It checks the counts and prints them.
 #include "gpu_descriptor.hpp"
 
 #include <cstdio>
@@ -45,6 +45,12 @@ void require(bool fact, const char *what) {
     }
 }
 
+uint64_t outstanding(const gd::allocator &allocator) {
+    uint64_t sets = 0;
+    require(gd_outstanding(allocator.raw(), &sets) == GD_OK, "gd_outstanding");
+    return sets;
+}
+
 // One frame: a set that lives for this scope, and one that waits for the end of the frame.
 void draw(gd::allocator &allocator, gd_layout layout, uint64_t frame) {
     gd::set scratch, bound;
@@ -71,8 +77,10 @@ int main() {
                 require(gd_frame_done(allocator.raw(), frame - 2) == GD_OK, "gd_frame_done");
             draw(allocator, layout, frame);
         }
-        std::printf("after ten frames: %u sets wait\n", device.sets);
-        require(device.sets == 2, "two sets wait");
+        std::printf("after ten frames: %u sets wait, of %u\n", unsigned(outstanding(allocator)), device.sets);
+        require(outstanding(allocator) == 2, "two sets wait");
+        // In each frame two are in use while that of the frame before waits.
+        require(device.sets == 3, "no more than are in use at once");
 
         for (int count = 0; count < 50; count++) {
             gd::set set;
@@ -80,7 +88,7 @@ int main() {
             kept.push_back(std::move(set));
         }
         kept.erase(kept.begin(), kept.begin() + 10); // moves the others
-        require(device.sets == 42, "ten of fifty sets are freed");
+        require(outstanding(allocator) == 42, "ten of fifty sets are freed");
 
         gd::allocator moved = std::move(allocator);
         require(!allocator && moved, "a move"); // NOLINT: a moved owner is empty

@@ -15,14 +15,22 @@
  * destroyed. It does so by four functions of yours. gpu_descriptor_vulkan.h has them for a VkDevice,
  * and gpu_descriptor.hpp has classes for C++.
  *
- * Statuses: every function returns a gd_status. If it isn't GD_OK, the call changed no set and no
- * count of sets. A failed gd_allocate may have created pools, which are empty, or destroyed empty
- * ones; any other failed call changed nothing of the allocator. Outputs may be zeroed, as their function
+ * Statuses: every function returns a gd_status. If it isn't GD_OK, the call changed no set that is
+ * outstanding, and no count of these. A failed gd_allocate may have created pools, which are empty,
+ * destroyed empty ones, or freed kept sets; any other failed call changed nothing of the allocator. Outputs may be zeroed, as their function
  * states. Of GD_INTERNAL_ERROR none of this holds. If several statuses apply, any of them may be returned.
  *
  * Ownership: gd_destroy frees the library's memory of an allocator and destroys its pools. The values
- * gd_allocator, gd_layout and gd_set own nothing: copy them as you like. Layouts are yours: destroy
- * them after the last gd_allocate with them.
+ * gd_allocator, gd_layout and gd_set own nothing: copy them as you like. Layouts are yours. Before you
+ * destroy one, and after the last gd_allocate with it, call gd_cleanup: then no set of it is kept, and
+ * none is later.
+ *
+ * Kept sets: a set that is freed, at once or after a frame, is kept, and gd_allocate hands it out again
+ * for the same layout under a new name, before it asks the driver for new ones. gd_keep says how many
+ * are kept, at first all. A kept set isn't outstanding. Its descriptors are those that were written to
+ * it last, and what they refer to may be destroyed by now. So write each set that you get, before you
+ * bind it. A validation layer reports a new set that is bound without being written, but not one that
+ * was kept: so keep none in a debug build.
  *
  * Pointers must be valid, and arrays at least as long as their count. NULL is GD_NULL_POINTER, unless
  * the count is 0. A gd_allocator is zeroed, or gd_create wrote it.
@@ -199,8 +207,11 @@ gd_status gd_add_layout(gd_allocator allocator, uint64_t handle, const uint32_t 
                         uint32_t flags, gd_layout *layout);
 
 /*
- * Allocates 'count' sets, all or none: sets[i] is the i-th that the driver allocated. If it fails, 'sets'
- * is zeroed, and freeing such a set is GD_BAD_SET.
+ * Allocates 'count' sets, all or none: kept ones of this layout first, the others new, in one request. If
+ * it fails, 'sets' is zeroed, and freeing such a set is GD_BAD_SET.
+ *
+ * If new sets are refused while any sets are kept, these are freed and empty pools destroyed, as by
+ * gd_cleanup, and all 'count' are asked for once more. It fails only if they are refused again.
  *
  * GD_OUT_OF_DEVICE_MEMORY, GD_OUT_OF_HOST_MEMORY, GD_FRAGMENTATION, GD_BAD_RESULT, GD_NULL_POINTER,
  * GD_BAD_LAYOUT, GD_BAD_ALLOCATOR, GD_BUSY, GD_INTERNAL_ERROR.
@@ -208,17 +219,17 @@ gd_status gd_add_layout(gd_allocator allocator, uint64_t handle, const uint32_t 
 gd_status gd_allocate(gd_allocator allocator, gd_layout layout, uint32_t count, gd_set *sets);
 
 /*
- * Frees sets, all or none, of any layouts and in any order. The device must no longer use them. Pools
- * that become empty may be destroyed. It allocates nothing. Neighbours of one pool are freed in one
- * call of free_sets.
+ * Frees sets, all or none, of any layouts and in any order. The device must no longer use them. They
+ * are kept, or go back to the driver: neighbours of one pool in one call of free_sets. Pools that
+ * become empty may be destroyed. It allocates nothing.
  *
  * GD_BAD_SET, GD_NULL_POINTER, GD_BAD_ALLOCATOR, GD_BUSY, GD_INTERNAL_ERROR.
  */
 gd_status gd_free(gd_allocator allocator, const gd_set *sets, uint32_t count);
 
 /*
- * Frees all outstanding sets, those that wait for a frame too. The device must no longer use them. It
- * allocates nothing.
+ * Frees all outstanding sets, those that wait for a frame too, and all kept ones; it keeps none. The
+ * device must no longer use them. It allocates nothing.
  *
  * GD_BAD_ALLOCATOR, GD_BUSY, GD_INTERNAL_ERROR.
  */
@@ -226,32 +237,43 @@ gd_status gd_free_all(gd_allocator allocator);
 
 /*
  * Frees sets, all or none, once a frame is done: they wait, and gd_frame_done frees them. They are no
- * longer yours: freeing one again is GD_BAD_SET. Frames are numbers of your own: a set is freed by the
- * next gd_frame_done with its number or a higher one. It allocates nothing.
+ * longer yours: freeing one again is GD_BAD_SET. Frames are numbers of your own, in any order: a set is
+ * freed by the next gd_frame_done with its number or a higher one. It allocates nothing.
  *
  * GD_BAD_SET, GD_NULL_POINTER, GD_BAD_ALLOCATOR, GD_BUSY, GD_INTERNAL_ERROR.
  */
 gd_status gd_free_after(gd_allocator allocator, const gd_set *sets, uint32_t count, uint64_t frame);
 
 /*
- * Frees the sets that wait for this frame or an earlier one. The device must be done with these
- * frames. UINT64_MAX frees all that wait. It allocates nothing.
+ * Frees the sets that wait for this frame or an earlier one, as gd_free does. The device must be done
+ * with these frames. UINT64_MAX frees all that wait. It allocates nothing.
  *
  * GD_BAD_ALLOCATOR, GD_BUSY, GD_INTERNAL_ERROR.
  */
 gd_status gd_frame_done(gd_allocator allocator, uint64_t frame);
 
 /*
- * Destroys empty pools: of the layouts that share pools the oldest ones, up to the first that has
- * sets. If no set is outstanding no pool is left. It allocates nothing.
+ * Keeps at most 'most' sets of each layout from now on; those above go back to the driver. At first
+ * all are kept, as with UINT32_MAX, and with 0 none is. It allocates nothing.
+ *
+ * GD_BAD_ALLOCATOR, GD_BUSY, GD_INTERNAL_ERROR.
+ */
+gd_status gd_keep(gd_allocator allocator, uint32_t most);
+
+/*
+ * Gives kept sets back to the driver, and destroys empty pools: of the layouts that share pools the
+ * oldest ones, up to the first that has sets. If no set is outstanding no pool is left. The sets that
+ * are outstanding aren't kept when they are freed, so that their pools become empty; those that
+ * gd_allocate returns later are kept again. It allocates nothing.
  *
  * GD_BAD_ALLOCATOR, GD_BUSY, GD_INTERNAL_ERROR.
  */
 gd_status gd_cleanup(gd_allocator allocator);
 
 /*
- * How many sets are outstanding, those that wait for a frame included; how many of them wait; how many
- * pools exist.
+ * How many sets are outstanding, those that wait for a frame included, and kept ones not; how many of
+ * them wait; how many pools exist. The time is linear in the number of frames for which sets wait, and of
+ * layouts.
  *
  * GD_NULL_POINTER, GD_BAD_ALLOCATOR, GD_BUSY, GD_INTERNAL_ERROR.
  */

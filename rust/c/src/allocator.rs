@@ -116,6 +116,7 @@ impl Allocator {
         let Ok(place) = u32::try_from(layout.index) else {
             return GdStatus::BAD_LAYOUT;
         };
+        self.renderer.device().has_bad_result.set(false);
         let registry = layout.owner;
         let layout = LayoutHandle { registry, place };
         match self.create(layout, count, put) {
@@ -178,7 +179,7 @@ impl Allocator {
 
     /// The status of a request that was refused.
     fn status_of(&self, error: RenderError) -> GdStatus {
-        if self.renderer.device().has_bad_result.take() {
+        if self.renderer.device().has_bad_result.get() {
             return GdStatus::BAD_RESULT;
         }
         match error {

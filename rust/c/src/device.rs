@@ -32,7 +32,8 @@ pub struct HostDevice {
     /// How many pools exist.
     pub pools: Cell<u64>,
 
-    /// A function returned an unknown status. The request ends as if an allocation of the host had failed.
+    /// A function returned an unknown status in this request. It is refused as if an allocation of the
+    /// host had failed.
     pub has_bad_result: Cell<bool>,
 }
 
