@@ -5,6 +5,7 @@ mod Cleared
 mod Emptied
 mod Following
 mod Given
+mod Growing
 mod Handing
 mod Listed
 mod Naming

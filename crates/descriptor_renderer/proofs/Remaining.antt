@@ -40,7 +40,7 @@ module _ {T : Type 0} where
       let long = cleaned.long in
       let inside : p < length old = omega arith in
       ap (λ (s : Slot T). s.set) (cleaned.each p inside) ∙ by_kept (slot_at old p) (is_kept (slot_at old p)) (slot_at old p).set refl refl (placed p) (count_none holds old refl held p) (count_none waits old refl waiting p)
-  )))
+      )))
     where
       by_kept : (o : Slot T) (b : Bool) (x : Option T) → is_kept o ≡ b → o.set ≡ x → is_placed o ≡ true → holds o ≡ false → waits o ≡ false → (if b then vacated (aged o) else aged o).set ≡ None
       by_kept o true x e is at h w = refl

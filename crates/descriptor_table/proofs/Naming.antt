@@ -80,11 +80,11 @@ module _ {T : Type 0} where
           ap (find number frame opened new) (same_default handles i e zero_handle lt) ∙ if_neither (is_last number new (handle_at i)) (is_live frame opened s.used) s.set (quiet i lt);
       others = λ other apart. elim (named_or (length handles) (place_at handles) other.place) [
         | inl found ↦
-          let no = not_last other apart found.0 found.1 found.2 (is_last number old other) refl in
-          let n = slot_at new other.place in
-          let o = slot_at old other.place in
-          if_not (is_last number new other) (is_live frame opened n.used) n.set (ap (λ g. (other.renderer == number) && (other.generation == g)) (generations other.place) ∙ no)
-          ∙ sym (if_not (is_last number old other) (is_live frame opened o.used) o.set no)
+            let no = not_last other apart found.0 found.1 found.2 (is_last number old other) refl in
+            let n = slot_at new other.place in
+            let o = slot_at old other.place in
+            if_not (is_last number new other) (is_live frame opened n.used) n.set (ap (λ g. (other.renderer == number) && (other.generation == g)) (generations other.place) ∙ no)
+            ∙ sym (if_not (is_last number old other) (is_live frame opened o.used) o.set no)
         | inr none ↦ ap (λ (s : Slot T). finds s.generation s other) (rest other.place none)
       ];
       given = λ h. ap (λ g. (h.renderer == number) && (nat_lt 0 h.generation && nat_le h.generation g)) (generations h.place);

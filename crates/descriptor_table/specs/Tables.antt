@@ -191,6 +191,14 @@ module _ {T : Type 0} where
     -- the table grows only if each slot has a set, or had its last generation
     pub grows : (length new ≡ length old) ⊎ ((length new ≡ length old + 1) × ((q : ℕ) → q < length old → is_usable (slot_at old q) ≡ false))
 
+  -- each slot has a set, or had its last generation
+  abbrev pub AreAllUsed : List (Slot T) → Type 0
+  AreAllUsed slots = (p : ℕ) → is_usable (slot_at slots p) ≡ false
+
+  -- there are more slots only if each then has a set, or had its last generation
+  abbrev pub Grows : List (Slot T) → List (Slot T) → Type 0
+  Grows old new = (length new ≡ length old) ⊎ AreAllUsed new
+
   -- a slot in its next generation, in use for this
   abbrev pub renewed : Use → Slot T → Slot T
   renewed u s = record s { generation = s.generation + 1; used = u }

@@ -4,6 +4,7 @@ ghost use Rattle.std.specs.Prelude.{IfErr, IfOk, IfSome, IsErrOf, IsOk, IsSome, 
 ghost use Rattle.std.specs.Prelude.{false, true};
 ghost use Rattle.descriptor_table.specs.Sets.{KeepNames};
 ghost use Rattle.descriptor_table.specs.Slots.{is_due, slot_at};
+ghost use Rattle.descriptor_table.specs.Tables.{Grows};
 ghost use Rattle.descriptor_renderer.specs.Stores.{ComeBack, HandlesKept, HandlesNew};
 ghost use Rattle.descriptor_renderer.specs.Stores.{IsRefusedAtLast};
 
@@ -90,6 +91,7 @@ impl<L: Drop, P: Drop, S: Drop, D: DescriptorDevice<L, P, S>> Renderer<L, P, S, 
             → IfSome (layout_of self.old layout) (λ known. IsRefusedAtLast known.layout 1 1 error
             (store_of self.old) (store_of self.new)) }
         ensures stay { OnErr result (KeepNames (sets_by self.old) (sets_by self.new)) }
+        ensures grows { Grows (slots_of self.old) (slots_of self.new) }
         ensures early { ((IsErrOf result RenderError.NoFrame) ⊎ (IsErrOf result
             RenderError.NoLayout)) → (slots_of self.new ≡ slots_of self.old) × (side_of self.new
             ≡ side_of self.old) }

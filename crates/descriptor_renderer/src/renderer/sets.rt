@@ -5,6 +5,7 @@ ghost use Rattle.std.specs.Prelude.{option_map};
 ghost use Rattle.std.specs.Option.{option_copied};
 ghost use Rattle.gpu_descriptor.specs.Caller.Sets.{raw_of};
 ghost use Rattle.descriptor_table.specs.Sets.{AreHeldOnce, KeepNames, LoseNames};
+ghost use Rattle.descriptor_table.specs.Tables.{Grows};
 ghost use Rattle.descriptor_renderer.specs.Stores.{BringsAtLast, FreesAll, FreesEach, HandlesKept};
 ghost use Rattle.descriptor_renderer.specs.Stores.{HandlesNew, IsRefusedAtLast, WaitEach};
 
@@ -42,6 +43,7 @@ impl<L: Drop, P: Drop, S: Drop, D: DescriptorDevice<L, P, S>> Renderer<L, P, S, 
             → IfSome (layout_of self.old layout) (λ known. IsRefusedAtLast known.layout 1 1 error
             (store_of self.old) (store_of self.new)) }
         ensures stay { OnErr result (KeepNames (sets_by self.old) (sets_by self.new)) }
+        ensures grows { Grows (slots_of self.old) (slots_of self.new) }
         ensures early { IsErrOf result RenderError.NoLayout → (slots_of self.new
             ≡ slots_of self.old) × (side_of self.new ≡ side_of self.old) }
         ensures rest { seen self.new ≡ record (seen self.old) { slots = slots_of self.new } }

@@ -7,6 +7,7 @@ use descriptor_table::SetHandle;
 use gpu_descriptor::{AllocationError, DescriptorDevice, SetLayout};
 
 impl<L: Drop, P: Drop, S: Drop, D: DescriptorDevice<L, P, S>> Store<L, P, S, D> {
+    ghost use Rattle.descriptor_table.specs.Tables.{Grows};
     ghost use Rattle.descriptor_table.specs.declared.handle.SetHandle.{SetHandle};
     ghost use Rattle.descriptor_table.specs.declared.slot.Use.{Use};
     ghost use Rattle.descriptor_renderer.specs.Stores.{ComesOf, Gets, GetsAtLast, HandlesKept};
@@ -104,6 +105,7 @@ impl<L: Drop, P: Drop, S: Drop, D: DescriptorDevice<L, P, S>> Store<L, P, S, D> 
         ensures refused { IfErr result (λ error. IsRefusedAtLast known.now.layout 1 1 error self.old
             self.new) }
         ensures settles { Settles (ComesOf D.meaning known.now.layout layout) frame self.old self.new }
+        ensures grows { Grows (slots_in self.old) (slots_in self.new) }
         ensures stays { StoreStays (most_of self.old) self.old self.new }
     {
         let place = self.take(known, layout)?;
@@ -129,6 +131,7 @@ impl<L: Drop, P: Drop, S: Drop, D: DescriptorDevice<L, P, S>> Store<L, P, S, D> 
         ensures refused { IfErr result (λ error. IsRefusedAtLast known.now.layout 1 1 error self.old
             self.new) }
         ensures settles { Settles (ComesOf D.meaning known.now.layout layout) 0 self.old self.new }
+        ensures grows { Grows (slots_in self.old) (slots_in self.new) }
         ensures stays { StoreStays (most_of self.old) self.old self.new }
     {
         let place = self.take(known, layout)?;

@@ -35,13 +35,18 @@ returns-in-Ok-clause-creates g c =
     let named = creates.1.2.1 in
     let new = slots_in c.create_each.new.self in
     let names = subst (λ n. NameEach given (sets_of n old.frame old.is_open (slots_in old.store)) (sets_of n old.frame old.is_open new)) old.numbers_sets (named.names old.frame old.is_open) in
-    if_some _ known _ c.in-Some.ensures.layout (given, creates.1.0 ∙ ap (λ l. l ++ given) c.reserve.ensures.items, creates.1.1, record {
-      names = names;
-      own = λ i e x lt found.
-          let h = slice_index_or given i e in
-          let same = ap (λ (h : SetHandle). h.place) (same_default given i e (record { renderer = 0; place = 0; generation = 0 }) lt) in
-          own h.place x known (found_set old.renderer old.frame old.is_open new h x found) (ap (λ p. slice_get (layouts_of old.layouts) (slot_at new p).layout) same ∙ ap (slice_get (layouts_of old.layouts)) (named.of_layout i lt) ∙ here);
-    })
+    if_some _ known _ c.in-Some.ensures.layout (
+      given,
+      creates.1.0 ∙ ap (λ l. l ++ given) c.reserve.ensures.items,
+      creates.1.1,
+      record {
+        names = names;
+        own = λ i e x lt found.
+            let h = slice_index_or given i e in
+            let same = ap (λ (h : SetHandle). h.place) (same_default given i e (record { renderer = 0; place = 0; generation = 0 }) lt) in
+            own h.place x known (found_set old.renderer old.frame old.is_open new h x found) (ap (λ p. slice_get (layouts_of old.layouts) (slot_at new p).layout) same ∙ ap (slice_get (layouts_of old.layouts)) (named.of_layout i lt) ∙ here);
+      },
+    )
 
 pub returns-in-Err-clause-stay : goal.returns-in-Err-clause-stay
 returns-in-Err-clause-stay g c =

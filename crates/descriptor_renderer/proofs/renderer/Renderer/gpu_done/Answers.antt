@@ -15,8 +15,8 @@ pub returns-clause-names : goal.returns-clause-names
 returns-clause-names g c =
     let old = c.args.self.now in
     back_names old.frame old.is_open old.renderer c.done-done.result (most_of old.store) (slots_in old.store) (slots_in c.finish.new.self) (λ opened. (
-        let is = c.done-done.ensures in
-        let limit = ap (λ b. if b then min c.args.frame (old.frame - 1) else c.args.frame) opened in
-        let begun = old.begun opened in
-        omega arith
+    let is = c.done-done.ensures in
+    let limit = ap (λ b. if b then min c.args.frame (old.frame - 1) else c.args.frame) opened in
+    let begun = old.begun opened in
+    omega arith
     )) c.finish.ensures.back.turns

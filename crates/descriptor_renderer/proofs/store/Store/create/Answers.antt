@@ -7,6 +7,7 @@ use Rattle.descriptor_table.specs.declared.slot.Use.TheVariants.{Held}
 use Rattle.descriptor_renderer.specs.Stores.{ComesOf, number_of, slots_in}
 use Rattle.descriptor_renderer.proofs.Arriving.{arrived}
 use Rattle.descriptor_renderer.proofs.Given.{renewed_sets}
+use Rattle.descriptor_renderer.proofs.Growing.{grow_refused, grow_taken}
 use Rattle.descriptor_renderer.proofs.Handing.{Handles, handled_arrives, kept_handle, named, new_handle, refused_arrives, taken_handles}
 use Rattle.descriptor_renderer.proofs.store.Store.create.Given.{Over}
 use Rattle.descriptor_renderer.proofs.store.Store.create.Goals as goal
@@ -54,3 +55,9 @@ returns-clause-settles g c =
     let comes = ComesOf g.D.DescriptorDevice.meaning c.args.known.now.layout c.args.layout in
     let h = handles g (goal.at.returns-clause-settles g c).After-hold in
     arrived comes 0 c.args.self.now _ (handled_arrives comes (number_of c.args.self.now) c.args.layout c.in_ok-place.place Held c.hold.result (slots_in c.args.self.now) (slots_of c.hold.new.self) h 0 refl (omega arith)) (ap (λ v. v.items) c.take.ensures.coming ∙ c.requires.rest.none_coming) c.requires.rest
+
+pub returns-in_err-place-clause-grows : goal.returns-in_err-place-clause-grows
+returns-in_err-place-clause-grows g c = grow_refused c.args.known.now.layout 1 1 c.in_err-place.field-0.0 c.args.self.now c.take.new.self c.in_err-place.ensures.refused
+
+pub returns-clause-grows : goal.returns-clause-grows
+returns-clause-grows g c = grow_taken c.args.known.now.layout (number_of c.args.self.now) c.args.layout c.in_ok-place.place Held c.hold.result c.args.self.now c.take.new.self (slots_of c.hold.new.self) (λ s. refl) c.in_ok-place.ensures.kept c.in_ok-place.ensures.comes (renews g (goal.at.returns-clause-grows g c).After-hold)

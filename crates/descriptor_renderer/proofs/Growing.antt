@@ -1,0 +1,89 @@
+-- There are more slots only if each has a set, or had its last generation.
+use Rattle.std.proofs.Common.{◌≡◌, ◌≢◌, ℕ, ◌+◌, ◌<◌, ◌⊎◌, ◌&&◌, Bool, true, false, List, length, None, is_some, Ok, inl, inr, refl, sym, ap, subst, ◌∙◌, arith}
+use Rattle.std.proofs.lemmas.List.{get_or_past, length-set}
+use Rattle.gpu_descriptor_types.specs.declared.device.DescriptorDevice.{Ghosts}
+use Rattle.gpu_descriptor.specs.declared.errors.AllocationError.{AllocationError}
+use Rattle.gpu_descriptor.specs.declared.set.DescriptorSet.{DescriptorSet}
+use Rattle.descriptor_table.specs.Slots.{in_list, is_kept_of, slot_at}
+use Rattle.descriptor_table.specs.Tables.{Grows, Puts, Renews, holds, is_held_use, is_usable, place_at, renewed, used_for}
+use Rattle.descriptor_table.specs.declared.handle.SetHandle.{SetHandle}
+use Rattle.descriptor_table.specs.declared.slot.Slot.{Slot}
+use Rattle.descriptor_table.specs.declared.slot.Use.{Use}
+use Rattle.descriptor_table.specs.declared.slot.Use.TheVariants.{Held, Drawn, Waits, Kept, Going, Taken, Vacant}
+use Rattle.descriptor_table.proofs.Counting.{below_or, same_or}
+use Rattle.descriptor_table.proofs.Holding.{named_or}
+use Rattle.descriptor_table.proofs.Listed.{other_slots, slot_set}
+use Rattle.descriptor_renderer.specs.Stores.{GetsAtLast, HoldEach, IsCleared, IsRefusedAtLast, TakesKept, kept_of, slots_in}
+use Rattle.descriptor_renderer.specs.declared.store.Store.{Store}
+
+held_used : (u : Use) (layout generation : ℕ) (full : Bool) → (is_held_use u && full) ≡ true → in_list 0 u layout generation full ≡ false
+held_used Held layout generation full e = refl
+held_used (Drawn f) layout generation full e = refl
+held_used (Waits f) layout generation full e = refl
+held_used Kept layout generation full e = absurd (cc)
+held_used Going layout generation full e = absurd (cc)
+held_used Taken layout generation full e = refl
+held_used Vacant layout generation full e = absurd (cc)
+
+module _ {T : Type 0} where
+  renewed_long : (number p : ℕ) (u : Use) (handle : SetHandle) (old new : List (Slot T)) → Renews number p u handle old new → length new ≡ length old
+  renewed_long number p u handle old new r = ap length r.slots ∙ length-set old p (renewed u (slot_at old p))
+
+  -- a new set gets one
+  pub grow_new : (number layout p : ℕ) (x : T) (u : Use) (handle : SetHandle) (old mid new : List (Slot T)) → ((s : Slot T) → is_usable (renewed u s) ≡ false) → Puts layout x p old mid → Renews number p u handle mid new → Grows old new
+  grow_new number layout p x u handle old mid new used puts r = elim puts.grows [
+    | inl same ↦ inl (renewed_long number p u handle mid new r ∙ same)
+    | inr more ↦ inr (λ q. elim (same_or q p) [
+      | inl e ↦ subst (λ q. is_usable (slot_at new q) ≡ false) (sym e) (ap (λ l. is_usable (slot_at l p)) r.slots ∙ ap is_usable (slot_set mid p (renewed u (slot_at mid p)) puts.within) ∙ used (slot_at mid p))
+      | inr ne ↦
+          let same : slot_at new q ≡ slot_at old q = ap (λ l. slot_at l q) r.slots ∙ other_slots mid p (renewed u (slot_at mid p)) q ne ∙ puts.others q ne in
+          elim (below_or q (length old)) [
+            | inl lt ↦ ap is_usable same ∙ more.1 q lt
+            | inr past ↦ ap is_usable (same ∙ get_or_past old q (record { generation = 0; layout = 0; used = Taken; leaves = false; set = None }) past)
+          ]
+    ])
+  ]
+
+  -- one step after others
+  pub grow_more : (number layout : ℕ) (handles : List SetHandle) (old mid new : List (Slot T)) → Grows old mid → Grows mid new → HoldEach number layout handles mid new → Grows old new
+  grow_more number layout handles old mid new first last holding = elim last [
+    | inr all ↦ inr all
+    | inl long ↦ elim first [
+      | inl same ↦ inl (long ∙ same)
+      | inr all ↦ inr (λ p. elim (named_or (length handles) (place_at handles) p) [
+        | inl found ↦ subst (λ p. is_usable (slot_at new p) ≡ false) found.2 (
+            let s = slot_at new (place_at handles found.0) in
+            held_used s.used s.layout s.generation (is_some s.set) (holding.held found.0 found.1))
+        | inr apart ↦ ap is_usable (holding.rest p apart) ∙ all p
+      ])
+    ]
+  ]
+
+  grow_from : (old mid new : List (Slot T)) → length mid ≡ length old → Grows mid new → Grows old new
+  grow_from old mid new same grows = elim grows [
+    | inl long ↦ inl (long ∙ same)
+    | inr all ↦ inr all
+  ]
+
+module _ {L P S D : Type 0} {d : Ghosts D L P S} where
+  cleared_long : (layout : L) (many : ℕ) (old new : Store L P S D d) → IsCleared layout many old new → length (slots_in new) ≡ length (slots_in old)
+  cleared_long layout many old new clear = clear.cleaned.long ∙ ap length clear.first.slots
+
+  -- a set was taken, and gets a handle
+  pub grow_taken : (layout : L) (number n p : ℕ) (u : Use) (handle : SetHandle) (old mid : Store L P S D d) (new : List (Slot (DescriptorSet S))) → ((s : Slot (DescriptorSet S)) → is_usable (renewed u s) ≡ false) → (0 < kept_of n old → TakesKept n (Ok p) old mid) → (kept_of n old ≡ 0 → GetsAtLast layout n p old mid) → Renews number p u handle (slots_in mid) new → Grows (slots_in old) new
+  grow_taken layout number n p u handle old mid new used kept comes r = elim (below_or 0 (kept_of n old)) [
+    | inl some ↦ (
+        let picks = (kept some).picks in
+        inl (renewed_long number p u handle (slots_in mid) new r ∙ ap length picks.slots ∙ length-set (slots_in old) (kept some).place (used_for Taken (slot_at (slots_in old) (kept some).place))))
+    | inr none ↦ elim (comes (omega arith)) [
+      | inl gets ↦ grow_new number n p gets.set u handle (slots_in old) (slots_in mid) new used gets.puts r
+      | inr twice ↦ grow_from (slots_in old) (slots_in twice.0) new (cleared_long layout 1 old twice.0 twice.1) (grow_new number n p twice.2.set u handle (slots_in twice.0) (slots_in mid) new used twice.2.puts r)
+    ]
+  ]
+
+  -- a refusal leaves as many slots
+  pub grow_refused : (layout : L) (first last : ℕ) (error : AllocationError) (old new : Store L P S D d) → IsRefusedAtLast layout first last error old new → Grows (slots_in old) (slots_in new)
+  grow_refused layout first last error old new refused = elim refused.why [
+    | inl once ↦ inl (ap length once.slots)
+    | inr twice ↦ inl (ap length twice.2.slots ∙ cleared_long layout first old twice.0 twice.1)
+  ]
