@@ -1,49 +1,54 @@
 -- A set that gets a handle: a kept one, or one that came.
-use Rattle.std.proofs.Common.{◌≡◌, ◌≢◌, ℕ, ◌+◌, ◌<◌, ◌≤◌, ◌⊎◌, ◌||◌, Bool, true, List, [], length, set, Option, Some, None, is_some, Result, Ok, inl, inr, refl, sym, ap, subst, ◌∙◌, arith}
+use Rattle.std.proofs.Common.{◌≡◌, ◌≢◌, ℕ, ◌+◌, ◌<◌, ◌≤◌, ◌⊎◌, ◌||◌, Bool, true, false, List, [], length, set, Option, Some, None, is_some, Result, Ok, inl, inr, refl, sym, ap, subst, ◌∙◌, arith}
 use Rattle.std.proofs.lemmas.Bool.{cases_eq}
 use Rattle.std.proofs.lemmas.List.{length-set, set-set}
 use Rattle.gpu_descriptor_types.specs.declared.device.DescriptorDevice.{Ghosts}
 use Rattle.gpu_descriptor.specs.declared.set.DescriptorSet.{DescriptorSet}
 use Rattle.gpu_descriptor.specs.declared.errors.AllocationError.{AllocationError}
 use Rattle.descriptor_table.specs.Slots.{frame_in, is_kept_of, is_live, slot_at}
-use Rattle.descriptor_table.specs.Tables.{Picks, Puts, Renews, is_held_use, is_waiting_use, renewed, used_for}
+use Rattle.descriptor_table.specs.Tables.{Picks, Puts, Renews, count, is_held_use, is_waiting_use, renewed, used_for}
 use Rattle.descriptor_table.specs.declared.handle.SetHandle.{SetHandle}
 use Rattle.descriptor_table.specs.declared.slot.Slot.{Slot}
 use Rattle.descriptor_table.specs.declared.slot.Use.{Use}
 use Rattle.descriptor_table.specs.declared.slot.Use.TheVariants.{Taken}
 use Rattle.descriptor_table.proofs.Counting.{below_or}
+use Rattle.descriptor_table.proofs.Counts.{bit, count_set, same_count}
 use Rattle.descriptor_table.proofs.Listed.{other_slots, slot_set}
 use Rattle.descriptor_table.proofs.Renewing.{kept_is}
 use Rattle.descriptor_renderer.specs.Stores.{AreCleaned, ComesOf, Gets, GetsAtLast, HandlesKept, IsCleared, IsNamed, IsRefusedAtLast, TakesKept, is_free, kept_of, number_of, side_of, slots_in}
 use Rattle.descriptor_renderer.specs.declared.store.Store.{Store}
 use Rattle.descriptor_renderer.proofs.Arriving.{Arrives, arrives_then, clears_arrives, same_arrives, used_placed}
 use Rattle.descriptor_renderer.proofs.Cleared.{Clears, clears, same_clears}
-use Rattle.descriptor_renderer.proofs.Naming.{free_kept, free_none, given_apart, given_clear, given_never, given_next, kept_as, next_of, seen_apart, seen_clear, seen_free, seen_next}
+use Rattle.descriptor_renderer.proofs.Naming.{free_kept, free_none, given_apart, given_clear, given_never, given_next, kept_as, next_of, seen, seen_apart, seen_clear, seen_free, seen_next}
 
-some_of : {T : Type 0} (o : Option T) → is_some o ≡ true → (x : T) × (o ≡ Some x)
+pub some_of : {T : Type 0} (o : Option T) → is_some o ≡ true → (x : T) × (o ≡ Some x)
 some_of None e = absurd (cc)
 some_of (Some x) e = (x, refl)
 
 ok_same : {p q : ℕ} → ◌≡◌ {A = Result ℕ AllocationError} (Ok p) (Ok q) → q ≡ p
 ok_same e = cc
 
--- kept sets may have gone, and then a free slot got a set, or had a kept one, which has the handle, and is in use for this
-pub record Handles {T : Type 0} (comes : ℕ → T → Type 0) (number layout p : ℕ) (u : Use) (handle : SetHandle) (old new : List (Slot T)) : Type 0 where
-  pub mid : List (Slot T)
-  pub clears : (q : ℕ) → Clears (slot_at old q) (slot_at mid q)
-  pub free : is_free (slot_at mid p) ≡ true
-  pub is : handle ≡ next_of number p (slot_at mid p)
+-- a free slot got a set, or had a kept one, which has the next handle of the slot, and is in use for this
+pub record Fills {T : Type 0} (comes : ℕ → T → Type 0) (number layout p : ℕ) (u : Use) (handle : SetHandle) (old new : List (Slot T)) : Type 0 where
+  pub free : is_free (slot_at old p) ≡ true
+  pub is : handle ≡ next_of number p (slot_at old p)
   pub set : T
-  pub generation : (slot_at new p).generation ≡ (slot_at mid p).generation + 1
+  pub generation : (slot_at new p).generation ≡ (slot_at old p).generation + 1
   pub of_layout : (slot_at new p).layout ≡ layout
   pub used : (slot_at new p).used ≡ u
   pub here : (slot_at new p).set ≡ Some set
-  pub own : (((slot_at mid p).set ≡ Some set) × ((slot_at mid p).layout ≡ layout)) ⊎ comes layout set
-  pub others : (q : ℕ) → q ≢ p → slot_at new q ≡ slot_at mid q
+  pub own : (((slot_at old p).set ≡ Some set) × ((slot_at old p).layout ≡ layout)) ⊎ comes layout set
+  pub others : (q : ℕ) → q ≢ p → slot_at new q ≡ slot_at old q
+
+-- kept sets may have gone before that
+pub record Handles {T : Type 0} (comes : ℕ → T → Type 0) (number layout p : ℕ) (u : Use) (handle : SetHandle) (old new : List (Slot T)) : Type 0 where
+  pub mid : List (Slot T)
+  pub clears : (q : ℕ) → Clears (slot_at old q) (slot_at mid q)
+  pub fills : Fills comes number layout p u handle mid new
 
 module _ {T : Type 0} (comes : ℕ → T → Type 0) (number layout p : ℕ) (u : Use) (handle : SetHandle) where
-  pub kept_handles : (old mid new : List (Slot T)) → Picks (is_kept_of layout) p old mid → Renews number p u handle mid new → Handles comes number layout p u handle old new
-  kept_handles old mid new picks renews =
+  pub kept_fills : (old mid new : List (Slot T)) → Picks (is_kept_of layout) p old mid → Renews number p u handle mid new → Fills comes number layout p u handle old new
+  kept_fills old mid new picks renews =
       let o = slot_at old p in
       let kept = kept_as layout o picks.was in
       let full = some_of o.set (kept_is (layout + 2) o (omega arith) picks.was).1 in
@@ -52,8 +57,6 @@ module _ {T : Type 0} (comes : ℕ → T → Type 0) (number layout p : ℕ) (u 
       let within = picks.within in
       let here : slot_at new p ≡ renewed u (slot_at mid p) = ap (λ l. slot_at l p) renews.slots ∙ slot_set mid p (renewed u (slot_at mid p)) (omega arith) in
       record {
-        mid = old;
-        clears = λ q. same_clears (slot_at old q) (slot_at old q) refl;
         free = free_kept o kept.2;
         is = renews.is ∙ ap (next_of number p) there;
         set = full.0;
@@ -65,14 +68,12 @@ module _ {T : Type 0} (comes : ℕ → T → Type 0) (number layout p : ℕ) (u 
         others = λ q ne. ap (λ l. slot_at l q) renews.slots ∙ other_slots mid p (renewed u (slot_at mid p)) q ne ∙ ap (λ l. slot_at l q) picks.slots ∙ other_slots old p (used_for Taken o) q ne;
       }
 
-  pub new_handles : (x : T) (old mid put new : List (Slot T)) → ((q : ℕ) → Clears (slot_at old q) (slot_at mid q)) → Puts layout x p mid put → comes layout x → Renews number p u handle put new → Handles comes number layout p u handle old new
-  new_handles x old mid put new cleared puts came renews =
+  pub new_fills : (x : T) (old put new : List (Slot T)) → Puts layout x p old put → comes layout x → Renews number p u handle put new → Fills comes number layout p u handle old new
+  new_fills x old put new puts came renews =
       let there = puts.here in
       let here : slot_at new p ≡ renewed u (slot_at put p) = ap (λ l. slot_at l p) renews.slots ∙ slot_set put p (renewed u (slot_at put p)) puts.within in
       record {
-        mid = mid;
-        clears = cleared;
-        free = free_none (slot_at mid p) puts.empty;
+        free = free_none (slot_at old p) puts.empty;
         is = renews.is ∙ ap (λ (s : Slot T). next_of number p s) there;
         set = x;
         generation = ap (λ (s : Slot T). s.generation) here ∙ ap (λ (s : Slot T). s.generation + 1) there;
@@ -83,63 +84,80 @@ module _ {T : Type 0} (comes : ℕ → T → Type 0) (number layout p : ℕ) (u 
         others = λ q ne. ap (λ l. slot_at l q) renews.slots ∙ other_slots put p (renewed u (slot_at put p)) q ne ∙ puts.others q ne;
       }
 
+  -- a slot's set was there, or came
+  pub fills_arrives : (f : ℕ) → (is_held_use u || is_waiting_use u) ≡ true → frame_in u ≤ f → (old new : List (Slot T)) → Fills comes number layout p u handle old new → (q : ℕ) → Arrives comes f (slot_at old q) (slot_at new q)
+  fills_arrives f live few old new h q = elim (cases_eq q p) [
+    | inl e ↦ subst (λ q. Arrives comes f (slot_at old q) (slot_at new q)) (sym e) (record {
+      set = λ x is. (let same : h.set ≡ x = some_same (sym h.here ∙ is) in elim h.own [
+        | inl kept ↦ inl (kept.0 ∙ sym h.here ∙ is, h.of_layout ∙ sym kept.1)
+        | inr came ↦ inr (subst (λ l. comes l x) (sym h.of_layout) (subst (comes layout) same came))
+      ]);
+      placed = λ was. used_placed (slot_at new p) h.set h.here (ap (λ u. is_held_use u || is_waiting_use u) h.used ∙ live);
+      frame = λ g le up. subst (λ u. frame_in u ≤ g) (sym h.used) (omega arith);
+    })
+    | inr ne ↦ same_arrives comes f (slot_at old q) (slot_at new q) (h.others q ne)
+  ]
+    where
+      some_same : {x y : T} → Some x ≡ Some y → x ≡ y
+      some_same e = cc
+
   module _ (old new : List (Slot T)) (h : Handles comes number layout p u handle old new) where
     named_as : IsNamed number layout u (next_of number p (slot_at h.mid p)) old new
     named_as =
         let m = slot_at h.mid p in
         let n = slot_at new p in
         record {
-          set = h.set;
-          of_layout = h.of_layout;
-          here = h.here;
+          set = h.fills.set;
+          of_layout = h.fills.of_layout;
+          here = h.fills.here;
           names = λ frame opened live. record {
             never = sym (given_clear number (slot_at old p) m (next_of number p m) (h.clears p)) ∙ given_never number p m;
-            given = given_next number p m n h.generation;
+            given = given_next number p m n h.fills.generation;
             given_others = λ other ne. elim (cases_eq other.place p) [
-              | inl e ↦ given_apart number (slot_at h.mid other.place) (slot_at new other.place) other (more other e) (λ f. ne (f ∙ ap (λ q. next_of number q (slot_at h.mid q)) e)) ∙ given_clear number (slot_at old other.place) (slot_at h.mid other.place) other (h.clears other.place)
+              | inl e ↦ given_apart number (slot_at h.mid other.place) (slot_at new other.place) other (more other e) (apart other ne e) ∙ given_clear number (slot_at old other.place) (slot_at h.mid other.place) other (h.clears other.place)
               | inr far ↦ given_clear number (slot_at old other.place) (slot_at new other.place) other (elsewhere other far)
             ];
-            named = seen_next number frame opened p m n h.generation (ap (is_live frame opened) h.used ∙ live) ∙ h.here;
+            named = seen_next number frame opened p m n h.fills.generation (ap (is_live frame opened) h.fills.used ∙ live) ∙ h.fills.here;
             others = λ other ne. elim (cases_eq other.place p) [
-              | inl e ↦ seen_apart number frame opened (slot_at h.mid other.place) (slot_at new other.place) other (more other e) (λ f. ne (f ∙ ap (λ q. next_of number q (slot_at h.mid q)) e)) ∙ sym (sym (seen_clear number frame opened (slot_at old other.place) (slot_at h.mid other.place) other (h.clears other.place)) ∙ seen_free number frame opened (slot_at h.mid other.place) other (subst (λ q. is_free (slot_at h.mid q) ≡ true) (sym e) h.free))
+              | inl e ↦ seen_apart number frame opened (slot_at h.mid other.place) (slot_at new other.place) other (more other e) (apart other ne e) ∙ sym (seen_none frame opened other e)
               | inr far ↦ seen_clear number frame opened (slot_at old other.place) (slot_at new other.place) other (elsewhere other far)
             ];
           };
         }
       where
         more : (other : SetHandle) → other.place ≡ p → (slot_at new other.place).generation ≡ (slot_at h.mid other.place).generation + 1
-        more other e = subst (λ q. (slot_at new q).generation ≡ (slot_at h.mid q).generation + 1) (sym e) h.generation
+        more other e = subst (λ q. (slot_at new q).generation ≡ (slot_at h.mid q).generation + 1) (sym e) h.fills.generation
+
+        apart : (other : SetHandle) → other ≢ next_of number p (slot_at h.mid p) → other.place ≡ p → other ≢ next_of number other.place (slot_at h.mid other.place)
+        apart other ne e f = ne (f ∙ ap (λ q. next_of number q (slot_at h.mid q)) e)
+
+        seen_none : (frame : ℕ) (opened : Bool) (other : SetHandle) → other.place ≡ p → seen number frame opened (slot_at old other.place) other ≡ None
+        seen_none frame opened other e = sym (seen_clear number frame opened (slot_at old other.place) (slot_at h.mid other.place) other (h.clears other.place)) ∙ seen_free number frame opened (slot_at h.mid other.place) other (subst (λ q. is_free (slot_at h.mid q) ≡ true) (sym e) h.fills.free)
 
         elsewhere : (other : SetHandle) → other.place ≢ p → Clears (slot_at old other.place) (slot_at new other.place)
-        elsewhere other far = subst (Clears (slot_at old other.place)) (sym (h.others other.place far)) (h.clears other.place)
+        elsewhere other far = subst (Clears (slot_at old other.place)) (sym (h.fills.others other.place far)) (h.clears other.place)
 
     pub named : IsNamed number layout u handle old new
-    named = subst (λ h. IsNamed number layout u h old new) (sym h.is) named_as
-
-    pub handle_place : handle.place ≡ p
-    handle_place = ap (λ (h : SetHandle). h.place) h.is
+    named = subst (λ h. IsNamed number layout u h old new) (sym h.fills.is) named_as
 
     pub handled_arrives : (f : ℕ) → (is_held_use u || is_waiting_use u) ≡ true → frame_in u ≤ f → (q : ℕ) → Arrives comes f (slot_at old q) (slot_at new q)
-    handled_arrives f live few q = elim (cases_eq q p) [
-      | inl e ↦ subst (λ q. Arrives comes f (slot_at old q) (slot_at new q)) (sym e) (arrives_then comes f (slot_at old p) m n (clears_arrives comes f (slot_at old p) m (h.clears p)) (record {
-        set = λ x is. (let same : h.set ≡ x = some_same (sym h.here ∙ is) in elim h.own [
-          | inl kept ↦ inl (kept.0 ∙ sym h.here ∙ is, h.of_layout ∙ sym kept.1)
-          | inr came ↦ inr (subst (λ l. comes l x) (sym h.of_layout) (subst (comes layout) same came))
-        ]);
-        placed = λ was. used_placed n h.set h.here (ap (λ u. is_held_use u || is_waiting_use u) h.used ∙ live);
-        frame = λ g le up. subst (λ u. frame_in u ≤ g) (sym h.used) (omega arith);
-      }))
-      | inr ne ↦ arrives_then comes f (slot_at old q) (slot_at h.mid q) (slot_at new q) (clears_arrives comes f (slot_at old q) (slot_at h.mid q) (h.clears q)) (same_arrives comes f (slot_at h.mid q) (slot_at new q) (h.others q ne))
-    ]
-      where
-        m : Slot T
-        m = slot_at h.mid p
+    handled_arrives f live few q = arrives_then comes f (slot_at old q) (slot_at h.mid q) (slot_at new q) (clears_arrives comes f (slot_at old q) (slot_at h.mid q) (h.clears q)) (fills_arrives f live few h.mid new h.fills q)
 
-        n : Slot T
-        n = slot_at new p
-
-        some_same : {x y : T} → Some x ≡ Some y → x ≡ y
-        some_same e = cc
+module _ {T : Type 0} where
+  -- one kept set fewer
+  pub kept_fewer : (layout p number : ℕ) (u : Use) (handle : SetHandle) (old mid new : List (Slot T)) → Picks (is_kept_of layout) p old mid → Renews number p u handle mid new → ((s : Slot T) → is_kept_of layout (renewed u s) ≡ false) → count (is_kept_of layout) new + 1 ≡ count (is_kept_of layout) old
+  kept_fewer layout p number u handle old mid new picks renews out =
+      let o = slot_at old p in
+      let taken = used_for Taken o in
+      let there : slot_at mid p ≡ taken = ap (λ l. slot_at l p) picks.slots ∙ slot_set old p taken picks.within in
+      let long = ap length picks.slots ∙ length-set old p taken in
+      let within = picks.within in
+      let a = count_set (is_kept_of layout) old p taken within in
+      let b = ap bit picks.was in
+      let c = ap (count (is_kept_of layout)) picks.slots in
+      let same = same_count (is_kept_of layout) mid p (renewed u (slot_at mid p)) (omega arith) (out (slot_at mid p) ∙ sym (ap (is_kept_of layout) there)) in
+      let d = ap (count (is_kept_of layout)) renews.slots in
+      omega arith
 
 module _ {L P S D : Type 0} {d : Ghosts D L P S} where
   pub cleared_of : (layout : L) (many : ℕ) (old new : Store L P S D d) → IsCleared layout many old new → AreCleaned (slots_in old) (slots_in new)
@@ -148,12 +166,19 @@ module _ {L P S D : Type 0} {d : Ghosts D L P S} where
   -- a set was taken, and has a handle
   pub taken_handles : (layout : L) (number number' p : ℕ) (u : Use) (handle : SetHandle) (old taken : Store L P S D d) (new : List (Slot (DescriptorSet S))) → (0 < kept_of number old → TakesKept number (Ok p) old taken) → (kept_of number old ≡ 0 → GetsAtLast layout number p old taken) → Renews number' p u handle (slots_in taken) new → Handles (ComesOf d.meaning layout number) number' number p u handle (slots_in old) new
   taken_handles layout number number' p u handle old taken new kept comes renews = elim (below_or 0 (kept_of number old)) [
-    | inl some ↦ (let k = kept some in let at : k.place ≡ p = ok_same k.is in kept_handles (ComesOf d.meaning layout number) number' number p u handle (slots_in old) (slots_in taken) new (subst (λ p. Picks (is_kept_of number) p (slots_in old) (slots_in taken)) at k.picks) renews)
+    | inl some ↦ (let k = kept some in let picks = subst (λ p. Picks (is_kept_of number) p (slots_in old) (slots_in taken)) (ok_same k.is) k.picks in at_once (kept_fills (ComesOf d.meaning layout number) number' number p u handle (slots_in old) (slots_in taken) new picks renews))
     | inr none ↦ elim (comes (omega arith)) [
-      | inl gets ↦ new_handles (ComesOf d.meaning layout number) number' number p u handle gets.set (slots_in old) (slots_in old) (slots_in taken) new (λ q. same_clears (slot_at (slots_in old) q) (slot_at (slots_in old) q) refl) gets.puts (refl, gets.own) renews
-      | inr cleared ↦ (let mid = cleared.0 in let gets = cleared.2 in new_handles (ComesOf d.meaning layout number) number' number p u handle gets.set (slots_in old) (slots_in mid) (slots_in taken) new (clears (slots_in old) (slots_in mid) (cleared_of layout 1 old mid cleared.1)) gets.puts (refl, gets.own) renews)
+      | inl gets ↦ at_once (new_fills (ComesOf d.meaning layout number) number' number p u handle gets.set (slots_in old) (slots_in taken) new gets.puts (refl, gets.own) renews)
+      | inr cleared ↦ (let mid = cleared.0 in let gets = cleared.2 in record {
+        mid = slots_in mid;
+        clears = clears (slots_in old) (slots_in mid) (cleared_of layout 1 old mid cleared.1);
+        fills = new_fills (ComesOf d.meaning layout number) number' number p u handle gets.set (slots_in mid) (slots_in taken) new gets.puts (refl, gets.own) renews;
+      })
     ]
   ]
+    where
+      at_once : Fills (ComesOf d.meaning layout number) number' number p u handle (slots_in old) new → Handles (ComesOf d.meaning layout number) number' number p u handle (slots_in old) new
+      at_once fills = record { mid = slots_in old; clears = λ q. same_clears (slot_at (slots_in old) q) (slot_at (slots_in old) q) refl; fills = fills }
 
   -- a kept set has its handle
   pub kept_handle : (number p : ℕ) (u : Use) (handle : SetHandle) (old taken new : Store L P S D d) → TakesKept number (Ok p) old taken → Renews (number_of old) p u handle (slots_in taken) (slots_in new) → side_of new ≡ side_of taken → HandlesKept number u handle old new

@@ -8,6 +8,7 @@ mod Given
 mod Growing
 mod Handing
 mod Listed
+mod Joining
 mod Naming
 mod Owned
 mod Remaining

@@ -36,7 +36,7 @@ module _ {T : Type 0} where
   pub free_kept : (s : Slot T) → is_kept s ≡ true → is_free s ≡ true
   free_kept s e = ap (λ b. b || not (is_some s.set)) e
 
-  free_is : (s : Slot T) → is_free s ≡ true → (s.set ≡ None) ⊎ (s.used ≡ Kept)
+  pub free_is : (s : Slot T) → is_free s ≡ true → (s.set ≡ None) ⊎ (s.used ≡ Kept)
   free_is s e = by_set s.set refl e
     where
       by_set : (o : Option T) → s.set ≡ o → (in_list (s.layout + 2) s.used s.layout s.generation (is_some o) || not (is_some o)) ≡ true → (s.set ≡ None) ⊎ (s.used ≡ Kept)

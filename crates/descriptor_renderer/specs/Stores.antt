@@ -86,9 +86,10 @@ NoneComes layout x = ⊥
 abbrev pub ComesOf : {L P S : Type 0} → Meaning L P S → L → ℕ → ℕ → DescriptorSet S → Type 0
 ComesOf means layout number other x = (other ≡ number) × IsOfLayout means layout x.raw
 
--- each set was in its slot before, under its layout, or passes the test
-abbrev pub SetsCome : {S : Type 0} → (ℕ → DescriptorSet S → Type 0) → List (Slot (DescriptorSet S)) → List (Slot (DescriptorSet S)) → Type 0
-SetsCome comes old new = (p : ℕ) (x : _) → (slot_at new p).set ≡ Some x → (((slot_at old p).set ≡ Some x) × ((slot_at new p).layout ≡ (slot_at old p).layout)) ⊎ comes (slot_at new p).layout x
+module _ {S : Type 0} where
+  -- each set was in its slot before, under its layout, or passes the test
+  abbrev pub SetsCome : (ℕ → DescriptorSet S → Type 0) → List (Slot (DescriptorSet S)) → List (Slot (DescriptorSet S)) → Type 0
+  SetsCome comes old new = (p : ℕ) (x : DescriptorSet S) → (slot_at new p).set ≡ Some x → (((slot_at old p).set ≡ Some x) × ((slot_at new p).layout ≡ (slot_at old p).layout)) ⊎ comes (slot_at new p).layout x
 
 -- how many lists a table has for so many layouts
 abbrev pub lists_for : ℕ → ℕ

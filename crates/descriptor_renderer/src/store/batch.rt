@@ -1,5 +1,5 @@
 //! Sets that are taken for handles, many at once: kept ones first.
-ghost use Rattle.std.specs.Prelude.{◌≡◌, ℕ, ◌+◌, ◌-◌, ◌<◌, ◌≤◌, ◌++◌, [], List, length, IfErr, OnErr, OnOk, Ok};
+ghost use Rattle.std.specs.Prelude.{◌≡◌, ℕ, ◌+◌, ◌-◌, ◌<◌, ◌≤◌, ◌++◌, [], ◌∷◌, List, length, IfErr, OnErr, OnOk, Ok};
 ghost use Rattle.std.specs.Prelude.{vec_capacity, vec_len};
 ghost use Rattle.gpu_descriptor.specs.Caller.SetLayouts.{IsMeant};
 ghost use Rattle.gpu_descriptor.specs.Caller.Sets.{AreOfLayout};
@@ -66,7 +66,29 @@ impl<L: Drop, P: Drop, S: Drop, D: DescriptorDevice<L, P, S>> Store<L, P, S, D> 
         }
     }
 
-    /// Holds kept sets of a layout, and appends their handles, over memory that was reserved.
+    /// Holds a kept set of a layout, and appends its handle, over memory that was reserved.
+    #[inline]
+    fn hold_next(&mut self, layout: u32, handles: &mut Vec<SetHandle>)
+        requires kept { 0 < kept_of layout self.old }
+        requires room { vec_len handles.old < vec_capacity handles.old }
+        ensures holds { (handle : SetHandle) × (handles.new.items ≡ handles.old.items ++ handle ∷ [])
+            × HoldEach (number_of self.old) layout (handle ∷ []) (slots_in self.old)
+            (slots_in self.new) }
+        ensures fewer { kept_of layout self.new + 1 ≡ kept_of layout self.old }
+        ensures room { vec_capacity handles.new ≡ vec_capacity handles.old }
+        ensures side { side_of self.new ≡ side_of self.old }
+        ensures coming { coming_in self.new ≡ coming_in self.old }
+        ensures sets { SetsCome NoneComes (slots_in self.old) (slots_in self.new) }
+        ensures table { (n : ℕ) → HasRoom n self.old.table → HasRoom n self.new.table }
+        ensures stays { StoreStays (most_of self.old) self.old self.new }
+    {
+        match self.table.take_kept(layout) {
+            Some(place) => handles.push_reserved(self.table.hold(place)),
+            None => unreachable!(),
+        }
+    }
+
+    /// Holds so many kept sets of a layout, and appends their handles, over memory that was reserved.
     fn hold_kept(&mut self, layout: u32, many: u32, handles: &mut Vec<SetHandle>)
         requires kept { many ≤ kept_of layout self.old }
         requires room { vec_len handles.old + many ≤ vec_capacity handles.old }
@@ -77,14 +99,41 @@ impl<L: Drop, P: Drop, S: Drop, D: DescriptorDevice<L, P, S>> Store<L, P, S, D> 
         ensures side { side_of self.new ≡ side_of self.old }
         ensures coming { coming_in self.new ≡ coming_in self.old }
         ensures sets { SetsCome NoneComes (slots_in self.old) (slots_in self.new) }
-        ensures reserve { (n : ℕ) → HasRoom n self.old.table → HasRoom n self.new.table }
+        ensures table { (n : ℕ) → HasRoom n self.old.table → HasRoom n self.new.table }
         ensures stays { StoreStays (most_of self.old) self.old self.new }
     {
         for _ in 0..many {
-            match self.table.take_kept(layout) {
-                Some(place) => handles.push_reserved(self.table.hold(place)),
-                None => unreachable!(),
+            self.hold_next(layout, handles);
+        }
+    }
+
+    /// Holds one of the sets that are on their way, and appends its handle, over memory that was
+    /// reserved.
+    #[inline]
+    fn hold_last(&mut self, layout: u32, handles: &mut Vec<SetHandle>)
+        requires some { 0 < length (coming_in self.old).items }
+        requires layout { HasLayout layout self.old }
+        requires table { HasRoom (length (coming_in self.old).items) self.old.table }
+        requires room { vec_len handles.old < vec_capacity handles.old }
+        ensures holds { (handle : SetHandle) × (handles.new.items ≡ handles.old.items ++ handle ∷ [])
+            × HoldEach (number_of self.old) layout (handle ∷ []) (slots_in self.old)
+            (slots_in self.new) }
+        ensures fewer { length (coming_in self.new).items + 1 ≡ length (coming_in self.old).items }
+        ensures room { vec_capacity handles.new ≡ vec_capacity handles.old }
+        ensures side { side_of self.new ≡ side_of self.old }
+        ensures own { (known : L) → AreOfLayout D.meaning known (coming_in self.old).items
+            → AreOfLayout D.meaning known (coming_in self.new).items }
+        ensures sets { (known : L) → AreOfLayout D.meaning known (coming_in self.old).items
+            → SetsCome (ComesOf D.meaning known layout) (slots_in self.old) (slots_in self.new) }
+        ensures table { HasRoom (length (coming_in self.new).items) self.new.table }
+        ensures stays { StoreStays (most_of self.old) self.old self.new }
+    {
+        match self.coming.pop() {
+            Some(set) => {
+                let place = self.table.put(layout, set);
+                handles.push_reserved(self.table.hold(place));
             }
+            None => unreachable!(),
         }
     }
 
@@ -103,9 +152,8 @@ impl<L: Drop, P: Drop, S: Drop, D: DescriptorDevice<L, P, S>> Store<L, P, S, D> 
             → SetsCome (ComesOf D.meaning known layout) (slots_in self.old) (slots_in self.new) }
         ensures stays { StoreStays (most_of self.old) self.old self.new }
     {
-        while let Some(set) = self.coming.pop() {
-            let place = self.table.put(layout, set);
-            handles.push_reserved(self.table.hold(place));
+        for _ in 0..self.coming.len() {
+            self.hold_last(layout, handles);
         }
     }
 

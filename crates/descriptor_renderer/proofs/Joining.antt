@@ -1,0 +1,232 @@
+-- Sets that are held, one after another.
+use Rattle.std.proofs.Common.{◌≡◌, ◌≢◌, ℕ, zero, suc, ◌+◌, ◌-◌, ◌<◌, ◌≤◌, ◌⊎◌, ◌&&◌, ◌||◌, Bool, true, false, List, [], ◌∷◌, ◌++◌, length, get_or, Option, Some, None, is_some, IsSome, inl, inr, refl, sym, ap, subst, ◌∙◌, append_assoc, arith}
+use Rattle.std.proofs.lemmas.Bool.{and_right, cases_lt}
+use Rattle.std.proofs.lemmas.List.{get_or-append-add, append-nil, get_or_append_left, length-append}
+use Rattle.gpu_descriptor_types.specs.declared.device.DescriptorDevice.{Ghosts}
+use Rattle.gpu_descriptor.specs.declared.set.DescriptorSet.{DescriptorSet}
+use Rattle.descriptor_table.specs.Slots.{frame_in, is_live, slot_at}
+use Rattle.descriptor_table.specs.Sets.{find, is_given}
+use Rattle.descriptor_table.specs.Tables.{holds, is_held_use, is_waiting_use, place_at}
+use Rattle.descriptor_table.specs.declared.handle.SetHandle.{SetHandle}
+use Rattle.descriptor_table.specs.declared.slot.Slot.{Slot}
+use Rattle.descriptor_table.specs.declared.slot.Use.{Use}
+use Rattle.descriptor_table.specs.declared.slot.Use.TheVariants.{Held, Drawn, Waits, Kept, Going, Taken, Vacant}
+use Rattle.descriptor_table.proofs.Chains.{and_true}
+use Rattle.descriptor_table.proofs.Holding.{named_or}
+use Rattle.descriptor_renderer.specs.Stores.{AreNamed, HoldEach, NoneComes, SetsCome, StoreStays, is_free, most_of, number_of, slots_in}
+use Rattle.descriptor_renderer.specs.declared.store.Store.{Store}
+use Rattle.descriptor_renderer.proofs.Arriving.{Arrives, arrives_then, clears_arrives, same_arrives, used_placed}
+use Rattle.descriptor_renderer.proofs.Cleared.{Clears}
+use Rattle.descriptor_renderer.proofs.Handing.{Fills, some_of}
+use Rattle.descriptor_renderer.proofs.Naming.{free_is, given_apart, given_clear, given_never, given_next, next_of, seen, seen_apart, seen_clear, seen_free, seen_next}
+
+held_use : (u : Use) → is_held_use u ≡ true → u ≡ Held
+held_use Held e = refl
+held_use (Drawn f) e = absurd (cc)
+held_use (Waits f) e = absurd (cc)
+held_use Kept e = absurd (cc)
+held_use Going e = absurd (cc)
+held_use Taken e = absurd (cc)
+held_use Vacant e = absurd (cc)
+
+-- a place of two lists is one of the first, or of the second
+spot : (a b : List SetHandle) (i : ℕ) → i < length (a ++ b) → ((i < length a) × (place_at (a ++ b) i ≡ place_at a i)) ⊎ ((k : ℕ) × (k < length b) × (i ≡ length a + k) × (place_at (a ++ b) i ≡ place_at b k))
+spot a b i lt =
+    let none : SetHandle = record { renderer = 0; place = 0; generation = 0 } in
+    elim (cases_lt i (length a)) [
+      | inl less ↦ inl (less, ap (λ (h : SetHandle). h.place) (get_or_append_left a b none i less))
+      | inr le ↦
+          let long = length-append a b in
+          let is : i ≡ length a + (i - length a) = omega arith in
+          inr (i - length a, omega arith, is, ap (place_at (a ++ b)) is ∙ ap (λ (h : SetHandle). h.place) (get_or-append-add a b (i - length a) none))
+    ]
+
+module _ {T : Type 0} where
+  held_is : (s : Slot T) → holds s ≡ true → (s.used ≡ Held) × (is_some s.set ≡ true)
+  held_is s e = (let both = and_true (is_held_use s.used) (is_some s.set) e in (held_use s.used both.0, both.1))
+
+  held_not_free : (s : Slot T) → holds s ≡ true → is_free s ≡ true → ⊥
+  held_not_free s held free = elim (free_is s free) [
+    | inl none ↦ (let no : false ≡ true = sym (ap is_some none) ∙ (held_is s held).1 in cc)
+    | inr kept ↦ (let no : false ≡ true = ap is_held_use (sym kept ∙ (held_is s held).0) in cc)
+  ]
+
+  pub hold_none : (number layout : ℕ) (old : List (Slot T)) → HoldEach number layout [] old old
+  hold_none number layout old = record {
+    apart = λ i j lt less. absurd (omega arith);
+    was = λ i lt. absurd (omega arith);
+    is = λ i e lt. absurd (omega arith);
+    generation = λ i lt. absurd (omega arith);
+    of_layout = λ i lt. absurd (omega arith);
+    held = λ i lt. absurd (omega arith);
+    rest = λ p none. refl;
+  }
+
+  pub hold_one : (comes : ℕ → T → Type 0) (number layout p : ℕ) (handle : SetHandle) (old new : List (Slot T)) → Fills comes number layout p Held handle old new → HoldEach number layout (handle ∷ []) old new
+  hold_one comes number layout p handle old new f = record {
+    apart = λ i j lt less. absurd (omega arith);
+    was = λ i lt. subst (λ q. is_free (slot_at old q) ≡ true) (sym (at i lt)) f.free;
+    is = is_next;
+    generation = λ i lt. subst (λ q. (slot_at new q).generation ≡ (slot_at old q).generation + 1) (sym (at i lt)) f.generation;
+    of_layout = λ i lt. subst (λ q. (slot_at new q).layout ≡ layout) (sym (at i lt)) f.of_layout;
+    held = λ i lt. subst (λ q. holds (slot_at new q) ≡ true) (sym (at i lt)) (ap (λ u. is_held_use u && is_some (slot_at new p).set) f.used ∙ ap is_some f.here);
+    rest = λ q none. f.others q (λ e. none 0 (omega arith) (at 0 (omega arith) ∙ sym e));
+  }
+    where
+      at : (i : ℕ) → i < length (handle ∷ []) → place_at (handle ∷ []) i ≡ p
+      at zero lt = ap (λ (h : SetHandle). h.place) f.is
+      at (suc i) lt = absurd (omega arith)
+
+      is_next : (i : ℕ) (e : SetHandle) → i < length (handle ∷ []) → get_or (handle ∷ []) i e ≡ next_of number (place_at (handle ∷ []) i) (slot_at old (place_at (handle ∷ []) i))
+      is_next zero e lt = f.is ∙ ap (λ q. next_of number q (slot_at old q)) (sym (at 0 lt))
+      is_next (suc i) e lt = absurd (omega arith)
+
+  module _ (number layout : ℕ) (a b : List SetHandle) (old mid new : List (Slot T)) (x : HoldEach number layout a old mid) (y : HoldEach number layout b mid new) where
+    apart_places : (i k : ℕ) → i < length a → k < length b → place_at a i ≢ place_at b k
+    apart_places i k lt less e = held_not_free (slot_at mid (place_at b k)) (subst (λ q. holds (slot_at mid q) ≡ true) e (x.held i lt)) (y.was k less)
+
+    -- the later places are as they were before
+    later : (k : ℕ) → k < length b → slot_at mid (place_at b k) ≡ slot_at old (place_at b k)
+    later k less = x.rest (place_at b k) (λ i lt. apart_places i k lt less)
+
+    -- the first places stay as they are
+    first : (i : ℕ) → i < length a → slot_at new (place_at a i) ≡ slot_at mid (place_at a i)
+    first i lt = y.rest (place_at a i) (λ k less e. apart_places i k lt less (sym e))
+
+    join_apart : (i j : ℕ) → i < j → j < length (a ++ b) → place_at (a ++ b) i ≢ place_at (a ++ b) j
+    join_apart i j lt less e = elim (spot a b i (omega arith)) [
+      | inl u ↦ elim (spot a b j less) [
+        | inl v ↦ x.apart i j lt v.0 (sym u.1 ∙ e ∙ v.1)
+        | inr v ↦ apart_places i v.0 u.0 v.1 (sym u.1 ∙ e ∙ v.3)
+      ]
+      | inr u ↦ elim (spot a b j less) [
+        | inl v ↦ (let is = u.2 in let few = v.0 in absurd (omega arith))
+        | inr v ↦ (let is = u.2 in let then = v.2 in y.apart u.0 v.0 (omega arith) v.1 (sym u.3 ∙ e ∙ v.3))
+      ]
+    ]
+
+    pub joined : HoldEach number layout (a ++ b) old new
+    joined = record {
+      apart = join_apart;
+      was = λ i lt. elim (spot a b i lt) [
+        | inl u ↦ subst (λ q. is_free (slot_at old q) ≡ true) (sym u.1) (x.was i u.0)
+        | inr u ↦ subst (λ q. is_free (slot_at old q) ≡ true) (sym u.3) (ap is_free (sym (later u.0 u.1)) ∙ y.was u.0 u.1)
+      ];
+      is = λ i e lt. elim (spot a b i lt) [
+        | inl u ↦ get_or_append_left a b e i u.0 ∙ x.is i e u.0 ∙ ap (λ q. next_of number q (slot_at old q)) (sym u.1)
+        | inr u ↦ ap (λ j. get_or (a ++ b) j e) u.2 ∙ get_or-append-add a b u.0 e ∙ y.is u.0 e u.1 ∙ ap (next_of number (place_at b u.0)) (later u.0 u.1) ∙ ap (λ q. next_of number q (slot_at old q)) (sym u.3)
+      ];
+      generation = λ i lt. elim (spot a b i lt) [
+        | inl u ↦ subst (λ q. (slot_at new q).generation ≡ (slot_at old q).generation + 1) (sym u.1) (ap (λ (s : Slot T). s.generation) (first i u.0) ∙ x.generation i u.0)
+        | inr u ↦ subst (λ q. (slot_at new q).generation ≡ (slot_at old q).generation + 1) (sym u.3) (y.generation u.0 u.1 ∙ ap (λ (s : Slot T). s.generation + 1) (later u.0 u.1))
+      ];
+      of_layout = λ i lt. elim (spot a b i lt) [
+        | inl u ↦ subst (λ q. (slot_at new q).layout ≡ layout) (sym u.1) (ap (λ (s : Slot T). s.layout) (first i u.0) ∙ x.of_layout i u.0)
+        | inr u ↦ subst (λ q. (slot_at new q).layout ≡ layout) (sym u.3) (y.of_layout u.0 u.1)
+      ];
+      held = λ i lt. elim (spot a b i lt) [
+        | inl u ↦ subst (λ q. holds (slot_at new q) ≡ true) (sym u.1) (ap holds (first i u.0) ∙ x.held i u.0)
+        | inr u ↦ subst (λ q. holds (slot_at new q) ≡ true) (sym u.3) (y.held u.0 u.1)
+      ];
+      rest = λ p none.
+          y.rest p (λ k less e. none (length a + k) (let long = length-append a b in omega arith) (ap (λ (h : SetHandle). h.place) (get_or-append-add a b k (record { renderer = 0; place = 0; generation = 0 })) ∙ e))
+          ∙ x.rest p (λ i lt e. none i (let long = length-append a b in omega arith) (ap (λ (h : SetHandle). h.place) (get_or_append_left a b (record { renderer = 0; place = 0; generation = 0 }) i lt) ∙ e));
+    }
+
+  module _ (number layout : ℕ) (handles : List SetHandle) (old mid new : List (Slot T)) (clear : (q : ℕ) → Clears (slot_at old q) (slot_at mid q)) (x : HoldEach number layout handles mid new) where
+    -- each set is there, and waits for no frame
+    pub holds_arrives : (comes : ℕ → T → Type 0) (f : ℕ) → ((p : ℕ) (t : T) → (slot_at new p).set ≡ Some t → (((slot_at mid p).set ≡ Some t) × ((slot_at new p).layout ≡ (slot_at mid p).layout)) ⊎ comes (slot_at new p).layout t) → (q : ℕ) → Arrives comes f (slot_at old q) (slot_at new q)
+    holds_arrives comes f sets q = arrives_then comes f (slot_at old q) (slot_at mid q) (slot_at new q) (clears_arrives comes f (slot_at old q) (slot_at mid q) (clear q)) (elim (named_or (length handles) (place_at handles) q) [
+      | inl found ↦
+          let held = held_is (slot_at new q) (subst (λ q. holds (slot_at new q) ≡ true) found.2 (x.held found.0 found.1)) in
+          let full = some_of (slot_at new q).set held.1 in
+          record {
+            set = sets q;
+            placed = λ was. used_placed (slot_at new q) full.0 full.1 (ap (λ u. is_held_use u || is_waiting_use u) held.0);
+            frame = λ g le up. subst (λ u. frame_in u ≤ g) (sym held.0) (omega arith);
+          }
+      | inr none ↦ same_arrives comes f (slot_at mid q) (slot_at new q) (x.rest q none)
+    ])
+
+    -- a handle that is none of these names what it named
+    others_keep : (frame : ℕ) (opened : Bool) (other : SetHandle) → ((i : ℕ) (d : SetHandle) → i < length handles → get_or handles i d ≢ other) → (find number frame opened new other ≡ find number frame opened old other) × (is_given number new other ≡ is_given number old other)
+    others_keep frame opened other none = elim (named_or (length handles) (place_at handles) other.place) [
+      | inl found ↦
+          let m = slot_at mid other.place in
+          let n = slot_at new other.place in
+          let more = subst (λ q. (slot_at new q).generation ≡ (slot_at mid q).generation + 1) found.2 (x.generation found.0 found.1) in
+          let free = subst (λ q. is_free (slot_at mid q) ≡ true) found.2 (x.was found.0 found.1) in
+          let apart : other ≢ next_of number other.place m = λ e. none found.0 other found.1 (x.is found.0 other found.1 ∙ ap (λ q. next_of number q (slot_at mid q)) found.2 ∙ sym e) in (
+            seen_apart number frame opened m n other more apart ∙ sym (sym (seen_clear number frame opened (slot_at old other.place) m other (clear other.place)) ∙ seen_free number frame opened m other free),
+            given_apart number m n other more apart ∙ given_clear number (slot_at old other.place) m other (clear other.place),
+          )
+      | inr far ↦
+          let c = subst (Clears (slot_at old other.place)) (sym (x.rest other.place far)) (clear other.place) in
+          (seen_clear number frame opened (slot_at old other.place) (slot_at new other.place) other c, given_clear number (slot_at old other.place) (slot_at new other.place) other c)
+    ]
+
+    names_set : (frame : ℕ) (opened : Bool) (i : ℕ) (d : SetHandle) → i < length handles → IsSome (find number frame opened new (get_or handles i d))
+    names_set frame opened i d lt =
+        let q = place_at handles i in
+        let n = slot_at new q in
+        let held = held_is n (x.held i lt) in
+        subst (λ h. IsSome (find number frame opened new h)) (sym (x.is i d lt)) (subst IsSome (sym (seen_next number frame opened q (slot_at mid q) n (x.generation i lt) (ap (is_live frame opened) held.0))) held.1)
+
+    pub are_named : AreNamed number layout handles old new
+    are_named = record {
+      of_layout = x.of_layout;
+      names = λ frame opened. record {
+        never = λ i d lt. subst (λ h. is_given number old h ≡ false) (sym (x.is i d lt)) (let q = place_at handles i in sym (given_clear number (slot_at old q) (slot_at mid q) (next_of number q (slot_at mid q)) (clear q)) ∙ given_never number q (slot_at mid q));
+        once = λ i j d lt less e. x.apart i j lt less (ap (λ (h : SetHandle). h.place) (sym (x.is i d (omega arith)) ∙ e ∙ x.is j d less));
+        given = λ i d lt. subst (λ h. is_given number new h ≡ true) (sym (x.is i d lt)) (let q = place_at handles i in given_next number q (slot_at mid q) (slot_at new q) (x.generation i lt));
+        named = names_set frame opened;
+        others = others_keep frame opened;
+      };
+    }
+
+module _ {S : Type 0} where
+  pub sets_then : (comes : ℕ → DescriptorSet S → Type 0) (old mid new : List (Slot (DescriptorSet S))) → SetsCome comes old mid → SetsCome comes mid new → SetsCome comes old new
+  sets_then comes old mid new a b p x e = elim (b p x e) [
+    | inl stays ↦ elim (a p x stays.0) [
+      | inl was ↦ inl (was.0, stays.1 ∙ was.1)
+      | inr came ↦ inr (subst (λ l. comes l x) (sym stays.1) came)
+    ]
+    | inr came ↦ inr came
+  ]
+
+  -- sets that are where they were, before others came
+  pub kept_then : (comes : ℕ → DescriptorSet S → Type 0) (old mid new : List (Slot (DescriptorSet S))) → SetsCome NoneComes old mid → SetsCome comes mid new → SetsCome comes old new
+  kept_then comes old mid new a b = sets_then comes old mid new (λ p x e. elim (a p x e) [
+    | inl was ↦ inl was
+    | inr none ↦ absurd none
+  ]) b
+
+module _ {L P S D : Type 0} {d : Ghosts D L P S} where
+  pub store_same : (s : Store L P S D d) → StoreStays (most_of s) s s
+  store_same s = record { number = refl; lists = refl; limit = refl; besides = refl; keeps = refl }
+
+  pub stays_then : (old mid new : Store L P S D d) → StoreStays (most_of old) old mid → StoreStays (most_of mid) mid new → StoreStays (most_of old) old new
+  stays_then old mid new a b = record {
+    number = b.number ∙ a.number;
+    lists = b.lists ∙ a.lists;
+    limit = b.limit ∙ a.limit;
+    besides = b.besides ∙ a.besides;
+    keeps = b.keeps ∙ a.keeps;
+  }
+
+  -- one more handle was given
+  pub held_next : (layout n : ℕ) (start now then : List SetHandle) (old mid new : Store L P S D d) → StoreStays (most_of old) old mid → ((given : List SetHandle) × (now ≡ start ++ given) × (length given ≡ n) × HoldEach (number_of old) layout given (slots_in old) (slots_in mid)) → ((handle : SetHandle) × (then ≡ now ++ handle ∷ []) × HoldEach (number_of mid) layout (handle ∷ []) (slots_in mid) (slots_in new)) → (given : List SetHandle) × (then ≡ start ++ given) × (length given ≡ n + 1) × HoldEach (number_of old) layout given (slots_in old) (slots_in new)
+  held_next layout n start now then old mid new stays a b =
+      let given = a.0 in
+      let long = length-append given (b.0 ∷ []) in
+      let many = a.2 in
+      let each = subst (λ number. HoldEach number layout (b.0 ∷ []) (slots_in mid) (slots_in new)) stays.number b.2 in (
+        given ++ b.0 ∷ [],
+        b.1 ∙ ap (λ l. l ++ b.0 ∷ []) a.1 ∙ append_assoc start given (b.0 ∷ []),
+        omega arith,
+        joined (number_of old) layout given (b.0 ∷ []) (slots_in old) (slots_in mid) (slots_in new) a.3 each,
+      )
+
+  -- none is given yet
+  pub held_start : (layout : ℕ) (start : List SetHandle) (old : Store L P S D d) → (given : List SetHandle) × (start ≡ start ++ given) × (length given ≡ 0) × HoldEach (number_of old) layout given (slots_in old) (slots_in old)
+  held_start layout start old = ([], sym (append-nil start), refl, hold_none (number_of old) layout (slots_in old))

@@ -1,0 +1,31 @@
+use Rattle.std.proofs.Common.{◌≡◌, ◌+◌, ◌∙◌, inl, refl, arith}
+use Rattle.descriptor_renderer.specs.Stores.{NoneComes, kept_of, slots_in}
+use Rattle.descriptor_renderer.proofs.Joining.{held_next, held_start, kept_then, stays_then, store_same}
+use Rattle.descriptor_renderer.proofs.store.Store.hold_kept.Goals as goal
+
+pub loop-init : goal.loop-init
+loop-init g c = record {
+  holds = held_start c.args.layout c.args.handles.now.items c.args.self.now;
+  fewer = omega arith;
+  room = refl;
+  side = refl;
+  coming = refl;
+  sets = λ p x e. inl (e, refl);
+  table = λ n room. room;
+  stays = store_same c.args.self.now;
+}
+
+pub loop-preserved : goal.loop-preserved
+loop-preserved g c =
+    let was = c.loop.invariant in
+    let now = c.hold_next.ensures in
+    record {
+      holds = held_next c.args.layout c.loop.counter c.args.handles.now.items c.loop.handles.items c.hold_next.new.handles.items c.args.self.now c.loop.self c.hold_next.new.self was.stays was.holds now.holds;
+      fewer = (let a = was.fewer in let b = now.fewer in omega arith);
+      room = now.room ∙ was.room;
+      side = now.side ∙ was.side;
+      coming = now.coming ∙ was.coming;
+      sets = kept_then NoneComes (slots_in c.args.self.now) (slots_in c.loop.self) (slots_in c.hold_next.new.self) was.sets now.sets;
+      table = λ n room. now.table n (was.table n room);
+      stays = stays_then c.args.self.now c.loop.self c.hold_next.new.self was.stays now.stays;
+    }

@@ -1,0 +1,66 @@
+use Rattle.std.proofs.Common.{◌≡◌, ℕ, ◌+◌, ◌<◌, ◌++◌, ◌∙◌, [], ◌∷◌, length, slice_index_or, refl, sym, ap, subst, arith}
+use Rattle.std.specs.Prelude.{⊤}
+use Rattle.std.proofs.lemmas.List.{get_or_append_left, length-append, length-set}
+use Rattle.gpu_descriptor.specs.Caller.Sets.{items_of}
+use Rattle.gpu_descriptor.specs.Model.Agreement.{count_of}
+use Rattle.gpu_descriptor_types.specs.Meaning.{IsOfLayout}
+use Rattle.gpu_descriptor.proofs.callers.HeldSets.{count_parts}
+use Rattle.descriptor_table.specs.Sets.{sets_in}
+use Rattle.descriptor_table.specs.Slots.{slot_at}
+use Rattle.descriptor_table.specs.Tables.{HasRoom, Renews, renewed, slots_of}
+use Rattle.descriptor_table.specs.declared.slot.Use.TheVariants.{Held}
+use Rattle.descriptor_table.proofs.Renewing.{room_stays}
+use Rattle.descriptor_renderer.specs.Stores.{coming_in, number_of, slots_in}
+use Rattle.descriptor_renderer.proofs.Given.{put_count, put_many, renewed_sets}
+use Rattle.descriptor_renderer.proofs.Handing.{new_fills}
+use Rattle.descriptor_renderer.proofs.Joining.{hold_one}
+use Rattle.descriptor_renderer.proofs.store.Store.hold_last.Given.{Over}
+use Rattle.descriptor_renderer.proofs.store.Store.hold_last.Goals as goal
+use Rattle.descriptor_renderer.proofs.store.Store.hold_last.Goals.{After-hold}
+
+renews : (g : Over) (c : After-hold g) → Renews (number_of c.args.self.now) c.put-place.result Held c.hold.result (slots_of c.put-place.new.self) (slots_of c.hold.new.self)
+renews g c = subst (λ n. Renews n c.put-place.result Held c.hold.result (slots_of c.put-place.new.self) (slots_of c.hold.new.self)) c.put-place.ensures.number c.hold.ensures.renews
+
+same_sets : (g : Over) (c : After-hold g) → sets_in (slots_of c.hold.new.self) ≡ sets_in (slots_of c.put-place.new.self)
+same_sets g c = renewed_sets (number_of c.args.self.now) c.put-place.result Held c.hold.result (slots_of c.put-place.new.self) (slots_of c.hold.new.self) (renews g c)
+
+fewer : (g : Over) (c : After-hold g) → length (coming_in c.args.self.now).items ≡ length c.pop.new.self.items + 1
+fewer g c = ap length c.in-Some.ensures.items ∙ length-append c.pop.new.self.items (c.in-Some.set ∷ [])
+
+pub invariant_of-self-clause-exact : goal.invariant_of-self-clause-exact
+invariant_of-self-clause-exact g c = λ t.
+    let name = g.D.DescriptorDevice.meaning.set_name in
+    let same = ap (λ l. count_of t (items_of name l)) (same_sets g c) in
+    let more = put_count name c.args.layout c.put-place.result c.in-Some.set (slots_in c.args.self.now) (slots_of c.put-place.new.self) c.put-place.ensures.puts t in
+    let coming = ap (λ l. count_of t (items_of name l)) c.in-Some.ensures.items in
+    let parts = count_parts name c.pop.new.self.items (c.in-Some.set ∷ []) t in
+    let was = c.args.self.now.exact t in
+    omega arith
+
+pub invariant_of-self-clause-accounted : goal.invariant_of-self-clause-accounted
+invariant_of-self-clause-accounted g c =
+    let same = ap length (same_sets g c) in
+    let more = put_many c.args.layout c.put-place.result c.in-Some.set (slots_in c.args.self.now) (slots_of c.put-place.new.self) c.put-place.ensures.puts in
+    let coming = fewer g c in
+    let was = c.args.self.now.accounted in
+    omega arith
+
+pub returns-clause-holds : goal.returns-clause-holds
+returns-clause-holds g c =
+    let h = (goal.at.returns-clause-holds g c).After-hold in
+    let fills = new_fills (λ l x. ⊤) (number_of c.args.self.now) c.args.layout c.put-place.result Held c.hold.result c.in-Some.set (slots_in c.args.self.now) (slots_of c.put-place.new.self) (slots_of c.hold.new.self) c.put-place.ensures.puts tt (renews g h) in
+    (c.hold.result, c.push_reserved.ensures.items, hold_one (λ l x. ⊤) (number_of c.args.self.now) c.args.layout c.put-place.result c.hold.result (slots_in c.args.self.now) (slots_of c.hold.new.self) fills)
+
+pub returns-clause-own : goal.returns-clause-own
+returns-clause-own g c = λ known own k d lt.
+    let more = fewer g (goal.at.returns-clause-own g c).After-hold in
+    let same = ap (λ l. slice_index_or l k d) c.in-Some.ensures.items ∙ get_or_append_left c.pop.new.self.items (c.in-Some.set ∷ []) d k lt in
+    subst (λ x. IsOfLayout g.D.DescriptorDevice.meaning known x.raw) same (own k d (omega arith))
+
+pub returns-clause-table : goal.returns-clause-table
+returns-clause-table g c =
+    let h = (goal.at.returns-clause-table g c).After-hold in
+    let r = renews g h in
+    let put = slots_of c.put-place.new.self in
+    let room = subst (λ n. HasRoom n c.args.self.now.table) (fewer g h) c.requires.table in
+    room_stays (length c.pop.new.self.items) c.put-place.new.self c.hold.new.self c.hold.ensures.stays (ap length r.slots ∙ length-set put c.put-place.result (renewed Held (slot_at put c.put-place.result))) (c.put-place.ensures.reserve (length c.pop.new.self.items) room)

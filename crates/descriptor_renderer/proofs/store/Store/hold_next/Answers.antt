@@ -1,0 +1,48 @@
+use Rattle.std.proofs.Common.{◌≡◌, ◌+◌, ◌∙◌, [], ◌∷◌, length, refl, ap, subst, arith}
+use Rattle.gpu_descriptor.specs.Caller.Sets.{items_of}
+use Rattle.gpu_descriptor.specs.Model.Agreement.{count_of}
+use Rattle.descriptor_table.specs.Sets.{sets_in}
+use Rattle.descriptor_table.specs.Slots.{is_kept_of}
+use Rattle.descriptor_table.specs.Tables.{Renews, slots_of}
+use Rattle.descriptor_table.specs.declared.slot.Use.TheVariants.{Held}
+use Rattle.descriptor_table.proofs.Counts.{none_count}
+use Rattle.descriptor_renderer.specs.Stores.{NoneComes, number_of, slots_in}
+use Rattle.descriptor_renderer.proofs.Given.{picked_sets, renewed_sets}
+use Rattle.descriptor_renderer.proofs.Handing.{kept_fewer, kept_fills}
+use Rattle.descriptor_renderer.proofs.Joining.{hold_one}
+use Rattle.descriptor_renderer.proofs.store.Store.hold_next.Given.{Over}
+use Rattle.descriptor_renderer.proofs.store.Store.hold_next.Goals as goal
+use Rattle.descriptor_renderer.proofs.store.Store.hold_next.Goals.{After-hold}
+
+renews : (g : Over) (c : After-hold g) → Renews (number_of c.args.self.now) c.in-Some.place Held c.hold.result (slots_of c.take_kept.new.self) (slots_of c.hold.new.self)
+renews g c = subst (λ n. Renews n c.in-Some.place Held c.hold.result (slots_of c.take_kept.new.self) (slots_of c.hold.new.self)) c.take_kept.ensures.stays.number c.hold.ensures.renews
+
+same_sets : (g : Over) (c : After-hold g) → sets_in (slots_of c.hold.new.self) ≡ sets_in (slots_in c.args.self.now)
+same_sets g c = renewed_sets (number_of c.args.self.now) c.in-Some.place Held c.hold.result (slots_of c.take_kept.new.self) (slots_of c.hold.new.self) (renews g c) ∙ picked_sets (is_kept_of c.args.layout) c.in-Some.place (slots_in c.args.self.now) (slots_of c.take_kept.new.self) c.in-Some.ensures.picks
+
+pub unreachable-requires : goal.unreachable-requires
+unreachable-requires g c =
+    let none = none_count (is_kept_of c.args.layout) (slots_in c.args.self.now) c.in-None.ensures.picks.none in
+    let some = c.requires.kept in
+    omega arith
+
+pub invariant_of-self-clause-exact : goal.invariant_of-self-clause-exact
+invariant_of-self-clause-exact g c = λ t.
+    let same = ap (λ l. count_of t (items_of g.D.DescriptorDevice.meaning.set_name l)) (same_sets g c) in
+    let was = c.args.self.now.exact t in
+    omega arith
+
+pub invariant_of-self-clause-accounted : goal.invariant_of-self-clause-accounted
+invariant_of-self-clause-accounted g c =
+    let same = ap length (same_sets g c) in
+    let was = c.args.self.now.accounted in
+    omega arith
+
+pub returns-clause-holds : goal.returns-clause-holds
+returns-clause-holds g c =
+    let h = (goal.at.returns-clause-holds g c).After-hold in
+    let fills = kept_fills NoneComes (number_of c.args.self.now) c.args.layout c.in-Some.place Held c.hold.result (slots_in c.args.self.now) (slots_of c.take_kept.new.self) (slots_of c.hold.new.self) c.in-Some.ensures.picks (renews g h) in
+    (c.hold.result, c.push_reserved.ensures.items, hold_one NoneComes (number_of c.args.self.now) c.args.layout c.in-Some.place c.hold.result (slots_in c.args.self.now) (slots_of c.hold.new.self) fills)
+
+pub returns-clause-fewer : goal.returns-clause-fewer
+returns-clause-fewer g c = kept_fewer c.args.layout c.in-Some.place (number_of c.args.self.now) Held c.hold.result (slots_in c.args.self.now) (slots_of c.take_kept.new.self) (slots_of c.hold.new.self) c.in-Some.ensures.picks (renews g (goal.at.returns-clause-fewer g c).After-hold) (λ s. refl)
