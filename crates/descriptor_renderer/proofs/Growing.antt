@@ -5,7 +5,7 @@ use Rattle.gpu_descriptor_types.specs.declared.device.DescriptorDevice.{Ghosts}
 use Rattle.gpu_descriptor.specs.declared.errors.AllocationError.{AllocationError}
 use Rattle.gpu_descriptor.specs.declared.set.DescriptorSet.{DescriptorSet}
 use Rattle.descriptor_table.specs.Slots.{in_list, is_kept_of, slot_at}
-use Rattle.descriptor_table.specs.Tables.{Grows, Puts, Renews, holds, is_held_use, is_usable, place_at, renewed, used_for}
+use Rattle.descriptor_table.specs.Tables.{Grows, Picks, Puts, Renews, holds, is_held_use, is_usable, place_at, renewed, used_for}
 use Rattle.descriptor_table.specs.declared.handle.SetHandle.{SetHandle}
 use Rattle.descriptor_table.specs.declared.slot.Slot.{Slot}
 use Rattle.descriptor_table.specs.declared.slot.Use.{Use}
@@ -28,6 +28,10 @@ held_used Vacant layout generation full e = absurd (cc)
 module _ {T : Type 0} where
   renewed_long : (number p : ℕ) (u : Use) (handle : SetHandle) (old new : List (Slot T)) → Renews number p u handle old new → length new ≡ length old
   renewed_long number p u handle old new r = ap length r.slots ∙ length-set old p (renewed u (slot_at old p))
+
+  -- a kept set gets a handle
+  pub grow_kept : (test : Slot T → Bool) (q number p : ℕ) (u : Use) (handle : SetHandle) (old mid new : List (Slot T)) → Picks test q old mid → Renews number p u handle mid new → Grows old new
+  grow_kept test q number p u handle old mid new picks r = inl (renewed_long number p u handle mid new r ∙ ap length picks.slots ∙ length-set old q (used_for Taken (slot_at old q)))
 
   -- a new set gets one
   pub grow_new : (number layout p : ℕ) (x : T) (u : Use) (handle : SetHandle) (old mid new : List (Slot T)) → ((s : Slot T) → is_usable (renewed u s) ≡ false) → Puts layout x p old mid → Renews number p u handle mid new → Grows old new
@@ -72,9 +76,7 @@ module _ {L P S D : Type 0} {d : Ghosts D L P S} where
   -- a set was taken, and gets a handle
   pub grow_taken : (layout : L) (number n p : ℕ) (u : Use) (handle : SetHandle) (old mid : Store L P S D d) (new : List (Slot (DescriptorSet S))) → ((s : Slot (DescriptorSet S)) → is_usable (renewed u s) ≡ false) → (0 < kept_of n old → TakesKept n (Ok p) old mid) → (kept_of n old ≡ 0 → GetsAtLast layout n p old mid) → Renews number p u handle (slots_in mid) new → Grows (slots_in old) new
   grow_taken layout number n p u handle old mid new used kept comes r = elim (below_or 0 (kept_of n old)) [
-    | inl some ↦ (
-        let picks = (kept some).picks in
-        inl (renewed_long number p u handle (slots_in mid) new r ∙ ap length picks.slots ∙ length-set (slots_in old) (kept some).place (used_for Taken (slot_at (slots_in old) (kept some).place))))
+    | inl some ↦ grow_kept (is_kept_of n) (kept some).place number p u handle (slots_in old) (slots_in mid) new (kept some).picks r
     | inr none ↦ elim (comes (omega arith)) [
       | inl gets ↦ grow_new number n p gets.set u handle (slots_in old) (slots_in mid) new used gets.puts r
       | inr twice ↦ grow_from (slots_in old) (slots_in twice.0) new (cleared_long layout 1 old twice.0 twice.1) (grow_new number n p twice.2.set u handle (slots_in twice.0) (slots_in mid) new used twice.2.puts r)

@@ -7,8 +7,8 @@ mod Following
 mod Given
 mod Growing
 mod Handing
-mod Listed
 mod Joining
+mod Listed
 mod Naming
 mod Owned
 mod Remaining

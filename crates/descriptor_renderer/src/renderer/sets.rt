@@ -85,6 +85,7 @@ impl<L: Drop, P: Drop, S: Drop, D: DescriptorDevice<L, P, S>> Renderer<L, P, S, 
             IsRefusedAtLast known.layout (many - kept_of layout self.old) many error
             (store_of self.old) (store_of self.new)) }
         ensures stay { OnErr result (KeepNames (sets_by self.old) (sets_by self.new)) }
+        ensures grows { Grows (slots_of self.old) (slots_of self.new) }
         ensures handles { OnErr result (handles.new.items ≡ handles.old.items) }
         ensures early { IsErrOf result RenderError.NoLayout → (slots_of self.new
             ≡ slots_of self.old) × (side_of self.new ≡ side_of self.old) }

@@ -10,7 +10,7 @@ use gpu_descriptor::{AllocationError, DescriptorDevice, SetLayout};
 use std::vec::Vec;
 
 impl<L: Drop, P: Drop, S: Drop, D: DescriptorDevice<L, P, S>> Store<L, P, S, D> {
-    ghost use Rattle.descriptor_table.specs.Tables.{HasRoom};
+    ghost use Rattle.descriptor_table.specs.Tables.{Grows, HasRoom};
     ghost use Rattle.descriptor_table.specs.declared.handle.SetHandle.{SetHandle};
     ghost use Rattle.descriptor_renderer.specs.Stores.{AreNamed, Asks, AsksAtLast, BringsAtLast, ComesOf, HasLayout, HoldEach};
     ghost use Rattle.descriptor_renderer.specs.Stores.{IsAtRest, IsRefused, IsRefusedAtLast, NoneComes, SetsCome, Settles};
@@ -80,6 +80,7 @@ impl<L: Drop, P: Drop, S: Drop, D: DescriptorDevice<L, P, S>> Store<L, P, S, D> 
         ensures coming { coming_in self.new ≡ coming_in self.old }
         ensures sets { SetsCome NoneComes (slots_in self.old) (slots_in self.new) }
         ensures table { (n : ℕ) → HasRoom n self.old.table → HasRoom n self.new.table }
+        ensures grows { Grows (slots_in self.old) (slots_in self.new) }
         ensures stays { StoreStays (most_of self.old) self.old self.new }
     {
         match self.table.take_kept(layout) {
@@ -100,6 +101,7 @@ impl<L: Drop, P: Drop, S: Drop, D: DescriptorDevice<L, P, S>> Store<L, P, S, D> 
         ensures coming { coming_in self.new ≡ coming_in self.old }
         ensures sets { SetsCome NoneComes (slots_in self.old) (slots_in self.new) }
         ensures table { (n : ℕ) → HasRoom n self.old.table → HasRoom n self.new.table }
+        ensures grows { Grows (slots_in self.old) (slots_in self.new) }
         ensures stays { StoreStays (most_of self.old) self.old self.new }
     {
         for _ in 0..many {
@@ -126,6 +128,7 @@ impl<L: Drop, P: Drop, S: Drop, D: DescriptorDevice<L, P, S>> Store<L, P, S, D> 
         ensures sets { (known : L) → AreOfLayout D.meaning known (coming_in self.old).items
             → SetsCome (ComesOf D.meaning known layout) (slots_in self.old) (slots_in self.new) }
         ensures table { HasRoom (length (coming_in self.new).items) self.new.table }
+        ensures grows { Grows (slots_in self.old) (slots_in self.new) }
         ensures stays { StoreStays (most_of self.old) self.old self.new }
     {
         match self.coming.pop() {
@@ -150,6 +153,7 @@ impl<L: Drop, P: Drop, S: Drop, D: DescriptorDevice<L, P, S>> Store<L, P, S, D> 
         ensures side { side_of self.new ≡ side_of self.old }
         ensures sets { (known : L) → AreOfLayout D.meaning known (coming_in self.old).items
             → SetsCome (ComesOf D.meaning known layout) (slots_in self.old) (slots_in self.new) }
+        ensures grows { Grows (slots_in self.old) (slots_in self.new) }
         ensures stays { StoreStays (most_of self.old) self.old self.new }
     {
         for _ in 0..self.coming.len() {
@@ -181,6 +185,7 @@ impl<L: Drop, P: Drop, S: Drop, D: DescriptorDevice<L, P, S>> Store<L, P, S, D> 
             (many - kept_of layout self.old) many error self.old self.new) }
         ensures handles { OnErr result (handles.new.items ≡ handles.old.items) }
         ensures settles { Settles (ComesOf D.meaning known.now.layout layout) 0 self.old self.new }
+        ensures grows { Grows (slots_in self.old) (slots_in self.new) }
         ensures stays { StoreStays (most_of self.old) self.old self.new }
     {
         self.bring(known, layout, many)?;

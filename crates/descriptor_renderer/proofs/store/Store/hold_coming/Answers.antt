@@ -1,5 +1,6 @@
-use Rattle.std.proofs.Common.{◌≡◌, ◌+◌, ◌∙◌, length, inl, refl, arith}
-use Rattle.descriptor_renderer.specs.Stores.{ComesOf, coming_in, slots_in}
+use Rattle.std.proofs.Common.{◌≡◌, ◌+◌, ◌∙◌, [], ◌∷◌, length, inl, refl, arith}
+use Rattle.descriptor_renderer.specs.Stores.{ComesOf, coming_in, number_of, slots_in}
+use Rattle.descriptor_renderer.proofs.Growing.{grow_more}
 use Rattle.descriptor_renderer.proofs.Joining.{held_next, held_start, sets_then, stays_then, store_same}
 use Rattle.descriptor_renderer.proofs.store.Store.hold_coming.Goals as goal
 
@@ -12,6 +13,7 @@ loop-init g c = record {
   own = λ known own. own;
   sets = λ known own p x e. inl (e, refl);
   table = c.requires.table;
+  grows = inl refl;
   stays = store_same c.args.self.now;
 }
 
@@ -27,5 +29,6 @@ loop-preserved g c =
       own = λ known own. now.own known (was.own known own);
       sets = λ known own. sets_then (ComesOf g.D.DescriptorDevice.meaning known c.args.layout) (slots_in c.args.self.now) (slots_in c.loop.self) (slots_in c.hold_last.new.self) (was.sets known own) (now.sets known (was.own known own));
       table = now.table;
+      grows = grow_more (number_of c.loop.self) c.args.layout (now.holds.0 ∷ []) (slots_in c.args.self.now) (slots_in c.loop.self) (slots_in c.hold_last.new.self) was.grows now.grows now.holds.2;
       stays = stays_then c.args.self.now c.loop.self c.hold_last.new.self was.stays now.stays;
     }

@@ -1,5 +1,5 @@
 use Rattle.std.proofs.Common.{◌≡◌, ℕ, ◌+◌, ◌++◌, List, length, vec_capacity}
-use Rattle.descriptor_table.specs.Tables.{HasRoom}
+use Rattle.descriptor_table.specs.Tables.{Grows, HasRoom}
 use Rattle.descriptor_table.specs.declared.handle.SetHandle.{SetHandle}
 use Rattle.descriptor_renderer.specs.Stores.{HoldEach, NoneComes, SetsCome, StoreStays, coming_in, kept_of, most_of, number_of, side_of, slots_in}
 use Rattle.descriptor_renderer.proofs.store.Store.hold_kept.Given as goal
@@ -13,5 +13,6 @@ invariant-loop g l = record {
   coming : coming_in l.self ≡ coming_in l.fn.self;
   sets : SetsCome NoneComes (slots_in l.fn.self) (slots_in l.self);
   table : (n : ℕ) → HasRoom n l.fn.self.table → HasRoom n l.self.table;
+  grows : Grows (slots_in l.fn.self) (slots_in l.self);
   stays : StoreStays (most_of l.fn.self) l.fn.self l.self;
 }

@@ -12,6 +12,7 @@ use Rattle.descriptor_table.specs.declared.slot.Use.TheVariants.{Held}
 use Rattle.descriptor_table.proofs.Renewing.{room_stays}
 use Rattle.descriptor_renderer.specs.Stores.{coming_in, number_of, slots_in}
 use Rattle.descriptor_renderer.proofs.Given.{put_count, put_many, renewed_sets}
+use Rattle.descriptor_renderer.proofs.Growing.{grow_new}
 use Rattle.descriptor_renderer.proofs.Handing.{new_fills}
 use Rattle.descriptor_renderer.proofs.Joining.{hold_one}
 use Rattle.descriptor_renderer.proofs.store.Store.hold_last.Given.{Over}
@@ -64,3 +65,6 @@ returns-clause-table g c =
     let put = slots_of c.put-place.new.self in
     let room = subst (λ n. HasRoom n c.args.self.now.table) (fewer g h) c.requires.table in
     room_stays (length c.pop.new.self.items) c.put-place.new.self c.hold.new.self c.hold.ensures.stays (ap length r.slots ∙ length-set put c.put-place.result (renewed Held (slot_at put c.put-place.result))) (c.put-place.ensures.reserve (length c.pop.new.self.items) room)
+
+pub returns-clause-grows : goal.returns-clause-grows
+returns-clause-grows g c = grow_new (number_of c.args.self.now) c.args.layout c.put-place.result c.in-Some.set Held c.hold.result (slots_in c.args.self.now) (slots_of c.put-place.new.self) (slots_of c.hold.new.self) (λ s. refl) c.put-place.ensures.puts (renews g (goal.at.returns-clause-grows g c).After-hold)

@@ -8,6 +8,7 @@ use Rattle.descriptor_table.specs.declared.slot.Use.TheVariants.{Held}
 use Rattle.descriptor_table.proofs.Counts.{none_count}
 use Rattle.descriptor_renderer.specs.Stores.{NoneComes, number_of, slots_in}
 use Rattle.descriptor_renderer.proofs.Given.{picked_sets, renewed_sets}
+use Rattle.descriptor_renderer.proofs.Growing.{grow_kept}
 use Rattle.descriptor_renderer.proofs.Handing.{kept_fewer, kept_fills}
 use Rattle.descriptor_renderer.proofs.Joining.{hold_one}
 use Rattle.descriptor_renderer.proofs.store.Store.hold_next.Given.{Over}
@@ -46,3 +47,6 @@ returns-clause-holds g c =
 
 pub returns-clause-fewer : goal.returns-clause-fewer
 returns-clause-fewer g c = kept_fewer c.args.layout c.in-Some.place (number_of c.args.self.now) Held c.hold.result (slots_in c.args.self.now) (slots_of c.take_kept.new.self) (slots_of c.hold.new.self) c.in-Some.ensures.picks (renews g (goal.at.returns-clause-fewer g c).After-hold) (λ s. refl)
+
+pub returns-clause-grows : goal.returns-clause-grows
+returns-clause-grows g c = grow_kept (is_kept_of c.args.layout) c.in-Some.place (number_of c.args.self.now) c.in-Some.place Held c.hold.result (slots_in c.args.self.now) (slots_of c.take_kept.new.self) (slots_of c.hold.new.self) c.in-Some.ensures.picks (renews g (goal.at.returns-clause-grows g c).After-hold)
