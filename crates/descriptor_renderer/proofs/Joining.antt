@@ -214,18 +214,21 @@ module _ {L P S D : Type 0} {d : Ghosts D L P S} where
     keeps = b.keeps ∙ a.keeps;
   }
 
-  -- one more handle was given
-  pub held_next : (layout n : ℕ) (start now then : List SetHandle) (old mid new : Store L P S D d) → StoreStays (most_of old) old mid → ((given : List SetHandle) × (now ≡ start ++ given) × (length given ≡ n) × HoldEach (number_of old) layout given (slots_in old) (slots_in mid)) → ((handle : SetHandle) × (then ≡ now ++ handle ∷ []) × HoldEach (number_of mid) layout (handle ∷ []) (slots_in mid) (slots_in new)) → (given : List SetHandle) × (then ≡ start ++ given) × (length given ≡ n + 1) × HoldEach (number_of old) layout given (slots_in old) (slots_in new)
-  held_next layout n start now then old mid new stays a b =
-      let given = a.0 in
-      let long = length-append given (b.0 ∷ []) in
-      let many = a.2 in
-      let each = subst (λ number. HoldEach number layout (b.0 ∷ []) (slots_in mid) (slots_in new)) stays.number b.2 in (
-        given ++ b.0 ∷ [],
-        b.1 ∙ ap (λ l. l ++ b.0 ∷ []) a.1 ∙ append_assoc start given (b.0 ∷ []),
+  -- more handles were given
+  pub held_then : (layout n m : ℕ) (start now then : List SetHandle) (old mid new : Store L P S D d) → number_of mid ≡ number_of old → ((given : List SetHandle) × (now ≡ start ++ given) × (length given ≡ n) × HoldEach (number_of old) layout given (slots_in old) (slots_in mid)) → ((given : List SetHandle) × (then ≡ now ++ given) × (length given ≡ m) × HoldEach (number_of mid) layout given (slots_in mid) (slots_in new)) → (given : List SetHandle) × (then ≡ start ++ given) × (length given ≡ n + m) × HoldEach (number_of old) layout given (slots_in old) (slots_in new)
+  held_then layout n m start now then old mid new same a b =
+      let long = length-append a.0 b.0 in
+      let first_many = a.2 in
+      let many = b.2 in
+      let each = subst (λ number. HoldEach number layout b.0 (slots_in mid) (slots_in new)) same b.3 in (
+        a.0 ++ b.0,
+        b.1 ∙ ap (λ l. l ++ b.0) a.1 ∙ append_assoc start a.0 b.0,
         omega arith,
-        joined (number_of old) layout given (b.0 ∷ []) (slots_in old) (slots_in mid) (slots_in new) a.3 each,
+        joined (number_of old) layout a.0 b.0 (slots_in old) (slots_in mid) (slots_in new) a.3 each,
       )
+
+  pub held_next : (layout n : ℕ) (start now then : List SetHandle) (old mid new : Store L P S D d) → StoreStays (most_of old) old mid → ((given : List SetHandle) × (now ≡ start ++ given) × (length given ≡ n) × HoldEach (number_of old) layout given (slots_in old) (slots_in mid)) → ((handle : SetHandle) × (then ≡ now ++ handle ∷ []) × HoldEach (number_of mid) layout (handle ∷ []) (slots_in mid) (slots_in new)) → (given : List SetHandle) × (then ≡ start ++ given) × (length given ≡ n + 1) × HoldEach (number_of old) layout given (slots_in old) (slots_in new)
+  held_next layout n start now then old mid new stays a b = held_then layout n 1 start now then old mid new stays.number a (b.0 ∷ [], b.1, refl, b.2)
 
   -- none is given yet
   pub held_start : (layout : ℕ) (start : List SetHandle) (old : Store L P S D d) → (given : List SetHandle) × (start ≡ start ++ given) × (length given ≡ 0) × HoldEach (number_of old) layout given (slots_in old) (slots_in old)

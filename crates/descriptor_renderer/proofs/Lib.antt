@@ -1,6 +1,7 @@
 mod Arriving
 mod Back
 mod Cleaned
+mod Bringing
 mod Cleared
 mod Emptied
 mod Following

@@ -1,0 +1,55 @@
+use Rattle.std.proofs.Common.{◌≡◌, ◌+◌, ◌-◌, ◌++◌, ◌∙◌, List, length, refl, sym, ap, subst, arith}
+use Rattle.gpu_descriptor.specs.Caller.Sets.{AreOfLayout}
+use Rattle.descriptor_table.specs.Tables.{HasRoom}
+use Rattle.descriptor_table.specs.declared.handle.SetHandle.{SetHandle}
+use Rattle.descriptor_renderer.specs.Stores.{ComesOf, HoldEach, SetsCome, coming_in, number_of, slots_in}
+use Rattle.descriptor_renderer.proofs.Arriving.{arrived}
+use Rattle.descriptor_renderer.proofs.Bringing.{Brings, brought}
+use Rattle.descriptor_renderer.proofs.Handing.{refused_arrives}
+use Rattle.descriptor_renderer.proofs.Joining.{are_named, held_then, holds_arrives, kept_then}
+use Rattle.descriptor_renderer.proofs.store.Store.create_each.Given.{Over}
+use Rattle.descriptor_renderer.proofs.store.Store.create_each.Goals as goal
+use Rattle.descriptor_renderer.proofs.store.Store.create_each.Goals.{After-hold_coming}
+
+brings : (g : Over) (c : After-hold_coming g) → Brings c.args.known.now.layout c.args.many c.args.self.now c.bring.new.self
+brings g c = brought c.args.known.now.layout c.args.layout c.args.many c.args.self.now c.bring.new.self c.requires.rest.none_coming (λ enough. (c.in_ok-bring.ensures.kept enough).1) c.in_ok-bring.ensures.asks
+
+-- all handles, of kept sets and of those that came
+all_held : (g : Over) (c : After-hold_coming g) → (given : List SetHandle) × (c.hold_coming.new.handles.items ≡ c.args.handles.now.items ++ given) × (length given ≡ c.args.many) × HoldEach (number_of c.args.self.now) c.args.layout given (slots_in c.bring.new.self) (slots_in c.hold_coming.new.self)
+all_held g c =
+    let h = held_then c.args.layout (c.args.many - c.len.result) (length (coming_in c.hold_kept.new.self).items) c.args.handles.now.items c.hold_kept.new.handles.items c.hold_coming.new.handles.items c.bring.new.self c.hold_kept.new.self c.hold_coming.new.self c.hold_kept.ensures.stays.number c.hold_kept.ensures.holds c.hold_coming.ensures.holds in
+    let same = ap (λ v. length v.items) c.hold_kept.ensures.coming in
+    let few = (brings g c).few in
+    let count = c.len.ensures in
+    let long = c.bring.new.self.coming.ok.0 in
+    let sum = h.2 in
+    (h.0, h.1, omega arith, subst (λ n. HoldEach n c.args.layout h.0 (slots_in c.bring.new.self) (slots_in c.hold_coming.new.self)) c.bring.ensures.stays.number h.3)
+
+come : (g : Over) (c : After-hold_coming g) → SetsCome (ComesOf g.D.DescriptorDevice.meaning c.args.known.now.layout c.args.layout) (slots_in c.bring.new.self) (slots_in c.hold_coming.new.self)
+come g c =
+    let own = subst (λ v. AreOfLayout g.D.DescriptorDevice.meaning c.args.known.now.layout v.items) (sym c.hold_kept.ensures.coming) (brings g c).own in
+    kept_then (ComesOf g.D.DescriptorDevice.meaning c.args.known.now.layout c.args.layout) (slots_in c.bring.new.self) (slots_in c.hold_kept.new.self) (slots_in c.hold_coming.new.self) c.hold_kept.ensures.sets (c.hold_coming.ensures.sets c.args.known.now.layout own)
+
+pub returns-in_err-bring-clause-settles : goal.returns-in_err-bring-clause-settles
+returns-in_err-bring-clause-settles g c =
+    let comes = ComesOf g.D.DescriptorDevice.meaning c.args.known.now.layout c.args.layout in
+    arrived comes 0 c.args.self.now c.bring.new.self (refused_arrives comes 0 c.args.known.now.layout _ c.args.many c.in_err-bring.field-0.0 c.args.self.now c.bring.new.self c.in_err-bring.ensures.refused) c.in_err-bring.ensures.none c.requires.rest
+
+pub hold_coming-requires-clause-table : goal.hold_coming-requires-clause-table
+hold_coming-requires-clause-table g c =
+    let same = ap (λ v. length v.items) c.hold_kept.ensures.coming in
+    subst (λ n. HasRoom n c.hold_kept.new.self.table) (sym same) (c.hold_kept.ensures.table (length (coming_in c.bring.new.self).items) c.in_ok-bring.ensures.table)
+
+pub returns-clause-creates : goal.returns-clause-creates
+returns-clause-creates g c =
+    let h = all_held g c in
+    (h.0, h.1, h.2, are_named (number_of c.args.self.now) c.args.layout h.0 (slots_in c.args.self.now) (slots_in c.bring.new.self) (slots_in c.hold_coming.new.self) (brings g c).clear h.3)
+
+pub returns-clause-comes : goal.returns-clause-comes
+returns-clause-comes g c = λ few. (c.bring.new.self, c.in_ok-bring.ensures.asks few, c.hold_coming.ensures.side ∙ c.hold_kept.ensures.side)
+
+pub returns-clause-settles : goal.returns-clause-settles
+returns-clause-settles g c =
+    let comes = ComesOf g.D.DescriptorDevice.meaning c.args.known.now.layout c.args.layout in
+    let h = all_held g c in
+    arrived comes 0 c.args.self.now c.hold_coming.new.self (holds_arrives (number_of c.args.self.now) c.args.layout h.0 (slots_in c.args.self.now) (slots_in c.bring.new.self) (slots_in c.hold_coming.new.self) (brings g c).clear h.3 comes 0 (come g c)) c.hold_coming.ensures.none c.requires.rest
