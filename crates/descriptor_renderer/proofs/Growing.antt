@@ -63,14 +63,14 @@ module _ {T : Type 0} where
     ]
   ]
 
-  grow_from : (old mid new : List (Slot T)) → length mid ≡ length old → Grows mid new → Grows old new
+  pub grow_from : (old mid new : List (Slot T)) → length mid ≡ length old → Grows mid new → Grows old new
   grow_from old mid new same grows = elim grows [
     | inl long ↦ inl (long ∙ same)
     | inr all ↦ inr all
   ]
 
 module _ {L P S D : Type 0} {d : Ghosts D L P S} where
-  cleared_long : (layout : L) (many : ℕ) (old new : Store L P S D d) → IsCleared layout many old new → length (slots_in new) ≡ length (slots_in old)
+  pub cleared_long : (layout : L) (many : ℕ) (old new : Store L P S D d) → IsCleared layout many old new → length (slots_in new) ≡ length (slots_in old)
   cleared_long layout many old new clear = clear.cleaned.long ∙ ap length clear.first.slots
 
   -- a set was taken, and gets a handle

@@ -1,7 +1,7 @@
 mod Arriving
 mod Back
-mod Cleaned
 mod Bringing
+mod Cleaned
 mod Cleared
 mod Emptied
 mod Following

@@ -32,13 +32,13 @@ returns-in-Ok-clause-creates g c =
     let own = own_comes 0 c.args.layout.place (layouts_of old.layouts) known old.store c.create_each.new.self here c.create_each.ensures.settles old.own in
     let creates = c.in-Ok.ensures.creates in
     let given = creates.0 in
-    let named = creates.1.2.1 in
+    let named = creates.3 in
     let new = slots_in c.create_each.new.self in
     let names = subst (λ n. NameEach given (sets_of n old.frame old.is_open (slots_in old.store)) (sets_of n old.frame old.is_open new)) old.numbers_sets (named.names old.frame old.is_open) in
     if_some _ known _ c.in-Some.ensures.layout (
       given,
-      creates.1.0 ∙ ap (λ l. l ++ given) c.reserve.ensures.items,
-      creates.1.1,
+      creates.1 ∙ ap (λ l. l ++ given) c.reserve.ensures.items,
+      creates.2,
       record {
         names = names;
         own = λ i e x lt found.

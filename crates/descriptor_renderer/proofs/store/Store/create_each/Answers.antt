@@ -5,6 +5,7 @@ use Rattle.descriptor_table.specs.declared.handle.SetHandle.{SetHandle}
 use Rattle.descriptor_renderer.specs.Stores.{ComesOf, HoldEach, SetsCome, coming_in, number_of, slots_in}
 use Rattle.descriptor_renderer.proofs.Arriving.{arrived}
 use Rattle.descriptor_renderer.proofs.Bringing.{Brings, brought}
+use Rattle.descriptor_renderer.proofs.Growing.{grow_from, grow_more, grow_refused}
 use Rattle.descriptor_renderer.proofs.Handing.{refused_arrives}
 use Rattle.descriptor_renderer.proofs.Joining.{are_named, held_then, holds_arrives, kept_then}
 use Rattle.descriptor_renderer.proofs.store.Store.create_each.Given.{Over}
@@ -53,3 +54,13 @@ returns-clause-settles g c =
     let comes = ComesOf g.D.DescriptorDevice.meaning c.args.known.now.layout c.args.layout in
     let h = all_held g c in
     arrived comes 0 c.args.self.now c.hold_coming.new.self (holds_arrives (number_of c.args.self.now) c.args.layout h.0 (slots_in c.args.self.now) (slots_in c.bring.new.self) (slots_in c.hold_coming.new.self) (brings g c).clear h.3 comes 0 (come g c)) c.hold_coming.ensures.none c.requires.rest
+
+pub returns-in_err-bring-clause-grows : goal.returns-in_err-bring-clause-grows
+returns-in_err-bring-clause-grows g c = grow_refused c.args.known.now.layout _ c.args.many c.in_err-bring.field-0.0 c.args.self.now c.bring.new.self c.in_err-bring.ensures.refused
+
+pub returns-clause-grows : goal.returns-clause-grows
+returns-clause-grows g c =
+    let coming = c.hold_coming.ensures.holds in
+    let brought = slots_in c.bring.new.self in
+    let held = slots_in c.hold_coming.new.self in
+    grow_from (slots_in c.args.self.now) brought held (brings g c).long (grow_more (number_of c.hold_kept.new.self) c.args.layout coming.0 brought (slots_in c.hold_kept.new.self) held c.hold_kept.ensures.grows c.hold_coming.ensures.grows coming.3)
